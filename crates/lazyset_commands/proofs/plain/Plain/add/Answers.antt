@@ -1,0 +1,41 @@
+use Rattle.std.proofs.Common.{◌≡◌, Bool, List, true, false, refl, sym, ap, ◌∙◌, subst}
+use Rattle.std.specs.Prelude.{slice_set}
+use Rattle.lz_vault.specs.Stages.{Cell}
+use Rattle.lz_vault.specs.declared.vault.Stage.{Stage}
+use Rattle.lazyset_commands.specs.Plains.{AreSteady, HasCome, MayInsert}
+use Rattle.lazyset_commands.proofs.Adding.{come_with}
+use Rattle.lazyset_commands.proofs.Members.{plain_agrees, not_in, each_holds_same, placed_steady}
+use Rattle.lazyset_commands.proofs.plain.Plain.add.Goals as goal
+
+pub returns-then-is_some-clause-acknowledged : goal.returns-then-is_some-clause-acknowledged
+returns-then-is_some-clause-acknowledged g c = rw (← c.self.view_is) (λ S honest each.
+    let has : S c.args.key ≡ true = plain_agrees _ _ S c.self.invariant (sym c.if-is_dead.ensures.dead) honest each c.args.key ∙ sym c.find.ensures.known ∙ sym c.if-is_some.ensures in
+    (rw has refl, each_holds_same _ _ S c.args.key has each))
+
+pub returns-in-Err-clause-any_moment : goal.returns-in-Err-clause-any_moment
+returns-in-Err-clause-any_moment g c = rw (← c.self.view_is) (λ S honest each.
+    let absent : S c.args.key ≡ false = plain_agrees _ _ S c.self.invariant (sym c.if-is_dead.ensures.dead) honest each c.args.key ∙ sym c.find.ensures.known ∙ sym c.if-is_some.ensures in
+    c.insert.ensures.come.1.leaves S honest each (not_in _ absent))
+
+pub invariant_of-self-2 : goal.invariant_of-self-2
+invariant_of-self-2 g c =
+    let come = c.in_default-insert.ensures.come in
+    record {
+      steady = λ alive.
+          subst AreSteady (sym come.1.cells_are)
+          (subst (λ (q : Stage). AreSteady (slice_set c.self.inside.vault.memory.cells c.in-Some.slot (record { stage = q; key = c.args.key }))) (sym come.2) (placed_steady _ _ _ (c.self.invariant.steady (sym c.if-is_dead.ensures.dead))));
+      kept = come.1.kept;
+    }
+
+pub returns-clause-any_moment : goal.returns-clause-any_moment
+returns-clause-any_moment g c = rw (← c.self.view_is) (λ S honest each.
+    let absent : S c.args.key ≡ false = plain_agrees _ _ S c.self.invariant (sym c.if-is_dead.ensures.dead) honest each c.args.key ∙ sym c.find.ensures.known ∙ sym c.if-is_some.ensures in
+    c.insert.ensures.come.1.leaves S honest each (not_in _ absent))
+
+pub returns-clause-acknowledged : goal.returns-clause-acknowledged
+returns-clause-acknowledged g c = rw (← c.self.view_is) (λ S honest each.
+    let absent : S c.args.key ≡ false = plain_agrees _ _ S c.self.invariant (sym c.if-is_dead.ensures.dead) honest each c.args.key ∙ sym c.find.ensures.known ∙ sym c.if-is_some.ensures in
+    let come = c.in_default-insert.ensures.come in
+    let placed = subst (λ (q : Stage). c.insert.new.vault.memory.cells ≡ slice_set c.self.inside.vault.memory.cells c.in-Some.slot (record { stage = q; key = c.args.key })) come.2 come.1.cells_are in
+    let may : MayInsert _ _ _ = record { alive = sym c.if-is_dead.ensures.dead; kept = c.self.invariant.kept; steady = c.self.invariant.steady (sym c.if-is_dead.ensures.dead); free = c.in-Some.ensures.found.free } in
+    (rw absent refl, come_with c.in-Some.slot c.args.key _ _ may _ _ placed come.1.kept come.1.honest S honest each (not_in _ absent)))

@@ -1,0 +1,92 @@
+-- A set served to one caller from a table of slots, and what a command does to it.
+use Rattle.std.specs.Prelude.{◌≡◌, ◌⊎◌, ℕ, ◌<◌, ◌≤◌, Bool, true, false, IsTrue, Result, Ok, Err, List, length, slice_get, slice_set, Some}
+use Rattle.lz_slot.specs.Sets.{Keys, after}
+use Rattle.lz_slot.specs.declared.command.Command.TheVariants.{Add}
+use Rattle.lz_slot.specs.Bytes.{Holds}
+use Rattle.lz_disk.specs.Images.{Medium, IsImage}
+use Rattle.lz_disk.specs.Devices as device
+use Rattle.lz_disk.specs.Devices.{LeavesOnly}
+use Rattle.lz_vault.specs.Stages.{Cell, IsAt, IsFree}
+use Rattle.lz_vault.specs.Vaults.{Vaulted, IsKept, last_sync}
+use Rattle.lz_vault.specs.declared.vault.VaultFault.{VaultFault}
+use Rattle.lz_vault.specs.declared.vault.VaultFault.TheVariants as vault_fault
+use Rattle.lz_vault.specs.Opens.{keys_of}
+use Rattle.lazyset_commands.specs.declared.plain.Fault.{Fault}
+use Rattle.lazyset_commands.specs.declared.plain.Fault.TheVariants.{Full, Halted, Device}
+use Rattle.lz_vault.specs.declared.vault.Stage.{Stage}
+use Rattle.lz_vault.specs.declared.vault.Stage.TheVariants.{Closed, Open}
+
+-- a stage at which nothing is under way
+abbrev pub IsSteady : Stage → Type 0
+IsSteady Closed = Unit {0}
+IsSteady Open = Unit {0}
+IsSteady _ = ⊥
+
+abbrev pub AreSteady : List Cell → Type 0
+AreSteady cells = (i : ℕ) (cell : Cell) → slice_get cells i ≡ Some cell → IsSteady cell.stage
+
+-- What holds between two calls: while the vault isn't dead, nothing is under way at any slot.
+pub record IsPlain (vault : Vaulted) (disk : device.Device) : Type 0 where
+  pub steady : vault.dead ≡ false → AreSteady vault.cells
+  pub kept : IsKept vault disk
+
+-- each image of the disk is a file of N slots that holds the set S
+abbrev pub EachHolds : Medium → ℕ → Keys → Type 0
+EachHolds disk N S = (t : List ℕ) → IsImage disk t → Holds t N S
+
+-- a file of N slots that holds S, or S with the key
+abbrev pub HoldsWithOrWithout : ℕ → Keys → ℕ → List ℕ → Type 0
+HoldsWithOrWithout N S key t = Holds t N S ⊎ Holds t N (after (Add key) S)
+
+-- none of the first n slots is free
+abbrev pub HasNoFree : List Cell → ℕ → Type 0
+HasNoFree cells n = (i : ℕ) (cell : Cell) → i < n → slice_get cells i ≡ Some cell → IsFree cell.stage → ⊥
+
+-- none of the first n slots holds the key
+abbrev pub HasNoMember : List Cell → ℕ → ℕ → Type 0
+HasNoMember cells key n = (i : ℕ) (cell : Cell) → i < n → slice_get cells i ≡ Some cell → cell.stage ≡ Open → cell.key ≡ key → ⊥
+
+-- a slot that is free, with none free below it
+pub record IsLowestFree (cells : List Cell) (s : ℕ) : Type 0 where
+  pub free : IsAt cells s (λ cell. IsFree cell.stage)
+  pub below : HasNoFree cells s
+
+-- the cells after an adding that was answered: a key that was none is put into the lowest free slot
+abbrev pub Adds : List Cell → ℕ → Bool → List Cell → Type 0
+Adds old key true new =
+    (keys_of old key ≡ false) × ((s : ℕ) × IsLowestFree old s × (new ≡ slice_set old s (record { stage = Open; key = key })))
+Adds old key false new = (keys_of old key ≡ true) × (new ≡ old)
+
+-- A key may be put into slot s of a vault that is alive, with nothing under way.
+pub record MayInsert (vault : Vaulted) (s : ℕ) (disk : device.Device) : Type 0 where
+  pub alive : vault.dead ≡ false
+  pub kept : IsKept vault disk
+  pub steady : AreSteady vault.cells
+  pub free : IsAt vault.cells s (λ cell. IsFree cell.stage)
+
+-- An adding of k into slot s has come to a stage of that slot.
+pub record HasCome (cells : List Cell) (s k : ℕ) (stage : Stage) (start now : device.Device) (vault : Vaulted) : Type 0 where
+  pub cells_are : vault.cells ≡ slice_set cells s (record { stage = stage; key = k })
+  pub kept : IsKept vault now
+  pub honest : now.honest ≡ start.honest
+  pub faults : start.faults ≤ now.faults
+  pub leaves : (S : Keys) → IsTrue start.honest → EachHolds start.medium (length cells) S → (IsTrue (S k) → ⊥)
+      → LeavesOnly start now (HoldsWithOrWithout (length cells) S k)
+
+-- How a call ends that begins on a vault that is alive.
+abbrev pub Ends : Result (Unit {0}) VaultFault → Vaulted → device.Device → device.Device → Type 0
+Ends (Ok done) vault before after = vault.dead ≡ false
+Ends (Err vault_fault.Device) vault before after = (vault.dead ≡ true) × (before.faults < after.faults)
+Ends (Err vault_fault.Dead) vault before after = (vault.dead ≡ true) × (last_sync ≤ vault.syncs)
+
+-- what a command answers where a call of the vault answered this
+abbrev pub fault_of : VaultFault → Fault
+fault_of vault_fault.Device = Device
+fault_of vault_fault.Dead = Halted
+
+-- Why an adding was not answered: full where the key is no member and no slot is free; halted where the life was over, or
+-- has made its last sync; device where the device failed in this call.
+abbrev pub IsAddFault : Fault → ℕ → Vaulted → Vaulted → device.Device → device.Device → Type 0
+IsAddFault Full key old new before after = (keys_of old.cells key ≡ false) × HasNoFree old.cells (length old.cells)
+IsAddFault Halted key old new before after = (new.dead ≡ true) × ((old.dead ≡ true) ⊎ (last_sync ≤ new.syncs))
+IsAddFault Device key old new before after = (old.dead ≡ false) × (new.dead ≡ true) × (before.faults < after.faults)

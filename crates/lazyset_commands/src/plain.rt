@@ -1,0 +1,172 @@
+//! A set for one caller, over the stages of a vault.
+ghost use Rattle.std.specs.Prelude.{◌≡◌, ◌⊎◌, ◌↔◌, ◌<◌, ◌≤◌, ℕ, Bool, true, false, length, slice_get, slice_set, Some, IsErrOf, IsNone, IsTrue, is_some, IfOk, IfErr, IfSome, OnErr, OnOk};
+ghost use Rattle.lz_slot.specs.Sets.{Keys, after, reply};
+ghost use Rattle.lz_slot.specs.Bytes.{Holds};
+ghost use Rattle.lz_disk.specs.Devices.{LeavesOnly};
+ghost use Rattle.lz_vault.specs.Stages.{Cell, IsAt, IsFree};
+ghost use Rattle.lz_vault.specs.Vaults.{IsKept, last_sync};
+ghost use Rattle.lz_vault.specs.Opens.{keys_of};
+ghost use Rattle.lazyset_commands.specs.Plains.{Adds, IsAddFault, fault_of, AreSteady, EachHolds, Ends, HasCome, HasNoFree, HoldsWithOrWithout, IsLowestFree, MayInsert};
+
+use lz_disk::Disk;
+use lz_slot::{Command, Key, Slot};
+use lz_vault::{Stage, Vault, VaultFault};
+use std::marker::Model;
+
+/// Why a command was not answered yes or no.
+#[derive(Clone, Copy, Debug, PartialEq, Eq)]
+pub enum Fault {
+    /// No slot is free, and the key is no member. Nothing was changed.
+    Full,
+    /// The life is over: the device failed in an earlier command.
+    Halted,
+    /// The device failed in this command, which may have been done or not.
+    Device,
+}
+
+/// A set for one caller: each command looks through the slots.
+#[derive(Drop)]
+pub struct Plain<D: Disk> {
+    vault: Vault<D>,
+}
+
+impl<D: Disk> Model for Plain<D> {
+    ghost use Rattle.lz_vault.specs.Vaults.{VaultOver};
+    ghost use Rattle.lazyset_commands.specs.Plains.{IsPlain};
+
+    ghost Value = { VaultOver D };
+
+    ghost view = { λ p. p.vault };
+
+    ghost invariant = { λ p. IsPlain p.vault.memory (D.device p.vault.disk) };
+}
+
+impl<D: Disk> Plain<D> {
+    /// Whether the key is a member.
+    pub fn has(&self, key: Key) -> Result<bool, Fault>
+        ensures answer { IfOk result (λ answer. (self.now.memory.dead ≡ false) × (answer ≡ keys_of self.now.memory.cells key)) }
+        ensures fault { IfErr result (λ fault. (fault ≡ Fault.Halted) × (self.now.memory.dead ≡ true)) }
+
+        // It is the plain set's answer.
+        ensures plain { (S : Keys) → IsTrue (D.device self.now.disk).honest → EachHolds (D.device self.now.disk).medium (length self.now.memory.cells) S
+            → IfOk result (λ answer. answer ≡ reply (Command.Has key) (S key)) }
+    {
+        if self.vault.is_dead() {
+            return Err(Fault::Halted);
+        }
+        Ok(find(&self.vault, key).is_some())
+    }
+
+    /// Makes the key a member: true where it was none. The lowest free slot takes it, by four device calls.
+    pub fn add(&mut self, key: Key) -> Result<bool, Fault>
+        ensures adds { IfOk result (λ answer. (self.new.memory.dead ≡ false) × Adds self.old.memory.cells key answer self.new.memory.cells) }
+        ensures fault { IfErr result (λ fault. IsAddFault fault key self.old.memory self.new.memory (D.device self.old.disk) (D.device self.new.disk)) }
+        ensures full { IsErrOf result Fault.Full → self.new ≡ self.old }
+        ensures honest { (D.device self.new.disk).honest ≡ (D.device self.old.disk).honest }
+        ensures faults { (D.device self.old.disk).faults ≤ (D.device self.new.disk).faults }
+
+        // Where each image holds S, a crash at any moment of the call leaves S, or S with the key.
+        ensures any_moment { (S : Keys) → IsTrue (D.device self.old.disk).honest → EachHolds (D.device self.old.disk).medium (length self.old.memory.cells) S
+            → LeavesOnly (D.device self.old.disk) (D.device self.new.disk) (HoldsWithOrWithout (length self.old.memory.cells) S key) }
+
+        // Once it is answered, each image holds S with the key, and the answer is the plain set's.
+        ensures acknowledged { (S : Keys) → IsTrue (D.device self.old.disk).honest → EachHolds (D.device self.old.disk).medium (length self.old.memory.cells) S
+            → IfOk result (λ answer. (answer ≡ reply (Command.Add key) (S key)) × EachHolds (D.device self.new.disk).medium (length self.old.memory.cells) (after (Command.Add key) S)) }
+    {
+        if self.vault.is_dead() {
+            return Err(Fault::Halted);
+        }
+        if find(&self.vault, key).is_some() {
+            return Ok(false);
+        }
+        let Some(slot) = lowest_free(&self.vault) else {
+            return Err(Fault::Full);
+        };
+        if let Err(fault) = insert(&mut self.vault, slot, key) {
+            return Err(Fault::of_vault(fault));
+        }
+        Ok(true)
+    }
+
+    /// Ends the life, and hands the disk back as it is.
+    pub fn close(self) -> D
+        ensures { result ≡ self.disk }
+    {
+        self.vault.close()
+    }
+}
+
+impl Fault {
+    // What a command answers where a call of the vault answered this.
+    fn of_vault(fault: VaultFault) -> Fault
+        ensures { result ≡ fault_of fault }
+    {
+        match fault {
+            VaultFault::Device => Fault::Device,
+            VaultFault::Dead => Fault::Halted,
+        }
+    }
+}
+
+fn is_member_at<D: Disk>(vault: &Vault<D>, slot: Slot, key: Key) -> bool
+    requires { slot < length vault.now.memory.cells }
+    ensures { (cell : Cell) → slice_get vault.now.memory.cells slot ≡ Some cell → IsTrue result ↔ ((cell.stage ≡ Stage.Open) × (cell.key ≡ key)) }
+{
+    vault.stage(slot) == Stage::Open && vault.key_at(slot) == Some(key)
+}
+
+fn is_free_at<D: Disk>(vault: &Vault<D>, slot: Slot) -> bool
+    requires { slot < length vault.now.memory.cells }
+    ensures { (cell : Cell) → slice_get vault.now.memory.cells slot ≡ Some cell → IsTrue result ↔ IsFree cell.stage }
+{
+    matches!(
+        vault.stage(slot),
+        Stage::Closed | Stage::KeyLoose | Stage::Keyed
+    )
+}
+
+// The slot that holds the key.
+fn find<D: Disk>(vault: &Vault<D>, key: Key) -> Option<Slot>
+    ensures found { IfSome result (λ s. IsAt vault.now.memory.cells s (λ cell. (cell.stage ≡ Stage.Open) × (cell.key ≡ key))) }
+    ensures known { is_some result ≡ keys_of vault.now.memory.cells key }
+{
+    for index in 0..vault.slots() {
+        let slot = Slot::new(index as u16);
+        if is_member_at(vault, slot, key) {
+            return Some(slot);
+        }
+    }
+    None
+}
+
+// The lowest slot into which a key may be put.
+fn lowest_free<D: Disk>(vault: &Vault<D>) -> Option<Slot>
+    ensures found { IfSome result (IsLowestFree vault.now.memory.cells) }
+    ensures none { IsNone result → HasNoFree vault.now.memory.cells (length vault.now.memory.cells) }
+{
+    for index in 0..vault.slots() {
+        let slot = Slot::new(index as u16);
+        if is_free_at(vault, slot) {
+            return Some(slot);
+        }
+    }
+    None
+}
+
+// Puts a key into a free slot, and opens its gate once the key is sure.
+fn insert<D: Disk>(vault: &mut Vault<D>, slot: Slot, key: Key) -> Result<(), VaultFault>
+    requires { MayInsert vault.old.memory slot (D.device vault.old.disk) }
+    ensures come { (q : Stage) × HasCome vault.old.memory.cells slot key q (D.device vault.old.disk) (D.device vault.new.disk) vault.new.memory × OnOk result (q ≡ Stage.Open) }
+    ensures ended { Ends result vault.new.memory (D.device vault.old.disk) (D.device vault.new.disk) }
+{
+    if let Err(fault) = vault.put_key(slot, key) {
+        return Err(fault);
+    }
+    if let Err(fault) = vault.sync() {
+        return Err(fault);
+    }
+    if let Err(fault) = vault.open_gate(slot) {
+        return Err(fault);
+    }
+    vault.sync()
+}

@@ -1,0 +1,5 @@
+pub mod Sets
+pub mod Counted
+pub mod Exact
+pub mod Rows
+pub mod Holding

@@ -1,0 +1,5 @@
+pub mod Slots
+pub mod Changes
+pub mod Calls
+pub mod Gates
+pub mod Reading
