@@ -1,3 +1,4 @@
 pub mod Stages
 pub mod Vaults
 pub mod Opens
+pub mod Makes

@@ -5,8 +5,10 @@
 //! whose gate was made sure.
 #![tactic(auto)]
 
+mod making;
 mod opening;
 mod vault;
 
+pub use making::{MakeFault, make};
 pub use opening::{OpenFault, Refused};
 pub use vault::{MAX_SYNCS, Stage, Vault, VaultFault};
