@@ -1,3 +1,4 @@
 pub mod Slots
 pub mod Adding
 pub mod Members
+pub mod Serving

@@ -1,2 +1,4 @@
 pub mod Plains
 pub mod Ends
+pub mod Makings
+pub mod Runs

@@ -62,6 +62,7 @@ impl<D: Disk> Plain<D> {
         ensures adds { IfOk result (λ answer. (self.new.memory.dead ≡ false) × Adds self.old.memory.cells key answer self.new.memory.cells) }
         ensures fault { IfErr result (λ fault. IsAddFault fault key self.old.memory self.new.memory (D.device self.old.disk) (D.device self.new.disk)) }
         ensures full { IsErrOf result Fault.Full → self.new ≡ self.old }
+        ensures slots { length self.new.memory.cells ≡ length self.old.memory.cells }
         ensures honest { (D.device self.new.disk).honest ≡ (D.device self.old.disk).honest }
         ensures faults { (D.device self.old.disk).faults ≤ (D.device self.new.disk).faults }
 

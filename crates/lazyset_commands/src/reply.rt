@@ -1,5 +1,5 @@
 //! What is written for a line.
-ghost use Rattle.std.specs.Prelude.{◌≡◌};
+ghost use Rattle.std.specs.Prelude.{◌≡◌, ◌↔◌, IsTrue};
 ghost use Rattle.lazyset_commands.specs.Ends.{reply_of, reply_text};
 
 use crate::plain::Fault;
@@ -28,6 +28,13 @@ impl Reply {
             Err(Fault::Full) => Reply::Full,
             Err(Fault::Halted | Fault::Device) => Reply::Halted,
         }
+    }
+
+    /// Whether the session ends with this reply.
+    pub fn is_last(self) -> bool
+        ensures { IsTrue result ↔ (self ≡ Reply.Halted) }
+    {
+        matches!(self, Reply::Halted)
     }
 
     /// The line that is written.

@@ -5,3 +5,6 @@ pub mod Gates
 pub mod Reading
 pub mod MakingTexts
 pub mod MakingParts
+pub mod Scanning
+pub mod Openings
+pub mod OpeningFinds

@@ -1,15 +1,14 @@
 -- What an open finds in a text, and why it refuses one.
-use Rattle.std.specs.Prelude.{◌≡◌, ◌≢◌, ◌⊎◌, ℕ, ◌+◌, ◌*◌, ◌≤◌, ◌<◌, ◌&&◌, ◌==◌, Bool, true, false, IsTrue, List, length, take, slice_get, Some, Ok, Err}
+use Rattle.std.specs.Prelude.{◌≡◌, ◌≢◌, ◌⊎◌, ℕ, ◌≤◌, ◌<◌, ◌&&◌, ◌==◌, Bool, true, false, IsTrue, List, length, take, slice_get, Some, Ok, Err}
 use Rattle.std.specs.List.{list_any}
 use Rattle.lz_slot.specs.Sets.{Keys}
 use Rattle.lz_slot.specs.Bytes.{Holds, header_read, slot_at}
 use Rattle.lz_slot.specs.declared.slot.SlotRead.{SlotRead}
 use Rattle.lz_slot.specs.declared.slot.SlotRead.TheVariants as read
-use Rattle.lz_slot.specs.declared.header.HeaderFault.{HeaderFault}
 use Rattle.lz_slot.specs.declared.header.HeaderFault.TheVariants as head
 use Rattle.lz_disk.specs.Images.{synced}
 use Rattle.lz_disk.specs.Devices.{Device}
-use Rattle.lz_vault.specs.Stages.{Cell, Keeps}
+use Rattle.lz_vault.specs.Stages.{Cell, AreSteady, Keeps}
 use Rattle.lz_vault.specs.Vaults.{Vaulted, LeavesEither}
 use Rattle.lz_vault.specs.declared.vault.Stage.{Stage}
 use Rattle.lz_vault.specs.declared.vault.Stage.TheVariants.{Closed, Open}
@@ -43,6 +42,7 @@ pub record Opens (before after : Device) (memory : Vaulted) : Type 0 where
   pub time : IsTrue before.honest → LeavesEither before after
   pub faults : before.faults ≤ after.faults
   pub found : IsTrue before.honest → AreFound before.medium.seen memory.cells
+  pub steady : AreSteady memory.cells
   pub kept : IsTrue before.honest → Keeps memory.cells false after.medium
 
 -- the slots below n have no fault

@@ -58,6 +58,16 @@ IsOpened Opening = Unit {0}
 IsOpened Open = Unit {0}
 IsOpened _ = ⊥
 
+-- a stage at which nothing is under way
+abbrev pub IsSteady : Stage → Type 0
+IsSteady Closed = Unit {0}
+IsSteady Open = Unit {0}
+IsSteady _ = ⊥
+
+-- nothing is under way at any slot
+abbrev pub AreSteady : List Cell → Type 0
+AreSteady cells = (i : ℕ) (cell : Cell) → slice_get cells i ≡ Some cell → IsSteady cell.stage
+
 -- the slot's cell has P
 abbrev pub IsAt : List Cell → ℕ → (Cell → Type 0) → Type 0
 IsAt cells i P = (cell : Cell) × (slice_get cells i ≡ Some cell) × P cell

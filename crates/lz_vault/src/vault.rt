@@ -1,11 +1,13 @@
 //! The vault: an open slot file.
-ghost use Rattle.std.specs.Prelude.{◌∷◌, [], ◌≡◌, ◌+◌, ◌*◌, ◌<◌, ◌≤◌, ℕ, List, length, slice_get, map, slice_set, Some, IsErrOf, IsTrue};
+ghost use Rattle.std.specs.Prelude.{◌∷◌, [], ◌≡◌, ◌+◌, ◌*◌, ◌<◌, ◌≤◌, ℕ, List, length, slice_get, map, slice_set, Some, IfErr, IfOk, IsErrOf, IsTrue};
 ghost use Rattle.lz_disk.specs.Images.{IsImage, AgreeOutside, written};
 ghost use Rattle.lz_slot.specs.Bytes.{closed_byte, open_byte, slot_body, slot_bytes};
 ghost use Rattle.lz_slot.specs.Limits.{largest_key, most_slots};
 
+use crate::opening::{Refused, scan_file};
 use lz_disk::{DeviceFault, Disk};
 use lz_slot::{CLOSED_GATE, Key, OPEN_GATE, Slot, slot_body};
+use std::alloc::Global;
 use std::marker::Model;
 
 /// The syncs after which a vault makes no other.
@@ -33,10 +35,10 @@ pub enum VaultFault {
 
 // What the vault knows of a slot: the stage that its last write gave it, its key, and how many syncs had succeeded then.
 #[derive(Clone, Copy)]
-struct Entry {
-    stage: Stage,
-    key: u64,
-    written: u64,
+pub(crate) struct Entry {
+    pub(crate) stage: Stage,
+    pub(crate) key: u64,
+    pub(crate) written: u64,
 }
 
 impl Entry {
@@ -80,6 +82,28 @@ impl<D: Disk> Model for Vault<D> {
 impl<D: Disk> Vault<D> {
     ghost use Rattle.lz_vault.specs.Stages.{IsAt, IsFree, IsOpened, Says, Reads, Cell, cell_synced, key_in};
     ghost use Rattle.lz_vault.specs.Vaults.{Called, IsKept, SyncAll, WriteAt};
+    ghost use Rattle.lz_vault.specs.Opens.{IsRefusedFor, Opens};
+
+    /// Opens a slot file: makes sure what is read, reads the head, and scans the slots upwards. It writes nothing.
+    ///
+    /// The first fault is told: Device where a device call fails; NotMade, WrongMagic, BadCount and WrongLength of the
+    /// head, in this order; then BadKey and Twice of the lowest slot at which the scan meets one, and of Twice that slot
+    /// is the second one. Memory where there is no room for the table of slots.
+    pub fn open(alloc: Global, disk: D) -> Result<Vault<D>, Refused<D>>
+        ensures ok { IfOk result (λ vault. Opens (D.device disk) (D.device vault.disk) vault.memory) }
+        ensures err { IfErr result (λ refused. IsRefusedFor (D.device disk) (D.device refused.disk) refused.fault) }
+    {
+        let mut disk = disk;
+        match scan_file(alloc, &mut disk) {
+            Ok(entries) => Ok(Vault {
+                disk,
+                entries,
+                syncs: 0,
+                dead: false,
+            }),
+            Err(fault) => Err(Refused { disk, fault }),
+        }
+    }
 
     // Writes bytes of a slot, after which its stage and key are these.
     fn change(

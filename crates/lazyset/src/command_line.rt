@@ -1,0 +1,53 @@
+//! The words of the command line.
+use crate::fault::Fault;
+use clap::error::ErrorKind;
+use clap::{Arg, Command, Error, value_parser};
+use lazyset_commands::Status;
+use std::alloc::{AllocError, Global};
+
+fn file<'a>(alloc: Global) -> Arg<'a> {
+    Arg::new(alloc, "FILE")
+        .required(true)
+        .help("The slot file")
+}
+
+fn slots<'a>(alloc: Global) -> Arg<'a> {
+    Arg::new(alloc, "SLOTS")
+        .required(true)
+        .value_parser(value_parser!(u64))
+        .help("How many keys the file has room for, 1 to 65536")
+}
+
+fn make<'a>(alloc: Global) -> Result<Command<'a>, AllocError> {
+    Command::new(alloc, "make")
+        .about("Makes a slot file that holds the empty set, creating the file where it is absent")
+        .arg(file(alloc))?
+        .arg(slots(alloc))
+}
+
+fn run<'a>(alloc: Global) -> Result<Command<'a>, AllocError> {
+    Command::new(alloc, "run")
+        .about("Answers the lines `add K` and `has K` of standard input, each with one line: yes, no, full or halted")
+        .arg(file(alloc))
+}
+
+/// The command line that the program understands.
+pub fn command_line<'a>(alloc: Global) -> Result<Command<'a>, AllocError> {
+    Command::new(alloc, "lazyset")
+        .about("A set of keys, 0 to 999999999999999999, that survives crashes: every answer that was given lasts")
+        .subcommand_required(true)
+        .subcommand(make(alloc)?)?
+        .subcommand(run(alloc)?)
+}
+
+/// What the parser's error ends the program with: help is no fault, and want of memory none of the command line's.
+pub fn fault_of(alloc: Global, error: Error) -> Fault {
+    let status = match error.kind() {
+        ErrorKind::DisplayHelp | ErrorKind::DisplayVersion => Status::Done,
+        _ => Status::CommandLine,
+    };
+    match format!(in alloc; "{error}") {
+        Ok(text) => Fault::CommandLine { text, status },
+        Err(_) => Fault::Memory(AllocError),
+    }
+}

@@ -1,0 +1,25 @@
+-- What a run of commands leaves of the disk.
+use Rattle.std.specs.Prelude.{◌≡◌, ℕ, ◌≤◌, Bool, false, IsTrue, List, length}
+use Rattle.lz_slot.specs.Sets.{Keys}
+use Rattle.lz_slot.specs.Bytes.{Holds}
+use Rattle.lz_disk.specs.Images.{Medium}
+use Rattle.lz_disk.specs.Devices.{Device, LeavesOnly}
+use Rattle.lz_vault.specs.Vaults.{Vaulted}
+use Rattle.lazyset_commands.specs.Plains.{EachHolds}
+
+-- a file of N slots that holds some set
+abbrev pub HoldsSome : ℕ → List ℕ → Type 0
+HoldsSome N t = (S : Keys) × Holds t N S
+
+-- all images of the disk are files of N slots that hold one set
+abbrev pub HoldsOne : Medium → ℕ → Type 0
+HoldsOne disk N = (S : Keys) × EachHolds disk N S
+
+-- Commands were carried out: a crash at any moment leaves a file that holds some set, and while the life goes on there is
+-- one set that each image holds.
+pub record Serves (old new : Device) (was now : Vaulted) : Type 0 where
+  pub slots : length now.cells ≡ length was.cells
+  pub honest : new.honest ≡ old.honest
+  pub faults : old.faults ≤ new.faults
+  pub leaves : IsTrue old.honest → HoldsOne old.medium (length was.cells) → LeavesOnly old new (HoldsSome (length was.cells))
+  pub held : IsTrue old.honest → HoldsOne old.medium (length was.cells) → now.dead ≡ false → HoldsOne new.medium (length now.cells)

@@ -1,0 +1,73 @@
+//! The commands over a disk in memory, byte for byte.
+use lazyset_commands::{Status, make_on, run_on};
+use lz_disk::MemoryDisk;
+use std::alloc::{AllocError, Global};
+use std::test::Fail;
+
+/// A made file of two slots, as the format says.
+pub const TWO_SLOTS: [u8; 48] = [
+    0xa5, 0x4c, 0x5a, 0x59, 0x53, 0x45, 0x54, 0x31, 0, 0, 0, 0, 0, 0, 0, 2, //
+    0, 0, 0, 0, 0, 0, 0, 0, 0, 0, 0, 0, 0, 0, 0, 0, //
+    0, 0, 0, 0, 0, 0, 0, 0, 0, 0, 0, 0, 0, 0, 0, 0,
+];
+
+/// A disk in memory with these bytes.
+pub fn disk_with(alloc: Global, bytes: &[u8]) -> Result<MemoryDisk, AllocError> {
+    MemoryDisk::new(alloc, bytes.to_vec(alloc)?)
+}
+
+#[test]
+fn makes_a_file_of_two_slots(rt: HostRuntime) -> Result<(), Fail> {
+    let mut disk = disk_with(rt.alloc(), &[])?;
+    let mut output: Vec<u8> = Vec::new(rt.alloc());
+    let status = make_on(&mut output, &mut disk, 2);
+    assert_eq!(rt; status.code(), 0);
+    assert_eq!(rt; output.as_slice(), b"made 2\n".as_slice());
+    assert_eq!(rt; disk.bytes(), TWO_SLOTS.as_slice());
+    assert_eq!(rt; disk.calls(), 10);
+    Ok(())
+}
+
+#[test]
+fn adds_and_looks_up(rt: HostRuntime) -> Result<(), Fail> {
+    let disk = disk_with(rt.alloc(), &TWO_SLOTS)?;
+    let mut output: Vec<u8> = Vec::new(rt.alloc());
+    let mut input = b"add 17\nhas 17\nadd 17\nhas 18\n".as_slice();
+    let (status, disk) = run_on(rt.alloc(), &mut input, &mut output, disk);
+    assert_eq!(rt; status.code(), 0);
+    assert_eq!(rt; output.as_slice(), b"yes\nyes\nno\nno\n".as_slice());
+    let slot = [0xa5, 0, 0, 0, 0, 0, 0, 0, 0, 0, 0, 0, 0, 0, 0, 0x11];
+    assert_eq!(rt; disk.bytes().len(), 48);
+    assert_eq!(rt; &disk.bytes()[..16], &TWO_SLOTS[..16]);
+    assert_eq!(rt; &disk.bytes()[16..32], slot.as_slice());
+    assert_eq!(rt; &disk.bytes()[32..], [0; 16].as_slice());
+    let mut output: Vec<u8> = Vec::new(rt.alloc());
+    let mut input = b"has 17\n".as_slice();
+    let (status, _disk) = run_on(rt.alloc(), &mut input, &mut output, disk);
+    assert_eq!(rt; status, Status::Done);
+    assert_eq!(rt; output.as_slice(), b"yes\n".as_slice());
+    Ok(())
+}
+
+#[test]
+fn answers_each_line(rt: HostRuntime) -> Result<(), Fail> {
+    let rows: [(&[u8], &[u8]); 8] = [
+        (b"", b""),
+        (b"add 999999999999999999\nadd 0\nadd 0\n", b"yes\nyes\nno\n"),
+        (b"add 5\nadd 5\nadd 6\nadd 7\nhas 7\n", b"yes\nno\nyes\nfull\nno\n"),
+        (b"has 1", b"bad 5\n"),
+        (b"remove 1\nhas 1\n", b"bad 2\nno\n"),
+        (b"add 1000000000000000000\nadd  5\nadd\nadd \n\n", b"bad 2\nbad 2\nbad 2\nbad 2\nbad 2\n"),
+        (b"add 99999999999999999999999999999999\nadd 007\nadd +7\n", b"bad 2\nbad 2\nbad 2\n"),
+        (b"add 3\nhas 3\nquit\nhas 3\n", b"yes\nyes\nbad 2\nyes\n"),
+    ];
+    for (lines, replies) in rows {
+        let disk = disk_with(rt.alloc(), &TWO_SLOTS)?;
+        let mut output: Vec<u8> = Vec::new(rt.alloc());
+        let mut input = lines;
+        let (status, _disk) = run_on(rt.alloc(), &mut input, &mut output, disk);
+        assert_eq!(rt; status.code(), 0);
+        assert_eq!(rt; output.as_slice(), replies);
+    }
+    Ok(())
+}

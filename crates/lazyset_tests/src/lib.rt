@@ -1,0 +1,9 @@
+//! Worked rows and whatever else crosses the crates. It has nothing but tests.
+#![tactic(auto)]
+
+#[cfg(test)]
+mod commands;
+#[cfg(test)]
+mod crashes;
+#[cfg(test)]
+mod refusals;

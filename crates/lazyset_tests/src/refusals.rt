@@ -1,0 +1,86 @@
+//! Each refusal of a make and of an open, once.
+use crate::commands::{TWO_SLOTS, disk_with};
+use lazyset_commands::{make_on, run_on};
+use std::test::Fail;
+
+// A file of two slots with this byte at this place.
+fn changed(place: usize, byte: u8) -> [u8; 48] {
+    let mut bytes = TWO_SLOTS;
+    if place < 48 {
+        bytes[place] = byte;
+    }
+    bytes
+}
+
+// Two open slots with one key.
+fn twice() -> [u8; 48] {
+    let mut bytes = TWO_SLOTS;
+    bytes[16] = 0xa5;
+    bytes[31] = 17;
+    bytes[32] = 0xa5;
+    bytes[47] = 17;
+    bytes
+}
+
+#[test]
+fn refuses_to_open(rt: HostRuntime) -> Result<(), Fail> {
+    let bad_key = {
+        let mut bytes = changed(16, 0xa5);
+        bytes[20] = 1;
+        bytes
+    };
+    let not_made = changed(0, 0);
+    let wrong_magic = changed(7, 0x39);
+    let bad_count = changed(15, 0);
+    let doubled = twice();
+    let rows: [(&[u8], &[u8]); 6] = [
+        (&not_made, b"refused 1\n"),
+        (&wrong_magic, b"refused 2\n"),
+        (&TWO_SLOTS[..47], b"refused 3\n"),
+        (&bad_count, b"refused 4\n"),
+        (&bad_key, b"refused 5 0\n"),
+        (&doubled, b"refused 6 0 1\n"),
+    ];
+    for (bytes, told) in rows {
+        let disk = disk_with(rt.alloc(), bytes)?;
+        let mut output: Vec<u8> = Vec::new(rt.alloc());
+        let (status, disk) = run_on(rt.alloc(), &mut b"add 1\n".as_slice(), &mut output, disk);
+        assert_eq!(rt; status.code(), 3);
+        assert_eq!(rt; output.as_slice(), told);
+        assert_eq!(rt; disk.bytes(), bytes);
+    }
+    Ok(())
+}
+
+#[test]
+fn refuses_a_device_that_fails(rt: HostRuntime) -> Result<(), Fail> {
+    let mut disk = disk_with(rt.alloc(), &TWO_SLOTS)?;
+    disk.fuse(0);
+    let mut output: Vec<u8> = Vec::new(rt.alloc());
+    let (status, disk) = run_on(rt.alloc(), &mut b"has 1\n".as_slice(), &mut output, disk);
+    assert_eq!(rt; status.code(), 1);
+    assert_eq!(rt; output.as_slice(), b"refused 7\n".as_slice());
+    assert_eq!(rt; disk.calls(), 1);
+    Ok(())
+}
+
+#[test]
+fn refuses_to_make(rt: HostRuntime) -> Result<(), Fail> {
+    let long = [0; 49];
+    let rows: [(&[u8], u64, &[u8], u8); 5] = [
+        (&TWO_SLOTS, 1, b"refused 1\n", 3),
+        (&TWO_SLOTS, 3, b"refused 1\n", 3),
+        (&[], 0, b"refused 2\n", 3),
+        (&[], 65_537, b"refused 2\n", 3),
+        (&long, 2, b"refused 4\n", 3),
+    ];
+    for (bytes, slots, told, code) in rows {
+        let mut disk = disk_with(rt.alloc(), bytes)?;
+        let mut output: Vec<u8> = Vec::new(rt.alloc());
+        let status = make_on(&mut output, &mut disk, slots);
+        assert_eq!(rt; status.code(), code);
+        assert_eq!(rt; output.as_slice(), told);
+        assert_eq!(rt; disk.bytes(), bytes);
+    }
+    Ok(())
+}
