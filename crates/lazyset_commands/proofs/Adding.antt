@@ -16,14 +16,14 @@ use Rattle.lz_slot.proofs.Holding.{AreAlike, holds_same, holds_added}
 use Rattle.lz_disk.specs.Images.{Medium, IsImage}
 use Rattle.lz_disk.specs.Devices.{Device, IsTimely, LeavesOnly}
 use Rattle.lz_disk.proofs.Moments.{leaves_then, leaves_more, quiet}
-use Rattle.lz_vault.specs.Stages.{Cell, cell_synced, stage_synced, Keeps, Vouches, IsAt, IsFree, MayRead}
+use Rattle.lz_vault.specs.Stages.{Cell, cell_synced, stage_synced, Keeps, Vouches, IsAt, IsFree, MayRead, IsSteady, AreSteady}
 use Rattle.lz_vault.specs.Vaults.{Vaulted, Called, DeviceCall, NoCall, WriteAt, SyncAll, IsKept, LeavesEither, last_sync}
 use Rattle.lz_vault.specs.declared.vault.VaultFault.{VaultFault}
 use Rattle.lz_vault.specs.declared.vault.VaultFault.TheVariants.{Device as Failed, Dead}
 use Rattle.lz_vault.specs.declared.vault.Stage.{Stage}
 use Rattle.lz_vault.specs.declared.vault.Stage.TheVariants.{Closed, KeyLoose, Keyed, Opening, Open, Closing}
 use Rattle.lz_vault.proofs.Reading.{image_reads}
-use Rattle.lazyset_commands.specs.Plains.{IsSteady, AreSteady, EachHolds, HoldsWithOrWithout, HasCome, Ends, MayInsert}
+use Rattle.lazyset_commands.specs.Plains.{EachHolds, HoldsWithOrWithout, HasCome, Ends, MayInsert}
 
 -- a steady slot reads alike in all images
 steady_reads : (stage : Stage) (k : ℕ) (said said' : SlotRead) → IsSteady stage → MayRead stage k said → MayRead stage k said' → said ≡ said'

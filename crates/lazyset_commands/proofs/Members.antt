@@ -11,7 +11,7 @@ use Rattle.lz_slot.specs.declared.slot.SlotRead.{SlotRead}
 use Rattle.lz_slot.specs.declared.slot.SlotRead.TheVariants as read
 use Rattle.lz_slot.proofs.Holding.{holds_same_set}
 use Rattle.lz_disk.specs.Images.{Medium, IsImage}
-use Rattle.lz_vault.specs.Stages.{Cell, IsAt, Vouches, Keeps, MayRead}
+use Rattle.lz_vault.specs.Stages.{Cell, IsAt, Vouches, Keeps, MayRead, IsSteady, AreSteady}
 use Rattle.lz_vault.specs.Opens.{is_open, keys_of}
 use Rattle.lz_vault.specs.declared.vault.Stage.{Stage}
 use Rattle.lz_vault.specs.declared.vault.Stage.TheVariants.{Closed, KeyLoose, Keyed, Opening, Open, Closing}
@@ -19,7 +19,7 @@ use Rattle.lz_disk.specs.Devices.{Device}
 use Rattle.lz_vault.specs.Vaults.{Vaulted}
 use Rattle.lz_vault.proofs.Changes.{set_cases}
 use Rattle.lz_vault.proofs.Reading.{image_reads}
-use Rattle.lazyset_commands.specs.Plains.{IsSteady, AreSteady, IsPlain, EachHolds, HasNoMember}
+use Rattle.lazyset_commands.specs.Plains.{IsPlain, EachHolds, HasNoMember}
 use Rattle.lazyset_commands.proofs.Slots.{cell_there}
 
 opened_is : (stage : Stage) → is_open stage ≡ true → stage ≡ Open

@@ -6,7 +6,7 @@ use Rattle.lz_slot.specs.Bytes.{Holds}
 use Rattle.lz_disk.specs.Images.{Medium, IsImage}
 use Rattle.lz_disk.specs.Devices as device
 use Rattle.lz_disk.specs.Devices.{LeavesOnly}
-use Rattle.lz_vault.specs.Stages.{Cell, IsAt, IsFree}
+use Rattle.lz_vault.specs.Stages.{Cell, AreSteady, IsAt, IsFree}
 use Rattle.lz_vault.specs.Vaults.{Vaulted, IsKept, last_sync}
 use Rattle.lz_vault.specs.declared.vault.VaultFault.{VaultFault}
 use Rattle.lz_vault.specs.declared.vault.VaultFault.TheVariants as vault_fault
@@ -15,15 +15,6 @@ use Rattle.lazyset_commands.specs.declared.plain.Fault.{Fault}
 use Rattle.lazyset_commands.specs.declared.plain.Fault.TheVariants.{Full, Halted, Device}
 use Rattle.lz_vault.specs.declared.vault.Stage.{Stage}
 use Rattle.lz_vault.specs.declared.vault.Stage.TheVariants.{Closed, Open}
-
--- a stage at which nothing is under way
-abbrev pub IsSteady : Stage → Type 0
-IsSteady Closed = Unit {0}
-IsSteady Open = Unit {0}
-IsSteady _ = ⊥
-
-abbrev pub AreSteady : List Cell → Type 0
-AreSteady cells = (i : ℕ) (cell : Cell) → slice_get cells i ≡ Some cell → IsSteady cell.stage
 
 -- What holds between two calls: while the vault isn't dead, nothing is under way at any slot.
 pub record IsPlain (vault : Vaulted) (disk : device.Device) : Type 0 where

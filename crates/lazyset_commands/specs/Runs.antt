@@ -1,10 +1,14 @@
 -- What a run of commands leaves of the disk.
-use Rattle.std.specs.Prelude.{◌≡◌, ℕ, ◌≤◌, Bool, false, IsTrue, List, length}
+use Rattle.std.specs.Prelude.{◌≡◌, ℕ, ◌≤◌, Bool, false, IsTrue, List, [], ◌∷◌, ◌++◌, codes, decimal, length}
 use Rattle.lz_slot.specs.Sets.{Keys}
 use Rattle.lz_slot.specs.Bytes.{Holds}
 use Rattle.lz_disk.specs.Images.{Medium}
 use Rattle.lz_disk.specs.Devices.{Device, LeavesOnly}
 use Rattle.lz_vault.specs.Vaults.{Vaulted}
+use Rattle.lz_vault.specs.Opens.{open_fault_number}
+use Rattle.lz_vault.specs.declared.opening.OpenFault.{OpenFault}
+use Rattle.lz_vault.specs.declared.opening.OpenFault.TheVariants.{BadKey, Twice}
+use Rattle.lazyset_commands.specs.Makings.{refused_text}
 use Rattle.lazyset_commands.specs.Plains.{EachHolds}
 
 -- a file of N slots that holds some set
@@ -23,3 +27,9 @@ pub record Serves (old new : Device) (was now : Vaulted) : Type 0 where
   pub faults : old.faults ≤ new.faults
   pub leaves : IsTrue old.honest → HoldsOne old.medium (length was.cells) → LeavesOnly old new (HoldsSome (length was.cells))
   pub held : IsTrue old.honest → HoldsOne old.medium (length was.cells) → now.dead ≡ false → HoldsOne new.medium (length now.cells)
+
+-- the line of a refused open
+abbrev pub refusal_text : OpenFault → List ℕ
+refusal_text (BadKey s) = codes "refused 5 " ++ decimal s ++ 10 ∷ []
+refusal_text (Twice first second) = codes "refused 6 " ++ decimal first ++ codes " " ++ decimal second ++ 10 ∷ []
+refusal_text fault = refused_text (open_fault_number fault)

@@ -5,12 +5,13 @@ ghost use Rattle.lz_slot.specs.Bytes.{Holds};
 ghost use Rattle.lz_disk.specs.Devices.{LeavesOnly};
 ghost use Rattle.lz_vault.specs.Stages.{Cell, IsAt, IsFree};
 ghost use Rattle.lz_vault.specs.Vaults.{IsKept, last_sync};
-ghost use Rattle.lz_vault.specs.Opens.{keys_of};
-ghost use Rattle.lazyset_commands.specs.Plains.{Adds, IsAddFault, fault_of, AreSteady, EachHolds, Ends, HasCome, HasNoFree, HoldsWithOrWithout, IsLowestFree, MayInsert};
+ghost use Rattle.lz_vault.specs.Opens.{IsRefusedFor, Opens, keys_of};
+ghost use Rattle.lazyset_commands.specs.Plains.{Adds, IsAddFault, fault_of, EachHolds, Ends, HasCome, HasNoFree, HoldsWithOrWithout, IsLowestFree, MayInsert};
 
 use lz_disk::Disk;
 use lz_slot::{Command, Key, Slot};
-use lz_vault::{Stage, Vault, VaultFault};
+use lz_vault::{Refused, Stage, Vault, VaultFault};
+use std::alloc::Global;
 use std::marker::Model;
 
 /// Why a command was not answered yes or no.
@@ -42,6 +43,17 @@ impl<D: Disk> Model for Plain<D> {
 }
 
 impl<D: Disk> Plain<D> {
+    /// Opens a slot file. A refusal hands the disk back.
+    pub fn open(alloc: Global, disk: D) -> Result<Plain<D>, Refused<D>>
+        ensures ok { IfOk result (λ plain. Opens (D.device disk) (D.device plain.disk) plain.memory) }
+        ensures err { IfErr result (λ refused. IsRefusedFor (D.device disk) (D.device refused.disk) refused.fault) }
+    {
+        match Vault::open(alloc, disk) {
+            Ok(vault) => Ok(Plain { vault }),
+            Err(refused) => Err(refused),
+        }
+    }
+
     /// Whether the key is a member.
     pub fn has(&self, key: Key) -> Result<bool, Fault>
         ensures answer { IfOk result (λ answer. (self.now.memory.dead ≡ false) × (answer ≡ keys_of self.now.memory.cells key)) }
