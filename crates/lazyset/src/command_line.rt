@@ -44,6 +44,7 @@ pub fn command_line<'a>(alloc: Global) -> Result<Command<'a>, AllocError> {
 pub fn fault_of(alloc: Global, error: Error) -> Fault {
     let status = match error.kind() {
         ErrorKind::DisplayHelp | ErrorKind::DisplayVersion => Status::Done,
+        ErrorKind::OutOfMemory => return Fault::Memory(AllocError),
         _ => Status::CommandLine,
     };
     match format!(in alloc; "{error}") {
