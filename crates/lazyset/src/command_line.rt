@@ -6,9 +6,7 @@ use lazyset_commands::Status;
 use std::alloc::{AllocError, Global};
 
 fn file<'a>(alloc: Global) -> Arg<'a> {
-    Arg::new(alloc, "FILE")
-        .required(true)
-        .help("The slot file")
+    Arg::new(alloc, "FILE").required(true).help("The slot file")
 }
 
 fn slots<'a>(alloc: Global) -> Arg<'a> {
@@ -27,14 +25,18 @@ fn make<'a>(alloc: Global) -> Result<Command<'a>, AllocError> {
 
 fn run<'a>(alloc: Global) -> Result<Command<'a>, AllocError> {
     Command::new(alloc, "run")
-        .about("Answers the lines `add K` and `has K` of standard input, each with one line: yes, no, full or halted")
+        .about(
+            "Answers the lines `add K` and `has K` of standard input, each with one line: yes, no, full or halted",
+        )
         .arg(file(alloc))
 }
 
 /// The command line that the program understands.
 pub fn command_line<'a>(alloc: Global) -> Result<Command<'a>, AllocError> {
     Command::new(alloc, "lazyset")
-        .about("A set of keys, 0 to 999999999999999999, that survives crashes: every answer that was given lasts")
+        .about(
+            "A set of keys, 0 to 999999999999999999, that survives crashes: every answer that was given lasts",
+        )
         .subcommand_required(true)
         .subcommand(make(alloc)?)?
         .subcommand(run(alloc)?)

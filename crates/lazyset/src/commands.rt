@@ -31,7 +31,11 @@ where
     }
 }
 
-fn open<R: Files<File = File>>(rt: &R, matches: &ArgMatches<'_>, create: bool) -> Result<FileDisk, Fault> {
+fn open<R: Files<File = File>>(
+    rt: &R,
+    matches: &ArgMatches<'_>,
+    create: bool,
+) -> Result<FileDisk, Fault> {
     let path = matches.get_str("FILE").unwrap_or("");
     match FileDisk::open(rt, path, create) {
         Ok(disk) => Ok(disk),

@@ -1,11 +1,11 @@
 -- What the device calls of an adding leave.
-use Rattle.std.proofs.Common.{◌≡◌, ◌≢◌, ◌⊎◌, inl, inr, ⊎_elim, ℕ, ◌≤◌, ◌<◌, Bool, true, false, List, [], ◌∷◌, suc, length, IsTrue, refl, sym, ap, ◌∙◌, subst, arith, Some, Ok, Err, Result, length-set}
+use Rattle.std.proofs.Common.{◌≡◌, ◌≢◌, ◌⊎◌, inl, inr, ⊎_elim, ℕ, ◌≤◌, ◌<◌, true, false, List, [], ◌∷◌, suc, length, IsTrue, refl, sym, ap, ◌∙◌, subst, arith, Some, Ok, Err, Result, length-set}
 use Rattle.std.specs.Prelude.{slice_get, slice_set, map, OnOk}
 use Rattle.std.proofs.lemmas.List.{map-set, set-set}
 use Rattle.std.proofs.lemmas.Bool.{cases_eq}
 use Rattle.lazyset_commands.proofs.Slots.{cell_there}
 use Rattle.std.proofs.lemmas.Option.{slice_get_within, slice_get-get_or, get_or_from_slice_get}
-use Rattle.std.proofs.Common.{get_or-set_same, get_or-set_other, get_or}
+use Rattle.std.proofs.Common.{get_or-set_same, get_or-set_other}
 use Rattle.lz_slot.specs.Limits.{largest_key}
 use Rattle.lz_slot.specs.Sets.{Keys, after}
 use Rattle.lz_slot.specs.Bytes.{Holds, slot_at, open_byte, header_body}

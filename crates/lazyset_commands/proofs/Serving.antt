@@ -2,7 +2,6 @@
 use Rattle.std.proofs.Common.{◌≡◌, ◌⊎◌, inl, inr, ⊎_elim, ℕ, ◌≤◌, Bool, true, false, List, length, IsTrue, refl, sym, ap, ◌∙◌, subst, arith, Ok, Err, Result}
 use Rattle.std.specs.Prelude.{IfOk, IfErr, IsErrOf}
 use Rattle.lz_slot.specs.Sets.{Keys, after, reply}
-use Rattle.lz_slot.specs.Bytes.{Holds}
 use Rattle.lz_slot.specs.declared.command.Command.TheVariants.{Add}
 use Rattle.lz_disk.specs.Images.{Medium, AreBytes, IsImage, synced}
 use Rattle.lz_disk.specs.Devices.{Device, IsTimely, LeavesOnly}
@@ -34,7 +33,7 @@ serves_then old mid new was between now alive first second =
       honest = second.honest ∙ first.honest;
       faults = let a = first.faults in let b = second.faults in omega arith;
       leaves = λ honest one. leaves_then old mid new _ (first.leaves honest one)
-        (let P : ℕ → Type 0 = λ N. LeavesOnly mid new (HoldsSome N) in subst P first.slots (second.leaves (still honest) (first.held honest one alive)));
+          (let P : ℕ → Type 0 = λ N. LeavesOnly mid new (HoldsSome N) in subst P first.slots (second.leaves (still honest) (first.held honest one alive)));
       held = λ honest one live. second.held (still honest) (first.held honest one alive) live;
     }
 

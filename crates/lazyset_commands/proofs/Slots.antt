@@ -1,6 +1,6 @@
 -- Slots of a table and their cells.
-use Rattle.std.proofs.Common.{◌≡◌, ℕ, ◌<◌, List, length, slice_index_or, refl, sym, ap, ◌∙◌, Some, subst}
-use Rattle.std.specs.Prelude.{slice_get, Option}
+use Rattle.std.proofs.Common.{◌≡◌, ℕ, ◌<◌, List, length, slice_index_or, refl, sym, Some, subst}
+use Rattle.std.specs.Prelude.{slice_get}
 use Rattle.std.proofs.lemmas.Option.{slice_get-get_or}
 use Rattle.lz_vault.specs.Stages.{Cell, key_in}
 use Rattle.lz_vault.specs.declared.vault.Stage.{Stage}

@@ -1,5 +1,5 @@
 -- What a making tells.
-use Rattle.std.specs.Prelude.{◌≡◌, ℕ, ◌+◌, ◌*◌, ◌<◌, List, codes, decimal, length, ◌++◌, ◌∷◌, []}
+use Rattle.std.specs.Prelude.{ℕ, ◌+◌, ◌*◌, ◌<◌, List, codes, decimal, length, ◌++◌, ◌∷◌, []}
 use Rattle.lz_slot.specs.Bytes.{IsMade}
 use Rattle.lz_vault.specs.Makes.{IsBadCount}
 use Rattle.lz_vault.specs.declared.making.MakeFault.{MakeFault}

@@ -14,7 +14,7 @@ use Rattle.lz_vault.specs.Opens.{keys_of}
 use Rattle.lazyset_commands.specs.declared.plain.Fault.{Fault}
 use Rattle.lazyset_commands.specs.declared.plain.Fault.TheVariants.{Full, Halted, Device}
 use Rattle.lz_vault.specs.declared.vault.Stage.{Stage}
-use Rattle.lz_vault.specs.declared.vault.Stage.TheVariants.{Closed, Open}
+use Rattle.lz_vault.specs.declared.vault.Stage.TheVariants.{Open}
 
 -- What holds between two calls: while the vault isn't dead, nothing is under way at any slot.
 pub record IsPlain (vault : Vaulted) (disk : device.Device) : Type 0 where

@@ -17,13 +17,16 @@ use std::alloc::Global;
 use std::io;
 use std::io::{ErrorKind, Read, Write};
 
-
 // A session ended before its input did: it was halted, or the reader or the writer failed.
 #[derive(Clone, Copy)]
 struct SessionOver;
 
 // Serves the input to its end.
-fn serve<R: Read + Drop, W: Write + Drop, D: Disk>(reader: &mut R, writer: &mut W, plain: &mut Plain<D>) -> Status
+fn serve<R: Read + Drop, W: Write + Drop, D: Disk>(
+    reader: &mut R,
+    writer: &mut W,
+    plain: &mut Plain<D>,
+) -> Status
     requires { plain.old.memory.dead ≡ false }
     ensures serves { Serves (D.device plain.old.disk) (D.device plain.new.disk) plain.old.memory plain.new.memory }
     ensures ends { (result ≡ Status.Done) ⊎ (result ≡ Status.Failed) }
@@ -60,7 +63,12 @@ fn finish<W: Write + Drop>(writer: &mut W, line: &Line) -> Status
 }
 
 // Answers each line that ends in the piece, and keeps the rest.
-fn serve_piece<W: Write + Drop, D: Disk>(piece: &[u8], line: &mut Line, writer: &mut W, plain: &mut Plain<D>) -> Result<(), SessionOver>
+fn serve_piece<W: Write + Drop, D: Disk>(
+    piece: &[u8],
+    line: &mut Line,
+    writer: &mut W,
+    plain: &mut Plain<D>,
+) -> Result<(), SessionOver>
     requires { plain.old.memory.dead ≡ false }
     ensures serves { Serves (D.device plain.old.disk) (D.device plain.new.disk) plain.old.memory plain.new.memory }
     ensures alive { OnOk result (plain.new.memory.dead ≡ false) }
@@ -104,7 +112,12 @@ fn ask<D: Disk>(plain: &mut Plain<D>, request: Request) -> Reply
 
 /// Opens the set that the disk holds, and answers each line of the input with one line, until the input ends. A refused
 /// open says `refused N` with the fault's number, and its slots where it has any. The disk is handed back.
-pub fn run_on<R: Read + Drop, W: Write + Drop, D: Disk>(alloc: Global, reader: &mut R, writer: &mut W, disk: D) -> (Status, D)
+pub fn run_on<R: Read + Drop, W: Write + Drop, D: Disk>(
+    alloc: Global,
+    reader: &mut R,
+    writer: &mut W,
+    disk: D,
+) -> (Status, D)
     ensures done { IsTrue (D.device disk).honest → result.0 ≡ Status.Done → (N : ℕ) × HoldsSome N (D.device disk).medium.seen }
     ensures refused { result.0 ≡ Status.Refused → (fault : OpenFault) × Appends (W.contents writer.old) (W.contents writer.new) (refusal_text fault)
         × (IsTrue (D.device disk).honest → IsFaultOf (D.device disk).medium.seen fault) }

@@ -54,11 +54,20 @@ fn answers_each_line(rt: HostRuntime) -> Result<(), Fail> {
     let rows: [(&[u8], &[u8]); 8] = [
         (b"", b""),
         (b"add 999999999999999999\nadd 0\nadd 0\n", b"yes\nyes\nno\n"),
-        (b"add 5\nadd 5\nadd 6\nadd 7\nhas 7\n", b"yes\nno\nyes\nfull\nno\n"),
+        (
+            b"add 5\nadd 5\nadd 6\nadd 7\nhas 7\n",
+            b"yes\nno\nyes\nfull\nno\n",
+        ),
         (b"has 1", b"bad 5\n"),
         (b"remove 1\nhas 1\n", b"bad 2\nno\n"),
-        (b"add 1000000000000000000\nadd  5\nadd\nadd \n\n", b"bad 2\nbad 2\nbad 2\nbad 2\nbad 2\n"),
-        (b"add 99999999999999999999999999999999\nadd 007\nadd +7\n", b"bad 2\nbad 2\nbad 2\n"),
+        (
+            b"add 1000000000000000000\nadd  5\nadd\nadd \n\n",
+            b"bad 2\nbad 2\nbad 2\nbad 2\nbad 2\n",
+        ),
+        (
+            b"add 99999999999999999999999999999999\nadd 007\nadd +7\n",
+            b"bad 2\nbad 2\nbad 2\n",
+        ),
         (b"add 3\nhas 3\nquit\nhas 3\n", b"yes\nyes\nbad 2\nyes\n"),
     ];
     for (lines, replies) in rows {

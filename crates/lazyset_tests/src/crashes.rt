@@ -10,7 +10,12 @@ const PICKS: [Pick; 4] = [Pick::Old, Pick::New, Pick::Byte(0xa5), Pick::Byte(0x3
 // What a fresh run answers to whether 17 and 18 are members.
 fn members(alloc: Global, disk: MemoryDisk) -> Result<Vec<u8>, Fail> {
     let mut output: Vec<u8> = Vec::new(alloc);
-    let (_status, _disk) = run_on(alloc, &mut b"has 17\nhas 18\n".as_slice(), &mut output, disk);
+    let (_status, _disk) = run_on(
+        alloc,
+        &mut b"has 17\nhas 18\n".as_slice(),
+        &mut output,
+        disk,
+    );
     Ok(output)
 }
 
@@ -22,15 +27,26 @@ fn a_failed_call_ends_the_run(rt: HostRuntime) -> Result<(), Fail> {
             let mut disk = disk_with(rt.alloc(), &TWO_SLOTS)?;
             disk.fuse(passes);
             let mut output: Vec<u8> = Vec::new(rt.alloc());
-            let (status, mut disk) = run_on(rt.alloc(), &mut b"add 17\nadd 18\n".as_slice(), &mut output, disk);
+            let (status, mut disk) = run_on(
+                rt.alloc(),
+                &mut b"add 17\nadd 18\n".as_slice(),
+                &mut output,
+                disk,
+            );
             assert_eq!(rt; status.code(), 1);
-            assert_eq!(rt; disk.calls(), passes + 1, "no call is made after the failed one");
+            assert_eq!(rt;
+                disk.calls(),
+                passes + 1,
+                "no call is made after the failed one"
+            );
             disk.crash(pick)?;
             let found = members(rt.alloc(), disk)?;
             let is_found = match output.as_slice() {
                 b"refused 7\n" => found.as_slice() == b"no\nno\n".as_slice(),
-                b"halted\n" => found.as_slice() == b"no\nno\n".as_slice() || found.as_slice() == b"yes\nno\n".as_slice(),
-                b"yes\nhalted\n" => found.as_slice() == b"yes\nno\n".as_slice() || found.as_slice() == b"yes\nyes\n".as_slice(),
+                b"halted\n" => found.as_slice() == b"no\nno\n".as_slice()
+                    || found.as_slice() == b"yes\nno\n".as_slice(),
+                b"yes\nhalted\n" => found.as_slice() == b"yes\nno\n".as_slice()
+                    || found.as_slice() == b"yes\nyes\n".as_slice(),
                 _ => false,
             };
             assert!(rt; is_found, "after {passes} calls");
@@ -44,7 +60,12 @@ fn a_run_without_a_fault_makes_twelve_calls(rt: HostRuntime) -> Result<(), Fail>
     let mut disk = disk_with(rt.alloc(), &TWO_SLOTS)?;
     disk.fuse(12);
     let mut output: Vec<u8> = Vec::new(rt.alloc());
-    let (status, disk) = run_on(rt.alloc(), &mut b"add 17\nadd 18\n".as_slice(), &mut output, disk);
+    let (status, disk) = run_on(
+        rt.alloc(),
+        &mut b"add 17\nadd 18\n".as_slice(),
+        &mut output,
+        disk,
+    );
     assert_eq!(rt; status.code(), 0);
     assert_eq!(rt; output.as_slice(), b"yes\nyes\n".as_slice());
     assert_eq!(rt; disk.calls(), 12);
@@ -64,7 +85,8 @@ fn a_making_that_fails_leaves_no_half_file(rt: HostRuntime) -> Result<(), Fail> 
             assert_eq!(rt; output.as_slice(), b"refused 3\n".as_slice());
             disk.crash(pick)?;
             let found = members(rt.alloc(), disk)?;
-            let is_sound = found.as_slice() == b"refused 1\n".as_slice() || found.as_slice() == b"no\nno\n".as_slice();
+            let is_sound = found.as_slice() == b"refused 1\n".as_slice()
+                || found.as_slice() == b"no\nno\n".as_slice();
             assert!(rt; is_sound, "after {passes} calls");
         }
     }

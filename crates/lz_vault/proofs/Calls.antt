@@ -1,18 +1,18 @@
 -- What one call of a vault leaves of what its cells say.
-use Rattle.std.proofs.Common.{◌≡◌, ◌≢◌, ◌⊎◌, inl, inr, ⊎_elim, ℕ, ◌+◌, ◌*◌, ◌≤◌, ◌<◌, Bool, true, false, List, [], ◌∷◌, length, get_or, drop, sym, refl, ◌∙◌, ap, zero, suc, subst, arith, Some, IsTrue, length-set, get_or-set_other, get_or-set_same}
+use Rattle.std.proofs.Common.{◌≡◌, ◌⊎◌, inl, inr, ⊎_elim, ℕ, ◌+◌, ◌*◌, ◌≤◌, ◌<◌, Bool, true, false, List, [], ◌∷◌, length, sym, refl, ◌∙◌, ap, zero, suc, subst, arith, Some, IsTrue, length-set}
 use Rattle.std.specs.Prelude.{slice_get, slice_set, map, nat_lt}
-use Rattle.std.proofs.lemmas.List.{map-set, length-map}
+use Rattle.std.proofs.lemmas.List.{map-set}
 use Rattle.std.proofs.lemmas.Bool.{cases_lt}
 use Rattle.std.proofs.lemmas.Bool.Decides.{nat_tests}
-use Rattle.std.proofs.lemmas.Option.{slice_get_within, slice_get-get_or, get_or_from_slice_get, same_Some}
-use Rattle.lz_slot.specs.Bytes.{slot_bytes, slot_body, open_byte}
+use Rattle.std.proofs.lemmas.Option.{same_Some}
+use Rattle.lz_slot.specs.Bytes.{slot_bytes}
 use Rattle.lz_slot.specs.Limits.{largest_key}
 use Rattle.lz_disk.specs.Images.{Medium, IsImage, AgreeOutside, Loosened, AreBytes, written, WriteFailed}
 use Rattle.lz_disk.specs.Devices.{Device, IsCall, IsTimely}
 use Rattle.lz_disk.proofs.Writes.{written_loosens, failed_loosens, older_counts}
 use Rattle.lz_disk.proofs.Moments.{one_call}
-use Rattle.lz_vault.specs.Stages.{Cell, Says, Reads, Vouches, Keeps, cell_synced, stage_synced}
-use Rattle.lz_vault.specs.Vaults.{IsVault, IsKept, cell_at, cells_at, LeavesEither, Succeeds, Fails, WriteAt, MayFail}
+use Rattle.lz_vault.specs.Stages.{Cell, Says, Reads, Keeps, cell_synced, stage_synced}
+use Rattle.lz_vault.specs.Vaults.{IsVault, IsKept, cell_at, cells_at, LeavesEither, Succeeds, Fails, WriteAt}
 use Rattle.lz_vault.specs.declared.vault.Stage.{Stage}
 use Rattle.lz_vault.specs.declared.vault.Stage.TheVariants.{Closed, KeyLoose, Keyed, Opening, Open, Closing}
 use Rattle.lz_vault.specs.declared.vault.Entry.{Entry}

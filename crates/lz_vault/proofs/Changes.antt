@@ -1,17 +1,16 @@
 -- What a write to a slot, and a sync, leave of what the stages say.
-use Rattle.std.proofs.Common.{◌≡◌, ◌≢◌, ◌⊎◌, inl, inr, ⊎_elim, ℕ, zero, suc, ◌+◌, ◌*◌, ◌≤◌, ◌<◌, Bool, true, false, List, [], ◌∷◌, length, get_or, take, drop, sym, refl, ◌∙◌, ap, subst, arith, Some, None, get_or-set_same, get_or-set_other, length-set}
-use Rattle.std.specs.Prelude.{slice_get, slice_set, map, IsErrOf}
-use Rattle.std.specs.Option.{option_map}
+use Rattle.std.proofs.Common.{◌≡◌, ◌≢◌, ◌⊎◌, inl, inr, ⊎_elim, ℕ, zero, suc, ◌+◌, ◌*◌, ◌≤◌, ◌<◌, Bool, false, List, [], ◌∷◌, length, get_or, take, sym, refl, ◌∙◌, ap, subst, arith, Some, get_or-set_same, get_or-set_other, length-set}
+use Rattle.std.specs.Prelude.{slice_get, slice_set, map}
 use Rattle.std.proofs.lemmas.List.{length-map}
-use Rattle.std.proofs.lemmas.Option.{slice_get_within, slice_get-get_or, get_or_from_slice_get, same_Some, slice_get-map}
-use Rattle.std.proofs.lemmas.Bool.{cases_eq, cases_order, cases_lt}
-use Rattle.lz_slot.specs.Bytes.{slot_bytes, slot_body, open_byte, header_body}
-use Rattle.lz_disk.specs.Images.{Medium, IsImage, IsSound, AgreeOutside, Loosened, AreBytes, written, synced}
+use Rattle.std.proofs.lemmas.Option.{slice_get_within, slice_get-get_or, get_or_from_slice_get, same_Some}
+use Rattle.std.proofs.lemmas.Bool.{cases_eq, cases_order}
+use Rattle.lz_slot.specs.Bytes.{slot_bytes, open_byte, header_body}
+use Rattle.lz_disk.specs.Images.{Medium, IsImage, AgreeOutside, Loosened, synced}
 use Rattle.lz_disk.proofs.Writes.{older_image, loosened_sound, synced_image, synced_sound}
-use Rattle.lz_vault.specs.Stages.{Cell, Says, Reads, Vouches, Keeps, cell_synced, stage_synced}
+use Rattle.lz_vault.specs.Stages.{Cell, Says, Reads, Keeps, cell_synced, stage_synced}
 use Rattle.lz_vault.specs.declared.vault.Stage.{Stage}
 use Rattle.lz_vault.specs.declared.vault.Stage.TheVariants.{Closed, KeyLoose, Keyed, Opening, Open, Closing}
-use Rattle.lz_vault.proofs.Slots.{slot_same, gate_same, body_same, head_same, body_written, gate_written}
+use Rattle.lz_vault.proofs.Slots.{slot_same, head_same}
 
 -- another slot's element, or the new one
 pub set_cases : {X : Type 0} (cells : List X) (s i : ℕ) (new cell : X) → slice_get (slice_set cells s new) i ≡ Some cell → ((i ≡ s) × (cell ≡ new)) ⊎ ((i ≢ s) × (slice_get cells i ≡ Some cell))

@@ -1,7 +1,6 @@
 -- What a slot's stage says once its body or its gate was written.
-use Rattle.std.proofs.Common.{◌≡◌, ◌≢◌, ◌⊎◌, inl, inr, ℕ, ◌+◌, ◌*◌, ◌≤◌, ◌<◌, Bool, List, [], ◌∷◌, length, get_or, drop, sym, refl, ◌∙◌, ap, subst, arith, Some}
+use Rattle.std.proofs.Common.{◌≡◌, ◌≢◌, ℕ, ◌+◌, ◌*◌, ◌≤◌, ◌<◌, Bool, List, [], ◌∷◌, length, get_or, drop, sym, ◌∙◌, ap, subst, arith, Some}
 use Rattle.std.specs.Prelude.{slice_get}
-use Rattle.std.proofs.lemmas.Option.{slice_get_within}
 use Rattle.lz_slot.specs.Bytes.{slot_bytes, slot_body, open_byte}
 use Rattle.lz_disk.specs.Images.{Medium, IsImage, AgreeOutside, overwritten}
 use Rattle.lz_vault.specs.Stages.{Cell, Says, Keeps, IsAt, IsFree, IsOpened}

@@ -178,7 +178,7 @@ module _ (before after : Device) (entries : List Entry) (finds : Finds before af
     faults = finds.faults;
     found = λ honest. found before.medium.seen entries (finds.bytes honest) (finds.size honest) finds.count (finds.head honest) (finds.read honest);
     steady = λ i cell there.
-      let from = from_map (cell_at 0) entries i cell there in
-      subst (λ (c : Cell). IsSteady c.stage) (sym from.2) (steady_at 0 from.0.stage from.0.key from.0.written (finds.fresh i from.0 from.1).2);
+        let from = from_map (cell_at 0) entries i cell there in
+        subst (λ (c : Cell). IsSteady c.stage) (sym from.2) (steady_at 0 from.0.stage from.0.key from.0.written (finds.fresh i from.0 from.1).2);
     kept = keeps;
   }

@@ -1,5 +1,5 @@
 -- The vault as contracts see it, and what one call of it does.
-use Rattle.std.specs.Prelude.{◌≡◌, ◌⊎◌, ℕ, ◌+◌, ◌*◌, ◌≤◌, ◌<◌, ◌^◌, Bool, true, false, IsTrue, List, length, map, nat_lt, slice_get, Some, Result, Ok, Err, if◌then◌else◌}
+use Rattle.std.specs.Prelude.{◌≡◌, ◌⊎◌, ℕ, ◌+◌, ◌≤◌, ◌<◌, ◌^◌, Bool, true, false, IsTrue, List, length, map, nat_lt, slice_get, Some, Result, Ok, Err, if◌then◌else◌}
 use Rattle.lz_slot.specs.Limits.{largest_key, most_slots}
 use Rattle.lz_disk.specs.Images.{Medium, IsImage, WriteFailed, written, synced}
 use Rattle.lz_disk.specs.Devices.{Device, LeavesOnly}

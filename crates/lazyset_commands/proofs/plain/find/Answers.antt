@@ -1,4 +1,4 @@
-use Rattle.std.proofs.Common.{◌<◌, ◌≤◌, length, sym, subst, ◌≡◌, arith}
+use Rattle.std.proofs.Common.{◌<◌, ◌≤◌, length, sym, arith}
 use Rattle.lazyset_commands.proofs.Slots.{cell_there}
 use Rattle.lazyset_commands.proofs.Members.{member_there, no_member}
 use Rattle.lazyset_commands.proofs.plain.find.Goals as goal

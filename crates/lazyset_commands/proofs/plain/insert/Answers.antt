@@ -1,7 +1,6 @@
-use Rattle.std.proofs.Common.{◌≡◌, ◌≤◌, ℕ, ◌+◌, ◌*◌, List, [], ◌∷◌, Bool, false, Result, refl, sym, ap, ◌∙◌, subst, arith}
+use Rattle.std.proofs.Common.{◌+◌, ◌*◌, [], ◌∷◌, Result, refl, ap, subst}
 use Rattle.lz_slot.specs.Bytes.{open_byte}
 use Rattle.lz_vault.specs.Vaults.{Vaulted}
-use Rattle.lz_vault.specs.declared.vault.Stage.{Stage}
 use Rattle.lz_vault.specs.declared.vault.Stage.TheVariants.{KeyLoose, Keyed, Opening}
 use Rattle.lazyset_commands.proofs.Adding.{first_call, sync_call, sync_comes, open_call, open_comes, open_ends, come_there, sync_ends}
 use Rattle.lz_vault.specs.declared.vault.VaultFault.{VaultFault}

@@ -1,4 +1,4 @@
-use Rattle.std.proofs.Common.{◌<◌, ◌≡◌, ℕ, length, arith, subst, sym}
+use Rattle.std.proofs.Common.{◌<◌, length, arith, subst, sym}
 use Rattle.lazyset_commands.specs.Plains.{HasNoFree}
 use Rattle.lazyset_commands.proofs.Slots.{cell_there}
 use Rattle.lazyset_commands.proofs.plain.lowest_free.Goals as goal

@@ -1,5 +1,5 @@
-use Rattle.std.proofs.Common.{◌≡◌, ℕ, ap}
-use Rattle.lazyset_commands.proofs.Serving.{serves_nothing, serves_add, add_held}
+use Rattle.std.proofs.Common.{ap}
+use Rattle.lazyset_commands.proofs.Serving.{serves_add, add_held}
 use Rattle.lz_vault.specs.Vaults.{VaultOver}
 use Rattle.lazyset_commands.proofs.running.ask.Goals as goal
 

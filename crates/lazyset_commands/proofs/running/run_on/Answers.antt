@@ -1,6 +1,3 @@
-use Rattle.std.proofs.Common.{sym, subst}
-use Rattle.lz_disk.specs.Devices.{LeavesOnly}
-use Rattle.lazyset_commands.specs.Runs.{HoldsSome}
 use Rattle.lazyset_commands.proofs.Serving.{opened_leaves, opening_leaves}
 use Rattle.lazyset_commands.proofs.running.run_on.Goals as goal
 

@@ -1,4 +1,4 @@
-use Rattle.std.proofs.Common.{◌≡◌, Bool, true, false, sym, ◌∙◌}
+use Rattle.std.proofs.Common.{◌≡◌, true, false, sym, ◌∙◌}
 use Rattle.lazyset_commands.proofs.Serving.{serves_nothing, serves_then}
 use Rattle.lazyset_commands.proofs.running.serve_piece.Goals as goal
 

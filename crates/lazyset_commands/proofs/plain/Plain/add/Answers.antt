@@ -1,8 +1,8 @@
-use Rattle.std.proofs.Common.{◌≡◌, Bool, List, true, false, refl, sym, ap, ◌∙◌, subst}
+use Rattle.std.proofs.Common.{◌≡◌, true, false, refl, sym, ◌∙◌, subst}
 use Rattle.std.specs.Prelude.{slice_set}
-use Rattle.lz_vault.specs.Stages.{Cell, AreSteady}
+use Rattle.lz_vault.specs.Stages.{AreSteady}
 use Rattle.lz_vault.specs.declared.vault.Stage.{Stage}
-use Rattle.lazyset_commands.specs.Plains.{HasCome, MayInsert}
+use Rattle.lazyset_commands.specs.Plains.{MayInsert}
 use Rattle.lazyset_commands.proofs.Adding.{come_with}
 use Rattle.lazyset_commands.proofs.Members.{plain_agrees, not_in, each_holds_same, placed_steady}
 use Rattle.lazyset_commands.proofs.plain.Plain.add.Goals as goal

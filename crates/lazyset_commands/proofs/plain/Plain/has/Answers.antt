@@ -1,4 +1,4 @@
-use Rattle.std.proofs.Common.{◌≡◌, sym, ◌∙◌}
+use Rattle.std.proofs.Common.{sym, ◌∙◌}
 use Rattle.lazyset_commands.proofs.Members.{plain_agrees}
 use Rattle.lazyset_commands.proofs.plain.Plain.has.Goals as goal
 

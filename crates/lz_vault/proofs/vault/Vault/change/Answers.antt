@@ -1,10 +1,8 @@
-use Rattle.std.proofs.Common.{rules, ◌≡◌, ◌+◌, ◌*◌, ◌<◌, ◌≤◌, ℕ, List, length, IsTrue, Bool, true, false, sym, refl, ap, subst, ◌∙◌, arith}
+use Rattle.std.proofs.Common.{IsTrue, Bool, true, false, refl, subst, arith}
 use Rattle.std.specs.Prelude.{slice_set}
-use Rattle.std.proofs.lemmas.List.{length-map}
-use Rattle.lz_disk.specs.Images.{AreBytes, IsImage, AgreeOutside, Medium, written}
-use Rattle.lz_slot.specs.Bytes.{slot_bytes}
-use Rattle.lz_vault.specs.Stages.{Cell, Says, Reads, Keeps}
-use Rattle.lz_vault.specs.Vaults.{VaultOver, Vaulted, Succeeds, Fails, WriteAt, cells_at, cell_at}
+use Rattle.lz_disk.specs.Images.{AreBytes}
+use Rattle.lz_vault.specs.Stages.{Keeps}
+use Rattle.lz_vault.specs.Vaults.{cells_at}
 use Rattle.lz_vault.proofs.Calls.{cells_changed, vault_changed, written_keeps, failed_keeps, call_succeeds, call_fails}
 use Rattle.lz_vault.proofs.vault.Vault.change.Goals as goal
 

@@ -1,4 +1,4 @@
-use Rattle.std.proofs.Common.{◌≡◌, ◌+◌, ◌*◌, ℕ, arith}
+use Rattle.std.proofs.Common.{arith}
 use Rattle.std.proofs.lemmas.Option.{slice_get_within}
 use Rattle.lz_slot.specs.Bytes.{open_byte}
 use Rattle.lz_vault.proofs.Gates.{keyed_has_body, body_stays, gate_reads}

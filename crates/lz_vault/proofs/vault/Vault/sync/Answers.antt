@@ -1,7 +1,6 @@
-use Rattle.std.proofs.Common.{◌≡◌, ◌+◌, ℕ, List, IsTrue, Bool, false, sym, refl, ap, subst, ◌∙◌, arith}
+use Rattle.std.proofs.Common.{IsTrue, Bool, false, refl, subst, arith}
 use Rattle.std.specs.Prelude.{map}
-use Rattle.std.proofs.lemmas.List.{length-map}
-use Rattle.lz_vault.specs.Stages.{Cell, Keeps, cell_synced}
+use Rattle.lz_vault.specs.Stages.{Keeps, cell_synced}
 use Rattle.lz_vault.specs.Vaults.{cells_at}
 use Rattle.lz_vault.proofs.Calls.{vault_kept, cells_synced, call_leaves}
 use Rattle.lz_vault.proofs.Changes.{sync_keeps}
