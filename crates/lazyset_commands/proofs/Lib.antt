@@ -2,3 +2,5 @@ pub mod Slots
 pub mod Adding
 pub mod Members
 pub mod Serving
+pub mod Changing
+pub mod Removing

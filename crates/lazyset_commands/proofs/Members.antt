@@ -6,7 +6,7 @@ use Rattle.std.proofs.lemmas.Bool.Decides.{nat_tests}
 use Rattle.lz_slot.specs.Sets.{Keys, Same, after}
 use Rattle.lz_slot.specs.Limits.{largest_key}
 use Rattle.lz_slot.specs.Bytes.{slot_at}
-use Rattle.lz_slot.specs.declared.command.Command.TheVariants.{Add}
+use Rattle.lz_slot.specs.declared.command.Command.TheVariants.{Add, Remove}
 use Rattle.lz_slot.specs.declared.slot.SlotRead.{SlotRead}
 use Rattle.lz_slot.specs.declared.slot.SlotRead.TheVariants as read
 use Rattle.lz_slot.proofs.Holding.{holds_same_set}
@@ -103,6 +103,13 @@ added_member S k has j = grind (arith, nat_tests)
 pub each_holds_same : (disk : Medium) (N : ℕ) (S : Keys) (k : ℕ) → S k ≡ true → EachHolds disk N S → EachHolds disk N (after (Add k) S)
 each_holds_same disk N S k has each t image = holds_same_set t N S (after (Add k) S) (added_member S k has) (each t image)
 
+-- removing what is no member changes nothing
+pub removed_stranger : (S : Keys) (k : ℕ) → S k ≡ false → Same S (after (Remove k) S)
+removed_stranger S k absent j = grind (arith, nat_tests)
+
+pub each_holds_without : (disk : Medium) (N : ℕ) (S : Keys) (k : ℕ) → S k ≡ false → EachHolds disk N S → EachHolds disk N (after (Remove k) S)
+each_holds_without disk N S k absent each t image = holds_same_set t N S (after (Remove k) S) (removed_stranger S k absent) (each t image)
+
 -- the same between two calls
 pub plain_agrees : (vault : Vaulted) (disk : Device) (S : Keys) → IsPlain vault disk → vault.dead ≡ false → IsTrue disk.honest → EachHolds disk.medium (length vault.cells) S → (k : ℕ) → S k ≡ keys_of vault.cells k
 plain_agrees vault disk S plain alive honest each = set_agrees vault.cells vault.dead disk.medium S (plain.steady alive) plain.kept.keys (plain.kept.keeps honest) each
@@ -110,9 +117,9 @@ plain_agrees vault disk S plain alive honest each = set_agrees vault.cells vault
 pub not_in : (b : Bool) → b ≡ false → IsTrue b → ⊥
 not_in b absent has = let e : false ≡ true = sym absent ∙ has in cc
 
--- what is steady stays so where a slot becomes a member's
-pub placed_steady : (cells : List Cell) (s k : ℕ) → AreSteady cells → AreSteady (slice_set cells s (record { stage = Open; key = k }))
-placed_steady cells s k steady i cell there = ⊎_elim
-    (λ same. subst IsSteady (sym (ap (λ (c : Cell). c.stage) same.1)) tt)
+-- what is steady stays so where a slot comes to a steady stage
+pub placed_steady : (cells : List Cell) (s k : ℕ) (stage : Stage) → IsSteady stage → AreSteady cells → AreSteady (slice_set cells s (record { stage = stage; key = k }))
+placed_steady cells s k stage is steady i cell there = ⊎_elim
+    (λ same. subst IsSteady (sym (ap (λ (c : Cell). c.stage) same.1)) is)
     (λ other. steady i cell other.1)
-    (set_cases cells s i (record { stage = Open; key = k }) cell there)
+    (set_cases cells s i (record { stage = stage; key = k }) cell there)

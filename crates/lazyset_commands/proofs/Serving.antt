@@ -2,14 +2,15 @@
 use Rattle.std.proofs.Common.{◌≡◌, ◌⊎◌, inl, inr, ⊎_elim, ℕ, ◌≤◌, Bool, true, false, List, length, IsTrue, refl, sym, ap, ◌∙◌, subst, arith, Ok, Err, Result}
 use Rattle.std.specs.Prelude.{IfOk, IfErr, IsErrOf}
 use Rattle.lz_slot.specs.Sets.{Keys, after, reply}
-use Rattle.lz_slot.specs.declared.command.Command.TheVariants.{Add}
+use Rattle.lz_slot.specs.declared.command.Command.{Command}
+use Rattle.lz_slot.specs.declared.command.Command.TheVariants.{Add, Remove}
 use Rattle.lz_disk.specs.Images.{Medium, AreBytes, IsImage, synced}
 use Rattle.lz_disk.specs.Devices.{Device, IsTimely, LeavesOnly}
 use Rattle.lz_disk.proofs.Moments.{leaves_then, leaves_more, quiet}
 use Rattle.lz_disk.proofs.Writes.{synced_image}
 use Rattle.lz_vault.specs.Opens.{Opens}
 use Rattle.lz_vault.specs.Vaults.{Vaulted, LeavesEither}
-use Rattle.lazyset_commands.specs.Plains.{EachHolds, HoldsWithOrWithout, IsAddFault}
+use Rattle.lazyset_commands.specs.Plains.{EachHolds, HoldsBeforeOrAfter, IsAddFault, IsRemoveFault}
 use Rattle.lazyset_commands.specs.declared.plain.Fault.{Fault}
 use Rattle.lazyset_commands.specs.declared.plain.Fault.TheVariants.{Full, Halted, Device as Failed}
 use Rattle.lazyset_commands.specs.Runs.{HoldsSome, HoldsOne, Serves}
@@ -37,16 +38,16 @@ serves_then old mid new was between now alive first second =
       held = λ honest one live. second.held (still honest) (first.held honest one alive) live;
     }
 
--- an adding
-pub serves_add : (old new : Device) (was now : Vaulted) (key : ℕ) → length now.cells ≡ length was.cells → new.honest ≡ old.honest → old.faults ≤ new.faults
-    → ((S : Keys) → IsTrue old.honest → EachHolds old.medium (length was.cells) S → LeavesOnly old new (HoldsWithOrWithout (length was.cells) S key))
+-- a command
+pub serves_command : (old new : Device) (was now : Vaulted) (command : Command) → length now.cells ≡ length was.cells → new.honest ≡ old.honest → old.faults ≤ new.faults
+    → ((S : Keys) → IsTrue old.honest → EachHolds old.medium (length was.cells) S → LeavesOnly old new (HoldsBeforeOrAfter (length was.cells) S command))
     → ((S : Keys) → IsTrue old.honest → EachHolds old.medium (length was.cells) S → now.dead ≡ false → HoldsOne new.medium (length was.cells))
     → Serves old new was now
-serves_add old new was now key slots honest faults leaves held = record {
+serves_command old new was now command slots honest faults leaves held = record {
   slots = slots;
   honest = honest;
   faults = faults;
-  leaves = λ true_to one. leaves_more old new _ _ (λ t either. ⊎_elim (λ without. (one.0, without)) (λ with. (after (Add key) one.0, with)) either) (leaves one.0 true_to one.1);
+  leaves = λ true_to one. leaves_more old new _ _ (λ t either. ⊎_elim (λ before. (one.0, before)) (λ done. (after command one.0, done)) either) (leaves one.0 true_to one.1);
   held = λ true_to one alive. subst (λ (N : ℕ). HoldsOne new.medium N) (sym slots) (held one.0 true_to one.1 alive);
 }
 
@@ -59,6 +60,15 @@ add_held (Ok answer) old new was now key S acknowledged fault same each alive = 
 add_held (Err Full) old new was now key S acknowledged fault same each alive = (S, subst (λ (m : Medium). EachHolds m (length was.cells) S) (sym (same refl)) each)
 add_held (Err Halted) old new was now key S acknowledged fault same each alive = absurd (let never : true ≡ false = sym fault.0 ∙ alive in cc)
 add_held (Err Failed) old new was now key S acknowledged fault same each alive = absurd (let never : true ≡ false = sym fault.1 ∙ alive in cc)
+
+-- after a removal too
+pub remove_held : (r : Result Bool Fault) (old new : Device) (was now : Vaulted) (key : ℕ) (S : Keys)
+    → IfOk r (λ answer. (answer ≡ reply (Remove key) (S key)) × EachHolds new.medium (length was.cells) (after (Remove key) S))
+    → IfErr r (λ fault. IsRemoveFault fault was now old new) → now.dead ≡ false → HoldsOne new.medium (length was.cells)
+remove_held (Ok answer) old new was now key S acknowledged fault alive = (after (Remove key) S, acknowledged.1)
+remove_held (Err Full) old new was now key S acknowledged fault alive = absurd fault
+remove_held (Err Halted) old new was now key S acknowledged fault alive = absurd (let never : true ≡ false = sym fault.0 ∙ alive in cc)
+remove_held (Err Failed) old new was now key S acknowledged fault alive = absurd (let never : true ≡ false = sym fault.1 ∙ alive in cc)
 
 -- what a sync makes sure was an image before
 synced_was : (old : Device) → IsTimely old → (t : List ℕ) → IsImage (synced old.medium) t → IsImage old.medium t

@@ -1,6 +1,7 @@
 -- A set served to one caller from a table of slots, and what a command does to it.
 use Rattle.std.specs.Prelude.{◌≡◌, ◌⊎◌, ℕ, ◌<◌, ◌≤◌, Bool, true, false, IsTrue, Result, Ok, Err, List, length, slice_get, slice_set, Some}
 use Rattle.lz_slot.specs.Sets.{Keys, after}
+use Rattle.lz_slot.specs.declared.command.Command.{Command}
 use Rattle.lz_slot.specs.declared.command.Command.TheVariants.{Add}
 use Rattle.lz_slot.specs.Bytes.{Holds}
 use Rattle.lz_disk.specs.Images.{Medium, IsImage}
@@ -14,7 +15,7 @@ use Rattle.lz_vault.specs.Opens.{keys_of}
 use Rattle.lazyset_commands.specs.declared.plain.Fault.{Fault}
 use Rattle.lazyset_commands.specs.declared.plain.Fault.TheVariants.{Full, Halted, Device}
 use Rattle.lz_vault.specs.declared.vault.Stage.{Stage}
-use Rattle.lz_vault.specs.declared.vault.Stage.TheVariants.{Open}
+use Rattle.lz_vault.specs.declared.vault.Stage.TheVariants.{Open, Closed}
 
 -- What holds between two calls: while the vault isn't dead, nothing is under way at any slot.
 pub record IsPlain (vault : Vaulted) (disk : device.Device) : Type 0 where
@@ -25,9 +26,9 @@ pub record IsPlain (vault : Vaulted) (disk : device.Device) : Type 0 where
 abbrev pub EachHolds : Medium → ℕ → Keys → Type 0
 EachHolds disk N S = (t : List ℕ) → IsImage disk t → Holds t N S
 
--- a file of N slots that holds S, or S with the key
-abbrev pub HoldsWithOrWithout : ℕ → Keys → ℕ → List ℕ → Type 0
-HoldsWithOrWithout N S key t = Holds t N S ⊎ Holds t N (after (Add key) S)
+-- a file of N slots that holds S, or what the command makes of it
+abbrev pub HoldsBeforeOrAfter : ℕ → Keys → Command → List ℕ → Type 0
+HoldsBeforeOrAfter N S command t = Holds t N S ⊎ Holds t N (after command S)
 
 -- none of the first n slots is free
 abbrev pub HasNoFree : List Cell → ℕ → Type 0
@@ -48,21 +49,26 @@ Adds old key true new =
     (keys_of old key ≡ false) × ((s : ℕ) × IsLowestFree old s × (new ≡ slice_set old s (record { stage = Open; key = key })))
 Adds old key false new = (keys_of old key ≡ true) × (new ≡ old)
 
--- A key may be put into slot s of a vault that is alive, with nothing under way.
-pub record MayInsert (vault : Vaulted) (s : ℕ) (disk : device.Device) : Type 0 where
+-- A slot may be changed of a vault that is alive, with nothing under way.
+pub record MayChange (vault : Vaulted) (s : ℕ) (disk : device.Device) : Type 0 where
   pub alive : vault.dead ≡ false
   pub kept : IsKept vault disk
   pub steady : AreSteady vault.cells
-  pub free : IsAt vault.cells s (λ cell. IsFree cell.stage)
+  pub low : s < length vault.cells
 
--- An adding of k into slot s has come to a stage of that slot.
-pub record HasCome (cells : List Cell) (s k : ℕ) (stage : Stage) (start now : device.Device) (vault : Vaulted) : Type 0 where
+-- a command that changes a set does so: a key that is added was no member
+abbrev pub IsNews : Command → Keys → Type 0
+IsNews (Add k) S = IsTrue (S k) → ⊥
+IsNews command S = Unit {0}
+
+-- A command on the key k, which changes slot s, has come to a stage of that slot.
+pub record HasCome (cells : List Cell) (s k : ℕ) (command : Command) (stage : Stage) (start now : device.Device) (vault : Vaulted) : Type 0 where
   pub cells_are : vault.cells ≡ slice_set cells s (record { stage = stage; key = k })
   pub kept : IsKept vault now
   pub honest : now.honest ≡ start.honest
   pub faults : start.faults ≤ now.faults
-  pub leaves : (S : Keys) → IsTrue start.honest → EachHolds start.medium (length cells) S → (IsTrue (S k) → ⊥)
-      → LeavesOnly start now (HoldsWithOrWithout (length cells) S k)
+  pub leaves : (S : Keys) → IsTrue start.honest → EachHolds start.medium (length cells) S → IsNews command S
+      → LeavesOnly start now (HoldsBeforeOrAfter (length cells) S command)
 
 -- How a call ends that begins on a vault that is alive.
 abbrev pub Ends : Result (Unit {0}) VaultFault → Vaulted → device.Device → device.Device → Type 0
@@ -75,9 +81,21 @@ abbrev pub fault_of : VaultFault → Fault
 fault_of vault_fault.Device = Device
 fault_of vault_fault.Dead = Halted
 
+-- the cells after a removal that was answered: the slot that held the key is closed
+abbrev pub Removes : List Cell → ℕ → Bool → List Cell → Type 0
+Removes old key true new =
+    (s : ℕ) × IsAt old s (λ cell. (cell.stage ≡ Open) × (cell.key ≡ key)) × (new ≡ slice_set old s (record { stage = Closed; key = key }))
+Removes old key false new = (keys_of old key ≡ false) × (new ≡ old)
+
 -- Why an adding was not answered: full where the key is no member and no slot is free; halted where the life was over, or
 -- has made its last sync; device where the device failed in this call.
 abbrev pub IsAddFault : Fault → ℕ → Vaulted → Vaulted → device.Device → device.Device → Type 0
 IsAddFault Full key old new before after = (keys_of old.cells key ≡ false) × HasNoFree old.cells (length old.cells)
 IsAddFault Halted key old new before after = (new.dead ≡ true) × ((old.dead ≡ true) ⊎ (last_sync ≤ new.syncs))
 IsAddFault Device key old new before after = (old.dead ≡ false) × (new.dead ≡ true) × (before.faults < after.faults)
+
+-- Why a removal was not answered: never for want of a slot.
+abbrev pub IsRemoveFault : Fault → Vaulted → Vaulted → device.Device → device.Device → Type 0
+IsRemoveFault Full old new before after = ⊥
+IsRemoveFault Halted old new before after = (new.dead ≡ true) × ((old.dead ≡ true) ⊎ (last_sync ≤ new.syncs))
+IsRemoveFault Device old new before after = (old.dead ≡ false) × (new.dead ≡ true) × (before.faults < after.faults)

@@ -1,4 +1,4 @@
-//! The lines of the input, until the protocol has a library of its own: `add K` and `has K`.
+//! The lines of the input, until the protocol has a library of its own: `add K`, `remove K` and `has K`.
 ghost use Rattle.std.specs.Prelude.{◌≤◌};
 
 use lz_slot::Key;
@@ -7,18 +7,19 @@ use lz_slot::Key;
 #[derive(Clone, Copy)]
 pub enum Request {
     Add(Key),
+    Remove(Key),
     Has(Key),
 }
 
-// One byte more than the longest command, `add ` and 18 digits.
-const ROOM: usize = 23;
+// One byte more than the longest command, `remove ` and 18 digits.
+const ROOM: usize = 26;
 
 /// A line that is read byte by byte. What doesn't fit in its room is no command, so it isn't kept.
 #[derive(Clone, Copy)]
 pub struct Line {
     room: [u8; ROOM],
     length: usize,
-    ghost fits: { length ≤ 23 },
+    ghost fits: { length ≤ 26 },
 }
 
 impl Line {
@@ -44,6 +45,9 @@ impl Line {
     pub fn request(&self) -> Option<Request> {
         match &self.room[..self.length] {
             [b'a', b'd', b'd', b' ', digits @ ..] => Some(Request::Add(read_key(digits)?)),
+            [b'r', b'e', b'm', b'o', b'v', b'e', b' ', digits @ ..] => {
+                Some(Request::Remove(read_key(digits)?))
+            }
             [b'h', b'a', b's', b' ', digits @ ..] => Some(Request::Has(read_key(digits)?)),
             _ => None,
         }

@@ -6,7 +6,7 @@ ghost use Rattle.lz_disk.specs.Devices.{LeavesOnly};
 ghost use Rattle.lz_vault.specs.Stages.{Cell, IsAt, IsFree};
 ghost use Rattle.lz_vault.specs.Vaults.{IsKept, last_sync};
 ghost use Rattle.lz_vault.specs.Opens.{IsRefusedFor, Opens, keys_of};
-ghost use Rattle.lazyset_commands.specs.Plains.{Adds, IsAddFault, fault_of, EachHolds, Ends, HasCome, HasNoFree, HoldsWithOrWithout, IsLowestFree, MayInsert};
+ghost use Rattle.lazyset_commands.specs.Plains.{Adds, IsAddFault, fault_of, EachHolds, Ends, HasCome, HasNoFree, HoldsBeforeOrAfter, IsLowestFree, IsRemoveFault, MayChange, Removes};
 
 use lz_disk::Disk;
 use lz_slot::{Command, Key, Slot};
@@ -80,7 +80,7 @@ impl<D: Disk> Plain<D> {
 
         // Where each image holds S, a crash at any moment of the call leaves S, or S with the key.
         ensures any_moment { (S : Keys) → IsTrue (D.device self.old.disk).honest → EachHolds (D.device self.old.disk).medium (length self.old.memory.cells) S
-            → LeavesOnly (D.device self.old.disk) (D.device self.new.disk) (HoldsWithOrWithout (length self.old.memory.cells) S key) }
+            → LeavesOnly (D.device self.old.disk) (D.device self.new.disk) (HoldsBeforeOrAfter (length self.old.memory.cells) S (Command.Add key)) }
 
         // Once it is answered, each image holds S with the key, and the answer is the plain set's.
         ensures acknowledged { (S : Keys) → IsTrue (D.device self.old.disk).honest → EachHolds (D.device self.old.disk).medium (length self.old.memory.cells) S
@@ -96,6 +96,34 @@ impl<D: Disk> Plain<D> {
             return Err(Fault::Full);
         };
         if let Err(fault) = insert(&mut self.vault, slot, key) {
+            return Err(Fault::of_vault(fault));
+        }
+        Ok(true)
+    }
+
+    /// Makes the key no member: true where it was one. Its slot is closed by two device calls, and may be taken again.
+    pub fn remove(&mut self, key: Key) -> Result<bool, Fault>
+        ensures removes { IfOk result (λ answer. (self.new.memory.dead ≡ false) × Removes self.old.memory.cells key answer self.new.memory.cells) }
+        ensures fault { IfErr result (λ fault. IsRemoveFault fault self.old.memory self.new.memory (D.device self.old.disk) (D.device self.new.disk)) }
+        ensures slots { length self.new.memory.cells ≡ length self.old.memory.cells }
+        ensures honest { (D.device self.new.disk).honest ≡ (D.device self.old.disk).honest }
+        ensures faults { (D.device self.old.disk).faults ≤ (D.device self.new.disk).faults }
+
+        // Where each image holds S, a crash at any moment of the call leaves S, or S without the key.
+        ensures any_moment { (S : Keys) → IsTrue (D.device self.old.disk).honest → EachHolds (D.device self.old.disk).medium (length self.old.memory.cells) S
+            → LeavesOnly (D.device self.old.disk) (D.device self.new.disk) (HoldsBeforeOrAfter (length self.old.memory.cells) S (Command.Remove key)) }
+
+        // Once it is answered, each image holds S without the key, and the answer is the plain set's.
+        ensures acknowledged { (S : Keys) → IsTrue (D.device self.old.disk).honest → EachHolds (D.device self.old.disk).medium (length self.old.memory.cells) S
+            → IfOk result (λ answer. (answer ≡ reply (Command.Remove key) (S key)) × EachHolds (D.device self.new.disk).medium (length self.old.memory.cells) (after (Command.Remove key) S)) }
+    {
+        if self.vault.is_dead() {
+            return Err(Fault::Halted);
+        }
+        let Some(slot) = find(&self.vault, key) else {
+            return Ok(false);
+        };
+        if let Err(fault) = erase(&mut self.vault, slot) {
             return Err(Fault::of_vault(fault));
         }
         Ok(true)
@@ -168,8 +196,9 @@ fn lowest_free<D: Disk>(vault: &Vault<D>) -> Option<Slot>
 
 // Puts a key into a free slot, and opens its gate once the key is sure.
 fn insert<D: Disk>(vault: &mut Vault<D>, slot: Slot, key: Key) -> Result<(), VaultFault>
-    requires { MayInsert vault.old.memory slot (D.device vault.old.disk) }
-    ensures come { (q : Stage) × HasCome vault.old.memory.cells slot key q (D.device vault.old.disk) (D.device vault.new.disk) vault.new.memory × OnOk result (q ≡ Stage.Open) }
+    requires may { MayChange vault.old.memory slot (D.device vault.old.disk) }
+    requires free { IsAt vault.old.memory.cells slot (λ cell. IsFree cell.stage) }
+    ensures come { (q : Stage) × HasCome vault.old.memory.cells slot key (Command.Add key) q (D.device vault.old.disk) (D.device vault.new.disk) vault.new.memory × OnOk result (q ≡ Stage.Open) }
     ensures ended { Ends result vault.new.memory (D.device vault.old.disk) (D.device vault.new.disk) }
 {
     if let Err(fault) = vault.put_key(slot, key) {
@@ -179,6 +208,20 @@ fn insert<D: Disk>(vault: &mut Vault<D>, slot: Slot, key: Key) -> Result<(), Vau
         return Err(fault);
     }
     if let Err(fault) = vault.open_gate(slot) {
+        return Err(fault);
+    }
+    vault.sync()
+}
+
+// Closes the gate of a member's slot.
+fn erase<D: Disk>(vault: &mut Vault<D>, slot: Slot) -> Result<(), VaultFault>
+    requires may { MayChange vault.old.memory slot (D.device vault.old.disk) }
+    requires member { IsAt vault.old.memory.cells slot (λ cell. cell.stage ≡ Stage.Open) }
+    ensures come { (key : ℕ) → IsAt vault.old.memory.cells slot (λ cell. (cell.stage ≡ Stage.Open) × (cell.key ≡ key))
+        → (q : Stage) × HasCome vault.old.memory.cells slot key (Command.Remove key) q (D.device vault.old.disk) (D.device vault.new.disk) vault.new.memory × OnOk result (q ≡ Stage.Closed) }
+    ensures ended { Ends result vault.new.memory (D.device vault.old.disk) (D.device vault.new.disk) }
+{
+    if let Err(fault) = vault.close_gate(slot) {
         return Err(fault);
     }
     vault.sync()

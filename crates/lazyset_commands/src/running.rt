@@ -106,6 +106,7 @@ fn ask<D: Disk>(plain: &mut Plain<D>, request: Request) -> Reply
 {
     match request {
         Request::Add(key) => Reply::of(plain.add(key)),
+        Request::Remove(key) => Reply::of(plain.remove(key)),
         Request::Has(key) => Reply::of(plain.has(key)),
     }
 }

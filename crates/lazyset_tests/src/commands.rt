@@ -11,6 +11,12 @@ pub const TWO_SLOTS: [u8; 48] = [
     0, 0, 0, 0, 0, 0, 0, 0, 0, 0, 0, 0, 0, 0, 0, 0,
 ];
 
+/// A made file of one slot.
+pub const ONE_SLOT: [u8; 32] = [
+    0xa5, 0x4c, 0x5a, 0x59, 0x53, 0x45, 0x54, 0x31, 0, 0, 0, 0, 0, 0, 0, 1, //
+    0, 0, 0, 0, 0, 0, 0, 0, 0, 0, 0, 0, 0, 0, 0, 0,
+];
+
 /// A disk in memory with these bytes.
 pub fn disk_with(alloc: Global, bytes: &[u8]) -> Result<MemoryDisk, AllocError> {
     MemoryDisk::new(alloc, bytes.to_vec(alloc)?)
@@ -51,7 +57,7 @@ fn adds_and_looks_up(rt: HostRuntime) -> Result<(), Fail> {
 
 #[test]
 fn answers_each_line(rt: HostRuntime) -> Result<(), Fail> {
-    let rows: [(&[u8], &[u8]); 8] = [
+    let rows: [(&[u8], &[u8]); 9] = [
         (b"", b""),
         (b"add 999999999999999999\nadd 0\nadd 0\n", b"yes\nyes\nno\n"),
         (
@@ -59,7 +65,11 @@ fn answers_each_line(rt: HostRuntime) -> Result<(), Fail> {
             b"yes\nno\nyes\nfull\nno\n",
         ),
         (b"has 1", b"bad 5\n"),
-        (b"remove 1\nhas 1\n", b"bad 2\nno\n"),
+        (
+            b"add 1\nremove 1\nremove 1\nhas 1\nadd 1\n",
+            b"yes\nyes\nno\nno\nyes\n",
+        ),
+        (b"remove\nremove 01\nremoved 1\n", b"bad 2\nbad 2\nbad 2\n"),
         (
             b"add 1000000000000000000\nadd  5\nadd\nadd \n\n",
             b"bad 2\nbad 2\nbad 2\nbad 2\nbad 2\n",
@@ -78,5 +88,34 @@ fn answers_each_line(rt: HostRuntime) -> Result<(), Fail> {
         assert_eq!(rt; status.code(), 0);
         assert_eq!(rt; output.as_slice(), replies);
     }
+    Ok(())
+}
+
+#[test]
+fn takes_the_slot_of_a_removed_key(rt: HostRuntime) -> Result<(), Fail> {
+    let disk = disk_with(rt.alloc(), &ONE_SLOT)?;
+    let mut output: Vec<u8> = Vec::new(rt.alloc());
+    let mut input = b"add 5\nadd 5\nadd 6\nremove 5\nadd 6\n".as_slice();
+    let (status, disk) = run_on(rt.alloc(), &mut input, &mut output, disk);
+    assert_eq!(rt; status.code(), 0);
+    assert_eq!(rt; output.as_slice(), b"yes\nno\nfull\nyes\nyes\n".as_slice());
+    let slot = [0xa5, 0, 0, 0, 0, 0, 0, 0, 0, 0, 0, 0, 0, 0, 0, 6];
+    assert_eq!(rt; disk.bytes().len(), 32);
+    assert_eq!(rt; &disk.bytes()[..16], &ONE_SLOT[..16]);
+    assert_eq!(rt; &disk.bytes()[16..], slot.as_slice());
+    Ok(())
+}
+
+#[test]
+fn a_removal_closes_the_gate_and_keeps_the_key(rt: HostRuntime) -> Result<(), Fail> {
+    let disk = disk_with(rt.alloc(), &ONE_SLOT)?;
+    let mut output: Vec<u8> = Vec::new(rt.alloc());
+    let mut input = b"add 5\nremove 5\n".as_slice();
+    let (status, disk) = run_on(rt.alloc(), &mut input, &mut output, disk);
+    assert_eq!(rt; status.code(), 0);
+    assert_eq!(rt; output.as_slice(), b"yes\nyes\n".as_slice());
+    let slot = [0, 0, 0, 0, 0, 0, 0, 0, 0, 0, 0, 0, 0, 0, 0, 5];
+    assert_eq!(rt; disk.bytes().len(), 32);
+    assert_eq!(rt; &disk.bytes()[16..], slot.as_slice());
     Ok(())
 }

@@ -72,6 +72,91 @@ fn a_run_without_a_fault_makes_twelve_calls(rt: HostRuntime) -> Result<(), Fail>
     Ok(())
 }
 
+// A removal that was not answered may have been done; what another command answered lasts.
+#[test]
+fn a_failed_call_ends_a_removal(rt: HostRuntime) -> Result<(), Fail> {
+    let mut held = TWO_SLOTS;
+    held[16] = 0xa5;
+    held[31] = 17;
+    for pick in PICKS {
+        for passes in 0..6 {
+            let mut disk = disk_with(rt.alloc(), &held)?;
+            disk.fuse(passes);
+            let mut output: Vec<u8> = Vec::new(rt.alloc());
+            let (status, mut disk) = run_on(
+                rt.alloc(),
+                &mut b"remove 17\n".as_slice(),
+                &mut output,
+                disk,
+            );
+            assert_eq!(rt; status.code(), 1);
+            assert_eq!(rt; disk.calls(), passes + 1);
+            disk.crash(pick)?;
+            let found = members(rt.alloc(), disk)?;
+            let is_found = match output.as_slice() {
+                b"refused 7\n" => found.as_slice() == b"yes\nno\n".as_slice(),
+                b"halted\n" => found.as_slice() == b"yes\nno\n".as_slice()
+                    || found.as_slice() == b"no\nno\n".as_slice(),
+                _ => false,
+            };
+            assert!(rt; is_found, "after {passes} calls");
+        }
+    }
+    Ok(())
+}
+
+// An answered removal lasts, whatever the crash picks.
+#[test]
+fn an_answered_removal_lasts(rt: HostRuntime) -> Result<(), Fail> {
+    for pick in PICKS {
+        let disk = disk_with(rt.alloc(), &TWO_SLOTS)?;
+        let mut output: Vec<u8> = Vec::new(rt.alloc());
+        let (_status, mut disk) = run_on(
+            rt.alloc(),
+            &mut b"add 17\nadd 18\nremove 17\n".as_slice(),
+            &mut output,
+            disk,
+        );
+        assert_eq!(rt; output.as_slice(), b"yes\nyes\nyes\n".as_slice());
+        disk.crash(pick)?;
+        let found = members(rt.alloc(), disk)?;
+        assert_eq!(rt; found.as_slice(), b"no\nyes\n".as_slice());
+    }
+    Ok(())
+}
+
+#[test]
+fn a_making_that_fails_at_its_last_sync(rt: HostRuntime) -> Result<(), Fail> {
+    let rows: [(Pick, &[u8]); 2] = [(Pick::Old, b"refused 1\n"), (Pick::New, b"no\nno\n")];
+    for (pick, told) in rows {
+        let mut disk = disk_with(rt.alloc(), &[])?;
+        disk.fuse(9);
+        let mut output: Vec<u8> = Vec::new(rt.alloc());
+        let status = make_on(&mut output, &mut disk, 2);
+        assert_eq!(rt; status.code(), 1);
+        assert_eq!(rt; output.as_slice(), b"refused 3\n".as_slice());
+        disk.crash(pick)?;
+        if matches!(pick, Pick::New) {
+            assert_eq!(rt; disk.bytes(), TWO_SLOTS.as_slice());
+        }
+        let found = members(rt.alloc(), disk)?;
+        assert_eq!(rt; found.as_slice(), told);
+    }
+    Ok(())
+}
+
+// The file that a crash in making's first write may leave is made anew.
+#[test]
+fn a_broken_off_making_is_made_anew(rt: HostRuntime) -> Result<(), Fail> {
+    let mut disk = disk_with(rt.alloc(), &[0xa5])?;
+    let mut output: Vec<u8> = Vec::new(rt.alloc());
+    let status = make_on(&mut output, &mut disk, 2);
+    assert_eq!(rt; status.code(), 0);
+    assert_eq!(rt; output.as_slice(), b"made 2\n".as_slice());
+    assert_eq!(rt; disk.bytes(), TWO_SLOTS.as_slice());
+    Ok(())
+}
+
 // A making that was not acknowledged leaves no made file, or the empty set.
 #[test]
 fn a_making_that_fails_leaves_no_half_file(rt: HostRuntime) -> Result<(), Fail> {

@@ -6,4 +6,6 @@ mod commands;
 #[cfg(test)]
 mod crashes;
 #[cfg(test)]
+mod large;
+#[cfg(test)]
 mod refusals;

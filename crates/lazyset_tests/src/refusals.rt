@@ -1,5 +1,5 @@
 //! Each refusal of a make and of an open, once.
-use crate::commands::{TWO_SLOTS, disk_with};
+use crate::commands::{ONE_SLOT, TWO_SLOTS, disk_with};
 use lazyset_commands::{make_on, run_on};
 use std::test::Fail;
 
@@ -29,17 +29,27 @@ fn refuses_to_open(rt: HostRuntime) -> Result<(), Fail> {
         bytes[20] = 1;
         bytes
     };
+    // The first number that is no key.
+    let too_large = {
+        let mut bytes = ONE_SLOT;
+        bytes[16..].copy_from_slice(&[
+            0xa5, 0, 0, 0, 0, 0, 0, 0, 0x0d, 0xe0, 0xb6, 0xb3, 0xa7, 0x64, 0, 0,
+        ]);
+        bytes
+    };
     let not_made = changed(0, 0);
     let wrong_magic = changed(7, 0x39);
     let bad_count = changed(15, 0);
     let doubled = twice();
-    let rows: [(&[u8], &[u8]); 6] = [
+    let rows: [(&[u8], &[u8]); 8] = [
         (&not_made, b"refused 1\n"),
         (&wrong_magic, b"refused 2\n"),
         (&TWO_SLOTS[..47], b"refused 3\n"),
         (&bad_count, b"refused 4\n"),
         (&bad_key, b"refused 5 0\n"),
+        (&too_large, b"refused 5 0\n"),
         (&doubled, b"refused 6 0 1\n"),
+        (&[0xa5], b"refused 1\n"),
     ];
     for (bytes, told) in rows {
         let disk = disk_with(rt.alloc(), bytes)?;
@@ -61,6 +71,26 @@ fn refuses_a_device_that_fails(rt: HostRuntime) -> Result<(), Fail> {
     assert_eq!(rt; status.code(), 1);
     assert_eq!(rt; output.as_slice(), b"refused 7\n".as_slice());
     assert_eq!(rt; disk.calls(), 1);
+    Ok(())
+}
+
+// A slot that isn't open says no key, whatever its bytes are.
+#[test]
+fn opens_over_a_closed_slot(rt: HostRuntime) -> Result<(), Fail> {
+    let mut bytes = ONE_SLOT;
+    bytes[16..].copy_from_slice(&[
+        0x37, 0, 0, 0, 0, 0, 0, 0, 0x0d, 0xe0, 0xb6, 0xb3, 0xa7, 0x64, 0, 0,
+    ]);
+    let disk = disk_with(rt.alloc(), &bytes)?;
+    let mut output: Vec<u8> = Vec::new(rt.alloc());
+    let (status, _disk) = run_on(
+        rt.alloc(),
+        &mut b"has 0\nadd 7\n".as_slice(),
+        &mut output,
+        disk,
+    );
+    assert_eq!(rt; status.code(), 0);
+    assert_eq!(rt; output.as_slice(), b"no\nyes\n".as_slice());
     Ok(())
 }
 

@@ -1,9 +1,11 @@
 use Rattle.std.proofs.Common.{◌≡◌, true, false, refl, sym, ◌∙◌, subst}
 use Rattle.std.specs.Prelude.{slice_set}
+use Rattle.std.proofs.lemmas.Option.{slice_get_within}
 use Rattle.lz_vault.specs.Stages.{AreSteady}
+use Rattle.lz_vault.specs.declared.vault.Stage.TheVariants.{Open}
 use Rattle.lz_vault.specs.declared.vault.Stage.{Stage}
-use Rattle.lazyset_commands.specs.Plains.{MayInsert}
-use Rattle.lazyset_commands.proofs.Adding.{come_with}
+use Rattle.lazyset_commands.specs.Plains.{MayChange}
+use Rattle.lazyset_commands.proofs.Adding.{added_each}
 use Rattle.lazyset_commands.proofs.Members.{plain_agrees, not_in, each_holds_same, placed_steady}
 use Rattle.lazyset_commands.proofs.plain.Plain.add.Goals as goal
 
@@ -23,7 +25,7 @@ invariant_of-self-2 g c =
     record {
       steady = λ alive.
           subst AreSteady (sym come.1.cells_are)
-          (subst (λ (q : Stage). AreSteady (slice_set c.self.inside.vault.memory.cells c.in-Some.slot (record { stage = q; key = c.args.key }))) (sym come.2) (placed_steady _ _ _ (c.self.invariant.steady (sym c.if-is_dead.ensures.dead))));
+          (subst (λ (q : Stage). AreSteady (slice_set c.self.inside.vault.memory.cells c.in-Some.slot (record { stage = q; key = c.args.key }))) (sym come.2) (placed_steady _ _ _ Open tt (c.self.invariant.steady (sym c.if-is_dead.ensures.dead))));
       kept = come.1.kept;
     }
 
@@ -37,5 +39,6 @@ returns-clause-acknowledged g c = rw (← c.self.view_is) (λ S honest each.
     let absent : S c.args.key ≡ false = plain_agrees _ _ S c.self.invariant (sym c.if-is_dead.ensures.dead) honest each c.args.key ∙ sym c.find.ensures.known ∙ sym c.if-is_some.ensures in
     let come = c.in_default-insert.ensures.come in
     let placed = subst (λ (q : Stage). c.insert.new.vault.memory.cells ≡ slice_set c.self.inside.vault.memory.cells c.in-Some.slot (record { stage = q; key = c.args.key })) come.2 come.1.cells_are in
-    let may : MayInsert _ _ _ = record { alive = sym c.if-is_dead.ensures.dead; kept = c.self.invariant.kept; steady = c.self.invariant.steady (sym c.if-is_dead.ensures.dead); free = c.in-Some.ensures.found.free } in
-    (rw absent refl, come_with c.in-Some.slot c.args.key _ _ may _ _ placed come.1.kept come.1.honest S honest each (not_in _ absent)))
+    let free = c.in-Some.ensures.found.free in
+    let may : MayChange _ _ _ = record { alive = sym c.if-is_dead.ensures.dead; kept = c.self.invariant.kept; steady = c.self.invariant.steady (sym c.if-is_dead.ensures.dead); low = slice_get_within _ _ free.0 free.1 } in
+    (rw absent refl, added_each c.in-Some.slot c.args.key _ _ may free _ _ placed come.1.kept come.1.honest S honest each (not_in _ absent)))
