@@ -57,7 +57,7 @@ set_there cells s cell low =
     let low' : s < length (slice_set cells s cell) = omega (arith, length-set cells s cell) in
     slice_get-get_or (slice_set cells s cell) s cell low' ∙ ap (λ (c : Cell). Some c) (get_or-set_same cells s cell cell low)
 
-set_elsewhere : (cells : List Cell) (s i : ℕ) (cell there : Cell) → i ≢ s → slice_get cells i ≡ Some there → slice_get (slice_set cells s cell) i ≡ Some there
+pub set_elsewhere : (cells : List Cell) (s i : ℕ) (cell there : Cell) → i ≢ s → slice_get cells i ≡ Some there → slice_get (slice_set cells s cell) i ≡ Some there
 set_elsewhere cells s i cell there other is =
     let low = slice_get_within cells i there is in
     let low' : i < length (slice_set cells s cell) = omega (arith, length-set cells s cell) in

@@ -4,3 +4,4 @@ pub mod Members
 pub mod Serving
 pub mod Changing
 pub mod Removing
+pub mod Asking

@@ -1,4 +1,5 @@
 pub mod Plains
 pub mod Ends
 pub mod Makings
+pub mod Asks
 pub mod Runs

@@ -1,6 +1,7 @@
 -- A set served to one caller from a table of slots, and what a command does to it.
-use Rattle.std.specs.Prelude.{◌≡◌, ◌⊎◌, ℕ, ◌<◌, ◌≤◌, Bool, true, false, IsTrue, Result, Ok, Err, List, length, slice_get, slice_set, Some}
-use Rattle.lz_slot.specs.Sets.{Keys, after}
+use Rattle.std.specs.Prelude.{◌≡◌, ◌⊎◌, ℕ, ◌<◌, ◌≤◌, Bool, true, false, IsTrue, Result, Ok, Err, List, length, slice_get, slice_set, nat_eq, Some}
+use Rattle.std.specs.List.{IsDistinct}
+use Rattle.lz_slot.specs.Sets.{Keys, Same, members, after}
 use Rattle.lz_slot.specs.declared.command.Command.{Command}
 use Rattle.lz_slot.specs.declared.command.Command.TheVariants.{Add}
 use Rattle.lz_slot.specs.Bytes.{Holds}
@@ -33,6 +34,13 @@ HoldsBeforeOrAfter N S command t = Holds t N S ⊎ Holds t N (after command S)
 -- none of the first n slots is free
 abbrev pub HasNoFree : List Cell → ℕ → Type 0
 HasNoFree cells n = (i : ℕ) (cell : Cell) → i < n → slice_get cells i ≡ Some cell → IsFree cell.stage → ⊥
+
+-- the set has n members
+pub record HasMembers (S : Keys) (n : ℕ) : Type 0 where
+  pub keys : List ℕ
+  pub count : length keys ≡ n
+  pub distinct : IsDistinct nat_eq keys
+  pub all : Same S (members keys)
 
 -- none of the first n slots holds the key
 abbrev pub HasNoMember : List Cell → ℕ → ℕ → Type 0
@@ -90,7 +98,7 @@ Removes old key false new = (keys_of old key ≡ false) × (new ≡ old)
 -- Why an adding was not answered: full where the key is no member and no slot is free; halted where the life was over, or
 -- has made its last sync; device where the device failed in this call.
 abbrev pub IsAddFault : Fault → ℕ → Vaulted → Vaulted → device.Device → device.Device → Type 0
-IsAddFault Full key old new before after = (keys_of old.cells key ≡ false) × HasNoFree old.cells (length old.cells)
+IsAddFault Full key old new before after = (old.dead ≡ false) × (keys_of old.cells key ≡ false) × HasNoFree old.cells (length old.cells)
 IsAddFault Halted key old new before after = (new.dead ≡ true) × ((old.dead ≡ true) ⊎ (last_sync ≤ new.syncs))
 IsAddFault Device key old new before after = (old.dead ≡ false) × (new.dead ≡ true) × (before.faults < after.faults)
 

@@ -6,9 +6,11 @@ ghost use Rattle.lz_disk.specs.Devices.{LeavesOnly};
 ghost use Rattle.lz_vault.specs.Stages.{Cell, IsAt, IsFree};
 ghost use Rattle.lz_vault.specs.Vaults.{IsKept, last_sync};
 ghost use Rattle.lz_vault.specs.Opens.{IsRefusedFor, Opens, keys_of};
-ghost use Rattle.lazyset_commands.specs.Plains.{Adds, IsAddFault, fault_of, EachHolds, Ends, HasCome, HasNoFree, HoldsBeforeOrAfter, IsLowestFree, IsRemoveFault, MayChange, Removes};
+ghost use Rattle.lazyset_commands.specs.Asks.{reply_of};
+ghost use Rattle.lazyset_commands.specs.Plains.{Adds, IsAddFault, fault_of, EachHolds, Ends, HasCome, HasMembers, HasNoFree, HoldsBeforeOrAfter, IsLowestFree, IsRemoveFault, MayChange, Removes};
 
 use lz_disk::Disk;
+use lz_proto::{Reply, Request, Service};
 use lz_slot::{Command, Key, Slot};
 use lz_vault::{Refused, Stage, Vault, VaultFault};
 use std::alloc::Global;
@@ -78,6 +80,12 @@ impl<D: Disk> Plain<D> {
         ensures honest { (D.device self.new.disk).honest ≡ (D.device self.old.disk).honest }
         ensures faults { (D.device self.old.disk).faults ≤ (D.device self.new.disk).faults }
 
+        // It is full exactly where the set has as many members as the file has slots.
+        ensures room { (S : Keys) → IsTrue (D.device self.old.disk).honest → EachHolds (D.device self.old.disk).medium (length self.old.memory.cells) S
+            → IfOk result (λ answer. answer ≡ true → HasMembers S (length self.old.memory.cells) → ⊥) }
+        ensures full_set { (S : Keys) → IsTrue (D.device self.old.disk).honest → EachHolds (D.device self.old.disk).medium (length self.old.memory.cells) S
+            → IsErrOf result Fault.Full → (S key ≡ false) × HasMembers S (length self.old.memory.cells) }
+
         // Where each image holds S, a crash at any moment of the call leaves S, or S with the key.
         ensures any_moment { (S : Keys) → IsTrue (D.device self.old.disk).honest → EachHolds (D.device self.old.disk).medium (length self.old.memory.cells) S
             → LeavesOnly (D.device self.old.disk) (D.device self.new.disk) (HoldsBeforeOrAfter (length self.old.memory.cells) S (Command.Add key)) }
@@ -134,6 +142,34 @@ impl<D: Disk> Plain<D> {
         ensures { result ≡ self.disk }
     {
         self.vault.close()
+    }
+}
+
+impl<D: Disk> Service for Plain<D> {
+    ghost use Rattle.lazyset_commands.specs.Asks.{PlainAnswers};
+
+    ghost answers = { λ old request reply new. PlainAnswers D.device old request reply new };
+
+    fn ask(&mut self, request: Request) -> Reply {
+        match request {
+            Request::Add(key) => reply_of(self.add(key)),
+            Request::Remove(key) => reply_of(self.remove(key)),
+            Request::Has(key) => reply_of(self.has(key)),
+            // A session never asks it.
+            Request::Quit => Reply::Halted,
+        }
+    }
+}
+
+// The reply to a command that was answered so.
+fn reply_of(answer: Result<bool, Fault>) -> Reply
+    ensures { result ≡ reply_of answer }
+{
+    match answer {
+        Ok(true) => Reply::Yes,
+        Ok(false) => Reply::No,
+        Err(Fault::Full) => Reply::Full,
+        Err(Fault::Halted | Fault::Device) => Reply::Halted,
     }
 }
 

@@ -1,113 +1,48 @@
 //! The command that serves a session.
-ghost use Rattle.std.specs.Prelude.{◌≡◌, ◌⊎◌, ◌≤◌, ℕ, false, IsTrue, OnOk};
+ghost use Rattle.std.specs.Prelude.{◌≡◌, ◌≢◌, ◌⊎◌, ◌≤◌, ℕ, false, IsTrue, Ok, OnOk};
 ghost use Rattle.std.specs.Io.KnownBytes.{Appends};
 ghost use Rattle.lz_disk.specs.Devices.{LeavesOnly};
-ghost use Rattle.lz_vault.specs.Opens.{IsFaultOf};
-ghost use Rattle.lazyset_commands.specs.Runs.{HoldsOne, HoldsSome, Serves, refusal_text};
+ghost use Rattle.lz_vault.specs.Opens.{IsFaultOf, Opens};
+ghost use Rattle.lz_vault.specs.Vaults.{VaultOver};
+ghost use Rattle.lz_slot.specs.Sets.{Keys};
+ghost use Rattle.lazyset_commands.specs.Plains.{EachHolds};
+ghost use Rattle.lazyset_commands.specs.Runs.{CarriedOut, HoldsOne, HoldsSome, RepliesOfSet, ServedWhole, refusal_text};
 ghost use Rattle.lazyset_commands.specs.Makings.{refused_text};
 
-use crate::line::{Line, Request};
 use crate::plain::Plain;
-use crate::reply::Reply;
 use crate::status::Status;
 use lz_disk::Disk;
+use lz_proto::{End, SessionFault, session};
 use lz_slot::Slot;
 use lz_vault::{OpenFault, Refused};
 use std::alloc::Global;
 use std::io;
-use std::io::{ErrorKind, Read, Write};
+use std::io::{Read, Write};
 
-// A session ended before its input did: it was halted, or the reader or the writer failed.
-#[derive(Clone, Copy)]
-struct SessionOver;
-
-// Serves the input to its end.
+// Serves the input up to its end, `quit` or `halted`.
 fn serve<R: Read + Drop, W: Write + Drop, D: Disk>(
+    alloc: Global,
     reader: &mut R,
     writer: &mut W,
     plain: &mut Plain<D>,
 ) -> Status
     requires { plain.old.memory.dead ≡ false }
-    ensures serves { Serves (D.device plain.old.disk) (D.device plain.new.disk) plain.old.memory plain.new.memory }
+    ensures serves { CarriedOut (D.device plain.old.disk) (D.device plain.new.disk) plain.old.memory plain.new.memory }
+    ensures whole { result ≡ Status.Done → ServedWhole D.device (R.remaining reader.old) (R.remaining reader.new) (W.contents writer.old) (W.contents writer.new) plain.old plain.new }
     ensures ends { (result ≡ Status.Done) ⊎ (result ≡ Status.Failed) }
 {
-    let mut line = Line::new();
-    let mut piece = [0; 4096];
-    'pieces: for _ in 0..u64::MAX {
-        match reader.read(&mut piece) {
-            Ok(0) => return finish(writer, &line),
-            Ok(count) => {
-                if let Err(SessionOver) = serve_piece(&piece[..count], &mut line, writer, plain) {
-                    return Status::Failed;
-                }
-                continue 'pieces;
-            }
-            Err(error) if error.kind() == ErrorKind::Interrupted => continue 'pieces,
-            Err(_) => return Status::Failed,
-        }
-    }
-    Status::Failed
+    let ended = session(alloc, reader, writer, plain);
+    status_after(ended)
 }
 
-// Tells that the input ended within a line, where it did.
-fn finish<W: Write + Drop>(writer: &mut W, line: &Line) -> Status
-    ensures { (result ≡ Status.Done) ⊎ (result ≡ Status.Failed) }
+// The status after a session.
+fn status_after(ended: Result<End, SessionFault>) -> Status
+    ensures done { result ≡ Status.Done → (end : End) × (ended ≡ Ok end) × (end ≢ End.Halted) }
+    ensures ends { (result ≡ Status.Done) ⊎ (result ≡ Status.Failed) }
 {
-    if line.is_empty() {
-        return Status::Done;
-    }
-    match writer.write_all(Reply::NoLineFeed.text().as_bytes()) {
-        Ok(()) => Status::Done,
-        Err(_) => Status::Failed,
-    }
-}
-
-// Answers each line that ends in the piece, and keeps the rest.
-fn serve_piece<W: Write + Drop, D: Disk>(
-    piece: &[u8],
-    line: &mut Line,
-    writer: &mut W,
-    plain: &mut Plain<D>,
-) -> Result<(), SessionOver>
-    requires { plain.old.memory.dead ≡ false }
-    ensures serves { Serves (D.device plain.old.disk) (D.device plain.new.disk) plain.old.memory plain.new.memory }
-    ensures alive { OnOk result (plain.new.memory.dead ≡ false) }
-{
-    for byte in piece {
-        if *byte != b'\n' {
-            line.push(*byte);
-            continue;
-        }
-        let reply = answer(plain, line);
-        *line = Line::new();
-        if writer.write_all(reply.text().as_bytes()).is_err() || reply.is_last() {
-            return Err(SessionOver);
-        }
-    }
-    Ok(())
-}
-
-// Carries out the command of a line.
-fn answer<D: Disk>(plain: &mut Plain<D>, line: &Line) -> Reply
-    requires { plain.old.memory.dead ≡ false }
-    ensures serves { Serves (D.device plain.old.disk) (D.device plain.new.disk) plain.old.memory plain.new.memory }
-    ensures alive { (result ≡ Reply.Halted → ⊥) → plain.new.memory.dead ≡ false }
-{
-    match line.request() {
-        Some(request) => ask(plain, request),
-        None => Reply::NoCommand,
-    }
-}
-
-fn ask<D: Disk>(plain: &mut Plain<D>, request: Request) -> Reply
-    requires { plain.old.memory.dead ≡ false }
-    ensures serves { Serves (D.device plain.old.disk) (D.device plain.new.disk) plain.old.memory plain.new.memory }
-    ensures alive { (result ≡ Reply.Halted → ⊥) → plain.new.memory.dead ≡ false }
-{
-    match request {
-        Request::Add(key) => Reply::of(plain.add(key)),
-        Request::Remove(key) => Reply::of(plain.remove(key)),
-        Request::Has(key) => Reply::of(plain.has(key)),
+    match ended {
+        Ok(End::Done | End::Quit) => Status::Done,
+        Ok(End::Halted) | Err(_) => Status::Failed,
     }
 }
 
@@ -126,6 +61,14 @@ pub fn run_on<R: Read + Drop, W: Write + Drop, D: Disk>(
     ensures honest { (D.device result.1).honest ≡ (D.device disk).honest }
     ensures faults { (D.device disk).faults ≤ (D.device result.1).faults }
 
+    // A run that is done is one session over the set that was opened: its output is the texts of the replies in order.
+    ensures session { result.0 ≡ Status.Done → (opened : VaultOver D) × (left : VaultOver D) × Opens (D.device disk) (D.device opened.disk) opened.memory × (left.disk ≡ result.1)
+        × ServedWhole D.device (R.remaining reader.old) (R.remaining reader.new) (W.contents writer.old) (W.contents writer.new) opened left }
+
+    // Where each image holds S, the replies of such a run are the plain set's, and it leaves the set after them.
+    ensures plain { (N : ℕ) (S : Keys) → IsTrue (D.device disk).honest → EachHolds (D.device disk).medium N S → result.0 ≡ Status.Done
+        → RepliesOfSet N S (R.remaining reader.old) (W.contents writer.old) (W.contents writer.new) (D.device result.1).medium }
+
     // Where all that a crash may leave holds one set, a crash at any moment of the run leaves a file that holds some set.
     ensures any_moment { (N : ℕ) → IsTrue (D.device disk).honest → HoldsOne (D.device disk).medium N
         → LeavesOnly (D.device disk) (D.device result.1) (HoldsSome N) }
@@ -133,7 +76,7 @@ pub fn run_on<R: Read + Drop, W: Write + Drop, D: Disk>(
     match Plain::open(alloc, disk) {
         Ok(plain) => {
             let mut plain = plain;
-            let status = serve(reader, writer, &mut plain);
+            let status = serve(alloc, reader, writer, &mut plain);
             (status, plain.close())
         }
         Err(refused) => {

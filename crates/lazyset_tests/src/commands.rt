@@ -56,42 +56,6 @@ fn adds_and_looks_up(rt: HostRuntime) -> Result<(), Fail> {
 }
 
 #[test]
-fn answers_each_line(rt: HostRuntime) -> Result<(), Fail> {
-    let rows: [(&[u8], &[u8]); 9] = [
-        (b"", b""),
-        (b"add 999999999999999999\nadd 0\nadd 0\n", b"yes\nyes\nno\n"),
-        (
-            b"add 5\nadd 5\nadd 6\nadd 7\nhas 7\n",
-            b"yes\nno\nyes\nfull\nno\n",
-        ),
-        (b"has 1", b"bad 5\n"),
-        (
-            b"add 1\nremove 1\nremove 1\nhas 1\nadd 1\n",
-            b"yes\nyes\nno\nno\nyes\n",
-        ),
-        (b"remove\nremove 01\nremoved 1\n", b"bad 2\nbad 2\nbad 2\n"),
-        (
-            b"add 1000000000000000000\nadd  5\nadd\nadd \n\n",
-            b"bad 2\nbad 2\nbad 2\nbad 2\nbad 2\n",
-        ),
-        (
-            b"add 99999999999999999999999999999999\nadd 007\nadd +7\n",
-            b"bad 2\nbad 2\nbad 2\n",
-        ),
-        (b"add 3\nhas 3\nquit\nhas 3\n", b"yes\nyes\nbad 2\nyes\n"),
-    ];
-    for (lines, replies) in rows {
-        let disk = disk_with(rt.alloc(), &TWO_SLOTS)?;
-        let mut output: Vec<u8> = Vec::new(rt.alloc());
-        let mut input = lines;
-        let (status, _disk) = run_on(rt.alloc(), &mut input, &mut output, disk);
-        assert_eq!(rt; status.code(), 0);
-        assert_eq!(rt; output.as_slice(), replies);
-    }
-    Ok(())
-}
-
-#[test]
 fn takes_the_slot_of_a_removed_key(rt: HostRuntime) -> Result<(), Fail> {
     let disk = disk_with(rt.alloc(), &ONE_SLOT)?;
     let mut output: Vec<u8> = Vec::new(rt.alloc());

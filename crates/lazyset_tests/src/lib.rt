@@ -9,3 +9,5 @@ mod crashes;
 mod large;
 #[cfg(test)]
 mod refusals;
+#[cfg(test)]
+mod sessions;

@@ -6,7 +6,7 @@ use Rattle.lz_vault.specs.declared.vault.Stage.TheVariants.{Open}
 use Rattle.lz_vault.specs.declared.vault.Stage.{Stage}
 use Rattle.lazyset_commands.specs.Plains.{MayChange}
 use Rattle.lazyset_commands.proofs.Adding.{added_each}
-use Rattle.lazyset_commands.proofs.Members.{plain_agrees, not_in, each_holds_same, placed_steady}
+use Rattle.lazyset_commands.proofs.Members.{plain_agrees, not_in, each_holds_same, full_members, has_room, placed_steady}
 use Rattle.lazyset_commands.proofs.plain.Plain.add.Goals as goal
 
 pub returns-then-is_some-clause-acknowledged : goal.returns-then-is_some-clause-acknowledged
@@ -42,3 +42,21 @@ returns-clause-acknowledged g c = rw (← c.self.view_is) (λ S honest each.
     let free = c.in-Some.ensures.found.free in
     let may : MayChange _ _ _ = record { alive = sym c.if-is_dead.ensures.dead; kept = c.self.invariant.kept; steady = c.self.invariant.steady (sym c.if-is_dead.ensures.dead); low = slice_get_within _ _ free.0 free.1 } in
     (rw absent refl, added_each c.in-Some.slot c.args.key _ _ may free _ _ placed come.1.kept come.1.honest S honest each (not_in _ absent)))
+
+pub returns-in_default-clause-full_set : goal.returns-in_default-clause-full_set
+returns-in_default-clause-full_set g c = rw (← c.self.view_is) (λ S honest each full.
+    let alive = sym c.if-is_dead.ensures.dead in (
+      plain_agrees _ _ S c.self.invariant alive honest each c.args.key ∙ sym c.find.ensures.known ∙ sym c.if-is_some.ensures,
+      full_members _ _ S c.self.invariant alive honest each (c.in_default.ensures.none refl),
+    ))
+
+pub insert-requires-clause-may : goal.insert-requires-clause-may
+insert-requires-clause-may g c =
+    let free = c.in-Some.ensures.found.free in
+    record { alive = sym c.if-is_dead.ensures.dead; kept = c.self.invariant.kept; steady = c.self.invariant.steady (sym c.if-is_dead.ensures.dead); low = slice_get_within _ _ free.0 free.1 }
+
+pub returns-clause-room : goal.returns-clause-room
+returns-clause-room g c = rw (← c.self.view_is) (λ S honest each yes.
+    let alive = sym c.if-is_dead.ensures.dead in
+    let absent : S c.args.key ≡ false = plain_agrees _ _ S c.self.invariant alive honest each c.args.key ∙ sym c.find.ensures.known ∙ sym c.if-is_some.ensures in
+    has_room _ _ S c.self.invariant alive honest each c.in-Some.slot c.args.key c.in-Some.ensures.found absent)

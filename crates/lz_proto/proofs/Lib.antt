@@ -1,0 +1,7 @@
+pub mod Begun
+pub mod Bytes
+pub mod Digits
+pub mod LineReads
+pub mod Rows
+pub mod Serving
+pub mod Texts

@@ -1,0 +1,304 @@
+-- What a session has answered.
+use Rattle.std.proofs.Common.{◌≡◌, ◌≢◌, ℕ, inl, inr, ◌+◌, ◌<◌, List, [], ◌∷◌, ◌++◌, take, drop, get_or, length, Option, Some, None, Result, Ok, Err, refl, sym, ap, subst, ◌∙◌, append_assoc}
+use Rattle.std.proofs.lemmas.List.{append-nil, take_more, take-append-drop}
+use Rattle.std.specs.Io.KnownBytes.{Appends, Consumes, IsAtEnd}
+use Rattle.std.proofs.KnownBytes.{Appends-trans}
+use Rattle.lz_proto.specs.declared.request.Request.{Request}
+use Rattle.lz_proto.specs.declared.request.Request.TheVariants.{Quit}
+use Rattle.lz_proto.specs.declared.fault.Bad.{Bad}
+use Rattle.lz_proto.specs.declared.fault.SessionFault.{SessionFault}
+use Rattle.lz_proto.specs.declared.fault.SessionFault.TheVariants.{Read, Write, Memory}
+use Rattle.lz_proto.specs.declared.item.Item.{Item}
+use Rattle.lz_proto.specs.declared.item.Item.TheVariants.{Asks, Faulty}
+use Rattle.lz_proto.specs.declared.reply.Reply.{Reply}
+use Rattle.lz_proto.specs.declared.reply.Reply.TheVariants.{Halted}
+use Rattle.lz_proto.specs.declared.end.End.{End}
+use Rattle.lz_proto.specs.declared.end.End.TheVariants as ends
+use Rattle.lz_proto.specs.Lines.{Items}
+use Rattle.lz_proto.specs.Pieces.{Reads, Feeds, Ends, faults_of}
+use Rattle.lz_proto.specs.Sessions.{Serves, session_text, end_of, reply_text, bad_text, Answered, CutOff, Whole, Broken, IsInput, Writes}
+use Rattle.lz_proto.specs.Steps.{SendTells, FaultTells, AnswersTell, end_after}
+use Rattle.lz_proto.proofs.Texts.{items_end, reads_more, some_items}
+
+-- what goes on after items that didn't end the session
+serves_more : {S : Type 0} (answers : S → Request → Reply → S → Type 0) (old mid new : S) (a b : List Item) (ra rb : List Reply)
+    → Serves answers old a ra mid → end_of a ra ≡ ends.Done → Serves answers mid b rb new → Serves answers old (a ++ b) (ra ++ rb) new
+serves_more answers old mid new [] b [] rb s e t = subst (λ x. Serves answers x b rb new) s t
+serves_more answers old mid new [] b (r ∷ ra) rb s e t = absurd s
+serves_more answers old mid new (Faulty bad ∷ a) b ra rb s e t = serves_more answers old mid new a b ra rb s e t
+serves_more answers old mid new (Asks Quit ∷ a) b ra rb s e t = absurd (cc)
+serves_more answers old mid new (Asks request ∷ a) b [] rb s e t = absurd s
+serves_more answers old mid new (Asks request ∷ a) b (Halted ∷ ra) rb s e t = absurd (cc)
+serves_more answers old mid new (Asks request ∷ a) b (reply ∷ ra) rb s e t = (s.0, s.1, serves_more answers s.0 mid new a b ra rb s.2 e t)
+
+text_more : {S : Type 0} (answers : S → Request → Reply → S → Type 0) (old mid : S) (a b : List Item) (ra rb : List Reply)
+    → Serves answers old a ra mid → end_of a ra ≡ ends.Done → session_text (a ++ b) (ra ++ rb) ≡ session_text a ra ++ session_text b rb
+text_more answers old mid [] b [] rb s e = refl
+text_more answers old mid [] b (r ∷ ra) rb s e = absurd s
+text_more answers old mid (Faulty bad ∷ a) b ra rb s e = ap (λ (t : List ℕ). bad_text bad ++ t) (text_more answers old mid a b ra rb s e) ∙ sym (append_assoc (bad_text bad) (session_text a ra) (session_text b rb))
+text_more answers old mid (Asks Quit ∷ a) b ra rb s e = absurd (cc)
+text_more answers old mid (Asks request ∷ a) b [] rb s e = absurd s
+text_more answers old mid (Asks request ∷ a) b (Halted ∷ ra) rb s e = absurd (cc)
+text_more answers old mid (Asks request ∷ a) b (reply ∷ ra) rb s e = ap (λ (t : List ℕ). reply_text reply ++ t) (text_more answers s.0 mid a b ra rb s.2 e) ∙ sym (append_assoc (reply_text reply) (session_text a ra) (session_text b rb))
+
+end_more : {S : Type 0} (answers : S → Request → Reply → S → Type 0) (old mid : S) (a b : List Item) (ra rb : List Reply)
+    → Serves answers old a ra mid → end_of a ra ≡ ends.Done → end_of (a ++ b) (ra ++ rb) ≡ end_of b rb
+end_more answers old mid [] b [] rb s e = refl
+end_more answers old mid [] b (r ∷ ra) rb s e = absurd s
+end_more answers old mid (Faulty bad ∷ a) b ra rb s e = end_more answers old mid a b ra rb s e
+end_more answers old mid (Asks Quit ∷ a) b ra rb s e = absurd (cc)
+end_more answers old mid (Asks request ∷ a) b [] rb s e = absurd s
+end_more answers old mid (Asks request ∷ a) b (Halted ∷ ra) rb s e = absurd (cc)
+end_more answers old mid (Asks request ∷ a) b (reply ∷ ra) rb s e = end_more answers s.0 mid a b ra rb s.2 e
+
+pub answered_more : {S : Type 0} (answers : S → Request → Reply → S → Type 0) (old mid new : S) (a b : List Item) (first second : List ℕ) (ended : End)
+    → Answered answers old a mid first ends.Done → Answered answers mid b new second ended → Answered answers old (a ++ b) new (first ++ second) ended
+answered_more answers old mid new a b first second ended p q =
+    record {
+      replies = p.replies ++ q.replies;
+      served = serves_more answers old mid new a b p.replies q.replies p.served p.ends q.served;
+      text = ap (λ (t : List ℕ). t ++ second) p.text ∙ ap (λ (t : List ℕ). session_text a p.replies ++ t) q.text ∙ sym (text_more answers old mid a b p.replies q.replies p.served p.ends);
+      ends = end_more answers old mid a b p.replies q.replies p.served p.ends ∙ q.ends;
+    }
+
+pub cut_more : {S : Type 0} (answers : S → Request → Reply → S → Type 0) (old mid new : S) (a b : List Item) (first second : List ℕ)
+    → Answered answers old a mid first ends.Done → CutOff answers mid b new second → CutOff answers old (a ++ b) new (first ++ second)
+cut_more answers old mid new a b first second p q =
+    record {
+      done = a ++ q.done;
+      item = q.item;
+      rest = q.rest;
+      whole = ap (λ (x : List Item). a ++ x) q.whole ∙ sym (append_assoc a q.done (q.item ∷ q.rest));
+      mid = q.mid;
+      before = first ++ q.before;
+      answered = answered_more answers old mid q.mid a q.done first q.before ends.Done p q.answered;
+      reply = q.reply;
+      served = q.served;
+      sent = q.sent;
+      text = ap (λ (t : List ℕ). first ++ t) q.text ∙ sym (append_assoc first q.before (take q.sent (session_text (q.item ∷ []) q.reply)));
+    }
+
+-- what comes after the end of a session changes nothing
+serves_on : {S : Type 0} (answers : S → Request → Reply → S → Type 0) (old new : S) (a b : List Item) (ra : List Reply)
+    → Serves answers old a ra new → end_of a ra ≢ ends.Done → Serves answers old (a ++ b) ra new
+serves_on answers old new [] b ra s e = absurd (e refl)
+serves_on answers old new (Faulty bad ∷ a) b ra s e = serves_on answers old new a b ra s e
+serves_on answers old new (Asks Quit ∷ a) b [] s e = s
+serves_on answers old new (Asks Quit ∷ a) b (r ∷ ra) s e = absurd s
+serves_on answers old new (Asks request ∷ a) b [] s e = absurd s
+serves_on answers old new (Asks request ∷ a) b (Halted ∷ ra) s e = s
+serves_on answers old new (Asks request ∷ a) b (reply ∷ ra) s e = (s.0, s.1, serves_on answers s.0 new a b ra s.2 e)
+
+text_on : (a b : List Item) (ra : List Reply) → end_of a ra ≢ ends.Done → session_text (a ++ b) ra ≡ session_text a ra
+text_on [] b ra e = absurd (e refl)
+text_on (Faulty bad ∷ a) b ra e = ap (λ (t : List ℕ). bad_text bad ++ t) (text_on a b ra e)
+text_on (Asks Quit ∷ a) b ra e = refl
+text_on (Asks request ∷ a) b [] e = refl
+text_on (Asks request ∷ a) b (Halted ∷ ra) e = refl
+text_on (Asks request ∷ a) b (reply ∷ ra) e = ap (λ (t : List ℕ). reply_text reply ++ t) (text_on a b ra e)
+
+end_on : (a b : List Item) (ra : List Reply) → end_of a ra ≢ ends.Done → end_of (a ++ b) ra ≡ end_of a ra
+end_on [] b ra e = absurd (e refl)
+end_on (Faulty bad ∷ a) b ra e = end_on a b ra e
+end_on (Asks Quit ∷ a) b ra e = refl
+end_on (Asks request ∷ a) b [] e = absurd (e refl)
+end_on (Asks request ∷ a) b (Halted ∷ ra) e = refl
+end_on (Asks request ∷ a) b (reply ∷ ra) e = end_on a b ra e
+
+pub answered_on : {S : Type 0} (answers : S → Request → Reply → S → Type 0) (old new : S) (a b : List Item) (written : List ℕ) (ended : End)
+    → Answered answers old a new written ended → ended ≢ ends.Done → Answered answers old (a ++ b) new written ended
+answered_on answers old new a b written ended p over =
+    let goes : end_of a p.replies ≢ ends.Done = λ e. over (sym p.ends ∙ e) in
+    record {
+      replies = p.replies;
+      served = serves_on answers old new a b p.replies p.served goes;
+      text = p.text ∙ sym (text_on a b p.replies goes);
+      ends = end_on a b p.replies goes ∙ p.ends;
+    }
+
+-- the bytes that a reader has left, where it tells
+abbrev pub known_rest : Option (List ℕ) → List ℕ
+known_rest None = []
+known_rest (Some bytes) = bytes
+
+input_is : (input after : Option (List ℕ)) (taken : List ℕ) → Consumes input after taken → IsInput input (taken ++ known_rest after)
+input_is None after taken c = tt
+input_is (Some bytes) None taken c = absurd c
+input_is (Some bytes) (Some rest) taken c = sym c
+
+no_rest : (after : Option (List ℕ)) → IsAtEnd after → known_rest after ≡ []
+no_rest None e = refl
+no_rest (Some bytes) e = e
+
+-- a session that ended within a piece answered the items of the whole input, of which it met the first
+whole_some : {S : Type 0} (answers : S → Request → Reply → S → Type 0) (input after : Option (List ℕ)) (old new : S) (written taken left : List ℕ) (ended : End) (items : List Item)
+    → Consumes input after taken → Reads taken items (Some left) → Answered answers old items new written ended → ended ≢ ends.Done
+    → Whole answers input old new written ended
+whole_some answers input after old new written taken left ended items c r a over =
+    let more = some_items (left ++ known_rest after) in
+    record {
+      text = taken ++ known_rest after;
+      known = input_is input after taken c;
+      items = items ++ more.0;
+      its = r.1 (known_rest after) more.0 more.1;
+      answered = answered_on answers old new items more.0 written ended a over;
+    }
+
+pub whole_within : {S : Type 0} (answers : S → Request → Reply → S → Type 0) (input after : Option (List ℕ)) (old new : S) (written taken : List ℕ) (left : Option (List ℕ)) (ended : End) (items : List Item)
+    → Consumes input after taken → Reads taken items left → Answered answers old items new written ended → ended ≢ ends.Done
+    → Whole answers input old new written ended
+whole_within answers input after old new written taken None ended items c r a over =
+    record { text = taken ++ known_rest after; known = input_is input after taken c; items = items; its = r (known_rest after); answered = a }
+whole_within answers input after old new written taken (Some left) ended items c r a over =
+    whole_some answers input after old new written taken left ended items c r a over
+
+pub whole_end : {S : Type 0} (answers : S → Request → Reply → S → Type 0) (input after : Option (List ℕ)) (old mid new : S) (first second taken : List ℕ) (left : Option (List ℕ)) (fault : Option Bad) (ended : End) (items : List Item)
+    → Consumes input after taken → IsAtEnd after → Reads taken items left → Ends left fault → Answered answers old items mid first ends.Done
+    → Answered answers mid (faults_of fault) new second ended → Whole answers input old new (first ++ second) ended
+whole_end answers input after old mid new first second taken left fault ended items c at r e p q =
+    let text : taken ++ known_rest after ≡ taken ++ [] = ap (λ (t : List ℕ). taken ++ t) (no_rest after at) in
+    record {
+      text = taken ++ known_rest after;
+      known = input_is input after taken c;
+      items = items ++ faults_of fault;
+      its = rw text (items_end taken items left fault r e);
+      answered = answered_more answers old mid new items (faults_of fault) first second ended p q;
+    }
+
+pub broken_end : {S : Type 0} (answers : S → Request → Reply → S → Type 0) (old mid new : S) (first second taken : List ℕ) (left : Option (List ℕ)) (fault : Option Bad) (items : List Item)
+    → Reads taken items left → Ends left fault → Answered answers old items mid first ends.Done
+    → CutOff answers mid (faults_of fault) new second → Broken answers taken old new (first ++ second)
+broken_end answers old mid new first second taken left fault items r e p q =
+    let its : Items taken (items ++ faults_of fault) = rw (append-nil taken) at (items_end taken items left fault r e) in
+    record { items = items ++ faults_of fault; its = inl its; cut = cut_more answers old mid new items (faults_of fault) first second p q }
+
+pub broken_within : {S : Type 0} (answers : S → Request → Reply → S → Type 0) (old mid new : S) (first second taken piece : List ℕ) (kept left : Option (List ℕ)) (items more : List Item)
+    → Reads taken items kept → Feeds kept piece more left → Answered answers old items mid first ends.Done
+    → CutOff answers mid more new second → Broken answers (taken ++ piece) old new (first ++ second)
+broken_within answers old mid new first second taken piece kept left items more r f p q =
+    record { items = items ++ more; its = inr (left, reads_more taken piece items more kept left r f); cut = cut_more answers old mid new items more first second p q }
+
+-- one request and its reply
+
+serves_request : {S : Type 0} (answers : S → Request → Reply → S → Type 0) (old new : S) (request : Request) (reply : Reply) → request ≢ Quit → answers old request reply new
+    → Serves answers old (Asks request ∷ []) (reply ∷ []) new
+serves_request answers old new Quit reply other h = absurd (other refl)
+serves_request answers old new request Halted other h = (h, refl)
+serves_request answers old new request reply other h = (new, h, refl)
+
+text_request : (request : Request) (reply : Reply) → request ≢ Quit → session_text (Asks request ∷ []) (reply ∷ []) ≡ reply_text reply
+text_request Quit reply other = absurd (other refl)
+text_request request Halted other = refl
+text_request request reply other = append-nil (reply_text reply)
+
+end_request : (request : Request) (reply : Reply) → request ≢ Quit → end_of (Asks request ∷ []) (reply ∷ []) ≡ end_after reply
+end_request Quit reply other = absurd (other refl)
+end_request request Halted other = refl
+end_request request reply other = refl
+
+pub request_sent : {S : Type 0} (answers : S → Request → Reply → S → Type 0) (old new : S) (request : Request) (reply : Reply) (a b : Option (List ℕ)) (text : List ℕ)
+    → request ≢ Quit → answers old request reply new → text ≡ reply_text reply → Appends a b text
+    → Writes a b (λ written. AnswersTell answers old (Asks request ∷ []) new written (Ok (end_after reply)))
+request_sent answers old new request reply a b text other h is p = (
+  text,
+  p,
+  record {
+    replies = reply ∷ [];
+    served = serves_request answers old new request reply other h;
+    text = is ∙ sym (text_request request reply other);
+    ends = end_request request reply other;
+  },
+)
+
+cut_one : {S : Type 0} (answers : S → Request → Reply → S → Type 0) (old new : S) (item : Item) (replies : List Reply) (a b : Option (List ℕ)) (text : List ℕ)
+    → Serves answers old (item ∷ []) replies new → text ≡ session_text (item ∷ []) replies → (n : ℕ) → Appends a b (take n text)
+    → Writes a b (λ written. CutOff answers old (item ∷ []) new written)
+cut_one answers old new item replies a b text served is n p = (
+  take n text,
+  p,
+  record {
+    done = [];
+    item = item;
+    rest = [];
+    whole = refl;
+    mid = old;
+    before = [];
+    answered = record { replies = []; served = refl; text = refl; ends = refl };
+    reply = replies;
+    served = served;
+    sent = n;
+    text = ap (λ (t : List ℕ). take n t) is;
+  },
+)
+
+pub request_cut : {S : Type 0} (answers : S → Request → Reply → S → Type 0) (old new : S) (request : Request) (reply : Reply) (a b : Option (List ℕ)) (text : List ℕ) (fault : SessionFault)
+    → request ≢ Quit → answers old request reply new → text ≡ reply_text reply → SendTells a b text (Err fault)
+    → Writes a b (λ written. AnswersTell answers old (Asks request ∷ []) new written (Err fault))
+request_cut answers old new request reply a b text Read other h is p = absurd p
+request_cut answers old new request reply a b text Write other h is p =
+    cut_one answers old new (Asks request) (reply ∷ []) a b text (serves_request answers old new request reply other h) (is ∙ sym (text_request request reply other)) p.0 p.1
+request_cut answers old new request reply a b text Memory other h is p = absurd p
+
+pub fault_told : {S : Type 0} (answers : S → Request → Reply → S → Type 0) (old : S) (bad : Bad) (a b : Option (List ℕ)) (r : Result End SessionFault)
+    → FaultTells a b bad r → Writes a b (λ written. AnswersTell answers old (Faulty bad ∷ []) old written r)
+fault_told answers old bad a b (Ok ended) p =
+    (bad_text bad, p.0, record { replies = []; served = refl; text = sym (append-nil (bad_text bad)); ends = sym p.1 })
+fault_told answers old bad a b (Err Read) p = absurd p
+fault_told answers old bad a b (Err Write) p = cut_one answers old old (Faulty bad) [] a b (bad_text bad) refl (sym (append-nil (bad_text bad))) p.0 p.1
+fault_told answers old bad a b (Err Memory) p = absurd p
+
+-- items after those at which a write failed
+pub cut_on : {S : Type 0} (answers : S → Request → Reply → S → Type 0) (old new : S) (a b : List Item) (written : List ℕ) → CutOff answers old a new written → CutOff answers old (a ++ b) new written
+cut_on answers old new a b written p =
+    record {
+      done = p.done;
+      item = p.item;
+      rest = p.rest ++ b;
+      whole = ap (λ (x : List Item). x ++ b) p.whole ∙ append_assoc p.done (p.item ∷ p.rest) b;
+      mid = p.mid;
+      before = p.before;
+      answered = p.answered;
+      reply = p.reply;
+      served = p.served;
+      sent = p.sent;
+      text = p.text;
+    }
+
+-- the items so far, one more, and those after it
+split_next : (items : List Item) (i : ℕ) (item : Item) → i < length items → get_or items i item ≡ item → items ≡ (take i items ++ item ∷ []) ++ drop (i + 1) items
+split_next items i item h is =
+    sym (take-append-drop (i + 1) items) ∙ ap (λ (t : List Item). t ++ drop (i + 1) items) (take_more items i item h ∙ ap (λ (x : Item). take i items ++ x ∷ []) is)
+
+-- one item more was answered
+pub next_done : {S : Type 0} (answers : S → Request → Reply → S → Type 0) (old mid new : S) (a b d : Option (List ℕ)) (items : List Item) (i : ℕ) (item : Item) (ended : End)
+    → i < length items → get_or items i item ≡ item → Writes a b (λ written. Answered answers old (take i items) mid written ends.Done)
+    → Writes b d (λ written. AnswersTell answers mid (item ∷ []) new written (Ok ended)) → ended ≡ ends.Done
+    → Writes a d (λ written. Answered answers old (take (i + 1) items) new written ends.Done)
+next_done answers old mid new a b d items i item ended h is p q done =
+    let both = answered_more answers old mid new (take i items) (item ∷ []) p.0 q.0 ended p.2 q.2 in
+    let next : take i items ++ item ∷ [] ≡ take (i + 1) items = sym (take_more items i item h ∙ ap (λ (x : Item). take i items ++ x ∷ []) is) in
+    (p.0 ++ q.0, Appends-trans a b d p.0 q.0 p.1 q.1, subst (λ t. Answered answers old t new (p.0 ++ q.0) ends.Done) next (subst (Answered answers old (take i items ++ item ∷ []) new (p.0 ++ q.0)) done both))
+
+pub next_ends : {S : Type 0} (answers : S → Request → Reply → S → Type 0) (old mid new : S) (a b d : Option (List ℕ)) (items : List Item) (i : ℕ) (item : Item) (ended : End)
+    → i < length items → get_or items i item ≡ item → Writes a b (λ written. Answered answers old (take i items) mid written ends.Done)
+    → Writes b d (λ written. AnswersTell answers mid (item ∷ []) new written (Ok ended)) → ended ≢ ends.Done
+    → Writes a d (λ written. Answered answers old items new written ended)
+next_ends answers old mid new a b d items i item ended h is p q over =
+    let both = answered_more answers old mid new (take i items) (item ∷ []) p.0 q.0 ended p.2 q.2 in
+    let all = answered_on answers old new (take i items ++ item ∷ []) (drop (i + 1) items) (p.0 ++ q.0) ended both over in
+    (p.0 ++ q.0, Appends-trans a b d p.0 q.0 p.1 q.1, subst (λ t. Answered answers old t new (p.0 ++ q.0) ended) (sym (split_next items i item h is)) all)
+
+next_cut : {S : Type 0} (answers : S → Request → Reply → S → Type 0) (old mid new : S) (a b d : Option (List ℕ)) (items : List Item) (i : ℕ) (item : Item)
+    → i < length items → get_or items i item ≡ item → Writes a b (λ written. Answered answers old (take i items) mid written ends.Done)
+    → Writes b d (λ written. CutOff answers mid (item ∷ []) new written) → Writes a d (λ written. CutOff answers old items new written)
+next_cut answers old mid new a b d items i item h is p q =
+    let both = cut_more answers old mid new (take i items) (item ∷ []) p.0 q.0 p.2 q.2 in
+    let all = cut_on answers old new (take i items ++ item ∷ []) (drop (i + 1) items) (p.0 ++ q.0) both in
+    (p.0 ++ q.0, Appends-trans a b d p.0 q.0 p.1 q.1, subst (λ t. CutOff answers old t new (p.0 ++ q.0)) (sym (split_next items i item h is)) all)
+
+pub next_fails : {S : Type 0} (answers : S → Request → Reply → S → Type 0) (old mid new : S) (a b d : Option (List ℕ)) (items : List Item) (i : ℕ) (item : Item) (fault : SessionFault)
+    → i < length items → get_or items i item ≡ item → Writes a b (λ written. Answered answers old (take i items) mid written ends.Done)
+    → Writes b d (λ written. AnswersTell answers mid (item ∷ []) new written (Err fault)) → Writes a d (λ written. AnswersTell answers old items new written (Err fault))
+next_fails answers old mid new a b d items i item Read h is p q = absurd q.2
+next_fails answers old mid new a b d items i item Write h is p q = next_cut answers old mid new a b d items i item h is p q
+next_fails answers old mid new a b d items i item Memory h is p q = absurd q.2

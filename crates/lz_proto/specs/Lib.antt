@@ -1,0 +1,5 @@
+pub mod Lines
+pub mod Pieces
+pub mod Reading
+pub mod Sessions
+pub mod Steps

@@ -1,0 +1,99 @@
+-- What lines ask for. A text is a list of bytes.
+use Rattle.std.specs.Prelude.{◌≡◌, ◌≢◌, ℕ, ◌≤◌, Bool, false, not, ◌&&◌, ◌==◌, ◌-◌, take, nat_lt, nat_le, nat_eq, if◌then◌else◌, Result, Ok, Err, slice_index, List, [], ◌∷◌, ◌++◌, length, drop, codes, decimal}
+use Rattle.std.specs.List.{list_any, list_all, starts_with}
+use Rattle.lz_slot.specs.Limits.{largest_key}
+use Rattle.lz_proto.specs.declared.request.Request.{Request}
+use Rattle.lz_proto.specs.declared.request.Request.TheVariants.{Add, Remove, Has, Quit}
+use Rattle.lz_proto.specs.declared.fault.Bad.{Bad}
+use Rattle.lz_proto.specs.declared.fault.Bad.TheVariants.{TooLong, NoCommand, NoNumber, KeyTooLarge, NoEnd}
+use Rattle.lz_proto.specs.declared.item.Item.{Item}
+use Rattle.lz_proto.specs.declared.item.Item.TheVariants.{Asks, Faulty}
+
+abbrev pub line_feed : ℕ
+line_feed = 10
+
+abbrev pub carriage_return : ℕ
+carriage_return = 13
+
+-- a line less one CR at its end
+abbrev pub without_return : List ℕ → List ℕ
+without_return line =
+    if nat_lt 0 (length line) && (slice_index line (length line - 1) == carriage_return) then take (length line - 1) line
+    else line
+
+-- the text of a request
+abbrev pub request_text : Request → List ℕ
+request_text (Add k) = codes "add " ++ decimal k
+request_text (Remove k) = codes "remove " ++ decimal k
+request_text (Has k) = codes "has " ++ decimal k
+request_text Quit = codes "quit"
+
+-- the request names a key, if it names a number
+abbrev pub NamesKey : Request → Type 0
+NamesKey (Add k) = k ≤ largest_key
+NamesKey (Remove k) = k ≤ largest_key
+NamesKey (Has k) = k ≤ largest_key
+NamesKey Quit = Unit {0}
+
+-- the line is this request
+abbrev pub IsRequest : List ℕ → Request → Type 0
+IsRequest line request = NamesKey request × (without_return line ≡ request_text request)
+
+-- where the text after a command's word and one space begins, or 0 where there is no such word
+abbrev pub word_end : List ℕ → ℕ
+word_end line =
+    if starts_with nat_eq line (codes "add ") then 4
+    else if starts_with nat_eq line (codes "remove ") then 7
+    else if starts_with nat_eq line (codes "has ") then 4
+    else 0
+
+abbrev pub is_digit : ℕ → Bool
+is_digit b = nat_le 48 b && nat_le b 57
+
+abbrev pub has_zero_in_front : List ℕ → Bool
+has_zero_in_front text = nat_lt 1 (length text) && (slice_index text 0 == 48)
+
+-- digits, with no zero in front unless it stands alone
+abbrev pub is_number : List ℕ → Bool
+is_number text = nat_lt 0 (length text) && not (has_zero_in_front text) && list_all is_digit text
+
+-- the fault of a line that is no request, by the first test that it fails
+abbrev pub fault_of_body : List ℕ → Bad
+fault_of_body line =
+    if nat_lt 64 (length line) then TooLong
+    else if word_end line == 0 then NoCommand
+    else if is_number (drop (word_end line) line) then KeyTooLarge
+    else NoNumber
+
+abbrev pub fault_of : List ℕ → Bad
+fault_of line = fault_of_body (without_return line)
+
+-- what a line without LF asks for
+abbrev pub IsItem : List ℕ → Item → Type 0
+IsItem line (Asks request) = IsRequest line request
+IsItem line (Faulty bad) = ((request : Request) → ¬ IsRequest line request) × (fault_of line ≡ bad)
+
+-- what reading a line gave, as an item
+abbrev pub item_of : Result Request Bad → Item
+item_of (Ok request) = Asks request
+item_of (Err bad) = Faulty bad
+
+-- the number by which a reply tells a fault
+abbrev pub bad_number : Bad → ℕ
+bad_number TooLong = 1
+bad_number NoCommand = 2
+bad_number NoNumber = 3
+bad_number KeyTooLarge = 4
+bad_number NoEnd = 5
+
+abbrev pub has_line_feed : List ℕ → Bool
+has_line_feed t = list_any (nat_eq line_feed) t
+
+-- The items of a whole text: one for each line that ends, and a fault for what stands after the last one. None come after `quit`.
+pub data Items : List ℕ → List Item → Type 0 where
+  nothing : Items [] []
+  no_end : (t : List ℕ) → t ≢ [] → has_line_feed t ≡ false → Items t (Faulty NoEnd ∷ [])
+  line : (t : List ℕ) (item : Item) (rest : List ℕ) (items : List Item)
+      → has_line_feed t ≡ false → IsItem t item → item ≢ Asks Quit → Items rest items
+      → Items (t ++ line_feed ∷ rest) (item ∷ items)
+  quits : (t rest : List ℕ) → has_line_feed t ≡ false → IsItem t (Asks Quit) → Items (t ++ line_feed ∷ rest) (Asks Quit ∷ [])

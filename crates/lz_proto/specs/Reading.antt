@@ -1,0 +1,30 @@
+-- The tests of a line in the order in which it is read. What they find is what the line is (module Lines).
+use Rattle.std.specs.Prelude.{ℕ, nat_lt, nat_eq, if◌then◌else◌, List, length, drop, codes, Result, Ok, Err}
+use Rattle.std.specs.List.{starts_with}
+use Rattle.std.specs.Cmp.Lexicographic.{pointwise}
+use Rattle.std.specs.Str.Parse.{digits_value}
+use Rattle.lz_proto.specs.declared.request.Request.{Request}
+use Rattle.lz_proto.specs.declared.request.Request.TheVariants.{Add, Remove, Has, Quit}
+use Rattle.lz_proto.specs.declared.fault.Bad.{Bad}
+use Rattle.lz_proto.specs.declared.fault.Bad.TheVariants.{TooLong, NoCommand, NoNumber, KeyTooLarge}
+use Rattle.lz_proto.specs.Lines.{is_number}
+
+-- the key that a text names
+abbrev pub key_read : List ℕ → Result ℕ Bad
+key_read text =
+    if is_number text then (if nat_lt 18 (length text) then Err KeyTooLarge else Ok (digits_value 10 text))
+    else Err NoNumber
+
+abbrev pub with_key : (ℕ → Request) → Result ℕ Bad → Result Request Bad
+with_key command (Ok key) = Ok (command key)
+with_key command (Err bad) = Err bad
+
+-- what a line less its carriage return asks for
+abbrev pub request_read : List ℕ → Result Request Bad
+request_read line =
+    if nat_lt 64 (length line) then Err TooLong
+    else (if pointwise nat_eq line (codes "quit") then Ok Quit
+    else (if starts_with nat_eq line (codes "add ") then with_key (λ k. Add k) (key_read (drop 4 line))
+    else (if starts_with nat_eq line (codes "remove ") then with_key (λ k. Remove k) (key_read (drop 7 line))
+    else (if starts_with nat_eq line (codes "has ") then with_key (λ k. Has k) (key_read (drop 4 line))
+    else Err NoCommand))))

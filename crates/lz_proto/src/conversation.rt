@@ -1,0 +1,192 @@
+//! A session: a reader's lines, a service's replies, and a writer that gets them.
+ghost use Rattle.std.specs.Prelude.{◌≡◌, ◌≢◌, [], ◌∷◌, Option, ◌≤◌, ◌<◌, length, take, IfOk, OnOk, OnErr, Err};
+ghost use Rattle.std.specs.Io.KnownBytes.{Appends, Consumes, IsAtEnd, Keeps};
+ghost use Rattle.lz_proto.specs.declared.fault.Bad.{Bad};
+ghost use Rattle.lz_proto.specs.Pieces.{Ends, faults_of};
+ghost use Rattle.lz_proto.specs.Sessions.{SessionTells, Writes};
+ghost use Rattle.lz_proto.specs.Steps.{AnswersTell, FaultTells, PieceTells, SendTells, end_after};
+
+use crate::end::End;
+use crate::fault::{Bad, SessionFault};
+use crate::item::Item;
+use crate::lines::Lines;
+use crate::reply::{Reply, bad_text, reply_text};
+use crate::request::Request;
+use crate::service::Service;
+use std::alloc::Global;
+use std::io::{ErrorKind, Read, Write};
+
+/// The most bytes that one read takes.
+const PIECE: usize = 4096;
+
+/// Answers the lines that the reader gives, each before the service is asked the next, up to `quit`, a reply that the
+/// service halted, or the input's end. What one read gave is answered before the next read.
+pub fn session<R: Read, W: Write, S: Service>(
+    alloc: Global,
+    reader: &mut R,
+    writer: &mut W,
+    service: &mut S,
+) -> Result<End, SessionFault>
+    ensures { Writes (W.contents writer.old) (W.contents writer.new) (λ written. SessionTells S.answers (R.remaining reader.old) (R.remaining reader.new) service.old service.new written result) }
+{
+    let mut lines = Lines::new(alloc);
+    let mut buffer = [0; PIECE];
+    // A loop is proved to end, so this one counts its pieces.
+    'pieces: for _ in 0..u64::MAX {
+        let count = match receive(reader, &mut buffer) {
+            Ok(count) => count,
+            Err(_) => return Err(SessionFault::Read),
+        };
+        if count == 0 {
+            return answer_end(lines, writer, service);
+        }
+        let end = match answer_piece(&mut lines, &buffer[..count], writer, service) {
+            Ok(end) => end,
+            Err(fault) => return Err(fault),
+        };
+        if end != End::Done {
+            return Ok(end);
+        }
+    }
+    Err(SessionFault::Read)
+}
+
+// Writes the text whole, or fails after a part of it. (A `write_all` that fails doesn't tell what was written.)
+fn send<W: Write>(writer: &mut W, text: &[u8]) -> Result<(), SessionFault>
+    ensures { SendTells (W.contents writer.old) (W.contents writer.new) text.now result }
+{
+    let mut rest = text;
+    'tries: for _ in 0..u64::MAX {
+        if rest.is_empty() {
+            return Ok(());
+        }
+        match writer.write(rest) {
+            Ok(0) => return Err(SessionFault::Write),
+            Ok(count) => rest = &rest[count..],
+            Err(error) => {
+                if error.kind() != ErrorKind::Interrupted {
+                    return Err(SessionFault::Write);
+                }
+            }
+        }
+    }
+    Err(SessionFault::Write)
+}
+
+// Reads what there is, up to the buffer's length. It reads again where a signal interrupted it.
+fn receive<R: Read>(reader: &mut R, buffer: &mut [u8]) -> Result<usize, SessionFault>
+    ensures bound { IfOk result (λ n. n ≤ length buffer.new) }
+    ensures ok { IfOk result (λ n. Consumes (R.remaining reader.old) (R.remaining reader.new) (take n buffer.new)) }
+    ensures end { IfOk result (λ n. n ≡ 0 → 0 < length buffer.old → IsAtEnd (R.remaining reader.new)) }
+    ensures err { OnErr result (Keeps (R.remaining reader.old) (R.remaining reader.new)) }
+    ensures fault { OnErr result (result ≡ Err SessionFault.Read) }
+{
+    'tries: for _ in 0..u64::MAX {
+        match reader.read(buffer) {
+            Ok(count) => return Ok(count),
+            Err(error) => {
+                if error.kind() != ErrorKind::Interrupted {
+                    return Err(SessionFault::Read);
+                }
+            }
+        }
+    }
+    Err(SessionFault::Read)
+}
+
+// How a session goes on after a reply.
+fn end_after(reply: Reply) -> End
+    ensures { result ≡ end_after reply }
+{
+    match reply {
+        Reply::Halted => End::Halted,
+        _ => End::Done,
+    }
+}
+
+fn answer_request<W: Write, S: Service>(
+    request: Request,
+    writer: &mut W,
+    service: &mut S,
+) -> Result<End, SessionFault>
+    requires { request ≢ Request.Quit }
+    ensures { Writes (W.contents writer.old) (W.contents writer.new) (λ written. AnswersTell S.answers service.old (Item.Asks request ∷ []) service.new written result) }
+{
+    let reply = service.ask(request);
+    match send(writer, reply_text(reply).as_bytes()) {
+        Ok(()) => Ok(end_after(reply)),
+        Err(fault) => Err(fault),
+    }
+}
+
+fn answer_fault<W: Write>(bad: Bad, writer: &mut W) -> Result<End, SessionFault>
+    ensures { FaultTells (W.contents writer.old) (W.contents writer.new) bad result }
+{
+    match send(writer, bad_text(bad).as_bytes()) {
+        Ok(()) => Ok(End::Done),
+        Err(fault) => Err(fault),
+    }
+}
+
+fn answer<W: Write, S: Service>(
+    item: Item,
+    writer: &mut W,
+    service: &mut S,
+) -> Result<End, SessionFault>
+    ensures { Writes (W.contents writer.old) (W.contents writer.new) (λ written. AnswersTell S.answers service.old (item ∷ []) service.new written result) }
+{
+    match item {
+        Item::Asks(Request::Quit) => Ok(End::Quit),
+        Item::Asks(request) => answer_request(request, writer, service),
+        Item::Faulty(bad) => answer_fault(bad, writer),
+    }
+}
+
+// Answers each item before the service is asked the next, up to the session's end.
+fn answer_all<W: Write, S: Service>(
+    items: &[Item],
+    writer: &mut W,
+    service: &mut S,
+) -> Result<End, SessionFault>
+    ensures { Writes (W.contents writer.old) (W.contents writer.new) (λ written. AnswersTell S.answers service.old items.now service.new written result) }
+{
+    'items: for item in items {
+        let end = match answer(*item, writer, service) {
+            Ok(end) => end,
+            Err(fault) => return Err(fault),
+        };
+        if end != End::Done {
+            return Ok(end);
+        }
+    }
+    Ok(End::Done)
+}
+
+// Answers the items of the lines that end in a piece.
+fn answer_piece<W: Write, S: Service>(
+    lines: &mut Lines,
+    piece: &[u8],
+    writer: &mut W,
+    service: &mut S,
+) -> Result<End, SessionFault>
+    ensures { Writes (W.contents writer.old) (W.contents writer.new) (λ written. PieceTells S.answers lines.old piece.now lines.new service.old service.new written result) }
+{
+    match lines.feed(piece) {
+        Ok(items) => answer_all(items.as_slice(), writer, service),
+        Err(_) => Err(SessionFault::Memory),
+    }
+}
+
+// Answers what stands after the last line's end.
+fn answer_end<W: Write, S: Service>(
+    lines: Lines,
+    writer: &mut W,
+    service: &mut S,
+) -> Result<End, SessionFault>
+    ensures { (fault : Option Bad) × Ends lines fault × Writes (W.contents writer.old) (W.contents writer.new) (λ written. AnswersTell S.answers service.old (faults_of fault) service.new written result) }
+{
+    match lines.end() {
+        Some(bad) => answer_fault(bad, writer),
+        None => Ok(End::Done),
+    }
+}
