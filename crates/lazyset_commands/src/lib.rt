@@ -3,6 +3,7 @@
 
 mod making;
 mod plain;
+mod refusal;
 mod running;
 mod status;
 

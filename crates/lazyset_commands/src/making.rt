@@ -7,6 +7,7 @@ ghost use Rattle.lz_disk.specs.Devices.{LeavesOnly};
 ghost use Rattle.lz_vault.specs.Makes.{IsFresh, make_fault_number};
 ghost use Rattle.lazyset_commands.specs.Makings.{IsRefusal, made_text, refused_text};
 
+use crate::refusal::write_number;
 use crate::status::Status;
 use lz_disk::Disk;
 use lz_vault::{MakeFault, make};
@@ -36,7 +37,7 @@ pub fn make_on<W: Write + Drop, D: Disk>(writer: &mut W, disk: &mut D, slots: u6
             Status::Done
         }
         Err(fault) => {
-            if write_refused(writer, fault).is_err() || fault == MakeFault::Device {
+            if write_number(writer, fault.number()).is_err() || fault == MakeFault::Device {
                 return Status::Failed;
             }
             Status::Refused
@@ -48,11 +49,4 @@ fn write_made<W: Write + Drop>(writer: &mut W, slots: u64) -> io::Result<()>
     ensures { OnOk result (Appends (W.contents writer.old) (W.contents writer.new) (made_text slots)) }
 {
     writeln!(writer, "made {slots}")
-}
-
-fn write_refused<W: Write + Drop>(writer: &mut W, fault: MakeFault) -> io::Result<()>
-    ensures { OnOk result (Appends (W.contents writer.old) (W.contents writer.new) (refused_text (make_fault_number fault))) }
-{
-    let number = fault.number();
-    writeln!(writer, "refused {number}")
 }

@@ -1,5 +1,5 @@
 //! The command that serves a session.
-ghost use Rattle.std.specs.Prelude.{◌≡◌, ◌≢◌, ◌⊎◌, ◌≤◌, ℕ, false, IsTrue, Ok, OnOk};
+ghost use Rattle.std.specs.Prelude.{◌≡◌, ◌≢◌, ◌⊎◌, ◌≤◌, ℕ, false, IsTrue, Ok};
 ghost use Rattle.std.specs.Io.KnownBytes.{Appends};
 ghost use Rattle.lz_disk.specs.Devices.{LeavesOnly};
 ghost use Rattle.lz_vault.specs.Opens.{IsFaultOf, Opens};
@@ -7,16 +7,14 @@ ghost use Rattle.lz_vault.specs.Vaults.{VaultOver};
 ghost use Rattle.lz_slot.specs.Sets.{Keys};
 ghost use Rattle.lazyset_commands.specs.Plains.{EachHolds};
 ghost use Rattle.lazyset_commands.specs.Runs.{CarriedOut, HoldsOne, HoldsSome, RepliesOfSet, ServedWhole, refusal_text};
-ghost use Rattle.lazyset_commands.specs.Makings.{refused_text};
 
 use crate::plain::Plain;
+use crate::refusal::write_refusal;
 use crate::status::Status;
 use lz_disk::Disk;
 use lz_proto::{End, SessionFault, session};
-use lz_slot::Slot;
 use lz_vault::{OpenFault, Refused};
 use std::alloc::Global;
-use std::io;
 use std::io::{Read, Write};
 
 // Serves the input up to its end, `quit` or `halted`.
@@ -107,36 +105,4 @@ fn status_of(fault: OpenFault) -> Status
         OpenFault::Device | OpenFault::Memory => Status::Failed,
         _ => Status::Refused,
     }
-}
-
-fn write_refusal<W: Write + Drop>(writer: &mut W, fault: OpenFault) -> io::Result<()>
-    ensures { OnOk result (Appends (W.contents writer.old) (W.contents writer.new) (refusal_text fault)) }
-{
-    let numbered = fault;
-    match fault {
-        OpenFault::BadKey(slot) => write_bad_key(writer, slot),
-        OpenFault::Twice(first, second) => write_twice(writer, first, second),
-        _ => write_number(writer, numbered.number()),
-    }
-}
-
-fn write_bad_key<W: Write + Drop>(writer: &mut W, slot: Slot) -> io::Result<()>
-    ensures { OnOk result (Appends (W.contents writer.old) (W.contents writer.new) (refusal_text (OpenFault.BadKey slot))) }
-{
-    let index = slot.index();
-    writeln!(writer, "refused 5 {index}")
-}
-
-fn write_twice<W: Write + Drop>(writer: &mut W, first: Slot, second: Slot) -> io::Result<()>
-    ensures { OnOk result (Appends (W.contents writer.old) (W.contents writer.new) (refusal_text (OpenFault.Twice first second))) }
-{
-    let low = first.index();
-    let high = second.index();
-    writeln!(writer, "refused 6 {low} {high}")
-}
-
-fn write_number<W: Write + Drop>(writer: &mut W, number: u8) -> io::Result<()>
-    ensures { OnOk result (Appends (W.contents writer.old) (W.contents writer.new) (refused_text number)) }
-{
-    writeln!(writer, "refused {number}")
 }

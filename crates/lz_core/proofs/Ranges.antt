@@ -1,0 +1,117 @@
+-- Nodes and links lie in the table, and a slot's flags tell of its last linking.
+use Rattle.std.proofs.Common.{◌≡◌, inl, inr, ℕ, zero, suc, ◌<◌, ◌≤◌, true, [], ◌∷◌, refl, sym, ap, ◌∙◌, arith}
+use mathlib.Core.Bool.{false≢true}
+use Rattle.std.proofs.lemmas.Bool.{cases_eq}
+use Rattle.std.proofs.lemmas.Bool.Decides.{nat_tests, eqb_tells}
+use Rattle.lz_list.specs.declared.publishing.Publishing.{Publishing}
+use Rattle.lz_list.specs.declared.publishing.Publishing.TheVariants.{Linked as linked, Marked as marked, Unlinked as unlinked, Settled as settled, KeyPrepared as key_prepared, LinkPrepared as link_prepared, Halted as halted}
+use Rattle.lz_list.proofs.Openings.{opening_lawful}
+use Rattle.lz_list.specs.Traces.{IsFound, opening, Trace, Chain, Lawful, on, chain, chain_of, bucket_of, link_above, node_next, head_word, linking_in, is_settled, is_removed, has_added, has_removed}
+use Rattle.lz_list.specs.Pinned.{Stood}
+use Rattle.lz_list.proofs.Chains.{adjacent_next, on_start}
+use Rattle.lz_list.proofs.Nodes.{on_insert_other, on_without}
+use Rattle.lz_list.proofs.Hindsight.{stands}
+
+-- a node on a chain lies in the table
+pub on_range : (buckets slots : ℕ) (P : Trace) (b s : ℕ) → Lawful buckets slots P → on 0 (chain buckets b P) (suc s) ≡ true → s < slots
+on_range buckets slots [] b s law there = absurd (grind (arith, nat_tests, there))
+on_range buckets slots (linked k t p ∷ P) b s law there = elim (cases_eq s t) [
+  | inl same ↦ omega (arith, law.0.in_range, same)
+  | inr other ↦ on_range buckets slots P b s law.1 (grind (arith, nat_tests, there, other, on_insert_other k t 0 (suc s) (chain buckets b P)))
+]
+on_range buckets slots (unlinked k t p ∷ P) b s law there = on_range buckets slots P b s law.1 (grind (arith, nat_tests, there, on_without k 0 (suc s) (chain buckets b P)))
+on_range buckets slots (marked k t p ∷ P) b s law there = on_range buckets slots P b s law.1 there
+on_range buckets slots (settled t c ∷ P) b s law there = on_range buckets slots P b s law.1 there
+on_range buckets slots (key_prepared t v ∷ P) b s law there = on_range buckets slots P b s law.1 there
+on_range buckets slots (link_prepared t v ∷ P) b s law there = on_range buckets slots P b s law.1 there
+on_range buckets slots (halted ∷ P) b s law there = on_range buckets slots P b s law.1 there
+
+-- so does one that stood on it
+pub stood_range : (buckets slots : ℕ) (P0 P : Trace) (b s : ℕ) → Lawful buckets slots P → Stood buckets b P0 P (suc s) → s < slots
+stood_range buckets slots P0 [] b s law stood = absurd (grind (arith, nat_tests, stood.1))
+stood_range buckets slots P0 (e ∷ P) b s law (inl now) = on_range buckets slots (e ∷ P) b s law now.1
+stood_range buckets slots P0 (e ∷ P) b s law (inr before) = stood_range buckets slots P0 P b s law.1 before
+
+-- a head leads to a slot
+pub head_range : (buckets slots : ℕ) (P : Trace) (b : ℕ) → Lawful buckets slots P → head_word buckets b P ≤ slots
+head_range buckets slots P b law = go (head_word buckets b P) refl
+  where
+    go : (n : ℕ) → head_word buckets b P ≡ n → n ≤ slots
+    go zero is = omega arith
+    go (suc s) is =
+        let adj = stands buckets slots P b 0 P law (on_start 0 (chain buckets b P)) in
+        let there = adjacent_next 0 (chain buckets b P) 0 (head_word buckets b P) adj (λ none. grind (arith, is, none)) in
+        on_range buckets slots P b s law (ap (on 0 (chain buckets b P)) (sym is) ∙ there)
+
+pub link_in_range : (slots k x : ℕ) (c : Chain) → ((s : ℕ) → on x c (suc s) ≡ true → s < slots) → link_above k c ≤ slots
+link_in_range slots k x [] within = omega arith
+link_in_range slots k x (n ∷ c) within =
+    let first : n.1 < slots = within n.1 (grind (arith, nat_tests, on_start (suc n.1) c)) in
+    let rest : link_above k c ≤ slots = link_in_range slots k (suc n.1) c (λ s there. within s (grind (arith, nat_tests, there))) in
+    grind (arith, nat_tests, first, rest)
+
+-- a slot's flags tell of its last linking
+pub added_tells : (buckets slots s : ℕ) (P : Trace) → Lawful buckets slots P → has_added s P ≡ true → is_settled (linking_in s P) P ≡ true
+added_tells buckets slots s [] law is = absurd (false≢true is)
+added_tells buckets slots s (linked k t p ∷ P) law is = elim (eqb_tells t s) [
+  | inl same ↦ absurd (false≢true (sym law.0.not_added ∙ ap (λ (q : ℕ). has_added q P) same.1 ∙ is))
+  | inr f ↦ let same : linking_in s (linked k t p ∷ P) ≡ linking_in s P = rw f.0 in ap (λ (n : ℕ). is_settled n P) same ∙ added_tells buckets slots s P law.1 is
+]
+added_tells buckets slots s (settled t c ∷ P) law is = elim (eqb_tells t s) [
+  | inl same ↦ grind (arith, nat_tests, same.1)
+  | inr f ↦ grind (arith, nat_tests, added_tells buckets slots s P law.1 (rw f.0 at is))
+]
+added_tells buckets slots s (link_prepared t v ∷ P) law is = elim (eqb_tells t s) [
+  | inl same ↦ absurd (false≢true (rw same.0 at is))
+  | inr f ↦ added_tells buckets slots s P law.1 (rw f.0 at is)
+]
+added_tells buckets slots s (unlinked k t p ∷ P) law is = added_tells buckets slots s P law.1 is
+added_tells buckets slots s (marked k t p ∷ P) law is = added_tells buckets slots s P law.1 is
+added_tells buckets slots s (key_prepared t v ∷ P) law is = added_tells buckets slots s P law.1 is
+added_tells buckets slots s (halted ∷ P) law is = added_tells buckets slots s P law.1 is
+
+pub removed_tells : (buckets slots s : ℕ) (P : Trace) → Lawful buckets slots P → has_removed s P ≡ true → is_removed (linking_in s P) P ≡ true
+removed_tells buckets slots s [] law is = absurd (false≢true is)
+removed_tells buckets slots s (linked k t p ∷ P) law is = elim (eqb_tells t s) [
+  | inl same ↦ absurd (false≢true (sym law.0.not_removed ∙ ap (λ (q : ℕ). has_removed q P) same.1 ∙ is))
+  | inr f ↦ let same : linking_in s (linked k t p ∷ P) ≡ linking_in s P = rw f.0 in ap (λ (n : ℕ). is_removed n P) same ∙ removed_tells buckets slots s P law.1 is
+]
+removed_tells buckets slots s (settled t c ∷ P) law is = elim (eqb_tells t s) [
+  | inl same ↦ grind (arith, nat_tests, same.1, removed_tells buckets slots s P law.1)
+  | inr f ↦ grind (arith, nat_tests, removed_tells buckets slots s P law.1 (rw f.0 at is))
+]
+removed_tells buckets slots s (link_prepared t v ∷ P) law is = elim (eqb_tells t s) [
+  | inl same ↦ absurd (false≢true (rw same.0 at is))
+  | inr f ↦ removed_tells buckets slots s P law.1 (rw f.0 at is)
+]
+removed_tells buckets slots s (unlinked k t p ∷ P) law is = removed_tells buckets slots s P law.1 is
+removed_tells buckets slots s (marked k t p ∷ P) law is = removed_tells buckets slots s P law.1 is
+removed_tells buckets slots s (key_prepared t v ∷ P) law is = removed_tells buckets slots s P law.1 is
+removed_tells buckets slots s (halted ∷ P) law is = removed_tells buckets slots s P law.1 is
+
+-- a link that is prepared leads to a slot or to the end
+abbrev pub IsShort : ℕ → Publishing → Type 0
+IsShort slots (link_prepared s v) = v ≤ slots
+IsShort slots _ = Unit {0}
+
+-- next links stay so
+pub small_stays : (buckets slots : ℕ) (e : Publishing) (P : Trace) → Lawful buckets slots (e ∷ P) → IsShort slots e → ((t : ℕ) → node_next buckets t P ≤ slots) → (t : ℕ) → node_next buckets t (e ∷ P) ≤ slots
+small_stays buckets slots (linked k s p) P law short small t = grind (arith, nat_tests, small t, law.0.in_range)
+small_stays buckets slots (unlinked k s p) P law short small t = grind (arith, nat_tests, small t, small s)
+small_stays buckets slots (link_prepared s v) P law short small t = grind (arith, nat_tests, small t, short)
+small_stays buckets slots (marked k s p) P law short small t = small t
+small_stays buckets slots (settled s c) P law short small t = small t
+small_stays buckets slots (key_prepared s v) P law short small t = small t
+small_stays buckets slots halted P law short small t = small t
+
+pub opening_small : (buckets slots : ℕ) (found : Chain) → IsFound slots found → (t : ℕ) → node_next buckets t (opening buckets found) ≤ slots
+opening_small buckets slots [] is t = omega arith
+opening_small buckets slots (f ∷ found) is t =
+    let law = opening_lawful buckets slots (f ∷ found) is in
+    let rest = opening_small buckets slots found is.3 in
+    let below = opening_lawful buckets slots found is.3 in
+    let short = link_in_range slots f.0 0 (chain_of buckets f.0 (opening buckets found)) (λ s there. on_range buckets slots (opening buckets found) (bucket_of buckets f.0) s below there) in
+    let first = small_stays buckets slots (key_prepared f.1 f.0) (opening buckets found) law.1.1.1 tt rest in
+    let second = small_stays buckets slots (link_prepared f.1 (link_above f.0 (chain_of buckets f.0 (opening buckets found)))) (key_prepared f.1 f.0 ∷ opening buckets found) law.1.1 short first in
+    let third = small_stays buckets slots (linked f.0 f.1 0) (link_prepared f.1 (link_above f.0 (chain_of buckets f.0 (opening buckets found))) ∷ key_prepared f.1 f.0 ∷ opening buckets found) law.1 tt second in
+    third t

@@ -1,0 +1,19 @@
+//! The machine of events.
+//!
+//! Callers play their commands one event at a time, each event under one hold of the yard. The table under `specs/` says of
+//! each event what it needs, which device call it makes, what it changes and what it answers; runs are made of these
+//! events, of device failures, stops, crashes and opens. The main theorem is said over every such run.
+#![tactic(auto)]
+
+mod actor;
+mod caller;
+mod course;
+mod event;
+pub mod laws;
+mod play;
+
+pub use actor::{Actor, Hold};
+pub use caller::{Progress, Script};
+pub use course::Course;
+pub use event::{Event, Outcome, Reply};
+pub use play::Step;
