@@ -45,10 +45,12 @@ module _ (buckets : ℕ) (e : Publishing) (actor : Actor) (P : Trace) (leaves : 
       go (Some t) is (inl none) = absurd (omega (arith, none))
       go (Some t) is (inr above) = inr (omega (arith, above, leaves.node_word t is))
 
-  beside_stays : (k : ℕ) → IsBeside buckets k actor.pred actor.curr P → IsBeside buckets k actor.pred actor.curr (e ∷ P)
+  -- the pair stands round a key still
+  pub beside_stays : (k : ℕ) → IsBeside buckets k actor.pred actor.curr P → IsBeside buckets k actor.pred actor.curr (e ∷ P)
   beside_stays k h = record { bucket = h.bucket; round = record { faces = leaves.faces k (link_to actor.curr) h.bucket h.round.faces; low = low_stays k h.round.low; high = high_stays k h.round.high } }
 
-  before_stays : (t : ℕ) → actor.curr ≡ Some t → IsBefore buckets actor.pred t P → IsBefore buckets actor.pred t (e ∷ P)
+  -- and right before its node
+  pub before_stays : (t : ℕ) → actor.curr ≡ Some t → IsBefore buckets actor.pred t P → IsBefore buckets actor.pred t (e ∷ P)
   before_stays t is h =
       let same = sym (leaves.node_word t is) in
       record {

@@ -40,6 +40,7 @@ pub mod Linking
 pub mod Gating
 pub mod Closing
 pub mod Writing
+pub mod GateOpening
 pub mod Settled
 pub mod Settling
 pub mod Opening
