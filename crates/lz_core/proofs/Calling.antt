@@ -4,7 +4,7 @@ use mathlib.Core.Bool.{false≢true}
 use Rattle.std.proofs.lemmas.Bool.{cases_eq}
 use Rattle.std.proofs.lemmas.Bool.Decides.{nat_tests}
 use Rattle.lz_slot.specs.Limits.{largest_key}
-use Rattle.lz_slot.specs.Sets.{key_of}
+use Rattle.lz_slot.specs.Sets.{Keys, key_of}
 use Rattle.lz_slot.specs.declared.command.Command.{Command}
 use Rattle.lz_slot.specs.declared.command.Command.TheVariants.{Add, Remove}
 use Rattle.lz_slot.specs.declared.history.Mark.{Mark}
@@ -21,7 +21,7 @@ use Rattle.lz_core.specs.Entries.{IsRowIn, IsLedger, IsSettledEntry, IsChangeOf}
 use Rattle.lz_core.specs.Runs.{Start, Service, Caller, Up, Calls, MayStep, point_after, caller_at, start_keys}
 use Rattle.lz_core.specs.Yards.{Yard}
 use Rattle.lz_core.specs.Table.{pin_of}
-use Rattle.lz_core.specs.Sound.{Notes, pending_row, pending, entries, pin_in, cell_in, view_of, CallerSound, CallersSound, LedgerSound, HasTail, TailsSound, Sound, PointSound, IsSound}
+use Rattle.lz_core.specs.Sound.{Notes, pending_row, pending, entries, pin_in, cell_in, view_of, CallerSound, CallersSound, LedgerSound, HasTail, TailsSound, Sound, IsInside, IsAfter, UpSound, PointSound, IsSound}
 use Rattle.lz_core.proofs.Actors.{by_actor}
 use Rattle.lz_core.proofs.Fits.{each_has}
 use Rattle.lz_core.proofs.Ledgers.{each_weaker}
@@ -185,8 +185,18 @@ module _ (n calls passes a : ℕ) (c : Command) (callers : List (Option Caller))
       old : (b : ℕ) (caller : Caller) → b ≢ a → caller_at (calling callers a (suc calls) c) b ≡ Some caller → caller_at callers b ≡ Some caller
       old b caller other at = sym (is_old callers a (suc calls) c b other) ∙ at
 
-tail_still : (M : History) (number a : ℕ) (c d : Command) (rows : List Row) → HasTail d rows M → HasTail d rows (Call number a c ∷ M)
-tail_still M number a c d rows h = record { number = h.number; under_way = under_way_still M number a c h.number d h.under_way; no_row = h.no_row }
+-- a tail's call was made before
+tail_still : (M : History) (calls a : ℕ) (c d : Command) (callers : List (Option Caller)) (rows rows' : List Row) → rows' ≡ rows → (low : 1 ≤ a) (high : a ≤ length callers)
+    → ((i : ℕ) (e : Command) → IsCalled M i e → i ≤ calls) → HasTail d callers rows M → HasTail d (calling callers a (suc calls) c) rows' (Call (suc calls) a c ∷ M)
+tail_still M calls a c d callers rows rows' same low high below h = record {
+  number = h.number;
+  under_way = under_way_still M (suc calls) a c h.number d h.under_way;
+  no_row = ap (times h.number) same ∙ h.no_row;
+  stays = λ b one at number. elim (cases_eq b a) [
+    | inl it ↦ absurd (omega (arith, below h.number d h.under_way.called, number, ap (λ (q : Caller). q.number) (is_begun callers a (suc calls) c b one it low high at)))
+    | inr other ↦ h.stays b one (sym (is_old callers a (suc calls) c b other) ∙ at) number
+  ];
+}
 
 module _ (n calls a : ℕ) (c : Command) (y : Yard) (callers : List (Option Caller)) (disk : Medium) (P : Trace) (M : History) (notes : Notes) (low : 1 ≤ a) (high : a ≤ length callers) (none : caller_at callers a ≡ None) (even : pin_in y.words.pins a % 2 ≡ 0) (key : key_of c ≤ largest_key) where
   new_caller : CallersSound y.shape y.vault y.words.pins y.actors callers P notes → CallerSound (view_of y.shape y.vault y.actors a) (pin_in y.words.pins a) (Some (begun (suc calls) c)) (notes.begun a) P (notes.changed a)
@@ -206,12 +216,12 @@ module _ (n calls a : ℕ) (c : Command) (y : Yard) (callers : List (Option Call
   free : CallersSound y.shape y.vault y.words.pins y.actors callers P notes → notes.changed a ≡ None
   free h = (subst (λ (q : Option Caller). CallerSound (view_of y.shape y.vault y.actors a) (pin_in y.words.pins a) q (notes.begun a) P (notes.changed a)) none (h.each a)).stands.1
 
-  calling_tails : CallersSound y.shape y.vault y.words.pins y.actors callers P notes → LedgerSound n calls y.shape.passes callers P M notes → TailsSound y.shape y.vault.cells y.actors P (entries y.shape.passes callers notes) M → TailsSound y.shape y.vault.cells y.actors P (entries y.shape.passes (calling callers a (suc calls) c) notes) (Call (suc calls) a c ∷ M)
+  calling_tails : CallersSound y.shape y.vault y.words.pins y.actors callers P notes → LedgerSound n calls y.shape.passes callers P M notes → TailsSound y.shape y.vault.cells y.actors P callers (entries y.shape.passes callers notes) M → TailsSound y.shape y.vault.cells y.actors P (calling callers a (suc calls) c) (entries y.shape.passes (calling callers a (suc calls) c) notes) (Call (suc calls) a c ∷ M)
   calling_tails old ledger h =
       let same = same_entries n calls y.shape.passes a c callers P M notes (free old) ledger in
       record {
-        adding = λ b s hand opened. subst (λ (rows : List Row). HasTail (Add (cell_in y.vault.cells s).key) rows (Call (suc calls) a c ∷ M)) (sym same) (tail_still M (suc calls) a c (Add (cell_in y.vault.cells s).key) _ (h.adding b s hand opened));
-        removing = λ s there unmarked written. subst (λ (rows : List Row). HasTail (Remove (cell_in y.vault.cells s).key) rows (Call (suc calls) a c ∷ M)) (sym same) (tail_still M (suc calls) a c (Remove (cell_in y.vault.cells s).key) _ (h.removing s there unmarked written));
+        adding = λ b s hand opened. tail_still M calls a c (Add (cell_in y.vault.cells s).key) callers _ _ same low high ledger.numbered (h.adding b s hand opened);
+        removing = λ s there unmarked written. tail_still M calls a c (Remove (cell_in y.vault.cells s).key) callers _ _ same low high ledger.numbered (h.removing s there unmarked written);
       }
 
   pub calling_sound : Sound n calls y callers disk M P notes → Sound n (suc calls) y (calling callers a (suc calls) c) disk (Call (suc calls) a c ∷ M) P notes
@@ -224,6 +234,32 @@ module _ (n calls a : ℕ) (c : Command) (y : Yard) (callers : List (Option Call
     reuse = h.reuse;
     ledger = calling_ledger n calls y.shape.passes a c callers P M notes (free h.callers) h.ledger low high;
     tails = calling_tails h.callers h.ledger h.tails;
+  }
+
+  -- the new call is outside, and no row's call was answered before an older one by it
+  calling_after : CallersSound y.shape y.vault y.words.pins y.actors callers P notes → LedgerSound n calls y.shape.passes callers P M notes
+      → IsAfter y.words.pins callers (entries y.shape.passes callers notes) M notes.begun
+      → IsAfter y.words.pins (calling callers a (suc calls) c) (entries y.shape.passes (calling callers a (suc calls) c) notes) (Call (suc calls) a c ∷ M) notes.begun
+  calling_after old ledger h =
+      let same = same_entries n calls y.shape.passes a c callers P M notes (free old) ledger in
+      record {
+        each = λ b caller r at inside has before. elim (cases_eq b a) [
+          | inl is ↦ absurd (omega (arith, even, subst (λ (q : ℕ). IsInside (pin_in y.words.pins q)) is inside))
+          | inr other ↦
+              let was : caller_at callers b ≡ Some caller = sym (is_old callers a (suc calls) c b other) ∙ at in
+              ⊎_elim (λ new. absurd (omega (arith, ap number_of new.3, ledger.numbered caller.number caller.command (ledger.open_call b caller was).called)))
+              (λ there. h.each b caller r was inside (subst (HasRow r) same has) there)
+              before
+        ];
+      }
+
+  pub calling_up : (start : Keys) → UpSound n calls (record { yard = y; callers = callers }) disk (record { start = start; history = M }) P notes
+      → UpSound n (suc calls) (record { yard = y; callers = calling callers a (suc calls) c }) disk (record { start = start; history = Call (suc calls) a c ∷ M }) P notes
+  calling_up start h = record {
+    began = h.began;
+    sound = calling_sound h.sound;
+    since = h.since;
+    after = calling_after h.sound.callers h.sound.ledger h.after;
   }
 
 none_of : (caller : Option Caller) → is_some caller ≡ false → caller ≡ None
@@ -241,9 +277,10 @@ call_keeps start a c service disk M P calls sound may = go (lives (start_keys st
     go [] h = absurd h
     go (life ∷ earlier) h = (
       h.0,
+      h.1,
       (
-        h.1.0,
-        h.1.1,
-        calling_sound h.1.0 calls a c service.yard service.callers disk P life.history h.1.1 may.0.0 (omega (arith, may.0.1, h.1.2.callers.count)) (none_of (caller_at service.callers a) may.1) (even_of (pin_of service.yard a) may.2) may.3 h.1.2,
+        h.2.0,
+        h.2.1,
+        calling_up h.2.0 calls a c service.yard service.callers disk P life.history h.2.1 may.0.0 (omega (arith, may.0.1, h.2.2.sound.callers.count)) (none_of (caller_at service.callers a) may.1) (even_of (pin_of service.yard a) may.2) may.3 life.start h.2.2,
       ),
     )

@@ -13,13 +13,13 @@ use Rattle.lz_core.specs.Runs.{Caller, caller_at}
 use Rattle.lz_core.specs.Ledgers.{Row, HasRow, Stands, Each, change_at, times}
 use Rattle.lz_core.specs.Kept.{publishing, upto, changes_key, IsRowOf}
 use Rattle.lz_core.specs.Entries.{IsRowIn, IsLedger, IsSettledEntry, IsChangeOf}
-use Rattle.lz_core.specs.Sound.{Notes, pending_row, pending, entries, LedgerSound, HasTail}
+use Rattle.lz_core.specs.Sound.{Notes, pending_row, pending, entries, LedgerSound, may_have_tail, HasTail}
 use Rattle.lz_core.proofs.Fits.{each_has, has_append}
 use Rattle.lz_core.proofs.Orders.{has_left, stands_across, times_append}
 use Rattle.lz_core.proofs.Kept.{upto_all}
 use Rattle.lz_core.proofs.Growth.{upto_more, publishing_more}
 use Rattle.lz_core.proofs.Ledgering.{none_late, last_publishing, ledger_grows, settled_grow}
-use Rattle.lz_core.proofs.Turning.{caller_range}
+use Rattle.lz_core.proofs.Turning.{caller_range, some_caller}
 
 -- a row put into a list
 module _ (r : Row) where
@@ -170,6 +170,15 @@ no_entry n calls passes callers P M notes a caller at none sound = times_append 
         let found = pending_open callers notes.changed passes x h in
         some_none (sym found.4 ∙ ap notes.changed (sound.apart found.0 a found.1 caller found.3 at (found.5 ∙ same)) ∙ none)
 
+-- the tail of an open call that writes a gate
+pub own_tail : (n calls passes : ℕ) (callers : List (Option Caller)) (P : Trace) (M : History) (notes : Notes) (a : ℕ) (caller : Caller) → caller_at callers a ≡ Some caller → notes.changed a ≡ None → may_have_tail caller.progress ≡ true → LedgerSound n calls passes callers P M notes → HasTail caller.command callers (entries passes callers notes) M
+own_tail n calls passes callers P M notes a caller at none may sound = record {
+  number = caller.number;
+  under_way = sound.open_call a caller at;
+  no_row = no_entry n calls passes callers P M notes a caller at none sound;
+  stays = λ b one is same. ap (λ (q : Caller). may_have_tail q.progress) (some_caller (sym is ∙ ap (caller_at callers) (sound.apart b a one caller is at same) ∙ at)) ∙ may;
+}
+
 -- A call changes something, which its publishing shows.
 module _ (n calls passes : ℕ) (callers : List (Option Caller)) (e : Publishing) (P : Trace) (M : History) (notes : Notes) (a : ℕ) (caller : Caller) (at : caller_at callers a ≡ Some caller) (le : a ≤ passes) (none : notes.changed a ≡ None)
     (shows : changes_key (key_of caller.command) e ≡ true) (was : reply caller.command (member (key_of caller.command) P) ≡ true) (tells : IsChangeOf e (row_of caller (length P) ∷ [])) (sound : LedgerSound n calls passes callers P M notes) where
@@ -317,10 +326,11 @@ module _ (n calls passes : ℕ) (callers : List (Option Caller)) (e : Publishing
       ]
 
   -- the tails of other commands have no row still
-  pub tail_changed : (d : Command) → (d ≡ caller.command → ⊥) → HasTail d old M → HasTail d (entries passes callers notes') M
+  pub tail_changed : (d : Command) → (d ≡ caller.command → ⊥) → HasTail d callers old M → HasTail d callers (entries passes callers notes') M
   tail_changed d other h = record {
     number = h.number;
     under_way = h.under_way;
+    stays = h.stays;
     no_row = elim (eqb_tells caller.number h.number) [
       | inl same ↦ absurd (other (sound.one_call h.number d caller.command h.under_way.called (subst (λ (j : ℕ). IsCalled M j caller.command) same.1 under_way.called)))
       | inr apart ↦

@@ -18,6 +18,7 @@ use Rattle.lz_list.specs.Laws.{IsHigh}
 use Rattle.lz_list.proofs.Chains.{on_start}
 use Rattle.lz_list.proofs.Hindsight.{stood_bucket}
 use Rattle.lz_list.proofs.Resting.{left_since}
+use Rattle.lz_list.specs.Locks.{check, is_marked_node}
 use Rattle.lz_core.specs.declared.event.Event.TheVariants.{Check}
 use Rattle.lz_core.specs.declared.actor.Actor.{Actor}
 use Rattle.lz_core.specs.declared.actor.Hold.{Hold}
@@ -26,7 +27,7 @@ use Rattle.lz_core.specs.declared.caller.Script.TheVariants.{Releasing}
 use Rattle.lz_core.specs.declared.caller.Progress.{Progress}
 use Rattle.lz_core.specs.declared.caller.Progress.TheVariants.{Playing, Checking}
 use Rattle.lz_core.specs.Yards.{Yard, Shape, actor_at}
-use Rattle.lz_core.specs.Table.{check, is_marked_node, with_hold, yard_done, outcome_of}
+use Rattle.lz_core.specs.Table.{with_hold, yard_done, outcome_of}
 use Rattle.lz_core.specs.Calls.{progress_after, changes}
 use Rattle.lz_core.specs.Runs.{Caller, caller_at}
 use Rattle.lz_core.specs.Stands.{Faces, WasBetween, InBucket}
@@ -136,7 +137,7 @@ module _ (n calls : ℕ) (y : Yard) (callers : List (Option Caller)) (disk : Med
   keeps_hold hold next kept open_yet shut_yet rests goes =
       let h = me.stands.2 in
       let hand = same_hand n calls y callers disk M P notes a (call_at i c at) is sound (with_hold actor hold) in
-      hands_keep n calls y callers disk M P notes a (call_at i c at) is sound (with_hold actor hold) y.locks next
+      hands_keep n calls y callers disk M P notes a (call_at i c at) is sound (with_hold actor hold) y.locks next (λ none is. absurd (false≢true is))
       (held_locks y.shape y.locks y.actors (set_of_pass y.actors a (with_hold actor hold)) P a (other_hand n calls y callers disk M P notes a (call_at i c at) is sound (with_hold actor hold)) sound.locks
       (λ place lock. record { locks = ap has_locks h.1; among = (subst (λ (q : Actor). HasLock q place) hand lock).among })
       (subst (λ (q : Actor). RestsOn y.shape.buckets q.hold q P) (sym hand) rests))

@@ -18,7 +18,7 @@ use Rattle.lz_core.specs.declared.actor.Hold.TheVariants.{Locks}
 use Rattle.lz_core.specs.declared.caller.Progress.{Progress}
 use Rattle.lz_core.specs.declared.caller.Progress.TheVariants.{Claiming, Checking}
 use Rattle.lz_core.specs.Yards.{Yard, actor_at}
-use Rattle.lz_core.specs.Table.{is_pair_free, pair_owned, yard_done, outcome_of}
+use Rattle.lz_core.specs.Table.{yard_done, outcome_of}
 use Rattle.lz_core.specs.Calls.{progress_after}
 use Rattle.lz_core.specs.Runs.{Caller, caller_at}
 use Rattle.lz_core.specs.Stands.{WasBetween, InBucket}
@@ -30,8 +30,10 @@ use Rattle.lz_core.proofs.Ranges.{stood_range}
 use Rattle.lz_core.proofs.Loads.{bucket_range}
 use Rattle.lz_list.proofs.Chains.{adjacent_on}
 use Rattle.lz_list.proofs.Hindsight.{once_weaker, next_stood}
+use Rattle.lz_list.specs.Locks.{is_pair_free, pair_owned}
 use Rattle.lz_core.proofs.Loading.{call_at, own, goes_on_keeps}
 use Rattle.lz_core.proofs.Hands.{in_hands, same_hand, other_hand, hands_keep}
+use mathlib.Core.Bool.{false≢true}
 
 -- where a walk has ended, the two places stood next to each other
 pub ended_between : (c : Command) (aim : Option ℕ) (buckets : ℕ) (P0 P : Trace) (pred : Place) (curr : Option ℕ) → HasEnded c aim buckets P0 P pred curr → WasBetween buckets (key_of c) pred (link_to curr) P0 P
@@ -75,7 +77,7 @@ module _ (n calls : ℕ) (y : Yard) (callers : List (Option Caller)) (disk : Med
       let h = me.stands.2 in
       let between = ended_between c aim y.shape.buckets (notes.begun a) P pred curr h.2 in
       let hand = same_hand n calls y callers disk M P notes a (call_at i c at) is sound x in
-      hands_keep n calls y callers disk M P notes a (call_at i c at) is sound x (pair_owned y.locks pred curr a) (Checking aim curr)
+      hands_keep n calls y callers disk M P notes a (call_at i c at) is sound x (pair_owned y.locks pred curr a) (Checking aim curr) (λ none is. absurd (false≢true is))
       (claimed_locks y.shape y.locks y.actors (set_of_pass y.actors a x) P a (other_hand n calls y callers disk M P notes a (call_at i c at) is sound x) sound.locks pred curr free
       (pred_in between.bucket (pred_was y.shape.buckets (key_of c) (notes.begun a) P pred (link_to curr) between))
       (λ s here. omega (arith, sound.locks.nodes, stood_range y.shape.buckets y.shape.slots (notes.begun a) P (bucket_of y.shape.buckets (key_of c)) s sound.trace.lawful (node_was y.shape.buckets y.shape.slots (key_of c) (notes.begun a) P pred curr s here between)))
@@ -86,7 +88,7 @@ module _ (n calls : ℕ) (y : Yard) (callers : List (Option Caller)) (disk : Med
 
   -- one of them was taken
   busy_keeps : Sound n calls y (moving callers a (call_at i c at) at) disk M P notes
-  busy_keeps = goes_on_keeps n calls y callers disk M P notes a i c at is sound at refl (record { relies = (own n calls y callers disk M P notes a i c at is sound).stands.2; inside = refl })
+  busy_keeps = goes_on_keeps n calls y callers disk M P notes a i c at is sound at refl (λ none may. may) (record { relies = (own n calls y callers disk M P notes a i c at is sound).stands.2; inside = refl })
 
   pub claim_keeps : Sound n calls (yard_done y (actor_at y a) a (Claim pred curr)) (moving callers a (call_at i c at) (progress_after y.shape c at (outcome_of y (actor_at y a) (Claim pred curr)))) disk M P notes
   claim_keeps = go (is_pair_free y.locks pred curr) refl

@@ -19,6 +19,7 @@ use Rattle.lz_disk.specs.Images.{Medium}
 use Rattle.lz_list.specs.declared.place.Place.{Place}
 use Rattle.lz_list.specs.declared.place.Place.TheVariants.{Node}
 use Rattle.lz_list.specs.Traces.{Trace, IsLoose, on, chain_of, bucket_of, key_word, is_marked}
+use Rattle.lz_list.specs.Locks.{claimed_places}
 use Rattle.lz_core.specs.declared.event.Event.TheVariants.{WriteClose}
 use Rattle.lz_core.specs.declared.actor.Actor.{Actor}
 use Rattle.lz_core.specs.declared.actor.Hold.{Hold}
@@ -27,12 +28,11 @@ use Rattle.lz_core.specs.declared.caller.Script.TheVariants.{Removing}
 use Rattle.lz_core.specs.declared.caller.Progress.{Progress}
 use Rattle.lz_core.specs.declared.caller.Progress.TheVariants.{Playing}
 use Rattle.lz_core.specs.Yards.{Yard, actor_at}
-use Rattle.lz_core.specs.Table.{claimed_places, with_hold, node_of, yard_done}
+use Rattle.lz_core.specs.Table.{with_hold, node_of, yard_done}
 use Rattle.lz_core.specs.Runs.{Caller, caller_at}
-use Rattle.lz_core.specs.Ledgers.{Row}
 use Rattle.lz_core.specs.Sound.{Notes, IsGateWritten, entries, actor_in, pin_in, cell_in, stage_in, opens, shuts, unlocks, has_removed_node, has_locks, IsOut, IsCloser, IsNodeStage, IsHandStage, SlotStands, is_node, is_held, is_out, is_free, is_limbo, SlotsSound, HasPlace, HasLock, IsBefore, RestsOn, Relies, view_of, CallerSound, CallersSound, HasTail, Sound}
 use Rattle.lz_core.proofs.Actors.{by_actor}
-use Rattle.lz_core.proofs.Turning.{moving, moved_same, moved_other, carry, ledger_turn, same_entries}
+use Rattle.lz_core.proofs.Turning.{moving, moved_same, moved_other, carry, ledger_turn}
 use Rattle.lz_core.proofs.Ranges.{on_range}
 use Rattle.lz_core.proofs.Halting.{held_node}
 use Rattle.lz_core.proofs.Loading.{call_at, own}
@@ -54,8 +54,9 @@ use Rattle.lz_core.proofs.Locking.{held_locks}
 use Rattle.lz_core.proofs.Hands.{reuse_turn}
 use Rattle.lz_core.proofs.Vaulting.{KeepsCell, caller_vaulted}
 use Rattle.lz_core.proofs.Gating.{gate_written}
-use Rattle.lz_core.proofs.Changing.{no_entry}
+use Rattle.lz_core.proofs.Changing.{own_tail}
 use Rattle.lz_core.proofs.Linking.{opened_written}
+use Rattle.lz_core.proofs.Going.{in_passes, tail_turn}
 
 module _ (n calls : ℕ) (y : Yard) (callers : List (Option Caller)) (disk : Medium) (M : History) (P : Trace) (notes : Notes) (sound : Sound n calls y callers disk M P notes) (a i k s : ℕ) (is : caller_at callers a ≡ Some (call_at i (Remove k) (Playing (Removing s) 0))) (alive : y.vault.dead ≡ false) where
   abbrev at : Progress
@@ -271,12 +272,8 @@ module _ (n calls : ℕ) (y : Yard) (callers : List (Option Caller)) (disk : Med
             (caller_vaulted y.shape.buckets y.shape.passes y.vault.cells cells' y.vault.dead y.vault.dead (actor_in y.actors b) (notes.begun b) P (notes.changed b) (λ e. e) (keeps_cell b) (pin_in y.words.pins b) (caller_at callers b) (sound.callers.each b)));
       }
 
-  my_tail : HasTail (Remove (cell_in cells' s).key) (entries y.shape.passes callers notes) M
-  my_tail = subst (λ (q : ℕ). HasTail (Remove q) (entries y.shape.passes callers notes) M) (sym (key_still s ∙ facts.0.key ∙ h.2.1)) (record {
-    number = i;
-    under_way = sound.ledger.open_call a (call_at i (Remove k) at) is;
-    no_row = no_entry n calls y.shape.passes callers P M notes a (call_at i (Remove k) at) is h.2.2 sound.ledger;
-  })
+  my_tail : HasTail (Remove (cell_in cells' s).key) callers (entries y.shape.passes callers notes) M
+  my_tail = subst (λ (q : ℕ). HasTail (Remove q) callers (entries y.shape.passes callers notes) M) (sym (key_still s ∙ facts.0.key ∙ h.2.1)) (own_tail n calls y.shape.passes callers P M notes a (call_at i (Remove k) at) is h.2.2 refl sound.ledger)
 
   closed_sound : Sound n calls (record { shape = y.shape; words = y.words; locks = y.locks; vault = vault'; uses = y.uses; actors = actors' }) callers' (written disk (16 + 16 * s) (closed_byte ∷ [])) M P notes
   closed_sound = record {
@@ -294,11 +291,11 @@ module _ (n calls : ℕ) (y : Yard) (callers : List (Option Caller)) (disk : Med
       adding = λ b t slot opened.
           let old = sym (slot_still b) ∙ slot in
           let apart = hand_apart b t old in
-          subst (λ (q : List Row). HasTail (Add (cell_in cells' t).key) q M) (sym (same_entries callers a (call_at i (Remove k) at) is (Playing (Removing s) 1) y.shape.passes notes))
-          (subst (λ (q : ℕ). HasTail (Add q) (entries y.shape.passes callers notes) M) (sym (key_still t)) (sound.tails.adding b t old (subst IsGateOpened (ap (λ (c : Cell). c.stage) (cell_other t apart)) opened)));
-      removing = λ t on_it clear shut. subst (λ (q : List Row). HasTail (Remove (cell_in cells' t).key) q M) (sym (same_entries callers a (call_at i (Remove k) at) is (Playing (Removing s) 1) y.shape.passes notes)) (elim (cases_eq t s) [
-        | inl same ↦ subst (λ (q : ℕ). HasTail (Remove (cell_in cells' q).key) (entries y.shape.passes callers notes) M) (sym same) my_tail
-        | inr other ↦ subst (λ (q : ℕ). HasTail (Remove q) (entries y.shape.passes callers notes) M) (sym (key_still t)) (sound.tails.removing t on_it clear (subst IsGateWritten (ap (λ (c : Cell). c.stage) (cell_other t other)) shut))
+          tail_turn callers a (call_at i (Remove k) at) is (Playing (Removing s) 1) y.shape.passes notes (in_passes n calls y callers disk M P notes a (call_at i (Remove k) at) is sound) (λ none is. refl) (Add (cell_in cells' t).key) M
+          (subst (λ (q : ℕ). HasTail (Add q) callers (entries y.shape.passes callers notes) M) (sym (key_still t)) (sound.tails.adding b t old (subst IsGateOpened (ap (λ (c : Cell). c.stage) (cell_other t apart)) opened)));
+      removing = λ t on_it clear shut. tail_turn callers a (call_at i (Remove k) at) is (Playing (Removing s) 1) y.shape.passes notes (in_passes n calls y callers disk M P notes a (call_at i (Remove k) at) is sound) (λ none is. refl) (Remove (cell_in cells' t).key) M (elim (cases_eq t s) [
+        | inl same ↦ subst (λ (q : ℕ). HasTail (Remove (cell_in cells' q).key) callers (entries y.shape.passes callers notes) M) (sym same) my_tail
+        | inr other ↦ subst (λ (q : ℕ). HasTail (Remove q) callers (entries y.shape.passes callers notes) M) (sym (key_still t)) (sound.tails.removing t on_it clear (subst IsGateWritten (ap (λ (c : Cell). c.stage) (cell_other t other)) shut))
       ]);
     };
   }
@@ -372,10 +369,10 @@ module _ (n calls : ℕ) (y : Yard) (callers : List (Option Caller)) (disk : Med
     reuse = sound.reuse;
     ledger = sound.ledger;
     tails = record {
-      adding = λ b t slot opened. subst (λ (q : ℕ). HasTail (Add q) (entries y.shape.passes callers notes) M) (sym (key_still t)) (sound.tails.adding b t slot (subst IsGateOpened (ap (λ (c : Cell). c.stage) (cell_other t (hand_apart b t slot))) opened));
+      adding = λ b t slot opened. subst (λ (q : ℕ). HasTail (Add q) callers (entries y.shape.passes callers notes) M) (sym (key_still t)) (sound.tails.adding b t slot (subst IsGateOpened (ap (λ (c : Cell). c.stage) (cell_other t (hand_apart b t slot))) opened));
       removing = λ t on_it clear shut. elim (cases_eq t s) [
-        | inl same ↦ subst (λ (q : ℕ). HasTail (Remove (cell_in cells' q).key) (entries y.shape.passes callers notes) M) (sym same) my_tail
-        | inr other ↦ subst (λ (q : ℕ). HasTail (Remove q) (entries y.shape.passes callers notes) M) (sym (key_still t)) (sound.tails.removing t on_it clear (subst IsGateWritten (ap (λ (c : Cell). c.stage) (cell_other t other)) shut))
+        | inl same ↦ subst (λ (q : ℕ). HasTail (Remove (cell_in cells' q).key) callers (entries y.shape.passes callers notes) M) (sym same) my_tail
+        | inr other ↦ subst (λ (q : ℕ). HasTail (Remove q) callers (entries y.shape.passes callers notes) M) (sym (key_still t)) (sound.tails.removing t on_it clear (subst IsGateWritten (ap (λ (c : Cell). c.stage) (cell_other t other)) shut))
       ];
     };
   }
@@ -386,4 +383,4 @@ module _ (n calls : ℕ) (y : Yard) (callers : List (Option Caller)) (disk : Med
 
   -- the turn in which the write fails
   pub write_close_fails_keeps : (medium : Medium) → (medium ≡ disk) ⊎ WriteFailed disk (16 + 16 * s) 1 medium → Sound n calls failed_yard (moving callers a (call_at i (Remove k) at) (halts Device)) medium M P notes
-  write_close_fails_keeps medium may = goes_on_keeps n calls failed_yard callers medium M P notes a i (Remove k) at is (failed_sound medium may) (halts Device) refl (record { relies = (tt, refl); inside = refl })
+  write_close_fails_keeps medium may = goes_on_keeps n calls failed_yard callers medium M P notes a i (Remove k) at is (failed_sound medium may) (halts Device) refl (λ none is. refl) (record { relies = (tt, refl); inside = refl })

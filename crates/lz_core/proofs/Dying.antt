@@ -25,4 +25,4 @@ module _ (n calls : ℕ) (y : Yard) (callers : List (Option Caller)) (disk : Med
 
   -- a sync failed
   pub sync_fails_keeps : (s : ℕ) → is_sure y s ≡ false → Sound n calls (line_failed y a (Sync s)).0 (moving callers a (call_at i c at) (progress_after y.shape c at Fault)) disk M P notes
-  sync_fails_keeps s loose = rw loose (goes_on_keeps n calls (with_vault y (died y.vault)) callers disk M P notes a i c at is (died_keeps n calls y callers disk M P notes sound) (halts Device) inside (record { relies = (tt, refl); inside = refl }))
+  sync_fails_keeps s loose = rw loose (goes_on_keeps n calls (with_vault y (died y.vault)) callers disk M P notes a i c at is (died_keeps n calls y callers disk M P notes sound) (halts Device) inside (λ none is. refl) (record { relies = (tt, refl); inside = refl }))

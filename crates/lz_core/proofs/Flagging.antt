@@ -13,15 +13,18 @@ use Rattle.lz_list.specs.declared.publishing.Publishing.TheVariants.{Settled as 
 use Rattle.lz_list.specs.Words.{place_number, link_to}
 use Rattle.lz_list.specs.Traces.{Trace, bucket_of, next_link, on, chain_of, key_word, linking, is_settled, is_removed}
 use Rattle.lz_list.specs.Laws.{IsLow, IsHigh}
+use Rattle.lz_list.specs.Locks.{NodeLocks}
 use Rattle.lz_core.specs.declared.actor.Actor.{Actor}
 use Rattle.lz_core.specs.declared.actor.Hold.{Hold}
 use Rattle.lz_core.specs.declared.actor.Hold.TheVariants.{Nothing, Locks, Checked, GateOpened, Linked, GateClosed, Marked, Unlinked, Released}
-use Rattle.lz_core.specs.Yards.{Shape, NodeLocks}
+use Rattle.lz_core.specs.Yards.{Shape}
 use Rattle.lz_core.specs.Ledgers.{Row}
 use Rattle.lz_core.specs.Stands.{Faces}
 use Rattle.lz_core.specs.Sound.{actor_in, pin_in, stage_in, SlotStands, is_node, is_held, is_out, is_free, is_limbo, SlotsSound, IsBeside, IsBefore, HasClosed, RestsOn, LocksSound, ReuseSound, TailsSound}
 use Rattle.lz_core.proofs.Limbo.{seen_step, away_stays}
 use Rattle.lz_core.proofs.Pinning.{limbo_loose, free_loose}
+use Rattle.std.specs.Prelude.{Option}
+use Rattle.lz_core.specs.Runs.{Caller}
 
 module _ (shape : Shape) (cells : List Cell) (dead : Bool) (uses : List Use) (actors : List Actor) (P : Trace) where
   faces_halted : (k x n : ℕ) → Faces shape.buckets k x n P → Faces shape.buckets k x n (halted ∷ P)
@@ -103,8 +106,8 @@ module _ (shape : Shape) (cells : List Cell) (dead : Bool) (uses : List Use) (ac
     reserved = λ a b s slot inside. away_stays shape.buckets s (begun a) (halted) P (slots.hand b s slot).loose (h.reserved a b s slot inside);
   }
 
-  pub tails_halted : (rows : List Row) (M : History) → TailsSound shape cells actors P rows M → TailsSound shape cells actors (halted ∷ P) rows M
-  tails_halted rows M h = record { adding = h.adding; removing = h.removing }
+  pub tails_halted : (callers : List (Option Caller)) (rows : List Row) (M : History) → TailsSound shape cells actors P callers rows M → TailsSound shape cells actors (halted ∷ P) callers rows M
+  tails_halted callers rows M h = record { adding = h.adding; removing = h.removing }
 
 module _ (s0 : ℕ) (c0 : Change) (shape : Shape) (cells : List Cell) (dead : Bool) (uses : List Use) (actors : List Actor) (P : Trace) where
   faces_settled : (k x n : ℕ) → Faces shape.buckets k x n P → Faces shape.buckets k x n (settled s0 c0 ∷ P)
@@ -186,5 +189,5 @@ module _ (s0 : ℕ) (c0 : Change) (shape : Shape) (cells : List Cell) (dead : Bo
     reserved = λ a b s slot inside. away_stays shape.buckets s (begun a) (settled s0 c0) P (slots.hand b s slot).loose (h.reserved a b s slot inside);
   }
 
-  pub tails_settled : (rows : List Row) (M : History) → TailsSound shape cells actors P rows M → TailsSound shape cells actors (settled s0 c0 ∷ P) rows M
-  tails_settled rows M h = record { adding = h.adding; removing = h.removing }
+  pub tails_settled : (callers : List (Option Caller)) (rows : List Row) (M : History) → TailsSound shape cells actors P callers rows M → TailsSound shape cells actors (settled s0 c0 ∷ P) callers rows M
+  tails_settled callers rows M h = record { adding = h.adding; removing = h.removing }

@@ -32,14 +32,13 @@ use Rattle.lz_core.specs.Yards.{Yard, actor_at, no_cell}
 use Rattle.lz_core.specs.Table.{with_vault, with_hold, call_of, slot_of, yard_done, publishes}
 use Rattle.lz_core.specs.Calls.{halts}
 use Rattle.lz_core.specs.Runs.{Caller, caller_at}
-use Rattle.lz_core.specs.Ledgers.{Row}
 use Rattle.lz_core.specs.Stands.{IsReady}
 use Rattle.lz_core.proofs.Ranges.{on_range}
 use Rattle.lz_core.specs.Sound.{Notes, entries, actor_in, pin_in, cell_in, stage_in, opens, shuts, unlocks, closes, has_removed_node, has_locks, IsGateClosed, IsGateOpened, IsGateWritten, IsOut, IsCloser, IsNodeStage, IsHandStage, SlotStands, is_node, is_held, is_out, is_free, is_limbo, SlotsSound, HasLock, IsBeside, IsChecked, RestsOn, LocksSound, DiskSound, Relies, view_of, CallerSound, CallersSound, ReuseSound, HasTail, Sound}
 use Rattle.lz_core.proofs.Actors.{by_actor}
 use Rattle.lz_core.proofs.Grips.{closes_dead, opens_dead}
 use Rattle.lz_core.proofs.Gating.{gate_written, gate_failed}
-use Rattle.lz_core.proofs.Turning.{moving, moved_same, moved_other, carry, ledger_turn, same_entries}
+use Rattle.lz_core.proofs.Turning.{moving, moved_same, moved_other, carry, ledger_turn}
 use Rattle.lz_core.proofs.Limbo.{seen_step, away_stays}
 use Rattle.lz_core.proofs.Published.{LeavesCaller, relies_on_node, caller_published}
 use Rattle.lz_core.proofs.Pinning.{limbo_loose, free_loose}
@@ -52,7 +51,9 @@ use Rattle.lz_core.proofs.Loading.{call_at, own}
 use Rattle.lz_core.proofs.Locking.{held_locks}
 use Rattle.lz_core.proofs.Vaulting.{KeepsCell, caller_vaulted}
 use Rattle.lz_core.proofs.Writing.{rests_prepared}
-use Rattle.lz_core.proofs.Changing.{no_entry}
+use Rattle.lz_core.proofs.Changing.{own_tail}
+use Rattle.lz_core.proofs.Going.{in_passes, tail_turn}
+use Rattle.lz_core.specs.Sound.{may_have_tail}
 
 module _ (n calls : ℕ) (y : Yard) (callers : List (Option Caller)) (disk : Medium) (M : History) (P : Trace) (notes : Notes) (sound : Sound n calls y callers disk M P notes) (a i k s : ℕ) (is : caller_at callers a ≡ Some (call_at i (Add k) (Playing (Adding s) 0))) where
   abbrev at : Progress
@@ -216,25 +217,21 @@ module _ (n calls : ℕ) (y : Yard) (callers : List (Option Caller)) (disk : Med
     keeps_cell t apart = record { key = key_other t apart; keyed = λ e. subst (λ (q : Cell). (q.stage ≡ KeyLoose) ⊎ (q.stage ≡ Keyed)) (sym (cell_other t apart)) e; sure = λ e. stage_other (λ q. q ≡ Keyed) t apart e }
 
     -- from now on the adding may be seen: its call is under way and has no row
-    my_tail : HasTail (Add (cell_in cells' s).key) (entries y.shape.passes callers notes) M
-    my_tail = subst (λ (q : ℕ). HasTail (Add q) (entries y.shape.passes callers notes) M) (sym (ap (λ (q : Cell). q.key) cell_same ∙ h.1.key)) (record {
-      number = i;
-      under_way = sound.ledger.open_call a (call_at i (Add k) at) is;
-      no_row = no_entry n calls y.shape.passes callers P M notes a (call_at i (Add k) at) is h.2 sound.ledger;
-    })
+    my_tail : HasTail (Add (cell_in cells' s).key) callers (entries y.shape.passes callers notes) M
+    my_tail = subst (λ (q : ℕ). HasTail (Add q) callers (entries y.shape.passes callers notes) M) (sym (ap (λ (q : Cell). q.key) cell_same ∙ h.1.key)) (own_tail n calls y.shape.passes callers P M notes a (call_at i (Add k) at) is h.2 refl sound.ledger)
 
     -- the tail of each slot in hand whose gate is opened
-    tail_then : (b t : ℕ) → (actor_in actors' b).slot ≡ Some t → IsGateOpened (stage_in cells' t) → HasTail (Add (cell_in cells' t).key) (entries y.shape.passes callers notes) M
+    tail_then : (b t : ℕ) → (actor_in actors' b).slot ≡ Some t → IsGateOpened (stage_in cells' t) → HasTail (Add (cell_in cells' t).key) callers (entries y.shape.passes callers notes) M
     tail_then b t slot opened = elim (cases_eq t s) [
-      | inl same ↦ subst (λ (q : ℕ). HasTail (Add (cell_in cells' q).key) (entries y.shape.passes callers notes) M) (sym same) my_tail
-      | inr other ↦ subst (λ (q : ℕ). HasTail (Add q) (entries y.shape.passes callers notes) M) (sym (key_other t other)) (sound.tails.adding b t (sym (slot_still b) ∙ slot) (subst IsGateOpened (ap (λ (q : Cell). q.stage) (cell_other t other)) opened))
+      | inl same ↦ subst (λ (q : ℕ). HasTail (Add (cell_in cells' q).key) callers (entries y.shape.passes callers notes) M) (sym same) my_tail
+      | inr other ↦ subst (λ (q : ℕ). HasTail (Add q) callers (entries y.shape.passes callers notes) M) (sym (key_other t other)) (sound.tails.adding b t (sym (slot_still b) ∙ slot) (subst IsGateOpened (ap (λ (q : Cell). q.stage) (cell_other t other)) opened))
     ]
 
     -- all of it, where the adder goes on, over a disk that is as the new cells say
-    open_sound : (next : Progress) (medium : Medium) → DiskSound y.shape vault' medium → LocksSound y.shape y.locks actors' P
+    open_sound : (next : Progress) → may_have_tail next ≡ true → (medium : Medium) → DiskSound y.shape vault' medium → LocksSound y.shape y.locks actors' P
         → CallerSound (view_of y.shape vault' actors' a) (pin_in y.words.pins a) (Some (call_at i (Add k) next)) (notes.begun a) P (notes.changed a)
         → Sound n calls (record { shape = y.shape; words = y.words; locks = y.locks; vault = vault'; uses = y.uses; actors = actors' }) (moving callers a (call_at i (Add k) at) next) medium M P notes
-    open_sound next medium images locks mine = record {
+    open_sound next may medium images locks mine = record {
       trace = sound.trace;
       images = images;
       slots = open_slots;
@@ -250,11 +247,11 @@ module _ (n calls : ℕ) (y : Yard) (callers : List (Option Caller)) (disk : Med
       reuse = reuse_turn y.shape y.words.pins y.uses y.actors actors' P notes.begun slot_still sound.reuse;
       ledger = ledger_turn callers a (call_at i (Add k) at) is next n calls y.shape.passes P M notes sound.ledger;
       tails = record {
-        adding = λ b t slot opened. subst (λ (q : List Row). HasTail (Add (cell_in cells' t).key) q M) (sym (same_entries callers a (call_at i (Add k) at) is next y.shape.passes notes)) (tail_then b t slot opened);
+        adding = λ b t slot opened. tail_turn callers a (call_at i (Add k) at) is next y.shape.passes notes (in_passes n calls y callers disk M P notes a (call_at i (Add k) at) is sound) (λ none is. may) (Add (cell_in cells' t).key) M (tail_then b t slot opened);
         removing = λ t on_it clear gate.
             let apart = chain_apart (key_word t P) t on_it in
-            subst (λ (q : List Row). HasTail (Remove (cell_in cells' t).key) q M) (sym (same_entries callers a (call_at i (Add k) at) is next y.shape.passes notes))
-            (subst (λ (q : ℕ). HasTail (Remove q) (entries y.shape.passes callers notes) M) (sym (key_other t apart)) (sound.tails.removing t on_it clear (subst IsGateWritten (ap (λ (q : Cell). q.stage) (cell_other t apart)) gate)));
+            tail_turn callers a (call_at i (Add k) at) is next y.shape.passes notes (in_passes n calls y callers disk M P notes a (call_at i (Add k) at) is sound) (λ none is. may) (Remove (cell_in cells' t).key) M
+            (subst (λ (q : ℕ). HasTail (Remove q) callers (entries y.shape.passes callers notes) M) (sym (key_other t apart)) (sound.tails.removing t on_it clear (subst IsGateWritten (ap (λ (q : Cell). q.stage) (cell_other t apart)) gate)));
       };
     }
 
@@ -262,7 +259,7 @@ module _ (n calls : ℕ) (y : Yard) (callers : List (Option Caller)) (disk : Med
   pub write_open_fails_keeps : y.vault.dead ≡ false → (medium : Medium) → (medium ≡ disk) ⊎ WriteFailed disk (16 + 16 * s) 1 medium
       → Sound n calls (with_vault y (record { cells = slice_set y.vault.cells s (record { stage = Opening; key = (cell_in y.vault.cells s).key }); syncs = y.vault.syncs; dead = true })) (moving callers a (call_at i (Add k) (Playing (Adding s) 0)) (halts Device)) medium M P notes
   write_open_fails_keeps alive medium may =
-      open_sound true (λ e. refl) alive y.actors refl (λ b other. refl) (λ b. refl) (ap (opens true) h.0) (ap shuts h.0) (ap has_removed_node h.0) (halts Device) medium
+      open_sound true (λ e. refl) alive y.actors refl (λ b other. refl) (λ b. refl) (ap (opens true) h.0) (ap shuts h.0) (ap has_removed_node h.0) (halts Device) refl medium
       (gate_failed y.shape y.vault disk sound.images alive s lt open_byte (omega arith) Opening (keyed_has_body (stage_in y.vault.cells s) h.1.stage) (λ j bytes e. e) (λ j bytes e. e) y.vault.syncs medium may)
       sound.locks
       (record { quiet = me.quiet; begins = me.begins; stands = (me.stands.0, me.stands.1, (tt, refl)) })
@@ -491,7 +488,7 @@ module _ (n calls : ℕ) (y : Yard) (callers : List (Option Caller)) (disk : Med
       open_sound n calls (record { shape = y.shape; words = set y.words (link_at s) link; locks = y.locks; vault = y.vault; uses = y.uses; actors = y.actors }) callers disk M P'' notes linked_yard a i k s is
       y.vault.dead (λ e. e) alive actors' (length-set_of_pass y.actors a x) others_now slots_now
       (ap (λ (q : Actor). opens y.vault.dead q.hold) mine_now) (ap (λ (q : Actor). shuts q.hold) mine_now) (ap (λ (q : Actor). has_removed_node q.hold) mine_now)
-      (Playing (Adding s) 1) medium_open opened_disk opened_locks opened_mine
+      (Playing (Adding s) 1) refl medium_open opened_disk opened_locks opened_mine
 
   -- The turn in which the gate is opened.
   pub write_open_keeps : Sound n calls (yard_done y (actor_at y a) a WriteOpen) (moving callers a (call_at i (Add k) (Playing (Adding s) 0)) (Playing (Adding s) 1))

@@ -31,6 +31,7 @@ use Rattle.lz_core.proofs.Flagging.{locks_halted, slots_halted, reuse_halted, ta
 use Rattle.lz_core.proofs.Ledgering.{ledger_published}
 use Rattle.lz_core.proofs.Walking.{GoesOn}
 use Rattle.lz_core.proofs.Loading.{call_at, own, goes_on_keeps}
+use Rattle.lz_core.specs.Sound.{may_have_tail}
 
 -- a node to which a place of its chain leads is on the chain
 pub faces_on : (buckets slots k x t : ℕ) (P : Trace) → Lawful buckets slots P → FacesNode buckets k x t P → on 0 (chain_of buckets k P) (suc t) ≡ true
@@ -78,7 +79,7 @@ module _ (n calls : ℕ) (y : Yard) (callers : List (Option Caller)) (disk : Med
     };
     reuse = reuse_halted y.shape y.vault.cells y.vault.dead y.uses y.actors P y.words.pins notes.begun sound.slots sound.reuse;
     ledger = ledger_published n calls y.shape.passes callers halted P M notes tt sound.ledger;
-    tails = tails_halted y.shape y.vault.cells y.vault.dead y.uses y.actors P (entries y.shape.passes callers notes) M sound.tails;
+    tails = tails_halted y.shape y.vault.cells y.vault.dead y.uses y.actors P callers (entries y.shape.passes callers notes) M sound.tails;
   }
 
   cut_answers : (c : Command) (reply : Reply) (a : ℕ) → IsCut reply → GoesOn (view_of y.shape y.vault y.actors a) c (Answering reply) (notes.begun a) (halted ∷ P) (notes.changed a)
@@ -93,8 +94,16 @@ module _ (n calls : ℕ) (y : Yard) (callers : List (Option Caller)) (disk : Med
   cut_answers c (Full counts) a cut = absurd cut
   cut_answers c Worn a cut = absurd cut
 
+  cut_tail : (reply : Reply) → IsCut reply → may_have_tail (Answering reply) ≡ true
+  cut_tail Halted cut = refl
+  cut_tail Device cut = refl
+  cut_tail Yes cut = absurd cut
+  cut_tail No cut = absurd cut
+  cut_tail (Full counts) cut = absurd cut
+  cut_tail Worn cut = absurd cut
+
   pub halt_keeps : (a i : ℕ) (c : Command) (reply : Reply) → caller_at callers a ≡ Some (call_at i c (Playing (Halting reply) 0))
       → Sound n calls (yard_done y (actor_at y a) a Halt) (moving callers a (call_at i c (Playing (Halting reply) 0)) (progress_after y.shape c (Playing (Halting reply) 0) Done)) disk M (halted ∷ P) notes
   halt_keeps a i c reply is =
       let h = (own n calls y callers disk M P notes a i c (Playing (Halting reply) 0) is sound).stands.2 in
-      goes_on_keeps n calls (yard_done y (actor_at y a) a Halt) callers disk M (halted ∷ P) notes a i c (Playing (Halting reply) 0) is (halted_keeps a) (Answering reply) refl (cut_answers c reply a h.0)
+      goes_on_keeps n calls (yard_done y (actor_at y a) a Halt) callers disk M (halted ∷ P) notes a i c (Playing (Halting reply) 0) is (halted_keeps a) (Answering reply) refl (λ none is. cut_tail reply h.0) (cut_answers c reply a h.0)

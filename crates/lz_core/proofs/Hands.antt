@@ -6,15 +6,16 @@ use Rattle.lz_slot.proofs.Counted.{of_pass_same, of_pass_other, length-set_of_pa
 use Rattle.lz_disk.specs.Images.{Medium}
 use Rattle.lz_allot.specs.Uses.{Use}
 use Rattle.lz_list.specs.Traces.{Trace}
+use Rattle.lz_list.specs.Locks.{NodeLocks}
 use Rattle.lz_core.specs.declared.actor.Actor.{Actor}
 use Rattle.lz_core.specs.declared.caller.Progress.{Progress}
-use Rattle.lz_core.specs.Yards.{Yard, Shape, NodeLocks, idle_actor}
+use Rattle.lz_core.specs.Yards.{Yard, Shape, idle_actor}
 use Rattle.lz_core.specs.Runs.{Caller, caller_at}
 use Rattle.lz_core.specs.Sound.{Notes, actor_in, pin_in, CallerSound, LocksSound, ReuseSound, Sound}
 use Rattle.lz_core.proofs.Actors.{by_actor}
-use Rattle.lz_core.proofs.Turning.{moved, moving, caller_range, callers_turn, ledger_turn, same_entries}
+use Rattle.lz_core.proofs.Turning.{moved, moving, caller_range, callers_turn, ledger_turn}
 use Rattle.lz_core.proofs.Grips.{KeepsGrips, keeps_itself, slots_turn}
-use Rattle.lz_core.proofs.Going.{tails_turn}
+use Rattle.lz_core.proofs.Going.{KeepsTail, in_passes, tails_turn}
 
 -- the reservations, where no slot changes hands
 pub reuse_turn : (shape : Shape) (pins : List ℕ) (uses : List Use) (actors actors' : List Actor) (P : Trace) (begun : ℕ → Trace)
@@ -42,10 +43,10 @@ module _ (n calls : ℕ) (y : Yard) (callers : List (Option Caller)) (disk : Med
   pub other_hand : (b : ℕ) → b ≢ a → actor_in (set_of_pass y.actors a x) b ≡ actor_in y.actors b
   other_hand b other = of_pass_other y.actors a b x idle_actor other
 
-  pub hands_keep : (locks : NodeLocks) (next : Progress) → LocksSound y.shape locks (set_of_pass y.actors a x) P → KeepsGrips y.vault.dead y.vault.dead (actor_in y.actors a) x
+  pub hands_keep : (locks : NodeLocks) (next : Progress) → KeepsTail (notes.changed a) caller.progress next → LocksSound y.shape locks (set_of_pass y.actors a x) P → KeepsGrips y.vault.dead y.vault.dead (actor_in y.actors a) x
       → CallerSound (record { buckets = y.shape.buckets; passes = y.shape.passes; cells = y.vault.cells; dead = y.vault.dead; actor = x }) (pin_in y.words.pins a) (Some (moved caller next)) (notes.begun a) P (notes.changed a)
       → Sound n calls (in_hands y locks a x) (moving callers a caller next) disk M P notes
-  hands_keep locks next held grips mine = record {
+  hands_keep locks next keeps held grips mine = record {
     trace = sound.trace;
     images = sound.images;
     slots = slots_turn y.shape y.vault.cells y.vault.dead y.vault.dead y.uses y.actors (set_of_pass y.actors a x) P every_grip sound.slots;
@@ -55,7 +56,7 @@ module _ (n calls : ℕ) (y : Yard) (callers : List (Option Caller)) (disk : Med
         sound.callers;
     reuse = reuse_turn y.shape y.words.pins y.uses y.actors (set_of_pass y.actors a x) P notes.begun same_slots sound.reuse;
     ledger = ledger_turn callers a caller at next n calls y.shape.passes P M notes sound.ledger;
-    tails = tails_turn y.shape y.vault.cells y.actors (set_of_pass y.actors a x) P _ _ M same_slots (same_entries callers a caller at next y.shape.passes notes) sound.tails;
+    tails = tails_turn callers a caller at next y.shape.passes notes (in_passes n calls y callers disk M P notes a caller at sound) keeps y.shape y.vault.cells y.actors (set_of_pass y.actors a x) P M same_slots sound.tails;
   }
     where
       every_grip : (b : ℕ) → KeepsGrips y.vault.dead y.vault.dead (actor_in y.actors b) (actor_in (set_of_pass y.actors a x) b)

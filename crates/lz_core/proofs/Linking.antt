@@ -23,6 +23,7 @@ use Rattle.lz_list.specs.Traces.{Trace, Chain, Lawful, IsLoose, insert, on, chai
 use Rattle.lz_list.proofs.Chains.{on_start}
 use Rattle.lz_list.proofs.Nodes.{on_insert_other, not_yet}
 use Rattle.lz_list.proofs.Resting.{on_insert}
+use Rattle.lz_list.specs.Locks.{claimed_places, owner}
 use Rattle.lz_core.specs.declared.event.Event.TheVariants.{Link}
 use Rattle.lz_core.specs.declared.actor.Actor.{Actor}
 use Rattle.lz_core.specs.declared.actor.Hold.{Hold}
@@ -31,14 +32,13 @@ use Rattle.lz_core.specs.declared.caller.Script.TheVariants.{Adding}
 use Rattle.lz_core.specs.declared.caller.Progress.{Progress}
 use Rattle.lz_core.specs.declared.caller.Progress.TheVariants.{Playing}
 use Rattle.lz_core.specs.Yards.{Yard, actor_at}
-use Rattle.lz_core.specs.Table.{claimed_places, owner, slot_of, yard_done, publishes}
+use Rattle.lz_core.specs.Table.{slot_of, yard_done, publishes}
 use Rattle.lz_core.specs.Runs.{Caller, caller_at}
-use Rattle.lz_core.specs.Ledgers.{Row}
 use Rattle.lz_core.specs.Kept.{upto}
 use Rattle.lz_core.specs.Stands.{IsReady, InBucket}
-use Rattle.lz_core.specs.Sound.{Notes, entries, actor_in, pin_in, cell_in, stage_in, closes, opens, shuts, unlocks, has_removed_node, has_locks, IsOut, IsCloser, IsNodeStage, IsHandStage, IsGateClosed, IsGateOpened, IsGateWritten, SlotStands, is_node, is_held, is_out, is_free, is_limbo, SlotsSound, ReuseSound, HasPlace, HasLock, IsBeside, HasOpened, RestsOn, LocksSound, Relies, HasAdded, view_of, CallerSound, CallersSound, TailsSound, HasTail, Sound}
+use Rattle.lz_core.specs.Sound.{Notes, entries, actor_in, pin_in, cell_in, stage_in, closes, opens, shuts, unlocks, has_removed_node, has_locks, IsOut, IsCloser, IsNodeStage, IsHandStage, IsGateClosed, IsGateOpened, IsGateWritten, SlotStands, is_node, is_held, is_out, is_free, is_limbo, SlotsSound, ReuseSound, HasPlace, HasLock, IsBeside, HasOpened, RestsOn, LocksSound, Relies, HasAdded, view_of, CallerSound, CallersSound, TailsSound, Sound}
 use Rattle.lz_core.proofs.Actors.{by_actor}
-use Rattle.lz_core.proofs.Turning.{caller_range, moving, moved_same, moved_other, carry, ledger_turn, same_entries}
+use Rattle.lz_core.proofs.Turning.{caller_range, moving, moved_same, moved_other, carry, ledger_turn}
 use Rattle.lz_core.proofs.Limbo.{seen_step, away_stays}
 use Rattle.lz_core.proofs.Published.{LeavesCaller, caller_published, key_linking}
 use Rattle.lz_core.proofs.Pinning.{limbo_loose, free_loose}
@@ -53,6 +53,7 @@ use Rattle.lz_core.proofs.Kept.{upto_all}
 use Rattle.lz_core.proofs.Changing.{row_of, changes_at, changed_same, changed_other, ledger_changed, tail_changed}
 use Rattle.lz_core.proofs.Unlinking.{resting_locks, first_place, redirect_pins}
 use Rattle.lz_core.proofs.Links as links
+use Rattle.lz_core.proofs.Going.{tail_turn}
 
 on_itself : (k s x : ℕ) (c : Chain) → on x (insert k s c) (suc s) ≡ true
 on_itself k s x [] = grind (arith, nat_tests)
@@ -388,13 +389,12 @@ module _ (n calls : ℕ) (y : Yard) (callers : List (Option Caller)) (disk : Med
           let spot_b = (links.round_place y.shape.buckets y.shape.slots P sound.trace.lawful k (place_number (actor_in y.actors b).pred) (link_to (actor_in y.actors b).curr) there_b.round).0 in
           pred_apart b other found.1 k there_b.bucket refl (sym spot_b)
 
-  linked_tails : TailsSound y.shape y.vault.cells actors' P' (entries y.shape.passes callers' notes') M
+  linked_tails : TailsSound y.shape y.vault.cells actors' P' callers' (entries y.shape.passes callers' notes') M
   linked_tails =
-      let same = sym (same_entries callers a (call_at i (Add k) at) is (Playing (Adding s) 2) y.shape.passes notes') in
       record {
-        adding = λ b t slot opened. let old = held_then b t slot in subst (λ (q : List Row). HasTail (Add (cell_in y.vault.cells t).key) q M) same
+        adding = λ b t slot opened. let old = held_then b t slot in tail_turn callers a (call_at i (Add k) at) is (Playing (Adding s) 2) y.shape.passes notes' in_passes (λ none is'. refl) (Add (cell_in y.vault.cells t).key) M
             (tail_changed n calls y.shape.passes callers (linked k s a) P M notes a (call_at i (Add k) at) is in_passes h.3 shows was (row_of (call_at i (Add k) at) (length P), refl, refl) sound.ledger (Add (cell_in y.vault.cells t).key) (λ e. other_adder b t old.0 old.2 opened (add_same e)) (sound.tails.adding b t old.2 opened));
-        removing = λ t on_it unmarked shut. subst (λ (q : List Row). HasTail (Remove (cell_in y.vault.cells t).key) q M) same (elim (cases_eq t s) [
+        removing = λ t on_it unmarked shut. tail_turn callers a (call_at i (Add k) at) is (Playing (Adding s) 2) y.shape.passes notes' in_passes (λ none is'. refl) (Remove (cell_in y.vault.cells t).key) M (elim (cases_eq t s) [
           | inl it ↦ absurd (opened_written (stage_in y.vault.cells s) opened_s (subst (λ (q : ℕ). IsGateWritten (stage_in y.vault.cells q)) it shut))
           | inr other ↦ tail_changed n calls y.shape.passes callers (linked k s a) P M notes a (call_at i (Add k) at) is in_passes h.3 shows was (row_of (call_at i (Add k) at) (length P), refl, refl) sound.ledger (Remove (cell_in y.vault.cells t).key) remove_add
               (sound.tails.removing t (chain_before (key_word t P) t other on_it) unmarked shut)

@@ -21,8 +21,9 @@ use Rattle.lz_core.specs.Calls.{progress_after, halts, halt_loaded}
 use Rattle.lz_core.specs.Runs.{Caller, caller_at}
 use Rattle.lz_core.specs.Sound.{Notes, IsInside, actor_in, pin_in, view_of, IsIdle, MayAnswer, CallerSound, Sound, is_before_pin, side_of}
 use Rattle.lz_core.proofs.Turning.{moving, mine}
-use Rattle.lz_core.proofs.Going.{going_keeps}
+use Rattle.lz_core.proofs.Going.{KeepsTail, going_keeps}
 use Rattle.lz_core.proofs.Walking.{GoesOn, hop_after}
+use mathlib.Core.Bool.{false≢true}
 
 -- a call of this number and command
 abbrev pub call_at : ℕ → Command → Progress → Caller
@@ -36,8 +37,8 @@ module _ (n calls : ℕ) (y : Yard) (callers : List (Option Caller)) (disk : Med
   own_inside inside = own.stands.0 ∙ ap side_of inside
 
   -- a turn that leaves the yard, after which the call may go on so
-  pub goes_on_keeps : (next : Progress) → is_before_pin at ≡ false → GoesOn (view_of y.shape y.vault y.actors a) c next (notes.begun a) P (notes.changed a) → Sound n calls y (moving callers a (call_at i c at) next) disk M P notes
-  goes_on_keeps next inside h = going_keeps n calls y callers disk M P notes a (call_at i c at) is next (record {
+  pub goes_on_keeps : (next : Progress) → is_before_pin at ≡ false → KeepsTail (notes.changed a) at next → GoesOn (view_of y.shape y.vault y.actors a) c next (notes.begun a) P (notes.changed a) → Sound n calls y (moving callers a (call_at i c at) next) disk M P notes
+  goes_on_keeps next inside keeps h = going_keeps n calls y callers disk M P notes a (call_at i c at) is next keeps (record {
     quiet = own.quiet;
     begins = own.begins;
     stands = (own_inside inside ∙ ap side_of (sym h.inside), own.stands.1, h.relies);
@@ -45,7 +46,7 @@ module _ (n calls : ℕ) (y : Yard) (callers : List (Option Caller)) (disk : Med
 
   -- the vault is dead
   pub dead_keeps : is_before_pin at ≡ false → y.vault.dead ≡ true → Sound n calls y (moving callers a (call_at i c at) (progress_after y.shape c at Dead)) disk M P notes
-  dead_keeps inside dead = goes_on_keeps (halts Halted) inside (record { relies = (tt, dead); inside = refl })
+  dead_keeps inside dead = goes_on_keeps (halts Halted) inside (λ none is. refl) (record { relies = (tt, dead); inside = refl })
 
 module _ (n calls : ℕ) (y : Yard) (callers : List (Option Caller)) (disk : Medium) (M : History) (P : Trace) (notes : Notes) (a i : ℕ) (c : Command) (sound : Sound n calls y callers disk M P notes) where
   -- a load on a walk
@@ -55,7 +56,7 @@ module _ (n calls : ℕ) (y : Yard) (callers : List (Option Caller)) (disk : Med
       let me = own n calls y callers disk M P notes a i c (Walking aim look) is sound in
       let inside = own_inside n calls y callers disk M P notes a i c (Walking aim look) is sound refl in
       let h = me.stands.2 in
-      goes_on_keeps n calls y callers disk M P notes a i c (Walking aim look) is sound _ refl (hop_after y.shape y.words P sound.trace sound.images.slots.1 (notes.begun a) (me.quiet inside) (me.begins inside) y.shape.passes y.vault.cells y.vault.dead _ (notes.changed a) c aim look h.0 h.1 h.3 h.2)
+      goes_on_keeps n calls y callers disk M P notes a i c (Walking aim look) is sound _ refl (λ none is. absurd (false≢true is)) (hop_after y.shape y.words P sound.trace sound.images.slots.1 (notes.begun a) (me.quiet inside) (me.begins inside) y.shape.passes y.vault.cells y.vault.dead _ (notes.changed a) c aim look h.0 h.1 h.3 h.2)
 
   halts_now : (d : Command) → halt_word P ≡ 1 → MayAnswer d Halted (notes.begun a) P (notes.changed a)
   halts_now (Add k) is = is
@@ -71,7 +72,7 @@ module _ (n calls : ℕ) (y : Yard) (callers : List (Option Caller)) (disk : Med
       → Sound n calls y (moving callers a (call_at i c LoadsHalt) (progress_after y.shape c LoadsHalt (Value (get y.words halt_word_at)))) disk M P notes
   halt_load_keeps is =
       let h = (own n calls y callers disk M P notes a i c LoadsHalt is sound).stands.2 in
-      goes_on_keeps n calls y callers disk M P notes a i c LoadsHalt is sound (halt_loaded y.words.halt) refl (elim (eqb_tells y.words.halt 1) [
+      goes_on_keeps n calls y callers disk M P notes a i c LoadsHalt is sound (halt_loaded y.words.halt) refl (λ none is. absurd (false≢true is)) (elim (eqb_tells y.words.halt 1) [
         | inl halted ↦ rw halted.0 (record { relies = (halts_now c (sym sound.trace.halt ∙ halted.1), inr (sym sound.trace.halt ∙ halted.1)); inside = refl })
         | inr goes ↦ rw goes.0 (walks_now (λ e. goes.1 (sound.trace.halt ∙ e)) h.0 h.1)
       ])

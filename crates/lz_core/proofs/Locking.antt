@@ -6,9 +6,9 @@ use Rattle.std.proofs.lemmas.Bool.Decides.{nat_tests}
 use Rattle.lz_list.specs.declared.place.Place.{Place}
 use Rattle.lz_list.specs.declared.place.Place.TheVariants.{Bucket, Node}
 use Rattle.lz_list.specs.Traces.{Trace}
+use Rattle.lz_list.specs.Locks.{NodeLocks, owner, with_owner, is_pair_free, pair_owned, claimed_places}
 use Rattle.lz_core.specs.declared.actor.Actor.{Actor}
-use Rattle.lz_core.specs.Yards.{Shape, NodeLocks}
-use Rattle.lz_core.specs.Table.{owner, with_owner, is_pair_free, pair_owned, claimed_places}
+use Rattle.lz_core.specs.Yards.{Shape}
 use Rattle.lz_core.specs.Sound.{actor_in, has_locks, HasPlace, HasLock, RestsOn, LocksSound}
 use Rattle.lz_core.proofs.Actors.{by_actor}
 

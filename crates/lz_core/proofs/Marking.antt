@@ -20,6 +20,7 @@ use Rattle.lz_list.proofs.Words.{words_show_chain}
 use Rattle.lz_list.proofs.Nodes.{node, one_node}
 use Rattle.lz_core.specs.declared.event.Event.TheVariants.{Mark}
 use Rattle.lz_list.specs.Laws.{IsLow}
+use Rattle.lz_list.specs.Locks.{claimed_places, owner}
 use Rattle.lz_core.specs.declared.actor.Actor.{Actor}
 use Rattle.lz_core.specs.declared.actor.Hold.{Hold}
 use Rattle.lz_core.specs.declared.actor.Hold.TheVariants.{GateClosed, Marked}
@@ -27,12 +28,11 @@ use Rattle.lz_core.specs.declared.caller.Script.TheVariants.{Removing}
 use Rattle.lz_core.specs.declared.caller.Progress.{Progress}
 use Rattle.lz_core.specs.declared.caller.Progress.TheVariants.{Playing}
 use Rattle.lz_core.specs.Yards.{Yard, actor_at}
-use Rattle.lz_core.specs.Table.{claimed_places, owner, with_hold, node_of, yard_done, publishes}
+use Rattle.lz_core.specs.Table.{with_hold, node_of, yard_done, publishes}
 use Rattle.lz_core.specs.Runs.{Caller, caller_at}
-use Rattle.lz_core.specs.Ledgers.{Row}
-use Rattle.lz_core.specs.Sound.{Notes, HasMarked, IsGateWritten, entries, actor_in, pin_in, cell_in, stage_in, opens, shuts, unlocks, has_removed_node, has_locks, IsOut, IsCloser, IsNodeStage, IsHandStage, SlotStands, is_node, is_held, is_out, is_free, is_limbo, SlotsSound, ReuseSound, HasPlace, HasLock, IsBefore, HasClosed, RestsOn, LocksSound, Relies, view_of, CallerSound, CallersSound, TailsSound, HasTail, Sound}
+use Rattle.lz_core.specs.Sound.{Notes, HasMarked, IsGateWritten, entries, actor_in, pin_in, cell_in, stage_in, opens, shuts, unlocks, has_removed_node, has_locks, IsOut, IsCloser, IsNodeStage, IsHandStage, SlotStands, is_node, is_held, is_out, is_free, is_limbo, SlotsSound, ReuseSound, HasPlace, HasLock, IsBefore, HasClosed, RestsOn, LocksSound, Relies, view_of, CallerSound, CallersSound, TailsSound, Sound}
 use Rattle.lz_core.proofs.Actors.{by_actor}
-use Rattle.lz_core.proofs.Turning.{caller_range, moving, moved_same, moved_other, carry, ledger_turn, same_entries}
+use Rattle.lz_core.proofs.Turning.{caller_range, moving, moved_same, moved_other, carry, ledger_turn}
 use Rattle.lz_core.proofs.Limbo.{seen_step, away_stays}
 use Rattle.lz_core.proofs.Published.{LeavesCaller, caller_published}
 use Rattle.lz_core.proofs.Pinning.{limbo_loose, free_loose}
@@ -47,6 +47,7 @@ use Rattle.lz_core.proofs.Changing.{row_of, changes_at, changed_same, changed_ot
 use Rattle.lz_core.proofs.Unlinking.{resting_locks, node_place}
 use Rattle.lz_core.proofs.Kept.{upto_all}
 use Rattle.lz_core.specs.Kept.{upto}
+use Rattle.lz_core.proofs.Going.{tail_turn}
 
 module _ (n calls : ℕ) (y : Yard) (callers : List (Option Caller)) (disk : Medium) (M : History) (P : Trace) (notes : Notes) (sound : Sound n calls y callers disk M P notes) (a i k s : ℕ) (is : caller_at callers a ≡ Some (call_at i (Remove k) (Playing (Removing s) 1))) where
   abbrev at : Progress
@@ -324,13 +325,12 @@ module _ (n calls : ℕ) (y : Yard) (callers : List (Option Caller)) (disk : Med
       go (is_free loose free stage) = absurd (off_t loose)
       go (is_limbo sights loose limbo stage) = absurd (off_t loose)
 
-  marked_tails : TailsSound y.shape y.vault.cells actors' P' (entries y.shape.passes callers' notes') M
+  marked_tails : TailsSound y.shape y.vault.cells actors' P' callers' (entries y.shape.passes callers' notes') M
   marked_tails =
-      let same = sym (same_entries callers a (call_at i (Remove k) at) is (Playing (Removing s) 2) y.shape.passes notes') in
       record {
-        adding = λ b t slot opened. subst (λ (q : List Row). HasTail (Add (cell_in y.vault.cells t).key) q M) same
+        adding = λ b t slot opened. tail_turn callers a (call_at i (Remove k) at) is (Playing (Removing s) 2) y.shape.passes notes' in_passes (λ none is'. refl) (Add (cell_in y.vault.cells t).key) M
             (tail_changed n calls y.shape.passes callers (marked k s a) P M notes a (call_at i (Remove k) at) is in_passes h.2.2 shows was_member (row_of (call_at i (Remove k) at) (length P), refl, refl) sound.ledger (Add (cell_in y.vault.cells t).key) add_remove (sound.tails.adding b t (sym (slot_still b) ∙ slot) opened));
-        removing = λ t on_it unmarked shut. subst (λ (q : List Row). HasTail (Remove (cell_in y.vault.cells t).key) q M) same (elim (cases_eq t s) [
+        removing = λ t on_it unmarked shut. tail_turn callers a (call_at i (Remove k) at) is (Playing (Removing s) 2) y.shape.passes notes' in_passes (λ none is'. refl) (Remove (cell_in y.vault.cells t).key) M (elim (cases_eq t s) [
           | inl it ↦ absurd (false≢true (sym unmarked ∙ ap (λ (q : ℕ). is_marked q P') it ∙ now_marked))
           | inr other ↦ tail_changed n calls y.shape.passes callers (marked k s a) P M notes a (call_at i (Remove k) at) is in_passes h.2.2 shows was_member (row_of (call_at i (Remove k) at) (length P), refl, refl) sound.ledger (Remove (cell_in y.vault.cells t).key)
               (λ e. other (other_key t on_it (sym (cell_key t on_it) ∙ remove_same e)))

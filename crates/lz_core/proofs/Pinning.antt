@@ -34,10 +34,11 @@ use Rattle.lz_core.specs.Limbo.{IsAway, IsSeen}
 use Rattle.lz_core.specs.Sound.{Notes, IsInside, actor_in, pin_in, view_of, SlotStands, is_node, is_held, is_out, is_free, is_limbo, SlotsSound, ReuseSound, CallerSound, CallersSound, TraceSound, LedgerSound, Sound}
 use Rattle.lz_core.proofs.Actors.{by_actor}
 use Rattle.lz_core.proofs.Limbo.{away_new, seen_pin, seen_leave, shorter}
-use Rattle.lz_core.proofs.Turning.{moving, moved_same, moved_other, carry, ledger_turn, same_entries}
+use Rattle.lz_core.proofs.Turning.{moving, moved_same, moved_other, carry, ledger_turn}
 use Rattle.lz_core.proofs.Going.{going_keeps, tails_turn}
 use Rattle.lz_core.proofs.Reserving.{free_stands}
 use Rattle.lz_core.proofs.Loading.{call_at, own}
+use mathlib.Core.Bool.{false≢true}
 
 -- at its pin nothing that stood since was prepared anew
 pub quiet_new : (buckets : ℕ) (P0 Q : Trace) → length Q ≤ length P0 → IsQuiet buckets P0 Q
@@ -273,7 +274,7 @@ module _ (n calls : ℕ) (y : Yard) (callers : List (Option Caller)) (disk : Med
             }));
         reuse = entered_reuse y.shape y.vault.cells y.vault.dead y.words.pins y.uses y.actors P notes a low in_pins sound.slots sound.reuse me.stands.0 fresh;
         ledger = ledger_noted n calls y.shape.passes (moving callers a (call_at i c (Playing Pinning 0)) LoadsHalt) P M notes (begins_now notes a P).begun (ledger_turn callers a (call_at i c (Playing Pinning 0)) is LoadsHalt n calls y.shape.passes P M notes sound.ledger);
-        tails = tails_turn y.shape y.vault.cells y.actors y.actors P _ _ M (λ b. refl) (same_entries callers a (call_at i c (Playing Pinning 0)) is LoadsHalt y.shape.passes notes) sound.tails;
+        tails = tails_turn callers a (call_at i c (Playing Pinning 0)) is LoadsHalt y.shape.passes notes high (λ none is. absurd (false≢true is)) y.shape y.vault.cells y.actors y.actors P M (λ b. refl) sound.tails;
       }
 
 -- a pass that is worn isn't pinned, and its call is about to be refused
@@ -281,4 +282,4 @@ pub worn_keeps : (n calls : ℕ) (y : Yard) (callers : List (Option Caller)) (di
     → Sound n calls y (moving callers a (call_at i c (Playing Pinning 0)) (progress_after y.shape c (Playing Pinning 0) Worn)) disk M P notes
 worn_keeps n calls y callers disk M P notes a i c is sound =
     let me = own n calls y callers disk M P notes a i c (Playing Pinning 0) is sound in
-    going_keeps n calls y callers disk M P notes a (call_at i c (Playing Pinning 0)) is (Answering SaysWorn) (record { quiet = me.quiet; begins = me.begins; stands = (me.stands.0, me.stands.1, me.stands.2) }) sound
+    going_keeps n calls y callers disk M P notes a (call_at i c (Playing Pinning 0)) is (Answering SaysWorn) (λ none is. absurd (false≢true is)) (record { quiet = me.quiet; begins = me.begins; stands = (me.stands.0, me.stands.1, me.stands.2) }) sound

@@ -29,10 +29,10 @@ use Rattle.lz_core.specs.Yards.{Yard, Shape, actor_at}
 use Rattle.lz_core.specs.Table.{with_slot, reserved, slot_found, yard_done, outcome_of}
 use Rattle.lz_core.specs.Calls.{progress_after, after_see_pin, after_reserve}
 use Rattle.lz_core.specs.Runs.{Caller, caller_at}
-use Rattle.lz_core.specs.Ledgers.{Row}
 use Rattle.lz_core.specs.Limbo.{IsAway}
-use Rattle.lz_core.specs.Sound.{Notes, actor_in, pin_in, cell_in, stage_in, IsGateClosed, closes, opens, shuts, unlocks, has_removed_node, IsOut, IsCloser, IsNodeStage, IsHandStage, SlotStands, is_node, is_held, is_out, is_free, is_limbo, IsInHand, SlotsSound, ReuseSound, HasLock, RestsOn, HasTail, IsGateOpened, IsAdder, MayAnswer, CallerSound, Sound, is_before_pin, side_of}
-use Rattle.lz_core.proofs.Turning.{moving, callers_turn, ledger_turn, same_entries}
+use Rattle.lz_core.specs.Sound.{Notes, actor_in, pin_in, cell_in, stage_in, IsGateClosed, closes, opens, shuts, unlocks, has_removed_node, IsOut, IsCloser, IsNodeStage, IsHandStage, SlotStands, is_node, is_held, is_out, is_free, is_limbo, IsInHand, SlotsSound, ReuseSound, HasLock, RestsOn, IsGateOpened, IsAdder, MayAnswer, CallerSound, Sound, is_before_pin, side_of}
+use Rattle.lz_core.proofs.Turning.{moving, callers_turn, ledger_turn}
+use Rattle.lz_core.proofs.Going.{KeepsTail, in_passes, tail_turn}
 use Rattle.lz_core.proofs.Locking.{held_locks}
 use Rattle.lz_core.proofs.Walking.{GoesOn}
 use Rattle.lz_core.proofs.Loading.{call_at, own, goes_on_keeps}
@@ -67,7 +67,7 @@ module _ (n calls : ℕ) (y : Yard) (callers : List (Option Caller)) (disk : Med
   see_pin_keeps a i c p is =
       let h = (own n calls y callers disk M P notes a i c (SeeingPins p) is sound).stands.2 in
       let seen = uses_keep (see_pin p (pin_in y.words.pins p) y.uses) (seen_keeps p (pin_in y.words.pins p) y.uses) (seen_reuse p (pin_in y.words.pins p) y.shape y.words.pins y.uses y.actors P notes.begun refl h.2 h.3 sound.reuse) in
-      goes_on_keeps n calls (with_uses y (see_pin p (pin_in y.words.pins p) y.uses)) callers disk M P notes a i c (SeeingPins p) is seen (after_see_pin y.shape p) refl (elim (cases_Bool (nat_lt p y.shape.passes)) [
+      goes_on_keeps n calls (with_uses y (see_pin p (pin_in y.words.pins p) y.uses)) callers disk M P notes a i c (SeeingPins p) is seen (after_see_pin y.shape p) refl (λ none is. absurd (false≢true is)) (elim (cases_Bool (nat_lt p y.shape.passes)) [
         | inl less ↦ rw less (record { relies = (record { hold = h.0.hold; none = h.0.none }, h.1, omega arith, grind (arith, nat_tests, less), h.4); inside = refl })
         | inr last ↦ rw last (record { relies = (record { hold = h.0.hold; none = h.0.none }, h.1, h.4); inside = refl })
       ])
@@ -253,9 +253,9 @@ module _ (n calls : ℕ) (y : Yard) (callers : List (Option Caller)) (disk : Med
         | inr other ↦ sym (take_other y.uses s t other) ∙ is'
       ]
 
-  pub take_keeps : (next : Progress) → is_before_pin at ≡ false → GoesOn (record { buckets = y.shape.buckets; passes = y.shape.passes; cells = y.vault.cells; dead = y.vault.dead; actor = x }) c next (notes.begun a) P (notes.changed a)
+  pub take_keeps : (next : Progress) → is_before_pin at ≡ false → KeepsTail (notes.changed a) at next → GoesOn (record { buckets = y.shape.buckets; passes = y.shape.passes; cells = y.vault.cells; dead = y.vault.dead; actor = x }) c next (notes.begun a) P (notes.changed a)
       → Sound n calls (record { shape = y.shape; words = y.words; locks = y.locks; vault = y.vault; uses = uses'; actors = actors' }) (moving callers a (call_at i c at) next) disk M P notes
-  take_keeps next inside goes =
+  take_keeps next inside keeps goes =
       let me = own n calls y callers disk M P notes a i c at is sound in
       record {
         trace = sound.trace;
@@ -270,11 +270,11 @@ module _ (n calls : ℕ) (y : Yard) (callers : List (Option Caller)) (disk : Med
         reuse = take_reuse;
         ledger = ledger_turn callers a (call_at i c at) is next n calls y.shape.passes P M notes sound.ledger;
         tails = record {
-          adding = λ b t slot opened. subst (λ (q : List Row). HasTail (Add (cell_in y.vault.cells t).key) q M) (sym (same_entries callers a (call_at i c at) is next y.shape.passes notes)) (elim (held_then b t slot) [
+          adding = λ b t slot opened. tail_turn callers a (call_at i c at) is next y.shape.passes notes (in_passes n calls y callers disk M P notes a (call_at i c at) is sound) keeps (Add (cell_in y.vault.cells t).key) M (elim (held_then b t slot) [
             | inl new ↦ absurd (shut_open (stage_in y.vault.cells s) (free_stands y.shape y.vault.cells y.vault.dead y.uses y.actors P s sound.slots in_it free).1 (subst (λ (q : ℕ). IsGateOpened (stage_in y.vault.cells q)) new.1 opened))
             | inr old ↦ sound.tails.adding b t old.2 opened
           ]);
-          removing = λ t there unmarked written. subst (λ (q : List Row). HasTail (Remove (cell_in y.vault.cells t).key) q M) (sym (same_entries callers a (call_at i c at) is next y.shape.passes notes)) (sound.tails.removing t there unmarked written);
+          removing = λ t there unmarked written. tail_turn callers a (call_at i c at) is next y.shape.passes notes (in_passes n calls y callers disk M P notes a (call_at i c at) is sound) keeps (Remove (cell_in y.vault.cells t).key) M (sound.tails.removing t there unmarked written);
         };
       }
     where
@@ -338,7 +338,7 @@ module _ (n calls : ℕ) (y : Yard) (callers : List (Option Caller)) (disk : Med
       let x = with_slot (actor_at y a) None in
       let hand = same_hand n calls y' callers disk M P notes a (call_at i c (Reserving again)) is sound' x in
       let goes = none_goes again in
-      hands_keep n calls y' callers disk M P notes a (call_at i c (Reserving again)) is sound' x y.locks (next None)
+      hands_keep n calls y' callers disk M P notes a (call_at i c (Reserving again)) is sound' x y.locks (next None) (λ none is. absurd (false≢true is))
       (held_locks y.shape y.locks y.actors (set_of_pass y.actors a x) P a (other_hand n calls y' callers disk M P notes a (call_at i c (Reserving again)) is sound' x) sound.locks
       (λ place lock. let mine = subst (λ (q : Actor). HasLock q place) hand lock in record { locks = mine.locks; among = mine.among })
       (subst (λ (q : Actor). RestsOn y.shape.buckets q.hold q P) (sym hand) (subst (λ (q : Hold). RestsOn y.shape.buckets q x P) (sym h.0.hold) tt)))
@@ -352,7 +352,7 @@ module _ (n calls : ℕ) (y : Yard) (callers : List (Option Caller)) (disk : Med
       let y' : Yard = with_uses y uses in
       let sound' : Sound n calls y' callers disk M P notes = collected n calls y callers disk M P notes sound in
       let at = position-Some is_free_use uses s Taken found in
-      take_keeps n calls y' callers disk M P notes a i c (Reserving again) is sound' s at.0 (is_it (use_of uses s) at.1) h.0.hold h.1 (next (Some s)) refl
+      take_keeps n calls y' callers disk M P notes a i c (Reserving again) is sound' s at.0 (is_it (use_of uses s) at.1) h.0.hold h.1 (next (Some s)) refl (λ none is. absurd (false≢true is))
       (record { relies = (record { hold = h.0.hold; none = h.0.none }, refl, h.2); inside = refl })
     where
       is_it : (u : Use) → is_free_use u ≡ true → u ≡ Free

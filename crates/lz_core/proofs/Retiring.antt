@@ -1,5 +1,5 @@
 -- Retire keeps the invariant: the slot goes to limbo, and no pass has been seen since.
-use Rattle.std.proofs.Common.{◌≡◌, ◌≢◌, ◌⊎◌, inl, inr, ℕ, zero, suc, ◌<◌, ◌≤◌, List, length, replicate, get_or, Option, Some, refl, sym, ap, ◌∙◌, subst, arith, get_or-set_other, get_or-set_same, length-set}
+use Rattle.std.proofs.Common.{◌≡◌, ◌≢◌, ◌⊎◌, inl, inr, ℕ, zero, suc, ◌<◌, ◌≤◌, List, length, replicate, get_or, Option, Some, None, refl, sym, ap, ◌∙◌, subst, arith, get_or-set_other, get_or-set_same, length-set}
 use mathlib.Core.Bool.{false≢true}
 use Rattle.std.specs.Prelude.{unwrap_or}
 use Rattle.std.proofs.lemmas.Bool.{cases_eq, cases_lt}
@@ -27,8 +27,8 @@ use Rattle.lz_core.specs.Calls.{progress_after}
 use Rattle.lz_core.specs.Runs.{Caller, caller_at}
 use Rattle.lz_core.specs.Limbo.{IsSeen}
 use Rattle.lz_core.specs.Sound.{Notes, IsInside, actor_in, pin_in, closes, opens, shuts, unlocks, has_removed_node, IsOut, IsCloser, IsNodeStage, IsHandStage, SlotStands, is_node, is_held, is_out, is_free, is_limbo, SlotsSound, ReuseSound, HasLock, RestsOn, Relies, view_of, CallerSound, Sound}
-use Rattle.lz_core.proofs.Turning.{moving, callers_turn, ledger_turn, same_entries}
-use Rattle.lz_core.proofs.Going.{tails_turn}
+use Rattle.lz_core.proofs.Turning.{moving, callers_turn, ledger_turn}
+use Rattle.lz_core.proofs.Going.{in_passes, tails_turn}
 use Rattle.lz_core.proofs.Locking.{held_locks}
 use Rattle.lz_core.proofs.Loading.{call_at, own}
 use Rattle.lz_core.proofs.Hands.{same_hand, other_hand}
@@ -86,6 +86,9 @@ module _ (n calls : ℕ) (y : Yard) (callers : List (Option Caller)) (disk : Med
         let was = subst (λ (q : Actor). IsOut q t) (hand_b b other) out in
         ((λ it. other (sound.slots.one_out b a t was (subst (IsOut (actor_in y.actors a)) (sym it) out_a))), was)
   ]
+
+  some_none : {r : ℕ} → Some r ≡ None → ⊥
+  some_none e = absurd cc
 
   some_same : {r u : ℕ} → Some r ≡ Some u → r ≡ u
   some_same e = cc
@@ -224,6 +227,6 @@ module _ (n calls : ℕ) (y : Yard) (callers : List (Option Caller)) (disk : Med
             sound.callers;
         reuse = retired_reuse;
         ledger = ledger_turn callers a (call_at i (Remove k) at) is (Answering Yes) n calls y.shape.passes P M notes sound.ledger;
-        tails = tails_turn y.shape y.vault.cells y.actors actors' P _ _ M slot_still (same_entries callers a (call_at i (Remove k) at) is (Answering Yes) y.shape.passes notes) sound.tails;
+        tails = tails_turn callers a (call_at i (Remove k) at) is (Answering Yes) y.shape.passes notes (in_passes n calls y callers disk M P notes a (call_at i (Remove k) at) is sound) (λ none is. absurd (some_none (sym h.2.1.is ∙ none))) y.shape y.vault.cells y.actors actors' P M slot_still sound.tails;
       } in
       subst (λ (q : ℕ). Sound n calls (record { shape = y.shape; words = y.words; locks = y.locks; vault = y.vault; uses = retire y.shape.passes y.uses q; actors = actors' }) (moving callers a (call_at i (Remove k) at) (Answering Yes)) disk M P notes) (sym (ap (λ (q : Option ℕ). unwrap_or q 0) h.0)) done

@@ -138,5 +138,5 @@ module _ (n calls : ℕ) (y : Yard) (callers : List (Option Caller)) (disk : Med
       };
       reuse = reuse_settled s c y.shape y.vault.cells y.vault.dead y.uses y.actors P y.words.pins notes.begun sound.slots sound.reuse;
       ledger = ledger_published n calls y.shape.passes callers (settled s c) P M notes tt sound.ledger;
-      tails = tails_settled s c y.shape y.vault.cells y.vault.dead y.uses y.actors P (entries y.shape.passes callers notes) M sound.tails;
+      tails = tails_settled s c y.shape y.vault.cells y.vault.dead y.uses y.actors P callers (entries y.shape.passes callers notes) M sound.tails;
     }

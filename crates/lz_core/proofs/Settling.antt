@@ -1,5 +1,5 @@
 -- Settle keeps the invariant: of an adder, of a remover, and of a call that rests on a node; also where it comes early.
-use Rattle.std.proofs.Common.{◌≡◌, ◌≢◌, ◌⊎◌, inl, inr, ℕ, suc, ◌<◌, Bool, true, false, List, [], ◌∷◌, ◌++◌, Option, Some, refl, sym, ap, ◌∙◌, subst, arith}
+use Rattle.std.proofs.Common.{◌≡◌, ◌≢◌, ◌⊎◌, inl, inr, ℕ, suc, ◌<◌, Bool, true, false, List, [], ◌∷◌, ◌++◌, Option, Some, None, refl, sym, ap, ◌∙◌, subst, arith}
 use mathlib.Core.Bool.{false≢true}
 use Rattle.std.proofs.lemmas.Bool.{cases_Bool}
 use Rattle.std.proofs.lemmas.Bool.Decides.{eqb_tells}
@@ -42,6 +42,7 @@ use Rattle.lz_core.proofs.Walking.{GoesOn, once_some}
 use Rattle.lz_core.proofs.Loading.{call_at, own, own_inside, goes_on_keeps}
 use Rattle.lz_core.proofs.Halting.{held_node}
 use Rattle.lz_core.proofs.Settled.{Allows, stored, settled_keeps, stood_stands}
+use Rattle.lz_core.proofs.Going.{KeepsTail}
 
 -- the change that a sure stage of a node settles
 opened_sure : (stage : Stage) → IsGateOpened stage → is_covered stage ≡ true → stage ≡ Open
@@ -111,14 +112,17 @@ module _ (n calls : ℕ) (y : Yard) (callers : List (Option Caller)) (disk : Med
   marked_change sure mark (inl (chain, inl stage)) = absurd (false≢true (sym stage.0 ∙ mark))
   marked_change sure mark (inl (chain, inr stage)) = written_sure (stage_in y.vault.cells s) stage.2 sure
 
+  some_none : {r : ℕ} → Some r ≡ None → ⊥
+  some_none e = absurd cc
+
   -- a turn that settles this change
-  settles : (i : ℕ) (c : Command) (at next : Progress) → caller_at callers a ≡ Some (call_at i c at) → is_before_pin at ≡ false
+  settles : (i : ℕ) (c : Command) (at next : Progress) → caller_at callers a ≡ Some (call_at i c at) → is_before_pin at ≡ false → KeepsTail (notes.changed a) at next
       → (lt : s < y.shape.slots) → ((b t : ℕ) → (actor_in y.actors b).slot ≡ Some t → t ≢ s) → (change : Change) → Allows change (stage_in y.vault.cells s)
       → GoesOn (view_of y.shape y.vault y.actors a) c next (notes.begun a) (settled s change ∷ P) (notes.changed a)
       → Sound n calls (yard_done y (actor_at y a) a (Settle s)) (moving callers a (call_at i c at) next) disk M (publishes y (actor_at y a) a (Settle s) ++ P) notes
-  settles i c at next is inside lt apart change allows goes =
+  settles i c at next is inside keeps lt apart change allows goes =
       done_form change allows lt (moving callers a (call_at i c at) next)
-      (goes_on_keeps n calls (with_words y (stored y.shape y.words P sound.trace sound.images.slots.1 s lt change)) callers disk M (settled s change ∷ P) notes a i c at is (settled_keeps n calls y callers disk M P notes sound s change lt allows apart) next inside goes)
+      (goes_on_keeps n calls (with_words y (stored y.shape y.words P sound.trace sound.images.slots.1 s lt change)) callers disk M (settled s change ∷ P) notes a i c at is (settled_keeps n calls y callers disk M P notes sound s change lt allows apart) next inside keeps goes)
 
   -- no slot in hand is one on which a pass that is inside may stand
   hands_apart : IsInside (pin_in y.words.pins a) → (b : ℕ) → Stood y.shape.buckets b (notes.begun a) P (suc s) → (d t : ℕ) → (actor_in y.actors d).slot ≡ Some t → t ≢ s
@@ -142,11 +146,11 @@ module _ (n calls : ℕ) (y : Yard) (callers : List (Option Caller)) (disk : Med
         let h = (own n calls y callers disk M P notes a i (Add k) (Playing (Adding s) 4) is sound).stands.2 in
         let lt = stood_range y.shape.buckets y.shape.slots (notes.begun a) P (bucket_of y.shape.buckets k) s sound.trace.lawful h.1.stood in
         let change = change_of sure (stood_stands n calls y callers disk M P notes sound a s (bucket_of y.shape.buckets k) inside h.1.stood lt) in
-        subst (then i (Add k) (Playing (Adding s) 4)) (sym (outcome_sure sure)) (settles i (Add k) (Playing (Adding s) 4) (Answering Yes) is refl lt (hands_apart inside (bucket_of y.shape.buckets k) h.1.stood) change.0 change.1
+        subst (then i (Add k) (Playing (Adding s) 4)) (sym (outcome_sure sure)) (settles i (Add k) (Playing (Adding s) 4) (Answering Yes) is refl (λ none may. absurd (some_none (sym h.1.is ∙ none))) lt (hands_apart inside (bucket_of y.shape.buckets k) h.1.stood) change.0 change.1
         (record { relies = (added_settled k change.0 h.1, inl h.0); inside = refl }))
     | inr loose ↦
         let h = (own n calls y callers disk M P notes a i (Add k) (Playing (Adding s) 4) is sound).stands.2 in
-        subst (then i (Add k) (Playing (Adding s) 4)) (sym (outcome_early loose)) (early_form loose (moving callers a (call_at i (Add k) (Playing (Adding s) 4)) (Playing (Adding s) 3)) (goes_on_keeps n calls y callers disk M P notes a i (Add k) (Playing (Adding s) 4) is sound (Playing (Adding s) 3) refl (record { relies = h; inside = refl })))
+        subst (then i (Add k) (Playing (Adding s) 4)) (sym (outcome_early loose)) (early_form loose (moving callers a (call_at i (Add k) (Playing (Adding s) 4)) (Playing (Adding s) 3)) (goes_on_keeps n calls y callers disk M P notes a i (Add k) (Playing (Adding s) 4) is sound (Playing (Adding s) 3) refl (λ none is. refl) (record { relies = h; inside = refl })))
   ]
     where
       added_settled : (j : ℕ) (c : Change) → HasAdded y.shape.buckets j s (notes.begun a) P (notes.changed a) → IsSettledChange j (settled s c ∷ P) (notes.changed a)
@@ -168,10 +172,10 @@ module _ (n calls : ℕ) (y : Yard) (callers : List (Option Caller)) (disk : Med
   settle_marked_keeps i k is = elim (cases_Bool (is_sure y s)) [
     | inl sure ↦
         let change = marked_change sure mark (inl (on_chain (sound.slots.each s lt))) in
-        subst (then i (Remove k) (Playing (Removing s) 3)) (sym (outcome_sure sure)) (settles i (Remove k) (Playing (Removing s) 3) (Playing (Removing s) 4) is refl lt apart Removed change
+        subst (then i (Remove k) (Playing (Removing s) 3)) (sym (outcome_sure sure)) (settles i (Remove k) (Playing (Removing s) 3) (Playing (Removing s) 4) is refl (λ none is. refl) lt apart Removed change
         (record { relies = (h.0, h.1, (h.2.0, h.2.1.key, removed_now, marked_settled h.2.1)); inside = refl }))
     | inr loose ↦
-        subst (then i (Remove k) (Playing (Removing s) 3)) (sym (outcome_early loose)) (early_form loose (moving callers a (call_at i (Remove k) (Playing (Removing s) 3)) (Playing (Removing s) 2)) (goes_on_keeps n calls y callers disk M P notes a i (Remove k) (Playing (Removing s) 3) is sound (Playing (Removing s) 2) refl (record { relies = h; inside = refl })))
+        subst (then i (Remove k) (Playing (Removing s) 3)) (sym (outcome_early loose)) (early_form loose (moving callers a (call_at i (Remove k) (Playing (Removing s) 3)) (Playing (Removing s) 2)) (goes_on_keeps n calls y callers disk M P notes a i (Remove k) (Playing (Removing s) 3) is sound (Playing (Removing s) 2) refl (λ none is. refl) (record { relies = h; inside = refl })))
   ]
     where
       h : Relies (view_of y.shape y.vault y.actors a) (Remove k) (Playing (Removing s) 3) (notes.begun a) P (notes.changed a)
@@ -251,7 +255,7 @@ module _ (n calls : ℕ) (y : Yard) (callers : List (Option Caller)) (disk : Med
     rest_early : is_sure y s ≡ false → then i c (Playing (Resting s reply) 1) (outcome_of y (actor_at y a) (Settle s))
     rest_early loose =
         let h = (own n calls y callers disk M P notes a i c (Playing (Resting s reply) 1) is sound).stands.2 in
-        subst (then i c (Playing (Resting s reply) 1)) (sym (outcome_early loose)) (early_form loose (moving callers a (call_at i c (Playing (Resting s reply) 1)) (Playing (Resting s reply) 0)) (goes_on_keeps n calls y callers disk M P notes a i c (Playing (Resting s reply) 1) is sound (Playing (Resting s reply) 0) refl (record { relies = h; inside = refl })))
+        subst (then i c (Playing (Resting s reply) 1)) (sym (outcome_early loose)) (early_form loose (moving callers a (call_at i c (Playing (Resting s reply) 1)) (Playing (Resting s reply) 0)) (goes_on_keeps n calls y callers disk M P notes a i c (Playing (Resting s reply) 1) is sound (Playing (Resting s reply) 0) refl (λ none is. absurd (false≢true is)) (record { relies = h; inside = refl })))
 
     rest_now : (mark : Bool) → HasMet y.shape.buckets k s mark (notes.begun a) P → is_sure y s ≡ true
         → ((change : Change) → Allows change (stage_in y.vault.cells s) → (mark ≡ true → change ≡ Removed) → GoesOn (view_of y.shape y.vault y.actors a) c (Answering reply) (notes.begun a) (settled s change ∷ P) (notes.changed a))
@@ -262,7 +266,7 @@ module _ (n calls : ℕ) (y : Yard) (callers : List (Option Caller)) (disk : Med
         let lt = stood_range y.shape.buckets y.shape.slots (notes.begun a) P (bucket_of y.shape.buckets k) s sound.trace.lawful link.1 in
         let where_ = stood_stands n calls y callers disk M P notes sound a s (bucket_of y.shape.buckets k) in_it link.1 lt in
         let change = pick mark m.met lt where_ in
-        subst (then i c (Playing (Resting s reply) 1)) (sym (outcome_sure sure)) (settles i c (Playing (Resting s reply) 1) (Answering reply) is refl lt (hands_apart in_it (bucket_of y.shape.buckets k) link.1) change.0 change.1 (goes change.0 change.1 change.2))
+        subst (then i c (Playing (Resting s reply) 1)) (sym (outcome_sure sure)) (settles i c (Playing (Resting s reply) 1) (Answering reply) is refl (λ none is. absurd (false≢true is)) lt (hands_apart in_it (bucket_of y.shape.buckets k) link.1) change.0 change.1 (goes change.0 change.1 change.2))
       where
         pick : (b : Bool) → is_marked s m.then ≡ b → s < y.shape.slots → (IsOnChain y.shape y.vault.cells y.uses P s × IsNodeStage y.vault.cells y.vault.dead y.actors P s) ⊎ (stage_in y.vault.cells s ≡ Closed) → (change : Change) × Allows change (stage_in y.vault.cells s) × (b ≡ true → change ≡ Removed)
         pick true met lt at = (Removed, marked_change sure (mark_since y.shape.buckets y.shape.slots (notes.begun a) (bucket_of y.shape.buckets k) s m.then P ((sound.callers.each a).quiet in_it) m.since.upto m.stood met).0 at, λ e. refl)

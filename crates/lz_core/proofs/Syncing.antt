@@ -138,10 +138,10 @@ module _ (cells : List Cell) where
       removed = λ k s key there is. synced_is (λ q. q ≡ Closed) (λ q e. ap stage_synced e) s (h.removed k s key there is);
     }
 
-    pub tails_synced : (rows : List Row) (M : History) → TailsSound shape cells actors P rows M → TailsSound shape cells' actors P rows M
-    tails_synced rows M h = record {
-      adding = λ a s slot opened. subst (λ (q : ℕ). HasTail (Add q) rows M) (sym (key_map s)) (h.adding a s slot (opened_before (stage_in cells s) (subst IsGateOpened (stage_map s) opened)));
-      removing = λ s there clear written. subst (λ (q : ℕ). HasTail (Remove q) rows M) (sym (key_map s)) (h.removing s there clear (written_before (stage_in cells s) (subst IsGateWritten (stage_map s) written)));
+    pub tails_synced : (callers : List (Option Caller)) (rows : List Row) (M : History) → TailsSound shape cells actors P callers rows M → TailsSound shape cells' actors P callers rows M
+    tails_synced callers rows M h = record {
+      adding = λ a s slot opened. subst (λ (q : ℕ). HasTail (Add q) callers rows M) (sym (key_map s)) (h.adding a s slot (opened_before (stage_in cells s) (subst IsGateOpened (stage_map s) opened)));
+      removing = λ s there clear written. subst (λ (q : ℕ). HasTail (Remove q) callers rows M) (sym (key_map s)) (h.removing s there clear (written_before (stage_in cells s) (subst IsGateWritten (stage_map s) written)));
     }
 
 -- the yard after a sync that succeeded
@@ -168,7 +168,7 @@ module _ (n calls : ℕ) (y : Yard) (callers : List (Option Caller)) (disk : Med
     };
     reuse = sound.reuse;
     ledger = sound.ledger;
-    tails = tails_synced y.vault.cells y.shape y.vault.dead y.uses y.actors P (entries y.shape.passes callers notes) M sound.tails;
+    tails = tails_synced y.vault.cells y.shape y.vault.dead y.uses y.actors P callers (entries y.shape.passes callers notes) M sound.tails;
   }
 
   -- the event, whether a sync is made or not
@@ -207,7 +207,7 @@ module _ (n calls : ℕ) (y : Yard) (callers : List (Option Caller)) (disk : Med
       → Sound n calls (yard_done y (actor_at y a) a (Sync s)) (moving callers a (call_at i c (Playing (Writing s) 1)) (progress_after y.shape c (Playing (Writing s) 1) Done)) (medium_after (call_of y (actor_at y a) (Sync s)) disk) M P notes
   sync_written_keeps a i c s alive is =
       let h = (own n calls y callers disk M P notes a i c (Playing (Writing s) 1) is sound).stands.2 in
-      goes_on_keeps n calls (yard_done y (actor_at y a) a (Sync s)) callers (medium_after (call_of y (actor_at y a) (Sync s)) disk) M P notes a i c (Playing (Writing s) 1) is (sync_done a s alive) (Walking (Some s) AtHead) refl
+      goes_on_keeps n calls (yard_done y (actor_at y a) a (Sync s)) callers (medium_after (call_of y (actor_at y a) (Sync s)) disk) M P notes a i c (Playing (Writing s) 1) is (sync_done a s alive) (Walking (Some s) AtHead) refl (λ none is. absurd (false≢true is))
       (record { relies = (record { hold = h.0.hold; none = h.0.none }, record { slot = h.1; stage = sure_then a s h.4; key = same_key a s s ∙ h.2; word = h.3 }, tt, h.5); inside = refl })
 
   -- behind a linking
@@ -215,21 +215,21 @@ module _ (n calls : ℕ) (y : Yard) (callers : List (Option Caller)) (disk : Med
       → Sound n calls (yard_done y (actor_at y a) a (Sync s)) (moving callers a (call_at i (Add k) (Playing (Adding s) 3)) (progress_after y.shape (Add k) (Playing (Adding s) 3) Done)) (medium_after (call_of y (actor_at y a) (Sync s)) disk) M P notes
   sync_added_keeps a i k s alive is =
       let h = (own n calls y callers disk M P notes a i (Add k) (Playing (Adding s) 3) is sound).stands.2 in
-      goes_on_keeps n calls (yard_done y (actor_at y a) a (Sync s)) callers (medium_after (call_of y (actor_at y a) (Sync s)) disk) M P notes a i (Add k) (Playing (Adding s) 3) is (sync_done a s alive) (Playing (Adding s) 4) refl (record { relies = h; inside = refl })
+      goes_on_keeps n calls (yard_done y (actor_at y a) a (Sync s)) callers (medium_after (call_of y (actor_at y a) (Sync s)) disk) M P notes a i (Add k) (Playing (Adding s) 3) is (sync_done a s alive) (Playing (Adding s) 4) refl (λ none is. refl) (record { relies = h; inside = refl })
 
   -- behind a marking
   pub sync_marked_keeps : (a i k s : ℕ) → y.vault.dead ≡ false → caller_at callers a ≡ Some (call_at i (Remove k) (Playing (Removing s) 2))
       → Sound n calls (yard_done y (actor_at y a) a (Sync s)) (moving callers a (call_at i (Remove k) (Playing (Removing s) 2)) (progress_after y.shape (Remove k) (Playing (Removing s) 2) Done)) (medium_after (call_of y (actor_at y a) (Sync s)) disk) M P notes
   sync_marked_keeps a i k s alive is =
       let h = (own n calls y callers disk M P notes a i (Remove k) (Playing (Removing s) 2) is sound).stands.2 in
-      goes_on_keeps n calls (yard_done y (actor_at y a) a (Sync s)) callers (medium_after (call_of y (actor_at y a) (Sync s)) disk) M P notes a i (Remove k) (Playing (Removing s) 2) is (sync_done a s alive) (Playing (Removing s) 3) refl (record { relies = h; inside = refl })
+      goes_on_keeps n calls (yard_done y (actor_at y a) a (Sync s)) callers (medium_after (call_of y (actor_at y a) (Sync s)) disk) M P notes a i (Remove k) (Playing (Removing s) 2) is (sync_done a s alive) (Playing (Removing s) 3) refl (λ none is. refl) (record { relies = h; inside = refl })
 
   -- resting on a node
   pub sync_rest_keeps : (a i : ℕ) (c : Command) (s : ℕ) (reply : Reply) → y.vault.dead ≡ false → caller_at callers a ≡ Some (call_at i c (Playing (Resting s reply) 0))
       → Sound n calls (yard_done y (actor_at y a) a (Sync s)) (moving callers a (call_at i c (Playing (Resting s reply) 0)) (progress_after y.shape c (Playing (Resting s reply) 0) Done)) (medium_after (call_of y (actor_at y a) (Sync s)) disk) M P notes
   sync_rest_keeps a i c s reply alive is =
       let h = (own n calls y callers disk M P notes a i c (Playing (Resting s reply) 0) is sound).stands.2 in
-      goes_on_keeps n calls (yard_done y (actor_at y a) a (Sync s)) callers (medium_after (call_of y (actor_at y a) (Sync s)) disk) M P notes a i c (Playing (Resting s reply) 0) is (sync_done a s alive) (Playing (Resting s reply) 1) refl
+      goes_on_keeps n calls (yard_done y (actor_at y a) a (Sync s)) callers (medium_after (call_of y (actor_at y a) (Sync s)) disk) M P notes a i c (Playing (Resting s reply) 0) is (sync_done a s alive) (Playing (Resting s reply) 1) refl (λ none is. absurd (false≢true is))
       (record { relies = (record { hold = h.0.hold; none = h.0.none }, h.1); inside = refl })
 
   -- the vault dies, and what it says of the disk is so still

@@ -1,6 +1,7 @@
 -- A turn of one actor: the other actors' part is as before, and so is the ledger, where the call goes on without a publishing.
-use Rattle.std.proofs.Common.{◌≡◌, ◌≢◌, inl, inr, ℕ, zero, suc, ◌≤◌, [], ◌++◌, Bool, List, length, Option, Some, None, refl, sym, ap, ◌∙◌, subst, arith}
+use Rattle.std.proofs.Common.{◌≡◌, ◌≢◌, inl, inr, ℕ, zero, suc, ◌≤◌, [], ◌∷◌, ◌++◌, Bool, true, List, length, Option, Some, None, refl, sym, ap, ◌∙◌, subst, arith}
 use Rattle.std.proofs.lemmas.Bool.{cases_eq, cases_lt}
+use Rattle.std.proofs.lemmas.Bool.Decides.{eqb_tells}
 use Rattle.std.proofs.lemmas.List.{get_or_past}
 use Rattle.lz_slot.specs.declared.command.Command.{Command}
 use Rattle.lz_slot.specs.Counted.{set_of_pass}
@@ -18,8 +19,9 @@ use Rattle.lz_core.specs.Kept.{publishing}
 use Rattle.lz_core.specs.Entries.{IsLedger, IsSettledEntry, IsChangeOf}
 use Rattle.lz_core.specs.Sound.{Notes, pending_row, pending, entries, actor_in, pin_in, view_of, CallerSound, CallersSound, LedgerSound}
 use Rattle.lz_core.proofs.Actors.{by_actor}
+use Rattle.lz_core.proofs.Orders.{times_append}
 
-some_caller : {x y : Caller} → Some x ≡ Some y → x ≡ y
+pub some_caller : {x y : Caller} → Some x ≡ Some y → x ≡ y
 some_caller e = cc
 
 none_is : {x : Caller} → None ≡ Some x → ⊥
@@ -113,6 +115,29 @@ module _ (callers : List (Option Caller)) (a : ℕ) (caller : Caller) (at : call
         (subst (λ (q : Option Caller). CallerSound (view_of shape vault actors' a) (pin_in pins a) q (notes.begun a) P (notes.changed a)) (sym moved_same) mine)
         (λ b other. carry shape.buckets shape.passes vault.cells vault.dead P (actor_in actors b) (actor_in actors' b) (pin_in pins b) (pin_in pins b) (caller_at callers b) (caller_at (moving callers a caller next) b) (notes.begun b) (notes.begun b) (notes.changed b) (notes.changed b) (others b other) refl (moved_other b other) refl refl (h.each b));
   }
+
+-- a pending row is listed
+has_pending : (callers : List (Option Caller)) (changed : ℕ → Option ℕ) (a j : ℕ) (caller : Caller) → caller_at callers a ≡ Some caller → changed a ≡ Some j → (m : ℕ) → 1 ≤ a → a ≤ m → times caller.number (pending callers changed m) ≡ 0 → ⊥
+has_pending callers changed a j caller at does zero low le none = omega (arith, low, le)
+has_pending callers changed a j caller at does (suc m) low le none = elim (cases_eq (suc m) a) [
+  | inl last ↦
+      let row : pending_row (caller_at callers (suc m)) (changed (suc m)) ≡ record { number = caller.number; command = caller.command; answer = None; changes = true; position = j } ∷ [] =
+      ap (λ (q : ℕ). pending_row (caller_at callers q) (changed q)) last ∙ ap (λ (q : Option Caller). pending_row q (changed a)) at ∙ ap (pending_row (Some caller)) does in
+      let count : times caller.number (pending_row (caller_at callers (suc m)) (changed (suc m))) ≡ 1 = ap (times caller.number) row ∙ once caller.number in
+      omega (arith, none, count, times_append caller.number (pending callers changed m) (pending_row (caller_at callers (suc m)) (changed (suc m))))
+  | inr more ↦ has_pending callers changed a j caller at does m low (omega (arith, le, more)) (omega (arith, none, times_append caller.number (pending callers changed m) (pending_row (caller_at callers (suc m)) (changed (suc m)))))
+]
+  where
+    once : (i : ℕ) → times i (record { number = i; command = caller.command; answer = None; changes = true; position = j } ∷ []) ≡ 1
+    once i = elim (eqb_tells i i) [
+      | inl same ↦ rw same.0 refl
+      | inr other ↦ absurd (other.1 refl)
+    ]
+
+-- a call that has changed something has a row
+pub has_entry : (passes a j : ℕ) (callers : List (Option Caller)) (notes : Notes) (caller : Caller) → caller_at callers a ≡ Some caller → notes.changed a ≡ Some j → a ≤ passes → times caller.number (entries passes callers notes) ≡ 0 → ⊥
+has_entry passes a j callers notes caller at does le none =
+    has_pending callers notes.changed a j caller at does passes (caller_range callers a caller at).0 le (omega (arith, none, times_append caller.number notes.ended (pending callers notes.changed passes)))
 
 -- what is known of the actor whose turn it is
 pub mine : (shape : Shape) (vault : Vaulted) (pins : List ℕ) (actors : List Actor) (callers : List (Option Caller)) (P : Trace) (notes : Notes) (a : ℕ) (caller : Caller)

@@ -20,6 +20,7 @@ use Rattle.lz_list.specs.Traces.{Trace, Lawful, IsLoose, on, chain, chain_of, bu
 use Rattle.lz_list.proofs.Words.{words_show_chain}
 use Rattle.lz_list.proofs.Nodes.{node, one_node, on_without}
 use Rattle.lz_list.proofs.Resting.{on_without_other}
+use Rattle.lz_list.specs.Locks.{claimed_places, owner}
 use Rattle.lz_core.specs.declared.event.Event.TheVariants.{Unlink}
 use Rattle.lz_core.specs.declared.actor.Actor.{Actor}
 use Rattle.lz_core.specs.declared.actor.Hold.{Hold}
@@ -28,13 +29,12 @@ use Rattle.lz_core.specs.declared.caller.Script.TheVariants.{Removing}
 use Rattle.lz_core.specs.declared.caller.Progress.{Progress}
 use Rattle.lz_core.specs.declared.caller.Progress.TheVariants.{Playing}
 use Rattle.lz_core.specs.Yards.{Yard, actor_at}
-use Rattle.lz_core.specs.Table.{claimed_places, owner, with_hold, node_of, yard_done, publishes}
+use Rattle.lz_core.specs.Table.{with_hold, node_of, yard_done, publishes}
 use Rattle.lz_core.specs.Runs.{Caller, caller_at}
-use Rattle.lz_core.specs.Ledgers.{Row}
 use Rattle.lz_core.specs.Stands.{FacesNode, IsLeaving, InBucket}
-use Rattle.lz_core.specs.Sound.{Notes, actor_in, pin_in, cell_in, opens, shuts, unlocks, has_removed_node, has_locks, IsOut, IsCloser, IsNodeStage, IsHandStage, SlotStands, is_node, is_held, is_out, is_free, is_limbo, IsGone, SlotsSound, ReuseSound, HasPlace, HasLock, IsBefore, HasClosed, RestsOn, LocksSound, Relies, view_of, CallerSound, CallersSound, HasTail, Sound}
+use Rattle.lz_core.specs.Sound.{Notes, actor_in, pin_in, cell_in, opens, shuts, unlocks, has_removed_node, has_locks, IsOut, IsCloser, IsNodeStage, IsHandStage, SlotStands, is_node, is_held, is_out, is_free, is_limbo, IsGone, SlotsSound, ReuseSound, HasPlace, HasLock, IsBefore, HasClosed, RestsOn, LocksSound, Relies, view_of, CallerSound, CallersSound, Sound}
 use Rattle.lz_core.proofs.Actors.{by_actor}
-use Rattle.lz_core.proofs.Turning.{moving, moved_same, moved_other, carry, ledger_turn, same_entries}
+use Rattle.lz_core.proofs.Turning.{moving, moved_same, moved_other, carry, ledger_turn}
 use Rattle.lz_core.proofs.Limbo.{seen_step, away_stays}
 use Rattle.lz_core.proofs.Published.{LeavesCaller, caller_published, change_stays}
 use Rattle.lz_core.proofs.Pinning.{limbo_loose, free_loose}
@@ -47,6 +47,7 @@ use Rattle.lz_core.proofs.Hands.{same_hand, other_hand}
 use Rattle.lz_core.proofs.Holding.{rests_on_pair, pair_published, unlinked_leaves, one_place}
 use Rattle.lz_core.proofs.Stores.{trace_unlinked}
 use Rattle.lz_core.proofs.Unlinks as unlinks
+use Rattle.lz_core.proofs.Going.{in_passes, tail_turn}
 
 -- an actor that rests on its pair has its locks
 pub resting_locks : (hold : Hold) → rests_on_pair hold ≡ true → has_locks hold ≡ true
@@ -343,8 +344,8 @@ module _ (n calls : ℕ) (y : Yard) (callers : List (Option Caller)) (disk : Med
         reuse = subst (λ (q : List ℕ). ReuseSound y.shape q y.uses actors' P' notes.begun) same unlinked_reuse;
         ledger = ledger_published n calls y.shape.passes callers' (unlinked k s a) P M notes tt (ledger_turn callers a (call_at i (Remove k) at) is (Playing (Removing s) 5) n calls y.shape.passes P M notes sound.ledger);
         tails = record {
-          adding = λ b t slot opened. subst (λ (q : List Row). HasTail (Add (cell_in y.vault.cells t).key) q M) (sym (same_entries callers a (call_at i (Remove k) at) is (Playing (Removing s) 5) y.shape.passes notes)) (sound.tails.adding b t (sym (slot_still b) ∙ slot) opened);
-          removing = λ t on_it clear written. subst (λ (q : List Row). HasTail (Remove (cell_in y.vault.cells t).key) q M) (sym (same_entries callers a (call_at i (Remove k) at) is (Playing (Removing s) 5) y.shape.passes notes)) (sound.tails.removing t (chain_before (key_word t P) t on_it) clear written);
+          adding = λ b t slot opened. tail_turn callers a (call_at i (Remove k) at) is (Playing (Removing s) 5) y.shape.passes notes (in_passes n calls y callers disk M P notes a (call_at i (Remove k) at) is sound) (λ none is. refl) (Add (cell_in y.vault.cells t).key) M (sound.tails.adding b t (sym (slot_still b) ∙ slot) opened);
+          removing = λ t on_it clear written. tail_turn callers a (call_at i (Remove k) at) is (Playing (Removing s) 5) y.shape.passes notes (in_passes n calls y callers disk M P notes a (call_at i (Remove k) at) is sound) (λ none is. refl) (Remove (cell_in y.vault.cells t).key) M (sound.tails.removing t (chain_before (key_word t P) t on_it) clear written);
         };
       }
 

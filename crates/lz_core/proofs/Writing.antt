@@ -436,10 +436,10 @@ module _ (n calls : ℕ) (y : Yard) (callers : List (Option Caller)) (disk : Med
       tails = record {
         adding = λ b t slot opened.
             let apart = opened_apart t opened in
-            subst (λ (q : ℕ). HasTail (Add q) (entries y.shape.passes callers notes) M) (sym (key_other t apart)) (sound.tails.adding b t slot (subst IsGateOpened (ap (λ (q : Cell). q.stage) (cell_other t apart)) opened));
+            subst (λ (q : ℕ). HasTail (Add q) callers (entries y.shape.passes callers notes) M) (sym (key_other t apart)) (sound.tails.adding b t slot (subst IsGateOpened (ap (λ (q : Cell). q.stage) (cell_other t apart)) opened));
         removing = λ t on_it clear gate.
             let apart = chain_apart (key_word t P) t on_it in
-            subst (λ (q : ℕ). HasTail (Remove q) (entries y.shape.passes callers notes) M) (sym (key_other t apart)) (sound.tails.removing t on_it clear (subst IsGateWritten (ap (λ (q : Cell). q.stage) (cell_other t apart)) gate));
+            subst (λ (q : ℕ). HasTail (Remove q) callers (entries y.shape.passes callers notes) M) (sym (key_other t apart)) (sound.tails.removing t on_it clear (subst IsGateWritten (ap (λ (q : Cell). q.stage) (cell_other t apart)) gate));
       };
     }
 
@@ -480,7 +480,7 @@ module _ (n calls : ℕ) (y : Yard) (callers : List (Option Caller)) (disk : Med
       let here = h n calls y callers disk M P notes sound a i c s is in
       let cell : cell_in cells_put s ≡ record { stage = KeyLoose; key = key_of c } = cell_same n calls y callers disk M P notes sound a i c s is y.vault.dead (λ e. e) in
       goes_on_keeps n calls yard_keyed callers medium_put M (key_prepared s (key_of c) ∷ P) notes a i c (Playing (Writing s) 0) is
-      (published_sound n calls yard_put callers medium_put M P notes written_sound a i c s is) (Playing (Writing s) 1) refl
+      (published_sound n calls yard_put callers medium_put M P notes written_sound a i c s is) (Playing (Writing s) 1) refl (λ none is. absurd (false≢true is))
       (record {
         relies = (
           record { hold = here.0.hold; none = here.0.none },
@@ -507,4 +507,4 @@ module _ (n calls : ℕ) (y : Yard) (callers : List (Option Caller)) (disk : Med
   write_key_fails_keeps medium may =
       goes_on_keeps n calls (with_vault y (vault_put true)) callers medium M P notes a i c (Playing (Writing s) 0) is
       (put_sound n calls y callers disk M P notes sound a i c s is true (λ e. refl) medium (key_failed y.shape y.vault disk sound.images alive s (key_of c) in_range fits still_shut y.vault.syncs medium may))
-      (halts Device) refl (record { relies = (tt, refl); inside = refl })
+      (halts Device) refl (λ none is. refl) (record { relies = (tt, refl); inside = refl })

@@ -1,17 +1,17 @@
 -- The main theorem over every history, and the two laws on which threads rest.
-use Rattle.std.specs.Prelude.{◌≡◌, ◌≢◌, ◌==◌, ℕ, Bool, true, false, List, [], ◌∷◌, ◌++◌, Option, Some, None, IsSome}
+use Rattle.std.specs.Prelude.{◌≡◌, ◌≢◌, ◌==◌, ℕ, Bool, false, List, [], ◌∷◌, ◌++◌, Option, Some, None, IsSome}
 use Rattle.std.specs.List.{list_any}
-use Rattle.lz_slot.specs.declared.command.Command.TheVariants.{Add, Remove}
 use Rattle.lz_slot.specs.Sets.{Keys}
-use Rattle.lz_slot.specs.Histories.{History, ChainTo, lives, last_history, IsUnderWay}
+use Rattle.lz_slot.specs.Histories.{History, ChainTo, lives, last_history}
 use Rattle.lz_slot.specs.Bytes.{Holds}
-use Rattle.lz_list.specs.Traces.{Trace, IsSettled}
+use Rattle.lz_list.specs.Traces.{Trace}
 use Rattle.lz_list.specs.declared.word.Word.{Word}
 use Rattle.lz_core.specs.declared.event.Event.{Event}
 use Rattle.lz_core.specs.declared.event.Event.TheVariants.{Hop}
 use Rattle.lz_core.specs.declared.event.Outcome.{Outcome}
 use Rattle.lz_core.specs.declared.event.Outcome.TheVariants.{Fault}
 use Rattle.lz_core.specs.Table.{line}
+use Rattle.lz_core.specs.Lasts.{Lasts}
 use Rattle.lz_core.specs.Runs.{Start, State, Up, Down, Step, Calls, Turn, Fails, Looks, CrashesIn, Point, Service, Caller, Reached, MayLeave, MayStep, IsRun, run, caller_at, next_event, start_keys, IsStart, first_point}
 
 -- Whatever the run, each text that a crash may leave holds a set, and the lives lead from the first set to that one: each
@@ -28,9 +28,7 @@ abbrev pub WhatLasts : Type 0
 WhatLasts =
     (start : Start) (w : State) (M : History) (P : Trace) (t : List ℕ)
     → Reached start w M P → MayLeave w t
-    → (S : Keys) × Holds t start.shape.slots S
-    × ((k : ℕ) → IsSettled P P k true → ((i : ℕ) → ¬ IsUnderWay (last_history (lives (start_keys start) M)) i (Remove k)) → S k ≡ true)
-    × ((k : ℕ) → IsSettled P P k false → ((i : ℕ) → ¬ IsUnderWay (last_history (lives (start_keys start) M)) i (Add k)) → S k ≡ false)
+    → (S : Keys) × Holds t start.shape.slots S × Lasts P (last_history (lives (start_keys start) M)) S
 
 -- a step of this actor
 abbrev pub is_of : ℕ → Step → Bool

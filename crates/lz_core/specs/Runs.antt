@@ -10,7 +10,7 @@ use Rattle.lz_slot.specs.Sets.{Keys, members, key_of}
 use Rattle.lz_slot.specs.Counted.{of_pass, set_of_pass}
 use Rattle.lz_slot.specs.Histories.{History}
 use Rattle.lz_slot.specs.Bytes.{open_byte, header_body, Holds, held}
-use Rattle.lz_disk.specs.Images.{Medium, IsImage, at_rest, synced}
+use Rattle.lz_disk.specs.Images.{Medium, IsImage, AreBytes, at_rest, synced}
 use Rattle.lz_vault.specs.Vaults.{medium_after, MayFail}
 use Rattle.lz_allot.specs.Uses.{is_outside, Moment, Pins, Unlinking}
 use Rattle.lz_list.specs.declared.word.Word.TheVariants.{Pin as pin_word}
@@ -269,6 +269,7 @@ start_keys s = members (keys_found s.text s.shape.slots)
 pub record IsStart (s : Start) : Type 0 where
   pub buckets : (1 ≤ s.shape.buckets) × (s.shape.buckets ≤ 4096)
   pub passes : (1 ≤ s.shape.passes) × (s.shape.passes ≤ 64)
+  pub bytes : AreBytes s.text
   pub text : Holds s.text s.shape.slots (start_keys s)
 
 abbrev pub first_point : Start → Point

@@ -7,8 +7,8 @@ use Rattle.lz_slot.specs.declared.command.Command.TheVariants.{Add, Remove, Has}
 use Rattle.lz_slot.specs.Sets.{Keys, key_of}
 use Rattle.lz_slot.specs.Bytes.{Holds}
 use Rattle.lz_slot.specs.Counted.{of_pass}
-use Rattle.lz_slot.specs.Histories.{History, Life, ChainTo, Fits, IsCalled, IsRefused, lives, IsUnderWay}
-use Rattle.lz_disk.specs.Images.{Medium, IsImage}
+use Rattle.lz_slot.specs.Histories.{History, Life, ChainTo, Fits, IsCalled, IsRefused, lives, IsUnderWay, IsBefore as IsAnsweredBefore}
+use Rattle.lz_disk.specs.Images.{Medium, IsImage, IsSound as IsSoundDisk}
 use Rattle.lz_vault.specs.declared.vault.Stage.{Stage}
 use Rattle.lz_vault.specs.declared.vault.Stage.TheVariants.{Closed, KeyLoose, Keyed, Opening, Open, Closing}
 use Rattle.lz_vault.specs.Stages.{Cell, Keeps}
@@ -24,6 +24,7 @@ use Rattle.lz_list.specs.Words.{Words, place_number, link_to}
 use Rattle.lz_list.specs.Traces.{Trace, Begins, Lawful, IsLoose, on, chain_of, bucket_of, key_word, node_next, linking, linking_in, is_settled, is_removed, is_marked, halt_word, word_after, table, member, SettledYes, SettledNo}
 use Rattle.lz_list.specs.Pinned.{Stood, IsQuiet}
 use Rattle.lz_list.specs.Laws.{IsHigh}
+use Rattle.lz_list.specs.Locks.{NodeLocks, claimed_places, owner}
 use Rattle.lz_core.specs.declared.event.Reply.{Reply}
 use Rattle.lz_core.specs.declared.event.Reply.TheVariants.{Yes, No, Full, Worn as SaysWorn, Halted, Device}
 use Rattle.lz_core.specs.declared.actor.Actor.{Actor}
@@ -33,14 +34,15 @@ use Rattle.lz_core.specs.declared.caller.Script.{Script}
 use Rattle.lz_core.specs.declared.caller.Script.TheVariants.{Pinning, Resting, Writing, Adding, Removing, Releasing, Halting}
 use Rattle.lz_core.specs.declared.caller.Progress.{Progress}
 use Rattle.lz_core.specs.declared.caller.Progress.TheVariants.{Playing, LoadsHalt, Walking, Reserving, SeeingPins, Claiming, Checking, Answering}
-use Rattle.lz_core.specs.Yards.{Shape, Yard, NodeLocks, idle_actor, no_cell}
-use Rattle.lz_core.specs.Table.{claimed_places, owner, last_pin}
-use Rattle.lz_core.specs.Runs.{Caller, State, Up, Down, Start, Point, caller_at, start_keys}
-use Rattle.lz_core.specs.Ledgers.{Row, Each, change_at, times}
+use Rattle.lz_core.specs.Yards.{Shape, Yard, idle_actor, no_cell}
+use Rattle.lz_core.specs.Table.{last_pin}
+use Rattle.lz_core.specs.Runs.{Caller, Service, State, Up, Down, Start, Point, caller_at, shape_of, start_keys}
+use Rattle.lz_core.specs.Ledgers.{Row, HasRow, Each, change_at, times}
 use Rattle.lz_core.specs.Kept.{publishing, upto}
 use Rattle.lz_core.specs.Entries.{IsLedger, IsSettledEntry, IsChangeOf}
 use Rattle.lz_core.specs.Stands.{IsReady, IsRound, IsWalking, WasBetween, InBucket, FacesNode}
 use Rattle.lz_core.specs.Limbo.{IsAway, IsSeen}
+use Rattle.lz_core.specs.Lasts.{Lasts}
 
 -- What proofs keep beside a state: for each pass the trace at its last pin and the position at which its call has changed
 -- something, if it has; and the rows of the calls of this life that have ended, in the order of their ends.
@@ -501,18 +503,28 @@ pub record LedgerSound (n calls passes : ℕ) (callers : List (Option Caller)) (
   pub unlisted : (a : ℕ) (caller : Caller)
       → caller_at callers a ≡ Some caller → times caller.number notes.ended ≡ 0
 
+-- a call that writes gates, or that was cut off
+abbrev pub may_have_tail : Progress → Bool
+may_have_tail (Playing (Adding s) i) = true
+may_have_tail (Playing (Removing s) i) = true
+may_have_tail (Playing (Halting reply) i) = true
+may_have_tail (Answering Halted) = true
+may_have_tail (Answering Device) = true
+may_have_tail _ = false
+
 -- A call that is under way and has no row: of an adding whose gate may be open before its node is linked, and of a removing
--- whose gate may be closed before its node is marked.
-pub record HasTail (c : Command) (rows : List Row) (M : History) : Type 0 where
+-- whose gate may be closed before its node is marked. It won't be answered before that.
+pub record HasTail (c : Command) (callers : List (Option Caller)) (rows : List Row) (M : History) : Type 0 where
   pub number : ℕ
   pub under_way : IsUnderWay M number c
   pub no_row : times number rows ≡ 0
+  pub stays : (a : ℕ) (caller : Caller) → caller_at callers a ≡ Some caller → caller.number ≡ number → may_have_tail caller.progress ≡ true
 
-pub record TailsSound (shape : Shape) (cells : List Cell) (actors : List Actor) (P : Trace) (rows : List Row) (M : History) : Type 0 where
-  pub adding : (a s : ℕ) → (actor_in actors a).slot ≡ Some s → IsGateOpened (stage_in cells s) → HasTail (Add (cell_in cells s).key) rows M
+pub record TailsSound (shape : Shape) (cells : List Cell) (actors : List Actor) (P : Trace) (callers : List (Option Caller)) (rows : List Row) (M : History) : Type 0 where
+  pub adding : (a s : ℕ) → (actor_in actors a).slot ≡ Some s → IsGateOpened (stage_in cells s) → HasTail (Add (cell_in cells s).key) callers rows M
   pub removing : (s : ℕ)
       → on 0 (chain_of shape.buckets (key_word s P) P) (suc s) ≡ true → is_marked s P ≡ false → IsGateWritten (stage_in cells s)
-      → HasTail (Remove (cell_in cells s).key) rows M
+      → HasTail (Remove (cell_in cells s).key) callers rows M
 
 -- All of it, for an open service: the life began with the first n publishings, M is its history, and so many calls were made.
 pub record Sound (n calls : ℕ) (y : Yard) (open_calls : List (Option Caller)) (disk : Medium) (M : History) (P : Trace) (notes : Notes) : Type 0 where
@@ -523,20 +535,49 @@ pub record Sound (n calls : ℕ) (y : Yard) (open_calls : List (Option Caller)) 
   pub callers : CallersSound y.shape y.vault y.words.pins y.actors open_calls P notes
   pub reuse : ReuseSound y.shape y.words.pins y.uses y.actors P notes.begun
   pub ledger : LedgerSound n calls y.shape.passes open_calls P M notes
-  pub tails : TailsSound y.shape y.vault.cells y.actors P (entries y.shape.passes open_calls notes) M
+  pub tails : TailsSound y.shape y.vault.cells y.actors P open_calls (entries y.shape.passes open_calls notes) M
 
--- 8. Without an open service: each image holds a set, and the life that ended has a list that leads to it.
-pub record DownSound (shape : Shape) (disk : Medium) (life : Life) : Type 0 where
-  pub each : (t : List ℕ) → IsImage disk t → (S : Keys) × (L : List ℕ) × Holds t shape.slots S × Fits life.start life.history L S
+-- The life began with the first n publishings: they show the set that its open found, and each linking among them is a
+-- member's, settled as added.
+pub record HasBegun (n : ℕ) (found : Keys) (P : Trace) : Type 0 where
+  pub members : (k : ℕ) → member k (upto n P) ≡ found k
+  pub sure : (k : ℕ) → 0 < linking k (upto n P) → (member k (upto n P) ≡ true) × (is_settled (linking k (upto n P)) (upto n P) ≡ true)
+
+-- 9. A call that was made after another one's answer has pinned after it: the row of the other stands at that pin at the
+-- latest, and a change before it.
+pub record IsAfter (pins : List ℕ) (callers : List (Option Caller)) (rows : List Row) (M : History) (begun : ℕ → Trace) : Type 0 where
+  pub each : (a : ℕ) (caller : Caller) (r : Row)
+      → caller_at callers a ≡ Some caller → IsInside (pin_in pins a) → HasRow r rows → IsAnsweredBefore M r.number caller.number
+      → (r.position ≤ length (begun a)) × (r.position ≡ length (begun a) → r.changes ≡ false)
+
+pub record UpSound (n calls : ℕ) (service : Service) (disk : Medium) (life : Life) (P : Trace) (notes : Notes) : Type 0 where
+  pub began : HasBegun n life.start P
+  pub sound : Sound n calls service.yard service.callers disk life.history P notes
+  -- a pass that is inside went in during this life
+  pub since : (a : ℕ) → IsInside (pin_in service.yard.words.pins a) → n ≤ length (notes.begun a)
+  pub after : IsAfter service.yard.words.pins service.callers (entries service.yard.shape.passes service.callers notes) life.history notes.begun
+
+-- 10. Without an open service: each image holds a set, what was settled is in it, and the life that ended has a list that
+-- leads to it.
+pub record HasList (slots : ℕ) (life : Life) (P : Trace) (t : List ℕ) : Type 0 where
+  pub found : Keys
+  pub calls : List ℕ
+  pub holds : Holds t slots found
+  pub fits : Fits life.start life.history calls found
+  pub lasts : Lasts P life.history found
+
+pub record DownSound (shape : Shape) (disk : Medium) (life : Life) (P : Trace) : Type 0 where
+  pub sound : IsSoundDisk disk
+  pub each : (t : List ℕ) → IsImage disk t → HasList shape.slots life P t
 
 abbrev pub StateSound : Point → State → Life → Type 0
-StateSound p (Up service disk) life = (n : ℕ) × (notes : Notes) × Sound n p.calls service.yard service.callers disk life.history p.trace notes
-StateSound p (Down shape disk) life = DownSound shape disk life
+StateSound p (Up service disk) life = (n : ℕ) × (notes : Notes) × UpSound n p.calls service disk life p.trace notes
+StateSound p (Down shape disk) life = DownSound shape disk life p.trace
 
 -- the lives before the last are a chain to the set with which it began
 abbrev pub PointSound : Start → Point → List Life → Type 0
 PointSound start p [] = ⊥
-PointSound start p (life ∷ earlier) = ChainTo earlier life.start × StateSound p p.state life
+PointSound start p (life ∷ earlier) = (shape_of p.state ≡ start.shape) × ChainTo earlier life.start × StateSound p p.state life
 
 abbrev pub IsSound : Start → Point → Type 0
 IsSound start p = PointSound start p (lives (start_keys start) p.marks)

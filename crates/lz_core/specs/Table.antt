@@ -1,5 +1,5 @@
 -- The table of the nineteen events: what each needs, which device call it makes, what it changes and what it answers.
-use Rattle.std.specs.Prelude.{ℕ, ◌+◌, ◌*◌, ◌^◌, Bool, true, false, not, ◌&&◌, ◌||◌, ◌==◌, if◌then◌else◌, List, [], ◌∷◌, map, slice_index, slice_set, Option, Some, None, is_some, unwrap_or}
+use Rattle.std.specs.Prelude.{ℕ, ◌+◌, ◌*◌, ◌^◌, Bool, true, false, not, ◌&&◌, ◌||◌, ◌==◌, if◌then◌else◌, List, [], ◌∷◌, map, slice_set, Option, Some, None, is_some, unwrap_or}
 use Rattle.lz_slot.specs.Bytes.{open_byte, closed_byte, slot_body}
 use Rattle.lz_slot.specs.Counted.{set_of_pass}
 use Rattle.lz_vault.specs.declared.vault.Stage.{Stage}
@@ -7,14 +7,14 @@ use Rattle.lz_vault.specs.declared.vault.Stage.TheVariants.{Closed, KeyLoose, Ke
 use Rattle.lz_vault.specs.Stages.{Cell, cell_synced, is_covered}
 use Rattle.lz_vault.specs.Vaults.{Vaulted, DeviceCall, NoCall, WriteAt, SyncAll, last_sync, syncs_after, cells_failed, died}
 use Rattle.lz_allot.specs.Uses.{Use, collect, lowest_free, take_slot, give_back, retire, see_pin, counts, is_outside}
-use Rattle.lz_list.specs.declared.place.Place.{Place}
-use Rattle.lz_list.specs.declared.place.Place.TheVariants.{Bucket, Node}
+use Rattle.lz_list.specs.declared.place.Place.TheVariants.{Node}
 use Rattle.lz_list.specs.declared.word.Word.{Word}
 use Rattle.lz_list.specs.declared.word.Word.TheVariants.{Link as link_at, Key as key_at, Pin as pin_at, Halt as halt_word}
 use Rattle.lz_list.specs.declared.publishing.Change.TheVariants.{Added, Removed}
 use Rattle.lz_list.specs.declared.publishing.Publishing.{Publishing}
 use Rattle.lz_list.specs.declared.publishing.Publishing.TheVariants.{Linked as linked, Settled as settled, Marked as marked, Unlinked as unlinked, KeyPrepared as key_prepared, LinkPrepared as link_prepared, Halted as halted}
 use Rattle.lz_list.specs.Words.{Words, get, set, redirect, next_at, link_to, word_of, is_marked_at, change_flags, marked_flags}
+use Rattle.lz_list.specs.Locks.{NodeLocks, is_pair_free, pair_owned, check}
 use Rattle.lz_flush.specs.Settling.{settle}
 use Rattle.lz_core.specs.declared.event.Event.{Event}
 use Rattle.lz_core.specs.declared.event.Event.TheVariants.{Invoke, Pin, Hop, Reserve, WriteKey, Claim, Check, WriteOpen, Link, WriteClose, Mark, Release, Sync, Settle, Unlink, Retire, SeePin, Answer, Halt}
@@ -25,7 +25,7 @@ use Rattle.lz_core.specs.declared.actor.Hold.TheVariants.{Nothing, Locks, Checke
 use Rattle.lz_core.specs.declared.actor.Actor.{Actor}
 use Rattle.lz_core.specs.declared.course.Course.{Course}
 use Rattle.lz_core.specs.declared.course.Course.TheVariants.{Refused, Dies, Plays}
-use Rattle.lz_core.specs.Yards.{Yard, NodeLocks, actor_at, cell_at}
+use Rattle.lz_core.specs.Yards.{Yard, actor_at, cell_at}
 
 abbrev pub last_pin : ℕ
 last_pin = 2 ^ 62
@@ -182,41 +182,11 @@ publishes y actor a Unlink = unlinked (get y.words (key_at (node_of actor))) (no
 publishes y actor a Halt = halted ∷ []
 publishes y actor a _ = []
 
--- the places that a claim takes: the node of curr too, where there is one
-abbrev pub claimed_places : Place → Option ℕ → List Place
-claimed_places pred None = pred ∷ []
-claimed_places pred (Some s) = pred ∷ Node s ∷ []
-
--- the actor that has the lock of a place, 0 where it is free
-abbrev pub owner : NodeLocks → Place → ℕ
-owner locks (Bucket b) = slice_index locks.heads b
-owner locks (Node s) = slice_index locks.nodes s
-
-abbrev pub with_owner : NodeLocks → Place → ℕ → NodeLocks
-with_owner locks (Bucket b) a = record { heads = slice_set locks.heads b a; nodes = locks.nodes }
-with_owner locks (Node s) a = record { heads = locks.heads; nodes = slice_set locks.nodes s a }
-
--- both locks of a pair, or the first alone where there is no node behind it
-abbrev pub is_pair_free : NodeLocks → Place → Option ℕ → Bool
-is_pair_free locks pred None = owner locks pred == 0
-is_pair_free locks pred (Some s) = (owner locks pred == 0) && (owner locks (Node s) == 0)
-
-abbrev pub pair_owned : NodeLocks → Place → Option ℕ → ℕ → NodeLocks
-pair_owned locks pred None a = with_owner locks pred a
-pair_owned locks pred (Some s) a = with_owner (with_owner locks pred a) (Node s) a
-
+-- the node locks after each event
 abbrev pub locks_after : Yard → Actor → ℕ → Event → NodeLocks
 locks_after y actor a (Claim pred curr) = if is_pair_free y.locks pred curr then pair_owned y.locks pred curr a else y.locks
 locks_after y actor a Release = pair_owned y.locks actor.pred actor.curr 0
 locks_after y actor a _ = y.locks
-
--- The three tests: pred is unmarked, curr is unmarked, the next link of pred is curr.
-abbrev pub is_marked_node : Words → Option ℕ → Bool
-is_marked_node words None = false
-is_marked_node words (Some s) = is_marked_at words (Node s)
-
-abbrev pub check : Words → Place → Option ℕ → Bool
-check words pred curr = not (is_marked_at words pred) && not (is_marked_node words curr) && (next_at words pred == link_to curr)
 
 abbrev pub with_hold : Actor → Hold → Actor
 with_hold actor hold = record { slot = actor.slot; hold = hold; pred = actor.pred; curr = actor.curr }

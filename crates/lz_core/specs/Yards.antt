@@ -10,6 +10,7 @@ use Rattle.lz_vault.specs.Vaults.{Vaulted}
 use Rattle.lz_allot.specs.Uses.{Use, Free, Taken}
 use Rattle.lz_list.specs.declared.place.Place.TheVariants.{Bucket}
 use Rattle.lz_list.specs.Words.{Words}
+use Rattle.lz_list.specs.Locks.{NodeLocks}
 use Rattle.lz_list.specs.Traces.{words_after, opening, Trace}
 use Rattle.lz_core.specs.declared.actor.Actor.{Actor}
 use Rattle.lz_core.specs.declared.actor.Hold.TheVariants.{Nothing}
@@ -21,11 +22,6 @@ pub record Shape : Type 0 where
 
 abbrev pub idle_actor : Actor
 idle_actor = record { slot = None; hold = Nothing; pred = Bucket 0; curr = None }
-
--- The node locks, by place: the actor that has each, 0 where it is free.
-pub record NodeLocks : Type 0 where
-  pub heads : List ℕ
-  pub nodes : List ℕ
 
 pub record Yard : Type 0 where
   pub shape : Shape
