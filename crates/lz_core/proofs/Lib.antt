@@ -43,7 +43,6 @@ pub mod Writing
 pub mod GateOpening
 pub mod Settled
 pub mod Settling
-pub mod Opening
 pub mod Calling
 pub mod Sound
 pub mod Shapes
@@ -69,3 +68,4 @@ pub mod Opens
 pub mod Twins
 pub mod Walks
 pub mod Reaching
+pub mod Telling
