@@ -1,6 +1,7 @@
-use Rattle.std.proofs.Common.{IsTrue, Bool, true, false, refl, subst, arith}
+use Rattle.std.proofs.Common.{inl, IsTrue, Bool, true, false, refl, subst, arith}
 use Rattle.std.specs.Prelude.{slice_set}
 use Rattle.lz_disk.specs.Images.{AreBytes}
+use Rattle.lz_disk.proofs.Moments.{quiet}
 use Rattle.lz_vault.specs.Stages.{Keeps}
 use Rattle.lz_vault.specs.Vaults.{cells_at}
 use Rattle.lz_vault.proofs.Calls.{cells_changed, vault_changed, written_keeps, failed_keeps, call_succeeds, call_fails}
@@ -39,6 +40,15 @@ pub invariant_of-self-in-Err : goal.invariant_of-self-in-Err
 invariant_of-self-in-Err g c =
     rw c.index.ensures
     (vault_changed c.self.inside.entries.items c.self.inside.syncs c.args.slot c.args.stage c.args.key c.self.inside.dead true _ _ c.self.invariant c.requires.range (kept_err g c))
+
+-- a vault that is dead makes no call
+pub returns-then-self-clause-call : goal.returns-then-self-clause-call
+returns-then-self-clause-call g c =
+    rw (← c.self.view_is) (
+      c.if-self.true,
+      rw c.if-self.true refl,
+      record { honest = refl; medium = λ honest. refl; time = λ honest. quiet _ _ (g.met.D.Disk.timely c.self.inside.disk honest) (λ t image. inl image); faults = omega arith },
+    )
 
 pub returns-in-Ok-clause-call : goal.returns-in-Ok-clause-call
 returns-in-Ok-clause-call g c =
