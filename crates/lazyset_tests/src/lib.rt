@@ -8,6 +8,8 @@ mod crashes;
 #[cfg(test)]
 mod large;
 #[cfg(test)]
+mod lists;
+#[cfg(test)]
 mod refusals;
 #[cfg(test)]
 mod sessions;

@@ -20,7 +20,7 @@ use Rattle.lz_list.specs.Words.{place_number, link_to}
 use Rattle.lz_list.specs.Locks.{owner}
 use Rattle.lz_list.specs.Traces.{Trace, Chain, Shows, has_key, on, chain_of, bucket_of, key_word, next_link, member, IsLoose}
 use Rattle.lz_list.proofs.Chains.{has_on, on_start}
-use Rattle.lz_list.proofs.Words.{words_show_chain}
+use Rattle.lz_list.proofs.Shown.{words_show_chain}
 use Rattle.lz_list.proofs.Absent.{unlinked_is_settled}
 use Rattle.lz_list.proofs.Nodes.{one_node}
 use Rattle.lz_core.specs.declared.actor.Hold.{Hold}

@@ -6,7 +6,7 @@ use Rattle.std.proofs.lemmas.Bool.Decides.{nat_tests}
 use Rattle.lz_list.specs.declared.publishing.Publishing.TheVariants.{Linked as linked}
 use Rattle.lz_list.specs.Traces.{Trace, on, has_key, chain, chain_of, place_of, bucket_of, key_word, next_link, IsLoose, link_above, MayLink, Lawful, Adjacent}
 use Rattle.lz_list.proofs.Chains.{before_on, adjacent_none, adjacent_next, has_on}
-use Rattle.lz_list.proofs.Words.{words_show_chain, linked_off, apart_bucket}
+use Rattle.lz_list.proofs.Shown.{words_show_chain, linked_off, apart_bucket}
 use Rattle.lz_list.proofs.Absent.{unlinked_is_settled}
 use Rattle.lz_list.proofs.Hindsight.{stands}
 use Rattle.lz_list.proofs.Nodes.{on_insert_other}

@@ -17,7 +17,7 @@ use Rattle.lz_list.specs.Traces.{Trace, May, has_key, Lawful, Adjacent, on, chai
 use Rattle.lz_list.specs.Pinned.{Stood, IsKept, IsQuiet}
 use Rattle.lz_list.specs.Laws.{IsHigh}
 use Rattle.lz_list.proofs.Chains.{adjacent_on, has_on}
-use Rattle.lz_list.proofs.Words.{words_show_chain}
+use Rattle.lz_list.proofs.Shown.{words_show_chain}
 use Rattle.lz_list.proofs.Absent.{begins_itself}
 use Rattle.lz_list.proofs.Hindsight.{key_stays, once_weaker, next_stood}
 use Rattle.lz_list.proofs.Resting.{mark_stays, linking_stays, removed_later}

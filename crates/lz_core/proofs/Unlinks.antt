@@ -6,7 +6,7 @@ use Rattle.std.proofs.lemmas.Bool.Decides.{nat_tests}
 use Rattle.lz_list.specs.declared.publishing.Publishing.TheVariants.{Unlinked as unlinked}
 use Rattle.lz_list.specs.Traces.{Trace, without, on, chain, chain_of, place_of, bucket_of, key_word, next_link, IsLoose, MayUnlink, Lawful, Adjacent}
 use Rattle.lz_list.proofs.Chains.{before_on, on_start, adjacent_next, has_on}
-use Rattle.lz_list.proofs.Words.{words_show_chain, unlinked_off, apart_bucket, bucket_on}
+use Rattle.lz_list.proofs.Shown.{words_show_chain, unlinked_off, apart_bucket, bucket_on}
 use Rattle.lz_list.proofs.Hindsight.{stands}
 use Rattle.lz_list.proofs.Nodes.{on_without, one_node, none_without}
 use Rattle.lz_list.proofs.Resting.{on_without_other}

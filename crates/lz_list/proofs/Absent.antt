@@ -6,7 +6,7 @@ use Rattle.lz_list.specs.declared.publishing.Change.{Change}
 use Rattle.lz_list.specs.declared.publishing.Publishing.TheVariants.{Linked as linked, Marked as marked, Unlinked as unlinked, Settled as settled, KeyPrepared as key_prepared, LinkPrepared as link_prepared, Halted as halted}
 use Rattle.lz_list.specs.Traces.{Trace, Begins, Chain, insert, without, has_key, rank, Adjacent, bucket_of, chain_of, key_word, next_link, member, linking, is_removed, MayUnlink, Lawful, SettledNo}
 use Rattle.lz_list.proofs.Chains.{adjacent_none}
-use Rattle.lz_list.proofs.Words.{words_show_chain}
+use Rattle.lz_list.proofs.Shown.{words_show_chain}
 
 pub begins_itself : (P : Trace) → Begins P P
 begins_itself [] = refl

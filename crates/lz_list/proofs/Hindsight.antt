@@ -7,7 +7,7 @@ use Rattle.lz_list.specs.declared.publishing.Publishing.TheVariants.{Linked as l
 use Rattle.lz_list.specs.Traces.{Trace, Begins, Chain, insert, without, on, place_before, rank, Adjacent, bucket_of, chain, chain_of, place_of, key_word, node_next, next_link, Lawful, SettledNo}
 use Rattle.lz_list.specs.Pinned.{Once, Stood, IsKept, IsQuiet}
 use Rattle.lz_list.proofs.Chains.{before_on, on_start, adjacent, adjacent_on, adjacent_next}
-use Rattle.lz_list.proofs.Words.{bucket_on, words_show_chain}
+use Rattle.lz_list.proofs.Shown.{bucket_on, words_show_chain}
 use Rattle.lz_list.proofs.Absent.{adjacent_is_absent}
 
 -- the place before k stays when k is put in or taken out

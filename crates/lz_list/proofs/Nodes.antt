@@ -7,7 +7,7 @@ use Rattle.lz_list.specs.declared.publishing.Change.{Change}
 use Rattle.lz_list.specs.declared.publishing.Publishing.TheVariants.{Linked as linked, Marked as marked, Unlinked as unlinked, Settled as settled, KeyPrepared as key_prepared, LinkPrepared as link_prepared, Halted as halted}
 use Rattle.lz_list.specs.Traces.{Trace, Chain, insert, without, has_key, on, rank, Shows, bucket_of, chain_of, key_word, next_link, linking, linking_in, is_settled, is_removed, IsLoose, MayLink, Lawful, IsNode}
 use Rattle.lz_list.proofs.Chains.{apart, rank_on, no_key_below, has_on}
-use Rattle.lz_list.proofs.Words.{words_show_chain}
+use Rattle.lz_list.proofs.Shown.{words_show_chain}
 
 on_skip : (x y : ℕ) (n : ℕ × ℕ) (c : Chain) → on x c y ≡ true → on x (n ∷ c) y ≡ true
 on_skip x y n [] there = grind (arith, nat_tests)

@@ -8,7 +8,7 @@ use Rattle.lz_list.specs.declared.publishing.Publishing.TheVariants.{Linked as l
 use Rattle.lz_list.specs.Traces.{Trace, Begins, Chain, insert, without, on, Shows, bucket_of, chain_of, key_word, next_link, member, linking, linking_in, is_settled, is_removed, is_marked, Lawful, SettledYes, SettledNo}
 use Rattle.lz_list.specs.Pinned.{Once, Stood, IsKept, IsQuiet}
 use Rattle.lz_list.proofs.Chains.{on_start}
-use Rattle.lz_list.proofs.Words.{words_show_chain}
+use Rattle.lz_list.proofs.Shown.{words_show_chain}
 use Rattle.lz_list.proofs.Absent.{begins_itself}
 use Rattle.lz_list.proofs.Hindsight.{once_begins, once_from, once_weaker, key_stays, stood_bucket}
 use Rattle.lz_list.proofs.Nodes.{node}

@@ -2,7 +2,9 @@
 use Rattle.std.proofs.Common.{◌≡◌, ℕ, ◌^◌, ◌+◌, [], ◌∷◌, List, refl, inl, inr, arith}
 use Rattle.lz_list.specs.declared.publishing.Change.TheVariants.{Added, Removed}
 use Rattle.lz_list.specs.declared.publishing.Publishing.TheVariants.{Linked as linked, Marked as marked, Unlinked as unlinked, Settled as settled, KeyPrepared as key_prepared, LinkPrepared as link_prepared}
-use Rattle.lz_list.specs.Words.{Words}
+use Rattle.lz_list.specs.declared.place.Place.TheVariants.{Node}
+use Rattle.lz_list.specs.Words.{Words, redirect}
+use Rattle.lz_list.specs.Lists.{MayLinkAt, MayUnlinkAt}
 use Rattle.lz_list.specs.Traces.{Trace, Lawful, bucket_of, SettledYes, SettledNo, words_after, opening, keys_shown}
 
 abbrev one_key : Trace
@@ -48,3 +50,47 @@ opened_words = refl
 opened_keys : keys_shown (opening 2 ((8, 0) ∷ (5, 1) ∷ (4, 2) ∷ [])) ≡ 4 ∷ 5 ∷ 8 ∷ []
 unfolding bucket_of
 opened_keys = refl
+
+-- one bucket with 10 in slot 0 and 20 in slot 1; slot 2 holds 15, and is ready to be linked between them
+abbrev ready : Words
+ready = record { heads = 1 ∷ []; links = 2 ∷ 0 ∷ 2 ∷ []; keys = 10 ∷ 20 ∷ 15 ∷ []; pins = []; halt = 0 }
+
+ready_may_link : MayLinkAt ready (Node 0) 2
+unfolding bucket_of
+ready_may_link = record {
+  slot = omega arith;
+  before = record {
+    bucket = tt;
+    chain = (10, 0) ∷ (20, 1) ∷ [];
+    shown = record {
+      shows = (refl, refl, omega arith, (refl, refl, omega arith, refl));
+      within = (refl, (refl, tt));
+      in_range = (omega arith, (omega arith, tt));
+    };
+    stands = refl;
+    below = omega arith;
+  };
+  above = inr (omega arith);
+  next = refl;
+}
+
+-- and unlinked again
+linked_words : redirect ready (Node 0) 3 ≡ record ready { links = 3 ∷ 0 ∷ 2 ∷ [] }
+linked_words = refl
+
+linked_may_unlink : MayUnlinkAt (redirect ready (Node 0) 3) (Node 0) 2
+unfolding bucket_of
+linked_may_unlink = record {
+  before = record {
+    bucket = tt;
+    chain = (10, 0) ∷ (15, 2) ∷ (20, 1) ∷ [];
+    shown = record {
+      shows = (refl, refl, omega arith, (refl, refl, omega arith, (refl, refl, omega arith, refl)));
+      within = (refl, (refl, (refl, tt)));
+      in_range = (omega arith, (omega arith, (omega arith, tt)));
+    };
+    stands = refl;
+    below = omega arith;
+  };
+  next = refl;
+}

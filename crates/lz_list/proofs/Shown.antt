@@ -6,14 +6,14 @@ use Rattle.lz_list.specs.Traces.{Trace, Chain, insert, without, on, rank, Shows,
 use Rattle.lz_list.proofs.Chains.{before_on, shows_frame, shows_keys, shows_insert, shows_without, next_is_above, has_on}
 
 module _ (buckets : ℕ) where
-  within_insert : (b k s : ℕ) (c : Chain) → bucket_of buckets k ≡ b → IsWithin buckets b c → IsWithin buckets b (insert k s c)
+  pub within_insert : (b k s : ℕ) (c : Chain) → bucket_of buckets k ≡ b → IsWithin buckets b c → IsWithin buckets b (insert k s c)
   within_insert b k s [] here h = (here, tt)
   within_insert b k s (n ∷ c) here h = elim (leb_tells (suc n.0) k) [
     | inl t ↦ rw t.0 (h.0, within_insert b k s c here h.1)
     | inr f ↦ rw f.0 (here, h)
   ]
 
-  within_without : (b k : ℕ) (c : Chain) → IsWithin buckets b c → IsWithin buckets b (without k c)
+  pub within_without : (b k : ℕ) (c : Chain) → IsWithin buckets b c → IsWithin buckets b (without k c)
   within_without b k [] h = tt
   within_without b k (n ∷ c) h = elim (eqb_tells n.0 k) [
     | inl t ↦ rw t.0 h.1

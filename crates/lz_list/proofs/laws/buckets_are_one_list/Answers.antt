@@ -1,0 +1,5 @@
+use Rattle.lz_list.proofs.Traced.{one_list}
+use Rattle.lz_list.proofs.laws.buckets_are_one_list.Goals as goal
+
+pub returns : goal.returns
+returns c = one_list

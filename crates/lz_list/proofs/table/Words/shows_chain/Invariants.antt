@@ -1,0 +1,12 @@
+use Rattle.std.proofs.Common.{◌-◌, ◌^◌}
+use Rattle.lz_list.specs.declared.word.Word.TheVariants.{Key}
+use Rattle.lz_list.specs.Words.{get, place_number}
+use Rattle.lz_list.specs.Traces.{rank}
+use Rattle.lz_list.proofs.Following.{Reached}
+use Rattle.lz_list.proofs.table.Words.shows_chain.Given as goal
+
+abbrev pub invariant-loop-slot : goal.invariant-loop-slot
+invariant-loop-slot l = Reached l.self l.bucket l.place
+
+abbrev pub decreases-loop-slot : goal.decreases-loop-slot
+decreases-loop-slot l = 2 ^ 64 - rank (λ s. get l.self (Key s)) (place_number l.place)
