@@ -5,3 +5,4 @@ pub mod Serving
 pub mod Changing
 pub mod Removing
 pub mod Asking
+pub mod Allotting

@@ -1,5 +1,5 @@
 -- A set served to one caller from a table of slots, and what a command does to it.
-use Rattle.std.specs.Prelude.{◌≡◌, ◌⊎◌, ℕ, ◌<◌, ◌≤◌, Bool, true, false, IsTrue, Result, Ok, Err, List, length, slice_get, slice_set, nat_eq, Some}
+use Rattle.std.specs.Prelude.{◌≡◌, ◌⊎◌, ℕ, ◌<◌, ◌≤◌, Bool, true, false, IsTrue, Result, Ok, Err, List, length, map, slice_get, slice_set, nat_eq, Some}
 use Rattle.std.specs.List.{IsDistinct}
 use Rattle.lz_slot.specs.Sets.{Keys, Same, members, after}
 use Rattle.lz_slot.specs.declared.command.Command.{Command}
@@ -16,12 +16,29 @@ use Rattle.lz_vault.specs.Opens.{keys_of}
 use Rattle.lazyset_commands.specs.declared.plain.Fault.{Fault}
 use Rattle.lazyset_commands.specs.declared.plain.Fault.TheVariants.{Full, Halted, Device}
 use Rattle.lz_vault.specs.declared.vault.Stage.{Stage}
-use Rattle.lz_vault.specs.declared.vault.Stage.TheVariants.{Open, Closed}
+use Rattle.lz_vault.specs.declared.vault.Stage.TheVariants.{Open, Closed, KeyLoose, Keyed}
+use Rattle.lz_allot.specs.Uses.{Use, Free, Taken}
 
 -- What holds between two calls: while the vault isn't dead, nothing is under way at any slot.
 pub record IsPlain (vault : Vaulted) (disk : device.Device) : Type 0 where
   pub steady : vault.dead ≡ false → AreSteady vault.cells
   pub kept : IsKept vault disk
+
+-- a slot into which a key may be put is free, and every other is taken
+abbrev pub use_for : Stage → Use
+use_for Closed = Free
+use_for KeyLoose = Free
+use_for Keyed = Free
+use_for _ = Taken
+
+-- the uses of all slots
+abbrev pub uses_of : List Cell → List Use
+uses_of cells = map (λ cell. use_for cell.stage) cells
+
+-- What holds besides while the vault isn't dead: exactly the slots that hold a key are taken.
+pub record IsPlainOver (vault : Vaulted) (disk : device.Device) (uses : List Use) : Type 0 where
+  pub plain : IsPlain vault disk
+  pub allotted : vault.dead ≡ false → uses ≡ uses_of vault.cells
 
 -- each image of the disk is a file of N slots that holds the set S
 abbrev pub EachHolds : Medium → ℕ → Keys → Type 0

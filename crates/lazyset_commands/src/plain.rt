@@ -1,19 +1,20 @@
 //! A set for one caller, over the stages of a vault.
-ghost use Rattle.std.specs.Prelude.{◌≡◌, ◌⊎◌, ◌↔◌, ◌<◌, ◌≤◌, ℕ, Bool, true, false, length, slice_get, slice_set, Some, IsErrOf, IsNone, IsTrue, is_some, IfOk, IfErr, IfSome, OnErr, OnOk};
+ghost use Rattle.std.specs.Prelude.{◌≡◌, ◌⊎◌, ◌↔◌, ◌<◌, ◌≤◌, ℕ, Bool, true, false, length, slice_get, slice_set, Some, IsErrOf, IsTrue, is_some, IfOk, IfErr, IfSome, OnErr, OnOk};
 ghost use Rattle.lz_slot.specs.Sets.{Keys, after, reply};
 ghost use Rattle.lz_slot.specs.Bytes.{Holds};
 ghost use Rattle.lz_disk.specs.Devices.{LeavesOnly};
-ghost use Rattle.lz_vault.specs.Stages.{Cell, IsAt, IsFree};
+ghost use Rattle.lz_vault.specs.Stages.{AreSteady, Cell, IsAt, IsFree};
 ghost use Rattle.lz_vault.specs.Vaults.{IsKept, last_sync};
 ghost use Rattle.lz_vault.specs.Opens.{IsRefusedFor, Opens, keys_of};
 ghost use Rattle.lazyset_commands.specs.Asks.{reply_of};
-ghost use Rattle.lazyset_commands.specs.Plains.{Adds, IsAddFault, fault_of, EachHolds, Ends, HasCome, HasMembers, HasNoFree, HoldsBeforeOrAfter, IsLowestFree, IsRemoveFault, MayChange, Removes};
+ghost use Rattle.lazyset_commands.specs.Plains.{Adds, IsAddFault, fault_of, EachHolds, Ends, HasCome, HasMembers, HoldsBeforeOrAfter, IsRemoveFault, MayChange, Removes, uses_of};
 
+use lz_allot::Allot;
 use lz_disk::Disk;
 use lz_proto::{Reply, Request, Service};
 use lz_slot::{Command, Key, Slot};
-use lz_vault::{Refused, Stage, Vault, VaultFault};
-use std::alloc::Global;
+use lz_vault::{OpenFault, Refused, Stage, Vault, VaultFault};
+use std::alloc::{AllocError, Global};
 use std::marker::Model;
 
 /// Why a command was not answered yes or no.
@@ -27,21 +28,22 @@ pub enum Fault {
     Device,
 }
 
-/// A set for one caller: each command looks through the slots.
+/// A set for one caller: each command looks through the slots for its key, and a new key takes the lowest free one.
 #[derive(Drop)]
 pub struct Plain<D: Disk> {
     vault: Vault<D>,
+    allot: Allot,
 }
 
 impl<D: Disk> Model for Plain<D> {
     ghost use Rattle.lz_vault.specs.Vaults.{VaultOver};
-    ghost use Rattle.lazyset_commands.specs.Plains.{IsPlain};
+    ghost use Rattle.lazyset_commands.specs.Plains.{IsPlainOver};
 
     ghost Value = { VaultOver D };
 
     ghost view = { λ p. p.vault };
 
-    ghost invariant = { λ p. IsPlain p.vault.memory (D.device p.vault.disk) };
+    ghost invariant = { λ p. IsPlainOver p.vault.memory (D.device p.vault.disk) p.allot.uses };
 }
 
 impl<D: Disk> Plain<D> {
@@ -51,8 +53,24 @@ impl<D: Disk> Plain<D> {
         ensures err { IfErr result (λ refused. IsRefusedFor (D.device disk) (D.device refused.disk) refused.fault) }
     {
         match Vault::open(alloc, disk) {
-            Ok(vault) => Ok(Plain { vault }),
+            Ok(vault) => Plain::over(alloc, vault),
             Err(refused) => Err(refused),
+        }
+    }
+
+    // Allots the slots of a vault that was just opened.
+    fn over(alloc: Global, vault: Vault<D>) -> Result<Plain<D>, Refused<D>>
+        requires steady { AreSteady vault.memory.cells }
+        requires kept { IsKept vault.memory (D.device vault.disk) }
+        ensures ok { IfOk result (λ plain. plain ≡ vault) }
+        ensures err { IfErr result (λ refused. (refused.disk ≡ vault.disk) × (refused.fault ≡ OpenFault.Memory)) }
+    {
+        match allot_of(alloc, &vault) {
+            Ok(allot) => Ok(Plain { vault, allot }),
+            Err(AllocError) => Err(Refused {
+                disk: vault.close(),
+                fault: OpenFault::Memory,
+            }),
         }
     }
 
@@ -100,7 +118,7 @@ impl<D: Disk> Plain<D> {
         if find(&self.vault, key).is_some() {
             return Ok(false);
         }
-        let Some(slot) = lowest_free(&self.vault) else {
+        let Some(slot) = self.allot.reserve() else {
             return Err(Fault::Full);
         };
         if let Err(fault) = insert(&mut self.vault, slot, key) {
@@ -134,6 +152,7 @@ impl<D: Disk> Plain<D> {
         if let Err(fault) = erase(&mut self.vault, slot) {
             return Err(Fault::of_vault(fault));
         }
+        self.allot.give_back(slot);
         Ok(true)
     }
 
@@ -216,18 +235,18 @@ fn find<D: Disk>(vault: &Vault<D>, key: Key) -> Option<Slot>
     None
 }
 
-// The lowest slot into which a key may be put.
-fn lowest_free<D: Disk>(vault: &Vault<D>) -> Option<Slot>
-    ensures found { IfSome result (IsLowestFree vault.now.memory.cells) }
-    ensures none { IsNone result → HasNoFree vault.now.memory.cells (length vault.now.memory.cells) }
+// The slots of a vault: those into which no key may be put are taken.
+fn allot_of<D: Disk>(alloc: Global, vault: &Vault<D>) -> Result<Allot, AllocError>
+    ensures { IfOk result (λ allot. allot.uses ≡ uses_of vault.now.memory.cells) }
 {
+    let mut taken = Vec::new(alloc);
     for index in 0..vault.slots() {
         let slot = Slot::new(index as u16);
-        if is_free_at(vault, slot) {
-            return Some(slot);
+        if !is_free_at(vault, slot) {
+            taken.push(slot)?;
         }
     }
-    None
+    Allot::new(alloc, vault.slots(), 1, &taken)
 }
 
 // Puts a key into a free slot, and opens its gate once the key is sure.

@@ -13,3 +13,5 @@ mod lists;
 mod refusals;
 #[cfg(test)]
 mod sessions;
+#[cfg(test)]
+mod slots;

@@ -1,0 +1,7 @@
+use Rattle.std.proofs.Common.{◌∙◌, sym}
+use Rattle.lz_allot.proofs.Telling.{length_told}
+use Rattle.lz_allot.proofs.Steps.{total}
+use Rattle.lz_allot.proofs.allot.Allot.counts.Goals as goal
+
+pub returns-clause-sum : goal.returns-clause-sum
+returns-clause-sum c = rw (← c.self.view_is) (total _ _ _ _ _ _ c.self.invariant ∙ sym (length_told c.self.inside.kinds.items c.self.inside.limbo.items c.self.inside.rows.items))

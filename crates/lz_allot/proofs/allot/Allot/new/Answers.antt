@@ -1,0 +1,36 @@
+use Rattle.std.proofs.Common.{◌≡◌, ap, map, replicate, ◌∙◌, arith, rules}
+use Rattle.std.specs.List.{count_by}
+use Rattle.std.specs.VecDeque.{deque_capacity}
+use Rattle.std.proofs.lemmas.List.Sums.{count_by-le-length}
+use Rattle.lz_allot.specs.declared.kind.Kind.TheVariants as kind
+use Rattle.lz_allot.specs.Rows.{first_row}
+use Rattle.lz_allot.specs.Allots.{first_uses, is_free_kind, set_each, uses_told}
+use Rattle.lz_allot.proofs.Steps.{first_length, told_first, allot_first}
+use Rattle.lz_allot.proofs.allot.Allot.new.Goals as goal
+
+pub free_of-requires : goal.free_of-requires
+free_of-requires c =
+    let count = first_length c.args.slots c.args.passes c.args.taken.now (λ i low. c.requires.taken i 0 low) in
+    rw (c.deref.ensures.value, c.in_ok-kinds.ensures) (omega (arith, count, c.requires.slots))
+
+pub overflow_sub-counts : goal.overflow_sub-counts
+overflow_sub-counts c =
+    let kinds = set_each (replicate c.args.slots kind.Free) c.args.taken.now kind.Taken in
+    let count = first_length c.args.slots c.args.passes c.args.taken.now (λ i low. c.requires.taken i 0 low) in
+    let free : c.count_free-free_count.result ≡ count_by is_free_kind kinds = c.count_free-free_count.ensures ∙ ap (λ ks. count_by is_free_kind ks) (c.deref-2.ensures.value ∙ c.in_ok-kinds.ensures) in
+    omega (arith, free, count_by-le-length is_free_kind kinds, count)
+
+pub invariant_of-result : goal.invariant_of-result
+invariant_of-result c =
+    let taken = c.args.taken.now in
+    let free = c.in_ok-free.ensures ∙ ap (map is_free_kind) c.deref.ensures.value in
+    let free_count = c.count_free-free_count.ensures ∙ ap (count_by is_free_kind) c.deref-2.ensures.value in
+    let rows : c.in_ok-rows.rows.items ≡ replicate c.args.passes first_row = search rules in
+    rw (c.in_ok-limbo.ensures.items, rows, free, free_count, c.in_ok-kinds.ensures)
+    (allot_first c.args.slots c.args.passes taken (λ i low. c.requires.taken i 0 low) c.requires.slots.0 c.requires.slots.1 c.requires.passes.0 c.requires.passes.1 (deque_capacity c.in_ok-limbo.limbo) c.in_ok-limbo.ensures.capacity)
+
+pub returns-clause-uses : goal.returns-clause-uses
+returns-clause-uses c =
+    let told : uses_told c.in_ok-kinds.kinds.items c.in_ok-limbo.limbo.items c.in_ok-rows.rows.items ≡ first_uses c.args.slots c.args.taken.now =
+    rw (c.in_ok-limbo.ensures.items, c.in_ok-kinds.ensures) (told_first c.args.slots c.args.passes c.args.taken.now (λ i low. c.requires.taken i 0 low) c.in_ok-rows.rows.items) in
+    told
