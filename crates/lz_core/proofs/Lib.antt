@@ -69,3 +69,6 @@ pub mod Twins
 pub mod Walks
 pub mod Reaching
 pub mod Telling
+pub mod Showing
+pub mod Readiness
+pub mod Asking

@@ -1,6 +1,6 @@
 -- Worked rows that the machine computes.
 use Rattle.std.proofs.lemmas.Bool.Decides.{nat_tests}
-use Rattle.std.proofs.Common.{◌≡◌, inl, inr, arith, reverse, lit<, ℕ, ◌+◌, ◌^◌, true, false, List, [], ◌∷◌, ◌++◌, replicate, refl, Some, None, drop}
+use Rattle.std.proofs.Common.{◌≡◌, inl, inr, arith, reverse, lit<, ℕ, ◌+◌, ◌^◌, true, false, List, [], ◌∷◌, ◌++◌, replicate, refl, Option, Some, None, drop}
 use Rattle.lz_slot.specs.Bytes.{slot_body, open_byte, header_body}
 use Rattle.lz_slot.specs.declared.command.Command.TheVariants.{Add, Remove, Has}
 use Rattle.lz_slot.specs.declared.history.Mark.{Mark}
@@ -14,12 +14,18 @@ use Rattle.lz_core.specs.declared.event.Event.TheVariants.{Pin, Hop, Reserve, Wr
 use Rattle.lz_list.specs.declared.publishing.Publishing.TheVariants.{Linked as linked, Settled as settled, Marked as marked, Unlinked as unlinked, KeyPrepared as key_prepared, LinkPrepared as link_prepared}
 use Rattle.lz_list.specs.declared.publishing.Change.TheVariants.{Added, Removed}
 use Rattle.lz_list.specs.Words.{Words}
-use Rattle.lz_list.specs.Traces.{is_removed, linking, Trace, Lawful, MayLink, SettledYes, SettledNo, words_after, bucket_of}
+use Rattle.lz_list.specs.Traces.{is_removed, linking, Trace, Lawful, MayLink, SettledYes, SettledNo, words_after, bucket_of, keys_shown}
 use Rattle.lz_vault.specs.declared.vault.Stage.TheVariants.{Closed, Keyed}
 use Rattle.lz_vault.specs.Stages.{Cell}
 use Rattle.lz_disk.specs.Picks.{left_by}
+use Rattle.lz_disk.specs.declared.memory.Pick.{Pick}
 use Rattle.lz_disk.specs.declared.memory.Pick.TheVariants.{Old, Byte}
-use Rattle.lz_core.specs.Runs.{Start, State, Up, Down, Step, Calls, Turn, Fails, Trips, Stops, Crashes, Opens, Point, first_point, point_after, run, made_text, caller_at, next_event, disk_of}
+use Rattle.lz_allot.specs.Uses.{Use, Free, Taken}
+use Rattle.lz_core.specs.declared.event.Outcome.TheVariants.{Busy}
+use Rattle.lz_core.specs.declared.event.Reply.{Reply}
+use Rattle.lz_core.specs.declared.event.Reply.TheVariants.{Full as SaysFull}
+use Rattle.lz_core.specs.Laws.{outcome_at}
+use Rattle.lz_core.specs.Runs.{Start, State, Up, Down, Step, Calls, Turn, Fails, Trips, Stops, Crashes, Opens, Point, first_point, point_after, run, made_text, caller_at, next_event, reply_at, disk_of}
 
 abbrev fresh : ℕ → ℕ → Start
 fresh slots passes = record { shape = record { slots = slots; buckets = 1; passes = passes }; text = made_text slots }
@@ -279,3 +285,137 @@ words_two_buckets : words_of_state (play two_buckets
     ≡ (3 ∷ 2 ∷ []) ∷ ((2 ^ 33) ∷ (2 ^ 33) ∷ (1 + 2 ^ 33) ∷ []) ∷ (8 ∷ 5 ∷ 4 ∷ []) ∷ (0 ∷ []) ∷ []
 unfolding bucket_of
 words_two_buckets = refl
+
+-- a crash that leaves what the pick says, and an open
+abbrev crashed : Pick → Start → List Step → List Step
+crashed pick start steps = steps ++ Crashes (left_by pick (disk_of (play start steps).state)) ∷ Opens ∷ []
+
+abbrev marks_crashed : Pick → Start → List Step → List Mark
+marks_crashed pick start steps = marks_after start (crashed pick start steps)
+
+-- the keys that are shown at the end
+abbrev shown_after : Start → List Step → List ℕ
+shown_after start steps = keys_shown (play start steps).trace
+
+abbrev uses_of : State → List Use
+uses_of (Up service disk) = service.yard.uses
+uses_of (Down shape disk) = []
+
+-- the reply that an actor is about to give
+abbrev reply_of : State → ℕ → Option Reply
+reply_of (Down shape disk) a = None
+reply_of (Up service disk) a = elim (caller_at service.callers a) [ None ↦ None | Some caller ↦ reply_at caller.progress ]
+
+-- the key was loose, and its gate surely closed: nothing is found or shown
+abbrev key_steps : List Step
+key_steps = Calls 1 (Add 9) ∷ turns 1 5
+
+key_loose_found : marks_crashed (Byte 0xa5) (fresh 2 64) key_steps ≡ Call 1 1 (Add 9) ∷ Crash ∷ Opened [] ∷ []
+unfolding bucket_of
+key_loose_found = refl
+
+key_loose_shown : shown_after (fresh 2 64) (crashed (Byte 0xa5) (fresh 2 64) key_steps) ≡ []
+unfolding bucket_of
+key_loose_shown = refl
+
+-- the gate was loose
+abbrev gate_steps : List Step
+gate_steps = Calls 1 (Add 9) ∷ turns 1 10
+
+gate_loose_open : marks_crashed (Byte 0xa5) (fresh 2 64) gate_steps ≡ Call 1 1 (Add 9) ∷ Crash ∷ Opened (9 ∷ []) ∷ []
+unfolding bucket_of
+gate_loose_open = refl
+
+gate_loose_other : marks_crashed (Byte 0x37) (fresh 2 64) gate_steps ≡ Call 1 1 (Add 9) ∷ Crash ∷ Opened [] ∷ []
+unfolding bucket_of
+gate_loose_other = refl
+
+-- the reader's sync made the closing sure
+removal_found : marks_crashed Old (fresh 2 64) removal_steps
+    ≡ Call 1 1 (Add 9) ∷ Call 2 2 (Remove 9) ∷ Call 3 3 (Has 9) ∷ Answer 3 false ∷ Crash ∷ Opened [] ∷ []
+unfolding bucket_of
+removal_found = refl
+
+-- the counts of the call that finds no slot, while the reader is inside
+abbrev until_full : List Step
+until_full = Calls 1 (Add 9) ∷ turns 1 15 ++ Calls 3 (Has 9) ∷ turns 3 4 ++ Calls 1 (Remove 9) ∷ turns 1 15 ++ Calls 2 (Add 9) ∷ turns 2 15 ++ Calls 4 (Add 10) ∷ turns 4 71
+
+full_counts : reply_of (play (fresh 2 64) until_full).state 4 ≡ Some (SaysFull (record { free = 0; taken = 1; limbo = 1 }))
+unfolding bucket_of
+full_counts = refl
+
+-- after a sync that failed: a stop keeps the gate, a crash that leaves the sure bytes doesn't
+abbrev halted_steps : List Step
+halted_steps = until_release ++ Trips ∷ Fails 1 (disk_of (play (fresh 2 64) until_release).state) ∷ turns 1 2 ++ Calls 2 (Has 9) ∷ turns 2 3
+
+halted_stop_shown : shown_after (fresh 2 64) (halted_steps ++ Stops ∷ Opens ∷ []) ≡ 9 ∷ []
+unfolding bucket_of
+halted_stop_shown = refl
+
+halted_crash_found : marks_crashed Old (fresh 2 64) halted_steps ≡ Call 1 1 (Add 9) ∷ Cut 1 Device ∷ Call 2 2 (Has 9) ∷ Cut 2 Halted ∷ Crash ∷ Opened [] ∷ []
+unfolding bucket_of
+halted_crash_found = refl
+
+halted_crash_shown : shown_after (fresh 2 64) (crashed Old (fresh 2 64) halted_steps) ≡ []
+unfolding bucket_of
+halted_crash_shown = refl
+
+-- the open's sync made the gate sure
+abbrev reopened_steps : List Step
+reopened_steps = gate_steps ++ Stops ∷ Opens ∷ Calls 1 (Has 9) ∷ turns 1 6
+
+reopened_found : marks_crashed Old (fresh 2 64) reopened_steps ≡ Call 1 1 (Add 9) ∷ Stop ∷ Opened (9 ∷ []) ∷ Call 2 1 (Has 9) ∷ Answer 2 true ∷ Crash ∷ Opened (9 ∷ []) ∷ []
+unfolding bucket_of
+reopened_found = refl
+
+reopened_shown : shown_after (fresh 2 64) (crashed Old (fresh 2 64) reopened_steps) ≡ 9 ∷ []
+unfolding bucket_of
+reopened_shown = refl
+
+-- two adders of one key: the second one's claim is busy, and its slot is given back
+two_adders_busy : outcome_at (play (fresh 2 64) (Calls 1 (Add 9) ∷ turns 1 9 ++ Calls 2 (Add 9) ∷ turns 2 7)).state (Turn 2) ≡ Some Busy
+unfolding bucket_of
+two_adders_busy = refl
+
+two_adders_uses : uses_of (play (fresh 2 64) (Calls 1 (Add 9) ∷ turns 1 9 ++ Calls 2 (Add 9) ∷ turns 2 8 ++ turns 1 6 ++ turns 2 7)).state ≡ Taken ∷ Free ∷ []
+unfolding bucket_of
+two_adders_uses = refl
+
+-- a closing that is loose: a crash may leave the gate closed or open
+abbrev closing_steps : List Step
+closing_steps = Calls 1 (Add 9) ∷ turns 1 15 ++ Calls 2 (Remove 9) ∷ turns 2 8
+
+closing_left_closed : marks_crashed (Byte 0x37) (fresh 1 64) closing_steps ≡ Call 1 1 (Add 9) ∷ Answer 1 true ∷ Call 2 2 (Remove 9) ∷ Crash ∷ Opened [] ∷ []
+unfolding bucket_of
+closing_left_closed = refl
+
+closing_left_open : marks_crashed Old (fresh 1 64) closing_steps ≡ Call 1 1 (Add 9) ∷ Answer 1 true ∷ Call 2 2 (Remove 9) ∷ Crash ∷ Opened (9 ∷ []) ∷ []
+unfolding bucket_of
+closing_left_open = refl
+
+-- an adder's second sync makes the closing sure
+early_found : marks_crashed Old (fresh 1 64) (Calls 1 (Add 9) ∷ turns 1 13 ++ Calls 2 (Remove 9) ∷ turns 2 8 ++ turns 1 4)
+    ≡ Call 1 1 (Add 9) ∷ Call 2 2 (Remove 9) ∷ Answer 1 true ∷ Crash ∷ Opened [] ∷ []
+unfolding bucket_of
+early_found = refl
+
+-- one slot: the tenth turn writes the gate
+ten_turns : marks_crashed (Byte 0xa5) (fresh 1 64) (Calls 1 (Add 9) ∷ turns 1 10) ≡ Call 1 1 (Add 9) ∷ Crash ∷ Opened (9 ∷ []) ∷ []
+unfolding bucket_of
+ten_turns = refl
+
+nine_turns : marks_crashed (Byte 0xa5) (fresh 1 64) (Calls 1 (Add 9) ∷ turns 1 9) ≡ Call 1 1 (Add 9) ∷ Crash ∷ Opened [] ∷ []
+unfolding bucket_of
+nine_turns = refl
+
+-- a reader answers no only when its sync has made the closing sure
+reader_syncs : marks_crashed Old (fresh 2 64) (Calls 1 (Add 9) ∷ turns 1 15 ++ Calls 2 (Remove 9) ∷ turns 2 9 ++ Calls 3 (Has 9) ∷ turns 3 8)
+    ≡ Call 1 1 (Add 9) ∷ Answer 1 true ∷ Call 2 2 (Remove 9) ∷ Call 3 3 (Has 9) ∷ Answer 3 false ∷ Crash ∷ Opened [] ∷ []
+unfolding bucket_of
+reader_syncs = refl
+
+-- the event after the mark makes the closing sure, and the node is still linked then
+mark_then_sync : marks_crashed Old (fresh 2 64) (Calls 1 (Add 9) ∷ turns 1 15 ++ Calls 2 (Remove 9) ∷ turns 2 10 ++ Calls 3 (Has 9) ∷ turns 3 8)
+    ≡ Call 1 1 (Add 9) ∷ Answer 1 true ∷ Call 2 2 (Remove 9) ∷ Call 3 3 (Has 9) ∷ Answer 3 false ∷ Crash ∷ Opened [] ∷ []
+unfolding bucket_of
+mark_then_sync = refl
