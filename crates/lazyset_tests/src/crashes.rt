@@ -1,7 +1,7 @@
 //! Each device call of a short run fails in turn, and each kind of crash follows.
 use crate::commands::{TWO_SLOTS, disk_with};
 use lazyset_commands::{make_on, run_on};
-use lz_disk::{MemoryDisk, Pick};
+use lz_disk::{Disk, MemoryDisk, Pick};
 use std::alloc::Global;
 use std::test::Fail;
 
@@ -175,5 +175,22 @@ fn a_making_that_fails_leaves_no_half_file(rt: HostRuntime) -> Result<(), Fail> 
             assert!(rt; is_sound, "after {passes} calls");
         }
     }
+    Ok(())
+}
+
+#[test]
+fn a_trip_fails_one_call(rt: HostRuntime) -> Result<(), Fail> {
+    let mut disk = MemoryDisk::new(rt.alloc(), Vec::new(rt.alloc()))?;
+    disk.trip();
+    disk.trip();
+    assert!(rt; disk.sync().is_err());
+    assert!(rt; disk.sync().is_ok());
+    disk.trip();
+    disk.stop();
+    assert!(rt; disk.sync().is_ok(), "a stop takes the trip away");
+    disk.trip();
+    disk.crash(Pick::Old)?;
+    assert!(rt; disk.size().is_ok(), "so does a crash");
+    assert_eq!(rt; disk.calls(), 4);
     Ok(())
 }

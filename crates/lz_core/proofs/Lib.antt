@@ -72,3 +72,4 @@ pub mod Telling
 pub mod Showing
 pub mod Readiness
 pub mod Asking
+pub mod SlotsAside

@@ -6,13 +6,16 @@
 #![tactic(auto)]
 
 mod actor;
+mod call;
 mod caller;
 mod course;
 mod event;
 pub mod laws;
+mod order;
 mod play;
 
 pub use actor::{Actor, Hold};
+pub use call::Caller;
 pub use caller::{Progress, Script};
 pub use course::Course;
 pub use event::{Event, Outcome, Reply};

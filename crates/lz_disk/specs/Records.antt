@@ -1,17 +1,18 @@
 -- What a disk in memory is, by the record of what its calls did.
-use Rattle.std.specs.Prelude.{◌≡◌, ℕ, ◌+◌, ◌-◌, ◌^◌, ◌≤◌, min, true, Option, Some, None, List, [], ◌∷◌, length, take}
+use Rattle.std.specs.Prelude.{◌≡◌, ◌⊎◌, ℕ, ◌+◌, ◌-◌, ◌^◌, ◌≤◌, min, Bool, true, false, Option, Some, None, List, [], ◌∷◌, length, take}
 use Rattle.lz_disk.specs.Images.{Medium, IsImage, written, synced, at_rest}
 use Rattle.lz_disk.specs.Devices.{Device}
 use Rattle.lz_disk.specs.declared.memory.Record.{Record}
 use Rattle.lz_disk.specs.declared.memory.Record.TheVariants.{Wrote, Failed, Synced}
 
 -- The text that it began with, what its calls did since, how often it failed, how many more calls the fuse lets pass, if
--- it has one, and how many calls were made.
+-- it has one, whether the next call is tripped, and how many calls were made.
 pub record Past : Type 0 where
   pub start : List ℕ
   pub records : List Record
   pub failures : ℕ
   pub fuse : Option ℕ
+  pub trip : Bool
   pub calls : ℕ
 
 -- a write that failed changes no byte as read
@@ -50,8 +51,13 @@ burnt (Some k) = Some (k - 1)
 abbrev pub one_more : ℕ → ℕ
 one_more n = min (n + 1) (2 ^ 64 - 1)
 
+-- the next call fails: the fuse lets none pass, or it is tripped
+abbrev pub MustFail : Past → Type 0
+MustFail disk = (disk.fuse ≡ Some 0) ⊎ (disk.trip ≡ true)
+
 -- What each of the four calls does besides its work.
 pub record IsCounted (old new : Past) : Type 0 where
   pub start : new.start ≡ old.start
   pub fuse : new.fuse ≡ burnt old.fuse
+  pub trip : new.trip ≡ false
   pub calls : new.calls ≡ one_more old.calls

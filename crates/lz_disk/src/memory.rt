@@ -1,11 +1,12 @@
 //! A disk in memory, with a record of what its calls did, so that each moment is known.
-ghost use Rattle.std.specs.Prelude.{◌≡◌, ◌≢◌, ◌⊎◌, ◌↔◌, if◌then◌else◌, is_err, ◌+◌, ◌≤◌, ℕ, List, [], ◌∷◌, ◌++◌, length, IsErr, OnOk, OnErr, IfOk, slice_range, vec_len, vec_capacity};
+ghost use Rattle.std.specs.Prelude.{◌≡◌, ◌⊎◌, ◌↔◌, true, false, if◌then◌else◌, is_err, ◌+◌, ◌≤◌, ℕ, List, [], ◌∷◌, ◌++◌, length, IsErr, OnOk, OnErr, IfOk, slice_range, vec_len, vec_capacity};
 ghost use Rattle.lz_disk.specs.Images as images;
 
 use crate::failures::Failures;
 use crate::{DeviceFault, Disk};
 use std::alloc::{AllocError, Global};
 use std::marker::Model;
+use std::mem;
 
 /// What a crash makes of the bytes that aren't sure.
 #[derive(Clone, Copy, Debug, PartialEq, Eq)]
@@ -39,6 +40,7 @@ pub struct MemoryDisk {
     seen: Vec<u8>,
     failures: Failures,
     fuse: Option<u64>,
+    trip: bool,
     calls: u64,
 }
 
@@ -47,7 +49,7 @@ impl Model for MemoryDisk {
 
     ghost Value = { Past };
 
-    ghost view = { λ d. record { start = d.start.items; records = d.records.items; failures = d.failures.count; fuse = d.fuse; calls = d.calls } };
+    ghost view = { λ d. record { start = d.start.items; records = d.records.items; failures = d.failures.count; fuse = d.fuse; trip = d.trip; calls = d.calls } };
 
     ghost invariant = { λ d. IsTied d.start.items d.records.items d.sure.items d.seen.items };
 }
@@ -55,12 +57,12 @@ impl Model for MemoryDisk {
 impl MemoryDisk {
     ghost use Rattle.lz_disk.specs.Images.{AreBytes, IsImage};
     ghost use Rattle.lz_disk.specs.declared.memory.Record.TheVariants.{Wrote, Failed, Synced};
-    ghost use Rattle.lz_disk.specs.Records.{after, IsCounted};
+    ghost use Rattle.lz_disk.specs.Records.{after, IsCounted, MustFail};
     ghost use Rattle.lz_disk.specs.Picks.{left_by};
 
     /// A disk with these bytes, all of them sure.
     pub fn new(alloc: Global, bytes: Vec<u8>) -> Result<Self, AllocError>
-        ensures { IfOk result (λ disk. disk ≡ record { start = bytes.items; records = []; failures = 0; fuse = None; calls = 0 }) }
+        ensures { IfOk result (λ disk. disk ≡ record { start = bytes.items; records = []; failures = 0; fuse = None; trip = false; calls = 0 }) }
     {
         Ok(MemoryDisk {
             alloc,
@@ -70,6 +72,7 @@ impl MemoryDisk {
             seen: bytes,
             failures: Failures::new(),
             fuse: None,
+            trip: false,
             calls: 0,
         })
     }
@@ -81,9 +84,17 @@ impl MemoryDisk {
         self.fuse = Some(passes);
     }
 
-    /// A crash, and the start after it. An error leaves the disk as it was.
+    /// Fails the next call, and that one alone. Tripped twice before it, only one call fails. A call that fails by the trip
+    /// is one of those that a fuse lets pass.
+    pub fn trip(&mut self)
+        ensures { self.new ≡ record self.old { trip = true } }
+    {
+        self.trip = true;
+    }
+
+    /// A crash, and the start after it. It takes fuse and trip away. An error leaves the disk as it was.
     pub fn crash(&mut self, pick: Pick) -> Result<(), AllocError>
-        ensures ok { OnOk result (self.new ≡ record self.old { start = left_by pick (after self.old.start self.old.records); records = []; fuse = None }) }
+        ensures ok { OnOk result (self.new ≡ record self.old { start = left_by pick (after self.old.start self.old.records); records = []; fuse = None; trip = false }) }
         ensures image { OnOk result (IsImage (after self.old.start self.old.records) (left_by pick (after self.old.start self.old.records))) }
         ensures err { OnErr result (self.new ≡ self.old) }
     {
@@ -99,11 +110,24 @@ impl MemoryDisk {
         Ok(())
     }
 
-    /// A stop of the process alone: the disk keeps its bytes, and the loose ones stay loose.
+    /// The disk that a crash would leave, beside this one, which stays as it is.
+    pub fn crashed(&self, pick: Pick) -> Result<MemoryDisk, AllocError>
+        ensures disk { IfOk result (λ disk. disk ≡ record { start = left_by pick (after self.now.start self.now.records); records = []; failures = 0; fuse = None; trip = false; calls = self.now.calls }) }
+        ensures image { IfOk result (λ disk. IsImage (after self.now.start self.now.records) disk.start) }
+    {
+        let text = self.left_by(pick)?;
+        known_bytes(&text);
+        let mut disk = MemoryDisk::new(self.alloc, text)?;
+        disk.calls = self.calls;
+        Ok(disk)
+    }
+
+    /// A stop of the process alone: the disk keeps its bytes, and the loose ones stay loose. It takes fuse and trip away.
     pub fn stop(&mut self)
-        ensures { self.new ≡ record self.old { fuse = None } }
+        ensures { self.new ≡ record self.old { fuse = None; trip = false } }
     {
         self.fuse = None;
+        self.trip = false;
     }
 
     /// The bytes as read now.
@@ -120,22 +144,24 @@ impl MemoryDisk {
         self.calls
     }
 
-    // Counts a call, and fails it where the fuse says so.
+    // Counts a call, and fails it where the fuse or the trip says so.
     fn begin(&mut self) -> Result<(), DeviceFault>
         ensures counted { IsCounted self.old self.new }
         ensures records { self.new.records ≡ self.old.records }
-        ensures fuse { IsErr result ↔ (self.old.fuse ≡ Some 0) }
+        ensures fuse { IsErr result ↔ MustFail self.old }
         ensures failures { self.new.failures ≡ (if is_err result then self.old.failures + 1 else self.old.failures) }
     {
         self.calls = self.calls.saturating_add(1);
+        let is_tripped = mem::take(&mut self.trip);
         match self.fuse {
-            None => Ok(()),
-            Some(0) => Err(self.fail()),
-            Some(passes) => {
-                self.fuse = Some(passes - 1);
-                Ok(())
-            }
+            None => {}
+            Some(0) => return Err(self.fail()),
+            Some(passes) => self.fuse = Some(passes - 1),
         }
+        if is_tripped {
+            return Err(self.fail());
+        }
+        Ok(())
     }
 
     fn fail(&mut self) -> DeviceFault
@@ -244,28 +270,28 @@ fn fill_range(text: &mut [u8], at: u64, count: u64, byte: u8)
 impl Disk for MemoryDisk {
     ghost use Rattle.lz_disk.specs.Images.{AreBytes, WriteFailed, written, synced};
     ghost use Rattle.lz_disk.specs.Devices.{IsCall};
-    ghost use Rattle.lz_disk.specs.Records.{after, device_of, IsCounted};
+    ghost use Rattle.lz_disk.specs.Records.{after, device_of, IsCounted, MustFail};
     ghost use Rattle.lz_disk.specs.Timely as timely_of;
 
     ghost device = { device_of };
 
     ghost timely = { λ disk honest. timely_of.timely disk };
 
-    /// Fails where the fuse lets no call pass, and nowhere else.
+    /// Fails where the fuse lets no call pass or the disk was tripped, and nowhere else.
     fn size(&mut self) -> Result<u64, DeviceFault>
         ensures call { IsCall (device_of self.old) (device_of self.new) (IsErr result) }
         ensures medium { after self.new.start self.new.records ≡ after self.old.start self.old.records }
         ensures size { IfOk result (λ n. n ≡ length (after self.old.start self.old.records).seen) }
         ensures counted { IsCounted self.old self.new }
         ensures records { self.new.records ≡ self.old.records }
-        ensures fuse { IsErr result ↔ (self.old.fuse ≡ Some 0) }
+        ensures fuse { IsErr result ↔ MustFail self.old }
         ensures failures { self.new.failures ≡ (if is_err result then self.old.failures + 1 else self.old.failures) }
     {
         self.begin()?;
         Ok(self.seen.len() as u64)
     }
 
-    /// Fails where the fuse lets no call pass, and nowhere else.
+    /// Fails where the fuse lets no call pass or the disk was tripped, and nowhere else.
     fn read(&mut self, at: u64, buffer: &mut [u8]) -> Result<(), DeviceFault>
         requires { at + length buffer.old ≤ length (after self.old.start self.old.records).seen }
         ensures call { IsCall (device_of self.old) (device_of self.new) (IsErr result) }
@@ -274,7 +300,7 @@ impl Disk for MemoryDisk {
         ensures buffer { OnErr result (buffer.new ≡ buffer.old) }
         ensures counted { IsCounted self.old self.new }
         ensures records { self.new.records ≡ self.old.records }
-        ensures fuse { IsErr result ↔ (self.old.fuse ≡ Some 0) }
+        ensures fuse { IsErr result ↔ MustFail self.old }
         ensures failures { self.new.failures ≡ (if is_err result then self.old.failures + 1 else self.old.failures) }
     {
         self.begin()?;
@@ -283,7 +309,7 @@ impl Disk for MemoryDisk {
         Ok(())
     }
 
-    /// Fails where the fuse lets no call pass, and otherwise only for want of memory. No byte as read changes in a write
+    /// Fails where the fuse lets no call pass or the disk was tripped, and otherwise only for want of memory. No byte as read changes in a write
     /// that fails.
     fn write(&mut self, at: u64, bytes: &[u8]) -> Result<(), DeviceFault>
         requires { at ≤ length (after self.old.start self.old.records).seen }
@@ -294,9 +320,9 @@ impl Disk for MemoryDisk {
 
         // It changes no byte as read, and for want of memory nothing at all.
         ensures unread { OnErr result ((after self.new.start self.new.records).seen ≡ (after self.old.start self.old.records).seen) }
-        ensures undone { OnErr result (self.old.fuse ≢ Some 0 → self.new.records ≡ self.old.records) }
+        ensures undone { OnErr result (¬ MustFail self.old → self.new.records ≡ self.old.records) }
         ensures counted { IsCounted self.old self.new }
-        ensures fuse { OnOk result (self.old.fuse ≢ Some 0) }
+        ensures fuse { OnOk result (¬ MustFail self.old) }
         ensures failures { self.new.failures ≡ (if is_err result then self.old.failures + 1 else self.old.failures) }
     {
         if let Err(fault) = self.begin() {
@@ -309,14 +335,14 @@ impl Disk for MemoryDisk {
         }
     }
 
-    /// Fails where the fuse lets no call pass, and otherwise only for want of memory.
+    /// Fails where the fuse lets no call pass or the disk was tripped, and otherwise only for want of memory.
     fn sync(&mut self) -> Result<(), DeviceFault>
         ensures call { IsCall (device_of self.old) (device_of self.new) (IsErr result) }
         ensures synced { OnOk result (after self.new.start self.new.records ≡ synced (after self.old.start self.old.records)) }
         ensures bytes { OnOk result (AreBytes (after self.new.start self.new.records).seen) }
         ensures failed { OnErr result (after self.new.start self.new.records ≡ after self.old.start self.old.records) }
         ensures counted { IsCounted self.old self.new }
-        ensures fuse { OnOk result (self.old.fuse ≢ Some 0) }
+        ensures fuse { OnOk result (¬ MustFail self.old) }
         ensures failures { self.new.failures ≡ (if is_err result then self.old.failures + 1 else self.old.failures) }
     {
         self.begin()?;
