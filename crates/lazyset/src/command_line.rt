@@ -31,6 +31,24 @@ fn run<'a>(alloc: Global) -> Result<Command<'a>, AllocError> {
         .arg(file(alloc))
 }
 
+fn check<'a>(alloc: Global) -> Result<Command<'a>, AllocError> {
+    Command::new(alloc, "check")
+        .about(
+            "Says what the file holds: a line for each slot that isn't closed, and `good` or `damaged`",
+        )
+        .arg(file(alloc))
+}
+
+fn judge<'a>(alloc: Global) -> Result<Command<'a>, AllocError> {
+    Command::new(alloc, "judge")
+        .about("Judges a history by the points of its calls: `good`, or the first flaw")
+        .arg(
+            Arg::new(alloc, "FILE").required(true).help(
+                "The history: the lines of a rehearsal, and `point I P` for call I",
+            ),
+        )
+}
+
 /// The command line that the program understands.
 pub fn command_line<'a>(alloc: Global) -> Result<Command<'a>, AllocError> {
     Command::new(alloc, "lazyset")
@@ -39,7 +57,9 @@ pub fn command_line<'a>(alloc: Global) -> Result<Command<'a>, AllocError> {
         )
         .subcommand_required(true)
         .subcommand(make(alloc)?)?
-        .subcommand(run(alloc)?)
+        .subcommand(run(alloc)?)?
+        .subcommand(check(alloc)?)?
+        .subcommand(judge(alloc)?)
 }
 
 /// What the parser's error ends the program with: help is no fault, and want of memory none of the command line's.

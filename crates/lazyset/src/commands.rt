@@ -2,9 +2,10 @@
 use crate::command_line::{command_line, fault_of};
 use crate::fault::Fault;
 use clap::ArgMatches;
-use lazyset_commands::{Status, make_on, run_on};
+use lazyset_commands::{MOST_JUDGED, MOST_SURVEYED, Status, check_on, judge_on, make_on, run_on};
 use lz_disk::FileDisk;
 use std::fs::File;
+use std::io::{ErrorKind, Read};
 use std::rt::{Env, Files};
 use std::{env, io};
 
@@ -26,6 +27,8 @@ where
 {
     match matches.subcommand() {
         Some(("make", matches)) => make(rt, matches),
+        Some(("check", matches)) => check(rt, matches),
+        Some(("judge", matches)) => judge(rt, matches),
         Some((_, matches)) => run_file(rt, matches),
         None => Ok(Status::CommandLine),
     }
@@ -56,4 +59,55 @@ where
     let disk = open(rt, matches, false)?;
     let (status, _disk) = run_on(rt.alloc(), &mut rt.reader(), &mut io::writer(rt), disk);
     Ok(status)
+}
+
+fn check<R>(rt: &R, matches: &ArgMatches<'_>) -> Result<Status, Fault>
+where
+    R: Files<File = File> + Print + AllocGlobal,
+{
+    let bytes = read_front(rt, matches, MOST_SURVEYED)?;
+    Ok(check_on(rt.alloc(), bytes.as_slice(), &mut io::writer(rt)))
+}
+
+fn judge<R>(rt: &R, matches: &ArgMatches<'_>) -> Result<Status, Fault>
+where
+    R: Files<File = File> + Print + AllocGlobal,
+{
+    let bytes = read_front(rt, matches, MOST_JUDGED)?;
+    Ok(judge_on(rt.alloc(), bytes.as_slice(), &mut io::writer(rt)))
+}
+
+// The file, for reading. A directory is none.
+fn open_readable<R: Files<File = File>>(rt: &R, matches: &ArgMatches<'_>) -> Result<File, Fault> {
+    let path = matches.get_str("FILE").unwrap_or("");
+    let Ok(file) = File::open(rt, path) else {
+        return Err(Fault::NoFile);
+    };
+    match file.metadata() {
+        Ok(metadata) if metadata.is_dir() => Err(Fault::NoFile),
+        _ => Ok(file),
+    }
+}
+
+// The file's bytes, up to so many.
+fn read_front<R>(rt: &R, matches: &ArgMatches<'_>, most: usize) -> Result<Vec<u8>, Fault>
+where
+    R: Files<File = File> + AllocGlobal,
+{
+    let mut file = open_readable(rt, matches)?;
+    let mut bytes: Vec<u8> = Vec::new(rt.alloc());
+    let mut piece = [0; 4096];
+    for _ in 0..u64::MAX {
+        match file.read(&mut piece) {
+            Ok(0) => break,
+            Ok(count) => bytes.extend_from_slice(&piece[..count])?,
+            Err(error) if error.kind() == ErrorKind::Interrupted => {}
+            Err(_) => return Err(Fault::NoRead),
+        }
+        if bytes.len() >= most {
+            break;
+        }
+    }
+    bytes.truncate(most);
+    Ok(bytes)
 }

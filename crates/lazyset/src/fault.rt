@@ -1,4 +1,4 @@
-//! What ends a command before it has a disk to work on.
+//! What ends a command before it has what it works on.
 use lazyset_commands::Status;
 use std::alloc::AllocError;
 use std::io;
@@ -8,6 +8,8 @@ use thiserror::Error;
 pub enum Fault {
     #[error("nofile\n")]
     NoFile,
+    #[error("noread\n")]
+    NoRead,
     #[error("nomemory\n")]
     Memory(#[from(alloc)] AllocError),
     #[error("noarguments\n")]
@@ -22,7 +24,7 @@ impl Fault {
     pub fn status(&self) -> Status {
         match self {
             Fault::NoFile => Status::Refused,
-            Fault::Memory(_) | Fault::NoArguments(_) => Status::Failed,
+            Fault::NoRead | Fault::Memory(_) | Fault::NoArguments(_) => Status::Failed,
             Fault::CommandLine { status, .. } => *status,
         }
     }

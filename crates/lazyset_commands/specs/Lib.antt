@@ -3,3 +3,5 @@ pub mod Ends
 pub mod Makings
 pub mod Asks
 pub mod Runs
+pub mod Checks
+pub mod Judgements

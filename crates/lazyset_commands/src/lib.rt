@@ -1,12 +1,17 @@
 //! What each command of the program does, over any reader, writer and disk.
 #![tactic(auto)]
 
+mod checking;
+mod judging;
 mod making;
 mod plain;
 mod refusal;
 mod running;
 mod status;
+mod telling;
 
+pub use checking::{MOST_SURVEYED, check_on};
+pub use judging::{MOST_JUDGED, judge_on};
 pub use making::make_on;
 pub use plain::{Fault, Plain};
 pub use running::run_on;

@@ -6,6 +6,8 @@ mod commands;
 #[cfg(test)]
 mod crashes;
 #[cfg(test)]
+mod judging;
+#[cfg(test)]
 mod large;
 #[cfg(test)]
 mod lists;
@@ -15,3 +17,5 @@ mod refusals;
 mod sessions;
 #[cfg(test)]
 mod slots;
+#[cfg(test)]
+mod surveying;

@@ -73,3 +73,14 @@ pub mod Showing
 pub mod Readiness
 pub mod Asking
 pub mod SlotsAside
+pub mod AloneServed
+pub mod AloneRuns
+pub mod AloneReach
+pub mod AloneSizes
+pub mod AloneSights
+pub mod AloneFrames
+pub mod AloneWalks
+pub mod AloneFull
+pub mod AloneTurns
+pub mod AloneSized
+pub mod AloneHalts

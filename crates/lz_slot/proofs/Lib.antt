@@ -3,3 +3,4 @@ pub mod Counted
 pub mod Exact
 pub mod Rows
 pub mod Holding
+pub mod Heads

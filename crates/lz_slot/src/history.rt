@@ -1,4 +1,6 @@
 //! What can be seen of a service from outside.
+ghost use Rattle.std.specs.Prelude.{◌≡◌};
+
 use crate::command::Command;
 use crate::key::Key;
 use std::marker::Model;
@@ -29,6 +31,20 @@ impl Model for Found {
     ghost Value = { List ℕ };
 
     ghost view = { λ f. f.keys.items };
+}
+
+impl Found {
+    pub fn new(keys: Vec<Key>) -> Found
+        ensures { result ≡ keys.items }
+    {
+        Found { keys }
+    }
+
+    pub fn keys(&self) -> &[Key]
+        ensures { result.now ≡ self.now }
+    {
+        self.keys.as_slice()
+    }
 }
 
 /// What callers, and whoever runs the service, can see of it. Actors and calls count from 1.

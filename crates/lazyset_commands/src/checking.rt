@@ -1,0 +1,123 @@
+//! The command that says what a file holds.
+ghost use Rattle.std.specs.Prelude.{◌≡◌, ◌⊎◌, ◌++◌, ℕ, IfOk, OnOk};
+ghost use Rattle.std.specs.List.{flat_map};
+ghost use Rattle.std.specs.String.{string_bytes};
+ghost use Rattle.std.specs.Io.KnownBytes.{Appends};
+ghost use Rattle.lz_slot.specs.Sets.{Keys};
+ghost use Rattle.lz_slot.specs.Bytes.{Holds};
+ghost use Rattle.lz_judge.specs.Surveys.{IsSurveyOf};
+ghost use Rattle.lazyset_commands.specs.Makings.{refused_text};
+ghost use Rattle.lazyset_commands.specs.Checks.{IsChecked, finding_text, survey_status, survey_text};
+
+use crate::status::Status;
+use crate::telling::{NO_MEMORY, tell};
+use lz_judge::{Finding, Survey, survey};
+use lz_slot::{Key, Slot};
+use std::alloc::{AllocError, Global};
+use std::io::Write;
+
+/// The most bytes of a file that a survey needs: one more than the longest file of slots has.
+pub const MOST_SURVEYED: usize = 1_048_593;
+
+/// Says what the file with these bytes holds: `refused N` with the fault of its head, or a line for each slot that isn't
+/// closed and then `good` or `damaged`. Failed where a line could not be written, and for want of memory, which says
+/// `nomemory`.
+pub fn check_on<W: Write + Drop>(alloc: Global, bytes: &[u8], writer: &mut W) -> Status
+    ensures told { (result ≡ Status.Failed) ⊎ IsChecked bytes.now result (W.contents writer.old) (W.contents writer.new) }
+
+    // It is done exactly where the file holds a set.
+    ensures done { result ≡ Status.Done → (N : ℕ) × (S : Keys) × Holds bytes.now N S }
+    ensures damaged { (result ≡ Status.Refused) ⊎ (result ≡ Status.Damaged) → (N : ℕ) (S : Keys) → ¬ Holds bytes.now N S }
+{
+    match survey(alloc, bytes) {
+        Ok(survey) => tell_survey(alloc, &survey, writer),
+        Err(AllocError) => tell(writer, Status::Failed, NO_MEMORY),
+    }
+}
+
+// Writes the survey's text.
+fn tell_survey<W: Write + Drop>(alloc: Global, survey: &Survey, writer: &mut W) -> Status
+    ensures { (result ≡ Status.Failed) ⊎ ((result ≡ survey_status survey.now) × Appends (W.contents writer.old) (W.contents writer.new) (survey_text survey.now)) }
+{
+    match text_of(alloc, survey) {
+        Ok(text) => tell(writer, status_of(survey), text.as_bytes()),
+        Err(AllocError) => tell(writer, Status::Failed, NO_MEMORY),
+    }
+}
+
+fn status_of(survey: &Survey) -> Status
+    ensures { result ≡ survey_status survey.now }
+{
+    match survey {
+        Survey::Refused(_) => Status::Refused,
+        Survey::Found(_) if survey.is_good() => Status::Done,
+        Survey::Found(_) => Status::Damaged,
+    }
+}
+
+fn text_of(alloc: Global, survey: &Survey) -> Result<String, AllocError>
+    ensures { IfOk result (λ text. string_bytes text ≡ survey_text survey.now) }
+{
+    match survey {
+        Survey::Refused(fault) => refused_line(alloc, fault.number()),
+        Survey::Found(findings) => {
+            let mut text = lines_of(alloc, findings.as_slice())?;
+            text.push_str(if survey.is_good() {
+                "good\n"
+            } else {
+                "damaged\n"
+            })?;
+            Ok(text)
+        }
+    }
+}
+
+fn refused_line(alloc: Global, number: u8) -> Result<String, AllocError>
+    ensures { IfOk result (λ text. string_bytes text ≡ refused_text number) }
+{
+    format!(in alloc; "refused {number}\n")
+}
+
+// The lines of the findings.
+fn lines_of(alloc: Global, findings: &[Finding]) -> Result<String, AllocError>
+    ensures { IfOk result (λ text. string_bytes text ≡ flat_map finding_text findings.now) }
+{
+    let mut text = String::new(alloc);
+    for finding in findings {
+        add_line(&mut text, *finding)?;
+    }
+    Ok(text)
+}
+
+fn add_line(text: &mut String, finding: Finding) -> Result<(), AllocError>
+    ensures { OnOk result (string_bytes text.new ≡ string_bytes text.old ++ finding_text finding) }
+{
+    match finding {
+        Finding::Key(slot, key) => add_key(text, slot, key),
+        Finding::BadKey(slot) => add_bad_key(text, slot),
+        Finding::Twice(slot, first) => add_twice(text, slot, first),
+    }
+}
+
+fn add_key(text: &mut String, slot: Slot, key: Key) -> Result<(), AllocError>
+    ensures { OnOk result (string_bytes text.new ≡ string_bytes text.old ++ finding_text (Finding.Key slot key)) }
+{
+    let index = slot.index();
+    let key = key.get();
+    write!(text, "slot {index} key {key}\n")
+}
+
+fn add_bad_key(text: &mut String, slot: Slot) -> Result<(), AllocError>
+    ensures { OnOk result (string_bytes text.new ≡ string_bytes text.old ++ finding_text (Finding.BadKey slot)) }
+{
+    let index = slot.index();
+    write!(text, "slot {index} badkey\n")
+}
+
+fn add_twice(text: &mut String, slot: Slot, first: Slot) -> Result<(), AllocError>
+    ensures { OnOk result (string_bytes text.new ≡ string_bytes text.old ++ finding_text (Finding.Twice slot first)) }
+{
+    let index = slot.index();
+    let first = first.index();
+    write!(text, "slot {index} twice {first}\n")
+}

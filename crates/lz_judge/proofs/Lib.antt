@@ -1,0 +1,12 @@
+pub mod Slots
+pub mod Files
+pub mod Passing
+pub mod Laws
+pub mod Floors
+pub mod Lives
+pub mod Orders
+pub mod Turns
+pub mod Readings
+pub mod Followings
+pub mod Pasts
+pub mod Wrongs

@@ -1,0 +1,7 @@
+use Rattle.std.proofs.Common.{take}
+use Rattle.std.specs.Prelude.{reverse}
+use Rattle.lz_judge.specs.Passes.{HasPlaces}
+use Rattle.lz_judge.proofs.census.read_places.Given as goal
+
+abbrev pub invariant-loop-point : goal.invariant-loop-point
+invariant-loop-point l = HasPlaces (reverse (take l.point-index l.points)) l.places

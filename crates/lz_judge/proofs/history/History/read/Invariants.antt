@@ -1,0 +1,9 @@
+use Rattle.std.proofs.Common.{◌+◌, ◌≤◌, length}
+use Rattle.lz_judge.specs.Readers.{IsReader}
+use Rattle.lz_judge.proofs.history.History.read.Given as goal
+
+abbrev pub invariant-loop-end : goal.invariant-loop-end
+invariant-loop-end l = record { reader : IsReader l.reader; within : length l.rest ≤ length l.text; bytes : length l.text ≤ length l.rest + 4194304; line : 1 ≤ l.line }
+
+abbrev pub decreases-loop-end : goal.decreases-loop-end
+decreases-loop-end l = length l.rest

@@ -1,0 +1,35 @@
+use Rattle.std.proofs.Common.{◌≡◌, ◌∙◌, sym, Some, None, true, false}
+use Rattle.std.specs.Prelude.{reverse}
+use Rattle.lz_judge.proofs.Readings.{made_is, only_place, place_point, point_place}
+use Rattle.lz_judge.proofs.judging.flaw_of_points.Goals as goal
+
+pub returns-in-Some-clause-flaw : goal.returns-in-Some-clause-flaw
+returns-in-Some-clause-flaw c =
+    let found = c.stranger.ensures.found c.in-Some.call c.in-Some.is in (
+      found.0,
+      λ made.
+          let e : true ≡ false = sym (made_is (reverse c.args.marks.now) c.in-Some.call made) ∙ sym (c.requires.census.made c.in-Some.call) ∙ found.1 in cc,
+    )
+
+pub returns-in-Some-refused_listed-clause-flaw : goal.returns-in-Some-refused_listed-clause-flaw
+returns-in-Some-refused_listed-clause-flaw c =
+    let call = c.in-Some-refused_listed.call in
+    let found = c.refused_listed.ensures.found call c.in-Some-refused_listed.is in
+    (found.0, (found.1.0, place_point (reverse c.args.points.now) call found.1.0 (sym (c.requires.places call) ∙ found.1.1)))
+
+pub returns-in-Some-unlisted-clause-flaw : goal.returns-in-Some-unlisted-clause-flaw
+returns-in-Some-unlisted-clause-flaw c =
+    let call = c.in-Some-unlisted.call in
+    let found = c.unlisted.ensures.found call c.in-Some-unlisted.is in (
+      found.0,
+      λ p at.
+          let there = point_place (reverse c.args.points.now) call p at in
+          let e : None ≡ Some there.0 = sym found.1 ∙ c.requires.places call ∙ there.1 in cc,
+    )
+
+pub returns-clause-none : goal.returns-clause-none
+returns-clause-none c = λ none. record {
+  placed = λ i p at. c.requires.places i ∙ only_place (reverse c.args.points.now) i p (c.in_ok-call.ensures.1.none c.in_default-2.is i) at;
+  refused = c.refused_listed.ensures.none c.in_default-refused_listed.is;
+  answered = c.unlisted.ensures.none c.in_default-unlisted.is;
+}

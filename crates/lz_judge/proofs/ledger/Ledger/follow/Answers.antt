@@ -1,0 +1,9 @@
+use Rattle.std.proofs.Common.{◌≡◌, sym, subst, false}
+use Rattle.std.specs.Prelude.{IfOk}
+use Rattle.lz_slot.specs.declared.history.Mark.{Mark}
+use Rattle.lz_judge.specs.Records.{MayFollow}
+use Rattle.lz_judge.proofs.ledger.Ledger.follow.Goals as goal
+
+pub returns-in-Call-clause-refuses : goal.returns-in-Call-clause-refuses
+returns-in-Call-clause-refuses c = λ M before.
+    subst (λ (m : Mark). IfOk c.begin.result (λ may. may ≡ false → ¬ MayFollow m M)) (sym c.in-Call.is) (c.begin.ensures.refuses M c.in-Call.field-2 before)

@@ -1,0 +1,7 @@
+use Rattle.std.proofs.Common.{take}
+use Rattle.std.specs.Prelude.{reverse}
+use Rattle.lz_judge.specs.Passes.{Twice}
+use Rattle.lz_judge.proofs.listing.listed_twice.Given as goal
+
+abbrev pub invariant-loop-point : goal.invariant-loop-point
+invariant-loop-point l = Twice (reverse (take l.point-index l.points)) l.seen l.least

@@ -1,0 +1,5 @@
+use Rattle.lz_judge.proofs.Floors.{floored_none}
+use Rattle.lz_judge.proofs.ordering.Floor.new.Goals as goal
+
+pub returns : goal.returns
+returns c = λ places. floored_none places c.new.result c.new.ensures.empty

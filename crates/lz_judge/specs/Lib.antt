@@ -1,0 +1,10 @@
+pub mod Surveys
+pub mod Scans
+pub mod Records
+pub mod Flaws
+pub mod Passes
+pub mod Plays
+pub mod Verdicts
+pub mod Ledgers
+pub mod Lines
+pub mod Readers

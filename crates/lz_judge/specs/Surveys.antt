@@ -1,0 +1,59 @@
+-- What a survey says of a file. Slot i says `says i`.
+use Rattle.std.specs.Prelude.{◌≡◌, ◌≢◌, ℕ, zero, suc, ◌<◌, List, [], ◌∷◌, ◌++◌, map, length, All, Ok, Err, Bool, true, false}
+use Rattle.std.specs.List.{list_all}
+use Rattle.lz_slot.specs.Bytes.{header_read, slot_at}
+use Rattle.lz_slot.specs.declared.slot.SlotRead.{SlotRead}
+use Rattle.lz_slot.specs.declared.slot.SlotRead.TheVariants as read
+use Rattle.lz_judge.specs.declared.finding.Finding.{Finding}
+use Rattle.lz_judge.specs.declared.finding.Finding.TheVariants.{Key, BadKey, Twice}
+use Rattle.lz_judge.specs.declared.finding.Survey.{Survey}
+use Rattle.lz_judge.specs.declared.finding.Survey.TheVariants.{Refused, Found}
+
+-- slot i holds the key k, and no slot below it does
+pub record IsFirst (says : ℕ → SlotRead) (i k : ℕ) : Type 0 where
+  pub holds : says i ≡ read.Member k
+  pub lowest : (j : ℕ) → j < i → says j ≢ read.Member k
+
+-- the finding is true
+abbrev pub IsFinding : (ℕ → SlotRead) → Finding → Type 0
+IsFinding says (Key i k) = IsFirst says i k
+IsFinding says (BadKey i) = says i ≡ read.BadKey
+IsFinding says (Twice i first) = (first < i) × ((k : ℕ) × (says i ≡ read.Member k) × IsFirst says first k)
+
+-- the slot at which it was found
+abbrev pub slot_of : Finding → ℕ
+slot_of (Key i k) = i
+slot_of (BadKey i) = i
+slot_of (Twice i first) = i
+
+-- a slot's index, where the slot isn't closed
+abbrev pub open_slot : SlotRead → ℕ → List ℕ
+open_slot read.Closed i = []
+open_slot (read.Member k) i = i ∷ []
+open_slot read.BadKey i = i ∷ []
+
+-- the slots below n that aren't closed, the lowest first
+abbrev pub open_slots : (ℕ → SlotRead) → ℕ → List ℕ
+open_slots says zero = []
+open_slots says (suc n) = open_slots says n ++ open_slot (says n) n
+
+-- the findings are those of the slots below n: each is true, and there is one for each slot that isn't closed, upwards
+pub record AreFindings (says : ℕ → SlotRead) (n : ℕ) (findings : List Finding) : Type 0 where
+  pub each : All (IsFinding says) findings
+  pub slots : map slot_of findings ≡ open_slots says n
+
+-- what a survey says is so of the file
+abbrev pub IsSurveyOf : List ℕ → Survey → Type 0
+IsSurveyOf t (Refused fault) = header_read t (length t) ≡ Err fault
+IsSurveyOf t (Found findings) = (N : ℕ) × (header_read t (length t) ≡ Ok N) × AreFindings (slot_at t) N findings.items
+
+-- the finding is no damage
+abbrev pub is_sound : Finding → Bool
+is_sound (Key i k) = true
+is_sound (BadKey i) = false
+is_sound (Twice i first) = false
+
+-- the survey found no fault of the head and no damage
+abbrev pub is_good : Survey → Bool
+is_good (Refused fault) = false
+is_good (Found findings) = list_all is_sound findings.items

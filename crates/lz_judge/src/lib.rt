@@ -1,0 +1,26 @@
+//! Two judges of what a set service leaves behind: what a slot file holds, and whether a history with a given order of
+//! its calls is that of one set through stops and crashes.
+//!
+//! The order is Herlihy and Wing's for one life, and that of Izraelevitz, Mendes and Scott over crashes: a history that is
+//! found good is proved to be a chain of lives.
+#![tactic(auto)]
+
+mod census;
+mod finding;
+mod flaw;
+mod history;
+mod judging;
+mod ledger;
+mod line;
+mod listing;
+mod ordering;
+mod playing;
+mod reading;
+mod surveying;
+
+pub use finding::{Finding, Survey};
+pub use flaw::Flaw;
+pub use history::{History, MAX_PLACE, Point};
+pub use judging::judge;
+pub use reading::{MOST_BYTES, MOST_CALLS};
+pub use surveying::survey;

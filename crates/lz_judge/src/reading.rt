@@ -1,0 +1,103 @@
+//! A history out of its text.
+ghost use Rattle.std.specs.Prelude.{◌≡◌, ◌≤◌, ℕ, IfOk, IsTrue, reverse, [], ◌∷◌, IfErr, OnOk, length};
+ghost use Rattle.lz_judge.specs.Readers.{IsReader};
+
+use crate::history::{History, Point};
+use crate::ledger::Ledger;
+use crate::line::{Line, read_line};
+use lz_slot::Mark;
+use memchr::memchr;
+use std::alloc::{AllocError, Global};
+
+/// The most calls of a history.
+pub const MOST_CALLS: usize = 100_000;
+
+/// The most bytes of a history's text.
+pub const MOST_BYTES: usize = 4_194_304;
+
+impl History {
+    /// Reads the text of a history, or tells the number, from 1, of the first line that doesn't read: one that is no line of a
+    /// history, that can't come where it stands, that is one call too many or ends past the most bytes, and what stands after the
+    /// last line feed. Of a longer text one byte more than the most bytes is enough.
+    pub fn read(alloc: Global, text: &[u8]) -> Result<Result<History, u64>, AllocError>
+        ensures within { IfOk result (λ read. OnOk read (length text.now ≤ MOST_BYTES)) }
+        ensures line { IfOk result (λ read. IfErr read (λ line. 1 ≤ line)) }
+    {
+        let mut reader = Reader::new(alloc);
+        let mut rest = text;
+        let mut line: u64 = 1;
+        while let Some(end) = memchr(b'\n', rest) {
+            if text.len() - rest.len() + end >= MOST_BYTES {
+                return Ok(Err(line));
+            }
+            if !reader.take(alloc, &rest[..end])? {
+                return Ok(Err(line));
+            }
+            rest = &rest[end + 1..];
+            line = line.saturating_add(1);
+        }
+        if !rest.is_empty() {
+            return Ok(Err(line));
+        }
+        Ok(Ok(reader.finish()))
+    }
+}
+
+// What was read so far.
+#[derive(Drop)]
+struct Reader {
+    marks: Vec<Mark>,
+    points: Vec<Point>,
+    ledger: Ledger,
+}
+
+impl Reader {
+    fn new(alloc: Global) -> Reader
+        ensures { IsReader result }
+    {
+        Reader {
+            marks: Vec::new(alloc),
+            points: Vec::new(alloc),
+            ledger: Ledger::new(alloc),
+        }
+    }
+
+    // Takes the next line, and tells whether it reads.
+    fn take(&mut self, alloc: Global, line: &[u8]) -> Result<bool, AllocError>
+        requires { IsReader self.old }
+        ensures { IfOk result (λ reads. IsTrue reads → IsReader self.new) }
+    {
+        match read_line(alloc, line)? {
+            Some(Line::Seen(mark)) => self.see(mark),
+            Some(Line::Placed(point)) => {
+                self.points.push(point)?;
+                Ok(true)
+            }
+            Some(Line::Other) => Ok(true),
+            None => Ok(false),
+        }
+    }
+
+    // Takes a mark, where it may come.
+    fn see(&mut self, mark: Mark) -> Result<bool, AllocError>
+        requires { IsReader self.old }
+        ensures { IfOk result (λ reads. IsTrue reads → IsReader self.new) }
+    {
+        if !self.ledger.follow(&mark)? {
+            return Ok(false);
+        }
+        if self.ledger.calls() > MOST_CALLS {
+            return Ok(false);
+        }
+        self.marks.push(mark)?;
+        Ok(true)
+    }
+
+    fn finish(self) -> History
+        requires { IsReader self }
+        ensures marks { result.marks ≡ reverse self.marks.items }
+        ensures points { result.points ≡ reverse self.points.items }
+    {
+        History::new(self.marks, self.points)
+    }
+}
