@@ -84,3 +84,4 @@ pub mod AloneFull
 pub mod AloneTurns
 pub mod AloneSized
 pub mod AloneHalts
+pub mod InTime
