@@ -85,3 +85,13 @@ pub mod AloneTurns
 pub mod AloneSized
 pub mod AloneHalts
 pub mod InTime
+pub mod Lines
+pub mod Members
+pub mod Filled
+pub mod Arranged
+pub mod Founding
+pub mod Opened
+pub mod Fitting
+pub mod Called
+pub mod Keeping
+pub mod Texts

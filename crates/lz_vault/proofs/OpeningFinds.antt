@@ -152,6 +152,18 @@ steady_at syncs Opening key written steady = absurd steady
 steady_at syncs Open key written steady = elim (nat_lt written syncs) as (λ b. IsSteady (if b then Open else Open)) [ true ↦ tt | false ↦ tt ]
 steady_at syncs Closing key written steady = absurd steady
 
+blank_at : (stage : Stage) (key written : ℕ) → IsSteady stage → (stage ≡ Closed → key ≡ 0) → (cell_at 0 (record { stage = stage; key = key; written = written })).stage ≡ Closed → key ≡ 0
+blank_at Closed key written steady blank shut = blank refl
+blank_at KeyLoose key written steady blank shut = absurd steady
+blank_at Keyed key written steady blank shut = absurd steady
+blank_at Opening key written steady blank shut = absurd steady
+blank_at Open key written steady blank shut = absurd (open_shut (nat_lt written 0) shut)
+  where
+    open_shut : (b : Bool) → (if b then Open else Open) ≡ Closed → ⊥
+    open_shut true h = absurd cc
+    open_shut false h = absurd cc
+blank_at Closing key written steady blank shut = absurd steady
+
 -- what an open finds, and what its vault is to begin with
 module _ (before after : Device) (entries : List Entry) (finds : Finds before after entries) where
   keeps : IsTrue before.honest → Keeps (cells_at 0 entries) false after.medium
@@ -180,5 +192,9 @@ module _ (before after : Device) (entries : List Entry) (finds : Finds before af
     steady = λ i cell there.
         let from = from_map (cell_at 0) entries i cell there in
         subst (λ (c : Cell). IsSteady c.stage) (sym from.2) (steady_at 0 from.0.stage from.0.key from.0.written (finds.fresh i from.0 from.1).2);
+    blank = λ i cell there shut.
+        let from = from_map (cell_at 0) entries i cell there in
+        let fresh = finds.fresh i from.0 from.1 in
+        ap (λ (c : Cell). c.key) from.2 ∙ blank_at from.0.stage from.0.key from.0.written fresh.2 fresh.3 (ap (λ (c : Cell). c.stage) (sym from.2) ∙ shut);
     kept = keeps;
   }

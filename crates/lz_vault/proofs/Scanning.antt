@@ -35,9 +35,9 @@ push_cases {X} xs new x i there =
     inr (slice_get-get_or xs i x low ∙ ap (λ (c : X). Some c) (sym (get_or_append_left xs (new ∷ []) x i low) ∙ get_or_from_slice_get (xs ++ new ∷ []) i x x there)))
     (cases_eq i (length xs))
 
-pub fresh_pushed : (entries : List Entry) (new : Entry) → AreFresh entries → new.written ≡ 0 → new.key ≤ largest_key → IsSteady new.stage → AreFresh (entries ++ new ∷ [])
-fresh_pushed entries new fresh never range steady = λ i entry there. ⊎_elim
-    (λ last. subst (λ (e : Entry). (e.written ≡ 0) × (e.key ≤ largest_key) × IsSteady e.stage) (sym last.1) (never, range, steady))
+pub fresh_pushed : (entries : List Entry) (new : Entry) → AreFresh entries → new.written ≡ 0 → new.key ≤ largest_key → IsSteady new.stage → (new.stage ≡ Closed → new.key ≡ 0) → AreFresh (entries ++ new ∷ [])
+fresh_pushed entries new fresh never range steady blank = λ i entry there. ⊎_elim
+    (λ last. subst (λ (e : Entry). (e.written ≡ 0) × (e.key ≤ largest_key) × IsSteady e.stage × (e.stage ≡ Closed → e.key ≡ 0)) (sym last.1) (never, range, steady, blank))
     (fresh i entry)
     (push_cases entries new entry i there)
 

@@ -34,6 +34,10 @@ pub record AreFound (t : List ℕ) (cells : List Cell) : Type 0 where
   pub each : (i : ℕ) (cell : Cell) → slice_get cells i ≡ Some cell → IsCellOf (slot_at t i) cell
   pub held : Holds t (length cells) (keys_of cells)
 
+-- a slot that is closed has key 0
+abbrev pub AreBlank : List Cell → Type 0
+AreBlank cells = (i : ℕ) (cell : Cell) → slice_get cells i ≡ Some cell → cell.stage ≡ Closed → cell.key ≡ 0
+
 -- An open succeeded: it made sure what is read, and wrote nothing.
 pub record Opens (before after : Device) (memory : Vaulted) : Type 0 where
   pub fresh : (memory.syncs ≡ 0) × (memory.dead ≡ false)
@@ -43,6 +47,7 @@ pub record Opens (before after : Device) (memory : Vaulted) : Type 0 where
   pub faults : before.faults ≤ after.faults
   pub found : IsTrue before.honest → AreFound before.medium.seen memory.cells
   pub steady : AreSteady memory.cells
+  pub blank : AreBlank memory.cells
   pub kept : IsTrue before.honest → Keeps memory.cells false after.medium
 
 -- the slots below n have no fault

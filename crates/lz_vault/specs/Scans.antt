@@ -14,14 +14,15 @@ use Rattle.lz_disk.specs.Devices.{Device, LeavesOnly}
 use Rattle.lz_vault.specs.Opens.{IsCellOf}
 use Rattle.lz_vault.specs.Stages.{IsSteady}
 use Rattle.lz_vault.specs.Vaults.{LeavesEither, cell_at}
+use Rattle.lz_vault.specs.declared.vault.Stage.TheVariants.{Closed}
 use Rattle.lz_vault.specs.declared.vault.Entry.{Entry}
 use Rattle.lz_vault.specs.declared.scan.Scan.{Scan}
 use Rattle.lz_vault.specs.declared.opening.OpenFault.{OpenFault}
 use Rattle.lz_vault.specs.declared.opening.OpenFault.TheVariants.{NotMade, WrongMagic, WrongLength, BadCount, BadKey, Twice, Device as DeviceFailed, Memory}
 
--- each entry is as an open leaves it: no sync was counted, its key is one, and nothing is under way
+-- each entry is as an open leaves it: no sync was counted, its key is one, nothing is under way, and a closed one has no key
 abbrev pub AreFresh : List Entry → Type 0
-AreFresh entries = (i : ℕ) (entry : Entry) → slice_get entries i ≡ Some entry → (entry.written ≡ 0) × (entry.key ≤ largest_key) × IsSteady entry.stage
+AreFresh entries = (i : ℕ) (entry : Entry) → slice_get entries i ≡ Some entry → (entry.written ≡ 0) × (entry.key ≤ largest_key) × IsSteady entry.stage × (entry.stage ≡ Closed → entry.key ≡ 0)
 
 -- the slots below n, where slot i says `says i`, have no fault
 pub record AreClear (says : ℕ → SlotRead) (n : ℕ) : Type 0 where

@@ -1,5 +1,6 @@
 use Rattle.std.proofs.Common.{◌≡◌, ℕ, ap, sym, refl, subst, ◌∙◌, ◌++◌, [], ◌∷◌, length, rules, arith}
 use Rattle.lz_slot.specs.declared.slot.SlotRead.TheVariants as read
+use Rattle.lz_vault.specs.declared.vault.Stage.TheVariants.{Closed, Open}
 use Rattle.lz_vault.specs.Stages.{IsSteady}
 use Rattle.lz_vault.specs.Scans.{Scanned, AreFresh, AreClear}
 use Rattle.lz_vault.proofs.Scanning.{fresh_pushed, push_closed, push_member, scanned_clear}
@@ -18,14 +19,17 @@ returns-in-Ok-Some-clause-scan c = λ says here before.
     let at : c.new-place.result ≡ length c.args.self.now.entries.items = search rules in
     (omega (arith, at), subst (AreClear says) (sym at) (scanned_clear says _ _ before), omega (arith, at, f.0), (c.get-key.result, f.1, ap says at ∙ member))
 
+open_shut : Open ≡ Closed → ⊥
+open_shut h = absurd cc
+
 pub returns-in-Ok-clause-fresh : goal.returns-in-Ok-clause-fresh
 returns-in-Ok-clause-fresh c = λ before. elim c.match-slot.branch [
   | in-Closed w ↦
       let items = c.in-Ok.ensures.items ∙ ap (λ s. s.entries.items ++ c.match-slot.entry ∷ []) w.self-is in
-      subst AreFresh (sym items) (fresh_pushed _ c.match-slot.entry before (ap (λ e. e.written) w.entry-is) (omega (arith, ap (λ e. e.key) w.entry-is)) (subst IsSteady (sym (ap (λ e. e.stage) w.entry-is)) tt))
+      subst AreFresh (sym items) (fresh_pushed _ c.match-slot.entry before (ap (λ e. e.written) w.entry-is) (omega (arith, ap (λ e. e.key) w.entry-is)) (subst IsSteady (sym (ap (λ e. e.stage) w.entry-is)) tt) (λ shut. ap (λ e. e.key) w.entry-is))
   | in-Member+in-Ok-None w ↦
       let items = c.in-Ok.ensures.items ∙ ap (λ s. s.entries.items ++ c.match-slot.entry ∷ []) w.self-is in
-      subst AreFresh (sym items) (fresh_pushed _ c.match-slot.entry before (ap (λ e. e.written) w.entry-is) (omega (arith, ap (λ e. e.key) w.entry-is, w.get-key.ensures.range)) (subst IsSteady (sym (ap (λ e. e.stage) w.entry-is)) tt))
+      subst AreFresh (sym items) (fresh_pushed _ c.match-slot.entry before (ap (λ e. e.written) w.entry-is) (omega (arith, ap (λ e. e.key) w.entry-is, w.get-key.ensures.range)) (subst IsSteady (sym (ap (λ e. e.stage) w.entry-is)) tt) (λ shut. absurd (open_shut (sym (ap (λ e. e.stage) w.entry-is) ∙ shut))))
 ]
 
 pub returns-in-Ok-clause-scan : goal.returns-in-Ok-clause-scan
