@@ -26,7 +26,7 @@ use Rattle.lz_core.specs.declared.caller.Progress.TheVariants.{Playing, LoadsHal
 use Rattle.lz_core.specs.Yards.{Shape, Yard, actor_at}
 use Rattle.lz_core.specs.Table.{course, line, line_call, line_failed}
 use Rattle.lz_core.specs.Calls.{first_progress, progress_after, event_at, loaded}
-use Rattle.lz_core.specs.Runs.{Start, IsStart, Caller, Service, State, Up, Down, Step, Calls, Turn, Fails, Looks, Trips, Stops, Crashes, CrashesIn, Opens, OpenFails, Point, MayStep, MayLeave, LeftInside, looked, HasTurn, HasFault, IsRun, run, first_point, point_after, caller_at, next_event, reply_at, moved_on, after_turn, after_fault, opened_service, marks_of_turn, mark_of_turn, mark_of, turn_publishes, shape_of, start_keys, keys_found, IsActor}
+use Rattle.lz_core.specs.Runs.{Start, IsStart, Caller, Service, State, Up, Down, Step, Calls, Turn, Fails, Looks, Trips, Stops, Crashes, CrashesIn, Opens, OpenFails, Point, MayStep, MayLeave, LeftInside, looked, HasTurn, HasFault, IsRun, run, first_point, point_after, caller_at, next_event, reply_at, moved_on, after_turn, after_fault, opened_service, marks_of_turn, mark_of_turn, mark_of, turn_publishes, start_keys, keys_found, IsActor}
 use Rattle.lz_core.specs.Sound.{View, Relies, IsCaller, view_of, pin_in, StateSound, HasList, PointSound, IsSound}
 use Rattle.lz_core.specs.Alone.{IsOwn, IsAlone, has_cut, IsPlain, ArePlain, AloneIsPlain}
 use Rattle.lz_core.proofs.Sound.{point}

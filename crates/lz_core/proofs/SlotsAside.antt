@@ -1,5 +1,5 @@
 -- How many slots a yard has plays no part in the order of a call's events.
-use Rattle.std.proofs.Common.{◌≡◌, ℕ, Bool, Option, refl}
+use Rattle.std.proofs.Common.{◌≡◌, ℕ, Option, refl}
 use Rattle.lz_slot.specs.declared.command.Command.{Command}
 use Rattle.lz_list.specs.declared.walk.Look.{Look}
 use Rattle.lz_core.specs.declared.event.Outcome.{Outcome}

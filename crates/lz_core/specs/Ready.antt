@@ -1,8 +1,7 @@
 -- What an event's calls of the lower crates ask for, where the event is played.
-use Rattle.std.specs.Prelude.{◌≡◌, ◌⊎◌, ℕ, ◌<◌, ◌≤◌, true, length, Option, Some, IfSome}
+use Rattle.std.specs.Prelude.{◌≡◌, ◌⊎◌, ℕ, ◌<◌, ◌≤◌, true, length, Some, IfSome}
 use Rattle.lz_vault.specs.declared.vault.Stage.TheVariants.{Keyed, Opening, Open}
 use Rattle.lz_allot.specs.Allots.{IsTakenAt}
-use Rattle.lz_list.specs.declared.word.Word.{Word}
 use Rattle.lz_list.specs.declared.word.Word.TheVariants.{Link as link_at, Key as key_at}
 use Rattle.lz_list.specs.Words.{link_to}
 use Rattle.lz_list.specs.Lists.{IsWord, IsPlace, IsCurr, MayLinkAt, MayUnlinkAt, KeepsList}

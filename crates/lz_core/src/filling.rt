@@ -90,11 +90,7 @@ pub(crate) fn members_of<D: Disk>(
 }
 
 // Takes a member, whose key must not be there.
-fn note_member(
-    members: &mut BTreeMap<u64, Slot>,
-    key: u64,
-    slot: Slot,
-) -> Result<(), OpenFault>
+fn note_member(members: &mut BTreeMap<u64, Slot>, key: u64, slot: Slot) -> Result<(), OpenFault>
     ensures ok { OnOk result ((members.new.entries ≡ insert_entry nat_cmp members.old.entries key slot) × (get nat_cmp members.old key ≡ None)) }
     ensures err { IfErr result (λ fault. (fault ≡ OpenFault.Memory) ⊎ ((first : ℕ) × (fault ≡ OpenFault.Twice first slot) × (get nat_cmp members.old key ≡ Some first))) }
 {
