@@ -1,18 +1,21 @@
 -- A yard that was opened over an honest device is that of the text read.
-use Rattle.std.proofs.Common.{◌≡◌, ◌⊎◌, inl, inr, ⊎_elim, ℕ, zero, suc, ◌+◌, ◌<◌, Bool, true, false, ◌&&◌, ◌||◌, ◌==◌, List, [], ◌∷◌, ◌++◌, length, map, refl, sym, ap, ◌∙◌, subst, arith, length-append}
+use Rattle.std.proofs.Common.{◌≡◌, ◌≢◌, ◌≤◌, ◌*◌, take, ◌⊎◌, inl, inr, ⊎_elim, ℕ, zero, suc, ◌+◌, ◌<◌, Bool, true, false, ◌&&◌, ◌||◌, ◌==◌, List, [], ◌∷◌, ◌++◌, length, map, refl, sym, ap, ◌∙◌, subst, arith, length-append, IsTrue}
 use mathlib.Core.Bool.{false≢true}
 use Rattle.std.specs.Prelude.{slice_get, Some, replicate, slice_index_or, if◌then◌else◌}
 use Rattle.std.specs.List.{range_with_len}
 use Rattle.std.proofs.lemmas.List.{length-map, get_or-map, get_or_append_left, get_or_push, ext_get_or}
 use Rattle.std.proofs.lemmas.List.FromFn.{length-range_with_len, get_or-range_with_len}
 use Rattle.std.proofs.lemmas.Option.{same_Some, slice_get-get_or}
-use Rattle.std.proofs.lemmas.Bool.{cases_eq}
+use Rattle.std.proofs.lemmas.Bool.{cases_eq, cases_Bool}
 use Rattle.std.proofs.lemmas.Bool.Decides.{nat_tests}
 use Rattle.lz_slot.specs.declared.slot.SlotRead.{SlotRead}
 use Rattle.lz_slot.specs.declared.slot.SlotRead.TheVariants.{Closed as Closed_read, Member as Member_read, BadKey as BadKey_read}
-use Rattle.lz_slot.specs.Bytes.{slot_at, held, held_key}
+use Rattle.lz_slot.specs.Limits.{largest_key, most_slots}
+use Rattle.lz_slot.specs.Sets.{members}
+use Rattle.lz_slot.specs.Bytes.{Holds, open_byte, header_body, slot_at, held, held_key}
+use Rattle.lz_disk.specs.Images.{AreBytes}
 use Rattle.lz_vault.specs.declared.vault.Stage.TheVariants.{Closed, Open}
-use Rattle.lz_vault.specs.Stages.{Cell}
+use Rattle.lz_vault.specs.Stages.{Cell, AreSteady}
 use Rattle.lz_vault.specs.Vaults.{Vaulted}
 use Rattle.lz_disk.specs.Devices.{Device}
 use Rattle.lz_vault.specs.declared.opening.OpenFault.{OpenFault}
@@ -24,12 +27,15 @@ use Rattle.lz_list.specs.Words.{Words}
 use Rattle.lz_list.specs.Locks.{NodeLocks}
 use Rattle.lz_list.specs.Lists.{Listed}
 use Rattle.lz_list.specs.declared.word.Word.TheVariants.{Head, Link}
-use Rattle.lz_list.specs.Traces.{Chain, IsFound, has_slot, word_after, words_after, opening}
+use Rattle.lz_list.specs.Traces.{Chain, IsFound, has_key, has_slot, word_after, words_after, opening}
 use Rattle.lz_list.proofs.Tables.{length-table}
 use Rattle.lz_core.specs.declared.actor.Actor.{Actor}
 use Rattle.lz_core.specs.Yards.{Yard, Shape, no_cell, cell_read, use_read, slots_read, opened_yard}
 use Rattle.lz_core.specs.Filling.{member_in, member_at, has_node, AreDistinct, AreTables, HasNoTables}
-use Rattle.lz_core.proofs.FirstNodes.{has_node as node_in, node_held, held_found}
+use Rattle.lz_list.proofs.Absent.{has_insert}
+use Rattle.lz_core.specs.Runs.{IsStart, by_key, keys_found}
+use Rattle.lz_core.proofs.Texts.{text_of, text_size, text_head, text_says, text_bytes}
+use Rattle.lz_core.proofs.FirstNodes.{has_node as node_in, node_has_key, node_held, held_found, key_held}
 use Rattle.lz_core.proofs.Members.{node_cases, node_slot, slot_node, are_found, are_distinct}
 use Rattle.lz_core.proofs.Arranged.{Within, same_words_after}
 use Rattle.lz_core.proofs.Founding.{opened}
@@ -211,3 +217,68 @@ refused_for before after memory fault opens none = record {
   where
     apart : Memory ≡ DeviceFailed → ⊥
     apart h = absurd cc
+
+-- the keys that are listed are those that the text holds
+any_key : (k : ℕ) (F : Chain) → members (map (λ (f : ℕ × ℕ). f.0) F) k ≡ has_key k F
+any_key k [] = refl
+any_key k (f ∷ F) = ap (λ (b : Bool). (f.0 == k) || b) (any_key k F)
+
+key_by : (k : ℕ) (F : Chain) → has_key k (by_key F) ≡ has_key k F
+key_by k [] = refl
+key_by k (f ∷ F) = has_insert k f.0 f.1 (by_key F) ∙ ap (λ (b : Bool). (f.0 == k) || b) (key_by k F)
+
+-- a text that says what distinct cells do holds the set that is listed of it
+pub holds_listed : (t : List ℕ) (N : ℕ) → 1 ≤ N → N ≤ most_slots → length t ≡ 16 + 16 * N → take 16 t ≡ open_byte ∷ header_body N
+    → ((i : ℕ) → i < N → slot_at t i ≢ BadKey_read) → ((i j k : ℕ) → i < N → j < N → slot_at t i ≡ Member_read k → slot_at t j ≡ Member_read k → i ≡ j)
+    → Holds t N (members (keys_found t N))
+holds_listed t N low high size head fine once = record {
+  count = (low, high);
+  size = size;
+  head = head;
+  no_bad_key = fine;
+  no_key_twice = once;
+  set = λ k.
+      let same : members (keys_found t N) k ≡ has_key k (held t N) = any_key k (by_key (held t N)) ∙ key_by k (held t N) in
+      ((λ yes. key_held t N k (sym same ∙ yes)), (λ found. same ∙ node_has_key k found.0 (held t N) (node_held t N k found.0 found.1 found.2)));
+}
+
+-- a text that says what the cells of an open do begins a life
+module _ (vault : Vaulted) (B S : ℕ) (list : Listed) (allot : Allotted) (actors : List Actor) (are : AreTables vault.cells B S list allot actors)
+    (fresh : (vault.syncs ≡ 0) × (vault.dead ≡ false)) (blank : AreBlank vault.cells) (some : (1 ≤ B) × (B ≤ 4096)) (passes : (1 ≤ S) × (S ≤ 64))
+    (count : (1 ≤ length vault.cells) × (length vault.cells ≤ most_slots)) (slots : ℕ) (slots_is : slots ≡ length vault.cells) where
+  abbrev Begins : List ℕ → Type 0
+  Begins t = IsStart (record { shape = record { slots = slots; buckets = B; passes = S }; text = t }) × (opened vault B S slots list allot actors are slots_is ≡ opened_yard (record { slots = slots; buckets = B; passes = S }) t)
+
+  begins : (t : List ℕ) → AreBytes t → length t ≡ 16 + 16 * length vault.cells → take 16 t ≡ open_byte ∷ header_body (length vault.cells)
+      → ((i : ℕ) (cell : Cell) → slice_get vault.cells i ≡ Some cell → IsCellOf (slot_at t i) cell) → Begins t
+  begins t bytes size head each = (
+    record {
+      buckets = some;
+      passes = passes;
+      bytes = bytes;
+      text = subst (λ (n : ℕ). Holds t n (members (keys_found t n))) (sym slots_is) (holds_listed t (length vault.cells) count.0 count.1 size head fine (no_key_twice t vault B S list allot actors are fresh each blank));
+    },
+    yard_is t vault B S list allot actors are fresh each blank slots slots_is,
+  )
+    where
+      bad_cell : (cell : Cell) (r : SlotRead) → r ≡ BadKey_read → IsCellOf r cell → ⊥
+      bad_cell cell r bad is = subst (λ (q : SlotRead). IsCellOf q cell) bad is
+
+      fine : (i : ℕ) → i < length vault.cells → slot_at t i ≢ BadKey_read
+      fine i low bad =
+          let mine : Cell = slice_index_or vault.cells i no_cell in
+          bad_cell mine (slot_at t i) bad (each i mine (slice_get-get_or vault.cells i no_cell low))
+
+  module _ (before : Device) (keys : (i : ℕ) (cell : Cell) → slice_get vault.cells i ≡ Some cell → cell.key ≤ largest_key) (steady : AreSteady vault.cells)
+      (found : IsTrue before.honest → AreFound before.medium.seen vault.cells) (bytes : IsTrue before.honest → AreBytes before.medium.seen) where
+    pub first_yard : (t : List ℕ) × (IsTrue before.honest → t ≡ before.medium.seen) × IsStart (record { shape = record { slots = slots; buckets = B; passes = S }; text = t })
+        × (opened vault B S slots list allot actors are slots_is ≡ opened_yard (record { slots = slots; buckets = B; passes = S }) t)
+    first_yard = elim (cases_Bool before.honest) [
+      | inl honest ↦
+          let told = found honest in
+          let is = begins before.medium.seen (bytes honest) told.held.size told.held.head told.each in
+          (before.medium.seen, (λ yes. refl), is.0, is.1)
+      | inr other ↦
+          let is = begins (text_of vault.cells) (text_bytes vault.cells) (text_size vault.cells) (text_head vault.cells) (text_says vault.cells keys steady) in
+          (text_of vault.cells, (λ yes. absurd (false≢true (sym other ∙ yes))), is.0, is.1)
+    ]

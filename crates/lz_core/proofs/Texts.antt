@@ -1,12 +1,15 @@
 -- A text of these slots: what a device that keeps to nothing may have told, where an open found them.
-use Rattle.std.proofs.Common.{◌≡◌, ℕ, zero, suc, ◌+◌, ◌*◌, ◌-◌, ◌<◌, ◌≤◌, List, [], ◌∷◌, ◌++◌, length, take, get_or, refl, sym, ap, ◌∙◌, subst, arith, length-append}
+use Rattle.std.specs.Int.{byte_at, bytes_high_first}
+use Rattle.std.proofs.Common.{◌≡◌, ⊎_elim, ℕ, zero, suc, ◌+◌, ◌*◌, ◌-◌, ◌<◌, ◌≤◌, List, [], ◌∷◌, ◌++◌, length, take, get_or, refl, sym, ap, ◌∙◌, subst, arith, length-append}
 use Rattle.std.specs.Prelude.{Some, replicate, slice_get}
-use Rattle.std.proofs.lemmas.List.{get_or_append_left, get_or-append_right, get_or-take, length-take}
+use Rattle.std.proofs.lemmas.List.{get_or_append_left, get_or-append_right, get_or-take, length-take, get_or-replicate, get_or_past, length-replicate}
+use Rattle.std.proofs.lemmas.Bool.{cases_lt}
+use Rattle.lz_disk.specs.Images.{AreBytes}
 use Rattle.std.proofs.lemmas.List.Edits.{length-between, get_or-between}
 use Rattle.std.proofs.lemmas.Option.{slice_get_within, get_or_from_slice_get}
 use Rattle.std.proofs.lemmas.Grind.{same_number_lists}
 use Rattle.lz_slot.specs.Limits.{largest_key}
-use Rattle.lz_slot.specs.Bytes.{open_byte, header_body, slot_body, slot_bytes, slot_read, slot_at}
+use Rattle.lz_slot.specs.Bytes.{open_byte, magic, header_body, slot_body, slot_bytes, slot_read, slot_at}
 use Rattle.lz_slot.proofs.Exact.{slot_reads_back}
 use Rattle.lz_vault.specs.declared.vault.Stage.{Stage}
 use Rattle.lz_vault.specs.declared.vault.Stage.TheVariants.{Closed, KeyLoose, Keyed, Opening, Open, Closing}
@@ -89,3 +92,55 @@ text_says cells keys steady i cell there =
     let low = slice_get_within cells i cell there in
     let is : get_or cells i no_cell ≡ cell = get_or_from_slice_get cells i cell no_cell there in
     subst (λ bytes. IsCellOf (slot_read bytes) cell) (sym (text_slot cells i low ∙ ap slot_text is)) (slot_says cell.stage cell.key (keys i cell there) (steady i cell there))
+
+-- the bytes of these texts are bytes
+small_append : (xs ys : List ℕ) → AreBytes xs → AreBytes ys → AreBytes (xs ++ ys)
+small_append xs ys left right i = ⊎_elim
+    (λ low. omega (arith, left i, get_or_append_left xs ys 0 i low))
+    (λ high. omega (arith, right (i - length xs), get_or-append_right xs ys (length xs) i 0 refl high))
+    (cases_lt i (length xs))
+
+zeros_small : (n : ℕ) → AreBytes (replicate n 0)
+zeros_small n i = ⊎_elim
+    (λ low. omega (arith, get_or-replicate {A = ℕ} n i 0 0 low))
+    (λ high. omega (arith, get_or_past {X = ℕ} (replicate n 0) i 0 (omega (arith, high, length-replicate {A = ℕ} n 0))))
+    (cases_lt i n)
+
+byte_small : (k x : ℕ) → byte_at k x < 256
+byte_small zero x = omega arith
+byte_small (suc k) x = omega arith
+
+high_small : (n x i : ℕ) → get_or (bytes_high_first n x) i 0 < 256
+high_small zero x i = grind arith
+high_small (suc n) x zero = byte_small n x
+high_small (suc n) x (suc i) = high_small n x i
+
+magic_small : AreBytes magic
+magic_small zero = omega arith
+magic_small (suc zero) = omega arith
+magic_small (suc (suc zero)) = omega arith
+magic_small (suc (suc (suc zero))) = omega arith
+magic_small (suc (suc (suc (suc zero)))) = omega arith
+magic_small (suc (suc (suc (suc (suc zero))))) = omega arith
+magic_small (suc (suc (suc (suc (suc (suc zero)))))) = omega arith
+magic_small (suc (suc (suc (suc (suc (suc (suc i))))))) = omega arith
+
+gate_small : (xs : List ℕ) → AreBytes xs → AreBytes (open_byte ∷ xs)
+gate_small xs all zero = omega arith
+gate_small xs all (suc i) = all i
+
+slot_small : (stage : Stage) (k : ℕ) → AreBytes (slot_text (record { stage = stage; key = k }))
+slot_small Open k = gate_small (slot_body k) (small_append (replicate 7 0) (bytes_high_first 8 k) (zeros_small 7) (high_small 8 k))
+slot_small Closed k = zeros_small 16
+slot_small KeyLoose k = zeros_small 16
+slot_small Keyed k = zeros_small 16
+slot_small Opening k = zeros_small 16
+slot_small Closing k = zeros_small 16
+
+body_small : (cells : List Cell) → AreBytes (body_text cells)
+body_small [] = λ i. omega arith
+body_small (cell ∷ cells) = small_append (slot_text cell) (body_text cells) (slot_small cell.stage cell.key) (body_small cells)
+
+pub text_bytes : (cells : List Cell) → AreBytes (text_of cells)
+text_bytes cells = small_append (open_byte ∷ header_body (length cells)) (body_text cells)
+    (gate_small (header_body (length cells)) (small_append magic (bytes_high_first 8 (length cells)) magic_small (high_small 8 (length cells)))) (body_small cells)

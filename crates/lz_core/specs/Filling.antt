@@ -15,6 +15,7 @@ use Rattle.lz_list.specs.Words.{Words, set, link_with, next_at}
 use Rattle.lz_list.specs.Lists.{Listed, free_locks}
 use Rattle.lz_list.specs.Traces.{Chain, bucket_of, has_slot, opening, words_after}
 use Rattle.lz_core.specs.declared.actor.Actor.{Actor}
+use Rattle.lz_core.specs.Runs.{IsStart}
 use Rattle.lz_core.specs.Yards.{Yard, opened_yard, idle_actor, no_cell}
 
 -- the key that a slot holds, where its gate is open
@@ -69,9 +70,13 @@ pub record AreTables (cells : List Cell) (buckets passes : ℕ) (list : Listed) 
   pub rows : length allot.rows ≡ passes
   pub idle : actors ≡ replicate passes idle_actor
 
--- An open of a yard succeeded: its vault was opened, and where the device is honest the yard is that of the text read.
+-- The yard is that of a text with which a life may begin: the text read, where the device is honest.
+abbrev pub IsFirst : Device → Yard → Type 0
+IsFirst before y = (t : List ℕ) × (IsTrue before.honest → t ≡ before.medium.seen) × IsStart (record { shape = y.shape; text = t }) × (y ≡ opened_yard y.shape t)
+
+-- An open of a yard succeeded: its vault was opened, and the yard is that of the text read.
 pub record OpensYard (before after : Device) (B S : ℕ) (y : Yard) : Type 0 where
   pub vault : Opens before after y.vault
   pub buckets : y.shape.buckets ≡ B
   pub passes : y.shape.passes ≡ S
-  pub yard : IsTrue before.honest → y ≡ opened_yard y.shape before.medium.seen
+  pub first : IsFirst before y

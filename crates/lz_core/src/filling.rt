@@ -68,8 +68,8 @@ fn key_held<D: Disk>(vault: &Vault<D>, slot: Slot) -> Option<Key>
     }
 }
 
-// The slot of each member, by its key. The vault's scan has refused a file that holds a key twice; a device that isn't
-// honest could tell such a file here.
+// The slot of each member, by its key. The vault's scan has refused a file that holds a key twice, but its contract says so
+// of an honest device alone.
 pub(crate) fn members_of<D: Disk>(
     alloc: Global,
     vault: &Vault<D>,
