@@ -10,3 +10,5 @@ pub mod Readings
 pub mod Followings
 pub mod Pasts
 pub mod Wrongs
+pub mod LineWords
+pub mod TextLines

@@ -8,3 +8,5 @@ pub mod Verdicts
 pub mod Ledgers
 pub mod Lines
 pub mod Readers
+pub mod LinesRead
+pub mod TextsRead

@@ -34,11 +34,6 @@ impl Ledger {
         }
     }
 
-    /// How many calls were made.
-    pub fn calls(&self) -> usize {
-        self.calls.len()
-    }
-
     /// Takes the next mark, and tells whether it may come. The ledger is of no use after one that may not.
     pub fn follow(&mut self, mark: &Mark) -> Result<bool, AllocError>
         ensures follows { (M : List AMark) → IsLedger M self.old.calls self.old.actors self.old.busy self.old.is_living

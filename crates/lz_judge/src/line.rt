@@ -1,9 +1,14 @@
 //! One line of a history.
-ghost use Rattle.std.specs.Prelude.{◌≡◌, ◌≤◌, ◌<◌, ℕ, length, IfOk, IfSome};
+ghost use Rattle.std.specs.Prelude.{◌≡◌, ◌≤◌, ◌∷◌, ℕ, length, All, IfOk, IfSome, option_map};
+ghost use Rattle.std.specs.Int.{IsInRange};
+ghost use Rattle.std.specs.List.{list_all};
+ghost use Rattle.std.specs.Str.Parse.{digits_value};
+ghost use Rattle.lz_slot.specs.Limits.{largest_key};
 ghost use Rattle.lz_judge.specs.Lines.{IsLow};
+ghost use Rattle.lz_judge.specs.LinesRead.{answer_read, answered_read, at_end, busy_read, call_number, call_read, command_named, cut_read, fault_read, is_digit, is_number, keys_from, largest_number, line_read, number_in, number_read, open_read, point_read, refusal_read, refused_read, show_read, take_word, within, words_behind, words_of};
 
 use crate::history::{MAX_PLACE, Point};
-use lz_slot::{Command, Cut, Found, Key, Mark, Refusal};
+use lz_slot::{Command, Cut, Found, Key, MAX_KEY, Mark, Refusal};
 use memchr::memchr;
 use std::alloc::{AllocError, Global};
 
@@ -34,7 +39,8 @@ macro_rules! kinds {
 
 /// What a line says, given without the line feed that ended it; none where it is no line of a history.
 pub fn read_line(alloc: Global, line: &[u8]) -> Result<Option<Line>, AllocError>
-    ensures { IfOk result (λ read. IfSome read IsLow) }
+    ensures low { IfOk result (λ read. IfSome read IsLow) }
+    ensures says { IfOk result (λ read. read ≡ line_read line.now) }
 {
     let (kind, rest) = split_word(line);
     kinds! { kind;
@@ -54,7 +60,7 @@ pub fn read_line(alloc: Global, line: &[u8]) -> Result<Option<Line>, AllocError>
 
 // The first word of a text, and what stands behind the space after it, if there is one.
 fn split_word(text: &[u8]) -> (&[u8], Option<&[u8]>)
-    ensures shorter { IfSome result.1 (λ rest. length rest.now < length text.now) }
+    ensures { words_of text.now ≡ result.0.now ∷ words_behind result.1 }
 {
     match memchr(b' ', text) {
         Some(end) => (&text[..end], Some(&text[end + 1..])),
@@ -63,79 +69,105 @@ fn split_word(text: &[u8]) -> (&[u8], Option<&[u8]>)
 }
 
 fn read_call(text: Option<&[u8]>) -> Option<Line>
-    ensures { IfSome result IsLow }
+    ensures low { IfSome result IsLow }
+    ensures says { result ≡ call_read (words_behind text.entry) }
 {
     let (call, text) = read_call_number(text)?;
     let (actor, text) = read_actor(text)?;
     let (name, text) = split_word(text?);
-    let (key, text) = read_number(text)?;
+    let (key, text) = read_number(text, 0, MAX_KEY)?;
     let mark = Mark::Call(call, actor, command_of(name, key)?);
     read_end(text, Line::Seen(mark))
 }
 
-fn command_of(name: &[u8], key: u64) -> Option<Command> {
+fn command_of(name: &[u8], key: u64) -> Option<Command>
+    ensures { key ≤ largest_key → result ≡ command_named name.now key }
+{
     let key = Key::new(key)?;
-    match name {
-        b"add" => Some(Command::Add(key)),
-        b"remove" => Some(Command::Remove(key)),
-        b"has" => Some(Command::Has(key)),
-        _ => None,
+    if name == b"add".as_slice() {
+        return Some(Command::Add(key));
     }
+    if name == b"remove".as_slice() {
+        return Some(Command::Remove(key));
+    }
+    if name == b"has".as_slice() {
+        return Some(Command::Has(key));
+    }
+    None
 }
 
 fn read_answer(text: Option<&[u8]>) -> Option<Line>
-    ensures { IfSome result IsLow }
+    ensures low { IfSome result IsLow }
+    ensures says { result ≡ answered_read (words_behind text.entry) }
 {
     let (call, text) = read_call_number(text)?;
-    let (answer, text) = split_word(text?);
-    let answer = match answer {
-        b"yes" => true,
-        b"no" => false,
-        _ => return None,
-    };
+    let (word, text) = split_word(text?);
+    let answer = answer_of(word)?;
     read_end(text, Line::Seen(Mark::Answer(call, answer)))
 }
 
+fn answer_of(word: &[u8]) -> Option<bool>
+    ensures { result ≡ answer_read word.now }
+{
+    if word == b"yes".as_slice() {
+        return Some(true);
+    }
+    if word == b"no".as_slice() {
+        return Some(false);
+    }
+    None
+}
+
 fn read_refused(text: Option<&[u8]>) -> Option<Line>
-    ensures { IfSome result IsLow }
+    ensures low { IfSome result IsLow }
+    ensures says { result ≡ refused_read (words_behind text.entry) }
 {
     let (call, text) = read_call_number(text)?;
-    let (why, text) = split_word(text?);
-    let why = match why {
-        b"full" => Refusal::Full,
-        b"worn" => Refusal::Worn,
-        _ => return None,
-    };
+    let (word, text) = split_word(text?);
+    let why = refusal_of(word)?;
     read_end(text, Line::Seen(Mark::Refused(call, why)))
 }
 
+fn refusal_of(word: &[u8]) -> Option<Refusal>
+    ensures { result ≡ refusal_read word.now }
+{
+    if word == b"full".as_slice() {
+        return Some(Refusal::Full);
+    }
+    if word == b"worn".as_slice() {
+        return Some(Refusal::Worn);
+    }
+    None
+}
+
 fn read_cut(text: Option<&[u8]>, why: Cut) -> Option<Line>
-    ensures { IfSome result IsLow }
+    ensures low { IfSome result IsLow }
+    ensures says { result ≡ cut_read why (words_behind text.entry) }
 {
     let (call, text) = read_call_number(text)?;
     read_end(text, Line::Seen(Mark::Cut(call, why)))
 }
 
 fn read_busy(text: Option<&[u8]>) -> Option<Line>
-    ensures { IfSome result IsLow }
+    ensures low { IfSome result IsLow }
+    ensures says { result ≡ busy_read (words_behind text.entry) }
 {
     let (_, text) = read_actor(text)?;
     read_end(text, Line::Other)
 }
 
 fn read_point(text: Option<&[u8]>) -> Option<Line>
-    ensures { IfSome result IsLow }
+    ensures low { IfSome result IsLow }
+    ensures says { result ≡ point_read (words_behind text.entry) }
 {
     let (call, text) = read_call_number(text)?;
-    let (place, text) = read_number(text)?;
-    if place > MAX_PLACE {
-        return None;
-    }
+    let (place, text) = read_number(text, 0, MAX_PLACE)?;
     read_end(text, Line::Placed(Point { call, place }))
 }
 
 fn read_open(alloc: Global, text: Option<&[u8]>) -> Result<Option<Line>, AllocError>
-    ensures { IfOk result (λ read. IfSome read IsLow) }
+    ensures low { IfOk result (λ read. IfSome read IsLow) }
+    ensures says { IfOk result (λ read. read ≡ open_read (words_behind text.entry)) }
 {
     if let Some(words) = text {
         let (word, rest) = split_word(words);
@@ -150,17 +182,16 @@ fn read_open(alloc: Global, text: Option<&[u8]>) -> Result<Option<Line>, AllocEr
 }
 
 fn read_fault(text: Option<&[u8]>) -> Option<Line>
-    ensures { IfSome result IsLow }
+    ensures low { IfSome result IsLow }
+    ensures says { result ≡ fault_read (words_behind text.entry) }
 {
-    let (fault, text) = read_number(text)?;
-    if fault == 0 || fault > MOST_FAULTS {
-        return None;
-    }
+    let (fault, text) = read_number(text, 1, MOST_FAULTS)?;
     read_end(text, Line::Seen(Mark::OpenFailed(fault as u8)))
 }
 
 fn read_show(alloc: Global, text: Option<&[u8]>) -> Result<Option<Line>, AllocError>
-    ensures { IfOk result (λ read. IfSome read IsLow) }
+    ensures low { IfOk result (λ read. IfSome read IsLow) }
+    ensures says { IfOk result (λ read. read ≡ show_read (words_behind text.entry)) }
 {
     match read_keys(alloc, text)? {
         Some(_) => Ok(Some(Line::Other)),
@@ -171,7 +202,8 @@ fn read_show(alloc: Global, text: Option<&[u8]>) -> Result<Option<Line>, AllocEr
 // The line, where nothing stands behind it.
 fn read_end(text: Option<&[u8]>, line: Line) -> Option<Line>
     requires { IsLow line }
-    ensures { IfSome result IsLow }
+    ensures low { IfSome result IsLow }
+    ensures says { result ≡ at_end line (words_behind text.entry) }
 {
     match text {
         Some(_) => None,
@@ -179,66 +211,105 @@ fn read_end(text: Option<&[u8]>, line: Line) -> Option<Line>
     }
 }
 
-// A call's number, which isn't 0, and what stands behind it.
-fn read_call_number(text: Option<&[u8]>) -> Option<(u64, Option<&[u8]>)> {
-    let (call, rest) = read_number(text)?;
-    if call == 0 {
-        return None;
-    }
-    Some((call, rest))
+// A call's number, and what stands behind it.
+fn read_call_number(text: Option<&[u8]>) -> Option<(u64, Option<&[u8]>)>
+    ensures { option_map (λ r. (r.0, words_behind r.1)) result ≡ take_word (number_in 1 largest_number) (words_behind text.entry) }
+{
+    read_number(text, 1, u64::MAX)
 }
 
-fn read_actor(text: Option<&[u8]>) -> Option<(usize, Option<&[u8]>)> {
-    let (actor, rest) = read_number(text)?;
-    if actor == 0 || actor > MOST_ACTORS {
-        return None;
-    }
+fn read_actor(text: Option<&[u8]>) -> Option<(usize, Option<&[u8]>)>
+    ensures { option_map (λ r. (r.0, words_behind r.1)) result ≡ take_word (number_in 1 64) (words_behind text.entry) }
+{
+    let (actor, rest) = read_number(text, 1, MOST_ACTORS)?;
     Some((actor as usize, rest))
 }
 
-// The number that the next word is, and what stands behind it.
-fn read_number(text: Option<&[u8]>) -> Option<(u64, Option<&[u8]>)> {
+// The number from low up to high that the next word is, and what stands behind it.
+fn read_number(text: Option<&[u8]>, low: u64, high: u64) -> Option<(u64, Option<&[u8]>)>
+    ensures words { option_map (λ r. (r.0, words_behind r.1)) result ≡ take_word (number_in low high) (words_behind text.entry) }
+    ensures range { IfSome result (λ r. r.0 ≤ high) }
+{
     let (word, rest) = split_word(text?);
-    Some((number_of(word)?, rest))
+    Some((number_between(word, low, high)?, rest))
 }
 
-// The number of which the word is the plain decimal text: digits, with no zero in front unless it stands alone.
-fn number_of(word: &[u8]) -> Option<u64> {
-    if word.is_empty() || word.len() > 1 && word[0] == b'0' {
+// The number from low up to high that the word is.
+fn number_between(word: &[u8], low: u64, high: u64) -> Option<u64>
+    ensures number { result ≡ number_in low high word.now }
+    ensures range { IfSome result (λ number. number ≤ high) }
+{
+    let number = number_of(word)?;
+    if number < low {
         return None;
     }
+    if number > high {
+        return None;
+    }
+    Some(number)
+}
+
+// The number of which the word is the plain decimal text.
+fn number_of(word: &[u8]) -> Option<u64>
+    ensures { result ≡ number_read word.now }
+{
+    if !is_number(word) {
+        return None;
+    }
+    value_of(word)
+}
+
+// Digits, with no zero in front unless it stands alone.
+fn is_number(word: &[u8]) -> bool
+    ensures { result ≡ is_number word.now }
+{
+    if word.is_empty() || word.len() > 1 && word[0] == b'0' {
+        return false;
+    }
+    are_digits(word)
+}
+
+fn are_digits(word: &[u8]) -> bool
+    ensures { result ≡ list_all is_digit word.now }
+{
+    word.iter().all(|byte| byte.is_ascii_digit())
+}
+
+fn value_of(digits: &[u8]) -> Option<u64>
+    requires { All (IsInRange 48 57) digits.now }
+    ensures { result ≡ within 0 largest_number (digits_value 10 digits.now) }
+{
     let mut number: u64 = 0;
-    for byte in word {
-        if !byte.is_ascii_digit() {
-            return None;
-        }
+    for digit in digits {
         number = number
             .checked_mul(10)?
-            .checked_add(u64::from(*byte - b'0'))?;
+            .checked_add(u64::from(*digit - b'0'))?;
     }
     Some(number)
 }
 
 // The keys that the words are, strictly ascending; none where they aren't.
-fn read_keys(alloc: Global, text: Option<&[u8]>) -> Result<Option<Vec<Key>>, AllocError> {
+fn read_keys(alloc: Global, text: Option<&[u8]>) -> Result<Option<Vec<Key>>, AllocError>
+    ensures { IfOk result (λ read. option_map (λ keys. keys.items) read ≡ keys_from 0 (words_behind text.entry)) }
+{
     let mut keys: Vec<Key> = Vec::new(alloc);
-    let Some(words) = text else {
-        return Ok(Some(keys));
-    };
-    for word in words.split(|byte| *byte == b' ') {
-        match next_key(keys.as_slice(), word) {
-            Some(key) => keys.push(key)?,
-            None => return Ok(None),
-        }
+    let mut least: u64 = 0;
+    let mut rest = text;
+    while let Some(words) = rest {
+        let (word, behind) = split_word(words);
+        let Some(key) = key_of(word, least) else {
+            return Ok(None);
+        };
+        keys.push(key)?;
+        least = key.get() + 1;
+        rest = behind;
     }
     Ok(Some(keys))
 }
 
-// The key that the word is, where it is above those before it.
-fn next_key(keys: &[Key], word: &[u8]) -> Option<Key> {
-    let key = Key::new(number_of(word)?)?;
-    match keys.last() {
-        Some(last) if *last >= key => None,
-        _ => Some(key),
-    }
+// The key from the least one on that the word is.
+fn key_of(word: &[u8], least: u64) -> Option<Key>
+    ensures { result ≡ number_in least largest_key word.now }
+{
+    Key::new(number_between(word, least, MAX_KEY)?)
 }

@@ -1,6 +1,9 @@
 //! A history out of its text.
-ghost use Rattle.std.specs.Prelude.{◌≡◌, ◌≤◌, ℕ, IfOk, IsTrue, reverse, [], ◌∷◌, IfErr, OnOk, length};
-ghost use Rattle.lz_judge.specs.Readers.{IsReader};
+ghost use Rattle.std.specs.Prelude.{◌≡◌, ◌≤◌, ℕ, IfOk, IsTrue, false, reverse, [], ◌∷◌, IfErr, OnOk, length, Some};
+ghost use Rattle.lz_judge.specs.declared.line.Line.{Line as ALine};
+ghost use Rattle.lz_judge.specs.LinesRead.{line_read};
+ghost use Rattle.lz_judge.specs.Readers.{IsReader, seen_by};
+ghost use Rattle.lz_judge.specs.TextsRead.{IsFirstUnread, MayCome, MaySee, Reads, calls_in, with_line};
 
 use crate::history::{History, Point};
 use crate::ledger::Ledger;
@@ -22,6 +25,8 @@ impl History {
     pub fn read(alloc: Global, text: &[u8]) -> Result<Result<History, u64>, AllocError>
         ensures within { IfOk result (λ read. OnOk read (length text.now ≤ MOST_BYTES)) }
         ensures line { IfOk result (λ read. IfErr read (λ line. 1 ≤ line)) }
+        ensures ok { IfOk result (λ read. IfOk read (λ history. (n : ℕ) × Reads n text.now history)) }
+        ensures err { IfOk result (λ read. IfErr read (λ line. IsFirstUnread text.now line)) }
     {
         let mut reader = Reader::new(alloc);
         let mut rest = text;
@@ -49,23 +54,27 @@ struct Reader {
     marks: Vec<Mark>,
     points: Vec<Point>,
     ledger: Ledger,
+    calls: usize,
 }
 
 impl Reader {
     fn new(alloc: Global) -> Reader
-        ensures { IsReader result }
+        ensures reader { IsReader result }
+        ensures nothing { seen_by result ≡ record { marks = []; points = [] } }
     {
         Reader {
             marks: Vec::new(alloc),
             points: Vec::new(alloc),
             ledger: Ledger::new(alloc),
+            calls: 0,
         }
     }
 
     // Takes the next line, and tells whether it reads.
     fn take(&mut self, alloc: Global, line: &[u8]) -> Result<bool, AllocError>
         requires { IsReader self.old }
-        ensures { IfOk result (λ reads. IsTrue reads → IsReader self.new) }
+        ensures reads { IfOk result (λ reads. IsTrue reads → IsReader self.new × ((l : ALine) × (line_read line.now ≡ Some l) × MayCome l (seen_by self.old) × (seen_by self.new ≡ with_line l (seen_by self.old)))) }
+        ensures refuses { IfOk result (λ reads. reads ≡ false → (l : ALine) → line_read line.now ≡ Some l → ¬ MayCome l (seen_by self.old)) }
     {
         match read_line(alloc, line)? {
             Some(Line::Seen(mark)) => self.see(mark),
@@ -81,12 +90,14 @@ impl Reader {
     // Takes a mark, where it may come.
     fn see(&mut self, mark: Mark) -> Result<bool, AllocError>
         requires { IsReader self.old }
-        ensures { IfOk result (λ reads. IsTrue reads → IsReader self.new) }
+        ensures reads { IfOk result (λ reads. IsTrue reads → IsReader self.new × MaySee mark (reverse self.old.marks.items) × (seen_by self.new ≡ with_line (ALine.Seen mark) (seen_by self.old))) }
+        ensures refuses { IfOk result (λ reads. reads ≡ false → ¬ MaySee mark (reverse self.old.marks.items)) }
     {
-        if !self.ledger.follow(&mark)? {
+        self.calls += calls_in(&mark);
+        if self.calls > MOST_CALLS {
             return Ok(false);
         }
-        if self.ledger.calls() > MOST_CALLS {
+        if !self.ledger.follow(&mark)? {
             return Ok(false);
         }
         self.marks.push(mark)?;
@@ -99,5 +110,15 @@ impl Reader {
         ensures points { result.points ≡ reverse self.points.items }
     {
         History::new(self.marks, self.points)
+    }
+}
+
+// How many calls a mark makes.
+fn calls_in(mark: &Mark) -> usize
+    ensures { result ≡ calls_in mark.now }
+{
+    match mark {
+        Mark::Call(..) => 1,
+        _ => 0,
     }
 }

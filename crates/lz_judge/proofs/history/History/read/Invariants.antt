@@ -1,9 +1,17 @@
 use Rattle.std.proofs.Common.{◌+◌, ◌≤◌, length}
-use Rattle.lz_judge.specs.Readers.{IsReader}
+use Rattle.lz_judge.specs.Readers.{IsReader, seen_by}
+use Rattle.lz_judge.specs.TextsRead.{HasRead}
 use Rattle.lz_judge.proofs.history.History.read.Given as goal
 
 abbrev pub invariant-loop-end : goal.invariant-loop-end
-invariant-loop-end l = record { reader : IsReader l.reader; within : length l.rest ≤ length l.text; bytes : length l.text ≤ length l.rest + 4194304; line : 1 ≤ l.line }
+invariant-loop-end l =
+    record {
+      reader : IsReader l.reader;
+      so_far : HasRead l.line l.text l.rest (seen_by l.reader);
+      within : length l.rest ≤ length l.text;
+      bytes : length l.text ≤ length l.rest + 4194304;
+      line : 1 ≤ l.line;
+    }
 
 abbrev pub decreases-loop-end : goal.decreases-loop-end
 decreases-loop-end l = length l.rest

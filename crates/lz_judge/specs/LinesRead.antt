@@ -1,0 +1,166 @@
+-- What a line of a history says, by its words.
+use Rattle.std.specs.Prelude.{ℕ, ◌+◌, ◌==◌, ◌&&◌, Bool, true, false, not, nat_lt, nat_le, nat_eq, if◌then◌else◌, List, [], ◌∷◌, length, slice_index, codes, Option, None, Some, option_map, option_and_then}
+use Rattle.std.specs.List.{list_all, slice_split}
+use Rattle.std.specs.Str.Parse.{digits_value}
+use Rattle.std.specs.Cmp.Lexicographic.{pointwise}
+use denote.Ref.{Bor}
+use Rattle.lz_slot.specs.Limits.{largest_key}
+use Rattle.lz_slot.specs.declared.command.Command.{Command}
+use Rattle.lz_slot.specs.declared.command.Command.TheVariants.{Add, Remove, Has}
+use Rattle.lz_slot.specs.declared.history.Cut.{Cut}
+use Rattle.lz_slot.specs.declared.history.Cut.TheVariants.{Halted, Device}
+use Rattle.lz_slot.specs.declared.history.Refusal.{Refusal}
+use Rattle.lz_slot.specs.declared.history.Refusal.TheVariants.{Full, Worn}
+use Rattle.lz_slot.specs.declared.history.Mark.TheVariants as mark
+use Rattle.lz_judge.specs.declared.line.Line.{Line}
+use Rattle.lz_judge.specs.declared.line.Line.TheVariants.{Seen, Placed, Other}
+use Rattle.lz_judge.specs.Records.{largest_place}
+
+-- the words of a text, parted by one space each
+abbrev pub words_of : List ℕ → List (List ℕ)
+words_of text = slice_split (λ b. b == 32) text
+
+-- the words behind a space, or none where there is no space
+abbrev pub words_behind : Option (Bor (List ℕ)) → List (List ℕ)
+words_behind None = []
+words_behind (Some text) = words_of text.now
+
+-- the word is this one
+abbrev pub is_word : List ℕ → List ℕ → Bool
+is_word word text = pointwise nat_eq word text
+
+-- the byte is a decimal digit
+abbrev pub is_digit : ℕ → Bool
+is_digit b = nat_le 48 b && nat_le b 57
+
+-- a zero stands in front, and not alone
+abbrev pub has_zero_in_front : List ℕ → Bool
+has_zero_in_front word = nat_lt 1 (length word) && (slice_index word 0 == 48)
+
+-- digits, with no zero in front unless it stands alone
+abbrev pub is_number : List ℕ → Bool
+is_number word = nat_lt 0 (length word) && not (has_zero_in_front word) && list_all is_digit word
+
+-- the largest number of a history
+abbrev pub largest_number : ℕ
+largest_number = 18_446_744_073_709_551_615
+
+-- the number, where it lies from the lowest up to the highest
+abbrev pub within : ℕ → ℕ → ℕ → Option ℕ
+within low high n = if nat_le low n && nat_le n high then Some n else None
+
+-- the number of which the word is the plain decimal text
+abbrev pub number_read : List ℕ → Option ℕ
+number_read word = if is_number word then within 0 largest_number (digits_value 10 word) else None
+
+-- the same, where it lies from the lowest up to the highest
+abbrev pub number_in : ℕ → ℕ → List ℕ → Option ℕ
+number_in low high word = option_and_then (within low high) (number_read word)
+
+-- what is read of the first word, and the words behind it
+abbrev pub take_word : {A : Type 0} → (List ℕ → Option A) → List (List ℕ) → Option (A × List (List ℕ))
+take_word read [] = None
+take_word read (word ∷ words) = option_map (λ a. (a, words)) (read word)
+
+-- what is read of the first word, and the words behind it, go on to a reading
+abbrev pub with_word : {A B : Type 0} → (List ℕ → Option A) → List (List ℕ) → (A → List (List ℕ) → Option B) → Option B
+with_word read words go = option_and_then (λ taken. go taken.0 taken.1) (take_word read words)
+
+-- the line, where no word is left
+abbrev pub at_end : Line → List (List ℕ) → Option Line
+at_end line [] = Some line
+at_end line (word ∷ words) = None
+
+-- a call's number
+abbrev pub call_number : List ℕ → Option ℕ
+call_number = number_in 1 largest_number
+
+-- an actor
+abbrev pub actor_number : List ℕ → Option ℕ
+actor_number = number_in 1 64
+
+-- the command of this name on a key
+abbrev pub command_named : List ℕ → ℕ → Option Command
+command_named name key =
+    if is_word name (codes "add") then Some (Add key)
+    else if is_word name (codes "remove") then Some (Remove key)
+    else if is_word name (codes "has") then Some (Has key)
+    else None
+
+-- `call I A add K`, `call I A remove K` or `call I A has K`
+abbrev pub call_read : List (List ℕ) → Option Line
+call_read words =
+    with_word call_number words (λ call words. with_word actor_number words (λ actor words.
+    with_word (λ name. Some name) words (λ name words. with_word (number_in 0 largest_key) words (λ key words.
+    option_and_then (λ command. at_end (Seen (mark.Call call actor command)) words) (command_named name key)))))
+
+-- yes or no
+abbrev pub answer_read : List ℕ → Option Bool
+answer_read word = if is_word word (codes "yes") then Some true else if is_word word (codes "no") then Some false else None
+
+-- `answer I yes` or `answer I no`
+abbrev pub answered_read : List (List ℕ) → Option Line
+answered_read words = with_word call_number words (λ call words. with_word answer_read words (λ answer words. at_end (Seen (mark.Answer call answer)) words))
+
+-- full or worn
+abbrev pub refusal_read : List ℕ → Option Refusal
+refusal_read word = if is_word word (codes "full") then Some Full else if is_word word (codes "worn") then Some Worn else None
+
+-- `refused I full` or `refused I worn`
+abbrev pub refused_read : List (List ℕ) → Option Line
+refused_read words = with_word call_number words (λ call words. with_word refusal_read words (λ why words. at_end (Seen (mark.Refused call why)) words))
+
+-- `halted I` or `device I`
+abbrev pub cut_read : Cut → List (List ℕ) → Option Line
+cut_read why words = with_word call_number words (λ call words. at_end (Seen (mark.Cut call why)) words)
+
+-- `busy A`
+abbrev pub busy_read : List (List ℕ) → Option Line
+busy_read words = with_word actor_number words (λ actor words. at_end Other words)
+
+-- `point I P`
+abbrev pub point_read : List (List ℕ) → Option Line
+point_read words =
+    with_word call_number words (λ call words. with_word (number_in 0 largest_place) words (λ place words. at_end (Placed (record { call = call; place = place })) words))
+
+-- keys from the least one on, each above the one before it
+abbrev pub keys_from : ℕ → List (List ℕ) → Option (List ℕ)
+keys_from least [] = Some []
+keys_from least (word ∷ words) = option_and_then (λ key. option_map (λ keys. key ∷ keys) (keys_from (key + 1) words)) (number_in least largest_key word)
+
+-- `open fault N`
+abbrev pub fault_read : List (List ℕ) → Option Line
+fault_read words = with_word (number_in 1 8) words (λ fault words. at_end (Seen (mark.OpenFailed fault)) words)
+
+-- `open` and keys
+abbrev pub found_read : List (List ℕ) → Option Line
+found_read words = option_map (λ keys. Seen (mark.Opened keys)) (keys_from 0 words)
+
+-- `open` and keys, or `open fault N`
+abbrev pub open_read : List (List ℕ) → Option Line
+open_read [] = found_read []
+open_read (word ∷ words) = if is_word word (codes "fault") then fault_read words else found_read (word ∷ words)
+
+-- `show` and keys
+abbrev pub show_read : List (List ℕ) → Option Line
+show_read words = option_map (λ keys. Other) (keys_from 0 words)
+
+-- what a line of this kind says with the words behind
+abbrev pub kind_read : List ℕ → List (List ℕ) → Option Line
+kind_read kind words =
+    if is_word kind (codes "call") then call_read words
+    else if is_word kind (codes "answer") then answered_read words
+    else if is_word kind (codes "refused") then refused_read words
+    else if is_word kind (codes "halted") then cut_read Halted words
+    else if is_word kind (codes "device") then cut_read Device words
+    else if is_word kind (codes "stop") then at_end (Seen mark.Stop) words
+    else if is_word kind (codes "crash") then at_end (Seen mark.Crash) words
+    else if is_word kind (codes "open") then open_read words
+    else if is_word kind (codes "show") then show_read words
+    else if is_word kind (codes "busy") then busy_read words
+    else if is_word kind (codes "point") then point_read words
+    else None
+
+-- what a line says
+abbrev pub line_read : List ℕ → Option Line
+line_read line = with_word (λ kind. Some kind) (words_of line) kind_read
