@@ -517,11 +517,11 @@ module _ (shape : Shape) (v : View) (c : Command) (P0 P : Trace) (changed : Opti
   progress_not at outcome h on_its_way is = follows_not at outcome h on_its_way
 
 -- Between its calls an actor's pin word is even, in a run without looks; and a call that is refused as worn has the last pin.
-abbrev Fits : Bool → Option Caller → ℕ → Type 0
+abbrev pub Fits : Bool → Option Caller → ℕ → Type 0
 Fits looks None pin = looks ≡ false → pin % 2 ≡ 0
 Fits looks (Some caller) pin = IsWornAt pin caller.progress
 
-abbrev AllFit : Bool → State → Type 0
+abbrev pub AllFit : Bool → State → Type 0
 AllFit looks (Up service disk) = (a : ℕ) → Fits looks (caller_at service.callers a) (pin_of service.yard a)
 AllFit looks (Down shape disk) = Unit {0}
 
@@ -636,7 +636,7 @@ up_at start p service disk sound is = go (lives (start_keys start) p.marks) soun
         let there : StateSound p (Up service disk) life = subst (λ (q : State). StateSound p q life) is h.2 in
         record { n = there.0; life = life; notes = there.1; up = there.2 }
 
-step_fits : (looks : Bool) (start : Start) (w : State) (M : History) (P : Trace) (calls i : ℕ) (step : Step) → IsSound start (point w M P calls) → MayStep w step → AllFit looks w → AllFit (is_look step || looks) (state_after i w step)
+pub step_fits : (looks : Bool) (start : Start) (w : State) (M : History) (P : Trace) (calls i : ℕ) (step : Step) → IsSound start (point w M P calls) → MayStep w step → AllFit looks w → AllFit (is_look step || looks) (state_after i w step)
 step_fits looks start (Up service disk) M P calls i step sound may fits =
     let there = up_at start (point (Up service disk) M P calls) service disk sound refl in
     up_fits looks there.n calls service.yard service.callers disk there.life.history P there.notes there.up.sound fits i step may

@@ -95,3 +95,10 @@ pub mod Fitting
 pub mod Called
 pub mod Keeping
 pub mod Texts
+pub mod Ascending
+pub mod Worlding
+pub mod Timing
+pub mod TurningOn
+pub mod WorldKeys
+pub mod WorldOpens
+pub mod WorldPlays

@@ -21,7 +21,7 @@ use std::marker::Model;
 /// has in hand. Actors count from 1, as their passes do.
 #[derive(Drop)]
 pub struct Yard<D: Disk> {
-    parts: Parts<D>,
+    pub(crate) parts: Parts<D>,
 }
 
 impl<D: Disk> Model for Yard<D> {

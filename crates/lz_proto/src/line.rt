@@ -64,8 +64,9 @@ fn read_request(line: &[u8]) -> Result<Request, Bad>
     Err(Bad::NoCommand)
 }
 
-// The key that the text after a command's word names.
-fn read_key(text: &[u8]) -> Result<Key, Bad>
+/// The key that a text names: digits with no zero in front, unless it stands alone. The fault is `NoNumber` or
+/// `KeyTooLarge`.
+pub fn read_key(text: &[u8]) -> Result<Key, Bad>
     ensures { result ≡ key_read text.now }
 {
     if !is_number(text) {

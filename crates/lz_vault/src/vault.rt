@@ -1,11 +1,11 @@
 //! The vault: an open slot file.
-ghost use Rattle.std.specs.Prelude.{◌∷◌, [], ◌≡◌, ◌+◌, ◌*◌, ◌<◌, ◌≤◌, ℕ, List, length, slice_get, map, slice_set, Some, IfErr, IfOk, IsErrOf, IsTrue};
+ghost use Rattle.std.specs.Prelude.{◌∷◌, [], ◌≡◌, ◌+◌, ◌*◌, ◌<◌, ◌≤◌, ℕ, List, length, slice_get, map, slice_set, Some, true, IfErr, IfOk, IsErrOf, IsTrue};
 ghost use Rattle.lz_disk.specs.Images.{IsImage, AgreeOutside, written};
 ghost use Rattle.lz_slot.specs.Bytes.{closed_byte, open_byte, slot_body, slot_bytes};
 ghost use Rattle.lz_slot.specs.Limits.{largest_key, most_slots};
 
 use crate::opening::{Refused, scan_file};
-use lz_disk::{DeviceFault, Disk};
+use lz_disk::{DeviceFault, Disk, MemoryDisk};
 use lz_slot::{CLOSED_GATE, Key, OPEN_GATE, Slot, slot_body};
 use std::alloc::Global;
 use std::marker::Model;
@@ -258,10 +258,26 @@ impl<D: Disk> Vault<D> {
         }
     }
 
+    /// The disk on which it stands.
+    pub fn disk(&self) -> &D
+        ensures { result.now ≡ self.now.disk }
+    {
+        &self.disk
+    }
+
     /// Ends the life, and hands the disk back as it is.
     pub fn close(self) -> D
         ensures { result ≡ self.disk }
     {
         self.disk
+    }
+}
+
+impl Vault<MemoryDisk> {
+    /// Trips the disk: its next call fails.
+    pub fn trip(&mut self)
+        ensures { self.new ≡ record self.old { disk = record self.old.disk { trip = true } } }
+    {
+        self.disk.trip();
     }
 }

@@ -1,0 +1,241 @@
+-- A world whose disk is opened, or whose open is refused.
+use Rattle.std.proofs.Common.{◌≡◌, inl, inr, ⊎_elim, ℕ, zero, suc, ◌≤◌, true, false, List, [], ◌∷◌, length, map, slice_get, ◌%◌, ◌==◌, Option, Some, None, refl, sym, ap, ◌∙◌, subst, arith, replicate}
+use Rattle.std.proofs.lemmas.List.{length-map, length-replicate, length-append}
+use Rattle.lz_slot.specs.declared.history.Mark.TheVariants.{Opened as opened, OpenFailed as refused}
+use Rattle.lz_slot.specs.Bytes.{Holds, slot_at}
+use Rattle.lz_slot.specs.Sets.{Keys, members}
+use Rattle.lz_slot.specs.Histories.{Life, lives}
+use Rattle.lz_disk.specs.Images.{Medium, AreBytes, at_rest, synced}
+use Rattle.lz_disk.specs.Records.{Past, after, device_of}
+use Rattle.lz_vault.specs.declared.opening.OpenFault.{OpenFault}
+use Rattle.lz_vault.specs.Opens.{IsRefusedFor}
+use Rattle.lz_vault.specs.Makes.{IsFresh}
+use Rattle.lz_core.specs.declared.play.Step.TheVariants.{Open}
+use Rattle.lz_core.specs.declared.open_calls.OpenCall.{OpenCall}
+use Rattle.lz_core.specs.Yards.{Shape, Yard, cell_read, slots_read, opened_yard}
+use Rattle.lz_core.specs.Filling.{OpensYard}
+use Rattle.lz_core.specs.Parts.{YardOver}
+use Rattle.lz_core.specs.Runs.{Caller, Start, IsStart, start_keys, State, Up, Down, Opens, OpenFails, Point, first_point, opened_service, keys_found}
+use Rattle.lz_core.specs.Sound.{StateSound, PointSound, IsSound}
+use Rattle.lz_core.specs.Worlds.{WorldOver, IsNew, IsQuiet, IsWorld, HasOne, HasRun, IsCallOn, PlaysOn, StopsEarly, call_shown, state_shown}
+use Rattle.lz_core.proofs.Reaching.{reached_sound}
+use Rattle.lz_core.proofs.FirstState.{pass_of}
+use Rattle.lz_core.proofs.Opened.{holds_listed}
+use Rattle.lz_core.proofs.Opens.{one_set}
+use Rattle.lz_core.proofs.Worlding.{Goes, leads, runs_on}
+use Rattle.lz_core.proofs.WorldKeys.{yard_read}
+
+-- a text that holds a set holds the one that is listed of it
+listed : (t : List ℕ) (N : ℕ) (S : Keys) → Holds t N S → Holds t N (members (keys_found t N))
+listed t N S h = holds_listed t N h.count.0 h.count.1 h.size h.head h.no_bad_key h.no_key_twice
+
+-- and has one number of slots
+one_count : (t : List ℕ) (N n : ℕ) (S T : Keys) → Holds t N S → Holds t n T → N ≡ n
+one_count t N n S T one other = omega (arith, one.size, other.size)
+
+count_read : (t : List ℕ) (n : ℕ) → length (slots_read t n) ≡ n
+count_read t zero = refl
+count_read t (suc n) = length-append (slots_read t n) (slot_at t n ∷ []) ∙ omega (arith, count_read t n)
+
+-- no calls are shown as none
+none_shown : (n : ℕ) → map call_shown (replicate n None) ≡ replicate n None
+none_shown zero = refl
+none_shown (suc n) = ap (λ (cs : List (Option Caller)). None ∷ cs) (none_shown n)
+
+no_call_on : (shape : Shape) (n i : ℕ) (call : Option OpenCall) → slice_get (replicate n None) i ≡ Some call → IsCallOn shape call
+no_call_on shape zero i call is = absurd cc
+no_call_on shape (suc n) zero None is = tt
+no_call_on shape (suc n) zero (Some call) is = absurd cc
+no_call_on shape (suc n) (suc i) call is = no_call_on shape n i call is
+
+quiet_at_first : (shape : Shape) (t : List ℕ) (disk : Medium) → IsQuiet (Up (opened_service shape t) disk)
+quiet_at_first shape t disk a none = ap (λ (q : ℕ). q % 2 == 0) (pass_of shape.passes a 0)
+
+-- the disk of a world without a service holds a set of as many slots as its shape has
+down_holds : (start : Start) (p : Point) (L : List Life) (shape : Shape) (disk : Medium) → PointSound start p L → p.state ≡ Down shape disk → (S : Keys) × Holds disk.seen shape.slots S
+down_holds start p [] shape disk h is = absurd h
+down_holds start p (life ∷ earlier) shape disk h is =
+    let sound : StateSound p (Down shape disk) life = subst (λ (w : State). StateSound p w life) is h.2 in
+    let list = sound.each disk.seen sound.sound.seen in
+    (list.found, list.holds)
+
+run_holds : (shape : Shape) (disk : Medium) (calls : ℕ) → HasRun shape (record { state = Down shape disk; calls = calls }) → (S : Keys) × Holds disk.seen shape.slots S
+run_holds shape disk calls ran =
+    let sound : IsSound ran.start ran.point = subst (IsSound ran.start) ran.reached.point (reached_sound ran.start ran.reached.steps ran.reached.starts ran.reached.runs) in
+    down_holds ran.start ran.point (lives (start_keys ran.start) ran.point.marks) shape disk sound ran.at.state
+
+module _ (shape : Shape) (before : Past) (over : YardOver Past) (opens : OpensYard (device_of before) (device_of over.disk) shape.buckets shape.passes over.yard) where
+  abbrev disk : Medium
+  disk = after before.start before.records
+
+  slots_is : (S : Keys) → Holds disk.seen shape.slots S → over.yard.shape.slots ≡ shape.slots
+  slots_is S holds =
+      let found = opens.vault.found refl in
+      let one = one_count disk.seen _ shape.slots _ S found.held holds in
+      let cells = ap (λ (y : Yard). length y.vault.cells) (yard_read _ _ _ _ _ opens refl) in
+      sym (cells ∙ length-map (slots_read disk.seen over.yard.shape.slots) cell_read ∙ count_read disk.seen over.yard.shape.slots) ∙ one
+
+  shape_opened : (S : Keys) → Holds disk.seen shape.slots S → over.yard.shape ≡ shape
+  shape_opened S holds =
+      ap (λ (n : ℕ). record { slots = n; buckets = over.yard.shape.buckets; passes = over.yard.shape.passes }) (slots_is S holds)
+      ∙ ap (λ (n : ℕ). record { slots = shape.slots; buckets = n; passes = over.yard.shape.passes }) opens.buckets
+      ∙ ap (λ (n : ℕ). record { slots = shape.slots; buckets = shape.buckets; passes = n }) opens.passes
+
+  pub bytes_read : AreBytes disk.seen
+  bytes_read = subst (λ (m : Medium). AreBytes m.seen) (opens.vault.medium refl) (opens.vault.kept refl).sound.seen.bytes
+
+  state_opened : (S : Keys) (left : Option Past) (callers : List (Option OpenCall)) → Holds disk.seen shape.slots S → callers ≡ replicate shape.passes None
+      → state_shown shape (Some over) left callers ≡ Up (opened_service shape disk.seen) (synced disk)
+  state_opened S left callers holds none =
+      let yard : over.yard ≡ opened_yard shape disk.seen = yard_read _ _ _ _ _ opens refl ∙ ap (λ (s : Shape). opened_yard s disk.seen) (shape_opened S holds) in
+      let calls : map call_shown callers ≡ replicate shape.passes None = ap (λ (cs : List (Option OpenCall)). map call_shown cs) none ∙ none_shown shape.passes in
+      let medium : after over.disk.start over.disk.records ≡ synced disk = opens.vault.medium refl in
+      cc (yard, calls, medium)
+
+  -- a world without a service opens
+  module _ (calls : ℕ) (left : Option Past) (callers : List (Option OpenCall)) (none : callers ≡ replicate shape.passes None) where
+    abbrev old : WorldOver
+    old = record { state = Down shape disk; calls = calls }
+
+    abbrev new : WorldOver
+    new = record { state = state_shown shape (Some over) left callers; calls = calls }
+
+    pub open_goes : (keys : List ℕ) → keys ≡ keys_found disk.seen over.yard.shape.slots → HasRun shape old → Goes old Open Opens (opened keys ∷ []) new
+    open_goes keys found ran =
+        let holds = run_holds shape disk calls ran in
+        let slots = slots_is holds.0 holds.1 in
+        record {
+          is = inl refl;
+          may = listed disk.seen shape.slots holds.0 holds.1;
+          to = sym (state_opened holds.0 left callers holds.1 none);
+          counts = refl;
+          told = ap (λ (ks : List ℕ). opened ks ∷ []) (ap (keys_found disk.seen) (sym slots) ∙ sym found);
+        }
+
+    open_quiet : HasRun shape old → IsQuiet new.state
+    open_quiet ran =
+        let holds = run_holds shape disk calls ran in
+        subst IsQuiet (sym (state_opened holds.0 left callers holds.1 none)) (quiet_at_first shape disk.seen (synced disk))
+
+    pub open_world : (keys : List ℕ) → keys ≡ keys_found disk.seen over.yard.shape.slots → HasOne (Some over) left → HasRun shape old → IsWorld shape (Some over) left callers calls
+    open_world keys found one ran = record {
+      one = one;
+      count = ap length none ∙ length-replicate shape.passes None;
+      on_it = λ i call at. no_call_on shape shape.passes i call (subst (λ (cs : List (Option OpenCall)). slice_get cs i ≡ Some call) none at);
+      ran = runs_on shape old new Open Opens (opened keys ∷ []) ran (open_goes keys found ran) (open_quiet ran);
+    }
+
+  -- and a disk that was just made begins a run
+  module _ (some : (1 ≤ shape.buckets) × (shape.buckets ≤ 4096)) (few : (1 ≤ shape.passes) × (shape.passes ≤ 64)) (made : IsFresh disk shape.slots)
+      (callers : List (Option OpenCall)) (none : callers ≡ replicate shape.passes None) where
+    abbrev first : Start
+    first = record { shape = shape; text = disk.seen }
+
+    starts : IsStart first
+    starts = record { buckets = some; passes = few; bytes = bytes_read; text = listed disk.seen shape.slots (members []) made.empty }
+
+    first_state : state_shown shape (Some over) None callers ≡ Up (opened_service shape disk.seen) (at_rest disk.seen)
+    first_state = state_opened (members []) None callers made.empty none
+
+    pub new_is : IsNew shape (record { state = state_shown shape (Some over) None callers; calls = 0 })
+    new_is = record {
+      start = first;
+      starts = starts;
+      shape = refl;
+      empty = one_set disk.seen shape.slots (start_keys first) (members []) (listed disk.seen shape.slots (members []) made.empty) made.empty;
+      at = record { state = sym first_state; calls = refl };
+    }
+
+    pub new_world : IsWorld shape (Some over) None callers 0
+    new_world = record {
+      one = tt;
+      count = ap length none ∙ length-replicate shape.passes None;
+      on_it = λ i call at. no_call_on shape shape.passes i call (subst (λ (cs : List (Option OpenCall)). slice_get cs i ≡ Some call) none at);
+      ran = record {
+        start = first;
+        shape = refl;
+        point = first_point first;
+        reached = record { steps = []; starts = starts; runs = tt; point = refl };
+        at = record { state = sym first_state; calls = refl };
+        quiet = subst IsQuiet (sym first_state) (quiet_at_first shape disk.seen (at_rest disk.seen));
+      };
+    }
+
+-- an open that is refused leaves the disk as it was, or synced it
+module _ (shape : Shape) (before left : Past) (fault : OpenFault) (is : IsRefusedFor (device_of before) (device_of left) fault) (calls why : ℕ) where
+  abbrev was : Medium
+  was = after before.start before.records
+
+  abbrev from : WorldOver
+  from = record { state = Down shape was; calls = calls }
+
+  abbrev to : WorldOver
+  to = record { state = Down shape (after left.start left.records); calls = calls }
+
+  pub refused_on : PlaysOn from (Open ∷ []) (refused why ∷ []) to
+  refused_on = ⊎_elim
+      (λ (same : after left.start left.records ≡ was). leads from to Open (OpenFails why false) (refused why ∷ [])
+      (record { is = inr (why, false, refl); may = tt; to = ap (Down shape) (sym same); counts = refl; told = refl }))
+      (λ (same : after left.start left.records ≡ synced was). leads from to Open (OpenFails why true) (refused why ∷ [])
+      (record { is = inr (why, true, refl); may = tt; to = ap (Down shape) (sym same); counts = refl; told = refl }))
+      (is.medium refl)
+
+  pub refused_runs : HasRun shape from → HasRun shape to
+  refused_runs ran = ⊎_elim
+      (λ (same : after left.start left.records ≡ was). runs_on shape from to Open (OpenFails why false) (refused why ∷ []) ran
+      (record { is = inr (why, false, refl); may = tt; to = ap (Down shape) (sym same); counts = refl; told = refl }) tt)
+      (λ (same : after left.start left.records ≡ synced was). runs_on shape from to Open (OpenFails why true) (refused why ∷ []) ran
+      (record { is = inr (why, true, refl); may = tt; to = ap (Down shape) (sym same); counts = refl; told = refl }) tt)
+      (is.medium refl)
+
+-- a world with a disk has no service
+no_yard : (yard : Option (YardOver Past)) (disk : Option Past) (taken : Past) → HasOne yard disk → disk ≡ Some taken → yard ≡ None
+no_yard (Some over) (Some d) taken one is = absurd one
+no_yard (Some over) None taken one is = absurd cc
+no_yard None d taken one is = refl
+
+module _ (shape : Shape) (yard : Option (YardOver Past)) (disk : Option Past) (callers : List (Option OpenCall)) (calls : ℕ) (taken : Past) (is : disk ≡ Some taken) (world : IsWorld shape yard disk callers calls) where
+  abbrev before_it : WorldOver
+  before_it = record { state = state_shown shape yard disk callers; calls = calls }
+
+  no_service : yard ≡ None
+  no_service = no_yard yard disk taken world.one is
+
+  state_was : state_shown shape yard disk callers ≡ Down shape (after taken.start taken.records)
+  state_was = ap (λ (y : Option (YardOver Past)). state_shown shape y disk callers) no_service ∙ ap (λ (d : Option Past). state_shown shape None d callers) is
+
+  ran_down : HasRun shape (record { state = Down shape (after taken.start taken.records); calls = calls })
+  ran_down = subst (λ (s : State). HasRun shape (record { state = s; calls = calls })) state_was world.ran
+
+  module _ (over : YardOver Past) (opens : OpensYard (device_of taken) (device_of over.disk) shape.buckets shape.passes over.yard) (left : Option Past) (gone : left ≡ None)
+      (fresh : List (Option OpenCall)) (none : fresh ≡ replicate shape.passes None) (keys : List ℕ) (found : keys ≡ keys_found (after taken.start taken.records).seen over.yard.shape.slots) where
+    pub reopened_world : IsWorld shape (Some over) left fresh calls
+    reopened_world = open_world shape taken over opens calls left fresh none keys found (subst (HasOne (Some over)) (sym gone) tt) ran_down
+
+    pub reopened_on : PlaysOn before_it (Open ∷ []) (opened keys ∷ []) (record { state = state_shown shape (Some over) left fresh; calls = calls })
+    reopened_on = subst (λ (s : State). PlaysOn (record { state = s; calls = calls }) (Open ∷ []) (opened keys ∷ []) (record { state = state_shown shape (Some over) left fresh; calls = calls })) (sym state_was)
+        (leads _ _ Open Opens (opened keys ∷ []) (open_goes shape taken over opens calls left fresh none keys found ran_down))
+
+  module _ (left : Past) (fault : OpenFault) (for : IsRefusedFor (device_of taken) (device_of left) fault) where
+    abbrev after_it : WorldOver
+    after_it = record { state = state_shown shape yard (Some left) callers; calls = calls }
+
+    state_left : state_shown shape yard (Some left) callers ≡ Down shape (after left.start left.records)
+    state_left = ap (λ (y : Option (YardOver Past)). state_shown shape y (Some left) callers) no_service
+
+    pub refused_world : IsWorld shape yard (Some left) callers calls
+    refused_world = record {
+      one = subst (λ (y : Option (YardOver Past)). HasOne y (Some left)) (sym no_service) tt;
+      count = world.count;
+      on_it = world.on_it;
+      ran = subst (λ (s : State). HasRun shape (record { state = s; calls = calls })) (sym state_left) (refused_runs shape taken left fault for calls 0 ran_down);
+    }
+
+    pub still_down : (why : ℕ) → PlaysOn before_it (Open ∷ []) (refused why ∷ []) after_it
+    still_down why =
+        subst (λ (s : State). PlaysOn before_it (Open ∷ []) (refused why ∷ []) (record { state = s; calls = calls })) (sym state_left)
+        (subst (λ (s : State). PlaysOn (record { state = s; calls = calls }) (Open ∷ []) (refused why ∷ []) (record { state = Down shape (after left.start left.records); calls = calls })) (sym state_was)
+        (refused_on shape taken left fault for calls why))
+
+    pub refused_memory : StopsEarly before_it (Open ∷ []) after_it
+    refused_memory = record { count = 1; few = omega arith; marks = refused 8 ∷ []; before = still_down 8 }

@@ -1,0 +1,175 @@
+-- A play goes on by another play.
+use Rattle.std.proofs.Common.{◌≡◌, ◌≢◌, Result, Ok, Err, IsErrOf, Option, None, ◌≤◌, ◌+◌, ◌-◌, arith, length, slice_get, ℕ, zero, suc, take, List, [], ◌∷◌, ◌++◌, Some, reverse, refl, sym, ◌∙◌, ap, subst}
+use Rattle.std.proofs.lemmas.List.{reverse-append, append-nil, append_assoc, length-reverse}
+use Rattle.std.proofs.lemmas.Option.{slice_get_within, get_or_from_slice_get}
+use Rattle.std.proofs.Math.Seq.{take-suc}
+use Rattle.lz_slot.specs.declared.history.Mark.{Mark}
+use Rattle.lz_core.specs.declared.play.Step.{Step as PlayStep}
+use Rattle.lz_core.specs.Runs.{Step, MayStep, Point, point_after, run, IsRun, calls_after}
+use Rattle.lz_core.specs.Runs as runs
+use Rattle.lz_core.specs.Plays.{IsPlayOf, ArePlaysOf, IsReached}
+use Rattle.lz_core.specs.Worlds.{WorldOver, StopsAt, StopsEarly, IsAt, HasRun, IsLawful, PlaysOn, IsChain, mark_list}
+use Rattle.lz_core.specs.Yards.{Shape}
+use Rattle.lz_core.proofs.Reaching.{every_history}
+
+-- the steps of a run after those before
+run_on : (p : Point) (later before : List Step) → run (run p before) later ≡ run p (later ++ before)
+run_on p [] before = refl
+run_on p (step ∷ later) before = ap (λ (q : Point). point_after q step) (run_on p later before)
+
+may_on : (p : Point) (later before : List Step) → IsRun p before → IsRun (run p before) later → IsRun p (later ++ before)
+may_on p [] before first then_on = first
+may_on p (step ∷ later) before first then_on = (subst (λ (q : Point). MayStep q.state step) (run_on p later before) then_on.0, may_on p later before first then_on.1)
+
+plays_on : (p : Point) (ys xs : List PlayStep) (later before : List Step) → ArePlaysOf p xs before → ArePlaysOf (run p before) ys later → ArePlaysOf p (ys ++ xs) (later ++ before)
+plays_on p [] xs [] before first are = first
+plays_on p [] xs (step ∷ later) before first are = absurd cc
+plays_on p (y ∷ ys) xs [] before first are = absurd are
+plays_on p (y ∷ ys) xs (step ∷ later) before first are = (subst (λ (q : Point). IsPlayOf q.state y step) (run_on p later before) are.0, plays_on p ys xs later before first are.1)
+
+-- two plays, one after the other, are one
+pub joins : (a b c : WorldOver) (xs ys : List PlayStep) (ms ns : List Mark) → PlaysOn a xs ms b → PlaysOn b ys ns c → PlaysOn a (xs ++ ys) (ms ++ ns) c
+joins a b c xs ys ms ns one other p at =
+    let first = one p at in
+    let q = run p first.played.steps in
+    let second = other q (record { state = first.played.state; calls = first.calls }) in
+    let steps = second.played.steps ++ first.played.steps in
+    let there : run q second.played.steps ≡ run p steps = run_on p second.played.steps first.played.steps in
+    record {
+      played = record {
+        steps = steps;
+        one_for_one = subst (λ (zs : List PlayStep). ArePlaysOf p zs steps) (sym (reverse-append xs ys)) (plays_on p (reverse ys) (reverse xs) second.played.steps first.played.steps first.played.one_for_one second.played.one_for_one);
+        runs = may_on p second.played.steps first.played.steps first.played.runs second.played.runs;
+        state = subst (λ (r : Point). r.state ≡ c.state) there second.played.state;
+        all_marks =
+            subst (λ (r : Point). r.marks ≡ reverse (ms ++ ns) ++ p.marks) there
+            (second.played.all_marks
+            ∙ ap (λ (us : List Mark). reverse ns ++ us) first.played.all_marks
+            ∙ sym (append_assoc (reverse ns) (reverse ms) p.marks)
+            ∙ ap (λ (us : List Mark). us ++ p.marks) (sym (reverse-append ms ns)));
+      };
+      calls = subst (λ (r : Point). r.calls ≡ c.calls) there second.calls;
+      reached = λ start h. subst (λ (r : Point). IsReached start r) there (second.reached start (first.reached start h));
+    }
+
+-- each step makes one call at most
+calls_one : (n : ℕ) (step : Step) → calls_after n step ≤ n + 1
+calls_one n (runs.Calls a c) = omega arith
+calls_one n (runs.Turn a) = omega arith
+calls_one n (runs.Fails a new) = omega arith
+calls_one n (runs.Looks a) = omega arith
+calls_one n runs.Trips = omega arith
+calls_one n runs.Stops = omega arith
+calls_one n (runs.Crashes t) = omega arith
+calls_one n (runs.CrashesIn a t) = omega arith
+calls_one n runs.Opens = omega arith
+calls_one n (runs.OpenFails why done) = omega arith
+
+calls_few : (p : Point) (plays : List PlayStep) (steps : List Step) → ArePlaysOf p plays steps → (run p steps).calls ≤ p.calls + length plays
+calls_few p [] [] are = omega arith
+calls_few p [] (step ∷ steps) are = absurd cc
+calls_few p (play ∷ plays) [] are = absurd are
+calls_few p (play ∷ plays) (step ∷ steps) are =
+    let one = calls_one (run p steps).calls step in
+    let few = calls_few p plays steps are.1 in
+    omega (arith, one, few)
+
+-- a world that some run leads to is at a point
+abbrev pub IsSomewhere : WorldOver → Type 0
+IsSomewhere w = (p : Point) × IsAt w p
+
+pub somewhere : (shape : Shape) (w : WorldOver) → HasRun shape w → IsSomewhere w
+somewhere shape w ran = (ran.point, ran.at)
+
+-- what was seen by a play is a chain of lives
+pub chains : (old new : WorldOver) (plays : List PlayStep) (marks : List Mark) → PlaysOn old plays marks new → IsChain old marks new
+chains old new plays marks h = λ start p t reached at leaves.
+    let leads = h p at in
+    let there = leads.reached start reached in
+    every_history start new.state (reverse marks ++ p.marks) (run p leads.played.steps).trace t
+    (record {
+      steps = there.steps;
+      starts = there.starts;
+      runs = there.runs;
+      state = ap (λ (q : Point). q.state) there.point ∙ leads.played.state;
+      marks = ap (λ (q : Point). q.marks) there.point ∙ leads.played.all_marks;
+      trace = ap (λ (q : Point). q.trace) there.point;
+    })
+    leaves
+
+-- one step more
+pub take_one : (plays : List PlayStep) (i : ℕ) (step : PlayStep) → slice_get plays i ≡ Some step → take (i + 1) plays ≡ take i plays ++ (step ∷ [])
+take_one plays i step at =
+    let next : i + 1 ≡ suc i = omega arith in
+    ap (λ (n : ℕ). take n plays) next
+    ∙ take-suc plays i step (slice_get_within plays i step at)
+    ∙ ap (λ (s : PlayStep). take i plays ++ (s ∷ [])) (get_or_from_slice_get plays i step step at)
+
+pub goes_on : (a b c : WorldOver) (plays : List PlayStep) (i : ℕ) (step : PlayStep) (ms ns : List Mark) → slice_get plays i ≡ Some step
+    → PlaysOn a (take i plays) ms b → PlaysOn b (step ∷ []) ns c → PlaysOn a (take (i + 1) plays) (ms ++ ns) c
+goes_on a b c plays i step ms ns at before now =
+    subst (λ (zs : List PlayStep). PlaysOn a zs (ms ++ ns) c) (sym (take_one plays i step at)) (joins a b c (take i plays) (step ∷ []) ms ns before now)
+
+-- a play that stops early in its next step
+by_count : (a b c : WorldOver) (plays : List PlayStep) (i : ℕ) (step : PlayStep) (ms ns : List Mark) (count : ℕ) → slice_get plays i ≡ Some step
+    → PlaysOn a (take i plays) ms b → count ≤ 1 → PlaysOn b (take count (step ∷ [])) ns c → StopsEarly a plays c
+by_count a b c plays i step ms ns zero at before few now =
+    let within = slice_get_within plays i step at in
+    record {
+      count = i;
+      few = omega (arith, within);
+      marks = ms ++ ns;
+      before = subst (λ (zs : List PlayStep). PlaysOn a zs (ms ++ ns) c) (append-nil (take i plays)) (joins a b c (take i plays) [] ms ns before now);
+    }
+by_count a b c plays i step ms ns (suc zero) at before few now =
+    let within = slice_get_within plays i step at in
+    record { count = i + 1; few = omega (arith, within); marks = ms ++ ns; before = goes_on a b c plays i step ms ns at before now }
+by_count a b c plays i _ ms ns (suc (suc count)) at before few now =
+    let never : 1 ≤ 0 = omega (arith, few) in
+    elim never [ ]
+
+pub early_on : (a b c : WorldOver) (plays : List PlayStep) (i : ℕ) (step : PlayStep) (ms : List Mark) → slice_get plays i ≡ Some step
+    → PlaysOn a (take i plays) ms b → StopsEarly b (step ∷ []) c → StopsEarly a plays c
+early_on a b c plays i step ms at before h = by_count a b c plays i step ms h.marks h.count at before h.few h.before
+
+-- a play that stops between two of its steps
+pub early_at : (a b : WorldOver) (plays : List PlayStep) (i : ℕ) (ms : List Mark) → i ≤ length plays → PlaysOn a (take i plays) ms b → StopsEarly a plays b
+early_at a b plays i ms few before = record { count = i; few = few; marks = ms; before = before }
+
+-- a play that comes to a step that isn't lawful
+pub stops_at : (a b c : WorldOver) (plays : List PlayStep) (i n : ℕ) (step : PlayStep) (ms : List Mark) → slice_get plays i ≡ Some step
+    → PlaysOn a (take i plays) ms b → n ≡ i + 1 → c ≡ b → ¬ IsLawful b.state step → StopsAt a plays n c
+stops_at a b c plays i n step ms at before is same unlawful =
+    let back : n - 1 ≡ i = omega (arith, is) in
+    record {
+      marks = ms;
+      before = rw (back, same) before;
+      step = step;
+      there = (omega (arith, is), rw back at);
+      unlawful = rw same unlawful;
+    }
+
+-- the calls that a play made so far
+pub calls_on : (a b : WorldOver) (plays : List PlayStep) (ms : List Mark) → IsSomewhere a → PlaysOn a plays ms b → b.calls ≤ a.calls + length plays
+calls_on a b plays ms (p, at) h =
+    let leads = h p at in
+    let few = calls_few p (reverse plays) leads.played.steps leads.played.one_for_one in
+    subst (λ (n : ℕ). n ≤ a.calls + length plays) leads.calls
+    (subst (λ (n : ℕ). (run p leads.played.steps).calls ≤ n + length plays) at.calls
+    (subst (λ (n : ℕ). (run p leads.played.steps).calls ≤ p.calls + n) (length-reverse plays) few))
+
+-- A fault that is passed on is the one that came.
+abbrev refused : {T U E : Type 0} → E → Result T E → Result U E
+refused d (Ok x) = Err d
+refused d (Err e) = Err e
+
+abbrev refusal : {U E : Type 0} → E → Result U E
+refusal e = Err e
+
+pub same_fault : {T U E : Type 0} (r : Result T E) (x y e : E) → r ≡ Err x → x ≡ y → IsErrOf r e → IsErrOf {T = U} (Err y) e
+same_fault {T} {U} {E} r x y e is same told = ap (refusal {U = U}) (sym same) ∙ ap (λ (s : Result T E). refused {U = U} x s) (sym is ∙ told)
+
+-- a step without a mark
+pub no_mark : (mark : Option Mark) → ((m : Mark) → mark ≢ Some m) → mark_list mark ≡ []
+no_mark None never = refl
+no_mark (Some m) never = absurd (never m refl)

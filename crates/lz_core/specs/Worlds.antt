@@ -1,0 +1,236 @@
+-- What contracts see of a world, and what a play does to it.
+use Rattle.std.specs.Prelude.{◌≡◌, ◌⊎◌, ◌↔◌, ℕ, true, ◌-◌, ◌<◌, ◌≤◌, IsTrue, IsNone, IsSome, IsSomeAnd, List, [], ◌∷◌, ◌++◌, length, map, reverse, take, slice_get, slice_index_or, Option, Some, None}
+use Rattle.lz_slot.specs.declared.history.Mark.{Mark}
+use Rattle.lz_slot.specs.Sets.{Keys, Same, members}
+use Rattle.lz_slot.specs.Histories.{ChainTo, lives}
+use Rattle.lz_slot.specs.Bytes.{Holds}
+use Rattle.lz_disk.specs.Images.{Medium, at_rest}
+use Rattle.lz_disk.specs.Records.{Past, after, device_of}
+use Rattle.lz_allot.specs.Uses.{is_outside}
+use Rattle.lz_core.specs.declared.event.Event.{Event}
+use Rattle.lz_core.specs.declared.event.Event.TheVariants as event
+use Rattle.lz_core.specs.declared.event.Outcome.{Outcome}
+use Rattle.lz_core.specs.declared.event.Outcome.TheVariants.{Fault}
+use Rattle.lz_core.specs.declared.kind.Kind.{Kind}
+use Rattle.lz_core.specs.declared.kind.Kind.TheVariants as kind
+use Rattle.lz_core.specs.declared.play.Step.{Step as PlayStep}
+use Rattle.lz_core.specs.declared.play.Step.TheVariants.{Call, Turn as TurnOf, Open}
+use Rattle.lz_core.specs.declared.open_calls.OpenCall.{OpenCall}
+use Rattle.lz_core.specs.Yards.{Shape}
+use Rattle.lz_core.specs.Parts.{YardOver}
+use Rattle.lz_core.specs.Table.{line, needs, pin_of}
+use Rattle.lz_core.specs.Orders.{shape_with}
+use Rattle.lz_core.specs.Calls.{event_at, loaded, progress_after}
+use Rattle.lz_core.specs.Ready.{IsEventOf}
+use Rattle.lz_core.specs.Steps.{Played}
+use Rattle.lz_core.specs.Runs.{Start, IsStart, start_keys, first_point, Service, Caller, State, Up, Down, caller_at, next_event, reply_at, moved_on, MayPlay, IsActor, MayLeave, Point, run}
+use Rattle.std.specs.List.{All}
+use Rattle.lz_list.specs.declared.word.Word.TheVariants.{Key}
+use Rattle.lz_list.specs.Words.{Words, get}
+use Rattle.lz_list.specs.Lists.{IsMember}
+use Rattle.lz_slot.specs.Limits.{largest_key}
+use Rattle.lz_core.specs.Plays.{IsReached, PlaysTo}
+
+-- A world as contracts see it: its state in a run, and how many calls were made.
+pub record WorldOver : Type 0 where
+  pub state : State
+  pub calls : ℕ
+
+-- an open call, as a run has it
+abbrev pub call_shown : Option OpenCall → Option Caller
+call_shown None = None
+call_shown (Some call) = Some (record { number = call.number; command = call.caller.command; progress = call.caller.progress })
+
+-- the state of a world that has a yard, or else a disk
+abbrev pub state_shown : Shape → Option (YardOver Past) → Option Past → List (Option OpenCall) → State
+state_shown shape (Some over) disk callers = Up (record { yard = over.yard; callers = map call_shown callers }) (after over.disk.start over.disk.records)
+state_shown shape None (Some disk) callers = Down shape (after disk.start disk.records)
+state_shown shape None None callers = Down shape (at_rest [])
+
+-- its disk
+abbrev pub disk_shown : Option (YardOver Past) → Option Past → Medium
+disk_shown (Some over) disk = after over.disk.start over.disk.records
+disk_shown None (Some disk) = after disk.start disk.records
+disk_shown None None = at_rest []
+
+-- it has one of the two
+abbrev pub HasOne : Option (YardOver Past) → Option Past → Type 0
+HasOne (Some over) None = Unit {0}
+HasOne None (Some disk) = Unit {0}
+HasOne _ _ = ⊥
+
+-- the world is at this point of a run
+pub record IsAt (w : WorldOver) (p : Point) : Type 0 where
+  pub state : p.state ≡ w.state
+  pub calls : p.calls ≡ w.calls
+
+-- no look is half done: the pin word of an actor without a call is even
+abbrev pub IsQuiet : State → Type 0
+IsQuiet (Up service disk) = (a : ℕ) → IsNone (caller_at service.callers a) → IsTrue (is_outside (pin_of service.yard a))
+IsQuiet (Down shape disk) = Unit {0}
+
+-- some run of a yard of this shape leads to where the world is
+pub record HasRun (its_shape : Shape) (w : WorldOver) : Type 0 where
+  pub start : Start
+  pub shape : start.shape ≡ its_shape
+  pub point : Point
+  pub reached : IsReached start point
+  pub at : IsAt w point
+  pub quiet : IsQuiet w.state
+
+-- an open call is one on a yard of this shape
+abbrev pub IsCallOn : Shape → Option OpenCall → Type 0
+IsCallOn shape None = Unit {0}
+IsCallOn shape (Some call) = (call.caller.buckets ≡ shape.buckets) × (call.caller.passes ≡ shape.passes)
+
+-- A world has a yard or a disk, a place for the call of each actor, and has come by a run to where it is.
+pub record IsWorld (shape : Shape) (over : Option (YardOver Past)) (disk : Option Past) (callers : List (Option OpenCall)) (calls : ℕ) : Type 0 where
+  pub one : HasOne over disk
+  pub count : length callers ≡ shape.passes
+  pub on_it : (i : ℕ) (call : Option OpenCall) → slice_get callers i ≡ Some call → IsCallOn shape call
+  pub ran : HasRun shape (record { state = state_shown shape over disk callers; calls = calls })
+
+-- a world that was just made: its run begins with the empty set
+pub record IsNew (its_shape : Shape) (w : WorldOver) : Type 0 where
+  pub start : Start
+  pub starts : IsStart start
+  pub shape : start.shape ≡ its_shape
+  pub empty : Same (start_keys start) (members [])
+  pub at : IsAt w (first_point start)
+
+-- From a point at which a world was, the steps of a play lead, one for one, to where it is now, and answer these marks; what
+-- leads to the one point leads to the other.
+pub record LeadsTo (p : Point) (plays : List PlayStep) (marks : List Mark) (new : WorldOver) : Type 0 where
+  pub played : PlaysTo p plays marks new.state
+  pub calls : (run p played.steps).calls ≡ new.calls
+  pub reached : (start : Start) → IsReached start p → IsReached start (run p played.steps)
+
+abbrev pub PlaysOn : WorldOver → List PlayStep → List Mark → WorldOver → Type 0
+PlaysOn old plays marks new = (p : Point) → IsAt old p → LeadsTo p plays marks new
+
+-- What was seen before and now is a chain of lives: each text that a crash may leave now holds the set to which it leads.
+abbrev pub IsChain : WorldOver → List Mark → WorldOver → Type 0
+IsChain old marks new =
+    (start : Start) (p : Point) (t : List ℕ)
+    → IsReached start p → IsAt old p → MayLeave new.state t
+    → (S : Keys) × Holds t start.shape.slots S × ChainTo (lives (start_keys start) (reverse marks ++ p.marks)) S
+
+-- A step is lawful in a state.
+abbrev pub IsLawful : State → PlayStep → Type 0
+IsLawful (Up service disk) (Call a c) = IsActor service a × IsNone (caller_at service.callers a)
+IsLawful (Up service disk) (TurnOf a) = IsSome (caller_at service.callers a)
+IsLawful (Up service disk) Open = ⊥
+IsLawful (Up service disk) _ = Unit {0}
+IsLawful (Down shape disk) (Call a c) = ⊥
+IsLawful (Down shape disk) (TurnOf a) = ⊥
+IsLawful (Down shape disk) _ = Unit {0}
+
+-- Step i, counted from 1, is the first one that isn't lawful: the world stands as after the steps before it.
+pub record StopsAt (old : WorldOver) (plays : List PlayStep) (i : ℕ) (new : WorldOver) : Type 0 where
+  pub marks : List Mark
+  pub before : PlaysOn old (take (i - 1) plays) marks new
+  pub step : PlayStep
+  pub there : (1 ≤ i) × (slice_get plays (i - 1) ≡ Some step)
+  pub unlawful : ¬ IsLawful new.state step
+
+-- the world stands as after some of the first steps
+pub record StopsEarly (old : WorldOver) (plays : List PlayStep) (new : WorldOver) : Type 0 where
+  pub count : ℕ
+  pub few : count ≤ length plays
+  pub marks : List Mark
+  pub before : PlaysOn old (take count plays) marks new
+
+-- the kind of an event
+abbrev pub kind_of : Event → Kind
+kind_of (event.Invoke c) = kind.Invoke
+kind_of event.Pin = kind.Pin
+kind_of (event.Hop word) = kind.Hop
+kind_of event.Reserve = kind.Reserve
+kind_of (event.WriteKey k) = kind.WriteKey
+kind_of (event.Claim pred curr) = kind.Claim
+kind_of event.Check = kind.Check
+kind_of event.WriteOpen = kind.WriteOpen
+kind_of event.Link = kind.Link
+kind_of event.WriteClose = kind.WriteClose
+kind_of event.Mark = kind.Mark
+kind_of event.Release = kind.Release
+kind_of (event.Sync s) = kind.Sync
+kind_of (event.Settle s) = kind.Settle
+kind_of event.Unlink = kind.Unlink
+kind_of event.Retire = kind.Retire
+kind_of (event.SeePin p value) = kind.SeePin
+kind_of event.Answer = kind.Answer
+kind_of event.Halt = kind.Halt
+
+-- an actor's next event, if it has a call
+abbrev pub next_of_caller : Service → Option Caller → Option Event
+next_of_caller service None = None
+next_of_caller service (Some caller) = Some (next_event service.yard caller)
+
+-- the next event that an open call asks for, but for a pin word that is loaded
+abbrev pub event_asked : Option OpenCall → Option Event
+event_asked None = None
+event_asked (Some call) = Some (event_at (shape_with call.caller) call.caller.command call.caller.progress)
+
+abbrev pub event_loaded : Words → Option Event → Option Event
+event_loaded w None = None
+event_loaded w (Some e) = Some (loaded w e)
+
+abbrev pub next_of : State → ℕ → Option Event
+next_of (Up service disk) a = next_of_caller service (caller_at service.callers a)
+next_of (Down shape disk) a = None
+
+-- the outcome of an event in a state is that of its line, or its device call failed
+abbrev pub IsOutcome : State → ℕ → Event → Outcome → Type 0
+IsOutcome (Up service disk) a e outcome = (outcome ≡ (line service.yard a e).1) ⊎ (outcome ≡ Fault)
+IsOutcome (Down shape disk) a e outcome = ⊥
+
+-- a turn told its event's kind and outcome
+abbrev pub IsTold : State → ℕ → Kind → Outcome → Type 0
+IsTold w a told outcome = IsSomeAnd (next_of w a) (λ e. (told ≡ kind_of e) × IsOutcome w a e outcome)
+
+-- the marks of a turn
+abbrev pub mark_list : Option Mark → List Mark
+mark_list None = []
+mark_list (Some mark) = mark ∷ []
+
+-- these keys ascend
+abbrev pub Ascend : List ℕ → Type 0
+Ascend [] = Unit {0}
+Ascend (k ∷ keys) = All (λ j. k < j) keys × Ascend keys
+
+-- the word of a slot is this key, which is a member
+abbrev pub IsListed : Words → ℕ → ℕ → Type 0
+IsListed w s k = (get w (Key s) ≡ k) × IsMember w k × (k ≤ largest_key)
+
+-- the key is that of one of the first n slots
+abbrev pub IsAmong : Words → ℕ → ℕ → Type 0
+IsAmong w n k = (s : ℕ) × (s < n) × IsListed w s k
+
+-- the keys are those that are linked and not marked; there are none without an open service
+abbrev pub Shows : State → List ℕ → Type 0
+Shows (Up service disk) keys = (k : ℕ) → (members keys k ≡ true) ↔ IsMember service.yard.words k
+Shows (Down shape disk) keys = keys ≡ []
+
+-- an open call after its next event had this outcome
+abbrev pub call_after : Option OpenCall → Outcome → Option Caller
+call_after None outcome = None
+call_after (Some call) outcome =
+    moved_on (reply_at call.caller.progress) (record { number = call.number; command = call.caller.command; progress = call.caller.progress })
+    (progress_after (shape_with call.caller) call.caller.command call.caller.progress outcome)
+
+-- an actor's event may be played on a yard
+pub record MayStepOn (over : YardOver Past) (a : ℕ) (e : Event) : Type 0 where
+  pub actor : (1 ≤ a) × (a ≤ over.yard.shape.passes)
+  pub event : IsEventOf over.yard e
+  pub plays : needs over.yard a e ≡ true → MayPlay over.yard true (after over.disk.start over.disk.records) a e
+
+-- the service is open, and the actor is one of the world's without a call
+abbrev pub MayCall : Option (YardOver Past) → List (Option OpenCall) → ℕ → Type 0
+MayCall yard callers a = IsSome yard × (1 ≤ a) × (a ≤ 64) × IsNone (slice_index_or callers (a - 1) None)
+
+-- an event was played on an open yard
+abbrev pub StepsOn : Option (YardOver Past) → ℕ → Event → Outcome → Option (YardOver Past) → Type 0
+StepsOn (Some old) a e outcome (Some new) = Played old.yard a e outcome new.yard new.changed (device_of old.disk) (device_of new.disk)
+StepsOn None a e outcome new = new ≡ None
+StepsOn (Some old) a e outcome None = ⊥

@@ -1,0 +1,67 @@
+//! The disk of a world, under an open service or by itself.
+ghost use Rattle.std.specs.Prelude.{◌≡◌, OnOk, OnErr};
+ghost use Rattle.lz_disk.specs.Images.{IsImage, at_rest};
+ghost use Rattle.lz_disk.specs.Picks.{left_by};
+ghost use Rattle.lz_core.specs.Runs.{Down};
+ghost use Rattle.lz_core.specs.Worlds.{HasOne, disk_shown, state_shown};
+
+use crate::yard::Yard;
+use lz_disk::{MemoryDisk, Pick};
+use std::alloc::AllocError;
+
+// Trips the disk, wherever it is.
+pub(crate) fn trip_disk(yard: &mut Option<Yard<MemoryDisk>>, disk: &mut Option<MemoryDisk>)
+    requires { HasOne yard.old disk.old }
+    ensures one { HasOne yard.new disk.new }
+    ensures same { (shape : _) (callers : _) → state_shown shape yard.new disk.new callers ≡ state_shown shape yard.old disk.old callers }
+{
+    match yard {
+        Some(yard) => yard.trip(),
+        None => {
+            if let Some(disk) = disk {
+                disk.trip();
+            }
+        }
+    }
+}
+
+// Ends the service, if there is one, and keeps its disk.
+pub(crate) fn stop_disk(yard: &mut Option<Yard<MemoryDisk>>, disk: &mut Option<MemoryDisk>)
+    requires { HasOne yard.old disk.old }
+    ensures one { HasOne yard.new disk.new }
+    ensures down { (shape : _) (callers : _) → state_shown shape yard.new disk.new callers ≡ Down shape (disk_shown yard.old disk.old) }
+{
+    if let Some(yard) = yard.take() {
+        let mut left = yard.close();
+        left.stop();
+        *disk = Some(left);
+    } else if let Some(disk) = disk {
+        disk.stop();
+    }
+}
+
+// Ends the service, if there is one, with a crash of its disk.
+pub(crate) fn crash_disk(
+    yard: &mut Option<Yard<MemoryDisk>>,
+    disk: &mut Option<MemoryDisk>,
+    pick: Pick,
+) -> Result<(), AllocError>
+    requires { HasOne yard.old disk.old }
+    ensures one { HasOne yard.new disk.new }
+    ensures down { OnOk result ((shape : _) (callers : _) → state_shown shape yard.new disk.new callers ≡ Down shape (at_rest (left_by pick (disk_shown yard.old disk.old)))) }
+    ensures image { OnOk result (IsImage (disk_shown yard.old disk.old) (left_by pick (disk_shown yard.old disk.old))) }
+    ensures err { OnErr result ((yard.new ≡ yard.old) × (disk.new ≡ disk.old)) }
+{
+    match yard {
+        Some(old) => {
+            let left = old.disk().crashed(pick)?;
+            *disk = Some(left);
+            *yard = None;
+            Ok(())
+        }
+        None => match disk {
+            Some(disk) => disk.crash(pick),
+            None => Ok(()),
+        },
+    }
+}

@@ -1,0 +1,42 @@
+//! A disk that is opened anew.
+ghost use Rattle.std.specs.Prelude.{◌≡◌, ◌≤◌, IfOk, IfErr};
+ghost use Rattle.lz_disk.specs.Records.{device_of};
+ghost use Rattle.lz_vault.specs.Opens.{IsRefusedFor};
+ghost use Rattle.lz_core.specs.Filling.{OpensYard};
+ghost use Rattle.lz_core.specs.Runs.{keys_found};
+
+use crate::shown::members_of;
+use crate::world::ACTORS;
+use crate::yard::Yard;
+use lz_disk::MemoryDisk;
+use lz_slot::Key;
+use lz_vault::{OpenFault, Refused};
+use std::alloc::Global;
+
+// A yard that was opened, with the keys that it found.
+#[derive(Drop)]
+pub(crate) struct Opened {
+    pub(crate) yard: Yard<MemoryDisk>,
+    pub(crate) keys: Vec<Key>,
+}
+
+// Where there is no room for the keys that were found, the open is refused.
+pub(crate) fn open_anew(
+    alloc: Global,
+    disk: MemoryDisk,
+    buckets: usize,
+) -> Result<Opened, Refused<MemoryDisk>>
+    requires { (1 ≤ buckets) × (buckets ≤ 4096) }
+    ensures ok { IfOk result (λ opened. OpensYard (device_of disk) (device_of opened.yard.disk) buckets 64 opened.yard.yard) }
+    ensures keys { IfOk result (λ opened. opened.keys.items ≡ keys_found (device_of disk).medium.seen opened.yard.yard.shape.slots) }
+    ensures err { IfErr result (λ refused. IsRefusedFor (device_of disk) (device_of refused.disk) refused.fault) }
+{
+    let yard = Yard::open(alloc, disk, buckets, ACTORS)?;
+    match members_of(alloc, &yard) {
+        Ok(keys) => Ok(Opened { yard, keys }),
+        Err(_) => Err(Refused {
+            disk: yard.close(),
+            fault: OpenFault::Memory,
+        }),
+    }
+}

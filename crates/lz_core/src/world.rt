@@ -1,0 +1,334 @@
+//! A rehearsal: a service over a disk in memory, and what its callers do to it, step by step.
+ghost use Rattle.std.specs.Prelude.{◌≡◌, ◌≤◌, ◌<◌, ◌+◌, ◌^◌, ◌↔◌, ◌==◌, ◌||◌, IfOk, IfErr, OnErr, IsErrOf, IsTrue, IfSome, Some, None, [], ◌∷◌, length};
+ghost use Rattle.lz_slot.specs.Sets.{members};
+ghost use Rattle.lz_slot.specs.Counted.{of_pass};
+ghost use Rattle.lz_core.specs.Worlds.{Ascend, IsChain, IsLawful, IsNew, IsOutcome, IsTold, MayCall, MayStepOn, PlaysOn, Shows, StepsOn, StopsAt, StopsEarly, event_asked, event_loaded, mark_list, next_of, state_shown};
+
+use crate::call::Caller;
+use crate::disks::{crash_disk, stop_disk, trip_disk};
+use crate::event::{Event, Outcome};
+use crate::kind::Kind;
+use crate::open_calls::{OpenCall, next_of_call, no_calls, take_outcome};
+use crate::order::key_of;
+use crate::play::Step;
+use crate::reopening::open_anew;
+use crate::shown::members_of;
+use crate::yard::Yard;
+use lz_disk::{MemoryDisk, Pick};
+use lz_slot::{Command, Found, Key, Mark};
+use lz_vault::{OpenFault, make};
+use std::alloc::{AllocError, Global};
+use std::marker::Model;
+
+/// How many actors a world has.
+pub const ACTORS: usize = 64;
+
+/// Why a play ended before its last step. Steps count from 1, and a turn by itself is step 1.
+#[derive(Clone, Copy, Debug, PartialEq, Eq)]
+pub enum PlayFault {
+    /// The step isn't lawful now: its actor isn't one of the world's, calls where it has a call open, or takes a turn where it
+    /// has none; or it calls or takes a turn without an open service; or it opens where a service is open.
+    NotNow(usize),
+    Memory,
+}
+
+/// What a turn was.
+#[derive(Drop)]
+pub struct Turned {
+    pub kind: Kind,
+    pub outcome: Outcome,
+    /// How its call ended, if it did.
+    pub mark: Option<Mark>,
+}
+
+// One line for each kind of event. Whatever the kind, the event is played on the yard and the caller takes the outcome.
+macro_rules! turned {
+    ($world:ident, $actor:ident, $event:ident; $($pattern:pat => $kind:ident;)*) => {
+        match $event {
+            $($pattern => Ok($world.play_event($actor, Kind::$kind, $event)),)*
+        }
+    };
+}
+
+/// A service over a fresh disk in memory, with the calls of 64 actors. What a device would do it does where the disk was
+/// tripped, and crashes fall between the steps: one inside a device call leaves nothing that one between couldn't leave.
+#[derive(Drop)]
+pub struct World {
+    slots: usize,
+    buckets: usize,
+    // The open service, or else the disk that the last one left.
+    yard: Option<Yard<MemoryDisk>>,
+    disk: Option<MemoryDisk>,
+    callers: Vec<Option<OpenCall>>,
+    calls: u64,
+}
+
+impl Model for World {
+    ghost use Rattle.lz_core.specs.Worlds.{IsWorld, WorldOver, state_shown};
+
+    ghost Value = { WorldOver };
+
+    ghost view = { λ w. record { state = state_shown (record { slots = w.slots; buckets = w.buckets; passes = 64 }) w.yard w.disk w.callers.items; calls = w.calls } };
+
+    ghost invariant = { λ w. IsWorld (record { slots = w.slots; buckets = w.buckets; passes = 64 }) w.yard w.disk w.callers.items w.calls };
+}
+
+impl World {
+    /// A disk in memory, made and opened.
+    pub fn new(alloc: Global, slots: usize, buckets: usize) -> Result<World, AllocError>
+        requires slots { (1 ≤ slots) × (slots ≤ 64) }
+        requires buckets { (1 ≤ buckets) × (buckets ≤ 4096) }
+        ensures { IfOk result (λ world. IsNew (record { slots = slots; buckets = buckets; passes = 64 }) world) }
+    {
+        let callers = no_calls(alloc)?;
+        let mut disk = MemoryDisk::new(alloc, Vec::new(alloc))?;
+        if make(&mut disk, slots as u64).is_err() {
+            return Err(AllocError);
+        }
+        match Yard::open(alloc, disk, buckets, ACTORS) {
+            Ok(yard) => Ok(World {
+                slots,
+                buckets,
+                yard: Some(yard),
+                disk: None,
+                callers,
+                calls: 0,
+            }),
+            Err(_) => Err(AllocError),
+        }
+    }
+
+    /// Plays the next event of an actor's call. A Claim that found a lock taken is played too: the actor's next turn claims
+    /// again.
+    pub fn turn(&mut self, actor: usize) -> Result<Turned, PlayFault>
+        ensures ok { IfOk result (λ turned. PlaysOn self.old (Step.Turn actor ∷ []) (mark_list turned.mark) self.new) }
+        ensures told { IfOk result (λ turned. IsTold self.old.state actor turned.kind turned.outcome) }
+        ensures fault { IfErr result (λ fault. (fault ≡ PlayFault.NotNow 1) × ¬ IsLawful self.old.state (Step.Turn actor)) }
+        ensures err { OnErr result (self.new ≡ self.old) }
+    {
+        let Some(event) = self.next_event(actor) else {
+            return Err(PlayFault::NotNow(1));
+        };
+        turned! { self, actor, event;
+            Event::Invoke(_) => Invoke;
+            Event::Pin => Pin;
+            Event::Hop(_) => Hop;
+            Event::Reserve => Reserve;
+            Event::WriteKey(_) => WriteKey;
+            Event::Claim(_, _) => Claim;
+            Event::Check => Check;
+            Event::WriteOpen => WriteOpen;
+            Event::Link => Link;
+            Event::WriteClose => WriteClose;
+            Event::Mark => Mark;
+            Event::Release => Release;
+            Event::Sync(_) => Sync;
+            Event::Settle(_) => Settle;
+            Event::Unlink => Unlink;
+            Event::Retire => Retire;
+            Event::SeePin(_, _) => SeePin;
+            Event::Answer => Answer;
+            Event::Halt => Halt;
+        }
+    }
+
+    /// The members now, ascending: the keys that are linked and not marked. There are none without an open service.
+    pub fn members(&self, alloc: Global) -> Result<Vec<Key>, AllocError>
+        ensures members { IfOk result (λ keys. Shows self.now.state keys.items) }
+        ensures ascending { IfOk result (λ keys. Ascend keys.items) }
+    {
+        match &self.yard {
+            None => Ok(Vec::new(alloc)),
+            Some(yard) => members_of(alloc, yard),
+        }
+    }
+
+    /// Plays the steps in their order, and answers their marks. After Memory the world is as after some of the first steps,
+    /// the last of which may be an open that was refused for want of memory.
+    pub fn play(&mut self, alloc: Global, steps: &[Step]) -> Result<Vec<Mark>, PlayFault>
+        requires numbers { self.old.calls + length steps.now < 2 ^ 64 }
+        ensures ok { IfOk result (λ marks. PlaysOn self.old steps.now marks.items self.new) }
+        ensures chain { IfOk result (λ marks. IsChain self.old marks.items self.new) }
+        ensures not_now { (step : _) → IsErrOf result (PlayFault.NotNow step) → StopsAt self.old steps.now step self.new }
+        ensures memory { IsErrOf result PlayFault.Memory → StopsEarly self.old steps.now self.new }
+    {
+        let _whole = &self.callers;
+        let mut marks = Vec::new(alloc);
+        for (before, step) in steps.iter().enumerate() {
+            if marks.reserve(1).is_err() {
+                return Err(PlayFault::Memory);
+            }
+            if let Some(mark) = self.play_step(alloc, *step, before + 1)? {
+                marks.push_reserved(mark);
+            }
+        }
+        Ok(marks)
+    }
+
+    // Plays the step with this number.
+    #[tactic(auto, using(crate::proofs::Worlding::early))]
+    fn play_step(
+        &mut self,
+        alloc: Global,
+        step: Step,
+        number: usize,
+    ) -> Result<Option<Mark>, PlayFault>
+        requires { self.old.calls + 1 < 2 ^ 64 }
+        ensures ok { IfOk result (λ mark. PlaysOn self.old (step ∷ []) (mark_list mark) self.new) }
+        ensures not_now { (i : _) → IsErrOf result (PlayFault.NotNow i) → (i ≡ number) × (self.new ≡ self.old) × ¬ IsLawful self.old.state step }
+        ensures memory { IsErrOf result PlayFault.Memory → StopsEarly self.old (step ∷ []) self.new }
+    {
+        match step {
+            Step::Call(actor, command) => self.call(actor, command, number),
+            Step::Turn(actor) => match self.turn(actor) {
+                Ok(turned) => Ok(turned.mark),
+                Err(_) => Err(PlayFault::NotNow(number)),
+            },
+            Step::Trip => {
+                self.trip();
+                Ok(None)
+            }
+            Step::Stop => {
+                self.stop();
+                Ok(Some(Mark::Stop))
+            }
+            Step::Crash(pick) => self.crash(pick),
+            Step::Open => self.reopen(alloc, number),
+        }
+    }
+
+    fn call(
+        &mut self,
+        actor: usize,
+        command: Command,
+        number: usize,
+    ) -> Result<Option<Mark>, PlayFault>
+        requires { self.old.calls + 1 < 2 ^ 64 }
+        ensures ok { IfOk result (λ mark. PlaysOn self.old (Step.Call actor command ∷ []) (mark_list mark) self.new) }
+        ensures fault { IfErr result (λ fault. (fault ≡ PlayFault.NotNow number) × ¬ IsLawful self.old.state (Step.Call actor command)) }
+        ensures err { OnErr result (self.new ≡ self.old) }
+    {
+        if !may_call(&self.yard, &self.callers, actor) {
+            return Err(PlayFault::NotNow(number));
+        }
+        let told = command;
+        let asked = command;
+        let _key = key_of(asked).get();
+        self.calls += 1;
+        self.callers[actor - 1] = Some(OpenCall {
+            number: self.calls,
+            caller: Caller::new(command, self.buckets, ACTORS),
+        });
+        Ok(Some(Mark::Call(self.calls, actor, told)))
+    }
+
+    // The next event of an actor's call, if it has one.
+    fn next_event(&self, actor: usize) -> Option<Event>
+        ensures { result ≡ next_of self.now.state actor }
+    {
+        match &self.yard {
+            None => None,
+            Some(yard) => next_on(yard, &self.callers, actor),
+        }
+    }
+
+    // Plays an actor's next event, which is of this kind.
+    fn play_event(&mut self, actor: usize, kind: Kind, event: Event) -> Turned
+        requires { next_of self.old.state actor ≡ Some event }
+        ensures kind { result.kind ≡ kind }
+        ensures outcome { IsOutcome self.old.state actor event result.outcome }
+        ensures plays { PlaysOn self.old (Step.Turn actor ∷ []) (mark_list result.mark) self.new }
+    {
+        let outcome = step_on(&mut self.yard, actor, event);
+        let told = outcome;
+        let mark = take_outcome(&mut self.callers[actor - 1], outcome);
+        Turned {
+            kind,
+            outcome: told,
+            mark,
+        }
+    }
+
+    fn trip(&mut self)
+        ensures { PlaysOn self.old (Step.Trip ∷ []) [] self.new }
+    {
+        trip_disk(&mut self.yard, &mut self.disk);
+    }
+
+    fn stop(&mut self)
+        ensures { PlaysOn self.old (Step.Stop ∷ []) (Mark.Stop ∷ []) self.new }
+    {
+        stop_disk(&mut self.yard, &mut self.disk);
+    }
+
+    fn crash(&mut self, pick: Pick) -> Result<Option<Mark>, PlayFault>
+        ensures ok { IfOk result (λ mark. PlaysOn self.old (Step.Crash pick ∷ []) (mark_list mark) self.new) }
+        ensures fault { IfErr result (λ fault. fault ≡ PlayFault.Memory) }
+        ensures err { OnErr result (self.new ≡ self.old) }
+    {
+        match crash_disk(&mut self.yard, &mut self.disk, pick) {
+            Ok(()) => Ok(Some(Mark::Crash)),
+            Err(_) => Err(PlayFault::Memory),
+        }
+    }
+
+    // Opens the disk anew. Where there is no room for the keys that were found, the open is refused.
+    #[tactic(auto, using(crate::proofs::Worlding::early))]
+    fn reopen(&mut self, alloc: Global, number: usize) -> Result<Option<Mark>, PlayFault>
+        ensures ok { IfOk result (λ mark. PlaysOn self.old (Step.Open ∷ []) (mark_list mark) self.new) }
+        ensures not_now { (i : _) → IsErrOf result (PlayFault.NotNow i) → (i ≡ number) × (self.new ≡ self.old) × ¬ IsLawful self.old.state Step.Open }
+        ensures memory { IsErrOf result PlayFault.Memory → StopsEarly self.old (Step.Open ∷ []) self.new }
+    {
+        if self.disk.is_none() {
+            return Err(PlayFault::NotNow(number));
+        }
+        let Ok(callers) = no_calls(alloc) else {
+            return Err(PlayFault::Memory);
+        };
+        let Some(disk) = self.disk.take() else {
+            return Err(PlayFault::NotNow(number));
+        };
+        match open_anew(alloc, disk, self.buckets) {
+            Ok(opened) => {
+                self.callers = callers;
+                self.yard = Some(opened.yard);
+                Ok(Some(Mark::Opened(Found::new(opened.keys))))
+            }
+            Err(refused) => {
+                self.disk = Some(refused.disk);
+                match refused.fault {
+                    OpenFault::Memory => Err(PlayFault::Memory),
+                    fault => Ok(Some(Mark::OpenFailed(fault.number()))),
+                }
+            }
+        }
+    }
+}
+
+// Whether the service is open, and the actor is one of the world's and has no call.
+fn may_call(yard: &Option<Yard<MemoryDisk>>, callers: &[Option<OpenCall>], actor: usize) -> bool
+    requires { length callers.now ≡ 64 }
+    ensures { IsTrue result ↔ MayCall yard.now callers.now actor }
+{
+    yard.is_some() && 1 <= actor && actor <= ACTORS && callers[actor - 1].is_none()
+}
+
+// The next event of an actor's call on this yard, if it has one.
+fn next_on(yard: &Yard<MemoryDisk>, callers: &[Option<OpenCall>], actor: usize) -> Option<Event>
+    requires { IfSome (of_pass callers.now actor None) (λ call. call.caller.passes ≡ yard.now.yard.shape.passes) }
+    ensures { result ≡ event_loaded yard.now.yard.words (event_asked (of_pass callers.now actor None)) }
+{
+    let event = next_of_call(callers, actor)?;
+    Some(yard.load(event))
+}
+
+// Plays an event on an open yard.
+fn step_on(yard: &mut Option<Yard<MemoryDisk>>, actor: usize, event: Event) -> Outcome
+    requires { IfSome yard.old (λ yard. MayStepOn yard actor event) }
+    ensures { StepsOn yard.old actor event result yard.new }
+{
+    match yard {
+        None => Outcome::NotNow,
+        Some(yard) => yard.step(actor, event),
+    }
+}

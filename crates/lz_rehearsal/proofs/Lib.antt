@@ -1,0 +1,4 @@
+pub mod Cuts
+pub mod Scripting
+pub mod LineReads
+pub mod Appending
