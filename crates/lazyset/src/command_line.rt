@@ -49,6 +49,25 @@ fn judge<'a>(alloc: Global) -> Result<Command<'a>, AllocError> {
         )
 }
 
+fn rehearse<'a>(alloc: Global) -> Result<Command<'a>, AllocError> {
+    let slots = Arg::new(alloc, "SLOTS")
+        .required(true)
+        .value_parser(value_parser!(u64).range(1..=64))
+        .help("How many keys the set has room for, 1 to 64");
+    let buckets = Arg::new(alloc, "buckets")
+        .long("buckets")
+        .value_name("B")
+        .value_parser(value_parser!(u64).range(1..=4096))
+        .default_value("1")
+        .help("How many lists the keys are spread over, 1 to 4096");
+    Command::new(alloc, "rehearse")
+        .about(
+            "Plays the script of standard input on a new set in memory: calls, turns, failures, stops, crashes and opens",
+        )
+        .arg(slots)?
+        .arg(buckets)
+}
+
 /// The command line that the program understands.
 pub fn command_line<'a>(alloc: Global) -> Result<Command<'a>, AllocError> {
     Command::new(alloc, "lazyset")
@@ -59,7 +78,8 @@ pub fn command_line<'a>(alloc: Global) -> Result<Command<'a>, AllocError> {
         .subcommand(make(alloc)?)?
         .subcommand(run(alloc)?)?
         .subcommand(check(alloc)?)?
-        .subcommand(judge(alloc)?)
+        .subcommand(judge(alloc)?)?
+        .subcommand(rehearse(alloc)?)
 }
 
 /// What the parser's error ends the program with: help is no fault, and want of memory none of the command line's.

@@ -1,8 +1,10 @@
 //! One function for each command: it opens what the command works on.
+ghost use Rattle.std.specs.Prelude.{◌≤◌, IfSome};
+
 use crate::command_line::{command_line, fault_of};
 use crate::fault::Fault;
 use clap::ArgMatches;
-use lazyset_commands::{MOST_JUDGED, MOST_SURVEYED, Status, check_on, judge_on, make_on, run_on};
+use lazyset_commands::{MOST_JUDGED, MOST_SURVEYED, Status, check_on, judge_on, make_on, rehearse_on, run_on};
 use lz_disk::FileDisk;
 use std::fs::File;
 use std::io::{ErrorKind, Read};
@@ -29,6 +31,7 @@ where
         Some(("make", matches)) => make(rt, matches),
         Some(("check", matches)) => check(rt, matches),
         Some(("judge", matches)) => judge(rt, matches),
+        Some(("rehearse", matches)) => Ok(rehearse(rt, matches)),
         Some((_, matches)) => run_file(rt, matches),
         None => Ok(Status::CommandLine),
     }
@@ -75,6 +78,37 @@ where
 {
     let bytes = read_front(rt, matches, MOST_JUDGED)?;
     Ok(judge_on(rt.alloc(), bytes.as_slice(), &mut io::writer(rt)))
+}
+
+fn rehearse<R>(rt: &R, matches: &ArgMatches<'_>) -> Status
+where
+    R: Input + Print + AllocGlobal,
+{
+    let Some(slots) = number_within(matches, "SLOTS", 64) else {
+        return Status::CommandLine;
+    };
+    let Some(buckets) = number_within(matches, "buckets", 4096) else {
+        return Status::CommandLine;
+    };
+    rehearse_on(
+        rt.alloc(),
+        &mut rt.reader(),
+        &mut io::writer(rt),
+        slots,
+        buckets,
+    )
+}
+
+// A number of the command line, from 1 to the most.
+fn number_within(matches: &ArgMatches<'_>, name: &str, most: u64) -> Option<usize>
+    requires { most ≤ 4096 }
+    ensures { IfSome result (λ n. (1 ≤ n) × (n ≤ most)) }
+{
+    let number = matches.get_one::<u64>(name)?;
+    if number < 1 || number > most {
+        return None;
+    }
+    Some(number as usize)
 }
 
 // The file, for reading. A directory is none.

@@ -6,3 +6,4 @@ pub mod Changing
 pub mod Removing
 pub mod Asking
 pub mod Allotting
+pub mod RehearsalEnds

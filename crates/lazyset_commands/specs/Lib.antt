@@ -5,3 +5,4 @@ pub mod Asks
 pub mod Runs
 pub mod Checks
 pub mod Judgements
+pub mod Rehearsals

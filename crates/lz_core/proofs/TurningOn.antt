@@ -1,5 +1,5 @@
 -- A world goes on by an actor's next event.
-use Rattle.std.proofs.Common.{◌≡◌, ◌≢◌, ◌⊎◌, inl, inr, ◌≤◌, ◌<◌, ◌-◌, arith, length, slice_get, unwrap_or, IsSomeAnd, IfSome, ℕ, zero, suc, Bool, true, false, map, slice_index_or, slice_set, List, [], ◌∷◌, Option, Some, None, is_some, reverse, refl, sym, ◌∙◌, ap, subst}
+use Rattle.std.proofs.Common.{◌≡◌, ◌≢◌, ◌⊎◌, inl, inr, ◌≤◌, ◌<◌, ◌-◌, arith, length, slice_get, unwrap_or, IsSome, IsSomeAnd, IfSome, ℕ, zero, suc, Bool, true, false, map, slice_index_or, slice_set, List, [], ◌∷◌, Option, Some, None, is_some, reverse, refl, sym, ◌∙◌, ap, subst}
 use Rattle.std.proofs.lemmas.Bool.{false≢true}
 use Rattle.lz_slot.specs.declared.history.Mark.{Mark}
 use Rattle.lz_slot.specs.declared.command.Command.{Command}
@@ -30,9 +30,9 @@ use Rattle.lz_core.specs.Ready.{IsEventOf}
 use Rattle.lz_core.specs.Steps.{Played}
 use Rattle.lz_core.specs.Runs.{Step, IsNext, Caller, Service, State, Up, Turn, Fails, HasTurn, HasFault, MayPlay, Reached, caller_at, next_event, reply_at, moved_on, played, after_turn, after_fault, marks_of_turn, mark_of_turn, state_after, Point}
 use Rattle.lz_core.specs.Parts.{YardOver}
-use Rattle.lz_core.specs.Worlds.{WorldOver, IsQuiet, HasRun, PlaysOn, HasOne, IsCallOn, IsWorld, MayStepOn, StepsOn, call_shown, call_after, event_asked, event_loaded, mark_list, next_of, next_of_caller, state_shown}
+use Rattle.lz_core.specs.Worlds.{WorldOver, IsQuiet, HasRun, PlaysOn, HasOne, IsCallOn, IsLawful, IsWorld, MayStepOn, StepsOn, call_shown, call_after, event_asked, event_loaded, mark_list, next_of, next_of_caller, state_shown}
 use Rattle.lz_core.proofs.Worlding.{Goes, leads, runs_on, shape_is, shown_at, shown_caller, shown_set, set_at, on_set, same_count}
-use Rattle.std.proofs.lemmas.List.{length-map}
+use Rattle.std.proofs.lemmas.List.{length-map, get_or-set_same}
 use Rattle.lz_list.specs.Words.{Words}
 use Rattle.lz_core.proofs.Turning.{caller_range}
 use Rattle.lz_core.proofs.Keeping.{played_shape}
@@ -472,6 +472,22 @@ module _ (shape : Shape) (disk : Option Past) (callers : List (Option OpenCall))
   tells None yard' outcome call' mark world is steps shown told = absurd (no_next world is)
   tells (Some over) None outcome call' mark world is steps shown told = absurd steps
   tells (Some over) (Some over') outcome call' mark world is steps shown told = plays_on shape over disk callers calls a world e is over' outcome call' steps shown mark told
+
+  open_here : (over : YardOver Past) (world : IsWorld shape (Some over) disk callers calls) → next_of (state_shown shape (Some over) disk callers) a ≡ Some e → (1 ≤ a) × IsSome (call_shown (slice_index_or callers (a - 1) None))
+  open_here over world is =
+      let low = (in_range shape over disk callers calls a world e is).0 in
+      (low, subst IsSome (shown_caller callers a low) (ap is_some (next_is (service shape over disk callers calls a world e is) (medium shape over disk callers calls a world e is) a e is).at))
+
+  -- a call that goes on has another turn
+  pub turns_on : (yard yard' : Option (YardOver Past)) (outcome : Outcome) (call' : Option OpenCall) → IsWorld shape yard disk callers calls → next_of (state_shown shape yard disk callers) a ≡ Some e → StepsOn yard a e outcome yard'
+      → (IsSome (call_shown (slice_index_or callers (a - 1) None)) → IsSome (call_shown call'))
+      → IsLawful (state_shown shape yard' disk (slice_set callers (a - 1) call')) (TurnOf a)
+  turns_on None yard' outcome call' world is steps on = absurd (no_next world is)
+  turns_on (Some over) None outcome call' world is steps on = absurd steps
+  turns_on (Some over) (Some over') outcome call' world is steps on =
+      let own = open_here over world is in
+      let at = shown_caller (slice_set callers (a - 1) call') a own.0 ∙ ap call_shown (get_or-set_same callers (a - 1) call' None (ranged_at over world is)) in
+      subst IsSome (sym at) (on own.1)
 
 -- a place that is there, whatever stands for one that isn't
 pub taken_at : {X : Type 0} (xs : List X) (i : ℕ) (x d : X) → i < length xs → x ≡ slice_index_or xs i x → x ≡ slice_index_or xs i d

@@ -52,35 +52,6 @@ joins a b c xs ys ms ns one other p at =
       reached = λ start h. subst (λ (r : Point). IsReached start r) there (second.reached start (first.reached start h));
     }
 
--- each step makes one call at most
-calls_one : (n : ℕ) (step : Step) → calls_after n step ≤ n + 1
-calls_one n (runs.Calls a c) = omega arith
-calls_one n (runs.Turn a) = omega arith
-calls_one n (runs.Fails a new) = omega arith
-calls_one n (runs.Looks a) = omega arith
-calls_one n runs.Trips = omega arith
-calls_one n runs.Stops = omega arith
-calls_one n (runs.Crashes t) = omega arith
-calls_one n (runs.CrashesIn a t) = omega arith
-calls_one n runs.Opens = omega arith
-calls_one n (runs.OpenFails why done) = omega arith
-
-calls_few : (p : Point) (plays : List PlayStep) (steps : List Step) → ArePlaysOf p plays steps → (run p steps).calls ≤ p.calls + length plays
-calls_few p [] [] are = omega arith
-calls_few p [] (step ∷ steps) are = absurd cc
-calls_few p (play ∷ plays) [] are = absurd are
-calls_few p (play ∷ plays) (step ∷ steps) are =
-    let one = calls_one (run p steps).calls step in
-    let few = calls_few p plays steps are.1 in
-    omega (arith, one, few)
-
--- a world that some run leads to is at a point
-abbrev pub IsSomewhere : WorldOver → Type 0
-IsSomewhere w = (p : Point) × IsAt w p
-
-pub somewhere : (shape : Shape) (w : WorldOver) → HasRun shape w → IsSomewhere w
-somewhere shape w ran = (ran.point, ran.at)
-
 -- what was seen by a play is a chain of lives
 pub chains : (old new : WorldOver) (plays : List PlayStep) (marks : List Mark) → PlaysOn old plays marks new → IsChain old marks new
 chains old new plays marks h = λ start p t reached at leaves.
@@ -132,10 +103,6 @@ pub early_on : (a b c : WorldOver) (plays : List PlayStep) (i : ℕ) (step : Pla
     → PlaysOn a (take i plays) ms b → StopsEarly b (step ∷ []) c → StopsEarly a plays c
 early_on a b c plays i step ms at before h = by_count a b c plays i step ms h.marks h.count at before h.few h.before
 
--- a play that stops between two of its steps
-pub early_at : (a b : WorldOver) (plays : List PlayStep) (i : ℕ) (ms : List Mark) → i ≤ length plays → PlaysOn a (take i plays) ms b → StopsEarly a plays b
-early_at a b plays i ms few before = record { count = i; few = few; marks = ms; before = before }
-
 -- a play that comes to a step that isn't lawful
 pub stops_at : (a b c : WorldOver) (plays : List PlayStep) (i n : ℕ) (step : PlayStep) (ms : List Mark) → slice_get plays i ≡ Some step
     → PlaysOn a (take i plays) ms b → n ≡ i + 1 → c ≡ b → ¬ IsLawful b.state step → StopsAt a plays n c
@@ -148,15 +115,6 @@ stops_at a b c plays i n step ms at before is same unlawful =
       there = (omega (arith, is), rw back at);
       unlawful = rw same unlawful;
     }
-
--- the calls that a play made so far
-pub calls_on : (a b : WorldOver) (plays : List PlayStep) (ms : List Mark) → IsSomewhere a → PlaysOn a plays ms b → b.calls ≤ a.calls + length plays
-calls_on a b plays ms (p, at) h =
-    let leads = h p at in
-    let few = calls_few p (reverse plays) leads.played.steps leads.played.one_for_one in
-    subst (λ (n : ℕ). n ≤ a.calls + length plays) leads.calls
-    (subst (λ (n : ℕ). (run p leads.played.steps).calls ≤ n + length plays) at.calls
-    (subst (λ (n : ℕ). (run p leads.played.steps).calls ≤ p.calls + n) (length-reverse plays) few))
 
 -- A fault that is passed on is the one that came.
 abbrev refused : {T U E : Type 0} → E → Result T E → Result U E

@@ -47,6 +47,11 @@ state_shown shape (Some over) disk callers = Up (record { yard = over.yard; call
 state_shown shape None (Some disk) callers = Down shape (after disk.start disk.records)
 state_shown shape None None callers = Down shape (at_rest [])
 
+-- a service is open
+abbrev pub IsUp : State → Type 0
+IsUp (Up service disk) = Unit {0}
+IsUp (Down shape disk) = ⊥
+
 -- its disk
 abbrev pub disk_shown : Option (YardOver Past) → Option Past → Medium
 disk_shown (Some over) disk = after over.disk.start over.disk.records

@@ -1,5 +1,5 @@
 //! Calls that are open.
-ghost use Rattle.std.specs.Prelude.{◌≡◌, IfOk, IfSome, None, replicate};
+ghost use Rattle.std.specs.Prelude.{◌≡◌, IfOk, IfSome, IsSome, None, replicate};
 ghost use Rattle.lz_slot.specs.Counted.{of_pass};
 ghost use Rattle.lz_core.specs.Orders.{HasPass, MayTake};
 ghost use Rattle.lz_core.specs.Runs as runs;
@@ -59,6 +59,7 @@ pub(crate) fn take_outcome(call: &mut Option<OpenCall>, outcome: Outcome) -> Opt
     ensures call { call_shown call.new ≡ call_after call.old outcome }
     ensures on { (shape : _) → IsCallOn shape call.old → IsCallOn shape call.new }
     ensures mark { mark_list result ≡ marks_of_turn (call_shown call.old) }
+    ensures goes_on { IsSome (call_shown call.old) → result ≡ None → IsSome (call_shown call.new) }
 {
     let Some(under_way) = call else {
         return None;

@@ -1,8 +1,8 @@
 //! A rehearsal: a service over a disk in memory, and what its callers do to it, step by step.
-ghost use Rattle.std.specs.Prelude.{◌≡◌, ◌≤◌, ◌<◌, ◌+◌, ◌^◌, ◌↔◌, ◌==◌, ◌||◌, IfOk, IfErr, OnErr, IsErrOf, IsTrue, IfSome, Some, None, [], ◌∷◌, length};
+ghost use Rattle.std.specs.Prelude.{◌≡◌, ◌≤◌, ◌↔◌, ◌==◌, ◌||◌, IfOk, IfErr, OnErr, IsErrOf, IsTrue, IfSome, Some, None, [], ◌∷◌, length};
 ghost use Rattle.lz_slot.specs.Sets.{members};
 ghost use Rattle.lz_slot.specs.Counted.{of_pass};
-ghost use Rattle.lz_core.specs.Worlds.{Ascend, IsChain, IsLawful, IsNew, IsOutcome, IsTold, MayCall, MayStepOn, PlaysOn, Shows, StepsOn, StopsAt, StopsEarly, event_asked, event_loaded, mark_list, next_of, state_shown};
+ghost use Rattle.lz_core.specs.Worlds.{Ascend, IsChain, IsLawful, IsNew, IsOutcome, IsTold, IsUp, MayCall, MayStepOn, PlaysOn, Shows, StepsOn, StopsAt, StopsEarly, event_asked, event_loaded, mark_list, next_of, state_shown};
 
 use crate::call::Caller;
 use crate::disks::{crash_disk, stop_disk, trip_disk};
@@ -29,6 +29,7 @@ pub enum PlayFault {
     /// The step isn't lawful now: its actor isn't one of the world's, calls where it has a call open, or takes a turn where it
     /// has none; or it calls or takes a turn without an open service; or it opens where a service is open.
     NotNow(usize),
+    /// There is no memory, or no number is left for a call.
     Memory,
 }
 
@@ -103,6 +104,7 @@ impl World {
     pub fn turn(&mut self, actor: usize) -> Result<Turned, PlayFault>
         ensures ok { IfOk result (λ turned. PlaysOn self.old (Step.Turn actor ∷ []) (mark_list turned.mark) self.new) }
         ensures told { IfOk result (λ turned. IsTold self.old.state actor turned.kind turned.outcome) }
+        ensures goes_on { IfOk result (λ turned. turned.mark ≡ None → IsLawful self.new.state (Step.Turn actor)) }
         ensures fault { IfErr result (λ fault. (fault ≡ PlayFault.NotNow 1) × ¬ IsLawful self.old.state (Step.Turn actor)) }
         ensures err { OnErr result (self.new ≡ self.old) }
     {
@@ -143,13 +145,20 @@ impl World {
         }
     }
 
+    /// Whether a service is open.
+    pub fn is_open(&self) -> bool
+        ensures { IsTrue result ↔ IsUp self.now.state }
+    {
+        self.yard.is_some()
+    }
+
     /// Plays the steps in their order, and answers their marks. After Memory the world is as after some of the first steps,
     /// the last of which may be an open that was refused for want of memory.
     pub fn play(&mut self, alloc: Global, steps: &[Step]) -> Result<Vec<Mark>, PlayFault>
-        requires numbers { self.old.calls + length steps.now < 2 ^ 64 }
         ensures ok { IfOk result (λ marks. PlaysOn self.old steps.now marks.items self.new) }
         ensures chain { IfOk result (λ marks. IsChain self.old marks.items self.new) }
         ensures not_now { (step : _) → IsErrOf result (PlayFault.NotNow step) → StopsAt self.old steps.now step self.new }
+        ensures first { IsErrOf result (PlayFault.NotNow 1) → self.new ≡ self.old }
         ensures memory { IsErrOf result PlayFault.Memory → StopsEarly self.old steps.now self.new }
     {
         let _whole = &self.callers;
@@ -173,7 +182,6 @@ impl World {
         step: Step,
         number: usize,
     ) -> Result<Option<Mark>, PlayFault>
-        requires { self.old.calls + 1 < 2 ^ 64 }
         ensures ok { IfOk result (λ mark. PlaysOn self.old (step ∷ []) (mark_list mark) self.new) }
         ensures not_now { (i : _) → IsErrOf result (PlayFault.NotNow i) → (i ≡ number) × (self.new ≡ self.old) × ¬ IsLawful self.old.state step }
         ensures memory { IsErrOf result PlayFault.Memory → StopsEarly self.old (step ∷ []) self.new }
@@ -197,19 +205,23 @@ impl World {
         }
     }
 
+    // Makes the call of the step with this place. Where no number is left for it there is no room.
+    #[tactic(auto, using(crate::proofs::Worlding::early))]
     fn call(
         &mut self,
         actor: usize,
         command: Command,
-        number: usize,
+        place: usize,
     ) -> Result<Option<Mark>, PlayFault>
-        requires { self.old.calls + 1 < 2 ^ 64 }
         ensures ok { IfOk result (λ mark. PlaysOn self.old (Step.Call actor command ∷ []) (mark_list mark) self.new) }
-        ensures fault { IfErr result (λ fault. (fault ≡ PlayFault.NotNow number) × ¬ IsLawful self.old.state (Step.Call actor command)) }
-        ensures err { OnErr result (self.new ≡ self.old) }
+        ensures not_now { (i : _) → IsErrOf result (PlayFault.NotNow i) → (i ≡ place) × (self.new ≡ self.old) × ¬ IsLawful self.old.state (Step.Call actor command) }
+        ensures memory { IsErrOf result PlayFault.Memory → StopsEarly self.old (Step.Call actor command ∷ []) self.new }
     {
         if !may_call(&self.yard, &self.callers, actor) {
-            return Err(PlayFault::NotNow(number));
+            return Err(PlayFault::NotNow(place));
+        }
+        if self.calls == u64::MAX {
+            return Err(PlayFault::Memory);
         }
         let told = command;
         let asked = command;
@@ -238,6 +250,7 @@ impl World {
         ensures kind { result.kind ≡ kind }
         ensures outcome { IsOutcome self.old.state actor event result.outcome }
         ensures plays { PlaysOn self.old (Step.Turn actor ∷ []) (mark_list result.mark) self.new }
+        ensures goes_on { result.mark ≡ None → IsLawful self.new.state (Step.Turn actor) }
     {
         let outcome = step_on(&mut self.yard, actor, event);
         let told = outcome;

@@ -2,3 +2,4 @@ pub mod Cuts
 pub mod Scripting
 pub mod LineReads
 pub mod Appending
+pub mod Rehearsed

@@ -1,3 +1,5 @@
 pub mod Scripts
 pub mod Tellings
 pub mod Scripting
+pub mod Rehearsals
+pub mod Rehearsing

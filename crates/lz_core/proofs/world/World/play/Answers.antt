@@ -1,4 +1,4 @@
-use Rattle.std.proofs.Common.{◌+◌, ◌++◌, List, Option, length, arith, subst, sym, ◌∙◌, ap, take, refl}
+use Rattle.std.proofs.Common.{◌≤◌, ◌+◌, ◌++◌, List, Option, length, arith, subst, sym, ◌∙◌, ap, take, refl}
 use Rattle.std.proofs.lemmas.Result.{err_from_is_err_and}
 use Rattle.std.proofs.lemmas.Option.{slice_get_read}
 use Rattle.lz_core.specs.declared.world.PlayFault.TheVariants.{NotNow, Memory}
@@ -7,21 +7,15 @@ use Rattle.lz_slot.specs.declared.history.Mark.{Mark}
 use Rattle.lz_core.specs.declared.play.Step.{Step as PlayStep}
 use Rattle.lz_core.specs.Worlds.{PlaysOn, mark_list}
 use Rattle.lz_core.proofs.Worlding.{stays}
-use Rattle.lz_core.proofs.WorldPlays.{somewhere, chains, goes_on, early_on, stops_at, calls_on, same_fault, no_mark}
+use Rattle.lz_core.proofs.WorldPlays.{chains, goes_on, early_on, stops_at, same_fault, no_mark}
 use Rattle.lz_core.proofs.world.World.play.Goals as goal
 use Rattle.lz_core.proofs.world.World.play.Goals.{in-Some, in_default}
 
 pub loop-before-init : goal.loop-before-init
 loop-before-init c = record {
-  somewhere = rw (← c.self.view_is) (somewhere _ _ c.self.invariant.ran);
   played = rw c.new-marks.ensures.items (stays c.args.self.now);
+  still = λ none. refl;
 }
-
-pub play_step-requires : goal.play_step-requires
-play_step-requires c =
-    let few = calls_on c.args.self.now c.loop-before.self (take c.loop-before.before c.args.steps.now) c.loop-before.marks.items c.loop-before.invariant.somewhere c.loop-before.invariant.played in
-    let size = length-take-le c.loop-before.before c.args.steps.now c.loop-before.auto.before-end in
-    omega (arith, few, size, c.requires.numbers, c.loop-before-test.true)
 
 pub returns-in_err-mark-clause-not_now : goal.returns-in_err-mark-clause-not_now
 returns-in_err-mark-clause-not_now c = λ n is.
@@ -29,6 +23,12 @@ returns-in_err-mark-clause-not_now c = λ n is.
     let at = slice_get_read c.args.steps.now (length c.args.steps.now) c.loop-before.before c.index-steps-before.result refl c.loop-before-test.true c.index-steps-before.is in
     let told = c.in_err-mark.ensures.not_now n (same_fault c.from_residual.result p.0 _ (NotNow n) p.1 p.2 is) in
     stops_at c.args.self.now c.loop-before.self c.play_step.new.self c.args.steps.now c.loop-before.before n c.index-steps-before.result c.loop-before.marks.items at c.loop-before.invariant.played told.0 told.1 told.2
+
+pub returns-in_err-mark-clause-first : goal.returns-in_err-mark-clause-first
+returns-in_err-mark-clause-first c = λ is.
+    let p = err_from_is_err_and c.from_residual.result c.from_residual.ensures.1 in
+    let told = c.in_err-mark.ensures.not_now 1 (same_fault c.from_residual.result p.0 _ (NotNow 1) p.1 p.2 is) in
+    told.1 ∙ c.loop-before.invariant.still (omega (arith, told.0))
 
 pub returns-in_err-mark-clause-memory : goal.returns-in_err-mark-clause-memory
 returns-in_err-mark-clause-memory c = λ is.
@@ -43,7 +43,6 @@ loop-before-preserved c =
     let more = goes_on c.args.self.now c.loop-before.self c.play_step.new.self c.args.steps.now c.loop-before.before c.index-steps-before.result c.loop-before.marks.items _ at c.loop-before.invariant.played c.in_ok-mark.ensures.ok in
     let kept = ap (λ (ms : List Mark). ms ++ mark_list c.in_ok-mark.field-0) (sym c.reserve.ensures.items) in
     record {
-      somewhere = c.loop-before.invariant.somewhere;
       played = elim c.match-branch-2.branch [
         | in-Some w ↦
             subst (λ (ms : List Mark). PlaysOn c.args.self.now (take (c.loop-before.before + 1) c.args.steps.now) ms c.play_step.new.self)
@@ -52,6 +51,7 @@ loop-before-preserved c =
             subst (λ (ms : List Mark). PlaysOn c.args.self.now (take (c.loop-before.before + 1) c.args.steps.now) ms c.play_step.new.self)
             (kept ∙ ap (λ (ms : List Mark). c.reserve.new.self.items ++ ms) (no_mark c.in_ok-mark.field-0 w.in_default.not-Some) ∙ append-nil c.reserve.new.self.items ∙ ap (λ v. v.items) (sym w.marks-is)) more
       ];
+      still = λ none. absurd (omega (arith, none));
     }
 
 pub returns-clause-ok : goal.returns-clause-ok

@@ -1,0 +1,253 @@
+-- A rehearsal goes on, line by line and turn by turn.
+use Rattle.std.proofs.Common.{◌≡◌, ◌≢◌, ◌⊎◌, inl, inr, ◌≤◌, ◌<◌, ◌+◌, ◌-◌, ℕ, zero, suc, Bool, true, false, Option, None, Some, List, [], ◌∷◌, ◌++◌, length, take, drop, get_or, slice_get, is_some, unwrap_or, IsTrue, ◌↔◌, Result, Ok, Err, OnOk, refl, sym, ap, subst, ◌∙◌, arith}
+use Rattle.std.proofs.lemmas.Bool.{false≢true}
+use Rattle.std.proofs.Math.Seq.{split_at}
+use Rattle.std.proofs.lemmas.List.{append-nil, length-take-le, take_more}
+use Rattle.std.proofs.KnownBytes.{Appends-trans}
+use Rattle.std.specs.Io.KnownBytes.{Appends}
+use Rattle.lz_slot.specs.declared.history.Mark.{Mark}
+use Rattle.lz_core.specs.declared.event.Outcome.{Outcome}
+use Rattle.lz_core.specs.declared.event.Outcome.TheVariants.{Busy}
+use Rattle.lz_core.specs.declared.kind.Kind.{Kind}
+use Rattle.lz_core.specs.declared.play.Step.{Step as PlayStep}
+use Rattle.lz_core.specs.declared.play.Step.TheVariants as step
+use Rattle.lz_core.specs.declared.world.Turned.{Turned}
+use Rattle.lz_core.specs.Runs.{State}
+use Rattle.lz_core.specs.Worlds.{IsLawful, IsTold, IsUp, PlaysOn, StopsAt, WorldOver, mark_list}
+use Rattle.lz_core.proofs.Worlding.{stays}
+use Rattle.lz_core.proofs.WorldPlays.{chains, joins}
+use Rattle.lz_rehearsal.specs.declared.line.Line.{Line}
+use Rattle.lz_rehearsal.specs.declared.line.Line.TheVariants.{Call, Turn, Until, Finish, Trip, Stop, Crash, Open, Show}
+use Rattle.lz_rehearsal.specs.Scripts.{most_turns}
+use Rattle.lz_rehearsal.specs.Rehearsals.{Adds, Does, EndsAt, EndsWithin, IsLawfulLine, IsShow, IsStep, IsTurn, Rehearsed, Rehearses, Turns, enough, ended, busy, met, again, nothing, more}
+use Rattle.lz_rehearsal.specs.Rehearsing.{PlaysStep, ShowsMembers, TakesTurns, Tells}
+
+-- what lines do is the play of some steps
+abbrev pub IsPlay : WorldOver → List Mark → WorldOver → Type 0
+IsPlay old marks new = (plays : List PlayStep) × PlaysOn old plays marks new
+
+play_of_turns : (a : ℕ) (awaited : Option Kind) (n : ℕ) (old new : WorldOver) (marks : List Mark) (text : List ℕ) → Turns a awaited n old marks text new → IsPlay old marks new
+play_of_turns a awaited _ old _ _ _ (enough w) = ([], stays w)
+play_of_turns a awaited _ _ _ _ _ (ended n old new kind outcome mark is) = (step.Turn a ∷ [], is.0)
+play_of_turns a awaited _ _ _ _ _ (busy n old new kind is) = (step.Turn a ∷ [], is.0)
+play_of_turns a awaited _ _ _ _ _ (met n old new kind outcome is free same) = (step.Turn a ∷ [], is.0)
+play_of_turns a awaited _ _ _ _ _ (again n old mid new kind outcome marks text is free other rest) =
+    let later = play_of_turns a awaited n mid new marks text rest in
+    (step.Turn a ∷ later.0, joins old mid new (step.Turn a ∷ []) later.0 [] marks is.0 later.1)
+
+play_of_line : (old new : WorldOver) (line : Line) (marks : List Mark) (text : List ℕ) → Does old line marks text new → IsPlay old marks new
+play_of_line old new (Call a c) marks text does = (step.Call a c ∷ [], does.0)
+play_of_line old new (Turn a n) marks text does = play_of_turns a None n old new marks text does
+play_of_line old new (Until a kind) marks text does = play_of_turns a (Some kind) most_turns old new marks text does
+play_of_line old new (Finish a) marks text does = play_of_turns a None most_turns old new marks text does
+play_of_line old new Trip marks text does = (step.Trip ∷ [], does.0)
+play_of_line old new Stop marks text does = (step.Stop ∷ [], does.0)
+play_of_line old new (Crash pick) marks text does = (step.Crash pick ∷ [], does.0)
+play_of_line old new Open marks text does = (step.Open ∷ [], does.0)
+play_of_line old new Show marks text does =
+    ([], subst (λ (ms : List Mark). PlaysOn old [] ms new) (sym does.none) (subst (λ (w : WorldOver). PlaysOn old [] [] w) (sym does.same) (stays old)))
+
+play_of : (old new : WorldOver) (lines : List Line) (marks : List Mark) (text : List ℕ) → Rehearsed old lines marks text new → IsPlay old marks new
+play_of old _ _ _ _ nothing = ([], stays old)
+play_of old _ _ _ _ (more lines line marks seen text written mid new before does) =
+    let first = play_of old mid lines marks text before in
+    let second = play_of_line mid new line seen written does in
+    (first.0 ++ second.0, joins old mid new first.0 second.0 marks seen first.1 second.1)
+
+abbrev Text : Type 0
+Text = Option (List ℕ)
+
+rehearses : (old new : WorldOver) (lines : List Line) (marks : List Mark) (text : List ℕ) (b a : Text) → Rehearsed old lines marks text new → Appends b a text → Rehearses old lines new b a
+rehearses old new lines marks text b a h written =
+    let play = play_of old new lines marks text h in
+    record { marks = marks; text = text; rehearsed = h; written = written; chain = chains old new play.0 marks play.1 }
+
+pub appends_none : (b : Text) → Appends b b []
+appends_none None = tt
+appends_none (Some bytes) = sym (append-nil bytes)
+
+appends_more : (b m a : Text) (t : List ℕ) → Appends b m t → Appends m a [] → Appends b a t
+appends_more b m a t one other = subst (Appends b a) (append-nil t) (Appends-trans b m a t [] one other)
+
+pub begins : (old : WorldOver) (b : Text) → Rehearses old [] old b b
+begins old b = rehearses old old [] [] [] b b nothing (appends_none b)
+
+-- one line more
+pub goes_on : (old mid new : WorldOver) (lines : List Line) (i : ℕ) (line : Line) (b m a : Text) → i < length lines → get_or lines i line ≡ line
+    → Rehearses old (take i lines) mid b m → Adds mid line new m a → Rehearses old (take (i + 1) lines) new b a
+goes_on old mid new lines i line b m a within at before adds =
+    let next : take (i + 1) lines ≡ take i lines ++ line ∷ [] = take_more lines i line within ∙ ap (λ (x : Line). take i lines ++ x ∷ []) at in
+    subst (λ (ls : List Line). Rehearses old ls new b a) (sym next)
+    (rehearses old new (take i lines ++ line ∷ []) (before.marks ++ adds.seen) (before.text ++ adds.text) b a
+    (more (take i lines) line before.marks adds.seen before.text adds.text mid new before.rehearsed adds.does)
+    (Appends-trans b m a before.text adds.text before.written adds.written))
+
+cut_here : (lines : List Line) (i : ℕ) (line : Line) → i < length lines → get_or lines i line ≡ line → lines ≡ take i lines ++ line ∷ drop (suc i) lines
+cut_here lines i line within at = split_at lines i line within ∙ ap (λ (x : Line). take i lines ++ x ∷ drop (suc i) lines) at
+
+written_more : (old new : WorldOver) (lines : List Line) (b m a : Text) → Rehearses old lines new b m → Appends m a [] → Rehearses old lines new b a
+written_more old new lines b m a h none = record { marks = h.marks; text = h.text; rehearsed = h.rehearsed; written = appends_more b m a h.text h.written none; chain = h.chain }
+
+-- a line that isn't lawful
+pub ends_at : (old mid new : WorldOver) (lines : List Line) (i number : ℕ) (line : Line) (b m a : Text) → i < length lines → get_or lines i line ≡ line
+    → Rehearses old (take i lines) mid b m → number ≡ i + 1 → new ≡ mid → Appends m a [] → ¬ IsLawfulLine mid.state line → EndsAt old lines number new b a
+ends_at old mid new lines i number line b m a within at before is same none unlawful = record {
+  front = take i lines;
+  line = line;
+  rest = drop (suc i) lines;
+  whole = cut_here lines i line within at;
+  place = ap suc (length-take-le i lines (omega (arith, within))) ∙ omega (arith, is);
+  rehearses = subst (λ (w : WorldOver). Rehearses old (take i lines) w b a) (sym same) (written_more old mid (take i lines) b m a before none);
+  unlawful = subst (λ (w : WorldOver). ¬ IsLawfulLine w.state line) (sym same) unlawful;
+}
+
+-- a line for which there was no memory
+pub ends_within : (old mid : WorldOver) (lines : List Line) (i : ℕ) (line : Line) (b m a : Text) → i < length lines → get_or lines i line ≡ line
+    → Rehearses old (take i lines) mid b m → Appends m a [] → EndsWithin old lines b a
+ends_within old mid lines i line b m a within at before none = record {
+  front = take i lines;
+  line = line;
+  rest = drop (suc i) lines;
+  whole = cut_here lines i line within at;
+  mid = mid;
+  rehearses = written_more old mid (take i lines) b m a before none;
+}
+
+-- what a line does, as its steps tell it
+pub adds_step : (old new : WorldOver) (line : Line) (play : PlayStep) (b a : Text) → ((marks : List Mark) (text : List ℕ) → IsStep old play marks text new → Does old line marks text new)
+    → PlaysStep old play new b a → Adds old line new b a
+adds_step old new line play b a is h = record { seen = h.seen; text = h.text; does = is h.seen h.text h.plays; written = h.written }
+
+pub adds_turns : (old new : WorldOver) (line : Line) (actor : ℕ) (awaited : Option Kind) (most : ℕ) (b a : Text)
+    → ((marks : List Mark) (text : List ℕ) → Turns actor awaited most old marks text new → Does old line marks text new)
+    → TakesTurns actor awaited most old new b a → Adds old line new b a
+adds_turns old new line actor awaited most b a is h = record { seen = h.seen; text = h.text; does = is h.seen h.text h.turns; written = h.written }
+
+adds_show : (old new : WorldOver) (b a : Text) → ShowsMembers old b a → new ≡ old → Adds old Show new b a
+adds_show old new b a h same = record {
+  seen = [];
+  text = h.text;
+  does = record { up = h.shows.up; same = same; none = refl; keys = h.shows.keys; members = h.shows.members; ascend = h.shows.ascend; shown = h.shows.shown };
+  written = h.written;
+}
+
+-- a write that was done
+pub if_done : {E F : Type 0} (done : Result (Unit {0}) E) (told : Result (Unit {0}) F) (P : Type 0) → (done ≡ Ok tt → told ≡ Ok tt) → OnOk told P → OnOk done P
+if_done (Err e) told P is h = tt
+if_done (Ok tt) told P is h = subst (λ r. OnOk r P) (is refl) h
+
+-- Turns of a line, the last of which comes later: what ends them there ends them.
+abbrev pub IsGoing : ℕ → Option Kind → ℕ → WorldOver → ℕ → WorldOver → Type 0
+IsGoing a awaited most start left here = (marks : List Mark) (text : List ℕ) (new : WorldOver) → Turns a awaited left here marks text new → Turns a awaited most start marks text new
+
+pub record Going (a : ℕ) (awaited : Option Kind) (most : ℕ) (start : WorldOver) (played : ℕ) (here : WorldOver) (b m : Text) : Type 0 where
+  pub going : IsGoing a awaited most start (most - played) here
+  pub unwritten : Appends b m []
+  pub still : played ≡ 0 → here ≡ start
+  pub lawful : 1 ≤ played → IsLawful here.state (step.Turn a)
+
+pub going_first : (a : ℕ) (awaited : Option Kind) (most : ℕ) (start : WorldOver) (b : Text) → Going a awaited most start 0 start b b
+going_first a awaited most start b = record {
+  going = λ marks text new h. subst (λ (n : ℕ). Turns a awaited n start marks text new) (omega arith) h;
+  unwritten = appends_none b;
+  still = λ none. refl;
+  lawful = λ some. absurd (omega (arith, some));
+}
+
+left_one : (most played : ℕ) → played < most → suc (most - (played + 1)) ≡ most - played
+left_one most played low = omega (arith, low)
+
+-- a turn that isn't the last of its line
+pub going_on : (a : ℕ) (awaited : Option Kind) (most played : ℕ) (start here new : WorldOver) (turned : Turned) (b m c : Text) → played < most
+    → Going a awaited most start played here b m
+    → PlaysOn here (step.Turn a ∷ []) (mark_list turned.mark) new → IsTold here.state a turned.kind turned.outcome
+    → (turned.mark ≡ None → IsLawful new.state (step.Turn a))
+    → Tells a awaited turned false m c → Going a awaited most start (played + 1) new b c
+going_on a awaited most played start here new turned b m c low h plays told lawful tells = record {
+  going = λ marks text end rest.
+      h.going marks text end (subst (λ (n : ℕ). Turns a awaited n here marks text end) (left_one most played low)
+      (again (most - (played + 1)) here new end turned.kind turned.outcome marks text
+      (subst (λ (mark : Option Mark). PlaysOn here (step.Turn a ∷ []) (mark_list mark) new) tells.0 plays, told) tells.1 tells.2 rest));
+  unwritten = appends_more b m c [] h.unwritten tells.3;
+  still = λ none. absurd (omega (arith, none));
+  lawful = λ some. lawful tells.0;
+}
+
+last_turn : (a : ℕ) (awaited : Option Kind) (n : ℕ) (here new : WorldOver) (turned : Turned) (m c : Text)
+    → PlaysOn here (step.Turn a ∷ []) (mark_list turned.mark) new → IsTold here.state a turned.kind turned.outcome
+    → Tells a awaited turned true m c → TakesTurns a awaited (suc n) here new m c
+last_turn a awaited n here new turned m c plays told (inl over) = record {
+  seen = over.0 ∷ [];
+  text = _;
+  turns = ended n here new turned.kind turned.outcome over.0 (subst (λ (mark : Option Mark). PlaysOn here (step.Turn a ∷ []) (mark_list mark) new) over.1 plays, told);
+  written = over.2;
+}
+last_turn a awaited n here new turned m c plays told (inr (inl found)) = record {
+  seen = [];
+  text = _;
+  turns = busy n here new turned.kind (subst (λ (mark : Option Mark). PlaysOn here (step.Turn a ∷ []) (mark_list mark) new) found.0 plays, subst (λ (o : Outcome). IsTold here.state a turned.kind o) found.1 told);
+  written = found.2;
+}
+last_turn a awaited n here new turned m c plays told (inr (inr came)) = record {
+  seen = [];
+  text = [];
+  turns = met n here new turned.kind turned.outcome (subst (λ (mark : Option Mark). PlaysOn here (step.Turn a ∷ []) (mark_list mark) new) came.0 plays, told) came.1 came.2;
+  written = came.3;
+}
+
+went : (a : ℕ) (awaited : Option Kind) (most played : ℕ) (start here new : WorldOver) (b m c : Text) → Going a awaited most start played here b m
+    → TakesTurns a awaited (most - played) here new m c → TakesTurns a awaited most start new b c
+went a awaited most played start here new b m c h taken = record {
+  seen = taken.seen;
+  text = taken.text;
+  turns = h.going taken.seen taken.text new taken.turns;
+  written = Appends-trans b m c [] taken.text h.unwritten taken.written;
+}
+
+-- a turn that is the last of its line
+pub going_ends : (a : ℕ) (awaited : Option Kind) (most played : ℕ) (start here new : WorldOver) (turned : Turned) (b m c : Text) → played < most
+    → Going a awaited most start played here b m
+    → PlaysOn here (step.Turn a ∷ []) (mark_list turned.mark) new → IsTold here.state a turned.kind turned.outcome
+    → Tells a awaited turned true m c → TakesTurns a awaited most start new b c
+going_ends a awaited most played start here new turned b m c low h plays told tells =
+    went a awaited most played start here new b m c h
+    (subst (λ (n : ℕ). TakesTurns a awaited n here new m c) (left_one most played low) (last_turn a awaited (most - (played + 1)) here new turned m c plays told tells))
+
+-- as many turns as there may be
+pub going_enough : (a : ℕ) (awaited : Option Kind) (most played : ℕ) (start here : WorldOver) (b m : Text) → most ≤ played → Going a awaited most start played here b m → TakesTurns a awaited most start here b m
+going_enough a awaited most played start here b m all h =
+    let none : 0 ≡ most - played = omega (arith, all) in
+    record { seen = []; text = []; turns = h.going [] [] here (subst (λ (n : ℕ). Turns a awaited n here [] [] here) none (enough here)); written = h.unwritten }
+
+-- only the first turn of a line may be unlawful
+pub going_unlawful : (a : ℕ) (awaited : Option Kind) (most played : ℕ) (start here : WorldOver) (b m : Text) → Going a awaited most start played here b m
+    → ¬ IsLawful here.state (step.Turn a) → (here ≡ start) × ¬ IsLawful start.state (step.Turn a)
+going_unlawful a awaited most zero start here b m h unlawful =
+    let same = h.still refl in
+    (same, subst (λ (w : WorldOver). ¬ IsLawful w.state (step.Turn a)) same unlawful)
+going_unlawful a awaited most (suc played) start here b m h unlawful = absurd (unlawful (h.lawful (omega arith)))
+
+-- a play of one step that stops at it
+none_behind : (play other : PlayStep) (i : ℕ) → slice_get (play ∷ []) (suc i) ≡ Some other → ⊥
+none_behind play other i at = false≢true (ap is_some at)
+
+first_place : (play other : PlayStep) (i : ℕ) → 1 ≤ i → slice_get (play ∷ []) (i - 1) ≡ Some other → i ≡ 1
+first_place play other zero low at = absurd (omega (arith, low))
+first_place play other (suc zero) low at = refl
+first_place play other (suc (suc i)) low at =
+    let back : suc (suc i) - 1 ≡ suc i = omega arith in
+    absurd (none_behind play other i (subst (λ (n : ℕ). slice_get (play ∷ []) n ≡ Some other) back at))
+
+pub stopped : (old new : WorldOver) (play : PlayStep) (i : ℕ) → StopsAt old (play ∷ []) i new → (i ≡ 1 → new ≡ old) → (new ≡ old) × ¬ IsLawful old.state play
+stopped old new play i h still =
+    let one = first_place play h.step i h.there.0 h.there.1 in
+    let same = still one in
+    let back : i - 1 ≡ 0 = omega (arith, one) in
+    let at : slice_get (play ∷ []) 0 ≡ Some h.step = subst (λ (n : ℕ). slice_get (play ∷ []) n ≡ Some h.step) back h.there.1 in
+    let its : h.step ≡ play = sym (ap (λ (o : Option PlayStep). unwrap_or o play) at) in
+    (same, subst (λ (w : WorldOver). ¬ IsLawful w.state play) same (subst (λ (s : PlayStep). ¬ IsLawful new.state s) its h.unlawful))
+
+-- the members were shown by their line
+pub show_adds : {F : Type 0} (r : Result (Unit {0}) F) (old : WorldOver) (line : Line) (b a : Text) → line ≡ Show → OnOk r (ShowsMembers old b a) → OnOk r (Adds old line old b a)
+show_adds (Err e) old line b a is h = tt
+show_adds (Ok done) old line b a is h = subst (λ (l : Line). Adds old l old b a) (sym is) (adds_show old old b a h refl)
