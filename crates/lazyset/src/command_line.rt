@@ -26,7 +26,7 @@ fn make<'a>(alloc: Global) -> Result<Command<'a>, AllocError> {
 fn run<'a>(alloc: Global) -> Result<Command<'a>, AllocError> {
     Command::new(alloc, "run")
         .about(
-            "Answers the lines `add K` and `has K` of standard input, each with one line: yes, no, full or halted",
+            "Answers the lines `add K`, `remove K` and `has K` of standard input, each with one line: yes, no, full or halted",
         )
         .arg(file(alloc))
 }

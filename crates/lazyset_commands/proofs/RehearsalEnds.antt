@@ -1,5 +1,5 @@
 -- How a rehearsal's end is told.
-use Rattle.std.proofs.Common.{◌≡◌, ◌⊎◌, inl, inr, ℕ, Option, None, Some, List, Result, Ok, Err, OnOk, IsErrOf, IfOk, IfSome, refl, sym, subst, ◌∙◌}
+use Rattle.std.proofs.Common.{◌≡◌, ◌⊎◌, inl, inr, ℕ, Option, None, Some, List, Result, Ok, Err, OnOk, IsErrOf, IfSome, sym, subst, ◌∙◌}
 use Rattle.std.specs.Io.KnownBytes.{Appends}
 use Rattle.lz_core.specs.Yards.{Shape}
 use Rattle.lz_core.specs.Worlds.{IsNew, WorldOver}

@@ -1,5 +1,5 @@
 -- A rehearsal goes on, line by line and turn by turn.
-use Rattle.std.proofs.Common.{◌≡◌, ◌≢◌, ◌⊎◌, inl, inr, ◌≤◌, ◌<◌, ◌+◌, ◌-◌, ℕ, zero, suc, Bool, true, false, Option, None, Some, List, [], ◌∷◌, ◌++◌, length, take, drop, get_or, slice_get, is_some, unwrap_or, IsTrue, ◌↔◌, Result, Ok, Err, OnOk, refl, sym, ap, subst, ◌∙◌, arith}
+use Rattle.std.proofs.Common.{◌≡◌, inl, inr, ◌≤◌, ◌<◌, ◌+◌, ◌-◌, ℕ, zero, suc, true, false, Option, None, Some, List, [], ◌∷◌, ◌++◌, length, take, drop, get_or, slice_get, is_some, unwrap_or, Result, Ok, Err, OnOk, refl, sym, ap, subst, ◌∙◌, arith}
 use Rattle.std.proofs.lemmas.Bool.{false≢true}
 use Rattle.std.proofs.Math.Seq.{split_at}
 use Rattle.std.proofs.lemmas.List.{append-nil, length-take-le, take_more}
@@ -7,20 +7,18 @@ use Rattle.std.proofs.KnownBytes.{Appends-trans}
 use Rattle.std.specs.Io.KnownBytes.{Appends}
 use Rattle.lz_slot.specs.declared.history.Mark.{Mark}
 use Rattle.lz_core.specs.declared.event.Outcome.{Outcome}
-use Rattle.lz_core.specs.declared.event.Outcome.TheVariants.{Busy}
 use Rattle.lz_core.specs.declared.kind.Kind.{Kind}
 use Rattle.lz_core.specs.declared.play.Step.{Step as PlayStep}
 use Rattle.lz_core.specs.declared.play.Step.TheVariants as step
 use Rattle.lz_core.specs.declared.world.Turned.{Turned}
-use Rattle.lz_core.specs.Runs.{State}
-use Rattle.lz_core.specs.Worlds.{IsLawful, IsTold, IsUp, PlaysOn, StopsAt, WorldOver, mark_list}
+use Rattle.lz_core.specs.Worlds.{IsLawful, IsTold, PlaysOn, StopsAt, WorldOver, mark_list}
 use Rattle.lz_core.proofs.Worlding.{stays}
 use Rattle.lz_core.proofs.WorldPlays.{chains, joins}
 use Rattle.lz_rehearsal.specs.declared.line.Line.{Line}
 use Rattle.lz_rehearsal.specs.declared.line.Line.TheVariants.{Call, Turn, Until, Finish, Trip, Stop, Crash, Open, Show}
 use Rattle.lz_rehearsal.specs.Scripts.{most_turns}
-use Rattle.lz_rehearsal.specs.Rehearsals.{Adds, Does, EndsAt, EndsWithin, IsLawfulLine, IsShow, IsStep, IsTurn, Rehearsed, Rehearses, Turns, enough, ended, busy, met, again, nothing, more}
-use Rattle.lz_rehearsal.specs.Rehearsing.{PlaysStep, ShowsMembers, TakesTurns, Tells}
+use Rattle.lz_rehearsal.specs.Rehearsals.{Adds, Does, EndsAt, EndsWithin, IsLawfulLine, Rehearsed, Rehearses, Turns, enough, ended, busy, met, again, nothing, more}
+use Rattle.lz_rehearsal.specs.Rehearsing.{ShowsMembers, TakesTurns, Tells}
 
 -- what lines do is the play of some steps
 abbrev pub IsPlay : WorldOver → List Mark → WorldOver → Type 0
@@ -113,16 +111,7 @@ ends_within old mid lines i line b m a within at before none = record {
   rehearses = written_more old mid (take i lines) b m a before none;
 }
 
--- what a line does, as its steps tell it
-pub adds_step : (old new : WorldOver) (line : Line) (play : PlayStep) (b a : Text) → ((marks : List Mark) (text : List ℕ) → IsStep old play marks text new → Does old line marks text new)
-    → PlaysStep old play new b a → Adds old line new b a
-adds_step old new line play b a is h = record { seen = h.seen; text = h.text; does = is h.seen h.text h.plays; written = h.written }
-
-pub adds_turns : (old new : WorldOver) (line : Line) (actor : ℕ) (awaited : Option Kind) (most : ℕ) (b a : Text)
-    → ((marks : List Mark) (text : List ℕ) → Turns actor awaited most old marks text new → Does old line marks text new)
-    → TakesTurns actor awaited most old new b a → Adds old line new b a
-adds_turns old new line actor awaited most b a is h = record { seen = h.seen; text = h.text; does = is h.seen h.text h.turns; written = h.written }
-
+-- the members were shown by their line
 adds_show : (old new : WorldOver) (b a : Text) → ShowsMembers old b a → new ≡ old → Adds old Show new b a
 adds_show old new b a h same = record {
   seen = [];
@@ -130,11 +119,6 @@ adds_show old new b a h same = record {
   does = record { up = h.shows.up; same = same; none = refl; keys = h.shows.keys; members = h.shows.members; ascend = h.shows.ascend; shown = h.shows.shown };
   written = h.written;
 }
-
--- a write that was done
-pub if_done : {E F : Type 0} (done : Result (Unit {0}) E) (told : Result (Unit {0}) F) (P : Type 0) → (done ≡ Ok tt → told ≡ Ok tt) → OnOk told P → OnOk done P
-if_done (Err e) told P is h = tt
-if_done (Ok tt) told P is h = subst (λ r. OnOk r P) (is refl) h
 
 -- Turns of a line, the last of which comes later: what ends them there ends them.
 abbrev pub IsGoing : ℕ → Option Kind → ℕ → WorldOver → ℕ → WorldOver → Type 0
@@ -247,7 +231,6 @@ stopped old new play i h still =
     let its : h.step ≡ play = sym (ap (λ (o : Option PlayStep). unwrap_or o play) at) in
     (same, subst (λ (w : WorldOver). ¬ IsLawful w.state play) same (subst (λ (s : PlayStep). ¬ IsLawful new.state s) its h.unlawful))
 
--- the members were shown by their line
 pub show_adds : {F : Type 0} (r : Result (Unit {0}) F) (old : WorldOver) (line : Line) (b a : Text) → line ≡ Show → OnOk r (ShowsMembers old b a) → OnOk r (Adds old line old b a)
 show_adds (Err e) old line b a is h = tt
 show_adds (Ok done) old line b a is h = subst (λ (l : Line). Adds old l old b a) (sym is) (adds_show old old b a h refl)

@@ -165,7 +165,7 @@ fn show<W: Write + Drop>(
 
 // What a write comes to.
 fn written(told: io::Result<()>) -> Result<(), RehearsalFault>
-    ensures done { result ≡ Ok tt → told ≡ Ok tt }
+    ensures done { (result ≡ Ok tt) ↔ (told ≡ Ok tt) }
     ensures fault { (fault : RehearsalFault) → IsErrOf result fault → fault ≡ RehearsalFault.Write }
 {
     match told {

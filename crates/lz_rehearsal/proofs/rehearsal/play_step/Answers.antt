@@ -1,4 +1,4 @@
-use Rattle.std.proofs.Common.{ℕ, Err, ap, sym, ◌∙◌}
+use Rattle.std.proofs.Common.{ℕ, Err, ap, ◌∙◌}
 use Rattle.lz_core.specs.declared.world.PlayFault.{PlayFault}
 use Rattle.lz_core.specs.declared.world.PlayFault.TheVariants.{NotNow}
 use Rattle.lz_rehearsal.proofs.Rehearsed.{stopped, appends_none}
@@ -7,6 +7,6 @@ use Rattle.lz_rehearsal.proofs.rehearsal.play_step.Goals as goal
 pub returns-in-Err-NotNow-clause-line : goal.returns-in-Err-NotNow-clause-line
 returns-in-Err-NotNow-clause-line g c = λ n is.
     let told =
-        stopped c.args.world.now c.play.new.self c.args.step c.in-Err-NotNow.field-0-0 (c.in-Err-NotNow.ensures.not_now c.in-Err-NotNow.field-0-0 (ap (λ (f : PlayFault). Err f) c.in-Err-NotNow.field-0-is))
-        (λ one. c.in-Err-NotNow.ensures.first (ap (λ (f : PlayFault). Err f) (c.in-Err-NotNow.field-0-is ∙ ap (λ (i : ℕ). NotNow i) one))) in
+    stopped c.args.world.now c.play.new.self c.args.step c.in-Err-NotNow.field-0-0 (c.in-Err-NotNow.ensures.not_now c.in-Err-NotNow.field-0-0 (ap (λ (f : PlayFault). Err f) c.in-Err-NotNow.field-0-is))
+    (λ one. c.in-Err-NotNow.ensures.first (ap (λ (f : PlayFault). Err f) (c.in-Err-NotNow.field-0-is ∙ ap (λ (i : ℕ). NotNow i) one))) in
     (cc, told.0, appends_none (g.W.Write.contents c.args.writer.now), told.1)
