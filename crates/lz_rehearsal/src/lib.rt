@@ -1,8 +1,7 @@
 //! Scripts of rehearsals, read exactly, and the text of what a rehearsal prints. A script is at most 100,000 lines of at
 //! most 64 bytes: a script that was read has the lines that its input spells, and a line that is named at fault is the
-//! first that doesn't read. A rehearsal plays the lines on a world one after another, up to the first that isn't lawful where
-//! it stands. Printed is one line for each mark, for the members, for an actor that found a lock taken and
-//! for a line of the script.
+//! first that doesn't read. A rehearsal plays the lines on a world one after another, up to the first that isn't lawful
+//! where it stands, and writes one line for each mark, for the members, and for an actor that found a lock taken.
 #![tactic(auto)]
 
 mod line;
@@ -13,4 +12,4 @@ mod telling;
 pub use line::{ACTORS, LONGEST_LINE, Line, MOST_TURNS, read_line};
 pub use rehearsal::{RehearsalFault, rehearse};
 pub use script::{MOST_LINES, Script, ScriptFault};
-pub use telling::{write_busy, write_line, write_mark, write_marks, write_members, write_text};
+pub use telling::write_line;

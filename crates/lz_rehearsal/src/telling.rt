@@ -163,10 +163,3 @@ fn cut_word(why: Cut) -> &'static str
         Cut::Device => "device",
     }
 }
-
-/// A line of this text.
-pub fn write_text<W: Write + Drop>(writer: &mut W, text: &str) -> io::Result<()>
-    ensures { OnOk result (Appends (W.contents writer.old) (W.contents writer.new) (text.now ++ 10 ∷ [])) }
-{
-    writeln!(writer, "{text}")
-}
