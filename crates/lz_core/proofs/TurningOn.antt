@@ -30,7 +30,7 @@ use Rattle.lz_core.specs.Ready.{IsEventOf}
 use Rattle.lz_core.specs.Steps.{Played}
 use Rattle.lz_core.specs.Runs.{Step, IsNext, Caller, Service, State, Up, Turn, Fails, HasTurn, HasFault, MayPlay, Reached, caller_at, next_event, reply_at, moved_on, played, after_turn, after_fault, marks_of_turn, mark_of_turn, state_after, Point}
 use Rattle.lz_core.specs.Parts.{YardOver}
-use Rattle.lz_core.specs.Worlds.{WorldOver, IsQuiet, HasRun, PlaysOn, HasOne, IsCallOn, IsLawful, IsWorld, MayStepOn, StepsOn, call_shown, call_after, event_asked, event_loaded, mark_list, next_of, next_of_caller, state_shown}
+use Rattle.lz_core.specs.Worlds.{WorldOver, IsQuiet, HasRun, PlaysOn, HasOne, IsCallOn, IsLawful, IsOutcome, IsWorld, MayStepOn, StepsOn, call_shown, call_after, event_asked, event_loaded, mark_list, next_of, next_of_caller, state_shown}
 use Rattle.lz_core.proofs.Worlding.{Goes, leads, runs_on, shape_is, shown_at, shown_caller, shown_set, set_at, on_set, same_count}
 use Rattle.std.proofs.lemmas.List.{length-map, get_or-set_same}
 use Rattle.lz_list.specs.Words.{Words}
@@ -488,6 +488,16 @@ module _ (shape : Shape) (disk : Option Past) (callers : List (Option OpenCall))
       let own = open_here over world is in
       let at = shown_caller (slice_set callers (a - 1) call') a own.0 ∙ ap call_shown (get_or-set_same callers (a - 1) call' None (ranged_at over world is)) in
       subst IsSome (sym at) (on own.1)
+
+  -- what an event's outcome tells of the yard after it
+  pub tells_outcome : (yard yard' : Option (YardOver Past)) (outcome : Outcome) (callers' : List (Option OpenCall)) → IsWorld shape yard disk callers calls → next_of (state_shown shape yard disk callers) a ≡ Some e → StepsOn yard a e outcome yard'
+      → IsOutcome (state_shown shape yard disk callers) a e outcome (state_shown shape yard' disk callers')
+  tells_outcome None yard' outcome callers' world is steps = absurd (no_next world is)
+  tells_outcome (Some over) None outcome callers' world is steps = absurd steps
+  tells_outcome (Some over) (Some over') outcome callers' world is steps = elim (fault_or_not outcome) [
+    | inl fault ↦ inr (fault, (steps.failed fault).yard)
+    | inr other ↦ inl ((steps.done other).answer, (steps.done other).yard)
+  ]
 
 -- a place that is there, whatever stands for one that isn't
 pub taken_at : {X : Type 0} (xs : List X) (i : ℕ) (x d : X) → i < length xs → x ≡ slice_index_or xs i x → x ≡ slice_index_or xs i d

@@ -18,7 +18,7 @@ use Rattle.lz_core.specs.declared.play.Step.TheVariants.{Call, Turn as TurnOf, O
 use Rattle.lz_core.specs.declared.open_calls.OpenCall.{OpenCall}
 use Rattle.lz_core.specs.Yards.{Shape}
 use Rattle.lz_core.specs.Parts.{YardOver}
-use Rattle.lz_core.specs.Table.{line, needs, pin_of}
+use Rattle.lz_core.specs.Table.{line, line_failed, needs, pin_of}
 use Rattle.lz_core.specs.Orders.{shape_with}
 use Rattle.lz_core.specs.Calls.{event_at, loaded, progress_after}
 use Rattle.lz_core.specs.Ready.{IsEventOf}
@@ -185,14 +185,17 @@ abbrev pub next_of : State → ℕ → Option Event
 next_of (Up service disk) a = next_of_caller service (caller_at service.callers a)
 next_of (Down shape disk) a = None
 
--- the outcome of an event in a state is that of its line, or its device call failed
-abbrev pub IsOutcome : State → ℕ → Event → Outcome → Type 0
-IsOutcome (Up service disk) a e outcome = (outcome ≡ (line service.yard a e).1) ⊎ (outcome ≡ Fault)
-IsOutcome (Down shape disk) a e outcome = ⊥
+-- the outcome of an event and the yard after it are those of its line, or of the line's device call failing
+abbrev pub IsOutcome : State → ℕ → Event → Outcome → State → Type 0
+IsOutcome (Up service disk) a e outcome (Up service' disk') =
+    ((outcome ≡ (line service.yard a e).1) × (service'.yard ≡ (line service.yard a e).0))
+    ⊎ ((outcome ≡ Fault) × (service'.yard ≡ (line_failed service.yard a e).0))
+IsOutcome (Up service disk) a e outcome (Down shape disk') = ⊥
+IsOutcome (Down shape disk) a e outcome new = ⊥
 
 -- a turn told its event's kind and outcome
-abbrev pub IsTold : State → ℕ → Kind → Outcome → Type 0
-IsTold w a told outcome = IsSomeAnd (next_of w a) (λ e. (told ≡ kind_of e) × IsOutcome w a e outcome)
+abbrev pub IsTold : State → ℕ → Kind → Outcome → State → Type 0
+IsTold old a told outcome new = IsSomeAnd (next_of old a) (λ e. (told ≡ kind_of e) × IsOutcome old a e outcome new)
 
 -- the marks of a turn
 abbrev pub mark_list : Option Mark → List Mark

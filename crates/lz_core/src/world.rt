@@ -103,7 +103,7 @@ impl World {
     /// again.
     pub fn turn(&mut self, actor: usize) -> Result<Turned, PlayFault>
         ensures ok { IfOk result (λ turned. PlaysOn self.old (Step.Turn actor ∷ []) (mark_list turned.mark) self.new) }
-        ensures told { IfOk result (λ turned. IsTold self.old.state actor turned.kind turned.outcome) }
+        ensures told { IfOk result (λ turned. IsTold self.old.state actor turned.kind turned.outcome self.new.state) }
         ensures goes_on { IfOk result (λ turned. turned.mark ≡ None → IsLawful self.new.state (Step.Turn actor)) }
         ensures fault { IfErr result (λ fault. (fault ≡ PlayFault.NotNow 1) × ¬ IsLawful self.old.state (Step.Turn actor)) }
         ensures err { OnErr result (self.new ≡ self.old) }
@@ -248,7 +248,7 @@ impl World {
     fn play_event(&mut self, actor: usize, kind: Kind, event: Event) -> Turned
         requires { next_of self.old.state actor ≡ Some event }
         ensures kind { result.kind ≡ kind }
-        ensures outcome { IsOutcome self.old.state actor event result.outcome }
+        ensures outcome { IsOutcome self.old.state actor event result.outcome self.new.state }
         ensures plays { PlaysOn self.old (Step.Turn actor ∷ []) (mark_list result.mark) self.new }
         ensures goes_on { result.mark ≡ None → IsLawful self.new.state (Step.Turn actor) }
     {

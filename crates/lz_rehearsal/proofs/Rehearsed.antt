@@ -144,7 +144,7 @@ left_one most played low = omega (arith, low)
 -- a turn that isn't the last of its line
 pub going_on : (a : ℕ) (awaited : Option Kind) (most played : ℕ) (start here new : WorldOver) (turned : Turned) (b m c : Text) → played < most
     → Going a awaited most start played here b m
-    → PlaysOn here (step.Turn a ∷ []) (mark_list turned.mark) new → IsTold here.state a turned.kind turned.outcome
+    → PlaysOn here (step.Turn a ∷ []) (mark_list turned.mark) new → IsTold here.state a turned.kind turned.outcome new.state
     → (turned.mark ≡ None → IsLawful new.state (step.Turn a))
     → Tells a awaited turned false m c → Going a awaited most start (played + 1) new b c
 going_on a awaited most played start here new turned b m c low h plays told lawful tells = record {
@@ -158,7 +158,7 @@ going_on a awaited most played start here new turned b m c low h plays told lawf
 }
 
 last_turn : (a : ℕ) (awaited : Option Kind) (n : ℕ) (here new : WorldOver) (turned : Turned) (m c : Text)
-    → PlaysOn here (step.Turn a ∷ []) (mark_list turned.mark) new → IsTold here.state a turned.kind turned.outcome
+    → PlaysOn here (step.Turn a ∷ []) (mark_list turned.mark) new → IsTold here.state a turned.kind turned.outcome new.state
     → Tells a awaited turned true m c → TakesTurns a awaited (suc n) here new m c
 last_turn a awaited n here new turned m c plays told (inl over) = record {
   seen = over.0 ∷ [];
@@ -169,7 +169,7 @@ last_turn a awaited n here new turned m c plays told (inl over) = record {
 last_turn a awaited n here new turned m c plays told (inr (inl found)) = record {
   seen = [];
   text = _;
-  turns = busy n here new turned.kind (subst (λ (mark : Option Mark). PlaysOn here (step.Turn a ∷ []) (mark_list mark) new) found.0 plays, subst (λ (o : Outcome). IsTold here.state a turned.kind o) found.1 told);
+  turns = busy n here new turned.kind (subst (λ (mark : Option Mark). PlaysOn here (step.Turn a ∷ []) (mark_list mark) new) found.0 plays, subst (λ (o : Outcome). IsTold here.state a turned.kind o new.state) found.1 told);
   written = found.2;
 }
 last_turn a awaited n here new turned m c plays told (inr (inr came)) = record {
@@ -191,7 +191,7 @@ went a awaited most played start here new b m c h taken = record {
 -- a turn that is the last of its line
 pub going_ends : (a : ℕ) (awaited : Option Kind) (most played : ℕ) (start here new : WorldOver) (turned : Turned) (b m c : Text) → played < most
     → Going a awaited most start played here b m
-    → PlaysOn here (step.Turn a ∷ []) (mark_list turned.mark) new → IsTold here.state a turned.kind turned.outcome
+    → PlaysOn here (step.Turn a ∷ []) (mark_list turned.mark) new → IsTold here.state a turned.kind turned.outcome new.state
     → Tells a awaited turned true m c → TakesTurns a awaited most start new b c
 going_ends a awaited most played start here new turned b m c low h plays told tells =
     went a awaited most played start here new b m c h

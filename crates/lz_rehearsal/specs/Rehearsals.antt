@@ -20,7 +20,7 @@ IsStep old play marks text new = PlaysOn old (play ∷ []) marks new × (text �
 
 -- an actor took a turn: its event was of this kind and had this outcome, and its call ended with this mark, if it did
 abbrev pub IsTurn : WorldOver → ℕ → Kind → Outcome → Option Mark → WorldOver → Type 0
-IsTurn old a kind outcome mark new = PlaysOn old (step.Turn a ∷ []) (mark_list mark) new × IsTold old.state a kind outcome
+IsTurn old a kind outcome mark new = PlaysOn old (step.Turn a ∷ []) (mark_list mark) new × IsTold old.state a kind outcome new.state
 
 -- Turns of an actor, at most so many. They end with its call, with a lock that it found taken, and with an event of the
 -- kind that was waited for.

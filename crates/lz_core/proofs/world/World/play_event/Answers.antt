@@ -3,7 +3,7 @@ use Rattle.lz_core.specs.declared.open_calls.OpenCall.{OpenCall}
 use Rattle.lz_core.specs.Orders.{MayTake}
 use Rattle.lz_core.specs.Runs.{marks_of_turn}
 use Rattle.lz_core.specs.Worlds.{WorldOver, IsCallOn, call_after, call_shown, mark_list, next_of}
-use Rattle.lz_core.proofs.TurningOn.{may_on, takes, kept, tells, ranged, taken_at, turns_on}
+use Rattle.lz_core.proofs.TurningOn.{may_on, takes, kept, tells, ranged, taken_at, tells_outcome, turns_on}
 use Rattle.lz_core.proofs.world.World.play_event.Goals as goal
 
 pub step_on-outcome-requires : goal.step_on-outcome-requires
@@ -35,3 +35,8 @@ returns-clause-goes_on c = λ none.
     let at = taken_at c.self.inside.callers.items (c.args.actor - 1) c.index_mut.result.now None (ranged _ c.self.inside.disk c.self.inside.callers.items c.self.inside.calls _ _ c.self.inside.yard c.self.invariant (subst (λ (w : WorldOver). next_of w.state c.args.actor ≡ Some c.args.event) (sym c.self.view_is) c.requires)) c.index_mut.ensures.value in
     turns_on _ c.self.inside.disk c.self.inside.callers.items c.self.inside.calls _ _ c.self.inside.yard _ c.step_on-outcome.result _ c.self.invariant (subst (λ (w : WorldOver). next_of w.state c.args.actor ≡ Some c.args.event) (sym c.self.view_is) c.requires) c.step_on-outcome.ensures
     (λ some. c.take_outcome-mark.ensures.goes_on (subst (λ (q : Option OpenCall). IsSome (call_shown q)) (sym at) some) none)
+
+pub returns-clause-outcome : goal.returns-clause-outcome
+returns-clause-outcome c =
+    rw (← c.self.view_is)
+    (tells_outcome _ c.self.inside.disk c.self.inside.callers.items c.self.inside.calls _ _ c.self.inside.yard _ c.step_on-outcome.result _ c.self.invariant (subst (λ (w : WorldOver). next_of w.state c.args.actor ≡ Some c.args.event) (sym c.self.view_is) c.requires) c.step_on-outcome.ensures)
