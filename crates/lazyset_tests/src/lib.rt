@@ -6,6 +6,8 @@ mod commands;
 #[cfg(test)]
 mod crashes;
 #[cfg(test)]
+mod interleaving;
+#[cfg(test)]
 mod judging;
 #[cfg(test)]
 mod large;
@@ -13,6 +15,10 @@ mod large;
 mod lists;
 #[cfg(test)]
 mod refusals;
+#[cfg(test)]
+mod rehearsing;
+#[cfg(test)]
+mod scripts;
 #[cfg(test)]
 mod sessions;
 #[cfg(test)]

@@ -7,11 +7,9 @@ use Rattle.std.proofs.lemmas.List.{get_or_past}
 use Rattle.lz_slot.specs.Counted.{of_pass}
 use Rattle.lz_slot.proofs.Counted.{of_pass_other}
 use Rattle.lz_vault.specs.declared.vault.Stage.{Stage}
-use Rattle.lz_vault.specs.declared.vault.Stage.TheVariants.{Closed, KeyLoose, Keyed, Opening, Open, Closing}
-use Rattle.lz_vault.specs.Stages.{Cell, cell_synced, stage_synced}
-use Rattle.lz_list.specs.declared.place.Place.{Place}
-use Rattle.lz_list.specs.declared.place.Place.TheVariants.{Bucket, Node}
-use Rattle.lz_list.specs.Words.{Words, redirect, change_flags}
+use Rattle.lz_vault.specs.declared.vault.Stage.TheVariants.{KeyLoose, Opening, Closing}
+use Rattle.lz_vault.specs.Stages.{Cell, cell_synced}
+use Rattle.lz_list.specs.Words.{change_flags}
 use Rattle.lz_list.specs.Locks.{is_pair_free}
 use Rattle.lz_flush.specs.Settling.{settle}
 use Rattle.lz_core.specs.declared.course.Course.{Course}
@@ -26,6 +24,8 @@ use Rattle.lz_core.specs.Table.{course, course_alive, line, line_on, needs, pin_
 use Rattle.lz_core.specs.Sound.{cell_in, stage_in}
 use Rattle.lz_allot.specs.Uses.{Use, Taken, collect, lowest_free}
 use Rattle.lz_core.proofs.AloneSights.{HasLeft, left_set, left_collect, left_seen}
+use Rattle.lz_core.proofs.Unlinking.{redirect_pins}
+use Rattle.lz_core.proofs.Syncing.{not_opening}
 
 -- the course of an event that was played at all
 abbrev of_parts : Bool → Bool → Bool → Course → Course
@@ -53,12 +53,6 @@ course_is y a e now = go y.vault.dead (is_played_dead e) (needs y a e) refl refl
     go true true false d t m = absurd (not_now (parts true true false d t m))
     go false too false d t m = absurd (not_now (parts false too false d t m))
 
--- a dead vault refuses most events
-pub dead_course : (y : Yard) (a : ℕ) (e : Event) → is_played_dead e ≡ false → y.vault.dead ≡ true → course y a e ≡ Refused Dead
-dead_course y a e stops dead =
-    ap (λ (b : Bool). of_parts b (is_played_dead e) (needs y a e) (course_alive y a (pin_of y a) e)) dead
-    ∙ ap (λ (b : Bool). of_parts true b (needs y a e) (course_alive y a (pin_of y a) e)) stops
-
 -- the hands and pins of others
 actors_other : (y : Yard) (actor : Actor) (a b : ℕ) (e : Event) → b ≢ a → of_pass (actors_after y actor a e) b idle_actor ≡ of_pass y.actors b idle_actor
 actors_other y actor a b (Invoke c) other = refl
@@ -84,10 +78,6 @@ actors_other y actor a b Retire other = of_pass_other y.actors a b _ idle_actor 
 actors_other y actor a b (SeePin p value) other = refl
 actors_other y actor a b Answer other = of_pass_other y.actors a b _ idle_actor other
 actors_other y actor a b Halt other = refl
-
-redirect_pins : (w : Words) (place : Place) (n : ℕ) → (redirect w place n).pins ≡ w.pins
-redirect_pins w (Bucket b) n = refl
-redirect_pins w (Node s) n = refl
 
 pins_other : (y : Yard) (actor : Actor) (a b : ℕ) (e : Event) → b ≢ a → of_pass (words_after y actor a e).pins b 0 ≡ of_pass y.words.pins b 0
 pins_other y actor a b Pin other = of_pass_other y.words.pins a b _ 0 other
@@ -143,18 +133,9 @@ cell_cases cells r s x = elim (cases_eq s r) [
   | inr other ↦ inr (get_or-set_other cells r s x no_cell other)
 ]
 
--- after a sync nothing is being opened
-not_synced : (stage : Stage) → stage_synced stage ≢ Opening
-not_synced Closed is = absurd cc
-not_synced KeyLoose is = absurd cc
-not_synced Keyed is = absurd cc
-not_synced Opening is = absurd cc
-not_synced Open is = absurd cc
-not_synced Closing is = absurd cc
-
 pub synced_none : (cells : List Cell) → NoneOpening (map cell_synced cells)
 synced_none [] s is = absurd cc
-synced_none (c ∷ cells) zero is = not_synced c.stage is
+synced_none (c ∷ cells) zero is = not_opening c.stage is
 synced_none (c ∷ cells) (suc s) is = synced_none cells s is
 
 abbrev pub is_opening_event : Event → Bool

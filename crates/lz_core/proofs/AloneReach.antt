@@ -1,5 +1,5 @@
 -- Where one actor is alone, each text that a crash may leave holds a set that its calls lead to.
-use Rattle.std.proofs.Common.{◌≡◌, ◌≢◌, inl, inr, ℕ, suc, ◌≤◌, ◌<◌, true, false, List, [], ◌∷◌, ◌++◌, length, Option, Some, None, is_some, refl, sym, ap, ◌∙◌, subst, arith}
+use Rattle.std.proofs.Common.{◌≡◌, ◌≢◌, inl, inr, ℕ, suc, ◌≤◌, ◌<◌, true, false, List, [], ◌∷◌, ◌++◌, length, Option, Some, None, refl, sym, ap, ◌∙◌, subst, arith}
 use mathlib.Core.Bool.{false≢true}
 use Rattle.std.proofs.lemmas.Bool.{cases_Bool}
 use Rattle.std.proofs.lemmas.Option.{none-some}
@@ -25,7 +25,7 @@ use Rattle.lz_core.specs.declared.caller.Progress.{Progress}
 use Rattle.lz_core.specs.declared.caller.Progress.TheVariants.{Playing, LoadsHalt, Walking, Reserving, SeeingPins, Claiming, Checking, Answering}
 use Rattle.lz_core.specs.Yards.{Shape, Yard, actor_at}
 use Rattle.lz_core.specs.Table.{course, line, line_call, line_failed}
-use Rattle.lz_core.specs.Calls.{first_progress, progress_after, event_at, loaded}
+use Rattle.lz_core.specs.Calls.{first_progress, progress_after}
 use Rattle.lz_core.specs.Runs.{Start, IsStart, Caller, Service, State, Up, Down, Step, Calls, Turn, Fails, Looks, Trips, Stops, Crashes, CrashesIn, Opens, OpenFails, Point, MayStep, MayLeave, LeftInside, looked, HasTurn, HasFault, IsRun, run, first_point, point_after, caller_at, next_event, reply_at, moved_on, after_turn, after_fault, opened_service, marks_of_turn, mark_of_turn, mark_of, turn_publishes, start_keys, keys_found, IsActor}
 use Rattle.lz_core.specs.Sound.{View, Relies, IsCaller, view_of, pin_in, StateSound, HasList, PointSound, IsSound}
 use Rattle.lz_core.specs.Alone.{IsOwn, IsAlone, has_cut, IsPlain, ArePlain, AloneIsPlain}
@@ -41,6 +41,8 @@ use Rattle.lz_core.proofs.Shapes.{line_keeps_shape}
 use Rattle.lz_core.proofs.Reaching.{reached_sound}
 use Rattle.lz_core.proofs.AloneServed.{Ended, IsEnd, served, served_open, served_cut, served_same}
 use Rattle.lz_core.proofs.AloneRuns.{IsHalting, HasHalting, IsTold, AloneUp, IsQuietCall, pin_is_quiet, answer_is_quiet, halting_quiet, only_images, turn_halted, answer_halt}
+use Rattle.lz_core.proofs.Callers.{none_of, fault_no_reply}
+use Rattle.lz_core.proofs.Points.{reply_lives}
 
 -- a text holds a set to which the life leads
 abbrev pub HasSet : ℕ → Life → List ℕ → Type 0
@@ -57,19 +59,7 @@ AloneLives a N p (life ∷ earlier) = AloneState a p.calls p.state life.history 
 abbrev pub AloneAt : Start → ℕ → Point → Type 0
 AloneAt start a p = AloneLives a start.shape.slots p (lives (start_keys start) p.marks)
 
-pub none_of : (caller : Option Caller) → is_some caller ≡ false → caller ≡ None
-none_of None empty = refl
-none_of (Some caller) empty = absurd (false≢true (sym empty))
-
--- the mark of a reply is put onto the newest life, and ends its call
-pub reply_lives : (S : Keys) (i : ℕ) (reply : Reply) (M : History) → lives S (mark_of i reply ∷ M) ≡ with_mark (mark_of i reply) (lives S M)
-reply_lives S i Yes M = refl
-reply_lives S i No M = refl
-reply_lives S i (Full counts) M = refl
-reply_lives S i Worn M = refl
-reply_lives S i Halted M = refl
-reply_lives S i Device M = refl
-
+-- the mark of a reply ends its call
 reply_ends : (i : ℕ) (reply : Reply) → IsEnd (mark_of i reply) i
 reply_ends i Yes = refl
 reply_ends i No = refl
@@ -77,17 +67,6 @@ reply_ends i (Full counts) = refl
 reply_ends i Worn = refl
 reply_ends i Halted = refl
 reply_ends i Device = refl
-
--- no device call fails in an answer
-pub fault_no_reply : (y : Yard) (a : ℕ) (c : Command) (at : Progress) (disk new : Medium) → MayFail (line_call y a (loaded y.words (event_at y.shape c at))) disk new → reply_at at ≡ None
-fault_no_reply y a c (Playing script i) disk new h = refl
-fault_no_reply y a c LoadsHalt disk new h = refl
-fault_no_reply y a c (Walking aim look) disk new h = refl
-fault_no_reply y a c (Reserving again) disk new h = refl
-fault_no_reply y a c (SeeingPins p) disk new h = refl
-fault_no_reply y a c (Claiming aim pred curr) disk new h = refl
-fault_no_reply y a c (Checking aim curr) disk new h = refl
-fault_no_reply y a c (Answering reply) disk new h = absurd (subst (λ (call : DeviceCall). MayFail call disk new) (answer_is_quiet y a) h)
 
 -- a call that was cut off finds the service halted
 cut_word : (v : View) (c : Command) (P0 P : Trace) (changed : Option ℕ) (M : History) (i : ℕ) (reply : Reply) → Relies v c (Answering reply) P0 P changed → has_cut (mark_of i reply ∷ M) ≡ true → has_cut M ≡ false → halt_word P ≡ 1

@@ -10,7 +10,7 @@ use Rattle.lz_slot.specs.Counted.{of_pass, set_of_pass}
 use Rattle.lz_allot.specs.declared.sight.Sight.{Sight}
 use Rattle.lz_allot.specs.declared.sight.Sight.TheVariants.{Unseen, Inside, Left}
 use Rattle.lz_allot.specs.Uses.{Use, Free, Taken, Limbo, use_of, collect_at, collect, see_pin_at, see_pin, sight_after, has_left}
-use Rattle.lz_core.proofs.Using.{use_map}
+use Rattle.lz_core.proofs.Using.{use_map, limbo_same}
 
 -- pass b has left each limbo slot
 abbrev pub HasLeft : List Use → ℕ → Type 0
@@ -19,9 +19,6 @@ HasLeft uses b = (s : ℕ) (seen : List Sight) → use_of uses s ≡ Limbo seen 
 -- what was seen of pass p to be inside was an odd pin
 abbrev pub IsSeenOdd : List Use → ℕ → Type 0
 IsSeenOdd uses p = (s : ℕ) (seen : List Sight) (u : ℕ) → use_of uses s ≡ Limbo seen → of_pass seen p Left ≡ Inside u → u % 2 ≡ 1
-
-limbo_same : {x y : List Sight} → Limbo x ≡ Limbo y → x ≡ y
-limbo_same e = cc
 
 -- one use of a list
 pub set_cases : (uses : List Use) (r s : ℕ) (u : Use) → (use_of (slice_set uses r u) s ≡ u) ⊎ (use_of (slice_set uses r u) s ≡ use_of uses s)

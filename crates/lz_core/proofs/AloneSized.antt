@@ -38,10 +38,12 @@ use Rattle.lz_core.proofs.ImageSlots.{reads}
 use Rattle.lz_core.proofs.Reaching.{reached_sound}
 use Rattle.lz_core.proofs.AloneServed.{Ended}
 use Rattle.lz_core.proofs.AloneRuns.{IsTold, answer_is_quiet}
-use Rattle.lz_core.proofs.AloneReach.{AloneAt, AloneLives, HasSet, fault_no_reply, reply_lives, none_of, reached_alone}
+use Rattle.lz_core.proofs.AloneReach.{AloneAt, AloneLives, HasSet, reached_alone}
 use Rattle.lz_core.proofs.AloneSizes.{HoldsOther, has_room, is_full}
 use Rattle.lz_core.proofs.AloneFull.{AreOther, WalkStands, AloneFull}
 use Rattle.lz_core.proofs.AloneTurns.{turned, faulted}
+use Rattle.lz_core.proofs.Callers.{none_of, fault_no_reply}
+use Rattle.lz_core.proofs.Points.{reply_lives}
 
 -- of a state
 abbrev FullAt : ℕ → State → Trace → Type 0

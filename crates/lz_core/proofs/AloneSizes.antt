@@ -2,11 +2,11 @@
 use Rattle.std.proofs.Common.{◌≡◌, ◌≢◌, inl, inr, ℕ, zero, suc, ◌≤◌, ◌<◌, ◌&&◌, ◌||◌, not, Bool, true, false, List, [], ◌∷◌, ◌++◌, length, length-append, refl, sym, ap, ◌∙◌, subst, arith}
 use Rattle.std.specs.Prelude.{if◌then◌else◌, ◌==◌, nat_eq}
 use Rattle.std.specs.List.{list_any, IsDistinct}
-use Rattle.std.specs.Cmp.{nat_eq_equiv}
+use Rattle.std.specs.Cmp.{nat_eq_equiv, both_ways}
 use Rattle.std.proofs.lemmas.Map.Keys.{IsDistinct-push}
 use Rattle.std.proofs.lemmas.List.Folds.{list_any-append}
 use mathlib.Core.Bool.{false≢true}
-use Rattle.std.proofs.lemmas.Bool.{cases_eq, cases_Bool}
+use Rattle.std.proofs.lemmas.Bool.{cases_eq, cases_Bool, not-true}
 use Rattle.std.proofs.lemmas.Bool.Decides.{nat_tests}
 use Rattle.lz_slot.specs.declared.command.Command.{Command}
 use Rattle.lz_slot.specs.declared.command.Command.TheVariants.{Add, Remove, Has}
@@ -14,13 +14,13 @@ use Rattle.lz_slot.specs.declared.history.Refusal.TheVariants.{Full, Worn}
 use Rattle.lz_slot.specs.declared.history.Mark.TheVariants.{Call, Answer, Refused, Cut, Stop, Crash, Opened, OpenFailed}
 use Rattle.lz_slot.specs.declared.slot.SlotRead.{SlotRead}
 use Rattle.lz_slot.specs.declared.slot.SlotRead.TheVariants.{Closed as Shut, Member, BadKey}
-use Rattle.lz_slot.specs.Sets.{Keys, Same, members, after, moved}
+use Rattle.lz_slot.specs.Sets.{Keys, Same, members}
 use Rattle.lz_slot.specs.Bytes.{Holds, slot_at}
 use Rattle.lz_slot.specs.Histories.{History}
-use Rattle.lz_slot.proofs.Sets.{after_at}
 use Rattle.lz_core.specs.Alone.{has_cut, IsPlain, HasMembers, HasRoom, IsFull}
 use Rattle.lz_core.proofs.ImageSlots.{found, found_in, in_found, reads_key}
 use Rattle.lz_core.proofs.AloneServed.{Ended}
+use Rattle.lz_core.proofs.Ledgers.{after_same}
 
 -- the keys that the first n slots hold, but k
 abbrev key_but : ℕ → SlotRead → List ℕ
@@ -128,14 +128,9 @@ keys_distinct : (k : ℕ) (t : List ℕ) (N n : ℕ) (S : Keys) → Holds t N S 
 keys_distinct k t N zero S holds le = none_distinct
 keys_distinct k t N (suc n) S holds le = next_distinct k t N n S holds le (keys_distinct k t N n S holds (omega (arith, le)))
 
-same_test : (a b : Bool) → (a ≡ true → b ≡ true) → (b ≡ true → a ≡ true) → a ≡ b
-same_test true b to from = sym (to refl)
-same_test false true to from = from refl
-same_test false false to from = refl
-
 -- the set that the text holds
 held_found : (t : List ℕ) (N : ℕ) (S : Keys) → Holds t N S → (q : ℕ) → S q ≡ found t N q
-held_found t N S holds q = same_test (S q) (found t N q)
+held_found t N S holds q = both_ways (S q) (found t N q)
     (λ has. let at = (holds.set q).0 has in in_found t N q at.0 at.1 at.2)
     (λ has. (holds.set q).1 (found_in t N q has))
 
@@ -147,9 +142,6 @@ members_but k t N S T holds is = record {
   distinct = keys_distinct k t N N S holds (omega arith);
   all = λ q. is q ∙ ap (λ (b : Bool). not (k == q) && b) (held_found t N S holds q) ∙ sym (keys_members k t N q);
 }
-
-after_same : (c : Command) (S T : Keys) → Same S T → Same (after c S) (after c T)
-after_same c S T same k = after_at c S k ∙ ap (moved k c) (same k) ∙ sym (after_at c T k)
 
 -- calls that have ended, none of them cut off, lead to one set
 pub plain_once : (n : ℕ) (M : History) (S T U : Keys) → Ended n M → has_cut M ≡ false → IsPlain S M T → IsPlain S M U → Same T U
@@ -210,12 +202,8 @@ has_room N n i j a (Add k) M S T t new h holds plain was =
     same : Same T plain.2.0
     same = plain_once n M S T plain.2.0 h plain.1 was plain.2.1
 
-    absent : (b : Bool) → not b ≡ true → b ≡ false
-    absent true is = absurd (false≢true is)
-    absent false is = refl
-
     strange : T k ≡ false
-    strange = same k ∙ absent (plain.2.0 k) plain.2.2
+    strange = same k ∙ not-true (plain.2.0 k) plain.2.2
 
     without : (q : ℕ) → T q ≡ (not (k == q) && new q)
     without q = same q ∙ grind (arith, nat_tests, plain.2.3 q, strange, same k)

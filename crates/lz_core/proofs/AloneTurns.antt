@@ -14,7 +14,7 @@ use Rattle.lz_vault.specs.declared.vault.Stage.TheVariants.{Opening}
 use Rattle.lz_vault.specs.Stages.{Cell, cell_synced, is_covered}
 use Rattle.lz_allot.specs.declared.sight.Sight.{Sight}
 use Rattle.lz_allot.specs.declared.counts.Counts.{Counts}
-use Rattle.lz_allot.specs.Uses.{Free, Limbo, collect, see_pin, lowest_free, give_back}
+use Rattle.lz_allot.specs.Uses.{Free, collect, see_pin, lowest_free, give_back}
 use Rattle.lz_list.specs.declared.word.Word.TheVariants.{Halt as halt_at}
 use Rattle.lz_list.specs.declared.walk.Look.{Look}
 use Rattle.lz_list.specs.declared.place.Place.{Place}
@@ -43,9 +43,11 @@ use Rattle.lz_core.specs.Sound.{View, IsAdder, ReliesOn, Notes, actor_in, stage_
 use Rattle.lz_core.specs.Limbo.{IsSeen}
 use Rattle.lz_core.proofs.Loading.{call_at, own, own_inside}
 use Rattle.lz_core.proofs.AloneSights.{HasLeft, IsSeenOdd, set_cases, left_set, left_seen, seen_outside}
-use Rattle.lz_core.proofs.AloneFrames.{dead_course, idle_on, none_on, left_on, is_use_event, course_is, cell_cases, synced_none, is_opening_event}
+use Rattle.lz_core.proofs.AloneFrames.{idle_on, none_on, left_on, is_use_event, course_is, cell_cases, synced_none, is_opening_event}
 use Rattle.lz_core.proofs.AloneWalks.{Finds, walk_finds}
 use Rattle.lz_core.proofs.AloneFull.{LeftBelow, WalkStands, AddsTo, says_yes, AloneFull, all_other, stands_playing, stands_halt, stands_claim, stands_check, AsksToAdd, stands_hops}
+use Rattle.lz_core.proofs.Using.{free_limbo}
+use Rattle.lz_core.proofs.Lines.{course_dead}
 
 no_full_rest : (v : View) (c : Command) (s : ℕ) (counts : Counts) (i : ℕ) (P0 P : Trace) (changed : Option ℕ) → ReliesOn v c (Resting s (Full counts)) i P0 P changed → ⊥
 no_full_rest v (Add k) s counts zero P0 P changed h = h.1
@@ -271,7 +273,7 @@ module _ (n calls : ℕ) (y : Yard) (callers : List (Option Caller)) (disk : Med
   -- asking for a slot
   reserving : (again : Bool) → caller_at callers a ≡ Some (call_at i c (Reserving again)) → AloneFull a y (Some (call_at i c (Reserving again))) P → (line y a Reserve).1 ≢ NotNow → After (Reserving again) Reserve (course y a Reserve)
   reserving again is h now = elim (cases_Bool y.vault.dead) [
-    | inl dead ↦ subst (After (Reserving again) Reserve) (sym (dead_course y a Reserve refl dead)) (dead_after (Reserving again) Reserve h refl dead)
+    | inl dead ↦ subst (After (Reserving again) Reserve) (sym (course_dead y a Reserve refl dead)) (dead_after (Reserving again) Reserve h refl dead)
     | inr lives ↦ by_course (Reserving again) Reserve h refl now (go lives (lowest_free (collect y.uses)) refl)
   ]
     where
@@ -357,12 +359,9 @@ module _ (n calls : ℕ) (y : Yard) (callers : List (Option Caller)) (disk : Med
   given_odd None p = seen_odd p
   given_odd (Some s) p = go (is_unused (cell_at y s).stage)
     where
-      free_limbo : (seen : List Sight) → Free ≡ Limbo seen → ⊥
-      free_limbo seen e = absurd cc
-
       go : (unused : Bool) → IsSeenOdd (if unused then give_back y.uses s else y.uses) p
       go true = λ r seen u limbo inside. ⊎_elim
-          (λ set. absurd (free_limbo seen (sym set ∙ limbo)))
+          (λ set. absurd (free_limbo (sym set ∙ limbo)))
           (λ same. seen_odd p r seen u (sym same ∙ limbo) inside)
           (set_cases y.uses s r Free)
       go false = seen_odd p

@@ -23,21 +23,17 @@ use Rattle.lz_core.specs.Yards.{Shape}
 use Rattle.lz_core.specs.Calls.{hops_on, rests}
 use Rattle.lz_core.specs.Sound.{TraceSound, View, IsLooking, HasMet, RestsNo}
 use Rattle.lz_core.proofs.Walking.{GoesOn, once_some, hop_after}
-
-begins_length : (R P : Trace) → Begins R P → length R ≤ length P
-begins_length R [] is = omega (arith, ap (λ (Q : Trace). length Q) is)
-begins_length R (e ∷ P) (inl is) = omega (arith, ap (λ (Q : Trace). length Q) is)
-begins_length R (e ∷ P) (inr before) = omega (arith, begins_length R P before)
+use Rattle.lz_core.proofs.Limbo.{shorter}
 
 -- two traces that begin each other are one
 begins_same : (P R : Trace) → Begins P R → Begins R P → R ≡ P
 begins_same [] R one other = other
 begins_same (e ∷ P) R one (inl is) = is
-begins_same (e ∷ P) R one (inr before) = absurd (omega (arith, begins_length (e ∷ P) R one, begins_length R P before))
+begins_same (e ∷ P) R one (inr before) = absurd (omega (arith, shorter (e ∷ P) R one, shorter R P before))
 
 -- nothing was prepared since now
 no_past : (P0 P : Trace) (A : Trace → Type 0) → length P < length P0 → Once P0 P A → ⊥
-no_past P0 P A lt once = let r = once_some P0 P A once in omega (arith, lt, begins_length P0 r.0 r.1, begins_length r.0 P r.2)
+no_past P0 P A lt once = let r = once_some P0 P A once in omega (arith, lt, shorter P0 r.0 r.1, shorter r.0 P r.2)
 
 not_prepared : (buckets : ℕ) (P0 : Trace) (e : Publishing) (P : Trace) → length P < length P0 → IsKept buckets P0 e P
 not_prepared buckets P0 (key_prepared s v) P lt = λ b stood. no_past P0 P (λ R. on 0 (chain buckets b R) (suc s) ≡ true) lt stood

@@ -2,7 +2,7 @@
 use Rattle.std.proofs.Common.{◌≡◌, ◌≢◌, ◌⊎◌, inl, inr, ◌↔◌, ◌<◌, ◌≤◌, ◌+◌, ◌==◌, ◌||◌, ℕ, zero, suc, Bool, true, false, List, [], ◌∷◌, slice_get, Option, Some, None, is_some, unwrap_or, refl, sym, ap, ◌∙◌, subst, arith}
 use Rattle.std.specs.List.{All, insert}
 use Rattle.std.proofs.lemmas.List.Elements.{All-cons}
-use Rattle.std.proofs.lemmas.Bool.{false≢true, cases_eq}
+use Rattle.std.proofs.lemmas.Bool.{false≢true, cases_eq, or_cases, or_left, or_right}
 use Rattle.std.proofs.lemmas.Bool.Decides.{eqb_tells}
 use Rattle.lz_slot.specs.Sets.{members}
 use Rattle.lz_list.specs.Words.{Words}
@@ -79,17 +79,6 @@ less w n k (s, lt, rest) =
       | inr other ↦ inr (s, omega (arith, lt, other), rest)
     ]
 
-or_left : (a b : Bool) → a ≡ true → (a || b) ≡ true
-or_left a b is = ap (λ (q : Bool). q || b) is
-
-or_right : (a b : Bool) → b ≡ true → (a || b) ≡ true
-or_right true b is = refl
-or_right false b is = is
-
-or_cases : (a b : Bool) → (a || b) ≡ true → (a ≡ true) ⊎ (b ≡ true)
-or_cases true b is = inl refl
-or_cases false b is = inr is
-
 pub eq_of : (j k : ℕ) → (j == k) ≡ true → j ≡ k
 eq_of j k is = elim (eqb_tells j k) [
   | inl same ↦ same.1
@@ -124,9 +113,6 @@ module _ (w : Words) (n : ℕ) (old new : List ℕ) (invariant : (k : ℕ) → (
       | inr before ↦ ap (λ (q : List ℕ). members q k) same ∙ (invariant k).1 before
     ]),
   )
-
-pub either : (a b : Bool) → (a || b) ≡ true → (a ≡ true) ⊎ (b ≡ true)
-either a b is = or_cases a b is
 
 -- the first key of a list is a member, and so are the later ones
 pub first_of : (y : ℕ) (ys : List ℕ) → members (y ∷ ys) y ≡ true

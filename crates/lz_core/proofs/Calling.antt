@@ -1,8 +1,9 @@
 -- A new call keeps the invariant.
-use Rattle.std.proofs.Common.{◌≡◌, ◌≢◌, ⊎_elim, inl, inr, ℕ, zero, suc, ◌≤◌, ◌%◌, ◌==◌, Bool, true, false, List, [], ◌∷◌, ◌++◌, length, Option, Some, None, is_some, refl, sym, ap, ◌∙◌, subst, arith}
+use Rattle.std.proofs.Common.{◌≡◌, ◌≢◌, ⊎_elim, inl, inr, ℕ, zero, suc, ◌≤◌, ◌%◌, ◌==◌, Bool, true, false, List, [], ◌∷◌, ◌++◌, length, Option, Some, None, refl, sym, ap, ◌∙◌, subst, arith}
 use mathlib.Core.Bool.{false≢true}
 use Rattle.std.proofs.lemmas.Bool.{cases_eq}
 use Rattle.std.proofs.lemmas.Bool.Decides.{nat_tests}
+use Rattle.std.proofs.lemmas.Option.{same_Some}
 use Rattle.lz_slot.specs.Limits.{largest_key}
 use Rattle.lz_slot.specs.Sets.{Keys, key_of}
 use Rattle.lz_slot.specs.declared.command.Command.{Command}
@@ -27,6 +28,7 @@ use Rattle.lz_core.proofs.Fits.{each_has}
 use Rattle.lz_core.proofs.Ledgers.{each_weaker}
 use Rattle.lz_core.proofs.Orders.{has_left}
 use Rattle.lz_core.proofs.Sound.{point}
+use Rattle.lz_core.proofs.Callers.{none_of}
 
 abbrev is_call : Mark → Bool
 is_call (Call i a c) = true
@@ -40,9 +42,6 @@ number_of _ = 0
 clash : {i a : ℕ} {c : Command} (m : Mark) → is_call m ≡ false → Call i a c ≡ m → ⊥
 clash m other e = false≢true (sym other ∙ sym (ap is_call e))
 
-some-injective : {x y : Caller} → Some x ≡ Some y → x ≡ y
-some-injective e = cc
-
 called_same : {i j a b : ℕ} {c d : Command} → Call i a c ≡ Call j b d → c ≡ d
 called_same e = cc
 
@@ -54,7 +53,7 @@ abbrev pub calling : List (Option Caller) → ℕ → ℕ → Command → List (
 calling callers a i c = set_of_pass callers a (Some (begun i c))
 
 -- a caller that has changed nothing has no pending row
-pending_none : (caller : Option Caller) → pending_row caller None ≡ []
+pub pending_none : (caller : Option Caller) → pending_row caller None ≡ []
 pending_none None = refl
 pending_none (Some caller) = refl
 
@@ -74,7 +73,7 @@ module _ (callers : List (Option Caller)) (a i : ℕ) (c : Command) where
 
   -- the callers are those of before, and the new one
   is_begun : (b : ℕ) (caller : Caller) → b ≡ a → 1 ≤ a → a ≤ length callers → caller_at (calling callers a i c) b ≡ Some caller → begun i c ≡ caller
-  is_begun b caller same low high at = some-injective (sym (is_new b same low high) ∙ at)
+  is_begun b caller same low high at = same_Some _ _ (sym (is_new b same low high) ∙ at)
 
   module _ (changed : ℕ → Option ℕ) (free : changed a ≡ None) where
     same_row : (b : ℕ) → pending_row (caller_at (calling callers a i c) b) (changed b) ≡ pending_row (caller_at callers b) (changed b)
@@ -261,10 +260,6 @@ module _ (n calls a : ℕ) (c : Command) (y : Yard) (callers : List (Option Call
     since = h.since;
     after = calling_after h.sound.callers h.sound.ledger h.after;
   }
-
-none_of : (caller : Option Caller) → is_some caller ≡ false → caller ≡ None
-none_of None empty = refl
-none_of (Some caller) empty = absurd (false≢true (sym empty))
 
 even_of : (pin : ℕ) → (pin % 2 == 0) ≡ true → pin % 2 ≡ 0
 even_of pin is = grind (arith, nat_tests)

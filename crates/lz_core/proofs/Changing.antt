@@ -4,6 +4,7 @@ use mathlib.Core.Bool.{false≢true}
 use Rattle.std.proofs.lemmas.Bool.{cases_Bool, cases_eq, cases_lt}
 use Rattle.std.proofs.lemmas.Bool.Decides.{nat_tests, eqb_tells}
 use Rattle.std.proofs.lemmas.List.{append-nil}
+use Rattle.std.proofs.lemmas.Option.{same_Some, none-some}
 use Rattle.lz_slot.specs.declared.command.Command.{Command}
 use Rattle.lz_slot.specs.Sets.{key_of, reply}
 use Rattle.lz_slot.specs.Histories.{History, IsCalled, IsAnswered, IsBefore, IsUnderWay}
@@ -14,12 +15,12 @@ use Rattle.lz_core.specs.Ledgers.{Row, HasRow, Stands, Each, change_at, times}
 use Rattle.lz_core.specs.Kept.{publishing, upto, changes_key, IsRowOf}
 use Rattle.lz_core.specs.Entries.{IsRowIn, IsLedger, IsSettledEntry, IsChangeOf}
 use Rattle.lz_core.specs.Sound.{Notes, pending_row, pending, entries, LedgerSound, may_have_tail, HasTail}
-use Rattle.lz_core.proofs.Fits.{each_has, has_append}
+use Rattle.lz_core.proofs.Fits.{each_has, has_append, was_answered}
 use Rattle.lz_core.proofs.Orders.{has_left, stands_across, times_append}
 use Rattle.lz_core.proofs.Kept.{upto_all}
 use Rattle.lz_core.proofs.Growth.{upto_more, publishing_more}
 use Rattle.lz_core.proofs.Ledgering.{none_late, last_publishing, ledger_grows, settled_grow}
-use Rattle.lz_core.proofs.Turning.{caller_range, some_caller}
+use Rattle.lz_core.proofs.Turning.{caller_range}
 
 -- a row put into a list
 module _ (r : Row) where
@@ -162,13 +163,10 @@ no_times j (q ∷ L) other = let here = other q (inl refl) in grind (arith, nat_
 pub no_entry : (n calls passes : ℕ) (callers : List (Option Caller)) (P : Trace) (M : History) (notes : Notes) (a : ℕ) (caller : Caller) → caller_at callers a ≡ Some caller → notes.changed a ≡ None → LedgerSound n calls passes callers P M notes → times caller.number (entries passes callers notes) ≡ 0
 no_entry n calls passes callers P M notes a caller at none sound = times_append caller.number notes.ended (pending callers notes.changed passes) ∙ omega (arith, sound.unlisted a caller at, no_times caller.number (pending callers notes.changed passes) (λ x h same. other x h same))
   where
-    some_none : {j : ℕ} → Some j ≡ None → ⊥
-    some_none eq = absurd cc
-
     other : (x : Row) → HasRow x (pending callers notes.changed passes) → x.number ≡ caller.number → ⊥
     other x h same =
         let found = pending_open callers notes.changed passes x h in
-        some_none (sym found.4 ∙ ap notes.changed (sound.apart found.0 a found.1 caller found.3 at (found.5 ∙ same)) ∙ none)
+        none-some _ (sym (sym found.4 ∙ ap notes.changed (sound.apart found.0 a found.1 caller found.3 at (found.5 ∙ same)) ∙ none))
 
 -- the tail of an open call that writes a gate
 pub own_tail : (n calls passes : ℕ) (callers : List (Option Caller)) (P : Trace) (M : History) (notes : Notes) (a : ℕ) (caller : Caller) → caller_at callers a ≡ Some caller → notes.changed a ≡ None → may_have_tail caller.progress ≡ true → LedgerSound n calls passes callers P M notes → HasTail caller.command callers (entries passes callers notes) M
@@ -176,7 +174,7 @@ own_tail n calls passes callers P M notes a caller at none may sound = record {
   number = caller.number;
   under_way = sound.open_call a caller at;
   no_row = no_entry n calls passes callers P M notes a caller at none sound;
-  stays = λ b one is same. ap (λ (q : Caller). may_have_tail q.progress) (some_caller (sym is ∙ ap (caller_at callers) (sound.apart b a one caller is at same) ∙ at)) ∙ may;
+  stays = λ b one is same. ap (λ (q : Caller). may_have_tail q.progress) (same_Some _ _ (sym is ∙ ap (caller_at callers) (sound.apart b a one caller is at same) ∙ at)) ∙ may;
 }
 
 -- A call changes something, which its publishing shows.
@@ -201,14 +199,11 @@ module _ (n calls passes : ℕ) (callers : List (Option Caller)) (e : Publishing
   not_listed : times caller.number old ≡ 0
   not_listed = times_append caller.number notes.ended (pending callers notes.changed passes) ∙ omega (arith, sound.unlisted a caller at, no_times caller.number (pending callers notes.changed passes) (λ x h same. other x h same))
     where
-      some_none : {j : ℕ} → Some j ≡ None → ⊥
-      some_none eq = absurd cc
-
       other : (x : Row) → HasRow x (pending callers notes.changed passes) → x.number ≡ caller.number → ⊥
       other x h same =
           let found = pending_open callers notes.changed passes x h in
           let it = sound.apart found.0 a found.1 caller found.3 at (found.5 ∙ same) in
-          some_none (sym found.4 ∙ ap notes.changed it ∙ none)
+          none-some _ (sym (sym found.4 ∙ ap notes.changed it ∙ none))
 
   upto_now : upto (length P) (e ∷ P) ≡ P
   upto_now = upto_more (length P) e P (omega arith) ∙ upto_all (length P) P (omega arith)
@@ -243,11 +238,6 @@ module _ (n calls passes : ℕ) (callers : List (Option Caller)) (e : Publishing
       absurd ((sound.open_call found.0 found.1 found.3).no_answer b (subst (λ (j : ℕ). IsAnswered M j b) (sym found.5) is)))
       (has_append x notes.ended (pending callers notes.changed passes) h)
 
-  before_answered : (N : History) (i j : ℕ) → IsBefore N i j → (b : Bool) × IsAnswered N i b
-  before_answered [] i j h = absurd h
-  before_answered (m ∷ N) i j (inl now) = (now.2, inr now.4)
-  before_answered (m ∷ N) i j (inr before) = let found = before_answered N i j before in (found.0, inr found.1)
-
   grown : IsLedger n (e ∷ P) (parts.front ++ parts.back) [] M
   grown = subst (λ (l : List Row). IsLedger n (e ∷ P) l [] M) parts.was (ledger_grows n e P old M sound.ledger)
 
@@ -256,9 +246,9 @@ module _ (n calls passes : ℕ) (callers : List (Option Caller)) (e : Publishing
 
   in_order : (x q : Row) → HasRow x (parts.front ++ r ∷ parts.back) → HasRow q (parts.front ++ r ∷ parts.back) → IsBefore M x.number q.number → Stands x q (parts.front ++ r ∷ parts.back) × (x.position ≤ q.position) × (x.position ≡ q.position → x.changes ≡ false)
   in_order x q at_x at_q before = ⊎_elim
-      (λ new. let found = before_answered M x.number q.number before in absurd (under_way.no_answer found.0 (subst (λ (j : ℕ). IsAnswered M j found.0) (ap (λ (z : Row). z.number) (sym new)) found.1)))
+      (λ new. let found = was_answered x.number q.number M before in absurd (under_way.no_answer found.0 (subst (λ (j : ℕ). IsAnswered M j found.0) (ap (λ (z : Row). z.number) (sym new)) found.1)))
       (λ old_x. ⊎_elim
-      (λ new_q. let found = before_answered M x.number q.number before in last x q old_x new_q found.0 found.1)
+      (λ new_q. let found = was_answered x.number q.number M before in last x q old_x new_q found.0 found.1)
       (λ old_q. let was_order = grown.order x q old_x old_q before in (stands_insert r x q parts.front parts.back was_order.0, was_order.1, was_order.2))
       (has_inserted r q parts.front parts.back at_q))
       (has_inserted r x parts.front parts.back at_x)
@@ -300,7 +290,7 @@ module _ (n calls passes : ℕ) (callers : List (Option Caller)) (e : Publishing
   ledger_changed = record {
     opened = omega (arith, sound.opened);
     ledger = subst (λ (l : List Row). IsLedger n (e ∷ P) l [] M) (sym parts.is) ledger_now;
-    settled = subst (Each (IsSettledEntry (e ∷ P))) (sym parts.is) (each_insert r (IsSettledEntry (e ∷ P)) parts.front parts.back (record { told = λ does answered. absurd (none_some answered) }) (subst (Each (IsSettledEntry (e ∷ P))) parts.was (settled_grow n e P old sound.ledger.each sound.settled)));
+    settled = subst (Each (IsSettledEntry (e ∷ P))) (sym parts.is) (each_insert r (IsSettledEntry (e ∷ P)) parts.front parts.back (record { told = λ does answered. absurd (none-some _ answered) }) (subst (Each (IsSettledEntry (e ∷ P))) parts.was (settled_grow n e P old sound.ledger.each sound.settled)));
     changes = λ j early late. subst (λ (l : List Row). IsChangeOf (publishing j (e ∷ P)) (change_at j l)) (sym parts.is) (change_then j early late);
     numbered = sound.numbered;
     refused = sound.refused;
@@ -310,9 +300,6 @@ module _ (n calls passes : ℕ) (callers : List (Option Caller)) (e : Publishing
     unlisted = sound.unlisted;
   }
     where
-      none_some : None ≡ Some true → ⊥
-      none_some eq = absurd cc
-
       change_then : (j : ℕ) → n ≤ j → j < length (e ∷ P) → IsChangeOf (publishing j (e ∷ P)) (change_at j (parts.front ++ r ∷ parts.back))
       change_then j early late = elim (cases_lt j (length P)) [
         | inl within ↦

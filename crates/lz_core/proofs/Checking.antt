@@ -2,6 +2,7 @@
 use Rattle.std.proofs.Common.{◌≡◌, inl, inr, ℕ, suc, ◌<◌, ◌≤◌, ◌&&◌, not, Bool, true, false, List, Option, Some, None, refl, sym, ap, ◌∙◌, subst, arith}
 use mathlib.Core.Bool.{false≢true}
 use Rattle.std.proofs.lemmas.Bool.Decides.{nat_tests}
+use Rattle.std.proofs.lemmas.Option.{same_Some}
 use Rattle.lz_slot.specs.Limits.{most_slots}
 use Rattle.lz_slot.specs.declared.command.Command.{Command}
 use Rattle.lz_slot.specs.declared.command.Command.TheVariants.{Add, Remove, Has}
@@ -78,11 +79,8 @@ module _ (shape : Shape) (words : Words) (P : Trace) (trace : TraceSound shape w
   curr_clear : (curr : Option ℕ) (t : ℕ) → curr ≡ Some t → Stood buckets (bucket_of buckets k) P0 P (suc t) → is_marked_node words curr ≡ false → is_marked t P ≡ false
   curr_clear None t is stood clear = absurd cc
   curr_clear (Some q) t is stood clear =
-      let same : q ≡ t = some_nat is in
+      let same : q ≡ t = same_Some _ _ is in
       sym (link_mark shape words P trace few t (stood_range buckets shape.slots P0 P (bucket_of buckets k) t trace.lawful stood)) ∙ ap (λ (r : ℕ). is_marked_at words (Node r)) (sym same) ∙ clear
-    where
-      some_nat : {r u : ℕ} → Some r ≡ Some u → r ≡ u
-      some_nat e = cc
 
   module _ (pred : Place) (curr : Option ℕ) (between : WasBetween buckets k pred (link_to curr) P0 P) (clear : is_marked_at words pred ≡ false) (clear_node : is_marked_node words curr ≡ false) (next : next_at words pred ≡ link_to curr) where
     faces : Faces buckets k (place_number pred) (link_to curr) P

@@ -4,7 +4,7 @@ use Rattle.lz_disk.specs.Images.{WriteFailed}
 use Rattle.lz_core.specs.declared.event.Reply.TheVariants.{Device}
 use Rattle.lz_core.specs.Table.{with_vault}
 use Rattle.lz_core.specs.Calls.{halts}
-use Rattle.lz_core.proofs.Grips.{closes_dead, opens_dead}
+use Rattle.lz_core.proofs.Grips.{closes_dead, opens_dead, closer_locks}
 use Rattle.lz_core.proofs.Gating.{gate_failed}
 use Rattle.lz_core.proofs.Loading.{goes_on_keeps}
 use Rattle.std.proofs.Common.{◌≡◌, ◌≢◌, inl, inr, ℕ, suc, ◌<◌, true, false, List, ◌∷◌, Option, Some, refl, sym, ap, ◌∙◌, subst, arith}
@@ -40,6 +40,7 @@ use Rattle.lz_core.proofs.Hands.{same_hand, other_hand}
 use Rattle.lz_core.proofs.Unlinking.{node_place}
 use Rattle.std.specs.Prelude.{slice_set}
 use Rattle.std.proofs.Common.{Bool, [], get_or-set_same, get_or-set_other, ◌*◌, ◌+◌}
+use Rattle.std.proofs.lemmas.Option.{same_Some}
 use Rattle.lz_slot.specs.Bytes.{closed_byte}
 use Rattle.lz_disk.specs.Images.{written}
 use Rattle.lz_vault.specs.declared.vault.Stage.{Stage}
@@ -83,9 +84,6 @@ module _ (n calls : ℕ) (y : Yard) (callers : List (Option Caller)) (disk : Med
   hand_b : (b : ℕ) → b ≢ a → actor_in actors' b ≡ actor_in y.actors b
   hand_b b other = other_hand n calls y callers disk M P notes a (call_at i (Remove k) at) is sound x b other
 
-  some_same : {r u : ℕ} → Some r ≡ Some u → r ≡ u
-  some_same e = cc
-
   checked : IsChecked y.shape.buckets (actor_in y.actors a) P
   checked = subst (λ (q : Hold). RestsOn y.shape.buckets q (actor_in y.actors a) P) h.2.0 (sound.locks.rests a)
 
@@ -123,20 +121,9 @@ module _ (n calls : ℕ) (y : Yard) (callers : List (Option Caller)) (disk : Med
   alone : (b : ℕ) → has_locks (actor_in y.actors b).hold ≡ true → (actor_in y.actors b).curr ≡ Some s → b ≡ a
   alone b locks curr = sym (sound.locks.has b (Node s) (record { locks = locks; among = node_place (actor_in y.actors b).pred (actor_in y.actors b).curr s curr })) ∙ sound.locks.has a (Node s) (my_lock (Node s) (node_place (actor_at y a).pred (actor_at y a).curr s h.0))
 
-  closing_locks : (dead : Bool) (hold : Hold) → closes dead hold ≡ true → has_locks hold ≡ true
-  closing_locks dead Checked e = refl
-  closing_locks dead GateClosed e = refl
-  closing_locks dead Marked e = refl
-  closing_locks dead Nothing e = absurd (false≢true e)
-  closing_locks dead Locks e = refl
-  closing_locks dead GateOpened e = refl
-  closing_locks dead Linked e = refl
-  closing_locks dead Unlinked e = refl
-  closing_locks dead Released e = absurd (false≢true e)
-
   not_closed : (b : ℕ) → IsCloser y.vault.dead (actor_in y.actors b) s → ⊥
   not_closed b closer =
-      let it = alone b (closing_locks y.vault.dead (actor_in y.actors b).hold closer.closes) closer.node in
+      let it = alone b (closer_locks y.vault.dead (actor_in y.actors b).hold closer.closes) closer.node in
       false≢true (sym alive ∙ ap (closes y.vault.dead) (sym h.2.0) ∙ (subst (λ (q : ℕ). IsCloser y.vault.dead (actor_in y.actors q) s) it closer).closes)
 
   facts : IsOnChain y.shape y.vault.cells y.uses P s × IsGateOpened (stage_in y.vault.cells s)
@@ -171,7 +158,7 @@ module _ (n calls : ℕ) (y : Yard) (callers : List (Option Caller)) (disk : Med
   stage_still : (t : ℕ) → t ≢ s → IsNodeStage y.vault.cells y.vault.dead y.actors P t → IsNodeStage cells' y.vault.dead actors' P t
   stage_still t apart (inl opened) = inl (opened.0, stage_other IsGateOpened t apart opened.1)
   stage_still t apart (inr (b, closer, shut)) = elim (cases_eq b a) [
-    | inl same ↦ absurd (apart (some_same (sym (ap (λ (q : ℕ). (actor_in y.actors q).curr) (sym same) ∙ closer.node) ∙ h.0)))
+    | inl same ↦ absurd (apart (same_Some _ _ (sym (ap (λ (q : ℕ). (actor_in y.actors q).curr) (sym same) ∙ closer.node) ∙ h.0)))
     | inr other ↦ inr (b, subst (λ (q : Actor). IsCloser y.vault.dead q t) (sym (hand_b b other)) closer, stage_other IsGateWritten t apart shut)
   ]
 
@@ -214,7 +201,7 @@ module _ (n calls : ℕ) (y : Yard) (callers : List (Option Caller)) (disk : Med
       | inr other ↦ stage_other IsGateOpened t (hand_apart b t (sym (slot_still b) ∙ slot)) (sound.slots.opened b t (sym (slot_still b) ∙ slot) (ap (λ (q : Actor). unlocks q.hold) (sym (hand_b b other)) ∙ is'))
     ];
     closed = λ b t at' shut. elim (cases_eq b a) [
-      | inl same ↦ subst (λ (q : ℕ). IsGateWritten (stage_in cells' q)) (some_same (sym h.0 ∙ ap (λ (q : Actor). q.curr) (sym hand_a) ∙ ap (λ (q : ℕ). (actor_in actors' q).curr) (sym same) ∙ at')) (inl closing_s)
+      | inl same ↦ subst (λ (q : ℕ). IsGateWritten (stage_in cells' q)) (same_Some _ _ (sym h.0 ∙ ap (λ (q : Actor). q.curr) (sym hand_a) ∙ ap (λ (q : ℕ). (actor_in actors' q).curr) (sym same) ∙ at')) (inl closing_s)
       | inr other ↦
           let curr : (actor_in y.actors b).curr ≡ Some t = ap (λ (q : Actor). q.curr) (sym (hand_b b other)) ∙ at' in
           let shuts_b : shuts (actor_in y.actors b).hold ≡ true = ap (λ (q : Actor). shuts q.hold) (sym (hand_b b other)) ∙ shut in

@@ -25,6 +25,7 @@ use Rattle.lz_core.proofs.Turning.{moving, same_entries}
 use Rattle.lz_core.proofs.Loading.{call_at, dead_keeps}
 use Rattle.lz_core.proofs.Dying.{dies_keeps}
 use Rattle.lz_core.proofs.Rested.{turn_after, adds_none, begun_grown}
+use Rattle.lz_core.proofs.Lines.{course_dead}
 
 -- the service after an event that took this course is sound, with some notes
 abbrev pub Goes : ℕ → ℕ → Yard → List (Option Caller) → Medium → History → Trace → Keys → ℕ → Caller → Event → Course → Type 0
@@ -36,17 +37,14 @@ Goes n calls y callers disk M P start a caller e taken =
 abbrev taken_of : Yard → ℕ → Event → Bool → Bool → Bool → Course
 taken_of y a e dead too may = if dead && not too then Refused Dead else if may then course_alive y a (pin_of y a) e else Refused NotNow
 
--- a dead vault refuses the event
-dead_course : (y : Yard) (a : ℕ) (e : Event) → is_played_dead e ≡ false → y.vault.dead ≡ true → course y a e ≡ Refused Dead
-dead_course y a e stops dead = ap (λ (q : Bool). taken_of y a e q (is_played_dead e) (needs y a e)) dead ∙ ap (λ (q : Bool). taken_of y a e true q (needs y a e)) stops
-
-refused_plays : {outcome : Outcome} → Refused outcome ≡ Plays → ⊥
+-- an event that is refused isn't played
+pub refused_plays : {outcome : Outcome} → Refused outcome ≡ Plays → ⊥
 refused_plays e = absurd cc
 
 -- an event that is played, and that a dead vault refuses
 pub plays_alive : (y : Yard) (a : ℕ) (e : Event) → is_played_dead e ≡ false → course y a e ≡ Plays → y.vault.dead ≡ false
 plays_alive y a e stops plays = elim (cases_Bool y.vault.dead) [
-  | inl dead ↦ absurd (refused_plays (sym (dead_course y a e stops dead) ∙ plays))
+  | inl dead ↦ absurd (refused_plays (sym (course_dead y a e stops dead) ∙ plays))
   | inr lives ↦ lives
 ]
 
@@ -96,7 +94,7 @@ module _ (n calls : ℕ) (y : Yard) (callers : List (Option Caller)) (disk : Med
   -- an event that a dead vault refuses
   pub by_course : (e : Event) → is_played_dead e ≡ false → is_before_pin at ≡ false → (line y a e).1 ≢ NotNow → (y.vault.dead ≡ false → After e (course_alive y a (pin_of y a) e)) → After e (course y a e)
   by_course e stops inside now alive = elim (cases_Bool y.vault.dead) [
-    | inl dead ↦ subst (After e) (sym (dead_course y a e stops dead)) (dead_goes e inside dead)
+    | inl dead ↦ subst (After e) (sym (course_dead y a e stops dead)) (dead_goes e inside dead)
     | inr lives ↦ elim (cases_Bool (needs y a e)) [
       | inl may ↦ subst (After e) (sym (plays lives may)) (alive lives)
       | inr lacks ↦ absurd (needed e (Refused NotNow) (not_yet lives lacks) refl now)

@@ -4,6 +4,7 @@ use Rattle.std.proofs.Common.{◌≡◌, ◌≢◌, ◌⊎◌, ⊎_elim, inl, in
 use Rattle.std.proofs.lemmas.Bool.{cases_Bool, cases_eq}
 use Rattle.std.proofs.lemmas.Bool.Decides.{nat_tests, eqb_tells}
 use Rattle.std.proofs.lemmas.List.{append-nil}
+use Rattle.std.proofs.lemmas.Option.{none-some}
 use Rattle.lz_slot.specs.declared.command.Command.{Command}
 use Rattle.lz_slot.specs.declared.history.Mark.{Mark}
 use Rattle.lz_slot.specs.declared.history.Mark.TheVariants.{Call, Answer, Refused}
@@ -19,7 +20,7 @@ use Rattle.lz_core.specs.Ledgers.{Row, HasRow, Stands, Each, change_at, times}
 use Rattle.lz_core.specs.Kept.{publishing, IsRowOf}
 use Rattle.lz_core.specs.Entries.{IsRowIn, IsLedger, IsSettledEntry, IsChangeOf}
 use Rattle.lz_core.specs.Sound.{Notes, IsInside, pin_in, pending_row, pending, entries, LedgerSound, IsAfter, may_have_tail, HasTail}
-use Rattle.lz_core.proofs.Fits.{each_has, each_all, has_append}
+use Rattle.lz_core.proofs.Fits.{each_has, each_all, has_append, was_answered}
 use Rattle.lz_core.proofs.Orders.{has_left, has_right, stands_left, stands_across, times_append}
 use Rattle.lz_core.proofs.Turning.{caller_range}
 use Rattle.lz_core.proofs.Changing.{pending_open, no_entry}
@@ -247,11 +248,6 @@ pub record EndsCall (m : Mark) (i : ℕ) (leaves_tail : Bool) : Type 0 where
   pub answers : (j : ℕ) (b : Bool) → m ≡ Answer j b → (j ≡ i) × (leaves_tail ≡ false)
   pub refuses : (j : ℕ) (why : Refusal) → m ≡ Refused j why → (j ≡ i) × (leaves_tail ≡ false)
 
-pub before_answered : (N : History) (i j : ℕ) → IsBefore N i j → (b : Bool) × IsAnswered N i b
-before_answered [] i j h = absurd h
-before_answered (m ∷ N) i j (inl now) = (now.2, inr now.4)
-before_answered (m ∷ N) i j (inr before) = let found = before_answered N i j before in (found.0, inr found.1)
-
 -- what is asked of the last row of a call that ends
 pub record IsLast (n : ℕ) (P : Trace) (M : History) (pin begun : ℕ) (i : ℕ) (m : Mark) (pend last : List Row) : Type 0 where
   pub all : Each (λ r. r.number ≡ i) last
@@ -366,7 +362,7 @@ module _ (n calls passes : ℕ) (callers : List (Option Caller)) (P : Trace) (M 
       (λ rest_q. both rest_x rest_q)
       (λ last_q. to_last rest_x last_q)
       (new_rest i E F B pended last (all_pend (notes.changed a)) is_last.all none_left q at_q))
-      (λ last_x. let found = before_answered M x.number q.number before in absurd (under_way.no_answer found.0 (subst (λ (j : ℕ). IsAnswered M j found.0) (each_has (λ r. r.number ≡ i) x last is_last.all last_x) found.1)))
+      (λ last_x. let found = was_answered x.number q.number M before in absurd (under_way.no_answer found.0 (subst (λ (j : ℕ). IsAnswered M j found.0) (each_has (λ r. r.number ≡ i) x last is_last.all last_x) found.1)))
       (new_rest i E F B pended last (all_pend (notes.changed a)) is_last.all none_left x at_x)
     where
       before : IsBefore M x.number q.number
@@ -379,7 +375,7 @@ module _ (n calls passes : ℕ) (callers : List (Option Caller)) (P : Trace) (M 
 
       to_last : HasRow x rows → HasRow q last → Stands x q ((E ++ last) ++ (F ++ B)) × (x.position ≤ q.position) × (x.position ≡ q.position → x.changes ≡ false)
       to_last one two =
-          let found = before_answered M x.number q.number before in
+          let found = was_answered x.number q.number M before in
           let number : q.number ≡ i = each_has (λ r. r.number ≡ i) q last is_last.all two in
           let mine : IsBefore M x.number i = subst (IsBefore M x.number) number before in
           let stands = stands_last i E F B pended last (all_pend (notes.changed a)) is_last.all none_left x q (answered_ended x found.0 one found.1) two in
@@ -436,12 +432,9 @@ module _ (n calls passes : ℕ) (callers : List (Option Caller)) (P : Trace) (M 
 
   is_open : (b : ℕ) (one : Caller) → caller_at (ending callers a) b ≡ Some one → (b ≢ a) × (caller_at callers b ≡ Some one)
   is_open b one is = elim (cases_eq b a) [
-    | inl same ↦ absurd (none_some (sym (gone callers notes a last caller at) ∙ ap (caller_at (ending callers a)) (sym same) ∙ is))
+    | inl same ↦ absurd (none-some _ (sym (gone callers notes a last caller at) ∙ ap (caller_at (ending callers a)) (sym same) ∙ is))
     | inr other ↦ (other, sym (stays_open callers notes a last caller at b other) ∙ is)
   ]
-    where
-      none_some : {q : Caller} → None ≡ Some q → ⊥
-      none_some e = absurd cc
 
   old_called : (j : ℕ) (c : Command) → IsCalled (m ∷ M) j c → IsCalled M j c
   old_called j c (b, inl now) = absurd (ends.no_call j b c now)
@@ -504,7 +497,7 @@ module _ (n calls passes : ℕ) (callers : List (Option Caller)) (P : Trace) (M 
         let was : IsBefore M r.number one.number = old_before r.number one.number before in
         ⊎_elim
         (λ there. after.each b one r old.1 (subst IsInside (same b old.0) inside') (was_row r there) was)
-        (λ mine. let found = before_answered M r.number one.number was in absurd (under_way.no_answer found.0 (subst (λ (j : ℕ). IsAnswered M j found.0) (each_has (λ q. q.number ≡ i) r last is_last.all mine) found.1)))
+        (λ mine. let found = was_answered r.number one.number M was in absurd (under_way.no_answer found.0 (subst (λ (j : ℕ). IsAnswered M j found.0) (each_has (λ q. q.number ≡ i) r last is_last.all mine) found.1)))
         (new_rest i E F B pended last (all_pend (notes.changed a)) is_last.all none_left r (subst (HasRow r) new_is has));
   }
 

@@ -7,9 +7,11 @@ use Rattle.std.proofs.lemmas.Bool.Decides.{nat_tests, eqb_tells}
 use Rattle.lz_slot.specs.declared.slot.SlotRead.{SlotRead}
 use Rattle.lz_slot.specs.declared.slot.SlotRead.TheVariants.{Closed, Member, BadKey}
 use Rattle.lz_slot.specs.Bytes.{slot_at, held, held_key}
-use Rattle.lz_list.specs.Traces.{Chain, has_key, has_slot, insert, on, chain, chain_of, bucket_of, key_word, linking, is_marked, is_removed, opening, IsFound, IsLoose}
+use Rattle.lz_list.specs.Traces.{Chain, has_key, has_slot, on, chain, chain_of, bucket_of, key_word, linking, is_marked, is_removed, opening, IsFound, IsLoose}
 use Rattle.lz_list.proofs.Nodes.{on_insert_other}
 use Rattle.lz_list.proofs.Resting.{on_insert}
+use Rattle.lz_list.proofs.Linking.{inserted_on}
+use Rattle.lz_core.proofs.Members.{node_slot}
 
 -- the node of key k in slot s is one of the chain's
 abbrev pub has_node : ℕ → ℕ → Chain → Bool
@@ -28,17 +30,9 @@ has_node_append : (k s : ℕ) (c d : Chain) → has_node k s (c ++ d) ≡ (has_n
 has_node_append k s [] d = refl
 has_node_append k s (f ∷ c) d = grind (arith, has_node_append k s c d)
 
-node_slot : (k s : ℕ) (c : Chain) → has_node k s c ≡ true → has_slot s c ≡ true
-node_slot k s [] has = has
-node_slot k s (f ∷ c) has = grind (arith, nat_tests, node_slot k s c)
-
 pub node_has_key : (k s : ℕ) (c : Chain) → has_node k s c ≡ true → has_key k c ≡ true
 node_has_key k s [] has = has
 node_has_key k s (f ∷ c) has = grind (arith, nat_tests, node_has_key k s c)
-
-on_new : (k s x : ℕ) (c : Chain) → on x (insert k s c) (suc s) ≡ true
-on_new k s x [] = grind (arith, nat_tests)
-on_new k s x (n ∷ c) = grind (arith, nat_tests, on_new k s (suc n.1) c)
 
 -- the trace of what was found
 module _ (buckets : ℕ) where
@@ -63,7 +57,7 @@ module _ (buckets : ℕ) where
     | inr new ↦
         let key : f.0 ≡ k = grind (arith, nat_tests) in
         let slot : f.1 ≡ s = grind (arith, nat_tests) in
-        grind (arith, nat_tests, ap (bucket_of buckets) key, slot, on_new f.0 f.1 0 (chain_of buckets k (opening buckets found)))
+        grind (arith, nat_tests, ap (bucket_of buckets) key, slot, inserted_on f.0 f.1 0 (chain_of buckets k (opening buckets found)))
   ]
 
   pub none_marked : (s : ℕ) (found : Chain) → is_marked s (opening buckets found) ≡ false

@@ -1,12 +1,13 @@
 -- An open begins a sound life: its yard, its disk and its trace show the keys that it found, and nothing is under way.
-use Rattle.std.proofs.Common.{◌≡◌, ◌≢◌, ◌⊎◌, inl, inr, ⊎_elim, ℕ, zero, suc, ◌+◌, ◌*◌, ◌-◌, ◌<◌, ◌≤◌, Bool, true, false, List, [], ◌∷◌, length, get_or, take, drop, map, replicate, Option, Some, None, refl, sym, ap, ◌∙◌, subst, arith}
+use Rattle.std.proofs.Common.{◌≡◌, ◌≢◌, ◌⊎◌, inl, inr, ⊎_elim, ℕ, zero, suc, ◌+◌, ◌*◌, ◌-◌, ◌<◌, ◌≤◌, true, false, List, [], ◌∷◌, length, get_or, take, drop, map, replicate, Option, Some, None, refl, sym, ap, ◌∙◌, subst, arith}
 use mathlib.Core.Bool.{false≢true}
 use Rattle.std.specs.Prelude.{slice_get}
 use Rattle.std.proofs.lemmas.Bool.{cases_Bool, cases_lt}
 use Rattle.std.proofs.lemmas.Bool.Decides.{nat_tests}
 use Rattle.std.proofs.lemmas.List.{length-replicate, length-append, length-map, length-take, get_or-replicate, get_or-map, get_or-take, get_or-drop, get_or_past, get_or_append_left, get_or_push}
 use Rattle.std.proofs.lemmas.List.Edits.{length-between}
-use Rattle.std.proofs.lemmas.Option.{slice_get_within, get_or_from_slice_get}
+use Rattle.std.proofs.lemmas.Option.{slice_get_within, get_or_from_slice_get, none-some}
+use Rattle.std.specs.Cmp.{both_ways}
 use Rattle.lz_slot.specs.Limits.{largest_key}
 use Rattle.lz_slot.specs.Sets.{Keys}
 use Rattle.lz_slot.specs.Counted.{of_pass}
@@ -28,10 +29,11 @@ use Rattle.lz_core.specs.Runs.{Caller, caller_at, opened_service}
 use Rattle.lz_core.specs.Ledgers.{Row, Each}
 use Rattle.lz_core.specs.Kept.{upto}
 use Rattle.lz_core.specs.Entries.{IsLedger, IsSettledEntry}
-use Rattle.lz_core.specs.Sound.{Notes, actor_in, cell_in, stage_in, pin_in, IsInside, IsGateWritten, TraceSound, DiskSound, SlotStands, is_node, is_free, SlotsSound, has_locks, RestsOn, LocksSound, view_of, IsCaller, CallersSound, ReuseSound, pending_row, pending, entries, LedgerSound, TailsSound, HasBegun, UpSound}
+use Rattle.lz_core.specs.Sound.{Notes, actor_in, cell_in, stage_in, pin_in, IsInside, IsGateWritten, TraceSound, DiskSound, SlotStands, is_node, is_free, SlotsSound, has_locks, RestsOn, LocksSound, view_of, IsCaller, CallersSound, ReuseSound, pending, entries, LedgerSound, TailsSound, HasBegun, UpSound}
 use Rattle.lz_core.proofs.Kept.{upto_all}
 use Rattle.lz_core.proofs.Ranges.{on_range, opening_small}
 use Rattle.lz_core.proofs.FirstNodes.{node_has_key, off_chains, node_key, node_on, none_marked, none_removed, never_linked, slot_closed, node_held, key_held, held_found}
+use Rattle.lz_core.proofs.Calling.{pending_none}
 
 -- what is kept beside the first state of a life
 abbrev pub first_notes : Shape → List ℕ → Notes
@@ -43,14 +45,6 @@ replicate_at n i x = ⊎_elim (λ lt. get_or-replicate n i x x lt) (λ le. get_o
 pub pass_of : {X : Type 0} (n a : ℕ) (x : X) → of_pass (replicate n x) a x ≡ x
 pass_of n zero x = refl
 pass_of n (suc i) x = replicate_at n i x
-
-none_is : {X : Type 0} {x : X} → None ≡ Some x → ⊥
-none_is e = absurd cc
-
-same_test : (a b : Bool) → (a ≡ true → b ≡ true) → (b ≡ true → a ≡ true) → a ≡ b
-same_test true b to from = sym (to refl)
-same_test false true to from = from refl
-same_test false false to from = refl
 
 read_cases : (r : SlotRead) → r ≢ read.BadKey → ((k : ℕ) × (r ≡ read.Member k)) ⊎ (r ≡ read.Closed)
 read_cases (read.Member k) fine = inl (k, refl)
@@ -236,10 +230,10 @@ module _ (shape : Shape) (t : List ℕ) (found : Keys) (some : 1 ≤ shape.bucke
   idle a = pass_of shape.passes a idle_actor
 
   no_slot : (a s : ℕ) → (actor_in actors a).slot ≡ Some s → ⊥
-  no_slot a s is = none_is (sym (ap (λ (x : Actor). x.slot) (idle a)) ∙ is)
+  no_slot a s is = none-some _ (sym (ap (λ (x : Actor). x.slot) (idle a)) ∙ is)
 
   no_node : (a s : ℕ) → (actor_in actors a).curr ≡ Some s → ⊥
-  no_node a s is = none_is (sym (ap (λ (x : Actor). x.curr) (idle a)) ∙ is)
+  no_node a s is = none-some _ (sym (ap (λ (x : Actor). x.curr) (idle a)) ∙ is)
 
   stands : (s : ℕ) → s < N → SlotStands shape cells false uses actors P s
   stands s lt = elim (read_cases (slot_at t s) (holds.no_bad_key s lt)) [
@@ -315,14 +309,9 @@ module _ (shape : Shape) (t : List ℕ) (found : Keys) (some : 1 ≤ shape.bucke
     reserved = λ a b s is inside. absurd (not_inside a inside);
   }
 
-  -- nothing was called
-  no_row : (caller : Option Caller) → pending_row caller None ≡ []
-  no_row None = refl
-  no_row (Some caller) = refl
-
   none_pending : (m : ℕ) → pending callers notes.changed m ≡ []
   none_pending zero = refl
-  none_pending (suc m) = cc (none_pending m, no_row (caller_at callers (suc m)))
+  none_pending (suc m) = cc (none_pending m, pending_none (caller_at callers (suc m)))
 
   no_entries : entries shape.passes callers notes ≡ []
   no_entries = none_pending shape.passes
@@ -346,8 +335,8 @@ module _ (shape : Shape) (t : List ℕ) (found : Keys) (some : 1 ≤ shape.bucke
     numbered = λ i c is. absurd is.1;
     refused = λ i is. absurd is.1;
     one_call = λ i c d is. absurd is.1;
-    open_call = λ a caller is. absurd (none_is (sym (no_caller a) ∙ is));
-    apart = λ a b one other is. absurd (none_is (sym (no_caller a) ∙ is));
+    open_call = λ a caller is. absurd (none-some _ (sym (no_caller a) ∙ is));
+    apart = λ a b one other is. absurd (none-some _ (sym (no_caller a) ∙ is));
     unlisted = λ a caller is. refl;
   }
 
@@ -372,7 +361,7 @@ module _ (shape : Shape) (t : List ℕ) (found : Keys) (some : 1 ≤ shape.bucke
 
   -- the trace shows the keys that were found
   has_found : (k : ℕ) → has_key k all_found ≡ found k
-  has_found k = same_test (has_key k all_found) (found k)
+  has_found k = both_ways (has_key k all_found) (found k)
       (λ has. (holds.set k).1 (key_held t N k has))
       (λ is. let at = (holds.set k).0 is in node_has_key k at.0 all_found (node_held t N k at.0 at.1 at.2))
 
@@ -409,6 +398,6 @@ module _ (shape : Shape) (t : List ℕ) (found : Keys) (some : 1 ≤ shape.bucke
       ledger = ledger calls;
       tails = tails (entries shape.passes callers notes);
     };
-    after = record { each = λ a caller r is. absurd (none_is (sym (no_caller a) ∙ is)) };
+    after = record { each = λ a caller r is. absurd (none-some _ (sym (no_caller a) ∙ is)) };
     since = λ a inside. absurd (not_inside a inside);
   }

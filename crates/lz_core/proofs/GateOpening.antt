@@ -4,6 +4,7 @@ use mathlib.Core.Bool.{false≢true}
 use Rattle.std.specs.Prelude.{slice_set, unwrap_or}
 use Rattle.std.proofs.lemmas.Bool.{cases_eq}
 use Rattle.std.proofs.lemmas.Bool.Decides.{nat_tests}
+use Rattle.std.proofs.lemmas.Option.{same_Some, none-some}
 use Rattle.lz_slot.specs.declared.command.Command.TheVariants.{Add, Remove}
 use Rattle.lz_slot.specs.Bytes.{open_byte}
 use Rattle.lz_slot.specs.Counted.{of_pass, set_of_pass}
@@ -24,7 +25,7 @@ use Rattle.lz_core.specs.declared.event.Event.TheVariants.{WriteOpen}
 use Rattle.lz_core.specs.declared.event.Reply.TheVariants.{Device}
 use Rattle.lz_core.specs.declared.actor.Actor.{Actor}
 use Rattle.lz_core.specs.declared.actor.Hold.{Hold}
-use Rattle.lz_core.specs.declared.actor.Hold.TheVariants.{Nothing, Locks, Checked, GateOpened, Linked, GateClosed, Marked, Unlinked, Released}
+use Rattle.lz_core.specs.declared.actor.Hold.TheVariants.{Checked, GateOpened}
 use Rattle.lz_core.specs.declared.caller.Script.TheVariants.{Adding}
 use Rattle.lz_core.specs.declared.caller.Progress.{Progress}
 use Rattle.lz_core.specs.declared.caller.Progress.TheVariants.{Playing}
@@ -40,7 +41,7 @@ use Rattle.lz_core.proofs.Grips.{closes_dead, opens_dead}
 use Rattle.lz_core.proofs.Gating.{gate_written, gate_failed}
 use Rattle.lz_core.proofs.Turning.{moving, moved_same, moved_other, carry, ledger_turn}
 use Rattle.lz_core.proofs.Limbo.{seen_step, away_stays}
-use Rattle.lz_core.proofs.Published.{LeavesCaller, relies_on_node, caller_published}
+use Rattle.lz_core.proofs.Published.{LeavesCaller, caller_published, shut_relies}
 use Rattle.lz_core.proofs.Pinning.{limbo_loose, free_loose}
 use Rattle.lz_core.proofs.Ledgering.{ledger_published}
 use Rattle.lz_core.proofs.Stores.{trace_link}
@@ -83,22 +84,6 @@ module _ (n calls : ℕ) (y : Yard) (callers : List (Option Caller)) (disk : Med
   out_apart : (b t : ℕ) → IsOut (actor_in y.actors b) t → t ≢ s
   out_apart b t out it = sound.slots.hand_out a b t (h.1.slot ∙ ap Some (sym it)) out
 
-  -- a slot is one slot
-  some_same : {r u : ℕ} → Some r ≡ Some u → r ≡ u
-  some_same e = cc
-
-  -- an actor that has closed a gate relies on its node, which is on its chain
-  shut_relies : (hold : Hold) → shuts hold ≡ true → relies_on_node hold ≡ true
-  shut_relies GateClosed e = refl
-  shut_relies Marked e = refl
-  shut_relies Checked e = refl
-  shut_relies Nothing e = absurd (false≢true e)
-  shut_relies Locks e = absurd (false≢true e)
-  shut_relies GateOpened e = absurd (false≢true e)
-  shut_relies Linked e = absurd (false≢true e)
-  shut_relies Unlinked e = absurd (false≢true e)
-  shut_relies Released e = absurd (false≢true e)
-
   -- The cells: the gate is being opened. The adder's hold says so, or its vault is dead and it may have tried.
   module _ (dead' : Bool) (dies : y.vault.dead ≡ true → dead' ≡ true) (alive : y.vault.dead ≡ false) (actors' : List Actor) (hands : length actors' ≡ length y.actors)
       (hand_b : (b : ℕ) → b ≢ a → actor_in actors' b ≡ actor_in y.actors b) (slot_still : (b : ℕ) → (actor_in actors' b).slot ≡ (actor_in y.actors b).slot)
@@ -130,7 +115,7 @@ module _ (n calls : ℕ) (y : Yard) (callers : List (Option Caller)) (disk : Med
 
     -- the adder's slot is this one
     my_slot : (t : ℕ) → (actor_in actors' a).slot ≡ Some t → t ≡ s
-    my_slot t slot = some_same (sym slot ∙ slot_still a ∙ h.1.slot)
+    my_slot t slot = same_Some _ _ (sym slot ∙ slot_still a ∙ h.1.slot)
 
     -- who was out is out
     out_before : (b t : ℕ) → IsOut (actor_in actors' b) t → IsOut (actor_in y.actors b) t
@@ -322,13 +307,9 @@ module _ (n calls : ℕ) (y : Yard) (callers : List (Option Caller)) (disk : Med
   abbrev pair : Actor
   pair = record { slot = None; hold = Checked; pred = (actor_in y.actors a).pred; curr = (actor_in y.actors a).curr }
 
-  -- it has no slot
-  none_some : {r : ℕ} → None ≡ Some r → ⊥
-  none_some e = absurd cc
-
   -- so the preparing leaves it
   pair_leaves : LeavesPair y.shape.buckets (link_prepared s v) pair P
-  pair_leaves = link_leaves y.shape.buckets s v pair P (λ t slot. absurd (none_some slot)) pair_apart.0 pair_apart.1
+  pair_leaves = link_leaves y.shape.buckets s v pair P (λ t slot. absurd (none-some _ slot)) pair_apart.0 pair_apart.1
 
   -- it stands round the key still
   beside_published : IsBeside y.shape.buckets (key_word s P) (actor_in y.actors a).pred (actor_in y.actors a).curr P'

@@ -2,13 +2,13 @@
 use Rattle.std.proofs.Common.{◌≡◌, ◌≢◌, inl, inr, ℕ, ◌≤◌, Bool, true, List, length, Option, Some, None, refl, sym, ap, ◌∙◌, subst, arith, get_or-set_other, get_or-set_same, length-set}
 use mathlib.Core.Bool.{false≢true}
 use Rattle.std.proofs.lemmas.Bool.{cases_eq}
+use Rattle.std.proofs.lemmas.Option.{same_Some, none-some}
 use Rattle.lz_slot.specs.Counted.{set_of_pass}
 use Rattle.lz_slot.proofs.Counted.{of_pass_same, of_pass_other}
 use Rattle.lz_vault.specs.declared.vault.Stage.{Stage}
 use Rattle.lz_vault.specs.declared.vault.Stage.TheVariants.{Closed, KeyLoose, Keyed, Opening, Open, Closing}
 use Rattle.lz_vault.specs.Stages.{Cell}
-use Rattle.lz_allot.specs.declared.sight.Sight.{Sight}
-use Rattle.lz_allot.specs.Uses.{Use, Free, Taken, Limbo, use_of, give_back}
+use Rattle.lz_allot.specs.Uses.{Use, Free, Taken, use_of, give_back}
 use Rattle.lz_list.specs.Locks.{NodeLocks}
 use Rattle.lz_list.specs.Traces.{Trace}
 use Rattle.lz_core.specs.declared.actor.Actor.{Actor}
@@ -18,6 +18,7 @@ use Rattle.lz_core.specs.Yards.{Shape, idle_actor}
 use Rattle.lz_core.specs.Table.{with_slot, is_unused}
 use Rattle.lz_core.specs.Sound.{actor_in, stage_in, IsGateClosed, IsGateOpened, closes, opens, shuts, unlocks, has_removed_node, IsOut, IsNodeStage, IsHandStage, SlotStands, is_node, is_held, is_out, is_free, is_limbo, SlotsSound, ReuseSound, HasLock, RestsOn, LocksSound}
 use Rattle.lz_core.proofs.Locking.{held_locks}
+use Rattle.lz_core.proofs.Using.{free_limbo}
 
 -- a stage that wasn't used has a closed gate
 pub unused_closed : (stage : Stage) → is_unused stage ≡ true → IsGateClosed stage
@@ -28,6 +29,7 @@ unused_closed Opening is = absurd (false≢true is)
 unused_closed Open is = absurd (false≢true is)
 unused_closed Closing is = absurd (false≢true is)
 
+-- and one with a closed gate wasn't used
 pub closed_unused : (stage : Stage) → IsGateClosed stage → is_unused stage ≡ true
 closed_unused stage (inl e) = ap is_unused e
 closed_unused stage (inr (inl e)) = ap is_unused e
@@ -66,16 +68,10 @@ module _ (shape : Shape) (cells : List Cell) (dead : Bool) (uses : List Use) (ac
   curr_same : (b : ℕ) → (actor_in actors' b).curr ≡ (actor_in actors b).curr
   curr_same = same_in (Option ℕ) (λ q. q.curr) refl
 
-  none_some : {t : ℕ} → None ≡ Some t → ⊥
-  none_some e = absurd cc
-
-  some_same : {t u : ℕ} → Some t ≡ Some u → t ≡ u
-  some_same e = cc
-
   -- each slot in a hand was so before, and is another one
   pub held_then : (b t : ℕ) → (actor_in actors' b).slot ≡ Some t → (t ≢ s) × ((actor_in actors b).slot ≡ Some t)
   held_then b t slot = elim (cases_eq b a) [
-    | inl same ↦ absurd (none_some (sym (ap (λ (q : Actor). q.slot) hand_a) ∙ ap (λ (q : ℕ). (actor_in actors' q).slot) (sym same) ∙ slot))
+    | inl same ↦ absurd (none-some _ (sym (ap (λ (q : Actor). q.slot) hand_a) ∙ ap (λ (q : ℕ). (actor_in actors' q).slot) (sym same) ∙ slot))
     | inr other ↦
         let was = ap (λ (q : Actor). q.slot) (sym (hand_b b other)) ∙ slot in
         ((λ it. other (slots.one_hand b a s (was ∙ ap Some it) has)), was)
@@ -100,7 +96,7 @@ module _ (shape : Shape) (cells : List Cell) (dead : Bool) (uses : List Use) (ac
   stands_then : (t : ℕ) → t ≢ s → SlotStands shape cells dead uses actors P t → SlotStands shape cells dead uses' actors' P t
   stands_then t apart (is_node chain stage) = is_node (record { there = chain.there; taken = use_other t apart ∙ chain.taken; key = chain.key }) (node_stage t stage)
   stands_then t apart (is_held b slot) = elim (cases_eq b a) [
-    | inl same ↦ absurd (apart (some_same (sym slot ∙ ap (λ (q : ℕ). (actor_in actors q).slot) same ∙ has)))
+    | inl same ↦ absurd (apart (same_Some _ _ (sym slot ∙ ap (λ (q : ℕ). (actor_in actors q).slot) same ∙ has)))
     | inr other ↦ is_held b (ap (λ (q : Actor). q.slot) (hand_b b other) ∙ slot)
   ]
   stands_then t apart (is_out b out) = is_out b (out_now b t out)
@@ -137,7 +133,7 @@ module _ (shape : Shape) (cells : List Cell) (dead : Bool) (uses : List Use) (ac
   rests_still : (hold : Hold) → (actor_in actors a).hold ≡ hold → RestsOn shape.buckets hold (actor_in actors a) P → RestsOn shape.buckets hold x P
   rests_still Nothing is h = tt
   rests_still Locks is h = tt
-  rests_still Checked is h = record { beside = λ t slot. absurd (none_some slot); before = h.before }
+  rests_still Checked is h = record { beside = λ t slot. absurd (none-some _ slot); before = h.before }
   rests_still GateOpened is h = absurd (opened_used (stage_in cells s) unused (slots.opened a s has (ap unlocks is)))
   rests_still Linked is h = tt
   rests_still GateClosed is h = record { node = h.node; curr = h.curr; before = h.before; marked = h.marked }
@@ -149,9 +145,6 @@ module _ (shape : Shape) (cells : List Cell) (dead : Bool) (uses : List Use) (ac
   given_locks locks h = held_locks shape locks actors actors' P a hand_b h
       (λ place lock. let mine = subst (λ (q : Actor). HasLock q place) hand_a lock in record { locks = mine.locks; among = mine.among })
       (subst (λ (q : Actor). RestsOn shape.buckets q.hold q P) (sym hand_a) (rests_still (actor_in actors a).hold refl (h.rests a)))
-
-  free_limbo : {seen : List Sight} → Free ≡ Limbo seen → ⊥
-  free_limbo e = absurd cc
 
   pub given_reuse : (pins : List ℕ) (begun : ℕ → Trace) → ReuseSound shape pins uses actors P begun → ReuseSound shape pins uses' actors' P begun
   given_reuse pins begun h = record {

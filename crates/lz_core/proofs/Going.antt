@@ -1,6 +1,7 @@
 -- A turn that leaves the yard as it is keeps the invariant, where the call may go on so.
 use Rattle.std.proofs.Common.{◌≡◌, inl, inr, ℕ, ◌≤◌, true, List, Option, Some, None, refl, sym, ap, ◌∙◌, arith}
 use Rattle.std.proofs.lemmas.Bool.{cases_eq}
+use Rattle.std.proofs.lemmas.Option.{same_Some}
 use Rattle.lz_slot.specs.declared.command.Command.{Command}
 use Rattle.lz_slot.specs.declared.command.Command.TheVariants.{Add, Remove}
 use Rattle.lz_slot.specs.Histories.{History}
@@ -13,7 +14,7 @@ use Rattle.lz_core.specs.Yards.{Yard, Shape}
 use Rattle.lz_core.specs.Runs.{Caller, caller_at}
 use Rattle.lz_core.specs.Ledgers.{times}
 use Rattle.lz_core.specs.Sound.{Notes, actor_in, pin_in, cell_in, view_of, CallerSound, entries, may_have_tail, HasTail, TailsSound, Sound}
-use Rattle.lz_core.proofs.Turning.{caller_range, moved, moving, moved_same, moved_other, some_caller, has_entry, same_entries, ledger_turn, callers_turn}
+use Rattle.lz_core.proofs.Turning.{caller_range, moved, moving, moved_same, moved_other, has_entry, same_entries, ledger_turn, callers_turn}
 
 -- a call that has changed nothing goes on so that its tail stays
 abbrev pub KeepsTail : Option ℕ → Progress → Progress → Type 0
@@ -32,7 +33,7 @@ module _ (callers : List (Option Caller)) (a : ℕ) (caller : Caller) (at : call
     no_row = ap (times h.number) (same_entries callers a caller at next passes notes) ∙ h.no_row;
     stays = λ b one is same. elim (cases_eq b a) [
       | inl it ↦
-          let new : moved caller next ≡ one = some_caller (sym (moved_same callers a caller at next) ∙ ap (caller_at (moving callers a caller next)) (sym it) ∙ is) in
+          let new : moved caller next ≡ one = same_Some _ _ (sym (moved_same callers a caller at next) ∙ ap (caller_at (moving callers a caller next)) (sym it) ∙ is) in
           let number : caller.number ≡ h.number = ap (λ (q : Caller). q.number) new ∙ same in
           ap (λ (q : Caller). may_have_tail q.progress) (sym new) ∙ own_stays (notes.changed a) refl h.number h.no_row number (h.stays a caller at number)
       | inr other ↦ h.stays b one (sym (moved_other callers a caller at next b other) ∙ is) same

@@ -8,7 +8,7 @@ use Rattle.lz_core.specs.declared.actor.Actor.{Actor}
 use Rattle.lz_core.specs.declared.actor.Hold.{Hold}
 use Rattle.lz_core.specs.declared.actor.Hold.TheVariants.{Nothing, Locks, Checked, GateOpened, Linked, GateClosed, Marked, Unlinked, Released}
 use Rattle.lz_core.specs.Yards.{Shape}
-use Rattle.lz_core.specs.Sound.{actor_in, IsOut, IsCloser, closes, opens, shuts, unlocks, has_removed_node, IsNodeStage, IsHandStage, SlotStands, is_node, is_held, is_out, is_free, is_limbo, SlotsSound}
+use Rattle.lz_core.specs.Sound.{actor_in, IsOut, IsCloser, closes, opens, shuts, unlocks, has_removed_node, IsNodeStage, IsHandStage, SlotStands, is_node, is_held, is_out, is_free, is_limbo, SlotsSound, has_locks}
 
 pub closes_dead : (dead dead' : Bool) (hold : Hold) → (dead ≡ true → dead' ≡ true) → closes dead hold ≡ true → closes dead' hold ≡ true
 closes_dead dead dead' Checked dies is = dies is
@@ -98,3 +98,15 @@ module _ (shape : Shape) (cells : List Cell) (dead dead' : Bool) (uses : List Us
     where
       was : (b s : ℕ) → (actor_in actors' b).slot ≡ Some s → (actor_in actors b).slot ≡ Some s
       was b s is = sym (grips b).slot ∙ is
+
+-- an actor that may have closed a gate has its locks
+pub closer_locks : (dead : Bool) (hold : Hold) → closes dead hold ≡ true → has_locks hold ≡ true
+closer_locks dead Checked is = refl
+closer_locks dead GateClosed is = refl
+closer_locks dead Marked is = refl
+closer_locks dead Locks is = refl
+closer_locks dead GateOpened is = refl
+closer_locks dead Linked is = refl
+closer_locks dead Unlinked is = refl
+closer_locks dead Nothing is = absurd (false≢true is)
+closer_locks dead Released is = absurd (false≢true is)

@@ -1,5 +1,6 @@
 -- Halt keeps the invariant.
 use Rattle.std.proofs.Common.{◌≡◌, inr, ℕ, suc, true, List, ◌∷◌, Option, Some, refl, sym, ◌∙◌, subst, arith}
+use Rattle.std.proofs.lemmas.Option.{same_Some}
 use mathlib.Core.Bool.{false≢true}
 use Rattle.lz_slot.specs.declared.command.Command.{Command}
 use Rattle.lz_slot.specs.declared.command.Command.TheVariants.{Add, Remove, Has}
@@ -39,14 +40,11 @@ faces_on buckets slots k x t P law h =
     let adj = subst (Adjacent 0 (chain_of buckets k P) x) h.faces.next (stands buckets slots P (bucket_of buckets k) x P law h.faces.there) in
     adjacent_next 0 (chain_of buckets k P) x (suc t) adj (λ none. grind arith)
 
-some_same : {r u : ℕ} → Some r ≡ Some u → r ≡ u
-some_same e = cc
-
 -- so the node on which an actor relies is on its chain
 pub held_node : (shape : Shape) (P : Trace) (hold : Hold) (actor : Actor) → Lawful shape.buckets shape.slots P → RestsOn shape.buckets hold actor P → (t : ℕ) → actor.curr ≡ Some t → relies_on_node hold ≡ true → on 0 (chain_of shape.buckets (key_word t P) P) (suc t) ≡ true
 held_node shape P Checked actor law h t is relies = faces_on shape.buckets shape.slots (key_word t P) _ t P law (h.before t is).0.faces
-held_node shape P GateClosed actor law h t is relies = subst (λ (q : ℕ). on 0 (chain_of shape.buckets (key_word q P) P) (suc q) ≡ true) (some_same (sym h.curr ∙ is)) (faces_on shape.buckets shape.slots (key_word h.node P) _ h.node P law h.before.faces)
-held_node shape P Marked actor law h t is relies = subst (λ (q : ℕ). on 0 (chain_of shape.buckets (key_word q P) P) (suc q) ≡ true) (some_same (sym h.curr ∙ is)) (faces_on shape.buckets shape.slots (key_word h.node P) _ h.node P law h.before.faces)
+held_node shape P GateClosed actor law h t is relies = subst (λ (q : ℕ). on 0 (chain_of shape.buckets (key_word q P) P) (suc q) ≡ true) (same_Some _ _ (sym h.curr ∙ is)) (faces_on shape.buckets shape.slots (key_word h.node P) _ h.node P law h.before.faces)
+held_node shape P Marked actor law h t is relies = subst (λ (q : ℕ). on 0 (chain_of shape.buckets (key_word q P) P) (suc q) ≡ true) (same_Some _ _ (sym h.curr ∙ is)) (faces_on shape.buckets shape.slots (key_word h.node P) _ h.node P law h.before.faces)
 held_node shape P Nothing actor law h t is relies = absurd (false≢true relies)
 held_node shape P Locks actor law h t is relies = absurd (false≢true relies)
 held_node shape P GateOpened actor law h t is relies = absurd (false≢true relies)

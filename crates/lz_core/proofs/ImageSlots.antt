@@ -5,7 +5,7 @@ use Rattle.std.specs.Prelude.{slice_get}
 use mathlib.Core.Bool.{false≢true}
 use Rattle.std.proofs.lemmas.Bool.{cases_eq, cases_Bool, or_cases, or_left, or_right, eq-eqb}
 use Rattle.std.proofs.lemmas.Bool.Decides.{nat_tests}
-use Rattle.std.proofs.lemmas.Option.{slice_get-get_or}
+use Rattle.std.proofs.lemmas.Option.{slice_get-get_or, same_Some}
 use Rattle.lz_slot.specs.Sets.{Keys}
 use Rattle.lz_slot.specs.Bytes.{slot_at}
 use Rattle.lz_slot.specs.declared.slot.SlotRead.{SlotRead}
@@ -125,9 +125,6 @@ pub record IsOpened (y : Yard) (P : Trace) (s k : ℕ) : Type 0 where
 abbrev pub IsNodeOf : Yard → Trace → ℕ → ℕ → Type 0
 IsNodeOf y P s k = (on 0 (chain_of y.shape.buckets k P) (suc s) ≡ true) × (key_word s P ≡ k)
 
-some_same : {r u : ℕ} → Some r ≡ Some u → r ≡ u
-some_same e = cc
-
 module _ (n calls : ℕ) (y : Yard) (callers : List (Option Caller)) (disk : Medium) (M : History) (P : Trace) (notes : Notes) (sound : Sound n calls y callers disk M P notes) where
   shown : (k : ℕ) → Shows (next_link y.shape.buckets (bucket_of y.shape.buckets k) P) (λ s. key_word s P) 0 (chain_of y.shape.buckets k P)
   shown k = (words_show_chain y.shape.buckets y.shape.slots P sound.trace.lawful (bucket_of y.shape.buckets k)).shows
@@ -157,7 +154,7 @@ module _ (n calls : ℕ) (y : Yard) (callers : List (Option Caller)) (disk : Med
       let at_other = (round_place y.shape.buckets y.shape.slots P lawful k (place_number (actor_in y.actors other.actor).pred) (link_to (actor_in y.actors other.actor).curr) other.beside.round).0 in
       let place = one_place y.shape.buckets k k (actor_in y.actors one.actor).pred (actor_in y.actors other.actor).pred one.beside.bucket other.beside.bucket refl (sym at_one ∙ at_other) in
       let same : one.actor ≡ other.actor = sym (has_place s k one) ∙ ap (owner y.locks) place ∙ has_place u k other in
-      some_same (sym one.hand ∙ ap (λ (a : ℕ). (actor_in y.actors a).slot) same ∙ other.hand)
+      same_Some _ _ (sym one.hand ∙ ap (λ (a : ℕ). (actor_in y.actors a).slot) same ∙ other.hand)
 
   pub one_slot : (s u k : ℕ) → IsNodeOf y P s k ⊎ IsOpened y P s k → IsNodeOf y P u k ⊎ IsOpened y P u k → s ≡ u
   one_slot s u k (inl one) (inl other) = one_node_slot s u k one other
@@ -214,7 +211,7 @@ module _ (n calls : ℕ) (y : Yard) (callers : List (Option Caller)) (disk : Med
         go Checked at does stage word = opened stage (ap rests_on_pair at) ((resting Checked at).beside s hand) word
         go GateOpened at does stage word =
             let h = resting GateOpened at in
-            opened stage (ap rests_on_pair at) (subst (λ (q : ℕ). IsBeside y.shape.buckets (key_word q P) (actor_in y.actors a).pred (actor_in y.actors a).curr P) (some_same (sym h.slot ∙ hand)) h.beside) word
+            opened stage (ap rests_on_pair at) (subst (λ (q : ℕ). IsBeside y.shape.buckets (key_word q P) (actor_in y.actors a).pred (actor_in y.actors a).curr P) (same_Some _ _ (sym h.slot ∙ hand)) h.beside) word
         go Nothing at does stage word = absurd (false≢true does)
         go Locks at does stage word = absurd (false≢true does)
         go Linked at does stage word = absurd (false≢true does)

@@ -6,8 +6,7 @@ use Rattle.std.proofs.lemmas.Bool.{cases_Bool, cases_lt, and_parts, not-true}
 use Rattle.std.proofs.lemmas.Bool.Decides.{nat_tests}
 use Rattle.lz_slot.specs.declared.command.Command.{Command}
 use Rattle.lz_slot.specs.declared.command.Command.TheVariants.{Add, Remove}
-use Rattle.lz_slot.specs.Sets.{Keys, Same, key_of, after, reply, moved}
-use Rattle.lz_slot.proofs.Sets.{after_at}
+use Rattle.lz_slot.specs.Sets.{Keys, Same, key_of, after, reply}
 use Rattle.lz_slot.specs.Bytes.{Holds, slot_at, open_byte, header_body}
 use Rattle.lz_slot.specs.declared.slot.SlotRead.{SlotRead}
 use Rattle.lz_slot.specs.declared.slot.SlotRead.TheVariants.{Closed as Shut, Member, BadKey}
@@ -24,17 +23,13 @@ use Rattle.lz_core.specs.Kept.{upto, last_change, IsOpen, MayDrop, kept_keys, pu
 use Rattle.lz_core.specs.Entries.{kept_rows, numbers}
 use Rattle.lz_core.specs.Ledgers.{listed}
 use Rattle.lz_core.specs.Sound.{Notes, entries, cell_in, stage_in, UpSound, HasList}
-use Rattle.lz_core.proofs.Kept.{upto_begins, length-upto, upto_all, yes_is_kept, no_is_kept}
+use Rattle.lz_core.proofs.Kept.{upto_begins, length-upto, upto_all, yes_is_kept, no_is_kept, last_change_past}
 use Rattle.lz_core.proofs.Fits.{listed_fits}
 use Rattle.lz_core.proofs.Entries.{kept_ledger, kept_fits}
 use Rattle.lz_core.proofs.ImageSlots.{found, found_in, in_found, not_both, shut_read, one_or_other, IsOpened, IsNodeOf, node_stands, member_node, opened_or_node, reads, read_once}
 use Rattle.lz_core.proofs.Tails.{is_opening, asks, asks_adding, asks_removal, asks_waits}
 use Rattle.lz_core.proofs.TailRows.{names, names_of, HasRows, rows_to, rows_lead, rows_ledger}
-
--- the last change of a key is in the past
-change_past : (k : ℕ) (P : Trace) → last_change k P ≤ length P
-change_past k [] = omega arith
-change_past k (e ∷ P) = grind (arith, change_past k P)
+use Rattle.lz_core.proofs.Ledgers.{after_same}
 
 -- a key that was never linked is no member
 never_linked : (k : ℕ) (P : Trace) → linking k P ≡ 0 → member k P ≡ false
@@ -48,7 +43,7 @@ module _ (n : ℕ) (P : Trace) (drop : Keys) where
   kept_last : n ≤ length P → (k : ℕ) → kept_keys n P drop (length P) k ≡ (if drop k then not (member k P) else member k P)
   kept_last le k =
       let at : max n (length P) ≡ length P = omega (arith, le) in
-      rw (at, upto_all (length P) P (omega arith)) (grind (arith, nat_tests, change_past k P))
+      rw (at, upto_all (length P) P (omega arith)) (grind (arith, nat_tests, last_change_past k P))
 
   kept_first : MayDrop n P drop → (k : ℕ) → kept_keys n P drop 0 k ≡ member k (upto n P)
   kept_first may k =
@@ -56,9 +51,6 @@ module _ (n : ℕ) (P : Trace) (drop : Keys) where
       rw at (grind (arith, nat_tests, may.later k))
 
 -- the same calls fit from a set with the same keys
-after_same : (c : Command) (S T : Keys) → Same S T → Same (after c S) (after c T)
-after_same c S T same k = after_at c S k ∙ ap (moved k c) (same k) ∙ sym (after_at c T k)
-
 runs_from : (M : History) (L : List ℕ) (S T U : Keys) → Same S T → Runs M S L U → Runs M T L U
 runs_from M [] S T U same runs = λ k. sym (same k) ∙ runs k
 runs_from M (i ∷ L) S T U same runs = (

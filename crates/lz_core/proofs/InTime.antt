@@ -5,6 +5,7 @@ use Rattle.std.specs.Prelude.{unwrap_or}
 use Rattle.std.specs.List.{list_any}
 use Rattle.std.proofs.lemmas.Bool.{cases_eq, cases_Bool}
 use Rattle.std.proofs.lemmas.Bool.Decides.{nat_tests, eqb_tells}
+use Rattle.std.proofs.lemmas.Option.{none-some}
 use Rattle.lz_slot.specs.declared.command.Command.{Command}
 use Rattle.lz_slot.specs.declared.command.Command.TheVariants.{Add, Remove, Has}
 use Rattle.lz_slot.specs.Limits.{most_slots}
@@ -14,7 +15,6 @@ use Rattle.lz_slot.specs.Histories.{History, Life, lives}
 use Rattle.lz_slot.proofs.Counted.{of_pass_same, of_pass_other}
 use Rattle.lz_disk.specs.Images.{Medium, at_rest, synced}
 use Rattle.lz_vault.specs.declared.vault.Stage.TheVariants.{Closed, Keyed}
-use Rattle.lz_vault.specs.Vaults.{MayFail}
 use Rattle.lz_allot.specs.Uses.{is_outside, collect, lowest_free}
 use Rattle.lz_list.specs.declared.place.Place.{Place}
 use Rattle.lz_list.specs.declared.place.Place.TheVariants.{Node}
@@ -46,7 +46,7 @@ use Rattle.lz_core.specs.declared.caller.Script.TheVariants.{Pinning, Resting, W
 use Rattle.lz_core.specs.declared.caller.Progress.{Progress}
 use Rattle.lz_core.specs.declared.caller.Progress.TheVariants.{Playing, LoadsHalt, Walking, Reserving, SeeingPins, Claiming, Checking, Answering}
 use Rattle.lz_core.specs.Yards.{Shape, Yard, actor_at, cell_at, opened_yard}
-use Rattle.lz_core.specs.Table.{last_pin, pin_of, needs, is_played_dead, is_sure, is_spent, has_stage, may_claim, may_check, has_checked, has_opened, has_closed, has_marked, may_release, may_retire, words_after, slot_found, outcome_of, course_alive, course, call_on, line_on, line, line_failed}
+use Rattle.lz_core.specs.Table.{last_pin, pin_of, needs, is_played_dead, is_sure, is_spent, has_stage, may_claim, may_check, has_checked, has_opened, has_closed, has_marked, may_release, may_retire, words_after, slot_found, outcome_of, course_alive, course, line_on, line, line_failed}
 use Rattle.lz_core.specs.Calls.{goes_on, event_at, events_of, after_event, loaded, first_progress, progress_after, follows, walked, rests, hops_on, changes, after_playing, after_halt, after_hop, after_reserve, after_see_pin, after_claim, after_check}
 use Rattle.lz_core.specs.Orders.{MayTake}
 use Rattle.lz_core.specs.Runs.{Start, State, Up, Down, Step, Calls, Turn, Fails, Looks, Trips, Stops, Crashes, CrashesIn, Opens, OpenFails, Point, Service, Caller, caller_at, next_event, reply_at, moved_on, looked, state_after, after_turn, after_fault, HasTurn, HasFault, MayStep, first_point, run, IsRun, IsStart, opened_service, start_keys}
@@ -65,6 +65,7 @@ use Rattle.lz_core.proofs.Unlinking.{redirect_pins}
 use Rattle.lz_core.proofs.Asking.{asks}
 use Rattle.lz_core.proofs.FirstState.{pass_of}
 use Rattle.lz_core.proofs.Reaching.{reached_sound}
+use Rattle.lz_core.proofs.Callers.{none_of, fault_no_reply}
 
 -- outcomes
 abbrev is_now : Outcome → Bool
@@ -367,24 +368,6 @@ worn_last y a e = go (y.vault.dead && not (is_played_dead e)) (needs y a e)
     go false true is = alive_worn y a e is
     go false false is = absurd (false≢true is)
 
-some_reply : {r : Reply} → Some r ≡ None → ⊥
-some_reply e = absurd cc
-
-none_of : (caller : Option Caller) → is_some caller ≡ false → caller ≡ None
-none_of None empty = refl
-none_of (Some caller) empty = absurd (false≢true (sym empty))
-
--- an answer makes no device call, so that none fails in it
-answer_calls_nothing : (k : Course) (y : Yard) (a : ℕ) (disk new : Medium) → MayFail (call_on k y (actor_at y a) Answer) disk new → ⊥
-answer_calls_nothing Plays y a disk new h = h
-answer_calls_nothing Dies y a disk new h = h
-answer_calls_nothing (Refused outcome) y a disk new h = h
-
-fault_no_reply : (y : Yard) (a : ℕ) (c : Command) (at : Progress) (disk new : Medium)
-    → MayFail (call_on (course y a (loaded y.words (event_at y.shape c at))) y (actor_at y a) (loaded y.words (event_at y.shape c at))) disk new → reply_at at ≡ None
-fault_no_reply y a c (Answering reply) disk new h = absurd (answer_calls_nothing (course y a Answer) y a disk new h)
-fault_no_reply y a c at disk new h = refl
-
 -- A call comes to the answer that its pass is worn only by such an outcome.
 abbrev ends_worn : Progress → Bool
 ends_worn (Answering SaysWorn) = true
@@ -508,7 +491,7 @@ module _ (shape : Shape) (v : View) (c : Command) (P0 P : Trace) (changed : Opti
   follows_not (SeeingPins p) outcome h on_its_way = see_not p
   follows_not (Claiming aim pred curr) outcome h on_its_way = claim_not aim pred curr outcome
   follows_not (Checking aim curr) outcome h on_its_way = check_not aim curr outcome
-  follows_not (Answering reply) outcome h on_its_way = absurd (some_reply on_its_way)
+  follows_not (Answering reply) outcome h on_its_way = absurd (none-some _ (sym on_its_way))
 
   progress_not : (at : Progress) (outcome : Outcome) → Relies v c at P0 P changed → reply_at at ≡ None → is_worn outcome ≡ false → ends_worn (progress_after shape c at outcome) ≡ false
   progress_not at Fault h on_its_way is = refl

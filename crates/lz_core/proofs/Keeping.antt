@@ -293,27 +293,27 @@ module _ (y : Yard) (known : ℕ) (fits : Fits y known) (a : ℕ) (low : 1 ≤ a
   }
 
 -- an outcome is a fault, or it isn't
-is_fault : (o : Outcome) → (o ≡ Fault) ⊎ (o ≢ Fault)
-is_fault Done = inr (λ h. cc)
-is_fault (Value value) = inr (λ h. cc)
-is_fault (Slot s) = inr (λ h. cc)
-is_fault (NoSlot counts) = inr (λ h. cc)
-is_fault WasTaken = inr (λ h. cc)
-is_fault Busy = inr (λ h. cc)
-is_fault True = inr (λ h. cc)
-is_fault False = inr (λ h. cc)
-is_fault Early = inr (λ h. cc)
-is_fault Worn = inr (λ h. cc)
-is_fault NotNow = inr (λ h. cc)
-is_fault Fault = inl refl
-is_fault Dead = inr (λ h. cc)
+pub fault_or_not : (o : Outcome) → (o ≡ Fault) ⊎ (o ≢ Fault)
+fault_or_not Done = inr (λ h. cc)
+fault_or_not (Value value) = inr (λ h. cc)
+fault_or_not (Slot s) = inr (λ h. cc)
+fault_or_not (NoSlot counts) = inr (λ h. cc)
+fault_or_not WasTaken = inr (λ h. cc)
+fault_or_not Busy = inr (λ h. cc)
+fault_or_not True = inr (λ h. cc)
+fault_or_not False = inr (λ h. cc)
+fault_or_not Early = inr (λ h. cc)
+fault_or_not Worn = inr (λ h. cc)
+fault_or_not NotNow = inr (λ h. cc)
+fault_or_not Fault = inl refl
+fault_or_not Dead = inr (λ h. cc)
 
 -- the parts fit after a step
 pub played_fits : (y : Yard) (known : ℕ) (a : ℕ) (e : Event) (outcome : Outcome) (new : Yard) (rows : ℕ) (changed : Option Word) (before after : Device)
     → Fits y known → (1 ≤ a) × (a ≤ y.shape.passes) → IsEventOf y e → Played y a e outcome new changed before after → rows ≡ known → Fits new rows
 played_fits y known a e outcome new rows changed before after fits actor is played same =
     let high : a ≤ length y.actors = omega (arith, actor.1, fits.actors) in
-    subst (λ (n : ℕ). Fits new n) (sym same) (elim (is_fault outcome) [
+    subst (λ (n : ℕ). Fits new n) (sym same) (elim (fault_or_not outcome) [
       | inl fault ↦ subst (λ (q : Yard). Fits q known) (sym (played.failed fault).yard) (failed_fits y known fits a actor.0 high e)
       | inr other ↦ subst (λ (q : Yard). Fits q known) (sym (played.done other).yard) (line_fits y known fits a actor.0 high (course y a e) e is refl)
     ])
@@ -321,7 +321,7 @@ played_fits y known a e outcome new rows changed before after fits actor is play
 -- the shape stays
 pub played_shape : (y : Yard) (a : ℕ) (e : Event) (outcome : Outcome) (new : Yard) (changed : Option Word) (before after : Device)
     → Played y a e outcome new changed before after → new.shape ≡ y.shape
-played_shape y a e outcome new changed before after played = elim (is_fault outcome) [
+played_shape y a e outcome new changed before after played = elim (fault_or_not outcome) [
   | inl fault ↦ ap (λ (q : Yard). q.shape) (played.failed fault).yard
   | inr other ↦ ap (λ (q : Yard). q.shape) (played.done other).yard ∙ line_keeps_shape (course y a e) y (actor_at y a) a e
 ]

@@ -13,6 +13,7 @@ use Rattle.lz_list.specs.Traces.{Trace, Begins, member, linking, is_settled, is_
 use Rattle.lz_list.proofs.Hindsight.{lawful_begins}
 use Rattle.lz_core.specs.Ledgers.{Row, IsRight, Moves}
 use Rattle.lz_core.specs.Kept.{upto, changes_key, last_change, IsOpen, MayDrop, kept_keys, publishing, IsChange, RowsFit, IsRowOf}
+use Rattle.lz_core.proofs.Limbo.{shorter}
 
 pub upto_begins : (n : ℕ) (P : Trace) → Begins (upto n P) P
 upto_begins n [] = refl
@@ -41,12 +42,8 @@ upto_more j (e ∷ P) lt = elim (cases_eq (length P) j) [
   | inr before ↦ grind (arith, nat_tests, upto_more j P)
 ]
 
-begins_shorter : (R P : Trace) → Begins R P → length R ≤ length P
-begins_shorter R [] to = rw to (omega arith)
-begins_shorter R (e ∷ P) (inl here) = rw here (omega arith)
-begins_shorter R (e ∷ P) (inr to) = omega (arith, begins_shorter R P to)
-
-last_change_past : (k : ℕ) (P : Trace) → last_change k P ≤ length P
+-- the last change of a key is in the past
+pub last_change_past : (k : ℕ) (P : Trace) → last_change k P ≤ length P
 last_change_past k [] = omega arith
 last_change_past k (e ∷ P) = grind (arith, last_change_past k P)
 
@@ -60,7 +57,7 @@ unchanged : (k : ℕ) (R P : Trace) → Begins R P → last_change k P ≤ lengt
 unchanged k R [] to late = (ap (member k) (sym to), ap (linking k) (sym to))
 unchanged k R (e ∷ P) (inl here) late = (ap (member k) (sym here), ap (linking k) (sym here))
 unchanged k R (e ∷ P) (inr to) late =
-    let no : changes_key k e ≡ false = grind (arith, begins_shorter R P to) in
+    let no : changes_key k e ≡ false = grind (arith, shorter R P to) in
     let same = keeps_key k e P no in
     let rest = unchanged k R P to (grind arith) in
     (same.0 ∙ rest.0, same.1 ∙ rest.1)

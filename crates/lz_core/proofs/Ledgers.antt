@@ -7,7 +7,8 @@ use Rattle.lz_slot.specs.Sets.{key_of, Keys, after, reply, moved, Same}
 use Rattle.lz_slot.proofs.Sets.{after_at, moved_other}
 use Rattle.lz_core.specs.Ledgers.{Row, quiet_at, change_at, listed, Gives, ends, Each, IsRight, Moves, Leads}
 
-after_same : (c : Command) (S T : Keys) → Same S T → Same (after c S) (after c T)
+-- a call leads to the same keys from the same keys
+pub after_same : (c : Command) (S T : Keys) → Same S T → Same (after c S) (after c T)
 after_same c S T same k = after_at c S k ∙ ap (moved k c) (same k) ∙ sym (after_at c T k)
 
 gives_same : (L : List Row) (S T : Keys) → Same S T → Gives T L → Gives S L

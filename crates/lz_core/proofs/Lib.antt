@@ -43,6 +43,9 @@ pub mod Writing
 pub mod GateOpening
 pub mod Settled
 pub mod Settling
+pub mod Runs
+pub mod FoundSlots
+pub mod Callers
 pub mod Calling
 pub mod Sound
 pub mod Shapes

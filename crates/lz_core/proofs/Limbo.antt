@@ -10,6 +10,7 @@ use Rattle.lz_list.specs.Traces.{Trace, Begins, on, chain, IsLoose}
 use Rattle.lz_list.proofs.Hindsight.{once_begins}
 use Rattle.lz_core.specs.Limbo.{IsAway, IsSeen}
 
+-- a trace is as long as each that it goes on from, or longer
 pub shorter : (R P : Trace) → Begins R P → length R ≤ length P
 shorter R [] to = rw to (omega arith)
 shorter R (e ∷ P) (inl here) = rw here (omega arith)

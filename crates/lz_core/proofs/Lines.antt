@@ -34,6 +34,10 @@ alive_course y a e h n =
 
 pub ruleset course_rules = (dead_course, early_course, alive_course)
 
+-- a dead vault refuses an event that is not played dead
+pub course_dead : (y : Yard) (a : ℕ) (e : Event) → is_played_dead e ≡ false → y.vault.dead ≡ true → course y a e ≡ Refused Dead
+course_dead y a e stops dead = dead_course y a e (ap (λ (q : Bool). q && not (is_played_dead e)) dead ∙ ap not stops)
+
 slot_no_fault : (o : Option ℕ) (uses : List Use) → slot_found o uses ≢ Fault
 slot_no_fault (Some s) uses = λ h. cc
 slot_no_fault None uses = λ h. cc

@@ -1,9 +1,10 @@
 -- Link keeps the invariant: the node whose gate its adder has opened is put on its chain.
-use Rattle.std.proofs.Common.{◌≡◌, ◌≢◌, inl, inr, ℕ, suc, ◌<◌, ◌≤◌, ◌==◌, not, Bool, true, List, [], ◌∷◌, ◌++◌, length, Option, Some, None, refl, sym, ap, ◌∙◌, subst, arith}
+use Rattle.std.proofs.Common.{◌≡◌, ◌≢◌, inl, inr, ℕ, suc, ◌<◌, ◌≤◌, ◌==◌, not, Bool, true, List, ◌∷◌, ◌++◌, length, Option, Some, None, refl, sym, ap, ◌∙◌, subst, arith}
 use mathlib.Core.Bool.{false≢true}
 use Rattle.std.specs.Prelude.{unwrap_or}
 use Rattle.std.proofs.lemmas.Bool.{cases_eq}
 use Rattle.std.proofs.lemmas.Bool.Decides.{nat_tests}
+use Rattle.std.proofs.lemmas.Option.{same_Some, none-some}
 use Rattle.lz_slot.specs.declared.command.Command.TheVariants.{Add, Remove}
 use Rattle.lz_slot.specs.Counted.{of_pass, set_of_pass}
 use Rattle.lz_slot.specs.Histories.{History}
@@ -19,10 +20,10 @@ use Rattle.lz_list.specs.declared.place.Place.TheVariants.{Node}
 use Rattle.lz_list.specs.declared.publishing.Publishing.TheVariants.{Linked as linked}
 use Rattle.lz_list.specs.declared.word.Word.TheVariants.{Key as key_at}
 use Rattle.lz_list.specs.Words.{Words, get, redirect, place_number, link_to}
-use Rattle.lz_list.specs.Traces.{Trace, Chain, Lawful, IsLoose, insert, on, chain_of, bucket_of, place_of, key_word, linking, is_settled, is_removed, member}
-use Rattle.lz_list.proofs.Chains.{on_start}
+use Rattle.lz_list.specs.Traces.{Trace, Lawful, IsLoose, on, chain_of, bucket_of, place_of, key_word, linking, is_settled, is_removed, member}
 use Rattle.lz_list.proofs.Nodes.{on_insert_other, not_yet}
 use Rattle.lz_list.proofs.Resting.{on_insert}
+use Rattle.lz_list.proofs.Linking.{inserted_on}
 use Rattle.lz_list.specs.Locks.{claimed_places, owner}
 use Rattle.lz_core.specs.declared.event.Event.TheVariants.{Link}
 use Rattle.lz_core.specs.declared.actor.Actor.{Actor}
@@ -54,10 +55,6 @@ use Rattle.lz_core.proofs.Changing.{row_of, changes_at, changed_same, changed_ot
 use Rattle.lz_core.proofs.Unlinking.{resting_locks, first_place, redirect_pins}
 use Rattle.lz_core.proofs.Links as links
 use Rattle.lz_core.proofs.Going.{tail_turn}
-
-on_itself : (k s x : ℕ) (c : Chain) → on x (insert k s c) (suc s) ≡ true
-on_itself k s x [] = grind (arith, nat_tests)
-on_itself k s x (n ∷ c) = grind (arith, nat_tests, on_itself k s (suc n.1) c, on_start (suc s) (n ∷ c))
 
 -- a gate that is surely closed is neither opened nor written open
 opened_shut : (stage : Stage) → IsGateOpened stage → IsGateClosed stage → ⊥
@@ -94,13 +91,10 @@ opened_written stage (inr e) (inr f) = open_closed (sym e ∙ f)
     open_closed : Open ≡ Closed → ⊥
     open_closed g = absurd cc
 
-some_nat : {r u : ℕ} → Some r ≡ Some u → r ≡ u
-some_nat e = cc
-
 -- an actor that has opened its slot's gate stands beside its key's place
 beside_of : (buckets : ℕ) (dead : Bool) (hold : Hold) (actor : Actor) (P : Trace) (t : ℕ) → RestsOn buckets hold actor P → opens dead hold ≡ true → actor.slot ≡ Some t → IsBeside buckets (key_word t P) actor.pred actor.curr P × (rests_on_pair hold ≡ true)
 beside_of buckets dead Checked actor P t h opened slot = (h.beside t slot, refl)
-beside_of buckets dead GateOpened actor P t h opened slot = (subst (λ (q : ℕ). IsBeside buckets (key_word q P) actor.pred actor.curr P) (some_nat (sym h.slot ∙ slot)) h.beside, refl)
+beside_of buckets dead GateOpened actor P t h opened slot = (subst (λ (q : ℕ). IsBeside buckets (key_word q P) actor.pred actor.curr P) (same_Some _ _ (sym h.slot ∙ slot)) h.beside, refl)
 beside_of buckets dead Nothing actor P t h opened slot = absurd (false≢true opened)
 beside_of buckets dead Locks actor P t h opened slot = absurd (false≢true opened)
 beside_of buckets dead Linked actor P t h opened slot = absurd (false≢true opened)
@@ -134,14 +128,11 @@ module _ (n calls : ℕ) (y : Yard) (callers : List (Option Caller)) (disk : Med
   hand_b : (b : ℕ) → b ≢ a → actor_in actors' b ≡ actor_in y.actors b
   hand_b b other = other_hand n calls y callers disk M P notes a (call_at i (Add k) at) is sound x b other
 
-  no_none : {r : ℕ} → None ≡ Some r → ⊥
-  no_none e = absurd cc
-
   rests : HasOpened y.shape.buckets (actor_in y.actors a) P
   rests = subst (λ (q : Hold). RestsOn y.shape.buckets q (actor_in y.actors a) P) h.0 (sound.locks.rests a)
 
   own_slot : rests.own ≡ s
-  own_slot = some_nat (sym rests.slot ∙ h.1)
+  own_slot = same_Some _ _ (sym rests.slot ∙ h.1)
 
   own_key : key_word rests.own P ≡ k
   own_key = ap (λ (q : ℕ). key_word q P) own_slot ∙ h.2
@@ -165,7 +156,7 @@ module _ (n calls : ℕ) (y : Yard) (callers : List (Option Caller)) (disk : Med
   place = (links.round_place y.shape.buckets y.shape.slots P sound.trace.lawful k spot (link_to (actor_at y a).curr) beside.round).0
 
   there : on 0 (chain_of y.shape.buckets k P') (suc s) ≡ true
-  there = grind (arith, nat_tests, on_itself k s 0 (chain_of y.shape.buckets k P))
+  there = grind (arith, nat_tests, inserted_on k s 0 (chain_of y.shape.buckets k P))
 
   chain_then : (j t : ℕ) → on 0 (chain_of y.shape.buckets j P) (suc t) ≡ true → on 0 (chain_of y.shape.buckets j P') (suc t) ≡ true
   chain_then j t on_it = grind (arith, nat_tests, on_it, on_insert k s 0 (suc t) (chain_of y.shape.buckets j P))
@@ -191,7 +182,7 @@ module _ (n calls : ℕ) (y : Yard) (callers : List (Option Caller)) (disk : Med
 
   held_then : (b t : ℕ) → (actor_in actors' b).slot ≡ Some t → (b ≢ a) × (t ≢ s) × ((actor_in y.actors b).slot ≡ Some t)
   held_then b t slot = elim (cases_eq b a) [
-    | inl same ↦ absurd (no_none (ap (λ (q : Actor). q.slot) (sym hand_a) ∙ ap (λ (q : ℕ). (actor_in actors' q).slot) (sym same) ∙ slot))
+    | inl same ↦ absurd (none-some _ (ap (λ (q : Actor). q.slot) (sym hand_a) ∙ ap (λ (q : ℕ). (actor_in actors' q).slot) (sym same) ∙ slot))
     | inr other ↦
         let was : (actor_in y.actors b).slot ≡ Some t = ap (λ (q : Actor). q.slot) (sym (hand_b b other)) ∙ slot in
         (other, (λ it. other (sound.slots.one_hand b a t was (h.1 ∙ ap Some (sym it)))), was)
@@ -216,7 +207,7 @@ module _ (n calls : ℕ) (y : Yard) (callers : List (Option Caller)) (disk : Med
   stands_then : (t : ℕ) → t ≢ s → SlotStands y.shape y.vault.cells y.vault.dead y.uses y.actors P t → SlotStands y.shape y.vault.cells y.vault.dead y.uses actors' P' t
   stands_then t apart (is_node on_it stage) = is_node (record { there = chain_then (key_word t P) t on_it.there; taken = on_it.taken; key = on_it.key }) (stage_still t stage)
   stands_then t apart (is_held b slot) = elim (cases_eq b a) [
-    | inl same ↦ absurd (apart (some_nat (sym (ap (λ (q : ℕ). (actor_in y.actors q).slot) (sym same) ∙ slot) ∙ h.1)))
+    | inl same ↦ absurd (apart (same_Some _ _ (sym (ap (λ (q : ℕ). (actor_in y.actors q).slot) (sym same) ∙ slot) ∙ h.1)))
     | inr other ↦ is_held b (ap (λ (q : Actor). q.slot) (hand_b b other) ∙ slot)
   ]
   stands_then t apart (is_out b out) = elim (cases_eq b a) [

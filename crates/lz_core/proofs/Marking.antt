@@ -4,6 +4,7 @@ use mathlib.Core.Bool.{false≢true}
 use Rattle.std.specs.Prelude.{unwrap_or}
 use Rattle.std.proofs.lemmas.Bool.{cases_eq}
 use Rattle.std.proofs.lemmas.Bool.Decides.{nat_tests}
+use Rattle.std.proofs.lemmas.Option.{same_Some}
 use Rattle.lz_slot.specs.declared.command.Command.TheVariants.{Add, Remove}
 use Rattle.lz_slot.specs.Counted.{of_pass, set_of_pass}
 use Rattle.lz_slot.specs.Histories.{History}
@@ -74,14 +75,11 @@ module _ (n calls : ℕ) (y : Yard) (callers : List (Option Caller)) (disk : Med
   hand_b : (b : ℕ) → b ≢ a → actor_in actors' b ≡ actor_in y.actors b
   hand_b b other = other_hand n calls y callers disk M P notes a (call_at i (Remove k) at) is sound x b other
 
-  some_same : {r u : ℕ} → Some r ≡ Some u → r ≡ u
-  some_same e = cc
-
   rests : HasClosed y.shape.buckets false (actor_in y.actors a) P
   rests = subst (λ (q : Hold). RestsOn y.shape.buckets q (actor_in y.actors a) P) h.2.0 (sound.locks.rests a)
 
   own_node : rests.node ≡ s
-  own_node = some_same (sym rests.curr ∙ h.0)
+  own_node = same_Some _ _ (sym rests.curr ∙ h.0)
 
   before : IsBefore y.shape.buckets (actor_at y a).pred s P
   before = subst (λ (q : ℕ). IsBefore y.shape.buckets (actor_at y a).pred q P) own_node rests.before
@@ -131,7 +129,7 @@ module _ (n calls : ℕ) (y : Yard) (callers : List (Option Caller)) (disk : Med
   stage_still : (t : ℕ) → t ≢ s → IsNodeStage y.vault.cells y.vault.dead y.actors P t → IsNodeStage y.vault.cells y.vault.dead actors' P' t
   stage_still t apart (inl opened) = inl (mark_other t apart ∙ opened.0, opened.1)
   stage_still t apart (inr (b, closer, shut)) = elim (cases_eq b a) [
-    | inl same ↦ absurd (apart (some_same (sym (ap (λ (q : ℕ). (actor_in y.actors q).curr) (sym same) ∙ closer.node) ∙ h.0)))
+    | inl same ↦ absurd (apart (same_Some _ _ (sym (ap (λ (q : ℕ). (actor_in y.actors q).curr) (sym same) ∙ closer.node) ∙ h.0)))
     | inr other ↦ inr (b, subst (λ (q : Actor). IsCloser y.vault.dead q t) (sym (hand_b b other)) closer, shut)
   ]
 
@@ -185,7 +183,7 @@ module _ (n calls : ℕ) (y : Yard) (callers : List (Option Caller)) (disk : Med
       | inr other ↦ sound.slots.opened b t (sym (slot_still b) ∙ slot) (ap (λ (q : Actor). unlocks q.hold) (sym (hand_b b other)) ∙ is')
     ];
     closed = λ b t here shut. elim (cases_eq b a) [
-      | inl same ↦ subst (λ (q : ℕ). IsGateWritten (stage_in y.vault.cells q)) (some_same (sym h.0 ∙ ap (λ (q : Actor). q.curr) (sym hand_a) ∙ ap (λ (q : ℕ). (actor_in actors' q).curr) (sym same) ∙ here)) written
+      | inl same ↦ subst (λ (q : ℕ). IsGateWritten (stage_in y.vault.cells q)) (same_Some _ _ (sym h.0 ∙ ap (λ (q : Actor). q.curr) (sym hand_a) ∙ ap (λ (q : ℕ). (actor_in actors' q).curr) (sym same) ∙ here)) written
       | inr other ↦ sound.slots.closed b t (ap (λ (q : Actor). q.curr) (sym (hand_b b other)) ∙ here) (ap (λ (q : Actor). shuts q.hold) (sym (hand_b b other)) ∙ shut)
     ];
     added = λ j t key on_it flag. sound.slots.added j t key on_it flag;

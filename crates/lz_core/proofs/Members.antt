@@ -77,6 +77,7 @@ slot_node s (f ∷ es) has = elim (eqb_tells f.1 s) [
   | inr other ↦ let rest = slot_node s es (grind (arith, nat_tests, other.0)) in (rest.0, node_later rest.0 s f es rest.1)
 ]
 
+-- the slot of a chain's node is one of the chain's
 pub node_slot : (k s : ℕ) (es : Chain) → has_node k s es ≡ true → has_slot s es ≡ true
 node_slot k s [] there = absurd (false≢true there)
 node_slot k s (f ∷ es) there = grind (arith, nat_tests, node_slot k s es)

@@ -1,5 +1,5 @@
 -- A yard that was opened over an honest device is that of the text read.
-use Rattle.std.proofs.Common.{◌≡◌, ◌≢◌, ◌≤◌, ◌*◌, take, ◌⊎◌, inl, inr, ⊎_elim, ℕ, zero, suc, ◌+◌, ◌<◌, Bool, true, false, ◌&&◌, ◌||◌, ◌==◌, List, [], ◌∷◌, ◌++◌, length, map, refl, sym, ap, ◌∙◌, subst, arith, length-append, IsTrue}
+use Rattle.std.proofs.Common.{◌≡◌, ◌≢◌, ◌≤◌, ◌*◌, take, ◌⊎◌, inl, inr, ⊎_elim, ℕ, zero, suc, ◌+◌, ◌<◌, Bool, true, false, ◌&&◌, ◌||◌, ◌==◌, List, [], ◌∷◌, ◌++◌, length, map, refl, sym, ap, ◌∙◌, subst, arith, IsTrue}
 use mathlib.Core.Bool.{false≢true}
 use Rattle.std.specs.Prelude.{slice_get, Some, replicate, slice_index_or, if◌then◌else◌}
 use Rattle.std.specs.List.{range_with_len}
@@ -32,13 +32,13 @@ use Rattle.lz_list.proofs.Tables.{length-table}
 use Rattle.lz_core.specs.declared.actor.Actor.{Actor}
 use Rattle.lz_core.specs.Yards.{Yard, Shape, no_cell, cell_read, use_read, slots_read, opened_yard}
 use Rattle.lz_core.specs.Filling.{member_in, member_at, has_node, AreDistinct, AreTables, HasNoTables}
-use Rattle.lz_list.proofs.Absent.{has_insert}
 use Rattle.lz_core.specs.Runs.{IsStart, by_key, keys_found}
 use Rattle.lz_core.proofs.Texts.{text_of, text_size, text_head, text_says, text_bytes}
 use Rattle.lz_core.proofs.FirstNodes.{has_node as node_in, node_has_key, node_held, held_found, key_held}
 use Rattle.lz_core.proofs.Members.{node_cases, node_slot, slot_node, are_found, are_distinct}
 use Rattle.lz_core.proofs.Arranged.{Within, same_words_after}
 use Rattle.lz_core.proofs.Founding.{opened}
+use Rattle.lz_core.proofs.FoundSlots.{read_length, any_key, key_by}
 
 same_node : (k s : ℕ) (c : Chain) → node_in k s c ≡ has_node k s c
 same_node k s [] = refl
@@ -68,17 +68,13 @@ member_says (Member_read j) k is = ap (λ (n : ℕ). Member_read n) (same_Some j
 member_says BadKey_read k is = absurd cc
 
 module _ (t : List ℕ) where
-  read_length : (n : ℕ) → length (slots_read t n) ≡ n
-  read_length zero = refl
-  read_length (suc n) = length-append (slots_read t n) (slot_at t n ∷ []) ∙ omega (arith, read_length n)
-
   read_at : (n i : ℕ) (d : SlotRead) → i < n → slice_index_or (slots_read t n) i d ≡ slot_at t i
   read_at zero i d low = absurd (omega (arith, low))
   read_at (suc n) i d low = elim (cases_eq i n) [
-    | inl last ↦ get_or_push (slots_read t n) (slot_at t n) d i (omega (arith, last, read_length n)) ∙ ap (slot_at t) (sym last)
+    | inl last ↦ get_or_push (slots_read t n) (slot_at t n) d i (omega (arith, last, read_length t n)) ∙ ap (slot_at t) (sym last)
     | inr other ↦
         let before : i < n = omega (arith, low, other) in
-        get_or_append_left (slots_read t n) (slot_at t n ∷ []) d i (omega (arith, before, read_length n)) ∙ read_at n i d before
+        get_or_append_left (slots_read t n) (slot_at t n ∷ []) d i (omega (arith, before, read_length t n)) ∙ read_at n i d before
   ]
 
   held_read : (n k s : ℕ) (r : SlotRead) → slot_at t n ≡ r → has_node k s (held_key r n) ≡ true → (s ≡ n) × (slot_at t s ≡ Member_read k)
@@ -123,8 +119,8 @@ module _ (t : List ℕ) where
         cell_same (slot_at t i) (slice_index_or cells i no_cell) (each i (slice_index_or cells i no_cell) there) (blank i (slice_index_or cells i no_cell) there)
 
     cells_are : cells ≡ map cell_read (slots_read t N)
-    cells_are = ext_get_or no_cell cells (map cell_read (slots_read t N)) (sym (length-map (slots_read t N) cell_read ∙ read_length N))
-        (λ i low. cell_is i low ∙ sym (get_or-map cell_read (slots_read t N) i Closed_read no_cell (omega (arith, low, read_length N)) ∙ ap cell_read (read_at N i Closed_read low)))
+    cells_are = ext_get_or no_cell cells (map cell_read (slots_read t N)) (sym (length-map (slots_read t N) cell_read ∙ read_length t N))
+        (λ i low. cell_is i low ∙ sym (get_or-map cell_read (slots_read t N) i Closed_read no_cell (omega (arith, low, read_length t N)) ∙ ap cell_read (read_at N i Closed_read low)))
 
     member_is : (i k : ℕ) → i < N → member_at cells i ≡ Some k → slot_at t i ≡ Member_read k
     member_is i k low is = member_says (slot_at t i) k (ap member_in (sym (cell_is i low)) ∙ is)
@@ -176,7 +172,7 @@ module _ (t : List ℕ) where
 
     uses_are : allot.uses ≡ map use_read (slots_read t N)
     uses_are = are.uses ∙ ext_get_or Taken (map use_of (range_with_len 0 N)) (map use_read (slots_read t N))
-        (length-map (range_with_len 0 N) use_of ∙ length-range_with_len 0 N ∙ sym (length-map (slots_read t N) use_read ∙ read_length N)) same
+        (length-map (range_with_len 0 N) use_of ∙ length-range_with_len 0 N ∙ sym (length-map (slots_read t N) use_read ∙ read_length t N)) same
       where
         use_of : ℕ → Use
         use_of s = if has_slot s es then Taken else Free
@@ -187,7 +183,7 @@ module _ (t : List ℕ) where
             let plus : 0 + i ≡ i = omega arith in
             get_or-map use_of (range_with_len 0 N) i 0 Taken (omega (arith, low, length-range_with_len 0 N)) ∙ ap use_of (get_or-range_with_len 0 N i 0 low ∙ plus)
             ∙ use_same i low (has_slot i es) refl (slot_at t i) refl
-            ∙ sym (get_or-map use_read (slots_read t N) i Closed_read Taken (omega (arith, low, read_length N)) ∙ ap use_read (read_at N i Closed_read low))
+            ∙ sym (get_or-map use_read (slots_read t N) i Closed_read Taken (omega (arith, low, read_length t N)) ∙ ap use_read (read_at N i Closed_read low))
 
     same_yard : (shape : Shape) (w w' : Words) (l l' : NodeLocks) (v v' : Vaulted) (u u' : List Use) (a a' : List Actor) → w ≡ w' → l ≡ l' → v ≡ v' → u ≡ u' → a ≡ a'
         → ◌≡◌ {A = Yard} (record { shape = shape; words = w; locks = l; vault = v; uses = u; actors = a }) (record { shape = shape; words = w'; locks = l'; vault = v'; uses = u'; actors = a' })
@@ -217,15 +213,6 @@ refused_for before after memory fault opens none = record {
   where
     apart : Memory ≡ DeviceFailed → ⊥
     apart h = absurd cc
-
--- the keys that are listed are those that the text holds
-any_key : (k : ℕ) (F : Chain) → members (map (λ (f : ℕ × ℕ). f.0) F) k ≡ has_key k F
-any_key k [] = refl
-any_key k (f ∷ F) = ap (λ (b : Bool). (f.0 == k) || b) (any_key k F)
-
-key_by : (k : ℕ) (F : Chain) → has_key k (by_key F) ≡ has_key k F
-key_by k [] = refl
-key_by k (f ∷ F) = has_insert k f.0 f.1 (by_key F) ∙ ap (λ (b : Bool). (f.0 == k) || b) (key_by k F)
 
 -- a text that says what distinct cells do holds the set that is listed of it
 pub holds_listed : (t : List ℕ) (N : ℕ) → 1 ≤ N → N ≤ most_slots → length t ≡ 16 + 16 * N → take 16 t ≡ open_byte ∷ header_body N

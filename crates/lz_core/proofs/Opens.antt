@@ -1,5 +1,6 @@
 -- The first open, and each later one, begins a sound life: at a point.
-use Rattle.std.proofs.Common.{◌≡◌, ℕ, ◌≤◌, Bool, true, false, List, [], ◌∷◌, length, refl, sym, ◌∙◌}
+use Rattle.std.proofs.Common.{◌≡◌, ℕ, ◌≤◌, List, [], ◌∷◌, length, refl, ◌∙◌}
+use Rattle.std.specs.Cmp.{both_ways}
 use Rattle.lz_slot.specs.Bytes.{Holds}
 use Rattle.lz_slot.specs.Sets.{Keys, Same, members, after}
 use Rattle.lz_slot.specs.Histories.{History, Life, Runs, Fits, lives}
@@ -15,14 +16,9 @@ use Rattle.lz_core.proofs.FirstState.{first_notes, opened_up}
 pub first_sound : (start : Start) → IsStart start → AreBytes start.text → IsSound start (first_point start)
 first_sound start is bytes = (refl, tt, (length (first_trace start.shape start.text), first_notes start.shape start.text, opened_up start.shape start.text (start_keys start) is.buckets.0 is.text bytes 0))
 
-same_test : (a b : Bool) → (a ≡ true → b ≡ true) → (b ≡ true → a ≡ true) → a ≡ b
-same_test true b to from = sym (to refl)
-same_test false true to from = from refl
-same_test false false to from = refl
-
 -- a text holds one set
 pub one_set : (t : List ℕ) (N : ℕ) (S T : Keys) → Holds t N S → Holds t N T → Same S T
-one_set t N S T one other k = same_test (S k) (T k) (λ has. (other.set k).1 ((one.set k).0 has)) (λ has. (one.set k).1 ((other.set k).0 has))
+one_set t N S T one other k = both_ways (S k) (T k) (λ has. (other.set k).1 ((one.set k).0 has)) (λ has. (one.set k).1 ((other.set k).0 has))
 
 runs_same : (M : History) (S : Keys) (L : List ℕ) (T U : Keys) → Same T U → Runs M S L T → Runs M S L U
 runs_same M S [] T U same h = λ k. h k ∙ same k

@@ -38,6 +38,7 @@ use Rattle.lz_core.proofs.Turning.{moving, moved_same, moved_other, carry, ledge
 use Rattle.lz_core.proofs.Going.{going_keeps, tails_turn}
 use Rattle.lz_core.proofs.Reserving.{free_stands}
 use Rattle.lz_core.proofs.Loading.{call_at, own}
+use Rattle.lz_core.proofs.Using.{free_limbo}
 use mathlib.Core.Bool.{false≢true}
 
 -- at its pin nothing that stood since was prepared anew
@@ -56,12 +57,6 @@ quiet_new buckets P0 (e ∷ Q) le = (kept e, quiet_new buckets P0 Q (omega (arit
     kept (unlinked k s p) = tt
     kept (settled s c) = tt
     kept halted = tt
-
-free_limbo : {u : Use} {sights : List Sight} → u ≡ Limbo sights → u ≡ Free → ⊥
-free_limbo {u} {sights} a b = absurd (clash (sym a ∙ b))
-  where
-    clash : Limbo sights ≡ Free → ⊥
-    clash e = absurd cc
 
 taken_limbo : {u : Use} {sights : List Sight} → u ≡ Limbo sights → u ≡ Taken → ⊥
 taken_limbo {u} {sights} a b = absurd (clash (sym a ∙ b))
@@ -84,7 +79,7 @@ limbo_loose shape cells dead uses actors P s sights h limbo = go (h.each s (omeg
     go (is_node chain stage) = absurd (taken_limbo limbo chain.taken)
     go (is_held b slot) = absurd (taken_limbo limbo (h.hand b s slot).taken)
     go (is_out b out) = absurd (taken_limbo limbo (h.out b s out).taken)
-    go (is_free loose is stage) = absurd (free_limbo limbo is)
+    go (is_free loose is stage) = absurd (free_limbo (sym is ∙ limbo))
     go (is_limbo seen loose is stage) = loose
 
 pub free_loose : (shape : Shape) (cells : List Cell) (dead : Bool) (uses : List Use) (actors : List Actor) (P : Trace) (s : ℕ) → SlotsSound shape cells dead uses actors P → use_of uses s ≡ Free → IsLoose shape.buckets s P

@@ -1,6 +1,5 @@
 -- At a point: a turn, a turn whose device call fails, and a look keep the invariant. What an answer does is taken from where it is proved.
-use Rattle.std.proofs.Common.{◌≡◌, ◌≢◌, inl, inr, ℕ, ◌≤◌, ◌%◌, false, List, [], ◌∷◌, ◌++◌, Option, Some, None, is_some, refl, sym, ◌∙◌, subst, arith}
-use mathlib.Core.Bool.{false≢true}
+use Rattle.std.proofs.Common.{◌≡◌, ◌≢◌, inl, inr, ℕ, ◌≤◌, ◌%◌, List, [], ◌∷◌, ◌++◌, Option, Some, None, refl, sym, ◌∙◌, subst, arith}
 use Rattle.std.proofs.lemmas.Bool.{cases_eq}
 use Rattle.lz_slot.specs.declared.command.Command.{Command}
 use Rattle.lz_slot.specs.declared.history.Mark.{Mark}
@@ -28,6 +27,7 @@ use Rattle.lz_core.proofs.Rested.{pin_after, since_pin, since_out, out_after}
 use Rattle.lz_core.proofs.Turns.{turn_up}
 use Rattle.lz_core.proofs.Faults.{fault_up}
 use Rattle.lz_core.proofs.Sound.{point}
+use Rattle.lz_core.proofs.Callers.{none_of}
 
 -- an answer keeps the invariant of an open service
 abbrev pub AnswerUp : Type 0
@@ -66,7 +66,7 @@ life_marked start p q m [] shape keeps h = absurd h
 life_marked start p q m (life ∷ earlier) shape keeps h = (shape ∙ h.0, h.1, keeps life h.2)
 
 -- the mark of a reply is put onto the newest life
-reply_lives : (S : Keys) (i : ℕ) (reply : Reply) (M : History) → lives S (mark_of i reply ∷ M) ≡ with_mark (mark_of i reply) (lives S M)
+pub reply_lives : (S : Keys) (i : ℕ) (reply : Reply) (M : History) → lives S (mark_of i reply ∷ M) ≡ with_mark (mark_of i reply) (lives S M)
 reply_lives S i Yes M = refl
 reply_lives S i No M = refl
 reply_lives S i (Full counts) M = refl
@@ -133,10 +133,6 @@ turn_keeps answer_up start a service disk M P calls sound may = turn_of start a 
 -- so does a turn whose device call fails
 pub fails_keeps : (start : Start) (a : ℕ) (new : Medium) (service : Service) (disk : Medium) (M : History) (P : Trace) (calls : ℕ) → IsSound start (point (Up service disk) M P calls) → MayStep (Up service disk) (Fails a new) → IsSound start (point_after (point (Up service disk) M P calls) (Fails a new))
 fails_keeps start a new service disk M P calls sound may = fault_of start a service disk M P calls sound new (caller_at service.callers a) refl may
-
-none_of : (caller : Option Caller) → is_some caller ≡ false → caller ≡ None
-none_of None empty = refl
-none_of (Some caller) empty = absurd (false≢true (sym empty))
 
 -- a look of an actor without a call: it goes in, or goes out
 pub look_up : (n calls : ℕ) (y : Yard) (callers : List (Option Caller)) (disk : Medium) (M : History) (P : Trace) (start : Keys) (notes : Notes) (a : ℕ) → 1 ≤ a → a ≤ y.shape.passes → caller_at callers a ≡ None → pin_in y.words.pins a ≢ last_pin

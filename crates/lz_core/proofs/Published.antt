@@ -25,7 +25,7 @@ use Rattle.lz_core.specs.declared.event.Reply.{Reply}
 use Rattle.lz_core.specs.declared.event.Reply.TheVariants.{Yes, No, Full, Worn as SaysWorn, Halted, Device}
 use Rattle.lz_core.specs.declared.actor.Actor.{Actor}
 use Rattle.lz_core.specs.declared.actor.Hold.{Hold}
-use Rattle.lz_core.specs.declared.actor.Hold.TheVariants.{Nothing, Checked, GateClosed, Marked}
+use Rattle.lz_core.specs.declared.actor.Hold.TheVariants.{Nothing, Checked, GateClosed, Marked, Locks, GateOpened, Linked, Unlinked, Released}
 use Rattle.lz_core.specs.declared.caller.Script.{Script}
 use Rattle.lz_core.specs.declared.caller.Script.TheVariants.{Pinning, Resting, Writing, Adding, Removing, Releasing, Halting}
 use Rattle.lz_core.specs.declared.caller.Progress.{Progress}
@@ -33,7 +33,7 @@ use Rattle.lz_core.specs.declared.caller.Progress.TheVariants.{Playing, LoadsHal
 use Rattle.lz_core.specs.Runs.{Caller}
 use Rattle.lz_core.specs.Kept.{upto}
 use Rattle.lz_core.specs.Stands.{IsWalking, WasBetween}
-use Rattle.lz_core.specs.Sound.{IsInside, View, IsWritten, IsAimed, IsBeyond, HasEnded, IsLooking, IsSince, HasMet, RestsYes, RestsNo, IsSettledChange, MayAnswer, HasAdded, HasMarked, MayRest, IsIdle, ReliesWriting, ReliesAdding, ReliesRemoving, ReliesOn, Relies, IsCaller, CallerSound, is_before_pin, side_of}
+use Rattle.lz_core.specs.Sound.{IsInside, View, IsWritten, IsAimed, IsBeyond, HasEnded, IsLooking, IsSince, HasMet, RestsYes, RestsNo, IsSettledChange, MayAnswer, HasAdded, HasMarked, MayRest, IsIdle, ReliesWriting, ReliesAdding, ReliesRemoving, ReliesOn, Relies, IsCaller, CallerSound, is_before_pin, side_of, shuts}
 use Rattle.lz_core.proofs.Growth.{upto_more, yes_stays, no_stays}
 
 pub halt_stays : (e : Publishing) (P : Trace) → halt_word P ≡ 1 → halt_word (e ∷ P) ≡ 1
@@ -51,6 +51,18 @@ relies_on_node GateClosed = true
 relies_on_node Checked = true
 relies_on_node Marked = true
 relies_on_node _ = false
+
+-- an actor that has closed a gate relies on its node, which is on its chain
+pub shut_relies : (hold : Hold) → shuts hold ≡ true → relies_on_node hold ≡ true
+shut_relies GateClosed e = refl
+shut_relies Marked e = refl
+shut_relies Checked e = refl
+shut_relies Nothing e = absurd (false≢true e)
+shut_relies Locks e = absurd (false≢true e)
+shut_relies GateOpened e = absurd (false≢true e)
+shut_relies Linked e = absurd (false≢true e)
+shut_relies Unlinked e = absurd (false≢true e)
+shut_relies Released e = absurd (false≢true e)
 
 module _ (buckets slots : ℕ) (e : Publishing) (P : Trace) (law : Lawful buckets slots (e ∷ P)) where
   -- a node on a chain keeps its key word and its linking

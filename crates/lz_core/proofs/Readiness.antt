@@ -3,6 +3,7 @@ use Rattle.std.proofs.Common.{◌≡◌, ◌≢◌, ◌⊎◌, inl, inr, ℕ, ze
 use mathlib.Core.Bool.{false≢true}
 use Rattle.std.specs.Prelude.{unwrap_or, IsSomeAnd, IfSome}
 use Rattle.std.proofs.lemmas.Bool.Decides.{eqb_tells}
+use Rattle.std.proofs.lemmas.Bool.{not-true}
 use Rattle.lz_slot.specs.declared.command.Command.{Command}
 use Rattle.lz_slot.specs.declared.command.Command.TheVariants.{Add, Remove, Has}
 use Rattle.lz_slot.specs.Histories.{History, Life, lives}
@@ -36,14 +37,16 @@ use Rattle.lz_core.specs.Yards.{Shape, Yard, actor_at, cell_at}
 use Rattle.lz_core.specs.Table.{last_pin, pin_of, needs, is_played_dead, course_alive, course, is_unused, has_stage, may_check, has_checked, has_opened, has_closed, has_marked, may_release, may_retire}
 use Rattle.lz_core.specs.Calls.{event_at, loaded}
 use Rattle.lz_core.specs.Runs.{Start, State, Up, Point, Service, Caller, caller_at, next_event, with_words, first_point, run, start_keys, IsNext, MayPlay}
-use Rattle.lz_core.specs.Sound.{Notes, View, view_of, actor_in, stage_in, closes, opens, has_locks, has_removed_node, HasPlace, HasLock, RestsOn, IsChecked, HasOpened, HasClosed, IsGateClosed, IsHandStage, IsNodeStage, SlotStands, is_node, is_held, is_out, is_free, is_limbo, Relies, Sound, StateSound, PointSound}
+use Rattle.lz_core.specs.Sound.{Notes, View, view_of, actor_in, stage_in, closes, opens, has_locks, has_removed_node, HasPlace, HasLock, RestsOn, IsChecked, HasOpened, HasClosed, IsHandStage, IsNodeStage, SlotStands, is_node, is_held, is_out, is_free, is_limbo, Relies, Sound, StateSound, PointSound}
 use Rattle.lz_core.specs.Ready.{IsEventOf, IsReadyFor, IsReady}
 use Rattle.lz_core.proofs.Turning.{caller_range, mine}
 use Rattle.lz_core.proofs.Halting.{held_node}
 use Rattle.lz_core.proofs.Unlinking.{first_place, node_place}
-use Rattle.lz_core.proofs.Courses.{plays_alive}
+use Rattle.lz_core.proofs.Courses.{plays_alive, refused_plays}
 use Rattle.lz_core.proofs.Showing.{links_are, keeps_key, keeps_link, may_link_at, may_unlink_at, owned_place, is_curr}
 use Rattle.lz_core.proofs.Reaching.{reached_sound}
+use Rattle.lz_core.proofs.GivingBack.{closed_unused}
+use Rattle.lz_core.proofs.Grips.{closer_locks}
 
 -- what the needs say
 both : (p q : Bool) → (p && q) ≡ true → (p ≡ true) × (q ≡ true)
@@ -54,13 +57,6 @@ both false q is = absurd (false≢true is)
 some_of : (slot : Option ℕ) → is_some slot ≡ true → (s : ℕ) × (slot ≡ Some s)
 some_of None is = absurd (false≢true is)
 some_of (Some s) is = (s, refl)
-
-some_same : {r u : ℕ} → Some r ≡ Some u → r ≡ u
-some_same e = cc
-
-flipped : (p : Bool) → not p ≡ true → p ≡ false
-flipped false is = refl
-flipped true is = absurd (false≢true is)
 
 is_checked : (hold : Hold) → has_checked hold ≡ true → hold ≡ Checked
 is_checked Checked is = refl
@@ -139,17 +135,6 @@ release_locks Marked is = refl
 release_locks Nothing is = absurd (false≢true is)
 release_locks Released is = absurd (false≢true is)
 
-closer_locks : (dead : Bool) (hold : Hold) → closes dead hold ≡ true → has_locks hold ≡ true
-closer_locks dead Checked is = refl
-closer_locks dead GateClosed is = refl
-closer_locks dead Marked is = refl
-closer_locks dead Locks is = refl
-closer_locks dead GateOpened is = refl
-closer_locks dead Linked is = refl
-closer_locks dead Unlinked is = refl
-closer_locks dead Nothing is = absurd (false≢true is)
-closer_locks dead Released is = absurd (false≢true is)
-
 -- in a vault that lives only an opened gate is open
 opens_alive : (hold : Hold) → opens false hold ≡ true → has_opened hold ≡ true
 opens_alive GateOpened is = refl
@@ -170,15 +155,7 @@ is_keyed Opening is = absurd (false≢true is)
 is_keyed Open is = absurd (false≢true is)
 is_keyed Closing is = absurd (false≢true is)
 
-unused_closed : (stage : Stage) → IsGateClosed stage → is_unused stage ≡ true
-unused_closed stage (inl closed) = ap is_unused closed
-unused_closed stage (inr (inl loose)) = ap is_unused loose
-unused_closed stage (inr (inr keyed)) = ap is_unused keyed
-
 -- a pin that isn't worn
-refused_plays : {outcome : Outcome} → Refused outcome ≡ Plays → ⊥
-refused_plays e = absurd cc
-
 not_last : (dead may : Bool) (pin : ℕ) (outcome : Outcome) → (if dead && not true then Refused Dead else if may then (if pin == last_pin then Refused outcome else Plays) else Refused NotNow) ≡ Plays → pin ≢ last_pin
 not_last dead false pin outcome plays = absurd (refused_plays (go dead plays))
   where
@@ -232,10 +209,10 @@ module _ (n calls : ℕ) (y : Yard) (callers : List (Option Caller)) (disk : Med
       let two = both (is_some actor.slot) (not (has_opened actor.hold)) has in
       let slot = some_of actor.slot two.0 in
       let hand = sound.slots.hand a slot.0 slot.1 in
-      (slot.0, slot.1, (hand.in_range, unused slot.0 hand.stage (flipped (has_opened actor.hold) two.1), keeps_key y.shape y.words P sound.trace sound.images.slots.1 w heads links keys slot.0 k hand.loose))
+      (slot.0, slot.1, (hand.in_range, unused slot.0 hand.stage (not-true (has_opened actor.hold) two.1), keeps_key y.shape y.words P sound.trace sound.images.slots.1 w heads links keys slot.0 k hand.loose))
     where
       unused : (s : ℕ) → IsHandStage y.vault.cells y.vault.dead actor P s → has_opened actor.hold ≡ false → is_unused (stage_in y.vault.cells s) ≡ true
-      unused s (inl closed) shut = unused_closed (stage_in y.vault.cells s) closed
+      unused s (inl closed) shut = closed_unused (stage_in y.vault.cells s) closed
       unused s (inr opened) shut = absurd (false≢true (sym shut ∙ opens_alive actor.hold (ap (λ (q : Bool). opens q actor.hold) (sym (plays_alive z a (WriteKey k) refl plays)) ∙ opened.0)))
 
   ready_check : Follows Check

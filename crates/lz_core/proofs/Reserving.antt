@@ -39,7 +39,8 @@ use Rattle.lz_core.proofs.Loading.{call_at, own, goes_on_keeps}
 use Rattle.lz_core.proofs.Hands.{range, same_hand, other_hand, hands_keep}
 use Rattle.lz_core.proofs.Grips.{fresh_grip}
 use Rattle.std.proofs.lemmas.List.Quantifiers.{position-Some}
-use Rattle.lz_core.proofs.Using.{KeepsUses, slots_uses, seen_keeps, seen_reuse, collect_keeps, collect_reuse}
+use Rattle.std.proofs.lemmas.Option.{same_Some, none-some}
+use Rattle.lz_core.proofs.Using.{KeepsUses, slots_uses, seen_keeps, seen_reuse, collect_keeps, collect_reuse, free_limbo}
 
 -- the yard with other uses
 abbrev pub with_uses : Yard → List Use → Yard
@@ -85,12 +86,6 @@ free_taken a b = absurd (clash (sym a ∙ b))
     clash : Free ≡ Taken → ⊥
     clash e = absurd cc
 
-free_limbo : {u : Use} {sights : List Sight} → u ≡ Free → u ≡ Limbo sights → ⊥
-free_limbo {u} {sights} a b = absurd (clash (sym a ∙ b))
-  where
-    clash : Free ≡ Limbo sights → ⊥
-    clash e = absurd cc
-
 -- a free slot is on no chain, and its gate is surely closed
 pub free_stands : (shape : Shape) (cells : List Cell) (dead : Bool) (uses : List Use) (actors : List Actor) (P : Trace) (s : ℕ) → SlotsSound shape cells dead uses actors P → s < shape.slots → use_of uses s ≡ Free → IsLoose shape.buckets s P × IsGateClosed (stage_in cells s)
 free_stands shape cells dead uses actors P s h lt free = go (h.each s lt)
@@ -100,7 +95,7 @@ free_stands shape cells dead uses actors P s h lt free = go (h.each s lt)
     go (is_held b slot) = absurd (free_taken free (h.hand b s slot).taken)
     go (is_out b out) = absurd (free_taken free (h.out b s out).taken)
     go (is_free loose is stage) = (loose, stage)
-    go (is_limbo sights loose limbo stage) = absurd (free_limbo free limbo)
+    go (is_limbo sights loose limbo stage) = absurd (free_limbo (sym free ∙ limbo))
 
 -- an actor with nothing in hand takes a free slot
 module _ (n calls : ℕ) (y : Yard) (callers : List (Option Caller)) (disk : Medium) (M : History) (P : Trace) (notes : Notes) (a i : ℕ) (c : Command) (at : Progress) (is : caller_at callers a ≡ Some (call_at i c at)) (sound : Sound n calls y callers disk M P notes) (s : ℕ) (lt : s < length y.uses) (free : use_of y.uses s ≡ Free) (nothing : (actor_at y a).hold ≡ Nothing) (no_slot : (actor_at y a).slot ≡ None) where
@@ -122,15 +117,9 @@ module _ (n calls : ℕ) (y : Yard) (callers : List (Option Caller)) (disk : Med
   in_it : s < y.shape.slots
   in_it = omega (arith, lt, sound.slots.count)
 
-  no_none : {r : ℕ} → None ≡ Some r → ⊥
-  no_none e = absurd cc
-
-  some_slot : {r u : ℕ} → Some r ≡ Some u → r ≡ u
-  some_slot e = cc
-
   -- what the actor had of a slot before
   none_held : (t : ℕ) → (actor_in y.actors a).slot ≡ Some t → ⊥
-  none_held t h = no_none (sym no_slot ∙ h)
+  none_held t h = none-some _ (sym no_slot ∙ h)
 
   none_out : (t : ℕ) → IsOut (actor_in y.actors a) t → ⊥
   none_out t h = false≢true (ap has_removed_node (sym nothing) ∙ h.removed)
@@ -141,7 +130,7 @@ module _ (n calls : ℕ) (y : Yard) (callers : List (Option Caller)) (disk : Med
   -- each slot in a hand, after it: the one that was taken, or one of before
   held_then : (b t : ℕ) → (actor_in actors' b).slot ≡ Some t → ((b ≡ a) × (t ≡ s)) ⊎ ((b ≢ a) × (t ≢ s) × ((actor_in y.actors b).slot ≡ Some t))
   held_then b t h = elim (cases_eq b a) [
-    | inl same ↦ inl (same, some_slot (sym h ∙ ap (λ (q : ℕ). (actor_in actors' q).slot) same ∙ ap (λ (q : Actor). q.slot) hand_a))
+    | inl same ↦ inl (same, same_Some _ _ (sym h ∙ ap (λ (q : ℕ). (actor_in actors' q).slot) same ∙ ap (λ (q : Actor). q.slot) hand_a))
     | inr other ↦
         let was : (actor_in y.actors b).slot ≡ Some t = ap (λ (q : Actor). q.slot) (sym (hand_b b other)) ∙ h in
         inr (other, (λ it. free_taken free (ap (use_of y.uses) (sym it) ∙ (sound.slots.hand b t was).taken)), was)

@@ -1,6 +1,7 @@
 -- A call that was made after another one's answer has pinned after it, after each turn, look and pin too. And the life began as before.
 use Rattle.std.proofs.Common.{◌≡◌, ◌≢◌, ◌⊎◌, ⊎_elim, inl, inr, ℕ, ◌<◌, ◌≤◌, Bool, true, false, List, [], ◌∷◌, ◌++◌, length, Option, Some, None, refl, sym, ap, ◌∙◌, subst, arith}
 use Rattle.std.proofs.lemmas.Bool.{cases_Bool, cases_eq}
+use Rattle.std.proofs.lemmas.Option.{same_Some, none-some}
 use Rattle.lz_slot.specs.Sets.{Keys}
 use Rattle.lz_slot.specs.Counted.{set_of_pass}
 use Rattle.lz_slot.specs.Histories.{History, IsAnswered, IsBefore}
@@ -11,29 +12,17 @@ use Rattle.lz_core.specs.Runs.{Caller, caller_at}
 use Rattle.lz_core.specs.Ledgers.{Row, HasRow}
 use Rattle.lz_core.specs.Kept.{upto, IsRowOf}
 use Rattle.lz_core.specs.Sound.{Notes, entries, pin_in, IsInside, LedgerSound, HasBegun, IsAfter}
-use Rattle.lz_core.proofs.Fits.{each_has}
+use Rattle.lz_core.proofs.Fits.{each_has, was_answered}
 use Rattle.lz_core.proofs.Growth.{upto_more}
 use Rattle.lz_core.proofs.Turning.{moving, moved_same, moved_other, same_entries}
 use Rattle.lz_core.proofs.Changing.{IsInserted, changes_at, row_of, inserted_entry}
 use Rattle.lz_core.proofs.Pinning.{begins_now, begun_same, begun_other}
 
--- a call that was answered before another one was made was answered
-pub answered_before : (M : History) (i j : ℕ) → IsBefore M i j → (answer : Bool) × IsAnswered M i answer
-answered_before [] i j h = absurd h
-answered_before (m ∷ M) i j (inl h) = (h.2, inr h.4)
-answered_before (m ∷ M) i j (inr h) = let told = answered_before M i j h in (told.0, inr told.1)
-
-some_caller : {x y : Caller} → Some x ≡ Some y → x ≡ y
-some_caller e = cc
-
-none_caller : {x : Caller} → None ≡ Some x → ⊥
-none_caller e = absurd cc
-
 -- an open call after a turn is one of before, with its number
 pub number_still : (callers : List (Option Caller)) (a : ℕ) (caller : Caller) (at : caller_at callers a ≡ Some caller) (next : Progress) (b : ℕ) (one : Caller) → caller_at (moving callers a caller next) b ≡ Some one → (old : Caller) × (caller_at callers b ≡ Some old) × (old.number ≡ one.number)
 number_still callers a caller at next b one is = elim (cases_eq b a) [
   | inl same ↦
-      let new = some_caller (sym (moved_same callers a caller at next) ∙ ap (caller_at (moving callers a caller next)) (sym same) ∙ is) in
+      let new = same_Some _ _ (sym (moved_same callers a caller at next) ∙ ap (caller_at (moving callers a caller next)) (sym same) ∙ is) in
       (caller, ap (caller_at callers) same ∙ at, ap (λ (q : Caller). q.number) new)
   | inr other ↦ (one, sym (moved_other callers a caller at next b other) ∙ is, refl)
 ]
@@ -50,7 +39,7 @@ turn_after pins pins' callers a caller at next rows rows' M begun same adds h = 
       let old = number_still callers a caller at next b one at_b in
       ⊎_elim
       (λ there. h.each b old.0 r old.1 (subst (λ (q : List ℕ). IsInside (pin_in q b)) same inside) there (subst (λ (q : ℕ). IsBefore M r.number q) (sym old.2) before))
-      (λ none. let told = answered_before M r.number one.number before in absurd (none told.0 told.1))
+      (λ none. let told = was_answered r.number one.number M before in absurd (none told.0 told.1))
       (adds r has);
 }
 
@@ -125,7 +114,7 @@ pub out_after : (pins : List ℕ) (a v : ℕ) (callers : List (Option Caller)) (
     → IsAfter pins callers rows M begun → IsAfter (set_of_pass pins a v) callers rows M begun
 out_after pins a v callers rows M begun none h = record {
   each = λ b one r at_b inside has before. elim (cases_eq b a) [
-    | inl me ↦ absurd (none_caller (sym none ∙ ap (caller_at callers) (sym me) ∙ at_b))
+    | inl me ↦ absurd (none-some _ (sym none ∙ ap (caller_at callers) (sym me) ∙ at_b))
     | inr other ↦ h.each b one r at_b (subst IsInside (of_pass_other pins a b v 0 other) inside) has before
   ];
 }

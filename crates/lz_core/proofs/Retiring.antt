@@ -1,9 +1,10 @@
 -- Retire keeps the invariant: the slot goes to limbo, and no pass has been seen since.
-use Rattle.std.proofs.Common.{◌≡◌, ◌≢◌, ◌⊎◌, inl, inr, ℕ, zero, suc, ◌<◌, ◌≤◌, List, length, replicate, get_or, Option, Some, None, refl, sym, ap, ◌∙◌, subst, arith, get_or-set_other, get_or-set_same, length-set}
+use Rattle.std.proofs.Common.{◌≡◌, ◌≢◌, ◌⊎◌, inl, inr, ℕ, zero, suc, ◌<◌, ◌≤◌, List, length, replicate, get_or, Option, Some, refl, sym, ap, ◌∙◌, subst, arith, get_or-set_other, get_or-set_same, length-set}
 use mathlib.Core.Bool.{false≢true}
 use Rattle.std.specs.Prelude.{unwrap_or}
 use Rattle.std.proofs.lemmas.Bool.{cases_eq, cases_lt}
 use Rattle.std.proofs.lemmas.List.{get_or-replicate, length-replicate}
+use Rattle.std.proofs.lemmas.Option.{same_Some, none-some}
 use Rattle.lz_slot.specs.declared.command.Command.TheVariants.{Remove}
 use Rattle.lz_slot.specs.Counted.{of_pass, set_of_pass}
 use Rattle.lz_slot.specs.Histories.{History}
@@ -11,7 +12,7 @@ use Rattle.lz_slot.proofs.Counted.{length-set_of_pass}
 use Rattle.lz_disk.specs.Images.{Medium}
 use Rattle.lz_allot.specs.declared.sight.Sight.{Sight}
 use Rattle.lz_allot.specs.declared.sight.Sight.TheVariants.{Unseen, Inside, Left}
-use Rattle.lz_allot.specs.Uses.{Use, Free, Taken, Limbo, use_of, retire}
+use Rattle.lz_allot.specs.Uses.{Use, Taken, Limbo, use_of, retire}
 use Rattle.lz_list.specs.Traces.{Trace}
 use Rattle.lz_core.specs.declared.event.Event.TheVariants.{Retire}
 use Rattle.lz_core.specs.declared.event.Outcome.TheVariants.{Done}
@@ -32,7 +33,7 @@ use Rattle.lz_core.proofs.Going.{in_passes, tails_turn}
 use Rattle.lz_core.proofs.Locking.{held_locks}
 use Rattle.lz_core.proofs.Loading.{call_at, own}
 use Rattle.lz_core.proofs.Hands.{same_hand, other_hand}
-use Rattle.lz_core.proofs.Using.{inside_range}
+use Rattle.lz_core.proofs.Using.{inside_range, limbo_same, free_limbo}
 
 module _ (n calls : ℕ) (y : Yard) (callers : List (Option Caller)) (disk : Medium) (M : History) (P : Trace) (notes : Notes) (sound : Sound n calls y callers disk M P notes) (a i k s : ℕ) (is : caller_at callers a ≡ Some (call_at i (Remove k) (Playing (Removing s) 6))) where
   abbrev at : Progress
@@ -87,12 +88,6 @@ module _ (n calls : ℕ) (y : Yard) (callers : List (Option Caller)) (disk : Med
         ((λ it. other (sound.slots.one_out b a t was (subst (IsOut (actor_in y.actors a)) (sym it) out_a))), was)
   ]
 
-  some_none : {r : ℕ} → Some r ≡ None → ⊥
-  some_none e = absurd cc
-
-  some_same : {r u : ℕ} → Some r ≡ Some u → r ≡ u
-  some_same e = cc
-
   stage_still : (t : ℕ) → IsNodeStage y.vault.cells y.vault.dead y.actors P t → IsNodeStage y.vault.cells y.vault.dead actors' P t
   stage_still t (inl opened) = inl opened
   stage_still t (inr (b, closer, written)) = elim (cases_eq b a) [
@@ -110,7 +105,7 @@ module _ (n calls : ℕ) (y : Yard) (callers : List (Option Caller)) (disk : Med
   stands_then t apart (is_node chain stage) = is_node (record { there = chain.there; taken = use_other t apart ∙ chain.taken; key = chain.key }) (stage_still t stage)
   stands_then t apart (is_held b slot) = is_held b (slot_still b ∙ slot)
   stands_then t apart (is_out b out) = elim (cases_eq b a) [
-    | inl same ↦ absurd (apart (some_same (sym (ap (λ (q : ℕ). (actor_in y.actors q).curr) (sym same) ∙ out.node) ∙ h.0)))
+    | inl same ↦ absurd (apart (same_Some _ _ (sym (ap (λ (q : ℕ). (actor_in y.actors q).curr) (sym same) ∙ out.node) ∙ h.0)))
     | inr other ↦ is_out b (subst (λ (q : Actor). IsOut q t) (sym (hand_b b other)) out)
   ]
   stands_then t apart (is_free loose is' stage) = is_free loose (use_other t apart ∙ is') stage
@@ -152,12 +147,6 @@ module _ (n calls : ℕ) (y : Yard) (callers : List (Option Caller)) (disk : Med
         | inr other ↦ inr (ap (λ (q : Actor). opens y.vault.dead q.hold) (hand_b b other) ∙ opened.0, opened.1, opened.2)
       ]
 
-  limbo_same : {u v : List Sight} → Limbo u ≡ Limbo v → u ≡ v
-  limbo_same e = cc
-
-  limbo_free : {u : List Sight} → Limbo u ≡ Free → ⊥
-  limbo_free e = absurd cc
-
   -- no pass has been seen yet
   unseen : (b m : ℕ) → (of_pass (replicate m Unseen) b Left ≡ Unseen) ⊎ (((1 ≤ b) × (b ≤ m)) → ⊥)
   unseen zero m = inr (λ r. omega (arith, r.0))
@@ -188,7 +177,7 @@ module _ (n calls : ℕ) (y : Yard) (callers : List (Option Caller)) (disk : Med
       | inr other ↦ sound.reuse.seen b t seen (sym (use_other t other) ∙ limbo)
     ];
     free = λ b t free inside. elim (cases_eq t s) [
-      | inl same ↦ absurd (limbo_free (sym use_same ∙ ap (use_of uses') (sym same) ∙ free))
+      | inl same ↦ absurd (free_limbo (sym (sym use_same ∙ ap (use_of uses') (sym same) ∙ free)))
       | inr other ↦ sound.reuse.free b t (sym (use_other t other) ∙ free) inside
     ];
     reserved = λ b d t slot inside. sound.reuse.reserved b d t (held_then d t slot).1 inside;
@@ -227,6 +216,6 @@ module _ (n calls : ℕ) (y : Yard) (callers : List (Option Caller)) (disk : Med
             sound.callers;
         reuse = retired_reuse;
         ledger = ledger_turn callers a (call_at i (Remove k) at) is (Answering Yes) n calls y.shape.passes P M notes sound.ledger;
-        tails = tails_turn callers a (call_at i (Remove k) at) is (Answering Yes) y.shape.passes notes (in_passes n calls y callers disk M P notes a (call_at i (Remove k) at) is sound) (λ none is. absurd (some_none (sym h.2.1.is ∙ none))) y.shape y.vault.cells y.actors actors' P M slot_still sound.tails;
+        tails = tails_turn callers a (call_at i (Remove k) at) is (Answering Yes) y.shape.passes notes (in_passes n calls y callers disk M P notes a (call_at i (Remove k) at) is sound) (λ none is. absurd (none-some _ (sym (sym h.2.1.is ∙ none)))) y.shape y.vault.cells y.actors actors' P M slot_still sound.tails;
       } in
       subst (λ (q : ℕ). Sound n calls (record { shape = y.shape; words = y.words; locks = y.locks; vault = y.vault; uses = retire y.shape.passes y.uses q; actors = actors' }) (moving callers a (call_at i (Remove k) at) (Answering Yes)) disk M P notes) (sym (ap (λ (q : Option ℕ). unwrap_or q 0) h.0)) done

@@ -1,8 +1,9 @@
 -- Settle keeps the invariant: of an adder, of a remover, and of a call that rests on a node; also where it comes early.
-use Rattle.std.proofs.Common.{◌≡◌, ◌≢◌, ◌⊎◌, inl, inr, ℕ, suc, ◌<◌, Bool, true, false, List, [], ◌∷◌, ◌++◌, Option, Some, None, refl, sym, ap, ◌∙◌, subst, arith}
+use Rattle.std.proofs.Common.{◌≡◌, ◌≢◌, ◌⊎◌, inl, inr, ℕ, suc, ◌<◌, Bool, true, false, List, [], ◌∷◌, ◌++◌, Option, Some, refl, sym, ap, ◌∙◌, subst, arith}
 use mathlib.Core.Bool.{false≢true}
 use Rattle.std.proofs.lemmas.Bool.{cases_Bool}
 use Rattle.std.proofs.lemmas.Bool.Decides.{eqb_tells}
+use Rattle.std.proofs.lemmas.Option.{same_Some, none-some}
 use Rattle.lz_slot.specs.declared.command.Command.{Command}
 use Rattle.lz_slot.specs.declared.command.Command.TheVariants.{Add, Remove, Has}
 use Rattle.lz_slot.specs.Histories.{History}
@@ -112,9 +113,6 @@ module _ (n calls : ℕ) (y : Yard) (callers : List (Option Caller)) (disk : Med
   marked_change sure mark (inl (chain, inl stage)) = absurd (false≢true (sym stage.0 ∙ mark))
   marked_change sure mark (inl (chain, inr stage)) = written_sure (stage_in y.vault.cells s) stage.2 sure
 
-  some_none : {r : ℕ} → Some r ≡ None → ⊥
-  some_none e = absurd cc
-
   -- a turn that settles this change
   settles : (i : ℕ) (c : Command) (at next : Progress) → caller_at callers a ≡ Some (call_at i c at) → is_before_pin at ≡ false → KeepsTail (notes.changed a) at next
       → (lt : s < y.shape.slots) → ((b t : ℕ) → (actor_in y.actors b).slot ≡ Some t → t ≢ s) → (change : Change) → Allows change (stage_in y.vault.cells s)
@@ -146,7 +144,7 @@ module _ (n calls : ℕ) (y : Yard) (callers : List (Option Caller)) (disk : Med
         let h = (own n calls y callers disk M P notes a i (Add k) (Playing (Adding s) 4) is sound).stands.2 in
         let lt = stood_range y.shape.buckets y.shape.slots (notes.begun a) P (bucket_of y.shape.buckets k) s sound.trace.lawful h.1.stood in
         let change = change_of sure (stood_stands n calls y callers disk M P notes sound a s (bucket_of y.shape.buckets k) inside h.1.stood lt) in
-        subst (then i (Add k) (Playing (Adding s) 4)) (sym (outcome_sure sure)) (settles i (Add k) (Playing (Adding s) 4) (Answering Yes) is refl (λ none may. absurd (some_none (sym h.1.is ∙ none))) lt (hands_apart inside (bucket_of y.shape.buckets k) h.1.stood) change.0 change.1
+        subst (then i (Add k) (Playing (Adding s) 4)) (sym (outcome_sure sure)) (settles i (Add k) (Playing (Adding s) 4) (Answering Yes) is refl (λ none may. absurd (none-some _ (sym (sym h.1.is ∙ none)))) lt (hands_apart inside (bucket_of y.shape.buckets k) h.1.stood) change.0 change.1
         (record { relies = (added_settled k change.0 h.1, inl h.0); inside = refl }))
     | inr loose ↦
         let h = (own n calls y callers disk M P notes a i (Add k) (Playing (Adding s) 4) is sound).stands.2 in
@@ -184,11 +182,8 @@ module _ (n calls : ℕ) (y : Yard) (callers : List (Option Caller)) (disk : Med
       rests : HasClosed y.shape.buckets true (actor_in y.actors a) P
       rests = subst (λ (q : Hold). RestsOn y.shape.buckets q (actor_in y.actors a) P) h.2.0 (sound.locks.rests a)
 
-      some_same : {r u : ℕ} → Some r ≡ Some u → r ≡ u
-      some_same e = cc
-
       mark : is_marked s P ≡ true
-      mark = ap (λ (q : ℕ). is_marked q P) (some_same (sym h.0 ∙ rests.curr)) ∙ rests.marked
+      mark = ap (λ (q : ℕ). is_marked q P) (same_Some _ _ (sym h.0 ∙ rests.curr)) ∙ rests.marked
 
       there : on 0 (chain_of y.shape.buckets (key_word s P) P) (suc s) ≡ true
       there = held_node y.shape P Marked (actor_in y.actors a) sound.trace.lawful rests s h.0 refl

@@ -75,7 +75,8 @@ written_before KeyLoose (inr e) = absurd cc
 written_before Keyed (inl e) = absurd cc
 written_before Keyed (inr e) = absurd cc
 
-not_opening : (stage : Stage) → stage_synced stage ≢ Opening
+-- after a sync nothing is being opened
+pub not_opening : (stage : Stage) → stage_synced stage ≢ Opening
 not_opening Closed e = absurd cc
 not_opening KeyLoose e = absurd cc
 not_opening Keyed e = absurd cc

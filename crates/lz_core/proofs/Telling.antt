@@ -1,8 +1,9 @@
 -- The marks of a run: the open calls of the history are those of the callers.
-use Rattle.std.proofs.Common.{◌≡◌, ◌≢◌, ⊎_elim, inl, inr, ℕ, suc, ◌≤◌, Bool, true, false, List, [], ◌∷◌, ◌++◌, length, Option, Some, None, is_some, refl, sym, ap, ◌∙◌, subst, arith}
+use Rattle.std.proofs.Common.{◌≡◌, ◌≢◌, ⊎_elim, inl, inr, ℕ, suc, ◌≤◌, Bool, true, false, List, [], ◌∷◌, ◌++◌, length, Option, Some, None, refl, sym, ap, ◌∙◌, subst, arith}
 use mathlib.Core.Bool.{false≢true}
 use Rattle.std.proofs.lemmas.Bool.{cases_eq}
 use Rattle.std.proofs.lemmas.List.{length-replicate}
+use Rattle.std.proofs.lemmas.Option.{same_Some, none-some}
 use Rattle.lz_slot.specs.declared.command.Command.{Command}
 use Rattle.lz_slot.specs.declared.history.Mark.{Mark}
 use Rattle.lz_slot.specs.declared.history.Mark.TheVariants.{Call, Answer, Refused, Cut, Stop, Crash, Opened, OpenFailed}
@@ -10,23 +11,18 @@ use Rattle.lz_slot.specs.Counted.{set_of_pass}
 use Rattle.lz_slot.specs.Histories.{History, IsCalled}
 use Rattle.lz_slot.proofs.Counted.{of_pass_same, of_pass_other, length-set_of_pass}
 use Rattle.lz_disk.specs.Images.{Medium}
-use Rattle.lz_vault.specs.Vaults.{MayFail}
-use Rattle.lz_core.specs.declared.course.Course.{Course}
-use Rattle.lz_core.specs.declared.course.Course.TheVariants.{Refused as NotPlayed, Dies, Plays}
-use Rattle.lz_core.specs.declared.event.Event.TheVariants.{Answer as AnswerIt}
 use Rattle.lz_core.specs.declared.event.Outcome.{Outcome}
 use Rattle.lz_core.specs.declared.event.Reply.{Reply}
 use Rattle.lz_core.specs.declared.event.Reply.TheVariants.{Yes, No, Full, Worn, Halted, Device}
-use Rattle.lz_core.specs.declared.caller.Progress.{Progress}
-use Rattle.lz_core.specs.declared.caller.Progress.TheVariants.{Playing, LoadsHalt, Walking, Reserving, SeeingPins, Claiming, Checking, Answering}
 use Rattle.lz_core.specs.Yards.{Yard, Shape, actor_at}
-use Rattle.lz_core.specs.Table.{course, call_on, line, line_failed}
-use Rattle.lz_core.specs.Calls.{progress_after, event_at, loaded}
+use Rattle.lz_core.specs.Table.{course, line, line_failed}
+use Rattle.lz_core.specs.Calls.{progress_after}
 use Rattle.lz_core.specs.Runs.{Caller, Service, State, Up, Down, Start, Step, Calls, Turn, Fails, Looks, Trips, Stops, Crashes, CrashesIn, Opens, OpenFails, caller_at, next_event, reply_at, moved_on, after_turn, after_fault, opened_service, state_after, HasTurn, HasFault, MayStep, IsActor, mark_of, mark_of_turn, marks_of_turn, marks_of, calls_after, run, IsRun, first_point}
 use Rattle.lz_core.specs.Marks.{IsOpenCall, MayFollow, IsTold, MarksTell}
 use Rattle.lz_core.proofs.Turning.{caller_range}
 use Rattle.lz_core.proofs.Shapes.{line_keeps_shape}
 use Rattle.lz_core.proofs.FirstState.{pass_of}
+use Rattle.lz_core.proofs.Callers.{none_of, fault_no_reply}
 
 abbrev is_call : Mark → Bool
 is_call (Call i a c) = true
@@ -67,12 +63,6 @@ record Tells (calls : ℕ) (w : State) (M : History) : Type 0 where
   told : IsTold M
   numbered : (i : ℕ) (c : Command) → IsCalled M i c → i ≤ calls
   open_calls : OpenCalls w M
-
-none_some : {x : Caller} → None ≡ Some x → ⊥
-none_some e = absurd cc
-
-same_some : {x y : Caller} → Some x ≡ Some y → x ≡ y
-same_some e = cc
 
 -- a reply ends its call, and leaves the others
 ends_open : (M : History) (i j a : ℕ) (reply : Reply) → IsOpenCall (mark_of i reply ∷ M) j a → (i ≢ j) × IsOpenCall M j a
@@ -119,13 +109,13 @@ module _ (callers : List (Option Caller)) (M : History) (old : AreOpen callers M
   call_opens : (i : ℕ) (c : Command) (new : Caller) → new.number ≡ i → ((j b : ℕ) → IsOpenCall M j b → j ≢ i) → caller_at callers a ≡ None → AreOpen (set_of_pass callers a (Some new)) (Call i a c ∷ M)
   call_opens i c new number fresh none = record {
     has = λ b caller at. elim (cases_eq b a) [
-      | inl same ↦ inl (sym number ∙ ap (λ (q : Caller). q.number) (same_some (sym (here (Some new) b same) ∙ at)), sym same)
+      | inl same ↦ inl (sym number ∙ ap (λ (q : Caller). q.number) (same_Some _ _ (sym (here (Some new) b same) ∙ at)), sym same)
       | inr other ↦ inr (old.has b caller (sym (away (Some new) b other) ∙ at))
     ];
     only = λ b j is. ⊎_elim
         (λ now. (new, here (Some new) b (sym now.1), number ∙ now.0))
         (λ before. elim (cases_eq b a) [
-          | inl same ↦ let was = old.only b j before in absurd (none_some (sym none ∙ ap (caller_at callers) (sym same) ∙ was.1))
+          | inl same ↦ let was = old.only b j before in absurd (none-some _ (sym none ∙ ap (caller_at callers) (sym same) ∙ was.1))
           | inr other ↦ let was = old.only b j before in (was.0, away (Some new) b other ∙ was.1, was.2)
         ])
         is;
@@ -144,14 +134,14 @@ module _ (callers : List (Option Caller)) (M : History) (old : AreOpen callers M
     goes_open new number = record {
       has = λ b one is. elim (cases_eq b a) [
         | inl same ↦
-            let number_now : caller.number ≡ one.number = sym number ∙ ap (λ (q : Caller). q.number) (same_some (sym (here (Some new) b same) ∙ is)) in
+            let number_now : caller.number ≡ one.number = sym number ∙ ap (λ (q : Caller). q.number) (same_Some _ _ (sym (here (Some new) b same) ∙ is)) in
             subst (λ (j : ℕ). IsOpenCall M j b) number_now (old.has b caller (ap (caller_at callers) same ∙ at))
         | inr other ↦ old.has b one (sym (away (Some new) b other) ∙ is)
       ];
       only = λ b j is.
           let was = old.only b j is in
           elim (cases_eq b a) [
-            | inl same ↦ (new, here (Some new) b same, number ∙ ap (λ (q : Caller). q.number) (same_some (sym at ∙ ap (caller_at callers) (sym same) ∙ was.1)) ∙ was.2)
+            | inl same ↦ (new, here (Some new) b same, number ∙ ap (λ (q : Caller). q.number) (same_Some _ _ (sym at ∙ ap (caller_at callers) (sym same) ∙ was.1)) ∙ was.2)
             | inr other ↦ (was.0, away (Some new) b other ∙ was.1, was.2)
           ];
       apart = old.apart;
@@ -161,7 +151,7 @@ module _ (callers : List (Option Caller)) (M : History) (old : AreOpen callers M
     reply_closes : (reply : Reply) → AreOpen (set_of_pass callers a None) (mark_of caller.number reply ∷ M)
     reply_closes reply = record {
       has = λ b one is. elim (cases_eq b a) [
-        | inl same ↦ absurd (none_some (sym (here None b same) ∙ is))
+        | inl same ↦ absurd (none-some _ (sym (here None b same) ∙ is))
         | inr other ↦
             let before = old.has b one (sym (away None b other) ∙ is) in
             stays_open M caller.number one.number b reply
@@ -172,32 +162,11 @@ module _ (callers : List (Option Caller)) (M : History) (old : AreOpen callers M
           let left = ends_open M caller.number j b reply is in
           let was = old.only b j left.1 in
           elim (cases_eq b a) [
-            | inl same ↦ absurd (left.0 (ap (λ (q : Caller). q.number) (same_some (sym at ∙ ap (caller_at callers) (sym same) ∙ was.1)) ∙ was.2))
+            | inl same ↦ absurd (left.0 (ap (λ (q : Caller). q.number) (same_Some _ _ (sym at ∙ ap (caller_at callers) (sym same) ∙ was.1)) ∙ was.2))
             | inr other ↦ (was.0, away None b other ∙ was.1, was.2)
           ];
       apart = λ b d j one other. old.apart b d j (ends_open M caller.number j b reply one).1 (ends_open M caller.number j d reply other).1;
     }
-
-none_of : (caller : Option Caller) → is_some caller ≡ false → caller ≡ None
-none_of None empty = refl
-none_of (Some caller) empty = absurd (false≢true (sym empty))
-
--- an answer makes no device call, so that none fails in it
-answer_calls_nothing : (k : Course) (y : Yard) (a : ℕ) (disk new : Medium) → MayFail (call_on k y (actor_at y a) AnswerIt) disk new → ⊥
-answer_calls_nothing Plays y a disk new h = h
-answer_calls_nothing Dies y a disk new h = h
-answer_calls_nothing (NotPlayed outcome) y a disk new h = h
-
-fault_no_reply : (y : Yard) (a : ℕ) (c : Command) (at : Progress) (disk new : Medium)
-    → MayFail (call_on (course y a (loaded y.words (event_at y.shape c at))) y (actor_at y a) (loaded y.words (event_at y.shape c at))) disk new → reply_at at ≡ None
-fault_no_reply y a c (Playing script i) disk new h = refl
-fault_no_reply y a c LoadsHalt disk new h = refl
-fault_no_reply y a c (Walking aim look) disk new h = refl
-fault_no_reply y a c (Reserving again) disk new h = refl
-fault_no_reply y a c (SeeingPins p) disk new h = refl
-fault_no_reply y a c (Claiming aim pred curr) disk new h = refl
-fault_no_reply y a c (Checking aim curr) disk new h = refl
-fault_no_reply y a c (Answering reply) disk new h = absurd (answer_calls_nothing (course y a AnswerIt) y a disk new h)
 
 ended : (calls : ℕ) (m : Mark) (w : State) (M : History) → is_call m ≡ false → MayFollow m M → IsTold M → ((i : ℕ) (c : Command) → IsCalled M i c → i ≤ calls) → OpenCalls w (m ∷ M) → Tells calls w (m ∷ M)
 ended calls m w M other may told numbered open_calls = record {
@@ -244,7 +213,7 @@ module _ (calls : ℕ) (y : Yard) (callers : List (Option Caller)) (disk : Mediu
   call_tells : (a : ℕ) (c : Command) → IsActor serving a → caller_at callers a ≡ None
       → Tells (suc calls) (state_after (suc calls) (Up serving disk) (Calls a c)) (Call (suc calls) a c ∷ M)
   call_tells a c actor none = record {
-    told = ((λ d is. absurd (omega (arith, h.numbered (suc calls) d is)), λ j begun. let was = h.open_calls.1.only a j begun in none_some (sym none ∙ was.1)), h.told);
+    told = ((λ d is. absurd (omega (arith, h.numbered (suc calls) d is)), λ j begun. let was = h.open_calls.1.only a j begun in none-some _ (sym none ∙ was.1)), h.told);
     numbered = numbered_now;
     open_calls = (
       length-set_of_pass callers a _ ∙ h.open_calls.0,
@@ -270,7 +239,7 @@ module _ (calls : ℕ) (y : Yard) (callers : List (Option Caller)) (disk : Mediu
 
 opens_open : (shape : Shape) (t : List ℕ) (M : History) → ((a i : ℕ) → IsOpenCall M i a → ⊥) → AreOpen (opened_service shape t).callers M
 opens_open shape t M none = record {
-  has = λ a caller is. absurd (none_some (sym (pass_of shape.passes a None) ∙ is));
+  has = λ a caller is. absurd (none-some _ (sym (pass_of shape.passes a None) ∙ is));
   only = λ a i is. absurd (none a i is);
   apart = λ a b i is. absurd (none a i is);
 }

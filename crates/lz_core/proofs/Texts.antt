@@ -106,11 +106,13 @@ zeros_small n i = ⊎_elim
     (λ high. omega (arith, get_or_past {X = ℕ} (replicate n 0) i 0 (omega (arith, high, length-replicate {A = ℕ} n 0))))
     (cases_lt i n)
 
+-- each byte of a number is below 256
 byte_small : (k x : ℕ) → byte_at k x < 256
 byte_small zero x = omega arith
 byte_small (suc k) x = omega arith
 
-high_small : (n x i : ℕ) → get_or (bytes_high_first n x) i 0 < 256
+-- so the bytes of a number are bytes
+pub high_small : (n x i : ℕ) → get_or (bytes_high_first n x) i 0 < 256
 high_small zero x i = grind arith
 high_small (suc n) x zero = byte_small n x
 high_small (suc n) x (suc i) = high_small n x i

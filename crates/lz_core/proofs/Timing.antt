@@ -1,6 +1,7 @@
 -- What is known of the next event of an open call, at a point that is reached.
-use Rattle.std.proofs.Common.{◌≡◌, ◌≢◌, ℕ, ◌==◌, ◌%◌, Bool, false, ◌||◌, Option, Some, None, is_some, IsNone, refl, sym, ap, ◌∙◌, subst}
+use Rattle.std.proofs.Common.{◌≡◌, ◌≢◌, ℕ, ◌==◌, ◌%◌, Bool, false, ◌||◌, Option, Some, None, IsNone, refl, sym, ap, ◌∙◌, subst}
 use Rattle.std.proofs.lemmas.Bool.{false≢true}
+use Rattle.std.proofs.lemmas.Option.{none-some}
 use Rattle.lz_disk.specs.Images.{Medium}
 use Rattle.lz_core.specs.declared.event.Outcome.TheVariants.{NotNow}
 use Rattle.lz_core.specs.Table.{line, pin_of}
@@ -13,9 +14,6 @@ use Rattle.lz_core.specs.Worlds.{IsQuiet}
 use Rattle.lz_core.proofs.Reaching.{reached_sound}
 use Rattle.lz_core.proofs.Ascending.{eq_of}
 use Rattle.lz_core.proofs.InTime.{Fits, AllFit, is_look, is_event_there, in_time_reached, may_take_there, worn_there, step_fits}
-
-some_none : {X : Type 0} {x : X} → Some x ≡ None → ⊥
-some_none same = false≢true (sym (ap is_some same))
 
 is_none : {X : Type 0} (o : Option X) → IsNone o → o ≡ None
 is_none None none = refl
@@ -48,7 +46,7 @@ module _ (start : Start) (p : Point) (reached : IsReached start p) where
 
   quiet_one : (o : Option Caller) (pin : ℕ) → Fits false o pin → o ≡ None → pin % 2 ≡ 0
   quiet_one None pin fits at = fits refl
-  quiet_one (Some caller) pin fits at = absurd (some_none at)
+  quiet_one (Some caller) pin fits at = absurd (none-some _ (sym at))
 
   all_quiet : (w : State) → AllFit false w → IsQuiet w
   all_quiet (Up service disk) fits = λ a none. ap (λ (q : ℕ). q == 0) (quiet_one (caller_at service.callers a) (pin_of service.yard a) (fits a) (is_none (caller_at service.callers a) none))

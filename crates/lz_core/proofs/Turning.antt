@@ -3,6 +3,7 @@ use Rattle.std.proofs.Common.{◌≡◌, ◌≢◌, inl, inr, ℕ, zero, suc, �
 use Rattle.std.proofs.lemmas.Bool.{cases_eq, cases_lt}
 use Rattle.std.proofs.lemmas.Bool.Decides.{eqb_tells}
 use Rattle.std.proofs.lemmas.List.{get_or_past}
+use Rattle.std.proofs.lemmas.Option.{same_Some, none-some}
 use Rattle.lz_slot.specs.declared.command.Command.{Command}
 use Rattle.lz_slot.specs.Counted.{set_of_pass}
 use Rattle.lz_slot.specs.Histories.{History, IsUnderWay}
@@ -21,18 +22,12 @@ use Rattle.lz_core.specs.Sound.{Notes, pending_row, pending, entries, actor_in, 
 use Rattle.lz_core.proofs.Actors.{by_actor}
 use Rattle.lz_core.proofs.Orders.{times_append}
 
-pub some_caller : {x y : Caller} → Some x ≡ Some y → x ≡ y
-some_caller e = cc
-
-none_is : {x : Caller} → None ≡ Some x → ⊥
-none_is e = absurd cc
-
 -- an actor with a call is one of the service's
 pub caller_range : (callers : List (Option Caller)) (a : ℕ) (caller : Caller) → caller_at callers a ≡ Some caller → (1 ≤ a) × (a ≤ length callers)
-caller_range callers zero caller at = absurd (none_is at)
+caller_range callers zero caller at = absurd (none-some _ at)
 caller_range callers (suc i) caller at = elim (cases_lt i (length callers)) [
   | inl within ↦ (omega arith, omega (arith, within))
-  | inr past ↦ absurd (none_is (sym (get_or_past callers i None past) ∙ at))
+  | inr past ↦ absurd (none-some _ (sym (get_or_past callers i None past) ∙ at))
 ]
 
 -- the call where it has come to next
@@ -81,7 +76,7 @@ module _ (callers : List (Option Caller)) (a : ℕ) (caller : Caller) (at : call
   number_still : (b : ℕ) (one : Caller) → caller_at (moving callers a caller next) b ≡ Some one → (old : Caller) × (caller_at callers b ≡ Some old) × (old.number ≡ one.number) × (old.command ≡ one.command)
   number_still b one is = elim (cases_eq b a) [
     | inl same ↦
-        let new = some_caller (sym moved_same ∙ ap (caller_at (moving callers a caller next)) (sym same) ∙ is) in
+        let new = same_Some _ _ (sym moved_same ∙ ap (caller_at (moving callers a caller next)) (sym same) ∙ is) in
         (caller, ap (caller_at callers) same ∙ at, ap (λ (q : Caller). q.number) new, ap (λ (q : Caller). q.command) new)
     | inr other ↦ (one, sym (moved_other b other) ∙ is, refl, refl)
   ]

@@ -1,5 +1,5 @@
 -- A world goes on by an actor's next event.
-use Rattle.std.proofs.Common.{◌≡◌, ◌≢◌, ◌⊎◌, inl, inr, ◌≤◌, ◌<◌, ◌-◌, arith, length, slice_get, unwrap_or, IsSome, IsSomeAnd, IfSome, ℕ, zero, suc, Bool, true, false, map, slice_index_or, slice_set, List, [], ◌∷◌, Option, Some, None, is_some, reverse, refl, sym, ◌∙◌, ap, subst}
+use Rattle.std.proofs.Common.{◌≡◌, ◌≢◌, inl, inr, ◌≤◌, ◌<◌, ◌-◌, arith, length, slice_get, unwrap_or, IsSome, IsSomeAnd, IfSome, ℕ, zero, suc, Bool, true, false, map, slice_index_or, slice_set, List, [], ◌∷◌, Option, Some, None, is_some, reverse, refl, sym, ◌∙◌, ap, subst}
 use Rattle.std.proofs.lemmas.Bool.{false≢true}
 use Rattle.lz_slot.specs.declared.history.Mark.{Mark}
 use Rattle.lz_slot.specs.declared.command.Command.{Command}
@@ -10,7 +10,7 @@ use Rattle.lz_vault.specs.Vaults.{MayFail, medium_after}
 use Rattle.lz_core.specs.declared.event.Event.{Event}
 use Rattle.lz_core.specs.declared.event.Event.TheVariants.{Invoke, Check, SeePin, Answer}
 use Rattle.lz_core.specs.declared.event.Outcome.{Outcome}
-use Rattle.lz_core.specs.declared.event.Outcome.TheVariants.{Done, Value, Slot, NoSlot, Taken, Busy, True, False, Early, Worn, NotNow, Fault, Dead}
+use Rattle.lz_core.specs.declared.event.Outcome.TheVariants.{Worn, Fault, Dead}
 use Rattle.lz_core.specs.declared.event.Reply.{Reply}
 use Rattle.lz_core.specs.declared.caller.Script.{Script}
 use Rattle.lz_core.specs.declared.caller.Script.TheVariants.{Pinning, Resting, Writing, Adding, Removing, Releasing, Halting}
@@ -35,29 +35,9 @@ use Rattle.lz_core.proofs.Worlding.{Goes, leads, runs_on, shape_is, shown_at, sh
 use Rattle.std.proofs.lemmas.List.{length-map, get_or-set_same}
 use Rattle.lz_list.specs.Words.{Words}
 use Rattle.lz_core.proofs.Turning.{caller_range}
-use Rattle.lz_core.proofs.Keeping.{played_shape}
+use Rattle.lz_core.proofs.Keeping.{played_shape, fault_or_not}
 use Rattle.lz_core.proofs.Timing.{is_event, in_time, may_take, quiet_step}
 use Rattle.lz_core.proofs.InTime.{is_look, may_take_fault}
-
-abbrev is_fault : Outcome → Bool
-is_fault Fault = true
-is_fault _ = false
-
--- an outcome is Fault, or it isn't
-pub fault_or_not : (o : Outcome) → (o ≡ Fault) ⊎ (o ≢ Fault)
-fault_or_not Fault = inl refl
-fault_or_not Done = inr (λ same. false≢true (ap is_fault same))
-fault_or_not (Value value) = inr (λ same. false≢true (ap is_fault same))
-fault_or_not (Slot slot) = inr (λ same. false≢true (ap is_fault same))
-fault_or_not (NoSlot counts) = inr (λ same. false≢true (ap is_fault same))
-fault_or_not Taken = inr (λ same. false≢true (ap is_fault same))
-fault_or_not Busy = inr (λ same. false≢true (ap is_fault same))
-fault_or_not True = inr (λ same. false≢true (ap is_fault same))
-fault_or_not False = inr (λ same. false≢true (ap is_fault same))
-fault_or_not Early = inr (λ same. false≢true (ap is_fault same))
-fault_or_not Worn = inr (λ same. false≢true (ap is_fault same))
-fault_or_not NotNow = inr (λ same. false≢true (ap is_fault same))
-fault_or_not Dead = inr (λ same. false≢true (ap is_fault same))
 
 -- how many slots a yard has plays no part in the order of events
 abbrev shaped : ℕ → ℕ → ℕ → Shape

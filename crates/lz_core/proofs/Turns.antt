@@ -1,6 +1,7 @@
 -- A turn of a call that goes on keeps the invariant of an open service, whatever the call plays next.
 use Rattle.std.proofs.Common.{◌≡◌, ◌≢◌, inl, inr, ℕ, zero, suc, ◌≤◌, ◌==◌, if◌then◌else◌, Bool, true, false, List, [], length, Option, Some, None, refl, sym, subst, arith}
 use Rattle.std.proofs.lemmas.Bool.Decides.{eqb_tells}
+use Rattle.std.proofs.lemmas.Option.{none-some}
 use Rattle.lz_slot.specs.declared.command.Command.{Command}
 use Rattle.lz_slot.specs.declared.command.Command.TheVariants.{Add, Remove, Has}
 use Rattle.lz_slot.specs.Sets.{Keys, key_of}
@@ -46,9 +47,6 @@ use Rattle.lz_core.proofs.GateOpening.{write_open_keeps}
 use Rattle.lz_core.proofs.Settling.{settle_added_keeps, settle_marked_keeps, settle_rest_keeps}
 use Rattle.lz_core.proofs.Rested.{since_pin, turn_after, adds_change, pin_after}
 use Rattle.lz_core.proofs.Courses.{since_same, Goes, turned, turned_same, by_course, by_course_too, plays_turn, plays_turn_too, sync_turn}
-
-some_reply : {r : Reply} → Some r ≡ None → ⊥
-some_reply e = absurd cc
 
 -- a settling changes no pin
 settled_pins : (y : Yard) (a s : ℕ) → (words_after y (actor_at y a) a (Settle s)).pins ≡ y.words.pins
@@ -223,4 +221,4 @@ module _ (n calls : ℕ) (y : Yard) (callers : List (Option Caller)) (disk : Med
   turn_up c (SeeingPins p) is goes_on = see_turn c p is
   turn_up c (Claiming aim pred curr) is goes_on = claim_turn c aim pred curr is
   turn_up c (Checking aim curr) is goes_on = check_turn c aim curr is
-  turn_up c (Answering reply) is goes_on = absurd (some_reply goes_on)
+  turn_up c (Answering reply) is goes_on = absurd (none-some _ (sym goes_on))

@@ -4,6 +4,7 @@ use mathlib.Core.Bool.{false≢true}
 use Rattle.std.specs.Prelude.{unwrap_or}
 use Rattle.std.proofs.lemmas.Bool.{cases_eq}
 use Rattle.std.proofs.lemmas.Bool.Decides.{nat_tests}
+use Rattle.std.proofs.lemmas.Option.{same_Some}
 use Rattle.lz_slot.specs.declared.command.Command.TheVariants.{Add, Remove}
 use Rattle.lz_slot.specs.Counted.{of_pass, set_of_pass}
 use Rattle.lz_slot.specs.Histories.{History}
@@ -67,10 +68,7 @@ first_place pred (Some s) = inl refl
 
 pub node_place : (pred : Place) (curr : Option ℕ) (s : ℕ) → curr ≡ Some s → HasPlace (Node s) (claimed_places pred curr)
 node_place pred None s is = absurd cc
-node_place pred (Some t) s is = inr (inl (ap Node (some_nat is)))
-  where
-    some_nat : {r u : ℕ} → Some r ≡ Some u → r ≡ u
-    some_nat e = cc
+node_place pred (Some t) s is = inr (inl (ap Node (same_Some _ _ is)))
 
 -- a redirection leaves the pins
 pub redirect_pins : (words : Words) (pred : Place) (next : ℕ) → (redirect words pred next).pins ≡ words.pins
@@ -99,14 +97,11 @@ module _ (n calls : ℕ) (y : Yard) (callers : List (Option Caller)) (disk : Med
   hand_b : (b : ℕ) → b ≢ a → actor_in actors' b ≡ actor_in y.actors b
   hand_b b other = other_hand n calls y callers disk M P notes a (call_at i (Remove k) at) is sound x b other
 
-  some_same : {r u : ℕ} → Some r ≡ Some u → r ≡ u
-  some_same e = cc
-
   rests : HasClosed y.shape.buckets true (actor_in y.actors a) P
   rests = subst (λ (q : Hold). RestsOn y.shape.buckets q (actor_in y.actors a) P) h.2.0 (sound.locks.rests a)
 
   own_node : rests.node ≡ s
-  own_node = some_same (sym rests.curr ∙ h.0)
+  own_node = same_Some _ _ (sym rests.curr ∙ h.0)
 
   before : IsBefore y.shape.buckets (actor_at y a).pred s P
   before = subst (λ (q : ℕ). IsBefore y.shape.buckets (actor_at y a).pred q P) own_node rests.before
@@ -165,7 +160,7 @@ module _ (n calls : ℕ) (y : Yard) (callers : List (Option Caller)) (disk : Med
   stage_still : (t : ℕ) → t ≢ s → IsNodeStage y.vault.cells y.vault.dead y.actors P t → IsNodeStage y.vault.cells y.vault.dead actors' P' t
   stage_still t apart (inl opened) = inl opened
   stage_still t apart (inr (b, closer, written)) = elim (cases_eq b a) [
-    | inl same ↦ absurd (apart (some_same (sym (ap (λ (q : ℕ). (actor_in y.actors q).curr) (sym same) ∙ closer.node) ∙ h.0)))
+    | inl same ↦ absurd (apart (same_Some _ _ (sym (ap (λ (q : ℕ). (actor_in y.actors q).curr) (sym same) ∙ closer.node) ∙ h.0)))
     | inr other ↦ inr (b, subst (λ (q : Actor). IsCloser y.vault.dead q t) (sym (hand_b b other)) closer, written)
   ]
 
@@ -186,7 +181,7 @@ module _ (n calls : ℕ) (y : Yard) (callers : List (Option Caller)) (disk : Med
   out_then b t out = elim (cases_eq b a) [
     | inl same ↦
         let mine = subst (λ (q : Actor). IsOut q t) hand_a (subst (λ (q : ℕ). IsOut (actor_in actors' q) t) same out) in
-        inl (same, some_same (sym mine.node ∙ h.0))
+        inl (same, same_Some _ _ (sym mine.node ∙ h.0))
     | inr other ↦ inr (other, subst (λ (q : Actor). IsOut q t) (hand_b b other) out)
   ]
 

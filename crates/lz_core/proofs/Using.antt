@@ -23,8 +23,13 @@ use_map f [] s taken = sym taken
 use_map f (u ∷ uses) zero taken = refl
 use_map f (u ∷ uses) (suc s) taken = use_map f uses s taken
 
-limbo_same : {x y : List Sight} → Limbo x ≡ Limbo y → x ≡ y
+-- a slot in limbo has one list of sights
+pub limbo_same : {x y : List Sight} → Limbo x ≡ Limbo y → x ≡ y
 limbo_same e = cc
+
+-- a free slot is not in limbo
+pub free_limbo : {x : List Sight} → Free ≡ Limbo x → ⊥
+free_limbo e = absurd cc
 
 -- how uses may change, where no slot is taken or given back: limbo slots may become free
 pub record KeepsUses (old new : List Use) : Type 0 where
@@ -123,9 +128,6 @@ collected_limbo (Limbo sights) seen is = elim (cases_Bool (list_all has_left sig
   | inl all ↦ absurd (free_limbo (sym (rw all refl) ∙ is))
   | inr some ↦ sym (rw some refl) ∙ is
 ]
-  where
-    free_limbo : {x : List Sight} → Free ≡ Limbo x → ⊥
-    free_limbo e = absurd cc
 collected_limbo Free seen is = absurd cc
 collected_limbo Taken seen is = absurd cc
 
@@ -137,12 +139,9 @@ collected_free (Limbo sights) is = inr (
   refl,
   elim (cases_Bool (list_all has_left sights)) [
     | inl all ↦ all
-    | inr some ↦ absurd (limbo_free {x = sights} (rw some at is))
+    | inr some ↦ absurd (free_limbo {x = sights} (sym (rw some at is)))
   ],
 )
-  where
-    limbo_free : {x : List Sight} → Limbo x ≡ Free → ⊥
-    limbo_free e = absurd cc
 
 all_left : (sights : List Sight) (i : ℕ) → list_all has_left sights ≡ true → get_or sights i Left ≡ Left
 all_left [] i all = refl

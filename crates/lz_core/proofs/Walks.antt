@@ -34,6 +34,7 @@ use Rattle.lz_core.specs.Laws.{is_of, outcome_at, outcomes, hop_of, hop_of_calle
 use Rattle.lz_core.specs.Sound.{is_before_pin, side_of, StateSound, PointSound, IsSound}
 use Rattle.lz_core.proofs.Turning.{mine}
 use Rattle.lz_core.proofs.Twins.{Twin, apart, same, left, right, follows}
+use Rattle.lz_core.proofs.Runs.{run_append}
 
 -- a call whose next event is a load: it is inside, and gives no reply yet
 record Loads (words : Words) (e : Event) (at : Progress) : Type 0 where
@@ -188,10 +189,6 @@ steps_beside a one other step apart_from may h =
         calls = ap (λ (m : ℕ). calls_after m step) h.calls;
       };
     }
-
-run_append : (p : Point) (later before : List Step) → run (run p before) later ≡ run p (later ++ before)
-run_append p [] before = refl
-run_append p (step ∷ later) before = ap (λ (q : Point). point_after q step) (run_append p later before)
 
 run_before : (p : Point) (later before : List Step) → IsRun p (later ++ before) → IsRun p before
 run_before p [] before runs = runs

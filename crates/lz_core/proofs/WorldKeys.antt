@@ -1,16 +1,16 @@
 -- The keys that a yard shows: those of its slots that are members. Of a yard that was just opened they are the keys found.
-use Rattle.std.proofs.Common.{◌≡◌, inl, inr, ◌↔◌, ℕ, zero, suc, ◌<◌, ◌≤◌, ◌==◌, ◌||◌, Bool, true, false, IsTrue, List, [], ◌∷◌, length, map, Option, Some, Result, Ok, Err, IfOk, refl, sym, ap, ◌∙◌, subst, arith, length-append}
+use Rattle.std.proofs.Common.{◌≡◌, inl, inr, ◌↔◌, ℕ, suc, ◌<◌, ◌≤◌, ◌==◌, ◌||◌, Bool, true, false, IsTrue, List, [], ◌∷◌, length, map, Option, Some, Result, Ok, Err, IfOk, refl, sym, ap, ◌∙◌, subst, arith}
 use mathlib.Core.Bool.{false≢true}
 use Rattle.std.specs.List.{All}
 use Rattle.std.proofs.lemmas.List.{length-map}
 use Rattle.std.proofs.lemmas.List.Elements.{All-cons}
-use Rattle.std.proofs.lemmas.Bool.{cases_eq}
+use Rattle.std.proofs.lemmas.Bool.{cases_eq, or_cases}
 use Rattle.std.proofs.lemmas.Bool.Decides.{leb_tells}
 use Rattle.std.proofs.lemmas.Option.{slice_get-get_or}
 use Rattle.lz_slot.specs.Limits.{most_slots}
 use Rattle.lz_slot.specs.Sets.{Keys, members}
 use Rattle.lz_slot.specs.Histories.{Life}
-use Rattle.lz_slot.specs.Bytes.{Holds, slot_at, held}
+use Rattle.lz_slot.specs.Bytes.{Holds, held}
 use Rattle.lz_disk.specs.Images.{Medium, IsImage, AreBytes, at_rest}
 use Rattle.lz_disk.specs.Devices.{Device}
 use Rattle.lz_list.specs.Words.{Words}
@@ -35,9 +35,10 @@ use Rattle.lz_core.proofs.ImageSlots.{node_stands}
 use Rattle.lz_core.proofs.FirstState.{first_notes, opened_up}
 use Rattle.lz_core.proofs.FirstNodes.{held_found}
 use Rattle.lz_core.proofs.Loads.{bucket_range}
-use Rattle.lz_core.proofs.Ascending.{eq_of, first_of, either, later_of}
+use Rattle.lz_core.proofs.Ascending.{eq_of, first_of, later_of}
 use Rattle.lz_core.proofs.InTime.{up_at}
 use Rattle.lz_core.proofs.Reaching.{reached_sound}
+use Rattle.lz_core.proofs.FoundSlots.{read_length, any_key, key_by}
 
 -- in a sound open service
 module _ (n calls : ℕ) (service : Service) (disk : Medium) (life : Life) (P : Trace) (notes : Notes) (up : UpSound n calls service disk life P notes) where
@@ -92,7 +93,7 @@ world_members shape yard disk callers calls over world is keys same =
 -- all keys of a list are above one where its members are
 from_all : (x : ℕ) (ys : List ℕ) → All (λ j. x < j) ys → (k : ℕ) → members ys k ≡ true → x < k
 from_all x [] all k is = absurd (false≢true is)
-from_all x (y ∷ ys) all k is = elim (either (y == k) (members ys k) is) [
+from_all x (y ∷ ys) all k is = elim (or_cases (y == k) (members ys k) is) [
   | inl same ↦ let first = all 0 y (omega arith) in omega (arith, first, eq_of y k same)
   | inr later ↦ from_all x ys (λ i d within. all (suc i) d (omega arith)) k later
 ]
@@ -106,18 +107,18 @@ pub same_keys : (xs ys : List ℕ) → Ascend xs → Ascend ys → ((k : ℕ) �
 same_keys [] [] up up' in' out = refl
 same_keys [] (y ∷ ys) up up' in' out = absurd (false≢true (out y (first_of y ys)))
 same_keys (x ∷ xs) [] up up' in' out = absurd (false≢true (in' x (first_of x xs)))
-same_keys (x ∷ xs) (y ∷ ys) up up' in' out = elim (either (y == x) (members ys x) (in' x (first_of x xs))) [
+same_keys (x ∷ xs) (y ∷ ys) up up' in' out = elim (or_cases (y == x) (members ys x) (in' x (first_of x xs))) [
   | inl same ↦
       let is : y ≡ x = eq_of y x same in
       ap (λ (q : ℕ). q ∷ xs) (sym is) ∙ ap (λ (l : List ℕ). y ∷ l) (same_keys xs ys up.1 up'.1 (rest x y xs ys up.0 in' is) (rest y x ys xs up'.0 out (sym is)))
-  | inr later ↦ elim (either (x == y) (members xs y) (out y (first_of y ys))) [
+  | inr later ↦ elim (or_cases (x == y) (members xs y) (out y (first_of y ys))) [
     | inl same ↦ let low = from_all y ys up'.0 x later in absurd (omega (arith, low, eq_of x y same))
     | inr after ↦ let low = from_all y ys up'.0 x later in let high = from_all x xs up.0 y after in absurd (omega (arith, low, high))
   ]
 ]
   where
     rest : (x y : ℕ) (xs ys : List ℕ) → All (λ j. x < j) xs → ((k : ℕ) → members (x ∷ xs) k ≡ true → members (y ∷ ys) k ≡ true) → y ≡ x → (k : ℕ) → members xs k ≡ true → members ys k ≡ true
-    rest x y xs ys all in' same k is = elim (either (y == k) (members ys k) (in' k (later_of x k xs is))) [
+    rest x y xs ys all in' same k is = elim (or_cases (y == k) (members ys k) (in' k (later_of x k xs is))) [
       | inl first ↦ let low = from_all x xs all k is in absurd (omega (arith, low, same, eq_of y k first))
       | inr later ↦ later
     ]
@@ -125,14 +126,6 @@ same_keys (x ∷ xs) (y ∷ ys) up up' in' out = elim (either (y == x) (members 
 -- the keys of a chain
 abbrev keys_of : Chain → List ℕ
 keys_of c = map (λ (f : ℕ × ℕ). f.0) c
-
-any_key : (k : ℕ) (c : Chain) → members (keys_of c) k ≡ has_key k c
-any_key k [] = refl
-any_key k (f ∷ c) = ap (λ (b : Bool). (f.0 == k) || b) (any_key k c)
-
-key_by : (k : ℕ) (c : Chain) → has_key k (by_key c) ≡ has_key k c
-key_by k [] = refl
-key_by k (f ∷ c) = has_insert k f.0 f.1 (by_key c) ∙ ap (λ (b : Bool). (f.0 == k) || b) (key_by k c)
 
 -- an insertion keeps them ascending
 ascend_key : (k s : ℕ) (c : Chain) → Ascend (keys_of c) → has_key k c ≡ false → Ascend (keys_of (insert k s c))
@@ -147,7 +140,7 @@ ascend_key k s (f ∷ c) up none = elim (leb_tells (suc f.0) k) [
     none_later false b is = is
 
     later : f.0 < k → (j : ℕ) → members (keys_of (insert k s c)) j ≡ true → f.0 < j
-    later low j is = elim (either (k == j) (has_key j c) (sym (has_insert j k s c) ∙ sym (any_key j (insert k s c)) ∙ is)) [
+    later low j is = elim (or_cases (k == j) (has_key j c) (sym (has_insert j k s c) ∙ sym (any_key j (insert k s c)) ∙ is)) [
       | inl same ↦ omega (arith, low, eq_of k j same)
       | inr rest ↦ from_all f.0 (keys_of c) up.0 j (any_key j c ∙ rest)
     ]
@@ -159,7 +152,7 @@ ascend_key k s (f ∷ c) up none = elim (leb_tells (suc f.0) k) [
     lower low = elim (cases_eq f.0 k) [ inl same ↦ absurd (apart same) | inr other ↦ omega (arith, low, other) ]
 
     from : k < f.0 → (j : ℕ) → members (keys_of (f ∷ c)) j ≡ true → k < j
-    from low j is = elim (either (f.0 == j) (members (keys_of c) j) is) [
+    from low j is = elim (or_cases (f.0 == j) (members (keys_of c) j) is) [
       | inl same ↦ omega (arith, low, eq_of f.0 j same)
       | inr rest ↦ let high = from_all f.0 (keys_of c) up.0 j rest in omega (arith, low, high)
     ]
@@ -169,10 +162,6 @@ ascend_by N [] found = tt
 ascend_by N (f ∷ c) found = ascend_key f.0 f.1 (by_key c) (ascend_by N c found.3) (key_by f.0 c ∙ found.1)
 
 -- a yard that was just opened shows the keys that were found
-read_length : (t : List ℕ) (n : ℕ) → length (slots_read t n) ≡ n
-read_length t zero = refl
-read_length t (suc n) = length-append (slots_read t n) (slot_at t n ∷ []) ∙ omega (arith, read_length t n)
-
 module _ (shape : Shape) (t : List ℕ) (found : Keys) (some : 1 ≤ shape.buckets) (holds : Holds t shape.slots found) (bytes : AreBytes t) where
   abbrev first : Trace
   first = first_trace shape t

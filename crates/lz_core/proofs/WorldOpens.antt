@@ -1,8 +1,8 @@
 -- A world whose disk is opened, or whose open is refused.
 use Rattle.std.proofs.Common.{◌≡◌, inl, inr, ⊎_elim, ℕ, zero, suc, ◌≤◌, true, false, List, [], ◌∷◌, length, map, slice_get, ◌%◌, ◌==◌, Option, Some, None, refl, sym, ap, ◌∙◌, subst, arith, replicate}
-use Rattle.std.proofs.lemmas.List.{length-map, length-replicate, length-append}
+use Rattle.std.proofs.lemmas.List.{length-map, length-replicate}
 use Rattle.lz_slot.specs.declared.history.Mark.TheVariants.{Opened as opened, OpenFailed as refused}
-use Rattle.lz_slot.specs.Bytes.{Holds, slot_at}
+use Rattle.lz_slot.specs.Bytes.{Holds}
 use Rattle.lz_slot.specs.Sets.{Keys, members}
 use Rattle.lz_slot.specs.Histories.{Life, lives}
 use Rattle.lz_disk.specs.Images.{Medium, AreBytes, at_rest, synced}
@@ -24,6 +24,7 @@ use Rattle.lz_core.proofs.Opened.{holds_listed}
 use Rattle.lz_core.proofs.Opens.{one_set}
 use Rattle.lz_core.proofs.Worlding.{Goes, leads, runs_on}
 use Rattle.lz_core.proofs.WorldKeys.{yard_read}
+use Rattle.lz_core.proofs.FoundSlots.{read_length}
 
 -- a text that holds a set holds the one that is listed of it
 listed : (t : List ℕ) (N : ℕ) (S : Keys) → Holds t N S → Holds t N (members (keys_found t N))
@@ -32,10 +33,6 @@ listed t N S h = holds_listed t N h.count.0 h.count.1 h.size h.head h.no_bad_key
 -- and has one number of slots
 one_count : (t : List ℕ) (N n : ℕ) (S T : Keys) → Holds t N S → Holds t n T → N ≡ n
 one_count t N n S T one other = omega (arith, one.size, other.size)
-
-count_read : (t : List ℕ) (n : ℕ) → length (slots_read t n) ≡ n
-count_read t zero = refl
-count_read t (suc n) = length-append (slots_read t n) (slot_at t n ∷ []) ∙ omega (arith, count_read t n)
 
 -- no calls are shown as none
 none_shown : (n : ℕ) → map call_shown (replicate n None) ≡ replicate n None
@@ -73,7 +70,7 @@ module _ (shape : Shape) (before : Past) (over : YardOver Past) (opens : OpensYa
       let found = opens.vault.found refl in
       let one = one_count disk.seen _ shape.slots _ S found.held holds in
       let cells = ap (λ (y : Yard). length y.vault.cells) (yard_read _ _ _ _ _ opens refl) in
-      sym (cells ∙ length-map (slots_read disk.seen over.yard.shape.slots) cell_read ∙ count_read disk.seen over.yard.shape.slots) ∙ one
+      sym (cells ∙ length-map (slots_read disk.seen over.yard.shape.slots) cell_read ∙ read_length disk.seen over.yard.shape.slots) ∙ one
 
   shape_opened : (S : Keys) → Holds disk.seen shape.slots S → over.yard.shape ≡ shape
   shape_opened S holds =

@@ -1,31 +1,25 @@
 -- A play goes on by another play.
-use Rattle.std.proofs.Common.{◌≡◌, ◌≢◌, Result, Ok, Err, IsErrOf, Option, None, ◌≤◌, ◌+◌, ◌-◌, arith, length, slice_get, ℕ, zero, suc, take, List, [], ◌∷◌, ◌++◌, Some, reverse, refl, sym, ◌∙◌, ap, subst}
-use Rattle.std.proofs.lemmas.List.{reverse-append, append-nil, append_assoc, length-reverse}
+use Rattle.std.proofs.Common.{◌≡◌, ◌≢◌, Result, Ok, Err, IsErrOf, Option, None, ◌≤◌, ◌+◌, ◌-◌, arith, slice_get, ℕ, zero, suc, take, List, [], ◌∷◌, ◌++◌, Some, reverse, refl, sym, ◌∙◌, ap, subst}
+use Rattle.std.proofs.lemmas.List.{reverse-append, append-nil, append_assoc}
 use Rattle.std.proofs.lemmas.Option.{slice_get_within, get_or_from_slice_get}
 use Rattle.std.proofs.Math.Seq.{take-suc}
 use Rattle.lz_slot.specs.declared.history.Mark.{Mark}
 use Rattle.lz_core.specs.declared.play.Step.{Step as PlayStep}
-use Rattle.lz_core.specs.Runs.{Step, MayStep, Point, point_after, run, IsRun, calls_after}
-use Rattle.lz_core.specs.Runs as runs
+use Rattle.lz_core.specs.Runs.{Step, MayStep, Point, run, IsRun}
 use Rattle.lz_core.specs.Plays.{IsPlayOf, ArePlaysOf, IsReached}
-use Rattle.lz_core.specs.Worlds.{WorldOver, StopsAt, StopsEarly, IsAt, HasRun, IsLawful, PlaysOn, IsChain, mark_list}
-use Rattle.lz_core.specs.Yards.{Shape}
+use Rattle.lz_core.specs.Worlds.{WorldOver, StopsAt, StopsEarly, IsLawful, PlaysOn, IsChain, mark_list}
 use Rattle.lz_core.proofs.Reaching.{every_history}
-
--- the steps of a run after those before
-run_on : (p : Point) (later before : List Step) → run (run p before) later ≡ run p (later ++ before)
-run_on p [] before = refl
-run_on p (step ∷ later) before = ap (λ (q : Point). point_after q step) (run_on p later before)
+use Rattle.lz_core.proofs.Runs.{run_append}
 
 may_on : (p : Point) (later before : List Step) → IsRun p before → IsRun (run p before) later → IsRun p (later ++ before)
 may_on p [] before first then_on = first
-may_on p (step ∷ later) before first then_on = (subst (λ (q : Point). MayStep q.state step) (run_on p later before) then_on.0, may_on p later before first then_on.1)
+may_on p (step ∷ later) before first then_on = (subst (λ (q : Point). MayStep q.state step) (run_append p later before) then_on.0, may_on p later before first then_on.1)
 
 plays_on : (p : Point) (ys xs : List PlayStep) (later before : List Step) → ArePlaysOf p xs before → ArePlaysOf (run p before) ys later → ArePlaysOf p (ys ++ xs) (later ++ before)
 plays_on p [] xs [] before first are = first
 plays_on p [] xs (step ∷ later) before first are = absurd cc
 plays_on p (y ∷ ys) xs [] before first are = absurd are
-plays_on p (y ∷ ys) xs (step ∷ later) before first are = (subst (λ (q : Point). IsPlayOf q.state y step) (run_on p later before) are.0, plays_on p ys xs later before first are.1)
+plays_on p (y ∷ ys) xs (step ∷ later) before first are = (subst (λ (q : Point). IsPlayOf q.state y step) (run_append p later before) are.0, plays_on p ys xs later before first are.1)
 
 -- two plays, one after the other, are one
 pub joins : (a b c : WorldOver) (xs ys : List PlayStep) (ms ns : List Mark) → PlaysOn a xs ms b → PlaysOn b ys ns c → PlaysOn a (xs ++ ys) (ms ++ ns) c
@@ -34,7 +28,7 @@ joins a b c xs ys ms ns one other p at =
     let q = run p first.played.steps in
     let second = other q (record { state = first.played.state; calls = first.calls }) in
     let steps = second.played.steps ++ first.played.steps in
-    let there : run q second.played.steps ≡ run p steps = run_on p second.played.steps first.played.steps in
+    let there : run q second.played.steps ≡ run p steps = run_append p second.played.steps first.played.steps in
     record {
       played = record {
         steps = steps;

@@ -1,11 +1,10 @@
 -- WriteKey keeps the invariant: the adder's key is put into the slot that it has reserved.
-use Rattle.std.proofs.Common.{◌≡◌, ◌≢◌, ◌⊎◌, inl, inr, ℕ, zero, suc, ◌<◌, ◌≤◌, ◌+◌, ◌*◌, ◌==◌, Bool, true, false, List, ◌∷◌, ◌++◌, length, get_or, Option, Some, None, refl, sym, ap, ◌∙◌, subst, arith, length-set, get_or-set_same, get_or-set_other}
+use Rattle.std.proofs.Common.{◌≡◌, ◌≢◌, ◌⊎◌, inl, inr, ℕ, zero, suc, ◌<◌, ◌≤◌, ◌+◌, ◌*◌, ◌==◌, Bool, true, false, List, ◌∷◌, ◌++◌, length, Option, Some, None, refl, sym, ap, ◌∙◌, subst, arith, length-set, get_or-set_same, get_or-set_other}
 use mathlib.Core.Bool.{false≢true}
 use Rattle.std.specs.Prelude.{slice_get, slice_set, unwrap_or}
-use Rattle.std.specs.Int.{byte_at, bytes_high_first}
 use Rattle.std.proofs.lemmas.Bool.{cases_eq}
 use Rattle.std.proofs.lemmas.Bool.Decides.{nat_tests}
-use Rattle.std.proofs.lemmas.Option.{slice_get-get_or}
+use Rattle.std.proofs.lemmas.Option.{slice_get-get_or, none-some}
 use Rattle.lz_slot.specs.Limits.{largest_key}
 use Rattle.lz_slot.specs.declared.command.Command.{Command}
 use Rattle.lz_slot.specs.declared.command.Command.TheVariants.{Add, Remove}
@@ -42,12 +41,12 @@ use Rattle.lz_core.specs.Table.{with_vault, call_of, slot_of, yard_done, publish
 use Rattle.lz_core.specs.Calls.{halts}
 use Rattle.lz_core.specs.Runs.{Caller, caller_at}
 use Rattle.lz_core.specs.Stands.{Faces}
-use Rattle.lz_core.specs.Sound.{Notes, entries, actor_in, pin_in, cell_in, stage_in, opens, shuts, unlocks, IsGateClosed, IsGateOpened, IsGateWritten, IsOut, IsNodeStage, IsHandStage, SlotStands, is_node, is_held, is_out, is_free, is_limbo, SlotsSound, IsBefore, RestsOn, LocksSound, DiskSound, Relies, view_of, CallerSound, CallersSound, ReuseSound, HasTail, Sound}
+use Rattle.lz_core.specs.Sound.{Notes, entries, actor_in, pin_in, cell_in, stage_in, opens, unlocks, IsGateClosed, IsGateOpened, IsGateWritten, IsOut, IsNodeStage, IsHandStage, SlotStands, is_node, is_held, is_out, is_free, is_limbo, SlotsSound, IsBefore, RestsOn, LocksSound, DiskSound, Relies, view_of, CallerSound, CallersSound, ReuseSound, HasTail, Sound}
 use Rattle.lz_core.proofs.Actors.{by_actor}
 use Rattle.lz_core.proofs.Grips.{closes_dead, opens_dead}
 use Rattle.lz_core.proofs.Turning.{moving}
 use Rattle.lz_core.proofs.Limbo.{seen_step, away_stays}
-use Rattle.lz_core.proofs.Published.{LeavesCaller, relies_on_node, caller_published}
+use Rattle.lz_core.proofs.Published.{LeavesCaller, caller_published, shut_relies}
 use Rattle.lz_core.proofs.Pinning.{limbo_loose, free_loose}
 use Rattle.lz_core.proofs.Ledgering.{ledger_published}
 use Rattle.lz_core.proofs.Stores.{trace_key}
@@ -55,17 +54,7 @@ use Rattle.lz_core.proofs.Halting.{held_node}
 use Rattle.lz_core.proofs.Holding.{LeavesPair, pair_stays, key_leaves}
 use Rattle.lz_core.proofs.Loading.{call_at, own, goes_on_keeps}
 use Rattle.lz_core.proofs.Vaulting.{KeepsCell, caller_vaulted}
-
--- each byte of a number is below 256
-byte_small : (k x : ℕ) → byte_at k x < 256
-byte_small zero x = omega arith
-byte_small (suc k) x = omega arith
-
--- so the bytes of a number are bytes
-high_bytes : (n x i : ℕ) → get_or (bytes_high_first n x) i 0 < 256
-high_bytes zero x i = grind arith
-high_bytes (suc n) x zero = byte_small n x
-high_bytes (suc n) x (suc i) = high_bytes n x i
+use Rattle.lz_core.proofs.Texts.{high_small}
 
 -- and so are those of a slot's body
 body_bytes : (k : ℕ) → AreBytes (slot_body k)
@@ -76,7 +65,7 @@ body_bytes k (suc (suc (suc zero))) = omega arith
 body_bytes k (suc (suc (suc (suc zero)))) = omega arith
 body_bytes k (suc (suc (suc (suc (suc zero))))) = omega arith
 body_bytes k (suc (suc (suc (suc (suc (suc zero)))))) = omega arith
-body_bytes k (suc (suc (suc (suc (suc (suc (suc i))))))) = high_bytes 8 k i
+body_bytes k (suc (suc (suc (suc (suc (suc (suc i))))))) = high_small 8 k i
 
 -- a key may be put where the gate is surely closed
 free_stage : (stage : Stage) → IsGateClosed stage → IsFree stage
@@ -144,14 +133,11 @@ module _ (buckets slots s : ℕ) (e : Publishing) (actor : Actor) (P : Trace) (l
   before_leave : (t : ℕ) → actor.curr ≡ Some t → IsBefore buckets actor.pred t P → LeavesPair buckets e actor P
   before_leave t is h = faces_leave (key_word t P) (subst (λ (q : ℕ). Faces buckets (key_word t P) (place_number actor.pred) q P) (sym (ap link_to is)) h.faces.faces)
 
-  none_some : {r : ℕ} → None ≡ Some r → ⊥
-  none_some e' = absurd cc
-
   -- a pair that was checked without a slot and without a node says nothing of its place, which may be loose by now
   checked_prepared : (slot curr : Option ℕ) → actor.slot ≡ slot → actor.curr ≡ curr → RestsOn buckets Checked actor P → RestsOn buckets Checked actor (e ∷ P)
   checked_prepared (Some t) curr is at h = pair_stays buckets e actor P (faces_leave (key_word t P) (h.beside t is).round.faces) Checked h
   checked_prepared None (Some t) is at h = pair_stays buckets e actor P (before_leave t at (h.before t at).0) Checked h
-  checked_prepared None None is at h = record { beside = λ t slot. absurd (none_some (sym is ∙ slot)); before = λ t node. absurd (none_some (sym at ∙ node)) }
+  checked_prepared None None is at h = record { beside = λ t slot. absurd (none-some _ (sym is ∙ slot)); before = λ t node. absurd (none-some _ (sym at ∙ node)) }
 
   -- what the actor relies on because of its locks stays
   pub rests_prepared : (hold : Hold) → RestsOn buckets hold actor P → RestsOn buckets hold actor (e ∷ P)
@@ -203,18 +189,6 @@ module _ (n calls : ℕ) (y : Yard) (callers : List (Option Caller)) (disk : Med
 
   out_apart : (b t : ℕ) → IsOut (actor_in y.actors b) t → t ≢ s
   out_apart b t out it = sound.slots.hand_out a b t (h.1 ∙ ap Some (sym it)) out
-
-  -- an actor that has closed a gate relies on its node, which is on its chain
-  shut_relies : (hold : Hold) → shuts hold ≡ true → relies_on_node hold ≡ true
-  shut_relies GateClosed e = refl
-  shut_relies Marked e = refl
-  shut_relies Checked e = refl
-  shut_relies Nothing e = absurd (false≢true e)
-  shut_relies Locks e = absurd (false≢true e)
-  shut_relies GateOpened e = absurd (false≢true e)
-  shut_relies Linked e = absurd (false≢true e)
-  shut_relies Unlinked e = absurd (false≢true e)
-  shut_relies Released e = absurd (false≢true e)
 
   -- The words: the key is published, where its slot's gate is closed.
   abbrev P' : Trace

@@ -17,8 +17,9 @@ use Rattle.lz_slot.specs.declared.command.Command.{Command}
 use Rattle.lz_slot.specs.declared.command.Command.TheVariants.{Add, Remove, Has}
 use Rattle.lz_slot.specs.declared.history.Mark.{Mark}
 use Rattle.lz_slot.specs.Histories.{IsAnswered, IsCalled, IsEarlier, IsListed, Runs, count_of}
+use Rattle.lz_judge.specs.Records.{IsMade}
 use Rattle.lz_judge.specs.Passes.{IsAt}
-use Rattle.lz_judge.specs.Plays.{Plays}
+use Rattle.lz_judge.specs.Plays.{IsLife, Plays}
 use Rattle.lz_judge.specs.declared.playing.Listed.{Listed}
 
 abbrev pub Among : {X : Type 0} → X → List X → Type 0
@@ -172,3 +173,23 @@ runs H answers (l ∷ calls) S T S' T' told called start end plays = (
   λ b answered. ap (reply l.command) (sym (start (key_of l.command))) ∙ plays.0 b (told l.call b answered),
   runs H answers calls (after l.command S) T (after l.command S') T' told (λ m at. called m (inr at)) (same_after l.command S S' start) end plays.1,
 )
+
+-- what is known of the calls that a life's list has
+pub record OfLife (places : BTreeMap ℕ ℕ) (H : List Mark) (calls : List Listed) : Type 0 where
+  pub have : HavePlaces places calls
+  pub called : (l : Listed) → Among l calls → IsCalled H l.call l.command
+  pub rise : Rises places calls
+  pub among : (i p : ℕ) → IsMade H i → IsAt places i p → (l : Listed) × Among l calls × (l.call ≡ i)
+
+pub of_life : (places : BTreeMap ℕ ℕ) (H : List Mark) (life : BTreeMap ℕ Listed) → tree.IsOrdered nat_cmp life → IsLife places H life → OfLife places H (values_of life.entries)
+of_life places H life ordered is_life = record {
+  have = λ l at. let (p, among) = among_value life.entries l at in (p, (entry p l among).1);
+  called = λ l at. let (p, among) = among_value life.entries l at in (entry p l among).0;
+  rise = rises places life.entries ordered (λ p l among. (entry p l among).1);
+  among = λ i p made at.
+      let (l, there, same) = is_life.all i p made at in
+      (l, value_among life.entries p l (lookup_among life.entries p l there), same);
+}
+  where
+    entry : (p : ℕ) (l : Listed) → Among (p, l) life.entries → IsCalled H l.call l.command × IsAt places l.call p
+    entry p l among = is_life.listed p l (among_lookup life.entries p l ordered among)

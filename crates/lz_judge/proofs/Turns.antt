@@ -22,7 +22,7 @@ use Rattle.lz_judge.specs.Plays.{Finishes, IsKnown, IsLife, IsSet, Played, Plays
 use Rattle.lz_judge.specs.declared.playing.Listed.{Listed}
 use Rattle.lz_judge.proofs.Laws.{made_cases, made_less, so_far}
 use Rattle.lz_judge.proofs.Lives.{answered_life, life_before, life_made, life_mark, lives_parts}
-use Rattle.lz_judge.proofs.Orders.{Among, HavePlaces, Rises, among_listed, among_lookup, among_value, ascending, calls_of, earlier, listed_among, lookup_among, once, rises, runs, value_among}
+use Rattle.lz_judge.proofs.Orders.{among_listed, ascending, calls_of, earlier, listed_among, once, runs, OfLife, of_life}
 
 -- what is known of more marks is known of fewer
 pub known_rest : (places : BTreeMap ℕ ℕ) (answers : BTreeMap ℕ Bool) (m : Mark) (M : List Mark) → IsKnown places answers (m ∷ M) → IsKnown places answers M
@@ -77,38 +77,28 @@ module _ (places : BTreeMap ℕ ℕ) (answers : BTreeMap ℕ Bool) (M : List Mar
       calls : List Listed
       calls = values_of life.entries
 
-      entry : (p : ℕ) (l : Listed) → Among (p, l) life.entries → IsCalled (this_life M) l.call l.command × IsAt places l.call p
-      entry p l among = is_life.listed p l (among_lookup life.entries p l ordered among)
+      listed : OfLife places (this_life M) calls
+      listed = of_life places (this_life M) life ordered is_life
 
-      have : HavePlaces places (values_of life.entries)
-      have l at = let (p, among) = among_value life.entries l at in (p, (entry p l among).1)
-
-      called : (l : Listed) → Among l (values_of life.entries) → IsCalled (this_life M) l.call l.command
-      called l at = let (p, among) = among_value life.entries l at in (entry p l among).0
-
-      rise : Rises places (values_of life.entries)
-      rise = rises places life.entries ordered (λ p l at. (entry p l at).1)
-
-      listed_is : (i : ℕ) → IsListed i (calls_of (values_of life.entries)) → IsMade (this_life M) i × ((p : ℕ) × IsAt places i p)
+      listed_is : (i : ℕ) → IsListed i (calls_of calls) → IsMade (this_life M) i × ((p : ℕ) × IsAt places i p)
       listed_is i is =
-          let (l, at, same) = listed_among (values_of life.entries) i is in
-          subst (λ (n : ℕ). IsMade (this_life M) n × ((p : ℕ) × IsAt places n p)) same ((l.command, called l at), have l at)
+          let (l, at, same) = listed_among calls i is in
+          subst (λ (n : ℕ). IsMade (this_life M) n × ((p : ℕ) × IsAt places n p)) same ((l.command, listed.called l at), listed.have l at)
 
-      is_listed : (i : ℕ) → IsMade (this_life M) i × ((p : ℕ) × IsAt places i p) → IsListed i (calls_of (values_of life.entries))
+      is_listed : (i : ℕ) → IsMade (this_life M) i × ((p : ℕ) × IsAt places i p) → IsListed i (calls_of calls)
       is_listed i (made, (p, at)) =
-          let (l, there, same) = is_life.all i p made at in
-          subst (λ (n : ℕ). IsListed n (calls_of (values_of life.entries))) same
-          (among_listed (values_of life.entries) l (value_among life.entries p l (lookup_among life.entries p l there)))
+          let (l, among, same) = listed.among i p made at in
+          subst (λ (n : ℕ). IsListed n (calls_of calls)) same (among_listed calls l among)
 
-      order : IsInOrder (IsAt places) (this_life M) (calls_of (values_of life.entries))
+      order : IsInOrder (IsAt places) (this_life M) (calls_of calls)
       order = record {
         each = λ i. (listed_is i, is_listed i);
-        ascending = λ i j p q is at at'. ascending places (values_of life.entries) i j p q rise is at at';
+        ascending = λ i j p q is at at'. ascending places calls i j p q listed.rise is at at';
       }
 
-      fits : Fits (this_start M) (this_life M) (calls_of (values_of life.entries)) T'
+      fits : Fits (this_start M) (this_life M) (calls_of calls) T'
       fits = record {
-        once = λ i. once places (values_of life.entries) i have rise;
+        once = λ i. once places calls i listed.have listed.rise;
         answered = λ i b is. is_listed i (answered_life M i b known.lawful is, known.answered i b (life_mark M (Answer i b) is));
         not_refused = λ i (why, has) is.
             let none = known.refused i (why, life_mark M (Refused i why) has) in
@@ -117,8 +107,8 @@ module _ (places : BTreeMap ℕ ℕ) (answers : BTreeMap ℕ Bool) (M : List Mar
         order = λ i j before is is'.
             let (made, (p, at)) = listed_is i is in
             let (made', (q, at')) = listed_is j is' in
-            earlier places (values_of life.entries) i j p q have rise at at' (known.order i j p q at at' (life_before M i j before)) is is';
-        runs = runs (this_life M) answers (values_of life.entries) S T (this_start M) T' (λ i b is. known.told i b (life_mark M (Answer i b) is)) called start end plays;
+            earlier places calls i j p q listed.have listed.rise at at' (known.order i j p q at at' (life_before M i j before)) is is';
+        runs = runs (this_life M) answers calls S T (this_start M) T' (λ i b is. known.told i b (life_mark M (Answer i b) is)) listed.called start end plays;
       }
 
   -- the lives with the one that goes on, once it was run

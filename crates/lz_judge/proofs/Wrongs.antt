@@ -16,7 +16,7 @@ use Rattle.lz_judge.specs.Passes.{IsAt}
 use Rattle.lz_judge.specs.Plays.{Compared, Finds, Follows, IsKnown, IsLife, IsSet, IsWrong, Ran, WrongAt, past_of, this_life}
 use Rattle.lz_judge.specs.declared.playing.Listed.{Listed}
 use Rattle.lz_judge.proofs.Lives.{life_made, life_mark}
-use Rattle.lz_judge.proofs.Orders.{Among, HavePlaces, Rises, among_listed, among_lookup, among_value, ascending, calls_of, listed_among, lookup_among, rises, value_among}
+use Rattle.lz_judge.proofs.Orders.{Among, Rises, among_listed, ascending, calls_of, listed_among, OfLife, of_life}
 use Rattle.lz_judge.proofs.Pasts.{earlier_append, follows_leads, leads_more, leads_then, listed_append, listed_left, listed_right, made_split, past_before, past_made_all, past_mark}
 
 -- the place in a list of calls at which one is answered otherwise
@@ -99,31 +99,14 @@ module _ (places : BTreeMap ℕ ℕ) (answers : BTreeMap ℕ Bool) (M : List Mar
   }
 
   module _ (L : List ℕ) (start : Keys) (in_order : IsInOrder (IsAt places) (past_of M) L) (leads : Leads (past_of M) (members []) L start) (life : BTreeMap ℕ Listed) (ordered : tree.IsOrdered nat_cmp life) (is_life : IsLife places (this_life M) life) where
-    calls : List Listed
-    calls = values_of life.entries
-
-    entry : (p : ℕ) (l : Listed) → Among (p, l) life.entries → IsCalled (this_life M) l.call l.command × IsAt places l.call p
-    entry p l among = is_life.listed p l (among_lookup life.entries p l ordered among)
-
-    have : HavePlaces places (values_of life.entries)
-    have l at = let (p, among) = among_value life.entries l at in (p, (entry p l among).1)
-
-    called : (l : Listed) → Among l (values_of life.entries) → IsCalled (this_life M) l.call l.command
-    called l at = let (p, among) = among_value life.entries l at in (entry p l among).0
+    listed : OfLife places (this_life M) (values_of life.entries)
+    listed = of_life places (this_life M) life ordered is_life
 
     called_all : (l : Listed) → Among l (values_of life.entries) → IsCalled M l.call l.command
-    called_all l at = let (actor, has) = called l at in (actor, life_mark M (Call l.call actor l.command) has)
-
-    rise : Rises places (values_of life.entries)
-    rise = rises places life.entries ordered (λ p l at. (entry p l at).1)
+    called_all l at = let (actor, has) = listed.called l at in (actor, life_mark M (Call l.call actor l.command) has)
 
     made_this : (l : Listed) → Among l (values_of life.entries) → IsMade (this_life M) l.call
-    made_this l at = (l.command, called l at)
-
-    is_among : (j q : ℕ) → IsMade (this_life M) j → IsAt places j q → (l : Listed) × Among l (values_of life.entries) × (l.call ≡ j)
-    is_among j q made at =
-        let (l, there, same) = is_life.all j q made at in
-        (l, value_among life.entries q l (lookup_among life.entries q l there), same)
+    made_this l at = (l.command, listed.called l at)
 
     -- the list of the past, and the calls of the life after it
     all_in_order : IsInOrder (IsAt places) M (L ++ calls_of (values_of life.entries))
@@ -134,14 +117,14 @@ module _ (places : BTreeMap ℕ ℕ) (answers : BTreeMap ℕ Bool) (M : List Mar
             (λ left. let (made, at) = (in_order.each j).0 left in (past_made_all M j made, at))
             (λ right.
             let (l, among, same) = listed_among (values_of life.entries) j right in
-            subst (λ (n : ℕ). IsMade M n × ((p : ℕ) × IsAt places n p)) same (life_made M l.call (made_this l among), have l among))
+            subst (λ (n : ℕ). IsMade M n × ((p : ℕ) × IsAt places n p)) same (life_made M l.call (made_this l among), listed.have l among))
             (listed_append j L (calls_of (values_of life.entries)) is)
 
         from : (j : ℕ) → IsMade M j × ((p : ℕ) × IsAt places j p) → IsListed j (L ++ calls_of (values_of life.entries))
         from j (made, (p, at)) = ⊎_elim
             (λ past. listed_left j L (calls_of (values_of life.entries)) ((in_order.each j).1 (past, (p, at))))
             (λ this.
-            let (l, among, same) = is_among j p this at in
+            let (l, among, same) = listed.among j p this at in
             listed_right j L (calls_of (values_of life.entries)) (subst (λ (n : ℕ). IsListed n (calls_of (values_of life.entries))) same (among_listed (values_of life.entries) l among)))
             (made_split M j made)
 
@@ -153,7 +136,7 @@ module _ (places : BTreeMap ℕ ℕ) (answers : BTreeMap ℕ Bool) (M : List Mar
             let (past, other) = (in_order.each i).0 left in
             let (l, among, same) = listed_among (values_of life.entries) j right in
             past_below i j p q past (subst (IsMade (this_life M)) same (made_this l among)) at at')
-            (λ right. ascending places (values_of life.entries) i j p q rise right at at')
+            (λ right. ascending places (values_of life.entries) i j p q listed.rise right at at')
             rest)
             (earlier_append i j L (calls_of (values_of life.entries)) is)
 
@@ -176,7 +159,7 @@ module _ (places : BTreeMap ℕ ℕ) (answers : BTreeMap ℕ Bool) (M : List Mar
         at = wrong_place answers (values_of life.entries) start i wrong
 
         parts_rise : Rises places (at.done ++ at.this ∷ at.rest)
-        parts_rise = subst (Rises places) at.parts rise
+        parts_rise = subst (Rises places) at.parts listed.rise
 
         this_among : Among at.this (values_of life.entries)
         this_among = subst (Among at.this) (sym at.parts) (among_right at.this at.done (at.this ∷ at.rest) (inl refl))
@@ -185,7 +168,7 @@ module _ (places : BTreeMap ℕ ℕ) (answers : BTreeMap ℕ Bool) (M : List Mar
         done_among m is = subst (Among m) (sym at.parts) (among_left m at.done (at.this ∷ at.rest) is)
 
         place : (p : ℕ) × IsAt places at.this.call p
-        place = have at.this this_among
+        place = listed.have at.this this_among
 
         to : (j : ℕ) → IsListed j (L ++ calls_of at.done) → IsMade M j × ((p : ℕ) × IsAt places j p × (p < place.0))
         to j is = ⊎_elim
@@ -194,7 +177,7 @@ module _ (places : BTreeMap ℕ ℕ) (answers : BTreeMap ℕ Bool) (M : List Mar
             (past_made_all M j past, (p, there, past_below j at.this.call p place.0 past (made_this at.this this_among) there place.1)))
             (λ right.
             let (m, among, same) = listed_among at.done j right in
-            let (q, there) = have m (done_among m among) in
+            let (q, there) = listed.have m (done_among m among) in
             subst (λ (n : ℕ). IsMade M n × ((p : ℕ) × IsAt places n p × (p < place.0))) same
             (life_made M m.call (made_this m (done_among m among)), (q, there, below_this places at.done at.rest at.this m place.0 q parts_rise among there place.1)))
             (listed_append j L (calls_of at.done) is)
@@ -203,7 +186,7 @@ module _ (places : BTreeMap ℕ ℕ) (answers : BTreeMap ℕ Bool) (M : List Mar
         from j (made, (q, there, lt)) = ⊎_elim
             (λ past. listed_left j L (calls_of at.done) ((in_order.each j).1 (past, (q, there))))
             (λ this.
-            let (m, among, same) = is_among j q this there in
+            let (m, among, same) = listed.among j q this there in
             let m_at = ap (tree.get nat_cmp places) same ∙ there in
             ⊎_elim
             (λ first. listed_right j L (calls_of at.done) (subst (λ (n : ℕ). IsListed n (calls_of at.done)) same (among_listed at.done m first)))

@@ -1,8 +1,8 @@
-use Rattle.std.proofs.Common.{◌≤◌, ◌+◌, ◌++◌, List, Option, length, arith, subst, sym, ◌∙◌, ap, take, refl}
+use Rattle.std.proofs.Common.{◌+◌, ◌++◌, List, Option, length, arith, subst, sym, ◌∙◌, ap, take, refl}
 use Rattle.std.proofs.lemmas.Result.{err_from_is_err_and}
 use Rattle.std.proofs.lemmas.Option.{slice_get_read}
 use Rattle.lz_core.specs.declared.world.PlayFault.TheVariants.{NotNow, Memory}
-use Rattle.std.proofs.lemmas.List.{take_all, append-nil, length-take-le}
+use Rattle.std.proofs.lemmas.List.{take_all, append-nil}
 use Rattle.lz_slot.specs.declared.history.Mark.{Mark}
 use Rattle.lz_core.specs.declared.play.Step.{Step as PlayStep}
 use Rattle.lz_core.specs.Worlds.{PlaysOn, mark_list}

@@ -1,4 +1,4 @@
-use Rattle.std.proofs.Common.{◌≡◌, ◌-◌, IfSome, IsSome, Option, Some, None, refl, subst, sym}
+use Rattle.std.proofs.Common.{◌≡◌, ◌-◌, IfSome, IsSome, Option, Some, None, subst, sym}
 use Rattle.lz_core.specs.declared.open_calls.OpenCall.{OpenCall}
 use Rattle.lz_core.specs.Orders.{MayTake}
 use Rattle.lz_core.specs.Runs.{marks_of_turn}
