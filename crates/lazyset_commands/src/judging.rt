@@ -1,11 +1,11 @@
 //! The command that judges a history.
-ghost use Rattle.std.specs.Prelude.{◌≡◌, ◌⊎◌, ℕ, [], IfOk};
+ghost use Rattle.std.specs.Prelude.{◌≡◌, ◌⊎◌, [], IfOk};
 ghost use Rattle.std.specs.String.{string_bytes};
 ghost use Rattle.std.specs.Io.KnownBytes.{Appends};
 ghost use Rattle.lz_slot.specs.Sets.{members};
 ghost use Rattle.lz_slot.specs.Histories.{Chain};
-ghost use Rattle.lz_judge.specs.Records.{Record};
-ghost use Rattle.lazyset_commands.specs.Judgements.{flaw_text, good_text, line_text, numbers_text};
+ghost use Rattle.lz_judge.specs.Flaws.{IsFlaw};
+ghost use Rattle.lazyset_commands.specs.Judgements.{IsOrdered, JudgedGood, JudgedUnread, JudgedWrong, flaw_text, good_text, line_text, numbers_text};
 
 use crate::status::Status;
 use crate::telling::{NO_MEMORY, tell};
@@ -20,12 +20,9 @@ pub const MOST_JUDGED: usize = MOST_BYTES + 1;
 /// open's, or `line L` with the first line that doesn't read. Failed where the line could not be written, and for want of
 /// memory, which says `nomemory`.
 pub fn judge_on<W: Write + Drop>(alloc: Global, bytes: &[u8], writer: &mut W) -> Status
-    ensures good { result ≡ Status.Done → Appends (W.contents writer.old) (W.contents writer.new) good_text }
-
-    // A history that is found good is a chain of lives that begins with the empty set.
-    ensures chain { result ≡ Status.Done → (history : Record) × Chain (members []) history.marks }
-    ensures line { result ≡ Status.Refused → (line : ℕ) × Appends (W.contents writer.old) (W.contents writer.new) (line_text line) }
-    ensures flaw { result ≡ Status.Damaged → (flaw : Flaw) × Appends (W.contents writer.old) (W.contents writer.new) (flaw_text flaw) }
+    ensures good { result ≡ Status.Done → JudgedGood bytes.now (W.contents writer.old) (W.contents writer.new) }
+    ensures line { result ≡ Status.Refused → JudgedUnread bytes.now (W.contents writer.old) (W.contents writer.new) }
+    ensures flaw { result ≡ Status.Damaged → JudgedWrong bytes.now (W.contents writer.old) (W.contents writer.new) }
     ensures other { (result ≡ Status.Done) ⊎ (result ≡ Status.Refused) ⊎ (result ≡ Status.Damaged) ⊎ (result ≡ Status.Failed) }
 {
     match History::read(alloc, bytes) {
@@ -36,8 +33,8 @@ pub fn judge_on<W: Write + Drop>(alloc: Global, bytes: &[u8], writer: &mut W) ->
 }
 
 fn judge_history<W: Write + Drop>(alloc: Global, history: &History, writer: &mut W) -> Status
-    ensures good { result ≡ Status.Done → Chain (members []) history.now.marks × Appends (W.contents writer.old) (W.contents writer.new) good_text }
-    ensures flaw { result ≡ Status.Damaged → (flaw : Flaw) × Appends (W.contents writer.old) (W.contents writer.new) (flaw_text flaw) }
+    ensures good { result ≡ Status.Done → IsOrdered history.now × Chain (members []) history.now.marks × Appends (W.contents writer.old) (W.contents writer.new) good_text }
+    ensures flaw { result ≡ Status.Damaged → (flaw : Flaw) × IsFlaw history.now flaw × Appends (W.contents writer.old) (W.contents writer.new) (flaw_text flaw) }
     ensures other { (result ≡ Status.Done) ⊎ (result ≡ Status.Damaged) ⊎ (result ≡ Status.Failed) }
 {
     match judge(alloc, history) {

@@ -64,6 +64,12 @@ HasOne (Some over) None = Unit {0}
 HasOne None (Some disk) = Unit {0}
 HasOne _ _ = ⊥
 
+-- the next call of its device fails
+abbrev pub IsTripped : Option (YardOver Past) → Option Past → Type 0
+IsTripped (Some over) disk = over.disk.trip ≡ true
+IsTripped None (Some disk) = disk.trip ≡ true
+IsTripped None None = Unit {0}
+
 -- the world is at this point of a run
 pub record IsAt (w : WorldOver) (p : Point) : Type 0 where
   pub state : p.state ≡ w.state

@@ -3,7 +3,7 @@ ghost use Rattle.std.specs.Prelude.{◌≡◌, OnOk, OnErr};
 ghost use Rattle.lz_disk.specs.Images.{IsImage, at_rest};
 ghost use Rattle.lz_disk.specs.Picks.{left_by};
 ghost use Rattle.lz_core.specs.Runs.{Down};
-ghost use Rattle.lz_core.specs.Worlds.{HasOne, disk_shown, state_shown};
+ghost use Rattle.lz_core.specs.Worlds.{HasOne, IsTripped, disk_shown, state_shown};
 
 use crate::yard::Yard;
 use lz_disk::{MemoryDisk, Pick};
@@ -14,6 +14,7 @@ pub(crate) fn trip_disk(yard: &mut Option<Yard<MemoryDisk>>, disk: &mut Option<M
     requires { HasOne yard.old disk.old }
     ensures one { HasOne yard.new disk.new }
     ensures same { (shape : _) (callers : _) → state_shown shape yard.new disk.new callers ≡ state_shown shape yard.old disk.old callers }
+    ensures tripped { IsTripped yard.new disk.new }
 {
     match yard {
         Some(yard) => yard.trip(),
