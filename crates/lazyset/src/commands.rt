@@ -4,7 +4,9 @@ ghost use Rattle.std.specs.Prelude.{◌≤◌, IfSome};
 use crate::command_line::{command_line, fault_of};
 use crate::fault::Fault;
 use clap::ArgMatches;
-use lazyset_commands::{MOST_JUDGED, MOST_SURVEYED, Status, check_on, judge_on, make_on, rehearse_on, run_on};
+use lazyset_commands::{
+    MOST_JUDGED, MOST_SURVEYED, Status, check_on, judge_on, make_on, rehearse_on, run_on,
+};
 use lz_disk::FileDisk;
 use std::fs::File;
 use std::io::{ErrorKind, Read};
