@@ -190,25 +190,11 @@ reserved_left uses None b left = left
 reserved_left uses (Some s) b left = left_set uses s b Taken (λ seen is. absurd cc) left
 
 left_plays : (y : Yard) (actor : Actor) (a b : ℕ) (e : Event) → is_use_event e ≡ false → HasLeft y.uses b → HasLeft (uses_after y actor a e) b
-left_plays y actor a b (Invoke c) calm left = left
-left_plays y actor a b Pin calm left = left
-left_plays y actor a b (Hop word) calm left = left
 left_plays y actor a b Reserve calm left = reserved_left (collect y.uses) (lowest_free (collect y.uses)) b (left_collect y.uses b left)
-left_plays y actor a b (WriteKey k) calm left = left
-left_plays y actor a b (Claim pred curr) calm left = left
-left_plays y actor a b Check calm left = left
-left_plays y actor a b WriteOpen calm left = left
-left_plays y actor a b Link calm left = left
-left_plays y actor a b WriteClose calm left = left
-left_plays y actor a b Mark calm left = left
-left_plays y actor a b Release calm left = left
-left_plays y actor a b (Sync s) calm left = left
-left_plays y actor a b (Settle s) calm left = left
-left_plays y actor a b Unlink calm left = left
 left_plays y actor a b Retire calm left = absurd (false≢true (sym calm))
 left_plays y actor a b (SeePin p value) calm left = left_seen y.uses p value b left
 left_plays y actor a b Answer calm left = absurd (false≢true (sym calm))
-left_plays y actor a b Halt calm left = left
+left_plays y actor a b _ calm left = left
 
 pub left_on : (k : Course) (y : Yard) (a b : ℕ) (e : Event) → is_use_event e ≡ false → HasLeft y.uses b → HasLeft (line_on k y (actor_at y a) a e).0.uses b
 left_on (Refused outcome) y a b e calm left = left

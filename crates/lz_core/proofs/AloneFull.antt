@@ -188,18 +188,7 @@ stands_halt y P shape c NotNow = tt
 
 pub stands_claim : (y : Yard) (P : Trace) (shape : Shape) (c : Command) (aim : Option ℕ) (pred : Place) (curr : Option ℕ) (outcome : Outcome) → WalkStands y P (progress_after shape c (Claiming aim pred curr) outcome) c
 stands_claim y P shape c aim pred curr (Value v) = tt
-stands_claim y P shape c aim pred curr Fault = tt
-stands_claim y P shape c aim pred curr Dead = tt
-stands_claim y P shape c aim pred curr Worn = tt
-stands_claim y P shape c aim pred curr Early = tt
-stands_claim y P shape c aim pred curr Done = tt
-stands_claim y P shape c aim pred curr (Slot s) = tt
-stands_claim y P shape c aim pred curr (NoSlot counts) = tt
-stands_claim y P shape c aim pred curr was_taken = tt
-stands_claim y P shape c aim pred curr Busy = tt
-stands_claim y P shape c aim pred curr True = tt
-stands_claim y P shape c aim pred curr False = tt
-stands_claim y P shape c aim pred curr NotNow = tt
+stands_claim y _ shape c aim pred curr _ = tt
 
 stands_changes : (y : Yard) (P : Trace) (c : Command) (aim curr : Option ℕ) → WalkStands y P (changes c aim curr) c
 stands_changes y P (Add k) None curr = tt
@@ -209,19 +198,8 @@ stands_changes y P (Remove k) aim (Some s) = tt
 stands_changes y P (Has k) aim curr = tt
 
 pub stands_check : (y : Yard) (P : Trace) (shape : Shape) (c : Command) (aim curr : Option ℕ) (outcome : Outcome) → WalkStands y P (progress_after shape c (Checking aim curr) outcome) c
-stands_check y P shape c aim curr (Value v) = tt
-stands_check y P shape c aim curr Fault = tt
-stands_check y P shape c aim curr Dead = tt
-stands_check y P shape c aim curr Worn = tt
-stands_check y P shape c aim curr Early = tt
-stands_check y P shape c aim curr Done = tt
-stands_check y P shape c aim curr (Slot s) = tt
-stands_check y P shape c aim curr (NoSlot counts) = tt
-stands_check y P shape c aim curr was_taken = tt
-stands_check y P shape c aim curr Busy = tt
 stands_check y P shape c aim curr True = stands_changes y P c aim curr
-stands_check y P shape c aim curr False = tt
-stands_check y P shape c aim curr NotNow = tt
+stands_check y _ shape c aim curr _ = tt
 
 stands_rests : (y : Yard) (P : Trace) (c : Command) (s : ℕ) (need : Need) (b : Bool) → WalkStands y P (rests s need (if b then Yes else No)) c
 stands_rests y P c s Now true = tt

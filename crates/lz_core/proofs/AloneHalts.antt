@@ -141,13 +141,7 @@ reached_dead start (step ∷ steps) runs = let p = run (first_point start) steps
 -- what is about to be answered
 replies : (at : Progress) (reply : Reply) → reply_at at ≡ Some reply → at ≡ Answering reply
 replies (Answering other) reply is = ap Answering (same_Some other reply is)
-replies (Playing script i) reply is = absurd (none-some reply is)
-replies LoadsHalt reply is = absurd (none-some reply is)
-replies (Walking aim look) reply is = absurd (none-some reply is)
-replies (Reserving again) reply is = absurd (none-some reply is)
-replies (SeeingPins p) reply is = absurd (none-some reply is)
-replies (Claiming aim pred curr) reply is = absurd (none-some reply is)
-replies (Checking aim curr) reply is = absurd (none-some reply is)
+replies _ reply is = absurd (none-some reply is)
 
 halted_word : (v : View) (c : Command) (P0 P : Trace) (changed : Option ℕ) → Relies v c (Answering Halted) P0 P changed → halt_word P ≡ 1
 halted_word v (Add k) P0 P changed h = h.0

@@ -62,11 +62,7 @@ AloneAt start a p = AloneLives a start.shape.slots p (lives (start_keys start) p
 -- the mark of a reply ends its call
 reply_ends : (i : ℕ) (reply : Reply) → IsEnd (mark_of i reply) i
 reply_ends i Yes = refl
-reply_ends i No = refl
-reply_ends i (Full counts) = refl
-reply_ends i Worn = refl
-reply_ends i Halted = refl
-reply_ends i Device = refl
+reply_ends i _ = refl
 
 -- a call that was cut off finds the service halted
 cut_word : (v : View) (c : Command) (P0 P : Trace) (changed : Option ℕ) (M : History) (i : ℕ) (reply : Reply) → Relies v c (Answering reply) P0 P changed → has_cut (mark_of i reply ∷ M) ≡ true → has_cut M ≡ false → halt_word P ≡ 1

@@ -42,11 +42,7 @@ end_no_call : (e : Mark) (j i a : ℕ) (c : Command) → IsEnd e j → e ≡ Cal
 end_no_call (Answer k answer) j i a c ends e = absurd (false≢true (ap is_call e))
 end_no_call (Refused k why) j i a c ends e = absurd (false≢true (ap is_call e))
 end_no_call (CutOff k why) j i a c ends e = absurd (false≢true (ap is_call e))
-end_no_call (Call k b d) j i a c ends e = absurd ends
-end_no_call Stop j i a c ends e = absurd ends
-end_no_call Crash j i a c ends e = absurd ends
-end_no_call (Opened keys) j i a c ends e = absurd ends
-end_no_call (OpenFailed why) j i a c ends e = absurd ends
+end_no_call _ j i a c ends e = absurd ends
 
 -- each call has a number below
 pub called_below : (n : ℕ) (M : History) (i : ℕ) (d : Command) → Ended n M → IsCalled M i d → i < n
@@ -54,28 +50,14 @@ called_below n [] i d h (b, at) = absurd at
 called_below n (e ∷ Call j a c ∷ M) i d h (b, inl is) = absurd (end_no_call e j i b d h.0 is)
 called_below n (e ∷ Call j a c ∷ M) i d h (b, inr (inl is)) = omega (arith, h.1, ap number_of is)
 called_below n (e ∷ Call j a c ∷ M) i d h (b, inr (inr at)) = omega (arith, h.1, called_below j M i d h.2 (b, at))
-called_below n (e ∷ []) i d h at = absurd h
-called_below n (e ∷ Answer j answer ∷ M) i d h at = absurd h
-called_below n (e ∷ Refused j why ∷ M) i d h at = absurd h
-called_below n (e ∷ CutOff j why ∷ M) i d h at = absurd h
-called_below n (e ∷ Stop ∷ M) i d h at = absurd h
-called_below n (e ∷ Crash ∷ M) i d h at = absurd h
-called_below n (e ∷ Opened keys ∷ M) i d h at = absurd h
-called_below n (e ∷ OpenFailed why ∷ M) i d h at = absurd h
+called_below n _ i d h at = absurd h
 
 answered_below : (n : ℕ) (M : History) (i : ℕ) (answer : Bool) → Ended n M → IsAnswered M i answer → i < n
 answered_below n [] i answer h at = absurd at
 answered_below n (e ∷ Call j a c ∷ M) i answer h (inl is) = let same : i ≡ j = subst (λ (m : Mark). IsEnd m j) is h.0 in omega (arith, same, h.1)
 answered_below n (e ∷ Call j a c ∷ M) i answer h (inr (inl is)) = absurd (false≢true (sym (ap is_call is)))
 answered_below n (e ∷ Call j a c ∷ M) i answer h (inr (inr at)) = omega (arith, h.1, answered_below j M i answer h.2 at)
-answered_below n (e ∷ []) i answer h at = absurd h
-answered_below n (e ∷ Answer j told ∷ M) i answer h at = absurd h
-answered_below n (e ∷ Refused j why ∷ M) i answer h at = absurd h
-answered_below n (e ∷ CutOff j why ∷ M) i answer h at = absurd h
-answered_below n (e ∷ Stop ∷ M) i answer h at = absurd h
-answered_below n (e ∷ Crash ∷ M) i answer h at = absurd h
-answered_below n (e ∷ Opened keys ∷ M) i answer h at = absurd h
-answered_below n (e ∷ OpenFailed why ∷ M) i answer h at = absurd h
+answered_below n _ i answer h at = absurd h
 
 abbrev IsOver : History → ℕ → Type 0
 IsOver M i = ((answer : Bool) × IsAnswered M i answer) ⊎ IsRefused M i
@@ -207,14 +189,7 @@ over n (Stop ∷ Call q a c ∷ M) j d h clean at = absurd h.0
 over n (Crash ∷ Call q a c ∷ M) j d h clean at = absurd h.0
 over n (Opened keys ∷ Call q a c ∷ M) j d h clean at = absurd h.0
 over n (OpenFailed why ∷ Call q a c ∷ M) j d h clean at = absurd h.0
-over n (e ∷ []) j d h clean at = absurd h
-over n (e ∷ Answer q answer ∷ M) j d h clean at = absurd h
-over n (e ∷ Refused q why ∷ M) j d h clean at = absurd h
-over n (e ∷ CutOff q why ∷ M) j d h clean at = absurd h
-over n (e ∷ Stop ∷ M) j d h clean at = absurd h
-over n (e ∷ Crash ∷ M) j d h clean at = absurd h
-over n (e ∷ Opened keys ∷ M) j d h clean at = absurd h
-over n (e ∷ OpenFailed why ∷ M) j d h clean at = absurd h
+over n _ j d h clean at = absurd h
 
 -- the newest call isn't listed, or is listed last
 record IsWithout (S : Keys) (M : History) (i : ℕ) (L : List ℕ) (T : Keys) : Type 0 where
@@ -348,39 +323,4 @@ served_same (Refused i Worn ∷ Call j a c ∷ M) S T U same h = (h.0, served_sa
 served_same (CutOff i why ∷ Call j a c ∷ M) S T U same h = (h.0, served_same (Call j a c ∷ M) S T U same h.1)
 served_same (Call j a c ∷ M) S T U same (inl h) = inl (served_same M S T U same h)
 served_same (Call j a c ∷ M) S T U same (inr h) = inr (h.0, (h.1.0, h.1.1, λ k. h.1.2 k ∙ same k))
-served_same (Answer i answer ∷ []) S T U same h = absurd h
-served_same (Answer i answer ∷ Answer q told ∷ M) S T U same h = absurd h
-served_same (Answer i answer ∷ Refused q reason ∷ M) S T U same h = absurd h
-served_same (Answer i answer ∷ CutOff q reason ∷ M) S T U same h = absurd h
-served_same (Answer i answer ∷ Stop ∷ M) S T U same h = absurd h
-served_same (Answer i answer ∷ Crash ∷ M) S T U same h = absurd h
-served_same (Answer i answer ∷ Opened keys ∷ M) S T U same h = absurd h
-served_same (Answer i answer ∷ OpenFailed reason ∷ M) S T U same h = absurd h
-served_same (Refused i Full ∷ []) S T U same h = absurd h
-served_same (Refused i Full ∷ Answer q told ∷ M) S T U same h = absurd h
-served_same (Refused i Full ∷ Refused q reason ∷ M) S T U same h = absurd h
-served_same (Refused i Full ∷ CutOff q reason ∷ M) S T U same h = absurd h
-served_same (Refused i Full ∷ Stop ∷ M) S T U same h = absurd h
-served_same (Refused i Full ∷ Crash ∷ M) S T U same h = absurd h
-served_same (Refused i Full ∷ Opened keys ∷ M) S T U same h = absurd h
-served_same (Refused i Full ∷ OpenFailed reason ∷ M) S T U same h = absurd h
-served_same (Refused i Worn ∷ []) S T U same h = absurd h
-served_same (Refused i Worn ∷ Answer q told ∷ M) S T U same h = absurd h
-served_same (Refused i Worn ∷ Refused q reason ∷ M) S T U same h = absurd h
-served_same (Refused i Worn ∷ CutOff q reason ∷ M) S T U same h = absurd h
-served_same (Refused i Worn ∷ Stop ∷ M) S T U same h = absurd h
-served_same (Refused i Worn ∷ Crash ∷ M) S T U same h = absurd h
-served_same (Refused i Worn ∷ Opened keys ∷ M) S T U same h = absurd h
-served_same (Refused i Worn ∷ OpenFailed reason ∷ M) S T U same h = absurd h
-served_same (CutOff i why ∷ []) S T U same h = absurd h
-served_same (CutOff i why ∷ Answer q told ∷ M) S T U same h = absurd h
-served_same (CutOff i why ∷ Refused q reason ∷ M) S T U same h = absurd h
-served_same (CutOff i why ∷ CutOff q reason ∷ M) S T U same h = absurd h
-served_same (CutOff i why ∷ Stop ∷ M) S T U same h = absurd h
-served_same (CutOff i why ∷ Crash ∷ M) S T U same h = absurd h
-served_same (CutOff i why ∷ Opened keys ∷ M) S T U same h = absurd h
-served_same (CutOff i why ∷ OpenFailed reason ∷ M) S T U same h = absurd h
-served_same (Stop ∷ M) S T U same h = absurd h
-served_same (Crash ∷ M) S T U same h = absurd h
-served_same (Opened keys ∷ M) S T U same h = absurd h
-served_same (OpenFailed why ∷ M) S T U same h = absurd h
+served_same _ _ _ _ same h = absurd h

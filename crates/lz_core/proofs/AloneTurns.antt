@@ -50,23 +50,16 @@ use Rattle.lz_core.proofs.Using.{free_limbo}
 use Rattle.lz_core.proofs.Lines.{course_dead}
 
 no_full_rest : (v : View) (c : Command) (s : ℕ) (counts : Counts) (i : ℕ) (P0 P : Trace) (changed : Option ℕ) → ReliesOn v c (Resting s (Full counts)) i P0 P changed → ⊥
-no_full_rest v (Add k) s counts zero P0 P changed h = h.1
-no_full_rest v (Remove k) s counts zero P0 P changed h = h.1
-no_full_rest v (Has k) s counts zero P0 P changed h = h.1
-no_full_rest v (Add k) s counts (suc zero) P0 P changed h = h.1
-no_full_rest v (Remove k) s counts (suc zero) P0 P changed h = h.1
-no_full_rest v (Has k) s counts (suc zero) P0 P changed h = h.1
 no_full_rest v (Add k) s counts (suc (suc i)) P0 P changed h = h
 no_full_rest v (Remove k) s counts (suc (suc i)) P0 P changed h = h
 no_full_rest v (Has k) s counts (suc (suc i)) P0 P changed h = h
+no_full_rest v _ s counts _ _ _ changed h = h.1
 
 no_full_halt : (v : View) (c : Command) (counts : Counts) (i : ℕ) (P0 P : Trace) (changed : Option ℕ) → ReliesOn v c (Halting (Full counts)) i P0 P changed → ⊥
-no_full_halt v (Add k) counts zero P0 P changed h = h.0
-no_full_halt v (Remove k) counts zero P0 P changed h = h.0
-no_full_halt v (Has k) counts zero P0 P changed h = h.0
 no_full_halt v (Add k) counts (suc i) P0 P changed h = h
 no_full_halt v (Remove k) counts (suc i) P0 P changed h = h
 no_full_halt v (Has k) counts (suc i) P0 P changed h = h
+no_full_halt v _ counts zero _ _ changed h = h.0
 
 -- what a script leads to
 script_goes : (y : Yard) (Q : Trace) (v : View) (c : Command) (script : Script) (i : ℕ) (P0 P : Trace) (changed : Option ℕ) → ReliesOn v c script i P0 P changed → WalkStands y Q (goes_on script) c
@@ -117,13 +110,8 @@ calm_script w c (Halting reply) zero calm = (refl, refl)
 calm_script w c (Halting reply) (suc i) calm = (refl, refl)
 
 calm_adds : (script : Script) (i s : ℕ) → is_calm_script script ≡ true → AddsTo (Playing script i) s → ⊥
-calm_adds Pinning i s calm adds = adds
-calm_adds (Resting t reply) i s calm adds = adds
-calm_adds (Writing t) i s calm adds = adds
 calm_adds (Adding t) i s calm adds = false≢true calm
-calm_adds (Removing t) i s calm adds = adds
-calm_adds (Releasing aim) i s calm adds = adds
-calm_adds (Halting reply) i s calm adds = adds
+calm_adds _ i s calm adds = adds
 
 module _ (n calls : ℕ) (y : Yard) (callers : List (Option Caller)) (disk : Medium) (M : History) (P : Trace) (notes : Notes) (sound : Sound n calls y callers disk M P notes) (a i : ℕ) (c : Command) where
   abbrev actor : Actor
@@ -397,11 +385,7 @@ module _ (n calls : ℕ) (y : Yard) (callers : List (Option Caller)) (disk : Med
     where
       left_now : (reply : Reply) → caller_at callers a ≡ Some (call_at i c (Answering reply)) → (says_yes (Answering reply) ≡ false → HasLeft y.uses a) → HasLeft (line y a Answer).0.uses a
       left_now Yes is left = yes_left now (own_inside n calls y callers disk M P notes a i c (Answering Yes) is sound refl)
-      left_now No is left = answer_left (course y a Answer) (left refl)
-      left_now (Full counts) is left = answer_left (course y a Answer) (left refl)
-      left_now SaysWorn is left = answer_left (course y a Answer) (left refl)
-      left_now Halted is left = answer_left (course y a Answer) (left refl)
-      left_now Device is left = answer_left (course y a Answer) (left refl)
+      left_now _ is left = answer_left (course y a Answer) (left refl)
 
   -- where a call has come so far, its turn
   abbrev Turned : Progress → Type 0
@@ -463,10 +447,4 @@ module _ (n calls : ℕ) (y : Yard) (callers : List (Option Caller)) (disk : Med
     where
       no_yes : (at : Progress) → reply_at at ≡ None → says_yes at ≡ false
       no_yes (Answering reply) goes = absurd (none-some reply (sym goes))
-      no_yes (Playing script j) goes = refl
-      no_yes LoadsHalt goes = refl
-      no_yes (Walking aim look) goes = refl
-      no_yes (Reserving again) goes = refl
-      no_yes (SeeingPins p) goes = refl
-      no_yes (Claiming aim pred curr) goes = refl
-      no_yes (Checking aim curr) goes = refl
+      no_yes _ goes = refl

@@ -38,11 +38,7 @@ no_past P0 P A lt once = let r = once_some P0 P A once in omega (arith, lt, shor
 not_prepared : (buckets : ℕ) (P0 : Trace) (e : Publishing) (P : Trace) → length P < length P0 → IsKept buckets P0 e P
 not_prepared buckets P0 (key_prepared s v) P lt = λ b stood. no_past P0 P (λ R. on 0 (chain buckets b R) (suc s) ≡ true) lt stood
 not_prepared buckets P0 (link_prepared s v) P lt = λ b stood. no_past P0 P (λ R. on 0 (chain buckets b R) (suc s) ≡ true) lt stood
-not_prepared buckets P0 (linked k s p) P lt = tt
-not_prepared buckets P0 (settled s change) P lt = tt
-not_prepared buckets P0 (marked k s p) P lt = tt
-not_prepared buckets P0 (unlinked k s p) P lt = tt
-not_prepared buckets P0 halted P lt = tt
+not_prepared buckets _ _ _ lt = tt
 
 quiet_before : (buckets : ℕ) (P0 P : Trace) → length P ≤ length P0 → IsQuiet buckets P0 P
 quiet_before buckets P0 [] le = tt

@@ -190,12 +190,8 @@ module _ (n calls : ℕ) (y : Yard) (callers : List (Option Caller)) (disk : Med
 
 -- what the call relies on
 rests_of : (c : Command) (says : Reply) (a : ℕ) (y : Yard) (P0 P : Trace) (changed : Option ℕ) → (says ≡ SaysWorn → ⊥) → Relies (view_of y.shape y.vault y.actors a) c (Answering says) P0 P changed → MayAnswer c says P0 P changed × (((actor_in y.actors a).hold ≡ Nothing) ⊎ (halt_word P ≡ 1))
-rests_of c Yes a y P0 P changed fit h = h
-rests_of c No a y P0 P changed fit h = h
-rests_of c (Full counts) a y P0 P changed fit h = h
-rests_of c Halted a y P0 P changed fit h = h
-rests_of c Device a y P0 P changed fit h = h
 rests_of c SaysWorn a y P0 P changed fit h = absurd (fit refl)
+rests_of c _ a y _ _ changed fit h = h
 
 worn_rests : (c : Command) (P0 P : Trace) (changed : Option ℕ) → changed ≡ None → MayAnswer c SaysWorn P0 P changed
 worn_rests (Add k) P0 P changed h = h

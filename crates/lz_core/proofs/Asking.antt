@@ -96,20 +96,7 @@ module _ (n calls : ℕ) (y : Yard) (callers : List (Option Caller)) (disk : Med
       go (Has k) No g = met k true g
       go (Add k) No g = met k false g
       go (Remove k) No g = met k true g
-      go (Add k) Yes g = absurd g
-      go (Remove k) Yes g = absurd g
-      go (Has k) (Full counts) g = absurd g
-      go (Has k) SaysWorn g = absurd g
-      go (Has k) Halted g = absurd g
-      go (Has k) Device g = absurd g
-      go (Add k) (Full counts) g = absurd g
-      go (Add k) SaysWorn g = absurd g
-      go (Add k) Halted g = absurd g
-      go (Add k) Device g = absurd g
-      go (Remove k) (Full counts) g = absurd g
-      go (Remove k) SaysWorn g = absurd g
-      go (Remove k) Halted g = absurd g
-      go (Remove k) Device g = absurd g
+      go _ _ g = absurd g
 
   -- the node that a removing has marked
   marked_lt : (s : ℕ) → (actor_in y.actors a).curr ≡ Some s → (actor_in y.actors a).hold ≡ Marked → s < y.shape.slots
@@ -121,53 +108,40 @@ module _ (n calls : ℕ) (y : Yard) (callers : List (Option Caller)) (disk : Med
   AsksIn d script i = Relies v d (Playing script i) P0 P (notes.changed a) → IsEventOf z (loaded y.words (event_at y.shape d (Playing script i)))
 
   adds : (d : Command) (s i : ℕ) → AsksIn d (Adding s) i
-  adds (Add k) s zero h = tt
-  adds (Add k) s (suc zero) h = tt
-  adds (Add k) s (suc (suc zero)) h = tt
   adds (Add k) s (suc (suc (suc zero))) h = stood_lt k s h.1.stood
   adds (Add k) s (suc (suc (suc (suc zero)))) h = stood_lt k s h.1.stood
   adds (Add k) s (suc (suc (suc (suc (suc i))))) h = absurd h
   adds (Remove k) s i h = absurd h
   adds (Has k) s i h = absurd h
+  adds _ s _ h = tt
 
   removes : (d : Command) (s i : ℕ) → AsksIn d (Removing s) i
-  removes (Remove k) s zero h = tt
-  removes (Remove k) s (suc zero) h = tt
   removes (Remove k) s (suc (suc zero)) h = marked_lt s h.0 h.2.0
   removes (Remove k) s (suc (suc (suc zero))) h = marked_lt s h.0 h.2.0
-  removes (Remove k) s (suc (suc (suc (suc zero)))) h = tt
-  removes (Remove k) s (suc (suc (suc (suc (suc zero))))) h = tt
-  removes (Remove k) s (suc (suc (suc (suc (suc (suc zero)))))) h = tt
   removes (Remove k) s (suc (suc (suc (suc (suc (suc (suc i))))))) h = absurd h.2
   removes (Add k) s i h = absurd h
   removes (Has k) s i h = absurd h
+  removes _ s _ h = tt
 
   asks_in : (script : Script) (i : ℕ) → AsksIn c script i
   asks_in Pinning zero h = tt
-  asks_in Pinning (suc i) h = absurd h
   asks_in (Resting s reply) zero h = rests c reply s h.1
   asks_in (Resting s reply) (suc zero) h = rests c reply s h.1
-  asks_in (Resting s reply) (suc (suc i)) h = absurd h
   asks_in (Writing s) zero h = tt
   asks_in (Writing s) (suc zero) h = (sound.slots.hand a s h.1).in_range
-  asks_in (Writing s) (suc (suc i)) h = absurd h
   asks_in (Adding s) i h = adds c s i h
   asks_in (Removing s) i h = removes c s i h
   asks_in (Releasing aim) zero h = tt
-  asks_in (Releasing aim) (suc i) h = absurd h
   asks_in (Halting reply) zero h = tt
-  asks_in (Halting reply) (suc i) h = absurd h
+  asks_in _ _ h = absurd h
 
   -- by how far the call has come
   pub asks : (at : Progress) → Relies v c at P0 P (notes.changed a) → Asks at
   asks (Playing script i) h = asks_in script i h
-  asks LoadsHalt h = tt
   asks (Walking aim look) h = looks look h.2
-  asks (Reserving again) h = tt
   asks (SeeingPins p) h = (h.2, h.3)
   asks (Claiming aim pred curr) h = claims pred curr (ended_between c aim y.shape.buckets P0 P pred curr h.2)
-  asks (Checking aim curr) h = tt
-  asks (Answering reply) h = tt
+  asks _ h = tt
 
 module _ (y : Yard) (honest : Bool) (disk : Medium) (a : ℕ) (e : Event) (may : MayPlay y honest disk a e) (other : is_invoke e ≡ false) where
   next_asks : IsEventOf y e

@@ -55,12 +55,10 @@ pub cell_there : (y : Yard) (s : ℕ) → s < length y.vault.cells → slice_get
 cell_there y s low = slice_get-get_or y.vault.cells s no_cell low
 
 unused_free : (stage : Stage) → is_unused stage ≡ true → IsFree stage
-unused_free Closed h = tt
-unused_free KeyLoose h = tt
-unused_free Keyed h = tt
 unused_free Opening h = absurd cc
 unused_free Open h = absurd cc
 unused_free Closing h = absurd cc
+unused_free _ h = tt
 
 either_opened : (stage : Stage) → (stage ≡ Opening) ⊎ (stage ≡ Open) → IsOpened stage
 either_opened stage (inl is) = subst IsOpened (sym is) tt

@@ -149,11 +149,9 @@ pending_open callers changed zero x h = absurd h
 pending_open callers changed (suc m) x h = ⊎_elim (λ before. pending_open callers changed m x before) (λ here. go (caller_at callers (suc m)) (changed (suc m)) refl refl here) (has_append x (pending callers changed m) (pending_row (caller_at callers (suc m)) (changed (suc m))) h)
   where
     go : (caller : Option Caller) (j : Option ℕ) → caller_at callers (suc m) ≡ caller → changed (suc m) ≡ j → HasRow x (pending_row caller j) → (b : ℕ) × (c : Caller) × (i : ℕ) × (caller_at callers b ≡ Some c) × (changed b ≡ Some i) × (c.number ≡ x.number)
-    go None None is was h = absurd h
-    go None (Some j) is was h = absurd h
-    go (Some c) None is was h = absurd h
     go (Some c) (Some j) is was (inl here) = (suc m, c, j, is, was, ap (λ (q : Row). q.number) here)
     go (Some c) (Some j) is was (inr none) = absurd none
+    go _ _ is was h = absurd h
 
 no_times : (j : ℕ) (L : List Row) → ((x : Row) → HasRow x L → x.number ≢ j) → times j L ≡ 0
 no_times j [] other = refl

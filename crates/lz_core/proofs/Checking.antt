@@ -200,10 +200,7 @@ module _ (n calls : ℕ) (y : Yard) (callers : List (Option Caller)) (disk : Med
     true_then : (d : Command) (to : Option ℕ) → notes.changed a ≡ None → IsAimed (v Locks) (key_of d) P to → HasEnded d to y.shape.buckets (notes.begun a) P actor.pred actor.curr → then d to actor.curr
     true_then (Add k) (Some s) none aimed h = true_adds k s none aimed h
     true_then (Remove k) None none aimed h = true_removes k none aimed h
-    true_then (Add k) None none aimed h = absurd h
-    true_then (Remove k) (Some s) none aimed h = absurd h
-    true_then (Has k) None none aimed h = absurd h
-    true_then (Has k) (Some s) none aimed h = absurd h
+    true_then _ _ none aimed h = absurd h
 
     true_keeps : Sound n calls (in_hands y y.locks a (with_hold actor Checked)) (moving callers a (call_at i c at) (changes c aim curr)) disk M P notes
     true_keeps =

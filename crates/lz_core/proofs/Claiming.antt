@@ -39,10 +39,7 @@ use mathlib.Core.Bool.{false≢true}
 pub ended_between : (c : Command) (aim : Option ℕ) (buckets : ℕ) (P0 P : Trace) (pred : Place) (curr : Option ℕ) → HasEnded c aim buckets P0 P pred curr → WasBetween buckets (key_of c) pred (link_to curr) P0 P
 ended_between (Add k) (Some s) buckets P0 P pred curr h = h.0
 ended_between (Remove k) None buckets P0 P pred curr h = h.0
-ended_between (Add k) None buckets P0 P pred curr h = absurd h
-ended_between (Remove k) (Some s) buckets P0 P pred curr h = absurd h
-ended_between (Has k) None buckets P0 P pred curr h = absurd h
-ended_between (Has k) (Some s) buckets P0 P pred curr h = absurd h
+ended_between _ _ buckets _ _ pred curr h = absurd h
 
 -- so both stood
 pub pred_was : (buckets k : ℕ) (P0 P : Trace) (pred : Place) (n : ℕ) → WasBetween buckets k pred n P0 P → Stood buckets (bucket_of buckets k) P0 P (place_number pred)

@@ -225,15 +225,9 @@ module _ (n calls : ℕ) (y : Yard) (callers : List (Option Caller)) (disk : Med
       ]
 
       shut_locks : (hold : Hold) → shuts hold ≡ true → has_locks hold ≡ true
-      shut_locks GateClosed e = refl
-      shut_locks Marked e = refl
-      shut_locks Checked e = refl
-      shut_locks Locks e = refl
-      shut_locks GateOpened e = refl
-      shut_locks Linked e = refl
-      shut_locks Unlinked e = refl
       shut_locks Nothing e = absurd (false≢true e)
       shut_locks Released e = absurd (false≢true e)
+      shut_locks _ e = refl
 
   abbrev callers' : List (Option Caller)
   callers' = moving callers a (call_at i (Remove k) at) (Playing (Removing s) 1)

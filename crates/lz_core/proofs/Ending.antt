@@ -222,11 +222,7 @@ module _ (p r : Row) (same : p.command ≡ r.command) where
   swapped : (f : Publishing) → IsChangeOf f (p ∷ []) → IsChangeOf f (r ∷ [])
   swapped (linked k s q) h = (r, refl, sym same ∙ ap (λ (z : Row). z.command) (first_same h.1) ∙ h.2)
   swapped (marked k s q) h = (r, refl, sym same ∙ ap (λ (z : Row). z.command) (first_same h.1) ∙ h.2)
-  swapped (unlinked k s q) h = none_here h
-  swapped (settled s c) h = none_here h
-  swapped (key_prepared s v) h = none_here h
-  swapped (link_prepared s v) h = none_here h
-  swapped halted h = none_here h
+  swapped _ h = none_here h
 
   -- a row that changes alone at its position is put elsewhere
   moved_change : (f : Publishing) (A C D : List Row) → IsChangeOf f (A ++ (C ++ (p ∷ D))) → IsChangeOf f ((A ++ r ∷ []) ++ (C ++ D))

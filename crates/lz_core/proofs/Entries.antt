@@ -87,8 +87,4 @@ module _ (n : ℕ) (P : Trace) (drop : Keys) (may : MayDrop n P drop) where
   pub kept_fits : (j : ℕ) (e : Publishing) (entries : List Row) → IsChangeOf e (change_at j entries) → RowsFit P drop j e (change_at j (kept_rows P drop entries))
   kept_fits j (linked k s p) entries h = change_fits j k (Add k) entries refl h.0 h.1 h.2 (drop k && (last_change k P == suc j)) refl
   kept_fits j (marked k s p) entries h = change_fits j k (Remove k) entries refl h.0 h.1 h.2 (drop k && (last_change k P == suc j)) refl
-  kept_fits j (unlinked k s p) entries h = none_fits j entries h
-  kept_fits j (settled s r) entries h = none_fits j entries h
-  kept_fits j (key_prepared s v) entries h = none_fits j entries h
-  kept_fits j (link_prepared s v) entries h = none_fits j entries h
-  kept_fits j halted entries h = none_fits j entries h
+  kept_fits j _ entries h = none_fits j entries h

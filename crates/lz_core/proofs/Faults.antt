@@ -134,19 +134,14 @@ module _ (n calls : ℕ) (y : Yard) (callers : List (Option Caller)) (disk : Med
 
   script_fault : (c : Command) (script : Script) (j : ℕ) → IsAt c (Playing script j) → ReliesOn (view_of y.shape y.vault y.actors a) c script j (notes.begun a) P (notes.changed a) → Faults c (Playing script j)
   script_fault c Pinning zero is relies new may = none_fault c (Playing Pinning 0) refl new may
-  script_fault c Pinning (suc j) is relies new may = absurd relies
   script_fault c (Resting s reply) j is relies new may = rest_fault c s reply j is relies new may
   script_fault c (Writing s) j is relies new may = write_fault c s j is relies new may
   script_fault (Add k) (Adding s) j is relies new may = add_fault k s j is relies new may
-  script_fault (Remove k) (Adding s) j is relies new may = absurd relies
-  script_fault (Has k) (Adding s) j is relies new may = absurd relies
-  script_fault (Add k) (Removing s) j is relies new may = absurd relies
   script_fault (Remove k) (Removing s) j is relies new may = remove_fault k s j is relies.2 new may
-  script_fault (Has k) (Removing s) j is relies new may = absurd relies
   script_fault c (Releasing aim) zero is relies new may = none_fault c (Playing (Releasing aim) 0) refl new may
-  script_fault c (Releasing aim) (suc j) is relies new may = absurd relies
   script_fault c (Halting reply) zero is relies new may = none_fault c (Playing (Halting reply) 0) refl new may
-  script_fault c (Halting reply) (suc j) is relies new may = absurd relies
+  script_fault c Pinning (suc j) is relies new may = absurd relies
+  script_fault _ _ _ is relies new may = absurd relies
 
   -- each turn whose device call fails
   pub fault_up : (c : Command) (at : Progress) → IsAt c at → Faults c at

@@ -25,9 +25,7 @@ pub unused_closed : (stage : Stage) → is_unused stage ≡ true → IsGateClose
 unused_closed Closed is = inl refl
 unused_closed KeyLoose is = inr (inl refl)
 unused_closed Keyed is = inr (inr refl)
-unused_closed Opening is = absurd (false≢true is)
-unused_closed Open is = absurd (false≢true is)
-unused_closed Closing is = absurd (false≢true is)
+unused_closed _ is = absurd (false≢true is)
 
 -- and one with a closed gate wasn't used
 pub closed_unused : (stage : Stage) → IsGateClosed stage → is_unused stage ≡ true
@@ -131,15 +129,11 @@ module _ (shape : Shape) (cells : List Cell) (dead : Bool) (uses : List Use) (ac
   }
 
   rests_still : (hold : Hold) → (actor_in actors a).hold ≡ hold → RestsOn shape.buckets hold (actor_in actors a) P → RestsOn shape.buckets hold x P
-  rests_still Nothing is h = tt
-  rests_still Locks is h = tt
   rests_still Checked is h = record { beside = λ t slot. absurd (none-some _ slot); before = h.before }
   rests_still GateOpened is h = absurd (opened_used (stage_in cells s) unused (slots.opened a s has (ap unlocks is)))
-  rests_still Linked is h = tt
   rests_still GateClosed is h = record { node = h.node; curr = h.curr; before = h.before; marked = h.marked }
   rests_still Marked is h = record { node = h.node; curr = h.curr; before = h.before; marked = h.marked }
-  rests_still Unlinked is h = tt
-  rests_still Released is h = tt
+  rests_still _ is h = tt
 
   pub given_locks : (locks : NodeLocks) → LocksSound shape locks actors P → LocksSound shape locks actors' P
   given_locks locks h = held_locks shape locks actors actors' P a hand_b h

@@ -14,23 +14,12 @@ pub closes_dead : (dead dead' : Bool) (hold : Hold) → (dead ≡ true → dead'
 closes_dead dead dead' Checked dies is = dies is
 closes_dead dead dead' GateClosed dies is = refl
 closes_dead dead dead' Marked dies is = refl
-closes_dead dead dead' Nothing dies is = absurd (false≢true is)
-closes_dead dead dead' Locks dies is = absurd (false≢true is)
-closes_dead dead dead' GateOpened dies is = absurd (false≢true is)
-closes_dead dead dead' Linked dies is = absurd (false≢true is)
-closes_dead dead dead' Unlinked dies is = absurd (false≢true is)
-closes_dead dead dead' Released dies is = absurd (false≢true is)
+closes_dead dead dead' _ dies is = absurd (false≢true is)
 
 pub opens_dead : (dead dead' : Bool) (hold : Hold) → (dead ≡ true → dead' ≡ true) → opens dead hold ≡ true → opens dead' hold ≡ true
 opens_dead dead dead' Checked dies is = dies is
 opens_dead dead dead' GateOpened dies is = refl
-opens_dead dead dead' GateClosed dies is = absurd (false≢true is)
-opens_dead dead dead' Marked dies is = absurd (false≢true is)
-opens_dead dead dead' Nothing dies is = absurd (false≢true is)
-opens_dead dead dead' Locks dies is = absurd (false≢true is)
-opens_dead dead dead' Linked dies is = absurd (false≢true is)
-opens_dead dead dead' Unlinked dies is = absurd (false≢true is)
-opens_dead dead dead' Released dies is = absurd (false≢true is)
+opens_dead dead dead' _ dies is = absurd (false≢true is)
 
 -- the actor has the same slots in hand, and may rely on its hold for them
 pub record KeepsGrips (dead dead' : Bool) (old new : Actor) : Type 0 where
@@ -101,12 +90,6 @@ module _ (shape : Shape) (cells : List Cell) (dead dead' : Bool) (uses : List Us
 
 -- an actor that may have closed a gate has its locks
 pub closer_locks : (dead : Bool) (hold : Hold) → closes dead hold ≡ true → has_locks hold ≡ true
-closer_locks dead Checked is = refl
-closer_locks dead GateClosed is = refl
-closer_locks dead Marked is = refl
-closer_locks dead Locks is = refl
-closer_locks dead GateOpened is = refl
-closer_locks dead Linked is = refl
-closer_locks dead Unlinked is = refl
 closer_locks dead Nothing is = absurd (false≢true is)
 closer_locks dead Released is = absurd (false≢true is)
+closer_locks dead _ is = refl

@@ -45,12 +45,7 @@ pub held_node : (shape : Shape) (P : Trace) (hold : Hold) (actor : Actor) → La
 held_node shape P Checked actor law h t is relies = faces_on shape.buckets shape.slots (key_word t P) _ t P law (h.before t is).0.faces
 held_node shape P GateClosed actor law h t is relies = subst (λ (q : ℕ). on 0 (chain_of shape.buckets (key_word q P) P) (suc q) ≡ true) (same_Some _ _ (sym h.curr ∙ is)) (faces_on shape.buckets shape.slots (key_word h.node P) _ h.node P law h.before.faces)
 held_node shape P Marked actor law h t is relies = subst (λ (q : ℕ). on 0 (chain_of shape.buckets (key_word q P) P) (suc q) ≡ true) (same_Some _ _ (sym h.curr ∙ is)) (faces_on shape.buckets shape.slots (key_word h.node P) _ h.node P law h.before.faces)
-held_node shape P Nothing actor law h t is relies = absurd (false≢true relies)
-held_node shape P Locks actor law h t is relies = absurd (false≢true relies)
-held_node shape P GateOpened actor law h t is relies = absurd (false≢true relies)
-held_node shape P Linked actor law h t is relies = absurd (false≢true relies)
-held_node shape P Unlinked actor law h t is relies = absurd (false≢true relies)
-held_node shape P Released actor law h t is relies = absurd (false≢true relies)
+held_node shape _ _ actor law h t is relies = absurd (false≢true relies)
 
 pub trace_halted : (shape : Shape) (words : Words) (P : Trace) → TraceSound shape words P → TraceSound shape (record { heads = words.heads; links = words.links; keys = words.keys; pins = words.pins; halt = 1 }) (halted ∷ P)
 trace_halted shape words P h = record { lawful = (tt, h.lawful); some = h.some; small = h.small; heads = h.heads; links = h.links; keys = h.keys; halt = refl; pins = h.pins }
@@ -95,10 +90,7 @@ module _ (n calls : ℕ) (y : Yard) (callers : List (Option Caller)) (disk : Med
   cut_tail : (reply : Reply) → IsCut reply → may_have_tail (Answering reply) ≡ true
   cut_tail Halted cut = refl
   cut_tail Device cut = refl
-  cut_tail Yes cut = absurd cut
-  cut_tail No cut = absurd cut
-  cut_tail (Full counts) cut = absurd cut
-  cut_tail Worn cut = absurd cut
+  cut_tail _ cut = absurd cut
 
   pub halt_keeps : (a i : ℕ) (c : Command) (reply : Reply) → caller_at callers a ≡ Some (call_at i c (Playing (Halting reply) 0))
       → Sound n calls (yard_done y (actor_at y a) a Halt) (moving callers a (call_at i c (Playing (Halting reply) 0)) (progress_after y.shape c (Playing (Halting reply) 0) Done)) disk M (halted ∷ P) notes

@@ -92,11 +92,7 @@ pair_published buckets e actor P leaves h = go actor.hold refl
     go GateOpened is = pair_stays buckets e actor P (leaves (ap rests_on_pair is)) actor.hold h
     go GateClosed is = pair_stays buckets e actor P (leaves (ap rests_on_pair is)) actor.hold h
     go Marked is = pair_stays buckets e actor P (leaves (ap rests_on_pair is)) actor.hold h
-    go Nothing is = subst (λ (q : Hold). RestsOn buckets q actor (e ∷ P)) (sym is) tt
-    go Locks is = subst (λ (q : Hold). RestsOn buckets q actor (e ∷ P)) (sym is) tt
-    go Linked is = subst (λ (q : Hold). RestsOn buckets q actor (e ∷ P)) (sym is) tt
-    go Unlinked is = subst (λ (q : Hold). RestsOn buckets q actor (e ∷ P)) (sym is) tt
-    go Released is = subst (λ (q : Hold). RestsOn buckets q actor (e ∷ P)) (sym is) tt
+    go _ is = subst (λ (q : Hold). RestsOn buckets q actor (e ∷ P)) (sym is) tt
 
 -- A linking at another place, of another slot.
 pub linked_leaves : (buckets slots k s p : ℕ) (actor : Actor) (P : Trace) → Lawful buckets slots P

@@ -88,20 +88,16 @@ member_read Closing k j r (inr may) is = (same may is, inr refl)
     same one other = cc
 
 pub shut_read : (stage : Stage) (k : ℕ) (r : SlotRead) → MayRead stage k r → IsGateClosed stage → r ≡ Shut
-shut_read Closed k r may is = may
-shut_read KeyLoose k r may is = may
-shut_read Keyed k r may is = may
 shut_read Opening k r may is = absurd (grind (arith, is))
 shut_read Open k r may is = absurd (grind (arith, is))
 shut_read Closing k r may is = absurd (grind (arith, is))
+shut_read _ k r may is = may
 
 pub one_or_other : (stage : Stage) (k : ℕ) (r : SlotRead) → MayRead stage k r → (r ≡ Shut) ⊎ (r ≡ Member k)
-one_or_other Closed k r may = inl may
-one_or_other KeyLoose k r may = inl may
-one_or_other Keyed k r may = inl may
 one_or_other Opening k r may = may
 one_or_other Open k r may = inr may
 one_or_other Closing k r may = may
+one_or_other _ k r may = inl may
 
 -- a key that is on a chain has a node there
 has_node : (next keys : ℕ → ℕ) (k x : ℕ) (c : Chain) → Shows next keys x c → has_key k c ≡ true → (s : ℕ) × (on x c (suc s) ≡ true) × (keys s ≡ k)

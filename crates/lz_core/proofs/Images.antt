@@ -65,11 +65,7 @@ fits_from M L S T U same fits = record { once = fits.once; answered = fits.answe
 
 is_at_opening : (stage : Stage) → is_opening stage ≡ true → stage ≡ Opening
 is_at_opening Opening is = refl
-is_at_opening Closed is = absurd (false≢true is)
-is_at_opening KeyLoose is = absurd (false≢true is)
-is_at_opening Keyed is = absurd (false≢true is)
-is_at_opening Open is = absurd (false≢true is)
-is_at_opening Closing is = absurd (false≢true is)
+is_at_opening _ is = absurd (false≢true is)
 
 no_bad_key : (k : ℕ) (r : SlotRead) → (r ≡ Shut) ⊎ (r ≡ Member k) → r ≢ BadKey
 no_bad_key k r (inl shut) = λ bad. let e : Shut ≡ BadKey = sym shut ∙ bad in absurd cc

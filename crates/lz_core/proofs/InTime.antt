@@ -186,9 +186,7 @@ module _ (n calls : ℕ) (y : Yard) (callers : List (Option Caller)) (disk : Med
   add_has (Add k) s (suc (suc zero)) pin h = ap may_release h.0
   add_has (Add k) s (suc (suc (suc zero))) pin h = refl
   add_has (Add k) s (suc (suc (suc (suc zero)))) pin h = refl
-  add_has (Add k) s (suc (suc (suc (suc (suc i))))) pin h = absurd h
-  add_has (Remove k) s i pin h = absurd h
-  add_has (Has k) s i pin h = absurd h
+  add_has _ s _ pin h = absurd h
 
   remove_has : (c : Command) (s i : ℕ) → HasIn c (Removing s) i
   remove_has (Remove k) s zero pin h = closes_now s h.2.0 h.0
@@ -204,19 +202,15 @@ module _ (n calls : ℕ) (y : Yard) (callers : List (Option Caller)) (disk : Med
 
   script_has : (c : Command) (script : Script) (i : ℕ) → HasIn c script i
   script_has c Pinning zero pin h = outside_even (pin_of y a) pin
-  script_has c Pinning (suc i) pin h = absurd h
   script_has c (Resting s reply) zero pin h = refl
   script_has c (Resting s reply) (suc zero) pin h = refl
-  script_has c (Resting s reply) (suc (suc i)) pin h = absurd h
   script_has c (Writing s) zero pin h = ap (λ (q : Option ℕ). is_some q && not (has_opened actor.hold)) h.1 ∙ ap (λ (q : Hold). not (has_opened q)) h.0.hold
   script_has c (Writing s) (suc zero) pin h = refl
-  script_has c (Writing s) (suc (suc i)) pin h = absurd h
   script_has c (Adding s) i pin h = add_has c s i pin h
   script_has c (Removing s) i pin h = remove_has c s i pin h
   script_has c (Releasing aim) zero pin h = ap may_release h.0
-  script_has c (Releasing aim) (suc i) pin h = absurd h
   script_has c (Halting reply) zero pin h = h.1
-  script_has c (Halting reply) (suc i) pin h = absurd h
+  script_has c _ _ pin h = absurd h
 
   answers_inside : pin_of y a % 2 ≡ 1 → needs y a Answer ≡ true
   answers_inside odd = ap (λ (q : Bool). q || (pin_of y a == last_pin)) (inside_odd (pin_of y a) odd)
@@ -226,11 +220,7 @@ module _ (n calls : ℕ) (y : Yard) (callers : List (Option Caller)) (disk : Med
 
   answer_has : (reply : Reply) → IsWornAt (pin_of y a) (Answering reply) → pin_of y a % 2 ≡ side_of (is_before_pin (Answering reply)) → needs y a Answer ≡ true
   answer_has SaysWorn worn pin = answers_worn (worn refl)
-  answer_has Yes worn pin = answers_inside pin
-  answer_has No worn pin = answers_inside pin
-  answer_has (Full counts) worn pin = answers_inside pin
-  answer_has Halted worn pin = answers_inside pin
-  answer_has Device worn pin = answers_inside pin
+  answer_has _ worn pin = answers_inside pin
 
   -- a call's next event has what it needs
   has_needs : (c : Command) (at : Progress) → IsWornAt (pin_of y a) at → pin_of y a % 2 ≡ side_of (is_before_pin at) → Relies v c at (notes.begun a) P (notes.changed a)
@@ -268,24 +258,12 @@ module _ (n calls : ℕ) (y : Yard) (callers : List (Option Caller)) (disk : Med
 
   takes : (at : Progress) → Relies (view_of y.shape y.vault y.actors a) c at (notes.begun a) P (notes.changed a) → MayTake at (line y a (loaded y.words (event_at y.shape c at))).1
   takes (Walking aim look) h = takes_hop aim look h.2
-  takes (Playing script i) h = tt
-  takes LoadsHalt h = tt
-  takes (Reserving again) h = tt
-  takes (SeeingPins p) h = tt
-  takes (Claiming aim pred curr) h = tt
-  takes (Checking aim curr) h = tt
-  takes (Answering reply) h = tt
+  takes _ h = tt
 
 -- a device's fault may always be taken
 pub may_take_fault : (at : Progress) → MayTake at Fault
 may_take_fault (Walking aim look) = tt
-may_take_fault (Playing script i) = tt
-may_take_fault LoadsHalt = tt
-may_take_fault (Reserving again) = tt
-may_take_fault (SeeingPins p) = tt
-may_take_fault (Claiming aim pred curr) = tt
-may_take_fault (Checking aim curr) = tt
-may_take_fault (Answering reply) = tt
+may_take_fault _ = tt
 
 last_of : (pin : ℕ) → (pin == last_pin) ≡ true → pin ≡ last_pin
 last_of pin is = elim (eqb_tells pin last_pin) [
@@ -405,35 +383,23 @@ changes_not (Remove k) aim None = refl
 changes_not (Has k) aim curr = refl
 
 met_not : (buckets : ℕ) (c : Command) (reply : Reply) (s : ℕ) (P0 P : Trace) → MayRest buckets c reply s P0 P → ends_worn (Answering reply) ≡ false
-met_not buckets c Yes s P0 P h = refl
-met_not buckets c No s P0 P h = refl
-met_not buckets c (Full counts) s P0 P h = refl
-met_not buckets c Halted s P0 P h = refl
-met_not buckets c Device s P0 P h = refl
 met_not buckets (Has k) SaysWorn s P0 P h = absurd h
 met_not buckets (Add k) SaysWorn s P0 P h = absurd h
 met_not buckets (Remove k) SaysWorn s P0 P h = absurd h
+met_not buckets c _ s _ _ h = refl
 
 cut_not : (reply : Reply) → IsCut reply → ends_worn (Answering reply) ≡ false
-cut_not Halted h = refl
-cut_not Device h = refl
-cut_not Yes h = refl
-cut_not No h = refl
-cut_not (Full counts) h = refl
 cut_not SaysWorn h = absurd h
+cut_not _ h = refl
 
 module _ (shape : Shape) (v : View) (c : Command) (P0 P : Trace) (changed : Option ℕ) where
   goes_not : (script : Script) (i : ℕ) → Relies v c (Playing script i) P0 P changed → ends_worn (goes_on script) ≡ false
-  goes_not Pinning i h = refl
   goes_not (Resting s reply) zero h = met_not v.buckets c reply s P0 P h.1
   goes_not (Resting s reply) (suc zero) h = met_not v.buckets c reply s P0 P h.1
   goes_not (Resting s reply) (suc (suc i)) h = absurd h
-  goes_not (Writing s) i h = refl
-  goes_not (Adding s) i h = refl
-  goes_not (Removing s) i h = refl
-  goes_not (Releasing aim) i h = refl
   goes_not (Halting reply) zero h = cut_not reply h.0
   goes_not (Halting reply) (suc i) h = absurd h
+  goes_not _ i h = refl
 
   event_not : (script : Script) (i : ℕ) → Relies v c (Playing script i) P0 P changed → ends_worn (after_event c script i) ≡ false
   event_not script i h = go (nat_lt (i + 1) (length (events_of c script)))
@@ -592,16 +558,12 @@ opened_fits looks shape t disk a = subst (λ (q : Option Caller). Fits looks q (
 
 down_fits : (looks : Bool) (i : ℕ) (shape : Shape) (disk : Medium) (step : Step) → MayStep (Down shape disk) step → AllFit (is_look step || looks) (state_after i (Down shape disk) step)
 down_fits looks i shape disk Opens may = opened_fits looks shape disk.seen (synced disk)
-down_fits looks i shape disk (Calls a c) may = absurd may
-down_fits looks i shape disk (Turn a) may = absurd may
-down_fits looks i shape disk (Fails a new) may = absurd may
-down_fits looks i shape disk (Looks a) may = absurd may
 down_fits looks i shape disk Trips may = tt
 down_fits looks i shape disk Stops may = tt
 down_fits looks i shape disk (Crashes t) may = tt
-down_fits looks i shape disk (CrashesIn a t) may = absurd may
 down_fits looks i shape disk (OpenFails why true) may = tt
 down_fits looks i shape disk (OpenFails why false) may = tt
+down_fits looks i shape disk _ may = absurd may
 
 -- what the invariant says of an open service at a point
 pub record IsUpAt (calls : ℕ) (service : Service) (disk : Medium) (P : Trace) : Type 0 where

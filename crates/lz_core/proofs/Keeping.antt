@@ -63,50 +63,27 @@ if_sizes true w v same = same
 if_sizes false w v same = same_sizes w
 
 words_sizes : (y : Yard) (actor : Actor) (a : ℕ) (e : Event) → SameSizes y.words (words_after y actor a e)
-words_sizes y actor a (Invoke c) = same_sizes y.words
 words_sizes y actor a Pin = set_sizes y.words (pin_at a) _
-words_sizes y actor a (Hop word) = same_sizes y.words
-words_sizes y actor a Reserve = same_sizes y.words
 words_sizes y actor a (WriteKey k) = set_sizes y.words (key_at _) k
-words_sizes y actor a (Claim pred curr) = same_sizes y.words
-words_sizes y actor a Check = same_sizes y.words
 words_sizes y actor a WriteOpen = set_sizes y.words (link_at _) _
 words_sizes y actor a Link = redirect_sizes y.words actor.pred _
-words_sizes y actor a WriteClose = same_sizes y.words
 words_sizes y actor a Mark = set_sizes y.words (link_at _) _
-words_sizes y actor a Release = same_sizes y.words
-words_sizes y actor a (Sync s) = same_sizes y.words
 words_sizes y actor a (Settle s) = if_sizes (is_sure y s) y.words (change_flags (settle (cell_at y s).stage) y.words s) (set_sizes y.words (link_at s) _)
 words_sizes y actor a Unlink = redirect_sizes y.words actor.pred _
-words_sizes y actor a Retire = same_sizes y.words
-words_sizes y actor a (SeePin p value) = same_sizes y.words
 words_sizes y actor a Answer = set_sizes y.words (pin_at a) _
 words_sizes y actor a Halt = set_sizes y.words halt_word 1
+words_sizes y actor a _ = same_sizes y.words
 
 synced_size : (b : Bool) (cells : List Cell) → length (if b then cells else map cell_synced cells) ≡ length cells
 synced_size true cells = refl
 synced_size false cells = length-map cells cell_synced
 
 cells_size : (y : Yard) (actor : Actor) (e : Event) → length (cells_after y actor e) ≡ length y.vault.cells
-cells_size y actor (Invoke c) = refl
-cells_size y actor Pin = refl
-cells_size y actor (Hop word) = refl
-cells_size y actor Reserve = refl
 cells_size y actor (WriteKey k) = length-set y.vault.cells _ _
-cells_size y actor (Claim pred curr) = refl
-cells_size y actor Check = refl
 cells_size y actor WriteOpen = length-set y.vault.cells _ _
-cells_size y actor Link = refl
 cells_size y actor WriteClose = length-set y.vault.cells _ _
-cells_size y actor Mark = refl
-cells_size y actor Release = refl
 cells_size y actor (Sync s) = synced_size (is_sure y s) y.vault.cells
-cells_size y actor (Settle s) = refl
-cells_size y actor Unlink = refl
-cells_size y actor Retire = refl
-cells_size y actor (SeePin p value) = refl
-cells_size y actor Answer = refl
-cells_size y actor Halt = refl
+cells_size y actor _ = refl
 
 failed_size : (call : DeviceCall) (old new : List Cell) → length new ≡ length old → length (cells_failed call old new) ≡ length old
 failed_size NoCall old new same = same
@@ -126,25 +103,11 @@ back_size y (Some s) = go (is_unused (cell_at y s).stage)
     go false = refl
 
 uses_size : (y : Yard) (actor : Actor) (a : ℕ) (e : Event) → length (uses_after y actor a e) ≡ length y.uses
-uses_size y actor a (Invoke c) = refl
-uses_size y actor a Pin = refl
-uses_size y actor a (Hop word) = refl
 uses_size y actor a Reserve = reserved_size (collect y.uses) (lowest_free (collect y.uses)) ∙ length-map y.uses collect_at
-uses_size y actor a (WriteKey k) = refl
-uses_size y actor a (Claim pred curr) = refl
-uses_size y actor a Check = refl
-uses_size y actor a WriteOpen = refl
-uses_size y actor a Link = refl
-uses_size y actor a WriteClose = refl
-uses_size y actor a Mark = refl
-uses_size y actor a Release = refl
-uses_size y actor a (Sync s) = refl
-uses_size y actor a (Settle s) = refl
-uses_size y actor a Unlink = refl
 uses_size y actor a Retire = length-set y.uses _ _
 uses_size y actor a (SeePin p value) = length-map y.uses (see_pin_at p value)
 uses_size y actor a Answer = length-map (given_back y actor.slot) (see_pin_at a _) ∙ back_size y actor.slot
-uses_size y actor a Halt = refl
+uses_size y actor a _ = refl
 
 -- what actors have in hand, where one of them has other things
 abbrev Hands : ℕ → List Actor → Type 0
@@ -210,11 +173,7 @@ module _ (y : Yard) (known : ℕ) (fits : Fits y known) (a : ℕ) (low : 1 ≤ a
   claimed false pred curr is = unchanged
 
   actors_kept : (e : Event) → IsEventOf y e → IsKept (actors_after y mine a e)
-  actors_kept (Invoke c) is = unchanged
-  actors_kept Pin is = unchanged
-  actors_kept (Hop word) is = unchanged
   actors_kept Reserve is = has (with_slot mine (lowest_free (collect y.uses))) (record { slot = found_range (lowest_free (collect y.uses)) refl; curr = in_range.curr })
-  actors_kept (WriteKey k) is = unchanged
   actors_kept (Claim pred curr) is = claimed (is_pair_free y.locks pred curr) pred curr is.1
   actors_kept Check is = holds _
   actors_kept WriteOpen is = holds _
@@ -222,38 +181,18 @@ module _ (y : Yard) (known : ℕ) (fits : Fits y known) (a : ℕ) (low : 1 ≤ a
   actors_kept WriteClose is = holds _
   actors_kept Mark is = holds _
   actors_kept Release is = holds _
-  actors_kept (Sync s) is = unchanged
-  actors_kept (Settle s) is = unchanged
   actors_kept Unlink is = holds _
   actors_kept Retire is = holds _
-  actors_kept (SeePin p value) is = unchanged
   actors_kept Answer is = has (with_slot mine (kept_slot y mine.slot)) (record { slot = kept_range mine.slot in_range.slot; curr = in_range.curr })
-  actors_kept Halt is = unchanged
+  actors_kept _ is = unchanged
 
   syncs_after_sync : (sure : Bool) → (sure ≡ false → is_spent y ≡ false) → syncs_after (if sure then NoCall else SyncAll) y.vault.syncs ≤ last_sync
   syncs_after_sync true left = fits.syncs
   syncs_after_sync false left = sync_more y.vault.syncs fits.syncs (left refl)
 
   syncs_kept : (e : Event) → course y a e ≡ Plays → syncs_after (call_of y mine e) y.vault.syncs ≤ last_sync
-  syncs_kept (Invoke c) plays = fits.syncs
-  syncs_kept Pin plays = fits.syncs
-  syncs_kept (Hop word) plays = fits.syncs
-  syncs_kept Reserve plays = fits.syncs
-  syncs_kept (WriteKey k) plays = fits.syncs
-  syncs_kept (Claim pred curr) plays = fits.syncs
-  syncs_kept Check plays = fits.syncs
-  syncs_kept WriteOpen plays = fits.syncs
-  syncs_kept Link plays = fits.syncs
-  syncs_kept WriteClose plays = fits.syncs
-  syncs_kept Mark plays = fits.syncs
-  syncs_kept Release plays = fits.syncs
   syncs_kept (Sync s) plays = syncs_after_sync (is_sure y s) (sync_left y a s plays)
-  syncs_kept (Settle s) plays = fits.syncs
-  syncs_kept Unlink plays = fits.syncs
-  syncs_kept Retire plays = fits.syncs
-  syncs_kept (SeePin p value) plays = fits.syncs
-  syncs_kept Answer plays = fits.syncs
-  syncs_kept Halt plays = fits.syncs
+  syncs_kept _ plays = fits.syncs
 
   -- of an event that is done, of each course, and of a device failure
   done_fits : (e : Event) → IsEventOf y e → course y a e ≡ Plays → Fits (yard_done y mine a e) known

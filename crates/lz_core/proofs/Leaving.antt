@@ -66,13 +66,7 @@ is_answer _ = false
 
 no_reply : (y : Yard) (c : Command) (at : Progress) (e : Event) → loaded y.words (event_at y.shape c at) ≡ e → is_answer e ≡ false → reply_at at ≡ None
 no_reply y c (Answering reply) e is other = absurd (false≢true (sym other ∙ sym (ap is_answer is)))
-no_reply y c (Playing script i) e is other = refl
-no_reply y c LoadsHalt e is other = refl
-no_reply y c (Walking aim look) e is other = refl
-no_reply y c (Reserving again) e is other = refl
-no_reply y c (SeeingPins p) e is other = refl
-no_reply y c (Claiming aim pred curr) e is other = refl
-no_reply y c (Checking aim curr) e is other = refl
+no_reply y c _ e is other = refl
 
 done_is_now : Done ≡ NotNow → ⊥
 done_is_now is = absurd cc

@@ -40,11 +40,7 @@ IsNoChange _ = Unit {0}
 pub no_change : (e : Publishing) (L : List Row) → IsNoChange e → L ≡ [] → IsChangeOf e L
 no_change (linked k s p) L none is = absurd none
 no_change (marked k s p) L none is = absurd none
-no_change (unlinked k s p) L none is = is
-no_change (settled s c) L none is = is
-no_change (key_prepared s v) L none is = is
-no_change (link_prepared s v) L none is = is
-no_change halted L none is = is
+no_change _ _ none is = is
 
 -- what is said of settled rows
 pub entry_stays : (n : ℕ) (e : Publishing) (P : Trace) (r : Row) → IsRowOf n P r → IsSettledEntry P r → IsSettledEntry (e ∷ P) r

@@ -95,13 +95,7 @@ opened_written stage (inr e) (inr f) = open_closed (sym e ∙ f)
 beside_of : (buckets : ℕ) (dead : Bool) (hold : Hold) (actor : Actor) (P : Trace) (t : ℕ) → RestsOn buckets hold actor P → opens dead hold ≡ true → actor.slot ≡ Some t → IsBeside buckets (key_word t P) actor.pred actor.curr P × (rests_on_pair hold ≡ true)
 beside_of buckets dead Checked actor P t h opened slot = (h.beside t slot, refl)
 beside_of buckets dead GateOpened actor P t h opened slot = (subst (λ (q : ℕ). IsBeside buckets (key_word q P) actor.pred actor.curr P) (same_Some _ _ (sym h.slot ∙ slot)) h.beside, refl)
-beside_of buckets dead Nothing actor P t h opened slot = absurd (false≢true opened)
-beside_of buckets dead Locks actor P t h opened slot = absurd (false≢true opened)
-beside_of buckets dead Linked actor P t h opened slot = absurd (false≢true opened)
-beside_of buckets dead GateClosed actor P t h opened slot = absurd (false≢true opened)
-beside_of buckets dead Marked actor P t h opened slot = absurd (false≢true opened)
-beside_of buckets dead Unlinked actor P t h opened slot = absurd (false≢true opened)
-beside_of buckets dead Released actor P t h opened slot = absurd (false≢true opened)
+beside_of buckets dead _ actor _ t h opened slot = absurd (false≢true opened)
 
 module _ (n calls : ℕ) (y : Yard) (callers : List (Option Caller)) (disk : Medium) (M : History) (P : Trace) (notes : Notes) (sound : Sound n calls y callers disk M P notes) (a i k s : ℕ) (is : caller_at callers a ≡ Some (call_at i (Add k) (Playing (Adding s) 1))) where
   abbrev at : Progress

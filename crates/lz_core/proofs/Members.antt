@@ -28,11 +28,7 @@ key_open Closing k h = absurd cc
 
 none_other : (stage : Stage) (k : ℕ) → (stage ≡ Open → ⊥) → None ≡ member_in (record { stage = stage; key = k })
 none_other Open k h = absurd (h refl)
-none_other Closed k h = refl
-none_other KeyLoose k h = refl
-none_other Keyed k h = refl
-none_other Opening k h = refl
-none_other Closing k h = refl
+none_other _ k h = refl
 
 module _ (cells : List Cell) (s : ℕ) (stage : Stage) where
   abbrev there : Cell

@@ -52,11 +52,7 @@ quiet_new buckets P0 (e ∷ Q) le = (kept e, quiet_new buckets P0 Q (omega (arit
     kept : (f : Publishing) → IsKept buckets P0 f Q
     kept (key_prepared s v) = λ b stood. none b s stood
     kept (link_prepared s v) = λ b stood. none b s stood
-    kept (linked k s p) = tt
-    kept (marked k s p) = tt
-    kept (unlinked k s p) = tt
-    kept (settled s c) = tt
-    kept halted = tt
+    kept _ = tt
 
 taken_limbo : {u : Use} {sights : List Sight} → u ≡ Limbo sights → u ≡ Taken → ⊥
 taken_limbo {u} {sights} a b = absurd (clash (sym a ∙ b))

@@ -68,11 +68,7 @@ life_marked start p q m (life ∷ earlier) shape keeps h = (shape ∙ h.0, h.1, 
 -- the mark of a reply is put onto the newest life
 pub reply_lives : (S : Keys) (i : ℕ) (reply : Reply) (M : History) → lives S (mark_of i reply ∷ M) ≡ with_mark (mark_of i reply) (lives S M)
 reply_lives S i Yes M = refl
-reply_lives S i No M = refl
-reply_lives S i (Full counts) M = refl
-reply_lives S i Worn M = refl
-reply_lives S i Halted M = refl
-reply_lives S i Device M = refl
+reply_lives _ i _ _ = refl
 
 module _ (start : Start) (a : ℕ) (service : Service) (disk : Medium) (M : History) (P : Trace) (calls : ℕ) (sound : IsSound start (point (Up service disk) M P calls)) where
   abbrev before : Point

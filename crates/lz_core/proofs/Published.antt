@@ -39,11 +39,7 @@ use Rattle.lz_core.proofs.Growth.{upto_more, yes_stays, no_stays}
 pub halt_stays : (e : Publishing) (P : Trace) → halt_word P ≡ 1 → halt_word (e ∷ P) ≡ 1
 halt_stays halted P is = refl
 halt_stays (linked k s p) P is = is
-halt_stays (marked k s p) P is = is
-halt_stays (unlinked k s p) P is = is
-halt_stays (settled s c) P is = is
-halt_stays (key_prepared s k) P is = is
-halt_stays (link_prepared s n) P is = is
+halt_stays _ _ is = is
 
 -- the node of the actor's pair, on which it relies
 abbrev pub relies_on_node : Hold → Bool
@@ -57,12 +53,7 @@ pub shut_relies : (hold : Hold) → shuts hold ≡ true → relies_on_node hold 
 shut_relies GateClosed e = refl
 shut_relies Marked e = refl
 shut_relies Checked e = refl
-shut_relies Nothing e = absurd (false≢true e)
-shut_relies Locks e = absurd (false≢true e)
-shut_relies GateOpened e = absurd (false≢true e)
-shut_relies Linked e = absurd (false≢true e)
-shut_relies Unlinked e = absurd (false≢true e)
-shut_relies Released e = absurd (false≢true e)
+shut_relies _ e = absurd (false≢true e)
 
 module _ (buckets slots : ℕ) (e : Publishing) (P : Trace) (law : Lawful buckets slots (e ∷ P)) where
   -- a node on a chain keeps its key word and its linking
@@ -152,10 +143,7 @@ module _ (buckets slots : ℕ) (e : Publishing) (P : Trace) (law : Lawful bucket
     pub ended_stays : (c : Command) (aim : Option ℕ) (pred : Place) (curr : Option ℕ) → HasEnded c aim buckets P0 P pred curr → HasEnded c aim buckets P0 (e ∷ P) pred curr
     ended_stays (Add k) (Some s) pred curr h = (between_stays k pred (link_to curr) h.0, beyond_stays k pred curr h.0 h.1)
     ended_stays (Remove k) None pred curr h = (between_stays k pred (link_to curr) h.0, (h.1.0, h.1.1, word_stays k pred h.1.0 k (met_there k pred curr h.1.0 h.0 h.1.1) h.1.2))
-    ended_stays (Add k) None pred curr h = absurd h
-    ended_stays (Remove k) (Some s) pred curr h = absurd h
-    ended_stays (Has k) None pred curr h = absurd h
-    ended_stays (Has k) (Some s) pred curr h = absurd h
+    ended_stays _ _ pred curr h = absurd h
 
     pub looking_stays : (k : ℕ) (look : Look) → IsLooking buckets k P0 P look → IsLooking buckets k P0 (e ∷ P) look
     looking_stays k AtHead h = tt
@@ -187,20 +175,7 @@ module _ (buckets slots : ℕ) (e : Publishing) (P : Trace) (law : Lawful bucket
   rest_stays (Has k) No s P0 h = met_stays k s true P0 h
   rest_stays (Add k) No s P0 h = met_stays k s false P0 h
   rest_stays (Remove k) No s P0 h = met_stays k s true P0 h
-  rest_stays (Add k) Yes s P0 h = absurd h
-  rest_stays (Remove k) Yes s P0 h = absurd h
-  rest_stays (Has k) (Full counts) s P0 h = absurd h
-  rest_stays (Has k) SaysWorn s P0 h = absurd h
-  rest_stays (Has k) Halted s P0 h = absurd h
-  rest_stays (Has k) Device s P0 h = absurd h
-  rest_stays (Add k) (Full counts) s P0 h = absurd h
-  rest_stays (Add k) SaysWorn s P0 h = absurd h
-  rest_stays (Add k) Halted s P0 h = absurd h
-  rest_stays (Add k) Device s P0 h = absurd h
-  rest_stays (Remove k) (Full counts) s P0 h = absurd h
-  rest_stays (Remove k) SaysWorn s P0 h = absurd h
-  rest_stays (Remove k) Halted s P0 h = absurd h
-  rest_stays (Remove k) Device s P0 h = absurd h
+  rest_stays _ _ s _ h = absurd h
 
   pub rests_yes_stays : (k : ℕ) (P0 : Trace) → RestsYes k P0 P → RestsYes k P0 (e ∷ P)
   rests_yes_stays k P0 h = record { then = h.then; since = since_stays P0 h.then h.since; settled = yes_stays e P h.then k h.settled }
@@ -225,18 +200,13 @@ module _ (buckets slots : ℕ) (e : Publishing) (P : Trace) (law : Lawful bucket
   answer_stays (Add k) No P0 changed h = (h.0, rests_yes_stays k P0 h.1)
   answer_stays (Remove k) Yes P0 changed h = change_stays k changed h
   answer_stays (Remove k) No P0 changed h = (h.0, rests_no_stays k P0 h.1)
-  answer_stays (Has k) (Full counts) P0 changed h = h
-  answer_stays (Has k) SaysWorn P0 changed h = h
   answer_stays (Has k) Halted P0 changed h = halt_stays e P h
   answer_stays (Has k) Device P0 changed h = halt_stays e P h
-  answer_stays (Add k) (Full counts) P0 changed h = h
-  answer_stays (Add k) SaysWorn P0 changed h = h
   answer_stays (Add k) Halted P0 changed h = halt_stays e P h
   answer_stays (Add k) Device P0 changed h = halt_stays e P h
-  answer_stays (Remove k) (Full counts) P0 changed h = h
-  answer_stays (Remove k) SaysWorn P0 changed h = h
   answer_stays (Remove k) Halted P0 changed h = halt_stays e P h
   answer_stays (Remove k) Device P0 changed h = halt_stays e P h
+  answer_stays _ _ _ changed h = h
 
   idle_stays : (actor : Actor) → IsIdle actor P → IsIdle actor (e ∷ P)
   idle_stays actor (inl none) = inl none
@@ -307,28 +277,19 @@ module _ (buckets slots : ℕ) (e : Publishing) (P : Trace) (law : Lawful bucket
       adding_stays : (k s i : ℕ) → ReliesAdding v k s i P0 P changed → ReliesAdding v k s i P0 (e ∷ P) changed
       adding_stays k s zero h = (h.0, written_stays k s h.1, h.2)
       adding_stays k s (suc zero) h = (h.0, h.1, leaves.word s h.1 ∙ h.2, h.3)
-      adding_stays k s (suc (suc zero)) h = (h.0, added_stays P0 (leaves.kept inside) quiet k s changed h.1)
-      adding_stays k s (suc (suc (suc zero))) h = (h.0, added_stays P0 (leaves.kept inside) quiet k s changed h.1)
-      adding_stays k s (suc (suc (suc (suc zero)))) h = (h.0, added_stays P0 (leaves.kept inside) quiet k s changed h.1)
       adding_stays k s (suc (suc (suc (suc (suc i))))) h = absurd h
+      adding_stays k s _ h = (h.0, added_stays P0 (leaves.kept inside) quiet k s changed h.1)
 
       on_stays : (c : Command) (script : Script) (i : ℕ) → ReliesOn v c script i P0 P changed → ReliesOn v c script i P0 (e ∷ P) changed
       on_stays c Pinning zero h = (idle_stays actor h.0, h.1)
-      on_stays c Pinning (suc i) h = absurd h
       on_stays c (Resting s reply) zero h = (h.0, rest_stays c reply s P0 h.1)
       on_stays c (Resting s reply) (suc zero) h = (h.0, rest_stays c reply s P0 h.1)
-      on_stays c (Resting s reply) (suc (suc i)) h = absurd h
       on_stays c (Writing s) i h = writing_stays c s i h
       on_stays (Add k) (Adding s) i h = adding_stays k s i h
-      on_stays (Remove k) (Adding s) i h = absurd h
-      on_stays (Has k) (Adding s) i h = absurd h
-      on_stays (Add k) (Removing s) i h = absurd h
       on_stays (Remove k) (Removing s) i h = (h.0, h.1, removing_stays k s i h.0 h.2)
-      on_stays (Has k) (Removing s) i h = absurd h
       on_stays c (Releasing aim) zero h = (h.0, aimed_stays (key_of c) aim h.1, h.2, h.3)
-      on_stays c (Releasing aim) (suc i) h = absurd h
       on_stays c (Halting reply) zero h = h
-      on_stays c (Halting reply) (suc i) h = absurd h
+      on_stays _ _ _ h = absurd h
 
       relies_stays : (c : Command) (at : Progress) → Relies v c at P0 P changed → Relies v c at P0 (e ∷ P) changed
       relies_stays c (Playing script i) h = on_stays c script i h
@@ -350,23 +311,7 @@ module _ (buckets slots : ℕ) (e : Publishing) (P : Trace) (law : Lawful bucket
     outside_stays c (Playing Pinning zero) is h = (idle_stays actor h.0, h.1)
     outside_stays c (Playing Pinning (suc i)) is h = absurd h
     outside_stays c (Answering SaysWorn) is h = (idle_stays actor h.0, h.1)
-    outside_stays c (Playing (Resting s reply) i) is h = absurd (false≢true is)
-    outside_stays c (Playing (Writing s) i) is h = absurd (false≢true is)
-    outside_stays c (Playing (Adding s) i) is h = absurd (false≢true is)
-    outside_stays c (Playing (Removing s) i) is h = absurd (false≢true is)
-    outside_stays c (Playing (Releasing aim) i) is h = absurd (false≢true is)
-    outside_stays c (Playing (Halting reply) i) is h = absurd (false≢true is)
-    outside_stays c LoadsHalt is h = absurd (false≢true is)
-    outside_stays c (Walking aim look) is h = absurd (false≢true is)
-    outside_stays c (Reserving again) is h = absurd (false≢true is)
-    outside_stays c (SeeingPins p) is h = absurd (false≢true is)
-    outside_stays c (Claiming aim pred curr) is h = absurd (false≢true is)
-    outside_stays c (Checking aim curr) is h = absurd (false≢true is)
-    outside_stays c (Answering Yes) is h = absurd (false≢true is)
-    outside_stays c (Answering No) is h = absurd (false≢true is)
-    outside_stays c (Answering (Full counts)) is h = absurd (false≢true is)
-    outside_stays c (Answering Halted) is h = absurd (false≢true is)
-    outside_stays c (Answering Device) is h = absurd (false≢true is)
+    outside_stays c _ is h = absurd (false≢true is)
 
     caller_stands : (caller : Option Caller) → (IsInside pin → IsQuiet buckets P0 P) → IsCaller v pin caller P0 P changed → IsCaller v pin caller P0 (e ∷ P) changed
     caller_stands None quiet h = (idle_stays actor h.0, h.1)

@@ -99,10 +99,7 @@ pub small_stays : (buckets slots : ℕ) (e : Publishing) (P : Trace) → Lawful 
 small_stays buckets slots (linked k s p) P law short small t = grind (arith, nat_tests, small t, law.0.in_range)
 small_stays buckets slots (unlinked k s p) P law short small t = grind (arith, nat_tests, small t, small s)
 small_stays buckets slots (link_prepared s v) P law short small t = grind (arith, nat_tests, small t, short)
-small_stays buckets slots (marked k s p) P law short small t = small t
-small_stays buckets slots (settled s c) P law short small t = small t
-small_stays buckets slots (key_prepared s v) P law short small t = small t
-small_stays buckets slots halted P law short small t = small t
+small_stays buckets slots _ _ law short small t = small t
 
 pub opening_small : (buckets slots : ℕ) (found : Chain) → IsFound slots found → (t : ℕ) → node_next buckets t (opening buckets found) ≤ slots
 opening_small buckets slots [] is t = omega arith

@@ -25,14 +25,10 @@ step_keeps start is (Up service disk) M P calls Trips sound may = trips_up start
 step_keeps start is w M P calls Stops sound may = stops_keeps start w M P calls sound may
 step_keeps start is w M P calls (Crashes t) sound may = crashes_keeps start w M P calls t sound may
 step_keeps start is w M P calls (CrashesIn a t) sound may = leaving.crash_in_keeps (at_point.turn_keeps answer_up) start w M P calls a t sound may
-step_keeps start is (Up service disk) M P calls Opens sound may = absurd may
 step_keeps start is w M P calls (OpenFails why done) sound may = open_fails_keeps start w M P calls why done sound may
-step_keeps start is (Down shape disk) M P calls (Calls a c) sound may = absurd may
-step_keeps start is (Down shape disk) M P calls (Turn a) sound may = absurd may
-step_keeps start is (Down shape disk) M P calls (Fails a new) sound may = absurd may
-step_keeps start is (Down shape disk) M P calls (Looks a) sound may = absurd may
 step_keeps start is (Down shape disk) M P calls Trips sound may = trips_down start shape disk M P calls sound
 step_keeps start is (Down shape disk) M P calls Opens sound may = opens_keeps start shape disk M P calls is (down_seen start shape disk M P calls sound) sound may
+step_keeps start is _ _ _ calls _ sound may = absurd may
 
 -- the main induction
 pub reached_sound : (start : Start) (steps : List Step) → IsStart start → IsRun (first_point start) steps → IsSound start (run (first_point start) steps)

@@ -60,100 +60,42 @@ some_of (Some s) is = (s, refl)
 
 is_checked : (hold : Hold) → has_checked hold ≡ true → hold ≡ Checked
 is_checked Checked is = refl
-is_checked Nothing is = absurd (false≢true is)
-is_checked Locks is = absurd (false≢true is)
-is_checked GateOpened is = absurd (false≢true is)
-is_checked Linked is = absurd (false≢true is)
-is_checked GateClosed is = absurd (false≢true is)
-is_checked Marked is = absurd (false≢true is)
-is_checked Unlinked is = absurd (false≢true is)
-is_checked Released is = absurd (false≢true is)
+is_checked _ is = absurd (false≢true is)
 
 is_opened : (hold : Hold) → has_opened hold ≡ true → hold ≡ GateOpened
 is_opened GateOpened is = refl
-is_opened Nothing is = absurd (false≢true is)
-is_opened Locks is = absurd (false≢true is)
-is_opened Checked is = absurd (false≢true is)
-is_opened Linked is = absurd (false≢true is)
-is_opened GateClosed is = absurd (false≢true is)
-is_opened Marked is = absurd (false≢true is)
-is_opened Unlinked is = absurd (false≢true is)
-is_opened Released is = absurd (false≢true is)
+is_opened _ is = absurd (false≢true is)
 
 is_closed : (hold : Hold) → has_closed hold ≡ true → hold ≡ GateClosed
 is_closed GateClosed is = refl
-is_closed Nothing is = absurd (false≢true is)
-is_closed Locks is = absurd (false≢true is)
-is_closed Checked is = absurd (false≢true is)
-is_closed GateOpened is = absurd (false≢true is)
-is_closed Linked is = absurd (false≢true is)
-is_closed Marked is = absurd (false≢true is)
-is_closed Unlinked is = absurd (false≢true is)
-is_closed Released is = absurd (false≢true is)
+is_closed _ is = absurd (false≢true is)
 
 is_marking : (hold : Hold) → has_marked hold ≡ true → hold ≡ Marked
 is_marking Marked is = refl
-is_marking Nothing is = absurd (false≢true is)
-is_marking Locks is = absurd (false≢true is)
-is_marking Checked is = absurd (false≢true is)
-is_marking GateOpened is = absurd (false≢true is)
-is_marking Linked is = absurd (false≢true is)
-is_marking GateClosed is = absurd (false≢true is)
-is_marking Unlinked is = absurd (false≢true is)
-is_marking Released is = absurd (false≢true is)
+is_marking _ is = absurd (false≢true is)
 
 is_released : (hold : Hold) → may_retire hold ≡ true → hold ≡ Released
 is_released Released is = refl
-is_released Nothing is = absurd (false≢true is)
-is_released Locks is = absurd (false≢true is)
-is_released Checked is = absurd (false≢true is)
-is_released GateOpened is = absurd (false≢true is)
-is_released Linked is = absurd (false≢true is)
-is_released GateClosed is = absurd (false≢true is)
-is_released Marked is = absurd (false≢true is)
-is_released Unlinked is = absurd (false≢true is)
+is_released _ is = absurd (false≢true is)
 
 check_locks : (hold : Hold) → may_check hold ≡ true → has_locks hold ≡ true
-check_locks Locks is = refl
-check_locks Checked is = refl
 check_locks Nothing is = absurd (false≢true is)
-check_locks GateOpened is = refl
-check_locks Linked is = refl
-check_locks GateClosed is = refl
-check_locks Marked is = refl
-check_locks Unlinked is = refl
 check_locks Released is = absurd (false≢true is)
+check_locks _ is = refl
 
 release_locks : (hold : Hold) → may_release hold ≡ true → has_locks hold ≡ true
-release_locks Locks is = refl
-release_locks Checked is = refl
-release_locks Linked is = refl
-release_locks Unlinked is = refl
-release_locks GateOpened is = refl
-release_locks GateClosed is = refl
-release_locks Marked is = refl
 release_locks Nothing is = absurd (false≢true is)
 release_locks Released is = absurd (false≢true is)
+release_locks _ is = refl
 
 -- in a vault that lives only an opened gate is open
 opens_alive : (hold : Hold) → opens false hold ≡ true → has_opened hold ≡ true
 opens_alive GateOpened is = refl
-opens_alive Nothing is = absurd (false≢true is)
-opens_alive Locks is = absurd (false≢true is)
-opens_alive Checked is = absurd (false≢true is)
-opens_alive Linked is = absurd (false≢true is)
-opens_alive GateClosed is = absurd (false≢true is)
-opens_alive Marked is = absurd (false≢true is)
-opens_alive Unlinked is = absurd (false≢true is)
-opens_alive Released is = absurd (false≢true is)
+opens_alive _ is = absurd (false≢true is)
 
 is_keyed : (stage : Stage) → has_stage Keyed stage ≡ true → stage ≡ Keyed
 is_keyed Keyed is = refl
-is_keyed Closed is = absurd (false≢true is)
-is_keyed KeyLoose is = absurd (false≢true is)
-is_keyed Opening is = absurd (false≢true is)
-is_keyed Open is = absurd (false≢true is)
-is_keyed Closing is = absurd (false≢true is)
+is_keyed _ is = absurd (false≢true is)
 
 -- a pin that isn't worn
 not_last : (dead may : Bool) (pin : ℕ) (outcome : Outcome) → (if dead && not true then Refused Dead else if may then (if pin == last_pin then Refused outcome else Plays) else Refused NotNow) ≡ Plays → pin ≢ last_pin
@@ -325,14 +267,7 @@ module _ (n calls : ℕ) (y : Yard) (callers : List (Option Caller)) (disk : Med
   ready_for Unlink knows has plays = ready_unlink has plays
   ready_for Retire knows has plays = let node = knows refl in ready_retire node.0 node.1 has plays
   ready_for Answer knows has plays = ready_answer has plays
-  ready_for (Invoke c) knows has plays = tt
-  ready_for (Hop word) knows has plays = tt
-  ready_for Reserve knows has plays = tt
-  ready_for (Claim pred curr) knows has plays = tt
-  ready_for (Sync s) knows has plays = tt
-  ready_for (Settle s) knows has plays = tt
-  ready_for (SeePin p value) knows has plays = tt
-  ready_for Halt knows has plays = tt
+  ready_for _ knows has plays = tt
 
 -- A call that retires knows the node.
 abbrev is_retire : Event → Bool
@@ -359,14 +294,10 @@ module _ (words : Words) (shape : Shape) (v : View) (c : Command) (P0 P : Trace)
   retires_in (Adding s) i h is = adding c i h is
     where
       adding : (d : Command) (j : ℕ) → Relies v d (Playing (Adding s) j) P0 P changed → is_retire (loaded words (event_at shape d (Playing (Adding s) j))) ≡ true → (s : ℕ) × (v.actor.curr ≡ Some s)
-      adding (Add k) zero g at = absurd (false≢true at)
-      adding (Add k) (suc zero) g at = absurd (false≢true at)
-      adding (Add k) (suc (suc zero)) g at = absurd (false≢true at)
-      adding (Add k) (suc (suc (suc zero))) g at = absurd (false≢true at)
-      adding (Add k) (suc (suc (suc (suc zero)))) g at = absurd (false≢true at)
       adding (Add k) (suc (suc (suc (suc (suc j))))) g at = absurd g
       adding (Remove k) j g at = absurd g
       adding (Has k) j g at = absurd g
+      adding _ _ g at = absurd (false≢true at)
   retires_in (Removing s) i h is = removing c h
     where
       removing : (d : Command) → Relies v d (Playing (Removing s) i) P0 P changed → (s : ℕ) × (v.actor.curr ≡ Some s)
@@ -376,13 +307,7 @@ module _ (words : Words) (shape : Shape) (v : View) (c : Command) (P0 P : Trace)
 
   retires_node : (at : Progress) → Relies v c at P0 P changed → Retires at → (s : ℕ) × (v.actor.curr ≡ Some s)
   retires_node (Playing script i) h is = retires_in script i h is
-  retires_node LoadsHalt h is = absurd (false≢true is)
-  retires_node (Walking aim look) h is = absurd (false≢true is)
-  retires_node (Reserving again) h is = absurd (false≢true is)
-  retires_node (SeeingPins p) h is = absurd (false≢true is)
-  retires_node (Claiming aim pred curr) h is = absurd (false≢true is)
-  retires_node (Checking aim curr) h is = absurd (false≢true is)
-  retires_node (Answering reply) h is = absurd (false≢true is)
+  retires_node _ h is = absurd (false≢true is)
 
 -- an event that begins a call
 abbrev pub is_invoke : Event → Bool

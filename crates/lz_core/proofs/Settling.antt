@@ -94,12 +94,9 @@ module _ (n calls : ℕ) (y : Yard) (callers : List (Option Caller)) (disk : Med
   early_form loose callers' h = subst (λ (l : List Publishing). Sound n calls (yard_done y (actor_at y a) a (Settle s)) callers' disk M (l ++ P) notes) (sym (none (cell_at y s).stage loose)) (rw loose h)
     where
       none : (stage : Stage) → is_covered stage ≡ false → settling stage s ≡ []
-      none KeyLoose is = refl
-      none Opening is = refl
-      none Closing is = refl
-      none Keyed is = refl
       none Closed is = absurd (false≢true (sym is))
       none Open is = absurd (false≢true (sym is))
+      none _ is = refl
 
   -- which change it settles, for a slot on which the pass may stand
   change_of : is_sure y s ≡ true → (IsOnChain y.shape y.vault.cells y.uses P s × IsNodeStage y.vault.cells y.vault.dead y.actors P s) ⊎ (stage_in y.vault.cells s ≡ Closed) → (c : Change) × Allows c (stage_in y.vault.cells s)

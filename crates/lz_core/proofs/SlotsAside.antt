@@ -18,43 +18,17 @@ module _ (n m buckets passes : ℕ) (c : Command) where
 
   pub event_same : (at : Progress) → event_at one c at ≡ event_at other c at
   event_same (Playing script i) = refl
-  event_same LoadsHalt = refl
-  event_same (Walking aim look) = refl
-  event_same (Reserving again) = refl
-  event_same (SeeingPins p) = refl
-  event_same (Claiming aim pred curr) = refl
-  event_same (Checking aim curr) = refl
-  event_same (Answering reply) = refl
+  event_same _ = refl
 
   hop_same : (aim : Option ℕ) (look : Look) (o : Outcome) → after_hop one c aim look o ≡ after_hop other c aim look o
   hop_same aim look Done = refl
-  hop_same aim look (Value value) = refl
-  hop_same aim look (Slot s) = refl
-  hop_same aim look (NoSlot counts) = refl
-  hop_same aim look Taken = refl
-  hop_same aim look Busy = refl
-  hop_same aim look True = refl
-  hop_same aim look False = refl
-  hop_same aim look Early = refl
-  hop_same aim look Worn = refl
-  hop_same aim look NotNow = refl
-  hop_same aim look Fault = refl
-  hop_same aim look Dead = refl
+  hop_same aim look _ = refl
 
   follows_same : (at : Progress) (o : Outcome) → follows one c at o ≡ follows other c at o
-  follows_same (Playing script i) o = refl
-  follows_same LoadsHalt o = refl
   follows_same (Walking aim look) o = hop_same aim look o
-  follows_same (Reserving again) o = refl
-  follows_same (SeeingPins p) o = refl
-  follows_same (Claiming aim pred curr) o = refl
-  follows_same (Checking aim curr) o = refl
-  follows_same (Answering reply) o = refl
+  follows_same _ o = refl
 
   pub progress_same : (at : Progress) (o : Outcome) → progress_after one c at o ≡ progress_after other c at o
-  progress_same at Fault = refl
-  progress_same at Dead = refl
-  progress_same at Worn = refl
   progress_same at Done = follows_same at Done
   progress_same at (Value value) = follows_same at (Value value)
   progress_same at (Slot s) = follows_same at (Slot s)
@@ -65,3 +39,4 @@ module _ (n m buckets passes : ℕ) (c : Command) where
   progress_same at False = follows_same at False
   progress_same at Early = follows_same at Early
   progress_same at NotNow = follows_same at NotNow
+  progress_same at _ = refl

@@ -38,16 +38,12 @@ called_before m M i c other (a, inr there) = (a, there)
 
 -- an open call was made
 open_called : (M : History) (i a : ℕ) → IsOpenCall M i a → (c : Command) × IsCalled M i c
-open_called [] i a h = absurd h
 open_called (Call j b c ∷ M) i a (inl now) = (c, (b, inl (ap (λ (q : ℕ). Call q b c) now.0)))
 open_called (Call j b c ∷ M) i a (inr before) = let there = open_called M i a before in (there.0, (there.1.0, inr there.1.1))
 open_called (Answer j answer ∷ M) i a h = let there = open_called M i a h.1 in (there.0, (there.1.0, inr there.1.1))
 open_called (Refused j why ∷ M) i a h = let there = open_called M i a h.1 in (there.0, (there.1.0, inr there.1.1))
 open_called (Cut j why ∷ M) i a h = let there = open_called M i a h.1 in (there.0, (there.1.0, inr there.1.1))
-open_called (Stop ∷ M) i a h = absurd h
-open_called (Crash ∷ M) i a h = absurd h
-open_called (Opened keys ∷ M) i a h = absurd h
-open_called (OpenFailed why ∷ M) i a h = absurd h
+open_called _ i a h = absurd h
 
 -- what the marks and the callers say of each other
 record AreOpen (callers : List (Option Caller)) (M : History) : Type 0 where
@@ -67,35 +63,19 @@ record Tells (calls : ℕ) (w : State) (M : History) : Type 0 where
 -- a reply ends its call, and leaves the others
 ends_open : (M : History) (i j a : ℕ) (reply : Reply) → IsOpenCall (mark_of i reply ∷ M) j a → (i ≢ j) × IsOpenCall M j a
 ends_open M i j a Yes h = h
-ends_open M i j a No h = h
-ends_open M i j a (Full counts) h = h
-ends_open M i j a Worn h = h
-ends_open M i j a Halted h = h
-ends_open M i j a Device h = h
+ends_open _ i j a _ h = h
 
 stays_open : (M : History) (i j a : ℕ) (reply : Reply) → i ≢ j → IsOpenCall M j a → IsOpenCall (mark_of i reply ∷ M) j a
 stays_open M i j a Yes other h = (other, h)
-stays_open M i j a No other h = (other, h)
-stays_open M i j a (Full counts) other h = (other, h)
-stays_open M i j a Worn other h = (other, h)
-stays_open M i j a Halted other h = (other, h)
-stays_open M i j a Device other h = (other, h)
+stays_open _ i j a _ other h = (other, h)
 
 may_reply : (M : History) (i a : ℕ) (reply : Reply) → IsOpenCall M i a → MayFollow (mark_of i reply) M
 may_reply M i a Yes h = (a, h)
-may_reply M i a No h = (a, h)
-may_reply M i a (Full counts) h = (a, h)
-may_reply M i a Worn h = (a, h)
-may_reply M i a Halted h = (a, h)
-may_reply M i a Device h = (a, h)
+may_reply _ i a _ h = (a, h)
 
 no_call : (i : ℕ) (reply : Reply) → is_call (mark_of i reply) ≡ false
 no_call i Yes = refl
-no_call i No = refl
-no_call i (Full counts) = refl
-no_call i Worn = refl
-no_call i Halted = refl
-no_call i Device = refl
+no_call i _ = refl
 
 -- the callers where one of them changes
 module _ (callers : List (Option Caller)) (M : History) (old : AreOpen callers M) (a : ℕ) (low : 1 ≤ a) (high : a ≤ length callers) where
@@ -246,17 +226,13 @@ opens_open shape t M none = record {
 
 module _ (calls : ℕ) (shape : Shape) (disk : Medium) (M : History) (h : Tells calls (Down shape disk) M) where
   down_tells : (step : Step) → MayStep (Down shape disk) step → Tells (calls_after calls step) (state_after (suc calls) (Down shape disk) step) (marks_of (suc calls) (Down shape disk) step ++ M)
-  down_tells (Calls a c) may = absurd may
-  down_tells (Turn a) may = absurd may
-  down_tells (Fails a new) may = absurd may
-  down_tells (Looks a) may = absurd may
   down_tells Trips may = h
   down_tells Stops may = ended calls Stop _ M refl tt h.told h.numbered (λ a i is. is)
   down_tells (Crashes t) may = ended calls Crash _ M refl tt h.told h.numbered (λ a i is. is)
-  down_tells (CrashesIn a t) may = absurd may
   down_tells Opens may = ended calls _ _ M refl tt h.told h.numbered (length-replicate shape.passes None, opens_open shape disk.seen _ (λ a i is. is))
   down_tells (OpenFails why true) may = ended calls (OpenFailed why) _ M refl tt h.told h.numbered (λ a i is. is)
   down_tells (OpenFails why false) may = ended calls (OpenFailed why) _ M refl tt h.told h.numbered (λ a i is. is)
+  down_tells _ may = absurd may
 
 step_tells : (calls : ℕ) (w : State) (M : History) (step : Step) → MayStep w step → Tells calls w M → Tells (calls_after calls step) (state_after (suc calls) w step) (marks_of (suc calls) w step ++ M)
 step_tells calls (Up service disk) M step may h = up_tells calls service.yard service.callers disk M h step may

@@ -30,11 +30,7 @@ text_of cells = (open_byte ∷ header_body (length cells)) ++ body_text cells
 
 slot_size : (stage : Stage) (k : ℕ) → length (slot_text (record { stage = stage; key = k })) ≡ 16
 slot_size Open k = refl
-slot_size Closed k = refl
-slot_size KeyLoose k = refl
-slot_size Keyed k = refl
-slot_size Opening k = refl
-slot_size Closing k = refl
+slot_size _ k = refl
 
 body_size : (cells : List Cell) → length (body_text cells) ≡ 16 * length cells
 body_size [] = refl
@@ -80,10 +76,7 @@ text_slot cells i low =
 slot_says : (stage : Stage) (k : ℕ) → k ≤ largest_key → IsSteady stage → IsCellOf (slot_read (slot_text (record { stage = stage; key = k }))) (record { stage = stage; key = k })
 slot_says Open k fits steady = subst (λ r. IsCellOf r (record { stage = Open; key = k })) (sym (slot_reads_back k fits)) (refl, refl)
 slot_says Closed k fits steady = refl
-slot_says KeyLoose k fits steady = absurd steady
-slot_says Keyed k fits steady = absurd steady
-slot_says Opening k fits steady = absurd steady
-slot_says Closing k fits steady = absurd steady
+slot_says _ k fits steady = absurd steady
 
 -- the text says of each slot what its cell does
 pub text_says : (cells : List Cell) → ((i : ℕ) (cell : Cell) → slice_get cells i ≡ Some cell → cell.key ≤ largest_key) → AreSteady cells
@@ -133,11 +126,7 @@ gate_small xs all (suc i) = all i
 
 slot_small : (stage : Stage) (k : ℕ) → AreBytes (slot_text (record { stage = stage; key = k }))
 slot_small Open k = gate_small (slot_body k) (small_append (replicate 7 0) (bytes_high_first 8 k) (zeros_small 7) (high_small 8 k))
-slot_small Closed k = zeros_small 16
-slot_small KeyLoose k = zeros_small 16
-slot_small Keyed k = zeros_small 16
-slot_small Opening k = zeros_small 16
-slot_small Closing k = zeros_small 16
+slot_small _ k = zeros_small 16
 
 body_small : (cells : List Cell) → AreBytes (body_text cells)
 body_small [] = λ i. omega arith

@@ -45,26 +45,12 @@ shaped slots buckets passes = record { slots = slots; buckets = buckets; passes 
 
 same_event : (n m buckets passes : ℕ) (c : Command) (at : Progress) → event_at (shaped n buckets passes) c at ≡ event_at (shaped m buckets passes) c at
 same_event n m buckets passes c (Playing script i) = refl
-same_event n m buckets passes c LoadsHalt = refl
-same_event n m buckets passes c (Walking aim look) = refl
-same_event n m buckets passes c (Reserving again) = refl
-same_event n m buckets passes c (SeeingPins p) = refl
-same_event n m buckets passes c (Claiming aim pred curr) = refl
-same_event n m buckets passes c (Checking aim curr) = refl
-same_event n m buckets passes c (Answering reply) = refl
+same_event n m buckets passes c _ = refl
 
 same_follows : (n m buckets passes : ℕ) (c : Command) (at : Progress) (o : Outcome) → progress_after (shaped n buckets passes) c at o ≡ progress_after (shaped m buckets passes) c at o
-same_follows n m buckets passes c at Fault = refl
-same_follows n m buckets passes c at Dead = refl
-same_follows n m buckets passes c at Worn = refl
-same_follows n m buckets passes c (Playing script i) o = refl
 same_follows n m buckets passes c LoadsHalt o = search
-same_follows n m buckets passes c (Walking aim look) o = refl
-same_follows n m buckets passes c (Reserving again) o = refl
-same_follows n m buckets passes c (SeeingPins p) o = refl
-same_follows n m buckets passes c (Claiming aim pred curr) o = refl
-same_follows n m buckets passes c (Checking aim curr) o = refl
-same_follows n m buckets passes c (Answering reply) o = refl
+same_follows n m buckets passes c at Fault = refl
+same_follows n m buckets passes c _ _ = refl
 
 -- the caller whose next event this is
 pub record Next (service : Service) (a : ℕ) (e : Event) : Type 0 where
@@ -94,13 +80,11 @@ never_in (e ∷ es) zero none = none.0
 never_in (e ∷ es) (suc i) none = never_in es i none.1
 
 are_not : (c : Command) (script : Script) → AreNot (events_of c script)
-are_not c Pinning = (refl, tt)
 are_not c (Resting s reply) = (refl, (refl, tt))
 are_not c (Writing s) = (refl, (refl, tt))
 are_not c (Adding s) = (refl, (refl, (refl, (refl, (refl, tt)))))
 are_not c (Removing s) = (refl, (refl, (refl, (refl, (refl, (refl, (refl, tt)))))))
-are_not c (Releasing aim) = (refl, tt)
-are_not c (Halting reply) = (refl, tt)
+are_not c _ = (refl, tt)
 
 not_loaded : (w : Words) (e : Event) → is_invoke e ≡ false → is_invoke (loaded w e) ≡ false
 not_loaded w (SeePin p value) not = refl
@@ -108,13 +92,7 @@ not_loaded w e not = not
 
 never : (shape : Shape) (c : Command) (at : Progress) → is_invoke (event_at shape c at) ≡ false
 never shape c (Playing script i) = never_in (events_of c script) i (are_not c script)
-never shape c LoadsHalt = refl
-never shape c (Walking aim look) = refl
-never shape c (Reserving again) = refl
-never shape c (SeeingPins p) = refl
-never shape c (Claiming aim pred curr) = refl
-never shape c (Checking aim curr) = refl
-never shape c (Answering reply) = refl
+never shape c _ = refl
 
 as_next : (service : Service) (a : ℕ) (e : Event) → is_invoke e ≡ false → IsSomeAnd (caller_at service.callers a) (λ caller. next_event service.yard caller ≡ e) → IsNext service a e
 as_next service a (Invoke c) not some = absurd (false≢true (sym not))
@@ -266,13 +244,7 @@ quiet_answer (Refused outcome) y actor before now fails = fails
 
 no_reply : (shape : Shape) (y : Yard) (a i : ℕ) (c : Command) (at : Progress) (before now : Medium) → MayFail (line_call y a (loaded y.words (event_at shape c at))) before now → mark_of_turn i (reply_at at) ≡ []
 no_reply shape y a i c (Answering reply) before now fails = absurd (quiet_answer (course y a Answer) y (actor_at y a) before now fails)
-no_reply shape y a i c (Playing script j) before now fails = refl
-no_reply shape y a i c LoadsHalt before now fails = refl
-no_reply shape y a i c (Walking aim look) before now fails = refl
-no_reply shape y a i c (Reserving again) before now fails = refl
-no_reply shape y a i c (SeeingPins p) before now fails = refl
-no_reply shape y a i c (Claiming aim pred curr) before now fails = refl
-no_reply shape y a i c (Checking aim curr) before now fails = refl
+no_reply shape y a i c _ before now fails = refl
 
 -- A world with an open service goes on by this event.
 module _ (shape : Shape) (over : YardOver Past) (disk : Option Past) (callers : List (Option OpenCall)) (calls a : ℕ) (world : IsWorld shape (Some over) disk callers calls) (e : Event) (is : next_of (state_shown shape (Some over) disk callers) a ≡ Some e)

@@ -175,19 +175,14 @@ module _ (n calls : ℕ) (y : Yard) (callers : List (Option Caller)) (disk : Med
   -- each event of each script
   script_turn : (c : Command) (script : Script) (j : ℕ) → IsAt c (Playing script j) → ReliesOn (view_of y.shape y.vault y.actors a) c script j (notes.begun a) P (notes.changed a) → Turns c (Playing script j)
   script_turn c Pinning zero is relies now = pin_turn c is now
-  script_turn c Pinning (suc j) is relies now = absurd relies
   script_turn c (Resting s reply) j is relies now = rest_turn c s reply j is relies now
   script_turn c (Writing s) j is relies now = write_turn c s j is relies now
   script_turn (Add k) (Adding s) j is relies now = add_turn k s j is relies now
-  script_turn (Remove k) (Adding s) j is relies now = absurd relies
-  script_turn (Has k) (Adding s) j is relies now = absurd relies
-  script_turn (Add k) (Removing s) j is relies now = absurd relies
   script_turn (Remove k) (Removing s) j is relies now = remove_turn k s j is relies.2 now
-  script_turn (Has k) (Removing s) j is relies now = absurd relies
   script_turn c (Releasing aim) zero is relies now = release_turn c aim is now
-  script_turn c (Releasing aim) (suc j) is relies now = absurd relies
   script_turn c (Halting reply) zero is relies now = halt_turn c reply is now
-  script_turn c (Halting reply) (suc j) is relies now = absurd relies
+  script_turn c Pinning (suc j) is relies now = absurd relies
+  script_turn _ _ _ is relies now = absurd relies
 
   -- a call loads the halt word before its first walk
   load_turn : (c : Command) → IsAt c LoadsHalt → Turns c LoadsHalt

@@ -52,15 +52,9 @@ use Rattle.lz_core.proofs.Going.{in_passes, tail_turn}
 
 -- an actor that rests on its pair has its locks
 pub resting_locks : (hold : Hold) → rests_on_pair hold ≡ true → has_locks hold ≡ true
-resting_locks Checked is = refl
-resting_locks GateOpened is = refl
-resting_locks GateClosed is = refl
-resting_locks Marked is = refl
 resting_locks Nothing is = absurd (false≢true is)
 resting_locks Released is = absurd (false≢true is)
-resting_locks Locks is = refl
-resting_locks Linked is = refl
-resting_locks Unlinked is = refl
+resting_locks _ is = refl
 
 pub first_place : (pred : Place) (curr : Option ℕ) → HasPlace pred (claimed_places pred curr)
 first_place pred None = inl refl

@@ -42,54 +42,32 @@ module _ (buckets passes : ℕ) (cells cells' : List Cell) (dead dead' : Bool) (
 
   adding_keeps : (k s i : ℕ) → ReliesAdding v k s i P0 P changed → ReliesAdding w k s i P0 P changed
   adding_keeps k s zero h = (h.0, written_keeps k s h.1, h.2)
-  adding_keeps k s (suc zero) h = h
-  adding_keeps k s (suc (suc zero)) h = h
-  adding_keeps k s (suc (suc (suc zero))) h = h
-  adding_keeps k s (suc (suc (suc (suc zero)))) h = h
   adding_keeps k s (suc (suc (suc (suc (suc i))))) h = absurd h
+  adding_keeps k s _ h = h
 
   removing_keeps : (k s i : ℕ) → ReliesRemoving v k s i P changed → ReliesRemoving w k s i P changed
-  removing_keeps k s zero h = h
-  removing_keeps k s (suc zero) h = h
-  removing_keeps k s (suc (suc zero)) h = h
-  removing_keeps k s (suc (suc (suc zero))) h = h
-  removing_keeps k s (suc (suc (suc (suc zero)))) h = h
-  removing_keeps k s (suc (suc (suc (suc (suc zero))))) h = h
-  removing_keeps k s (suc (suc (suc (suc (suc (suc zero)))))) h = h
   removing_keeps k s (suc (suc (suc (suc (suc (suc (suc i))))))) h = absurd h
+  removing_keeps k s _ h = h
 
   on_keeps : (c : Command) (script : Script) (i : ℕ) → ReliesOn v c script i P0 P changed → ReliesOn w c script i P0 P changed
   on_keeps c Pinning zero h = h
-  on_keeps c Pinning (suc i) h = absurd h
   on_keeps c (Resting s reply) zero h = (record { hold = h.0.hold; none = h.0.none }, h.1)
   on_keeps c (Resting s reply) (suc zero) h = (record { hold = h.0.hold; none = h.0.none }, h.1)
-  on_keeps c (Resting s reply) (suc (suc i)) h = absurd h
   on_keeps c (Writing s) i h = writing_keeps c s i h
   on_keeps (Add k) (Adding s) i h = adding_keeps k s i h
-  on_keeps (Remove k) (Adding s) i h = absurd h
-  on_keeps (Has k) (Adding s) i h = absurd h
-  on_keeps (Add k) (Removing s) i h = absurd h
   on_keeps (Remove k) (Removing s) i h = (h.0, h.1, removing_keeps k s i h.2)
-  on_keeps (Has k) (Removing s) i h = absurd h
   on_keeps c (Releasing aim) zero h = (h.0, aimed_keeps (key_of c) aim h.1, h.2, h.3)
-  on_keeps c (Releasing aim) (suc i) h = absurd h
   on_keeps c (Halting reply) zero h = (h.0, dies h.1)
-  on_keeps c (Halting reply) (suc i) h = absurd h
+  on_keeps _ _ _ h = absurd h
 
   relies_keeps : (c : Command) (at : Progress) → Relies v c at P0 P changed → Relies w c at P0 P changed
   relies_keeps c (Playing script i) h = on_keeps c script i h
-  relies_keeps c LoadsHalt h = h
   relies_keeps c (Walking aim look) h = (record { hold = h.0.hold; none = h.0.none }, aimed_keeps (key_of c) aim h.1, h.2, h.3)
   relies_keeps c (Reserving again) h = (record { hold = h.0.hold; none = h.0.none }, h.1, h.2)
   relies_keeps c (SeeingPins p) h = (record { hold = h.0.hold; none = h.0.none }, h.1, h.2, h.3, h.4)
   relies_keeps c (Claiming aim pred curr) h = (record { hold = h.0.hold; none = h.0.none }, aimed_keeps (key_of c) aim h.1, h.2)
   relies_keeps c (Checking aim curr) h = (h.0, h.1, h.2, aimed_keeps (key_of c) aim h.3, h.4)
-  relies_keeps c (Answering SaysWorn) h = h
-  relies_keeps c (Answering Yes) h = h
-  relies_keeps c (Answering No) h = h
-  relies_keeps c (Answering (Full counts)) h = h
-  relies_keeps c (Answering Halted) h = h
-  relies_keeps c (Answering Device) h = h
+  relies_keeps c _ h = h
 
   caller_keeps : (pin : ℕ) (caller : Option Caller) → IsCaller v pin caller P0 P changed → IsCaller w pin caller P0 P changed
   caller_keeps pin None h = h

@@ -75,11 +75,7 @@ loads : (words : Words) (shape : Shape) (c : Command) (at : Progress) → IsSome
 loads words shape c (Playing script i) is = absurd (false≢true (rw (script_loads words c script i) at is))
 loads words shape c LoadsHalt is = record { word = _; is_hop = refl; inside = refl; no_reply = refl }
 loads words shape c (Walking aim look) is = record { word = _; is_hop = refl; inside = refl; no_reply = refl }
-loads words shape c (Reserving again) is = absurd (false≢true is)
-loads words shape c (SeeingPins p) is = absurd (false≢true is)
-loads words shape c (Claiming aim pred curr) is = absurd (false≢true is)
-loads words shape c (Checking aim curr) is = absurd (false≢true is)
-loads words shape c (Answering reply) is = absurd (false≢true is)
+loads words shape c _ is = absurd (false≢true is)
 
 -- a load by an actor that is inside is played, in a dead vault too
 course_plays : (y : Yard) (a : ℕ) (word : Word) → pin_of y a % 2 ≡ 1 → course y a (Hop word) ≡ Plays

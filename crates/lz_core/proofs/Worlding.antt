@@ -222,11 +222,9 @@ module _ (shape : Shape) (disk : Option Past) (callers : List (Option OpenCall))
 
 -- an actor that has no call now had none before another one made its call
 none_at : (callers : List (Option Caller)) (i j : ℕ) (caller : Caller) → IsNone (slice_index_or (slice_set callers i (Some caller)) j None) → IsNone (slice_index_or callers j None)
-none_at [] i j caller none = none
 none_at (first ∷ callers) zero zero caller none = absurd (false≢true (sym none))
-none_at (first ∷ callers) zero (suc j) caller none = none
-none_at (first ∷ callers) (suc i) zero caller none = none
 none_at (first ∷ callers) (suc i) (suc j) caller none = none_at callers i j caller none
+none_at _ _ _ caller none = none
 
 none_of : (callers : List (Option Caller)) (i b : ℕ) (caller : Caller) → IsNone (caller_at (slice_set callers i (Some caller)) b) → IsNone (caller_at callers b)
 none_of callers i zero caller none = refl

@@ -145,11 +145,7 @@ module _ (buckets slots s : ℕ) (e : Publishing) (actor : Actor) (P : Trace) (l
   rests_prepared GateOpened h = pair_stays buckets e actor P (faces_leave (key_word h.own P) h.beside.round.faces) GateOpened h
   rests_prepared GateClosed h = pair_stays buckets e actor P (before_leave h.node h.curr h.before) GateClosed h
   rests_prepared Marked h = pair_stays buckets e actor P (before_leave h.node h.curr h.before) Marked h
-  rests_prepared Nothing h = tt
-  rests_prepared Locks h = tt
-  rests_prepared Linked h = tt
-  rests_prepared Unlinked h = tt
-  rests_prepared Released h = tt
+  rests_prepared _ h = tt
 
 module _ (n calls : ℕ) (y : Yard) (callers : List (Option Caller)) (disk : Medium) (M : History) (P : Trace) (notes : Notes) (sound : Sound n calls y callers disk M P notes) (a i : ℕ) (c : Command) (s : ℕ) (is : caller_at callers a ≡ Some (call_at i c (Playing (Writing s) 0))) where
   abbrev at : Progress

@@ -1,56 +1,19 @@
 //! Holds of the yard: each plays one event.
 ghost use Rattle.std.specs.Prelude.{◌≡◌, ◌≤◌, ◌<◌, length, Some, None, if◌then◌else◌};
 ghost use Rattle.lz_core.specs.Steps.{Played};
-ghost use Rattle.lz_core.specs.Table.{course, is_sure};
+ghost use Rattle.lz_core.specs.Table.{course, is_sure, word_changed};
 ghost use Rattle.lz_core.specs.Ready.{IsEventOf, IsReady};
-ghost use Rattle.lz_core.specs.Parts.{Fits};
+ghost use Rattle.lz_vault.specs.Vaults.{NoCall, Succeeds};
+ghost use Rattle.lz_core.specs.Yards.{actor_at};
+ghost use Rattle.lz_core.specs.Parts.{Does, Fits, Known};
 
 use crate::course::Course;
 use crate::event::{Event, Outcome};
 use crate::parts::Parts;
 use lz_disk::Disk;
-use lz_list::{Place, Word};
-use lz_slot::{Command, Key, Slot};
-
-// One hold: the guard, the event, the path of a device failure, and the word that was changed.
-macro_rules! hold {
-    ($yard:ident, $actor:ident, $kind:ident $(($($arg:ident),*))?, $play:ident, $word:expr) => {{
-        $yard.changed = None;
-        let asked = {
-            $($(let $arg = $arg;)*)?
-            Event::$kind $(($($arg),*))?
-        };
-        match $yard.course($actor, asked) {
-            Course::Refused(outcome) => outcome,
-            Course::Dies => {
-                $yard.die();
-                Outcome::Dead
-            }
-            Course::Plays => {
-                let word = {
-                    $($(let $arg = $arg;)*)?
-                    $word
-                };
-                match $yard.$play($actor $(, $($arg),*)?) {
-                    Ok(outcome) => {
-                        $yard.changed = word;
-                        outcome
-                    }
-                    Err(_) => Outcome::Fault,
-                }
-            }
-        }
-    }};
-}
-
-// The lines of the table: the hold of each kind of event.
-macro_rules! lines {
-    ($yard:ident, $actor:ident, $event:ident; $($kind:ident $(($($arg:ident),*))? => $hold:ident;)*) => {
-        match $event {
-            $(Event::$kind $(($($arg),*))? => $yard.$hold($actor $(, $($arg),*)?),)*
-        }
-    };
-}
+use lz_list::Word;
+use lz_slot::Slot;
+use lz_vault::VaultFault;
 
 impl<D: Disk> Parts<D> {
     // The word that a settling writes.
@@ -65,284 +28,61 @@ impl<D: Disk> Parts<D> {
         }
     }
 
-    #[tactic(auto, using(crate::proofs::Lines::line_rules))]
-    fn hold_invoke(&mut self, actor: usize, command: Command) -> Outcome
+    // The word that an event changes where it is played.
+    fn word_changed(&self, actor: usize, event: Event) -> Option<Word>
         requires low { 1 ≤ actor }
-        requires high { actor ≤ length self.old.yard.actors }
-        requires fits { Fits self.old.yard self.old.rows }
-        requires event { IsEventOf self.old.yard (Event.Invoke command) }
-        requires ready { course self.old.yard actor (Event.Invoke command) ≡ Course.Plays → IsReady self.old.yard actor (Event.Invoke command) }
-        ensures played { Played self.old.yard actor (Event.Invoke command) result self.new.yard self.new.changed (D.device self.old.disk) (D.device self.new.disk) }
-        ensures rows { self.new.rows ≡ self.old.rows }
+        requires high { actor ≤ length self.now.yard.actors }
+        requires fits { Fits self.now.yard self.now.rows }
+        requires ready { IsReady self.now.yard actor event }
+        requires known { Known Course.Plays self.now.yard actor event }
+        ensures { result ≡ word_changed self.now.yard (actor_at self.now.yard actor) actor event }
     {
-        hold!(self, actor, Invoke(command), play_invoke, None)
+        match event {
+            Event::Pin | Event::Answer => Some(Word::Pin(actor)),
+            Event::WriteKey(_) => Some(Word::Key(self.slot(actor))),
+            Event::WriteOpen => Some(Word::Link(self.slot(actor))),
+            Event::Link | Event::Unlink => Some(self.pred_word(actor)),
+            Event::Mark => Some(Word::Link(self.node(actor))),
+            Event::Settle(slot) => self.settle_word(slot),
+            Event::Halt => Some(Word::Halt),
+            _ => None,
+        }
     }
 
-    #[tactic(auto, using(crate::proofs::Lines::line_rules))]
-    fn hold_pin(&mut self, actor: usize) -> Outcome
-        requires low { 1 ≤ actor }
-        requires high { actor ≤ length self.old.yard.actors }
+    // Plays one event, which may be played.
+    fn play(&mut self, actor: usize, event: Event) -> Result<Outcome, VaultFault>
         requires fits { Fits self.old.yard self.old.rows }
-        requires event { IsEventOf self.old.yard Event.Pin }
-        requires ready { course self.old.yard actor Event.Pin ≡ Course.Plays → IsReady self.old.yard actor Event.Pin }
-        ensures played { Played self.old.yard actor Event.Pin result self.new.yard self.new.changed (D.device self.old.disk) (D.device self.new.disk) }
-        ensures rows { self.new.rows ≡ self.old.rows }
+        requires ready { IsReady self.old.yard actor event }
+        requires known { Known Course.Plays self.old.yard actor event }
+        requires quiet { Succeeds NoCall (D.device self.old.disk) (D.device self.old.disk) }
+        ensures done { Does self.old.yard actor event result self.new.yard (D.device self.old.disk) (D.device self.new.disk) }
+        ensures rest { (self.new.rows ≡ self.old.rows) × (self.new.changed ≡ self.old.changed) }
     {
-        hold!(self, actor, Pin, play_pin, Some(Word::Pin(actor)))
+        match event {
+            Event::Invoke(command) => self.play_invoke(actor, command),
+            Event::Pin => self.play_pin(actor),
+            Event::Hop(word) => self.play_hop(actor, word),
+            Event::Reserve => self.play_reserve(actor),
+            Event::WriteKey(key) => self.play_write_key(actor, key),
+            Event::Claim(pred, curr) => self.play_claim(actor, pred, curr),
+            Event::Check => self.play_check(actor),
+            Event::WriteOpen => self.play_write_open(actor),
+            Event::Link => self.play_link(actor),
+            Event::WriteClose => self.play_write_close(actor),
+            Event::Mark => self.play_mark(actor),
+            Event::Release => self.play_release(actor),
+            Event::Sync(slot) => self.play_sync(actor, slot),
+            Event::Settle(slot) => self.play_settle(actor, slot),
+            Event::Unlink => self.play_unlink(actor),
+            Event::Retire => self.play_retire(actor),
+            Event::SeePin(pass, value) => self.play_see_pin(actor, pass, value),
+            Event::Answer => self.play_answer(actor),
+            Event::Halt => self.play_halt(actor),
+        }
     }
 
+    // Plays one event of an actor: the guard, the event, the path of a device failure, and the word that was changed.
     #[tactic(auto, using(crate::proofs::Lines::line_rules))]
-    fn hold_hop(&mut self, actor: usize, word: Word) -> Outcome
-        requires low { 1 ≤ actor }
-        requires high { actor ≤ length self.old.yard.actors }
-        requires fits { Fits self.old.yard self.old.rows }
-        requires event { IsEventOf self.old.yard (Event.Hop word) }
-        requires ready { course self.old.yard actor (Event.Hop word) ≡ Course.Plays → IsReady self.old.yard actor (Event.Hop word) }
-        ensures played { Played self.old.yard actor (Event.Hop word) result self.new.yard self.new.changed (D.device self.old.disk) (D.device self.new.disk) }
-        ensures rows { self.new.rows ≡ self.old.rows }
-    {
-        hold!(self, actor, Hop(word), play_hop, None)
-    }
-
-    #[tactic(auto, using(crate::proofs::Lines::line_rules))]
-    fn hold_reserve(&mut self, actor: usize) -> Outcome
-        requires low { 1 ≤ actor }
-        requires high { actor ≤ length self.old.yard.actors }
-        requires fits { Fits self.old.yard self.old.rows }
-        requires event { IsEventOf self.old.yard Event.Reserve }
-        requires ready { course self.old.yard actor Event.Reserve ≡ Course.Plays → IsReady self.old.yard actor Event.Reserve }
-        ensures played { Played self.old.yard actor Event.Reserve result self.new.yard self.new.changed (D.device self.old.disk) (D.device self.new.disk) }
-        ensures rows { self.new.rows ≡ self.old.rows }
-    {
-        hold!(self, actor, Reserve, play_reserve, None)
-    }
-
-    #[tactic(auto, using(crate::proofs::Lines::line_rules))]
-    fn hold_write_key(&mut self, actor: usize, key: Key) -> Outcome
-        requires low { 1 ≤ actor }
-        requires high { actor ≤ length self.old.yard.actors }
-        requires fits { Fits self.old.yard self.old.rows }
-        requires event { IsEventOf self.old.yard (Event.WriteKey key) }
-        requires ready { course self.old.yard actor (Event.WriteKey key) ≡ Course.Plays → IsReady self.old.yard actor (Event.WriteKey key) }
-        ensures played { Played self.old.yard actor (Event.WriteKey key) result self.new.yard self.new.changed (D.device self.old.disk) (D.device self.new.disk) }
-        ensures rows { self.new.rows ≡ self.old.rows }
-    {
-        hold!(
-            self,
-            actor,
-            WriteKey(key),
-            play_write_key,
-            Some(Word::Key(self.slot(actor)))
-        )
-    }
-
-    #[tactic(auto, using(crate::proofs::Lines::line_rules))]
-    fn hold_claim(&mut self, actor: usize, pred: Place, curr: Option<Slot>) -> Outcome
-        requires low { 1 ≤ actor }
-        requires high { actor ≤ length self.old.yard.actors }
-        requires fits { Fits self.old.yard self.old.rows }
-        requires event { IsEventOf self.old.yard (Event.Claim pred curr) }
-        requires ready { course self.old.yard actor (Event.Claim pred curr) ≡ Course.Plays → IsReady self.old.yard actor (Event.Claim pred curr) }
-        ensures played { Played self.old.yard actor (Event.Claim pred curr) result self.new.yard self.new.changed (D.device self.old.disk) (D.device self.new.disk) }
-        ensures rows { self.new.rows ≡ self.old.rows }
-    {
-        hold!(self, actor, Claim(pred, curr), play_claim, None)
-    }
-
-    #[tactic(auto, using(crate::proofs::Lines::line_rules))]
-    fn hold_check(&mut self, actor: usize) -> Outcome
-        requires low { 1 ≤ actor }
-        requires high { actor ≤ length self.old.yard.actors }
-        requires fits { Fits self.old.yard self.old.rows }
-        requires event { IsEventOf self.old.yard Event.Check }
-        requires ready { course self.old.yard actor Event.Check ≡ Course.Plays → IsReady self.old.yard actor Event.Check }
-        ensures played { Played self.old.yard actor Event.Check result self.new.yard self.new.changed (D.device self.old.disk) (D.device self.new.disk) }
-        ensures rows { self.new.rows ≡ self.old.rows }
-    {
-        hold!(self, actor, Check, play_check, None)
-    }
-
-    #[tactic(auto, using(crate::proofs::Lines::line_rules))]
-    fn hold_write_open(&mut self, actor: usize) -> Outcome
-        requires low { 1 ≤ actor }
-        requires high { actor ≤ length self.old.yard.actors }
-        requires fits { Fits self.old.yard self.old.rows }
-        requires event { IsEventOf self.old.yard Event.WriteOpen }
-        requires ready { course self.old.yard actor Event.WriteOpen ≡ Course.Plays → IsReady self.old.yard actor Event.WriteOpen }
-        ensures played { Played self.old.yard actor Event.WriteOpen result self.new.yard self.new.changed (D.device self.old.disk) (D.device self.new.disk) }
-        ensures rows { self.new.rows ≡ self.old.rows }
-    {
-        hold!(
-            self,
-            actor,
-            WriteOpen,
-            play_write_open,
-            Some(Word::Link(self.slot(actor)))
-        )
-    }
-
-    #[tactic(auto, using(crate::proofs::Lines::line_rules))]
-    fn hold_link(&mut self, actor: usize) -> Outcome
-        requires low { 1 ≤ actor }
-        requires high { actor ≤ length self.old.yard.actors }
-        requires fits { Fits self.old.yard self.old.rows }
-        requires event { IsEventOf self.old.yard Event.Link }
-        requires ready { course self.old.yard actor Event.Link ≡ Course.Plays → IsReady self.old.yard actor Event.Link }
-        ensures played { Played self.old.yard actor Event.Link result self.new.yard self.new.changed (D.device self.old.disk) (D.device self.new.disk) }
-        ensures rows { self.new.rows ≡ self.old.rows }
-    {
-        hold!(self, actor, Link, play_link, Some(self.pred_word(actor)))
-    }
-
-    #[tactic(auto, using(crate::proofs::Lines::line_rules))]
-    fn hold_write_close(&mut self, actor: usize) -> Outcome
-        requires low { 1 ≤ actor }
-        requires high { actor ≤ length self.old.yard.actors }
-        requires fits { Fits self.old.yard self.old.rows }
-        requires event { IsEventOf self.old.yard Event.WriteClose }
-        requires ready { course self.old.yard actor Event.WriteClose ≡ Course.Plays → IsReady self.old.yard actor Event.WriteClose }
-        ensures played { Played self.old.yard actor Event.WriteClose result self.new.yard self.new.changed (D.device self.old.disk) (D.device self.new.disk) }
-        ensures rows { self.new.rows ≡ self.old.rows }
-    {
-        hold!(self, actor, WriteClose, play_write_close, None)
-    }
-
-    #[tactic(auto, using(crate::proofs::Lines::line_rules))]
-    fn hold_mark(&mut self, actor: usize) -> Outcome
-        requires low { 1 ≤ actor }
-        requires high { actor ≤ length self.old.yard.actors }
-        requires fits { Fits self.old.yard self.old.rows }
-        requires event { IsEventOf self.old.yard Event.Mark }
-        requires ready { course self.old.yard actor Event.Mark ≡ Course.Plays → IsReady self.old.yard actor Event.Mark }
-        ensures played { Played self.old.yard actor Event.Mark result self.new.yard self.new.changed (D.device self.old.disk) (D.device self.new.disk) }
-        ensures rows { self.new.rows ≡ self.old.rows }
-    {
-        hold!(
-            self,
-            actor,
-            Mark,
-            play_mark,
-            Some(Word::Link(self.node(actor)))
-        )
-    }
-
-    #[tactic(auto, using(crate::proofs::Lines::line_rules))]
-    fn hold_release(&mut self, actor: usize) -> Outcome
-        requires low { 1 ≤ actor }
-        requires high { actor ≤ length self.old.yard.actors }
-        requires fits { Fits self.old.yard self.old.rows }
-        requires event { IsEventOf self.old.yard Event.Release }
-        requires ready { course self.old.yard actor Event.Release ≡ Course.Plays → IsReady self.old.yard actor Event.Release }
-        ensures played { Played self.old.yard actor Event.Release result self.new.yard self.new.changed (D.device self.old.disk) (D.device self.new.disk) }
-        ensures rows { self.new.rows ≡ self.old.rows }
-    {
-        hold!(self, actor, Release, play_release, None)
-    }
-
-    #[tactic(auto, using(crate::proofs::Lines::line_rules))]
-    fn hold_sync(&mut self, actor: usize, slot: Slot) -> Outcome
-        requires low { 1 ≤ actor }
-        requires high { actor ≤ length self.old.yard.actors }
-        requires fits { Fits self.old.yard self.old.rows }
-        requires event { IsEventOf self.old.yard (Event.Sync slot) }
-        requires ready { course self.old.yard actor (Event.Sync slot) ≡ Course.Plays → IsReady self.old.yard actor (Event.Sync slot) }
-        ensures played { Played self.old.yard actor (Event.Sync slot) result self.new.yard self.new.changed (D.device self.old.disk) (D.device self.new.disk) }
-        ensures rows { self.new.rows ≡ self.old.rows }
-    {
-        hold!(self, actor, Sync(slot), play_sync, None)
-    }
-
-    #[tactic(auto, using(crate::proofs::Lines::line_rules))]
-    fn hold_settle(&mut self, actor: usize, slot: Slot) -> Outcome
-        requires low { 1 ≤ actor }
-        requires high { actor ≤ length self.old.yard.actors }
-        requires fits { Fits self.old.yard self.old.rows }
-        requires event { IsEventOf self.old.yard (Event.Settle slot) }
-        requires ready { course self.old.yard actor (Event.Settle slot) ≡ Course.Plays → IsReady self.old.yard actor (Event.Settle slot) }
-        ensures played { Played self.old.yard actor (Event.Settle slot) result self.new.yard self.new.changed (D.device self.old.disk) (D.device self.new.disk) }
-        ensures rows { self.new.rows ≡ self.old.rows }
-    {
-        hold!(
-            self,
-            actor,
-            Settle(slot),
-            play_settle,
-            self.settle_word(slot)
-        )
-    }
-
-    #[tactic(auto, using(crate::proofs::Lines::line_rules))]
-    fn hold_unlink(&mut self, actor: usize) -> Outcome
-        requires low { 1 ≤ actor }
-        requires high { actor ≤ length self.old.yard.actors }
-        requires fits { Fits self.old.yard self.old.rows }
-        requires event { IsEventOf self.old.yard Event.Unlink }
-        requires ready { course self.old.yard actor Event.Unlink ≡ Course.Plays → IsReady self.old.yard actor Event.Unlink }
-        ensures played { Played self.old.yard actor Event.Unlink result self.new.yard self.new.changed (D.device self.old.disk) (D.device self.new.disk) }
-        ensures rows { self.new.rows ≡ self.old.rows }
-    {
-        hold!(
-            self,
-            actor,
-            Unlink,
-            play_unlink,
-            Some(self.pred_word(actor))
-        )
-    }
-
-    #[tactic(auto, using(crate::proofs::Lines::line_rules))]
-    fn hold_retire(&mut self, actor: usize) -> Outcome
-        requires low { 1 ≤ actor }
-        requires high { actor ≤ length self.old.yard.actors }
-        requires fits { Fits self.old.yard self.old.rows }
-        requires event { IsEventOf self.old.yard Event.Retire }
-        requires ready { course self.old.yard actor Event.Retire ≡ Course.Plays → IsReady self.old.yard actor Event.Retire }
-        ensures played { Played self.old.yard actor Event.Retire result self.new.yard self.new.changed (D.device self.old.disk) (D.device self.new.disk) }
-        ensures rows { self.new.rows ≡ self.old.rows }
-    {
-        hold!(self, actor, Retire, play_retire, None)
-    }
-
-    #[tactic(auto, using(crate::proofs::Lines::line_rules))]
-    fn hold_see_pin(&mut self, actor: usize, pass: usize, value: u64) -> Outcome
-        requires low { 1 ≤ actor }
-        requires high { actor ≤ length self.old.yard.actors }
-        requires fits { Fits self.old.yard self.old.rows }
-        requires event { IsEventOf self.old.yard (Event.SeePin pass value) }
-        requires ready { course self.old.yard actor (Event.SeePin pass value) ≡ Course.Plays → IsReady self.old.yard actor (Event.SeePin pass value) }
-        ensures played { Played self.old.yard actor (Event.SeePin pass value) result self.new.yard self.new.changed (D.device self.old.disk) (D.device self.new.disk) }
-        ensures rows { self.new.rows ≡ self.old.rows }
-    {
-        hold!(self, actor, SeePin(pass, value), play_see_pin, None)
-    }
-
-    #[tactic(auto, using(crate::proofs::Lines::line_rules))]
-    fn hold_answer(&mut self, actor: usize) -> Outcome
-        requires low { 1 ≤ actor }
-        requires high { actor ≤ length self.old.yard.actors }
-        requires fits { Fits self.old.yard self.old.rows }
-        requires event { IsEventOf self.old.yard Event.Answer }
-        requires ready { course self.old.yard actor Event.Answer ≡ Course.Plays → IsReady self.old.yard actor Event.Answer }
-        ensures played { Played self.old.yard actor Event.Answer result self.new.yard self.new.changed (D.device self.old.disk) (D.device self.new.disk) }
-        ensures rows { self.new.rows ≡ self.old.rows }
-    {
-        hold!(self, actor, Answer, play_answer, Some(Word::Pin(actor)))
-    }
-
-    #[tactic(auto, using(crate::proofs::Lines::line_rules))]
-    fn hold_halt(&mut self, actor: usize) -> Outcome
-        requires low { 1 ≤ actor }
-        requires high { actor ≤ length self.old.yard.actors }
-        requires fits { Fits self.old.yard self.old.rows }
-        requires event { IsEventOf self.old.yard Event.Halt }
-        requires ready { course self.old.yard actor Event.Halt ≡ Course.Plays → IsReady self.old.yard actor Event.Halt }
-        ensures played { Played self.old.yard actor Event.Halt result self.new.yard self.new.changed (D.device self.old.disk) (D.device self.new.disk) }
-        ensures rows { self.new.rows ≡ self.old.rows }
-    {
-        hold!(self, actor, Halt, play_halt, Some(Word::Halt))
-    }
-
-    // Plays one event of an actor.
     pub(crate) fn step(&mut self, actor: usize, event: Event) -> Outcome
         requires low { 1 ≤ actor }
         requires high { actor ≤ length self.old.yard.actors }
@@ -352,27 +92,25 @@ impl<D: Disk> Parts<D> {
         ensures played { Played self.old.yard actor event result self.new.yard self.new.changed (D.device self.old.disk) (D.device self.new.disk) }
         ensures rows { self.new.rows ≡ self.old.rows }
     {
-        lines! {
-            self, actor, event;
-            Invoke(command) => hold_invoke;
-            Pin => hold_pin;
-            Hop(word) => hold_hop;
-            Reserve => hold_reserve;
-            WriteKey(key) => hold_write_key;
-            Claim(pred, curr) => hold_claim;
-            Check => hold_check;
-            WriteOpen => hold_write_open;
-            Link => hold_link;
-            WriteClose => hold_write_close;
-            Mark => hold_mark;
-            Release => hold_release;
-            Sync(slot) => hold_sync;
-            Settle(slot) => hold_settle;
-            Unlink => hold_unlink;
-            Retire => hold_retire;
-            SeePin(pass, value) => hold_see_pin;
-            Answer => hold_answer;
-            Halt => hold_halt;
+        let asked = event;
+        let played = event;
+        self.changed = None;
+        match self.course(actor, asked) {
+            Course::Refused(outcome) => outcome,
+            Course::Dies => {
+                self.die();
+                Outcome::Dead
+            }
+            Course::Plays => {
+                let word = self.word_changed(actor, event);
+                match self.play(actor, played) {
+                    Ok(outcome) => {
+                        self.changed = word;
+                        outcome
+                    }
+                    Err(_) => Outcome::Fault,
+                }
+            }
         }
     }
 }
