@@ -1,7 +1,7 @@
 -- How a rehearsal's end is told.
 use Rattle.std.proofs.Common.{◌≡◌, ◌⊎◌, inl, inr, ℕ, Option, None, Some, List, Result, Ok, Err, OnOk, IsErrOf, IfSome, sym, subst, ◌∙◌}
 use Rattle.std.specs.Io.KnownBytes.{Appends}
-use Rattle.lz_core.specs.Yards.{Shape}
+use Rattle.lz_machine.specs.Yards.{Shape}
 use Rattle.lz_core.specs.Worlds.{IsNew, WorldOver}
 use Rattle.lz_rehearsal.specs.declared.line.Line.{Line}
 use Rattle.lz_rehearsal.specs.declared.rehearsal.RehearsalFault.{RehearsalFault}

@@ -1,7 +1,7 @@
 -- What the rehearsal of a script tells.
 use Rattle.std.specs.Prelude.{ℕ, Option, List}
 use Rattle.std.specs.Io.KnownBytes.{Appends}
-use Rattle.lz_core.specs.Yards.{Shape}
+use Rattle.lz_machine.specs.Yards.{Shape}
 use Rattle.lz_core.specs.Worlds.{IsNew, WorldOver}
 use Rattle.lz_rehearsal.specs.declared.line.Line.{Line}
 use Rattle.lz_rehearsal.specs.Rehearsals.{EndsAt, Rehearses}

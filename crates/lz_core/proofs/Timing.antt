@@ -3,17 +3,17 @@ use Rattle.std.proofs.Common.{◌≡◌, ◌≢◌, ℕ, ◌==◌, ◌%◌, Bool
 use Rattle.std.proofs.lemmas.Bool.{false≢true}
 use Rattle.std.proofs.lemmas.Option.{none-some}
 use Rattle.lz_disk.specs.Images.{Medium}
-use Rattle.lz_core.specs.declared.event.Outcome.TheVariants.{NotNow}
-use Rattle.lz_core.specs.Table.{line, pin_of}
-use Rattle.lz_core.specs.Ready.{IsEventOf}
-use Rattle.lz_core.specs.Orders.{MayTake}
-use Rattle.lz_core.specs.Runs.{Start, Service, Caller, State, Up, Down, Step, Point, MayStep, state_after, caller_at, next_event}
+use Rattle.lz_machine.specs.declared.event.Outcome.TheVariants.{NotNow}
+use Rattle.lz_machine.specs.Table.{line, pin_of}
+use Rattle.lz_machine.specs.Ready.{IsEventOf}
+use Rattle.lz_machine.specs.Orders.{MayTake}
+use Rattle.lz_machine.specs.Runs.{Start, Service, Caller, State, Up, Down, Step, Point, MayStep, state_after, caller_at, next_event}
 use Rattle.lz_core.specs.Plays.{IsReached}
-use Rattle.lz_core.specs.Sound.{IsSound}
+use Rattle.lz_machine.specs.Sound.{IsSound}
 use Rattle.lz_core.specs.Worlds.{IsQuiet}
-use Rattle.lz_core.proofs.Reaching.{reached_sound}
+use Rattle.lz_machine.proofs.Reaching.{reached_sound}
 use Rattle.lz_core.proofs.Ascending.{eq_of}
-use Rattle.lz_core.proofs.InTime.{Fits, AllFit, is_look, is_event_there, in_time_reached, may_take_there, worn_there, step_fits}
+use Rattle.lz_machine.proofs.InTime.{Fits, AllFit, is_look, is_event_there, in_time_reached, may_take_there, worn_there, step_fits}
 
 is_none : {X : Type 0} (o : Option X) → IsNone o → o ≡ None
 is_none None none = refl

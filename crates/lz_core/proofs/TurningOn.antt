@@ -7,37 +7,37 @@ use Rattle.lz_slot.specs.Counted.{of_pass, set_of_pass}
 use Rattle.lz_disk.specs.Images.{Medium}
 use Rattle.lz_disk.specs.Records.{Past, after, device_of}
 use Rattle.lz_vault.specs.Vaults.{MayFail, medium_after}
-use Rattle.lz_core.specs.declared.event.Event.{Event}
-use Rattle.lz_core.specs.declared.event.Event.TheVariants.{Invoke, Check, SeePin, Answer}
-use Rattle.lz_core.specs.declared.event.Outcome.{Outcome}
-use Rattle.lz_core.specs.declared.event.Outcome.TheVariants.{Worn, Fault, Dead}
-use Rattle.lz_core.specs.declared.event.Reply.{Reply}
-use Rattle.lz_core.specs.declared.caller.Script.{Script}
-use Rattle.lz_core.specs.declared.caller.Script.TheVariants.{Pinning, Resting, Writing, Adding, Removing, Releasing, Halting}
-use Rattle.lz_core.specs.declared.caller.Progress.{Progress}
-use Rattle.lz_core.specs.declared.caller.Progress.TheVariants.{Playing, LoadsHalt, Walking, Reserving, SeeingPins, Claiming, Checking, Answering}
+use Rattle.lz_machine.specs.declared.event.Event.{Event}
+use Rattle.lz_machine.specs.declared.event.Event.TheVariants.{Invoke, Check, SeePin, Answer}
+use Rattle.lz_machine.specs.declared.event.Outcome.{Outcome}
+use Rattle.lz_machine.specs.declared.event.Outcome.TheVariants.{Worn, Fault, Dead}
+use Rattle.lz_machine.specs.declared.event.Reply.{Reply}
+use Rattle.lz_machine.specs.declared.caller.Script.{Script}
+use Rattle.lz_machine.specs.declared.caller.Script.TheVariants.{Pinning, Resting, Writing, Adding, Removing, Releasing, Halting}
+use Rattle.lz_machine.specs.declared.caller.Progress.{Progress}
+use Rattle.lz_machine.specs.declared.caller.Progress.TheVariants.{Playing, LoadsHalt, Walking, Reserving, SeeingPins, Claiming, Checking, Answering}
 use Rattle.lz_core.specs.declared.play.Step.{Step as PlayStep}
 use Rattle.lz_core.specs.declared.play.Step.TheVariants.{Turn as TurnOf}
-use Rattle.lz_core.specs.declared.actor.Actor.{Actor}
-use Rattle.lz_core.specs.declared.course.Course.{Course}
-use Rattle.lz_core.specs.declared.course.Course.TheVariants.{Refused, Dies, Plays}
+use Rattle.lz_machine.specs.declared.actor.Actor.{Actor}
+use Rattle.lz_machine.specs.declared.course.Course.{Course}
+use Rattle.lz_machine.specs.declared.course.Course.TheVariants.{Refused, Dies, Plays}
 use Rattle.lz_core.specs.declared.open_calls.OpenCall.{OpenCall}
-use Rattle.lz_core.specs.Yards.{Shape, Yard, actor_at}
-use Rattle.lz_core.specs.Table.{course, call_on, line, line_failed, line_call}
-use Rattle.lz_core.specs.Calls.{event_at, events_of, loaded, progress_after}
-use Rattle.lz_core.specs.Orders.{MayTake, shape_with}
-use Rattle.lz_core.specs.Ready.{IsEventOf}
-use Rattle.lz_core.specs.Steps.{Played}
-use Rattle.lz_core.specs.Runs.{Step, IsNext, Caller, Service, State, Up, Turn, Fails, HasTurn, HasFault, MayPlay, Reached, caller_at, next_event, reply_at, moved_on, played, after_turn, after_fault, marks_of_turn, mark_of_turn, state_after, Point}
-use Rattle.lz_core.specs.Parts.{YardOver}
+use Rattle.lz_machine.specs.Yards.{Shape, Yard, actor_at}
+use Rattle.lz_machine.specs.Table.{course, call_on, line, line_failed, line_call}
+use Rattle.lz_machine.specs.Calls.{event_at, events_of, loaded, progress_after}
+use Rattle.lz_machine.specs.Orders.{MayTake, shape_with}
+use Rattle.lz_machine.specs.Ready.{IsEventOf}
+use Rattle.lz_yard.specs.Steps.{Played}
+use Rattle.lz_machine.specs.Runs.{Step, IsNext, Caller, Service, State, Up, Turn, Fails, HasTurn, HasFault, MayPlay, Reached, caller_at, next_event, reply_at, moved_on, played, after_turn, after_fault, marks_of_turn, mark_of_turn, state_after, Point}
+use Rattle.lz_yard.specs.Parts.{YardOver}
 use Rattle.lz_core.specs.Worlds.{WorldOver, IsQuiet, HasRun, PlaysOn, HasOne, IsCallOn, IsLawful, IsOutcome, IsWorld, MayStepOn, StepsOn, call_shown, call_after, event_asked, event_loaded, mark_list, next_of, next_of_caller, state_shown}
 use Rattle.lz_core.proofs.Worlding.{Goes, leads, runs_on, shape_is, shown_at, shown_caller, shown_set, set_at, on_set, same_count}
 use Rattle.std.proofs.lemmas.List.{length-map, get_or-set_same}
 use Rattle.lz_list.specs.Words.{Words}
-use Rattle.lz_core.proofs.Turning.{caller_range}
-use Rattle.lz_core.proofs.Keeping.{played_shape, fault_or_not}
+use Rattle.lz_machine.proofs.Turning.{caller_range}
+use Rattle.lz_yard.proofs.Keeping.{played_shape, fault_or_not}
 use Rattle.lz_core.proofs.Timing.{is_event, in_time, may_take, quiet_step}
-use Rattle.lz_core.proofs.InTime.{is_look, may_take_fault}
+use Rattle.lz_machine.proofs.InTime.{is_look, may_take_fault}
 
 -- how many slots a yard has plays no part in the order of events
 abbrev shaped : ℕ → ℕ → ℕ → Shape

@@ -21,24 +21,24 @@ use Rattle.lz_list.proofs.Openings.{opening_members}
 use Rattle.lz_list.proofs.Sorted.{node_on, node_slot}
 use Rattle.lz_list.proofs.Traced.{members_after}
 use Rattle.lz_vault.specs.Opens.{keys_of as cell_keys}
-use Rattle.lz_core.specs.Yards.{Shape, Yard, no_cell, cell_read, slots_read, first_trace, opened_yard}
-use Rattle.lz_core.specs.Filling.{OpensYard}
+use Rattle.lz_machine.specs.Yards.{Shape, Yard, no_cell, cell_read, slots_read, first_trace, opened_yard}
+use Rattle.lz_yard.specs.Filling.{OpensYard}
 use Rattle.lz_disk.specs.Records.{Past, after}
 use Rattle.lz_core.specs.declared.open_calls.OpenCall.{OpenCall}
-use Rattle.lz_core.specs.Parts.{YardOver}
-use Rattle.lz_core.specs.Runs.{Service, Up, Point, Start, by_key, keys_found, opened_service}
+use Rattle.lz_yard.specs.Parts.{YardOver}
+use Rattle.lz_machine.specs.Runs.{Service, Up, Point, Start, by_key, keys_found, opened_service}
 use Rattle.lz_core.specs.Plays.{IsReached}
-use Rattle.lz_core.specs.Sound.{Notes, IsSound, UpSound}
+use Rattle.lz_machine.specs.Sound.{Notes, IsSound, UpSound}
 use Rattle.lz_core.specs.Worlds.{Ascend, IsAmong, IsWorld, Shows, call_shown, state_shown}
-use Rattle.lz_core.proofs.Showing as showing
-use Rattle.lz_core.proofs.ImageSlots.{node_stands}
-use Rattle.lz_core.proofs.FirstState.{first_notes, opened_up}
-use Rattle.lz_core.proofs.FirstNodes.{held_found}
-use Rattle.lz_core.proofs.Loads.{bucket_range}
+use Rattle.lz_machine.proofs.Showing as showing
+use Rattle.lz_machine.proofs.ImageSlots.{node_stands}
+use Rattle.lz_machine.proofs.FirstState.{first_notes, opened_up}
+use Rattle.lz_machine.proofs.FirstNodes.{held_found}
+use Rattle.lz_machine.proofs.Loads.{bucket_range}
 use Rattle.lz_core.proofs.Ascending.{eq_of, first_of, later_of}
-use Rattle.lz_core.proofs.InTime.{up_at}
-use Rattle.lz_core.proofs.Reaching.{reached_sound}
-use Rattle.lz_core.proofs.FoundSlots.{read_length, any_key, key_by}
+use Rattle.lz_machine.proofs.InTime.{up_at}
+use Rattle.lz_machine.proofs.Reaching.{reached_sound}
+use Rattle.lz_yard.proofs.FoundSlots.{read_length, any_key, key_by}
 
 -- in a sound open service
 module _ (n calls : ℕ) (service : Service) (disk : Medium) (life : Life) (P : Trace) (notes : Notes) (up : UpSound n calls service disk life P notes) where

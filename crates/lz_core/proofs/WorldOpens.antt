@@ -12,19 +12,19 @@ use Rattle.lz_vault.specs.Opens.{IsRefusedFor}
 use Rattle.lz_vault.specs.Makes.{IsFresh}
 use Rattle.lz_core.specs.declared.play.Step.TheVariants.{Open}
 use Rattle.lz_core.specs.declared.open_calls.OpenCall.{OpenCall}
-use Rattle.lz_core.specs.Yards.{Shape, Yard, cell_read, slots_read, opened_yard}
-use Rattle.lz_core.specs.Filling.{OpensYard}
-use Rattle.lz_core.specs.Parts.{YardOver}
-use Rattle.lz_core.specs.Runs.{Caller, Start, IsStart, start_keys, State, Up, Down, Opens, OpenFails, Point, first_point, opened_service, keys_found}
-use Rattle.lz_core.specs.Sound.{StateSound, PointSound, IsSound}
+use Rattle.lz_machine.specs.Yards.{Shape, Yard, cell_read, slots_read, opened_yard}
+use Rattle.lz_yard.specs.Filling.{OpensYard}
+use Rattle.lz_yard.specs.Parts.{YardOver}
+use Rattle.lz_machine.specs.Runs.{Caller, Start, IsStart, start_keys, State, Up, Down, Opens, OpenFails, Point, first_point, opened_service, keys_found}
+use Rattle.lz_machine.specs.Sound.{StateSound, PointSound, IsSound}
 use Rattle.lz_core.specs.Worlds.{WorldOver, IsNew, IsQuiet, IsWorld, HasOne, HasRun, IsCallOn, PlaysOn, StopsEarly, call_shown, state_shown}
-use Rattle.lz_core.proofs.Reaching.{reached_sound}
-use Rattle.lz_core.proofs.FirstState.{pass_of}
-use Rattle.lz_core.proofs.Opened.{holds_listed}
-use Rattle.lz_core.proofs.Opens.{one_set}
+use Rattle.lz_machine.proofs.Reaching.{reached_sound}
+use Rattle.lz_machine.proofs.FirstState.{pass_of}
+use Rattle.lz_yard.proofs.Opened.{holds_listed}
+use Rattle.lz_machine.proofs.Opens.{one_set}
 use Rattle.lz_core.proofs.Worlding.{Goes, leads, runs_on}
 use Rattle.lz_core.proofs.WorldKeys.{yard_read}
-use Rattle.lz_core.proofs.FoundSlots.{read_length}
+use Rattle.lz_yard.proofs.FoundSlots.{read_length}
 
 -- a text that holds a set holds the one that is listed of it
 listed : (t : List ℕ) (N : ℕ) (S : Keys) → Holds t N S → Holds t N (members (keys_found t N))

@@ -5,11 +5,11 @@ use Rattle.std.proofs.lemmas.Option.{slice_get_within, get_or_from_slice_get}
 use Rattle.std.proofs.Math.Seq.{take-suc}
 use Rattle.lz_slot.specs.declared.history.Mark.{Mark}
 use Rattle.lz_core.specs.declared.play.Step.{Step as PlayStep}
-use Rattle.lz_core.specs.Runs.{Step, MayStep, Point, run, IsRun}
+use Rattle.lz_machine.specs.Runs.{Step, MayStep, Point, run, IsRun}
 use Rattle.lz_core.specs.Plays.{IsPlayOf, ArePlaysOf, IsReached}
 use Rattle.lz_core.specs.Worlds.{WorldOver, StopsAt, StopsEarly, IsLawful, PlaysOn, IsChain, mark_list}
-use Rattle.lz_core.proofs.Reaching.{every_history}
-use Rattle.lz_core.proofs.Runs.{run_append}
+use Rattle.lz_machine.proofs.Reaching.{every_history}
+use Rattle.lz_machine.proofs.Runs.{run_append}
 
 may_on : (p : Point) (later before : List Step) → IsRun p before → IsRun (run p before) later → IsRun p (later ++ before)
 may_on p [] before first then_on = first

@@ -14,15 +14,15 @@ use Rattle.lz_disk.specs.Picks.{left_by}
 use Rattle.lz_disk.specs.Records.{Past, after}
 use Rattle.lz_core.specs.declared.play.Step.{Step as PlayStep}
 use Rattle.lz_core.specs.declared.play.Step.TheVariants.{Call as CallOf, Trip, Stop, Crash}
-use Rattle.lz_core.specs.Calls.{first_progress}
+use Rattle.lz_machine.specs.Calls.{first_progress}
 use Rattle.lz_core.specs.declared.open_calls.OpenCall.{OpenCall}
-use Rattle.lz_core.specs.Yards.{Shape}
-use Rattle.lz_core.specs.Runs.{Caller, Calls, caller_at, Start, start_keys, State, Up, Down, Step, Trips, Stops, Crashes, MayStep, disk_of, state_after, calls_after, marks_of, shape_of, Point, point_after, run, first_point}
+use Rattle.lz_machine.specs.Yards.{Shape}
+use Rattle.lz_machine.specs.Runs.{Caller, Calls, caller_at, Start, start_keys, State, Up, Down, Step, Trips, Stops, Crashes, MayStep, disk_of, state_after, calls_after, marks_of, shape_of, Point, point_after, run, first_point}
 use Rattle.lz_core.specs.Plays.{IsPlayOf, IsReached}
-use Rattle.lz_core.specs.Parts.{YardOver}
+use Rattle.lz_yard.specs.Parts.{YardOver}
 use Rattle.lz_core.specs.Worlds.{WorldOver, StopsEarly, IsQuiet, HasRun, PlaysOn, HasOne, IsCallOn, IsLawful, IsWorld, MayCall, call_shown, state_shown, disk_shown}
-use Rattle.lz_core.specs.Sound.{PointSound}
-use Rattle.lz_core.proofs.Reaching.{reached_sound}
+use Rattle.lz_machine.specs.Sound.{PointSound}
+use Rattle.lz_machine.proofs.Reaching.{reached_sound}
 
 -- a point that is reached leads to another by a step that may be taken
 pub reach : (start : Start) (p : Point) (step : Step) → IsReached start p → MayStep p.state step → IsReached start (point_after p step)

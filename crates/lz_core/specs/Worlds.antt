@@ -7,23 +7,23 @@ use Rattle.lz_slot.specs.Bytes.{Holds}
 use Rattle.lz_disk.specs.Images.{Medium, at_rest}
 use Rattle.lz_disk.specs.Records.{Past, after, device_of}
 use Rattle.lz_allot.specs.Uses.{is_outside}
-use Rattle.lz_core.specs.declared.event.Event.{Event}
-use Rattle.lz_core.specs.declared.event.Event.TheVariants as event
-use Rattle.lz_core.specs.declared.event.Outcome.{Outcome}
-use Rattle.lz_core.specs.declared.event.Outcome.TheVariants.{Fault}
+use Rattle.lz_machine.specs.declared.event.Event.{Event}
+use Rattle.lz_machine.specs.declared.event.Event.TheVariants as event
+use Rattle.lz_machine.specs.declared.event.Outcome.{Outcome}
+use Rattle.lz_machine.specs.declared.event.Outcome.TheVariants.{Fault}
 use Rattle.lz_core.specs.declared.kind.Kind.{Kind}
 use Rattle.lz_core.specs.declared.kind.Kind.TheVariants as kind
 use Rattle.lz_core.specs.declared.play.Step.{Step as PlayStep}
 use Rattle.lz_core.specs.declared.play.Step.TheVariants.{Call, Turn as TurnOf, Open}
 use Rattle.lz_core.specs.declared.open_calls.OpenCall.{OpenCall}
-use Rattle.lz_core.specs.Yards.{Shape}
-use Rattle.lz_core.specs.Parts.{YardOver}
-use Rattle.lz_core.specs.Table.{line, line_failed, needs, pin_of}
-use Rattle.lz_core.specs.Orders.{shape_with}
-use Rattle.lz_core.specs.Calls.{event_at, loaded, progress_after}
-use Rattle.lz_core.specs.Ready.{IsEventOf}
-use Rattle.lz_core.specs.Steps.{Played}
-use Rattle.lz_core.specs.Runs.{Start, IsStart, start_keys, first_point, Service, Caller, State, Up, Down, caller_at, next_event, reply_at, moved_on, MayPlay, IsActor, MayLeave, Point, run}
+use Rattle.lz_machine.specs.Yards.{Shape}
+use Rattle.lz_yard.specs.Parts.{YardOver}
+use Rattle.lz_machine.specs.Table.{line, line_failed, needs, pin_of}
+use Rattle.lz_machine.specs.Orders.{shape_with}
+use Rattle.lz_machine.specs.Calls.{event_at, loaded, progress_after}
+use Rattle.lz_machine.specs.Ready.{IsEventOf}
+use Rattle.lz_yard.specs.Steps.{Played}
+use Rattle.lz_machine.specs.Runs.{Start, IsStart, start_keys, first_point, Service, Caller, State, Up, Down, caller_at, next_event, reply_at, moved_on, MayPlay, IsActor, MayLeave, Point, run}
 use Rattle.std.specs.List.{All}
 use Rattle.lz_list.specs.declared.word.Word.TheVariants.{Key}
 use Rattle.lz_list.specs.Words.{Words, get}

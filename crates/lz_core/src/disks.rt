@@ -2,11 +2,11 @@
 ghost use Rattle.std.specs.Prelude.{◌≡◌, OnOk, OnErr};
 ghost use Rattle.lz_disk.specs.Images.{IsImage, at_rest};
 ghost use Rattle.lz_disk.specs.Picks.{left_by};
-ghost use Rattle.lz_core.specs.Runs.{Down};
+ghost use Rattle.lz_machine.specs.Runs.{Down};
 ghost use Rattle.lz_core.specs.Worlds.{HasOne, IsTripped, disk_shown, state_shown};
 
-use crate::yard::Yard;
 use lz_disk::{MemoryDisk, Pick};
+use lz_yard::Yard;
 use std::alloc::AllocError;
 
 // Trips the disk, wherever it is.

@@ -1,14 +1,14 @@
 //! Calls that are open.
 ghost use Rattle.std.specs.Prelude.{◌≡◌, IfOk, IfSome, IsSome, None, replicate};
 ghost use Rattle.lz_slot.specs.Counted.{of_pass};
-ghost use Rattle.lz_core.specs.Orders.{HasPass, MayTake};
-ghost use Rattle.lz_core.specs.Runs as runs;
-ghost use Rattle.lz_core.specs.Runs.{marks_of_turn};
+ghost use Rattle.lz_machine.specs.Orders.{HasPass, MayTake};
+ghost use Rattle.lz_machine.specs.Runs as runs;
+ghost use Rattle.lz_machine.specs.Runs.{marks_of_turn};
 ghost use Rattle.lz_core.specs.Worlds.{IsCallOn, call_after, call_shown, event_asked, mark_list};
 
-use crate::call::Caller;
-use crate::event::{Event, Outcome, Reply};
 use crate::world::ACTORS;
+use lz_caller::Caller;
+use lz_machine::{Event, Outcome, Reply};
 use lz_slot::{Cut, Mark, Refusal};
 use std::alloc::{AllocError, Global};
 

@@ -2,15 +2,15 @@
 ghost use Rattle.std.specs.Prelude.{◌≡◌, ◌≤◌, IfOk, IfErr};
 ghost use Rattle.lz_disk.specs.Records.{device_of};
 ghost use Rattle.lz_vault.specs.Opens.{IsRefusedFor};
-ghost use Rattle.lz_core.specs.Filling.{OpensYard};
-ghost use Rattle.lz_core.specs.Runs.{keys_found};
+ghost use Rattle.lz_yard.specs.Filling.{OpensYard};
+ghost use Rattle.lz_machine.specs.Runs.{keys_found};
 
 use crate::shown::members_of;
 use crate::world::ACTORS;
-use crate::yard::Yard;
 use lz_disk::MemoryDisk;
 use lz_slot::Key;
 use lz_vault::{OpenFault, Refused};
+use lz_yard::Yard;
 use std::alloc::Global;
 
 // A yard that was opened, with the keys that it found.

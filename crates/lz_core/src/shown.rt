@@ -3,10 +3,10 @@ ghost use Rattle.std.specs.Prelude.{◌≡◌, ◌≤◌, ◌<◌, ◌↔◌, �
 ghost use Rattle.lz_slot.specs.Sets.{members};
 ghost use Rattle.lz_core.specs.Worlds.{Ascend, IsAmong, IsListed};
 
-use crate::yard::Yard;
 use lz_disk::MemoryDisk;
 use lz_list::Word;
 use lz_slot::{Key, Slot};
+use lz_yard::Yard;
 use std::alloc::{AllocError, Global};
 
 // The members of a yard, ascending: those keys of its slots that are members.

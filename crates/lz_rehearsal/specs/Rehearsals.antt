@@ -2,12 +2,12 @@
 use Rattle.std.specs.Prelude.{◌≡◌, ◌≢◌, ℕ, suc, Option, None, Some, List, [], ◌∷◌, ◌++◌, length}
 use Rattle.std.specs.Io.KnownBytes.{Appends}
 use Rattle.lz_slot.specs.declared.history.Mark.{Mark}
-use Rattle.lz_core.specs.declared.event.Outcome.{Outcome}
-use Rattle.lz_core.specs.declared.event.Outcome.TheVariants.{Busy}
+use Rattle.lz_machine.specs.declared.event.Outcome.{Outcome}
+use Rattle.lz_machine.specs.declared.event.Outcome.TheVariants.{Busy}
 use Rattle.lz_core.specs.declared.kind.Kind.{Kind}
 use Rattle.lz_core.specs.declared.play.Step.{Step as PlayStep}
 use Rattle.lz_core.specs.declared.play.Step.TheVariants as step
-use Rattle.lz_core.specs.Runs.{State}
+use Rattle.lz_machine.specs.Runs.{State}
 use Rattle.lz_core.specs.Worlds.{Ascend, IsChain, IsLawful, IsTold, IsUp, PlaysOn, Shows, WorldOver, mark_list}
 use Rattle.lz_rehearsal.specs.declared.line.Line.{Line}
 use Rattle.lz_rehearsal.specs.declared.line.Line.TheVariants.{Call, Turn, Until, Finish, Trip, Stop, Crash, Open, Show}

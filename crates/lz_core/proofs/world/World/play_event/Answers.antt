@@ -1,7 +1,7 @@
 use Rattle.std.proofs.Common.{◌≡◌, ◌-◌, IfSome, IsSome, Option, Some, None, subst, sym}
 use Rattle.lz_core.specs.declared.open_calls.OpenCall.{OpenCall}
-use Rattle.lz_core.specs.Orders.{MayTake}
-use Rattle.lz_core.specs.Runs.{marks_of_turn}
+use Rattle.lz_machine.specs.Orders.{MayTake}
+use Rattle.lz_machine.specs.Runs.{marks_of_turn}
 use Rattle.lz_core.specs.Worlds.{WorldOver, IsCallOn, call_after, call_shown, mark_list, next_of}
 use Rattle.lz_core.proofs.TurningOn.{may_on, takes, kept, tells, ranged, taken_at, tells_outcome, turns_on}
 use Rattle.lz_core.proofs.world.World.play_event.Goals as goal

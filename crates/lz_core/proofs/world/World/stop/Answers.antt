@@ -2,9 +2,9 @@ use Rattle.std.proofs.Common.{◌≡◌, ◌∙◌, List, Option, sym, ap, subst
 use Rattle.lz_disk.specs.Images.{Medium}
 use Rattle.lz_disk.specs.Records.{Past}
 use Rattle.lz_core.specs.declared.open_calls.OpenCall.{OpenCall}
-use Rattle.lz_core.specs.Yards.{Shape}
-use Rattle.lz_core.specs.Parts.{YardOver}
-use Rattle.lz_core.specs.Runs.{Down, disk_of}
+use Rattle.lz_machine.specs.Yards.{Shape}
+use Rattle.lz_yard.specs.Parts.{YardOver}
+use Rattle.lz_machine.specs.Runs.{Down, disk_of}
 use Rattle.lz_core.specs.Worlds.{IsQuiet, state_shown, disk_shown}
 use Rattle.lz_core.proofs.Worlding.{leads, stops, now_at, disk_is}
 use Rattle.lz_core.proofs.world.World.stop.Goals as goal

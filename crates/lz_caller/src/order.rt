@@ -1,0 +1,166 @@
+//! What a call plays next: its scripts, and what follows a walk or a check.
+ghost use Rattle.std.specs.Prelude.{◌≡◌, ◌<◌, length};
+ghost use Rattle.lz_slot.specs.Sets as sets;
+ghost use Rattle.lz_flush.specs.Settling.{may_answer};
+ghost use Rattle.lz_list.specs.Hops.{told};
+ghost use Rattle.lz_machine.specs.Orders.{IsEverywhere};
+ghost use Rattle.lz_machine.specs.Calls.{changes, event_of, events_of, goes_on, halt_loaded, hops_on, rests, walked};
+
+use lz_flush::{Need, may_answer};
+use lz_list::{Flags, Hop, Look, Met, Place};
+use lz_machine::{Event, Progress, Reply, Script};
+use lz_slot::{Command, Key, Slot};
+
+/// The key that a command names.
+pub fn key_of(command: Command) -> Key
+    ensures { result ≡ sets.key_of command }
+{
+    match command {
+        Command::Add(key) => key,
+        Command::Remove(key) => key,
+        Command::Has(key) => key,
+    }
+}
+
+// How many events a script has.
+pub(crate) fn count_of(command: Command, script: Script) -> usize
+    ensures { result ≡ length (events_of command script) }
+{
+    match script {
+        Script::Pinning | Script::Releasing(_) | Script::Halting(_) => 1,
+        Script::Resting(_, _) | Script::Writing(_) => 2,
+        Script::Adding(_) => 5,
+        Script::Removing(_) => 7,
+    }
+}
+
+// The event of a script with this index.
+pub(crate) fn event_of(command: Command, script: Script, index: usize) -> Event
+    requires { index < length (events_of command script) }
+    ensures { result ≡ event_of command script index }
+{
+    match script {
+        Script::Pinning => Event::Pin,
+        Script::Resting(slot, _) => match index {
+            0 => Event::Sync(slot),
+            _ => Event::Settle(slot),
+        },
+        Script::Writing(slot) => match index {
+            0 => Event::WriteKey(key_of(command)),
+            _ => Event::Sync(slot),
+        },
+        Script::Adding(slot) => match index {
+            0 => Event::WriteOpen,
+            1 => Event::Link,
+            2 => Event::Release,
+            3 => Event::Sync(slot),
+            _ => Event::Settle(slot),
+        },
+        Script::Removing(slot) => match index {
+            0 => Event::WriteClose,
+            1 => Event::Mark,
+            2 => Event::Sync(slot),
+            3 => Event::Settle(slot),
+            4 => Event::Unlink,
+            5 => Event::Release,
+            _ => Event::Retire,
+        },
+        Script::Releasing(_) => Event::Release,
+        Script::Halting(_) => Event::Halt,
+    }
+}
+
+// What follows a script.
+pub(crate) fn follower_of(script: Script) -> Progress
+    ensures follows { result ≡ goes_on script }
+    ensures inside { IsEverywhere result }
+{
+    match script {
+        Script::Pinning => Progress::LoadsHalt,
+        Script::Resting(_, reply) => Progress::Answering(reply),
+        Script::Writing(slot) => Progress::Walking(Some(slot), Look::AtHead),
+        Script::Adding(_) => Progress::Answering(Reply::Yes),
+        Script::Removing(_) => Progress::Answering(Reply::Yes),
+        Script::Releasing(aim) => Progress::Walking(aim, Look::AtHead),
+        Script::Halting(reply) => Progress::Answering(reply),
+    }
+}
+
+// A call whose first load finds the service over answers that.
+pub(crate) fn halt_loaded(value: u64) -> Progress
+    ensures follows { result ≡ halt_loaded value }
+    ensures inside { IsEverywhere result }
+{
+    if value == 1 {
+        Progress::Answering(Reply::Halted)
+    } else {
+        Progress::Walking(None, Look::AtHead)
+    }
+}
+
+// A call that rests on a node syncs first, where the node's last change isn't settled.
+fn rests(slot: Slot, flags: Flags, reply: Reply) -> Progress
+    ensures follows { result ≡ rests slot (may_answer flags) reply }
+    ensures inside { IsEverywhere result }
+{
+    match may_answer(flags) {
+        Need::Now => Progress::Answering(reply),
+        Need::Sync => Progress::Playing(Script::Resting(slot, reply), 0),
+    }
+}
+
+// What a call does where its walk has ended.
+fn walked(
+    command: Command,
+    aim: Option<Slot>,
+    pred: Place,
+    curr: Option<Slot>,
+    met: Met,
+) -> Progress
+    ensures follows { result ≡ walked command aim pred curr met }
+    ensures inside { IsEverywhere result }
+{
+    match command {
+        Command::Has(_) => match met {
+            Met::Absent => Progress::Answering(Reply::No),
+            Met::Unmarked(slot, flags) => rests(slot, flags, Reply::Yes),
+            Met::Marked(slot, flags) => rests(slot, flags, Reply::No),
+        },
+        Command::Add(_) => match met {
+            Met::Unmarked(slot, flags) => rests(slot, flags, Reply::No),
+            _ => match aim {
+                None => Progress::Reserving(false),
+                Some(slot) => Progress::Claiming(Some(slot), pred, curr),
+            },
+        },
+        Command::Remove(_) => match met {
+            Met::Absent => Progress::Answering(Reply::No),
+            Met::Unmarked(_, _) => Progress::Claiming(aim, pred, curr),
+            Met::Marked(slot, flags) => rests(slot, flags, Reply::No),
+        },
+    }
+}
+
+// What follows a hop of a walk that looks there afterwards.
+pub(crate) fn hopped(command: Command, aim: Option<Slot>, look: Look, hop: Hop) -> Progress
+    ensures follows { result ≡ hops_on command aim (told look hop) }
+    ensures inside { IsEverywhere result }
+{
+    match hop {
+        Hop::More => Progress::Walking(aim, look),
+        Hop::End { pred, curr, met } => walked(command, aim, pred, curr, met),
+    }
+}
+
+// What a call does under its locks, once they were checked.
+pub(crate) fn changes(command: Command, aim: Option<Slot>, curr: Option<Slot>) -> Progress
+    ensures follows { result ≡ changes command aim curr }
+    ensures inside { IsEverywhere result }
+{
+    let kept = aim;
+    match (command, aim, curr) {
+        (Command::Add(_), Some(slot), _) => Progress::Playing(Script::Adding(slot), 0),
+        (Command::Remove(_), _, Some(slot)) => Progress::Playing(Script::Removing(slot), 0),
+        _ => Progress::Playing(Script::Releasing(kept), 0),
+    }
+}

@@ -1,5 +1,0 @@
-use Rattle.lz_core.proofs.AloneSized.{full_is_right}
-use Rattle.lz_core.proofs.laws.full_is_right.Goals as goal
-
-pub returns : goal.returns
-returns c = full_is_right

@@ -1,5 +1,0 @@
-use Rattle.lz_core.proofs.Telling.{marks_tell}
-use Rattle.lz_core.proofs.laws.marks_tell.Goals as goal
-
-pub returns : goal.returns
-returns c start w M P reached = marks_tell start w M P reached

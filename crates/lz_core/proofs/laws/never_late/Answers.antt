@@ -1,5 +1,0 @@
-use Rattle.lz_core.proofs.InTime.{never_late}
-use Rattle.lz_core.proofs.laws.never_late.Goals as goal
-
-pub returns : goal.returns
-returns c = never_late

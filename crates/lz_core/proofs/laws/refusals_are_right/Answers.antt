@@ -1,5 +1,0 @@
-use Rattle.lz_core.proofs.AloneHalts.{refusals_are_right}
-use Rattle.lz_core.proofs.laws.refusals_are_right.Goals as goal
-
-pub returns : goal.returns
-returns c = refusals_are_right

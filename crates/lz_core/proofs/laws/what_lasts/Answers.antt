@@ -1,5 +1,0 @@
-use Rattle.lz_core.proofs.Reaching.{what_lasts}
-use Rattle.lz_core.proofs.laws.what_lasts.Goals as goal
-
-pub returns : goal.returns
-returns c = what_lasts

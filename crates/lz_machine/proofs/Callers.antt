@@ -1,0 +1,31 @@
+-- The callers' table, and the calls that stand in it.
+use Rattle.std.proofs.Common.{◌≡◌, ℕ, false, Option, Some, None, is_some, refl, sym}
+use mathlib.Core.Bool.{false≢true}
+use Rattle.lz_slot.specs.declared.command.Command.{Command}
+use Rattle.lz_disk.specs.Images.{Medium}
+use Rattle.lz_vault.specs.Vaults.{MayFail}
+use Rattle.lz_machine.specs.declared.course.Course.{Course}
+use Rattle.lz_machine.specs.declared.course.Course.TheVariants.{Refused, Dies, Plays}
+use Rattle.lz_machine.specs.declared.event.Event.TheVariants.{Answer}
+use Rattle.lz_machine.specs.declared.caller.Progress.{Progress}
+use Rattle.lz_machine.specs.declared.caller.Progress.TheVariants.{Answering}
+use Rattle.lz_machine.specs.Yards.{Yard, actor_at}
+use Rattle.lz_machine.specs.Calls.{event_at, loaded}
+use Rattle.lz_machine.specs.Table.{course, call_on, line_call}
+use Rattle.lz_machine.specs.Runs.{Caller, reply_at}
+
+-- a place without a call is empty
+pub none_of : (caller : Option Caller) → is_some caller ≡ false → caller ≡ None
+none_of None empty = refl
+none_of (Some caller) empty = absurd (false≢true (sym empty))
+
+-- an answer makes no device call, so that none fails in it
+answer_calls_nothing : (k : Course) (y : Yard) (a : ℕ) (disk new : Medium) → MayFail (call_on k y (actor_at y a) Answer) disk new → ⊥
+answer_calls_nothing Plays y a disk new h = h
+answer_calls_nothing Dies y a disk new h = h
+answer_calls_nothing (Refused outcome) y a disk new h = h
+
+-- a call whose device call fails has no reply yet
+pub fault_no_reply : (y : Yard) (a : ℕ) (c : Command) (at : Progress) (disk new : Medium) → MayFail (line_call y a (loaded y.words (event_at y.shape c at))) disk new → reply_at at ≡ None
+fault_no_reply y a c (Answering reply) disk new h = absurd (answer_calls_nothing (course y a Answer) y a disk new h)
+fault_no_reply y a c at disk new h = refl

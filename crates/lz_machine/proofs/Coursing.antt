@@ -1,0 +1,28 @@
+-- What becomes of an event, by whether the vault is dead and what the event needs.
+use Rattle.std.proofs.Common.{◌≡◌, ℕ, Bool, true, false, not, ◌&&◌, ap, ◌∙◌}
+use Rattle.std.specs.Prelude.{if◌then◌else◌}
+use Rattle.lz_machine.specs.declared.event.Event.{Event}
+use Rattle.lz_machine.specs.declared.event.Outcome.TheVariants.{Dead, NotNow}
+use Rattle.lz_machine.specs.declared.course.Course.TheVariants.{Refused}
+use Rattle.lz_machine.specs.Yards.{Yard}
+use Rattle.lz_machine.specs.Table.{needs, pin_of, is_played_dead, course, course_alive}
+
+-- the course of an event that a dead vault refuses, of one whose needs don't hold, and of any other
+pub dead_course : (y : Yard) (a : ℕ) (e : Event) → (y.vault.dead && not (is_played_dead e)) ≡ true → course y a e ≡ Refused Dead
+dead_course y a e h = ap (λ b. if b then Refused Dead else if needs y a e then course_alive y a (pin_of y a) e else Refused NotNow) h
+
+pub early_course : (y : Yard) (a : ℕ) (e : Event) → (y.vault.dead && not (is_played_dead e)) ≡ false → needs y a e ≡ false → course y a e ≡ Refused NotNow
+early_course y a e h n =
+    ap (λ b. if b then Refused Dead else if needs y a e then course_alive y a (pin_of y a) e else Refused NotNow) h
+    ∙ ap (λ b. if b then course_alive y a (pin_of y a) e else Refused NotNow) n
+
+pub alive_course : (y : Yard) (a : ℕ) (e : Event) → (y.vault.dead && not (is_played_dead e)) ≡ false → needs y a e ≡ true → course y a e ≡ course_alive y a (pin_of y a) e
+alive_course y a e h n =
+    ap (λ b. if b then Refused Dead else if needs y a e then course_alive y a (pin_of y a) e else Refused NotNow) h
+    ∙ ap (λ b. if b then course_alive y a (pin_of y a) e else Refused NotNow) n
+
+pub ruleset course_rules = (dead_course, early_course, alive_course)
+
+-- a dead vault refuses an event that is not played dead
+pub course_dead : (y : Yard) (a : ℕ) (e : Event) → is_played_dead e ≡ false → y.vault.dead ≡ true → course y a e ≡ Refused Dead
+course_dead y a e stops dead = dead_course y a e (ap (λ (q : Bool). q && not (is_played_dead e)) dead ∙ ap not stops)

@@ -1,0 +1,148 @@
+-- The nodes with which a life begins: the slots that an open found with a key, each on its key's chain, and all others loose.
+use Rattle.std.proofs.Common.{◌≡◌, ◌≢◌, ℕ, zero, suc, ◌<◌, ◌≤◌, Bool, true, false, ◌==◌, ◌&&◌, ◌||◌, List, [], ◌∷◌, ◌++◌, refl, sym, ap, ◌∙◌, subst, inl, inr, arith}
+use mathlib.Core.Bool.{false≢true}
+use Rattle.std.proofs.lemmas.Bool.{cases_Bool, cases_eq}
+use Rattle.std.proofs.lemmas.List.{append-nil}
+use Rattle.std.proofs.lemmas.Bool.Decides.{nat_tests, eqb_tells}
+use Rattle.lz_slot.specs.declared.slot.SlotRead.{SlotRead}
+use Rattle.lz_slot.specs.declared.slot.SlotRead.TheVariants.{Closed, Member, BadKey}
+use Rattle.lz_slot.specs.Bytes.{slot_at, held, held_key}
+use Rattle.lz_list.specs.Traces.{Chain, has_key, has_slot, on, chain, chain_of, bucket_of, key_word, linking, is_marked, is_removed, opening, IsFound, IsLoose}
+use Rattle.lz_list.proofs.Nodes.{on_insert_other}
+use Rattle.lz_list.proofs.Resting.{on_insert}
+use Rattle.lz_list.proofs.Linking.{inserted_on}
+
+-- the node of key k in slot s is one of the chain's
+abbrev pub has_node : ℕ → ℕ → Chain → Bool
+has_node k s [] = false
+has_node k s (f ∷ c) = ((f.0 == k) && (f.1 == s)) || has_node k s c
+
+-- the slot of a chain's node is one of the chain's
+node_slot : (k s : ℕ) (es : Chain) → has_node k s es ≡ true → has_slot s es ≡ true
+node_slot k s [] there = absurd (false≢true there)
+node_slot k s (f ∷ es) there = grind (arith, nat_tests, node_slot k s es)
+
+has_key_append : (k : ℕ) (c d : Chain) → has_key k (c ++ d) ≡ (has_key k c || has_key k d)
+has_key_append k [] d = refl
+has_key_append k (f ∷ c) d = grind (arith, has_key_append k c d)
+
+has_slot_append : (s : ℕ) (c d : Chain) → has_slot s (c ++ d) ≡ (has_slot s c || has_slot s d)
+has_slot_append s [] d = refl
+has_slot_append s (f ∷ c) d = grind (arith, has_slot_append s c d)
+
+has_node_append : (k s : ℕ) (c d : Chain) → has_node k s (c ++ d) ≡ (has_node k s c || has_node k s d)
+has_node_append k s [] d = refl
+has_node_append k s (f ∷ c) d = grind (arith, has_node_append k s c d)
+
+pub node_has_key : (k s : ℕ) (c : Chain) → has_node k s c ≡ true → has_key k c ≡ true
+node_has_key k s [] has = has
+node_has_key k s (f ∷ c) has = grind (arith, nat_tests, node_has_key k s c)
+
+-- the trace of what was found
+module _ (buckets : ℕ) where
+  pub off_chains : (s : ℕ) (found : Chain) → has_slot s found ≡ false → IsLoose buckets s (opening buckets found)
+  off_chains s [] none b = grind (arith, nat_tests)
+  off_chains s (f ∷ found) none b = elim (cases_Bool (on 0 (chain buckets b (opening buckets (f ∷ found))) (suc s))) [
+    | inl there ↦ absurd (false≢true (sym (off_chains s found (grind (arith, nat_tests)) b) ∙ grind (arith, nat_tests, on_insert_other f.0 f.1 0 (suc s) (chain buckets b (opening buckets found)))))
+    | inr off ↦ off
+  ]
+
+  pub node_key : (slots k s : ℕ) (found : Chain) → IsFound slots found → has_node k s found ≡ true → key_word s (opening buckets found) ≡ k
+  node_key slots k s [] is has = absurd (false≢true has)
+  node_key slots k s (f ∷ found) is has = elim (eqb_tells f.1 s) [
+    | inl same ↦ grind (arith, nat_tests, same.0, node_slot k s found, ap (λ (q : ℕ). has_slot q found) same.1, is.2)
+    | inr other ↦ rw other.0 (node_key slots k s found is.3 (grind (arith, nat_tests, other.0)))
+  ]
+
+  pub node_on : (k s : ℕ) (found : Chain) → has_node k s found ≡ true → on 0 (chain_of buckets k (opening buckets found)) (suc s) ≡ true
+  node_on k s [] has = absurd (false≢true has)
+  node_on k s (f ∷ found) has = elim (cases_Bool (has_node k s found)) [
+    | inl before ↦ grind (arith, nat_tests, node_on k s found before, on_insert f.0 f.1 0 (suc s) (chain_of buckets k (opening buckets found)))
+    | inr new ↦
+        let key : f.0 ≡ k = grind (arith, nat_tests) in
+        let slot : f.1 ≡ s = grind (arith, nat_tests) in
+        grind (arith, nat_tests, ap (bucket_of buckets) key, slot, inserted_on f.0 f.1 0 (chain_of buckets k (opening buckets found)))
+  ]
+
+  pub none_marked : (s : ℕ) (found : Chain) → is_marked s (opening buckets found) ≡ false
+  none_marked s [] = refl
+  none_marked s (f ∷ found) = grind (arith, nat_tests, none_marked s found)
+
+  pub none_removed : (n : ℕ) (found : Chain) → is_removed n (opening buckets found) ≡ false
+  none_removed n [] = refl
+  none_removed n (f ∷ found) = grind (arith, nat_tests, none_removed n found)
+
+  pub never_linked : (k : ℕ) (found : Chain) → has_key k found ≡ false → linking k (opening buckets found) ≡ 0
+  never_linked k [] none = refl
+  never_linked k (f ∷ found) none = grind (arith, nat_tests, never_linked k found)
+
+-- the slots of a text
+module _ (t : List ℕ) where
+  slot_of_read : (n s : ℕ) → n ≢ s → (r : SlotRead) → has_slot s (held t n) ≡ false → (has_slot s (held t n) || has_slot s (held_key r n)) ≡ false
+  slot_of_read n s other (Member k) none = grind (arith, nat_tests)
+  slot_of_read n s other Closed none = grind (arith, nat_tests)
+  slot_of_read n s other BadKey none = grind (arith, nat_tests)
+
+  slot_later : (n s : ℕ) → n ≤ s → has_slot s (held t n) ≡ false
+  slot_later zero s le = refl
+  slot_later (suc n) s le = has_slot_append s (held t n) (held_key (slot_at t n) n) ∙ slot_of_read n s (λ same. absurd (omega (arith, le, same))) (slot_at t n) (slot_later n s (omega arith))
+
+  -- a closed slot isn't held
+  pub slot_closed : (n s : ℕ) → slot_at t s ≡ Closed → has_slot s (held t n) ≡ false
+  slot_closed zero s shut = refl
+  slot_closed (suc n) s shut = elim (cases_eq n s) [
+    | inl same ↦
+        let here : slot_at t n ≡ Closed = ap (slot_at t) same ∙ shut in
+        has_slot_append s (held t n) (held_key (slot_at t n) n) ∙ rw here (grind (arith, slot_closed n s shut))
+    | inr other ↦ has_slot_append s (held t n) (held_key (slot_at t n) n) ∙ slot_of_read n s other (slot_at t n) (slot_closed n s shut)
+  ]
+
+  -- one with a key is
+  pub node_held : (n k s : ℕ) → s < n → slot_at t s ≡ Member k → has_node k s (held t n) ≡ true
+  node_held zero k s lt is = absurd (omega arith)
+  node_held (suc n) k s lt is = elim (cases_eq n s) [
+    | inl same ↦
+        let here : slot_at t n ≡ Member k = ap (slot_at t) same ∙ is in
+        has_node_append k s (held t n) (held_key (slot_at t n) n) ∙ rw here (grind (arith, nat_tests, same))
+    | inr other ↦ has_node_append k s (held t n) (held_key (slot_at t n) n) ∙ grind (arith, node_held n k s (omega (arith, other)) is)
+  ]
+
+  -- a key that is held stands in a slot
+  abbrev pub IsIn : ℕ → ℕ → Type 0
+  IsIn n k = (i : ℕ) × (i < n) × (slot_at t i ≡ Member k)
+
+  key_of_read : (n k : ℕ) (r : SlotRead) → slot_at t n ≡ r → (has_key k (held t n) ≡ true → IsIn n k) → (has_key k (held t n) || has_key k (held_key r n)) ≡ true → IsIn (suc n) k
+  key_of_read n k (Member j) at before passes = elim (cases_eq j k) [
+    | inl same ↦ (n, omega arith, at ∙ ap Member same)
+    | inr other ↦ let found = before (grind (arith, nat_tests)) in (found.0, omega (arith, found.1), found.2)
+  ]
+  key_of_read n k Closed at before passes = let found = before (grind (arith, nat_tests)) in (found.0, omega (arith, found.1), found.2)
+  key_of_read n k BadKey at before passes = let found = before (grind (arith, nat_tests)) in (found.0, omega (arith, found.1), found.2)
+
+  pub key_held : (n k : ℕ) → has_key k (held t n) ≡ true → IsIn n k
+  key_held zero k is = absurd (false≢true is)
+  key_held (suc n) k is = key_of_read n k (slot_at t n) refl (key_held n k) (sym (has_key_append k (held t n) (held_key (slot_at t n) n)) ∙ is)
+
+  abbrev pub HasNoKeyTwice : ℕ → Type 0
+  HasNoKeyTwice N = (i j k : ℕ) → i < N → j < N → slot_at t i ≡ Member k → slot_at t j ≡ Member k → i ≡ j
+
+  found_append : (slots k s : ℕ) (c : Chain) → IsFound slots c → s < slots → has_key k c ≡ false → has_slot s c ≡ false → IsFound slots (c ++ (k, s) ∷ [])
+  found_append slots k s [] h lt no_key no_slot = (lt, refl, refl, tt)
+  found_append slots k s (f ∷ c) h lt no_key no_slot = (
+    h.0,
+    has_key_append f.0 c ((k, s) ∷ []) ∙ grind (arith, nat_tests, h.1),
+    has_slot_append f.1 c ((k, s) ∷ []) ∙ grind (arith, nat_tests, h.2),
+    found_append slots k s c h.3 lt (grind (arith, nat_tests)) (grind (arith, nat_tests)),
+  )
+
+  found_of_read : (N n : ℕ) → HasNoKeyTwice N → n < N → (r : SlotRead) → slot_at t n ≡ r → IsFound N (held t n) → IsFound N (held t n ++ held_key r n)
+  found_of_read N n once lt (Member k) at rest = found_append N k n (held t n) rest lt (elim (cases_Bool (has_key k (held t n))) [
+    | inl there ↦ let found = key_held n k there in absurd (omega (arith, found.1, once found.0 n k (omega (arith, found.1)) lt found.2 at))
+    | inr none ↦ none
+  ]) (slot_later n n (omega arith))
+  found_of_read N n once lt Closed at rest = subst (IsFound N) (sym (append-nil (held t n))) rest
+  found_of_read N n once lt BadKey at rest = subst (IsFound N) (sym (append-nil (held t n))) rest
+
+  pub held_found : (N n : ℕ) → HasNoKeyTwice N → n ≤ N → IsFound N (held t n)
+  held_found N zero once le = tt
+  held_found N (suc n) once le = found_of_read N n once (omega arith) (slot_at t n) refl (held_found N n once (omega arith))

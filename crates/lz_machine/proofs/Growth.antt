@@ -1,0 +1,41 @@
+-- What is said of a row stays as the trace grows.
+use Rattle.std.proofs.Common.{◌≡◌, ⊎_elim, inl, inr, ℕ, ◌<◌, ◌≤◌, ◌∷◌, length, ap, ◌∙◌, arith}
+use Rattle.std.proofs.lemmas.Bool.Decides.{nat_tests}
+use Rattle.lz_slot.specs.Sets.{key_of, reply}
+use Rattle.lz_list.specs.declared.publishing.Publishing.{Publishing}
+use Rattle.lz_list.specs.Traces.{Trace, member, SettledYes, SettledNo}
+use Rattle.lz_list.proofs.Absent.{begins_itself}
+use Rattle.lz_list.proofs.Resting.{settled_later, removed_later}
+use Rattle.lz_machine.specs.Ledgers.{Row}
+use Rattle.lz_machine.specs.Kept.{upto, changes_key, publishing, IsRowOf}
+
+pub upto_more : (j : ℕ) (e : Publishing) (P : Trace) → j ≤ length P → upto j (e ∷ P) ≡ upto j P
+upto_more j e P le = grind (arith, nat_tests)
+
+pub publishing_more : (j : ℕ) (e : Publishing) (P : Trace) → j < length P → publishing j (e ∷ P) ≡ publishing j P
+publishing_more j e P lt = grind (arith, nat_tests)
+
+module _ (e : Publishing) (P : Trace) where
+  pub yes_stays : (R : Trace) (k : ℕ) → SettledYes R P k → SettledYes R (e ∷ P) k
+  yes_stays R k h = record { begins = inr h.begins; member = h.member; settled = settled_later _ P (e ∷ P) (inr (begins_itself P)) h.settled }
+
+  pub no_stays : (R : Trace) (k : ℕ) → SettledNo R P k → SettledNo R (e ∷ P) k
+  no_stays R k h = record { begins = inr h.begins; no_member = h.no_member; settled = ⊎_elim (λ none. inl none) (λ is. inr (removed_later _ P (e ∷ P) (inr (begins_itself P)) is)) h.settled }
+
+  pub row_stays : (n : ℕ) (r : Row) → IsRowOf n P r → IsRowOf n (e ∷ P) r
+  row_stays n r h =
+      let at = upto_more r.position e P h.late in
+      record {
+        early = h.early;
+        late = omega (arith, h.late);
+        quiet = λ none. ⊎_elim
+            (λ told. inl (record { answer = told.answer; leaves = told.leaves; settled_yes = rw at (yes_stays (upto r.position P) (key_of r.command) told.settled_yes) }))
+            (λ told. inr (record { answer = told.answer; leaves = told.leaves; settled_no = rw at (no_stays (upto r.position P) (key_of r.command) told.settled_no) }))
+            (h.quiet none);
+        changing = λ does. let c = h.changing does in record {
+          within = omega (arith, c.within);
+          answer = c.answer;
+          was = ap (λ (R : Trace). reply r.command (member (key_of r.command) R)) at ∙ c.was;
+          changed = ap (changes_key (key_of r.command)) (publishing_more r.position e P c.within) ∙ c.changed;
+        };
+      }

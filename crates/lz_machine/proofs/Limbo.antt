@@ -1,0 +1,55 @@
+-- A slot that every pass has left is away from every pass that is inside.
+use Rattle.std.proofs.Common.{◌≡◌, inl, inr, ℕ, suc, ◌≤◌, ◌%◌, true, [], ◌∷◌, length, sym, ◌∙◌, arith}
+use mathlib.Core.Bool.{false≢true}
+use Rattle.std.proofs.lemmas.Bool.Decides.{eqb_tells}
+use Rattle.lz_allot.specs.declared.sight.Sight.{Sight}
+use Rattle.lz_allot.specs.declared.sight.Sight.TheVariants.{Unseen, Inside, Left}
+use Rattle.lz_allot.specs.Uses.{sight_after}
+use Rattle.lz_list.specs.declared.publishing.Publishing.{Publishing}
+use Rattle.lz_list.specs.Traces.{Trace, Begins, on, chain, IsLoose}
+use Rattle.lz_list.proofs.Hindsight.{once_begins}
+use Rattle.lz_machine.specs.Limbo.{IsAway, IsSeen}
+
+-- a trace is as long as each that it goes on from, or longer
+pub shorter : (R P : Trace) → Begins R P → length R ≤ length P
+shorter R [] to = rw to (omega arith)
+shorter R (e ∷ P) (inl here) = rw here (omega arith)
+shorter R (e ∷ P) (inr to) = omega (arith, shorter R P to)
+
+-- at its pin a pass is away from each slot that no chain has
+pub away_new : (buckets t : ℕ) (P : Trace) → IsLoose buckets t P → IsAway buckets P P t
+away_new buckets t [] loose b stood = false≢true (sym (loose b) ∙ stood.1)
+away_new buckets t (e ∷ P) loose b (inl now) = false≢true (sym (loose b) ∙ now.1)
+away_new buckets t (e ∷ P) loose b (inr before) = let less = shorter (e ∷ P) P (once_begins (e ∷ P) P (λ R. on 0 (chain buckets b R) (suc t) ≡ true) before) in absurd (omega arith)
+
+-- and stays away while no chain has it
+pub away_stays : (buckets t : ℕ) (P0 : Trace) (e : Publishing) (P : Trace) → IsLoose buckets t (e ∷ P) → IsAway buckets P0 P t → IsAway buckets P0 (e ∷ P) t
+away_stays buckets t P0 e P loose away b (inl now) = false≢true (sym (loose b) ∙ now.1)
+away_stays buckets t P0 e P loose away b (inr before) = away b before
+
+module _ (buckets t : ℕ) where
+  pub seen_step : (v : ℕ) (P0 : Trace) (e : Publishing) (P : Trace) (seen : Sight) → IsLoose buckets t (e ∷ P) → IsSeen buckets v P0 P t seen → IsSeen buckets v P0 (e ∷ P) t seen
+  seen_step v P0 e P Unseen loose h = tt
+  seen_step v P0 e P (Inside u) loose h = (h.0, h.1, λ lt odd. away_stays buckets t P0 e P loose (h.2 lt odd))
+  seen_step v P0 e P Left loose h = λ odd. away_stays buckets t P0 e P loose (h odd)
+
+  pub seen_pin : (v : ℕ) (P0 P : Trace) (seen : Sight) → IsLoose buckets t P → IsSeen buckets v P0 P t seen → IsSeen buckets (suc v) P P t seen
+  seen_pin v P0 P Unseen loose h = tt
+  seen_pin v P0 P (Inside u) loose h = (h.0, omega (arith, h.1), λ lt odd. away_new buckets t P loose)
+  seen_pin v P0 P Left loose h = λ odd. away_new buckets t P loose
+
+  pub seen_leave : (v : ℕ) (P0 P : Trace) (seen : Sight) → v % 2 ≡ 1 → IsSeen buckets v P0 P t seen → IsSeen buckets (suc v) P0 P t seen
+  seen_leave v P0 P Unseen inside h = tt
+  seen_leave v P0 P (Inside u) inside h = (h.0, omega (arith, h.1), λ lt odd. absurd (omega arith))
+  seen_leave v P0 P Left inside h = λ odd. absurd (omega arith)
+
+  pub seen_see : (v : ℕ) (P0 P : Trace) (seen : Sight) → IsSeen buckets v P0 P t seen → IsSeen buckets v P0 P t (sight_after v seen)
+  seen_see v P0 P Unseen h = elim (eqb_tells (v % 2) 0) [
+    | inl even ↦ rw even.0 (λ odd. absurd (omega (arith, even.1)))
+    | inr odd ↦ rw odd.0 (omega (arith, odd.1), omega arith, λ lt. absurd (omega arith))
+  ]
+  seen_see v P0 P (Inside u) h = elim (eqb_tells v u) [
+    | inl same ↦ rw same.0 h
+    | inr other ↦ rw other.0 (h.2 (omega (arith, h.1, other.1)))
+  ]
+  seen_see v P0 P Left h = h

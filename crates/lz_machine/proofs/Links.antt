@@ -1,0 +1,82 @@
+-- What a caller relies on stays when another links a node.
+use Rattle.std.proofs.Common.{◌≡◌, ◌≢◌, inl, inr, ℕ, zero, suc, ◌<◌, true, false, ◌∷◌, sym, ap, ◌∙◌, subst, arith}
+use mathlib.Core.Bool.{false≢true}
+use Rattle.std.proofs.lemmas.Bool.{cases_eq, cases_Bool}
+use Rattle.std.proofs.lemmas.Bool.Decides.{nat_tests}
+use Rattle.lz_list.specs.declared.publishing.Publishing.TheVariants.{Linked as linked}
+use Rattle.lz_list.specs.Traces.{Trace, on, has_key, chain, chain_of, place_of, bucket_of, key_word, next_link, IsLoose, link_above, MayLink, Lawful, Adjacent}
+use Rattle.lz_list.proofs.Chains.{before_on, adjacent_none, adjacent_next, has_on}
+use Rattle.lz_list.proofs.Shown.{words_show_chain, linked_off, apart_bucket}
+use Rattle.lz_list.proofs.Absent.{unlinked_is_settled}
+use Rattle.lz_list.proofs.Hindsight.{stands}
+use Rattle.lz_list.proofs.Nodes.{on_insert_other}
+use Rattle.lz_list.proofs.Resting.{on_insert}
+use Rattle.lz_list.proofs.Checked.{place_between}
+use Rattle.lz_machine.specs.Stands.{IsReady, IsRound, Faces}
+
+module _ (buckets slots : ℕ) (P : Trace) (law : Lawful buckets slots P) where
+  -- what Check found, in words of the chain
+  pub round_place : (k x n : ℕ) → IsRound buckets k x n P → (place_of buckets k P ≡ x) × (link_above k (chain_of buckets k P) ≡ n) × (has_key k (chain_of buckets k P) ≡ false)
+  round_place k x n h =
+      let shown = words_show_chain buckets slots P law (bucket_of buckets k) in
+      let adj = subst (Adjacent 0 (chain_of buckets k P) x) h.faces.next (stands buckets slots P (bucket_of buckets k) x P law h.faces.there) in
+      let between = place_between (next_link buckets (bucket_of buckets k) P) (λ t. key_word t P) k 0 (chain_of buckets k P) shown.shows x n adj h.low h.high in
+      (between.0, between.1, adjacent_none (next_link buckets (bucket_of buckets k) P) (λ t. key_word t P) k 0 (chain_of buckets k P) shown.shows x n adj h.low h.high)
+
+  -- so the linking is lawful
+  pub may_link : (k x n s : ℕ) → s < slots → IsRound buckets k x n P → IsReady buckets k n s P → MayLink buckets slots k s P
+  may_link k x n s in_range round ready =
+      let place = round_place k x n round in
+      record {
+        in_range = in_range;
+        loose = ready.loose;
+        no_member = (unlinked_is_settled buckets k slots P law place.2).0;
+        no_node = place.2;
+        key = ready.key;
+        link = ready.link ∙ sym place.1;
+        no_mark = ready.no_mark;
+        not_added = ready.not_added;
+        not_removed = ready.not_removed;
+      }
+
+  module _ (k s p : ℕ) where
+    pub loose_stays : (t : ℕ) → t ≢ s → IsLoose buckets t P → IsLoose buckets t (linked k s p ∷ P)
+    loose_stays t other loose b = elim (cases_Bool (on 0 (chain buckets b (linked k s p ∷ P)) (suc t))) [
+      | inl there ↦ absurd (false≢true (sym (loose b) ∙ grind (arith, nat_tests, there, on_insert_other k s 0 (suc t) (chain buckets b P))))
+      | inr off ↦ off
+    ]
+
+    -- a loose slot isn't the place that changes
+    pub loose_place : (t : ℕ) → IsLoose buckets t P → place_of buckets k P ≢ suc t
+    loose_place t loose is = false≢true (sym (loose (bucket_of buckets k)) ∙ ap (on 0 (chain_of buckets k P)) (sym is) ∙ before_on k 0 (chain_of buckets k P))
+
+    pub ready_stays : (j n t : ℕ) → t ≢ s → IsReady buckets j n t P → IsReady buckets j n t (linked k s p ∷ P)
+    ready_stays j n t other h = record {
+      loose = loose_stays t other h.loose;
+      key = h.key;
+      link = grind (arith, nat_tests, h.link, loose_place t h.loose);
+      no_mark = h.no_mark;
+      not_added = h.not_added;
+      not_removed = h.not_removed;
+    }
+
+    -- a place of bucket j's chain that isn't the one that changes keeps its next link
+    pub faces_stays : (j x n : ℕ) → (bucket_of buckets j ≡ bucket_of buckets k → x ≢ place_of buckets k P) → Faces buckets j x n P → Faces buckets j x n (linked k s p ∷ P)
+    faces_stays j x n apart h = record {
+      there = grind (arith, nat_tests, h.there, on_insert k s 0 x (chain_of buckets j P));
+      next = elim (cases_eq (bucket_of buckets j) (bucket_of buckets k)) [
+        | inl same ↦ linked_off buckets k s p P (bucket_of buckets j) x (apart same)
+        | inr other ↦ elsewhere x h.there other
+      ] ∙ h.next;
+    }
+      where
+        elsewhere : (y : ℕ) → on 0 (chain_of buckets j P) y ≡ true → bucket_of buckets j ≢ bucket_of buckets k → next_link buckets (bucket_of buckets j) (linked k s p ∷ P) y ≡ next_link buckets (bucket_of buckets j) P y
+        elsewhere zero there other = grind (arith, nat_tests, other)
+        elsewhere (suc t) there other = linked_off buckets k s p P (bucket_of buckets j) (suc t) (apart_bucket buckets k s p P (words_show_chain buckets slots P law) (bucket_of buckets j) t other there)
+
+  -- a key behind a place that leads to its node is on the chain
+  pub has_behind : (j y t : ℕ) → Faces buckets j y (suc t) P → key_word t P ≡ j → has_key j (chain_of buckets j P) ≡ true
+  has_behind j y t h key =
+      let shown = words_show_chain buckets slots P law (bucket_of buckets j) in
+      let adj = subst (Adjacent 0 (chain_of buckets j P) y) h.next (stands buckets slots P (bucket_of buckets j) y P law h.there) in
+      has_on (next_link buckets (bucket_of buckets j) P) (λ t. key_word t P) j t 0 (chain_of buckets j P) shown.shows (omega arith) key (adjacent_next 0 (chain_of buckets j P) y (suc t) adj (λ e. grind arith))

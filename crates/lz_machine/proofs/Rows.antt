@@ -1,0 +1,421 @@
+-- Worked rows that the machine computes.
+use Rattle.std.proofs.lemmas.Bool.Decides.{nat_tests}
+use Rattle.std.proofs.Common.{◌≡◌, inl, inr, arith, reverse, lit<, ℕ, ◌+◌, ◌^◌, true, false, List, [], ◌∷◌, ◌++◌, replicate, refl, Option, Some, None, drop}
+use Rattle.lz_slot.specs.Bytes.{slot_body, open_byte, header_body}
+use Rattle.lz_slot.specs.declared.command.Command.TheVariants.{Add, Remove, Has}
+use Rattle.lz_slot.specs.declared.history.Mark.{Mark}
+use Rattle.lz_slot.specs.declared.history.Mark.TheVariants.{Call, Answer, Refused, Cut, Stop, Crash, Opened}
+use Rattle.lz_slot.specs.declared.history.Refusal.TheVariants.{Full}
+use Rattle.lz_slot.specs.declared.history.Cut.TheVariants.{Halted, Device}
+use Rattle.lz_list.specs.declared.place.Place.TheVariants.{Bucket}
+use Rattle.lz_list.specs.declared.word.Word.TheVariants.{Head, Halt as HaltWord}
+use Rattle.lz_machine.specs.declared.event.Event.{Event}
+use Rattle.lz_machine.specs.declared.event.Event.TheVariants.{Pin, Hop, Reserve, WriteKey, Claim, Check, WriteOpen, Link, Release, Sync, Settle, Answer as AnswerIt}
+use Rattle.lz_list.specs.declared.publishing.Publishing.TheVariants.{Linked as linked, Settled as settled, Marked as marked, Unlinked as unlinked, KeyPrepared as key_prepared, LinkPrepared as link_prepared}
+use Rattle.lz_list.specs.declared.publishing.Change.TheVariants.{Added, Removed}
+use Rattle.lz_list.specs.Words.{Words}
+use Rattle.lz_list.specs.Traces.{is_removed, linking, Trace, Lawful, MayLink, SettledYes, SettledNo, words_after, bucket_of, keys_shown}
+use Rattle.lz_vault.specs.declared.vault.Stage.TheVariants.{Closed, Keyed}
+use Rattle.lz_vault.specs.Stages.{Cell}
+use Rattle.lz_disk.specs.Picks.{left_by}
+use Rattle.lz_disk.specs.declared.memory.Pick.{Pick}
+use Rattle.lz_disk.specs.declared.memory.Pick.TheVariants.{Old, Byte}
+use Rattle.lz_allot.specs.Uses.{Use, Free, Taken}
+use Rattle.lz_machine.specs.declared.event.Outcome.TheVariants.{Busy}
+use Rattle.lz_machine.specs.declared.event.Reply.{Reply}
+use Rattle.lz_machine.specs.declared.event.Reply.TheVariants.{Full as SaysFull}
+use Rattle.lz_machine.specs.Laws.{outcome_at}
+use Rattle.lz_machine.specs.Runs.{Start, State, Up, Down, Step, Calls, Turn, Fails, Trips, Stops, Crashes, Opens, Point, first_point, point_after, run, made_text, caller_at, next_event, reply_at, disk_of}
+
+abbrev fresh : ℕ → ℕ → Start
+fresh slots passes = record { shape = record { slots = slots; buckets = 1; passes = passes }; text = made_text slots }
+
+abbrev turns : ℕ → ℕ → List Step
+turns a n = replicate n (Turn a)
+
+-- the point to which a script leads; scripts stand oldest first, and so do their marks here
+abbrev play : Start → List Step → Point
+play start script = run (first_point start) (reverse script)
+
+abbrev marks_after : Start → List Step → List Mark
+marks_after start script = reverse (play start script).marks
+
+abbrev seen_after : Start → List Step → List ℕ
+seen_after start script = (disk_of (play start script).state).seen
+
+abbrev sure_after : Start → List Step → List ℕ
+sure_after start script = (disk_of (play start script).state).sure
+
+-- the next event of an actor, if it has a call
+abbrev next_of_actor : State → ℕ → List Event
+next_of_actor (Down shape disk) a = []
+next_of_actor (Up service disk) a = elim (caller_at service.callers a) [ None ↦ [] | Some caller ↦ next_event service.yard caller ∷ [] ]
+
+-- its next events in turn, of a script
+abbrev events : Point → ℕ → List Step → List Event
+events p a [] = []
+events p a (step ∷ steps) = next_of_actor p.state a ++ events (point_after p step) a steps
+
+-- add 9 to an empty file takes fifteen turns
+fifteen_turns : marks_after (fresh 1 64) (Calls 1 (Add 9) ∷ turns 1 15) ≡ Call 1 1 (Add 9) ∷ Answer 1 true ∷ []
+unfolding bucket_of
+fifteen_turns = refl
+
+fifteen_events : events (first_point (fresh 1 64)) 1 (Calls 1 (Add 9) ∷ turns 1 15)
+    ≡ Pin ∷ Hop HaltWord ∷ Hop (Head 0) ∷ Reserve ∷ WriteKey 9 ∷ Sync 0 ∷ Hop (Head 0) ∷ Claim (Bucket 0) None ∷ Check ∷ WriteOpen
+    ∷ Link ∷ Release ∷ Sync 0 ∷ Settle 0 ∷ AnswerIt ∷ []
+unfolding bucket_of
+fifteen_events = refl
+
+abbrev head_2 : List ℕ
+head_2 = open_byte ∷ header_body 2
+
+-- a crash after the key was written, which leaves a5 at each loose byte
+row_key_loose : marks_after (fresh 2 64) (Calls 1 (Add 9) ∷ turns 1 5 ++ Crashes (head_2 ++ (0 ∷ replicate 15 0xa5) ++ replicate 16 0) ∷ Opens ∷ [])
+    ≡ Call 1 1 (Add 9) ∷ Crash ∷ Opened [] ∷ []
+unfolding bucket_of
+row_key_loose = refl
+
+-- a crash after the gate was written: the gate is loose
+row_gate_loose : marks_after (fresh 2 64) (Calls 1 (Add 9) ∷ turns 1 10 ++ Crashes (head_2 ++ (0xa5 ∷ slot_body 9) ++ replicate 16 0) ∷ Opens ∷ [])
+    ≡ Call 1 1 (Add 9) ∷ Crash ∷ Opened (9 ∷ []) ∷ []
+unfolding bucket_of
+row_gate_loose = refl
+
+row_gate_other : marks_after (fresh 2 64) (Calls 1 (Add 9) ∷ turns 1 10 ++ Crashes (head_2 ++ (0x37 ∷ slot_body 9) ++ replicate 16 0) ∷ Opens ∷ [])
+    ≡ Call 1 1 (Add 9) ∷ Crash ∷ Opened [] ∷ []
+unfolding bucket_of
+row_gate_other = refl
+
+-- actor 3 meets a node whose removal isn't sure, and its sync makes it so
+abbrev removal_steps : List Step
+removal_steps = Calls 1 (Add 9) ∷ turns 1 12 ++ Calls 2 (Remove 9) ∷ turns 2 9 ++ Calls 3 (Has 9) ∷ turns 3 8
+
+row_removal_settled : marks_after (fresh 2 64) removal_steps ≡ Call 1 1 (Add 9) ∷ Call 2 2 (Remove 9) ∷ Call 3 3 (Has 9) ∷ Answer 3 false ∷ []
+unfolding bucket_of
+row_removal_settled = refl
+
+row_removal_sure : sure_after (fresh 2 64) removal_steps ≡ head_2 ++ (0 ∷ slot_body 9) ++ replicate 16 0
+unfolding bucket_of
+row_removal_sure = refl
+
+-- a reader stands on a node that is removed; the key comes again in another slot
+abbrev reader_steps : List Step
+reader_steps =
+    Calls 1 (Add 9) ∷ turns 1 15 ++ Calls 3 (Has 9) ∷ turns 3 4 ++ Calls 1 (Remove 9) ∷ turns 1 15 ++ Calls 2 (Add 9) ∷ turns 2 15
+    ++ turns 3 2
+
+row_reader_stands : marks_after (fresh 2 64) (reader_steps ++ Crashes (head_2 ++ (0 ∷ slot_body 9) ++ (0xa5 ∷ slot_body 9)) ∷ Opens ∷ [])
+    ≡ Call 1 1 (Add 9) ∷ Answer 1 true ∷ Call 2 3 (Has 9) ∷ Call 3 1 (Remove 9) ∷ Answer 3 true ∷ Call 4 2 (Add 9) ∷ Answer 4 true
+    ∷ Answer 2 false ∷ Crash ∷ Opened (9 ∷ []) ∷ []
+unfolding bucket_of
+row_reader_stands = refl
+
+row_second_slot : sure_after (fresh 2 64) reader_steps ≡ head_2 ++ (0 ∷ slot_body 9) ++ (0xa5 ∷ slot_body 9)
+unfolding bucket_of
+row_second_slot = refl
+
+-- the slot in limbo can't be had while the reader is inside, and can afterwards
+abbrev full_steps : List Step
+full_steps =
+    Calls 1 (Add 9) ∷ turns 1 15 ++ Calls 3 (Has 9) ∷ turns 3 4 ++ Calls 1 (Remove 9) ∷ turns 1 15 ++ Calls 2 (Add 9) ∷ turns 2 15
+    ++ Calls 4 (Add 10) ∷ turns 4 72 ++ turns 3 2 ++ Calls 4 (Add 10) ∷ turns 4 19
+
+row_full_then_yes : marks_after (fresh 2 64) full_steps
+    ≡ Call 1 1 (Add 9) ∷ Answer 1 true ∷ Call 2 3 (Has 9) ∷ Call 3 1 (Remove 9) ∷ Answer 3 true ∷ Call 4 2 (Add 9) ∷ Answer 4 true
+    ∷ Call 5 4 (Add 10) ∷ Refused 5 Full ∷ Answer 2 false ∷ Call 6 4 (Add 10) ∷ Answer 6 true ∷ []
+unfolding bucket_of
+row_full_then_yes = refl
+
+-- a sync that fails: the service halts, and the file holds what the disk kept
+abbrev until_release : List Step
+until_release = Calls 1 (Add 9) ∷ turns 1 12
+
+abbrev failed_sync_steps : List Step
+failed_sync_steps =
+    until_release ++ Trips ∷ Fails 1 (disk_of (play (fresh 2 64) until_release).state) ∷ turns 1 2 ++ Calls 2 (Has 9)
+    ∷ turns 2 3 ++ Stops ∷ Opens ∷ []
+
+row_sync_fails : marks_after (fresh 2 64) failed_sync_steps
+    ≡ Call 1 1 (Add 9) ∷ Cut 1 Device ∷ Call 2 2 (Has 9) ∷ Cut 2 Halted ∷ Stop ∷ Opened (9 ∷ []) ∷ []
+unfolding bucket_of
+row_sync_fails = refl
+
+-- a stop keeps loose bytes, and the open's sync makes them sure
+row_open_syncs : marks_after (fresh 2 64)
+    (Calls 1 (Add 9) ∷ turns 1 10 ++ Stops ∷ Opens ∷ Calls 1 (Has 9) ∷ turns 1 6 ++ Crashes (head_2 ++ (0xa5 ∷ slot_body 9) ++ replicate 16 0) ∷ Opens ∷ [])
+    ≡ Call 1 1 (Add 9) ∷ Stop ∷ Opened (9 ∷ []) ∷ Call 2 1 (Has 9) ∷ Answer 2 true ∷ Crash ∷ Opened (9 ∷ []) ∷ []
+unfolding bucket_of
+row_open_syncs = refl
+
+-- two adders of one key: the second finds the lock taken, and then the key
+row_two_adders : marks_after (fresh 2 64) (Calls 1 (Add 9) ∷ turns 1 9 ++ Calls 2 (Add 9) ∷ turns 2 8 ++ turns 1 6 ++ turns 2 7)
+    ≡ Call 1 1 (Add 9) ∷ Call 2 2 (Add 9) ∷ Answer 1 true ∷ Answer 2 false ∷ []
+unfolding bucket_of
+row_two_adders = refl
+
+-- a settling that comes early
+row_early : marks_after (fresh 1 64) (Calls 1 (Add 9) ∷ turns 1 13 ++ Calls 2 (Remove 9) ∷ turns 2 8 ++ turns 1 4)
+    ≡ Call 1 1 (Add 9) ∷ Call 2 2 (Remove 9) ∷ Answer 1 true ∷ []
+unfolding bucket_of
+row_early = refl
+
+row_early_sure : sure_after (fresh 1 64) (Calls 1 (Add 9) ∷ turns 1 13 ++ Calls 2 (Remove 9) ∷ turns 2 8 ++ turns 1 4)
+    ≡ (open_byte ∷ header_body 1) ++ 0 ∷ slot_body 9
+unfolding bucket_of
+row_early_sure = refl
+
+-- What a run publishes, and that its words are those after the trace. Each side is compared with a written value: two
+-- computed sides are dear to compare.
+abbrev words_of_state : State → List (List ℕ)
+words_of_state (Up service disk) =
+    service.yard.words.heads ∷ service.yard.words.links ∷ service.yard.words.keys ∷ (service.yard.words.halt ∷ []) ∷ []
+words_of_state (Down shape disk) = []
+
+abbrev four_words : Words → List (List ℕ)
+four_words w = w.heads ∷ w.links ∷ w.keys ∷ (w.halt ∷ []) ∷ []
+
+abbrev reader_trace : Trace
+reader_trace =
+    settled 1 Added ∷ linked 9 1 2 ∷ link_prepared 1 0 ∷ key_prepared 1 9 ∷ unlinked 9 0 1 ∷ settled 0 Removed ∷ marked 9 0 1
+    ∷ settled 0 Added ∷ linked 9 0 1 ∷ link_prepared 0 0 ∷ key_prepared 0 9 ∷ []
+
+abbrev reader_words : List (List ℕ)
+reader_words = (2 ∷ []) ∷ ((2 ^ 32 + 2 ^ 33 + 2 ^ 34) ∷ (2 ^ 33) ∷ []) ∷ (9 ∷ 9 ∷ []) ∷ (0 ∷ []) ∷ []
+
+reader_trace_is : (play (fresh 2 64) reader_steps).trace ≡ reader_trace
+unfolding bucket_of
+reader_trace_is = refl
+
+reader_words_are : words_of_state (play (fresh 2 64) reader_steps).state ≡ reader_words
+unfolding bucket_of
+reader_words_are = refl
+
+reader_words_after : four_words (words_after 2 1 64 reader_trace) ≡ reader_words
+unfolding bucket_of
+reader_words_after = refl
+
+-- after the removal the key is no member, and that is settled; after the second adding it is one
+gone_settled : SettledNo (drop 4 reader_trace) (drop 4 reader_trace) 9
+unfolding bucket_of
+gone_settled = record { begins = inl refl; no_member = refl; settled = inr refl }
+
+there_settled : SettledYes reader_trace reader_trace 9
+unfolding bucket_of
+there_settled = record { begins = inl refl; member = refl; settled = refl }
+
+-- the removal is not settled by its mark alone, and is by what comes later
+not_by_its_mark : (is_removed (linking 9 (drop 6 reader_trace)) (drop 6 reader_trace) ≡ false) × (is_removed (linking 9 (drop 6 reader_trace)) (drop 5 reader_trace) ≡ true)
+unfolding bucket_of
+not_by_its_mark = (refl, refl)
+
+settled_later : SettledNo (drop 4 reader_trace) reader_trace 9
+unfolding bucket_of
+settled_later = record { begins = inr (inr (inr (inr (inl refl)))); no_member = refl; settled = inr refl }
+
+-- Another caller's sync covers a closing before its node is marked: the stage is Closed, the node is linked and unmarked,
+-- and `has` still answers yes.
+abbrev closed_unmarked : List Step
+closed_unmarked = Calls 1 (Add 9) ∷ turns 1 15 ++ Calls 2 (Remove 9) ∷ turns 2 8 ++ Calls 3 (Add 7) ∷ turns 3 7 ++ Calls 4 (Has 9) ∷ turns 4 6
+
+abbrev cells_of : State → List Cell
+cells_of (Up service disk) = service.yard.vault.cells
+cells_of (Down shape disk) = []
+
+closed_before_the_mark : cells_of (play (fresh 2 64) closed_unmarked).state
+    ≡ record { stage = Closed; key = 9 } ∷ record { stage = Keyed; key = 7 } ∷ []
+unfolding bucket_of
+closed_before_the_mark = refl
+
+yes_before_the_mark : marks_after (fresh 2 64) closed_unmarked
+    ≡ Call 1 1 (Add 9) ∷ Answer 1 true ∷ Call 2 2 (Remove 9) ∷ Call 3 3 (Add 7) ∷ Call 4 4 (Has 9) ∷ Answer 4 true ∷ []
+unfolding bucket_of
+yes_before_the_mark = refl
+
+-- keys are found ascending, whatever slots they stand in
+found_ascending : marks_after (fresh 2 64) (Calls 1 (Add 9) ∷ turns 1 15 ++ Calls 1 (Add 7) ∷ turns 1 18 ++ Stops ∷ Opens ∷ [])
+    ≡ Call 1 1 (Add 9) ∷ Answer 1 true ∷ Call 2 1 (Add 7) ∷ Answer 2 true ∷ Stop ∷ Opened (7 ∷ 9 ∷ []) ∷ []
+unfolding bucket_of
+found_ascending = refl
+
+-- the trace of that run is lawful
+reader_lawful : Lawful 1 2 reader_trace
+unfolding bucket_of
+reader_lawful = (
+  tt,
+  (
+    second,
+    ((λ b. grind (arith, nat_tests)), ((λ b. grind (arith, nat_tests)), (record { stands = refl; key = refl; no_member = refl; removed = refl }, (tt, ((refl, refl, refl), (tt, (first, ((λ b. refl), ((λ b. refl), tt))))))))),
+  ),
+)
+  where
+    first : MayLink 1 2 9 0 (drop 9 reader_trace)
+    first = record { in_range = lit< tt; loose = λ b. refl; no_member = refl; no_node = refl; key = refl; link = refl; no_mark = refl; not_added = refl; not_removed = refl }
+
+    second : MayLink 1 2 9 1 (drop 2 reader_trace)
+    second = record { in_range = lit< tt; loose = λ b. grind (arith, nat_tests); no_member = refl; no_node = refl; key = refl; link = refl; no_mark = refl; not_added = refl; not_removed = refl }
+
+-- the text that a crash leaves by a pick
+crash_a5_loose : left_by (Byte 0xa5) (disk_of (play (fresh 2 64) (Calls 1 (Add 9) ∷ turns 1 5)).state)
+    ≡ head_2 ++ (0 ∷ replicate 15 0xa5) ++ replicate 16 0
+unfolding bucket_of
+crash_a5_loose = refl
+
+crash_37_gate : left_by (Byte 0x37) (disk_of (play (fresh 2 64) (Calls 1 (Add 9) ∷ turns 1 10)).state)
+    ≡ head_2 ++ (0x37 ∷ slot_body 9) ++ replicate 16 0
+unfolding bucket_of
+crash_37_gate = refl
+
+crash_old_reader : left_by Old (disk_of (play (fresh 2 64) reader_steps).state) ≡ head_2 ++ (0 ∷ slot_body 9) ++ (0xa5 ∷ slot_body 9)
+unfolding bucket_of
+crash_old_reader = refl
+
+-- after an open each bucket's members are linked ascending, with add_settled set
+words_reopened : words_of_state (play (fresh 2 64) (Calls 1 (Add 9) ∷ turns 1 15 ++ Calls 1 (Add 7) ∷ turns 1 18 ++ Stops ∷ Opens ∷ [])).state
+    ≡ (2 ∷ []) ∷ ((2 ^ 33) ∷ (1 + 2 ^ 33) ∷ []) ∷ (9 ∷ 7 ∷ []) ∷ (0 ∷ []) ∷ []
+unfolding bucket_of
+words_reopened = refl
+
+abbrev two_buckets : Start
+two_buckets = record { shape = record { slots = 3; buckets = 2; passes = 2 }; text = made_text 3 }
+
+-- three keys in two buckets, after an open: 4 and 8 in the first, 5 in the second
+words_two_buckets : words_of_state (play two_buckets
+    (Calls 1 (Add 8) ∷ turns 1 15 ++ Calls 1 (Add 5) ∷ turns 1 15 ++ Calls 2 (Add 4) ∷ turns 2 17 ++ Stops ∷ Opens ∷ [])).state
+    ≡ (3 ∷ 2 ∷ []) ∷ ((2 ^ 33) ∷ (2 ^ 33) ∷ (1 + 2 ^ 33) ∷ []) ∷ (8 ∷ 5 ∷ 4 ∷ []) ∷ (0 ∷ []) ∷ []
+unfolding bucket_of
+words_two_buckets = refl
+
+-- a crash that leaves what the pick says, and an open
+abbrev crashed : Pick → Start → List Step → List Step
+crashed pick start steps = steps ++ Crashes (left_by pick (disk_of (play start steps).state)) ∷ Opens ∷ []
+
+abbrev marks_crashed : Pick → Start → List Step → List Mark
+marks_crashed pick start steps = marks_after start (crashed pick start steps)
+
+-- the keys that are shown at the end
+abbrev shown_after : Start → List Step → List ℕ
+shown_after start steps = keys_shown (play start steps).trace
+
+abbrev uses_of : State → List Use
+uses_of (Up service disk) = service.yard.uses
+uses_of (Down shape disk) = []
+
+-- the reply that an actor is about to give
+abbrev reply_of : State → ℕ → Option Reply
+reply_of (Down shape disk) a = None
+reply_of (Up service disk) a = elim (caller_at service.callers a) [ None ↦ None | Some caller ↦ reply_at caller.progress ]
+
+-- the key was loose, and its gate surely closed: nothing is found or shown
+abbrev key_steps : List Step
+key_steps = Calls 1 (Add 9) ∷ turns 1 5
+
+key_loose_found : marks_crashed (Byte 0xa5) (fresh 2 64) key_steps ≡ Call 1 1 (Add 9) ∷ Crash ∷ Opened [] ∷ []
+unfolding bucket_of
+key_loose_found = refl
+
+key_loose_shown : shown_after (fresh 2 64) (crashed (Byte 0xa5) (fresh 2 64) key_steps) ≡ []
+unfolding bucket_of
+key_loose_shown = refl
+
+-- the gate was loose
+abbrev gate_steps : List Step
+gate_steps = Calls 1 (Add 9) ∷ turns 1 10
+
+gate_loose_open : marks_crashed (Byte 0xa5) (fresh 2 64) gate_steps ≡ Call 1 1 (Add 9) ∷ Crash ∷ Opened (9 ∷ []) ∷ []
+unfolding bucket_of
+gate_loose_open = refl
+
+gate_loose_other : marks_crashed (Byte 0x37) (fresh 2 64) gate_steps ≡ Call 1 1 (Add 9) ∷ Crash ∷ Opened [] ∷ []
+unfolding bucket_of
+gate_loose_other = refl
+
+-- the reader's sync made the closing sure
+removal_found : marks_crashed Old (fresh 2 64) removal_steps
+    ≡ Call 1 1 (Add 9) ∷ Call 2 2 (Remove 9) ∷ Call 3 3 (Has 9) ∷ Answer 3 false ∷ Crash ∷ Opened [] ∷ []
+unfolding bucket_of
+removal_found = refl
+
+-- the counts of the call that finds no slot, while the reader is inside
+abbrev until_full : List Step
+until_full = Calls 1 (Add 9) ∷ turns 1 15 ++ Calls 3 (Has 9) ∷ turns 3 4 ++ Calls 1 (Remove 9) ∷ turns 1 15 ++ Calls 2 (Add 9) ∷ turns 2 15 ++ Calls 4 (Add 10) ∷ turns 4 71
+
+full_counts : reply_of (play (fresh 2 64) until_full).state 4 ≡ Some (SaysFull (record { free = 0; taken = 1; limbo = 1 }))
+unfolding bucket_of
+full_counts = refl
+
+-- after a sync that failed: a stop keeps the gate, a crash that leaves the sure bytes doesn't
+abbrev halted_steps : List Step
+halted_steps = until_release ++ Trips ∷ Fails 1 (disk_of (play (fresh 2 64) until_release).state) ∷ turns 1 2 ++ Calls 2 (Has 9) ∷ turns 2 3
+
+halted_stop_shown : shown_after (fresh 2 64) (halted_steps ++ Stops ∷ Opens ∷ []) ≡ 9 ∷ []
+unfolding bucket_of
+halted_stop_shown = refl
+
+halted_crash_found : marks_crashed Old (fresh 2 64) halted_steps ≡ Call 1 1 (Add 9) ∷ Cut 1 Device ∷ Call 2 2 (Has 9) ∷ Cut 2 Halted ∷ Crash ∷ Opened [] ∷ []
+unfolding bucket_of
+halted_crash_found = refl
+
+halted_crash_shown : shown_after (fresh 2 64) (crashed Old (fresh 2 64) halted_steps) ≡ []
+unfolding bucket_of
+halted_crash_shown = refl
+
+-- the open's sync made the gate sure
+abbrev reopened_steps : List Step
+reopened_steps = gate_steps ++ Stops ∷ Opens ∷ Calls 1 (Has 9) ∷ turns 1 6
+
+reopened_found : marks_crashed Old (fresh 2 64) reopened_steps ≡ Call 1 1 (Add 9) ∷ Stop ∷ Opened (9 ∷ []) ∷ Call 2 1 (Has 9) ∷ Answer 2 true ∷ Crash ∷ Opened (9 ∷ []) ∷ []
+unfolding bucket_of
+reopened_found = refl
+
+reopened_shown : shown_after (fresh 2 64) (crashed Old (fresh 2 64) reopened_steps) ≡ 9 ∷ []
+unfolding bucket_of
+reopened_shown = refl
+
+-- two adders of one key: the second one's claim is busy, and its slot is given back
+two_adders_busy : outcome_at (play (fresh 2 64) (Calls 1 (Add 9) ∷ turns 1 9 ++ Calls 2 (Add 9) ∷ turns 2 7)).state (Turn 2) ≡ Some Busy
+unfolding bucket_of
+two_adders_busy = refl
+
+two_adders_uses : uses_of (play (fresh 2 64) (Calls 1 (Add 9) ∷ turns 1 9 ++ Calls 2 (Add 9) ∷ turns 2 8 ++ turns 1 6 ++ turns 2 7)).state ≡ Taken ∷ Free ∷ []
+unfolding bucket_of
+two_adders_uses = refl
+
+-- a closing that is loose: a crash may leave the gate closed or open
+abbrev closing_steps : List Step
+closing_steps = Calls 1 (Add 9) ∷ turns 1 15 ++ Calls 2 (Remove 9) ∷ turns 2 8
+
+closing_left_closed : marks_crashed (Byte 0x37) (fresh 1 64) closing_steps ≡ Call 1 1 (Add 9) ∷ Answer 1 true ∷ Call 2 2 (Remove 9) ∷ Crash ∷ Opened [] ∷ []
+unfolding bucket_of
+closing_left_closed = refl
+
+closing_left_open : marks_crashed Old (fresh 1 64) closing_steps ≡ Call 1 1 (Add 9) ∷ Answer 1 true ∷ Call 2 2 (Remove 9) ∷ Crash ∷ Opened (9 ∷ []) ∷ []
+unfolding bucket_of
+closing_left_open = refl
+
+-- an adder's second sync makes the closing sure
+early_found : marks_crashed Old (fresh 1 64) (Calls 1 (Add 9) ∷ turns 1 13 ++ Calls 2 (Remove 9) ∷ turns 2 8 ++ turns 1 4)
+    ≡ Call 1 1 (Add 9) ∷ Call 2 2 (Remove 9) ∷ Answer 1 true ∷ Crash ∷ Opened [] ∷ []
+unfolding bucket_of
+early_found = refl
+
+-- one slot: the tenth turn writes the gate
+ten_turns : marks_crashed (Byte 0xa5) (fresh 1 64) (Calls 1 (Add 9) ∷ turns 1 10) ≡ Call 1 1 (Add 9) ∷ Crash ∷ Opened (9 ∷ []) ∷ []
+unfolding bucket_of
+ten_turns = refl
+
+nine_turns : marks_crashed (Byte 0xa5) (fresh 1 64) (Calls 1 (Add 9) ∷ turns 1 9) ≡ Call 1 1 (Add 9) ∷ Crash ∷ Opened [] ∷ []
+unfolding bucket_of
+nine_turns = refl
+
+-- a reader answers no only when its sync has made the closing sure
+reader_syncs : marks_crashed Old (fresh 2 64) (Calls 1 (Add 9) ∷ turns 1 15 ++ Calls 2 (Remove 9) ∷ turns 2 9 ++ Calls 3 (Has 9) ∷ turns 3 8)
+    ≡ Call 1 1 (Add 9) ∷ Answer 1 true ∷ Call 2 2 (Remove 9) ∷ Call 3 3 (Has 9) ∷ Answer 3 false ∷ Crash ∷ Opened [] ∷ []
+unfolding bucket_of
+reader_syncs = refl
+
+-- the event after the mark makes the closing sure, and the node is still linked then
+mark_then_sync : marks_crashed Old (fresh 2 64) (Calls 1 (Add 9) ∷ turns 1 15 ++ Calls 2 (Remove 9) ∷ turns 2 10 ++ Calls 3 (Has 9) ∷ turns 3 8)
+    ≡ Call 1 1 (Add 9) ∷ Answer 1 true ∷ Call 2 2 (Remove 9) ∷ Call 3 3 (Has 9) ∷ Answer 3 false ∷ Crash ∷ Opened [] ∷ []
+unfolding bucket_of
+mark_then_sync = refl

@@ -1,0 +1,137 @@
+-- A text of these slots: what a device that keeps to nothing may have told, where an open found them.
+use Rattle.std.specs.Int.{byte_at, bytes_high_first}
+use Rattle.std.proofs.Common.{◌≡◌, ⊎_elim, ℕ, zero, suc, ◌+◌, ◌*◌, ◌-◌, ◌<◌, ◌≤◌, List, [], ◌∷◌, ◌++◌, length, take, get_or, refl, sym, ap, ◌∙◌, subst, arith, length-append}
+use Rattle.std.specs.Prelude.{Some, replicate, slice_get}
+use Rattle.std.proofs.lemmas.List.{get_or_append_left, get_or-append_right, get_or-take, length-take, get_or-replicate, get_or_past, length-replicate}
+use Rattle.std.proofs.lemmas.Bool.{cases_lt}
+use Rattle.lz_disk.specs.Images.{AreBytes}
+use Rattle.std.proofs.lemmas.List.Edits.{length-between, get_or-between}
+use Rattle.std.proofs.lemmas.Option.{slice_get_within, get_or_from_slice_get}
+use Rattle.std.proofs.lemmas.Grind.{same_number_lists}
+use Rattle.lz_slot.specs.Limits.{largest_key}
+use Rattle.lz_slot.specs.Bytes.{open_byte, magic, header_body, slot_body, slot_bytes, slot_read, slot_at}
+use Rattle.lz_slot.proofs.Exact.{slot_reads_back}
+use Rattle.lz_vault.specs.declared.vault.Stage.{Stage}
+use Rattle.lz_vault.specs.declared.vault.Stage.TheVariants.{Closed, KeyLoose, Keyed, Opening, Open, Closing}
+use Rattle.lz_vault.specs.Stages.{Cell, IsSteady, AreSteady}
+use Rattle.lz_vault.specs.Opens.{IsCellOf}
+use Rattle.lz_machine.specs.Yards.{no_cell}
+
+abbrev slot_text : Cell → List ℕ
+slot_text cell = elim cell.stage [ Open ↦ open_byte ∷ slot_body cell.key | _ ↦ replicate 16 0 ]
+
+abbrev body_text : List Cell → List ℕ
+body_text [] = []
+body_text (cell ∷ cells) = slot_text cell ++ body_text cells
+
+-- a text of as many slots, with a member where a gate is open
+abbrev pub text_of : List Cell → List ℕ
+text_of cells = (open_byte ∷ header_body (length cells)) ++ body_text cells
+
+slot_size : (stage : Stage) (k : ℕ) → length (slot_text (record { stage = stage; key = k })) ≡ 16
+slot_size Open k = refl
+slot_size _ k = refl
+
+body_size : (cells : List Cell) → length (body_text cells) ≡ 16 * length cells
+body_size [] = refl
+body_size (cell ∷ cells) = length-append (slot_text cell) (body_text cells) ∙ omega (arith, slot_size cell.stage cell.key, body_size cells)
+
+head_size : (n : ℕ) → length (open_byte ∷ header_body n) ≡ 16
+head_size n = refl
+
+pub text_size : (cells : List Cell) → length (text_of cells) ≡ 16 + 16 * length cells
+text_size cells = length-append (open_byte ∷ header_body (length cells)) (body_text cells) ∙ omega (arith, head_size (length cells), body_size cells)
+
+pub text_head : (cells : List Cell) → take 16 (text_of cells) ≡ open_byte ∷ header_body (length cells)
+text_head cells =
+    let size = text_size cells in
+    let long = head_size (length cells) in
+    let taken = length-take 16 (text_of cells) in
+    same_number_lists (take 16 (text_of cells)) (open_byte ∷ header_body (length cells)) (omega (arith, size, long, taken)) (λ k lt.
+    let small : k < 16 = omega (arith, lt, size, taken) in
+    get_or-take 16 (text_of cells) k 0 small ∙ get_or_append_left (open_byte ∷ header_body (length cells)) (body_text cells) 0 k (omega (arith, small, long)))
+
+body_at : (cells : List Cell) (i j : ℕ) → i < length cells → j < 16 → get_or (body_text cells) (16 * i + j) 0 ≡ get_or (slot_text (get_or cells i no_cell)) j 0
+body_at [] i j low lt = absurd (omega (arith, low))
+body_at (cell ∷ cells) zero j low lt =
+    let at : 16 * 0 + j ≡ j = omega arith in
+    ap (λ (n : ℕ). get_or (body_text (cell ∷ cells)) n 0) at ∙ get_or_append_left (slot_text cell) (body_text cells) 0 j (omega (arith, lt, slot_size cell.stage cell.key))
+body_at (cell ∷ cells) (suc i) j low lt =
+    let back : 16 * suc i + j - 16 ≡ 16 * i + j = omega arith in
+    get_or-append_right (slot_text cell) (body_text cells) 16 (16 * suc i + j) 0 (slot_size cell.stage cell.key) (omega arith)
+    ∙ ap (λ (n : ℕ). get_or (body_text cells) n 0) back ∙ body_at cells i j (omega (arith, low)) lt
+
+text_slot : (cells : List Cell) (i : ℕ) → i < length cells → slot_bytes (text_of cells) i ≡ slot_text (get_or cells i no_cell)
+text_slot cells i low =
+    let size = text_size cells in
+    let mine : Cell = get_or cells i no_cell in
+    let long : length (slot_bytes (text_of cells) i) ≡ 16 = length-between (text_of cells) (16 + 16 * i) (32 + 16 * i) (omega (arith, size, low)) ∙ omega arith in
+    same_number_lists (slot_bytes (text_of cells) i) (slot_text mine) (long ∙ sym (slot_size mine.stage mine.key)) (λ j lt.
+    let small : j < 16 = omega (arith, lt, long) in
+    let back : 16 + 16 * i + j - 16 ≡ 16 * i + j = omega arith in
+    get_or-between (text_of cells) (16 + 16 * i) (32 + 16 * i) j 0 (omega (arith, small))
+    ∙ get_or-append_right (open_byte ∷ header_body (length cells)) (body_text cells) 16 (16 + 16 * i + j) 0 (head_size (length cells)) (omega arith)
+    ∙ ap (λ (n : ℕ). get_or (body_text cells) n 0) back ∙ body_at cells i j low small)
+
+slot_says : (stage : Stage) (k : ℕ) → k ≤ largest_key → IsSteady stage → IsCellOf (slot_read (slot_text (record { stage = stage; key = k }))) (record { stage = stage; key = k })
+slot_says Open k fits steady = subst (λ r. IsCellOf r (record { stage = Open; key = k })) (sym (slot_reads_back k fits)) (refl, refl)
+slot_says Closed k fits steady = refl
+slot_says _ k fits steady = absurd steady
+
+-- the text says of each slot what its cell does
+pub text_says : (cells : List Cell) → ((i : ℕ) (cell : Cell) → slice_get cells i ≡ Some cell → cell.key ≤ largest_key) → AreSteady cells
+    → (i : ℕ) (cell : Cell) → slice_get cells i ≡ Some cell → IsCellOf (slot_at (text_of cells) i) cell
+text_says cells keys steady i cell there =
+    let low = slice_get_within cells i cell there in
+    let is : get_or cells i no_cell ≡ cell = get_or_from_slice_get cells i cell no_cell there in
+    subst (λ bytes. IsCellOf (slot_read bytes) cell) (sym (text_slot cells i low ∙ ap slot_text is)) (slot_says cell.stage cell.key (keys i cell there) (steady i cell there))
+
+-- the bytes of these texts are bytes
+small_append : (xs ys : List ℕ) → AreBytes xs → AreBytes ys → AreBytes (xs ++ ys)
+small_append xs ys left right i = ⊎_elim
+    (λ low. omega (arith, left i, get_or_append_left xs ys 0 i low))
+    (λ high. omega (arith, right (i - length xs), get_or-append_right xs ys (length xs) i 0 refl high))
+    (cases_lt i (length xs))
+
+zeros_small : (n : ℕ) → AreBytes (replicate n 0)
+zeros_small n i = ⊎_elim
+    (λ low. omega (arith, get_or-replicate {A = ℕ} n i 0 0 low))
+    (λ high. omega (arith, get_or_past {X = ℕ} (replicate n 0) i 0 (omega (arith, high, length-replicate {A = ℕ} n 0))))
+    (cases_lt i n)
+
+-- each byte of a number is below 256
+byte_small : (k x : ℕ) → byte_at k x < 256
+byte_small zero x = omega arith
+byte_small (suc k) x = omega arith
+
+-- so the bytes of a number are bytes
+pub high_small : (n x i : ℕ) → get_or (bytes_high_first n x) i 0 < 256
+high_small zero x i = grind arith
+high_small (suc n) x zero = byte_small n x
+high_small (suc n) x (suc i) = high_small n x i
+
+magic_small : AreBytes magic
+magic_small zero = omega arith
+magic_small (suc zero) = omega arith
+magic_small (suc (suc zero)) = omega arith
+magic_small (suc (suc (suc zero))) = omega arith
+magic_small (suc (suc (suc (suc zero)))) = omega arith
+magic_small (suc (suc (suc (suc (suc zero))))) = omega arith
+magic_small (suc (suc (suc (suc (suc (suc zero)))))) = omega arith
+magic_small (suc (suc (suc (suc (suc (suc (suc i))))))) = omega arith
+
+gate_small : (xs : List ℕ) → AreBytes xs → AreBytes (open_byte ∷ xs)
+gate_small xs all zero = omega arith
+gate_small xs all (suc i) = all i
+
+slot_small : (stage : Stage) (k : ℕ) → AreBytes (slot_text (record { stage = stage; key = k }))
+slot_small Open k = gate_small (slot_body k) (small_append (replicate 7 0) (bytes_high_first 8 k) (zeros_small 7) (high_small 8 k))
+slot_small _ k = zeros_small 16
+
+body_small : (cells : List Cell) → AreBytes (body_text cells)
+body_small [] = λ i. omega arith
+body_small (cell ∷ cells) = small_append (slot_text cell) (body_text cells) (slot_small cell.stage cell.key) (body_small cells)
+
+pub text_bytes : (cells : List Cell) → AreBytes (text_of cells)
+text_bytes cells = small_append (open_byte ∷ header_body (length cells)) (body_text cells)
+    (gate_small (header_body (length cells)) (small_append magic (bytes_high_first 8 (length cells)) magic_small (high_small 8 (length cells)))) (body_small cells)

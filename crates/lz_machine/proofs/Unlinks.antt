@@ -1,0 +1,73 @@
+-- What a caller relies on stays when another takes a node out.
+use Rattle.std.proofs.Common.{◌≡◌, ◌≢◌, inl, inr, ℕ, zero, suc, true, ◌∷◌, refl, sym, ap, ◌∙◌, subst, arith}
+use mathlib.Core.Bool.{false≢true}
+use Rattle.std.proofs.lemmas.Bool.{cases_eq, cases_Bool}
+use Rattle.std.proofs.lemmas.Bool.Decides.{nat_tests}
+use Rattle.lz_list.specs.declared.publishing.Publishing.TheVariants.{Unlinked as unlinked}
+use Rattle.lz_list.specs.Traces.{Trace, without, on, chain, chain_of, place_of, bucket_of, key_word, next_link, IsLoose, MayUnlink, Lawful, Adjacent}
+use Rattle.lz_list.proofs.Chains.{before_on, on_start, adjacent_next, has_on}
+use Rattle.lz_list.proofs.Shown.{words_show_chain, unlinked_off, apart_bucket, bucket_on}
+use Rattle.lz_list.proofs.Hindsight.{stands}
+use Rattle.lz_list.proofs.Nodes.{on_without, one_node, none_without}
+use Rattle.lz_list.proofs.Resting.{on_without_other}
+use Rattle.lz_list.proofs.Checked.{place_to}
+use Rattle.lz_machine.specs.Stands.{Faces, IsLeaving}
+
+module _ (buckets slots k x s p : ℕ) (P : Trace) (law : Lawful buckets slots P) (mine : IsLeaving buckets k x s P) where
+  pub adj : Adjacent 0 (chain_of buckets k P) x (suc s)
+  adj = subst (Adjacent 0 (chain_of buckets k P) x) mine.before.faces.next (stands buckets slots P (bucket_of buckets k) x P law mine.before.faces.there)
+
+  pub node_there : on 0 (chain_of buckets k P) (suc s) ≡ true
+  node_there = adjacent_next 0 (chain_of buckets k P) x (suc s) adj (λ e. grind arith)
+
+  pub may_unlink : MayUnlink buckets k s P
+  may_unlink = record { stands = node_there; key = mine.before.key; no_member = mine.no_member; removed = mine.removed }
+
+  -- the place that changes is the one before the node
+  pub place_at : place_of buckets k P ≡ x
+  place_at = let shown = words_show_chain buckets slots P law (bucket_of buckets k) in place_to (next_link buckets (bucket_of buckets k) P) (λ t. key_word t P) k s 0 (chain_of buckets k P) shown.shows x adj mine.before.low mine.before.key
+
+  pub loose_place : (t : ℕ) → IsLoose buckets t P → place_of buckets k P ≢ suc t
+  loose_place t loose is = false≢true (sym (loose (bucket_of buckets k)) ∙ ap (on 0 (chain_of buckets k P)) (sym is) ∙ before_on k 0 (chain_of buckets k P))
+
+  pub loose_stays : (t : ℕ) → IsLoose buckets t P → IsLoose buckets t (unlinked k s p ∷ P)
+  loose_stays t loose b = elim (cases_Bool (on 0 (chain buckets b (unlinked k s p ∷ P)) (suc t))) [
+    | inl there ↦ absurd (false≢true (sym (loose b) ∙ grind (arith, nat_tests, there, on_without k 0 (suc t) (chain buckets b P))))
+    | inr off ↦ off
+  ]
+
+  -- the node is on no chain then
+  pub now_loose : IsLoose buckets s (unlinked k s p ∷ P)
+  now_loose b = elim (cases_Bool (on 0 (chain buckets b (unlinked k s p ∷ P)) (suc s))) [
+    | inl there ↦
+        let after = words_show_chain buckets slots (unlinked k s p ∷ P) (may_unlink, law) b in
+        let bucket : bucket_of buckets k ≡ b = ap (bucket_of buckets) (sym mine.before.key) ∙ bucket_on buckets (next_link buckets b (unlinked k s p ∷ P)) (λ t. key_word t (unlinked k s p ∷ P)) b 0 (chain buckets b (unlinked k s p ∷ P)) after.shows after.within s there (λ e. grind arith) in
+        let has = has_on (next_link buckets b (unlinked k s p ∷ P)) (λ t. key_word t (unlinked k s p ∷ P)) k s 0 (chain buckets b (unlinked k s p ∷ P)) after.shows (omega arith) mine.before.key there in
+        let before = words_show_chain buckets slots P law b in
+        absurd (false≢true (sym (none_without (next_link buckets b P) (λ t. key_word t P) k 0 (chain buckets b P) before.shows) ∙ grind (arith, nat_tests, has, bucket)))
+    | inr off ↦ off
+  ]
+
+  -- another place of the chain, not the node itself, keeps its place and its next link
+  pub faces_stays : (j y n : ℕ) → (bucket_of buckets j ≡ bucket_of buckets k → (y ≢ x) × (y ≢ suc s)) → Faces buckets j y n P → Faces buckets j y n (unlinked k s p ∷ P)
+  faces_stays j y n apart h = record {
+    there = elim (cases_eq (bucket_of buckets k) (bucket_of buckets j)) [
+      | inl same ↦ grind (arith, nat_tests, same, still y refl h.there same)
+      | inr other ↦ grind (arith, nat_tests, other, h.there)
+    ];
+    next = elim (cases_eq (bucket_of buckets j) (bucket_of buckets k)) [
+      | inl same ↦ unlinked_off buckets k s p P (bucket_of buckets j) y (λ at. (apart same).0 (at ∙ place_at))
+      | inr other ↦ elsewhere y h.there other
+    ] ∙ h.next;
+  }
+    where
+      elsewhere : (y : ℕ) → on 0 (chain_of buckets j P) y ≡ true → bucket_of buckets j ≢ bucket_of buckets k → next_link buckets (bucket_of buckets j) (unlinked k s p ∷ P) y ≡ next_link buckets (bucket_of buckets j) P y
+      elsewhere zero there other = grind (arith, nat_tests, other)
+      elsewhere (suc t) there other = unlinked_off buckets k s p P (bucket_of buckets j) (suc t) (apart_bucket buckets k s p P (words_show_chain buckets slots P law) (bucket_of buckets j) t other there)
+
+      still : (z : ℕ) → y ≡ z → on 0 (chain_of buckets j P) z ≡ true → bucket_of buckets k ≡ bucket_of buckets j → on 0 (without k (chain_of buckets j P)) z ≡ true
+      still zero is_y there same = on_start 0 (without k (chain_of buckets j P))
+      still (suc t) is_y there same =
+          let shown = words_show_chain buckets slots P law (bucket_of buckets j) in
+          let node : on 0 (chain_of buckets j P) (suc s) ≡ true = subst (λ (b : ℕ). on 0 (chain buckets b P) (suc s) ≡ true) same node_there in
+          on_without_other (next_link buckets (bucket_of buckets j) P) (λ t. key_word t P) k t 0 (chain_of buckets j P) shown.shows (λ key. (apart (sym same)).1 (is_y ∙ one_node (next_link buckets (bucket_of buckets j) P) (λ t. key_word t P) 0 (chain_of buckets j P) shown.shows (suc t) (suc s) there node (omega (arith, mine.before.key)))) there

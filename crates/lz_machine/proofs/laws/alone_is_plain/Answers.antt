@@ -1,0 +1,5 @@
+use Rattle.lz_machine.proofs.AloneReach.{alone_is_plain}
+use Rattle.lz_machine.proofs.laws.alone_is_plain.Goals as goal
+
+pub returns : goal.returns
+returns c = alone_is_plain

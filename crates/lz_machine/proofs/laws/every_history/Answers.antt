@@ -1,0 +1,5 @@
+use Rattle.lz_machine.proofs.Reaching.{every_history}
+use Rattle.lz_machine.proofs.laws.every_history.Goals as goal
+
+pub returns : goal.returns
+returns c = every_history

@@ -1,0 +1,5 @@
+use Rattle.lz_machine.proofs.AloneSized.{full_is_right}
+use Rattle.lz_machine.proofs.laws.full_is_right.Goals as goal
+
+pub returns : goal.returns
+returns c = full_is_right

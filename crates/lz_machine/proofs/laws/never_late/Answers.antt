@@ -1,0 +1,5 @@
+use Rattle.lz_machine.proofs.InTime.{never_late}
+use Rattle.lz_machine.proofs.laws.never_late.Goals as goal
+
+pub returns : goal.returns
+returns c = never_late

@@ -1,0 +1,5 @@
+use Rattle.lz_machine.proofs.AloneHalts.{refusals_are_right}
+use Rattle.lz_machine.proofs.laws.refusals_are_right.Goals as goal
+
+pub returns : goal.returns
+returns c = refusals_are_right

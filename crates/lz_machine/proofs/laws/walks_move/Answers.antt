@@ -1,0 +1,5 @@
+use Rattle.lz_machine.proofs.Reaching.{walks_move}
+use Rattle.lz_machine.proofs.laws.walks_move.Goals as goal
+
+pub returns : goal.returns
+returns c = walks_move

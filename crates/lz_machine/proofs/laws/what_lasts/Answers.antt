@@ -1,0 +1,5 @@
+use Rattle.lz_machine.proofs.Reaching.{what_lasts}
+use Rattle.lz_machine.proofs.laws.what_lasts.Goals as goal
+
+pub returns : goal.returns
+returns c = what_lasts

@@ -1,0 +1,17 @@
+pub mod Yards
+pub mod Table
+pub mod Calls
+pub mod Orders
+pub mod Runs
+pub mod Laws
+pub mod Marks
+pub mod InTime
+pub mod Ledgers
+pub mod Kept
+pub mod Entries
+pub mod Stands
+pub mod Limbo
+pub mod Lasts
+pub mod Ready
+pub mod Sound
+pub mod Alone

@@ -1,0 +1,73 @@
+-- What the yard keeps: the state that events change.
+use Rattle.std.specs.Prelude.{ℕ, zero, suc, false, List, [], ◌∷◌, ◌++◌, map, replicate, slice_index_or, None}
+use Rattle.lz_slot.specs.declared.slot.SlotRead.{SlotRead}
+use Rattle.lz_slot.specs.declared.slot.SlotRead.TheVariants.{Member}
+use Rattle.lz_slot.specs.Bytes.{slot_at, held}
+use Rattle.lz_slot.specs.Counted.{of_pass}
+use Rattle.lz_vault.specs.declared.vault.Stage.TheVariants.{Closed, Open}
+use Rattle.lz_vault.specs.Stages.{Cell}
+use Rattle.lz_vault.specs.Vaults.{Vaulted}
+use Rattle.lz_allot.specs.Uses.{Use, Free, Taken}
+use Rattle.lz_list.specs.declared.place.Place.TheVariants.{Bucket}
+use Rattle.lz_list.specs.Words.{Words}
+use Rattle.lz_list.specs.Locks.{NodeLocks}
+use Rattle.lz_list.specs.Traces.{words_after, opening, Trace}
+use Rattle.lz_machine.specs.declared.actor.Actor.{Actor}
+use Rattle.lz_machine.specs.declared.actor.Hold.TheVariants.{Nothing}
+
+pub record Shape : Type 0 where
+  pub slots : ℕ
+  pub buckets : ℕ
+  pub passes : ℕ
+
+abbrev pub idle_actor : Actor
+idle_actor = record { slot = None; hold = Nothing; pred = Bucket 0; curr = None }
+
+pub record Yard : Type 0 where
+  pub shape : Shape
+  pub words : Words
+  pub locks : NodeLocks
+  pub vault : Vaulted
+  pub uses : List Use
+  pub actors : List Actor
+
+-- actors count from 1, as their passes do
+abbrev pub actor_at : Yard → ℕ → Actor
+actor_at y a = of_pass y.actors a idle_actor
+
+-- the cell of a slot that no vault has
+abbrev pub no_cell : Cell
+no_cell = record { stage = Closed; key = 0 }
+
+abbrev pub cell_at : Yard → ℕ → Cell
+cell_at y s = slice_index_or y.vault.cells s no_cell
+
+-- a slot as an open finds it
+abbrev pub cell_read : SlotRead → Cell
+cell_read (Member k) = record { stage = Open; key = k }
+cell_read _ = no_cell
+
+abbrev pub use_read : SlotRead → Use
+use_read (Member k) = Taken
+use_read _ = Free
+
+-- the first n slots of a text
+abbrev pub slots_read : List ℕ → ℕ → List SlotRead
+slots_read t zero = []
+slots_read t (suc n) = slots_read t n ++ slot_at t n ∷ []
+
+-- the trace with which a life begins
+abbrev pub first_trace : Shape → List ℕ → Trace
+first_trace shape t = opening shape.buckets (held t shape.slots)
+
+-- The yard of an open that read this text. The open's own sync isn't one of the life's syncs.
+abbrev pub opened_yard : Shape → List ℕ → Yard
+opened_yard shape t =
+    record {
+      shape = shape;
+      words = words_after shape.slots shape.buckets shape.passes (first_trace shape t);
+      locks = record { heads = replicate shape.buckets 0; nodes = replicate shape.slots 0 };
+      vault = record { cells = map cell_read (slots_read t shape.slots); syncs = 0; dead = false };
+      uses = map use_read (slots_read t shape.slots);
+      actors = replicate shape.passes idle_actor;
+    }

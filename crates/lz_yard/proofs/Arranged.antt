@@ -1,0 +1,230 @@
+-- The words after an opening don't depend on the order in which its members stand.
+use Rattle.std.proofs.Common.{◌≡◌, ◌⊎◌, inl, inr, ℕ, suc, ◌≤◌, Bool, true, false, ◌==◌, [], ◌∷◌, refl, sym, ap, ◌∙◌, subst, arith}
+use mathlib.Core.Bool.{false≢true}
+use Rattle.std.proofs.lemmas.Bool.{cases_eq, cases_Bool}
+use Rattle.std.proofs.lemmas.Bool.Decides.{nat_tests, leb_tells, eqb_tells}
+use Rattle.lz_list.specs.Words.{link_with}
+use Rattle.lz_list.specs.Traces.{Trace, Chain, Shows, rank, on, IsFound, insert, bucket_of, chain, chain_of, place_of, has_slot, head_word, node_next, next_link, key_word, has_added, has_removed, flags_after, words_after, halt_word, opening}
+use Rattle.lz_list.proofs.Chains.{before_on, on_start}
+use Rattle.lz_list.proofs.Openings.{opening_lawful}
+use Rattle.lz_list.proofs.Shown.{words_show_chain}
+use Rattle.lz_yard.specs.Filling.{has_node, Ascends}
+use Rattle.lz_machine.proofs.FirstNodes.{off_chains, none_marked}
+use Rattle.lz_yard.proofs.Members.{node_cases, node_first, node_later, node_slot, slot_node}
+use Rattle.lz_machine.proofs.Stores.{table_same}
+
+-- the nodes of the first are nodes of the second
+abbrev pub Within : Chain → Chain → Type 0
+Within c d = (k s : ℕ) → has_node k s c ≡ true → has_node k s d ≡ true
+
+same_pair : (n m : ℕ × ℕ) → n.0 ≡ m.0 → n.1 ≡ m.1 → n ≡ m
+same_pair n m one two = ap (λ (q : ℕ). (q, n.1)) one ∙ ap (λ (q : ℕ). (m.0, q)) two
+
+-- lists that ascend and have the same nodes are one
+pub same_list : (c d : Chain) → Ascends c → Ascends d → Within c d → Within d c → c ≡ d
+same_list [] [] up up' in' out = refl
+same_list [] (m ∷ d) up up' in' out = absurd (false≢true (out m.0 m.1 (node_first m d)))
+same_list (n ∷ c) [] up up' in' out = absurd (false≢true (in' n.0 n.1 (node_first n c)))
+same_list (n ∷ c) (m ∷ d) up up' in' out = elim (node_cases n.0 n.1 m d (in' n.0 n.1 (node_first n c))) [
+  | inl same ↦ ap (λ (p : ℕ × ℕ). p ∷ c) (same_pair n m (sym same.0) (sym same.1)) ∙ ap (λ (l : Chain). m ∷ l) (same_list c d up.1 up'.1 (rest n m c d up in' same.0) (rest m n d c up' out (sym same.0)))
+  | inr later ↦ elim (node_cases m.0 m.1 n c (out m.0 m.1 (node_first m d))) [
+    | inl first ↦ absurd (omega (arith, up'.0 n.0 n.1 later, first.0))
+    | inr after ↦ absurd (omega (arith, up'.0 n.0 n.1 later, up.0 m.0 m.1 after))
+  ]
+]
+  where
+    rest : (n m : ℕ × ℕ) (c d : Chain) → Ascends (n ∷ c) → Within (n ∷ c) (m ∷ d) → m.0 ≡ n.0 → Within c d
+    rest n m c d up in' same k s there = elim (node_cases k s m d (in' k s (node_later k s n c there))) [
+      | inl first ↦ absurd (omega (arith, up.0 k s there, first.0, same))
+      | inr later ↦ later
+    ]
+
+-- a chain that is shown ascends
+shown_above : (next keys : ℕ → ℕ) (x : ℕ) (c : Chain) → Shows next keys x c → (k s : ℕ) → has_node k s c ≡ true → rank keys x ≤ k
+shown_above next keys x [] shows k s there = absurd (false≢true there)
+shown_above next keys x (n ∷ c) shows k s there = elim (node_cases k s n c there) [
+  | inl first ↦ omega (arith, shows.2, first.0)
+  | inr later ↦ let high : suc (keys n.1) ≤ k = shown_above next keys (suc n.1) c shows.3 k s later in omega (arith, shows.1, shows.2, high)
+]
+
+shown_ascends : (next keys : ℕ → ℕ) (x : ℕ) (c : Chain) → Shows next keys x c → Ascends c
+shown_ascends next keys x [] shows = tt
+shown_ascends next keys x (n ∷ c) shows = (
+  (λ k s there. let high : suc (keys n.1) ≤ k = shown_above next keys (suc n.1) c shows.3 k s there in omega (arith, shows.1, high)),
+  shown_ascends next keys (suc n.1) c shows.3,
+)
+
+-- what stands on a chain after an insertion
+insert_cases : (k s j t : ℕ) (c : Chain) → has_node k s (insert j t c) ≡ true → ((j ≡ k) × (t ≡ s)) ⊎ (has_node k s c ≡ true)
+insert_cases k s j t [] there = node_cases k s (j, t) [] there
+insert_cases k s j t (n ∷ c) there = elim (leb_tells (suc n.0) j) [
+  | inl e ↦ elim (node_cases k s n (insert j t c) (rw e.0 at there)) [
+    | inl first ↦ inr (subst (λ (q : ℕ). has_node q s (n ∷ c) ≡ true) first.0 (subst (λ (q : ℕ). has_node n.0 q (n ∷ c) ≡ true) first.1 (node_first n c)))
+    | inr later ↦ elim (insert_cases k s j t c later) [
+      | inl new ↦ inl new
+      | inr old ↦ inr (node_later k s n c old)
+    ]
+  ]
+  | inr f ↦ node_cases k s (j, t) (n ∷ c) (rw f.0 at there)
+]
+
+insert_new : (j t : ℕ) (c : Chain) → has_node j t (insert j t c) ≡ true
+insert_new j t [] = node_first (j, t) []
+insert_new j t (n ∷ c) = elim (leb_tells (suc n.0) j) [
+  | inl e ↦ rw e.0 (node_later j t n (insert j t c) (insert_new j t c))
+  | inr f ↦ rw f.0 (node_first (j, t) (n ∷ c))
+]
+
+insert_old : (k s j t : ℕ) (c : Chain) → has_node k s c ≡ true → has_node k s (insert j t c) ≡ true
+insert_old k s j t [] there = absurd (false≢true there)
+insert_old k s j t (n ∷ c) there = elim (leb_tells (suc n.0) j) [
+  | inl e ↦ rw e.0 (elim (node_cases k s n c there) [
+    | inl first ↦ subst (λ (q : ℕ). has_node q s (n ∷ insert j t c) ≡ true) first.0 (subst (λ (q : ℕ). has_node n.0 q (n ∷ insert j t c) ≡ true) first.1 (node_first n (insert j t c)))
+    | inr later ↦ node_later k s n (insert j t c) (insert_old k s j t c later)
+  ])
+  | inr f ↦ rw f.0 (node_later k s (j, t) (n ∷ c) there)
+]
+
+-- a chain's next links are told by it
+same_next : (next keys other keys' : ℕ → ℕ) (x : ℕ) (c : Chain) → Shows next keys x c → Shows other keys' x c → (y : ℕ) → on x c y ≡ true → next y ≡ other y
+same_next next keys other keys' x [] shows shows' y there =
+    let at : y ≡ x = grind (arith, nat_tests, there) in
+    ap next at ∙ shows ∙ sym shows' ∙ ap other (sym at)
+same_next next keys other keys' x (n ∷ c) shows shows' y there = elim (cases_eq y x) [
+  | inl at ↦ ap next at ∙ shows.0 ∙ sym shows'.0 ∙ ap other (sym at)
+  | inr away ↦ same_next next keys other keys' (suc n.1) c shows.3 shows'.3 y (grind (arith, nat_tests, there, away))
+]
+
+node_stands : (k s x : ℕ) (c : Chain) → has_node k s c ≡ true → on x c (suc s) ≡ true
+node_stands k s x [] there = absurd (false≢true there)
+node_stands k s x (n ∷ c) there = elim (node_cases k s n c there) [
+  | inl first ↦ grind (arith, nat_tests, first.1, on_start (suc n.1) c)
+  | inr later ↦ grind (arith, nat_tests, node_stands k s (suc n.1) c later)
+]
+
+module _ (B : ℕ) where
+  -- the nodes of a chain are those of its bucket
+  chain_has : (b k s : ℕ) (F : Chain) → has_node k s (chain B b (opening B F)) ≡ true → (bucket_of B k ≡ b) × (has_node k s F ≡ true)
+  chain_has b k s [] there = absurd (false≢true there)
+  chain_has b k s (f ∷ F) there = elim (eqb_tells (bucket_of B f.0) b) [
+    | inl e ↦ elim (insert_cases k s f.0 f.1 (chain B b (opening B F)) (rw e.0 at there)) [
+      | inl new ↦ (ap (bucket_of B) (sym new.0) ∙ e.1, subst (λ (q : ℕ). has_node q s (f ∷ F) ≡ true) new.0 (subst (λ (q : ℕ). has_node f.0 q (f ∷ F) ≡ true) new.1 (node_first f F)))
+      | inr old ↦ let rest = chain_has b k s F old in (rest.0, node_later k s f F rest.1)
+    ]
+    | inr g ↦ let rest = chain_has b k s F (rw g.0 at there) in (rest.0, node_later k s f F rest.1)
+  ]
+
+  has_chain : (b k s : ℕ) (F : Chain) → bucket_of B k ≡ b → has_node k s F ≡ true → has_node k s (chain B b (opening B F)) ≡ true
+  has_chain b k s [] here there = absurd (false≢true there)
+  has_chain b k s (f ∷ F) here there = elim (eqb_tells (bucket_of B f.0) b) [
+    | inl e ↦ rw e.0 (elim (node_cases k s f F there) [
+      | inl first ↦ subst (λ (q : ℕ). has_node q s (insert f.0 f.1 (chain B b (opening B F))) ≡ true) first.0 (subst (λ (q : ℕ). has_node f.0 q (insert f.0 f.1 (chain B b (opening B F))) ≡ true) first.1 (insert_new f.0 f.1 (chain B b (opening B F))))
+      | inr later ↦ insert_old k s f.0 f.1 (chain B b (opening B F)) (has_chain b k s F here later)
+    ])
+    | inr g ↦ rw g.0 (elim (node_cases k s f F there) [
+      | inl first ↦ absurd (g.1 (ap (bucket_of B) first.0 ∙ here))
+      | inr later ↦ has_chain b k s F here later
+    ])
+  ]
+
+  -- the words of a slot that holds none
+  none_next : (s : ℕ) (F : Chain) → has_slot s F ≡ false → node_next B s (opening B F) ≡ 0
+  none_next s [] none = refl
+  none_next s (f ∷ F) none =
+      let rest : has_slot s F ≡ false = grind (arith, nat_tests) in
+      let other : (f.1 == s) ≡ false = grind (arith, nat_tests) in
+      let off : (place_of B f.0 (opening B F) == suc s) ≡ false = apart rest (place_of B f.0 (opening B F) == suc s) refl in
+      grind (arith, nat_tests, other, off, none_next s F rest)
+    where
+      apart : has_slot s F ≡ false → (q : Bool) → (place_of B f.0 (opening B F) == suc s) ≡ q → (place_of B f.0 (opening B F) == suc s) ≡ false
+      apart rest false is = is
+      apart rest true is =
+          let at : place_of B f.0 (opening B F) ≡ suc s = grind (arith, nat_tests, is) in
+          absurd (false≢true (sym (off_chains B s F rest (bucket_of B f.0)) ∙ ap (on 0 (chain_of B f.0 (opening B F))) (sym at) ∙ before_on f.0 0 (chain_of B f.0 (opening B F))))
+
+  none_key : (s : ℕ) (F : Chain) → has_slot s F ≡ false → key_word s (opening B F) ≡ 0
+  none_key s [] none = refl
+  none_key s (f ∷ F) none = grind (arith, nat_tests, none_key s F)
+
+  -- and of one that holds a member
+  some_key : (N k s : ℕ) (F : Chain) → IsFound N F → has_node k s F ≡ true → key_word s (opening B F) ≡ k
+  some_key N k s [] found there = absurd (false≢true there)
+  some_key N k s (f ∷ F) found there = elim (node_cases k s f F there) [
+    | inl first ↦ grind (arith, nat_tests, first.0, first.1)
+    | inr later ↦
+        let other : (f.1 == s) ≡ false = apart (f.1 == s) refl (node_slot k s F later) in
+        rw other (some_key N k s F found.3 later)
+  ]
+    where
+      apart : (q : Bool) → (f.1 == s) ≡ q → has_slot s F ≡ true → (f.1 == s) ≡ false
+      apart false is has = is
+      apart true is has = let at : f.1 ≡ s = grind (arith, nat_tests, is) in absurd (false≢true (sym found.2 ∙ ap (λ (q : ℕ). has_slot q F) at ∙ has))
+
+  added_slots : (s : ℕ) (F : Chain) → has_added s (opening B F) ≡ has_slot s F
+  added_slots s [] = refl
+  added_slots s (f ∷ F) = grind (arith, nat_tests, added_slots s F)
+
+  none_gone : (s : ℕ) (F : Chain) → has_removed s (opening B F) ≡ false
+  none_gone s [] = refl
+  none_gone s (f ∷ F) = grind (arith, nat_tests, none_gone s F)
+
+module _ (N B S : ℕ) (F G : Chain) (found : IsFound N F) (found' : IsFound N G) (in' : Within F G) (out : Within G F) where
+  abbrev P : Trace
+  P = opening B F
+
+  abbrev Q : Trace
+  Q = opening B G
+
+  shows : (b : ℕ) → Shows (next_link B b P) (λ t. key_word t P) 0 (chain B b P)
+  shows b = (words_show_chain B N P (opening_lawful B N F found) b).shows
+
+  shows' : (b : ℕ) → Shows (next_link B b Q) (λ t. key_word t Q) 0 (chain B b Q)
+  shows' b = (words_show_chain B N Q (opening_lawful B N G found') b).shows
+
+  chains : (b : ℕ) → chain B b P ≡ chain B b Q
+  chains b = same_list (chain B b P) (chain B b Q) (shown_ascends _ _ 0 (chain B b P) (shows b)) (shown_ascends _ _ 0 (chain B b Q) (shows' b))
+      (λ k s there. let was = chain_has B b k s F there in has_chain B b k s G was.0 (in' k s was.1))
+      (λ k s there. let was = chain_has B b k s G there in has_chain B b k s F was.0 (out k s was.1))
+
+  nexts : (b y : ℕ) → on 0 (chain B b P) y ≡ true → next_link B b P y ≡ next_link B b Q y
+  nexts b y there = same_next (next_link B b P) (λ t. key_word t P) (next_link B b Q) (λ t. key_word t Q) 0 (chain B b P) (shows b) (subst (Shows (next_link B b Q) (λ t. key_word t Q) 0) (sym (chains b)) (shows' b)) y there
+
+  heads : (b : ℕ) → head_word B b P ≡ head_word B b Q
+  heads b = nexts b 0 (on_start 0 (chain B b P))
+
+  slots : (s : ℕ) → has_slot s F ≡ has_slot s G
+  slots s = go (has_slot s F) (has_slot s G) refl refl
+    where
+      go : (p q : Bool) → has_slot s F ≡ p → has_slot s G ≡ q → has_slot s F ≡ has_slot s G
+      go true true is is' = is ∙ sym is'
+      go false false is is' = is ∙ sym is'
+      go true false is is' = let node = slot_node s F is in absurd (false≢true (sym is' ∙ node_slot node.0 s G (in' node.0 s node.1)))
+      go false true is is' = let node = slot_node s G is' in absurd (false≢true (sym is ∙ node_slot node.0 s F (out node.0 s node.1)))
+
+  links : (s : ℕ) → node_next B s P ≡ node_next B s Q
+  links s = elim (cases_Bool (has_slot s F)) [
+    | inl there ↦ let node = slot_node s F there in nexts (bucket_of B node.0) (suc s) (node_stands node.0 s 0 (chain_of B node.0 P) (has_chain B (bucket_of B node.0) node.0 s F refl node.1))
+    | inr none ↦ none_next B s F none ∙ sym (none_next B s G (sym (slots s) ∙ none))
+  ]
+
+  keys : (s : ℕ) → key_word s P ≡ key_word s Q
+  keys s = elim (cases_Bool (has_slot s F)) [
+    | inl there ↦ let node = slot_node s F there in some_key B N node.0 s F found node.1 ∙ sym (some_key B N node.0 s G found' (in' node.0 s node.1))
+    | inr none ↦ none_key B s F none ∙ sym (none_key B s G (sym (slots s) ∙ none))
+  ]
+
+  flags : (s : ℕ) → flags_after s P ≡ flags_after s Q
+  flags s = cc (none_marked B s F, none_marked B s G, added_slots B s F, added_slots B s G, slots s, none_gone B s F, none_gone B s G)
+
+  halted : (H : Chain) → halt_word (opening B H) ≡ 0
+  halted [] = refl
+  halted (f ∷ H) = halted H
+
+  pub same_words_after : words_after N B S P ≡ words_after N B S Q
+  same_words_after = cc (
+    table_same B (λ b. head_word B b Q) (λ b. head_word B b P) heads,
+    table_same N (λ s. link_with (node_next B s Q) (flags_after s Q)) (λ s. link_with (node_next B s P) (flags_after s P)) (λ s. cc (links s, flags s)),
+    table_same N (λ s. key_word s Q) (λ s. key_word s P) keys,
+    halted F,
+    halted G,
+  )

@@ -1,0 +1,125 @@
+-- What an open makes of the members that it found fits, and is what the yard of the text read has.
+use Rattle.std.proofs.Common.{◌≡◌, ℕ, zero, suc, ◌<◌, ◌≤◌, Bool, true, ◌||◌, ◌==◌, List, [], ◌∷◌, length, map, refl, sym, ap, ◌∙◌, subst, arith}
+use Rattle.std.specs.Prelude.{All, Some, replicate, reverse, slice_get, slice_index_or, if◌then◌else◌}
+use Rattle.std.specs.List.{list_any, range_with_len}
+use Rattle.std.proofs.lemmas.List.{length-map, length-replicate, get_or-replicate}
+use Rattle.std.proofs.lemmas.List.FromFn.{length-range_with_len}
+use Rattle.std.proofs.lemmas.List.Sorted.{IsPermutation-reverse, list_any-IsPermutation, All-permutation}
+use Rattle.std.proofs.lemmas.Option.{slice_get_within, get_or_from_slice_get}
+use Rattle.lz_slot.specs.Limits.{most_slots}
+use Rattle.lz_vault.specs.Stages.{Cell}
+use Rattle.lz_vault.specs.Vaults.{Vaulted}
+use Rattle.lz_allot.specs.Uses.{Free, Taken}
+use Rattle.lz_allot.specs.Rows.{first_row}
+use Rattle.lz_allot.specs.Allots.{Allotted, first_uses}
+use Rattle.lz_list.specs.Words.{Words}
+use Rattle.lz_list.specs.Lists.{Listed, IsSorted, new_words, free_locks}
+use Rattle.lz_list.specs.declared.word.Word.TheVariants.{Head, Link, Key}
+use Rattle.lz_list.specs.Traces.{Chain, IsFound, has_slot, word_after, words_after, opening}
+use Rattle.lz_list.proofs.Openings.{opening_lawful}
+use Rattle.lz_list.proofs.Tables.{length-table}
+use Rattle.lz_list.proofs.Traced.{sorted_after}
+use Rattle.lz_machine.specs.declared.actor.Actor.{Actor}
+use Rattle.lz_machine.specs.Yards.{Yard, idle_actor}
+use Rattle.lz_yard.specs.Parts.{Fits, HasInRange}
+use Rattle.lz_yard.specs.Filling.{has_node, AreMembers, AreTables, with_members}
+use Rattle.lz_yard.proofs.Members.{node_first, node_later, are_found}
+use Rattle.lz_yard.proofs.Filled.{filled_words}
+
+-- each entry of a list is a node of it
+node_at : (es : Chain) (i : ℕ) (d : ℕ × ℕ) → i < length es → has_node (slice_index_or es i d).0 (slice_index_or es i d).1 es ≡ true
+node_at [] i d low = absurd (omega (arith, low))
+node_at (f ∷ es) zero d low = node_first f es
+node_at (f ∷ es) (suc i) d low = node_later (slice_index_or es i d).0 (slice_index_or es i d).1 f es (node_at es i d (omega (arith, low)))
+
+slots_at : (es : Chain) (i d : ℕ) → slice_index_or (map (λ (f : ℕ × ℕ). f.1) es) i d ≡ (slice_index_or es i (0, d)).1
+slots_at [] i d = refl
+slots_at (f ∷ es) zero d = refl
+slots_at (f ∷ es) (suc i) d = slots_at es i d
+
+any_slot : (s : ℕ) (es : Chain) → list_any (λ (t : ℕ). t == s) (map (λ (f : ℕ × ℕ). f.1) es) ≡ has_slot s es
+any_slot s [] = refl
+any_slot s (f ∷ es) = ap (λ (b : Bool). (f.1 == s) || b) (any_slot s es)
+
+same_map : {X : Type 0} (f g : ℕ → X) (xs : List ℕ) → ((x : ℕ) → f x ≡ g x) → map f xs ≡ map g xs
+same_map f g [] same = refl
+same_map f g (x ∷ xs) same = cc (same x, same_map f g xs same)
+
+module _ (cells : List Cell) (B S : ℕ) (few : length cells ≤ most_slots) (some : 1 ≤ B) (es : Chain) (are : AreMembers cells (length cells) es) where
+  abbrev N : ℕ
+  N = length cells
+
+  pub found : IsFound N es
+  found = are_found cells N es are.ascend are.each
+
+  pub slots_ranged : (w : Words) → w ≡ new_words N B S → All (λ f. f.1 < length w.links) es
+  slots_ranged w new i d low =
+      let node = are.each (slice_index_or es i d).0 (slice_index_or es i d).1 (node_at es i d low) in
+      let size : length w.links ≡ N = ap (λ (v : Words). length v.links) new ∙ length-replicate N 0 in
+      omega (arith, node.0, size)
+
+  pub words_filled : (w v : Words) → v ≡ new_words N B S → w ≡ with_members es v → w ≡ words_after N B S (opening B es)
+  words_filled w v new is = is ∙ ap (with_members es) new ∙ filled_words N B S few some es found are.ascend
+
+  pub words_sorted : (w v : Words) → v ≡ new_words N B S → w ≡ with_members es v → IsSorted w
+  words_sorted w v new is = subst IsSorted (sym (words_filled w v new is)) (sorted_after N B (opening B es) few (opening_lawful B N es found) (words_after N B S (opening B es)) refl refl refl)
+
+  abbrev slots : List ℕ
+  slots = map (λ f. f.1) es
+
+  slots_low : All (λ s. s < N) slots
+  slots_low i d low =
+      let at : slice_index_or slots i d ≡ (slice_index_or es i (0, d)).1 = slots_at es i d in
+      let size : length slots ≡ length es = length-map es (λ f. f.1) in
+      let node = are.each (slice_index_or es i (0, d)).0 (slice_index_or es i (0, d)).1 (node_at es i (0, d) (omega (arith, low, size))) in
+      omega (arith, at, node.0)
+
+  pub taken_low : (taken : List ℕ) → taken ≡ reverse slots → All (λ s. s < N) taken
+  taken_low taken is = subst (All (λ s. s < N)) (sym is) (All-permutation (λ s. s < N) slots (reverse slots) (IsPermutation-reverse slots) slots_low)
+
+  taken_any : (s : ℕ) → list_any (λ (t : ℕ). t == s) (reverse slots) ≡ has_slot s es
+  taken_any s = sym (list_any-IsPermutation (λ (t : ℕ). t == s) slots (reverse slots) (IsPermutation-reverse slots)) ∙ any_slot s es
+
+  taken_uses : (taken : List ℕ) → taken ≡ reverse slots → first_uses N taken ≡ map (λ s. if has_slot s es then Taken else Free) (range_with_len 0 N)
+  taken_uses taken is =
+      ap (first_uses N) is
+      ∙ same_map (λ s. if list_any (λ (t : ℕ). t == s) (reverse slots) then Taken else Free) (λ s. if has_slot s es then Taken else Free) (range_with_len 0 N) (λ s. ap (λ (b : Bool). if b then Taken else Free) (taken_any s))
+
+  pub tables_are : (w v : Words) (list : Listed) (allot : Allotted) (taken : List ℕ) (actors : List Actor) → v ≡ new_words N B S → w ≡ with_members es v
+      → list ≡ record { words = w; locks = free_locks w } → taken ≡ reverse slots → allot.uses ≡ first_uses N taken → allot.rows ≡ replicate S first_row → actors ≡ replicate S idle_actor
+      → AreTables cells B S list allot actors
+  tables_are w v list allot taken actors new is list_is taken_is uses rows idle = record {
+    members = es;
+    found = are;
+    words = ap (λ (l : Listed). l.words) list_is ∙ words_filled w v new is;
+    locks = ap (λ (l : Listed). l.locks) list_is ∙ ap (λ (l : Listed). free_locks l.words) (sym list_is);
+    uses = uses ∙ taken_uses taken taken_is;
+    rows = ap length rows ∙ length-replicate S first_row;
+    idle = idle;
+  }
+
+-- idle actors have nothing in hand
+idle_hands : (slots S i : ℕ) (actor : Actor) → slice_get (replicate S idle_actor) i ≡ Some actor → HasInRange slots actor
+idle_hands slots S i actor there =
+    let low : i < S = omega (arith, slice_get_within (replicate S idle_actor) i actor there, length-replicate S idle_actor) in
+    let is : idle_actor ≡ actor = sym (get_or-replicate S i idle_actor idle_actor low) ∙ get_or_from_slice_get (replicate S idle_actor) i actor idle_actor there in
+    subst (HasInRange slots) is (record { slot = tt; curr = tt })
+
+module _ (vault : Vaulted) (B S slots : ℕ) (list : Listed) (allot : Allotted) (actors : List Actor) (are : AreTables vault.cells B S list allot actors) (count : slots ≡ length vault.cells) where
+  abbrev pub opened : Yard
+  opened = record { shape = record { slots = slots; buckets = B; passes = S }; words = list.words; locks = list.locks; vault = vault; uses = allot.uses; actors = actors }
+
+  -- the parts of a yard that was opened fit
+  pub opened_fits : vault.syncs ≡ 0 → Fits opened (length allot.rows)
+  opened_fits fresh = record {
+    cells = sym count;
+    heads = ap (λ (w : Words). length w.heads) are.words ∙ length-table B (λ b. word_after B (opening B are.members) (Head b));
+    links = ap (λ (w : Words). length w.links) are.words ∙ length-table (length vault.cells) (λ s. word_after B (opening B are.members) (Link s)) ∙ sym count;
+    keys = ap (λ (w : Words). length w.keys) are.words ∙ length-table (length vault.cells) (λ s. word_after B (opening B are.members) (Key s)) ∙ sym count;
+    pins = ap (λ (w : Words). length w.pins) are.words ∙ length-replicate S 0;
+    uses = ap length are.uses ∙ length-map (range_with_len 0 (length vault.cells)) (λ s. if has_slot s are.members then Taken else Free) ∙ length-range_with_len 0 (length vault.cells) ∙ sym count;
+    rows = are.rows;
+    actors = ap length are.idle ∙ length-replicate S idle_actor;
+    syncs = omega (arith, fresh);
+    hands = λ i actor there. idle_hands slots S i actor (subst (λ (l : List Actor). slice_get l i ≡ Some actor) are.idle there);
+  }

@@ -1,0 +1,283 @@
+-- The yard's parts fit after an event, where they did before it.
+use Rattle.std.proofs.Common.{◌≡◌, ◌≢◌, ◌⊎◌, inl, inr, ℕ, zero, suc, ◌<◌, ◌≤◌, Bool, true, false, List, [], ◌∷◌, length, refl, sym, ap, ◌∙◌, subst, arith, length-set}
+use Rattle.std.specs.Prelude.{Option, Some, None, IfSome, slice_get, slice_set, map, if◌then◌else◌}
+use Rattle.std.proofs.lemmas.Option.{same_Some}
+use Rattle.std.proofs.lemmas.List.{length-map}
+use Rattle.std.proofs.lemmas.List.Quantifiers.{position-Some}
+use Rattle.lz_slot.specs.Counted.{set_of_pass}
+use Rattle.lz_slot.proofs.Counted.{length-set_of_pass}
+use Rattle.lz_disk.specs.Devices.{Device}
+use Rattle.lz_vault.specs.Stages.{Cell, cell_synced}
+use Rattle.lz_vault.specs.Vaults.{DeviceCall, NoCall, WriteAt, SyncAll, cells_failed, syncs_after, last_sync}
+use Rattle.lz_allot.specs.Uses.{Use, Free, Taken, is_free, collect, collect_at, lowest_free, see_pin_at}
+use Rattle.lz_list.specs.declared.place.Place.{Place}
+use Rattle.lz_list.specs.declared.place.Place.TheVariants.{Bucket, Node}
+use Rattle.lz_list.specs.declared.word.Word.{Word}
+use Rattle.lz_list.specs.declared.word.Word.TheVariants.{Head, Link as link_at, Key as key_at, Pin as pin_at, Halt as halt_word}
+use Rattle.lz_list.specs.Words.{Words, set, redirect, change_flags}
+use Rattle.lz_list.specs.Lists.{IsCurr}
+use Rattle.lz_list.specs.Locks.{is_pair_free}
+use Rattle.lz_flush.specs.Settling.{settle}
+use Rattle.lz_machine.specs.declared.event.Event.{Event}
+use Rattle.lz_machine.specs.declared.event.Event.TheVariants.{Invoke, Pin, Hop, Reserve, WriteKey, Claim, Check, WriteOpen, Link, WriteClose, Mark, Release, Sync, Settle, Unlink, Retire, SeePin, Answer, Halt}
+use Rattle.lz_machine.specs.declared.event.Outcome.{Outcome}
+use Rattle.lz_machine.specs.declared.event.Outcome.TheVariants.{Done, Value, Slot, NoSlot, Taken as WasTaken, Busy, True, False, Early, Worn, NotNow, Fault, Dead}
+use Rattle.lz_machine.specs.declared.course.Course.{Course}
+use Rattle.lz_machine.specs.declared.course.Course.TheVariants.{Refused, Dies, Plays}
+use Rattle.lz_machine.specs.declared.actor.Hold.{Hold}
+use Rattle.lz_machine.specs.declared.actor.Hold.TheVariants.{Locks}
+use Rattle.lz_machine.specs.declared.actor.Actor.{Actor}
+use Rattle.lz_machine.specs.Yards.{Yard, actor_at, cell_at}
+use Rattle.lz_machine.specs.Table.{course, call_of, cells_after, words_after, uses_after, actors_after, given_back, reserved, kept_slot, is_unused, is_sure, is_spent, line_on, line_failed, with_hold, with_slot, yard_done}
+use Rattle.lz_yard.specs.Steps.{Played}
+use Rattle.lz_machine.specs.Ready.{IsEventOf}
+use Rattle.lz_machine.specs.Runs.{with_words}
+use Rattle.lz_yard.specs.Parts.{Fits, HasInRange}
+use Rattle.lz_yard.proofs.Fitting.{hand_fits}
+use Rattle.lz_yard.proofs.Called.{sync_left, sync_more}
+use Rattle.lz_machine.proofs.Shapes.{line_keeps_shape}
+
+-- tables of words of the same lengths
+record SameSizes (old new : Words) : Type 0 where
+  heads : length new.heads ≡ length old.heads
+  links : length new.links ≡ length old.links
+  keys : length new.keys ≡ length old.keys
+  pins : length new.pins ≡ length old.pins
+
+same_sizes : (w : Words) → SameSizes w w
+same_sizes w = record { heads = refl; links = refl; keys = refl; pins = refl }
+
+set_sizes : (w : Words) (word : Word) (x : ℕ) → SameSizes w (set w word x)
+set_sizes w (Head b) x = record { heads = length-set w.heads b x; links = refl; keys = refl; pins = refl }
+set_sizes w (link_at s) x = record { heads = refl; links = length-set w.links s x; keys = refl; pins = refl }
+set_sizes w (key_at s) x = record { heads = refl; links = refl; keys = length-set w.keys s x; pins = refl }
+set_sizes w (pin_at p) x = record { heads = refl; links = refl; keys = refl; pins = length-set_of_pass w.pins p x }
+set_sizes w halt_word x = record { heads = refl; links = refl; keys = refl; pins = refl }
+
+redirect_sizes : (w : Words) (place : Place) (next : ℕ) → SameSizes w (redirect w place next)
+redirect_sizes w (Bucket b) next = record { heads = length-set w.heads b _; links = refl; keys = refl; pins = refl }
+redirect_sizes w (Node s) next = record { heads = refl; links = length-set w.links s _; keys = refl; pins = refl }
+
+if_sizes : (b : Bool) (w v : Words) → SameSizes w v → SameSizes w (if b then v else w)
+if_sizes true w v same = same
+if_sizes false w v same = same_sizes w
+
+words_sizes : (y : Yard) (actor : Actor) (a : ℕ) (e : Event) → SameSizes y.words (words_after y actor a e)
+words_sizes y actor a Pin = set_sizes y.words (pin_at a) _
+words_sizes y actor a (WriteKey k) = set_sizes y.words (key_at _) k
+words_sizes y actor a WriteOpen = set_sizes y.words (link_at _) _
+words_sizes y actor a Link = redirect_sizes y.words actor.pred _
+words_sizes y actor a Mark = set_sizes y.words (link_at _) _
+words_sizes y actor a (Settle s) = if_sizes (is_sure y s) y.words (change_flags (settle (cell_at y s).stage) y.words s) (set_sizes y.words (link_at s) _)
+words_sizes y actor a Unlink = redirect_sizes y.words actor.pred _
+words_sizes y actor a Answer = set_sizes y.words (pin_at a) _
+words_sizes y actor a Halt = set_sizes y.words halt_word 1
+words_sizes y actor a _ = same_sizes y.words
+
+synced_size : (b : Bool) (cells : List Cell) → length (if b then cells else map cell_synced cells) ≡ length cells
+synced_size true cells = refl
+synced_size false cells = length-map cells cell_synced
+
+cells_size : (y : Yard) (actor : Actor) (e : Event) → length (cells_after y actor e) ≡ length y.vault.cells
+cells_size y actor (WriteKey k) = length-set y.vault.cells _ _
+cells_size y actor WriteOpen = length-set y.vault.cells _ _
+cells_size y actor WriteClose = length-set y.vault.cells _ _
+cells_size y actor (Sync s) = synced_size (is_sure y s) y.vault.cells
+cells_size y actor _ = refl
+
+failed_size : (call : DeviceCall) (old new : List Cell) → length new ≡ length old → length (cells_failed call old new) ≡ length old
+failed_size NoCall old new same = same
+failed_size (WriteAt at bytes) old new same = same
+failed_size SyncAll old new same = refl
+
+reserved_size : (uses : List Use) (found : Option ℕ) → length (reserved uses found) ≡ length uses
+reserved_size uses None = refl
+reserved_size uses (Some s) = length-set uses s _
+
+back_size : (y : Yard) (slot : Option ℕ) → length (given_back y slot) ≡ length y.uses
+back_size y None = refl
+back_size y (Some s) = go (is_unused (cell_at y s).stage)
+  where
+    go : (b : Bool) → length (if b then slice_set y.uses s Free else y.uses) ≡ length y.uses
+    go true = length-set y.uses s Free
+    go false = refl
+
+uses_size : (y : Yard) (actor : Actor) (a : ℕ) (e : Event) → length (uses_after y actor a e) ≡ length y.uses
+uses_size y actor a Reserve = reserved_size (collect y.uses) (lowest_free (collect y.uses)) ∙ length-map y.uses collect_at
+uses_size y actor a Retire = length-set y.uses _ _
+uses_size y actor a (SeePin p value) = length-map y.uses (see_pin_at p value)
+uses_size y actor a Answer = length-map (given_back y actor.slot) (see_pin_at a _) ∙ back_size y actor.slot
+uses_size y actor a _ = refl
+
+-- what actors have in hand, where one of them has other things
+abbrev Hands : ℕ → List Actor → Type 0
+Hands slots actors = (i : ℕ) (actor : Actor) → slice_get actors i ≡ Some actor → HasInRange slots actor
+
+set_hands : (slots : ℕ) (actors : List Actor) (j : ℕ) (x : Actor) → Hands slots actors → HasInRange slots x → Hands slots (slice_set actors j x)
+set_hands slots [] j x all mine i actor there = absurd (cc)
+set_hands slots (h ∷ actors) zero x all mine zero actor there = subst (HasInRange slots) (same_Some x actor there) mine
+set_hands slots (h ∷ actors) zero x all mine (suc i) actor there = all (suc i) actor there
+set_hands slots (h ∷ actors) (suc j) x all mine zero actor there = all zero actor there
+set_hands slots (h ∷ actors) (suc j) x all mine (suc i) actor there = set_hands slots actors j x (λ n. all (suc n)) mine i actor there
+
+pass_hands : (slots : ℕ) (actors : List Actor) (a : ℕ) (x : Actor) → Hands slots actors → HasInRange slots x → Hands slots (set_of_pass actors a x)
+pass_hands slots actors zero x all mine = all
+pass_hands slots actors (suc j) x all mine = set_hands slots actors j x all mine
+
+-- as many actors, with slots in hand
+record AreHands (slots : ℕ) (old new : List Actor) : Type 0 where
+  count : length new ≡ length old
+  hands : Hands slots new
+
+module _ (y : Yard) (known : ℕ) (fits : Fits y known) (a : ℕ) (low : 1 ≤ a) (high : a ≤ length y.actors) where
+  abbrev N : ℕ
+  N = y.shape.slots
+
+  abbrev mine : Actor
+  mine = actor_at y a
+
+  in_range : HasInRange N mine
+  in_range = hand_fits y known fits a low high
+
+  abbrev IsKept : List Actor → Type 0
+  IsKept actors = AreHands N y.actors actors
+
+  unchanged : IsKept y.actors
+  unchanged = record { count = refl; hands = fits.hands }
+
+  has : (x : Actor) → HasInRange N x → IsKept (set_of_pass y.actors a x)
+  has x range = record { count = length-set_of_pass y.actors a x; hands = pass_hands N y.actors a x fits.hands range }
+
+  holds : (hold : Hold) → IsKept (set_of_pass y.actors a (with_hold mine hold))
+  holds hold = has (with_hold mine hold) (record { slot = in_range.slot; curr = in_range.curr })
+
+  found_range : (found : Option ℕ) → lowest_free (collect y.uses) ≡ found → IfSome found (λ s. s < N)
+  found_range None is = tt
+  found_range (Some s) is = omega (arith, (position-Some is_free (collect y.uses) s Taken is).0, length-map y.uses collect_at, fits.uses)
+
+  kept_range : (slot : Option ℕ) → IfSome slot (λ s. s < N) → IfSome (kept_slot y slot) (λ s. s < N)
+  kept_range None range = tt
+  kept_range (Some s) range = go (is_unused (cell_at y s).stage)
+    where
+      go : (b : Bool) → IfSome (if b then None else Some s) (λ t. t < N)
+      go true = tt
+      go false = range
+
+  curr_range : (curr : Option ℕ) → IsCurr y.words curr → IfSome curr (λ s. s < N)
+  curr_range None is = tt
+  curr_range (Some s) is = omega (arith, is, fits.links)
+
+  claimed : (b : Bool) (pred : Place) (curr : Option ℕ) → IsCurr y.words curr
+      → IsKept (if b then set_of_pass y.actors a (record { slot = mine.slot; hold = Locks; pred = pred; curr = curr }) else y.actors)
+  claimed true pred curr is = has (record { slot = mine.slot; hold = Locks; pred = pred; curr = curr }) (record { slot = in_range.slot; curr = curr_range curr is })
+  claimed false pred curr is = unchanged
+
+  actors_kept : (e : Event) → IsEventOf y e → IsKept (actors_after y mine a e)
+  actors_kept Reserve is = has (with_slot mine (lowest_free (collect y.uses))) (record { slot = found_range (lowest_free (collect y.uses)) refl; curr = in_range.curr })
+  actors_kept (Claim pred curr) is = claimed (is_pair_free y.locks pred curr) pred curr is.1
+  actors_kept Check is = holds _
+  actors_kept WriteOpen is = holds _
+  actors_kept Link is = has _ (record { slot = tt; curr = in_range.curr })
+  actors_kept WriteClose is = holds _
+  actors_kept Mark is = holds _
+  actors_kept Release is = holds _
+  actors_kept Unlink is = holds _
+  actors_kept Retire is = holds _
+  actors_kept Answer is = has (with_slot mine (kept_slot y mine.slot)) (record { slot = kept_range mine.slot in_range.slot; curr = in_range.curr })
+  actors_kept _ is = unchanged
+
+  syncs_after_sync : (sure : Bool) → (sure ≡ false → is_spent y ≡ false) → syncs_after (if sure then NoCall else SyncAll) y.vault.syncs ≤ last_sync
+  syncs_after_sync true left = fits.syncs
+  syncs_after_sync false left = sync_more y.vault.syncs fits.syncs (left refl)
+
+  syncs_kept : (e : Event) → course y a e ≡ Plays → syncs_after (call_of y mine e) y.vault.syncs ≤ last_sync
+  syncs_kept (Sync s) plays = syncs_after_sync (is_sure y s) (sync_left y a s plays)
+  syncs_kept _ plays = fits.syncs
+
+  -- of an event that is done, of each course, and of a device failure
+  done_fits : (e : Event) → IsEventOf y e → course y a e ≡ Plays → Fits (yard_done y mine a e) known
+  done_fits e is plays =
+      let words = words_sizes y mine a e in
+      let actors = actors_kept e is in
+      record {
+        cells = cells_size y mine e ∙ fits.cells;
+        heads = words.heads ∙ fits.heads;
+        links = words.links ∙ fits.links;
+        keys = words.keys ∙ fits.keys;
+        pins = words.pins ∙ fits.pins;
+        uses = uses_size y mine a e ∙ fits.uses;
+        rows = fits.rows;
+        actors = actors.count ∙ fits.actors;
+        syncs = syncs_kept e plays;
+        hands = actors.hands;
+      }
+
+  line_fits : (c : Course) (e : Event) → IsEventOf y e → course y a e ≡ c → Fits (line_on c y mine a e).0 known
+  line_fits (Refused outcome) e is course_is = fits
+  line_fits Dies e is course_is = record { cells = fits.cells; heads = fits.heads; links = fits.links; keys = fits.keys; pins = fits.pins; uses = fits.uses; rows = fits.rows; actors = fits.actors; syncs = fits.syncs; hands = fits.hands }
+  line_fits Plays e is course_is = done_fits e is course_is
+
+  failed_fits : (e : Event) → Fits (line_failed y a e).0 known
+  failed_fits e = record {
+    cells = failed_size (call_of y mine e) y.vault.cells (cells_after y mine e) (cells_size y mine e) ∙ fits.cells;
+    heads = fits.heads;
+    links = fits.links;
+    keys = fits.keys;
+    pins = fits.pins;
+    uses = fits.uses;
+    rows = fits.rows;
+    actors = fits.actors;
+    syncs = fits.syncs;
+    hands = fits.hands;
+  }
+
+-- an outcome is a fault, or it isn't
+pub fault_or_not : (o : Outcome) → (o ≡ Fault) ⊎ (o ≢ Fault)
+fault_or_not Done = inr (λ h. cc)
+fault_or_not (Value value) = inr (λ h. cc)
+fault_or_not (Slot s) = inr (λ h. cc)
+fault_or_not (NoSlot counts) = inr (λ h. cc)
+fault_or_not WasTaken = inr (λ h. cc)
+fault_or_not Busy = inr (λ h. cc)
+fault_or_not True = inr (λ h. cc)
+fault_or_not False = inr (λ h. cc)
+fault_or_not Early = inr (λ h. cc)
+fault_or_not Worn = inr (λ h. cc)
+fault_or_not NotNow = inr (λ h. cc)
+fault_or_not Fault = inl refl
+fault_or_not Dead = inr (λ h. cc)
+
+-- the parts fit after a step
+pub played_fits : (y : Yard) (known : ℕ) (a : ℕ) (e : Event) (outcome : Outcome) (new : Yard) (rows : ℕ) (changed : Option Word) (before after : Device)
+    → Fits y known → (1 ≤ a) × (a ≤ y.shape.passes) → IsEventOf y e → Played y a e outcome new changed before after → rows ≡ known → Fits new rows
+played_fits y known a e outcome new rows changed before after fits actor is played same =
+    let high : a ≤ length y.actors = omega (arith, actor.1, fits.actors) in
+    subst (λ (n : ℕ). Fits new n) (sym same) (elim (fault_or_not outcome) [
+      | inl fault ↦ subst (λ (q : Yard). Fits q known) (sym (played.failed fault).yard) (failed_fits y known fits a actor.0 high e)
+      | inr other ↦ subst (λ (q : Yard). Fits q known) (sym (played.done other).yard) (line_fits y known fits a actor.0 high (course y a e) e is refl)
+    ])
+
+-- the shape stays
+pub played_shape : (y : Yard) (a : ℕ) (e : Event) (outcome : Outcome) (new : Yard) (changed : Option Word) (before after : Device)
+    → Played y a e outcome new changed before after → new.shape ≡ y.shape
+played_shape y a e outcome new changed before after played = elim (fault_or_not outcome) [
+  | inl fault ↦ ap (λ (q : Yard). q.shape) (played.failed fault).yard
+  | inr other ↦ ap (λ (q : Yard). q.shape) (played.done other).yard ∙ line_keeps_shape (course y a e) y (actor_at y a) a e
+]
+
+-- the parts fit after a word was set
+pub set_fits : (y : Yard) (known : ℕ) (word : Word) (x : ℕ) (new : Yard) (rows : ℕ) → Fits y known → new ≡ with_words y (set y.words word x) → rows ≡ known → Fits new rows
+set_fits y known word x new rows fits is same =
+    let words = set_sizes y.words word x in
+    subst (λ (n : ℕ). Fits new n) (sym same) (subst (λ (q : Yard). Fits q known) (sym is) (record {
+      cells = fits.cells;
+      heads = words.heads ∙ fits.heads;
+      links = words.links ∙ fits.links;
+      keys = words.keys ∙ fits.keys;
+      pins = words.pins ∙ fits.pins;
+      uses = fits.uses;
+      rows = fits.rows;
+      actors = fits.actors;
+      syncs = fits.syncs;
+      hands = fits.hands;
+    }))

@@ -1,0 +1,10 @@
+pub mod FoundSlots
+pub mod Lines
+pub mod Members
+pub mod Filled
+pub mod Arranged
+pub mod Founding
+pub mod Opened
+pub mod Fitting
+pub mod Called
+pub mod Keeping

@@ -1,0 +1,271 @@
+-- A yard that was opened over an honest device is that of the text read.
+use Rattle.std.proofs.Common.{◌≡◌, ◌≢◌, ◌≤◌, ◌*◌, take, ◌⊎◌, inl, inr, ⊎_elim, ℕ, zero, suc, ◌+◌, ◌<◌, Bool, true, false, ◌&&◌, ◌||◌, ◌==◌, List, [], ◌∷◌, ◌++◌, length, map, refl, sym, ap, ◌∙◌, subst, arith, IsTrue}
+use mathlib.Core.Bool.{false≢true}
+use Rattle.std.specs.Prelude.{slice_get, Some, replicate, slice_index_or, if◌then◌else◌}
+use Rattle.std.specs.List.{range_with_len}
+use Rattle.std.proofs.lemmas.List.{length-map, get_or-map, get_or_append_left, get_or_push, ext_get_or}
+use Rattle.std.proofs.lemmas.List.FromFn.{length-range_with_len, get_or-range_with_len}
+use Rattle.std.proofs.lemmas.Option.{same_Some, slice_get-get_or}
+use Rattle.std.proofs.lemmas.Bool.{cases_eq, cases_Bool}
+use Rattle.std.proofs.lemmas.Bool.Decides.{nat_tests}
+use Rattle.lz_slot.specs.declared.slot.SlotRead.{SlotRead}
+use Rattle.lz_slot.specs.declared.slot.SlotRead.TheVariants.{Closed as Closed_read, Member as Member_read, BadKey as BadKey_read}
+use Rattle.lz_slot.specs.Limits.{largest_key, most_slots}
+use Rattle.lz_slot.specs.Sets.{members}
+use Rattle.lz_slot.specs.Bytes.{Holds, open_byte, header_body, slot_at, held, held_key}
+use Rattle.lz_disk.specs.Images.{AreBytes}
+use Rattle.lz_vault.specs.declared.vault.Stage.TheVariants.{Closed, Open}
+use Rattle.lz_vault.specs.Stages.{Cell, AreSteady}
+use Rattle.lz_vault.specs.Vaults.{Vaulted}
+use Rattle.lz_disk.specs.Devices.{Device}
+use Rattle.lz_vault.specs.declared.opening.OpenFault.{OpenFault}
+use Rattle.lz_vault.specs.declared.opening.OpenFault.TheVariants.{Memory, Device as DeviceFailed}
+use Rattle.lz_vault.specs.Opens.{IsCellOf, AreFound, AreBlank, IsFaultOf, IsRefusedFor, Opens}
+use Rattle.lz_allot.specs.Uses.{Use, Free, Taken}
+use Rattle.lz_allot.specs.Allots.{Allotted}
+use Rattle.lz_list.specs.Words.{Words}
+use Rattle.lz_list.specs.Locks.{NodeLocks}
+use Rattle.lz_list.specs.Lists.{Listed}
+use Rattle.lz_list.specs.declared.word.Word.TheVariants.{Head, Link}
+use Rattle.lz_list.specs.Traces.{Chain, IsFound, has_key, has_slot, word_after, words_after, opening}
+use Rattle.lz_list.proofs.Tables.{length-table}
+use Rattle.lz_machine.specs.declared.actor.Actor.{Actor}
+use Rattle.lz_machine.specs.Yards.{Yard, Shape, no_cell, cell_read, use_read, slots_read, opened_yard}
+use Rattle.lz_yard.specs.Filling.{member_in, member_at, has_node, AreDistinct, AreTables, HasNoTables}
+use Rattle.lz_machine.specs.Runs.{IsStart, by_key, keys_found}
+use Rattle.lz_machine.proofs.Texts.{text_of, text_size, text_head, text_says, text_bytes}
+use Rattle.lz_machine.proofs.FirstNodes.{has_node as node_in, node_has_key, node_held, held_found, key_held}
+use Rattle.lz_yard.proofs.Members.{node_cases, node_slot, slot_node, are_found, are_distinct}
+use Rattle.lz_yard.proofs.Arranged.{Within, same_words_after}
+use Rattle.lz_yard.proofs.Founding.{opened}
+use Rattle.lz_yard.proofs.FoundSlots.{read_length, any_key, key_by}
+
+same_node : (k s : ℕ) (c : Chain) → node_in k s c ≡ has_node k s c
+same_node k s [] = refl
+same_node k s (f ∷ c) = ap (λ (b : Bool). ((f.0 == k) && (f.1 == s)) || b) (same_node k s c)
+
+append_cases : (k s : ℕ) (c d : Chain) → has_node k s (c ++ d) ≡ true → (has_node k s c ≡ true) ⊎ (has_node k s d ≡ true)
+append_cases k s [] d there = inr there
+append_cases k s (f ∷ c) d there = elim (node_cases k s f (c ++ d) there) [
+  | inl first ↦ inl (grind (arith, nat_tests, first.0, first.1))
+  | inr later ↦ elim (append_cases k s c d later) [
+    | inl left ↦ inl (grind (arith, left))
+    | inr right ↦ inr right
+  ]
+]
+
+-- what is said of a slot, and its cell
+cell_same : (r : SlotRead) (cell : Cell) → IsCellOf r cell → (cell.stage ≡ Closed → cell.key ≡ 0) → cell ≡ cell_read r
+cell_same Closed_read cell is blank =
+    ap (λ s. record { stage = s; key = cell.key }) is ∙ ap (λ (k : ℕ). record { stage = Closed; key = k }) (blank is)
+cell_same (Member_read k) cell is blank =
+    ap (λ s. record { stage = s; key = cell.key }) is.0 ∙ ap (λ (k : ℕ). record { stage = Open; key = k }) is.1
+cell_same BadKey_read cell is blank = absurd is
+
+member_says : (r : SlotRead) (k : ℕ) → member_in (cell_read r) ≡ Some k → r ≡ Member_read k
+member_says Closed_read k is = absurd cc
+member_says (Member_read j) k is = ap (λ (n : ℕ). Member_read n) (same_Some j k is)
+member_says BadKey_read k is = absurd cc
+
+module _ (t : List ℕ) where
+  read_at : (n i : ℕ) (d : SlotRead) → i < n → slice_index_or (slots_read t n) i d ≡ slot_at t i
+  read_at zero i d low = absurd (omega (arith, low))
+  read_at (suc n) i d low = elim (cases_eq i n) [
+    | inl last ↦ get_or_push (slots_read t n) (slot_at t n) d i (omega (arith, last, read_length t n)) ∙ ap (slot_at t) (sym last)
+    | inr other ↦
+        let before : i < n = omega (arith, low, other) in
+        get_or_append_left (slots_read t n) (slot_at t n ∷ []) d i (omega (arith, before, read_length t n)) ∙ read_at n i d before
+  ]
+
+  held_read : (n k s : ℕ) (r : SlotRead) → slot_at t n ≡ r → has_node k s (held_key r n) ≡ true → (s ≡ n) × (slot_at t s ≡ Member_read k)
+  held_read n k s (Member_read j) at there = elim (node_cases k s (j, n) [] there) [
+    | inl first ↦ (sym first.1, ap (slot_at t) (sym first.1) ∙ at ∙ ap (λ (q : ℕ). Member_read q) first.0)
+    | inr later ↦ absurd (false≢true later)
+  ]
+  held_read n k s Closed_read at there = absurd (false≢true there)
+  held_read n k s BadKey_read at there = absurd (false≢true there)
+
+  held_node : (n k s : ℕ) → has_node k s (held t n) ≡ true → (s < n) × (slot_at t s ≡ Member_read k)
+  held_node zero k s there = absurd (false≢true there)
+  held_node (suc n) k s there = elim (append_cases k s (held t n) (held_key (slot_at t n) n) there) [
+    | inl before ↦ let was = held_node n k s before in (omega (arith, was.0), was.1)
+    | inr last ↦ let is = held_read n k s (slot_at t n) refl last in (omega (arith, is.0), is.1)
+  ]
+
+  -- where the text holds a set, the cells that say the same of each slot are distinct
+  pub found_distinct : (cells : List Cell) → AreFound t cells → AreBlank cells → AreDistinct cells
+  found_distinct cells told blank i j k low low' one two = told.held.no_key_twice i j k low low' (says i low one) (says j low' two)
+    where
+      says : (n : ℕ) → n < length cells → member_at cells n ≡ Some k → slot_at t n ≡ Member_read k
+      says n low is =
+          let there = slice_get-get_or cells n no_cell low in
+          let same = cell_same (slot_at t n) (slice_index_or cells n no_cell) (told.each n (slice_index_or cells n no_cell) there) (blank n (slice_index_or cells n no_cell) there) in
+          member_says (slot_at t n) k (ap member_in (sym same) ∙ is)
+
+  module _ (vault : Vaulted) (B S : ℕ) (list : Listed) (allot : Allotted) (actors : List Actor) (are : AreTables vault.cells B S list allot actors)
+      (fresh : (vault.syncs ≡ 0) × (vault.dead ≡ false)) (each : (i : ℕ) (cell : Cell) → slice_get vault.cells i ≡ Some cell → IsCellOf (slot_at t i) cell) (blank : AreBlank vault.cells) where
+    abbrev cells : List Cell
+    cells = vault.cells
+
+    abbrev N : ℕ
+    N = length vault.cells
+
+    abbrev es : Chain
+    es = are.members
+
+    cell_is : (i : ℕ) → i < N → slice_index_or cells i no_cell ≡ cell_read (slot_at t i)
+    cell_is i low =
+        let there = slice_get-get_or cells i no_cell low in
+        cell_same (slot_at t i) (slice_index_or cells i no_cell) (each i (slice_index_or cells i no_cell) there) (blank i (slice_index_or cells i no_cell) there)
+
+    cells_are : cells ≡ map cell_read (slots_read t N)
+    cells_are = ext_get_or no_cell cells (map cell_read (slots_read t N)) (sym (length-map (slots_read t N) cell_read ∙ read_length t N))
+        (λ i low. cell_is i low ∙ sym (get_or-map cell_read (slots_read t N) i Closed_read no_cell (omega (arith, low, read_length t N)) ∙ ap cell_read (read_at N i Closed_read low)))
+
+    member_is : (i k : ℕ) → i < N → member_at cells i ≡ Some k → slot_at t i ≡ Member_read k
+    member_is i k low is = member_says (slot_at t i) k (ap member_in (sym (cell_is i low)) ∙ is)
+
+    is_member : (i k : ℕ) → i < N → slot_at t i ≡ Member_read k → member_at cells i ≡ Some k
+    is_member i k low is = ap member_in (cell_is i low ∙ ap cell_read is)
+
+    pub no_key_twice : (i j k : ℕ) → i < N → j < N → slot_at t i ≡ Member_read k → slot_at t j ≡ Member_read k → i ≡ j
+    no_key_twice i j k low low' one two = are_distinct cells es are.found i j k low low' (is_member i k low one) (is_member j k low' two)
+
+    within : Within (held t N) es
+    within k s there = let node = held_node N k s there in are.found.all k s node.0 (is_member s k node.0 node.1)
+
+    without : Within es (held t N)
+    without k s there =
+        let node = are.found.each k s there in
+        sym (same_node k s (held t N)) ∙ node_held t N k s node.0 (member_is s k node.0 node.1)
+
+    found : IsFound N es
+    found = are_found cells N es are.found.ascend are.found.each
+
+    words_are : list.words ≡ words_after N B S (opening B (held t N))
+    words_are = are.words ∙ same_words_after N B S es (held t N) found (held_found t N N no_key_twice (omega arith)) without within
+
+    locks_are : list.locks ≡ record { heads = replicate B 0; nodes = replicate N 0 }
+    locks_are =
+        are.locks
+        ∙ ap (λ (w : Words). record { heads = replicate (length w.heads) 0; nodes = replicate (length w.links) 0 }) are.words
+        ∙ ap (λ (n : ℕ). record { heads = replicate n 0; nodes = replicate (length (words_after N B S (opening B es)).links) 0 }) (length-table B (λ b. word_after B (opening B es) (Head b)))
+        ∙ ap (λ (n : ℕ). record { heads = replicate B 0; nodes = replicate n 0 }) (length-table N (λ s. word_after B (opening B es) (Link s)))
+
+    vault_is : vault ≡ record { cells = map cell_read (slots_read t N); syncs = 0; dead = false }
+    vault_is =
+        ap (λ (c : List Cell). record { cells = c; syncs = vault.syncs; dead = vault.dead }) cells_are
+        ∙ ap (λ (n : ℕ). record { cells = map cell_read (slots_read t N); syncs = n; dead = vault.dead }) fresh.0
+        ∙ ap (λ (d : Bool). record { cells = map cell_read (slots_read t N); syncs = 0; dead = d }) fresh.1
+
+    use_same : (i : ℕ) → i < N → (b : Bool) → has_slot i es ≡ b → (r : SlotRead) → slot_at t i ≡ r → (if b then Taken else Free) ≡ use_read r
+    use_same i low true has r is =
+        let node = slot_node i es has in
+        let says = member_is i node.0 low (are.found.each node.0 i node.1).1 in
+        ap use_read (sym says ∙ is)
+    use_same i low false has r is = free r is
+      where
+        free : (r : SlotRead) → slot_at t i ≡ r → Free ≡ use_read r
+        free (Member_read k) is = absurd (false≢true (sym has ∙ node_slot k i es (are.found.all k i low (is_member i k low is))))
+        free Closed_read is = refl
+        free BadKey_read is = refl
+
+    uses_are : allot.uses ≡ map use_read (slots_read t N)
+    uses_are = are.uses ∙ ext_get_or Taken (map use_of (range_with_len 0 N)) (map use_read (slots_read t N))
+        (length-map (range_with_len 0 N) use_of ∙ length-range_with_len 0 N ∙ sym (length-map (slots_read t N) use_read ∙ read_length t N)) same
+      where
+        use_of : ℕ → Use
+        use_of s = if has_slot s es then Taken else Free
+
+        same : (i : ℕ) → i < length (map use_of (range_with_len 0 N)) → slice_index_or (map use_of (range_with_len 0 N)) i Taken ≡ slice_index_or (map use_read (slots_read t N)) i Taken
+        same i in_it =
+            let low : i < N = omega (arith, in_it, length-map (range_with_len 0 N) use_of, length-range_with_len 0 N) in
+            let plus : 0 + i ≡ i = omega arith in
+            get_or-map use_of (range_with_len 0 N) i 0 Taken (omega (arith, low, length-range_with_len 0 N)) ∙ ap use_of (get_or-range_with_len 0 N i 0 low ∙ plus)
+            ∙ use_same i low (has_slot i es) refl (slot_at t i) refl
+            ∙ sym (get_or-map use_read (slots_read t N) i Closed_read Taken (omega (arith, low, read_length t N)) ∙ ap use_read (read_at N i Closed_read low))
+
+    same_yard : (shape : Shape) (w w' : Words) (l l' : NodeLocks) (v v' : Vaulted) (u u' : List Use) (a a' : List Actor) → w ≡ w' → l ≡ l' → v ≡ v' → u ≡ u' → a ≡ a'
+        → ◌≡◌ {A = Yard} (record { shape = shape; words = w; locks = l; vault = v; uses = u; actors = a }) (record { shape = shape; words = w'; locks = l'; vault = v'; uses = u'; actors = a' })
+    same_yard shape w w' l l' v v' u u' a a' one two three four five = cc (one, two, three, four, five)
+
+    yard_at : opened vault B S N list allot actors are refl ≡ opened_yard (record { slots = N; buckets = B; passes = S }) t
+    yard_at = same_yard (record { slots = N; buckets = B; passes = S }) list.words _ list.locks _ vault _ allot.uses _ actors _ words_are locks_are vault_is uses_are are.idle
+
+    pub yard_is : (slots : ℕ) (count : slots ≡ N) → opened vault B S slots list allot actors are count ≡ opened_yard (record { slots = slots; buckets = B; passes = S }) t
+    yard_is slots count =
+        subst (λ (n : ℕ). ◌≡◌ {A = Yard} (record { shape = record { slots = n; buckets = B; passes = S }; words = list.words; locks = list.locks; vault = vault; uses = allot.uses; actors = actors }) (opened_yard (record { slots = n; buckets = B; passes = S }) t))
+        (sym count) yard_at
+
+-- an open whose members have no tables is refused for that
+pub refused_for : (before after : Device) (memory : Vaulted) (fault : OpenFault) → Opens before after memory → HasNoTables memory.cells fault → IsRefusedFor before after fault
+refused_for before after memory fault opens none = record {
+  honest = opens.honest;
+  medium = λ honest. inr (opens.medium honest);
+  time = opens.time;
+  faults = opens.faults;
+  why = λ honest. ⊎_elim
+      (λ is. subst (IsFaultOf before.medium.seen) (sym is) tt)
+      (λ twice. absurd (twice.1 (found_distinct before.medium.seen memory.cells (opens.found honest) opens.blank)))
+      none;
+  cause = λ device. ⊎_elim (λ is. absurd (apart (sym is ∙ device))) (λ twice. absurd (twice.0 device)) none;
+}
+  where
+    apart : Memory ≡ DeviceFailed → ⊥
+    apart h = absurd cc
+
+-- a text that says what distinct cells do holds the set that is listed of it
+pub holds_listed : (t : List ℕ) (N : ℕ) → 1 ≤ N → N ≤ most_slots → length t ≡ 16 + 16 * N → take 16 t ≡ open_byte ∷ header_body N
+    → ((i : ℕ) → i < N → slot_at t i ≢ BadKey_read) → ((i j k : ℕ) → i < N → j < N → slot_at t i ≡ Member_read k → slot_at t j ≡ Member_read k → i ≡ j)
+    → Holds t N (members (keys_found t N))
+holds_listed t N low high size head fine once = record {
+  count = (low, high);
+  size = size;
+  head = head;
+  no_bad_key = fine;
+  no_key_twice = once;
+  set = λ k.
+      let same : members (keys_found t N) k ≡ has_key k (held t N) = any_key k (by_key (held t N)) ∙ key_by k (held t N) in
+      ((λ yes. key_held t N k (sym same ∙ yes)), (λ found. same ∙ node_has_key k found.0 (held t N) (node_held t N k found.0 found.1 found.2)));
+}
+
+-- a text that says what the cells of an open do begins a life
+module _ (vault : Vaulted) (B S : ℕ) (list : Listed) (allot : Allotted) (actors : List Actor) (are : AreTables vault.cells B S list allot actors)
+    (fresh : (vault.syncs ≡ 0) × (vault.dead ≡ false)) (blank : AreBlank vault.cells) (some : (1 ≤ B) × (B ≤ 4096)) (passes : (1 ≤ S) × (S ≤ 64))
+    (count : (1 ≤ length vault.cells) × (length vault.cells ≤ most_slots)) (slots : ℕ) (slots_is : slots ≡ length vault.cells) where
+  abbrev Begins : List ℕ → Type 0
+  Begins t = IsStart (record { shape = record { slots = slots; buckets = B; passes = S }; text = t }) × (opened vault B S slots list allot actors are slots_is ≡ opened_yard (record { slots = slots; buckets = B; passes = S }) t)
+
+  begins : (t : List ℕ) → AreBytes t → length t ≡ 16 + 16 * length vault.cells → take 16 t ≡ open_byte ∷ header_body (length vault.cells)
+      → ((i : ℕ) (cell : Cell) → slice_get vault.cells i ≡ Some cell → IsCellOf (slot_at t i) cell) → Begins t
+  begins t bytes size head each = (
+    record {
+      buckets = some;
+      passes = passes;
+      bytes = bytes;
+      text = subst (λ (n : ℕ). Holds t n (members (keys_found t n))) (sym slots_is) (holds_listed t (length vault.cells) count.0 count.1 size head fine (no_key_twice t vault B S list allot actors are fresh each blank));
+    },
+    yard_is t vault B S list allot actors are fresh each blank slots slots_is,
+  )
+    where
+      bad_cell : (cell : Cell) (r : SlotRead) → r ≡ BadKey_read → IsCellOf r cell → ⊥
+      bad_cell cell r bad is = subst (λ (q : SlotRead). IsCellOf q cell) bad is
+
+      fine : (i : ℕ) → i < length vault.cells → slot_at t i ≢ BadKey_read
+      fine i low bad =
+          let mine : Cell = slice_index_or vault.cells i no_cell in
+          bad_cell mine (slot_at t i) bad (each i mine (slice_get-get_or vault.cells i no_cell low))
+
+  module _ (before : Device) (keys : (i : ℕ) (cell : Cell) → slice_get vault.cells i ≡ Some cell → cell.key ≤ largest_key) (steady : AreSteady vault.cells)
+      (found : IsTrue before.honest → AreFound before.medium.seen vault.cells) (bytes : IsTrue before.honest → AreBytes before.medium.seen) where
+    pub first_yard : (t : List ℕ) × (IsTrue before.honest → t ≡ before.medium.seen) × IsStart (record { shape = record { slots = slots; buckets = B; passes = S }; text = t })
+        × (opened vault B S slots list allot actors are slots_is ≡ opened_yard (record { slots = slots; buckets = B; passes = S }) t)
+    first_yard = elim (cases_Bool before.honest) [
+      | inl honest ↦
+          let told = found honest in
+          let is = begins before.medium.seen (bytes honest) told.held.size told.held.head told.each in
+          (before.medium.seen, (λ yes. refl), is.0, is.1)
+      | inr other ↦
+          let is = begins (text_of vault.cells) (text_bytes vault.cells) (text_size vault.cells) (text_head vault.cells) (text_says vault.cells keys steady) in
+          (text_of vault.cells, (λ yes. absurd (false≢true (sym other ∙ yes))), is.0, is.1)
+    ]

@@ -1,0 +1,13 @@
+use Rattle.std.proofs.Common.{◌≡◌, ◌<◌, ◌++◌, length, map}
+use Rattle.std.specs.Prelude.{All, reverse}
+use Rattle.lz_yard.specs.Filling.{with_members}
+use Rattle.lz_yard.proofs.filling.link_members.Given as goal
+
+abbrev pub invariant-loop-key : goal.invariant-loop-key
+invariant-loop-key l =
+    (with_members l.members.entries l.words ≡ with_members l.fn.found.entries l.fn.words)
+    × All (λ f. f.1 < length l.words.links) l.members.entries
+    × (l.taken.items ++ reverse (map (λ f. f.1) l.members.entries) ≡ reverse (map (λ f. f.1) l.fn.found.entries))
+
+abbrev pub decreases-loop-key : goal.decreases-loop-key
+decreases-loop-key l = length l.members.entries

@@ -1,0 +1,8 @@
+use Rattle.lz_yard.proofs.Called.{write_key_does}
+use Rattle.lz_yard.proofs.parts.Parts.play_write_key.Goals as goal
+
+pub returns-clause-done : goal.returns-clause-done
+returns-clause-done g c =
+    let known = rw (← c.self.view_is) at c.requires.known in
+    let slot = rw (← c.self.view_is) at c.slot-slot.ensures.slot in
+    rw (← c.self.view_is) (write_key_does _ c.args.actor c.args.key c.slot-slot.result c.get.result c.set.new.self c.put_key.new.self.memory _ _ _ known slot c.get.ensures.value c.set.ensures.list c.in_ok-put_key.ensures.call)

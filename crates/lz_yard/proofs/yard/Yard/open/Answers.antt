@@ -1,0 +1,25 @@
+use Rattle.std.proofs.Common.{refl, ap, subst, IsTrue}
+use Rattle.lz_disk.specs.Images.{Medium, AreBytes}
+use Rattle.lz_yard.proofs.Founding.{opened_fits}
+use Rattle.lz_yard.proofs.Opened.{first_yard, refused_for}
+use Rattle.lz_yard.proofs.yard.Yard.open.Goals as goal
+
+pub invariant_of-result : goal.invariant_of-result
+invariant_of-result g c = opened_fits _ _ _ _ _ _ _ c.in-Ok-of.ensures c.slots.ensures.count c.in_ok-vault.ensures.ok.fresh.0
+
+pub returns-in-Err-clause-err : goal.returns-in-Err-clause-err
+returns-in-Err-clause-err g c = rw c.close.ensures (refused_for _ _ _ _ c.in_ok-vault.ensures.ok c.in-Err.ensures.err)
+
+pub returns-in-Ok-of-clause-ok : goal.returns-in-Ok-of-clause-ok
+returns-in-Ok-of-clause-ok g c =
+    let opens = c.in_ok-vault.ensures.ok in
+    let count = c.slots.ensures.count in
+    let bytes = λ (honest : IsTrue (g.D.Disk.device c.args.disk).honest).
+    ap (λ (m : Medium). m.seen) (opens.medium honest) in
+    record {
+      vault = opens;
+      buckets = refl;
+      passes = refl;
+      first = first_yard _ _ _ _ _ _ c.in-Ok-of.ensures opens.fresh opens.blank c.requires.buckets c.requires.passes (rw count at c.slots.ensures.range) _ count (g.D.Disk.device c.args.disk)
+          c.slots.ensures.kept.keys opens.steady opens.found (λ honest. subst AreBytes (bytes honest) (opens.kept honest).sound.seen.bytes);
+    }

@@ -1,0 +1,82 @@
+-- What an open makes of the members that the vault found.
+use Rattle.std.specs.Prelude.{◌≡◌, ◌≢◌, ◌⊎◌, ℕ, suc, ◌<◌, Bool, true, false, ◌&&◌, ◌||◌, ◌==◌, if◌then◌else◌, IsTrue, List, [], ◌∷◌, length, map, replicate, slice_index_or, Option, Some, None}
+use Rattle.std.specs.List.{range_with_len}
+use Rattle.lz_disk.specs.Devices.{Device}
+use Rattle.lz_vault.specs.declared.vault.Stage.TheVariants.{Open}
+use Rattle.lz_vault.specs.Stages.{Cell}
+use Rattle.lz_vault.specs.Opens.{Opens}
+use Rattle.lz_vault.specs.declared.opening.OpenFault.{OpenFault}
+use Rattle.lz_vault.specs.declared.opening.OpenFault.TheVariants.{Memory, Device as DeviceFailed}
+use Rattle.lz_allot.specs.Uses.{Free, Taken}
+use Rattle.lz_allot.specs.Allots.{Allotted}
+use Rattle.lz_list.specs.declared.place.Place.TheVariants.{Bucket}
+use Rattle.lz_list.specs.declared.word.Word.TheVariants.{Head, Link, Key}
+use Rattle.lz_list.specs.Words.{Words, set, link_with, next_at}
+use Rattle.lz_list.specs.Lists.{Listed, free_locks}
+use Rattle.lz_list.specs.Traces.{Chain, bucket_of, has_slot, opening, words_after}
+use Rattle.lz_machine.specs.declared.actor.Actor.{Actor}
+use Rattle.lz_machine.specs.Runs.{IsStart}
+use Rattle.lz_machine.specs.Yards.{Yard, opened_yard, idle_actor, no_cell}
+
+-- the key that a slot holds, where its gate is open
+abbrev pub member_in : Cell → Option ℕ
+member_in cell = elim cell.stage [ Open ↦ Some cell.key | _ ↦ None ]
+
+abbrev pub member_at : List Cell → ℕ → Option ℕ
+member_at cells s = member_in (slice_index_or cells s no_cell)
+
+-- a node of key k in slot s is among these
+abbrev pub has_node : ℕ → ℕ → Chain → Bool
+has_node k s [] = false
+has_node k s (f ∷ found) = ((f.0 == k) && (f.1 == s)) || has_node k s found
+
+-- the keys ascend
+abbrev pub Ascends : Chain → Type 0
+Ascends [] = Unit {0}
+Ascends (f ∷ found) = ((k s : ℕ) → has_node k s found ≡ true → f.0 < k) × Ascends found
+
+-- no two slots hold one key
+abbrev pub AreDistinct : List Cell → Type 0
+AreDistinct cells = (i j k : ℕ) → i < length cells → j < length cells → member_at cells i ≡ Some k → member_at cells j ≡ Some k → i ≡ j
+
+-- These are the members that the first n slots hold, by key.
+pub record AreMembers (cells : List Cell) (n : ℕ) (members : Chain) : Type 0 where
+  pub ascend : Ascends members
+  pub each : (k s : ℕ) → has_node k s members ≡ true → (s < n) × (member_at cells s ≡ Some k)
+  pub all : (k s : ℕ) → s < n → member_at cells s ≡ Some k → has_node k s members ≡ true
+
+-- why no tables are made of these cells: for want of memory, or since two slots hold one key
+abbrev pub HasNoTables : List Cell → OpenFault → Type 0
+HasNoTables cells fault = (fault ≡ Memory) ⊎ ((fault ≢ DeviceFailed) × (AreDistinct cells → ⊥))
+
+-- the words with a node of key k in slot s before all others of its bucket, settled as added
+abbrev pub with_first : Words → ℕ → ℕ → Words
+with_first w k s =
+    set (set (set w (Key s) k) (Link s) (link_with (next_at w (Bucket (bucket_of (length w.heads) k))) (record { mark = false; add_settled = true; remove_settled = false })))
+    (Head (bucket_of (length w.heads) k)) (suc s)
+
+-- with such nodes for all of these, the last one first
+abbrev pub with_members : Chain → Words → Words
+with_members [] w = w
+with_members (f ∷ found) w = with_first (with_members found w) f.0 f.1
+
+-- What is made of them: the words after an opening of them, all locks free, their slots taken, and idle actors.
+pub record AreTables (cells : List Cell) (buckets passes : ℕ) (list : Listed) (allot : Allotted) (actors : List Actor) : Type 0 where
+  pub members : Chain
+  pub found : AreMembers cells (length cells) members
+  pub words : list.words ≡ words_after (length cells) buckets passes (opening buckets members)
+  pub locks : list.locks ≡ free_locks list.words
+  pub uses : allot.uses ≡ map (λ s. if has_slot s members then Taken else Free) (range_with_len 0 (length cells))
+  pub rows : length allot.rows ≡ passes
+  pub idle : actors ≡ replicate passes idle_actor
+
+-- The yard is that of a text with which a life may begin: the text read, where the device is honest.
+abbrev pub IsFirst : Device → Yard → Type 0
+IsFirst before y = (t : List ℕ) × (IsTrue before.honest → t ≡ before.medium.seen) × IsStart (record { shape = y.shape; text = t }) × (y ≡ opened_yard y.shape t)
+
+-- An open of a yard succeeded: its vault was opened, and the yard is that of the text read.
+pub record OpensYard (before after : Device) (B S : ℕ) (y : Yard) : Type 0 where
+  pub vault : Opens before after y.vault
+  pub buckets : y.shape.buckets ≡ B
+  pub passes : y.shape.passes ≡ S
+  pub first : IsFirst before y

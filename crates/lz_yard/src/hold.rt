@@ -1,0 +1,104 @@
+//! Small tests, by which the table says what may be done.
+ghost use Rattle.std.specs.Prelude.{◌≡◌};
+ghost use Rattle.lz_vault.specs.Stages.{is_covered};
+ghost use Rattle.lz_machine.specs.Table.{has_checked, has_closed, has_marked, has_opened, has_stage, is_played_dead, is_unused, may_check, may_claim, may_release, may_retire, released};
+
+use lz_machine::{Event, Hold};
+use lz_vault::Stage;
+
+pub(crate) fn may_claim(hold: Hold) -> bool
+    ensures { result ≡ may_claim hold }
+{
+    matches!(hold, Hold::Nothing | Hold::Released)
+}
+
+pub(crate) fn may_check(hold: Hold) -> bool
+    ensures { result ≡ may_check hold }
+{
+    matches!(hold, Hold::Locks | Hold::Checked)
+}
+
+pub(crate) fn has_checked(hold: Hold) -> bool
+    ensures { result ≡ has_checked hold }
+{
+    matches!(hold, Hold::Checked)
+}
+
+pub(crate) fn has_opened(hold: Hold) -> bool
+    ensures { result ≡ has_opened hold }
+{
+    matches!(hold, Hold::GateOpened)
+}
+
+pub(crate) fn has_closed(hold: Hold) -> bool
+    ensures { result ≡ has_closed hold }
+{
+    matches!(hold, Hold::GateClosed)
+}
+
+pub(crate) fn has_marked(hold: Hold) -> bool
+    ensures { result ≡ has_marked hold }
+{
+    matches!(hold, Hold::Marked)
+}
+
+pub(crate) fn may_release(hold: Hold) -> bool
+    ensures { result ≡ may_release hold }
+{
+    matches!(
+        hold,
+        Hold::Locks | Hold::Checked | Hold::Linked | Hold::Unlinked
+    )
+}
+
+pub(crate) fn may_retire(hold: Hold) -> bool
+    ensures { result ≡ may_retire hold }
+{
+    matches!(hold, Hold::Released)
+}
+
+// What an actor may do once it has given its locks back.
+pub(crate) fn released(hold: Hold) -> Hold
+    ensures { result ≡ released hold }
+{
+    match hold {
+        Hold::Unlinked => Hold::Released,
+        _ => Hold::Nothing,
+    }
+}
+
+pub(crate) fn is_keyed(stage: Stage) -> bool
+    ensures { result ≡ has_stage Stage.Keyed stage }
+{
+    matches!(stage, Stage::Keyed)
+}
+
+pub(crate) fn is_closed(stage: Stage) -> bool
+    ensures { result ≡ has_stage Stage.Closed stage }
+{
+    matches!(stage, Stage::Closed)
+}
+
+// A slot's last write is sure.
+pub(crate) fn is_covered(stage: Stage) -> bool
+    ensures { result ≡ is_covered stage }
+{
+    matches!(stage, Stage::Closed | Stage::Keyed | Stage::Open)
+}
+
+// A slot's gate is surely closed, so that it may be given back.
+pub(crate) fn is_unused(stage: Stage) -> bool
+    ensures { result ≡ is_unused stage }
+{
+    matches!(stage, Stage::Closed | Stage::KeyLoose | Stage::Keyed)
+}
+
+// An event that is played on a dead vault too.
+pub(crate) fn is_played_dead(event: Event) -> bool
+    ensures { result ≡ is_played_dead event }
+{
+    matches!(
+        event,
+        Event::Invoke(_) | Event::Pin | Event::Hop(_) | Event::Answer | Event::Halt
+    )
+}

@@ -1,0 +1,370 @@
+//! What each event does where it is played.
+ghost use Rattle.std.specs.Prelude.{◌≡◌, ◌≤◌, ◌<◌, length, true, IfSome};
+ghost use Rattle.lz_vault.specs.Vaults.{NoCall, Succeeds, died, last_sync};
+ghost use Rattle.lz_list.specs.Words.{change_flags};
+ghost use Rattle.lz_flush.specs.Settling.{settle};
+ghost use Rattle.lz_allot.specs.Allots.{IsTakenAt};
+ghost use Rattle.lz_machine.specs.Yards.{actor_at, cell_at};
+ghost use Rattle.lz_machine.specs.Runs.{with_words};
+ghost use Rattle.lz_machine.specs.Table.{given_back, is_unused, kept_slot, set_actor, with_slot, with_vault};
+ghost use Rattle.lz_machine.specs.Ready.{IsReady};
+ghost use Rattle.lz_yard.specs.Parts.{Does, Fits, Known, with_actors, with_uses};
+
+use crate::hold::{is_unused, released};
+use crate::parts::Parts;
+use lz_disk::Disk;
+use lz_flush::settle;
+use lz_list::{LinkWord, Place, Word, link_of, next_to};
+use lz_machine::{Actor, Course, Event, Hold, Outcome};
+use lz_slot::{Command, Key, Slot};
+use lz_vault::VaultFault;
+
+impl<D: Disk> Parts<D> {
+    // An actor has this slot reserved, or none.
+    fn set_slot(&mut self, actor: usize, slot: Option<Slot>)
+        requires low { 1 ≤ actor }
+        requires high { actor ≤ length self.old.yard.actors }
+        ensures yard { self.new.yard ≡ with_actors self.old.yard (set_actor self.old.yard actor (with_slot (actor_at self.old.yard actor) slot)) }
+        ensures rest { (self.new.rows ≡ self.old.rows) × (self.new.changed ≡ self.old.changed) × (self.new.disk ≡ self.old.disk) }
+    {
+        let hand = self.actor(actor);
+        self.actors[actor - 1] = Actor { slot, ..hand };
+    }
+
+    // Gives back a slot that was reserved, unless its gate may be open. What is left is the slot that stays the actor's.
+    fn give_back(&mut self, slot: Option<Slot>) -> Option<Slot>
+        requires { IfSome slot (λ s. (s < length self.old.yard.vault.cells) × (is_unused (cell_at self.old.yard s).stage ≡ true → IsTakenAt self.old.yard.uses s)) }
+        ensures kept { result ≡ kept_slot self.old.yard slot }
+        ensures yard { self.new.yard ≡ with_uses self.old.yard (given_back self.old.yard slot) }
+        ensures rest { (self.new.rows ≡ self.old.rows) × (self.new.changed ≡ self.old.changed) × (self.new.disk ≡ self.old.disk) }
+    {
+        match slot {
+            None => None,
+            Some(slot) => {
+                if is_unused(self.stage(slot)) {
+                    self.allot.give_back(slot);
+                    None
+                } else {
+                    Some(slot)
+                }
+            }
+        }
+    }
+
+    // Sets the flags that a slot's stage allows.
+    fn settle(&mut self, slot: Slot)
+        requires cell { slot < length self.old.yard.vault.cells }
+        requires link { slot < length self.old.yard.words.links }
+        ensures yard { self.new.yard ≡ with_words self.old.yard (change_flags (settle (cell_at self.old.yard slot).stage) self.old.yard.words slot) }
+        ensures rest { (self.new.rows ≡ self.old.rows) × (self.new.changed ≡ self.old.changed) × (self.new.disk ≡ self.old.disk) }
+    {
+        let LinkWord { next, flags } = link_of(self.word(Word::Link(slot)));
+        let flags = settle(self.stage(slot), flags);
+        self.list
+            .set(Word::Link(slot), LinkWord { next, flags }.word());
+    }
+
+    pub(crate) fn play_invoke(
+        &mut self,
+        actor: usize,
+        command: Command,
+    ) -> Result<Outcome, VaultFault>
+        requires fits { Fits self.old.yard self.old.rows }
+        requires ready { IsReady self.old.yard actor (Event.Invoke command) }
+        requires known { Known Course.Plays self.old.yard actor (Event.Invoke command) }
+        requires quiet { Succeeds NoCall (D.device self.old.disk) (D.device self.old.disk) }
+        ensures done { Does self.old.yard actor (Event.Invoke command) result self.new.yard (D.device self.old.disk) (D.device self.new.disk) }
+        ensures rest { (self.new.rows ≡ self.old.rows) × (self.new.changed ≡ self.old.changed) }
+    {
+        Ok(Outcome::Done)
+    }
+
+    pub(crate) fn play_pin(&mut self, actor: usize) -> Result<Outcome, VaultFault>
+        requires fits { Fits self.old.yard self.old.rows }
+        requires ready { IsReady self.old.yard actor Event.Pin }
+        requires known { Known Course.Plays self.old.yard actor Event.Pin }
+        requires quiet { Succeeds NoCall (D.device self.old.disk) (D.device self.old.disk) }
+        ensures done { Does self.old.yard actor Event.Pin result self.new.yard (D.device self.old.disk) (D.device self.new.disk) }
+        ensures rest { (self.new.rows ≡ self.old.rows) × (self.new.changed ≡ self.old.changed) }
+    {
+        let pin = self.word(Word::Pin(actor));
+        self.list.set(Word::Pin(actor), pin + 1);
+        Ok(Outcome::Done)
+    }
+
+    pub(crate) fn play_hop(&mut self, actor: usize, word: Word) -> Result<Outcome, VaultFault>
+        requires fits { Fits self.old.yard self.old.rows }
+        requires ready { IsReady self.old.yard actor (Event.Hop word) }
+        requires known { Known Course.Plays self.old.yard actor (Event.Hop word) }
+        requires quiet { Succeeds NoCall (D.device self.old.disk) (D.device self.old.disk) }
+        ensures done { Does self.old.yard actor (Event.Hop word) result self.new.yard (D.device self.old.disk) (D.device self.new.disk) }
+        ensures rest { (self.new.rows ≡ self.old.rows) × (self.new.changed ≡ self.old.changed) }
+    {
+        Ok(Outcome::Value(self.word(word)))
+    }
+
+    pub(crate) fn play_reserve(&mut self, actor: usize) -> Result<Outcome, VaultFault>
+        requires fits { Fits self.old.yard self.old.rows }
+        requires ready { IsReady self.old.yard actor Event.Reserve }
+        requires known { Known Course.Plays self.old.yard actor Event.Reserve }
+        requires quiet { Succeeds NoCall (D.device self.old.disk) (D.device self.old.disk) }
+        ensures done { Does self.old.yard actor Event.Reserve result self.new.yard (D.device self.old.disk) (D.device self.new.disk) }
+        ensures rest { (self.new.rows ≡ self.old.rows) × (self.new.changed ≡ self.old.changed) }
+    {
+        self.allot.collect();
+        let Some(slot) = self.allot.reserve() else {
+            self.set_slot(actor, None);
+            return Ok(Outcome::NoSlot(self.allot.counts()));
+        };
+        self.set_slot(actor, Some(slot));
+        Ok(Outcome::Slot(slot))
+    }
+
+    pub(crate) fn play_write_key(&mut self, actor: usize, key: Key) -> Result<Outcome, VaultFault>
+        requires fits { Fits self.old.yard self.old.rows }
+        requires ready { IsReady self.old.yard actor (Event.WriteKey key) }
+        requires known { Known Course.Plays self.old.yard actor (Event.WriteKey key) }
+        ensures done { Does self.old.yard actor (Event.WriteKey key) result self.new.yard (D.device self.old.disk) (D.device self.new.disk) }
+        ensures rest { (self.new.rows ≡ self.old.rows) × (self.new.changed ≡ self.old.changed) }
+    {
+        let slot = self.slot(actor);
+        self.vault.put_key(slot, key)?;
+        self.list.set(Word::Key(slot), key.get());
+        Ok(Outcome::Done)
+    }
+
+    pub(crate) fn play_claim(
+        &mut self,
+        actor: usize,
+        pred: Place,
+        curr: Option<Slot>,
+    ) -> Result<Outcome, VaultFault>
+        requires fits { Fits self.old.yard self.old.rows }
+        requires ready { IsReady self.old.yard actor (Event.Claim pred curr) }
+        requires known { Known Course.Plays self.old.yard actor (Event.Claim pred curr) }
+        requires quiet { Succeeds NoCall (D.device self.old.disk) (D.device self.old.disk) }
+        ensures done { Does self.old.yard actor (Event.Claim pred curr) result self.new.yard (D.device self.old.disk) (D.device self.new.disk) }
+        ensures rest { (self.new.rows ≡ self.old.rows) × (self.new.changed ≡ self.old.changed) }
+    {
+        let place = pred;
+        let node = curr;
+        if !self.list.claim(actor, place, node) {
+            return Ok(Outcome::Busy);
+        }
+        let hand = self.actor(actor);
+        self.actors[actor - 1] = Actor {
+            hold: Hold::Locks,
+            pred,
+            curr,
+            ..hand
+        };
+        Ok(Outcome::Taken)
+    }
+
+    pub(crate) fn play_check(&mut self, actor: usize) -> Result<Outcome, VaultFault>
+        requires fits { Fits self.old.yard self.old.rows }
+        requires ready { IsReady self.old.yard actor Event.Check }
+        requires known { Known Course.Plays self.old.yard actor Event.Check }
+        requires quiet { Succeeds NoCall (D.device self.old.disk) (D.device self.old.disk) }
+        ensures done { Does self.old.yard actor Event.Check result self.new.yard (D.device self.old.disk) (D.device self.new.disk) }
+        ensures rest { (self.new.rows ≡ self.old.rows) × (self.new.changed ≡ self.old.changed) }
+    {
+        let hand = self.actor(actor);
+        if self.list.check(hand.pred, hand.curr) {
+            self.set_hold(actor, Hold::Checked);
+            Ok(Outcome::True)
+        } else {
+            self.set_hold(actor, Hold::Locks);
+            Ok(Outcome::False)
+        }
+    }
+
+    pub(crate) fn play_write_open(&mut self, actor: usize) -> Result<Outcome, VaultFault>
+        requires fits { Fits self.old.yard self.old.rows }
+        requires ready { IsReady self.old.yard actor Event.WriteOpen }
+        requires known { Known Course.Plays self.old.yard actor Event.WriteOpen }
+        ensures done { Does self.old.yard actor Event.WriteOpen result self.new.yard (D.device self.old.disk) (D.device self.new.disk) }
+        ensures rest { (self.new.rows ≡ self.old.rows) × (self.new.changed ≡ self.old.changed) }
+    {
+        let slot = self.slot(actor);
+        self.vault.open_gate(slot)?;
+        let hand = self.actor(actor);
+        self.list.set(Word::Link(slot), next_to(hand.curr) as u64);
+        self.set_hold(actor, Hold::GateOpened);
+        Ok(Outcome::Done)
+    }
+
+    pub(crate) fn play_link(&mut self, actor: usize) -> Result<Outcome, VaultFault>
+        requires fits { Fits self.old.yard self.old.rows }
+        requires ready { IsReady self.old.yard actor Event.Link }
+        requires known { Known Course.Plays self.old.yard actor Event.Link }
+        requires quiet { Succeeds NoCall (D.device self.old.disk) (D.device self.old.disk) }
+        ensures done { Does self.old.yard actor Event.Link result self.new.yard (D.device self.old.disk) (D.device self.new.disk) }
+        ensures rest { (self.new.rows ≡ self.old.rows) × (self.new.changed ≡ self.old.changed) }
+    {
+        let slot = self.slot(actor);
+        let hand = self.actor(actor);
+        self.list.link(hand.pred, slot);
+        self.actors[actor - 1] = Actor {
+            slot: None,
+            hold: Hold::Linked,
+            ..hand
+        };
+        Ok(Outcome::Done)
+    }
+
+    pub(crate) fn play_write_close(&mut self, actor: usize) -> Result<Outcome, VaultFault>
+        requires fits { Fits self.old.yard self.old.rows }
+        requires ready { IsReady self.old.yard actor Event.WriteClose }
+        requires known { Known Course.Plays self.old.yard actor Event.WriteClose }
+        ensures done { Does self.old.yard actor Event.WriteClose result self.new.yard (D.device self.old.disk) (D.device self.new.disk) }
+        ensures rest { (self.new.rows ≡ self.old.rows) × (self.new.changed ≡ self.old.changed) }
+    {
+        let node = self.node(actor);
+        self.vault.close_gate(node)?;
+        self.set_hold(actor, Hold::GateClosed);
+        Ok(Outcome::Done)
+    }
+
+    pub(crate) fn play_mark(&mut self, actor: usize) -> Result<Outcome, VaultFault>
+        requires fits { Fits self.old.yard self.old.rows }
+        requires ready { IsReady self.old.yard actor Event.Mark }
+        requires known { Known Course.Plays self.old.yard actor Event.Mark }
+        requires quiet { Succeeds NoCall (D.device self.old.disk) (D.device self.old.disk) }
+        ensures done { Does self.old.yard actor Event.Mark result self.new.yard (D.device self.old.disk) (D.device self.new.disk) }
+        ensures rest { (self.new.rows ≡ self.old.rows) × (self.new.changed ≡ self.old.changed) }
+    {
+        let node = self.node(actor);
+        self.list.mark(node);
+        self.set_hold(actor, Hold::Marked);
+        Ok(Outcome::Done)
+    }
+
+    pub(crate) fn play_release(&mut self, actor: usize) -> Result<Outcome, VaultFault>
+        requires fits { Fits self.old.yard self.old.rows }
+        requires ready { IsReady self.old.yard actor Event.Release }
+        requires known { Known Course.Plays self.old.yard actor Event.Release }
+        requires quiet { Succeeds NoCall (D.device self.old.disk) (D.device self.old.disk) }
+        ensures done { Does self.old.yard actor Event.Release result self.new.yard (D.device self.old.disk) (D.device self.new.disk) }
+        ensures rest { (self.new.rows ≡ self.old.rows) × (self.new.changed ≡ self.old.changed) }
+    {
+        let hand = self.actor(actor);
+        self.list.release(hand.pred, hand.curr);
+        self.set_hold(actor, released(hand.hold));
+        Ok(Outcome::Done)
+    }
+
+    pub(crate) fn play_sync(&mut self, actor: usize, slot: Slot) -> Result<Outcome, VaultFault>
+        requires fits { Fits self.old.yard self.old.rows }
+        requires ready { IsReady self.old.yard actor (Event.Sync slot) }
+        requires known { Known Course.Plays self.old.yard actor (Event.Sync slot) }
+        requires quiet { Succeeds NoCall (D.device self.old.disk) (D.device self.old.disk) }
+        ensures done { Does self.old.yard actor (Event.Sync slot) result self.new.yard (D.device self.old.disk) (D.device self.new.disk) }
+        ensures rest { (self.new.rows ≡ self.old.rows) × (self.new.changed ≡ self.old.changed) }
+    {
+        if !self.is_sure(slot) {
+            self.vault.sync()?;
+        }
+        Ok(Outcome::Done)
+    }
+
+    pub(crate) fn play_settle(&mut self, actor: usize, slot: Slot) -> Result<Outcome, VaultFault>
+        requires fits { Fits self.old.yard self.old.rows }
+        requires ready { IsReady self.old.yard actor (Event.Settle slot) }
+        requires known { Known Course.Plays self.old.yard actor (Event.Settle slot) }
+        requires quiet { Succeeds NoCall (D.device self.old.disk) (D.device self.old.disk) }
+        ensures done { Does self.old.yard actor (Event.Settle slot) result self.new.yard (D.device self.old.disk) (D.device self.new.disk) }
+        ensures rest { (self.new.rows ≡ self.old.rows) × (self.new.changed ≡ self.old.changed) }
+    {
+        if !self.is_sure(slot) {
+            return Ok(Outcome::Early);
+        }
+        self.settle(slot);
+        Ok(Outcome::Done)
+    }
+
+    pub(crate) fn play_unlink(&mut self, actor: usize) -> Result<Outcome, VaultFault>
+        requires fits { Fits self.old.yard self.old.rows }
+        requires ready { IsReady self.old.yard actor Event.Unlink }
+        requires known { Known Course.Plays self.old.yard actor Event.Unlink }
+        requires quiet { Succeeds NoCall (D.device self.old.disk) (D.device self.old.disk) }
+        ensures done { Does self.old.yard actor Event.Unlink result self.new.yard (D.device self.old.disk) (D.device self.new.disk) }
+        ensures rest { (self.new.rows ≡ self.old.rows) × (self.new.changed ≡ self.old.changed) }
+    {
+        let node = self.node(actor);
+        let hand = self.actor(actor);
+        self.list.unlink(hand.pred, node);
+        self.set_hold(actor, Hold::Unlinked);
+        Ok(Outcome::Done)
+    }
+
+    pub(crate) fn play_retire(&mut self, actor: usize) -> Result<Outcome, VaultFault>
+        requires fits { Fits self.old.yard self.old.rows }
+        requires ready { IsReady self.old.yard actor Event.Retire }
+        requires known { Known Course.Plays self.old.yard actor Event.Retire }
+        requires quiet { Succeeds NoCall (D.device self.old.disk) (D.device self.old.disk) }
+        ensures done { Does self.old.yard actor Event.Retire result self.new.yard (D.device self.old.disk) (D.device self.new.disk) }
+        ensures rest { (self.new.rows ≡ self.old.rows) × (self.new.changed ≡ self.old.changed) }
+    {
+        let node = self.node(actor);
+        self.allot.retire(node);
+        self.set_hold(actor, Hold::Nothing);
+        Ok(Outcome::Done)
+    }
+
+    pub(crate) fn play_see_pin(
+        &mut self,
+        actor: usize,
+        pass: usize,
+        value: u64,
+    ) -> Result<Outcome, VaultFault>
+        requires fits { Fits self.old.yard self.old.rows }
+        requires ready { IsReady self.old.yard actor (Event.SeePin pass value) }
+        requires known { Known Course.Plays self.old.yard actor (Event.SeePin pass value) }
+        requires quiet { Succeeds NoCall (D.device self.old.disk) (D.device self.old.disk) }
+        ensures done { Does self.old.yard actor (Event.SeePin pass value) result self.new.yard (D.device self.old.disk) (D.device self.new.disk) }
+        ensures rest { (self.new.rows ≡ self.old.rows) × (self.new.changed ≡ self.old.changed) }
+    {
+        self.allot.see_pin(pass, value);
+        Ok(Outcome::Done)
+    }
+
+    pub(crate) fn play_answer(&mut self, actor: usize) -> Result<Outcome, VaultFault>
+        requires fits { Fits self.old.yard self.old.rows }
+        requires ready { IsReady self.old.yard actor Event.Answer }
+        requires known { Known Course.Plays self.old.yard actor Event.Answer }
+        requires quiet { Succeeds NoCall (D.device self.old.disk) (D.device self.old.disk) }
+        ensures done { Does self.old.yard actor Event.Answer result self.new.yard (D.device self.old.disk) (D.device self.new.disk) }
+        ensures rest { (self.new.rows ≡ self.old.rows) × (self.new.changed ≡ self.old.changed) }
+    {
+        let pin = self.word(Word::Pin(actor)) + 1;
+        self.list.set(Word::Pin(actor), pin);
+        let hand = self.actor(actor);
+        let kept = self.give_back(hand.slot);
+        self.allot.see_pin(actor, pin);
+        self.set_slot(actor, kept);
+        Ok(Outcome::Done)
+    }
+
+    pub(crate) fn play_halt(&mut self, actor: usize) -> Result<Outcome, VaultFault>
+        requires fits { Fits self.old.yard self.old.rows }
+        requires ready { IsReady self.old.yard actor Event.Halt }
+        requires known { Known Course.Plays self.old.yard actor Event.Halt }
+        requires quiet { Succeeds NoCall (D.device self.old.disk) (D.device self.old.disk) }
+        ensures done { Does self.old.yard actor Event.Halt result self.new.yard (D.device self.old.disk) (D.device self.new.disk) }
+        ensures rest { (self.new.rows ≡ self.old.rows) × (self.new.changed ≡ self.old.changed) }
+    {
+        self.list.set(Word::Halt, 1);
+        Ok(Outcome::Done)
+    }
+
+    // No sync is left, so that the vault dies.
+    pub(crate) fn die(&mut self)
+        requires spent { self.old.yard.vault.syncs ≡ last_sync }
+        ensures yard { self.new.yard ≡ with_vault self.old.yard (died self.old.yard.vault) }
+        ensures device { Succeeds NoCall (D.device self.old.disk) (D.device self.new.disk) }
+        ensures rest { (self.new.rows ≡ self.old.rows) × (self.new.changed ≡ self.old.changed) }
+    {
+        let _ = self.vault.sync();
+    }
+}

@@ -1,0 +1,124 @@
+//! The yard: what callers share under one lock.
+ghost use Rattle.std.specs.Prelude.{◌≡◌, ◌≤◌, true, IfErr, IfOk};
+ghost use Rattle.lz_list.specs.Words.{set};
+ghost use Rattle.lz_vault.specs.Opens.{IsRefusedFor};
+ghost use Rattle.lz_yard.specs.Filling.{OpensYard};
+ghost use Rattle.lz_machine.specs.Ready.{IsEventOf};
+ghost use Rattle.lz_machine.specs.Runs.{MayPlay, with_words};
+ghost use Rattle.lz_yard.specs.Steps.{Played};
+ghost use Rattle.lz_machine.specs.Table.{needs};
+
+use crate::filling::{Tables, members_of};
+use crate::parts::Parts;
+use lz_disk::Disk;
+use lz_list::{Word, Words};
+use lz_machine::{Event, Outcome};
+use lz_vault::{OpenFault, Refused, Vault};
+use std::alloc::{AllocError, Global};
+use std::marker::Model;
+
+/// What callers share under one lock: the words, the node locks, the vault, the slots that are free, and what each actor
+/// has in hand. Actors count from 1, as their passes do.
+#[derive(Drop)]
+pub struct Yard<D: Disk> {
+    pub(crate) parts: Parts<D>,
+}
+
+impl<D: Disk> Model for Yard<D> {
+    ghost use Rattle.lz_yard.specs.Parts.{Fits, YardOver};
+
+    ghost Value = { YardOver D };
+
+    ghost view = { λ y. record { yard = y.parts.yard; changed = y.parts.changed; disk = y.parts.disk } };
+
+    ghost invariant = { λ y. Fits y.parts.yard y.parts.rows };
+}
+
+impl<D: Disk> Yard<D> {
+    /// Opens a slot file, and links its members into so many buckets. It is refused as the vault's open is, and with Memory
+    /// where there is no room for the tables.
+    pub fn open(
+        alloc: Global,
+        disk: D,
+        buckets: usize,
+        passes: usize,
+    ) -> Result<Yard<D>, Refused<D>>
+        requires buckets { (1 ≤ buckets) × (buckets ≤ 4096) }
+        requires passes { (1 ≤ passes) × (passes ≤ 64) }
+        ensures ok { IfOk result (λ yard. OpensYard (D.device disk) (D.device yard.disk) buckets passes yard.yard) }
+        ensures err { IfErr result (λ refused. IsRefusedFor (D.device disk) (D.device refused.disk) refused.fault) }
+    {
+        let vault = Vault::open(alloc, disk)?;
+        let members = match members_of(alloc, &vault) {
+            Ok(members) => members,
+            Err(fault) => {
+                return Err(Refused {
+                    disk: vault.close(),
+                    fault,
+                });
+            }
+        };
+        match Tables::of(alloc, &vault, members, buckets, passes) {
+            Ok(tables) => Ok(Yard {
+                parts: Parts {
+                    slots: vault.slots(),
+                    buckets,
+                    passes,
+                    list: tables.list,
+                    vault,
+                    allot: tables.allot,
+                    actors: tables.actors,
+                    changed: None,
+                },
+            }),
+            Err(AllocError) => Err(Refused {
+                disk: vault.close(),
+                fault: OpenFault::Memory,
+            }),
+        }
+    }
+
+    /// Plays one event of an actor, with one device call at most.
+    ///
+    /// Where what the event needs doesn't hold it answers NotNow, and on a dead vault most kinds answer Dead; either changes
+    /// nothing. Fault where the event's device call failed; from then on the vault is dead.
+    #[tactic(auto, using(crate::proofs::Keeping::played_shape))]
+    pub fn step(&mut self, actor: usize, event: Event) -> Outcome
+        requires actor { (1 ≤ actor) × (actor ≤ self.old.yard.shape.passes) }
+        requires event { IsEventOf self.old.yard event }
+        requires may { needs self.old.yard actor event ≡ true → MayPlay self.old.yard (D.device self.old.disk).honest (D.device self.old.disk).medium actor event }
+        ensures played { Played self.old.yard actor event result self.new.yard self.new.changed (D.device self.old.disk) (D.device self.new.disk) }
+        ensures shape { self.new.yard.shape ≡ self.old.yard.shape }
+    {
+        self.parts.step(actor, event)
+    }
+
+    /// Sets the yard's copy of a pin word that lives outside it.
+    pub fn note_pin(&mut self, actor: usize, value: u64)
+        requires { (1 ≤ actor) × (actor ≤ self.old.yard.shape.passes) }
+        ensures yard { self.new.yard ≡ with_words self.old.yard (set self.old.yard.words (Word.Pin actor) value) }
+        ensures rest { (self.new.changed ≡ self.old.changed) × (self.new.disk ≡ self.old.disk) }
+    {
+        self.parts.set_pin(actor, value);
+    }
+
+    pub fn words(&self) -> &Words
+        ensures { result.now ≡ self.now.yard.words }
+    {
+        self.parts.list.words()
+    }
+
+    /// The word that the last `step` changed, if it changed one.
+    pub fn changed(&self) -> Option<Word>
+        ensures { result ≡ self.now.changed }
+    {
+        self.parts.changed
+    }
+
+    /// Ends the life, and hands the disk back as it is.
+    pub fn close(self) -> D
+        ensures { result ≡ self.disk }
+    {
+        self.parts.vault.close()
+    }
+}
