@@ -11,9 +11,9 @@ use Rattle.lz_machine.specs.Runs.{Start, Service, Caller, State, Up, Down, Step,
 use Rattle.lz_core.specs.Plays.{IsReached}
 use Rattle.lz_machine.specs.Sound.{IsSound}
 use Rattle.lz_core.specs.Worlds.{IsQuiet}
-use Rattle.lz_machine.proofs.Reaching.{reached_sound}
+use Rattle.lz_machine.proofs.Theorem.Reached.{reached_sound}
 use Rattle.lz_core.proofs.Ascending.{eq_of}
-use Rattle.lz_machine.proofs.InTime.{Fits, AllFit, is_look, is_event_there, in_time_reached, may_take_there, worn_there, step_fits}
+use Rattle.lz_machine.proofs.Theorem.Timeliness.{Fits, AllFit, is_look, is_event_there, in_time_reached, may_take_there, worn_there, step_fits}
 
 is_none : {X : Type 0} (o : Option X) → IsNone o → o ≡ None
 is_none None none = refl

@@ -34,10 +34,10 @@ use Rattle.lz_core.specs.Worlds.{WorldOver, IsQuiet, HasRun, PlaysOn, HasOne, Is
 use Rattle.lz_core.proofs.Worlding.{Goes, leads, runs_on, shape_is, shown_at, shown_caller, shown_set, set_at, on_set, same_count}
 use Rattle.std.proofs.lemmas.List.{length-map, get_or-set_same}
 use Rattle.lz_list.specs.Words.{Words}
-use Rattle.lz_machine.proofs.Turning.{caller_range}
+use Rattle.lz_machine.proofs.Frames.OneActor.{caller_range}
 use Rattle.lz_yard.proofs.Keeping.{played_shape, fault_or_not}
 use Rattle.lz_core.proofs.Timing.{is_event, in_time, may_take, quiet_step}
-use Rattle.lz_machine.proofs.InTime.{is_look, may_take_fault}
+use Rattle.lz_machine.proofs.Theorem.Timeliness.{is_look, may_take_fault}
 
 -- how many slots a yard has plays no part in the order of events
 abbrev shaped : ℕ → ℕ → ℕ → Shape

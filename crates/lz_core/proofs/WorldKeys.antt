@@ -30,14 +30,14 @@ use Rattle.lz_machine.specs.Runs.{Service, Up, Point, Start, by_key, keys_found,
 use Rattle.lz_core.specs.Plays.{IsReached}
 use Rattle.lz_machine.specs.Sound.{Notes, IsSound, UpSound}
 use Rattle.lz_core.specs.Worlds.{Ascend, IsAmong, IsWorld, Shows, call_shown, state_shown}
-use Rattle.lz_machine.proofs.Showing as showing
-use Rattle.lz_machine.proofs.ImageSlots.{node_stands}
-use Rattle.lz_machine.proofs.FirstState.{first_notes, opened_up}
-use Rattle.lz_machine.proofs.FirstNodes.{held_found}
-use Rattle.lz_machine.proofs.Loads.{bucket_range}
+use Rattle.lz_machine.proofs.Theorem.ShownChains as showing
+use Rattle.lz_machine.proofs.Crash.ImageSlots.{node_stands}
+use Rattle.lz_machine.proofs.Open.FirstState.{first_notes, opened_up}
+use Rattle.lz_machine.proofs.Open.FirstNodes.{held_found}
+use Rattle.lz_machine.proofs.Frames.LoadedWord.{bucket_range}
 use Rattle.lz_core.proofs.Ascending.{eq_of, first_of, later_of}
-use Rattle.lz_machine.proofs.InTime.{up_at}
-use Rattle.lz_machine.proofs.Reaching.{reached_sound}
+use Rattle.lz_machine.proofs.Theorem.Timeliness.{up_at}
+use Rattle.lz_machine.proofs.Theorem.Reached.{reached_sound}
 use Rattle.lz_yard.proofs.FoundSlots.{read_length, any_key, key_by}
 
 -- in a sound open service

@@ -18,10 +18,10 @@ use Rattle.lz_yard.specs.Parts.{YardOver}
 use Rattle.lz_machine.specs.Runs.{Caller, Start, IsStart, start_keys, State, Up, Down, Opens, OpenFails, Point, first_point, opened_service, keys_found}
 use Rattle.lz_machine.specs.Sound.{StateSound, PointSound, IsSound}
 use Rattle.lz_core.specs.Worlds.{WorldOver, IsNew, IsQuiet, IsWorld, HasOne, HasRun, IsCallOn, PlaysOn, StopsEarly, call_shown, state_shown}
-use Rattle.lz_machine.proofs.Reaching.{reached_sound}
-use Rattle.lz_machine.proofs.FirstState.{pass_of}
+use Rattle.lz_machine.proofs.Theorem.Reached.{reached_sound}
+use Rattle.lz_machine.proofs.Open.FirstState.{pass_of}
 use Rattle.lz_yard.proofs.Opened.{holds_listed}
-use Rattle.lz_machine.proofs.Opens.{one_set}
+use Rattle.lz_machine.proofs.Open.FirstPoint.{one_set}
 use Rattle.lz_core.proofs.Worlding.{Goes, leads, runs_on}
 use Rattle.lz_core.proofs.WorldKeys.{yard_read}
 use Rattle.lz_yard.proofs.FoundSlots.{read_length}

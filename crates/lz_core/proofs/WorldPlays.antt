@@ -8,8 +8,8 @@ use Rattle.lz_core.specs.declared.play.Step.{Step as PlayStep}
 use Rattle.lz_machine.specs.Runs.{Step, MayStep, Point, run, IsRun}
 use Rattle.lz_core.specs.Plays.{IsPlayOf, ArePlaysOf, IsReached}
 use Rattle.lz_core.specs.Worlds.{WorldOver, StopsAt, StopsEarly, IsLawful, PlaysOn, IsChain, mark_list}
-use Rattle.lz_machine.proofs.Reaching.{every_history}
-use Rattle.lz_machine.proofs.Runs.{run_append}
+use Rattle.lz_machine.proofs.Theorem.Reached.{every_history}
+use Rattle.lz_machine.proofs.Runs.Composition.{run_append}
 
 may_on : (p : Point) (later before : List Step) → IsRun p before → IsRun (run p before) later → IsRun p (later ++ before)
 may_on p [] before first then_on = first

@@ -22,7 +22,7 @@ use Rattle.lz_core.specs.Plays.{IsPlayOf, IsReached}
 use Rattle.lz_yard.specs.Parts.{YardOver}
 use Rattle.lz_core.specs.Worlds.{WorldOver, StopsEarly, IsQuiet, HasRun, PlaysOn, HasOne, IsCallOn, IsLawful, IsWorld, MayCall, call_shown, state_shown, disk_shown}
 use Rattle.lz_machine.specs.Sound.{PointSound}
-use Rattle.lz_machine.proofs.Reaching.{reached_sound}
+use Rattle.lz_machine.proofs.Theorem.Reached.{reached_sound}
 
 -- a point that is reached leads to another by a step that may be taken
 pub reach : (start : Start) (p : Point) (step : Step) → IsReached start p → MayStep p.state step → IsReached start (point_after p step)

@@ -15,7 +15,7 @@ use Rattle.lz_list.proofs.Openings.{opening_lawful}
 use Rattle.lz_list.proofs.Shown.{words_show_chain}
 use Rattle.lz_list.proofs.Tables.{table_at, table_set, length-table}
 use Rattle.lz_yard.specs.Filling.{has_node, Ascends, with_first, with_members}
-use Rattle.lz_machine.proofs.Ranges.{head_range}
+use Rattle.lz_machine.proofs.Frames.Ranges.{head_range}
 use Rattle.lz_yard.proofs.Members.{node_first, node_later}
 
 -- all keys of a chain are above this one

@@ -35,7 +35,7 @@ use Rattle.lz_machine.specs.Runs.{with_words}
 use Rattle.lz_yard.specs.Parts.{Fits, HasInRange}
 use Rattle.lz_yard.proofs.Fitting.{hand_fits}
 use Rattle.lz_yard.proofs.Called.{sync_left, sync_more}
-use Rattle.lz_machine.proofs.Shapes.{line_keeps_shape}
+use Rattle.lz_machine.proofs.Runs.Shape.{line_keeps_shape}
 
 -- tables of words of the same lengths
 record SameSizes (old new : Words) : Type 0 where

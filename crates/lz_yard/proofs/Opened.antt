@@ -33,8 +33,8 @@ use Rattle.lz_machine.specs.declared.actor.Actor.{Actor}
 use Rattle.lz_machine.specs.Yards.{Yard, Shape, no_cell, cell_read, use_read, slots_read, opened_yard}
 use Rattle.lz_yard.specs.Filling.{member_in, member_at, has_node, AreDistinct, AreTables, HasNoTables}
 use Rattle.lz_machine.specs.Runs.{IsStart, by_key, keys_found}
-use Rattle.lz_machine.proofs.Texts.{text_of, text_size, text_head, text_says, text_bytes}
-use Rattle.lz_machine.proofs.FirstNodes.{has_node as node_in, node_has_key, node_held, held_found, key_held}
+use Rattle.lz_machine.proofs.Open.Texts.{text_of, text_size, text_head, text_says, text_bytes}
+use Rattle.lz_machine.proofs.Open.FirstNodes.{has_node as node_in, node_has_key, node_held, held_found, key_held}
 use Rattle.lz_yard.proofs.Members.{node_cases, node_slot, slot_node, are_found, are_distinct}
 use Rattle.lz_yard.proofs.Arranged.{Within, same_words_after}
 use Rattle.lz_yard.proofs.Founding.{opened}

@@ -1,4 +1,4 @@
-use Rattle.lz_machine.proofs.AloneReach.{alone_is_plain}
+use Rattle.lz_machine.proofs.Alone.Crash.{alone_is_plain}
 use Rattle.lz_machine.proofs.laws.alone_is_plain.Goals as goal
 
 pub returns : goal.returns

@@ -1,4 +1,4 @@
-use Rattle.lz_machine.proofs.AloneSized.{full_is_right}
+use Rattle.lz_machine.proofs.Alone.Room.{full_is_right}
 use Rattle.lz_machine.proofs.laws.full_is_right.Goals as goal
 
 pub returns : goal.returns

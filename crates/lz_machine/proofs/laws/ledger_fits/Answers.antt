@@ -1,7 +1,7 @@
 use Rattle.lz_machine.specs.Entries.{kept_rows}
 use Rattle.lz_machine.specs.Kept.{publishing}
-use Rattle.lz_machine.proofs.Fits.{listed_fits}
-use Rattle.lz_machine.proofs.Entries.{kept_ledger, kept_fits}
+use Rattle.lz_machine.proofs.Ledger.Fit.{listed_fits}
+use Rattle.lz_machine.proofs.Ledger.KeptRows.{kept_ledger, kept_fits}
 use Rattle.lz_machine.proofs.laws.ledger_fits.Goals as goal
 
 pub returns : goal.returns

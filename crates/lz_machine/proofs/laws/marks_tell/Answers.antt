@@ -1,4 +1,4 @@
-use Rattle.lz_machine.proofs.Telling.{marks_tell}
+use Rattle.lz_machine.proofs.Theorem.Marks.{marks_tell}
 use Rattle.lz_machine.proofs.laws.marks_tell.Goals as goal
 
 pub returns : goal.returns

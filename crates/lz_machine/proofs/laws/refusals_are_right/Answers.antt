@@ -1,4 +1,4 @@
-use Rattle.lz_machine.proofs.AloneHalts.{refusals_are_right}
+use Rattle.lz_machine.proofs.Alone.Halt.{refusals_are_right}
 use Rattle.lz_machine.proofs.laws.refusals_are_right.Goals as goal
 
 pub returns : goal.returns

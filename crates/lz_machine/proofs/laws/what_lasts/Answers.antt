@@ -1,4 +1,4 @@
-use Rattle.lz_machine.proofs.Reaching.{what_lasts}
+use Rattle.lz_machine.proofs.Theorem.Reached.{what_lasts}
 use Rattle.lz_machine.proofs.laws.what_lasts.Goals as goal
 
 pub returns : goal.returns

@@ -1,0 +1,11 @@
+pub mod Service
+pub mod Run
+pub mod Crash
+pub mod Size
+pub mod Sights
+pub mod Frame
+pub mod Walk
+pub mod Full
+pub mod Turn
+pub mod Room
+pub mod Halt

@@ -1,0 +1,202 @@
+-- What an event leaves of the other actors, where one actor is alone, and of the slots whose gate isn't sure to be open.
+use Rattle.std.proofs.Common.{◌≡◌, ◌≢◌, ◌⊎◌, ⊎_elim, inl, inr, ℕ, zero, suc, ◌%◌, ◌&&◌, not, Bool, true, false, List, [], ◌∷◌, length, map, Option, Some, None, refl, sym, ap, ◌∙◌, subst, arith, length-set, get_or-set_same, get_or-set_other}
+use Rattle.std.specs.Prelude.{if◌then◌else◌, slice_set}
+use mathlib.Core.Bool.{false≢true}
+use Rattle.std.proofs.lemmas.Bool.{cases_eq, cases_lt}
+use Rattle.std.proofs.lemmas.List.{get_or_past}
+use Rattle.lz_slot.specs.Counted.{of_pass}
+use Rattle.lz_slot.proofs.Counted.{of_pass_other}
+use Rattle.lz_vault.specs.declared.vault.Stage.{Stage}
+use Rattle.lz_vault.specs.declared.vault.Stage.TheVariants.{KeyLoose, Opening, Closing}
+use Rattle.lz_vault.specs.Stages.{Cell, cell_synced}
+use Rattle.lz_list.specs.Words.{change_flags}
+use Rattle.lz_list.specs.Locks.{is_pair_free}
+use Rattle.lz_flush.specs.Settling.{settle}
+use Rattle.lz_machine.specs.declared.course.Course.{Course}
+use Rattle.lz_machine.specs.declared.course.Course.TheVariants.{Refused, Dies, Plays}
+use Rattle.lz_machine.specs.declared.actor.Actor.{Actor}
+use Rattle.lz_machine.specs.declared.actor.Hold.TheVariants.{Nothing, Locks}
+use Rattle.lz_machine.specs.declared.event.Event.{Event}
+use Rattle.lz_machine.specs.declared.event.Event.TheVariants.{Invoke, Pin, Hop, Reserve, WriteKey, Claim, Check, WriteOpen, Link, WriteClose, Mark, Release, Sync, Settle, Unlink, Retire, SeePin, Answer, Halt}
+use Rattle.lz_machine.specs.declared.event.Outcome.TheVariants.{NotNow, Dead}
+use Rattle.lz_machine.specs.Yards.{Yard, idle_actor, actor_at, cell_at, no_cell}
+use Rattle.lz_machine.specs.Table.{course, course_alive, line, line_on, needs, pin_of, is_played_dead, actors_after, words_after, cells_after, uses_after, reserved, is_sure, set_actor}
+use Rattle.lz_machine.specs.Sound.{cell_in, stage_in}
+use Rattle.lz_allot.specs.Uses.{Use, Taken, collect, lowest_free}
+use Rattle.lz_machine.proofs.Alone.Sights.{HasLeft, left_set, left_collect, left_seen}
+use Rattle.lz_machine.proofs.Steps.Unlink.{redirect_pins}
+use Rattle.lz_machine.proofs.Steps.Sync.{not_opening}
+
+-- the course of an event that was played at all
+abbrev of_parts : Bool → Bool → Bool → Course → Course
+of_parts dead too may alive = if dead && not too then Refused Dead else if may then alive else Refused NotNow
+
+abbrev pub IsCourse : Yard → ℕ → Event → Type 0
+IsCourse y a e = ((y.vault.dead ≡ true) × (is_played_dead e ≡ false) × (course y a e ≡ Refused Dead)) ⊎ (course y a e ≡ course_alive y a (pin_of y a) e)
+
+pub course_is : (y : Yard) (a : ℕ) (e : Event) → (line y a e).1 ≢ NotNow → IsCourse y a e
+course_is y a e now = go y.vault.dead (is_played_dead e) (needs y a e) refl refl refl
+  where
+    parts : (dead too may : Bool) → y.vault.dead ≡ dead → is_played_dead e ≡ too → needs y a e ≡ may → course y a e ≡ of_parts dead too may (course_alive y a (pin_of y a) e)
+    parts dead too may d t m =
+        ap (λ (b : Bool). of_parts b (is_played_dead e) (needs y a e) (course_alive y a (pin_of y a) e)) d
+        ∙ ap (λ (b : Bool). of_parts dead b (needs y a e) (course_alive y a (pin_of y a) e)) t
+        ∙ ap (λ (b : Bool). of_parts dead too b (course_alive y a (pin_of y a) e)) m
+
+    not_now : course y a e ≡ Refused NotNow → ⊥
+    not_now is = now (ap (λ (k : Course). (line_on k y (actor_at y a) a e).1) is)
+
+    go : (dead too may : Bool) → y.vault.dead ≡ dead → is_played_dead e ≡ too → needs y a e ≡ may → IsCourse y a e
+    go true false may d t m = inl (d, t, parts true false may d t m)
+    go true true true d t m = inr (parts true true true d t m)
+    go false too true d t m = inr (parts false too true d t m)
+    go true true false d t m = absurd (not_now (parts true true false d t m))
+    go false too false d t m = absurd (not_now (parts false too false d t m))
+
+-- the hands and pins of others
+actors_other : (y : Yard) (actor : Actor) (a b : ℕ) (e : Event) → b ≢ a → of_pass (actors_after y actor a e) b idle_actor ≡ of_pass y.actors b idle_actor
+actors_other y actor a b (Invoke c) other = refl
+actors_other y actor a b Pin other = refl
+actors_other y actor a b (Hop word) other = refl
+actors_other y actor a b Reserve other = of_pass_other y.actors a b _ idle_actor other
+actors_other y actor a b (WriteKey k) other = refl
+actors_other y actor a b (Claim pred curr) other = go (is_pair_free y.locks pred curr)
+  where
+    go : (free : Bool) → of_pass (if free then set_actor y a (record { slot = actor.slot; hold = Locks; pred = pred; curr = curr }) else y.actors) b idle_actor ≡ of_pass y.actors b idle_actor
+    go true = of_pass_other y.actors a b _ idle_actor other
+    go false = refl
+actors_other y actor a b Check other = of_pass_other y.actors a b _ idle_actor other
+actors_other y actor a b WriteOpen other = of_pass_other y.actors a b _ idle_actor other
+actors_other y actor a b Link other = of_pass_other y.actors a b _ idle_actor other
+actors_other y actor a b WriteClose other = of_pass_other y.actors a b _ idle_actor other
+actors_other y actor a b Mark other = of_pass_other y.actors a b _ idle_actor other
+actors_other y actor a b Release other = of_pass_other y.actors a b _ idle_actor other
+actors_other y actor a b (Sync s) other = refl
+actors_other y actor a b (Settle s) other = refl
+actors_other y actor a b Unlink other = of_pass_other y.actors a b _ idle_actor other
+actors_other y actor a b Retire other = of_pass_other y.actors a b _ idle_actor other
+actors_other y actor a b (SeePin p value) other = refl
+actors_other y actor a b Answer other = of_pass_other y.actors a b _ idle_actor other
+actors_other y actor a b Halt other = refl
+
+pins_other : (y : Yard) (actor : Actor) (a b : ℕ) (e : Event) → b ≢ a → of_pass (words_after y actor a e).pins b 0 ≡ of_pass y.words.pins b 0
+pins_other y actor a b Pin other = of_pass_other y.words.pins a b _ 0 other
+pins_other y actor a b Link other = ap (λ (q : List ℕ). of_pass q b 0) (redirect_pins y.words actor.pred _)
+pins_other y actor a b Unlink other = ap (λ (q : List ℕ). of_pass q b 0) (redirect_pins y.words actor.pred _)
+pins_other y actor a b (Settle s) other = go (is_sure y s)
+  where
+    go : (sure : Bool) → of_pass (if sure then change_flags (settle (cell_at y s).stage) y.words s else y.words).pins b 0 ≡ of_pass y.words.pins b 0
+    go true = refl
+    go false = refl
+pins_other y actor a b Answer other = of_pass_other y.words.pins a b _ 0 other
+pins_other y actor a b (Invoke c) other = refl
+pins_other y actor a b (Hop word) other = refl
+pins_other y actor a b Reserve other = refl
+pins_other y actor a b (WriteKey k) other = refl
+pins_other y actor a b (Claim pred curr) other = refl
+pins_other y actor a b Check other = refl
+pins_other y actor a b WriteOpen other = refl
+pins_other y actor a b WriteClose other = refl
+pins_other y actor a b Mark other = refl
+pins_other y actor a b Release other = refl
+pins_other y actor a b (Sync s) other = refl
+pins_other y actor a b Retire other = refl
+pins_other y actor a b (SeePin p value) other = refl
+pins_other y actor a b Halt other = refl
+
+-- an actor that does nothing
+pub record IsIdleNow (y : Yard) (b : ℕ) : Type 0 where
+  pub outside : of_pass y.words.pins b 0 % 2 ≡ 0
+  pub slot : (of_pass y.actors b idle_actor).slot ≡ None
+  pub hold : (of_pass y.actors b idle_actor).hold ≡ Nothing
+
+pub idle_on : (k : Course) (y : Yard) (a b : ℕ) (e : Event) → b ≢ a → IsIdleNow y b → IsIdleNow (line_on k y (actor_at y a) a e).0 b
+idle_on (Refused outcome) y a b e other h = h
+idle_on Dies y a b e other h = record { outside = h.outside; slot = h.slot; hold = h.hold }
+idle_on Plays y a b e other h = record {
+  outside = ap (λ (v : ℕ). v % 2) (pins_other y (actor_at y a) a b e other) ∙ h.outside;
+  slot = ap (λ (x : Actor). x.slot) (actors_other y (actor_at y a) a b e other) ∙ h.slot;
+  hold = ap (λ (x : Actor). x.hold) (actors_other y (actor_at y a) a b e other) ∙ h.hold;
+}
+
+-- no gate is being opened
+abbrev pub NoneOpening : List Cell → Type 0
+NoneOpening cells = (s : ℕ) → stage_in cells s ≢ Opening
+
+-- one cell of a list
+pub cell_cases : (cells : List Cell) (r s : ℕ) (x : Cell) → ((s ≡ r) × (cell_in (slice_set cells r x) s ≡ x)) ⊎ (cell_in (slice_set cells r x) s ≡ cell_in cells s)
+cell_cases cells r s x = elim (cases_eq s r) [
+  | inl same ↦ elim (cases_lt s (length cells)) [
+    | inl lt ↦ inl (same, subst (λ (q : ℕ). cell_in (slice_set cells q x) s ≡ x) same (get_or-set_same cells s x no_cell lt))
+    | inr past ↦ inr (get_or_past (slice_set cells r x) s no_cell (omega (arith, past, length-set cells r x)) ∙ sym (get_or_past cells s no_cell past))
+  ]
+  | inr other ↦ inr (get_or-set_other cells r s x no_cell other)
+]
+
+pub synced_none : (cells : List Cell) → NoneOpening (map cell_synced cells)
+synced_none [] s is = absurd cc
+synced_none (c ∷ cells) zero is = not_opening c.stage is
+synced_none (c ∷ cells) (suc s) is = synced_none cells s is
+
+abbrev pub is_opening_event : Event → Bool
+is_opening_event WriteOpen = true
+is_opening_event _ = false
+
+set_none : (cells : List Cell) (r k : ℕ) (stage : Stage) → stage ≢ Opening → NoneOpening cells → NoneOpening (slice_set cells r (record { stage = stage; key = k }))
+set_none cells r k stage other none s is = ⊎_elim
+    (λ set. other (sym (ap (λ (x : Cell). x.stage) set.1) ∙ is))
+    (λ same. none s (sym (ap (λ (x : Cell). x.stage) same) ∙ is))
+    (cell_cases cells r s (record { stage = stage; key = k }))
+
+pub none_stays : (y : Yard) (actor : Actor) (e : Event) → is_opening_event e ≡ false → NoneOpening y.vault.cells → NoneOpening (cells_after y actor e)
+none_stays y actor (Invoke c) other none = none
+none_stays y actor Pin other none = none
+none_stays y actor (Hop word) other none = none
+none_stays y actor Reserve other none = none
+none_stays y actor (WriteKey k) other none = set_none y.vault.cells _ k KeyLoose (λ is. absurd cc) none
+none_stays y actor (Claim pred curr) other none = none
+none_stays y actor Check other none = none
+none_stays y actor WriteOpen other none = absurd (false≢true (sym other))
+none_stays y actor Link other none = none
+none_stays y actor WriteClose other none = set_none y.vault.cells _ _ Closing (λ is. absurd cc) none
+none_stays y actor Mark other none = none
+none_stays y actor Release other none = none
+none_stays y actor (Sync s) other none = go (is_sure y s)
+  where
+    go : (sure : Bool) → NoneOpening (if sure then y.vault.cells else map cell_synced y.vault.cells)
+    go true = none
+    go false = synced_none y.vault.cells
+none_stays y actor (Settle s) other none = none
+none_stays y actor Unlink other none = none
+none_stays y actor Retire other none = none
+none_stays y actor (SeePin p value) other none = none
+none_stays y actor Answer other none = none
+none_stays y actor Halt other none = none
+
+-- the same by the event's course: a vault that lives after it lived before
+pub none_on : (k : Course) (y : Yard) (a : ℕ) (e : Event) → is_opening_event e ≡ false → (line_on k y (actor_at y a) a e).0.vault.dead ≡ false → (y.vault.dead ≡ false → NoneOpening y.vault.cells) → NoneOpening (line_on k y (actor_at y a) a e).0.vault.cells
+none_on (Refused outcome) y a e other lives none = none lives
+none_on Dies y a e other lives none = absurd (false≢true (sym lives))
+none_on Plays y a e other lives none = none_stays y (actor_at y a) e other (none lives)
+
+-- events that retire a slot or give it back
+abbrev pub is_use_event : Event → Bool
+is_use_event Retire = true
+is_use_event Answer = true
+is_use_event _ = false
+
+reserved_left : (uses : List Use) (found : Option ℕ) (b : ℕ) → HasLeft uses b → HasLeft (reserved uses found) b
+reserved_left uses None b left = left
+reserved_left uses (Some s) b left = left_set uses s b Taken (λ seen is. absurd cc) left
+
+left_plays : (y : Yard) (actor : Actor) (a b : ℕ) (e : Event) → is_use_event e ≡ false → HasLeft y.uses b → HasLeft (uses_after y actor a e) b
+left_plays y actor a b Reserve calm left = reserved_left (collect y.uses) (lowest_free (collect y.uses)) b (left_collect y.uses b left)
+left_plays y actor a b Retire calm left = absurd (false≢true (sym calm))
+left_plays y actor a b (SeePin p value) calm left = left_seen y.uses p value b left
+left_plays y actor a b Answer calm left = absurd (false≢true (sym calm))
+left_plays y actor a b _ calm left = left
+
+pub left_on : (k : Course) (y : Yard) (a b : ℕ) (e : Event) → is_use_event e ≡ false → HasLeft y.uses b → HasLeft (line_on k y (actor_at y a) a e).0.uses b
+left_on (Refused outcome) y a b e calm left = left
+left_on Dies y a b e calm left = left
+left_on Plays y a b e calm left = left_plays y (actor_at y a) a b e calm left

@@ -1,0 +1,208 @@
+-- The halt word is written only where the vault is dead; so halted is answered only there, and worn only at the last pin.
+use Rattle.std.proofs.Common.{◌≡◌, ◌≢◌, ◌⊎◌, ⊎_elim, inl, inr, ℕ, ◌%◌, ◌&&◌, ◌||◌, not, Bool, true, false, List, [], ◌∷◌, Option, Some, None, refl, sym, ap, ◌∙◌, subst, arith}
+use Rattle.std.specs.Prelude.{if◌then◌else◌, ◌==◌}
+use mathlib.Core.Bool.{false≢true}
+use Rattle.std.proofs.lemmas.Bool.{cases_Bool}
+use Rattle.std.proofs.lemmas.Bool.Decides.{nat_tests, eqb_tells}
+use Rattle.std.proofs.lemmas.Option.{none-some, same_Some}
+use Rattle.lz_slot.specs.declared.command.Command.{Command}
+use Rattle.lz_slot.specs.declared.command.Command.TheVariants.{Add, Remove, Has}
+use Rattle.lz_slot.specs.Bytes.{held}
+use Rattle.lz_slot.specs.Histories.{History, Life, lives}
+use Rattle.lz_disk.specs.Images.{Medium}
+use Rattle.lz_allot.specs.Uses.{is_outside}
+use Rattle.lz_list.specs.declared.place.Place.{Place}
+use Rattle.lz_list.specs.declared.place.Place.TheVariants.{Bucket, Node}
+use Rattle.lz_list.specs.Words.{Words, redirect, change_flags}
+use Rattle.lz_list.specs.Traces.{Trace, Chain, opening, halt_word}
+use Rattle.lz_flush.specs.Settling.{settle}
+use Rattle.lz_machine.specs.declared.course.Course.{Course}
+use Rattle.lz_machine.specs.declared.course.Course.TheVariants.{Refused, Dies, Plays}
+use Rattle.lz_machine.specs.declared.actor.Actor.{Actor}
+use Rattle.lz_machine.specs.declared.event.Event.{Event}
+use Rattle.lz_machine.specs.declared.event.Event.TheVariants.{Invoke, Pin, Hop, Reserve, WriteKey, Claim, Check, WriteOpen, Link, WriteClose, Mark, Release, Sync, Settle, Unlink, Retire, SeePin, Answer, Halt}
+use Rattle.lz_machine.specs.declared.event.Outcome.TheVariants.{Done, NotNow, Dead}
+use Rattle.lz_machine.specs.declared.event.Reply.{Reply}
+use Rattle.lz_machine.specs.declared.event.Reply.TheVariants.{Worn as SaysWorn, Halted, Device}
+use Rattle.lz_machine.specs.declared.caller.Progress.{Progress}
+use Rattle.lz_machine.specs.declared.caller.Progress.TheVariants.{Playing, LoadsHalt, Walking, Reserving, SeeingPins, Claiming, Checking, Answering}
+use Rattle.lz_machine.specs.Yards.{Shape, Yard, actor_at, cell_at, first_trace}
+use Rattle.lz_machine.specs.Table.{course, line, line_on, needs, pin_of, last_pin, words_after, is_sure}
+use Rattle.lz_machine.specs.Runs.{Start, Caller, Service, State, Up, Down, Step, Calls, Turn, Fails, Looks, Trips, Stops, Crashes, CrashesIn, Opens, OpenFails, Point, MayStep, HasTurn, Reached, IsRun, run, first_point, state_after, caller_at, next_event, reply_at, after_turn, after_fault, start_keys}
+use Rattle.lz_machine.specs.Sound.{View, Relies, view_of, PointSound}
+use Rattle.lz_machine.specs.Alone.{RefusalsAreRight}
+use Rattle.lz_machine.proofs.Steps.Trip.{point}
+use Rattle.lz_machine.proofs.Steps.Hop.{call_at, own}
+use Rattle.lz_machine.proofs.Theorem.Reached.{reached_sound}
+
+-- only one event writes the halt word
+redirect_halt : (w : Words) (place : Place) (n : ℕ) → (redirect w place n).halt ≡ w.halt
+redirect_halt w (Bucket b) n = refl
+redirect_halt w (Node s) n = refl
+
+abbrev KeepsHalt : Yard → Actor → ℕ → Event → Type 0
+KeepsHalt y actor a e = (words_after y actor a e).halt ≡ y.words.halt
+
+halt_or_not : (y : Yard) (actor : Actor) (a : ℕ) (e : Event) → (e ≡ Halt) ⊎ KeepsHalt y actor a e
+halt_or_not y actor a (Invoke c) = inr refl
+halt_or_not y actor a Pin = inr refl
+halt_or_not y actor a (Hop word) = inr refl
+halt_or_not y actor a Reserve = inr refl
+halt_or_not y actor a (WriteKey k) = inr refl
+halt_or_not y actor a (Claim pred curr) = inr refl
+halt_or_not y actor a Check = inr refl
+halt_or_not y actor a WriteOpen = inr refl
+halt_or_not y actor a Link = inr (redirect_halt y.words actor.pred _)
+halt_or_not y actor a WriteClose = inr refl
+halt_or_not y actor a Mark = inr refl
+halt_or_not y actor a Release = inr refl
+halt_or_not y actor a (Sync s) = inr refl
+halt_or_not y actor a (Settle s) = inr (go (is_sure y s))
+  where
+    go : (sure : Bool) → (if sure then change_flags (settle (cell_at y s).stage) y.words s else y.words).halt ≡ y.words.halt
+    go true = refl
+    go false = refl
+halt_or_not y actor a Unlink = inr (redirect_halt y.words actor.pred _)
+halt_or_not y actor a Retire = inr refl
+halt_or_not y actor a (SeePin p value) = inr refl
+halt_or_not y actor a Answer = inr refl
+halt_or_not y actor a Halt = inl refl
+
+-- and only of a dead vault
+halts_dead : (y : Yard) (a : ℕ) → course y a Halt ≡ Plays → y.vault.dead ≡ true
+halts_dead y a plays = elim (cases_Bool y.vault.dead) [
+  | inl dead ↦ dead
+  | inr lives ↦
+      let refused : course y a Halt ≡ Refused NotNow = ap (λ (b : Bool). if b && not true then Refused Dead else if b then Plays else Refused NotNow) lives in
+      let clash : Refused NotNow ≡ Plays = sym refused ∙ plays in
+      absurd cc
+]
+
+abbrev IsDeadHalt : Yard → Type 0
+IsDeadHalt y = y.words.halt ≡ 1 → y.vault.dead ≡ true
+
+dead_line : (y : Yard) (a : ℕ) (e : Event) → IsDeadHalt y → IsDeadHalt (line y a e).0
+dead_line y a e h = go (course y a e) refl
+  where
+    go : (k : Course) → course y a e ≡ k → IsDeadHalt (line_on k y (actor_at y a) a e).0
+    go (Refused outcome) is = h
+    go Dies is = λ halt. refl
+    go Plays is = λ halt. ⊎_elim
+        (λ same. halts_dead y a (subst (λ (x : Event). course y a x ≡ Plays) same is))
+        (λ keeps. h (sym keeps ∙ halt))
+        (halt_or_not y (actor_at y a) a e)
+
+no_halt_opening : (buckets : ℕ) (found : Chain) → halt_word (opening buckets found) ≡ 0
+no_halt_opening buckets [] = refl
+no_halt_opening buckets (f ∷ found) = no_halt_opening buckets found
+
+abbrev DeadAt : State → Type 0
+DeadAt (Up service disk) = IsDeadHalt service.yard
+DeadAt (Down shape disk) = Unit {0}
+
+turn_dead : (service : Service) (disk : Medium) (a : ℕ) (who : Option Caller) → IsDeadHalt service.yard → DeadAt (after_turn service disk a who)
+turn_dead service disk a None h = h
+turn_dead service disk a (Some caller) h = dead_line service.yard a (next_event service.yard caller) h
+
+fault_dead : (service : Service) (new : Medium) (a : ℕ) (who : Option Caller) → IsDeadHalt service.yard → DeadAt (after_fault service new a who)
+fault_dead service new a None h = h
+fault_dead service new a (Some caller) h = λ halt. refl
+
+opens_dead : (shape : Shape) (t : List ℕ) → halt_word (first_trace shape t) ≡ 1 → false ≡ true
+opens_dead shape t halt = absurd (omega (arith, halt, no_halt_opening shape.buckets (held t shape.slots)))
+
+step_dead : (n : ℕ) (w : State) (step : Step) → MayStep w step → DeadAt w → DeadAt (state_after n w step)
+step_dead n (Up service disk) (Calls a c) may h = h
+step_dead n (Up service disk) (Turn a) may h = turn_dead service disk a (caller_at service.callers a) h
+step_dead n (Up service disk) (Fails a new) may h = fault_dead service new a (caller_at service.callers a) h
+step_dead n (Up service disk) (Looks a) may h = h
+step_dead n (Up service disk) Trips may h = h
+step_dead n (Up service disk) Stops may h = tt
+step_dead n (Up service disk) (Crashes t) may h = tt
+step_dead n (Up service disk) (CrashesIn a t) may h = tt
+step_dead n (Up service disk) Opens may h = absurd may
+step_dead n (Up service disk) (OpenFails why done) may h = absurd may
+step_dead n (Down shape disk) (Calls a c) may h = absurd may
+step_dead n (Down shape disk) (Turn a) may h = absurd may
+step_dead n (Down shape disk) (Fails a new) may h = absurd may
+step_dead n (Down shape disk) (Looks a) may h = absurd may
+step_dead n (Down shape disk) Trips may h = tt
+step_dead n (Down shape disk) Stops may h = tt
+step_dead n (Down shape disk) (Crashes t) may h = tt
+step_dead n (Down shape disk) (CrashesIn a t) may h = absurd may
+step_dead n (Down shape disk) Opens may h = opens_dead shape disk.seen
+step_dead n (Down shape disk) (OpenFails why true) may h = tt
+step_dead n (Down shape disk) (OpenFails why false) may h = tt
+
+reached_dead : (start : Start) (steps : List Step) → IsRun (first_point start) steps → DeadAt (run (first_point start) steps).state
+reached_dead start [] runs = opens_dead start.shape start.text
+reached_dead start (step ∷ steps) runs = let p = run (first_point start) steps in step_dead _ p.state step runs.0 (reached_dead start steps runs.1)
+
+-- what is about to be answered
+replies : (at : Progress) (reply : Reply) → reply_at at ≡ Some reply → at ≡ Answering reply
+replies (Answering other) reply is = ap Answering (same_Some other reply is)
+replies _ reply is = absurd (none-some reply is)
+
+halted_word : (v : View) (c : Command) (P0 P : Trace) (changed : Option ℕ) → Relies v c (Answering Halted) P0 P changed → halt_word P ≡ 1
+halted_word v (Add k) P0 P changed h = h.0
+halted_word v (Remove k) P0 P changed h = h.0
+halted_word v (Has k) P0 P changed h = h.0
+
+device_word : (v : View) (c : Command) (P0 P : Trace) (changed : Option ℕ) → Relies v c (Answering Device) P0 P changed → halt_word P ≡ 1
+device_word v (Add k) P0 P changed h = h.0
+device_word v (Remove k) P0 P changed h = h.0
+device_word v (Has k) P0 P changed h = h.0
+
+-- an answer that may be given outside is that of the last pin
+last_of : (y : Yard) (a : ℕ) → pin_of y a % 2 ≡ 0 → (line y a Answer).1 ≢ NotNow → pin_of y a ≡ last_pin
+last_of y a even now = elim (eqb_tells (pin_of y a) last_pin) [
+  | inl same ↦ same.1
+  | inr other ↦ absurd (now (ap (λ (k : Course). (line_on k y (actor_at y a) a Answer).1) (refused y.vault.dead (needs y a Answer) (lacks other.0))))
+]
+  where
+    outside : is_outside (pin_of y a) ≡ true
+    outside = grind (arith, nat_tests, even)
+
+    lacks : (pin_of y a == last_pin) ≡ false → needs y a Answer ≡ false
+    lacks other = ap (λ (b : Bool). not b || (pin_of y a == last_pin)) outside ∙ other
+
+    refused : (dead may : Bool) → may ≡ false → (if dead && not true then Refused Dead else if may then (if pin_of y a == last_pin then Refused Done else Plays) else Refused NotNow) ≡ Refused NotNow
+    refused true false is = refl
+    refused false false is = refl
+    refused dead true is = absurd (false≢true (sym is))
+
+module _ (start : Start) (service : Service) (disk : Medium) (M : History) (P : Trace) (calls a i : ℕ) (c : Command) (dead : IsDeadHalt service.yard) where
+  worn_at : (at : Progress) → at ≡ Answering SaysWorn → caller_at service.callers a ≡ Some (call_at i c at) → HasTurn service a (Some (call_at i c at)) → (L : List Life) → PointSound start (point (Up service disk) M P calls) L → pin_of service.yard a ≡ last_pin
+  worn_at at same is may [] sound = absurd sound
+  worn_at at same is may (life ∷ earlier) sound =
+      let at_worn = subst (λ (q : Progress). caller_at service.callers a ≡ Some (call_at i c q)) same is in
+      last_of service.yard a (own sound.2.0 calls service.yard service.callers disk life.history P sound.2.1 a i c (Answering SaysWorn) at_worn sound.2.2.sound).stands.0
+      (subst (λ (q : Progress). HasTurn service a (Some (call_at i c q))) same may)
+
+  halted_at : caller_at service.callers a ≡ Some (call_at i c (Answering Halted)) → (L : List Life) → PointSound start (point (Up service disk) M P calls) L → service.yard.vault.dead ≡ true
+  halted_at is [] sound = absurd sound
+  halted_at is (life ∷ earlier) sound =
+      dead (sound.2.2.sound.trace.halt ∙ halted_word (view_of service.yard.shape service.yard.vault service.yard.actors a) c (sound.2.1.begun a) P (sound.2.1.changed a) (own sound.2.0 calls service.yard service.callers disk life.history P sound.2.1 a i c (Answering Halted) is sound.2.2.sound).stands.2)
+
+  device_at : caller_at service.callers a ≡ Some (call_at i c (Answering Device)) → (L : List Life) → PointSound start (point (Up service disk) M P calls) L → service.yard.vault.dead ≡ true
+  device_at is [] sound = absurd sound
+  device_at is (life ∷ earlier) sound =
+      dead (sound.2.2.sound.trace.halt ∙ device_word (view_of service.yard.shape service.yard.vault service.yard.actors a) c (sound.2.1.begun a) P (sound.2.1.changed a) (own sound.2.0 calls service.yard service.callers disk life.history P sound.2.1 a i c (Answering Device) is sound.2.2.sound).stands.2)
+
+-- where the steps lead
+abbrev at_end : {w : State} {M : History} {P : Trace} (start : Start) → Reached start w M P → Point
+at_end start reached = run (first_point start) reached.steps
+
+-- worn comes only at the last pin, halted and device only of a dead vault
+pub refusals_are_right : RefusalsAreRight
+refusals_are_right start service disk M P a caller reached is may = (
+  (λ worn. worn_at start service disk (at_end start reached).marks (at_end start reached).trace (at_end start reached).calls a caller.number caller.command dead caller.progress (replies caller.progress SaysWorn worn) is (subst (HasTurn service a) is may) (lives (start_keys start) (at_end start reached).marks) sound),
+  (λ halted. halted_at start service disk (at_end start reached).marks (at_end start reached).trace (at_end start reached).calls a caller.number caller.command dead (is ∙ ap (λ (q : Progress). Some (call_at caller.number caller.command q)) (replies caller.progress Halted halted)) (lives (start_keys start) (at_end start reached).marks) sound),
+  (λ device. device_at start service disk (at_end start reached).marks (at_end start reached).trace (at_end start reached).calls a caller.number caller.command dead (is ∙ ap (λ (q : Progress). Some (call_at caller.number caller.command q)) (replies caller.progress Device device)) (lives (start_keys start) (at_end start reached).marks) sound),
+)
+  where
+    dead : IsDeadHalt service.yard
+    dead = subst DeadAt reached.state (reached_dead start reached.steps reached.runs)
+
+    sound : PointSound start (point (Up service disk) (at_end start reached).marks (at_end start reached).trace (at_end start reached).calls) (lives (start_keys start) (at_end start reached).marks)
+    sound = subst (λ (w : State). PointSound start (point w (at_end start reached).marks (at_end start reached).trace (at_end start reached).calls) (lives (start_keys start) (at_end start reached).marks)) reached.state (reached_sound start reached.steps reached.starts reached.runs)

@@ -1,0 +1,285 @@
+-- Where one actor is alone, full comes exactly where there is no room.
+use Rattle.std.proofs.Common.{◌≡◌, inl, ℕ, zero, suc, ◌≤◌, ◌<◌, ◌%◌, true, false, List, [], ◌∷◌, ◌++◌, length, map, Option, Some, None, refl, sym, ap, ◌∙◌, subst, arith}
+use Rattle.lz_slot.specs.declared.command.Command.{Command}
+use Rattle.lz_slot.specs.declared.command.Command.TheVariants.{Add, Remove, Has}
+use Rattle.lz_slot.specs.declared.history.Mark.TheVariants.{Call}
+use Rattle.lz_slot.specs.declared.slot.SlotRead.{SlotRead}
+use Rattle.lz_slot.specs.declared.slot.SlotRead.TheVariants.{Closed as Shut, Member, BadKey}
+use Rattle.lz_slot.specs.Sets.{Keys}
+use Rattle.lz_slot.specs.Bytes.{Holds, slot_at}
+use Rattle.lz_slot.specs.Counted.{set_of_pass}
+use Rattle.lz_slot.specs.Histories.{History, Life, lives, with_mark}
+use Rattle.lz_slot.proofs.Counted.{of_pass_same, of_pass_other}
+use Rattle.lz_disk.specs.Images.{Medium, IsImage, at_rest}
+use Rattle.lz_vault.specs.declared.vault.Stage.{Stage}
+use Rattle.lz_vault.specs.declared.vault.Stage.TheVariants.{Opening}
+use Rattle.lz_vault.specs.Stages.{MayRead}
+use Rattle.lz_vault.specs.Vaults.{DeviceCall, medium_after}
+use Rattle.lz_allot.specs.declared.sight.Sight.{Sight}
+use Rattle.lz_allot.specs.declared.counts.Counts.{Counts}
+use Rattle.lz_allot.specs.Uses.{Limbo, use_of}
+use Rattle.lz_list.specs.Traces.{Trace}
+use Rattle.lz_machine.specs.declared.actor.Actor.{Actor}
+use Rattle.lz_machine.specs.declared.event.Reply.{Reply}
+use Rattle.lz_machine.specs.declared.event.Reply.TheVariants.{Yes, No, Full, Worn, Halted, Device}
+use Rattle.lz_machine.specs.declared.caller.Progress.{Progress}
+use Rattle.lz_machine.specs.declared.caller.Progress.TheVariants.{Playing, LoadsHalt, Walking, Reserving, SeeingPins, Claiming, Checking, Answering}
+use Rattle.lz_machine.specs.Yards.{Shape, Yard, cell_read, use_read, slots_read, opened_yard, first_trace, idle_actor}
+use Rattle.lz_machine.specs.Table.{line, line_failed}
+use Rattle.lz_machine.specs.Calls.{first_progress, halts}
+use Rattle.lz_machine.specs.Runs.{Start, IsStart, Caller, Service, State, Up, Down, Step, Calls, Turn, Fails, Looks, Trips, Stops, Crashes, CrashesIn, Opens, OpenFails, Point, MayStep, HasTurn, HasFault, IsRun, run, first_point, point_after, state_after, trace_after, caller_at, next_event, reply_at, moved_on, after_turn, after_fault, opened_service, marks_of_turn, mark_of, turn_publishes, start_keys, looked}
+use Rattle.lz_machine.specs.Sound.{Notes, cell_in, stage_in, Sound, PointSound, IsSound}
+use Rattle.lz_machine.specs.Alone.{IsOwn, IsAlone, IsPlain, IsFull, HasRoom, IsSized, AreSized, FullIsRight}
+use Rattle.lz_machine.proofs.Steps.Trip.{point}
+use Rattle.lz_machine.proofs.Open.FirstState.{pass_of}
+use Rattle.lz_machine.proofs.Frames.OneActor.{caller_range}
+use Rattle.lz_machine.proofs.Steps.Hop.{call_at}
+use Rattle.lz_machine.proofs.Crash.ImageSlots.{reads}
+use Rattle.lz_machine.proofs.Theorem.Reached.{reached_sound}
+use Rattle.lz_machine.proofs.Alone.Service.{Ended}
+use Rattle.lz_machine.proofs.Alone.Run.{IsTold, answer_is_quiet}
+use Rattle.lz_machine.proofs.Alone.Crash.{AloneAt, AloneLives, HasSet, reached_alone}
+use Rattle.lz_machine.proofs.Alone.Size.{HoldsOther, has_room, is_full}
+use Rattle.lz_machine.proofs.Alone.Full.{AreOther, WalkStands, AloneFull}
+use Rattle.lz_machine.proofs.Alone.Turn.{turned, faulted}
+use Rattle.lz_machine.proofs.Runs.CallerTable.{none_of, fault_no_reply}
+use Rattle.lz_machine.proofs.Steps.Point.{reply_lives}
+
+-- of a state
+abbrev FullAt : ℕ → State → Trace → Type 0
+FullAt a (Up service disk) P = AloneFull a service.yard (caller_at service.callers a) P
+FullAt a (Down shape disk) P = Unit {0}
+
+-- a service that is opened
+no_limbo_read : (rs : List SlotRead) (s : ℕ) (seen : List Sight) → use_of (map use_read rs) s ≡ Limbo seen → ⊥
+no_limbo_read [] s seen is = absurd cc
+no_limbo_read (Member k ∷ rs) zero seen is = absurd cc
+no_limbo_read (Shut ∷ rs) zero seen is = absurd cc
+no_limbo_read (BadKey ∷ rs) zero seen is = absurd cc
+no_limbo_read (r ∷ rs) (suc s) seen is = no_limbo_read rs s seen is
+
+no_opening_read : (rs : List SlotRead) (s : ℕ) → stage_in (map cell_read rs) s ≡ Opening → ⊥
+no_opening_read [] s is = absurd cc
+no_opening_read (Member k ∷ rs) zero is = absurd cc
+no_opening_read (Shut ∷ rs) zero is = absurd cc
+no_opening_read (BadKey ∷ rs) zero is = absurd cc
+no_opening_read (r ∷ rs) (suc s) is = no_opening_read rs s is
+
+opened_full : (a : ℕ) (shape : Shape) (t : List ℕ) (P : Trace) (disk : Medium) → FullAt a (Up (opened_service shape t) disk) P
+opened_full a shape t P disk = subst (λ (who : Option Caller). AloneFull a (opened_yard shape t) who P) (sym (pass_of shape.passes a None)) (record {
+  others = λ b other. record {
+    outside = ap (λ (v : ℕ). v % 2) (pass_of shape.passes b 0);
+    slot = ap (λ (x : Actor). x.slot) (pass_of shape.passes b idle_actor);
+    hold = ap (λ (x : Actor). x.hold) (pass_of shape.passes b idle_actor);
+  };
+  left = λ no s seen is. absurd (no_limbo_read (slots_read t shape.slots) s seen is);
+  opening = λ lives s is. absurd (no_opening_read (slots_read t shape.slots) s is);
+  stands = tt;
+})
+
+module _ (n calls : ℕ) (y : Yard) (callers : List (Option Caller)) (disk : Medium) (M : History) (P : Trace) (notes : Notes) (sound : Sound n calls y callers disk M P notes) (a : ℕ) (h : AloneFull a y (caller_at callers a) P) where
+  abbrev serving : Service
+  serving = record { yard = y; callers = callers }
+
+  full_call : (i : ℕ) (c : Command) → 1 ≤ a → a ≤ length callers → caller_at callers a ≡ None → AloneFull a y (caller_at (set_of_pass callers a (Some (call_at i c first_progress))) a) P
+  full_call i c low high none = subst (λ (who : Option Caller). AloneFull a y who P) (sym (of_pass_same callers a (Some (call_at i c first_progress)) None low high)) (go (subst (λ (who : Option Caller). AloneFull a y who P) none h))
+    where
+      go : AloneFull a y None P → AloneFull a y (Some (call_at i c first_progress)) P
+      go h = record { others = h.others; left = λ _. h.left refl; opening = λ lives s opens. absurd (h.opening lives s opens); stands = tt }
+
+  full_turn : (who : Option Caller) → caller_at callers a ≡ who → HasTurn serving a who → FullAt a (after_turn serving disk a who) (turn_publishes serving a who ++ P)
+  full_turn None is may = absurd may
+  full_turn (Some caller) is may =
+      let range = caller_range callers a caller is in
+      subst (λ (who : Option Caller). AloneFull a (line y a (next_event y caller)).0 who (turn_publishes serving a (Some caller) ++ P)) (sym (of_pass_same callers a _ None range.0 range.1))
+      (turned n calls y callers disk M P notes sound a caller.number caller.command caller.progress is (subst (λ (who : Option Caller). AloneFull a y who P) is h) may)
+
+  full_fault : (new : Medium) (who : Option Caller) → caller_at callers a ≡ who → HasFault serving disk a who new → FullAt a (after_fault serving new a who) P
+  full_fault new None is may = absurd may
+  full_fault new (Some caller) is may =
+      let range = caller_range callers a caller is in
+      let goes = fault_no_reply y a caller.command caller.progress disk new may in
+      subst (λ (who : Option Caller). AloneFull a (line_failed y a (next_event y caller)).0 who P)
+      (sym (of_pass_same callers a (moved_on (reply_at caller.progress) caller (halts Device)) None range.0 range.1 ∙ ap (λ (r : Option Reply). moved_on r caller (halts Device)) goes))
+      (faulted n calls y callers disk M P notes sound a caller.number caller.command caller.progress (next_event y caller) goes (subst (λ (who : Option Caller). AloneFull a y who P) is h))
+
+  full_look : caller_at callers a ≡ None → AloneFull a (looked y a) (caller_at callers a) P
+  full_look none = subst (λ (who : Option Caller). AloneFull a (looked y a) who P) (sym none) (go (subst (λ (who : Option Caller). AloneFull a y who P) none h))
+    where
+      go : AloneFull a y None P → AloneFull a (looked y a) None P
+      go h = record {
+        others = λ b other. let was = h.others b other in record { outside = ap (λ (v : ℕ). v % 2) (of_pass_other y.words.pins a b _ 0 other) ∙ was.outside; slot = was.slot; hold = was.hold };
+        left = λ _. h.left refl;
+        opening = λ lives s opens. absurd (h.opening lives s opens);
+        stands = tt;
+      }
+
+-- each step keeps it
+full_step : (start : Start) (a : ℕ) (w : State) (M : History) (P : Trace) (calls : ℕ) (step : Step) → IsOwn a step → MayStep w step → (L : List Life) → PointSound start (point w M P calls) L → FullAt a w P
+    → FullAt a (state_after (suc calls) w step) (trace_after w P step)
+full_step start a w M P calls step own may [] sound h = absurd sound
+full_step start a (Up service disk) M P calls (Calls b c) own may (life ∷ earlier) sound h =
+    subst (λ (q : ℕ). MayStep (Up service disk) (Calls q c) → FullAt a (state_after (suc calls) (Up service disk) (Calls q c)) P) (sym own)
+    (λ may. full_call sound.2.0 calls service.yard service.callers disk life.history P sound.2.1 sound.2.2.sound a h (suc calls) c may.0.0 (omega (arith, may.0.1, sound.2.2.sound.callers.count)) (none_of (caller_at service.callers a) may.1)) may
+full_step start a (Up service disk) M P calls (Turn b) own may (life ∷ earlier) sound h =
+    subst (λ (q : ℕ). MayStep (Up service disk) (Turn q) → FullAt a (state_after (suc calls) (Up service disk) (Turn q)) (trace_after (Up service disk) P (Turn q))) (sym own)
+    (λ may. full_turn sound.2.0 calls service.yard service.callers disk life.history P sound.2.1 sound.2.2.sound a h (caller_at service.callers a) refl may) may
+full_step start a (Up service disk) M P calls (Fails b new) own may (life ∷ earlier) sound h =
+    subst (λ (q : ℕ). MayStep (Up service disk) (Fails q new) → FullAt a (state_after (suc calls) (Up service disk) (Fails q new)) P) (sym own)
+    (λ may. full_fault sound.2.0 calls service.yard service.callers disk life.history P sound.2.1 sound.2.2.sound a h new (caller_at service.callers a) refl may) may
+full_step start a (Up service disk) M P calls (Looks b) own may (life ∷ earlier) sound h =
+    subst (λ (q : ℕ). MayStep (Up service disk) (Looks q) → FullAt a (state_after (suc calls) (Up service disk) (Looks q)) P) (sym own)
+    (λ may. full_look sound.2.0 calls service.yard service.callers disk life.history P sound.2.1 sound.2.2.sound a h (none_of (caller_at service.callers a) may.1)) may
+full_step start a (Up service disk) M P calls Trips own may (life ∷ earlier) sound h = h
+full_step start a (Up service disk) M P calls Stops own may (life ∷ earlier) sound h = tt
+full_step start a (Up service disk) M P calls (Crashes t) own may (life ∷ earlier) sound h = tt
+full_step start a (Up service disk) M P calls (CrashesIn b t) own may (life ∷ earlier) sound h = tt
+full_step start a (Up service disk) M P calls Opens own may (life ∷ earlier) sound h = absurd may
+full_step start a (Up service disk) M P calls (OpenFails why done) own may (life ∷ earlier) sound h = absurd may
+full_step start a (Down shape disk) M P calls (Calls b c) own may (life ∷ earlier) sound h = absurd may
+full_step start a (Down shape disk) M P calls (Turn b) own may (life ∷ earlier) sound h = absurd may
+full_step start a (Down shape disk) M P calls (Fails b new) own may (life ∷ earlier) sound h = absurd may
+full_step start a (Down shape disk) M P calls (Looks b) own may (life ∷ earlier) sound h = absurd may
+full_step start a (Down shape disk) M P calls Trips own may (life ∷ earlier) sound h = tt
+full_step start a (Down shape disk) M P calls Stops own may (life ∷ earlier) sound h = tt
+full_step start a (Down shape disk) M P calls (Crashes t) own may (life ∷ earlier) sound h = tt
+full_step start a (Down shape disk) M P calls (CrashesIn b t) own may (life ∷ earlier) sound h = absurd may
+full_step start a (Down shape disk) M P calls Opens own may (life ∷ earlier) sound h = opened_full a shape disk.seen (first_trace shape disk.seen) disk
+full_step start a (Down shape disk) M P calls (OpenFails why true) own may (life ∷ earlier) sound h = tt
+full_step start a (Down shape disk) M P calls (OpenFails why false) own may (life ∷ earlier) sound h = tt
+
+reached_full : (start : Start) (steps : List Step) (a : ℕ) → IsStart start → IsRun (first_point start) steps → IsAlone a steps → FullAt a (run (first_point start) steps).state (run (first_point start) steps).trace
+reached_full start [] a is runs alone = opened_full a start.shape start.text (first_trace start.shape start.text) (at_rest start.text)
+reached_full start (step ∷ steps) a is runs alone =
+    let p = run (first_point start) steps in
+    full_step start a p.state p.marks p.trace p.calls step alone.0 runs.0 (lives (start_keys start) p.marks) (reached_sound start steps is runs.1) (reached_full start steps a is runs.1 alone.1)
+
+-- a mark that says nothing of room
+room_no : (N : ℕ) (c : Command) (T : Keys) → HasRoom N c false T
+room_no N (Add k) T = tt
+room_no N (Remove k) T = tt
+room_no N (Has k) T = tt
+
+sized_mark : (N : ℕ) (i a : ℕ) (c : Command) (L : List Life) → AreSized N L → AreSized N (with_mark (Call i a c) L)
+sized_mark N i a c [] h = h
+sized_mark N i a c (life ∷ earlier) h = h
+
+-- what a reply says of room
+module _ (N i a n : ℕ) (c : Command) (M : History) (S : Keys) (ended : Ended i M) (sized : IsSized N S M) (t : List ℕ) (new : Keys) (holds : Holds t N new) where
+  sized_reply : (reply : Reply) → IsPlain S (mark_of i reply ∷ Call i a c ∷ M) new → ((k : ℕ) → c ≡ Add k → (counts : Counts) → reply ≡ Full counts → (s : ℕ) → s < N → HoldsOther t k s)
+      → ((counts : Counts) → reply ≡ Full counts → (k : ℕ) × (c ≡ Add k)) → IsSized N S (mark_of i reply ∷ Call i a c ∷ M)
+  sized_reply Yes plain each adds = ((λ T was. has_room N i i i a c M S T t new ended holds plain was), sized)
+  sized_reply No plain each adds = ((λ T was. room_no N c T), sized)
+  sized_reply (Full counts) plain each adds =
+      let add = adds counts refl in
+      ((λ T was. subst (λ (d : Command). IsFull N d T) (sym add.1) (is_full N i i i a add.0 M S T t new ended holds (subst (λ (d : Command). IsPlain S (mark_of i (Full counts) ∷ Call i a d ∷ M) new) add.1 plain) (each add.0 add.1 counts refl) was)), sized)
+  sized_reply Worn plain each adds = sized
+  sized_reply Halted plain each adds = sized
+  sized_reply Device plain each adds = sized
+
+module _ (start : Start) (a : ℕ) (service : Service) (disk : Medium) (M : History) (P : Trace) (calls : ℕ) where
+  abbrev y : Yard
+  y = service.yard
+
+  abbrev before : Point
+  before = point (Up service disk) M P calls
+
+  abbrev N : ℕ
+  N = start.shape.slots
+
+  abbrev of_turn : Option Caller → Point
+  of_turn who = point (after_turn service disk a who) (marks_of_turn who ++ M) (turn_publishes service a who ++ P) calls
+
+  -- an answer
+  sized_answer : (i : ℕ) (c : Command) (reply : Reply) → caller_at service.callers a ≡ Some (call_at i c (Answering reply)) → (L : List Life) → PointSound start before L → FullAt a (Up service disk) P → AloneLives a N before L
+      → AloneLives a N (of_turn (Some (call_at i c (Answering reply)))) (with_mark (mark_of i reply) L) → AreSized N L → AreSized N (with_mark (mark_of i reply) L)
+  sized_answer i c reply is [] sound full alone after sized = absurd sound
+  sized_answer i c reply is (life ∷ earlier) sound full alone after sized = (
+    subst (λ (H : History). IsSized N life.start (mark_of i reply ∷ H)) (sym told.1)
+        (sized_reply N i a (suc calls) c told.0 life.start told.3 (subst (IsSized N life.start) told.1 sized.0) disk.seen set.0 set.1 reply
+        (subst (λ (H : History). IsPlain life.start (mark_of i reply ∷ H) set.0) told.1 set.2) each adds),
+    sized.1,
+  )
+    where
+      told : IsTold a (suc calls) (Some (call_at i c (Answering reply))) life.history
+      told = subst (λ (who : Option Caller). IsTold a (suc calls) who life.history) is alone.0.told
+
+      image : IsImage disk disk.seen
+      image = sound.2.2.sound.images.keeps.sound.seen
+
+      set : HasSet N (record { start = life.start; history = mark_of i reply ∷ life.history }) disk.seen
+      set = after.1 disk.seen (inl (subst (λ (call : DeviceCall). IsImage (medium_after call disk) disk.seen) (sym (answer_is_quiet y a)) image))
+
+      here : AloneFull a y (Some (call_at i c (Answering reply))) P
+      here = subst (λ (who : Option Caller). AloneFull a y who P) is full
+
+      stands : (r : Reply) → reply ≡ r → WalkStands y P (Answering r) c
+      stands r same = subst (λ (q : Reply). WalkStands y P (Answering q) c) same here.stands
+
+      adds : (counts : Counts) → reply ≡ Full counts → (k : ℕ) × (c ≡ Add k)
+      adds counts same = go c (stands (Full counts) same)
+        where
+          go : (d : Command) → WalkStands y P (Answering (Full counts)) d → (k : ℕ) × (d ≡ Add k)
+          go (Add k) h = (k, refl)
+          go (Remove k) h = absurd h
+          go (Has k) h = absurd h
+
+      each : (k : ℕ) → c ≡ Add k → (counts : Counts) → reply ≡ Full counts → (s : ℕ) → s < N → HoldsOther disk.seen k s
+      each k add counts same s lt =
+          let others : AreOther y k = subst (λ (d : Command). WalkStands y P (Answering (Full counts)) d) add (stands (Full counts) same) in
+          let within : s < y.shape.slots = subst (λ (shape : Shape). s < shape.slots) (sym sound.0) lt in
+          let own = others s within in
+          let read = reads sound.2.0 calls y service.callers disk life.history P sound.2.1 sound.2.2.sound disk.seen image s within in
+          ((cell_in y.vault.cells s).key, subst (λ (g : Stage). MayRead g (cell_in y.vault.cells s).key (slot_at disk.seen s)) own.0 read, own.1)
+
+  sized_point : (i : ℕ) (c : Command) (at : Progress) → caller_at service.callers a ≡ Some (call_at i c at) → IsSound start before → FullAt a (Up service disk) P → AloneAt start a before
+      → AloneAt start a (of_turn (Some (call_at i c at))) → AreSized N (lives (start_keys start) M) → AreSized N (lives (start_keys start) (marks_of_turn (Some (call_at i c at)) ++ M))
+  sized_point i c (Playing script j) is sound full alone after sized = sized
+  sized_point i c LoadsHalt is sound full alone after sized = sized
+  sized_point i c (Walking aim look) is sound full alone after sized = sized
+  sized_point i c (Reserving again) is sound full alone after sized = sized
+  sized_point i c (SeeingPins p) is sound full alone after sized = sized
+  sized_point i c (Claiming aim pred curr) is sound full alone after sized = sized
+  sized_point i c (Checking aim curr) is sound full alone after sized = sized
+  sized_point i c (Answering reply) is sound full alone after sized =
+      subst (AreSized N) (sym (reply_lives (start_keys start) i reply M))
+      (sized_answer i c reply is (lives (start_keys start) M) sound full alone (subst (AloneLives a N (of_turn (Some (call_at i c (Answering reply))))) (reply_lives (start_keys start) i reply M) after) sized)
+
+  sized_turn : (who : Option Caller) → caller_at service.callers a ≡ who → HasTurn service a who → IsSound start before → FullAt a (Up service disk) P → AloneAt start a before → AloneAt start a (of_turn who)
+      → AreSized N (lives (start_keys start) M) → AreSized N (lives (start_keys start) (marks_of_turn who ++ M))
+  sized_turn None is may sound full alone after sized = absurd may
+  sized_turn (Some caller) is may sound full alone after sized = sized_point caller.number caller.command caller.progress is sound full alone after sized
+
+sized_step : (start : Start) (a : ℕ) (w : State) (M : History) (P : Trace) (calls : ℕ) (step : Step) → IsOwn a step → MayStep w step → IsSound start (point w M P calls) → FullAt a w P → AloneAt start a (point w M P calls) → AloneAt start a (point_after (point w M P calls) step)
+    → AreSized start.shape.slots (lives (start_keys start) M) → AreSized start.shape.slots (lives (start_keys start) (point_after (point w M P calls) step).marks)
+sized_step start a (Up service disk) M P calls (Calls b c) own may sound full alone after sized = sized_mark start.shape.slots (suc calls) b c (lives (start_keys start) M) sized
+sized_step start a (Up service disk) M P calls (Turn b) own may sound full alone after sized =
+    subst (λ (q : ℕ). MayStep (Up service disk) (Turn q) → AloneAt start a (point_after (point (Up service disk) M P calls) (Turn q)) → AreSized start.shape.slots (lives (start_keys start) (point_after (point (Up service disk) M P calls) (Turn q)).marks)) (sym own)
+    (λ may after. sized_turn start a service disk M P calls (caller_at service.callers a) refl may sound full alone after sized) may after
+sized_step start a (Up service disk) M P calls (Fails b new) own may sound full alone after sized = sized
+sized_step start a (Up service disk) M P calls (Looks b) own may sound full alone after sized = sized
+sized_step start a (Up service disk) M P calls Trips own may sound full alone after sized = sized
+sized_step start a (Up service disk) M P calls Stops own may sound full alone after sized = sized
+sized_step start a (Up service disk) M P calls (Crashes t) own may sound full alone after sized = sized
+sized_step start a (Up service disk) M P calls (CrashesIn b t) own may sound full alone after sized = sized
+sized_step start a (Up service disk) M P calls Opens own may sound full alone after sized = absurd may
+sized_step start a (Up service disk) M P calls (OpenFails why done) own may sound full alone after sized = absurd may
+sized_step start a (Down shape disk) M P calls (Calls b c) own may sound full alone after sized = absurd may
+sized_step start a (Down shape disk) M P calls (Turn b) own may sound full alone after sized = absurd may
+sized_step start a (Down shape disk) M P calls (Fails b new) own may sound full alone after sized = absurd may
+sized_step start a (Down shape disk) M P calls (Looks b) own may sound full alone after sized = absurd may
+sized_step start a (Down shape disk) M P calls Trips own may sound full alone after sized = sized
+sized_step start a (Down shape disk) M P calls Stops own may sound full alone after sized = sized
+sized_step start a (Down shape disk) M P calls (Crashes t) own may sound full alone after sized = sized
+sized_step start a (Down shape disk) M P calls (CrashesIn b t) own may sound full alone after sized = absurd may
+sized_step start a (Down shape disk) M P calls Opens own may sound full alone after sized = (tt, sized)
+sized_step start a (Down shape disk) M P calls (OpenFails why true) own may sound full alone after sized = sized
+sized_step start a (Down shape disk) M P calls (OpenFails why false) own may sound full alone after sized = sized
+
+-- full comes exactly where there is no room
+pub full_is_right : FullIsRight
+full_is_right start [] a is runs alone = (tt, tt)
+full_is_right start (step ∷ steps) a is runs alone =
+    let p = run (first_point start) steps in
+    sized_step start a p.state p.marks p.trace p.calls step alone.0 runs.0 (reached_sound start steps is runs.1) (reached_full start steps a is runs.1 alone.1) (reached_alone start steps a is runs.1 alone.1) (reached_alone start (step ∷ steps) a is runs alone)
+    (full_is_right start steps a is runs.1 alone.1)

@@ -1,0 +1,235 @@
+-- How many keys a text of N slots holds, and what that says of an adding.
+use Rattle.std.proofs.Common.{◌≡◌, ◌≢◌, inl, inr, ℕ, zero, suc, ◌≤◌, ◌<◌, ◌&&◌, ◌||◌, not, Bool, true, false, List, [], ◌∷◌, ◌++◌, length, length-append, refl, sym, ap, ◌∙◌, subst, arith}
+use Rattle.std.specs.Prelude.{if◌then◌else◌, ◌==◌, nat_eq}
+use Rattle.std.specs.List.{list_any, IsDistinct}
+use Rattle.std.specs.Cmp.{nat_eq_equiv, both_ways}
+use Rattle.std.proofs.lemmas.Map.Keys.{IsDistinct-push}
+use Rattle.std.proofs.lemmas.List.Folds.{list_any-append}
+use mathlib.Core.Bool.{false≢true}
+use Rattle.std.proofs.lemmas.Bool.{cases_eq, cases_Bool, not-true}
+use Rattle.std.proofs.lemmas.Bool.Decides.{nat_tests}
+use Rattle.lz_slot.specs.declared.command.Command.{Command}
+use Rattle.lz_slot.specs.declared.command.Command.TheVariants.{Add, Remove, Has}
+use Rattle.lz_slot.specs.declared.history.Refusal.TheVariants.{Full, Worn}
+use Rattle.lz_slot.specs.declared.history.Mark.TheVariants.{Call, Answer, Refused, Cut, Stop, Crash, Opened, OpenFailed}
+use Rattle.lz_slot.specs.declared.slot.SlotRead.{SlotRead}
+use Rattle.lz_slot.specs.declared.slot.SlotRead.TheVariants.{Closed as Shut, Member, BadKey}
+use Rattle.lz_slot.specs.Sets.{Keys, Same, members}
+use Rattle.lz_slot.specs.Bytes.{Holds, slot_at}
+use Rattle.lz_slot.specs.Histories.{History}
+use Rattle.lz_machine.specs.Alone.{has_cut, IsPlain, HasMembers, HasRoom, IsFull}
+use Rattle.lz_machine.proofs.Crash.ImageSlots.{found, found_in, in_found, reads_key}
+use Rattle.lz_machine.proofs.Alone.Service.{Ended}
+use Rattle.lz_machine.proofs.Ledger.Answers.{after_same}
+
+-- the keys that the first n slots hold, but k
+abbrev key_but : ℕ → SlotRead → List ℕ
+key_but k (Member j) = if j == k then [] else j ∷ []
+key_but k _ = []
+
+abbrev keys_but : ℕ → List ℕ → ℕ → List ℕ
+keys_but k t zero = []
+keys_but k t (suc n) = keys_but k t n ++ key_but k (slot_at t n)
+
+one_key : (k : ℕ) (r : SlotRead) → length (key_but k r) ≤ 1
+one_key k Shut = omega arith
+one_key k BadKey = omega arith
+one_key k (Member j) = grind (arith, nat_tests)
+
+count_all : (k : ℕ) (t : List ℕ) (n : ℕ) → length (keys_but k t n) ≤ n
+count_all k t zero = omega arith
+count_all k t (suc n) = omega (arith, count_all k t n, one_key k (slot_at t n), length-append (keys_but k t n) (key_but k (slot_at t n)))
+
+not_k : (k : ℕ) (r : SlotRead) → r ≡ Member k → length (key_but k r) ≡ 0
+not_k k r is = subst (λ (q : SlotRead). length (key_but k q) ≡ 0) (sym is) (grind (arith, nat_tests))
+
+-- a slot that holds k isn't counted
+count_less : (k : ℕ) (t : List ℕ) (n i : ℕ) → i < n → slot_at t i ≡ Member k → length (keys_but k t n) < n
+count_less k t zero i lt is = absurd (omega (arith, lt))
+count_less k t (suc n) i lt is = elim (cases_eq i n) [
+  | inl same ↦ omega (arith, count_all k t n, not_k k (slot_at t n) (subst (λ (q : ℕ). slot_at t q ≡ Member k) same is), length-append (keys_but k t n) (key_but k (slot_at t n)))
+  | inr other ↦ omega (arith, count_less k t n i (omega (arith, lt, other)) is, one_key k (slot_at t n), length-append (keys_but k t n) (key_but k (slot_at t n)))
+]
+
+-- where each slot holds a key other than k, all are counted
+abbrev pub HoldsOther : List ℕ → ℕ → ℕ → Type 0
+HoldsOther t k s = (j : ℕ) × (slot_at t s ≡ Member j) × (j ≢ k)
+
+one_other : (k j : ℕ) (r : SlotRead) → r ≡ Member j → j ≢ k → length (key_but k r) ≡ 1
+one_other k j r is other = subst (λ (q : SlotRead). length (key_but k q) ≡ 1) (sym is) (grind (arith, nat_tests, other))
+
+count_full : (k : ℕ) (t : List ℕ) (n : ℕ) → ((s : ℕ) → s < n → HoldsOther t k s) → length (keys_but k t n) ≡ n
+count_full k t zero each = omega arith
+count_full k t (suc n) each =
+    let last = each n (omega arith) in
+    omega (arith, count_full k t n (λ s lt. each s (omega (arith, lt))), one_other k last.0 (slot_at t n) last.1 last.2, length-append (keys_but k t n) (key_but k (slot_at t n)))
+
+-- the members of that list
+members_append : (xs ys : List ℕ) (q : ℕ) → members (xs ++ ys) q ≡ (members xs q || members ys q)
+members_append xs ys q = list_any-append (λ (x : ℕ). x == q) xs ys
+
+key_members : (k q : ℕ) (r : SlotRead) → members (key_but k r) q ≡ (not (k == q) && reads_key q r)
+key_members k q Shut = grind (arith, nat_tests)
+key_members k q BadKey = grind (arith, nat_tests)
+key_members k q (Member j) = grind (arith, nat_tests)
+
+distribute : (n x y : Bool) → ((n && x) || (n && y)) ≡ (n && (y || x))
+distribute true true true = refl
+distribute true true false = refl
+distribute true false true = refl
+distribute true false false = refl
+distribute false x y = refl
+
+keys_members : (k : ℕ) (t : List ℕ) (n q : ℕ) → members (keys_but k t n) q ≡ (not (k == q) && found t n q)
+keys_members k t zero q = grind (arith, nat_tests)
+keys_members k t (suc n) q =
+    members_append (keys_but k t n) (key_but k (slot_at t n)) q ∙ ap (λ (b : Bool). b || members (key_but k (slot_at t n)) q) (keys_members k t n q)
+    ∙ ap (λ (b : Bool). (not (k == q) && found t n q) || b) (key_members k q (slot_at t n)) ∙ distribute (not (k == q)) (found t n q) (reads_key q (slot_at t n))
+
+members_among : (ks : List ℕ) (q : ℕ) → members ks q ≡ list_any (nat_eq q) ks
+members_among [] q = refl
+members_among (k ∷ ks) q = let rest = members_among ks q in grind (arith, nat_tests)
+
+and_right : (x y : Bool) → (x && y) ≡ true → y ≡ true
+and_right true y is = is
+and_right false y is = absurd (false≢true is)
+
+append_none : (xs : List ℕ) → xs ++ [] ≡ xs
+append_none [] = refl
+append_none (x ∷ xs) = ap (λ (q : List ℕ). x ∷ q) (append_none xs)
+
+-- no key stands twice
+next_distinct : (k : ℕ) (t : List ℕ) (N n : ℕ) (S : Keys) → Holds t N S → suc n ≤ N → IsDistinct nat_eq (keys_but k t n) → IsDistinct nat_eq (keys_but k t (suc n))
+next_distinct k t N n S holds le before = go (slot_at t n) refl
+  where
+    new : (j : ℕ) → slot_at t n ≡ Member j → list_any (nat_eq j) (keys_but k t n) ≡ false
+    new j is = elim (cases_Bool (list_any (nat_eq j) (keys_but k t n))) [
+      | inl there ↦
+          let has : found t n j ≡ true = and_right (not (k == j)) (found t n j) (sym (keys_members k t n j) ∙ members_among (keys_but k t n) j ∙ there) in
+          let at = found_in t n j has in
+          absurd (omega (arith, at.1, holds.no_key_twice at.0 n j (omega (arith, at.1, le)) (omega (arith, le)) at.2 is))
+      | inr none ↦ none
+    ]
+
+    of_key : (j : ℕ) (b : Bool) → slot_at t n ≡ Member j → IsDistinct nat_eq (keys_but k t n ++ (if b then [] else j ∷ []))
+    of_key j false is = IsDistinct-push nat_eq_equiv (keys_but k t n) j before (new j is)
+    of_key j true is = subst (IsDistinct nat_eq) (sym (append_none (keys_but k t n))) before
+
+    go : (r : SlotRead) → slot_at t n ≡ r → IsDistinct nat_eq (keys_but k t n ++ key_but k r)
+    go Shut is = subst (IsDistinct nat_eq) (sym (append_none (keys_but k t n))) before
+    go BadKey is = subst (IsDistinct nat_eq) (sym (append_none (keys_but k t n))) before
+    go (Member j) is = of_key j (j == k) is
+
+none_distinct : IsDistinct nat_eq []
+unfolding IsDistinct
+none_distinct = tt
+
+keys_distinct : (k : ℕ) (t : List ℕ) (N n : ℕ) (S : Keys) → Holds t N S → n ≤ N → IsDistinct nat_eq (keys_but k t n)
+keys_distinct k t N zero S holds le = none_distinct
+keys_distinct k t N (suc n) S holds le = next_distinct k t N n S holds le (keys_distinct k t N n S holds (omega (arith, le)))
+
+-- the set that the text holds
+held_found : (t : List ℕ) (N : ℕ) (S : Keys) → Holds t N S → (q : ℕ) → S q ≡ found t N q
+held_found t N S holds q = both_ways (S q) (found t N q)
+    (λ has. let at = (holds.set q).0 has in in_found t N q at.0 at.1 at.2)
+    (λ has. (holds.set q).1 (found_in t N q has))
+
+-- the members but k
+members_but : (k : ℕ) (t : List ℕ) (N : ℕ) (S T : Keys) → Holds t N S → ((q : ℕ) → T q ≡ (not (k == q) && S q)) → HasMembers T (length (keys_but k t N))
+members_but k t N S T holds is = record {
+  keys = keys_but k t N;
+  count = refl;
+  distinct = keys_distinct k t N N S holds (omega arith);
+  all = λ q. is q ∙ ap (λ (b : Bool). not (k == q) && b) (held_found t N S holds q) ∙ sym (keys_members k t N q);
+}
+
+-- calls that have ended, none of them cut off, lead to one set
+pub plain_once : (n : ℕ) (M : History) (S T U : Keys) → Ended n M → has_cut M ≡ false → IsPlain S M T → IsPlain S M U → Same T U
+plain_once n [] S T U h clean one other = λ k. sym (one k) ∙ other k
+plain_once n (Answer i answer ∷ Call j a c ∷ M) S T U h clean one other =
+    λ k. sym (one.2.3 k) ∙ after_same c one.2.0 other.2.0 (plain_once j M S one.2.0 other.2.0 h.2 clean one.2.1 other.2.1) k ∙ other.2.3 k
+plain_once n (Refused i Full ∷ Call j a c ∷ M) S T U h clean one other = plain_once j M S T U h.2 clean one.2 other.2
+plain_once n (Refused i Worn ∷ Call j a c ∷ M) S T U h clean one other = plain_once j M S T U h.2 clean one.1 other.1
+plain_once n (Cut i why ∷ M) S T U h clean one other = absurd (false≢true (sym clean))
+plain_once n (Answer i answer ∷ []) S T U h clean one other = absurd h
+plain_once n (Answer i answer ∷ Answer q told ∷ M) S T U h clean one other = absurd h
+plain_once n (Answer i answer ∷ Refused q reason ∷ M) S T U h clean one other = absurd h
+plain_once n (Answer i answer ∷ Cut q reason ∷ M) S T U h clean one other = absurd h
+plain_once n (Answer i answer ∷ Stop ∷ M) S T U h clean one other = absurd h
+plain_once n (Answer i answer ∷ Crash ∷ M) S T U h clean one other = absurd h
+plain_once n (Answer i answer ∷ Opened keys ∷ M) S T U h clean one other = absurd h
+plain_once n (Answer i answer ∷ OpenFailed reason ∷ M) S T U h clean one other = absurd h
+plain_once n (Refused i Full ∷ []) S T U h clean one other = absurd h
+plain_once n (Refused i Full ∷ Answer q told ∷ M) S T U h clean one other = absurd h
+plain_once n (Refused i Full ∷ Refused q reason ∷ M) S T U h clean one other = absurd h
+plain_once n (Refused i Full ∷ Cut q reason ∷ M) S T U h clean one other = absurd h
+plain_once n (Refused i Full ∷ Stop ∷ M) S T U h clean one other = absurd h
+plain_once n (Refused i Full ∷ Crash ∷ M) S T U h clean one other = absurd h
+plain_once n (Refused i Full ∷ Opened keys ∷ M) S T U h clean one other = absurd h
+plain_once n (Refused i Full ∷ OpenFailed reason ∷ M) S T U h clean one other = absurd h
+plain_once n (Refused i Worn ∷ []) S T U h clean one other = absurd h
+plain_once n (Refused i Worn ∷ Answer q told ∷ M) S T U h clean one other = absurd h
+plain_once n (Refused i Worn ∷ Refused q reason ∷ M) S T U h clean one other = absurd h
+plain_once n (Refused i Worn ∷ Cut q reason ∷ M) S T U h clean one other = absurd h
+plain_once n (Refused i Worn ∷ Stop ∷ M) S T U h clean one other = absurd h
+plain_once n (Refused i Worn ∷ Crash ∷ M) S T U h clean one other = absurd h
+plain_once n (Refused i Worn ∷ Opened keys ∷ M) S T U h clean one other = absurd h
+plain_once n (Refused i Worn ∷ OpenFailed reason ∷ M) S T U h clean one other = absurd h
+plain_once n (Stop ∷ M) S T U h clean one other = absurd one
+plain_once n (Crash ∷ M) S T U h clean one other = absurd one
+plain_once n (Opened keys ∷ M) S T U h clean one other = absurd one
+plain_once n (OpenFailed why ∷ M) S T U h clean one other = absurd one
+plain_once n (Call i b d ∷ []) S T U h clean one other = absurd h
+plain_once n (Call i b d ∷ Call j a c ∷ M) S T U h clean one other = absurd h.0
+plain_once n (Call i b d ∷ Answer q told ∷ M) S T U h clean one other = absurd h
+plain_once n (Call i b d ∷ Refused q reason ∷ M) S T U h clean one other = absurd h
+plain_once n (Call i b d ∷ Cut q reason ∷ M) S T U h clean one other = absurd h
+plain_once n (Call i b d ∷ Stop ∷ M) S T U h clean one other = absurd h
+plain_once n (Call i b d ∷ Crash ∷ M) S T U h clean one other = absurd h
+plain_once n (Call i b d ∷ Opened keys ∷ M) S T U h clean one other = absurd h
+plain_once n (Call i b d ∷ OpenFailed reason ∷ M) S T U h clean one other = absurd h
+
+-- after an adding that was answered yes the text holds its key too
+pub has_room : (N n i j a : ℕ) (c : Command) (M : History) (S T : Keys) (t : List ℕ) (new : Keys) → Ended n M → Holds t N new → IsPlain S (Answer i true ∷ Call j a c ∷ M) new → IsPlain S M T → HasRoom N c true T
+has_room N n i j a (Remove k) M S T t new h holds plain was = tt
+has_room N n i j a (Has k) M S T t new h holds plain was = tt
+has_room N n i j a (Add k) M S T t new h holds plain was =
+    (length (keys_but k t N), members_but k t N new T holds without, count_less k t N at.0 at.1 at.2)
+  where
+    old : Keys
+    old = plain.2.0
+
+    same : Same T plain.2.0
+    same = plain_once n M S T plain.2.0 h plain.1 was plain.2.1
+
+    strange : T k ≡ false
+    strange = same k ∙ not-true (plain.2.0 k) plain.2.2
+
+    without : (q : ℕ) → T q ≡ (not (k == q) && new q)
+    without q = same q ∙ grind (arith, nat_tests, plain.2.3 q, strange, same k)
+
+    at : (s : ℕ) × (s < N) × (slot_at t s ≡ Member k)
+    at = (holds.set k).0 (grind (arith, nat_tests, plain.2.3 k))
+
+-- where each slot holds another key, there is no room
+pub is_full : (N n i j a k : ℕ) (M : History) (S T : Keys) (t : List ℕ) (new : Keys) → Ended n M → Holds t N new → IsPlain S (Refused i Full ∷ Call j a (Add k) ∷ M) new → ((s : ℕ) → s < N → HoldsOther t k s) → IsPlain S M T → IsFull N (Add k) T
+is_full N n i j a k M S T t new h holds plain each was =
+    (strange, subst (HasMembers T) (count_full k t N each) (members_but k t N new T holds without))
+  where
+    same : Same T new
+    same = plain_once n M S T new h plain.1 was plain.2
+
+    member_is : (x y : ℕ) (r : SlotRead) → r ≡ Member x → r ≡ Member y → x ≡ y
+    member_is x y r one other = let e : Member x ≡ Member y = sym one ∙ other in cc
+
+    strange : T k ≡ false
+    strange = same k ∙ none
+      where
+        none : new k ≡ false
+        none = elim (cases_Bool (new k)) [
+          | inl has ↦ let at = (holds.set k).0 has in let own = each at.0 at.1 in absurd (own.2 (member_is own.0 k (slot_at t at.0) own.1 at.2))
+          | inr lacks ↦ lacks
+        ]
+
+    without : (q : ℕ) → T q ≡ (not (k == q) && new q)
+    without q = grind (arith, nat_tests, same q, strange)

@@ -1,0 +1,450 @@
+-- Where one actor is alone, each turn keeps what makes full right.
+use Rattle.std.proofs.Common.{◌≡◌, ◌≢◌, ◌⊎◌, ⊎_elim, inl, inr, ℕ, zero, suc, ◌+◌, ◌≤◌, ◌%◌, ◌&&◌, not, nat_lt, Bool, true, false, List, ◌++◌, map, unwrap_or, Option, Some, None, refl, sym, ap, ◌∙◌, subst, arith}
+use Rattle.std.specs.Prelude.{if◌then◌else◌, ◌==◌}
+use mathlib.Core.Bool.{false≢true}
+use Rattle.std.proofs.lemmas.Bool.{cases_eq, cases_Bool}
+use Rattle.std.proofs.lemmas.Bool.Decides.{nat_tests, eqb_tells}
+use Rattle.std.proofs.lemmas.Option.{none-some}
+use Rattle.lz_slot.specs.declared.command.Command.{Command}
+use Rattle.lz_slot.specs.declared.command.Command.TheVariants.{Add, Remove, Has}
+use Rattle.lz_slot.specs.Sets.{key_of}
+use Rattle.lz_slot.specs.Histories.{History}
+use Rattle.lz_disk.specs.Images.{Medium}
+use Rattle.lz_vault.specs.declared.vault.Stage.TheVariants.{Opening}
+use Rattle.lz_vault.specs.Stages.{Cell, cell_synced, is_covered}
+use Rattle.lz_allot.specs.declared.sight.Sight.{Sight}
+use Rattle.lz_allot.specs.declared.counts.Counts.{Counts}
+use Rattle.lz_allot.specs.Uses.{Free, collect, see_pin, lowest_free, give_back}
+use Rattle.lz_list.specs.declared.word.Word.TheVariants.{Halt as halt_at}
+use Rattle.lz_list.specs.declared.walk.Look.{Look}
+use Rattle.lz_list.specs.declared.place.Place.{Place}
+use Rattle.lz_list.specs.Words.{Words, get}
+use Rattle.lz_list.specs.Walks.{wants, hopped}
+use Rattle.lz_list.specs.Traces.{Trace}
+use Rattle.lz_machine.specs.declared.course.Course.{Course}
+use Rattle.lz_machine.specs.declared.course.Course.TheVariants.{Refused, Dies, Plays}
+use Rattle.lz_machine.specs.declared.actor.Actor.{Actor}
+use Rattle.lz_machine.specs.declared.actor.Hold.TheVariants.{Nothing}
+use Rattle.lz_machine.specs.declared.event.Event.{Event}
+use Rattle.lz_machine.specs.declared.event.Event.TheVariants.{Hop, Reserve, Claim, Check, WriteOpen, Link, WriteClose, Mark, Release, Sync, Settle, Unlink, Retire, SeePin, Answer}
+use Rattle.lz_machine.specs.declared.event.Outcome.{Outcome}
+use Rattle.lz_machine.specs.declared.event.Outcome.TheVariants.{Done, Early, NotNow, Dead}
+use Rattle.lz_machine.specs.declared.event.Reply.{Reply}
+use Rattle.lz_machine.specs.declared.event.Reply.TheVariants.{Yes, No, Full, Worn as SaysWorn, Halted, Device}
+use Rattle.lz_machine.specs.declared.caller.Script.{Script}
+use Rattle.lz_machine.specs.declared.caller.Script.TheVariants.{Pinning, Resting, Writing, Adding, Removing, Releasing, Halting}
+use Rattle.lz_machine.specs.declared.caller.Progress.{Progress}
+use Rattle.lz_machine.specs.declared.caller.Progress.TheVariants.{Playing, LoadsHalt, Walking, Reserving, SeeingPins, Claiming, Checking, Answering}
+use Rattle.lz_machine.specs.Yards.{Shape, Yard, actor_at, cell_at}
+use Rattle.lz_machine.specs.Table.{line_publishes, line_failed, course, course_alive, line, line_on, published_on, pin_of, last_pin, slot_found, given_back, is_unused, is_sure, is_spent, slot_of}
+use Rattle.lz_machine.specs.Calls.{halts, progress_after, event_of, loaded, goes_on}
+use Rattle.lz_machine.specs.Runs.{Caller, caller_at, reply_at, next_event, moved_on}
+use Rattle.lz_machine.specs.Sound.{View, IsAdder, ReliesOn, Notes, actor_in, stage_in, pin_in, view_of, Relies, Sound}
+use Rattle.lz_machine.specs.Limbo.{IsSeen}
+use Rattle.lz_machine.proofs.Steps.Hop.{call_at, own, own_inside}
+use Rattle.lz_machine.proofs.Alone.Sights.{HasLeft, IsSeenOdd, set_cases, left_set, left_seen, seen_outside}
+use Rattle.lz_machine.proofs.Alone.Frame.{idle_on, none_on, left_on, is_use_event, course_is, cell_cases, synced_none, is_opening_event}
+use Rattle.lz_machine.proofs.Alone.Walk.{Finds, walk_finds}
+use Rattle.lz_machine.proofs.Alone.Full.{LeftBelow, WalkStands, AddsTo, says_yes, AloneFull, all_other, stands_playing, stands_halt, stands_claim, stands_check, AsksToAdd, stands_hops}
+use Rattle.lz_machine.proofs.Frames.Uses.{free_limbo}
+use Rattle.lz_machine.proofs.Runs.Course.{course_dead}
+
+no_full_rest : (v : View) (c : Command) (s : ℕ) (counts : Counts) (i : ℕ) (P0 P : Trace) (changed : Option ℕ) → ReliesOn v c (Resting s (Full counts)) i P0 P changed → ⊥
+no_full_rest v (Add k) s counts (suc (suc i)) P0 P changed h = h
+no_full_rest v (Remove k) s counts (suc (suc i)) P0 P changed h = h
+no_full_rest v (Has k) s counts (suc (suc i)) P0 P changed h = h
+no_full_rest v _ s counts _ _ _ changed h = h.1
+
+no_full_halt : (v : View) (c : Command) (counts : Counts) (i : ℕ) (P0 P : Trace) (changed : Option ℕ) → ReliesOn v c (Halting (Full counts)) i P0 P changed → ⊥
+no_full_halt v (Add k) counts (suc i) P0 P changed h = h
+no_full_halt v (Remove k) counts (suc i) P0 P changed h = h
+no_full_halt v (Has k) counts (suc i) P0 P changed h = h
+no_full_halt v _ counts zero _ _ changed h = h.0
+
+-- what a script leads to
+script_goes : (y : Yard) (Q : Trace) (v : View) (c : Command) (script : Script) (i : ℕ) (P0 P : Trace) (changed : Option ℕ) → ReliesOn v c script i P0 P changed → WalkStands y Q (goes_on script) c
+script_goes y Q v c Pinning i P0 P changed h = tt
+script_goes y Q v c (Resting s Yes) i P0 P changed h = tt
+script_goes y Q v c (Resting s No) i P0 P changed h = tt
+script_goes y Q v c (Resting s (Full counts)) i P0 P changed h = absurd (no_full_rest v c s counts i P0 P changed h)
+script_goes y Q v c (Resting s SaysWorn) i P0 P changed h = tt
+script_goes y Q v c (Resting s Halted) i P0 P changed h = tt
+script_goes y Q v c (Resting s Device) i P0 P changed h = tt
+script_goes y Q v c (Writing s) i P0 P changed h = tt
+script_goes y Q v c (Adding s) i P0 P changed h = tt
+script_goes y Q v c (Removing s) i P0 P changed h = tt
+script_goes y Q v (Add k) (Releasing None) i P0 P changed h = tt
+script_goes y Q v (Remove k) (Releasing None) i P0 P changed h = tt
+script_goes y Q v (Has k) (Releasing None) i P0 P changed h = tt
+script_goes y Q v c (Releasing (Some s)) i P0 P changed h = tt
+script_goes y Q v c (Halting Yes) i P0 P changed h = tt
+script_goes y Q v c (Halting No) i P0 P changed h = tt
+script_goes y Q v c (Halting (Full counts)) i P0 P changed h = absurd (no_full_halt v c counts i P0 P changed h)
+script_goes y Q v c (Halting SaysWorn) i P0 P changed h = tt
+script_goes y Q v c (Halting Halted) i P0 P changed h = tt
+script_goes y Q v c (Halting Device) i P0 P changed h = tt
+
+-- an event that opens no gate, retires no slot and gives none back
+abbrev IsCalm : Event → Type 0
+IsCalm e = (is_opening_event e ≡ false) × (is_use_event e ≡ false)
+
+abbrev is_calm_script : Script → Bool
+is_calm_script (Adding s) = false
+is_calm_script (Removing s) = false
+is_calm_script _ = true
+
+calm_script : (w : Words) (c : Command) (script : Script) (i : ℕ) → is_calm_script script ≡ true → IsCalm (loaded w (event_of c script i))
+calm_script w c Pinning zero calm = (refl, refl)
+calm_script w c Pinning (suc i) calm = (refl, refl)
+calm_script w c (Resting s reply) zero calm = (refl, refl)
+calm_script w c (Resting s reply) (suc zero) calm = (refl, refl)
+calm_script w c (Resting s reply) (suc (suc i)) calm = (refl, refl)
+calm_script w c (Writing s) zero calm = (refl, refl)
+calm_script w c (Writing s) (suc zero) calm = (refl, refl)
+calm_script w c (Writing s) (suc (suc i)) calm = (refl, refl)
+calm_script w c (Adding s) i calm = absurd (false≢true calm)
+calm_script w c (Removing s) i calm = absurd (false≢true calm)
+calm_script w c (Releasing aim) zero calm = (refl, refl)
+calm_script w c (Releasing aim) (suc i) calm = (refl, refl)
+calm_script w c (Halting reply) zero calm = (refl, refl)
+calm_script w c (Halting reply) (suc i) calm = (refl, refl)
+
+calm_adds : (script : Script) (i s : ℕ) → is_calm_script script ≡ true → AddsTo (Playing script i) s → ⊥
+calm_adds (Adding t) i s calm adds = false≢true calm
+calm_adds _ i s calm adds = adds
+
+module _ (n calls : ℕ) (y : Yard) (callers : List (Option Caller)) (disk : Medium) (M : History) (P : Trace) (notes : Notes) (sound : Sound n calls y callers disk M P notes) (a i : ℕ) (c : Command) where
+  abbrev actor : Actor
+  actor = actor_at y a
+
+  -- after an event that took this course
+  abbrev After : Progress → Event → Course → Type 0
+  After at e k = AloneFull a (line_on k y actor a e).0 (Some (call_at i c (progress_after (line_on k y actor a e).0.shape c at (line_on k y actor a e).1))) (published_on k y actor a e ++ P)
+
+  -- a calm event
+  calm : (at : Progress) (e : Event) (k : Course) → AloneFull a y (Some (call_at i c at)) P → IsCalm e → says_yes at ≡ false → ((s : ℕ) → AddsTo at s → ⊥)
+      → ((z : Yard) (Q : Trace) (shape : Shape) (outcome : Outcome) → WalkStands z Q (progress_after shape c at outcome) c) → After at e k
+  calm at e k h quiet no_yes no_adds stands = record {
+    others = λ b other. idle_on k y a b e other (h.others b other);
+    left = λ _. left_on k y a a e quiet.1 (h.left no_yes);
+    opening = λ lives s opens. absurd (none_on k y a e quiet.0 lives (λ alive t is. no_adds t (h.opening alive t is)) s opens);
+    stands = stands (line_on k y actor a e).0 (published_on k y actor a e ++ P) (line_on k y actor a e).0.shape (line_on k y actor a e).1;
+  }
+
+  -- a dead vault refuses it
+  dead_after : (at : Progress) (e : Event) → AloneFull a y (Some (call_at i c at)) P → says_yes at ≡ false → y.vault.dead ≡ true → After at e (Refused Dead)
+  dead_after at e h no_yes dead = record {
+    others = h.others;
+    left = λ _. h.left no_yes;
+    opening = λ lives s opens. absurd (false≢true (sym lives ∙ dead));
+    stands = tt;
+  }
+
+  by_course : (at : Progress) (e : Event) → AloneFull a y (Some (call_at i c at)) P → says_yes at ≡ false → (line y a e).1 ≢ NotNow → After at e (course_alive y a (pin_of y a) e) → After at e (course y a e)
+  by_course at e h no_yes now after = ⊎_elim
+      (λ dead. subst (After at e) (sym dead.2) (dead_after at e h no_yes dead.0))
+      (λ alive. subst (After at e) (sym alive) after)
+      (course_is y a e now)
+
+  module _ (at : Progress) (is : caller_at callers a ≡ Some (call_at i c at)) where
+    relies : Relies (view_of y.shape y.vault y.actors a) c at (notes.begun a) P (notes.changed a)
+    relies = (own n calls y callers disk M P notes a i c at is sound).stands.2
+
+  -- scripts that change nothing
+  playing : (script : Script) (j : ℕ) → caller_at callers a ≡ Some (call_at i c (Playing script j)) → AloneFull a y (Some (call_at i c (Playing script j))) P → is_calm_script script ≡ true
+      → After (Playing script j) (loaded y.words (event_of c script j)) (course y a (loaded y.words (event_of c script j)))
+  playing script j is h calm_one =
+      calm (Playing script j) (loaded y.words (event_of c script j)) (course y a (loaded y.words (event_of c script j))) h (calm_script y.words c script j calm_one) refl (λ s adds. calm_adds script j s calm_one adds)
+      (λ z Q shape outcome. stands_playing z Q shape c script j (script_goes z Q (view_of y.shape y.vault y.actors a) c script j (notes.begun a) P (notes.changed a) (relies (Playing script j) is)) outcome)
+
+  -- the halt word
+  loads_halt : AloneFull a y (Some (call_at i c LoadsHalt)) P → After LoadsHalt (Hop halt_at) (course y a (Hop halt_at))
+  loads_halt h = calm LoadsHalt (Hop halt_at) (course y a (Hop halt_at)) h (refl, refl) refl (λ s adds. adds) (λ z Q shape outcome. stands_halt z Q shape c outcome)
+
+  claiming : (aim : Option ℕ) (pred : Place) (curr : Option ℕ) → AloneFull a y (Some (call_at i c (Claiming aim pred curr))) P → After (Claiming aim pred curr) (Claim pred curr) (course y a (Claim pred curr))
+  claiming aim pred curr h = calm (Claiming aim pred curr) (Claim pred curr) (course y a (Claim pred curr)) h (refl, refl) refl (λ s adds. adds) (λ z Q shape outcome. stands_claim z Q shape c aim pred curr outcome)
+
+  checking : (aim curr : Option ℕ) → AloneFull a y (Some (call_at i c (Checking aim curr))) P → After (Checking aim curr) Check (course y a Check)
+  checking aim curr h = calm (Checking aim curr) Check (course y a Check) h (refl, refl) refl (λ s adds. adds) (λ z Q shape outcome. stands_check z Q shape c aim curr outcome)
+
+  -- a walk
+  walking : (aim : Option ℕ) (look : Look) → caller_at callers a ≡ Some (call_at i c (Walking aim look)) → AloneFull a y (Some (call_at i c (Walking aim look))) P → (line y a (Hop (wants y.shape.buckets (key_of c) look))).1 ≢ NotNow
+      → After (Walking aim look) (Hop (wants y.shape.buckets (key_of c) look)) (course y a (Hop (wants y.shape.buckets (key_of c) look)))
+  walking aim look is h now = by_course (Walking aim look) (Hop (wants y.shape.buckets (key_of c) look)) h refl now (record {
+    others = h.others;
+    left = λ _. h.left refl;
+    opening = λ lives s opens. absurd (h.opening lives s opens);
+    stands = stands_hops y P y.words sound.trace sound.images.slots.1 c aim (hopped y.shape.buckets (key_of c) look (get y.words (wants y.shape.buckets (key_of c) look))) (finds c aim (relies (Walking aim look) is) h.stands);
+  })
+    where
+      finds : (d : Command) (aim : Option ℕ) → Relies (view_of y.shape y.vault y.actors a) d (Walking aim look) (notes.begun a) P (notes.changed a) → WalkStands y P (Walking aim look) d
+          → AsksToAdd d aim (λ k. Finds y.shape y.words P sound.trace sound.images.slots.1 k (hopped y.shape.buckets (key_of d) look (get y.words (wants y.shape.buckets (key_of d) look))))
+      finds (Add k) None rely stands = walk_finds y.shape y.words P sound.trace sound.images.slots.1 y.shape.passes y.vault.cells y.vault.dead (actor_in y.actors a) rely.0.hold rely.1 k look stands
+      finds (Add k) (Some s) rely stands = tt
+      finds (Remove k) None rely stands = tt
+      finds (Remove k) (Some s) rely stands = tt
+      finds (Has k) None rely stands = tt
+      finds (Has k) (Some s) rely stands = tt
+
+  -- an adding's own slot
+  adding_open : (k t : ℕ) → c ≡ Add k → caller_at callers a ≡ Some (call_at i c (Playing (Adding t) 0)) → AloneFull a y (Some (call_at i c (Playing (Adding t) 0))) P → (line y a WriteOpen).1 ≢ NotNow
+      → After (Playing (Adding t) 0) WriteOpen (course y a WriteOpen)
+  adding_open k t add is h now = by_course (Playing (Adding t) 0) WriteOpen h refl now (record {
+    others = λ b other. idle_on Plays y a b WriteOpen other (h.others b other);
+    left = λ _. h.left refl;
+    opening = λ lives s opens. ⊎_elim
+        (λ set. sym (set.0 ∙ own_slot))
+        (λ same. h.opening lives s (sym (ap (λ (x : Cell). x.stage) same) ∙ opens))
+        (cell_cases y.vault.cells (slot_of actor) s (record { stage = Opening; key = (cell_at y (slot_of actor)).key }));
+    stands = tt;
+  })
+    where
+      own_slot : slot_of actor ≡ t
+      own_slot = ap (λ (q : Option ℕ). unwrap_or q 0) (subst (λ (d : Command). Relies (view_of y.shape y.vault y.actors a) d (Playing (Adding t) 0) (notes.begun a) P (notes.changed a)) add (relies (Playing (Adding t) 0) is)).1.slot
+
+  -- the events that leave all cells
+  adding_on : (e : Event) (t j : ℕ) (next : Progress) → AloneFull a y (Some (call_at i c (Playing (Adding t) j))) P → is_opening_event e ≡ false → is_use_event e ≡ false → (k : Course)
+      → ((lives : (line_on k y actor a e).0.vault.dead ≡ false) (s : ℕ) → stage_in (line_on k y actor a e).0.vault.cells s ≡ Opening → t ≡ s → AddsTo next s)
+      → ((lives : (line_on k y actor a e).0.vault.dead ≡ false) (s : ℕ) → stage_in (line_on k y actor a e).0.vault.cells s ≡ Opening → stage_in y.vault.cells s ≡ Opening)
+      → WalkStands (line_on k y actor a e).0 (published_on k y actor a e ++ P) next c
+      → AloneFull a (line_on k y actor a e).0 (Some (call_at i c next)) (published_on k y actor a e ++ P)
+  adding_on e t j next h no_open no_use k adds old stands = record {
+    others = λ b other. idle_on k y a b e other (h.others b other);
+    left = λ _. left_on k y a a e no_use (h.left refl);
+    opening = λ lives s opens. adds lives s opens (h.opening (lived k lives) s (old lives s opens));
+    stands = stands;
+  }
+    where
+      lived : (k : Course) → (line_on k y actor a e).0.vault.dead ≡ false → y.vault.dead ≡ false
+      lived Plays lives = lives
+      lived Dies lives = absurd (false≢true (sym lives))
+      lived (Refused outcome) lives = lives
+
+  adding_link : (t : ℕ) → AloneFull a y (Some (call_at i c (Playing (Adding t) 1))) P → (line y a Link).1 ≢ NotNow → After (Playing (Adding t) 1) Link (course y a Link)
+  adding_link t h now = by_course (Playing (Adding t) 1) Link h refl now (adding_on Link t 1 (Playing (Adding t) 2) h refl refl Plays (λ lives s opens same. same) (λ lives s opens. opens) tt)
+
+  adding_release : (t : ℕ) → AloneFull a y (Some (call_at i c (Playing (Adding t) 2))) P → (line y a Release).1 ≢ NotNow → After (Playing (Adding t) 2) Release (course y a Release)
+  adding_release t h now = by_course (Playing (Adding t) 2) Release h refl now (adding_on Release t 2 (Playing (Adding t) 3) h refl refl Plays (λ lives s opens same. same) (λ lives s opens. opens) tt)
+
+  adding_sync : (t : ℕ) → AloneFull a y (Some (call_at i c (Playing (Adding t) 3))) P → (line y a (Sync t)).1 ≢ NotNow → After (Playing (Adding t) 3) (Sync t) (course y a (Sync t))
+  adding_sync t h now = by_course (Playing (Adding t) 3) (Sync t) h refl now (go (not (is_sure y t) && is_spent y))
+    where
+      old : (sure : Bool) (s : ℕ) → stage_in (if sure then y.vault.cells else map cell_synced y.vault.cells) s ≡ Opening → stage_in y.vault.cells s ≡ Opening
+      old true s opens = opens
+      old false s opens = absurd (synced_none y.vault.cells s opens)
+
+      go : (dies : Bool) → After (Playing (Adding t) 3) (Sync t) (if dies then Dies else Plays)
+      go true = adding_on (Sync t) t 3 (Playing (Halting Halted) 0) h refl refl Dies (λ lives s opens same. absurd (false≢true (sym lives))) (λ lives s opens. opens) tt
+      go false = adding_on (Sync t) t 3 (Playing (Adding t) 4) h refl refl Plays (λ lives s opens same. same) (λ lives s opens. old (is_sure y t) s opens) tt
+
+  adding_settle : (t : ℕ) → AloneFull a y (Some (call_at i c (Playing (Adding t) 4))) P → (line y a (Settle t)).1 ≢ NotNow → After (Playing (Adding t) 4) (Settle t) (course y a (Settle t))
+  adding_settle t h now = by_course (Playing (Adding t) 4) (Settle t) h refl now (go (is_sure y t) refl)
+    where
+      go : (sure : Bool) → is_sure y t ≡ sure → After (Playing (Adding t) 4) (Settle t) Plays
+      go true is = subst (λ (b : Bool). AloneFull a (line_on Plays y actor a (Settle t)).0 (Some (call_at i c (progress_after y.shape c (Playing (Adding t) 4) (if b then Done else Early)))) (published_on Plays y actor a (Settle t) ++ P)) (sym is)
+          (adding_on (Settle t) t 4 (Answering Yes) h refl refl Plays (λ lives s opens same. false≢true (sym (ap is_covered opens) ∙ ap (λ (q : ℕ). is_covered (stage_in y.vault.cells q)) (sym same) ∙ is)) (λ lives s opens. opens) tt)
+      go false is = subst (λ (b : Bool). AloneFull a (line_on Plays y actor a (Settle t)).0 (Some (call_at i c (progress_after y.shape c (Playing (Adding t) 4) (if b then Done else Early)))) (published_on Plays y actor a (Settle t) ++ P)) (sym is)
+          (adding_on (Settle t) t 4 (Playing (Adding t) 3) h refl refl Plays (λ lives s opens same. same) (λ lives s opens. opens) tt)
+
+  -- a removing
+  removing : (e : Event) (t j : ℕ) → AloneFull a y (Some (call_at i c (Playing (Removing t) j))) P → IsCalm e → After (Playing (Removing t) j) e (course y a e)
+  removing e t j h quiet = calm (Playing (Removing t) j) e (course y a e) h quiet refl (λ s adds. adds) (λ z Q shape outcome. stands_playing z Q shape c (Removing t) j tt outcome)
+
+  retiring : (t : ℕ) → AloneFull a y (Some (call_at i c (Playing (Removing t) 6))) P → (line y a Retire).1 ≢ NotNow → After (Playing (Removing t) 6) Retire (course y a Retire)
+  retiring t h now = by_course (Playing (Removing t) 6) Retire h refl now (record {
+    others = λ b other. idle_on Plays y a b Retire other (h.others b other);
+    left = λ no. absurd (false≢true (sym no));
+    opening = λ lives s opens. absurd (h.opening lives s opens);
+    stands = tt;
+  })
+
+  -- asking for a slot
+  reserving : (again : Bool) → caller_at callers a ≡ Some (call_at i c (Reserving again)) → AloneFull a y (Some (call_at i c (Reserving again))) P → (line y a Reserve).1 ≢ NotNow → After (Reserving again) Reserve (course y a Reserve)
+  reserving again is h now = elim (cases_Bool y.vault.dead) [
+    | inl dead ↦ subst (After (Reserving again) Reserve) (sym (course_dead y a Reserve refl dead)) (dead_after (Reserving again) Reserve h refl dead)
+    | inr lives ↦ by_course (Reserving again) Reserve h refl now (go lives (lowest_free (collect y.uses)) refl)
+  ]
+    where
+      rely : Relies (view_of y.shape y.vault y.actors a) c (Reserving again) (notes.begun a) P (notes.changed a)
+      rely = relies (Reserving again) is
+
+      holds : (b : ℕ) → (actor_in y.actors b).hold ≡ Nothing
+      holds b = elim (cases_eq b a) [
+        | inl same ↦ ap (λ (q : ℕ). (actor_in y.actors q).hold) same ∙ rely.0.hold
+        | inr other ↦ (h.others b other).hold
+      ]
+
+      slots : (b : ℕ) → (actor_in y.actors b).slot ≡ None
+      slots b = elim (cases_eq b a) [
+        | inl same ↦ ap (λ (q : ℕ). (actor_in y.actors q).slot) same ∙ rely.1
+        | inr other ↦ (h.others b other).slot
+      ]
+
+      stands : (d : Command) (again : Bool) (found : Option ℕ) → y.vault.dead ≡ false → lowest_free (collect y.uses) ≡ found → IsAdder d → WalkStands y P (Reserving again) d
+          → WalkStands (line_on Plays y actor a Reserve).0 P (progress_after y.shape d (Reserving again) (slot_found found (collect y.uses))) d
+      stands (Add k) true (Some s) lives is adder old = tt
+      stands (Add k) false (Some s) lives is adder old = tt
+      stands (Add k) false None lives is adder old = (old, λ b low below. absurd (omega (arith, low, below)))
+      stands (Add k) true None lives is adder old =
+          all_other n calls y callers disk M P notes sound k old.0 holds slots (λ s opens. absurd (h.opening lives s opens)) old.1 is
+      stands (Remove k) again found lives is adder old = absurd adder
+      stands (Has k) again found lives is adder old = absurd adder
+
+      go : y.vault.dead ≡ false → (found : Option ℕ) → lowest_free (collect y.uses) ≡ found → After (Reserving again) Reserve Plays
+      go lives found is = subst (λ (q : Option ℕ). AloneFull a (line_on Plays y actor a Reserve).0 (Some (call_at i c (progress_after y.shape c (Reserving again) (slot_found q (collect y.uses))))) P) (sym is) (record {
+        others = λ b other. idle_on Plays y a b Reserve other (h.others b other);
+        left = λ _. left_on Plays y a a Reserve refl (h.left refl);
+        opening = λ lives s opens. absurd (h.opening lives s opens);
+        stands = stands c again found lives is rely.2 h.stands;
+      })
+
+  -- the sights of a pass are right
+  seen_odd : (p : ℕ) → IsSeenOdd y.uses p
+  seen_odd p s seen u limbo inside = (subst (λ (x : Sight). IsSeen y.shape.buckets (pin_in y.words.pins p) (notes.begun p) P s x) inside (sound.reuse.seen p s seen limbo)).0
+
+  -- looking at a pin
+  seeing : (p : ℕ) → AloneFull a y (Some (call_at i c (SeeingPins p))) P → (line y a (SeePin p (pin_in y.words.pins p))).1 ≢ NotNow → After (SeeingPins p) (SeePin p (pin_in y.words.pins p)) (course y a (SeePin p (pin_in y.words.pins p)))
+  seeing p h now = by_course (SeeingPins p) (SeePin p (pin_in y.words.pins p)) h refl now (go (nat_lt p y.shape.passes) refl)
+    where
+      own_left : HasLeft (see_pin p (pin_in y.words.pins p) y.uses) p
+      own_left = elim (cases_eq p a) [
+        | inl same ↦ left_seen y.uses p (pin_in y.words.pins p) p (subst (HasLeft y.uses) (sym same) (h.left refl))
+        | inr other ↦ seen_outside y.uses p (pin_in y.words.pins p) (h.others p other).outside (seen_odd p)
+      ]
+
+      below : (m : ℕ) → LeftBelow y.uses p → m ≤ p + 1 → LeftBelow (see_pin p (pin_in y.words.pins p) y.uses) m
+      below m old le b low under = elim (cases_eq b p) [
+        | inl same ↦ subst (HasLeft (see_pin p (pin_in y.words.pins p) y.uses)) (sym same) own_left
+        | inr other ↦ left_seen y.uses p (pin_in y.words.pins p) b (old b low (omega (arith, under, le, other)))
+      ]
+
+      stands : (d : Command) (b : Bool) → nat_lt p y.shape.passes ≡ b → WalkStands y P (SeeingPins p) d → WalkStands (line_on Plays y actor a (SeePin p (pin_in y.words.pins p))).0 P (if b then SeeingPins (p + 1) else Reserving true) d
+      stands (Add k) true is old = (old.0, below (p + 1) old.1 (omega arith))
+      stands (Add k) false is old = (old.0, below (suc y.shape.passes) old.1 (grind (arith, nat_tests, is)))
+      stands (Remove k) true is old = tt
+      stands (Remove k) false is old = tt
+      stands (Has k) true is old = tt
+      stands (Has k) false is old = tt
+
+      go : (b : Bool) → nat_lt p y.shape.passes ≡ b → After (SeeingPins p) (SeePin p (pin_in y.words.pins p)) Plays
+      go b is = subst (λ (q : Bool). AloneFull a (line_on Plays y actor a (SeePin p (pin_in y.words.pins p))).0 (Some (call_at i c (if q then SeeingPins (p + 1) else Reserving true))) P) (sym is) (record {
+        others = λ b other. idle_on Plays y a b (SeePin p (pin_in y.words.pins p)) other (h.others b other);
+        left = λ _. left_on Plays y a a (SeePin p (pin_in y.words.pins p)) refl (h.left refl);
+        opening = λ lives s opens. absurd (h.opening lives s opens);
+        stands = stands c b is h.stands;
+      })
+
+  -- an answer
+  given_left : (slot : Option ℕ) (b : ℕ) → HasLeft y.uses b → HasLeft (given_back y slot) b
+  given_left None b left = left
+  given_left (Some s) b left = go (is_unused (cell_at y s).stage)
+    where
+      go : (unused : Bool) → HasLeft (if unused then give_back y.uses s else y.uses) b
+      go true = left_set y.uses s b Free (λ seen is. absurd cc) left
+      go false = left
+
+  given_odd : (slot : Option ℕ) (p : ℕ) → IsSeenOdd (given_back y slot) p
+  given_odd None p = seen_odd p
+  given_odd (Some s) p = go (is_unused (cell_at y s).stage)
+    where
+      go : (unused : Bool) → IsSeenOdd (if unused then give_back y.uses s else y.uses) p
+      go true = λ r seen u limbo inside. ⊎_elim
+          (λ set. absurd (free_limbo (sym set ∙ limbo)))
+          (λ same. seen_odd p r seen u (sym same ∙ limbo) inside)
+          (set_cases y.uses s r Free)
+      go false = seen_odd p
+
+  answer_left : (k : Course) → HasLeft y.uses a → HasLeft (line_on k y actor a Answer).0.uses a
+  answer_left (Refused outcome) left = left
+  answer_left Dies left = left
+  answer_left Plays left = left_seen (given_back y actor.slot) a (pin_of y a + 1) a (given_left actor.slot a left)
+
+  -- after a yes too: its pass goes out
+  yes_left : (line y a Answer).1 ≢ NotNow → pin_of y a % 2 ≡ 1 → HasLeft (line y a Answer).0.uses a
+  yes_left now odd = ⊎_elim
+      (λ dead. absurd (false≢true (sym dead.1)))
+      (λ alive. subst (λ (k : Course). HasLeft (line_on k y actor a Answer).0.uses a) (sym alive) (go (pin_of y a == last_pin) refl))
+      (course_is y a Answer now)
+    where
+      go : (worn : Bool) → (pin_of y a == last_pin) ≡ worn → HasLeft (line_on (if worn then Refused Done else Plays) y actor a Answer).0.uses a
+      go false is = seen_outside (given_back y actor.slot) a (pin_of y a + 1) (omega (arith, odd)) (given_odd actor.slot a)
+      go true is = absurd (parity (pin_of y a) odd (eqb_tells (pin_of y a) last_pin) is)
+        where
+          parity : (v : ℕ) → v % 2 ≡ 1 → (((v == last_pin) ≡ true) × (v ≡ last_pin)) ⊎ (((v == last_pin) ≡ false) × (v ≢ last_pin)) → (v == last_pin) ≡ true → ⊥
+          parity v odd (inl same) is = omega (arith, odd, same.1)
+          parity v odd (inr other) is = false≢true (sym other.0 ∙ is)
+
+  answering : (reply : Reply) → caller_at callers a ≡ Some (call_at i c (Answering reply)) → AloneFull a y (Some (call_at i c (Answering reply))) P → (line y a Answer).1 ≢ NotNow
+      → AloneFull a (line y a Answer).0 None (line_publishes y a Answer ++ P)
+  answering reply is h now = record {
+    others = λ b other. idle_on (course y a Answer) y a b Answer other (h.others b other);
+    left = λ _. left_now reply is h.left;
+    opening = λ lives s opens. none_on (course y a Answer) y a Answer refl lives (λ alive t opened. h.opening alive t opened) s opens;
+    stands = tt;
+  }
+    where
+      left_now : (reply : Reply) → caller_at callers a ≡ Some (call_at i c (Answering reply)) → (says_yes (Answering reply) ≡ false → HasLeft y.uses a) → HasLeft (line y a Answer).0.uses a
+      left_now Yes is left = yes_left now (own_inside n calls y callers disk M P notes a i c (Answering Yes) is sound refl)
+      left_now _ is left = answer_left (course y a Answer) (left refl)
+
+  -- where a call has come so far, its turn
+  abbrev Turned : Progress → Type 0
+  Turned at =
+      caller_at callers a ≡ Some (call_at i c at) → AloneFull a y (Some (call_at i c at)) P → (line y a (next_event y (call_at i c at))).1 ≢ NotNow
+      → AloneFull a (line y a (next_event y (call_at i c at))).0 (moved_on (reply_at at) (call_at i c at) (progress_after (line y a (next_event y (call_at i c at))).0.shape c at (line y a (next_event y (call_at i c at))).1)) (line_publishes y a (next_event y (call_at i c at)) ++ P)
+
+  no_adding : (t j : ℕ) (d : Command) → Relies (view_of y.shape y.vault y.actors a) d (Playing (Adding t) j) (notes.begun a) P (notes.changed a) → (k : ℕ) × (d ≡ Add k)
+  no_adding t j (Add k) rely = (k, refl)
+  no_adding t j (Remove k) rely = absurd rely
+  no_adding t j (Has k) rely = absurd rely
+
+  past_adding : (t j : ℕ) (d : Command) → Relies (view_of y.shape y.vault y.actors a) d (Playing (Adding t) (suc (suc (suc (suc (suc j)))))) (notes.begun a) P (notes.changed a) → ⊥
+  past_adding t j (Add k) rely = rely
+  past_adding t j (Remove k) rely = rely
+  past_adding t j (Has k) rely = rely
+
+  past_removing : (t j : ℕ) (d : Command) → Relies (view_of y.shape y.vault y.actors a) d (Playing (Removing t) (suc (suc (suc (suc (suc (suc (suc j)))))))) (notes.begun a) P (notes.changed a) → ⊥
+  past_removing t j (Add k) rely = rely
+  past_removing t j (Remove k) rely = rely.2
+  past_removing t j (Has k) rely = rely
+
+  pub turned : (at : Progress) → Turned at
+  turned (Playing Pinning j) is h now = playing Pinning j is h refl
+  turned (Playing (Resting s reply) j) is h now = playing (Resting s reply) j is h refl
+  turned (Playing (Writing s) j) is h now = playing (Writing s) j is h refl
+  turned (Playing (Releasing aim) j) is h now = playing (Releasing aim) j is h refl
+  turned (Playing (Halting reply) j) is h now = playing (Halting reply) j is h refl
+  turned (Playing (Adding t) zero) is h now = let add = no_adding t zero c (relies (Playing (Adding t) zero) is) in adding_open add.0 t add.1 is h now
+  turned (Playing (Adding t) (suc zero)) is h now = adding_link t h now
+  turned (Playing (Adding t) (suc (suc zero))) is h now = adding_release t h now
+  turned (Playing (Adding t) (suc (suc (suc zero)))) is h now = adding_sync t h now
+  turned (Playing (Adding t) (suc (suc (suc (suc zero))))) is h now = adding_settle t h now
+  turned (Playing (Adding t) (suc (suc (suc (suc (suc j)))))) is h now = absurd (past_adding t j c (relies (Playing (Adding t) (suc (suc (suc (suc (suc j)))))) is))
+  turned (Playing (Removing t) zero) is h now = removing WriteClose t 0 h (refl, refl)
+  turned (Playing (Removing t) (suc zero)) is h now = removing Mark t 1 h (refl, refl)
+  turned (Playing (Removing t) (suc (suc zero))) is h now = removing (Sync t) t 2 h (refl, refl)
+  turned (Playing (Removing t) (suc (suc (suc zero)))) is h now = removing (Settle t) t 3 h (refl, refl)
+  turned (Playing (Removing t) (suc (suc (suc (suc zero))))) is h now = removing Unlink t 4 h (refl, refl)
+  turned (Playing (Removing t) (suc (suc (suc (suc (suc zero)))))) is h now = removing Release t 5 h (refl, refl)
+  turned (Playing (Removing t) (suc (suc (suc (suc (suc (suc zero))))))) is h now = retiring t h now
+  turned (Playing (Removing t) (suc (suc (suc (suc (suc (suc (suc j)))))))) is h now = absurd (past_removing t j c (relies (Playing (Removing t) (suc (suc (suc (suc (suc (suc (suc j)))))))) is))
+  turned LoadsHalt is h now = loads_halt h
+  turned (Walking aim look) is h now = walking aim look is h now
+  turned (Reserving again) is h now = reserving again is h now
+  turned (SeeingPins p) is h now = seeing p h now
+  turned (Claiming aim pred curr) is h now = claiming aim pred curr h
+  turned (Checking aim curr) is h now = checking aim curr h
+  turned (Answering reply) is h now = answering reply is h now
+
+  -- a turn whose device call fails
+  pub faulted : (at : Progress) (e : Event) → reply_at at ≡ None → AloneFull a y (Some (call_at i c at)) P → AloneFull a (line_failed y a e).0 (Some (call_at i c (halts Device))) P
+  faulted at e goes h = record {
+    others = λ b other. let was = h.others b other in record { outside = was.outside; slot = was.slot; hold = was.hold };
+    left = λ _. h.left (no_yes at goes);
+    opening = λ lives s opens. absurd (false≢true (sym lives));
+    stands = tt;
+  }
+    where
+      no_yes : (at : Progress) → reply_at at ≡ None → says_yes at ≡ false
+      no_yes (Answering reply) goes = absurd (none-some reply (sym goes))
+      no_yes _ goes = refl

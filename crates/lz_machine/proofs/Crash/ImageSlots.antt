@@ -1,0 +1,237 @@
+-- What the slots of an image are read as, by where they stand: each open one is a node's or that of an actor that has opened it,
+-- and no two are of one key.
+use Rattle.std.proofs.Common.{◌≡◌, ◌⊎◌, ⊎_elim, inl, inr, ℕ, zero, suc, ◌<◌, ◌==◌, ◌||◌, Bool, true, false, List, [], ◌∷◌, Option, Some, refl, sym, ap, ◌∙◌, subst, arith}
+use Rattle.std.specs.Prelude.{slice_get}
+use mathlib.Core.Bool.{false≢true}
+use Rattle.std.proofs.lemmas.Bool.{cases_eq, cases_Bool, or_cases, or_left, or_right, eq-eqb}
+use Rattle.std.proofs.lemmas.Bool.Decides.{nat_tests}
+use Rattle.std.proofs.lemmas.Option.{slice_get-get_or, same_Some}
+use Rattle.lz_slot.specs.Sets.{Keys}
+use Rattle.lz_slot.specs.Bytes.{slot_at}
+use Rattle.lz_slot.specs.declared.slot.SlotRead.{SlotRead}
+use Rattle.lz_slot.specs.declared.slot.SlotRead.TheVariants.{Closed as Shut, Member, BadKey}
+use Rattle.lz_slot.specs.Histories.{History}
+use Rattle.lz_disk.specs.Images.{Medium, IsImage}
+use Rattle.lz_vault.specs.declared.vault.Stage.{Stage}
+use Rattle.lz_vault.specs.declared.vault.Stage.TheVariants.{Closed, KeyLoose, Keyed, Opening, Open, Closing}
+use Rattle.lz_vault.specs.Stages.{MayRead}
+use Rattle.lz_vault.proofs.Reading.{image_reads}
+use Rattle.lz_list.specs.Words.{place_number, link_to}
+use Rattle.lz_list.specs.Locks.{owner}
+use Rattle.lz_list.specs.Traces.{Trace, Chain, Shows, has_key, on, chain_of, bucket_of, key_word, next_link, member, IsLoose}
+use Rattle.lz_list.proofs.Chains.{has_on, on_start}
+use Rattle.lz_list.proofs.Shown.{words_show_chain}
+use Rattle.lz_list.proofs.Absent.{unlinked_is_settled}
+use Rattle.lz_list.proofs.Nodes.{one_node}
+use Rattle.lz_machine.specs.declared.actor.Hold.{Hold}
+use Rattle.lz_machine.specs.declared.actor.Hold.TheVariants.{Nothing, Locks, Checked, GateOpened, Linked, GateClosed, Marked, Unlinked, Released}
+use Rattle.lz_machine.specs.Yards.{Yard, no_cell}
+use Rattle.lz_machine.specs.Runs.{Caller}
+use Rattle.lz_machine.specs.Sound.{Notes, actor_in, cell_in, stage_in, opens, IsGateClosed, IsGateOpened, IsOnChain, IsNodeStage, SlotStands, is_node, is_held, is_out, is_free, is_limbo, IsBeside, RestsOn, Sound}
+use Rattle.lz_machine.proofs.Frames.HeldLocks.{rests_on_pair, one_place}
+use Rattle.lz_machine.proofs.Frames.OtherLink.{round_place}
+use Rattle.lz_machine.proofs.Frames.Ranges.{on_range}
+use Rattle.lz_machine.proofs.Steps.Unlink.{resting_locks, first_place}
+
+-- the keys that the first slots of a text hold
+abbrev pub reads_key : ℕ → SlotRead → Bool
+reads_key k (Member j) = j == k
+reads_key k _ = false
+
+abbrev pub found : List ℕ → ℕ → Keys
+found t zero k = false
+found t (suc n) k = reads_key k (slot_at t n) || found t n k
+
+key_read : (k : ℕ) (r : SlotRead) → reads_key k r ≡ true → r ≡ Member k
+key_read k (Member j) is = ap Member (grind (arith, nat_tests, is))
+key_read k Shut is = absurd (false≢true is)
+key_read k BadKey is = absurd (false≢true is)
+
+pub found_in : (t : List ℕ) (n k : ℕ) → found t n k ≡ true → (i : ℕ) × (i < n) × (slot_at t i ≡ Member k)
+found_in t zero k is = absurd (false≢true is)
+found_in t (suc n) k is = elim (or_cases (reads_key k (slot_at t n)) (found t n k) is) [
+  | inl here ↦ (n, omega arith, key_read k (slot_at t n) here)
+  | inr before ↦ let at = found_in t n k before in (at.0, omega (arith, at.1), at.2)
+]
+
+read_key : (k : ℕ) (r : SlotRead) → r ≡ Member k → reads_key k r ≡ true
+read_key k r is = ap (reads_key k) is ∙ eq-eqb k k refl
+
+pub in_found : (t : List ℕ) (n k i : ℕ) → i < n → slot_at t i ≡ Member k → found t n k ≡ true
+in_found t zero k i lt is = absurd (omega arith)
+in_found t (suc n) k i lt is = elim (cases_eq i n) [
+  | inl here ↦ or_left (reads_key k (slot_at t n)) (found t n k) (read_key k (slot_at t n) (subst (λ (q : ℕ). slot_at t q ≡ Member k) here is))
+  | inr before ↦ or_right (reads_key k (slot_at t n)) (found t n k) (in_found t n k i (omega (arith, before)) is)
+]
+
+pub not_both : (j : ℕ) (r : SlotRead) → r ≡ Shut → r ≡ Member j → ⊥
+not_both j r shut is = absurd cc
+
+-- a slot that is read as a key's
+pub member_read : (stage : Stage) (k j : ℕ) (r : SlotRead) → MayRead stage k r → r ≡ Member j → (k ≡ j) × (IsGateOpened stage ⊎ (stage ≡ Closing))
+member_read Closed k j r may is = absurd (not_both j r may is)
+member_read KeyLoose k j r may is = absurd (not_both j r may is)
+member_read Keyed k j r may is = absurd (not_both j r may is)
+member_read Opening k j r (inl may) is = absurd (not_both j r may is)
+member_read Opening k j r (inr may) is = (same may is, inl (inl refl))
+  where
+    same : r ≡ Member k → r ≡ Member j → k ≡ j
+    same one other = cc
+member_read Open k j r may is = (same may is, inl (inr refl))
+  where
+    same : r ≡ Member k → r ≡ Member j → k ≡ j
+    same one other = cc
+member_read Closing k j r (inl may) is = absurd (not_both j r may is)
+member_read Closing k j r (inr may) is = (same may is, inr refl)
+  where
+    same : r ≡ Member k → r ≡ Member j → k ≡ j
+    same one other = cc
+
+pub shut_read : (stage : Stage) (k : ℕ) (r : SlotRead) → MayRead stage k r → IsGateClosed stage → r ≡ Shut
+shut_read Opening k r may is = absurd (grind (arith, is))
+shut_read Open k r may is = absurd (grind (arith, is))
+shut_read Closing k r may is = absurd (grind (arith, is))
+shut_read _ k r may is = may
+
+pub one_or_other : (stage : Stage) (k : ℕ) (r : SlotRead) → MayRead stage k r → (r ≡ Shut) ⊎ (r ≡ Member k)
+one_or_other Opening k r may = may
+one_or_other Open k r may = inr may
+one_or_other Closing k r may = may
+one_or_other _ k r may = inl may
+
+-- a key that is on a chain has a node there
+has_node : (next keys : ℕ → ℕ) (k x : ℕ) (c : Chain) → Shows next keys x c → has_key k c ≡ true → (s : ℕ) × (on x c (suc s) ≡ true) × (keys s ≡ k)
+has_node next keys k x [] h is = absurd (false≢true is)
+has_node next keys k x (n ∷ c) h is = elim (cases_eq n.0 k) [
+  | inl same ↦ (n.1, grind (arith, nat_tests, on_start (suc n.1) c), h.1 ∙ same)
+  | inr other ↦
+      let rest = has_node next keys k (suc n.1) c h.3 (grind (arith, nat_tests, is)) in
+      (rest.0, grind (arith, nat_tests, rest.1), rest.2)
+]
+
+-- An actor has opened the gate of the slot, and rests on the place of its key.
+pub record IsOpened (y : Yard) (P : Trace) (s k : ℕ) : Type 0 where
+  pub actor : ℕ
+  pub hand : (actor_in y.actors actor).slot ≡ Some s
+  pub stage : IsGateOpened (stage_in y.vault.cells s)
+  pub rests : rests_on_pair (actor_in y.actors actor).hold ≡ true
+  pub beside : IsBeside y.shape.buckets k (actor_in y.actors actor).pred (actor_in y.actors actor).curr P
+
+-- the slot is that of the key's node
+abbrev pub IsNodeOf : Yard → Trace → ℕ → ℕ → Type 0
+IsNodeOf y P s k = (on 0 (chain_of y.shape.buckets k P) (suc s) ≡ true) × (key_word s P ≡ k)
+
+module _ (n calls : ℕ) (y : Yard) (callers : List (Option Caller)) (disk : Medium) (M : History) (P : Trace) (notes : Notes) (sound : Sound n calls y callers disk M P notes) where
+  shown : (k : ℕ) → Shows (next_link y.shape.buckets (bucket_of y.shape.buckets k) P) (λ s. key_word s P) 0 (chain_of y.shape.buckets k P)
+  shown k = (words_show_chain y.shape.buckets y.shape.slots P sound.trace.lawful (bucket_of y.shape.buckets k)).shows
+
+  pub node_has_key : (s k : ℕ) → IsNodeOf y P s k → has_key k (chain_of y.shape.buckets k P) ≡ true
+  node_has_key s k at = has_on (next_link y.shape.buckets (bucket_of y.shape.buckets k) P) (λ q. key_word q P) k s 0 (chain_of y.shape.buckets k P) (shown k) (omega arith) at.1 at.0
+
+  pub opened_has_none : (s k : ℕ) → IsOpened y P s k → has_key k (chain_of y.shape.buckets k P) ≡ false
+  opened_has_none s k h = (round_place y.shape.buckets y.shape.slots P sound.trace.lawful k (place_number (actor_in y.actors h.actor).pred) (link_to (actor_in y.actors h.actor).curr) h.beside.round).2
+
+  pub not_node_and_opened : (s u k : ℕ) → IsNodeOf y P s k → IsOpened y P u k → ⊥
+  not_node_and_opened s u k at h = false≢true (sym (opened_has_none u k h) ∙ node_has_key s k at)
+
+  -- one slot has a key
+  one_node_slot : (s u k : ℕ) → IsNodeOf y P s k → IsNodeOf y P u k → s ≡ u
+  one_node_slot s u k one other =
+      let same : suc s ≡ suc u = one_node (next_link y.shape.buckets (bucket_of y.shape.buckets k) P) (λ q. key_word q P) 0 (chain_of y.shape.buckets k P) (shown k) (suc s) (suc u) one.0 other.0 (omega (arith, one.1, other.1)) in
+      omega (arith, same)
+
+  has_place : (s k : ℕ) (h : IsOpened y P s k) → owner y.locks (actor_in y.actors h.actor).pred ≡ h.actor
+  has_place s k h = sound.locks.has h.actor (actor_in y.actors h.actor).pred (record { locks = resting_locks (actor_in y.actors h.actor).hold h.rests; among = first_place (actor_in y.actors h.actor).pred (actor_in y.actors h.actor).curr })
+
+  one_opened_slot : (s u k : ℕ) → IsOpened y P s k → IsOpened y P u k → s ≡ u
+  one_opened_slot s u k one other =
+      let lawful = sound.trace.lawful in
+      let at_one = (round_place y.shape.buckets y.shape.slots P lawful k (place_number (actor_in y.actors one.actor).pred) (link_to (actor_in y.actors one.actor).curr) one.beside.round).0 in
+      let at_other = (round_place y.shape.buckets y.shape.slots P lawful k (place_number (actor_in y.actors other.actor).pred) (link_to (actor_in y.actors other.actor).curr) other.beside.round).0 in
+      let place = one_place y.shape.buckets k k (actor_in y.actors one.actor).pred (actor_in y.actors other.actor).pred one.beside.bucket other.beside.bucket refl (sym at_one ∙ at_other) in
+      let same : one.actor ≡ other.actor = sym (has_place s k one) ∙ ap (owner y.locks) place ∙ has_place u k other in
+      same_Some _ _ (sym one.hand ∙ ap (λ (a : ℕ). (actor_in y.actors a).slot) same ∙ other.hand)
+
+  pub one_slot : (s u k : ℕ) → IsNodeOf y P s k ⊎ IsOpened y P s k → IsNodeOf y P u k ⊎ IsOpened y P u k → s ≡ u
+  one_slot s u k (inl one) (inl other) = one_node_slot s u k one other
+  one_slot s u k (inl one) (inr other) = absurd (not_node_and_opened s u k one other)
+  one_slot s u k (inr one) (inl other) = absurd (not_node_and_opened u s k other one)
+  one_slot s u k (inr one) (inr other) = one_opened_slot s u k one other
+
+  -- a slot on its key's chain is a node's
+  pub node_stands : (s : ℕ) → s < y.shape.slots → on 0 (chain_of y.shape.buckets (key_word s P) P) (suc s) ≡ true
+      → IsOnChain y.shape y.vault.cells y.uses P s × IsNodeStage y.vault.cells y.vault.dead y.actors P s
+  node_stands s lt there = go (sound.slots.each s lt)
+    where
+      not_loose : IsLoose y.shape.buckets s P → ⊥
+      not_loose loose = false≢true (sym (loose (bucket_of y.shape.buckets (key_word s P))) ∙ there)
+
+      go : SlotStands y.shape y.vault.cells y.vault.dead y.uses y.actors P s → IsOnChain y.shape y.vault.cells y.uses P s × IsNodeStage y.vault.cells y.vault.dead y.actors P s
+      go (is_node stands stage) = (stands, stage)
+      go (is_held a hand) = absurd (not_loose (sound.slots.hand a s hand).loose)
+      go (is_out a out) = absurd (not_loose (sound.slots.out a s out).loose)
+      go (is_free loose used stage) = absurd (not_loose loose)
+      go (is_limbo sights loose used stage) = absurd (not_loose loose)
+
+  -- a member stands on its chain
+  pub member_node : (k : ℕ) → member k P ≡ true → (s : ℕ) × (s < y.shape.slots) × IsNodeOf y P s k
+  member_node k is = elim (cases_Bool (has_key k (chain_of y.shape.buckets k P))) [
+    | inl has ↦
+        let at = has_node (next_link y.shape.buckets (bucket_of y.shape.buckets k) P) (λ q. key_word q P) k 0 (chain_of y.shape.buckets k P) (shown k) has in
+        (at.0, on_range y.shape.buckets y.shape.slots P (bucket_of y.shape.buckets k) at.0 sound.trace.lawful at.1, (at.1, at.2))
+    | inr none ↦ absurd (false≢true (sym (unlinked_is_settled y.shape.buckets k y.shape.slots P sound.trace.lawful none).0 ∙ is))
+  ]
+
+  module _ (t : List ℕ) (image : IsImage disk t) where
+    pub reads : (s : ℕ) → s < y.shape.slots → MayRead (stage_in y.vault.cells s) (cell_in y.vault.cells s).key (slot_at t s)
+    reads s lt =
+        let there : slice_get y.vault.cells s ≡ Some (cell_in y.vault.cells s) = slice_get-get_or y.vault.cells s no_cell (omega (arith, lt, sound.images.count)) in
+        image_reads y.vault.cells disk sound.images.keeps.vouches t s (cell_in y.vault.cells s) image there (sound.images.keys s (cell_in y.vault.cells s) there)
+
+    not_shut : (s k : ℕ) → s < y.shape.slots → slot_at t s ≡ Member k → IsGateClosed (stage_in y.vault.cells s) → ⊥
+    not_shut s k lt is shut = not_both k (slot_at t s) (shut_read (stage_in y.vault.cells s) (cell_in y.vault.cells s).key (slot_at t s) (reads s lt) shut) is
+
+    held_opened : (s k a : ℕ) → s < y.shape.slots → slot_at t s ≡ Member k → (actor_in y.actors a).slot ≡ Some s → IsOpened y P s k
+    held_opened s k a lt is hand = ⊎_elim (λ shut. absurd (not_shut s k lt is shut)) (λ h. go (actor_in y.actors a).hold refl h.0 h.1 (sym h.2 ∙ key)) (sound.slots.hand a s hand).stage
+      where
+        key : (cell_in y.vault.cells s).key ≡ k
+        key = (member_read (stage_in y.vault.cells s) (cell_in y.vault.cells s).key k (slot_at t s) (reads s lt) is).0
+
+        opened : IsGateOpened (stage_in y.vault.cells s) → rests_on_pair (actor_in y.actors a).hold ≡ true → IsBeside y.shape.buckets (key_word s P) (actor_in y.actors a).pred (actor_in y.actors a).curr P → key_word s P ≡ k → IsOpened y P s k
+        opened stage rests beside word = record { actor = a; hand = hand; stage = stage; rests = rests; beside = subst (λ (q : ℕ). IsBeside y.shape.buckets q (actor_in y.actors a).pred (actor_in y.actors a).curr P) word beside }
+
+        resting : (hold : Hold) → (actor_in y.actors a).hold ≡ hold → RestsOn y.shape.buckets hold (actor_in y.actors a) P
+        resting hold at = subst (λ (q : Hold). RestsOn y.shape.buckets q (actor_in y.actors a) P) at (sound.locks.rests a)
+
+        go : (hold : Hold) → (actor_in y.actors a).hold ≡ hold → opens y.vault.dead hold ≡ true → IsGateOpened (stage_in y.vault.cells s) → key_word s P ≡ k → IsOpened y P s k
+        go Checked at does stage word = opened stage (ap rests_on_pair at) ((resting Checked at).beside s hand) word
+        go GateOpened at does stage word =
+            let h = resting GateOpened at in
+            opened stage (ap rests_on_pair at) (subst (λ (q : ℕ). IsBeside y.shape.buckets (key_word q P) (actor_in y.actors a).pred (actor_in y.actors a).curr P) (same_Some _ _ (sym h.slot ∙ hand)) h.beside) word
+        go Nothing at does stage word = absurd (false≢true does)
+        go Locks at does stage word = absurd (false≢true does)
+        go Linked at does stage word = absurd (false≢true does)
+        go GateClosed at does stage word = absurd (false≢true does)
+        go Marked at does stage word = absurd (false≢true does)
+        go Unlinked at does stage word = absurd (false≢true does)
+        go Released at does stage word = absurd (false≢true does)
+
+    -- a slot that is read as a key's is its node's, or an actor has opened it for the key
+    pub opened_or_node : (s k : ℕ) → s < y.shape.slots → slot_at t s ≡ Member k → IsNodeOf y P s k ⊎ IsOpened y P s k
+    opened_or_node s k lt is = go (sound.slots.each s lt)
+      where
+        key : (cell_in y.vault.cells s).key ≡ k
+        key = (member_read (stage_in y.vault.cells s) (cell_in y.vault.cells s).key k (slot_at t s) (reads s lt) is).0
+
+        go : SlotStands y.shape y.vault.cells y.vault.dead y.uses y.actors P s → IsNodeOf y P s k ⊎ IsOpened y P s k
+        go (is_node stands stage) =
+            let word : key_word s P ≡ k = sym stands.key ∙ key in
+            inl (subst (λ (q : ℕ). on 0 (chain_of y.shape.buckets q P) (suc s) ≡ true) word stands.there, word)
+        go (is_held a hand) = inr (held_opened s k a lt is hand)
+        go (is_out a out) = absurd (not_shut s k lt is (inl (sound.slots.out a s out).stage))
+        go (is_free loose used stage) = absurd (not_shut s k lt is stage)
+        go (is_limbo sights loose used stage) = absurd (not_shut s k lt is (inl stage))
+
+    -- so a key is read at one slot
+    pub read_once : (s u k : ℕ) → s < y.shape.slots → u < y.shape.slots → slot_at t s ≡ Member k → slot_at t u ≡ Member k → s ≡ u
+    read_once s u k lt lt' is is' = one_slot s u k (opened_or_node s k lt is) (opened_or_node u k lt' is')

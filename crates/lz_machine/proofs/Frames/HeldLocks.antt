@@ -1,0 +1,199 @@
+-- What an actor relies on because of its locks stays when another publishes.
+use Rattle.std.proofs.Common.{◌≡◌, ◌≢◌, inl, inr, ℕ, zero, suc, Bool, true, false, ◌∷◌, Option, Some, None, refl, sym, ap, ◌∙◌, subst, arith}
+use Rattle.std.proofs.lemmas.Bool.Decides.{nat_tests}
+use Rattle.lz_list.specs.declared.place.Place.{Place}
+use Rattle.lz_list.specs.declared.place.Place.TheVariants.{Bucket, Node}
+use Rattle.lz_list.specs.declared.publishing.Publishing.{Publishing}
+use Rattle.lz_list.specs.declared.publishing.Publishing.TheVariants.{Linked as linked, Marked as marked, Unlinked as unlinked, KeyPrepared as key_prepared, LinkPrepared as link_prepared}
+use Rattle.lz_list.specs.Words.{place_number, link_to}
+use Rattle.lz_list.specs.Traces.{Trace, Lawful, place_of, bucket_of, key_word, next_link, is_marked, rank}
+use Rattle.lz_list.specs.Laws.{IsLow, IsHigh}
+use Rattle.lz_machine.specs.declared.actor.Actor.{Actor}
+use Rattle.lz_machine.specs.declared.actor.Hold.{Hold}
+use Rattle.lz_machine.specs.declared.actor.Hold.TheVariants.{Nothing, Locks, Checked, GateOpened, Linked, GateClosed, Marked, Unlinked, Released}
+use Rattle.lz_machine.specs.Stands.{IsReady, Faces, InBucket, IsLeaving}
+use Rattle.lz_machine.specs.Sound.{IsBeside, IsBefore, HasClosed, RestsOn}
+use Rattle.lz_machine.proofs.Frames.OtherLink as links
+use Rattle.lz_machine.proofs.Frames.OtherUnlink as unlinks
+
+-- What a publishing leaves of an actor's pair and slot.
+pub record LeavesPair (buckets : ℕ) (e : Publishing) (actor : Actor) (P : Trace) : Type 0 where
+  pub own_word : (s : ℕ) → actor.slot ≡ Some s → key_word s (e ∷ P) ≡ key_word s P
+  pub node_word : (t : ℕ) → actor.curr ≡ Some t → key_word t (e ∷ P) ≡ key_word t P
+  pub place_rank : rank (λ t. key_word t (e ∷ P)) (place_number actor.pred) ≡ rank (λ t. key_word t P) (place_number actor.pred)
+  pub mark : (t : ℕ) → actor.curr ≡ Some t → is_marked t (e ∷ P) ≡ is_marked t P
+  pub faces : (j n : ℕ) → InBucket buckets j actor.pred → Faces buckets j (place_number actor.pred) n P → Faces buckets j (place_number actor.pred) n (e ∷ P)
+  pub ready : (j n s : ℕ) → actor.slot ≡ Some s → IsReady buckets j n s P → IsReady buckets j n s (e ∷ P)
+
+-- the actor rests on its pair
+abbrev pub rests_on_pair : Hold → Bool
+rests_on_pair Checked = true
+rests_on_pair GateOpened = true
+rests_on_pair GateClosed = true
+rests_on_pair Marked = true
+rests_on_pair _ = false
+
+module _ (buckets : ℕ) (e : Publishing) (actor : Actor) (P : Trace) (leaves : LeavesPair buckets e actor P) where
+  low_stays : (k : ℕ) → IsLow k (place_number actor.pred) P → IsLow k (place_number actor.pred) (e ∷ P)
+  low_stays k low = omega (arith, low, leaves.place_rank)
+
+  high_stays : (k : ℕ) → IsHigh k (link_to actor.curr) P → IsHigh k (link_to actor.curr) (e ∷ P)
+  high_stays k high = go actor.curr refl high
+    where
+      go : (curr : Option ℕ) → actor.curr ≡ curr → IsHigh k (link_to curr) P → IsHigh k (link_to curr) (e ∷ P)
+      go None is h = inl refl
+      go (Some t) is (inl none) = absurd (omega (arith, none))
+      go (Some t) is (inr above) = inr (omega (arith, above, leaves.node_word t is))
+
+  -- the pair stands round a key still
+  pub beside_stays : (k : ℕ) → IsBeside buckets k actor.pred actor.curr P → IsBeside buckets k actor.pred actor.curr (e ∷ P)
+  beside_stays k h = record { bucket = h.bucket; round = record { faces = leaves.faces k (link_to actor.curr) h.bucket h.round.faces; low = low_stays k h.round.low; high = high_stays k h.round.high } }
+
+  -- and right before its node
+  pub before_stays : (t : ℕ) → actor.curr ≡ Some t → IsBefore buckets actor.pred t P → IsBefore buckets actor.pred t (e ∷ P)
+  before_stays t is h =
+      let same = sym (leaves.node_word t is) in
+      record {
+        bucket = subst (λ (k : ℕ). InBucket buckets k actor.pred) same h.bucket;
+        faces = record {
+          faces = subst (λ (k : ℕ). Faces buckets k (place_number actor.pred) (suc t) (e ∷ P)) same (leaves.faces (key_word t P) (suc t) h.bucket h.faces.faces);
+          low = subst (λ (k : ℕ). IsLow k (place_number actor.pred) (e ∷ P)) same (low_stays (key_word t P) h.faces.low);
+          key = refl;
+        };
+      }
+
+  closed_stays : (mark : Bool) → HasClosed buckets mark actor P → HasClosed buckets mark actor (e ∷ P)
+  closed_stays mark h = record { node = h.node; curr = h.curr; before = before_stays h.node h.curr h.before; marked = leaves.mark h.node h.curr ∙ h.marked }
+
+  pub pair_stays : (hold : Hold) → RestsOn buckets hold actor P → RestsOn buckets hold actor (e ∷ P)
+  pair_stays Checked h = record {
+    beside = λ s slot. subst (λ (k : ℕ). IsBeside buckets k actor.pred actor.curr (e ∷ P)) (sym (leaves.own_word s slot)) (beside_stays (key_word s P) (h.beside s slot));
+    before = λ t node. (before_stays t node (h.before t node).0, leaves.mark t node ∙ (h.before t node).1);
+  }
+  pair_stays GateOpened h = record {
+    own = h.own;
+    slot = h.slot;
+    beside = subst (λ (k : ℕ). IsBeside buckets k actor.pred actor.curr (e ∷ P)) (sym (leaves.own_word h.own h.slot)) (beside_stays (key_word h.own P) h.beside);
+    ready = subst (λ (k : ℕ). IsReady buckets k (link_to actor.curr) h.own (e ∷ P)) (sym (leaves.own_word h.own h.slot)) (leaves.ready (key_word h.own P) (link_to actor.curr) h.own h.slot h.ready);
+  }
+  pair_stays GateClosed h = closed_stays false h
+  pair_stays Marked h = closed_stays true h
+  pair_stays Nothing h = tt
+  pair_stays Locks h = tt
+  pair_stays Linked h = tt
+  pair_stays Unlinked h = tt
+  pair_stays Released h = tt
+
+pub pair_published : (buckets : ℕ) (e : Publishing) (actor : Actor) (P : Trace) → (rests_on_pair actor.hold ≡ true → LeavesPair buckets e actor P) → RestsOn buckets actor.hold actor P → RestsOn buckets actor.hold actor (e ∷ P)
+pair_published buckets e actor P leaves h = go actor.hold refl
+  where
+    go : (hold : Hold) → actor.hold ≡ hold → RestsOn buckets actor.hold actor (e ∷ P)
+    go Checked is = pair_stays buckets e actor P (leaves (ap rests_on_pair is)) actor.hold h
+    go GateOpened is = pair_stays buckets e actor P (leaves (ap rests_on_pair is)) actor.hold h
+    go GateClosed is = pair_stays buckets e actor P (leaves (ap rests_on_pair is)) actor.hold h
+    go Marked is = pair_stays buckets e actor P (leaves (ap rests_on_pair is)) actor.hold h
+    go _ is = subst (λ (q : Hold). RestsOn buckets q actor (e ∷ P)) (sym is) tt
+
+-- A linking at another place, of another slot.
+pub linked_leaves : (buckets slots k s p : ℕ) (actor : Actor) (P : Trace) → Lawful buckets slots P
+    → ((j : ℕ) → InBucket buckets j actor.pred → bucket_of buckets j ≡ bucket_of buckets k → place_number actor.pred ≢ place_of buckets k P) → ((t : ℕ) → actor.slot ≡ Some t → t ≢ s)
+    → LeavesPair buckets (linked k s p) actor P
+linked_leaves buckets slots k s p actor P law apart other = record {
+  own_word = λ t slot. refl;
+  node_word = λ t node. refl;
+  place_rank = rank_same (place_number actor.pred);
+  mark = λ t node. refl;
+  faces = λ j n at h. links.faces_stays buckets slots P law k s p j (place_number actor.pred) n (apart j at) h;
+  ready = λ j n t slot h. links.ready_stays buckets slots P law k s p j n t (other t slot) h;
+}
+  where
+    rank_same : (x : ℕ) → rank (λ t. key_word t (linked k s p ∷ P)) x ≡ rank (λ t. key_word t P) x
+    rank_same zero = refl
+    rank_same (suc t) = refl
+
+-- An unlinking of another node, behind another place.
+pub unlinked_leaves : (buckets slots k x s p : ℕ) (actor : Actor) (P : Trace) → Lawful buckets slots P → IsLeaving buckets k x s P
+    → ((j : ℕ) → InBucket buckets j actor.pred → bucket_of buckets j ≡ bucket_of buckets k → (place_number actor.pred ≢ x) × (place_number actor.pred ≢ suc s))
+    → LeavesPair buckets (unlinked k s p) actor P
+unlinked_leaves buckets slots k x s p actor P law leaving apart = record {
+  own_word = λ t slot. refl;
+  node_word = λ t node. refl;
+  place_rank = rank_same (place_number actor.pred);
+  mark = λ t node. refl;
+  faces = λ j n at h. unlinks.faces_stays buckets slots k x s p P law leaving j (place_number actor.pred) n (apart j at) h;
+  ready = λ j n t slot h. record {
+    loose = unlinks.loose_stays buckets slots k x s p P law leaving t h.loose;
+    key = h.key;
+    link = grind (arith, nat_tests, h.link, unlinks.loose_place buckets slots k x s p P law leaving t h.loose);
+    no_mark = h.no_mark;
+    not_added = h.not_added;
+    not_removed = h.not_removed;
+  };
+}
+  where
+    rank_same : (z : ℕ) → rank (λ t. key_word t (unlinked k s p ∷ P)) z ≡ rank (λ t. key_word t P) z
+    rank_same zero = refl
+    rank_same (suc t) = refl
+
+-- A marking of another node.
+pub marked_leaves : (buckets k s p : ℕ) (actor : Actor) (P : Trace) → ((t : ℕ) → actor.curr ≡ Some t → t ≢ s) → ((t : ℕ) → actor.slot ≡ Some t → t ≢ s) → LeavesPair buckets (marked k s p) actor P
+marked_leaves buckets k s p actor P other apart = record {
+  own_word = λ t slot. refl;
+  node_word = λ t node. refl;
+  place_rank = rank_same (place_number actor.pred);
+  mark = λ t node. grind (arith, nat_tests, other t node);
+  faces = λ j n at h. record { there = h.there; next = next_same j (place_number actor.pred) n h.next };
+  ready = λ j n t slot h. record { loose = h.loose; key = h.key; link = h.link; no_mark = grind (arith, nat_tests, apart t slot, h.no_mark); not_added = h.not_added; not_removed = h.not_removed };
+}
+  where
+    rank_same : (z : ℕ) → rank (λ t. key_word t (marked k s p ∷ P)) z ≡ rank (λ t. key_word t P) z
+    rank_same zero = refl
+    rank_same (suc t) = refl
+
+    next_same : (j z n : ℕ) → next_link buckets (bucket_of buckets j) P z ≡ n → next_link buckets (bucket_of buckets j) (marked k s p ∷ P) z ≡ n
+    next_same j zero n h = h
+    next_same j (suc t) n h = h
+
+-- A preparing of a slot that is neither the actor's, nor its node, nor its place.
+pub key_leaves : (buckets s v : ℕ) (actor : Actor) (P : Trace) → ((t : ℕ) → actor.slot ≡ Some t → t ≢ s) → ((t : ℕ) → actor.curr ≡ Some t → t ≢ s) → ((t : ℕ) → place_number actor.pred ≡ suc t → t ≢ s) → LeavesPair buckets (key_prepared s v) actor P
+key_leaves buckets s v actor P own node place = record {
+  own_word = λ t slot. grind (arith, nat_tests, own t slot);
+  node_word = λ t curr. grind (arith, nat_tests, node t curr);
+  place_rank = rank_same (place_number actor.pred) refl;
+  mark = λ t curr. refl;
+  faces = λ j n at h. record { there = h.there; next = next_same j (place_number actor.pred) n h.next };
+  ready = λ j n t slot h. record { loose = h.loose; key = grind (arith, nat_tests, own t slot, h.key); link = h.link; no_mark = h.no_mark; not_added = h.not_added; not_removed = h.not_removed };
+}
+  where
+    rank_same : (z : ℕ) → place_number actor.pred ≡ z → rank (λ t. key_word t (key_prepared s v ∷ P)) z ≡ rank (λ t. key_word t P) z
+    rank_same zero is = refl
+    rank_same (suc t) is = let apart = place t is in grind (arith, nat_tests, apart)
+
+    next_same : (j z n : ℕ) → next_link buckets (bucket_of buckets j) P z ≡ n → next_link buckets (bucket_of buckets j) (key_prepared s v ∷ P) z ≡ n
+    next_same j zero n h = h
+    next_same j (suc t) n h = h
+
+pub link_leaves : (buckets s v : ℕ) (actor : Actor) (P : Trace) → ((t : ℕ) → actor.slot ≡ Some t → t ≢ s) → ((t : ℕ) → actor.curr ≡ Some t → t ≢ s) → ((t : ℕ) → place_number actor.pred ≡ suc t → t ≢ s) → LeavesPair buckets (link_prepared s v) actor P
+link_leaves buckets s v actor P own node place = record {
+  own_word = λ t slot. refl;
+  node_word = λ t curr. refl;
+  place_rank = rank_same (place_number actor.pred);
+  mark = λ t curr. grind (arith, nat_tests, node t curr);
+  faces = λ j n at h. record { there = h.there; next = next_same j (place_number actor.pred) refl n h.next };
+  ready = λ j n t slot h. record { loose = h.loose; key = h.key; link = grind (arith, nat_tests, own t slot, h.link); no_mark = grind (arith, nat_tests, own t slot, h.no_mark); not_added = grind (arith, nat_tests, own t slot, h.not_added); not_removed = grind (arith, nat_tests, own t slot, h.not_removed) };
+}
+  where
+    rank_same : (z : ℕ) → rank (λ t. key_word t (link_prepared s v ∷ P)) z ≡ rank (λ t. key_word t P) z
+    rank_same zero = refl
+    rank_same (suc t) = refl
+
+    next_same : (j z : ℕ) → place_number actor.pred ≡ z → (n : ℕ) → next_link buckets (bucket_of buckets j) P z ≡ n → next_link buckets (bucket_of buckets j) (link_prepared s v ∷ P) z ≡ n
+    next_same j zero is n h = h
+    next_same j (suc t) is n h = let apart = place t is in grind (arith, nat_tests, apart, h)
+
+-- two places of one bucket with one number are one place
+pub one_place : (buckets j k : ℕ) (p q : Place) → InBucket buckets j p → InBucket buckets k q → bucket_of buckets j ≡ bucket_of buckets k → place_number p ≡ place_number q → p ≡ q
+one_place buckets j k (Bucket b) (Bucket c) at there same number = ap Bucket (at ∙ same ∙ sym there)
+one_place buckets j k (Node s) (Node t) at there same number = ap Node (omega (arith, number))
+one_place buckets j k (Bucket b) (Node t) at there same number = absurd (omega (arith, number))
+one_place buckets j k (Node s) (Bucket c) at there same number = absurd (omega (arith, number))

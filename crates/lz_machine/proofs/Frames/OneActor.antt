@@ -1,0 +1,141 @@
+-- A turn of one actor: the other actors' part is as before, and so is the ledger, where the call goes on without a publishing.
+use Rattle.std.proofs.Common.{◌≡◌, ◌≢◌, inl, inr, ℕ, zero, suc, ◌≤◌, [], ◌∷◌, ◌++◌, Bool, true, List, length, Option, Some, None, refl, sym, ap, ◌∙◌, subst, arith}
+use Rattle.std.proofs.lemmas.Bool.{cases_eq, cases_lt}
+use Rattle.std.proofs.lemmas.Bool.Decides.{eqb_tells}
+use Rattle.std.proofs.lemmas.List.{get_or_past}
+use Rattle.std.proofs.lemmas.Option.{same_Some, none-some}
+use Rattle.lz_slot.specs.declared.command.Command.{Command}
+use Rattle.lz_slot.specs.Counted.{set_of_pass}
+use Rattle.lz_slot.specs.Histories.{History, IsUnderWay}
+use Rattle.lz_slot.proofs.Counted.{of_pass_same, of_pass_other, length-set_of_pass}
+use Rattle.lz_vault.specs.Stages.{Cell}
+use Rattle.lz_vault.specs.Vaults.{Vaulted}
+use Rattle.lz_list.specs.Traces.{Trace}
+use Rattle.lz_machine.specs.declared.actor.Actor.{Actor}
+use Rattle.lz_machine.specs.declared.caller.Progress.{Progress}
+use Rattle.lz_machine.specs.Yards.{Shape}
+use Rattle.lz_machine.specs.Runs.{Caller, caller_at}
+use Rattle.lz_machine.specs.Ledgers.{Row, Each, change_at, times}
+use Rattle.lz_machine.specs.Kept.{publishing}
+use Rattle.lz_machine.specs.Entries.{IsLedger, IsSettledEntry, IsChangeOf}
+use Rattle.lz_machine.specs.Sound.{Notes, pending_row, pending, entries, actor_in, pin_in, view_of, CallerSound, CallersSound, LedgerSound}
+use Rattle.lz_machine.proofs.Frames.ActorTable.{by_actor}
+use Rattle.lz_machine.proofs.Ledger.Order.{times_append}
+
+-- an actor with a call is one of the service's
+pub caller_range : (callers : List (Option Caller)) (a : ℕ) (caller : Caller) → caller_at callers a ≡ Some caller → (1 ≤ a) × (a ≤ length callers)
+caller_range callers zero caller at = absurd (none-some _ at)
+caller_range callers (suc i) caller at = elim (cases_lt i (length callers)) [
+  | inl within ↦ (omega arith, omega (arith, within))
+  | inr past ↦ absurd (none-some _ (sym (get_or_past callers i None past) ∙ at))
+]
+
+-- the call where it has come to next
+abbrev pub moved : Caller → Progress → Caller
+moved caller next = record { number = caller.number; command = caller.command; progress = next }
+
+abbrev pub moving : List (Option Caller) → ℕ → Caller → Progress → List (Option Caller)
+moving callers a caller next = set_of_pass callers a (Some (moved caller next))
+
+-- what is said of a caller depends on its actor, pin word, call, and notes alone
+pub carry : (buckets passes : ℕ) (cells : List Cell) (dead : Bool) (P : Trace) (actor actor' : Actor) (pin pin' : ℕ) (caller caller' : Option Caller) (P0 P0' : Trace) (changed changed' : Option ℕ)
+    → actor' ≡ actor → pin' ≡ pin → caller' ≡ caller → P0' ≡ P0 → changed' ≡ changed
+    → CallerSound (record { buckets = buckets; passes = passes; cells = cells; dead = dead; actor = actor }) pin caller P0 P changed
+    → CallerSound (record { buckets = buckets; passes = passes; cells = cells; dead = dead; actor = actor' }) pin' caller' P0' P changed'
+carry buckets passes cells dead P actor actor' pin pin' caller caller' P0 P0' changed changed' e1 e2 e3 e4 e5 h =
+    subst (λ (q : Actor). CallerSound (record { buckets = buckets; passes = passes; cells = cells; dead = dead; actor = q }) pin' caller' P0' P changed') (sym e1)
+    (subst (λ (q : ℕ). CallerSound (record { buckets = buckets; passes = passes; cells = cells; dead = dead; actor = actor }) q caller' P0' P changed') (sym e2)
+    (subst (λ (q : Option Caller). CallerSound (record { buckets = buckets; passes = passes; cells = cells; dead = dead; actor = actor }) pin q P0' P changed') (sym e3)
+    (subst (λ (q : Trace). CallerSound (record { buckets = buckets; passes = passes; cells = cells; dead = dead; actor = actor }) pin caller q P changed') (sym e4)
+    (subst (λ (q : Option ℕ). CallerSound (record { buckets = buckets; passes = passes; cells = cells; dead = dead; actor = actor }) pin caller P0 P q) (sym e5) h))))
+
+module _ (callers : List (Option Caller)) (a : ℕ) (caller : Caller) (at : caller_at callers a ≡ Some caller) (next : Progress) where
+  pub moved_same : caller_at (moving callers a caller next) a ≡ Some (moved caller next)
+  moved_same = of_pass_same callers a (Some (moved caller next)) None (caller_range callers a caller at).0 (caller_range callers a caller at).1
+
+  pub moved_other : (b : ℕ) → b ≢ a → caller_at (moving callers a caller next) b ≡ caller_at callers b
+  moved_other b other = of_pass_other callers a b (Some (moved caller next)) None other
+
+  row_of_moved : (changed : Option ℕ) → pending_row (Some (moved caller next)) changed ≡ pending_row (Some caller) changed
+  row_of_moved None = refl
+  row_of_moved (Some j) = refl
+
+  same_row : (changed : ℕ → Option ℕ) (b : ℕ) → pending_row (caller_at (moving callers a caller next) b) (changed b) ≡ pending_row (caller_at callers b) (changed b)
+  same_row changed = by_actor (λ b. pending_row (caller_at (moving callers a caller next) b) (changed b) ≡ pending_row (caller_at callers b) (changed b)) a
+      (ap (λ (q : Option Caller). pending_row q (changed a)) moved_same ∙ row_of_moved (changed a) ∙ ap (λ (q : Option Caller). pending_row q (changed a)) (sym at))
+      (λ b other. ap (λ (q : Option Caller). pending_row q (changed b)) (moved_other b other))
+
+  same_pending : (changed : ℕ → Option ℕ) (m : ℕ) → pending (moving callers a caller next) changed m ≡ pending callers changed m
+  same_pending changed zero = refl
+  same_pending changed (suc m) = cc (same_pending changed m, same_row changed (suc m))
+
+  pub same_entries : (passes : ℕ) (notes : Notes) → entries passes (moving callers a caller next) notes ≡ entries passes callers notes
+  same_entries passes notes = ap (λ (rows : List Row). notes.ended ++ rows) (same_pending notes.changed passes)
+
+  -- what is said of each open call, of its number and command
+  number_still : (b : ℕ) (one : Caller) → caller_at (moving callers a caller next) b ≡ Some one → (old : Caller) × (caller_at callers b ≡ Some old) × (old.number ≡ one.number) × (old.command ≡ one.command)
+  number_still b one is = elim (cases_eq b a) [
+    | inl same ↦
+        let new = same_Some _ _ (sym moved_same ∙ ap (caller_at (moving callers a caller next)) (sym same) ∙ is) in
+        (caller, ap (caller_at callers) same ∙ at, ap (λ (q : Caller). q.number) new, ap (λ (q : Caller). q.command) new)
+    | inr other ↦ (one, sym (moved_other b other) ∙ is, refl, refl)
+  ]
+
+  pub ledger_turn : (n calls passes : ℕ) (P : Trace) (M : History) (notes : Notes) → LedgerSound n calls passes callers P M notes → LedgerSound n calls passes (moving callers a caller next) P M notes
+  ledger_turn n calls passes P M notes h =
+      let same = sym (same_entries passes notes) in
+      record {
+        opened = h.opened;
+        ledger = subst (λ (rows : List Row). IsLedger n P rows [] M) same h.ledger;
+        settled = subst (Each (IsSettledEntry P)) same h.settled;
+        changes = λ j early late. subst (λ (rows : List Row). IsChangeOf (publishing j P) (change_at j rows)) same (h.changes j early late);
+        numbered = h.numbered;
+        refused = h.refused;
+        one_call = h.one_call;
+        open_call = λ b one is. let old = number_still b one is in subst (λ (q : ℕ). IsUnderWay M q one.command) old.2 (subst (λ (q : Command). IsUnderWay M old.0.number q) old.3 (h.open_call b old.0 old.1));
+        apart = λ b d one two is_b is_d number. let x = number_still b one is_b in let z = number_still d two is_d in h.apart b d x.0 z.0 x.1 z.1 (x.2 ∙ number ∙ sym z.2);
+        unlisted = λ b one is. let old = number_still b one is in ap (λ (q : ℕ). times q notes.ended) (sym old.2) ∙ h.unlisted b old.0 old.1;
+      }
+
+  -- the callers, where the turn publishes nothing and leaves the vault and the pins
+  pub callers_turn : (shape : Shape) (vault : Vaulted) (pins : List ℕ) (actors actors' : List Actor) (P : Trace) (notes : Notes)
+      → length actors' ≡ length actors → ((b : ℕ) → b ≢ a → actor_in actors' b ≡ actor_in actors b)
+      → CallerSound (view_of shape vault actors' a) (pin_in pins a) (Some (moved caller next)) (notes.begun a) P (notes.changed a)
+      → CallersSound shape vault pins actors callers P notes
+      → CallersSound shape vault pins actors' (moving callers a caller next) P notes
+  callers_turn shape vault pins actors actors' P notes count others mine h = record {
+    count = length-set_of_pass callers a (Some (moved caller next)) ∙ h.count;
+    hands = count ∙ h.hands;
+    each = by_actor (λ b. CallerSound (view_of shape vault actors' b) (pin_in pins b) (caller_at (moving callers a caller next) b) (notes.begun b) P (notes.changed b)) a
+        (subst (λ (q : Option Caller). CallerSound (view_of shape vault actors' a) (pin_in pins a) q (notes.begun a) P (notes.changed a)) (sym moved_same) mine)
+        (λ b other. carry shape.buckets shape.passes vault.cells vault.dead P (actor_in actors b) (actor_in actors' b) (pin_in pins b) (pin_in pins b) (caller_at callers b) (caller_at (moving callers a caller next) b) (notes.begun b) (notes.begun b) (notes.changed b) (notes.changed b) (others b other) refl (moved_other b other) refl refl (h.each b));
+  }
+
+-- a pending row is listed
+has_pending : (callers : List (Option Caller)) (changed : ℕ → Option ℕ) (a j : ℕ) (caller : Caller) → caller_at callers a ≡ Some caller → changed a ≡ Some j → (m : ℕ) → 1 ≤ a → a ≤ m → times caller.number (pending callers changed m) ≡ 0 → ⊥
+has_pending callers changed a j caller at does zero low le none = omega (arith, low, le)
+has_pending callers changed a j caller at does (suc m) low le none = elim (cases_eq (suc m) a) [
+  | inl last ↦
+      let row : pending_row (caller_at callers (suc m)) (changed (suc m)) ≡ record { number = caller.number; command = caller.command; answer = None; changes = true; position = j } ∷ [] =
+      ap (λ (q : ℕ). pending_row (caller_at callers q) (changed q)) last ∙ ap (λ (q : Option Caller). pending_row q (changed a)) at ∙ ap (pending_row (Some caller)) does in
+      let count : times caller.number (pending_row (caller_at callers (suc m)) (changed (suc m))) ≡ 1 = ap (times caller.number) row ∙ once caller.number in
+      omega (arith, none, count, times_append caller.number (pending callers changed m) (pending_row (caller_at callers (suc m)) (changed (suc m))))
+  | inr more ↦ has_pending callers changed a j caller at does m low (omega (arith, le, more)) (omega (arith, none, times_append caller.number (pending callers changed m) (pending_row (caller_at callers (suc m)) (changed (suc m)))))
+]
+  where
+    once : (i : ℕ) → times i (record { number = i; command = caller.command; answer = None; changes = true; position = j } ∷ []) ≡ 1
+    once i = elim (eqb_tells i i) [
+      | inl same ↦ rw same.0 refl
+      | inr other ↦ absurd (other.1 refl)
+    ]
+
+-- a call that has changed something has a row
+pub has_entry : (passes a j : ℕ) (callers : List (Option Caller)) (notes : Notes) (caller : Caller) → caller_at callers a ≡ Some caller → notes.changed a ≡ Some j → a ≤ passes → times caller.number (entries passes callers notes) ≡ 0 → ⊥
+has_entry passes a j callers notes caller at does le none =
+    has_pending callers notes.changed a j caller at does passes (caller_range callers a caller at).0 le (omega (arith, none, times_append caller.number notes.ended (pending callers notes.changed passes)))
+
+-- what is known of the actor whose turn it is
+pub mine : (shape : Shape) (vault : Vaulted) (pins : List ℕ) (actors : List Actor) (callers : List (Option Caller)) (P : Trace) (notes : Notes) (a : ℕ) (caller : Caller)
+    → caller_at callers a ≡ Some caller → CallersSound shape vault pins actors callers P notes
+    → CallerSound (view_of shape vault actors a) (pin_in pins a) (Some caller) (notes.begun a) P (notes.changed a)
+mine shape vault pins actors callers P notes a caller at h = subst (λ (q : Option Caller). CallerSound (view_of shape vault actors a) (pin_in pins a) q (notes.begun a) P (notes.changed a)) at (h.each a)

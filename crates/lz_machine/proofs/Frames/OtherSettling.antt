@@ -1,0 +1,142 @@
+-- A settling that is sure keeps the invariant of all actors.
+use Rattle.std.proofs.Common.{◌≡◌, ◌≢◌, ◌⊎◌, inl, inr, ℕ, suc, ◌<◌, ◌≤◌, ◌==◌, true, false, List, ◌∷◌, Option, Some, refl, sym, ap, ◌∙◌, arith}
+use mathlib.Core.Bool.{false≢true}
+use Rattle.std.proofs.lemmas.Bool.{cases_Bool}
+use Rattle.std.proofs.lemmas.Bool.Decides.{nat_tests, eqb_tells}
+use Rattle.lz_slot.specs.Limits.{most_slots}
+use Rattle.lz_slot.specs.Histories.{History}
+use Rattle.lz_disk.specs.Images.{Medium}
+use Rattle.lz_vault.specs.declared.vault.Stage.{Stage}
+use Rattle.lz_vault.specs.declared.vault.Stage.TheVariants.{Closed, Opening, Open}
+use Rattle.lz_list.specs.declared.flags.Flags.{Flags}
+use Rattle.lz_list.specs.declared.publishing.Change.{Change}
+use Rattle.lz_list.specs.declared.publishing.Change.TheVariants.{Added, Removed}
+use Rattle.lz_list.specs.declared.publishing.Publishing.TheVariants.{Settled as settled}
+use Rattle.lz_list.specs.declared.word.Word.TheVariants.{Link as link_at}
+use Rattle.lz_list.specs.Words.{Words, get, set, link_with, next_of, flags_of}
+use Rattle.lz_list.specs.Traces.{Trace, on, chain_of, key_word, linking, linking_in, is_settled, is_removed, is_removal, word_after}
+use Rattle.lz_list.specs.Pinned.{Stood}
+use Rattle.lz_list.proofs.Nodes.{node, linking_apart}
+use Rattle.lz_list.proofs.Tables.{table_set}
+use Rattle.lz_machine.specs.Yards.{Yard, Shape}
+use Rattle.std.specs.Prelude.{slice_set}
+use Rattle.lz_machine.specs.Runs.{Caller, caller_at, with_words}
+use Rattle.lz_machine.specs.Sound.{Notes, entries, IsInside, actor_in, pin_in, stage_in, TraceSound, SlotStands, is_node, is_held, is_out, is_free, is_limbo, IsNodeStage, IsOnChain, Sound}
+use Rattle.lz_machine.proofs.Frames.LoadedWord.{link_next, link_mark, link_removed}
+use Rattle.lz_machine.proofs.Frames.Publishing.{LeavesCaller, caller_published}
+use Rattle.lz_machine.proofs.Frames.Flags.{locks_settled, slots_settled, reuse_settled, tails_settled}
+use Rattle.lz_machine.proofs.Ledger.QuietPublishing.{ledger_published}
+use Rattle.lz_machine.proofs.Steps.Halt.{held_node}
+
+-- what a settled flag makes of a slot's flags
+abbrev pub flags_then : Change → Flags → Flags
+flags_then Added f = record { mark = f.mark; add_settled = true; remove_settled = f.remove_settled }
+flags_then Removed f = record { mark = f.mark; add_settled = true; remove_settled = true }
+
+module _ (shape : Shape) (words : Words) (P : Trace) (trace : TraceSound shape words P) (few : shape.slots ≤ most_slots) (s : ℕ) (lt : s < shape.slots) (c : Change) where
+  word_is : (change : Change) → link_with (next_of (get words (link_at s))) (flags_then change (flags_of (get words (link_at s)))) ≡ word_after shape.buckets (settled s change ∷ P) (link_at s)
+  word_is Added =
+      let same : (s == s) ≡ true = grind (arith, nat_tests) in
+      cc (link_next shape words P trace few s lt, link_mark shape words P trace few s lt, link_removed shape words P trace few s lt, same)
+  word_is Removed =
+      let same : (s == s) ≡ true = grind (arith, nat_tests) in
+      cc (link_next shape words P trace few s lt, link_mark shape words P trace few s lt, same)
+
+  abbrev pub stored : Words
+  stored = set words (link_at s) (link_with (next_of (get words (link_at s))) (flags_then c (flags_of (get words (link_at s)))))
+
+  word_other : (t : ℕ) → t ≢ s → word_after shape.buckets (settled s c ∷ P) (link_at t) ≡ word_after shape.buckets P (link_at t)
+  word_other t other = let apart : (s == t) ≡ false = grind (arith, nat_tests, other) in cc apart
+
+  pub trace_settled : TraceSound shape stored (settled s c ∷ P)
+  trace_settled = record {
+    lawful = (tt, trace.lawful);
+    some = trace.some;
+    small = trace.small;
+    heads = trace.heads;
+    links = ap (λ (l : List ℕ). slice_set l s (link_with (next_of (get words (link_at s))) (flags_then c (flags_of (get words (link_at s)))))) trace.links
+        ∙ table_set shape.slots (λ t. word_after shape.buckets P (link_at t)) (λ t. word_after shape.buckets (settled s c ∷ P) (link_at t)) s _ lt (sym (word_is c)) word_other;
+    keys = trace.keys;
+    halt = trace.halt;
+    pins = trace.pins;
+  }
+
+-- the stage that allows a settling as this change
+abbrev pub Allows : Change → Stage → Type 0
+Allows Added stage = stage ≡ Open
+Allows Removed stage = stage ≡ Closed
+
+module _ (n calls : ℕ) (y : Yard) (callers : List (Option Caller)) (disk : Medium) (M : History) (P : Trace) (notes : Notes) (sound : Sound n calls y callers disk M P notes) where
+  -- a slot on which a pass that is inside may stand is a node, or was taken out
+  pub stood_stands : (a s b : ℕ) → IsInside (pin_in y.words.pins a) → Stood y.shape.buckets b (notes.begun a) P (suc s) → s < y.shape.slots
+      → (IsOnChain y.shape y.vault.cells y.uses P s × IsNodeStage y.vault.cells y.vault.dead y.actors P s) ⊎ (stage_in y.vault.cells s ≡ Closed)
+  stood_stands a s b inside stood lt = go (sound.slots.each s lt)
+    where
+      go : SlotStands y.shape y.vault.cells y.vault.dead y.uses y.actors P s → (IsOnChain y.shape y.vault.cells y.uses P s × IsNodeStage y.vault.cells y.vault.dead y.actors P s) ⊎ (stage_in y.vault.cells s ≡ Closed)
+      go (is_node chain stage) = inl (chain, stage)
+      go (is_held d slot) = absurd (sound.reuse.reserved a d s slot inside b stood)
+      go (is_out d out) = inr (sound.slots.out d s out).stage
+      go (is_free loose free stage) = absurd (sound.reuse.free a s free inside b stood)
+      go (is_limbo sights loose limbo stage) = inr stage
+
+  module _ (s : ℕ) (c : Change) (lt : s < y.shape.slots) (allows : Allows c (stage_in y.vault.cells s)) (apart : (b t : ℕ) → (actor_in y.actors b).slot ≡ Some t → t ≢ s) where
+    -- the node whose flag is set is the one that the settling names
+    named : (k t : ℕ) → key_word t P ≡ k → on 0 (chain_of y.shape.buckets k P) (suc t) ≡ true → linking_in s P ≡ linking k P → t ≡ s
+    named k t key there same =
+        let h = node y.shape.buckets y.shape.slots k t P sound.trace.lawful there key in
+        linking_apart t s P (h.same ∙ sym same) (omega (arith, h.same, h.some))
+
+    not_opening : Allows c (stage_in y.vault.cells s) → stage_in y.vault.cells s ≢ Opening
+    not_opening = go c
+      where
+        open_opening : Open ≡ Opening → ⊥
+        open_opening e = absurd cc
+
+        closed_opening : Closed ≡ Opening → ⊥
+        closed_opening e = absurd cc
+
+        go : (change : Change) → Allows change (stage_in y.vault.cells s) → stage_in y.vault.cells s ≢ Opening
+        go Added is e = open_opening (sym is ∙ e)
+        go Removed is e = closed_opening (sym is ∙ e)
+
+    is_added : (k t : ℕ) → key_word t P ≡ k → on 0 (chain_of y.shape.buckets k P) (suc t) ≡ true → is_settled (linking k P) (settled s c ∷ P) ≡ true → stage_in y.vault.cells t ≢ Opening
+    is_added k t key there is = elim (eqb_tells (linking_in s P) (linking k P)) [
+      | inl same ↦ λ e. not_opening allows (ap (stage_in y.vault.cells) (sym (named k t key there same.1)) ∙ e)
+      | inr other ↦ sound.slots.added k t key there (rw other.0 at is)
+    ]
+
+    removes : (change : Change) → is_removal change ≡ true → Allows change (stage_in y.vault.cells s) → stage_in y.vault.cells s ≡ Closed
+    removes Removed is h = h
+    removes Added is h = absurd (false≢true is)
+
+    is_removed_then : (k t : ℕ) → key_word t P ≡ k → on 0 (chain_of y.shape.buckets k P) (suc t) ≡ true → is_removed (linking k P) (settled s c ∷ P) ≡ true → stage_in y.vault.cells t ≡ Closed
+    is_removed_then k t key there is = elim (eqb_tells (linking_in s P) (linking k P)) [
+      | inl same ↦ elim (cases_Bool (is_removal c)) [
+        | inl removal ↦ ap (stage_in y.vault.cells) (named k t key there same.1) ∙ removes c removal allows
+        | inr adding ↦ sound.slots.removed k t key there (grind (arith, nat_tests, is, adding))
+      ]
+      | inr other ↦ sound.slots.removed k t key there (rw other.0 at is)
+    ]
+
+    leaves : (b : ℕ) → LeavesCaller y.shape.buckets y.shape.slots (settled s c) P (tt, sound.trace.lawful) (actor_in y.actors b) (pin_in y.words.pins b) (notes.begun b)
+    leaves b = record {
+      kept = λ inside. tt;
+      word = λ t slot. refl;
+      node = held_node y.shape P (actor_in y.actors b).hold (actor_in y.actors b) sound.trace.lawful (sound.locks.rests b);
+    }
+
+    pub settled_keeps : Sound n calls (with_words y (stored y.shape y.words P sound.trace sound.images.slots.1 s lt c)) callers disk M (settled s c ∷ P) notes
+    settled_keeps = record {
+      trace = trace_settled y.shape y.words P sound.trace sound.images.slots.1 s lt c;
+      images = sound.images;
+      slots = slots_settled s c y.shape y.vault.cells y.vault.dead y.uses y.actors P sound.slots is_added is_removed_then;
+      locks = locks_settled s c y.shape y.vault.cells y.vault.dead y.uses y.actors P y.locks apart sound.locks;
+      callers = record {
+        count = sound.callers.count;
+        hands = sound.callers.hands;
+        each = λ b. caller_published y.shape.buckets y.shape.slots (settled s c) P (tt, sound.trace.lawful) y.shape.passes y.vault.cells y.vault.dead (actor_in y.actors b) (pin_in y.words.pins b) (notes.begun b) (notes.changed b) (leaves b) (caller_at callers b) (sound.callers.each b);
+      };
+      reuse = reuse_settled s c y.shape y.vault.cells y.vault.dead y.uses y.actors P y.words.pins notes.begun sound.slots sound.reuse;
+      ledger = ledger_published n calls y.shape.passes callers (settled s c) P M notes tt sound.ledger;
+      tails = tails_settled s c y.shape y.vault.cells y.vault.dead y.uses y.actors P callers (entries y.shape.passes callers notes) M sound.tails;
+    }

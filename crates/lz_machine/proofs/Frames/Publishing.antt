@@ -1,0 +1,333 @@
+-- What a caller relies on stays when another actor publishes.
+use Rattle.lz_vault.specs.Stages.{Cell}
+use Rattle.std.proofs.Common.{List, ◌≡◌, ◌⊎◌, ⊎_elim, inl, inr, ℕ, zero, suc, Bool, true, false, ◌∷◌, Option, Some, None, refl, sym, ap, ◌∙◌, subst, arith}
+use mathlib.Core.Bool.{false≢true}
+use Rattle.std.proofs.lemmas.Bool.{cases_Bool}
+use Rattle.std.proofs.lemmas.Bool.Decides.{eqb_tells}
+use Rattle.lz_slot.specs.declared.command.Command.{Command}
+use Rattle.lz_slot.specs.declared.command.Command.TheVariants.{Add, Remove, Has}
+use Rattle.lz_slot.specs.Sets.{key_of}
+use Rattle.lz_list.specs.declared.place.Place.{Place}
+use Rattle.lz_list.specs.declared.publishing.Publishing.{Publishing}
+use Rattle.lz_list.specs.declared.publishing.Publishing.TheVariants.{Linked as linked, Marked as marked, Unlinked as unlinked, Settled as settled, KeyPrepared as key_prepared, LinkPrepared as link_prepared, Halted as halted}
+use Rattle.lz_list.specs.declared.walk.Look.{Look}
+use Rattle.lz_list.specs.declared.walk.Look.TheVariants.{AtHead, AtKey, AtMet, AtBelow}
+use Rattle.lz_list.specs.Words.{place_number, link_to}
+use Rattle.lz_list.specs.Traces.{Trace, May, has_key, Lawful, Adjacent, on, chain, chain_of, bucket_of, key_word, linking, linking_in, is_removed, halt_word, member, rank, next_link}
+use Rattle.lz_list.specs.Pinned.{Stood, IsKept, IsQuiet}
+use Rattle.lz_list.specs.Laws.{IsHigh}
+use Rattle.lz_list.proofs.Chains.{adjacent_on, has_on}
+use Rattle.lz_list.proofs.Shown.{words_show_chain}
+use Rattle.lz_list.proofs.Absent.{begins_itself}
+use Rattle.lz_list.proofs.Hindsight.{key_stays, once_weaker, next_stood}
+use Rattle.lz_list.proofs.Resting.{mark_stays, linking_stays, removed_later}
+use Rattle.lz_machine.specs.declared.event.Reply.{Reply}
+use Rattle.lz_machine.specs.declared.event.Reply.TheVariants.{Yes, No, Full, Worn as SaysWorn, Halted, Device}
+use Rattle.lz_machine.specs.declared.actor.Actor.{Actor}
+use Rattle.lz_machine.specs.declared.actor.Hold.{Hold}
+use Rattle.lz_machine.specs.declared.actor.Hold.TheVariants.{Nothing, Checked, GateClosed, Marked, Locks, GateOpened, Linked, Unlinked, Released}
+use Rattle.lz_machine.specs.declared.caller.Script.{Script}
+use Rattle.lz_machine.specs.declared.caller.Script.TheVariants.{Pinning, Resting, Writing, Adding, Removing, Releasing, Halting}
+use Rattle.lz_machine.specs.declared.caller.Progress.{Progress}
+use Rattle.lz_machine.specs.declared.caller.Progress.TheVariants.{Playing, LoadsHalt, Walking, Reserving, SeeingPins, Claiming, Checking, Answering}
+use Rattle.lz_machine.specs.Runs.{Caller}
+use Rattle.lz_machine.specs.Kept.{upto}
+use Rattle.lz_machine.specs.Stands.{IsWalking, WasBetween}
+use Rattle.lz_machine.specs.Sound.{IsInside, View, IsWritten, IsAimed, IsBeyond, HasEnded, IsLooking, IsSince, HasMet, RestsYes, RestsNo, IsSettledChange, MayAnswer, HasAdded, HasMarked, MayRest, IsIdle, ReliesWriting, ReliesAdding, ReliesRemoving, ReliesOn, Relies, IsCaller, CallerSound, is_before_pin, side_of, shuts}
+use Rattle.lz_machine.proofs.Ledger.Growth.{upto_more, yes_stays, no_stays}
+
+pub halt_stays : (e : Publishing) (P : Trace) → halt_word P ≡ 1 → halt_word (e ∷ P) ≡ 1
+halt_stays halted P is = refl
+halt_stays (linked k s p) P is = is
+halt_stays _ _ is = is
+
+-- the node of the actor's pair, on which it relies
+abbrev pub relies_on_node : Hold → Bool
+relies_on_node GateClosed = true
+relies_on_node Checked = true
+relies_on_node Marked = true
+relies_on_node _ = false
+
+-- an actor that has closed a gate relies on its node, which is on its chain
+pub shut_relies : (hold : Hold) → shuts hold ≡ true → relies_on_node hold ≡ true
+shut_relies GateClosed e = refl
+shut_relies Marked e = refl
+shut_relies Checked e = refl
+shut_relies _ e = absurd (false≢true e)
+
+module _ (buckets slots : ℕ) (e : Publishing) (P : Trace) (law : Lawful buckets slots (e ∷ P)) where
+  -- a node on a chain keeps its key word and its linking
+  pub node_word : (t b : ℕ) → on 0 (chain buckets b P) (suc t) ≡ true → key_word t (e ∷ P) ≡ key_word t P
+  node_word t b there = go e law.0
+    where
+      go : (f : Publishing) → May buckets slots f P → key_word t (f ∷ P) ≡ key_word t P
+      go (key_prepared s v) loose = elim (eqb_tells s t) [
+        | inl same ↦ absurd (false≢true (sym (loose b) ∙ ap (λ (q : ℕ). on 0 (chain buckets b P) (suc q)) same.1 ∙ there))
+        | inr f ↦ rw f.0
+      ]
+      go (linked k s p) may = refl
+      go (marked k s p) may = refl
+      go (unlinked k s p) may = refl
+      go (settled s c) may = refl
+      go (link_prepared s v) may = refl
+      go halted may = refl
+
+  pub node_linking : (t b : ℕ) → on 0 (chain buckets b P) (suc t) ≡ true → linking_in t (e ∷ P) ≡ linking_in t P
+  node_linking t b there = go e law.0
+    where
+      go : (f : Publishing) → May buckets slots f P → linking_in t (f ∷ P) ≡ linking_in t P
+      go (linked k s p) may = elim (eqb_tells s t) [
+        | inl same ↦ absurd (false≢true (sym (may.loose b) ∙ ap (λ (q : ℕ). on 0 (chain buckets b P) (suc q)) same.1 ∙ there))
+        | inr f ↦ rw f.0
+      ]
+      go (key_prepared s v) may = refl
+      go (marked k s p) may = refl
+      go (unlinked k s p) may = refl
+      go (settled s c) may = refl
+      go (link_prepared s v) may = refl
+      go halted may = refl
+
+  -- and so does its key
+  pub key_linking : (k t : ℕ) → on 0 (chain_of buckets k P) (suc t) ≡ true → key_word t P ≡ k → linking k (e ∷ P) ≡ linking k P
+  key_linking k t there key = go e law.0
+    where
+      go : (f : Publishing) → May buckets slots f P → linking k (f ∷ P) ≡ linking k P
+      go (linked j s p) may = elim (eqb_tells j k) [
+        | inl same ↦
+            let shown = words_show_chain buckets slots P law.1 (bucket_of buckets k) in
+            let has = has_on (next_link buckets (bucket_of buckets k) P) (λ t. key_word t P) k t 0 (chain_of buckets k P) shown.shows (omega arith) key there in
+            absurd (false≢true (sym (subst (λ (q : ℕ). has_key q (chain_of buckets q P) ≡ false) same.1 may.no_node) ∙ has))
+        | inr f ↦ rw f.0
+      ]
+      go (key_prepared s v) may = refl
+      go (marked k s p) may = refl
+      go (unlinked k s p) may = refl
+      go (settled s c) may = refl
+      go (link_prepared s v) may = refl
+      go halted may = refl
+
+  module _ (P0 : Trace) (kept : IsKept buckets P0 e P) (quiet : IsQuiet buckets P0 P) where
+    -- a place of a chain keeps its rank
+    pub rank_stays : (b x : ℕ) → Stood buckets b P0 P x → rank (λ t. key_word t (e ∷ P)) x ≡ rank (λ t. key_word t P) x
+    rank_stays b zero stood = refl
+    rank_stays b (suc t) stood = ap suc (key_stays buckets slots P0 b t e P kept stood)
+
+    pub walking_stays : (k x : ℕ) → IsWalking buckets k x P0 P → IsWalking buckets k x P0 (e ∷ P)
+    walking_stays k x h = record { stood = inr h.stood; low = omega (arith, h.low, rank_stays (bucket_of buckets k) x h.stood) }
+
+    pub pred_stood : (k : ℕ) (pred : Place) (n : ℕ) → WasBetween buckets k pred n P0 P → Stood buckets (bucket_of buckets k) P0 P (place_number pred)
+    pred_stood k pred n h = once_weaker P0 P (λ R. Adjacent 0 (chain_of buckets k R) (place_number pred) n) (λ R. on 0 (chain_of buckets k R) (place_number pred) ≡ true) (λ R from to adj. adjacent_on 0 (chain_of buckets k R) (place_number pred) n adj) h.were
+
+    pub next_is : (k : ℕ) (pred : Place) (t : ℕ) → WasBetween buckets k pred (suc t) P0 P → Stood buckets (bucket_of buckets k) P0 P (suc t)
+    next_is k pred t h = next_stood buckets slots P0 (bucket_of buckets k) (place_number pred) (suc t) P h.were (λ is. grind arith)
+
+    pub between_stays : (k : ℕ) (pred : Place) (n : ℕ) → WasBetween buckets k pred n P0 P → WasBetween buckets k pred n P0 (e ∷ P)
+    between_stays k pred n h = record { bucket = h.bucket; low = omega (arith, h.low, rank_stays (bucket_of buckets k) (place_number pred) (pred_stood k pred n h)); were = inr h.were }
+
+    word_stays : (k : ℕ) (pred : Place) (t j : ℕ) → WasBetween buckets k pred (suc t) P0 P → key_word t P ≡ j → key_word t (e ∷ P) ≡ j
+    word_stays k pred t j h is = key_stays buckets slots P0 (bucket_of buckets k) t e P kept (next_is k pred t h) ∙ is
+
+    high_stays : (k : ℕ) (pred : Place) (curr : Option ℕ) → WasBetween buckets k pred (link_to curr) P0 P → IsHigh k (link_to curr) P → IsHigh k (link_to curr) (e ∷ P)
+    high_stays k pred None h high = inl refl
+    high_stays k pred (Some t) h high = inr (grind (arith, high, key_stays buckets slots P0 (bucket_of buckets k) t e P kept (next_is k pred t h)))
+
+    met_there : (k : ℕ) (pred : Place) (curr : Option ℕ) (t : ℕ) → WasBetween buckets k pred (link_to curr) P0 P → curr ≡ Some t → WasBetween buckets k pred (suc t) P0 P
+    met_there k pred curr t h is = subst (λ (q : Option ℕ). WasBetween buckets k pred (link_to q) P0 P) is h
+
+    beyond_stays : (k : ℕ) (pred : Place) (curr : Option ℕ) → WasBetween buckets k pred (link_to curr) P0 P → IsBeyond k P curr → IsBeyond k (e ∷ P) curr
+    beyond_stays k pred curr h (inl high) = inl (high_stays k pred curr h high)
+    beyond_stays k pred curr h (inr (t, is, key, mark)) =
+        let there = met_there k pred curr t h is in
+        inr (t, is, word_stays k pred t k there key, mark_stays buckets slots P0 (bucket_of buckets k) t e P kept (next_is k pred t there) mark)
+
+    pub ended_stays : (c : Command) (aim : Option ℕ) (pred : Place) (curr : Option ℕ) → HasEnded c aim buckets P0 P pred curr → HasEnded c aim buckets P0 (e ∷ P) pred curr
+    ended_stays (Add k) (Some s) pred curr h = (between_stays k pred (link_to curr) h.0, beyond_stays k pred curr h.0 h.1)
+    ended_stays (Remove k) None pred curr h = (between_stays k pred (link_to curr) h.0, (h.1.0, h.1.1, word_stays k pred h.1.0 k (met_there k pred curr h.1.0 h.0 h.1.1) h.1.2))
+    ended_stays _ _ pred curr h = absurd h
+
+    pub looking_stays : (k : ℕ) (look : Look) → IsLooking buckets k P0 P look → IsLooking buckets k P0 (e ∷ P) look
+    looking_stays k AtHead h = tt
+    looking_stays k (AtKey pred s) h = between_stays k pred (suc s) h
+    looking_stays k (AtMet pred s) h = (between_stays k pred (suc s) h.0, word_stays k pred s k h.0 h.1)
+    looking_stays k (AtBelow s) h = walking_stays k (suc s) h
+
+    pub added_stays : (k s : ℕ) (changed : Option ℕ) → HasAdded buckets k s P0 P changed → HasAdded buckets k s P0 (e ∷ P) changed
+    added_stays k s changed h =
+        let at = upto_more (suc h.at) e P (omega (arith, h.within)) in
+        record {
+          at = h.at;
+          is = h.is;
+          within = omega (arith, h.within);
+          in_slot = linking_stays buckets slots P0 (bucket_of buckets k) s e P law quiet h.stood ∙ h.in_slot;
+          is_member = ap (λ (R : Trace). member k R) at ∙ h.is_member;
+          named = ap (λ (R : Trace). linking k R) at ∙ h.named;
+          stood = inr h.stood;
+        }
+
+  pub since_stays : (P0 R : Trace) → IsSince P0 R P → IsSince P0 R (e ∷ P)
+  since_stays P0 R h = record { from = h.from; upto = inr h.upto }
+
+  pub met_stays : (k s : ℕ) (mark : Bool) (P0 : Trace) → HasMet buckets k s mark P0 P → HasMet buckets k s mark P0 (e ∷ P)
+  met_stays k s mark P0 h = record { then = h.then; since = since_stays P0 h.then h.since; stood = h.stood; key = h.key; met = h.met }
+
+  rest_stays : (c : Command) (reply : Reply) (s : ℕ) (P0 : Trace) → MayRest buckets c reply s P0 P → MayRest buckets c reply s P0 (e ∷ P)
+  rest_stays (Has k) Yes s P0 h = met_stays k s false P0 h
+  rest_stays (Has k) No s P0 h = met_stays k s true P0 h
+  rest_stays (Add k) No s P0 h = met_stays k s false P0 h
+  rest_stays (Remove k) No s P0 h = met_stays k s true P0 h
+  rest_stays _ _ s _ h = absurd h
+
+  pub rests_yes_stays : (k : ℕ) (P0 : Trace) → RestsYes k P0 P → RestsYes k P0 (e ∷ P)
+  rests_yes_stays k P0 h = record { then = h.then; since = since_stays P0 h.then h.since; settled = yes_stays e P h.then k h.settled }
+
+  pub rests_no_stays : (k : ℕ) (P0 : Trace) → RestsNo k P0 P → RestsNo k P0 (e ∷ P)
+  rests_no_stays k P0 h = record { then = h.then; since = since_stays P0 h.then h.since; settled = no_stays e P h.then k h.settled }
+
+  pub change_stays : (k : ℕ) (changed : Option ℕ) → IsSettledChange k P changed → IsSettledChange k (e ∷ P) changed
+  change_stays k changed h =
+      let at = upto_more (suc h.at) e P (omega (arith, h.within)) in
+      record {
+        at = h.at;
+        is = h.is;
+        within = omega (arith, h.within);
+        settled = ⊎_elim (λ yes'. inl (rw at (yes_stays e P (upto (suc h.at) P) k yes'))) (λ no'. inr (rw at (no_stays e P (upto (suc h.at) P) k no'))) h.settled;
+      }
+
+  answer_stays : (c : Command) (reply : Reply) (P0 : Trace) (changed : Option ℕ) → MayAnswer c reply P0 P changed → MayAnswer c reply P0 (e ∷ P) changed
+  answer_stays (Has k) Yes P0 changed h = (h.0, rests_yes_stays k P0 h.1)
+  answer_stays (Has k) No P0 changed h = (h.0, rests_no_stays k P0 h.1)
+  answer_stays (Add k) Yes P0 changed h = change_stays k changed h
+  answer_stays (Add k) No P0 changed h = (h.0, rests_yes_stays k P0 h.1)
+  answer_stays (Remove k) Yes P0 changed h = change_stays k changed h
+  answer_stays (Remove k) No P0 changed h = (h.0, rests_no_stays k P0 h.1)
+  answer_stays (Has k) Halted P0 changed h = halt_stays e P h
+  answer_stays (Has k) Device P0 changed h = halt_stays e P h
+  answer_stays (Add k) Halted P0 changed h = halt_stays e P h
+  answer_stays (Add k) Device P0 changed h = halt_stays e P h
+  answer_stays (Remove k) Halted P0 changed h = halt_stays e P h
+  answer_stays (Remove k) Device P0 changed h = halt_stays e P h
+  answer_stays _ _ _ changed h = h
+
+  idle_stays : (actor : Actor) → IsIdle actor P → IsIdle actor (e ∷ P)
+  idle_stays actor (inl none) = inl none
+  idle_stays actor (inr halt) = inr (halt_stays e P halt)
+
+  let_go : (hold : Hold) → (hold ≡ Nothing) ⊎ (halt_word P ≡ 1) → (hold ≡ Nothing) ⊎ (halt_word (e ∷ P) ≡ 1)
+  let_go hold (inl none) = inl none
+  let_go hold (inr halt) = inr (halt_stays e P halt)
+
+  -- What another's publishing leaves of a caller: its slot's key word, its node on the chain, and the slots that it may stand on.
+  pub record LeavesCaller (actor : Actor) (pin : ℕ) (P0 : Trace) : Type 0 where
+    pub kept : IsInside pin → IsKept buckets P0 e P
+    pub word : (s : ℕ) → actor.slot ≡ Some s → key_word s (e ∷ P) ≡ key_word s P
+    pub node : (t : ℕ) → actor.curr ≡ Some t → relies_on_node actor.hold ≡ true → on 0 (chain_of buckets (key_word t P) P) (suc t) ≡ true
+
+  module _ (passes : ℕ) (cells : List Cell) (dead : Bool) (actor : Actor) (pin : ℕ) (P0 : Trace) (changed : Option ℕ) (leaves : LeavesCaller actor pin P0) where
+    abbrev v : View
+    v = record { buckets = buckets; passes = passes; cells = cells; dead = dead; actor = actor }
+
+    written_stays : (k s : ℕ) → IsWritten v k s P → IsWritten v k s (e ∷ P)
+    written_stays k s h = record { slot = h.slot; stage = h.stage; key = h.key; word = leaves.word s h.slot ∙ h.word }
+
+    aimed_stays : (k : ℕ) (aim : Option ℕ) → IsAimed v k P aim → IsAimed v k (e ∷ P) aim
+    aimed_stays k None h = h
+    aimed_stays k (Some s) h = written_stays k s h
+
+    writing_stays : (c : Command) (s i : ℕ) → ReliesWriting v c s i P changed → ReliesWriting v c s i (e ∷ P) changed
+    writing_stays c s zero h = h
+    writing_stays c s (suc zero) h = (h.0, h.1, h.2, leaves.word s h.1 ∙ h.3, h.4, h.5)
+    writing_stays c s (suc (suc i)) h = absurd h
+
+    -- the remover's node, which its locks keep
+    node_there : (t : ℕ) → actor.curr ≡ Some t → (hold : Hold) → actor.hold ≡ hold → relies_on_node hold ≡ true → on 0 (chain_of buckets (key_word t P) P) (suc t) ≡ true
+    node_there t is hold at relies = leaves.node t is (ap relies_on_node at ∙ relies)
+
+    node_word_stays : (t k : ℕ) → actor.curr ≡ Some t → (hold : Hold) → actor.hold ≡ hold → relies_on_node hold ≡ true → key_word t P ≡ k → key_word t (e ∷ P) ≡ k
+    node_word_stays t k is hold at relies key = node_word t (bucket_of buckets (key_word t P)) (node_there t is hold at relies) ∙ key
+
+    marked_stays : (k t : ℕ) → actor.curr ≡ Some t → actor.hold ≡ Marked → HasMarked k t P changed → HasMarked k t (e ∷ P) changed
+    marked_stays k t is at h =
+        let more = upto_more (suc h.at) e P (omega (arith, h.within)) in
+        record {
+          at = h.at;
+          is = h.is;
+          within = omega (arith, h.within);
+          key = node_word_stays t k is Marked at refl h.key;
+          gone = ap (λ (R : Trace). member k R) more ∙ h.gone;
+          named = ap (λ (R : Trace). linking k R) more ∙ h.named ∙ sym (node_linking t (bucket_of buckets (key_word t P)) (node_there t is Marked at refl));
+        }
+
+    removed_stays : (k t : ℕ) → actor.curr ≡ Some t → actor.hold ≡ Marked → key_word t P ≡ k → is_removed (linking k P) P ≡ true → is_removed (linking k (e ∷ P)) (e ∷ P) ≡ true
+    removed_stays k t is at key removed =
+        let there = subst (λ (q : ℕ). on 0 (chain_of buckets q P) (suc t) ≡ true) key (node_there t is Marked at refl) in
+        ap (λ (n : ℕ). is_removed n (e ∷ P)) (key_linking k t there key) ∙ removed_later (linking k P) P (e ∷ P) (inr (begins_itself P)) removed
+
+    removing_stays : (k s i : ℕ) → actor.curr ≡ Some s → ReliesRemoving v k s i P changed → ReliesRemoving v k s i (e ∷ P) changed
+    removing_stays k s zero is h = (h.0, node_word_stays s k is Checked h.0 refl h.1, h.2)
+    removing_stays k s (suc zero) is h = (h.0, node_word_stays s k is GateClosed h.0 refl h.1, h.2)
+    removing_stays k s (suc (suc zero)) is h = (h.0, marked_stays k s is h.0 h.1)
+    removing_stays k s (suc (suc (suc zero))) is h = (h.0, marked_stays k s is h.0 h.1)
+    removing_stays k s (suc (suc (suc (suc zero)))) is h =
+        (h.0, node_word_stays s k is Marked h.0 refl h.1, removed_stays k s is h.0 h.1 h.2, change_stays k changed h.3)
+    removing_stays k s (suc (suc (suc (suc (suc zero))))) is h = (h.0, change_stays k changed h.1)
+    removing_stays k s (suc (suc (suc (suc (suc (suc zero)))))) is h = (h.0, change_stays k changed h.1)
+    removing_stays k s (suc (suc (suc (suc (suc (suc (suc i))))))) is h = absurd h
+
+    module _ (inside : IsInside pin) (quiet : IsQuiet buckets P0 P) where
+      adding_stays : (k s i : ℕ) → ReliesAdding v k s i P0 P changed → ReliesAdding v k s i P0 (e ∷ P) changed
+      adding_stays k s zero h = (h.0, written_stays k s h.1, h.2)
+      adding_stays k s (suc zero) h = (h.0, h.1, leaves.word s h.1 ∙ h.2, h.3)
+      adding_stays k s (suc (suc (suc (suc (suc i))))) h = absurd h
+      adding_stays k s _ h = (h.0, added_stays P0 (leaves.kept inside) quiet k s changed h.1)
+
+      on_stays : (c : Command) (script : Script) (i : ℕ) → ReliesOn v c script i P0 P changed → ReliesOn v c script i P0 (e ∷ P) changed
+      on_stays c Pinning zero h = (idle_stays actor h.0, h.1)
+      on_stays c (Resting s reply) zero h = (h.0, rest_stays c reply s P0 h.1)
+      on_stays c (Resting s reply) (suc zero) h = (h.0, rest_stays c reply s P0 h.1)
+      on_stays c (Writing s) i h = writing_stays c s i h
+      on_stays (Add k) (Adding s) i h = adding_stays k s i h
+      on_stays (Remove k) (Removing s) i h = (h.0, h.1, removing_stays k s i h.0 h.2)
+      on_stays c (Releasing aim) zero h = (h.0, aimed_stays (key_of c) aim h.1, h.2, h.3)
+      on_stays c (Halting reply) zero h = h
+      on_stays _ _ _ h = absurd h
+
+      relies_stays : (c : Command) (at : Progress) → Relies v c at P0 P changed → Relies v c at P0 (e ∷ P) changed
+      relies_stays c (Playing script i) h = on_stays c script i h
+      relies_stays c LoadsHalt h = (idle_stays actor h.0, h.1)
+      relies_stays c (Walking aim look) h = (h.0, aimed_stays (key_of c) aim h.1, looking_stays P0 (leaves.kept inside) quiet (key_of c) look h.2, h.3)
+      relies_stays c (Reserving again) h = h
+      relies_stays c (SeeingPins p) h = h
+      relies_stays c (Claiming aim pred curr) h = (h.0, aimed_stays (key_of c) aim h.1, ended_stays P0 (leaves.kept inside) quiet c aim pred curr h.2)
+      relies_stays c (Checking aim curr) h = (h.0, h.1, h.2, aimed_stays (key_of c) aim h.3, ended_stays P0 (leaves.kept inside) quiet c aim actor.pred curr h.4)
+      relies_stays c (Answering SaysWorn) h = (idle_stays actor h.0, h.1)
+      relies_stays c (Answering Yes) h = (answer_stays c Yes P0 changed h.0, let_go actor.hold h.1)
+      relies_stays c (Answering No) h = (answer_stays c No P0 changed h.0, let_go actor.hold h.1)
+      relies_stays c (Answering (Full counts)) h = (answer_stays c (Full counts) P0 changed h.0, let_go actor.hold h.1)
+      relies_stays c (Answering Halted) h = (answer_stays c Halted P0 changed h.0, let_go actor.hold h.1)
+      relies_stays c (Answering Device) h = (answer_stays c Device P0 changed h.0, let_go actor.hold h.1)
+
+    -- a call whose pass is outside has nothing but what it keeps while idle
+    outside_stays : (c : Command) (at : Progress) → is_before_pin at ≡ true → Relies v c at P0 P changed → Relies v c at P0 (e ∷ P) changed
+    outside_stays c (Playing Pinning zero) is h = (idle_stays actor h.0, h.1)
+    outside_stays c (Playing Pinning (suc i)) is h = absurd h
+    outside_stays c (Answering SaysWorn) is h = (idle_stays actor h.0, h.1)
+    outside_stays c _ is h = absurd (false≢true is)
+
+    caller_stands : (caller : Option Caller) → (IsInside pin → IsQuiet buckets P0 P) → IsCaller v pin caller P0 P changed → IsCaller v pin caller P0 (e ∷ P) changed
+    caller_stands None quiet h = (idle_stays actor h.0, h.1)
+    caller_stands (Some caller) quiet h = (
+      h.0,
+      h.1,
+      elim (cases_Bool (is_before_pin caller.progress)) [
+        | inl before ↦ outside_stays caller.command caller.progress before h.2
+        | inr after ↦ let inside : IsInside pin = h.0 ∙ ap side_of after in relies_stays inside (quiet inside) caller.command caller.progress h.2
+      ],
+    )
+
+    -- so the caller stays sound
+    pub caller_published : (caller : Option Caller) → CallerSound v pin caller P0 P changed → CallerSound v pin caller P0 (e ∷ P) changed
+    caller_published caller h = record {
+      quiet = λ inside. (leaves.kept inside, h.quiet inside);
+      begins = λ inside. inr (h.begins inside);
+      stands = caller_stands caller h.quiet h.stands;
+    }

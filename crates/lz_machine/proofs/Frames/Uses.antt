@@ -1,0 +1,167 @@
+-- What is said of slots stays when pins are seen, and when limbo slots that every pass has left become free.
+use Rattle.std.proofs.Common.{◌≡◌, ◌⊎◌, inl, inr, ℕ, zero, suc, ◌≤◌, Bool, true, List, [], ◌∷◌, length, map, get_or, refl, sym, ap, ◌∙◌, subst, arith}
+use mathlib.Core.Bool.{false≢true}
+use Rattle.std.specs.List.{list_all}
+use Rattle.std.proofs.lemmas.Bool.{cases_Bool, cases_eq, cases_lt}
+use Rattle.std.proofs.lemmas.List.{get_or_past, length-map}
+use Rattle.lz_slot.specs.Counted.{of_pass, set_of_pass}
+use Rattle.lz_slot.proofs.Counted.{of_pass_same, of_pass_other, length-set_of_pass}
+use Rattle.lz_vault.specs.Stages.{Cell}
+use Rattle.lz_allot.specs.declared.sight.Sight.{Sight}
+use Rattle.lz_allot.specs.declared.sight.Sight.TheVariants.{Unseen, Inside, Left}
+use Rattle.lz_allot.specs.Uses.{Use, Free, Taken, Limbo, use_of, collect_at, collect, see_pin_at, see_pin, sight_after, has_left}
+use Rattle.lz_list.specs.Traces.{Trace}
+use Rattle.lz_machine.specs.declared.actor.Actor.{Actor}
+use Rattle.lz_machine.specs.Yards.{Shape}
+use Rattle.lz_machine.specs.Limbo.{IsSeen}
+use Rattle.lz_machine.specs.Sound.{IsInside, pin_in, SlotStands, is_node, is_held, is_out, is_free, is_limbo, SlotsSound, ReuseSound}
+use Rattle.lz_machine.proofs.Frames.Limbo.{seen_see}
+
+-- a change of each use that leaves taken slots
+pub use_map : (f : Use → Use) (uses : List Use) (s : ℕ) → f Taken ≡ Taken → use_of (map f uses) s ≡ f (use_of uses s)
+use_map f [] s taken = sym taken
+use_map f (u ∷ uses) zero taken = refl
+use_map f (u ∷ uses) (suc s) taken = use_map f uses s taken
+
+-- a slot in limbo has one list of sights
+pub limbo_same : {x y : List Sight} → Limbo x ≡ Limbo y → x ≡ y
+limbo_same e = cc
+
+-- a free slot is not in limbo
+pub free_limbo : {x : List Sight} → Free ≡ Limbo x → ⊥
+free_limbo e = absurd cc
+
+-- how uses may change, where no slot is taken or given back: limbo slots may become free
+pub record KeepsUses (old new : List Use) : Type 0 where
+  pub count : length new ≡ length old
+  pub taken : (s : ℕ) → use_of old s ≡ Taken → use_of new s ≡ Taken
+  pub free : (s : ℕ) → use_of old s ≡ Free → use_of new s ≡ Free
+  pub limbo : (s : ℕ) (sights : List Sight) → use_of old s ≡ Limbo sights → (use_of new s ≡ Free) ⊎ ((seen : List Sight) × (use_of new s ≡ Limbo seen))
+
+module _ (shape : Shape) (cells : List Cell) (dead : Bool) (old new : List Use) (actors : List Actor) (P : Trace) (keeps : KeepsUses old new) where
+  stands_uses : (s : ℕ) → SlotStands shape cells dead old actors P s → SlotStands shape cells dead new actors P s
+  stands_uses s (is_node chain stage) = is_node (record { there = chain.there; taken = keeps.taken s chain.taken; key = chain.key }) stage
+  stands_uses s (is_held a slot) = is_held a slot
+  stands_uses s (is_out a out) = is_out a out
+  stands_uses s (is_free loose free stage) = is_free loose (keeps.free s free) stage
+  stands_uses s (is_limbo sights loose limbo stage) = elim (keeps.limbo s sights limbo) [
+    | inl free ↦ is_free loose free (inl stage)
+    | inr still ↦ is_limbo still.0 loose still.1 stage
+  ]
+
+  pub slots_uses : SlotsSound shape cells dead old actors P → SlotsSound shape cells dead new actors P
+  slots_uses h = record {
+    count = keeps.count ∙ h.count;
+    each = λ s lt. stands_uses s (h.each s lt);
+    hand = λ a s slot. let was = h.hand a s slot in record { in_range = was.in_range; loose = was.loose; taken = keeps.taken s was.taken; stage = was.stage };
+    out = λ a s out. let was = h.out a s out in record { in_range = was.in_range; loose = was.loose; taken = keeps.taken s was.taken; stage = was.stage };
+    one_hand = h.one_hand;
+    one_out = h.one_out;
+    hand_out = h.hand_out;
+    closed = h.closed;
+    opened = h.opened;
+    added = h.added;
+    removed = h.removed;
+  }
+
+-- a pass that is inside is one of the table's
+pub inside_range : (pins : List ℕ) (a : ℕ) → IsInside (pin_in pins a) → (1 ≤ a) × (a ≤ length pins)
+inside_range pins zero inside = absurd (omega (arith, inside))
+inside_range pins (suc i) inside = elim (cases_lt i (length pins)) [
+  | inl within ↦ (omega arith, omega (arith, within))
+  | inr past ↦ absurd (omega (arith, inside, get_or_past pins i 0 past))
+]
+
+-- pins are seen
+module _ (p v : ℕ) where
+  pub seen_keeps : (uses : List Use) → KeepsUses uses (see_pin p v uses)
+  seen_keeps uses = record {
+    count = length-map uses (see_pin_at p v);
+    taken = λ s is. use_map (see_pin_at p v) uses s refl ∙ ap (see_pin_at p v) is;
+    free = λ s is. use_map (see_pin_at p v) uses s refl ∙ ap (see_pin_at p v) is;
+    limbo = λ s sights is. inr (set_of_pass sights p (sight_after v (of_pass sights p Left)), use_map (see_pin_at p v) uses s refl ∙ ap (see_pin_at p v) is);
+  }
+
+  -- a slot in limbo was so before
+  see_at : (u : Use) (seen : List Sight) → see_pin_at p v u ≡ Limbo seen → (sights : List Sight) × (u ≡ Limbo sights) × (seen ≡ set_of_pass sights p (sight_after v (of_pass sights p Left)))
+  see_at (Limbo sights) seen is = (sights, refl, sym (limbo_same is))
+  see_at Free seen is = absurd cc
+  see_at Taken seen is = absurd cc
+
+  see_free : (u : Use) → see_pin_at p v u ≡ Free → u ≡ Free
+  see_free Free is = refl
+  see_free Taken is = absurd cc
+  see_free (Limbo sights) is = absurd cc
+
+  pub seen_reuse : (shape : Shape) (pins : List ℕ) (uses : List Use) (actors : List Actor) (P : Trace) (begun : ℕ → Trace) → v ≡ pin_in pins p → 1 ≤ p → p ≤ shape.passes
+      → ReuseSound shape pins uses actors P begun → ReuseSound shape pins (see_pin p v uses) actors P begun
+  seen_reuse shape pins uses actors P begun value low high h = record {
+    worn = h.worn;
+    sights = λ s seen is. let was = see_at (use_of uses s) seen (sym (use_map (see_pin_at p v) uses s refl) ∙ is) in ap length was.2 ∙ length-set_of_pass was.0 p _ ∙ h.sights s was.0 was.1;
+    seen = λ a s seen is.
+        let was = see_at (use_of uses s) seen (sym (use_map (see_pin_at p v) uses s refl) ∙ is) in
+        let count = h.sights s was.0 was.1 in
+        subst (λ (l : List Sight). IsSeen shape.buckets (pin_in pins a) (begun a) P s (of_pass l a Left)) (sym was.2) (elim (cases_eq a p) [
+          | inl same ↦ subst (λ (q : Sight). IsSeen shape.buckets (pin_in pins a) (begun a) P s q) (sym (ap (λ (q : ℕ). of_pass (set_of_pass was.0 p (sight_after v (of_pass was.0 p Left))) q Left) same ∙ of_pass_same was.0 p (sight_after v (of_pass was.0 p Left)) Left low (omega (arith, high, count))))
+              (subst (λ (q : ℕ). IsSeen shape.buckets (pin_in pins a) (begun a) P s (sight_after q (of_pass was.0 p Left))) (ap (pin_in pins) same ∙ sym value)
+              (seen_see shape.buckets s (pin_in pins a) (begun a) P (of_pass was.0 p Left) (subst (λ (q : ℕ). IsSeen shape.buckets (pin_in pins a) (begun a) P s (of_pass was.0 q Left)) same (h.seen a s was.0 was.1))))
+          | inr other ↦ subst (λ (q : Sight). IsSeen shape.buckets (pin_in pins a) (begun a) P s q) (sym (of_pass_other was.0 p a (sight_after v (of_pass was.0 p Left)) Left other)) (h.seen a s was.0 was.1)
+        ]);
+    free = λ a s is inside. h.free a s (see_free (use_of uses s) (sym (use_map (see_pin_at p v) uses s refl) ∙ is)) inside;
+    reserved = h.reserved;
+  }
+
+-- slots that every pass has left become free
+pub collect_keeps : (uses : List Use) → KeepsUses uses (collect uses)
+collect_keeps uses = record {
+  count = length-map uses collect_at;
+  taken = λ s is. use_map collect_at uses s refl ∙ ap collect_at is;
+  free = λ s is. use_map collect_at uses s refl ∙ ap collect_at is;
+  limbo = λ s sights is. elim (cases_Bool (list_all has_left sights)) [
+    | inl all ↦ inl (use_map collect_at uses s refl ∙ ap collect_at is ∙ rw all refl)
+    | inr some ↦ inr (sights, use_map collect_at uses s refl ∙ ap collect_at is ∙ rw some refl)
+  ];
+}
+
+collected_limbo : (u : Use) (seen : List Sight) → collect_at u ≡ Limbo seen → u ≡ Limbo seen
+collected_limbo (Limbo sights) seen is = elim (cases_Bool (list_all has_left sights)) [
+  | inl all ↦ absurd (free_limbo (sym (rw all refl) ∙ is))
+  | inr some ↦ sym (rw some refl) ∙ is
+]
+collected_limbo Free seen is = absurd cc
+collected_limbo Taken seen is = absurd cc
+
+collected_free : (u : Use) → collect_at u ≡ Free → (u ≡ Free) ⊎ ((sights : List Sight) × (u ≡ Limbo sights) × (list_all has_left sights ≡ true))
+collected_free Free is = inl refl
+collected_free Taken is = absurd cc
+collected_free (Limbo sights) is = inr (
+  sights,
+  refl,
+  elim (cases_Bool (list_all has_left sights)) [
+    | inl all ↦ all
+    | inr some ↦ absurd (free_limbo {x = sights} (sym (rw some at is)))
+  ],
+)
+
+all_left : (sights : List Sight) (i : ℕ) → list_all has_left sights ≡ true → get_or sights i Left ≡ Left
+all_left [] i all = refl
+all_left (Left ∷ sights) zero all = refl
+all_left (Left ∷ sights) (suc i) all = all_left sights i all
+all_left (Unseen ∷ sights) i all = absurd (false≢true all)
+all_left (Inside u ∷ sights) i all = absurd (false≢true all)
+
+left_of : (sights : List Sight) (a : ℕ) → list_all has_left sights ≡ true → of_pass sights a Left ≡ Left
+left_of sights zero all = refl
+left_of sights (suc i) all = all_left sights i all
+
+pub collect_reuse : (shape : Shape) (pins : List ℕ) (uses : List Use) (actors : List Actor) (P : Trace) (begun : ℕ → Trace) → ReuseSound shape pins uses actors P begun → ReuseSound shape pins (collect uses) actors P begun
+collect_reuse shape pins uses actors P begun h = record {
+  worn = h.worn;
+  sights = λ s seen is. h.sights s seen (collected_limbo (use_of uses s) seen (sym (use_map collect_at uses s refl) ∙ is));
+  seen = λ a s seen is. h.seen a s seen (collected_limbo (use_of uses s) seen (sym (use_map collect_at uses s refl) ∙ is));
+  free = λ a s is inside. elim (collected_free (use_of uses s) (sym (use_map collect_at uses s refl) ∙ is)) [
+    | inl free ↦ h.free a s free inside
+    | inr left ↦ subst (λ (q : Sight). IsSeen shape.buckets (pin_in pins a) (begun a) P s q) (left_of left.0 a left.2) (h.seen a s left.0 left.1) inside
+  ];
+  reserved = h.reserved;
+}

@@ -1,0 +1,10 @@
+pub mod Answers
+pub mod Order
+pub mod Membership
+pub mod Fit
+pub mod KeptRows
+pub mod Growth
+pub mod QuietPublishing
+pub mod Change
+pub mod End
+pub mod Reply

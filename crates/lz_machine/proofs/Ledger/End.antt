@@ -1,0 +1,518 @@
+-- The ledger where a call ends: its pending row, if it has one, leaves, and its last row, if it has one, is put behind those
+-- that ended.
+use Rattle.std.proofs.Common.{◌≡◌, ◌≢◌, ◌⊎◌, ⊎_elim, inl, inr, ℕ, zero, suc, ◌<◌, ◌≤◌, ◌+◌, ◌==◌, ◌&&◌, if◌then◌else◌, Bool, true, false, List, [], ◌∷◌, ◌++◌, length, Option, Some, None, refl, sym, ap, ◌∙◌, subst, arith, append_assoc}
+use Rattle.std.proofs.lemmas.Bool.{cases_Bool, cases_eq}
+use Rattle.std.proofs.lemmas.Bool.Decides.{nat_tests, eqb_tells}
+use Rattle.std.proofs.lemmas.List.{append-nil}
+use Rattle.std.proofs.lemmas.Option.{none-some}
+use Rattle.lz_slot.specs.declared.command.Command.{Command}
+use Rattle.lz_slot.specs.declared.history.Mark.{Mark}
+use Rattle.lz_slot.specs.declared.history.Mark.TheVariants.{Call, Answer, Refused}
+use Rattle.lz_slot.specs.declared.history.Refusal.{Refusal}
+use Rattle.lz_slot.specs.Counted.{set_of_pass}
+use Rattle.lz_slot.specs.Histories.{History, IsCalled, IsAnswered, IsBefore, IsUnderWay}
+use Rattle.lz_slot.proofs.Counted.{of_pass_same, of_pass_other}
+use Rattle.lz_list.specs.Traces.{Trace}
+use Rattle.lz_list.specs.declared.publishing.Publishing.{Publishing}
+use Rattle.lz_list.specs.declared.publishing.Publishing.TheVariants.{Linked as linked, Marked as marked, Unlinked as unlinked, Settled as settled, KeyPrepared as key_prepared, LinkPrepared as link_prepared, Halted as halted}
+use Rattle.lz_machine.specs.Runs.{Caller, caller_at}
+use Rattle.lz_machine.specs.Ledgers.{Row, HasRow, Stands, Each, change_at, times}
+use Rattle.lz_machine.specs.Kept.{publishing, IsRowOf}
+use Rattle.lz_machine.specs.Entries.{IsRowIn, IsLedger, IsSettledEntry, IsChangeOf}
+use Rattle.lz_machine.specs.Sound.{Notes, IsInside, pin_in, pending_row, pending, entries, LedgerSound, IsAfter, may_have_tail, HasTail}
+use Rattle.lz_machine.proofs.Ledger.Fit.{each_has, each_all, has_append, was_answered}
+use Rattle.lz_machine.proofs.Ledger.Order.{has_left, has_right, stands_left, stands_across, times_append}
+use Rattle.lz_machine.proofs.Frames.OneActor.{caller_range}
+use Rattle.lz_machine.proofs.Ledger.Change.{pending_open, no_entry}
+
+abbrev pub ending : List (Option Caller) → ℕ → List (Option Caller)
+ending callers a = set_of_pass callers a None
+
+-- notes in which an actor's call has ended with this row, if any
+abbrev pub ends_now : Notes → ℕ → List Row → Notes
+ends_now notes a last = record { begun = notes.begun; changed = λ b. if b == a then None else notes.changed b; ended = notes.ended ++ last }
+
+-- some rows were taken out of a list
+pub record IsParted (rows old new : List Row) : Type 0 where
+  pub front : List Row
+  pub back : List Row
+  pub was : old ≡ front ++ (rows ++ back)
+  pub is : new ≡ front ++ back
+
+module _ (callers : List (Option Caller)) (notes : Notes) (a : ℕ) (last : List Row) (caller : Caller) (at : caller_at callers a ≡ Some caller) where
+  abbrev later : ℕ → Option ℕ
+  later = (ends_now notes a last).changed
+
+  pub none_now : later a ≡ None
+  none_now = elim (eqb_tells a a) [
+    | inl same ↦ rw same.0 refl
+    | inr other ↦ absurd (other.1 refl)
+  ]
+
+  pub changed_still : (b : ℕ) → b ≢ a → later b ≡ notes.changed b
+  changed_still b other = elim (eqb_tells b a) [
+    | inl same ↦ absurd (other same.1)
+    | inr away ↦ rw away.0 refl
+  ]
+
+  pub gone : caller_at (ending callers a) a ≡ None
+  gone = of_pass_same callers a None None (caller_range callers a caller at).0 (caller_range callers a caller at).1
+
+  pub stays_open : (b : ℕ) → b ≢ a → caller_at (ending callers a) b ≡ caller_at callers b
+  stays_open b other = of_pass_other callers a b None None other
+
+  abbrev pend : List Row
+  pend = pending_row (Some caller) (notes.changed a)
+
+  row_still : (b : ℕ) → b ≢ a → pending_row (caller_at (ending callers a) b) (later b) ≡ pending_row (caller_at callers b) (notes.changed b)
+  row_still b other = ap (λ (q : Option Caller). pending_row q (later b)) (stays_open b other) ∙ ap (pending_row (caller_at callers b)) (changed_still b other)
+
+  below : (m : ℕ) → m < a → pending (ending callers a) later m ≡ pending callers notes.changed m
+  below zero lt = refl
+  below (suc m) lt = cc (below m (omega (arith, lt)), row_still (suc m) (λ same. omega (arith, lt, same)))
+
+  row_then : pending_row (caller_at callers a) (notes.changed a) ≡ pend
+  row_then = ap (λ (q : Option Caller). pending_row q (notes.changed a)) at
+
+  row_now : pending_row (caller_at (ending callers a) a) (later a) ≡ []
+  row_now = ap (λ (q : Option Caller). pending_row q (later a)) gone ∙ ap (pending_row None) none_now
+
+  parted : (m : ℕ) → a ≤ m → IsParted pend (pending callers notes.changed m) (pending (ending callers a) later m)
+  parted zero le = absurd (omega (arith, le, (caller_range callers a caller at).0))
+  parted (suc m) le = elim (cases_eq (suc m) a) [
+    | inl it ↦ record {
+      front = pending callers notes.changed m;
+      back = [];
+      was = ap (λ (l : List Row). pending callers notes.changed m ++ l) (ap (λ (q : ℕ). pending_row (caller_at callers q) (notes.changed q)) it ∙ row_then ∙ sym (append-nil pend));
+      is = ap (λ (l : List Row). l ++ pending_row (caller_at (ending callers a) (suc m)) (later (suc m))) (below m (omega (arith, it))) ∙ ap (λ (l : List Row). pending callers notes.changed m ++ l) (ap (λ (q : ℕ). pending_row (caller_at (ending callers a) q) (later q)) it ∙ row_now);
+    }
+    | inr more ↦
+        let rest = parted m (omega (arith, le, more)) in
+        let row = pending_row (caller_at callers (suc m)) (notes.changed (suc m)) in
+        record {
+          front = rest.front;
+          back = rest.back ++ row;
+          was = ap (λ (l : List Row). l ++ row) rest.was ∙ append_assoc rest.front (pend ++ rest.back) row ∙ ap (λ (l : List Row). rest.front ++ l) (append_assoc pend rest.back row);
+          is = ap (λ (l : List Row). pending (ending callers a) later m ++ l) (row_still (suc m) more) ∙ ap (λ (l : List Row). l ++ row) rest.is ∙ append_assoc rest.front rest.back row;
+        }
+  ]
+
+times_has : (i : ℕ) (x : Row) (L : List Row) → HasRow x L → x.number ≡ i → times i L ≡ 0 → ⊥
+times_has i x (l ∷ L) (inl here) number none = go (eqb_tells l.number i)
+  where
+    go : ((l.number == i) ≡ true) × (l.number ≡ i) ⊎ (((l.number == i) ≡ false) × (l.number ≢ i)) → ⊥
+    go (inl same) = omega (arith, rw same.0 at none)
+    go (inr other) = other.1 (ap (λ (q : Row). q.number) here ∙ number)
+times_has i x (l ∷ L) (inr there) number none = times_has i x L there number (elim (cases_Bool (l.number == i)) [
+  | inl same ↦ absurd (omega (arith, rw same at none))
+  | inr other ↦ rw other at none
+])
+times_has i x [] h number none = absurd h
+
+none_of : (i j : ℕ) (L : List Row) → Each (λ r. r.number ≡ i) L → j ≢ i → times j L ≡ 0
+none_of i j [] each other = refl
+none_of i j (l ∷ L) each other = grind (arith, nat_tests, each.0, other, none_of i j L each.1 other)
+
+-- the rows before and after, in parts
+module _ (i : ℕ) (E F B pend last : List Row) (all_pend : Each (λ r. r.number ≡ i) pend) (all_last : Each (λ r. r.number ≡ i) last) (none : times i (E ++ (F ++ B)) ≡ 0) where
+  abbrev old : List Row
+  old = E ++ (F ++ (pend ++ B))
+
+  abbrev rest : List Row
+  rest = E ++ (F ++ B)
+
+  abbrev new : List Row
+  new = (E ++ last) ++ (F ++ B)
+
+  pub number_rest : (x : Row) → HasRow x rest → x.number ≢ i
+  number_rest x h number = times_has i x rest h number none
+
+  pub rest_old : (x : Row) → HasRow x rest → HasRow x old
+  rest_old x h = ⊎_elim (λ here. has_left x E _ here) (λ there. has_right x E _ (⊎_elim (λ front. has_left x F _ front) (λ back. has_right x F _ (has_right x pend B back)) (has_append x F B there))) (has_append x E (F ++ B) h)
+
+  pub old_rest : (x : Row) → HasRow x old → HasRow x rest ⊎ (x.number ≡ i)
+  old_rest x h = ⊎_elim
+      (λ here. inl (has_left x E _ here))
+      (λ there. ⊎_elim
+      (λ front. inl (has_right x E _ (has_left x F _ front)))
+      (λ back. ⊎_elim (λ it. inr (each_has (λ r. r.number ≡ i) x pend all_pend it)) (λ tail. inl (has_right x E _ (has_right x F _ tail))) (has_append x pend B back))
+      (has_append x F (pend ++ B) there))
+      (has_append x E (F ++ (pend ++ B)) h)
+
+  pub rest_new : (x : Row) → HasRow x rest → HasRow x new
+  rest_new x h = ⊎_elim (λ here. has_left x (E ++ last) _ (has_left x E last here)) (λ there. has_right x (E ++ last) _ there) (has_append x E (F ++ B) h)
+
+  pub last_new : (x : Row) → HasRow x last → HasRow x new
+  last_new x h = has_left x (E ++ last) _ (has_right x E last h)
+
+  pub new_rest : (x : Row) → HasRow x new → HasRow x rest ⊎ HasRow x last
+  new_rest x h = ⊎_elim (λ front. ⊎_elim (λ here. inl (has_left x E _ here)) (λ it. inr it) (has_append x E last front)) (λ there. inl (has_right x E _ there)) (has_append x (E ++ last) (F ++ B) h)
+
+  pub times_old : (j : ℕ) → times j old ≡ times j rest + times j pend
+  times_old j = omega (arith, times_append j E (F ++ (pend ++ B)), times_append j F (pend ++ B), times_append j pend B, times_append j E (F ++ B), times_append j F B)
+
+  pub times_new : (j : ℕ) → times j new ≡ times j rest + times j last
+  times_new j = omega (arith, times_append j (E ++ last) (F ++ B), times_append j E last, times_append j E (F ++ B), times_append j F B)
+
+  -- other calls' rows stand as before
+  stands_parts : (x q : Row) (A : List Row) → x.number ≢ i → q.number ≢ i → Stands x q (A ++ (F ++ (pend ++ B))) → Stands x q (A ++ (F ++ B))
+  stands_parts x q (l ∷ A) one two (inl here) = inl (here.0, ⊎_elim (λ front. has_left q A _ front) (λ back. has_right q A _ (in_back q two back)) (has_append q A (F ++ (pend ++ B)) here.1))
+    where
+      in_back : (z : Row) → z.number ≢ i → HasRow z (F ++ (pend ++ B)) → HasRow z (F ++ B)
+      in_back z other h = ⊎_elim (λ front. has_left z F _ front) (λ back. has_right z F _ (⊎_elim (λ it. absurd (other (each_has (λ r. r.number ≡ i) z pend all_pend it))) (λ tail. tail) (has_append z pend B back))) (has_append z F (pend ++ B) h)
+  stands_parts x q (l ∷ A) one two (inr there) = inr (stands_parts x q A one two there)
+  stands_parts x q [] one two h = in_front F h
+    where
+      after_pend : (L : List Row) → Each (λ r. r.number ≡ i) L → Stands x q (L ++ B) → Stands x q B
+      after_pend [] each s = s
+      after_pend (l ∷ L) each (inl here) = absurd (one (ap (λ (r : Row). r.number) (sym here.0) ∙ each.0))
+      after_pend (l ∷ L) each (inr there) = after_pend L each.1 there
+
+      in_front : (L : List Row) → Stands x q (L ++ (pend ++ B)) → Stands x q (L ++ B)
+      in_front [] s = after_pend pend all_pend s
+      in_front (l ∷ L) (inl here) = inl (here.0, ⊎_elim (λ front. has_left q L _ front) (λ back. has_right q L _ (⊎_elim (λ it. absurd (two (each_has (λ r. r.number ≡ i) q pend all_pend it))) (λ tail. tail) (has_append q pend B back))) (has_append q L (pend ++ B) here.1))
+      in_front (l ∷ L) (inr there) = inr (in_front L there)
+
+  stands_put : (x q : Row) (A : List Row) → Stands x q (A ++ (F ++ B)) → Stands x q ((A ++ last) ++ (F ++ B))
+  stands_put x q (l ∷ A) (inl here) = inl (here.0, ⊎_elim (λ front. has_left q (A ++ last) _ (has_left q A last front)) (λ back. has_right q (A ++ last) _ back) (has_append q A (F ++ B) here.1))
+  stands_put x q (l ∷ A) (inr there) = inr (stands_put x q A there)
+  stands_put x q [] h = behind last h
+    where
+      behind : (L : List Row) → Stands x q (F ++ B) → Stands x q (L ++ (F ++ B))
+      behind [] s = s
+      behind (l ∷ L) s = inr (behind L s)
+
+  pub stands_new : (x q : Row) → x.number ≢ i → q.number ≢ i → Stands x q old → Stands x q new
+  stands_new x q one two h = stands_put x q E (stands_parts x q E one two h)
+
+  pub stands_last : (x q : Row) → HasRow x E → HasRow q last → Stands x q new
+  stands_last x q h l = stands_left x q (E ++ last) (F ++ B) (stands_across x q E last h l)
+
+change_append : (j : ℕ) (L M : List Row) → change_at j (L ++ M) ≡ change_at j L ++ change_at j M
+change_append j [] M = refl
+change_append j (l ∷ L) M = elim (cases_Bool (l.changes && (l.position == j))) [
+  | inl t ↦ rw t (ap (λ (q : List Row). l ∷ q) (change_append j L M))
+  | inr f ↦ rw f (change_append j L M)
+]
+
+length_app : (L M : List Row) → length (L ++ M) ≡ length L + length M
+length_app [] M = omega arith
+length_app (l ∷ L) M = omega (arith, length_app L M)
+
+is_nil : (L : List Row) → length L ≡ 0 → L ≡ []
+is_nil [] e = refl
+is_nil (l ∷ L) e = absurd (omega (arith, e))
+
+short : (f : Publishing) (L : List Row) → IsChangeOf f L → length L ≤ 1
+short (linked k s p) L h = omega (arith, ap length h.1)
+short (marked k s p) L h = omega (arith, ap length h.1)
+short (unlinked k s p) L h = omega (arith, ap length h)
+short (settled s c) L h = omega (arith, ap length h)
+short (key_prepared s v) L h = omega (arith, ap length h)
+short (link_prepared s v) L h = omega (arith, ap length h)
+short halted L h = omega (arith, ap length h)
+
+module _ (p r : Row) (same : p.command ≡ r.command) where
+  first_same : {x z : Row} → x ∷ [] ≡ z ∷ [] → x ≡ z
+  first_same e = cc
+
+  none_here : {A : Type 0} → p ∷ [] ≡ [] → A
+  none_here e = absurd cc
+
+  swapped : (f : Publishing) → IsChangeOf f (p ∷ []) → IsChangeOf f (r ∷ [])
+  swapped (linked k s q) h = (r, refl, sym same ∙ ap (λ (z : Row). z.command) (first_same h.1) ∙ h.2)
+  swapped (marked k s q) h = (r, refl, sym same ∙ ap (λ (z : Row). z.command) (first_same h.1) ∙ h.2)
+  swapped _ h = none_here h
+
+  -- a row that changes alone at its position is put elsewhere
+  moved_change : (f : Publishing) (A C D : List Row) → IsChangeOf f (A ++ (C ++ (p ∷ D))) → IsChangeOf f ((A ++ r ∷ []) ++ (C ++ D))
+  moved_change f A C D h =
+      let le = short f (A ++ (C ++ (p ∷ D))) h in
+      let count = length_app A (C ++ (p ∷ D)) in
+      let more = length_app C (p ∷ D) in
+      let a_nil = is_nil A (omega (arith, le, count, more)) in
+      let c_nil = is_nil C (omega (arith, le, count, more)) in
+      let d_nil = is_nil D (omega (arith, le, count, more)) in
+      subst (λ (x : List Row). IsChangeOf f ((x ++ r ∷ []) ++ (C ++ D))) (sym a_nil)
+      (subst (λ (x : List Row). IsChangeOf f (r ∷ (x ++ D))) (sym c_nil)
+      (subst (λ (x : List Row). IsChangeOf f (r ∷ x)) (sym d_nil)
+      (swapped f (subst (λ (x : List Row). IsChangeOf f (p ∷ x)) d_nil (subst (λ (x : List Row). IsChangeOf f (x ++ (p ∷ D))) c_nil (subst (λ (x : List Row). IsChangeOf f (x ++ (C ++ (p ∷ D)))) a_nil h))))))
+
+-- what a mark that ends a call says: it is no call, and an answer or a refusal is of this one
+pub record EndsCall (m : Mark) (i : ℕ) (leaves_tail : Bool) : Type 0 where
+  pub no_call : (j b : ℕ) (d : Command) → m ≡ Call j b d → ⊥
+  pub answers : (j : ℕ) (b : Bool) → m ≡ Answer j b → (j ≡ i) × (leaves_tail ≡ false)
+  pub refuses : (j : ℕ) (why : Refusal) → m ≡ Refused j why → (j ≡ i) × (leaves_tail ≡ false)
+
+-- what is asked of the last row of a call that ends
+pub record IsLast (n : ℕ) (P : Trace) (M : History) (pin begun : ℕ) (i : ℕ) (m : Mark) (pend last : List Row) : Type 0 where
+  pub all : Each (λ r. r.number ≡ i) last
+  pub once : times i last ≤ 1
+  pub row : Each (IsRowOf n P) last
+  pub within : Each (IsRowIn (m ∷ M)) last
+  pub settled : Each (IsSettledEntry P) last
+  -- an answered call has one
+  pub answered : (b : Bool) → m ≡ Answer i b → (r : Row) × HasRow r last
+  -- it stands at the call's pin or later, or where its pending row stood
+  pub place : (q : Row) → HasRow q last → (IsInside pin × (begun ≤ q.position)) ⊎ ((p : Row) × HasRow p pend × (p.position ≡ q.position))
+
+module _ (n calls passes : ℕ) (callers : List (Option Caller)) (P : Trace) (M : History) (notes : Notes) (a : ℕ) (caller : Caller) (at : caller_at callers a ≡ Some caller) (le : a ≤ passes) (sound : LedgerSound n calls passes callers P M notes)
+    (pins : List ℕ) (after : IsAfter pins callers (entries passes callers notes) M notes.begun)
+    (m : Mark) (ends : EndsCall m caller.number (may_have_tail caller.progress)) (last : List Row) (is_last : IsLast n P M (pin_in pins a) (length (notes.begun a)) caller.number m (pending_row (Some caller) (notes.changed a)) last) where
+  abbrev i : ℕ
+  i = caller.number
+
+  abbrev notes' : Notes
+  notes' = ends_now notes a last
+
+  abbrev pended : List Row
+  pended = pending_row (Some caller) (notes.changed a)
+
+  parts : IsParted pended (pending callers notes.changed passes) (pending (ending callers a) notes'.changed passes)
+  parts = parted callers notes a last caller at passes le
+
+  abbrev E : List Row
+  E = notes.ended
+
+  abbrev F : List Row
+  F = parts.front
+
+  abbrev B : List Row
+  B = parts.back
+
+  old_is : entries passes callers notes ≡ E ++ (F ++ (pended ++ B))
+  old_is = ap (λ (l : List Row). notes.ended ++ l) parts.was
+
+  new_is : entries passes (ending callers a) notes' ≡ (E ++ last) ++ (F ++ B)
+  new_is = ap (λ (l : List Row). (notes.ended ++ last) ++ l) parts.is
+
+  under_way : IsUnderWay M i caller.command
+  under_way = sound.open_call a caller at
+
+  all_pend : (changed : Option ℕ) → Each (λ r. r.number ≡ i) (pending_row (Some caller) changed)
+  all_pend None = tt
+  all_pend (Some j) = (refl, tt)
+
+  abbrev rows : List Row
+  rows = E ++ (F ++ B)
+
+  -- no other row is of this call
+  none_left : times i rows ≡ 0
+  none_left = go (notes.changed a) refl
+    where
+      split : times i (entries passes callers notes) ≡ times i rows + times i pended
+      split = ap (times i) old_is ∙ omega (arith, times_append i E (F ++ (pended ++ B)), times_append i F (pended ++ B), times_append i pended B, times_append i E (F ++ B), times_append i F B)
+
+      own : (j : ℕ) → times i (pending_row (Some caller) (Some j)) ≡ 1
+      own j = elim (eqb_tells caller.number caller.number) [
+        | inl same ↦ rw same.0 refl
+        | inr other ↦ absurd (other.1 refl)
+      ]
+
+      go : (changed : Option ℕ) → notes.changed a ≡ changed → times i rows ≡ 0
+      go None is = omega (arith, split, no_entry n calls passes callers P M notes a caller at is sound)
+      go (Some j) is = omega (arith, split, sound.ledger.once i, ap (λ (q : Option ℕ). times i (pending_row (Some caller) q)) is ∙ own j)
+
+  is_rest : (x : Row) → HasRow x (entries passes callers notes) → HasRow x rows ⊎ (x.number ≡ i)
+  is_rest x h = old_rest i E F B pended last (all_pend (notes.changed a)) is_last.all none_left x (subst (HasRow x) old_is h)
+
+  was_row : (x : Row) → HasRow x rows → HasRow x (entries passes callers notes)
+  was_row x h = subst (HasRow x) (sym old_is) (rest_old i E F B pended last (all_pend (notes.changed a)) is_last.all none_left x h)
+
+  number_of_rest : (x : Row) → HasRow x rows → x.number ≢ i
+  number_of_rest x h = number_rest i E F B pended last (all_pend (notes.changed a)) is_last.all none_left x h
+
+  -- a row of a call that was answered has ended
+  answered_ended : (x : Row) (b : Bool) → HasRow x rows → IsAnswered M x.number b → HasRow x E
+  answered_ended x b h is = ⊎_elim
+      (λ ended. ended)
+      (λ there.
+      let found = pending_open callers notes.changed passes x (subst (HasRow x) (sym parts.was) (⊎_elim (λ front. has_left x F _ front) (λ back. has_right x F _ (has_right x pended B back)) (has_append x F B there))) in
+      absurd ((sound.open_call found.0 found.1 found.3).no_answer b (subst (λ (j : ℕ). IsAnswered M j b) (sym found.5) is)))
+      (has_append x E (F ++ B) h)
+
+  of_old : (A : Row → Type 0) → Each A (entries passes callers notes) → (x : Row) → HasRow x rows → A x
+  of_old A each x h = each_has A x (entries passes callers notes) each (was_row x h)
+
+  -- what holds of each old row and of the last one
+  all_new : (A : Row → Type 0) → ((x : Row) → HasRow x rows → A x) → Each A last → Each A ((E ++ last) ++ (F ++ B))
+  all_new A olds lasts = each_all A ((E ++ last) ++ (F ++ B)) (λ x h. ⊎_elim (λ there. olds x there) (λ here. each_has A x last lasts here) (new_rest i E F B pended last (all_pend (notes.changed a)) is_last.all none_left x h))
+
+  in_history : (x : Row) → HasRow x rows → IsRowIn (m ∷ M) x
+  in_history x h =
+      let old = each_has (IsRowIn M) x (entries passes callers notes ++ []) sound.ledger.calls (has_left x _ [] (was_row x h)) in
+      record {
+        is_called = (old.is_called.0, inr old.is_called.1);
+        answers = λ b is. ⊎_elim (λ now. absurd (number_of_rest x h (ends.answers x.number b now).0)) (λ before. old.answers b before) is;
+        not_refused = λ is. ⊎_elim (λ now. absurd (number_of_rest x h (ends.refuses x.number is.0 now).0)) (λ before. absurd (old.not_refused (is.0, before))) is.1;
+      }
+
+  old_before : (x q : ℕ) → IsBefore (m ∷ M) x q → IsBefore M x q
+  old_before x q (inl now) = absurd (ends.no_call q now.0 now.1 now.3)
+  old_before x q (inr before) = before
+
+  in_order : (x q : Row) → HasRow x ((E ++ last) ++ (F ++ B)) → HasRow q ((E ++ last) ++ (F ++ B)) → IsBefore (m ∷ M) x.number q.number
+      → Stands x q ((E ++ last) ++ (F ++ B)) × (x.position ≤ q.position) × (x.position ≡ q.position → x.changes ≡ false)
+  in_order x q at_x at_q now = ⊎_elim
+      (λ rest_x. ⊎_elim
+      (λ rest_q. both rest_x rest_q)
+      (λ last_q. to_last rest_x last_q)
+      (new_rest i E F B pended last (all_pend (notes.changed a)) is_last.all none_left q at_q))
+      (λ last_x. let found = was_answered x.number q.number M before in absurd (under_way.no_answer found.0 (subst (λ (j : ℕ). IsAnswered M j found.0) (each_has (λ r. r.number ≡ i) x last is_last.all last_x) found.1)))
+      (new_rest i E F B pended last (all_pend (notes.changed a)) is_last.all none_left x at_x)
+    where
+      before : IsBefore M x.number q.number
+      before = old_before x.number q.number now
+
+      both : HasRow x rows → HasRow q rows → Stands x q ((E ++ last) ++ (F ++ B)) × (x.position ≤ q.position) × (x.position ≡ q.position → x.changes ≡ false)
+      both one two =
+          let old = sound.ledger.order x q (was_row x one) (was_row q two) before in
+          (stands_new i E F B pended last (all_pend (notes.changed a)) is_last.all none_left x q (number_of_rest x one) (number_of_rest q two) (subst (Stands x q) old_is old.0), old.1, old.2)
+
+      to_last : HasRow x rows → HasRow q last → Stands x q ((E ++ last) ++ (F ++ B)) × (x.position ≤ q.position) × (x.position ≡ q.position → x.changes ≡ false)
+      to_last one two =
+          let found = was_answered x.number q.number M before in
+          let number : q.number ≡ i = each_has (λ r. r.number ≡ i) q last is_last.all two in
+          let mine : IsBefore M x.number i = subst (IsBefore M x.number) number before in
+          let stands = stands_last i E F B pended last (all_pend (notes.changed a)) is_last.all none_left x q (answered_ended x found.0 one found.1) two in
+          ⊎_elim
+          (λ later_than. let rule = after.each a caller x at later_than.0 (was_row x one) mine in (stands, omega (arith, rule.0, later_than.1), λ same. rule.1 (omega (arith, rule.0, later_than.1, same))))
+          (λ was.
+          let in_old : HasRow was.0 (entries passes callers notes) = subst (HasRow was.0) (sym old_is) (has_right was.0 E _ (has_right was.0 F _ (has_left was.0 pended B was.1))) in
+          let rule = sound.ledger.order x was.0 (was_row x one) in_old (subst (IsBefore M x.number) (sym (each_has (λ r. r.number ≡ i) was.0 pended (all_pend (notes.changed a)) was.1)) mine) in
+          (stands, omega (arith, rule.1, was.2), λ same. rule.2 (same ∙ sym was.2)))
+          (is_last.place q two)
+
+  ledger_now : IsLedger n P ((E ++ last) ++ (F ++ B)) [] (m ∷ M)
+  ledger_now = record {
+    each = all_new (IsRowOf n P) (of_old (IsRowOf n P) sound.ledger.each) is_last.row;
+    calls = subst (Each (IsRowIn (m ∷ M))) (sym (append-nil ((E ++ last) ++ (F ++ B)))) (all_new (IsRowIn (m ∷ M)) in_history is_last.within);
+    tail_open = tt;
+    once = λ j. once_now j;
+    answered = λ j b is. ⊎_elim (λ now. new_answer j b now) (λ before. old_answer j b before) is;
+    order = in_order;
+  }
+    where
+      once_now : (j : ℕ) → times j ((E ++ last) ++ (F ++ B)) + 0 ≤ 1
+      once_now j = elim (cases_eq j i) [
+        | inl same ↦ omega (arith, times_new i E F B pended last (all_pend (notes.changed a)) is_last.all none_left j, ap (λ (q : ℕ). times q rows) same ∙ none_left, ap (λ (q : ℕ). times q last) same, is_last.once)
+        | inr other ↦ omega (arith, times_new i E F B pended last (all_pend (notes.changed a)) is_last.all none_left j, none_of i j last is_last.all other, sound.ledger.once j, ap (times j) old_is, times_old i E F B pended last (all_pend (notes.changed a)) is_last.all none_left j)
+      ]
+
+      new_answer : (j : ℕ) (b : Bool) → m ≡ Answer j b → (r : Row) × HasRow r ((E ++ last) ++ (F ++ B)) × (r.number ≡ j)
+      new_answer j b now =
+          let same : j ≡ i = (ends.answers j b now).0 in
+          let found = is_last.answered b (now ∙ ap (λ (q : ℕ). Answer q b) same) in
+          (found.0, last_new i E F B pended last (all_pend (notes.changed a)) is_last.all none_left found.0 found.1, each_has (λ r. r.number ≡ i) found.0 last is_last.all found.1 ∙ sym same)
+
+      old_answer : (j : ℕ) (b : Bool) → IsAnswered M j b → (r : Row) × HasRow r ((E ++ last) ++ (F ++ B)) × (r.number ≡ j)
+      old_answer j b is =
+          let found = sound.ledger.answered j b is in
+          ⊎_elim
+          (λ there. (found.0, rest_new i E F B pended last (all_pend (notes.changed a)) is_last.all none_left found.0 there, found.2))
+          (λ mine. absurd (under_way.no_answer b (subst (λ (q : ℕ). IsAnswered M q b) (sym found.2 ∙ mine) is)))
+          (is_rest found.0 found.1)
+
+  other_call : (b : ℕ) (one : Caller) → b ≢ a → caller_at callers b ≡ Some one → one.number ≢ i
+  other_call b one other is same = other (sound.apart b a one caller is at same)
+
+  open_still : (j : ℕ) (c : Command) → (j ≡ i → may_have_tail caller.progress ≡ true) → IsUnderWay M j c → IsUnderWay (m ∷ M) j c
+  open_still j c apart h = record {
+    called = (h.called.0, inr h.called.1);
+    no_answer = λ b is. ⊎_elim (λ now. let e = ends.answers j b now in clash e.1 (apart e.0)) (λ before. h.no_answer b before) is;
+    no_refusal = λ is. ⊎_elim (λ now. let e = ends.refuses j is.0 now in clash e.1 (apart e.0)) (λ before. h.no_refusal (is.0, before)) is.1;
+  }
+    where
+      clash : {b : Bool} → b ≡ false → b ≡ true → ⊥
+      clash x z = let e = sym x ∙ z in absurd cc
+
+  is_open : (b : ℕ) (one : Caller) → caller_at (ending callers a) b ≡ Some one → (b ≢ a) × (caller_at callers b ≡ Some one)
+  is_open b one is = elim (cases_eq b a) [
+    | inl same ↦ absurd (none-some _ (sym (gone callers notes a last caller at) ∙ ap (caller_at (ending callers a)) (sym same) ∙ is))
+    | inr other ↦ (other, sym (stays_open callers notes a last caller at b other) ∙ is)
+  ]
+
+  old_called : (j : ℕ) (c : Command) → IsCalled (m ∷ M) j c → IsCalled M j c
+  old_called j c (b, inl now) = absurd (ends.no_call j b c now)
+  old_called j c (b, inr before) = (b, before)
+
+  -- the ledger of the longer history
+  pub ledger_ended : ((j : ℕ) → n ≤ j → j < length P → IsChangeOf (publishing j P) (change_at j (entries passes (ending callers a) notes'))) → LedgerSound n calls passes (ending callers a) P (m ∷ M) notes'
+  ledger_ended changes = record {
+    opened = sound.opened;
+    ledger = subst (λ (l : List Row). IsLedger n P l [] (m ∷ M)) (sym new_is) ledger_now;
+    settled = subst (Each (IsSettledEntry P)) (sym new_is) (all_new (IsSettledEntry P) (of_old (IsSettledEntry P) sound.settled) is_last.settled);
+    changes = changes;
+    numbered = λ j c is. sound.numbered j c (old_called j c is);
+    refused = λ j is. ⊎_elim (λ now. omega (arith, (ends.refuses j is.0 now).0, sound.numbered i caller.command under_way.called)) (λ before. sound.refused j (is.0, before)) is.1;
+    one_call = λ j c d one two. sound.one_call j c d (old_called j c one) (old_called j d two);
+    open_call = λ b one is. let old = is_open b one is in open_still one.number one.command (λ same. absurd (other_call b one old.0 old.1 same)) (sound.open_call b one old.1);
+    apart = λ b d one two is_b is_d number. sound.apart b d one two (is_open b one is_b).1 (is_open d two is_d).1 number;
+    unlisted = λ b one is.
+        let old = is_open b one is in
+        omega (arith, times_append one.number notes.ended last, sound.unlisted b one old.1, none_of i one.number last is_last.all (other_call b one old.0 old.1));
+  }
+
+  -- where neither the pending row nor the last one changes anything at a position
+  change_kept : (j : ℕ) → change_at j pended ≡ [] → change_at j last ≡ [] → change_at j (entries passes (ending callers a) notes') ≡ change_at j (entries passes callers notes)
+  change_kept j no_pend no_last =
+      ap (change_at j) new_is ∙ change_append j (E ++ last) (F ++ B) ∙ ap (λ (l : List Row). l ++ change_at j (F ++ B)) (change_append j E last ∙ ap (λ (l : List Row). change_at j E ++ l) no_last ∙ append-nil (change_at j E))
+      ∙ ap (λ (l : List Row). change_at j E ++ l) (change_append j F B ∙ ap (λ (l : List Row). change_at j F ++ l) (sym (change_append j pended B ∙ ap (λ (l : List Row). l ++ change_at j B) no_pend)) ∙ sym (change_append j F (pended ++ B)))
+      ∙ sym (change_append j E (F ++ (pended ++ B))) ∙ sym (ap (change_at j) old_is)
+
+  -- a call that has changed nothing, and whose last row changes nothing
+  pub ledger_quiet : notes.changed a ≡ None → ((j : ℕ) → change_at j last ≡ []) → LedgerSound n calls passes (ending callers a) P (m ∷ M) notes'
+  ledger_quiet none quiet = ledger_ended (λ j early late. subst (IsChangeOf (publishing j P)) (sym (change_kept j (ap (λ (q : Option ℕ). change_at j (pending_row (Some caller) q)) none) (quiet j))) (sound.changes j early late))
+
+  -- a call whose pending row becomes its last one
+  pub ledger_moved : (p r : Row) → pended ≡ p ∷ [] → last ≡ r ∷ [] → p.command ≡ r.command → p.position ≡ r.position → p.changes ≡ true → r.changes ≡ true → LedgerSound n calls passes (ending callers a) P (m ∷ M) notes'
+  ledger_moved p r is_p is_r command position does also = ledger_ended (λ j early late. elim (cases_eq p.position j) [
+    | inl here ↦
+        subst (IsChangeOf (publishing j P)) (sym (now j here))
+        (moved_change p r command (publishing j P) (change_at j E) (change_at j F) (change_at j B) (subst (IsChangeOf (publishing j P)) (then_at j here) (sound.changes j early late)))
+    | inr away ↦ subst (IsChangeOf (publishing j P)) (sym (change_kept j (ap (change_at j) is_p ∙ alone_away p j does away) (ap (change_at j) is_r ∙ alone_away r j also (λ e. away (position ∙ e))))) (sound.changes j early late)
+  ])
+    where
+      alone_away : (x : Row) (j : ℕ) → x.changes ≡ true → x.position ≢ j → change_at j (x ∷ []) ≡ []
+      alone_away x j changing other = grind (arith, nat_tests, changing, other)
+
+      alone_here : (x : Row) (j : ℕ) → x.changes ≡ true → x.position ≡ j → change_at j (x ∷ []) ≡ x ∷ []
+      alone_here x j changing same = grind (arith, nat_tests, changing, same)
+
+      then_at : (j : ℕ) → p.position ≡ j → change_at j (entries passes callers notes) ≡ change_at j E ++ (change_at j F ++ (p ∷ change_at j B))
+      then_at j here = ap (change_at j) old_is ∙ change_append j E (F ++ (pended ++ B)) ∙ ap (λ (l : List Row). change_at j E ++ l) (change_append j F (pended ++ B) ∙ ap (λ (l : List Row). change_at j F ++ l) (change_append j pended B ∙ ap (λ (l : List Row). l ++ change_at j B) (ap (change_at j) is_p ∙ alone_here p j does here)))
+
+      now : (j : ℕ) → p.position ≡ j → change_at j (entries passes (ending callers a) notes') ≡ (change_at j E ++ r ∷ []) ++ (change_at j F ++ change_at j B)
+      now j here = ap (change_at j) new_is ∙ change_append j (E ++ last) (F ++ B) ∙ ap (λ (l : List Row). l ++ change_at j (F ++ B)) (change_append j E last ∙ ap (λ (l : List Row). change_at j E ++ l) (ap (change_at j) is_r ∙ alone_here r j also (sym position ∙ here))) ∙ ap (λ (l : List Row). (change_at j E ++ r ∷ []) ++ l) (change_append j F B)
+
+  -- what is said of pins of other calls
+  pub after_ended : (pins' : List ℕ) → ((b : ℕ) → b ≢ a → pin_in pins' b ≡ pin_in pins b) → IsAfter pins' (ending callers a) (entries passes (ending callers a) notes') (m ∷ M) notes.begun
+  after_ended pins' same = record {
+    each = λ b one r is inside' has before.
+        let old = is_open b one is in
+        let was : IsBefore M r.number one.number = old_before r.number one.number before in
+        ⊎_elim
+        (λ there. after.each b one r old.1 (subst IsInside (same b old.0) inside') (was_row r there) was)
+        (λ mine. let found = was_answered r.number one.number M was in absurd (under_way.no_answer found.0 (subst (λ (j : ℕ). IsAnswered M j found.0) (each_has (λ q. q.number ≡ i) r last is_last.all mine) found.1)))
+        (new_rest i E F B pended last (all_pend (notes.changed a)) is_last.all none_left r (subst (HasRow r) new_is has));
+  }
+
+  -- the tails of other calls, and that of a call that was cut off
+  pub tail_ended : (d : Command) → (may_have_tail caller.progress ≡ true → times i last ≡ times i pended) → HasTail d callers (entries passes callers notes) M → HasTail d (ending callers a) (entries passes (ending callers a) notes') (m ∷ M)
+  tail_ended d same h = record {
+    number = h.number;
+    under_way = open_still h.number d (λ mine. h.stays a caller at (sym mine)) h.under_way;
+    no_row = elim (cases_eq h.number i) [
+      | inl mine ↦
+          let count = same (h.stays a caller at (sym mine)) in
+          omega (arith, ap (times h.number) new_is, times_new i E F B pended last (all_pend (notes.changed a)) is_last.all none_left h.number, ap (λ (q : ℕ). times q last) mine, ap (λ (q : ℕ). times q pended) mine, count, h.no_row, ap (times h.number) old_is, times_old i E F B pended last (all_pend (notes.changed a)) is_last.all none_left h.number)
+      | inr other ↦ omega (arith, ap (times h.number) new_is, times_new i E F B pended last (all_pend (notes.changed a)) is_last.all none_left h.number, none_of i h.number last is_last.all other, h.no_row, ap (times h.number) old_is, times_old i E F B pended last (all_pend (notes.changed a)) is_last.all none_left h.number)
+    ];
+    stays = λ b one is number. let old = is_open b one is in h.stays b one old.1 number;
+  }
+
+-- the pending row of an open call is one of the rows
+pub pend_listed : (passes : ℕ) (callers : List (Option Caller)) (notes : Notes) (a : ℕ) (caller : Caller) → caller_at callers a ≡ Some caller → a ≤ passes → (p : Row) → HasRow p (pending_row (Some caller) (notes.changed a)) → HasRow p (entries passes callers notes)
+pend_listed passes callers notes a caller at le p h =
+    let parts = parted callers notes a [] caller at passes le in
+    has_right p notes.ended _ (subst (HasRow p) (sym parts.was) (has_right p parts.front _ (has_left p _ parts.back h)))

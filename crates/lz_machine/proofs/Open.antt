@@ -1,0 +1,4 @@
+pub mod FirstNodes
+pub mod FirstState
+pub mod FirstPoint
+pub mod Texts

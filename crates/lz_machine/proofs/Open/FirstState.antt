@@ -1,0 +1,403 @@
+-- An open begins a sound life: its yard, its disk and its trace show the keys that it found, and nothing is under way.
+use Rattle.std.proofs.Common.{◌≡◌, ◌≢◌, ◌⊎◌, inl, inr, ⊎_elim, ℕ, zero, suc, ◌+◌, ◌*◌, ◌-◌, ◌<◌, ◌≤◌, true, false, List, [], ◌∷◌, length, get_or, take, drop, map, replicate, Option, Some, None, refl, sym, ap, ◌∙◌, subst, arith}
+use mathlib.Core.Bool.{false≢true}
+use Rattle.std.specs.Prelude.{slice_get}
+use Rattle.std.proofs.lemmas.Bool.{cases_Bool, cases_lt}
+use Rattle.std.proofs.lemmas.Bool.Decides.{nat_tests}
+use Rattle.std.proofs.lemmas.List.{length-replicate, length-append, length-map, length-take, get_or-replicate, get_or-map, get_or-take, get_or-drop, get_or_past, get_or_append_left, get_or_push}
+use Rattle.std.proofs.lemmas.List.Edits.{length-between}
+use Rattle.std.proofs.lemmas.Option.{slice_get_within, get_or_from_slice_get, none-some}
+use Rattle.std.specs.Cmp.{both_ways}
+use Rattle.lz_slot.specs.Limits.{largest_key}
+use Rattle.lz_slot.specs.Sets.{Keys}
+use Rattle.lz_slot.specs.Counted.{of_pass}
+use Rattle.lz_slot.specs.Bytes.{Holds, open_byte, header_body, slot_bytes, slot_read, slot_at, held}
+use Rattle.lz_slot.specs.declared.slot.SlotRead.{SlotRead}
+use Rattle.lz_slot.specs.declared.slot.SlotRead.TheVariants as read
+use Rattle.lz_slot.proofs.Exact.{slot_is_of_its_key}
+use Rattle.lz_disk.specs.Images.{AreBytes, IsImage, at_rest}
+use Rattle.lz_disk.proofs.Writes.{synced_image, synced_sound}
+use Rattle.lz_vault.specs.declared.vault.Stage.TheVariants.{Closed, Opening, Open, Closing}
+use Rattle.lz_vault.specs.Stages.{Cell, Says, Reads, Keeps}
+use Rattle.lz_allot.specs.declared.sight.Sight.{Sight}
+use Rattle.lz_allot.specs.Uses.{Use, Taken, Limbo, use_of}
+use Rattle.lz_list.specs.Traces.{Trace, Chain, has_key, on, chain_of, key_word, member, linking, is_settled, IsFound, IsLoose}
+use Rattle.lz_list.proofs.Openings.{opening_lawful, opening_members, opening_settled}
+use Rattle.lz_machine.specs.declared.actor.Actor.{Actor}
+use Rattle.lz_machine.specs.Yards.{Shape, idle_actor, no_cell, cell_read, use_read, slots_read, first_trace, opened_yard}
+use Rattle.lz_machine.specs.Runs.{Caller, caller_at, opened_service}
+use Rattle.lz_machine.specs.Ledgers.{Row, Each}
+use Rattle.lz_machine.specs.Kept.{upto}
+use Rattle.lz_machine.specs.Entries.{IsLedger, IsSettledEntry}
+use Rattle.lz_machine.specs.Sound.{Notes, actor_in, cell_in, stage_in, pin_in, IsInside, IsGateWritten, TraceSound, DiskSound, SlotStands, is_node, is_free, SlotsSound, has_locks, RestsOn, LocksSound, view_of, IsCaller, CallersSound, ReuseSound, pending, entries, LedgerSound, TailsSound, HasBegun, UpSound}
+use Rattle.lz_machine.proofs.Ledger.Membership.{upto_all}
+use Rattle.lz_machine.proofs.Frames.Ranges.{on_range, opening_small}
+use Rattle.lz_machine.proofs.Open.FirstNodes.{node_has_key, off_chains, node_key, node_on, none_marked, none_removed, never_linked, slot_closed, node_held, key_held, held_found}
+use Rattle.lz_machine.proofs.Steps.Invoke.{pending_none}
+
+-- what is kept beside the first state of a life
+abbrev pub first_notes : Shape → List ℕ → Notes
+first_notes shape t = record { begun = λ a. first_trace shape t; changed = λ a. None; ended = [] }
+
+replicate_at : {X : Type 0} (n i : ℕ) (x : X) → get_or (replicate n x) i x ≡ x
+replicate_at n i x = ⊎_elim (λ lt. get_or-replicate n i x x lt) (λ le. get_or_past (replicate n x) i x (omega (arith, le, length-replicate n x))) (cases_lt i n)
+
+pub pass_of : {X : Type 0} (n a : ℕ) (x : X) → of_pass (replicate n x) a x ≡ x
+pass_of n zero x = refl
+pass_of n (suc i) x = replicate_at n i x
+
+read_cases : (r : SlotRead) → r ≢ read.BadKey → ((k : ℕ) × (r ≡ read.Member k)) ⊎ (r ≡ read.Closed)
+read_cases (read.Member k) fine = inl (k, refl)
+read_cases read.Closed fine = inr refl
+read_cases read.BadKey fine = absurd (fine refl)
+
+closed_says : (bytes : List ℕ) → slot_read bytes ≡ read.Closed → get_or bytes 0 0 ≢ open_byte
+closed_says bytes is = grind (arith, nat_tests)
+
+-- what is read of a slot is what its cell says
+read_says : (r : SlotRead) (bytes : List ℕ) → slot_read bytes ≡ r → r ≢ read.BadKey → length bytes ≡ 16 → AreBytes bytes → Says (cell_read r).stage (cell_read r).key bytes
+read_says read.Closed bytes is fine long fits = closed_says bytes is
+read_says (read.Member k) bytes is fine long fits =
+    let law = slot_is_of_its_key bytes k long fits is in
+    (ap (λ (l : List ℕ). get_or l 0 0) law.1, ap (λ (l : List ℕ). drop 1 l) law.1)
+read_says read.BadKey bytes is fine long fits = absurd (fine refl)
+
+read_reads : (r : SlotRead) (bytes : List ℕ) → Reads (cell_read r).stage (cell_read r).key bytes
+read_reads read.Closed bytes = tt
+read_reads (read.Member k) bytes = tt
+read_reads read.BadKey bytes = tt
+
+read_key : (r : SlotRead) (bytes : List ℕ) → slot_read bytes ≡ r → length bytes ≡ 16 → AreBytes bytes → (cell_read r).key ≤ largest_key
+read_key read.Closed bytes is long fits = omega arith
+read_key (read.Member k) bytes is long fits = (slot_is_of_its_key bytes k long fits is).0
+read_key read.BadKey bytes is long fits = omega arith
+
+-- a slot as an open finds it is steady, and in no limbo
+read_steady : (r : SlotRead) → ((cell_read r).stage ≡ Open) ⊎ ((cell_read r).stage ≡ Closed)
+read_steady read.Closed = inr refl
+read_steady (read.Member k) = inl refl
+read_steady read.BadKey = inr refl
+
+read_limbo : (r : SlotRead) (sights : List Sight) → use_read r ≡ Limbo sights → ⊥
+read_limbo read.Closed sights e = absurd cc
+read_limbo (read.Member k) sights e = absurd cc
+read_limbo read.BadKey sights e = absurd cc
+
+bytes_taken : (n : ℕ) (t : List ℕ) → AreBytes t → AreBytes (take n t)
+bytes_taken n t bytes i = ⊎_elim
+    (λ lt. rw (get_or-take n t i 0 lt) (bytes i))
+    (λ le. rw (get_or_past (take n t) i 0 (omega (arith, length-take n t))) (omega arith))
+    (cases_lt i n)
+
+slot_fits : (t : List ℕ) (i : ℕ) → AreBytes t → AreBytes (slot_bytes t i)
+slot_fits t i bytes = bytes_taken (32 + 16 * i - (16 + 16 * i)) (drop (16 + 16 * i) t) (λ k. rw (get_or-drop (16 + 16 * i) t k 0) (bytes (16 + 16 * i + k)))
+
+module _ (t : List ℕ) where
+  length-read : (n : ℕ) → length (slots_read t n) ≡ n
+  length-read zero = refl
+  length-read (suc n) = length-append (slots_read t n) (slot_at t n ∷ []) ∙ omega (arith, length-read n)
+
+  slot_of : (n i : ℕ) (d : SlotRead) → i < n → get_or (slots_read t n) i d ≡ slot_at t i
+  slot_of zero i d lt = absurd (omega arith)
+  slot_of (suc n) i d lt = ⊎_elim
+      (λ before. get_or_append_left (slots_read t n) (slot_at t n ∷ []) d i (omega (arith, before, length-read n)) ∙ slot_of n i d before)
+      (λ past.
+      let last : i ≡ n = omega (arith, lt, past) in
+      get_or_push (slots_read t n) (slot_at t n) d i (omega (arith, last, length-read n)) ∙ ap (slot_at t) (sym last))
+      (cases_lt i n)
+
+module _ (shape : Shape) (t : List ℕ) (found : Keys) (some : 1 ≤ shape.buckets) (holds : Holds t shape.slots found) (bytes : AreBytes t) where
+  abbrev N : ℕ
+  N = shape.slots
+
+  abbrev P : Trace
+  P = first_trace shape t
+
+  abbrev all_found : Chain
+  all_found = held t shape.slots
+
+  abbrev cells : List Cell
+  cells = map cell_read (slots_read t shape.slots)
+
+  abbrev uses : List Use
+  uses = map use_read (slots_read t shape.slots)
+
+  abbrev actors : List Actor
+  actors = replicate shape.passes idle_actor
+
+  abbrev callers : List (Option Caller)
+  callers = replicate shape.passes None
+
+  abbrev pins : List ℕ
+  pins = replicate shape.passes 0
+
+  abbrev notes : Notes
+  notes = first_notes shape t
+
+  is_found : IsFound N all_found
+  is_found = held_found t N N holds.no_key_twice (omega arith)
+
+  trace : TraceSound shape (opened_yard shape t).words P
+  trace = record {
+    lawful = opening_lawful shape.buckets N all_found is_found;
+    some = some;
+    small = opening_small shape.buckets N all_found is_found;
+    heads = refl;
+    links = refl;
+    keys = refl;
+    halt = refl;
+    pins = length-replicate shape.passes 0;
+  }
+
+  count : length cells ≡ N
+  count = length-map (slots_read t N) cell_read ∙ length-read t N
+
+  use_count : length uses ≡ N
+  use_count = length-map (slots_read t N) use_read ∙ length-read t N
+
+  cell_is : (s : ℕ) → s < N → cell_in cells s ≡ cell_read (slot_at t s)
+  cell_is s lt = get_or-map cell_read (slots_read t N) s read.Closed no_cell (omega (arith, lt, length-read t N)) ∙ ap cell_read (slot_of t N s read.Closed lt)
+
+  cell_past : (s : ℕ) → N ≤ s → cell_in cells s ≡ no_cell
+  cell_past s le = get_or_past cells s no_cell (omega (arith, le, count))
+
+  use_is : (s : ℕ) → s < N → use_of uses s ≡ use_read (slot_at t s)
+  use_is s lt = get_or-map use_read (slots_read t N) s read.Closed Taken (omega (arith, lt, length-read t N)) ∙ ap use_read (slot_of t N s read.Closed lt)
+
+  steady : (s : ℕ) → (stage_in cells s ≡ Open) ⊎ (stage_in cells s ≡ Closed)
+  steady s = ⊎_elim
+      (λ lt. ⊎_elim
+      (λ opened. inl (ap (λ (cell : Cell). cell.stage) (cell_is s lt) ∙ opened))
+      (λ shut. inr (ap (λ (cell : Cell). cell.stage) (cell_is s lt) ∙ shut))
+      (read_steady (slot_at t s)))
+      (λ le. inr (ap (λ (cell : Cell). cell.stage) (cell_past s le)))
+      (cases_lt s N)
+
+  no_limbo : (s : ℕ) (sights : List Sight) → use_of uses s ≡ Limbo sights → ⊥
+  no_limbo s sights is = ⊎_elim
+      (λ lt. read_limbo (slot_at t s) sights (sym (use_is s lt) ∙ is))
+      (λ le. let e : Taken ≡ Limbo sights = sym (get_or_past uses s Taken (omega (arith, le, use_count))) ∙ is in absurd cc)
+      (cases_lt s N)
+
+  -- the disk
+  long : (i : ℕ) → i < N → length (slot_bytes t i) ≡ 16
+  long i lt = let whole = length-between t (16 + 16 * i) (32 + 16 * i) (omega (arith, holds.size, lt)) in omega (arith, whole)
+
+  within : (i : ℕ) (cell : Cell) → slice_get cells i ≡ Some cell → i < N
+  within i cell there = omega (arith, count, slice_get_within cells i cell there)
+
+  cell_there : (i : ℕ) (cell : Cell) → slice_get cells i ≡ Some cell → cell_read (slot_at t i) ≡ cell
+  cell_there i cell there = sym (cell_is i (within i cell there)) ∙ get_or_from_slice_get cells i cell no_cell there
+
+  keeps : Keeps cells false (at_rest t)
+  keeps = record {
+    sound = synced_sound (at_rest t) bytes;
+    vouches = record {
+      size = λ c image. ap length (is c image) ∙ holds.size ∙ ap (λ (n : ℕ). 16 + 16 * n) (sym count);
+      head = λ c image. ap (take 16) (is c image) ∙ holds.head ∙ ap (λ (n : ℕ). open_byte ∷ header_body n) (sym count);
+      each = λ c i cell image there. subst (λ (l : List ℕ). Says cell.stage cell.key (slot_bytes l i)) (sym (is c image)) (says i cell there);
+    };
+    reads = λ live i cell there. subst (λ (q : Cell). Reads q.stage q.key (slot_bytes t i)) (cell_there i cell there) (read_reads (slot_at t i) (slot_bytes t i));
+  }
+    where
+      is : (c : List ℕ) → IsImage (at_rest t) c → c ≡ t
+      is c image = synced_image (at_rest t) c image
+
+      says : (i : ℕ) (cell : Cell) → slice_get cells i ≡ Some cell → Says cell.stage cell.key (slot_bytes t i)
+      says i cell there =
+          let lt = within i cell there in
+          subst (λ (q : Cell). Says q.stage q.key (slot_bytes t i)) (cell_there i cell there) (read_says (slot_at t i) (slot_bytes t i) refl (holds.no_bad_key i lt) (long i lt) (slot_fits t i bytes))
+
+  images : DiskSound shape (opened_yard shape t).vault (at_rest t)
+  images = record {
+    slots = holds.count;
+    count = count;
+    keys = λ i cell there. subst (λ (q : Cell). q.key ≤ largest_key) (cell_there i cell there) (read_key (slot_at t i) (slot_bytes t i) refl (long i (within i cell there)) (slot_fits t i bytes));
+    keeps = keeps;
+  }
+
+  -- the slots
+  key_is : (s k : ℕ) → s < N → slot_at t s ≡ read.Member k → key_word s P ≡ k
+  key_is s k lt is = node_key shape.buckets N k s all_found is_found (node_held t N k s lt is)
+
+  stage_open : (s k : ℕ) → s < N → slot_at t s ≡ read.Member k → cell_in cells s ≡ record { stage = Open; key = k }
+  stage_open s k lt is = cell_is s lt ∙ ap cell_read is
+
+  loose : (s : ℕ) → slot_at t s ≡ read.Closed → IsLoose shape.buckets s P
+  loose s shut = off_chains shape.buckets s all_found (slot_closed t N s shut)
+
+  idle : (a : ℕ) → actor_in actors a ≡ idle_actor
+  idle a = pass_of shape.passes a idle_actor
+
+  no_slot : (a s : ℕ) → (actor_in actors a).slot ≡ Some s → ⊥
+  no_slot a s is = none-some _ (sym (ap (λ (x : Actor). x.slot) (idle a)) ∙ is)
+
+  no_node : (a s : ℕ) → (actor_in actors a).curr ≡ Some s → ⊥
+  no_node a s is = none-some _ (sym (ap (λ (x : Actor). x.curr) (idle a)) ∙ is)
+
+  stands : (s : ℕ) → s < N → SlotStands shape cells false uses actors P s
+  stands s lt = elim (read_cases (slot_at t s) (holds.no_bad_key s lt)) [
+    | inl m ↦
+        let key = key_is s m.0 lt m.1 in
+        let cell = stage_open s m.0 lt m.1 in
+        is_node
+        (record {
+          there = ap (λ (k : ℕ). on 0 (chain_of shape.buckets k P) (suc s)) key ∙ node_on shape.buckets m.0 s all_found (node_held t N m.0 s lt m.1);
+          taken = use_is s lt ∙ ap use_read m.1;
+          key = ap (λ (q : Cell). q.key) cell ∙ sym key;
+        })
+        (inl (none_marked shape.buckets s all_found, inr (ap (λ (q : Cell). q.stage) cell)))
+    | inr shut ↦ is_free (loose s shut) (use_is s lt ∙ ap use_read shut) (inl (ap (λ (q : Cell). q.stage) (cell_is s lt ∙ ap cell_read shut)))
+  ]
+
+  never_opening : (s : ℕ) → stage_in cells s ≢ Opening
+  never_opening s is = elim (steady s) [
+    | inl opened ↦ let e : Open ≡ Opening = sym opened ∙ is in absurd cc
+    | inr shut ↦ let e : Closed ≡ Opening = sym shut ∙ is in absurd cc
+  ]
+
+  slots : SlotsSound shape cells false uses actors P
+  slots = record {
+    count = use_count;
+    each = stands;
+    hand = λ a s is. absurd (no_slot a s is);
+    out = λ a s is. absurd (no_node a s is.node);
+    one_hand = λ a b s is other. absurd (no_slot a s is);
+    one_out = λ a b s is other. absurd (no_node a s is.node);
+    hand_out = λ a b s is other. absurd (no_slot a s is);
+    closed = λ a s is shuts. absurd (no_node a s is);
+    opened = λ a s is unlocks. absurd (no_slot a s is);
+    added = λ k s key there settled. never_opening s;
+    removed = λ k s key there is. absurd (false≢true (sym (none_removed shape.buckets (linking k P) all_found) ∙ is));
+  }
+
+  locks : LocksSound shape (opened_yard shape t).locks actors P
+  locks = record {
+    heads = length-replicate shape.buckets 0;
+    nodes = length-replicate N 0;
+    has = λ a place lock. absurd (false≢true (sym (ap (λ (x : Actor). has_locks x.hold) (idle a)) ∙ lock.locks));
+    rests = λ a. subst (λ (x : Actor). RestsOn shape.buckets x.hold x P) (sym (idle a)) tt;
+  }
+
+  -- nobody is inside
+  no_caller : (a : ℕ) → caller_at callers a ≡ None
+  no_caller a = pass_of shape.passes a None
+
+  outside : (a : ℕ) → pin_in pins a ≡ 0
+  outside a = pass_of shape.passes a 0
+
+  not_inside : (a : ℕ) → IsInside (pin_in pins a) → ⊥
+  not_inside a inside = omega (arith, outside a, inside)
+
+  waits : (a : ℕ) → IsCaller (view_of shape (opened_yard shape t).vault actors a) (pin_in pins a) (caller_at callers a) P P None
+  waits a = subst (λ (q : Option Caller). IsCaller (view_of shape (opened_yard shape t).vault actors a) (pin_in pins a) q P P None) (sym (no_caller a))
+      (inl (ap (λ (x : Actor). x.hold) (idle a), ap (λ (x : Actor). x.slot) (idle a)), refl)
+
+  all_wait : CallersSound shape (opened_yard shape t).vault pins actors callers P notes
+  all_wait = record {
+    count = length-replicate shape.passes None;
+    hands = length-replicate shape.passes idle_actor;
+    each = λ a. record { quiet = λ inside. absurd (not_inside a inside); begins = λ inside. absurd (not_inside a inside); stands = waits a };
+  }
+
+  reuse : ReuseSound shape pins uses actors P notes.begun
+  reuse = record {
+    worn = λ a. omega (arith, outside a);
+    sights = λ s seen is. absurd (no_limbo s seen is);
+    seen = λ a s seen is. absurd (no_limbo s seen is);
+    free = λ a s is inside. absurd (not_inside a inside);
+    reserved = λ a b s is inside. absurd (not_inside a inside);
+  }
+
+  none_pending : (m : ℕ) → pending callers notes.changed m ≡ []
+  none_pending zero = refl
+  none_pending (suc m) = cc (none_pending m, pending_none (caller_at callers (suc m)))
+
+  no_entries : entries shape.passes callers notes ≡ []
+  no_entries = none_pending shape.passes
+
+  empty_ledger : IsLedger (length P) P [] [] []
+  empty_ledger = record {
+    each = tt;
+    calls = tt;
+    tail_open = tt;
+    once = λ i. omega arith;
+    answered = λ i answer is. absurd is;
+    order = λ r q has. absurd has;
+  }
+
+  ledger : (calls : ℕ) → LedgerSound (length P) calls shape.passes callers P [] notes
+  ledger calls = record {
+    opened = omega arith;
+    ledger = subst (λ (rows : List Row). IsLedger (length P) P rows [] []) (sym no_entries) empty_ledger;
+    settled = subst (Each (IsSettledEntry P)) (sym no_entries) tt;
+    changes = λ j early late. absurd (omega (arith, early, late));
+    numbered = λ i c is. absurd is.1;
+    refused = λ i is. absurd is.1;
+    one_call = λ i c d is. absurd is.1;
+    open_call = λ a caller is. absurd (none-some _ (sym (no_caller a) ∙ is));
+    apart = λ a b one other is. absurd (none-some _ (sym (no_caller a) ∙ is));
+    unlisted = λ a caller is. refl;
+  }
+
+  not_written : (s : ℕ) → stage_in cells s ≡ Open → IsGateWritten (stage_in cells s) → ⊥
+  not_written s opened (inl is) = let e : Open ≡ Closing = sym opened ∙ is in absurd cc
+  not_written s opened (inr is) = let e : Open ≡ Closed = sym opened ∙ is in absurd cc
+
+  -- a node's gate is open
+  node_open : (s : ℕ) → on 0 (chain_of shape.buckets (key_word s P) P) (suc s) ≡ true → stage_in cells s ≡ Open
+  node_open s there =
+      let lt = on_range shape.buckets N P _ s trace.lawful there in
+      elim (read_cases (slot_at t s) (holds.no_bad_key s lt)) [
+        | inl m ↦ ap (λ (q : Cell). q.stage) (stage_open s m.0 lt m.1)
+        | inr shut ↦ absurd (false≢true (sym (loose s shut _) ∙ there))
+      ]
+
+  tails : (rows : List Row) → TailsSound shape cells actors P callers rows []
+  tails rows = record {
+    adding = λ a s is. absurd (no_slot a s is);
+    removing = λ s there unmarked written. absurd (not_written s (node_open s there) written);
+  }
+
+  -- the trace shows the keys that were found
+  has_found : (k : ℕ) → has_key k all_found ≡ found k
+  has_found k = both_ways (has_key k all_found) (found k)
+      (λ has. (holds.set k).1 (key_held t N k has))
+      (λ is. let at = (holds.set k).0 is in node_has_key k at.0 all_found (node_held t N k at.0 at.1 at.2))
+
+  all_of_it : upto (length P) P ≡ P
+  all_of_it = upto_all (length P) P (omega arith)
+
+  linked_key : (k : ℕ) → 0 < linking k P → has_key k all_found ≡ true
+  linked_key k lt = elim (cases_Bool (has_key k all_found)) [
+    | inl has ↦ has
+    | inr none ↦ absurd (omega (arith, lt, never_linked shape.buckets k all_found none))
+  ]
+
+  began : HasBegun (length P) found P
+  began = record {
+    members = λ k. ap (member k) all_of_it ∙ opening_members shape.buckets k all_found ∙ has_found k;
+    sure = λ k linked.
+        let has = linked_key k (subst (λ (q : Trace). 0 < linking k q) all_of_it linked) in
+        let shown = opening_settled shape.buckets k all_found has in (
+          ap (member k) all_of_it ∙ shown.member,
+          ap (λ (q : Trace). is_settled (linking k q) q) all_of_it ∙ shown.settled,
+        );
+  }
+
+  pub opened_up : (calls : ℕ) → UpSound (length P) calls (opened_service shape t) (at_rest t) (record { start = found; history = [] }) P notes
+  opened_up calls = record {
+    began = began;
+    sound = record {
+      trace = trace;
+      images = images;
+      slots = slots;
+      locks = locks;
+      callers = all_wait;
+      reuse = reuse;
+      ledger = ledger calls;
+      tails = tails (entries shape.passes callers notes);
+    };
+    after = record { each = λ a caller r is. absurd (none-some _ (sym (no_caller a) ∙ is)) };
+    since = λ a inside. absurd (not_inside a inside);
+  }

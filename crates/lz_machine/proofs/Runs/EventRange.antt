@@ -1,0 +1,159 @@
+-- The next event of a caller is an event of its yard: its slots, words and passes are the yard's.
+use Rattle.std.proofs.Common.{◌≡◌, ℕ, zero, suc, ◌<◌, Bool, true, false, List, length, Option, Some, None, refl, sym, subst, arith}
+use Rattle.lz_slot.specs.declared.command.Command.{Command}
+use Rattle.lz_slot.specs.declared.command.Command.TheVariants.{Add, Remove, Has}
+use Rattle.lz_slot.specs.Sets.{key_of}
+use Rattle.lz_slot.specs.Histories.{History}
+use Rattle.lz_disk.specs.Images.{Medium}
+use Rattle.lz_list.specs.declared.place.Place.{Place}
+use Rattle.lz_list.specs.declared.place.Place.TheVariants.{Bucket, Node}
+use Rattle.lz_list.specs.declared.walk.Look.{Look}
+use Rattle.lz_list.specs.declared.walk.Look.TheVariants.{AtHead, AtKey, AtMet, AtBelow}
+use Rattle.lz_list.specs.Words.{Words, place_number, link_to}
+use Rattle.lz_list.specs.Walks.{wants}
+use Rattle.lz_list.specs.Lists.{IsWord, IsPlace}
+use Rattle.lz_list.specs.Traces.{Trace, bucket_of, key_word}
+use Rattle.lz_list.specs.Pinned.{Stood}
+use Rattle.lz_list.proofs.Hindsight.{lawful_begins}
+use Rattle.lz_machine.specs.declared.actor.Hold.{Hold}
+use Rattle.lz_machine.specs.declared.actor.Hold.TheVariants.{Marked}
+use Rattle.lz_machine.specs.declared.event.Event.{Event}
+use Rattle.lz_machine.specs.declared.event.Event.TheVariants.{Invoke}
+use Rattle.lz_machine.specs.declared.event.Reply.{Reply}
+use Rattle.lz_machine.specs.declared.event.Reply.TheVariants.{Yes, No, Full, Worn as SaysWorn, Halted, Device}
+use Rattle.lz_machine.specs.declared.caller.Script.{Script}
+use Rattle.lz_machine.specs.declared.caller.Script.TheVariants.{Pinning, Resting, Writing, Adding, Removing, Releasing, Halting}
+use Rattle.lz_machine.specs.declared.caller.Progress.{Progress}
+use Rattle.lz_machine.specs.declared.caller.Progress.TheVariants.{Playing, LoadsHalt, Walking, Reserving, SeeingPins, Claiming, Checking, Answering}
+use Rattle.lz_machine.specs.Yards.{Yard}
+use Rattle.lz_machine.specs.Calls.{event_at, loaded}
+use Rattle.lz_machine.specs.Runs.{Caller, with_words, next_event, MayPlay}
+use Rattle.lz_machine.specs.Stands.{InBucket, WasBetween}
+use Rattle.lz_machine.specs.Sound.{Notes, View, view_of, actor_in, RestsOn, HasMet, MayRest, IsLooking, Relies, Sound}
+use Rattle.lz_machine.specs.Ready.{IsEventOf}
+use Rattle.lz_machine.proofs.Frames.OneActor.{mine}
+use Rattle.lz_machine.proofs.Frames.Ranges.{on_range, stood_range}
+use Rattle.lz_machine.proofs.Steps.Halt.{held_node}
+use Rattle.lz_machine.proofs.Frames.LoadedWord.{bucket_range}
+use Rattle.lz_machine.proofs.Steps.Claim.{ended_between, pred_was, node_was}
+use Rattle.lz_machine.proofs.Theorem.ShownChains.{heads_are, links_are, keys_are, is_curr}
+use Rattle.lz_machine.proofs.Theorem.Readiness.{is_invoke, next_of, same_yard, sound_there}
+
+module _ (n calls : ℕ) (y : Yard) (callers : List (Option Caller)) (disk : Medium) (M : History) (P : Trace) (notes : Notes) (sound : Sound n calls y callers disk M P notes)
+    (w : Words) (heads : w.heads ≡ y.words.heads) (links : w.links ≡ y.words.links) (keys : w.keys ≡ y.words.keys) (a : ℕ) (c : Command) where
+  abbrev z : Yard
+  z = with_words y w
+
+  abbrev v : View
+  v = view_of y.shape y.vault y.actors a
+
+  abbrev P0 : Trace
+  P0 = notes.begun a
+
+  abbrev Asks : Progress → Type 0
+  Asks at = IsEventOf z (loaded y.words (event_at y.shape c at))
+
+  -- what stood on a chain since the pin is a slot
+  stood_lt : (k s : ℕ) → Stood y.shape.buckets (bucket_of y.shape.buckets k) P0 P (suc s) → s < y.shape.slots
+  stood_lt k s stood = stood_range y.shape.buckets y.shape.slots P0 P (bucket_of y.shape.buckets k) s sound.trace.lawful stood
+
+  head_word : IsWord w (wants y.shape.buckets (key_of c) AtHead)
+  head_word = omega (arith, bucket_range y.shape y.words P sound.trace sound.images.slots.1 (key_of c), heads_are y.shape y.words P sound.trace sound.images.slots.1 w heads links keys)
+
+  link_lt : (s : ℕ) → s < y.shape.slots → s < length w.links
+  link_lt s lt = omega (arith, lt, links_are y.shape y.words P sound.trace sound.images.slots.1 w heads links keys)
+
+  key_lt : (s : ℕ) → s < y.shape.slots → s < length w.keys
+  key_lt s lt = omega (arith, lt, keys_are y.shape y.words P sound.trace sound.images.slots.1 w heads links keys)
+
+  -- a walk's words
+  looks : (look : Look) → IsLooking y.shape.buckets (key_of c) P0 P look → IsWord w (wants y.shape.buckets (key_of c) look)
+  looks AtHead h = head_word
+  looks (AtKey pred s) h = key_lt s (stood_lt (key_of c) s (node_was y.shape.buckets y.shape.slots (key_of c) P0 P pred (Some s) s refl h))
+  looks (AtMet pred s) h = link_lt s (stood_lt (key_of c) s (node_was y.shape.buckets y.shape.slots (key_of c) P0 P pred (Some s) s refl h.0))
+  looks (AtBelow s) h = link_lt s (stood_lt (key_of c) s h.stood)
+
+  -- the pair at which it ended
+  claims : (pred : Place) (curr : Option ℕ) → WasBetween y.shape.buckets (key_of c) pred (link_to curr) P0 P → IsEventOf z (event_at y.shape c (Claiming None pred curr))
+  claims pred curr h = (
+    place pred h.bucket (pred_was y.shape.buckets (key_of c) P0 P pred (link_to curr) h),
+    is_curr y.shape y.words P sound.trace sound.images.slots.1 w heads links keys curr (λ s is. link_lt s (stood_lt (key_of c) s (node_was y.shape.buckets y.shape.slots (key_of c) P0 P pred curr s is h))),
+  )
+    where
+      place : (q : Place) → InBucket y.shape.buckets (key_of c) q → Stood y.shape.buckets (bucket_of y.shape.buckets (key_of c)) P0 P (place_number q) → IsPlace w q
+      place (Bucket b) bucket stood = subst (λ (q : ℕ). q < length w.heads) (sym bucket) head_word
+      place (Node s) bucket stood = link_lt s (stood_lt (key_of c) s stood)
+
+  -- the node on which a call rests
+  rests : (d : Command) (reply : Reply) (s : ℕ) → MayRest y.shape.buckets d reply s P0 P → s < y.shape.slots
+  rests d reply s h = go d reply h
+    where
+      met : (k : ℕ) (mark : Bool) → HasMet y.shape.buckets k s mark P0 P → s < y.shape.slots
+      met k mark g = stood_range y.shape.buckets y.shape.slots P0 g.then (bucket_of y.shape.buckets k) s (lawful_begins y.shape.buckets y.shape.slots g.then P g.since.upto sound.trace.lawful) g.stood
+
+      go : (d : Command) (reply : Reply) → MayRest y.shape.buckets d reply s P0 P → s < y.shape.slots
+      go (Has k) Yes g = met k false g
+      go (Has k) No g = met k true g
+      go (Add k) No g = met k false g
+      go (Remove k) No g = met k true g
+      go _ _ g = absurd g
+
+  -- the node that a removing has marked
+  marked_lt : (s : ℕ) → (actor_in y.actors a).curr ≡ Some s → (actor_in y.actors a).hold ≡ Marked → s < y.shape.slots
+  marked_lt s curr hold =
+      let there = held_node y.shape P Marked (actor_in y.actors a) sound.trace.lawful (subst (λ (q : Hold). RestsOn y.shape.buckets q (actor_in y.actors a) P) hold (sound.locks.rests a)) s curr refl in
+      on_range y.shape.buckets y.shape.slots P (bucket_of y.shape.buckets (key_word s P)) s sound.trace.lawful there
+
+  abbrev AsksIn : Command → Script → ℕ → Type 0
+  AsksIn d script i = Relies v d (Playing script i) P0 P (notes.changed a) → IsEventOf z (loaded y.words (event_at y.shape d (Playing script i)))
+
+  adds : (d : Command) (s i : ℕ) → AsksIn d (Adding s) i
+  adds (Add k) s (suc (suc (suc zero))) h = stood_lt k s h.1.stood
+  adds (Add k) s (suc (suc (suc (suc zero)))) h = stood_lt k s h.1.stood
+  adds (Add k) s (suc (suc (suc (suc (suc i))))) h = absurd h
+  adds (Remove k) s i h = absurd h
+  adds (Has k) s i h = absurd h
+  adds _ s _ h = tt
+
+  removes : (d : Command) (s i : ℕ) → AsksIn d (Removing s) i
+  removes (Remove k) s (suc (suc zero)) h = marked_lt s h.0 h.2.0
+  removes (Remove k) s (suc (suc (suc zero))) h = marked_lt s h.0 h.2.0
+  removes (Remove k) s (suc (suc (suc (suc (suc (suc (suc i))))))) h = absurd h.2
+  removes (Add k) s i h = absurd h
+  removes (Has k) s i h = absurd h
+  removes _ s _ h = tt
+
+  asks_in : (script : Script) (i : ℕ) → AsksIn c script i
+  asks_in Pinning zero h = tt
+  asks_in (Resting s reply) zero h = rests c reply s h.1
+  asks_in (Resting s reply) (suc zero) h = rests c reply s h.1
+  asks_in (Writing s) zero h = tt
+  asks_in (Writing s) (suc zero) h = (sound.slots.hand a s h.1).in_range
+  asks_in (Adding s) i h = adds c s i h
+  asks_in (Removing s) i h = removes c s i h
+  asks_in (Releasing aim) zero h = tt
+  asks_in (Halting reply) zero h = tt
+  asks_in _ _ h = absurd h
+
+  -- by how far the call has come
+  pub asks : (at : Progress) → Relies v c at P0 P (notes.changed a) → Asks at
+  asks (Playing script i) h = asks_in script i h
+  asks (Walking aim look) h = looks look h.2
+  asks (SeeingPins p) h = (h.2, h.3)
+  asks (Claiming aim pred curr) h = claims pred curr (ended_between c aim y.shape.buckets P0 P pred curr h.2)
+  asks _ h = tt
+
+module _ (y : Yard) (honest : Bool) (disk : Medium) (a : ℕ) (e : Event) (may : MayPlay y honest disk a e) (other : is_invoke e ≡ false) where
+  next_asks : IsEventOf y e
+  next_asks =
+      let there = sound_there y honest disk a e may in
+      let caller = next_of may.service a e other may.next in
+      let own = mine may.service.yard.shape may.service.yard.vault may.service.yard.words.pins may.service.yard.actors may.service.callers there.3 there.4 a caller.0 caller.1 there.5.callers in
+      let of_caller : IsEventOf (with_words may.service.yard y.words) (next_event may.service.yard caller.0) =
+      asks there.0 there.1 may.service.yard may.service.callers may.medium there.2 there.3 there.4 there.5 y.words may.yard.heads may.yard.links may.yard.keys a caller.0.command caller.0.progress own.stands.2 in
+      subst (λ (q : Yard). IsEventOf q e) (sym (same_yard y honest disk a e may)) (subst (λ (q : Event). IsEventOf (with_words may.service.yard y.words) q) caller.2 of_caller)
+
+-- what may be played in a reached state is an event of its yard
+pub is_event : (y : Yard) (honest : Bool) (disk : Medium) (a : ℕ) (e : Event) → MayPlay y honest disk a e → IsEventOf y e
+is_event y honest disk a (Invoke c) may = tt
+is_event y honest disk a e may = next_asks y honest disk a e may refl

@@ -1,0 +1,304 @@
+-- An answer keeps the invariant: the pass goes out, a slot that wasn't used is given back, and the call ends with its row.
+use Rattle.std.proofs.Common.{◌≡◌, ◌≢◌, ◌⊎◌, ⊎_elim, inl, inr, ℕ, ◌≤◌, ◌+◌, ◌%◌, ◌==◌, not, ◌&&◌, if◌then◌else◌, Bool, true, false, List, ◌∷◌, length, Option, Some, None, refl, sym, ap, ◌∙◌, subst, arith}
+use mathlib.Core.Bool.{false≢true}
+use Rattle.std.proofs.lemmas.Bool.{cases_Bool}
+use Rattle.std.proofs.lemmas.Bool.Decides.{nat_tests, eqb_tells}
+use Rattle.lz_slot.specs.declared.command.Command.{Command}
+use Rattle.lz_slot.specs.declared.command.Command.TheVariants.{Add, Remove, Has}
+use Rattle.lz_slot.specs.declared.history.Mark.{Mark}
+use Rattle.lz_slot.specs.Sets.{Keys}
+use Rattle.lz_slot.specs.Counted.{set_of_pass}
+use Rattle.lz_slot.specs.Histories.{History}
+use Rattle.lz_slot.proofs.Counted.{of_pass_same, of_pass_other, length-set_of_pass}
+use Rattle.lz_disk.specs.Images.{Medium}
+use Rattle.lz_vault.specs.Vaults.{medium_after}
+use Rattle.lz_allot.specs.Uses.{Use, see_pin, give_back, is_outside}
+use Rattle.lz_list.specs.Traces.{Trace, halt_word}
+use Rattle.lz_machine.specs.declared.event.Event.TheVariants.{Answer}
+use Rattle.lz_machine.specs.declared.event.Outcome.TheVariants.{Done, NotNow, Dead}
+use Rattle.lz_machine.specs.declared.event.Reply.{Reply}
+use Rattle.lz_machine.specs.declared.event.Reply.TheVariants.{Yes, No, Full, Worn as SaysWorn, Halted, Device}
+use Rattle.lz_machine.specs.declared.actor.Actor.{Actor}
+use Rattle.lz_machine.specs.declared.actor.Hold.TheVariants.{Nothing}
+use Rattle.lz_machine.specs.declared.course.Course.{Course}
+use Rattle.lz_machine.specs.declared.course.Course.TheVariants.{Refused, Plays}
+use Rattle.lz_machine.specs.declared.caller.Progress.TheVariants.{Answering}
+use Rattle.lz_machine.specs.Yards.{Yard, actor_at, idle_actor}
+use Rattle.lz_machine.specs.Table.{last_pin, pin_of, needs, course, course_alive, line, line_on, call_on, yard_done, with_slot, kept_slot, given_back, is_unused}
+use Rattle.lz_machine.specs.Runs.{Caller, caller_at, mark_of, played}
+use Rattle.lz_machine.specs.Sound.{HasLock, RestsOn, Notes, IsInside, actor_in, pin_in, stage_in, view_of, entries, opens, is_before_pin, side_of, IsIdle, MayAnswer, Relies, CallerSound, CallersSound, SlotsSound, LocksSound, ReuseSound, IsAfter, TailsSound, Sound, UpSound}
+use Rattle.lz_machine.proofs.Frames.ActorTable.{by_actor}
+use Rattle.lz_machine.proofs.Frames.OneActor.{caller_range, carry}
+use Rattle.lz_machine.proofs.Frames.Grip.{keeps_itself, slots_turn}
+use Rattle.lz_machine.proofs.Frames.NodeLocks.{held_locks}
+use Rattle.lz_machine.proofs.Frames.Hand.{reuse_turn}
+use Rattle.lz_machine.proofs.Steps.Hop.{call_at, own}
+use Rattle.lz_machine.proofs.Steps.Pin.{pinned, trace_pinned, left_reuse}
+use Rattle.lz_machine.proofs.Frames.Uses.{slots_uses, seen_keeps, seen_reuse}
+use Rattle.lz_machine.proofs.Ledger.End.{ending, ends_now, none_now, changed_still, gone, stays_open, after_ended, tail_ended}
+use Rattle.lz_machine.proofs.Ledger.Reply.{EndsSo, ends}
+use Rattle.lz_machine.proofs.Steps.ReturnedSlot.{closed_unused, given_slots, given_locks, given_reuse, given_none, given_hold, held_then, hand_b}
+use Rattle.lz_machine.proofs.Steps.Point.{AnswerUp}
+use Rattle.lz_machine.proofs.Frames.PinOrder.{since_out}
+
+module _ (n calls : ℕ) (y : Yard) (callers : List (Option Caller)) (disk : Medium) (M : History) (P : Trace) (notes : Notes) (sound : Sound n calls y callers disk M P notes) (after : IsAfter y.words.pins callers (entries y.shape.passes callers notes) M notes.begun)
+    (a i : ℕ) (c : Command) (says : Reply) (is : caller_at callers a ≡ Some (call_at i c (Answering says))) (le : a ≤ y.shape.passes) (how : EndsSo n calls y.shape.passes callers P M notes a i le sound.ledger y.words.pins after c says is) where
+  abbrev notes' : Notes
+  notes' = ends_now notes a how.last
+
+  abbrev m : Mark
+  m = mark_of i says
+
+  -- the tails of the calls that are still open, or were cut off
+  ended_tails : (actors' : List Actor) → ((b t : ℕ) → (actor_in actors' b).slot ≡ Some t → (actor_in y.actors b).slot ≡ Some t)
+      → TailsSound y.shape y.vault.cells actors' P (ending callers a) (entries y.shape.passes (ending callers a) notes') (m ∷ M)
+  ended_tails actors' slot_then = record {
+    adding = λ b t slot opened. tail_ended n calls y.shape.passes callers P M notes a (call_at i c (Answering says)) is le sound.ledger y.words.pins after m how.marks how.last how.is_last (Add _) how.tail (sound.tails.adding b t (slot_then b t slot) opened);
+    removing = λ t there unmarked written. tail_ended n calls y.shape.passes callers P M notes a (call_at i c (Answering says)) is le sound.ledger y.words.pins after m how.marks how.last how.is_last (Remove _) how.tail (sound.tails.removing t there unmarked written);
+  }
+
+  -- the callers, where one has ended
+  ended_callers : (actors' : List Actor) (pins' : List ℕ) → length actors' ≡ length y.actors → ((b : ℕ) → b ≢ a → actor_in actors' b ≡ actor_in y.actors b) → ((b : ℕ) → b ≢ a → pin_in pins' b ≡ pin_in y.words.pins b)
+      → CallerSound (view_of y.shape y.vault actors' a) (pin_in pins' a) None (notes.begun a) P None
+      → CallersSound y.shape y.vault pins' actors' (ending callers a) P notes'
+  ended_callers actors' pins' count others same_pins mine = record {
+    count = length-set_of_pass callers a None ∙ sound.callers.count;
+    hands = count ∙ sound.callers.hands;
+    each = by_actor (λ b. CallerSound (view_of y.shape y.vault actors' b) (pin_in pins' b) (caller_at (ending callers a) b) (notes'.begun b) P (notes'.changed b)) a
+        (subst (λ (q : Option Caller). CallerSound (view_of y.shape y.vault actors' a) (pin_in pins' a) q (notes.begun a) P (notes'.changed a)) (sym (gone callers notes a how.last (call_at i c (Answering says)) is))
+        (subst (λ (q : Option ℕ). CallerSound (view_of y.shape y.vault actors' a) (pin_in pins' a) None (notes.begun a) P q) (sym (none_now callers notes a how.last (call_at i c (Answering says)) is)) mine))
+        (λ b other. carry y.shape.buckets y.shape.passes y.vault.cells y.vault.dead P (actor_in y.actors b) (actor_in actors' b) (pin_in y.words.pins b) (pin_in pins' b) (caller_at callers b) (caller_at (ending callers a) b) (notes.begun b) (notes'.begun b) (notes.changed b) (notes'.changed b)
+        (others b other) (same_pins b other) (stays_open callers notes a how.last (call_at i c (Answering says)) is b other) refl (changed_still callers notes a how.last (call_at i c (Answering says)) is b other) (sound.callers.each b));
+  }
+
+  -- a call that its pass was too worn for: the yard stays
+  worn_sound : IsIdle (actor_in y.actors a) P → (IsInside (pin_in y.words.pins a) → ⊥) → Sound n calls y (ending callers a) disk (m ∷ M) P notes'
+  worn_sound idle outside = record {
+    trace = sound.trace;
+    images = sound.images;
+    slots = sound.slots;
+    locks = sound.locks;
+    callers = ended_callers y.actors y.words.pins refl (λ b other. refl) (λ b other. refl) (record { quiet = λ inside. absurd (outside inside); begins = λ inside. absurd (outside inside); stands = (idle, refl) });
+    reuse = sound.reuse;
+    ledger = how.ledger;
+    tails = ended_tails y.actors (λ b t slot. slot);
+  }
+
+  worn_after : IsAfter y.words.pins (ending callers a) (entries y.shape.passes (ending callers a) notes') (m ∷ M) notes'.begun
+  worn_after = after_ended n calls y.shape.passes callers P M notes a (call_at i c (Answering says)) is le sound.ledger y.words.pins after m how.marks how.last how.is_last y.words.pins (λ b other. refl)
+
+  module _ (inside : IsInside (pin_in y.words.pins a)) (fresh : pin_in y.words.pins a ≢ last_pin) where
+    abbrev to : ℕ
+    to = pin_in y.words.pins a + 1
+
+    abbrev pins' : List ℕ
+    pins' = set_of_pass y.words.pins a to
+
+    low : 1 ≤ a
+    low = (caller_range callers a (call_at i c (Answering says)) is).0
+
+    in_pins : a ≤ length y.words.pins
+    in_pins = omega (arith, le, sound.trace.pins)
+
+    in_actors : a ≤ length y.actors
+    in_actors = omega (arith, le, sound.callers.hands)
+
+    pin_now : pin_in pins' a ≡ to
+    pin_now = of_pass_same y.words.pins a to 0 low in_pins
+
+    pin_other : (b : ℕ) → b ≢ a → pin_in pins' b ≡ pin_in y.words.pins b
+    pin_other b other = of_pass_other y.words.pins a b to 0 other
+
+    out_now : IsInside (pin_in pins' a) → ⊥
+    out_now still = omega (arith, still, pin_now, inside)
+
+    -- the yard in which the pass has gone out, with these uses and actors
+    abbrev left_yard : List Use → List Actor → Yard
+    left_yard uses actors' = record { shape = y.shape; words = pinned y.words a; locks = y.locks; vault = y.vault; uses = see_pin a to uses; actors = actors' }
+
+    left_sound : (uses : List Use) (actors' : List Actor) → length actors' ≡ length y.actors → ((b : ℕ) → b ≢ a → actor_in actors' b ≡ actor_in y.actors b)
+        → ((b t : ℕ) → (actor_in actors' b).slot ≡ Some t → (actor_in y.actors b).slot ≡ Some t) → IsIdle (actor_in actors' a) P
+        → SlotsSound y.shape y.vault.cells y.vault.dead uses actors' P → LocksSound y.shape y.locks actors' P → ReuseSound y.shape pins' uses actors' P notes.begun
+        → Sound n calls (left_yard uses actors') (ending callers a) disk (m ∷ M) P notes'
+    left_sound uses actors' count others slot_then idle slots locks reuse = record {
+      trace = trace_pinned y.shape y.words P a sound.trace;
+      images = sound.images;
+      slots = slots_uses y.shape y.vault.cells y.vault.dead uses (see_pin a to uses) actors' P (seen_keeps a to uses) slots;
+      locks = locks;
+      callers = ended_callers actors' pins' count others pin_other (record { quiet = λ still. absurd (out_now still); begins = λ still. absurd (out_now still); stands = (idle, refl) });
+      reuse = seen_reuse a to y.shape pins' uses actors' P notes.begun (sym pin_now) low le reuse;
+      ledger = how.ledger;
+      tails = ended_tails actors' slot_then;
+    }
+
+    reuse_out : ReuseSound y.shape pins' y.uses y.actors P notes.begun
+    reuse_out = left_reuse y.shape y.vault.cells y.vault.dead y.words.pins y.uses y.actors P notes a low in_pins sound.slots sound.reuse inside fresh
+
+    left_after : IsAfter pins' (ending callers a) (entries y.shape.passes (ending callers a) notes') (m ∷ M) notes'.begun
+    left_after = after_ended n calls y.shape.passes callers P M notes a (call_at i c (Answering says)) is le sound.ledger y.words.pins after m how.marks how.last how.is_last pins' pin_other
+
+    -- it keeps what it has in hand
+    module _ (x : Actor) (same : x ≡ actor_in y.actors a) where
+      abbrev actors' : List Actor
+      actors' = set_of_pass y.actors a x
+
+      all_same : (b : ℕ) → actor_in actors' b ≡ actor_in y.actors b
+      all_same = by_actor (λ b. actor_in actors' b ≡ actor_in y.actors b) a (of_pass_same y.actors a x idle_actor low in_actors ∙ same) (λ b other. of_pass_other y.actors a b x idle_actor other)
+
+      kept_sound : IsIdle (actor_in y.actors a) P → Sound n calls (left_yard y.uses actors') (ending callers a) disk (m ∷ M) P notes'
+      kept_sound idle = left_sound y.uses actors' (length-set_of_pass y.actors a x) (λ b other. all_same b) (λ b t slot. ap (λ (q : Actor). q.slot) (sym (all_same b)) ∙ slot)
+          (subst (λ (q : Actor). IsIdle q P) (sym (all_same a)) idle)
+          (slots_turn y.shape y.vault.cells y.vault.dead y.vault.dead y.uses y.actors actors' P (λ b. keeps_itself y.vault.dead y.vault.dead (actor_in y.actors b) (actor_in actors' b) (λ e. e) (all_same b)) sound.slots)
+          (held_locks y.shape y.locks y.actors actors' P a (λ b other. all_same b) sound.locks
+          (λ place lock. subst (λ (q : Actor). HasLock q place) (all_same a) lock)
+          (subst (λ (q : Actor). RestsOn y.shape.buckets q.hold q P) (sym (all_same a)) (sound.locks.rests a)))
+          (reuse_turn y.shape pins' y.uses y.actors actors' P notes.begun (λ b. ap (λ (q : Actor). q.slot) (all_same b)) reuse_out)
+
+    -- it gives its slot back
+    given_sound : (s : ℕ) → (actor_in y.actors a).slot ≡ Some s → is_unused (stage_in y.vault.cells s) ≡ true → ((actor_in y.actors a).hold ≡ Nothing) ⊎ (halt_word P ≡ 1)
+        → Sound n calls (left_yard (give_back y.uses s) (set_of_pass y.actors a (with_slot (actor_in y.actors a) None))) (ending callers a) disk (m ∷ M) P notes'
+    given_sound s has unused calm =
+        let actors' : List Actor = set_of_pass y.actors a (with_slot (actor_in y.actors a) None) in
+        left_sound (give_back y.uses s) actors' (length-set_of_pass y.actors a _)
+        (hand_b y.shape y.vault.cells y.vault.dead y.uses y.actors P sound.slots a s low in_actors has unused)
+        (λ b t slot. (held_then y.shape y.vault.cells y.vault.dead y.uses y.actors P sound.slots a s low in_actors has unused b t slot).1)
+        (⊎_elim (λ nothing. inl (given_hold y.shape y.vault.cells y.vault.dead y.uses y.actors P sound.slots a s low in_actors has unused ∙ nothing, given_none y.shape y.vault.cells y.vault.dead y.uses y.actors P sound.slots a s low in_actors has unused)) (λ halted. inr halted) calm)
+        (given_slots y.shape y.vault.cells y.vault.dead y.uses y.actors P sound.slots a s low in_actors has unused)
+        (given_locks y.shape y.vault.cells y.vault.dead y.uses y.actors P sound.slots a s low in_actors has unused y.locks sound.locks)
+        (given_reuse y.shape y.vault.cells y.vault.dead y.uses y.actors P sound.slots a s low in_actors has unused pins' notes.begun reuse_out)
+
+    -- the slot of an actor that holds nothing wasn't used
+    calm_unused : (s : ℕ) → (actor_in y.actors a).slot ≡ Some s → (actor_in y.actors a).hold ≡ Nothing → is_unused (stage_in y.vault.cells s) ≡ true
+    calm_unused s has nothing = ⊎_elim
+        (λ shut. closed_unused (stage_in y.vault.cells s) shut)
+        (λ opened. absurd (false≢true (sym (ap (opens y.vault.dead) nothing) ∙ opened.0)))
+        (sound.slots.hand a s has).stage
+
+    -- the yard after the answer
+    abbrev answered_with : Option ℕ → Yard
+    answered_with slot = left_yard (given_back y slot) (set_of_pass y.actors a (with_slot (actor_at y a) (kept_slot y slot)))
+
+    answered_sound : (slot : Option ℕ) → (actor_in y.actors a).slot ≡ slot → ((actor_in y.actors a).hold ≡ Nothing) ⊎ (halt_word P ≡ 1) → Sound n calls (answered_with slot) (ending callers a) disk (m ∷ M) P notes'
+    answered_sound None none calm = kept_sound (with_slot (actor_at y a) None) (ap (with_slot (actor_at y a)) (sym none)) (⊎_elim (λ nothing. inl (nothing, none)) (λ halted. inr halted) calm)
+    answered_sound (Some s) has calm = elim (cases_Bool (is_unused (stage_in y.vault.cells s))) [
+      | inl unused ↦ rw unused (given_sound s has unused calm)
+      | inr used ↦ rw used (kept_sound (with_slot (actor_at y a) (Some s)) (ap (with_slot (actor_at y a)) (sym has)) (⊎_elim (λ nothing. absurd (false≢true (sym used ∙ calm_unused s has nothing))) (λ halted. inr halted) calm))
+    ]
+
+    pub played_sound : ((actor_in y.actors a).hold ≡ Nothing) ⊎ (halt_word P ≡ 1) → Sound n calls (yard_done y (actor_at y a) a Answer) (ending callers a) disk (m ∷ M) P notes'
+    played_sound calm = answered_sound (actor_in y.actors a).slot refl calm
+
+-- what the call relies on
+rests_of : (c : Command) (says : Reply) (a : ℕ) (y : Yard) (P0 P : Trace) (changed : Option ℕ) → (says ≡ SaysWorn → ⊥) → Relies (view_of y.shape y.vault y.actors a) c (Answering says) P0 P changed → MayAnswer c says P0 P changed × (((actor_in y.actors a).hold ≡ Nothing) ⊎ (halt_word P ≡ 1))
+rests_of c SaysWorn a y P0 P changed fit h = absurd (fit refl)
+rests_of c _ a y _ _ changed fit h = h
+
+worn_rests : (c : Command) (P0 P : Trace) (changed : Option ℕ) → changed ≡ None → MayAnswer c SaysWorn P0 P changed
+worn_rests (Add k) P0 P changed h = h
+worn_rests (Remove k) P0 P changed h = h
+worn_rests (Has k) P0 P changed h = h
+
+-- a call that is outside at its answer was refused because its pass is worn
+says_worn : (says : Reply) → side_of (is_before_pin (Answering says)) ≡ 0 → says ≡ SaysWorn
+says_worn SaysWorn side = refl
+says_worn Yes side = absurd (omega (arith, side))
+says_worn No side = absurd (omega (arith, side))
+says_worn (Full counts) side = absurd (omega (arith, side))
+says_worn Halted side = absurd (omega (arith, side))
+says_worn Device side = absurd (omega (arith, side))
+
+not_worn : (says : Reply) → side_of (is_before_pin (Answering says)) ≡ 1 → says ≡ SaysWorn → ⊥
+not_worn SaysWorn side e = omega (arith, side)
+not_worn Yes side e = absurd cc
+not_worn No side e = absurd cc
+not_worn (Full counts) side e = absurd cc
+not_worn Halted side e = absurd cc
+not_worn Device side e = absurd cc
+
+module _ (n calls : ℕ) (y : Yard) (callers : List (Option Caller)) (disk : Medium) (M : History) (P : Trace) (start : Keys) (notes : Notes) (a i : ℕ) (c : Command) (says : Reply) (is : caller_at callers a ≡ Some (call_at i c (Answering says)))
+    (up : UpSound n calls (record { yard = y; callers = callers }) disk (record { start = start; history = M }) P notes) where
+  abbrev Answered : Course → Type 0
+  Answered taken =
+      (noted : Notes) × UpSound n calls (played (record { yard = y; callers = callers }) a (call_at i c (Answering says)) (line_on taken y (actor_at y a) a Answer)) (medium_after (call_on taken y (actor_at y a) Answer) disk)
+      (record { start = start; history = mark_of i says ∷ M }) P noted
+
+  range : (1 ≤ a) × (a ≤ y.shape.passes)
+  range = let r = caller_range callers a (call_at i c (Answering says)) is in (r.0, omega (arith, r.1, up.sound.callers.count))
+
+  me : CallerSound (view_of y.shape y.vault y.actors a) (pin_in y.words.pins a) (Some (call_at i c (Answering says))) (notes.begun a) P (notes.changed a)
+  me = own n calls y callers disk M P notes a i c (Answering says) is up.sound
+
+  -- its pass is worn
+  worn_up : (pin_in y.words.pins a % 2 ≡ 0) → Answered (Refused Done)
+  worn_up even = go says is me.stands.2 (says_worn says (sym me.stands.0 ∙ even))
+    where
+      go : (reply : Reply) (at : caller_at callers a ≡ Some (call_at i c (Answering reply))) → Relies (view_of y.shape y.vault y.actors a) c (Answering reply) (notes.begun a) P (notes.changed a) → reply ≡ SaysWorn
+          → (noted : Notes) × UpSound n calls (record { yard = y; callers = ending callers a }) disk (record { start = start; history = mark_of i reply ∷ M }) P noted
+      go SaysWorn at relies e =
+          let how = ends n calls y.shape.passes callers P M notes a i range.1 up.sound.ledger y.words.pins up.after c SaysWorn at (inl refl) (worn_rests c (notes.begun a) P (notes.changed a) relies.1) in (
+            ends_now notes a how.last,
+            record {
+              began = up.began;
+              sound = worn_sound n calls y callers disk M P notes up.sound up.after a i c SaysWorn at range.1 how relies.0 (λ inside. omega (arith, inside, even));
+              since = up.since;
+              after = worn_after n calls y callers disk M P notes up.sound up.after a i c SaysWorn at range.1 how;
+            },
+          )
+      go Yes at relies e = absurd cc
+      go No at relies e = absurd cc
+      go (Full counts) at relies e = absurd cc
+      go Halted at relies e = absurd cc
+      go Device at relies e = absurd cc
+
+  -- its pass goes out
+  played_up : (pin_in y.words.pins a % 2 ≡ 1) → pin_in y.words.pins a ≢ last_pin → Answered Plays
+  played_up inside fresh =
+      let relies = rests_of c says a y (notes.begun a) P (notes.changed a) (not_worn says (sym me.stands.0 ∙ inside)) me.stands.2 in
+      let how = ends n calls y.shape.passes callers P M notes a i range.1 up.sound.ledger y.words.pins up.after c says is (inr (inside, up.since a inside)) relies.0 in (
+        ends_now notes a how.last,
+        record {
+          began = up.began;
+          sound = played_sound n calls y callers disk M P notes up.sound up.after a i c says is range.1 how inside fresh relies.1;
+          since = since_out n y.words.pins notes.begun a _ (inl inside) range.0 (omega (arith, range.1, up.sound.trace.pins)) up.since;
+          after = left_after n calls y callers disk M P notes up.sound up.after a i c says is range.1 how inside fresh;
+        },
+      )
+
+  -- the course of an answer, by whether the vault is dead and the answer has what it needs
+  abbrev taken : Bool → Bool → Course
+  taken dead may = if dead && not true then Refused Dead else if may then course_alive y a (pin_of y a) Answer else Refused NotNow
+
+  either : (dead may : Bool) → taken dead may ≡ taken false may
+  either true may = refl
+  either false may = refl
+
+  plays : needs y a Answer ≡ true → course y a Answer ≡ course_alive y a (pin_of y a) Answer
+  plays may = either y.vault.dead (needs y a Answer) ∙ ap (taken false) may
+
+  not_yet : needs y a Answer ≡ false → course y a Answer ≡ Refused NotNow
+  not_yet lacks = either y.vault.dead (needs y a Answer) ∙ ap (taken false) lacks
+
+  needs_last : (pin_of y a == last_pin) ≡ true → needs y a Answer ≡ true
+  needs_last last = grind (arith, nat_tests, last)
+
+  needs_inside : is_outside (pin_of y a) ≡ false → needs y a Answer ≡ true
+  needs_inside inside = grind (arith, nat_tests, inside)
+
+  lacks_both : is_outside (pin_of y a) ≡ true → (pin_of y a == last_pin) ≡ false → needs y a Answer ≡ false
+  lacks_both outside fresh = grind (arith, nat_tests, outside, fresh)
+
+  answered : (line y a Answer).1 ≢ NotNow → Answered (course y a Answer)
+  answered now = elim (eqb_tells (pin_of y a) last_pin) [
+    | inl last ↦ subst Answered (sym (plays (needs_last last.0) ∙ ap (λ (b : Bool). if b then Refused Done else Plays) last.0)) (worn_up (ap (λ (q : ℕ). q % 2) last.1))
+    | inr fresh ↦ elim (cases_Bool (is_outside (pin_of y a))) [
+      | inl outside ↦ absurd (now (ap (λ (taken : Course). (line_on taken y (actor_at y a) a Answer).1) (not_yet (lacks_both outside fresh.0))))
+      | inr inside ↦ subst Answered (sym (plays (needs_inside inside) ∙ ap (λ (b : Bool). if b then Refused Done else Plays) fresh.0)) (played_up (odd inside) fresh.1)
+    ]
+  ]
+    where
+      odd : is_outside (pin_of y a) ≡ false → pin_in y.words.pins a % 2 ≡ 1
+      odd is = grind (arith, nat_tests, is)
+
+-- an answer keeps the invariant of an open service
+pub answer_up : AnswerUp
+answer_up n calls y callers disk M P start notes a i c says is up now = answered n calls y callers disk M P start notes a i c says is up now

@@ -1,0 +1,155 @@
+-- A turn whose device call fails keeps the invariant of an open service.
+use Rattle.std.proofs.Common.{◌≡◌, ◌⊎◌, inl, inr, ℕ, zero, suc, ◌+◌, ◌*◌, if◌then◌else◌, Bool, true, false, List, [], Option, Some, None, refl, sym, ap, subst}
+use Rattle.std.specs.Prelude.{unwrap_or, slice_set}
+use Rattle.std.proofs.lemmas.Bool.{cases_Bool}
+use Rattle.lz_slot.specs.declared.command.Command.{Command}
+use Rattle.lz_slot.specs.declared.command.Command.TheVariants.{Add, Remove, Has}
+use Rattle.lz_slot.specs.Sets.{Keys, key_of}
+use Rattle.lz_slot.specs.Histories.{History}
+use Rattle.lz_disk.specs.Images.{Medium, WriteFailed}
+use Rattle.lz_vault.specs.declared.vault.Stage.TheVariants.{KeyLoose, Opening, Closing}
+use Rattle.lz_vault.specs.Vaults.{DeviceCall, NoCall, SyncAll, MayFail}
+use Rattle.lz_list.specs.Traces.{Trace}
+use Rattle.lz_machine.specs.declared.event.Event.{Event}
+use Rattle.lz_machine.specs.declared.event.Event.TheVariants.{WriteKey, WriteOpen, WriteClose, Sync}
+use Rattle.lz_machine.specs.declared.event.Outcome.TheVariants.{Fault}
+use Rattle.lz_machine.specs.declared.event.Reply.{Reply}
+use Rattle.lz_machine.specs.declared.event.Reply.TheVariants.{Device}
+use Rattle.lz_machine.specs.declared.course.Course.{Course}
+use Rattle.lz_machine.specs.declared.course.Course.TheVariants.{Refused, Dies, Plays}
+use Rattle.lz_machine.specs.declared.caller.Script.{Script}
+use Rattle.lz_machine.specs.declared.caller.Script.TheVariants.{Pinning, Resting, Writing, Adding, Removing, Releasing, Halting}
+use Rattle.lz_machine.specs.declared.caller.Progress.{Progress}
+use Rattle.lz_machine.specs.declared.caller.Progress.TheVariants.{Playing, LoadsHalt, Walking, Reserving, SeeingPins, Claiming, Checking, Answering}
+use Rattle.lz_machine.specs.Yards.{Yard, actor_at}
+use Rattle.lz_machine.specs.Table.{slot_of, node_of, is_played_dead, is_sure, call_of, call_on, course, line_call, line_failed, vault_failed, with_vault}
+use Rattle.lz_machine.specs.Calls.{halts}
+use Rattle.lz_machine.specs.Runs.{Caller, caller_at, next_event, reply_at, played}
+use Rattle.lz_machine.specs.Sound.{Notes, cell_in, view_of, Relies, ReliesOn, ReliesAdding, ReliesRemoving, ReliesWriting, Sound, UpSound, is_before_pin}
+use Rattle.lz_machine.proofs.Frames.OneActor.{moving}
+use Rattle.lz_machine.proofs.Steps.Hop.{call_at, own}
+use Rattle.lz_machine.proofs.Steps.Death.{sync_fails_keeps}
+use Rattle.lz_machine.proofs.Steps.WriteClose.{write_close_fails_keeps}
+use Rattle.lz_machine.proofs.Steps.WriteKey.{write_key_fails_keeps}
+use Rattle.lz_machine.proofs.Steps.WriteOpen.{write_open_fails_keeps}
+use Rattle.lz_machine.proofs.Runs.NextEvent.{plays_alive, turned_same}
+
+-- an event whose device call may fail is played, and makes that call
+played_call : (y : Yard) (a : ℕ) (e : Event) (disk new : Medium) → MayFail (line_call y a e) disk new → (course y a e ≡ Plays) × MayFail (call_of y (actor_at y a) e) disk new
+played_call y a e disk new may = go (course y a e) refl may
+  where
+    go : (taken : Course) → course y a e ≡ taken → MayFail (call_on taken y (actor_at y a) e) disk new → (course y a e ≡ Plays) × MayFail (call_of y (actor_at y a) e) disk new
+    go (Refused outcome) same h = absurd h
+    go Dies same h = absurd h
+    go Plays same h = (same, h)
+
+-- an event without a device call can't fail
+no_fault : (y : Yard) (a : ℕ) (e : Event) (disk new : Medium) → call_of y (actor_at y a) e ≡ NoCall → MayFail (line_call y a e) disk new → ⊥
+no_fault y a e disk new none may = subst (λ (q : DeviceCall). MayFail q disk new) none (played_call y a e disk new may).1
+
+module _ (n calls : ℕ) (y : Yard) (callers : List (Option Caller)) (disk : Medium) (M : History) (P : Trace) (start : Keys) (notes : Notes) (up : UpSound n calls (record { yard = y; callers = callers }) disk (record { start = start; history = M }) P notes) (a i : ℕ) where
+  -- the call's next turn fails, where it has come so far
+  abbrev pub Faults : Command → Progress → Type 0
+  Faults c at =
+      (new : Medium) → MayFail (line_call y a (next_event y (call_at i c at))) disk new
+      → UpSound n calls (played (record { yard = y; callers = callers }) a (call_at i c at) (line_failed y a (next_event y (call_at i c at)))) new (record { start = start; history = M }) P notes
+
+  abbrev IsAt : Command → Progress → Type 0
+  IsAt c at = caller_at callers a ≡ Some (call_at i c at)
+
+  -- what the call relies on
+  known : (c : Command) (at : Progress) → IsAt c at → Relies (view_of y.shape y.vault y.actors a) c at (notes.begun a) P (notes.changed a)
+  known c at is = (own n calls y callers disk M P notes a i c at is up.sound).stands.2
+
+  -- an event that a dead vault refuses
+  faulted : (c : Command) (at : Progress) → IsAt c at → reply_at at ≡ None → (e : Event) → is_played_dead e ≡ false → (new : Medium) → MayFail (line_call y a e) disk new
+      → (y.vault.dead ≡ false → MayFail (call_of y (actor_at y a) e) disk new → Sound n calls (line_failed y a e).0 (moving callers a (call_at i c at) (halts Device)) new M P notes)
+      → UpSound n calls (played (record { yard = y; callers = callers }) a (call_at i c at) (line_failed y a e)) new (record { start = start; history = M }) P notes
+  faulted c at is goes_on e stops new may sound =
+      let call = played_call y a e disk new may in
+      turned_same n calls y callers disk M P start notes up a i c at is goes_on (with_vault y (vault_failed y (actor_at y a) e)) Fault new [] refl refl (sound (plays_alive y a e stops call.0) call.1)
+
+  -- the write of a key fails
+  key_fault : (c : Command) (s : ℕ) → IsAt c (Playing (Writing s) 0) → Faults c (Playing (Writing s) 0)
+  key_fault c s is new may = faulted c (Playing (Writing s) 0) is refl (WriteKey (key_of c)) refl new may (λ alive fails.
+      let mine : s ≡ slot_of (actor_at y a) = sym (ap (λ (q : Option ℕ). unwrap_or q 0) (known c (Playing (Writing s) 0) is).1) in
+      subst (λ (q : ℕ). Sound n calls (with_vault y (record { cells = slice_set y.vault.cells q (record { stage = KeyLoose; key = key_of c }); syncs = y.vault.syncs; dead = true })) (moving callers a (call_at i c (Playing (Writing s) 0)) (halts Device)) new M P notes) mine
+      (write_key_fails_keeps n calls y callers disk M P notes up.sound a i c s is alive new (subst (λ (q : ℕ). (new ≡ disk) ⊎ WriteFailed disk (17 + 16 * q) 15 new) (sym mine) fails)))
+
+  -- the write that opens a gate fails
+  open_fault : (k s : ℕ) → IsAt (Add k) (Playing (Adding s) 0) → Faults (Add k) (Playing (Adding s) 0)
+  open_fault k s is new may = faulted (Add k) (Playing (Adding s) 0) is refl WriteOpen refl new may (λ alive fails.
+      let mine : s ≡ slot_of (actor_at y a) = sym (ap (λ (q : Option ℕ). unwrap_or q 0) (known (Add k) (Playing (Adding s) 0) is).1.slot) in
+      subst (λ (q : ℕ). Sound n calls (with_vault y (record { cells = slice_set y.vault.cells q (record { stage = Opening; key = (cell_in y.vault.cells q).key }); syncs = y.vault.syncs; dead = true })) (moving callers a (call_at i (Add k) (Playing (Adding s) 0)) (halts Device)) new M P notes) mine
+      (write_open_fails_keeps n calls y callers disk M P notes up.sound a i k s is alive new (subst (λ (q : ℕ). (new ≡ disk) ⊎ WriteFailed disk (16 + 16 * q) 1 new) (sym mine) fails)))
+
+  -- the write that closes a gate fails
+  close_fault : (k s : ℕ) → IsAt (Remove k) (Playing (Removing s) 0) → Faults (Remove k) (Playing (Removing s) 0)
+  close_fault k s is new may = faulted (Remove k) (Playing (Removing s) 0) is refl WriteClose refl new may (λ alive fails.
+      let mine : s ≡ node_of (actor_at y a) = sym (ap (λ (q : Option ℕ). unwrap_or q 0) (known (Remove k) (Playing (Removing s) 0) is).0) in
+      subst (λ (q : ℕ). Sound n calls (with_vault y (record { cells = slice_set y.vault.cells q (record { stage = Closing; key = (cell_in y.vault.cells q).key }); syncs = y.vault.syncs; dead = true })) (moving callers a (call_at i (Remove k) (Playing (Removing s) 0)) (halts Device)) new M P notes) mine
+      (write_close_fails_keeps n calls y callers disk M P notes up.sound a i k s is alive new (subst (λ (q : ℕ). (new ≡ disk) ⊎ WriteFailed disk (16 + 16 * q) 1 new) (sym mine) fails)))
+
+  -- a sync fails, and leaves the disk
+  sync_fault : (c : Command) (at : Progress) → IsAt c at → reply_at at ≡ None → is_before_pin at ≡ false → (s : ℕ) (new : Medium) → MayFail (line_call y a (Sync s)) disk new
+      → UpSound n calls (played (record { yard = y; callers = callers }) a (call_at i c at) (line_failed y a (Sync s))) new (record { start = start; history = M }) P notes
+  sync_fault c at is goes_on inside s new may = faulted c at is goes_on (Sync s) refl new may (λ alive fails. elim (cases_Bool (is_sure y s)) [
+    | inl sure ↦ absurd (subst (λ (q : Bool). MayFail (if q then NoCall else SyncAll) disk new) sure fails)
+    | inr loose ↦
+        let same : new ≡ disk = subst (λ (q : Bool). MayFail (if q then NoCall else SyncAll) disk new) loose fails in
+        subst (λ (q : Medium). Sound n calls (line_failed y a (Sync s)).0 (moving callers a (call_at i c at) (halts Device)) q M P notes) (sym same) (sync_fails_keeps n calls y callers disk M P notes a i c at is up.sound inside s loose)
+  ])
+
+  -- the other events make no device call
+  none_fault : (c : Command) (at : Progress) → call_of y (actor_at y a) (next_event y (call_at i c at)) ≡ NoCall → Faults c at
+  none_fault c at none new may = absurd (no_fault y a (next_event y (call_at i c at)) disk new none may)
+
+  rest_fault : (c : Command) (s : ℕ) (reply : Reply) (j : ℕ) → IsAt c (Playing (Resting s reply) j) → ReliesOn (view_of y.shape y.vault y.actors a) c (Resting s reply) j (notes.begun a) P (notes.changed a) → Faults c (Playing (Resting s reply) j)
+  rest_fault c s reply zero is relies new may = sync_fault c (Playing (Resting s reply) 0) is refl refl s new may
+  rest_fault c s reply (suc zero) is relies new may = none_fault c (Playing (Resting s reply) 1) refl new may
+  rest_fault c s reply (suc (suc j)) is relies new may = absurd relies
+
+  write_fault : (c : Command) (s j : ℕ) → IsAt c (Playing (Writing s) j) → ReliesWriting (view_of y.shape y.vault y.actors a) c s j P (notes.changed a) → Faults c (Playing (Writing s) j)
+  write_fault c s zero is relies new may = key_fault c s is new may
+  write_fault c s (suc zero) is relies new may = sync_fault c (Playing (Writing s) 1) is refl refl s new may
+  write_fault c s (suc (suc j)) is relies new may = absurd relies
+
+  add_fault : (k s j : ℕ) → IsAt (Add k) (Playing (Adding s) j) → ReliesAdding (view_of y.shape y.vault y.actors a) k s j (notes.begun a) P (notes.changed a) → Faults (Add k) (Playing (Adding s) j)
+  add_fault k s zero is relies new may = open_fault k s is new may
+  add_fault k s (suc zero) is relies new may = none_fault (Add k) (Playing (Adding s) 1) refl new may
+  add_fault k s (suc (suc zero)) is relies new may = none_fault (Add k) (Playing (Adding s) 2) refl new may
+  add_fault k s (suc (suc (suc zero))) is relies new may = sync_fault (Add k) (Playing (Adding s) 3) is refl refl s new may
+  add_fault k s (suc (suc (suc (suc zero)))) is relies new may = none_fault (Add k) (Playing (Adding s) 4) refl new may
+  add_fault k s (suc (suc (suc (suc (suc j))))) is relies new may = absurd relies
+
+  remove_fault : (k s j : ℕ) → IsAt (Remove k) (Playing (Removing s) j) → ReliesRemoving (view_of y.shape y.vault y.actors a) k s j P (notes.changed a) → Faults (Remove k) (Playing (Removing s) j)
+  remove_fault k s zero is relies new may = close_fault k s is new may
+  remove_fault k s (suc zero) is relies new may = none_fault (Remove k) (Playing (Removing s) 1) refl new may
+  remove_fault k s (suc (suc zero)) is relies new may = sync_fault (Remove k) (Playing (Removing s) 2) is refl refl s new may
+  remove_fault k s (suc (suc (suc zero))) is relies new may = none_fault (Remove k) (Playing (Removing s) 3) refl new may
+  remove_fault k s (suc (suc (suc (suc zero)))) is relies new may = none_fault (Remove k) (Playing (Removing s) 4) refl new may
+  remove_fault k s (suc (suc (suc (suc (suc zero))))) is relies new may = none_fault (Remove k) (Playing (Removing s) 5) refl new may
+  remove_fault k s (suc (suc (suc (suc (suc (suc zero)))))) is relies new may = none_fault (Remove k) (Playing (Removing s) 6) refl new may
+  remove_fault k s (suc (suc (suc (suc (suc (suc (suc j))))))) is relies new may = absurd relies
+
+  script_fault : (c : Command) (script : Script) (j : ℕ) → IsAt c (Playing script j) → ReliesOn (view_of y.shape y.vault y.actors a) c script j (notes.begun a) P (notes.changed a) → Faults c (Playing script j)
+  script_fault c Pinning zero is relies new may = none_fault c (Playing Pinning 0) refl new may
+  script_fault c (Resting s reply) j is relies new may = rest_fault c s reply j is relies new may
+  script_fault c (Writing s) j is relies new may = write_fault c s j is relies new may
+  script_fault (Add k) (Adding s) j is relies new may = add_fault k s j is relies new may
+  script_fault (Remove k) (Removing s) j is relies new may = remove_fault k s j is relies.2 new may
+  script_fault c (Releasing aim) zero is relies new may = none_fault c (Playing (Releasing aim) 0) refl new may
+  script_fault c (Halting reply) zero is relies new may = none_fault c (Playing (Halting reply) 0) refl new may
+  script_fault c Pinning (suc j) is relies new may = absurd relies
+  script_fault _ _ _ is relies new may = absurd relies
+
+  -- each turn whose device call fails
+  pub fault_up : (c : Command) (at : Progress) → IsAt c at → Faults c at
+  fault_up c (Playing script j) is = script_fault c script j is (known c (Playing script j) is)
+  fault_up c LoadsHalt is = none_fault c LoadsHalt refl
+  fault_up c (Walking aim look) is = none_fault c (Walking aim look) refl
+  fault_up c (Reserving again) is = none_fault c (Reserving again) refl
+  fault_up c (SeeingPins p) is = none_fault c (SeeingPins p) refl
+  fault_up c (Claiming aim pred curr) is = none_fault c (Claiming aim pred curr) refl
+  fault_up c (Checking aim curr) is = none_fault c (Checking aim curr) refl
+  fault_up c (Answering reply) is = none_fault c (Answering reply) refl

@@ -1,0 +1,281 @@
+-- A new call keeps the invariant.
+use Rattle.std.proofs.Common.{◌≡◌, ◌≢◌, ⊎_elim, inl, inr, ℕ, zero, suc, ◌≤◌, ◌%◌, ◌==◌, Bool, true, false, List, [], ◌∷◌, ◌++◌, length, Option, Some, None, refl, sym, ap, ◌∙◌, subst, arith}
+use mathlib.Core.Bool.{false≢true}
+use Rattle.std.proofs.lemmas.Bool.{cases_eq}
+use Rattle.std.proofs.lemmas.Bool.Decides.{nat_tests}
+use Rattle.std.proofs.lemmas.Option.{same_Some}
+use Rattle.lz_slot.specs.Limits.{largest_key}
+use Rattle.lz_slot.specs.Sets.{Keys, key_of}
+use Rattle.lz_slot.specs.declared.command.Command.{Command}
+use Rattle.lz_slot.specs.declared.command.Command.TheVariants.{Add, Remove}
+use Rattle.lz_slot.specs.declared.history.Mark.{Mark}
+use Rattle.lz_slot.specs.declared.history.Mark.TheVariants.{Call, Answer, Refused}
+use Rattle.lz_slot.specs.Counted.{set_of_pass}
+use Rattle.lz_slot.specs.Histories.{History, IsCalled, IsAnswered, IsUnderWay, Life, lives, with_mark}
+use Rattle.lz_slot.proofs.Counted.{of_pass_same, of_pass_other, length-set_of_pass}
+use Rattle.lz_disk.specs.Images.{Medium}
+use Rattle.lz_list.specs.Traces.{Trace}
+use Rattle.lz_machine.specs.Calls.{first_progress}
+use Rattle.lz_machine.specs.Kept.{publishing}
+use Rattle.lz_machine.specs.Ledgers.{Row, HasRow, Each, change_at, times}
+use Rattle.lz_machine.specs.Entries.{IsRowIn, IsLedger, IsSettledEntry, IsChangeOf}
+use Rattle.lz_machine.specs.Runs.{Start, Service, Caller, Up, Calls, MayStep, point_after, caller_at, start_keys}
+use Rattle.lz_machine.specs.Yards.{Yard}
+use Rattle.lz_machine.specs.Table.{pin_of}
+use Rattle.lz_machine.specs.Sound.{Notes, pending_row, pending, entries, pin_in, cell_in, view_of, CallerSound, CallersSound, LedgerSound, HasTail, TailsSound, Sound, IsInside, IsAfter, UpSound, PointSound, IsSound}
+use Rattle.lz_machine.proofs.Frames.ActorTable.{by_actor}
+use Rattle.lz_machine.proofs.Ledger.Fit.{each_has}
+use Rattle.lz_machine.proofs.Ledger.Answers.{each_weaker}
+use Rattle.lz_machine.proofs.Ledger.Order.{has_left}
+use Rattle.lz_machine.proofs.Steps.Trip.{point}
+use Rattle.lz_machine.proofs.Runs.CallerTable.{none_of}
+
+abbrev is_call : Mark → Bool
+is_call (Call i a c) = true
+is_call _ = false
+
+abbrev number_of : Mark → ℕ
+number_of (Call i a c) = i
+number_of _ = 0
+
+-- the mark of a call is no other mark
+clash : {i a : ℕ} {c : Command} (m : Mark) → is_call m ≡ false → Call i a c ≡ m → ⊥
+clash m other e = false≢true (sym other ∙ sym (ap is_call e))
+
+called_same : {i j a b : ℕ} {c d : Command} → Call i a c ≡ Call j b d → c ≡ d
+called_same e = cc
+
+abbrev pub begun : ℕ → Command → Caller
+begun i c = record { number = i; command = c; progress = first_progress }
+
+-- the callers where actor a has begun call i
+abbrev pub calling : List (Option Caller) → ℕ → ℕ → Command → List (Option Caller)
+calling callers a i c = set_of_pass callers a (Some (begun i c))
+
+-- a caller that has changed nothing has no pending row
+pub pending_none : (caller : Option Caller) → pending_row caller None ≡ []
+pending_none None = refl
+pending_none (Some caller) = refl
+
+-- no row of the list has this number
+none_above : (i calls : ℕ) (L : List Row) → ((r : Row) → HasRow r L → r.number ≤ calls) → i ≡ suc calls → times i L ≡ 0
+none_above i calls [] below is = refl
+none_above i calls (r ∷ L) below is =
+    let le : r.number ≤ calls = below r (inl refl) in
+    grind (arith, nat_tests, none_above i calls L (λ q at. below q (inr at)) is)
+
+module _ (callers : List (Option Caller)) (a i : ℕ) (c : Command) where
+  pub is_old : (b : ℕ) → b ≢ a → caller_at (calling callers a i c) b ≡ caller_at callers b
+  is_old b other = of_pass_other callers a b (Some (begun i c)) None other
+
+  is_new : (b : ℕ) → b ≡ a → 1 ≤ a → a ≤ length callers → caller_at (calling callers a i c) b ≡ Some (begun i c)
+  is_new b same low high = subst (λ (q : ℕ). caller_at (calling callers a i c) q ≡ Some (begun i c)) (sym same) (of_pass_same callers a (Some (begun i c)) None low high)
+
+  -- the callers are those of before, and the new one
+  is_begun : (b : ℕ) (caller : Caller) → b ≡ a → 1 ≤ a → a ≤ length callers → caller_at (calling callers a i c) b ≡ Some caller → begun i c ≡ caller
+  is_begun b caller same low high at = same_Some _ _ (sym (is_new b same low high) ∙ at)
+
+  module _ (changed : ℕ → Option ℕ) (free : changed a ≡ None) where
+    same_row : (b : ℕ) → pending_row (caller_at (calling callers a i c) b) (changed b) ≡ pending_row (caller_at callers b) (changed b)
+    same_row b = elim (cases_eq b a) [
+      | inl same ↦
+          let none : changed b ≡ None = ap changed same ∙ free in
+          rw none (pending_none (caller_at (calling callers a i c) b) ∙ sym (pending_none (caller_at callers b)))
+      | inr other ↦ ap (λ (caller : Option Caller). pending_row caller (changed b)) (is_old b other)
+    ]
+
+    pub same_pending : (m : ℕ) → pending (calling callers a i c) changed m ≡ pending callers changed m
+    same_pending zero = refl
+    same_pending (suc m) = cc (same_pending m, same_row (suc m))
+
+under_way_still : (M : History) (number a : ℕ) (c : Command) (i : ℕ) (d : Command) → IsUnderWay M i d → IsUnderWay (Call number a c ∷ M) i d
+under_way_still M number a c i d h = record {
+  called = (h.called.0, inr h.called.1);
+  no_answer = λ answer is. ⊎_elim (λ e. clash (Answer i answer) refl e) (λ there. h.no_answer answer there) is;
+  no_refusal = λ is. ⊎_elim (λ e. clash (Refused i is.0) refl e) (λ there. h.no_refusal (is.0, there)) is.1;
+}
+
+module _ (n calls passes a : ℕ) (c : Command) (callers : List (Option Caller)) (P : Trace) (M : History) (notes : Notes) (free : notes.changed a ≡ None) (sound : LedgerSound n calls passes callers P M notes) where
+  pub same_entries : entries passes (calling callers a (suc calls) c) notes ≡ entries passes callers notes
+  same_entries = ap (λ (rows : List Row). notes.ended ++ rows) (same_pending callers a (suc calls) c notes.changed free passes)
+
+  row_still : (r : Row) → IsRowIn M r → IsRowIn (Call (suc calls) a c ∷ M) r
+  row_still r h = record {
+    is_called = (h.is_called.0, inr h.is_called.1);
+    answers = λ answer is. ⊎_elim (λ e. absurd (clash (Answer r.number answer) refl e)) (λ there. h.answers answer there) is;
+    not_refused = λ is. ⊎_elim (λ e. absurd (clash (Refused r.number is.0) refl e)) (λ there. h.not_refused (is.0, there)) is.1;
+  }
+
+  below : (r : Row) → IsRowIn M r → r.number ≤ calls
+  below r h = sound.numbered r.number r.command h.is_called
+
+  row_below : (r : Row) → HasRow r (entries passes callers notes) → r.number ≤ calls
+  row_below r at = below r (each_has (IsRowIn M) r (entries passes callers notes ++ []) sound.ledger.calls (has_left r (entries passes callers notes) [] at))
+
+  -- the rows are a ledger of the longer history too
+  ledger_still : IsLedger n P (entries passes callers notes) [] (Call (suc calls) a c ∷ M)
+  ledger_still =
+      let old = sound.ledger in
+      record {
+        each = old.each;
+        calls = each_weaker (IsRowIn M) (IsRowIn (Call (suc calls) a c ∷ M)) row_still (entries passes callers notes ++ []) old.calls;
+        tail_open = old.tail_open;
+        once = old.once;
+        answered = λ i answer is. ⊎_elim (λ e. absurd (clash (Answer i answer) refl e)) (λ there. old.answered i answer there) is;
+        order = λ r q at_r at_q before. ⊎_elim
+            (λ new. let number : q.number ≡ suc calls = sym (ap number_of new.3) in absurd (omega (arith, number, row_below q at_q)))
+            (λ there. old.order r q at_r at_q there)
+            before;
+      }
+
+  answered_below : (i : ℕ) (answer : Bool) → IsAnswered M i answer → i ≤ calls
+  answered_below i answer is =
+      let found = sound.ledger.answered i answer is in
+      omega (arith, found.2, row_below found.0 found.1)
+
+  new_under_way : IsUnderWay (Call (suc calls) a c ∷ M) (suc calls) c
+  new_under_way = record {
+    called = (a, inl refl);
+    no_answer = λ answer is. ⊎_elim (λ e. clash (Answer (suc calls) answer) refl e) (λ there. omega (arith, answered_below (suc calls) answer there)) is;
+    no_refusal = λ is. ⊎_elim (λ e. clash (Refused (suc calls) is.0) refl e) (λ there. omega (arith, sound.refused (suc calls) (is.0, there))) is.1;
+  }
+
+  open_below : (b : ℕ) (caller : Caller) → caller_at callers b ≡ Some caller → caller.number ≤ calls
+  open_below b caller at = sound.numbered caller.number caller.command (sound.open_call b caller at).called
+
+  one_call : (i : ℕ) (d e : Command) → IsCalled (Call (suc calls) a c ∷ M) i d → IsCalled (Call (suc calls) a c ∷ M) i e → d ≡ e
+  one_call i d e (b, inl new) (b', inl other) = sym (called_same new) ∙ called_same other
+  one_call i d e (b, inl new) (b', inr there) = absurd (omega (arith, ap number_of new, sound.numbered i e (b', there)))
+  one_call i d e (b, inr there) (b', inl new) = absurd (omega (arith, ap number_of new, sound.numbered i d (b, there)))
+  one_call i d e (b, inr there) (b', inr other) = sound.one_call i d e (b, there) (b', other)
+
+  pub calling_ledger : 1 ≤ a → a ≤ length callers → LedgerSound n (suc calls) passes (calling callers a (suc calls) c) P (Call (suc calls) a c ∷ M) notes
+  calling_ledger low high = record {
+    opened = sound.opened;
+    ledger = subst (λ (rows : List Row). IsLedger n P rows [] (Call (suc calls) a c ∷ M)) (sym same_entries) ledger_still;
+    settled = subst (Each (IsSettledEntry P)) (sym same_entries) sound.settled;
+    changes = λ j early late. subst (λ (rows : List Row). IsChangeOf (publishing j P) (change_at j rows)) (sym same_entries) (sound.changes j early late);
+    numbered = λ i d is. ⊎_elim (λ e. omega (arith, ap number_of e)) (λ there. omega (arith, sound.numbered i d (is.0, there))) is.1;
+    refused = λ i is. ⊎_elim (λ e. absurd (clash (Refused i is.0) refl e)) (λ there. omega (arith, sound.refused i (is.0, there))) is.1;
+    one_call = one_call;
+    open_call = λ b caller at. elim (cases_eq b a) [
+      | inl same ↦ subst (λ (q : Caller). IsUnderWay (Call (suc calls) a c ∷ M) q.number q.command) (new b caller same at) new_under_way
+      | inr other ↦ under_way_still M (suc calls) a c caller.number caller.command (sound.open_call b caller (old b caller other at))
+    ];
+    apart = λ b d one two at_b at_d is. elim (cases_eq b a) [
+      | inl same ↦ elim (cases_eq d a) [
+        | inl also ↦ same ∙ sym also
+        | inr other ↦ absurd (omega (arith, ap (λ (q : Caller). q.number) (new b one same at_b), is, open_below d two (old d two other at_d)))
+      ]
+      | inr other ↦ elim (cases_eq d a) [
+        | inl also ↦ absurd (omega (arith, ap (λ (q : Caller). q.number) (new d two also at_d), is, open_below b one (old b one other at_b)))
+        | inr too ↦ sound.apart b d one two (old b one other at_b) (old d two too at_d) is
+      ]
+    ];
+    unlisted = λ b caller at. elim (cases_eq b a) [
+      | inl same ↦ none_above caller.number calls notes.ended (λ r there. row_below r (has_left r notes.ended _ there)) (sym (ap (λ (q : Caller). q.number) (new b caller same at)))
+      | inr other ↦ sound.unlisted b caller (old b caller other at)
+    ];
+  }
+    where
+      new : (b : ℕ) (caller : Caller) → b ≡ a → caller_at (calling callers a (suc calls) c) b ≡ Some caller → begun (suc calls) c ≡ caller
+      new b caller same at = is_begun callers a (suc calls) c b caller same low high at
+
+      old : (b : ℕ) (caller : Caller) → b ≢ a → caller_at (calling callers a (suc calls) c) b ≡ Some caller → caller_at callers b ≡ Some caller
+      old b caller other at = sym (is_old callers a (suc calls) c b other) ∙ at
+
+-- a tail's call was made before
+tail_still : (M : History) (calls a : ℕ) (c d : Command) (callers : List (Option Caller)) (rows rows' : List Row) → rows' ≡ rows → (low : 1 ≤ a) (high : a ≤ length callers)
+    → ((i : ℕ) (e : Command) → IsCalled M i e → i ≤ calls) → HasTail d callers rows M → HasTail d (calling callers a (suc calls) c) rows' (Call (suc calls) a c ∷ M)
+tail_still M calls a c d callers rows rows' same low high below h = record {
+  number = h.number;
+  under_way = under_way_still M (suc calls) a c h.number d h.under_way;
+  no_row = ap (times h.number) same ∙ h.no_row;
+  stays = λ b one at number. elim (cases_eq b a) [
+    | inl it ↦ absurd (omega (arith, below h.number d h.under_way.called, number, ap (λ (q : Caller). q.number) (is_begun callers a (suc calls) c b one it low high at)))
+    | inr other ↦ h.stays b one (sym (is_old callers a (suc calls) c b other) ∙ at) number
+  ];
+}
+
+module _ (n calls a : ℕ) (c : Command) (y : Yard) (callers : List (Option Caller)) (disk : Medium) (P : Trace) (M : History) (notes : Notes) (low : 1 ≤ a) (high : a ≤ length callers) (none : caller_at callers a ≡ None) (even : pin_in y.words.pins a % 2 ≡ 0) (key : key_of c ≤ largest_key) where
+  new_caller : CallersSound y.shape y.vault y.words.pins y.actors callers P notes → CallerSound (view_of y.shape y.vault y.actors a) (pin_in y.words.pins a) (Some (begun (suc calls) c)) (notes.begun a) P (notes.changed a)
+  new_caller h =
+      let old = subst (λ (q : Option Caller). CallerSound (view_of y.shape y.vault y.actors a) (pin_in y.words.pins a) q (notes.begun a) P (notes.changed a)) none (h.each a) in
+      record { quiet = old.quiet; begins = old.begins; stands = (even, key, old.stands) }
+
+  calling_callers : CallersSound y.shape y.vault y.words.pins y.actors callers P notes → CallersSound y.shape y.vault y.words.pins y.actors (calling callers a (suc calls) c) P notes
+  calling_callers h = record {
+    count = length-set_of_pass callers a (Some (begun (suc calls) c)) ∙ h.count;
+    hands = h.hands;
+    each = by_actor (λ b. CallerSound (view_of y.shape y.vault y.actors b) (pin_in y.words.pins b) (caller_at (calling callers a (suc calls) c) b) (notes.begun b) P (notes.changed b)) a
+        (subst (λ (q : Option Caller). CallerSound (view_of y.shape y.vault y.actors a) (pin_in y.words.pins a) q (notes.begun a) P (notes.changed a)) (sym (of_pass_same callers a (Some (begun (suc calls) c)) None low high)) (new_caller h))
+        (λ b other. subst (λ (q : Option Caller). CallerSound (view_of y.shape y.vault y.actors b) (pin_in y.words.pins b) q (notes.begun b) P (notes.changed b)) (sym (is_old callers a (suc calls) c b other)) (h.each b));
+  }
+
+  free : CallersSound y.shape y.vault y.words.pins y.actors callers P notes → notes.changed a ≡ None
+  free h = (subst (λ (q : Option Caller). CallerSound (view_of y.shape y.vault y.actors a) (pin_in y.words.pins a) q (notes.begun a) P (notes.changed a)) none (h.each a)).stands.1
+
+  calling_tails : CallersSound y.shape y.vault y.words.pins y.actors callers P notes → LedgerSound n calls y.shape.passes callers P M notes → TailsSound y.shape y.vault.cells y.actors P callers (entries y.shape.passes callers notes) M → TailsSound y.shape y.vault.cells y.actors P (calling callers a (suc calls) c) (entries y.shape.passes (calling callers a (suc calls) c) notes) (Call (suc calls) a c ∷ M)
+  calling_tails old ledger h =
+      let same = same_entries n calls y.shape.passes a c callers P M notes (free old) ledger in
+      record {
+        adding = λ b s hand opened. tail_still M calls a c (Add (cell_in y.vault.cells s).key) callers _ _ same low high ledger.numbered (h.adding b s hand opened);
+        removing = λ s there unmarked written. tail_still M calls a c (Remove (cell_in y.vault.cells s).key) callers _ _ same low high ledger.numbered (h.removing s there unmarked written);
+      }
+
+  pub calling_sound : Sound n calls y callers disk M P notes → Sound n (suc calls) y (calling callers a (suc calls) c) disk (Call (suc calls) a c ∷ M) P notes
+  calling_sound h = record {
+    trace = h.trace;
+    images = h.images;
+    slots = h.slots;
+    locks = h.locks;
+    callers = calling_callers h.callers;
+    reuse = h.reuse;
+    ledger = calling_ledger n calls y.shape.passes a c callers P M notes (free h.callers) h.ledger low high;
+    tails = calling_tails h.callers h.ledger h.tails;
+  }
+
+  -- the new call is outside, and no row's call was answered before an older one by it
+  calling_after : CallersSound y.shape y.vault y.words.pins y.actors callers P notes → LedgerSound n calls y.shape.passes callers P M notes
+      → IsAfter y.words.pins callers (entries y.shape.passes callers notes) M notes.begun
+      → IsAfter y.words.pins (calling callers a (suc calls) c) (entries y.shape.passes (calling callers a (suc calls) c) notes) (Call (suc calls) a c ∷ M) notes.begun
+  calling_after old ledger h =
+      let same = same_entries n calls y.shape.passes a c callers P M notes (free old) ledger in
+      record {
+        each = λ b caller r at inside has before. elim (cases_eq b a) [
+          | inl is ↦ absurd (omega (arith, even, subst (λ (q : ℕ). IsInside (pin_in y.words.pins q)) is inside))
+          | inr other ↦
+              let was : caller_at callers b ≡ Some caller = sym (is_old callers a (suc calls) c b other) ∙ at in
+              ⊎_elim (λ new. absurd (omega (arith, ap number_of new.3, ledger.numbered caller.number caller.command (ledger.open_call b caller was).called)))
+              (λ there. h.each b caller r was inside (subst (HasRow r) same has) there)
+              before
+        ];
+      }
+
+  pub calling_up : (start : Keys) → UpSound n calls (record { yard = y; callers = callers }) disk (record { start = start; history = M }) P notes
+      → UpSound n (suc calls) (record { yard = y; callers = calling callers a (suc calls) c }) disk (record { start = start; history = Call (suc calls) a c ∷ M }) P notes
+  calling_up start h = record {
+    began = h.began;
+    sound = calling_sound h.sound;
+    since = h.since;
+    after = calling_after h.sound.callers h.sound.ledger h.after;
+  }
+
+even_of : (pin : ℕ) → (pin % 2 == 0) ≡ true → pin % 2 ≡ 0
+even_of pin is = grind (arith, nat_tests)
+
+-- at a point: a call that may begin keeps the invariant
+pub call_keeps : (start : Start) (a : ℕ) (c : Command) (service : Service) (disk : Medium) (M : History) (P : Trace) (calls : ℕ) → IsSound start (point (Up service disk) M P calls) → MayStep (Up service disk) (Calls a c) → IsSound start (point_after (point (Up service disk) M P calls) (Calls a c))
+call_keeps start a c service disk M P calls sound may = go (lives (start_keys start) M) sound
+  where
+    go : (L : List Life) → PointSound start (point (Up service disk) M P calls) L → PointSound start (point_after (point (Up service disk) M P calls) (Calls a c)) (with_mark (Call (suc calls) a c) L)
+    go [] h = absurd h
+    go (life ∷ earlier) h = (
+      h.0,
+      h.1,
+      (
+        h.2.0,
+        h.2.1,
+        calling_up h.2.0 calls a c service.yard service.callers disk P life.history h.2.1 may.0.0 (omega (arith, may.0.1, h.2.2.sound.callers.count)) (none_of (caller_at service.callers a) may.1) (even_of (pin_of service.yard a) may.2) may.3 life.start h.2.2,
+      ),
+    )

@@ -1,0 +1,421 @@
+-- Link keeps the invariant: the node whose gate its adder has opened is put on its chain.
+use Rattle.std.proofs.Common.{◌≡◌, ◌≢◌, inl, inr, ℕ, suc, ◌<◌, ◌≤◌, ◌==◌, not, Bool, true, List, ◌∷◌, ◌++◌, length, Option, Some, None, refl, sym, ap, ◌∙◌, subst, arith}
+use mathlib.Core.Bool.{false≢true}
+use Rattle.std.specs.Prelude.{unwrap_or}
+use Rattle.std.proofs.lemmas.Bool.{cases_eq}
+use Rattle.std.proofs.lemmas.Bool.Decides.{nat_tests}
+use Rattle.std.proofs.lemmas.Option.{same_Some, none-some}
+use Rattle.lz_slot.specs.declared.command.Command.TheVariants.{Add, Remove}
+use Rattle.lz_slot.specs.Counted.{of_pass, set_of_pass}
+use Rattle.lz_slot.specs.Histories.{History}
+use Rattle.lz_slot.proofs.Counted.{length-set_of_pass}
+use Rattle.lz_disk.specs.Images.{Medium}
+use Rattle.lz_vault.specs.declared.vault.Stage.{Stage}
+use Rattle.lz_vault.specs.declared.vault.Stage.TheVariants.{Closed, KeyLoose, Keyed, Opening, Open, Closing}
+use Rattle.lz_allot.specs.declared.sight.Sight.{Sight}
+use Rattle.lz_allot.specs.declared.sight.Sight.TheVariants.{Left}
+use Rattle.lz_allot.specs.Uses.{Free, Taken, Limbo, use_of}
+use Rattle.lz_list.specs.declared.place.Place.{Place}
+use Rattle.lz_list.specs.declared.place.Place.TheVariants.{Node}
+use Rattle.lz_list.specs.declared.publishing.Publishing.TheVariants.{Linked as linked}
+use Rattle.lz_list.specs.declared.word.Word.TheVariants.{Key as key_at}
+use Rattle.lz_list.specs.Words.{Words, get, redirect, place_number, link_to}
+use Rattle.lz_list.specs.Traces.{Trace, Lawful, IsLoose, on, chain_of, bucket_of, place_of, key_word, linking, is_settled, is_removed, member}
+use Rattle.lz_list.proofs.Nodes.{on_insert_other, not_yet}
+use Rattle.lz_list.proofs.Resting.{on_insert}
+use Rattle.lz_list.proofs.Linking.{inserted_on}
+use Rattle.lz_list.specs.Locks.{claimed_places, owner}
+use Rattle.lz_machine.specs.declared.event.Event.TheVariants.{Link}
+use Rattle.lz_machine.specs.declared.actor.Actor.{Actor}
+use Rattle.lz_machine.specs.declared.actor.Hold.{Hold}
+use Rattle.lz_machine.specs.declared.actor.Hold.TheVariants.{Nothing, Locks, Checked, GateOpened, Linked, GateClosed, Marked, Unlinked, Released}
+use Rattle.lz_machine.specs.declared.caller.Script.TheVariants.{Adding}
+use Rattle.lz_machine.specs.declared.caller.Progress.{Progress}
+use Rattle.lz_machine.specs.declared.caller.Progress.TheVariants.{Playing}
+use Rattle.lz_machine.specs.Yards.{Yard, actor_at}
+use Rattle.lz_machine.specs.Table.{slot_of, yard_done, publishes}
+use Rattle.lz_machine.specs.Runs.{Caller, caller_at}
+use Rattle.lz_machine.specs.Kept.{upto}
+use Rattle.lz_machine.specs.Stands.{IsReady, InBucket}
+use Rattle.lz_machine.specs.Sound.{Notes, entries, actor_in, pin_in, cell_in, stage_in, closes, opens, shuts, unlocks, has_removed_node, has_locks, IsOut, IsCloser, IsNodeStage, IsHandStage, IsGateClosed, IsGateOpened, IsGateWritten, SlotStands, is_node, is_held, is_out, is_free, is_limbo, SlotsSound, ReuseSound, HasPlace, HasLock, IsBeside, HasOpened, RestsOn, LocksSound, Relies, HasAdded, view_of, CallerSound, CallersSound, TailsSound, Sound}
+use Rattle.lz_machine.proofs.Frames.ActorTable.{by_actor}
+use Rattle.lz_machine.proofs.Frames.OneActor.{caller_range, moving, moved_same, moved_other, carry, ledger_turn}
+use Rattle.lz_machine.proofs.Frames.Limbo.{seen_step, away_stays}
+use Rattle.lz_machine.proofs.Frames.Publishing.{LeavesCaller, caller_published, key_linking}
+use Rattle.lz_machine.proofs.Steps.Pin.{limbo_loose, free_loose}
+use Rattle.lz_machine.proofs.Frames.Ranges.{on_range}
+use Rattle.lz_machine.proofs.Frames.LoadedWord.{key_load}
+use Rattle.lz_machine.proofs.Steps.Halt.{held_node}
+use Rattle.lz_machine.proofs.Steps.Hop.{call_at, own}
+use Rattle.lz_machine.proofs.Frames.Hand.{same_hand, other_hand}
+use Rattle.lz_machine.proofs.Frames.HeldLocks.{rests_on_pair, pair_published, linked_leaves, one_place}
+use Rattle.lz_machine.proofs.Frames.Store.{trace_linked}
+use Rattle.lz_machine.proofs.Ledger.Membership.{upto_all}
+use Rattle.lz_machine.proofs.Ledger.Change.{row_of, changes_at, changed_same, changed_other, ledger_changed, tail_changed}
+use Rattle.lz_machine.proofs.Steps.Unlink.{resting_locks, first_place, redirect_pins}
+use Rattle.lz_machine.proofs.Frames.OtherLink as links
+use Rattle.lz_machine.proofs.Frames.SameYard.{tail_turn}
+
+-- a gate that is surely closed is neither opened nor written open
+opened_shut : (stage : Stage) → IsGateOpened stage → IsGateClosed stage → ⊥
+opened_shut Opening h (inl e) = absurd cc
+opened_shut Opening h (inr (inl e)) = absurd cc
+opened_shut Opening h (inr (inr e)) = absurd cc
+opened_shut Open h (inl e) = absurd cc
+opened_shut Open h (inr (inl e)) = absurd cc
+opened_shut Open h (inr (inr e)) = absurd cc
+opened_shut Closed (inl e) h = absurd cc
+opened_shut Closed (inr e) h = absurd cc
+opened_shut KeyLoose (inl e) h = absurd cc
+opened_shut KeyLoose (inr e) h = absurd cc
+opened_shut Keyed (inl e) h = absurd cc
+opened_shut Keyed (inr e) h = absurd cc
+opened_shut Closing (inl e) h = absurd cc
+opened_shut Closing (inr e) h = absurd cc
+
+pub opened_written : (stage : Stage) → IsGateOpened stage → IsGateWritten stage → ⊥
+opened_written stage (inl e) (inl f) = opening_closing (sym e ∙ f)
+  where
+    opening_closing : Opening ≡ Closing → ⊥
+    opening_closing g = absurd cc
+opened_written stage (inl e) (inr f) = opening_closed (sym e ∙ f)
+  where
+    opening_closed : Opening ≡ Closed → ⊥
+    opening_closed g = absurd cc
+opened_written stage (inr e) (inl f) = open_closing (sym e ∙ f)
+  where
+    open_closing : Open ≡ Closing → ⊥
+    open_closing g = absurd cc
+opened_written stage (inr e) (inr f) = open_closed (sym e ∙ f)
+  where
+    open_closed : Open ≡ Closed → ⊥
+    open_closed g = absurd cc
+
+-- an actor that has opened its slot's gate stands beside its key's place
+beside_of : (buckets : ℕ) (dead : Bool) (hold : Hold) (actor : Actor) (P : Trace) (t : ℕ) → RestsOn buckets hold actor P → opens dead hold ≡ true → actor.slot ≡ Some t → IsBeside buckets (key_word t P) actor.pred actor.curr P × (rests_on_pair hold ≡ true)
+beside_of buckets dead Checked actor P t h opened slot = (h.beside t slot, refl)
+beside_of buckets dead GateOpened actor P t h opened slot = (subst (λ (q : ℕ). IsBeside buckets (key_word q P) actor.pred actor.curr P) (same_Some _ _ (sym h.slot ∙ slot)) h.beside, refl)
+beside_of buckets dead _ actor _ t h opened slot = absurd (false≢true opened)
+
+module _ (n calls : ℕ) (y : Yard) (callers : List (Option Caller)) (disk : Medium) (M : History) (P : Trace) (notes : Notes) (sound : Sound n calls y callers disk M P notes) (a i k s : ℕ) (is : caller_at callers a ≡ Some (call_at i (Add k) (Playing (Adding s) 1))) where
+  abbrev at : Progress
+  at = Playing (Adding s) 1
+
+  h : Relies (view_of y.shape y.vault y.actors a) (Add k) at (notes.begun a) P (notes.changed a)
+  h = (own n calls y callers disk M P notes a i (Add k) at is sound).stands.2
+
+  abbrev x : Actor
+  x = record { slot = None; hold = Linked; pred = (actor_at y a).pred; curr = (actor_at y a).curr }
+
+  abbrev actors' : List Actor
+  actors' = set_of_pass y.actors a x
+
+  abbrev P' : Trace
+  P' = linked k s a ∷ P
+
+  abbrev notes' : Notes
+  notes' = changes_at notes a (length P)
+
+  hand_a : actor_in actors' a ≡ x
+  hand_a = same_hand n calls y callers disk M P notes a (call_at i (Add k) at) is sound x
+
+  hand_b : (b : ℕ) → b ≢ a → actor_in actors' b ≡ actor_in y.actors b
+  hand_b b other = other_hand n calls y callers disk M P notes a (call_at i (Add k) at) is sound x b other
+
+  rests : HasOpened y.shape.buckets (actor_in y.actors a) P
+  rests = subst (λ (q : Hold). RestsOn y.shape.buckets q (actor_in y.actors a) P) h.0 (sound.locks.rests a)
+
+  own_slot : rests.own ≡ s
+  own_slot = same_Some _ _ (sym rests.slot ∙ h.1)
+
+  own_key : key_word rests.own P ≡ k
+  own_key = ap (λ (q : ℕ). key_word q P) own_slot ∙ h.2
+
+  beside : IsBeside y.shape.buckets k (actor_at y a).pred (actor_at y a).curr P
+  beside = subst (λ (q : ℕ). IsBeside y.shape.buckets q (actor_at y a).pred (actor_at y a).curr P) own_key rests.beside
+
+  ready : IsReady y.shape.buckets k (link_to (actor_at y a).curr) s P
+  ready = subst (λ (q : ℕ). IsReady y.shape.buckets k (link_to (actor_at y a).curr) q P) own_slot (subst (λ (q : ℕ). IsReady y.shape.buckets q (link_to (actor_at y a).curr) rests.own P) own_key rests.ready)
+
+  abbrev spot : ℕ
+  spot = place_number (actor_at y a).pred
+
+  lt : s < y.shape.slots
+  lt = (sound.slots.hand a s h.1).in_range
+
+  law : Lawful y.shape.buckets y.shape.slots P'
+  law = (links.may_link y.shape.buckets y.shape.slots P sound.trace.lawful k spot (link_to (actor_at y a).curr) s lt beside.round ready, sound.trace.lawful)
+
+  place : place_of y.shape.buckets k P ≡ spot
+  place = (links.round_place y.shape.buckets y.shape.slots P sound.trace.lawful k spot (link_to (actor_at y a).curr) beside.round).0
+
+  there : on 0 (chain_of y.shape.buckets k P') (suc s) ≡ true
+  there = grind (arith, nat_tests, inserted_on k s 0 (chain_of y.shape.buckets k P))
+
+  chain_then : (j t : ℕ) → on 0 (chain_of y.shape.buckets j P) (suc t) ≡ true → on 0 (chain_of y.shape.buckets j P') (suc t) ≡ true
+  chain_then j t on_it = grind (arith, nat_tests, on_it, on_insert k s 0 (suc t) (chain_of y.shape.buckets j P))
+
+  chain_before : (j t : ℕ) → t ≢ s → on 0 (chain_of y.shape.buckets j P') (suc t) ≡ true → on 0 (chain_of y.shape.buckets j P) (suc t) ≡ true
+  chain_before j t apart on_it = grind (arith, nat_tests, apart, on_it, on_insert_other k s 0 (suc t) (chain_of y.shape.buckets j P))
+
+  loose_then : (t : ℕ) → t ≢ s → IsLoose y.shape.buckets t P → IsLoose y.shape.buckets t P'
+  loose_then t apart loose = links.loose_stays y.shape.buckets y.shape.slots P sound.trace.lawful k s a t apart loose
+
+  opened_s : IsGateOpened (stage_in y.vault.cells s)
+  opened_s = sound.slots.opened a s h.1 (ap unlocks h.0)
+
+  key_s : (cell_in y.vault.cells s).key ≡ key_word s P
+  key_s = go (sound.slots.hand a s h.1).stage
+    where
+      go : IsHandStage y.vault.cells y.vault.dead (actor_in y.actors a) P s → (cell_in y.vault.cells s).key ≡ key_word s P
+      go (inl shut) = absurd (opened_shut (stage_in y.vault.cells s) opened_s shut)
+      go (inr opened) = opened.2
+
+  taken_s : use_of y.uses s ≡ Taken
+  taken_s = (sound.slots.hand a s h.1).taken
+
+  held_then : (b t : ℕ) → (actor_in actors' b).slot ≡ Some t → (b ≢ a) × (t ≢ s) × ((actor_in y.actors b).slot ≡ Some t)
+  held_then b t slot = elim (cases_eq b a) [
+    | inl same ↦ absurd (none-some _ (ap (λ (q : Actor). q.slot) (sym hand_a) ∙ ap (λ (q : ℕ). (actor_in actors' q).slot) (sym same) ∙ slot))
+    | inr other ↦
+        let was : (actor_in y.actors b).slot ≡ Some t = ap (λ (q : Actor). q.slot) (sym (hand_b b other)) ∙ slot in
+        (other, (λ it. other (sound.slots.one_hand b a t was (h.1 ∙ ap Some (sym it)))), was)
+  ]
+
+  out_before : (b t : ℕ) → IsOut (actor_in actors' b) t → IsOut (actor_in y.actors b) t
+  out_before b t out = elim (cases_eq b a) [
+    | inl same ↦ absurd (false≢true (subst (λ (q : Actor). IsOut q t) hand_a (subst (λ (q : ℕ). IsOut (actor_in actors' q) t) same out)).removed)
+    | inr other ↦ subst (λ (q : Actor). IsOut q t) (hand_b b other) out
+  ]
+
+  out_apart : (b t : ℕ) → IsOut (actor_in y.actors b) t → t ≢ s
+  out_apart b t out it = sound.slots.hand_out a b t (h.1 ∙ ap Some (sym it)) out
+
+  stage_still : (t : ℕ) → IsNodeStage y.vault.cells y.vault.dead y.actors P t → IsNodeStage y.vault.cells y.vault.dead actors' P' t
+  stage_still t (inl opened) = inl opened
+  stage_still t (inr (b, closer, shut)) = elim (cases_eq b a) [
+    | inl same ↦ absurd (false≢true (ap (closes y.vault.dead) (sym h.0) ∙ (subst (λ (q : ℕ). IsCloser y.vault.dead (actor_in y.actors q) t) same closer).closes))
+    | inr other ↦ inr (b, subst (λ (q : Actor). IsCloser y.vault.dead q t) (sym (hand_b b other)) closer, shut)
+  ]
+
+  stands_then : (t : ℕ) → t ≢ s → SlotStands y.shape y.vault.cells y.vault.dead y.uses y.actors P t → SlotStands y.shape y.vault.cells y.vault.dead y.uses actors' P' t
+  stands_then t apart (is_node on_it stage) = is_node (record { there = chain_then (key_word t P) t on_it.there; taken = on_it.taken; key = on_it.key }) (stage_still t stage)
+  stands_then t apart (is_held b slot) = elim (cases_eq b a) [
+    | inl same ↦ absurd (apart (same_Some _ _ (sym (ap (λ (q : ℕ). (actor_in y.actors q).slot) (sym same) ∙ slot) ∙ h.1)))
+    | inr other ↦ is_held b (ap (λ (q : Actor). q.slot) (hand_b b other) ∙ slot)
+  ]
+  stands_then t apart (is_out b out) = elim (cases_eq b a) [
+    | inl same ↦ absurd (false≢true (ap has_removed_node (sym h.0) ∙ (subst (λ (q : ℕ). IsOut (actor_in y.actors q) t) same out).removed))
+    | inr other ↦ is_out b (subst (λ (q : Actor). IsOut q t) (sym (hand_b b other)) out)
+  ]
+  stands_then t apart (is_free loose free stage) = is_free (loose_then t apart loose) free stage
+  stands_then t apart (is_limbo sights loose limbo stage) = is_limbo sights (loose_then t apart loose) limbo stage
+
+  stands_s : SlotStands y.shape y.vault.cells y.vault.dead y.uses actors' P' s
+  stands_s = is_node (record { there = subst (λ (q : ℕ). on 0 (chain_of y.shape.buckets q P') (suc s) ≡ true) (sym h.2) there; taken = taken_s; key = key_s }) (inl (ready.no_mark, opened_s))
+
+  -- no flag tells of the new linking
+  new_linking : linking k P' ≡ suc (length P)
+  new_linking = let same : (k == k) ≡ true = grind (arith, nat_tests) in rw same refl
+
+  none_settled : (j : ℕ) → j ≡ k → is_settled (linking j P') P' ≡ true → ⊥
+  none_settled j same flag = false≢true (sym (not_yet (suc (length P)) P (omega arith)).0 ∙ ap (λ (q : ℕ). is_settled q P) (sym new_linking) ∙ ap (λ (q : ℕ). is_settled (linking q P') P) (sym same) ∙ flag)
+
+  none_removed : (j : ℕ) → j ≡ k → is_removed (linking j P') P' ≡ true → ⊥
+  none_removed j same flag = false≢true (sym (not_yet (suc (length P)) P (omega arith)).1 ∙ ap (λ (q : ℕ). is_removed q P) (sym new_linking) ∙ ap (λ (q : ℕ). is_removed (linking q P') P) (sym same) ∙ flag)
+
+  linked_slots : SlotsSound y.shape y.vault.cells y.vault.dead y.uses actors' P'
+  linked_slots = record {
+    count = sound.slots.count;
+    each = λ t within. elim (cases_eq t s) [
+      | inl same ↦ subst (SlotStands y.shape y.vault.cells y.vault.dead y.uses actors' P') (sym same) stands_s
+      | inr other ↦ stands_then t other (sound.slots.each t within)
+    ];
+    hand = λ b t slot.
+        let old = held_then b t slot in
+        let was = sound.slots.hand b t old.2 in
+        record { in_range = was.in_range; loose = loose_then t old.1 was.loose; taken = was.taken; stage = hand_stage b t old.0 was.stage };
+    out = λ b t out. let was = sound.slots.out b t (out_before b t out) in record { in_range = was.in_range; loose = loose_then t (out_apart b t (out_before b t out)) was.loose; taken = was.taken; stage = was.stage };
+    one_hand = λ b d t one two. sound.slots.one_hand b d t (held_then b t one).2 (held_then d t two).2;
+    one_out = λ b d t one two. sound.slots.one_out b d t (out_before b t one) (out_before d t two);
+    hand_out = λ b d t hand out. sound.slots.hand_out b d t (held_then b t hand).2 (out_before d t out);
+    opened = λ b t slot is'. let old = held_then b t slot in sound.slots.opened b t old.2 (ap (λ (q : Actor). unlocks q.hold) (sym (hand_b b old.0)) ∙ is');
+    closed = λ b t here shut. elim (cases_eq b a) [
+      | inl same ↦ absurd (false≢true (ap (λ (q : Actor). shuts q.hold) (sym hand_a) ∙ ap (λ (q : ℕ). shuts (actor_in actors' q).hold) (sym same) ∙ shut))
+      | inr other ↦ sound.slots.closed b t (ap (λ (q : Actor). q.curr) (sym (hand_b b other)) ∙ here) (ap (λ (q : Actor). shuts q.hold) (sym (hand_b b other)) ∙ shut)
+    ];
+    added = λ j t key on_it flag. elim (cases_eq t s) [
+      | inl same ↦ absurd (none_settled j (sym key ∙ ap (λ (q : ℕ). key_word q P) same ∙ h.2) flag)
+      | inr other ↦
+          let old = chain_before j t other on_it in
+          sound.slots.added j t key old (ap (λ (q : ℕ). is_settled q P) (sym (key_linking y.shape.buckets y.shape.slots (linked k s a) P law j t old key)) ∙ flag)
+    ];
+    removed = λ j t key on_it flag. elim (cases_eq t s) [
+      | inl same ↦ absurd (none_removed j (sym key ∙ ap (λ (q : ℕ). key_word q P) same ∙ h.2) flag)
+      | inr other ↦
+          let old = chain_before j t other on_it in
+          sound.slots.removed j t key old (ap (λ (q : ℕ). is_removed q P) (sym (key_linking y.shape.buckets y.shape.slots (linked k s a) P law j t old key)) ∙ flag)
+    ];
+  }
+    where
+      hand_stage : (b t : ℕ) → b ≢ a → IsHandStage y.vault.cells y.vault.dead (actor_in y.actors b) P t → IsHandStage y.vault.cells y.vault.dead (actor_in actors' b) P' t
+      hand_stage b t other (inl shut) = inl shut
+      hand_stage b t other (inr opened) = inr (ap (λ (q : Actor). opens y.vault.dead q.hold) (hand_b b other) ∙ opened.0, opened.1, opened.2)
+
+  my_lock : (q : Place) → HasPlace q (claimed_places (actor_at y a).pred (actor_at y a).curr) → HasLock (actor_in y.actors a) q
+  my_lock q among = record { locks = ap has_locks h.0; among = among }
+
+  -- another actor that rests on its pair has another place
+  pred_apart : (b : ℕ) → b ≢ a → rests_on_pair (actor_in y.actors b).hold ≡ true → (j : ℕ) → InBucket y.shape.buckets j (actor_in y.actors b).pred → bucket_of y.shape.buckets j ≡ bucket_of y.shape.buckets k → place_number (actor_in y.actors b).pred ≢ place_of y.shape.buckets k P
+  pred_apart b other rest j bucket same number =
+      let theirs : HasLock (actor_in y.actors b) (actor_in y.actors b).pred = record { locks = resting_locks (actor_in y.actors b).hold rest; among = first_place (actor_in y.actors b).pred (actor_in y.actors b).curr } in
+      let one = one_place y.shape.buckets j k (actor_in y.actors b).pred (actor_at y a).pred bucket beside.bucket same (number ∙ place) in
+      other (sym (sound.locks.has b (actor_at y a).pred (subst (HasLock (actor_in y.actors b)) one theirs)) ∙ sound.locks.has a (actor_at y a).pred (my_lock (actor_at y a).pred (first_place (actor_at y a).pred (actor_at y a).curr)))
+
+  linked_locks : LocksSound y.shape y.locks actors' P'
+  linked_locks = record {
+    heads = sound.locks.heads;
+    nodes = sound.locks.nodes;
+    has = by_actor (λ b. (q : Place) → HasLock (actor_in actors' b) q → owner y.locks q ≡ b) a
+        (λ q lock. sound.locks.has a q (my_lock q (subst (λ (z : Actor). HasLock z q) hand_a lock).among))
+        (λ b other q lock. sound.locks.has b q (subst (λ (z : Actor). HasLock z q) (hand_b b other) lock));
+    rests = by_actor (λ b. RestsOn y.shape.buckets (actor_in actors' b).hold (actor_in actors' b) P') a
+        (subst (λ (q : Actor). RestsOn y.shape.buckets q.hold q P') (sym hand_a) tt)
+        (λ b other. subst (λ (q : Actor). RestsOn y.shape.buckets q.hold q P') (sym (hand_b b other))
+        (pair_published y.shape.buckets (linked k s a) (actor_in y.actors b) P (λ rest. linked_leaves y.shape.buckets y.shape.slots k s a (actor_in y.actors b) P sound.trace.lawful (pred_apart b other rest) (λ t slot it. other (sound.slots.one_hand b a t slot (h.1 ∙ ap Some (sym it))))) (sound.locks.rests b)));
+  }
+
+  limbo_apart : (t : ℕ) (seen : List Sight) → use_of y.uses t ≡ Limbo seen → t ≢ s
+  limbo_apart t seen limbo it = clash (sym taken_s ∙ ap (use_of y.uses) (sym it) ∙ limbo)
+    where
+      clash : Taken ≡ Limbo seen → ⊥
+      clash e = absurd cc
+
+  free_apart : (t : ℕ) → use_of y.uses t ≡ Free → t ≢ s
+  free_apart t free it = clash (sym taken_s ∙ ap (use_of y.uses) (sym it) ∙ free)
+    where
+      clash : Taken ≡ Free → ⊥
+      clash e = absurd cc
+
+  linked_reuse : ReuseSound y.shape y.words.pins y.uses actors' P' notes.begun
+  linked_reuse = record {
+    worn = sound.reuse.worn;
+    sights = sound.reuse.sights;
+    seen = λ b t seen limbo. seen_step y.shape.buckets t (pin_in y.words.pins b) (notes.begun b) (linked k s a) P (of_pass seen b Left) (loose_then t (limbo_apart t seen limbo) (limbo_loose y.shape y.vault.cells y.vault.dead y.uses y.actors P t seen sound.slots limbo)) (sound.reuse.seen b t seen limbo);
+    free = λ b t free inside. away_stays y.shape.buckets t (notes.begun b) (linked k s a) P (loose_then t (free_apart t free) (free_loose y.shape y.vault.cells y.vault.dead y.uses y.actors P t sound.slots free)) (sound.reuse.free b t free inside);
+    reserved = λ b d t slot inside. let old = held_then d t slot in away_stays y.shape.buckets t (notes.begun b) (linked k s a) P (loose_then t old.1 (sound.slots.hand d t old.2).loose) (sound.reuse.reserved b d t old.2 inside);
+  }
+
+  leaves : (b : ℕ) → LeavesCaller y.shape.buckets y.shape.slots (linked k s a) P law (actor_in y.actors b) (pin_in y.words.pins b) (notes.begun b)
+  leaves b = record {
+    kept = λ inside. tt;
+    word = λ t slot. refl;
+    node = held_node y.shape P (actor_in y.actors b).hold (actor_in y.actors b) sound.trace.lawful (sound.locks.rests b);
+  }
+
+  abbrev callers' : List (Option Caller)
+  callers' = moving callers a (call_at i (Add k) at) (Playing (Adding s) 2)
+
+  me : CallerSound (view_of y.shape y.vault y.actors a) (pin_in y.words.pins a) (Some (call_at i (Add k) at)) (notes.begun a) P (notes.changed a)
+  me = own n calls y callers disk M P notes a i (Add k) at is sound
+
+  my_node : HasAdded y.shape.buckets k s (notes.begun a) P' (Some (length P))
+  my_node =
+      let all : upto (suc (length P)) P' ≡ P' = upto_all (suc (length P)) P' (omega arith) in
+      let same_key : (k == k) ≡ true = grind (arith, nat_tests) in
+      let same_slot : (s == s) ≡ true = grind (arith, nat_tests) in
+      record {
+        at = length P;
+        is = refl;
+        within = omega arith;
+        in_slot = rw same_slot refl;
+        is_member = ap (member k) all ∙ rw same_key refl;
+        named = ap (linking k) all ∙ new_linking;
+        stood = inl (inr (me.begins me.stands.0), there);
+      }
+
+  linked_callers : CallersSound y.shape y.vault y.words.pins actors' callers' P' notes'
+  linked_callers = record {
+    count = length-set_of_pass callers a _ ∙ sound.callers.count;
+    hands = length-set_of_pass y.actors a x ∙ sound.callers.hands;
+    each = by_actor (λ b. CallerSound (view_of y.shape y.vault actors' b) (pin_in y.words.pins b) (caller_at callers' b) (notes'.begun b) P' (notes'.changed b)) a
+        (carry y.shape.buckets y.shape.passes y.vault.cells y.vault.dead P' x (actor_in actors' a) (pin_in y.words.pins a) (pin_in y.words.pins a) (Some (call_at i (Add k) (Playing (Adding s) 2))) (caller_at callers' a) (notes.begun a) (notes.begun a) (Some (length P)) (notes'.changed a) hand_a refl (moved_same callers a (call_at i (Add k) at) is (Playing (Adding s) 2)) refl (changed_same notes a (length P))
+        (record {
+          quiet = λ inside. (tt, me.quiet inside);
+          begins = λ inside. inr (me.begins inside);
+          stands = (me.stands.0, me.stands.1, (refl, my_node));
+        }))
+        (λ b other. carry y.shape.buckets y.shape.passes y.vault.cells y.vault.dead P' (actor_in y.actors b) (actor_in actors' b) (pin_in y.words.pins b) (pin_in y.words.pins b) (caller_at callers b) (caller_at callers' b) (notes.begun b) (notes.begun b) (notes.changed b) (notes'.changed b) (hand_b b other) refl (moved_other callers a (call_at i (Add k) at) is (Playing (Adding s) 2) b other) refl (changed_other notes a (length P) b other)
+        (caller_published y.shape.buckets y.shape.slots (linked k s a) P law y.shape.passes y.vault.cells y.vault.dead (actor_in y.actors b) (pin_in y.words.pins b) (notes.begun b) (notes.changed b) (leaves b) (caller_at callers b) (sound.callers.each b)));
+  }
+
+  in_passes : a ≤ y.shape.passes
+  in_passes = omega (arith, (caller_range callers a (call_at i (Add k) at) is).1, sound.callers.count)
+
+  shows : (k == k) ≡ true
+  shows = grind (arith, nat_tests)
+
+  add_same : {j l : ℕ} → Add j ≡ Add l → j ≡ l
+  add_same e = cc
+
+  remove_add : {j l : ℕ} → Remove j ≡ Add l → ⊥
+  remove_add e = absurd cc
+
+  -- another adder that has opened its gate has another key
+  other_adder : (b t : ℕ) → b ≢ a → (actor_in y.actors b).slot ≡ Some t → IsGateOpened (stage_in y.vault.cells t) → (cell_in y.vault.cells t).key ≡ k → ⊥
+  other_adder b t other slot opened key = go (sound.slots.hand b t slot).stage
+    where
+      go : IsHandStage y.vault.cells y.vault.dead (actor_in y.actors b) P t → ⊥
+      go (inl shut) = opened_shut (stage_in y.vault.cells t) opened shut
+      go (inr theirs) =
+          let found = beside_of y.shape.buckets y.vault.dead (actor_in y.actors b).hold (actor_in y.actors b) P t (sound.locks.rests b) theirs.0 slot in
+          let same : key_word t P ≡ k = sym theirs.2 ∙ key in
+          let there_b = subst (λ (q : ℕ). IsBeside y.shape.buckets q (actor_in y.actors b).pred (actor_in y.actors b).curr P) same found.0 in
+          let spot_b = (links.round_place y.shape.buckets y.shape.slots P sound.trace.lawful k (place_number (actor_in y.actors b).pred) (link_to (actor_in y.actors b).curr) there_b.round).0 in
+          pred_apart b other found.1 k there_b.bucket refl (sym spot_b)
+
+  linked_tails : TailsSound y.shape y.vault.cells actors' P' callers' (entries y.shape.passes callers' notes') M
+  linked_tails =
+      record {
+        adding = λ b t slot opened. let old = held_then b t slot in tail_turn callers a (call_at i (Add k) at) is (Playing (Adding s) 2) y.shape.passes notes' in_passes (λ none is'. refl) (Add (cell_in y.vault.cells t).key) M
+            (tail_changed n calls y.shape.passes callers (linked k s a) P M notes a (call_at i (Add k) at) is in_passes h.3 shows was (row_of (call_at i (Add k) at) (length P), refl, refl) sound.ledger (Add (cell_in y.vault.cells t).key) (λ e. other_adder b t old.0 old.2 opened (add_same e)) (sound.tails.adding b t old.2 opened));
+        removing = λ t on_it unmarked shut. tail_turn callers a (call_at i (Add k) at) is (Playing (Adding s) 2) y.shape.passes notes' in_passes (λ none is'. refl) (Remove (cell_in y.vault.cells t).key) M (elim (cases_eq t s) [
+          | inl it ↦ absurd (opened_written (stage_in y.vault.cells s) opened_s (subst (λ (q : ℕ). IsGateWritten (stage_in y.vault.cells q)) it shut))
+          | inr other ↦ tail_changed n calls y.shape.passes callers (linked k s a) P M notes a (call_at i (Add k) at) is in_passes h.3 shows was (row_of (call_at i (Add k) at) (length P), refl, refl) sound.ledger (Remove (cell_in y.vault.cells t).key) remove_add
+              (sound.tails.removing t (chain_before (key_word t P) t other on_it) unmarked shut)
+        ]);
+      }
+    where
+      was : not (member k P) ≡ true
+      was = ap not law.0.no_member
+
+  node_range : (t : ℕ) → (actor_at y a).pred ≡ Node t → t < y.shape.slots
+  node_range t e = on_range y.shape.buckets y.shape.slots P (bucket_of y.shape.buckets k) t sound.trace.lawful (subst (λ (q : Place). on 0 (chain_of y.shape.buckets k P) (place_number q) ≡ true) e beside.round.faces.there)
+
+  abbrev words' : ℕ → Words
+  words' next = redirect y.words (actor_at y a).pred next
+
+  abbrev yard' : ℕ → Yard
+  yard' next = record { shape = y.shape; words = words' next; locks = y.locks; vault = y.vault; uses = y.uses; actors = actors' }
+
+  linked_sound : Sound n calls (yard' (suc s)) callers' disk M P' notes'
+  linked_sound =
+      let same = sym (redirect_pins y.words (actor_at y a).pred (suc s)) in
+      record {
+        trace = trace_linked y.shape y.words P sound.trace sound.images.slots.1 k s a (actor_at y a).pred law.0 beside.bucket node_range place;
+        images = sound.images;
+        slots = linked_slots;
+        locks = linked_locks;
+        callers = subst (λ (q : List ℕ). CallersSound y.shape y.vault q actors' callers' P' notes') same linked_callers;
+        reuse = subst (λ (q : List ℕ). ReuseSound y.shape q y.uses actors' P' notes.begun) same linked_reuse;
+        ledger = ledger_turn callers a (call_at i (Add k) at) is (Playing (Adding s) 2) n calls y.shape.passes P' M notes' (ledger_changed n calls y.shape.passes callers (linked k s a) P M notes a (call_at i (Add k) at) is in_passes h.3 shows (ap not law.0.no_member) (row_of (call_at i (Add k) at) (length P), refl, refl) sound.ledger);
+        tails = linked_tails;
+      }
+
+  pub link_keeps : Sound n calls (yard_done y (actor_at y a) a Link) callers' disk M (publishes y (actor_at y a) a Link ++ P) notes'
+  link_keeps =
+      let hand : s ≡ slot_of (actor_at y a) = sym (ap (λ (q : Option ℕ). unwrap_or q 0) h.1) in
+      let key : k ≡ get y.words (key_at s) = sym (key_load y.shape y.words P sound.trace sound.images.slots.1 s lt ∙ h.2) in
+      subst (λ (q : Option ℕ). Sound n calls (yard' (link_to q)) callers' disk M (linked (get y.words (key_at (slot_of (actor_at y a)))) (slot_of (actor_at y a)) a ∷ P) notes') (sym h.1)
+      (subst (λ (q : ℕ). Sound n calls (yard' (suc s)) callers' disk M (linked (get y.words (key_at q)) q a ∷ P) notes') hand
+      (subst (λ (q : ℕ). Sound n calls (yard' (suc s)) callers' disk M (linked q s a ∷ P) notes') key linked_sound))

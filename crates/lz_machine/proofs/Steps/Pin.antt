@@ -1,0 +1,276 @@
+-- A pass that goes in keeps the invariant: a pin, and the first half of a look. So does one that only looked and goes out.
+use Rattle.std.proofs.Common.{◌≡◌, ◌≢◌, inl, inr, ℕ, suc, ◌<◌, ◌≤◌, ◌+◌, ◌%◌, ◌==◌, if◌then◌else◌, Bool, true, List, [], ◌∷◌, length, Option, Some, None, refl, sym, ap, ◌∙◌, subst, arith}
+use Rattle.std.proofs.lemmas.Bool.{cases_lt}
+use Rattle.std.proofs.lemmas.Bool.Decides.{eqb_tells}
+use Rattle.std.proofs.lemmas.List.{get_or_past}
+use Rattle.lz_slot.specs.declared.command.Command.{Command}
+use Rattle.lz_slot.specs.Counted.{of_pass, set_of_pass}
+use Rattle.lz_slot.specs.Histories.{History}
+use Rattle.lz_slot.proofs.Counted.{of_pass_same, of_pass_other, length-set_of_pass}
+use Rattle.lz_disk.specs.Images.{Medium}
+use Rattle.lz_vault.specs.Stages.{Cell}
+use Rattle.lz_allot.specs.declared.sight.Sight.{Sight}
+use Rattle.lz_allot.specs.declared.sight.Sight.TheVariants.{Left}
+use Rattle.lz_allot.specs.Uses.{Use, Free, Taken, Limbo, use_of}
+use Rattle.lz_list.specs.declared.publishing.Publishing.{Publishing}
+use Rattle.lz_list.specs.declared.publishing.Publishing.TheVariants.{Linked as linked, Marked as marked, Unlinked as unlinked, Settled as settled, KeyPrepared as key_prepared, LinkPrepared as link_prepared, Halted as halted}
+use Rattle.lz_list.specs.declared.word.Word.TheVariants.{Pin as pin_at}
+use Rattle.lz_list.specs.Words.{Words, get, set}
+use Rattle.lz_list.specs.Traces.{Trace, IsLoose, on, chain}
+use Rattle.lz_list.specs.Pinned.{Stood, IsKept, IsQuiet}
+use Rattle.lz_list.proofs.Absent.{begins_itself}
+use Rattle.lz_list.proofs.Hindsight.{once_begins}
+use Rattle.lz_machine.specs.declared.event.Event.TheVariants.{Pin}
+use Rattle.lz_machine.specs.declared.event.Outcome.TheVariants.{Done, Worn}
+use Rattle.lz_machine.specs.declared.event.Reply.TheVariants.{Worn as SaysWorn}
+use Rattle.lz_machine.specs.declared.actor.Actor.{Actor}
+use Rattle.lz_machine.specs.declared.caller.Script.TheVariants.{Pinning}
+use Rattle.lz_machine.specs.declared.caller.Progress.TheVariants.{Playing, LoadsHalt, Answering}
+use Rattle.lz_machine.specs.Yards.{Yard, Shape, actor_at}
+use Rattle.lz_machine.specs.Table.{last_pin, yard_done}
+use Rattle.lz_machine.specs.Calls.{progress_after}
+use Rattle.lz_machine.specs.Runs.{Caller, caller_at, with_words}
+use Rattle.lz_machine.specs.Limbo.{IsAway, IsSeen}
+use Rattle.lz_machine.specs.Sound.{Notes, IsInside, actor_in, pin_in, view_of, SlotStands, is_node, is_held, is_out, is_free, is_limbo, SlotsSound, ReuseSound, CallerSound, CallersSound, TraceSound, LedgerSound, Sound}
+use Rattle.lz_machine.proofs.Frames.ActorTable.{by_actor}
+use Rattle.lz_machine.proofs.Frames.Limbo.{away_new, seen_pin, seen_leave, shorter}
+use Rattle.lz_machine.proofs.Frames.OneActor.{moving, moved_same, moved_other, carry, ledger_turn}
+use Rattle.lz_machine.proofs.Frames.SameYard.{going_keeps, tails_turn}
+use Rattle.lz_machine.proofs.Steps.Reserve.{free_stands}
+use Rattle.lz_machine.proofs.Steps.Hop.{call_at, own}
+use Rattle.lz_machine.proofs.Frames.Uses.{free_limbo}
+use mathlib.Core.Bool.{false≢true}
+
+-- at its pin nothing that stood since was prepared anew
+pub quiet_new : (buckets : ℕ) (P0 Q : Trace) → length Q ≤ length P0 → IsQuiet buckets P0 Q
+quiet_new buckets P0 [] le = tt
+quiet_new buckets P0 (e ∷ Q) le = (kept e, quiet_new buckets P0 Q (omega (arith, le)))
+  where
+    none : (b t : ℕ) → Stood buckets b P0 Q (suc t) → ⊥
+    none b t stood = omega (arith, le, shorter P0 Q (once_begins P0 Q (λ R. on 0 (chain buckets b R) (suc t) ≡ true) stood))
+
+    kept : (f : Publishing) → IsKept buckets P0 f Q
+    kept (key_prepared s v) = λ b stood. none b s stood
+    kept (link_prepared s v) = λ b stood. none b s stood
+    kept _ = tt
+
+taken_limbo : {u : Use} {sights : List Sight} → u ≡ Limbo sights → u ≡ Taken → ⊥
+taken_limbo {u} {sights} a b = absurd (clash (sym a ∙ b))
+  where
+    clash : Limbo sights ≡ Taken → ⊥
+    clash e = absurd cc
+
+-- a use that isn't taken is one of a slot of the table
+use_range : (uses : List Use) (s : ℕ) → (use_of uses s ≡ Taken → ⊥) → s < length uses
+use_range uses s not_taken = elim (cases_lt s (length uses)) [
+  | inl lt ↦ lt
+  | inr past ↦ absurd (not_taken (get_or_past uses s Taken past))
+]
+
+-- a slot in limbo is on no chain
+pub limbo_loose : (shape : Shape) (cells : List Cell) (dead : Bool) (uses : List Use) (actors : List Actor) (P : Trace) (s : ℕ) (sights : List Sight) → SlotsSound shape cells dead uses actors P → use_of uses s ≡ Limbo sights → IsLoose shape.buckets s P
+limbo_loose shape cells dead uses actors P s sights h limbo = go (h.each s (omega (arith, use_range uses s (taken_limbo limbo), h.count)))
+  where
+    go : SlotStands shape cells dead uses actors P s → IsLoose shape.buckets s P
+    go (is_node chain stage) = absurd (taken_limbo limbo chain.taken)
+    go (is_held b slot) = absurd (taken_limbo limbo (h.hand b s slot).taken)
+    go (is_out b out) = absurd (taken_limbo limbo (h.out b s out).taken)
+    go (is_free loose is stage) = absurd (free_limbo (sym is ∙ limbo))
+    go (is_limbo seen loose is stage) = loose
+
+pub free_loose : (shape : Shape) (cells : List Cell) (dead : Bool) (uses : List Use) (actors : List Actor) (P : Trace) (s : ℕ) → SlotsSound shape cells dead uses actors P → use_of uses s ≡ Free → IsLoose shape.buckets s P
+free_loose shape cells dead uses actors P s h free = (free_stands shape cells dead uses actors P s h (omega (arith, use_range uses s (λ taken. taken_free (sym taken ∙ free)), h.count)) free).0
+  where
+    taken_free : Taken ≡ Free → ⊥
+    taken_free e = absurd cc
+
+-- notes in which a pass has gone in now
+abbrev pub begins_now : Notes → ℕ → Trace → Notes
+begins_now notes a P = record { begun = λ b. if b == a then P else notes.begun b; changed = notes.changed; ended = notes.ended }
+
+pub begun_same : (notes : Notes) (a : ℕ) (P : Trace) → (begins_now notes a P).begun a ≡ P
+begun_same notes a P = elim (eqb_tells a a) [
+  | inl same ↦ rw same.0 refl
+  | inr other ↦ absurd (other.1 refl)
+]
+
+pub begun_other : (notes : Notes) (a : ℕ) (P : Trace) (b : ℕ) → b ≢ a → (begins_now notes a P).begun b ≡ notes.begun b
+begun_other notes a P b other = elim (eqb_tells b a) [
+  | inl same ↦ absurd (other same.1)
+  | inr away ↦ rw away.0 refl
+]
+
+-- pins in which a pass has moved on
+abbrev pub pinned : Words → ℕ → Words
+pinned words a = set words (pin_at a) (get words (pin_at a) + 1)
+
+pub trace_pinned : (shape : Shape) (words : Words) (P : Trace) (a : ℕ) → TraceSound shape words P → TraceSound shape (pinned words a) P
+trace_pinned shape words P a h = record {
+  lawful = h.lawful;
+  some = h.some;
+  small = h.small;
+  heads = h.heads;
+  links = h.links;
+  keys = h.keys;
+  halt = h.halt;
+  pins = length-set_of_pass words.pins a _ ∙ h.pins;
+}
+
+module _ (shape : Shape) (cells : List Cell) (dead : Bool) (pins : List ℕ) (uses : List Use) (actors : List Actor) (P : Trace) (notes : Notes) (a : ℕ) (low : 1 ≤ a) (high : a ≤ length pins) (slots : SlotsSound shape cells dead uses actors P) (reuse : ReuseSound shape pins uses actors P notes.begun) where
+  abbrev v : ℕ
+  v = pin_in pins a
+
+  abbrev pins' : List ℕ
+  pins' = set_of_pass pins a (v + 1)
+
+  pin_same : pin_in pins' a ≡ v + 1
+  pin_same = of_pass_same pins a (v + 1) 0 low high
+
+  pin_other : (b : ℕ) → b ≢ a → pin_in pins' b ≡ pin_in pins b
+  pin_other b other = of_pass_other pins a b (v + 1) 0 other
+
+  next_is : suc v ≡ v + 1
+  next_is = omega arith
+
+  pub entered_reuse : v % 2 ≡ 0 → v ≢ last_pin → ReuseSound shape pins' uses actors P (begins_now notes a P).begun
+  entered_reuse even fresh = record {
+    worn = by_actor (λ b. pin_in pins' b ≤ last_pin) a (omega (arith, pin_same, reuse.worn a, fresh)) (λ b other. omega (arith, pin_other b other, reuse.worn b));
+    sights = reuse.sights;
+    seen = by_actor (λ b. (s : ℕ) (seen : List Sight) → use_of uses s ≡ Limbo seen → IsSeen shape.buckets (pin_in pins' b) ((begins_now notes a P).begun b) P s (of_pass seen b Left)) a
+        (λ s seen limbo.
+        subst (λ (q : ℕ). IsSeen shape.buckets q ((begins_now notes a P).begun a) P s (of_pass seen a Left)) (sym pin_same)
+        (subst (λ (q : Trace). IsSeen shape.buckets (v + 1) q P s (of_pass seen a Left)) (sym (begun_same notes a P))
+        (subst (λ (q : ℕ). IsSeen shape.buckets q P P s (of_pass seen a Left)) next_is
+        (seen_pin shape.buckets s v (notes.begun a) P (of_pass seen a Left) (limbo_loose shape cells dead uses actors P s seen slots limbo) (reuse.seen a s seen limbo)))))
+        (λ b other s seen limbo.
+        subst (λ (q : ℕ). IsSeen shape.buckets q ((begins_now notes a P).begun b) P s (of_pass seen b Left)) (sym (pin_other b other))
+        (subst (λ (q : Trace). IsSeen shape.buckets (pin_in pins b) q P s (of_pass seen b Left)) (sym (begun_other notes a P b other)) (reuse.seen b s seen limbo)));
+    free = by_actor (λ b. (s : ℕ) → use_of uses s ≡ Free → IsInside (pin_in pins' b) → IsAway shape.buckets ((begins_now notes a P).begun b) P s) a
+        (λ s free inside. subst (λ (q : Trace). IsAway shape.buckets q P s) (sym (begun_same notes a P)) (away_new shape.buckets s P (free_loose shape cells dead uses actors P s slots free)))
+        (λ b other s free inside. subst (λ (q : Trace). IsAway shape.buckets q P s) (sym (begun_other notes a P b other)) (reuse.free b s free (ap (λ (q : ℕ). q % 2) (sym (pin_other b other)) ∙ inside)));
+    reserved = by_actor (λ b. (d s : ℕ) → (actor_in actors d).slot ≡ Some s → IsInside (pin_in pins' b) → IsAway shape.buckets ((begins_now notes a P).begun b) P s) a
+        (λ d s slot inside. subst (λ (q : Trace). IsAway shape.buckets q P s) (sym (begun_same notes a P)) (away_new shape.buckets s P (slots.hand d s slot).loose))
+        (λ b other d s slot inside. subst (λ (q : Trace). IsAway shape.buckets q P s) (sym (begun_other notes a P b other)) (reuse.reserved b d s slot (ap (λ (q : ℕ). q % 2) (sym (pin_other b other)) ∙ inside)));
+  }
+
+  pub left_reuse : v % 2 ≡ 1 → v ≢ last_pin → ReuseSound shape pins' uses actors P notes.begun
+  left_reuse odd fresh = record {
+    worn = by_actor (λ b. pin_in pins' b ≤ last_pin) a (omega (arith, pin_same, reuse.worn a, fresh)) (λ b other. omega (arith, pin_other b other, reuse.worn b));
+    sights = reuse.sights;
+    seen = by_actor (λ b. (s : ℕ) (seen : List Sight) → use_of uses s ≡ Limbo seen → IsSeen shape.buckets (pin_in pins' b) (notes.begun b) P s (of_pass seen b Left)) a
+        (λ s seen limbo. subst (λ (q : ℕ). IsSeen shape.buckets q (notes.begun a) P s (of_pass seen a Left)) (sym pin_same) (subst (λ (q : ℕ). IsSeen shape.buckets q (notes.begun a) P s (of_pass seen a Left)) next_is (seen_leave shape.buckets s v (notes.begun a) P (of_pass seen a Left) odd (reuse.seen a s seen limbo))))
+        (λ b other s seen limbo. subst (λ (q : ℕ). IsSeen shape.buckets q (notes.begun b) P s (of_pass seen b Left)) (sym (pin_other b other)) (reuse.seen b s seen limbo));
+    free = by_actor (λ b. (s : ℕ) → use_of uses s ≡ Free → IsInside (pin_in pins' b) → IsAway shape.buckets (notes.begun b) P s) a
+        (λ s free inside. absurd (omega (arith, inside, odd, pin_same)))
+        (λ b other s free inside. reuse.free b s free (ap (λ (q : ℕ). q % 2) (sym (pin_other b other)) ∙ inside));
+    reserved = by_actor (λ b. (d s : ℕ) → (actor_in actors d).slot ≡ Some s → IsInside (pin_in pins' b) → IsAway shape.buckets (notes.begun b) P s) a
+        (λ d s slot inside. absurd (omega (arith, inside, odd, pin_same)))
+        (λ b other d s slot inside. reuse.reserved b d s slot (ap (λ (q : ℕ). q % 2) (sym (pin_other b other)) ∙ inside));
+  }
+
+-- the ledger doesn't depend on where passes have gone in
+pub ledger_noted : (n calls passes : ℕ) (callers : List (Option Caller)) (P : Trace) (M : History) (notes : Notes) (begun : ℕ → Trace) → LedgerSound n calls passes callers P M notes → LedgerSound n calls passes callers P M (record { begun = begun; changed = notes.changed; ended = notes.ended })
+ledger_noted n calls passes callers P M notes begun h = record {
+  opened = h.opened;
+  ledger = h.ledger;
+  settled = h.settled;
+  changes = h.changes;
+  numbered = h.numbered;
+  refused = h.refused;
+  one_call = h.one_call;
+  open_call = h.open_call;
+  apart = h.apart;
+  unlisted = h.unlisted;
+}
+
+module _ (n calls : ℕ) (y : Yard) (callers : List (Option Caller)) (disk : Medium) (M : History) (P : Trace) (notes : Notes) (sound : Sound n calls y callers disk M P notes) (a : ℕ) (low : 1 ≤ a) (high : a ≤ y.shape.passes) (fresh : pin_in y.words.pins a ≢ last_pin) where
+  in_pins : a ≤ length y.words.pins
+  in_pins = omega (arith, high, sound.trace.pins)
+
+  abbrev to : ℕ
+  to = pin_in y.words.pins a + 1
+
+  -- the callers, where a pass has gone in
+  entered_callers : (callers' : List (Option Caller)) → pin_in y.words.pins a % 2 ≡ 0 → length callers' ≡ length callers → ((b : ℕ) → b ≢ a → caller_at callers' b ≡ caller_at callers b)
+      → CallerSound (view_of y.shape y.vault y.actors a) to (caller_at callers' a) P P (notes.changed a)
+      → CallersSound y.shape y.vault (set_of_pass y.words.pins a to) y.actors callers' P (begins_now notes a P)
+  entered_callers callers' even count others mine = record {
+    count = count ∙ sound.callers.count;
+    hands = sound.callers.hands;
+    each = by_actor (λ b. CallerSound (view_of y.shape y.vault y.actors b) (pin_in (set_of_pass y.words.pins a to) b) (caller_at callers' b) ((begins_now notes a P).begun b) P (notes.changed b)) a
+        (carry y.shape.buckets y.shape.passes y.vault.cells y.vault.dead P (actor_in y.actors a) (actor_in y.actors a) to (pin_in (set_of_pass y.words.pins a to) a) (caller_at callers' a) (caller_at callers' a) P ((begins_now notes a P).begun a) (notes.changed a) (notes.changed a) refl (of_pass_same y.words.pins a to 0 low in_pins) refl (begun_same notes a P) refl mine)
+        (λ b other. carry y.shape.buckets y.shape.passes y.vault.cells y.vault.dead P (actor_in y.actors b) (actor_in y.actors b) (pin_in y.words.pins b) (pin_in (set_of_pass y.words.pins a to) b) (caller_at callers b) (caller_at callers' b) (notes.begun b) ((begins_now notes a P).begun b) (notes.changed b) (notes.changed b) refl (of_pass_other y.words.pins a b to 0 other) (others b other) (begun_other notes a P b other) refl (sound.callers.each b));
+  }
+
+  left_callers : (callers' : List (Option Caller)) → length callers' ≡ length callers → ((b : ℕ) → b ≢ a → caller_at callers' b ≡ caller_at callers b)
+      → CallerSound (view_of y.shape y.vault y.actors a) to (caller_at callers' a) (notes.begun a) P (notes.changed a)
+      → CallersSound y.shape y.vault (set_of_pass y.words.pins a to) y.actors callers' P notes
+  left_callers callers' count others mine = record {
+    count = count ∙ sound.callers.count;
+    hands = sound.callers.hands;
+    each = by_actor (λ b. CallerSound (view_of y.shape y.vault y.actors b) (pin_in (set_of_pass y.words.pins a to) b) (caller_at callers' b) (notes.begun b) P (notes.changed b)) a
+        (carry y.shape.buckets y.shape.passes y.vault.cells y.vault.dead P (actor_in y.actors a) (actor_in y.actors a) to (pin_in (set_of_pass y.words.pins a to) a) (caller_at callers' a) (caller_at callers' a) (notes.begun a) (notes.begun a) (notes.changed a) (notes.changed a) refl (of_pass_same y.words.pins a to 0 low in_pins) refl refl refl mine)
+        (λ b other. carry y.shape.buckets y.shape.passes y.vault.cells y.vault.dead P (actor_in y.actors b) (actor_in y.actors b) (pin_in y.words.pins b) (pin_in (set_of_pass y.words.pins a to) b) (caller_at callers b) (caller_at callers' b) (notes.begun b) (notes.begun b) (notes.changed b) (notes.changed b) refl (of_pass_other y.words.pins a b to 0 other) (others b other) refl refl (sound.callers.each b));
+  }
+
+  -- an actor without a call looks: it goes in, or goes out
+  pub look_in_keeps : pin_in y.words.pins a % 2 ≡ 0 → caller_at callers a ≡ None → Sound n calls (with_words y (pinned y.words a)) callers disk M P (begins_now notes a P)
+  look_in_keeps even none = record {
+    trace = trace_pinned y.shape y.words P a sound.trace;
+    images = sound.images;
+    slots = sound.slots;
+    locks = sound.locks;
+    callers = entered_callers callers even refl (λ b other. refl) (subst (λ (q : Option Caller). CallerSound (view_of y.shape y.vault y.actors a) to q P P (notes.changed a)) (sym none) (record {
+      quiet = λ inside. quiet_new y.shape.buckets P P (omega arith);
+      begins = λ inside. begins_itself P;
+      stands = (subst (λ (q : Option Caller). CallerSound (view_of y.shape y.vault y.actors a) (pin_in y.words.pins a) q (notes.begun a) P (notes.changed a)) none (sound.callers.each a)).stands;
+    }));
+    reuse = entered_reuse y.shape y.vault.cells y.vault.dead y.words.pins y.uses y.actors P notes a low in_pins sound.slots sound.reuse even fresh;
+    ledger = ledger_noted n calls y.shape.passes callers P M notes (begins_now notes a P).begun sound.ledger;
+    tails = sound.tails;
+  }
+
+  pub look_out_keeps : pin_in y.words.pins a % 2 ≡ 1 → caller_at callers a ≡ None → Sound n calls (with_words y (pinned y.words a)) callers disk M P notes
+  look_out_keeps odd none = record {
+    trace = trace_pinned y.shape y.words P a sound.trace;
+    images = sound.images;
+    slots = sound.slots;
+    locks = sound.locks;
+    callers = left_callers callers refl (λ b other. refl) (subst (λ (q : Option Caller). CallerSound (view_of y.shape y.vault y.actors a) to q (notes.begun a) P (notes.changed a)) (sym none) (record {
+      quiet = λ inside. absurd (omega (arith, inside, odd));
+      begins = λ inside. absurd (omega (arith, inside, odd));
+      stands = (subst (λ (q : Option Caller). CallerSound (view_of y.shape y.vault y.actors a) (pin_in y.words.pins a) q (notes.begun a) P (notes.changed a)) none (sound.callers.each a)).stands;
+    }));
+    reuse = left_reuse y.shape y.vault.cells y.vault.dead y.words.pins y.uses y.actors P notes a low in_pins sound.slots sound.reuse odd fresh;
+    ledger = sound.ledger;
+    tails = sound.tails;
+  }
+
+  -- a call pins
+  pub pin_keeps : (i : ℕ) (c : Command) → caller_at callers a ≡ Some (call_at i c (Playing Pinning 0))
+      → Sound n calls (yard_done y (actor_at y a) a Pin) (moving callers a (call_at i c (Playing Pinning 0)) (progress_after y.shape c (Playing Pinning 0) Done)) disk M P (begins_now notes a P)
+  pin_keeps i c is =
+      let at = Playing Pinning 0 in
+      let me = own n calls y callers disk M P notes a i c (Playing Pinning 0) is sound in
+      record {
+        trace = trace_pinned y.shape y.words P a sound.trace;
+        images = sound.images;
+        slots = sound.slots;
+        locks = sound.locks;
+        callers = entered_callers (moving callers a (call_at i c (Playing Pinning 0)) LoadsHalt) me.stands.0 (length-set_of_pass callers a _) (moved_other callers a (call_at i c (Playing Pinning 0)) is LoadsHalt)
+            (subst (λ (q : Option Caller). CallerSound (view_of y.shape y.vault y.actors a) to q P P (notes.changed a)) (sym (moved_same callers a (call_at i c (Playing Pinning 0)) is LoadsHalt)) (record {
+              quiet = λ inside. quiet_new y.shape.buckets P P (omega arith);
+              begins = λ inside. begins_itself P;
+              stands = (omega (arith, me.stands.0), me.stands.1, me.stands.2);
+            }));
+        reuse = entered_reuse y.shape y.vault.cells y.vault.dead y.words.pins y.uses y.actors P notes a low in_pins sound.slots sound.reuse me.stands.0 fresh;
+        ledger = ledger_noted n calls y.shape.passes (moving callers a (call_at i c (Playing Pinning 0)) LoadsHalt) P M notes (begins_now notes a P).begun (ledger_turn callers a (call_at i c (Playing Pinning 0)) is LoadsHalt n calls y.shape.passes P M notes sound.ledger);
+        tails = tails_turn callers a (call_at i c (Playing Pinning 0)) is LoadsHalt y.shape.passes notes high (λ none is. absurd (false≢true is)) y.shape y.vault.cells y.actors y.actors P M (λ b. refl) sound.tails;
+      }
+
+-- a pass that is worn isn't pinned, and its call is about to be refused
+pub worn_keeps : (n calls : ℕ) (y : Yard) (callers : List (Option Caller)) (disk : Medium) (M : History) (P : Trace) (notes : Notes) (a i : ℕ) (c : Command) (is : caller_at callers a ≡ Some (call_at i c (Playing Pinning 0))) → Sound n calls y callers disk M P notes
+    → Sound n calls y (moving callers a (call_at i c (Playing Pinning 0)) (progress_after y.shape c (Playing Pinning 0) Worn)) disk M P notes
+worn_keeps n calls y callers disk M P notes a i c is sound =
+    let me = own n calls y callers disk M P notes a i c (Playing Pinning 0) is sound in
+    going_keeps n calls y callers disk M P notes a (call_at i c (Playing Pinning 0)) is (Answering SaysWorn) (λ none is. absurd (false≢true is)) (record { quiet = me.quiet; begins = me.begins; stands = (me.stands.0, me.stands.1, me.stands.2) }) sound

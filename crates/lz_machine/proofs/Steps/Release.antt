@@ -1,0 +1,95 @@
+-- A release keeps the invariant: after a test that failed, behind a linking, and behind an unlinking.
+use Rattle.std.proofs.Common.{◌≡◌, ℕ, Bool, true, false, List, Option, Some, refl, sym, ap, ◌∙◌, subst}
+use mathlib.Core.Bool.{false≢true}
+use Rattle.lz_slot.specs.declared.command.Command.{Command}
+use Rattle.lz_slot.specs.declared.command.Command.TheVariants.{Add, Remove}
+use Rattle.lz_slot.specs.Sets.{key_of}
+use Rattle.lz_slot.specs.Counted.{set_of_pass}
+use Rattle.lz_slot.specs.Histories.{History}
+use Rattle.lz_disk.specs.Images.{Medium}
+use Rattle.lz_list.specs.declared.walk.Look.TheVariants.{AtHead}
+use Rattle.lz_list.specs.Traces.{Trace}
+use Rattle.lz_list.specs.Locks.{pair_owned}
+use Rattle.lz_machine.specs.declared.event.Event.TheVariants.{Release}
+use Rattle.lz_machine.specs.declared.event.Outcome.TheVariants.{Done}
+use Rattle.lz_machine.specs.declared.actor.Actor.{Actor}
+use Rattle.lz_machine.specs.declared.actor.Hold.{Hold}
+use Rattle.lz_machine.specs.declared.actor.Hold.TheVariants.{Nothing, Locks, Linked, Unlinked, Released}
+use Rattle.lz_machine.specs.declared.caller.Script.TheVariants.{Releasing, Adding, Removing}
+use Rattle.lz_machine.specs.declared.caller.Progress.{Progress}
+use Rattle.lz_machine.specs.declared.caller.Progress.TheVariants.{Playing, Walking}
+use Rattle.lz_machine.specs.Yards.{Yard, actor_at}
+use Rattle.lz_machine.specs.Table.{with_hold, released, yard_done}
+use Rattle.lz_machine.specs.Calls.{progress_after}
+use Rattle.lz_machine.specs.Runs.{Caller, caller_at}
+use Rattle.lz_machine.specs.Sound.{Notes, closes, opens, has_removed_node, has_locks, RestsOn, Sound, is_before_pin, side_of}
+use Rattle.lz_machine.proofs.Frames.OneActor.{moving}
+use Rattle.lz_machine.proofs.Frames.Grip.{KeepsGrips, fresh_grip}
+use Rattle.lz_machine.proofs.Frames.NodeLocks.{released_locks}
+use Rattle.lz_machine.proofs.Steps.Walk.{GoesOn}
+use Rattle.lz_machine.proofs.Steps.Hop.{call_at, own}
+use Rattle.lz_machine.proofs.Frames.Hand.{in_hands, same_hand, other_hand, hands_keep}
+use Rattle.lz_machine.proofs.Steps.Claim.{aimed_same}
+use Rattle.lz_machine.proofs.Frames.SameYard.{KeepsTail}
+
+-- an actor that has unlinked its node has it out still
+out_grip : (dead : Bool) (old : Actor) → old.hold ≡ Unlinked → KeepsGrips dead dead old (with_hold old Released)
+out_grip dead old is = record {
+  slot = refl;
+  out = λ s h. record { node = h.node; removed = ap has_removed_node is };
+  still_out = λ s h. record { node = h.node; removed = refl };
+  closer = λ s h. absurd (false≢true (ap (closes dead) (sym is) ∙ h.closes));
+  opener = λ h. absurd (false≢true (ap (opens dead) (sym is) ∙ h));
+  unlock = λ h. absurd (false≢true h);
+  shut = λ s at h. absurd (false≢true h);
+}
+
+module _ (n calls : ℕ) (y : Yard) (callers : List (Option Caller)) (disk : Medium) (M : History) (P : Trace) (notes : Notes) (a i : ℕ) (c : Command) (at : Progress) (is : caller_at callers a ≡ Some (call_at i c at)) (sound : Sound n calls y callers disk M P notes) where
+  abbrev actor : Actor
+  actor = actor_at y a
+
+  release_to : (old new : Hold) (next : Progress) → actor.hold ≡ old → released old ≡ new → has_locks old ≡ true → has_locks new ≡ false → RestsOn y.shape.buckets new (with_hold actor new) P
+      → KeepsGrips y.vault.dead y.vault.dead actor (with_hold actor new) → is_before_pin at ≡ false → KeepsTail (notes.changed a) at next
+      → GoesOn (record { buckets = y.shape.buckets; passes = y.shape.passes; cells = y.vault.cells; dead = y.vault.dead; actor = with_hold actor new }) c next (notes.begun a) P (notes.changed a)
+      → Sound n calls (yard_done y actor a Release) (moving callers a (call_at i c at) next) disk M P notes
+  release_to old new next hold to locked free rests grips inside keeps goes =
+      let me = own n calls y callers disk M P notes a i c at is sound in
+      let hand = same_hand n calls y callers disk M P notes a (call_at i c at) is sound (with_hold actor new) in
+      let done : Sound n calls (in_hands y (pair_owned y.locks actor.pred actor.curr 0) a (with_hold actor new)) (moving callers a (call_at i c at) next) disk M P notes =
+      hands_keep n calls y callers disk M P notes a (call_at i c at) is sound (with_hold actor new) (pair_owned y.locks actor.pred actor.curr 0) next keeps
+      (released_locks y.shape y.locks y.actors (set_of_pass y.actors a (with_hold actor new)) P a (other_hand n calls y callers disk M P notes a (call_at i c at) is sound (with_hold actor new)) sound.locks actor.pred actor.curr
+      (λ place among. record { locks = ap has_locks hold ∙ locked; among = among })
+      (ap (λ (q : Actor). has_locks q.hold) hand ∙ free)
+      (subst (λ (q : Actor). RestsOn y.shape.buckets q.hold q P) (sym hand) rests))
+      grips
+      (record { quiet = me.quiet; begins = me.begins; stands = (me.stands.0 ∙ ap side_of inside ∙ ap side_of (sym goes.inside), me.stands.1, goes.relies) })
+      in
+      subst (λ (q : Hold). Sound n calls (in_hands y (pair_owned y.locks actor.pred actor.curr 0) a (with_hold actor q)) (moving callers a (call_at i c at) next) disk M P notes) (sym to ∙ sym (ap released hold)) done
+
+module _ (n calls : ℕ) (y : Yard) (callers : List (Option Caller)) (disk : Medium) (M : History) (P : Trace) (notes : Notes) (a i : ℕ) (sound : Sound n calls y callers disk M P notes) where
+  -- after a test that failed
+  pub release_keeps : (c : Command) (aim : Option ℕ) → caller_at callers a ≡ Some (call_at i c (Playing (Releasing aim) 0))
+      → Sound n calls (yard_done y (actor_at y a) a Release) (moving callers a (call_at i c (Playing (Releasing aim) 0)) (progress_after y.shape c (Playing (Releasing aim) 0) Done)) disk M P notes
+  release_keeps c aim is =
+      let h = (own n calls y callers disk M P notes a i c (Playing (Releasing aim) 0) is sound).stands.2 in
+      release_to n calls y callers disk M P notes a i c (Playing (Releasing aim) 0) is sound Locks Nothing (Walking aim AtHead) h.0 refl refl refl tt
+      (fresh_grip y.vault.dead (actor_at y a) (with_hold (actor_at y a) Nothing) (ap (closes y.vault.dead) h.0) (ap (opens y.vault.dead) h.0) (ap has_removed_node h.0) refl refl refl refl) refl (λ none is. absurd (false≢true is))
+      (record { relies = (record { hold = refl; none = h.2 }, aimed_same y.shape.buckets y.shape.passes y.vault.cells y.vault.dead (actor_at y a) (with_hold (actor_at y a) Nothing) (key_of c) P aim refl h.1, tt, h.3); inside = refl })
+
+  -- behind a linking
+  pub linked_release_keeps : (k s : ℕ) → caller_at callers a ≡ Some (call_at i (Add k) (Playing (Adding s) 2))
+      → Sound n calls (yard_done y (actor_at y a) a Release) (moving callers a (call_at i (Add k) (Playing (Adding s) 2)) (progress_after y.shape (Add k) (Playing (Adding s) 2) Done)) disk M P notes
+  linked_release_keeps k s is =
+      let h = (own n calls y callers disk M P notes a i (Add k) (Playing (Adding s) 2) is sound).stands.2 in
+      release_to n calls y callers disk M P notes a i (Add k) (Playing (Adding s) 2) is sound Linked Nothing (Playing (Adding s) 3) h.0 refl refl refl tt
+      (fresh_grip y.vault.dead (actor_at y a) (with_hold (actor_at y a) Nothing) (ap (closes y.vault.dead) h.0) (ap (opens y.vault.dead) h.0) (ap has_removed_node h.0) refl refl refl refl) refl (λ none is. refl)
+      (record { relies = (refl, h.1); inside = refl })
+
+  -- behind an unlinking
+  pub unlinked_release_keeps : (k s : ℕ) → caller_at callers a ≡ Some (call_at i (Remove k) (Playing (Removing s) 5))
+      → Sound n calls (yard_done y (actor_at y a) a Release) (moving callers a (call_at i (Remove k) (Playing (Removing s) 5)) (progress_after y.shape (Remove k) (Playing (Removing s) 5) Done)) disk M P notes
+  unlinked_release_keeps k s is =
+      let h = (own n calls y callers disk M P notes a i (Remove k) (Playing (Removing s) 5) is sound).stands.2 in
+      release_to n calls y callers disk M P notes a i (Remove k) (Playing (Removing s) 5) is sound Unlinked Released (Playing (Removing s) 6) h.2.0 refl refl refl tt
+      (out_grip y.vault.dead (actor_at y a) h.2.0) refl (λ none is. refl)
+      (record { relies = (h.0, h.1, (refl, h.2.1)); inside = refl })

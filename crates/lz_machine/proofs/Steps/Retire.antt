@@ -1,0 +1,221 @@
+-- Retire keeps the invariant: the slot goes to limbo, and no pass has been seen since.
+use Rattle.std.proofs.Common.{◌≡◌, ◌≢◌, ◌⊎◌, inl, inr, ℕ, zero, suc, ◌<◌, ◌≤◌, List, length, replicate, get_or, Option, Some, refl, sym, ap, ◌∙◌, subst, arith, get_or-set_other, get_or-set_same, length-set}
+use mathlib.Core.Bool.{false≢true}
+use Rattle.std.specs.Prelude.{unwrap_or}
+use Rattle.std.proofs.lemmas.Bool.{cases_eq, cases_lt}
+use Rattle.std.proofs.lemmas.List.{get_or-replicate, length-replicate}
+use Rattle.std.proofs.lemmas.Option.{same_Some, none-some}
+use Rattle.lz_slot.specs.declared.command.Command.TheVariants.{Remove}
+use Rattle.lz_slot.specs.Counted.{of_pass, set_of_pass}
+use Rattle.lz_slot.specs.Histories.{History}
+use Rattle.lz_slot.proofs.Counted.{length-set_of_pass}
+use Rattle.lz_disk.specs.Images.{Medium}
+use Rattle.lz_allot.specs.declared.sight.Sight.{Sight}
+use Rattle.lz_allot.specs.declared.sight.Sight.TheVariants.{Unseen, Inside, Left}
+use Rattle.lz_allot.specs.Uses.{Use, Taken, Limbo, use_of, retire}
+use Rattle.lz_list.specs.Traces.{Trace}
+use Rattle.lz_machine.specs.declared.event.Event.TheVariants.{Retire}
+use Rattle.lz_machine.specs.declared.event.Outcome.TheVariants.{Done}
+use Rattle.lz_machine.specs.declared.event.Reply.TheVariants.{Yes}
+use Rattle.lz_machine.specs.declared.actor.Actor.{Actor}
+use Rattle.lz_machine.specs.declared.actor.Hold.TheVariants.{Nothing}
+use Rattle.lz_machine.specs.declared.caller.Script.TheVariants.{Removing}
+use Rattle.lz_machine.specs.declared.caller.Progress.{Progress}
+use Rattle.lz_machine.specs.declared.caller.Progress.TheVariants.{Playing, Answering}
+use Rattle.lz_machine.specs.Yards.{Yard, actor_at}
+use Rattle.lz_machine.specs.Table.{with_hold, yard_done}
+use Rattle.lz_machine.specs.Calls.{progress_after}
+use Rattle.lz_machine.specs.Runs.{Caller, caller_at}
+use Rattle.lz_machine.specs.Limbo.{IsSeen}
+use Rattle.lz_machine.specs.Sound.{Notes, IsInside, actor_in, pin_in, closes, opens, shuts, unlocks, has_removed_node, IsOut, IsCloser, IsNodeStage, IsHandStage, SlotStands, is_node, is_held, is_out, is_free, is_limbo, SlotsSound, ReuseSound, HasLock, RestsOn, Relies, view_of, CallerSound, Sound}
+use Rattle.lz_machine.proofs.Frames.OneActor.{moving, callers_turn, ledger_turn}
+use Rattle.lz_machine.proofs.Frames.SameYard.{in_passes, tails_turn}
+use Rattle.lz_machine.proofs.Frames.NodeLocks.{held_locks}
+use Rattle.lz_machine.proofs.Steps.Hop.{call_at, own}
+use Rattle.lz_machine.proofs.Frames.Hand.{same_hand, other_hand}
+use Rattle.lz_machine.proofs.Frames.Uses.{inside_range, limbo_same, free_limbo}
+
+module _ (n calls : ℕ) (y : Yard) (callers : List (Option Caller)) (disk : Medium) (M : History) (P : Trace) (notes : Notes) (sound : Sound n calls y callers disk M P notes) (a i k s : ℕ) (is : caller_at callers a ≡ Some (call_at i (Remove k) (Playing (Removing s) 6))) where
+  abbrev at : Progress
+  at = Playing (Removing s) 6
+
+  h : Relies (view_of y.shape y.vault y.actors a) (Remove k) at (notes.begun a) P (notes.changed a)
+  h = (own n calls y callers disk M P notes a i (Remove k) at is sound).stands.2
+
+  abbrev x : Actor
+  x = with_hold (actor_at y a) Nothing
+
+  abbrev actors' : List Actor
+  actors' = set_of_pass y.actors a x
+
+  abbrev uses' : List Use
+  uses' = retire y.shape.passes y.uses s
+
+  hand_a : actor_in actors' a ≡ x
+  hand_a = same_hand n calls y callers disk M P notes a (call_at i (Remove k) at) is sound x
+
+  hand_b : (b : ℕ) → b ≢ a → actor_in actors' b ≡ actor_in y.actors b
+  hand_b b other = other_hand n calls y callers disk M P notes a (call_at i (Remove k) at) is sound x b other
+
+  out_a : IsOut (actor_in y.actors a) s
+  out_a = record { node = h.0; removed = ap has_removed_node h.2.0 }
+
+  lt : s < y.shape.slots
+  lt = (sound.slots.out a s out_a).in_range
+
+  use_same : use_of uses' s ≡ Limbo (replicate y.shape.passes Unseen)
+  use_same = get_or-set_same y.uses s (Limbo (replicate y.shape.passes Unseen)) Taken (omega (arith, lt, sound.slots.count))
+
+  use_other : (t : ℕ) → t ≢ s → use_of uses' t ≡ use_of y.uses t
+  use_other t other = get_or-set_other y.uses s t (Limbo (replicate y.shape.passes Unseen)) Taken other
+
+  -- each slot in a hand was so before, and is another one
+  held_then : (b t : ℕ) → (actor_in actors' b).slot ≡ Some t → (t ≢ s) × ((actor_in y.actors b).slot ≡ Some t)
+  held_then b t slot =
+      let was : (actor_in y.actors b).slot ≡ Some t = elim (cases_eq b a) [
+        | inl same ↦ ap (λ (q : ℕ). (actor_in y.actors q).slot) same ∙ ap (λ (q : Actor). q.slot) (sym hand_a) ∙ ap (λ (q : ℕ). (actor_in actors' q).slot) (sym same) ∙ slot
+        | inr other ↦ ap (λ (q : Actor). q.slot) (sym (hand_b b other)) ∙ slot
+      ] in
+      ((λ same. sound.slots.hand_out b a t was (subst (IsOut (actor_in y.actors a)) (sym same) out_a)), was)
+
+  out_then : (b t : ℕ) → IsOut (actor_in actors' b) t → (t ≢ s) × IsOut (actor_in y.actors b) t
+  out_then b t out = elim (cases_eq b a) [
+    | inl same ↦
+        let mine = subst (λ (q : Actor). IsOut q t) hand_a (subst (λ (q : ℕ). IsOut (actor_in actors' q) t) same out) in
+        absurd (false≢true mine.removed)
+    | inr other ↦
+        let was = subst (λ (q : Actor). IsOut q t) (hand_b b other) out in
+        ((λ it. other (sound.slots.one_out b a t was (subst (IsOut (actor_in y.actors a)) (sym it) out_a))), was)
+  ]
+
+  stage_still : (t : ℕ) → IsNodeStage y.vault.cells y.vault.dead y.actors P t → IsNodeStage y.vault.cells y.vault.dead actors' P t
+  stage_still t (inl opened) = inl opened
+  stage_still t (inr (b, closer, written)) = elim (cases_eq b a) [
+    | inl same ↦ absurd (false≢true (ap (closes y.vault.dead) (sym h.2.0) ∙ (subst (λ (q : ℕ). IsCloser y.vault.dead (actor_in y.actors q) t) same closer).closes))
+    | inr other ↦ inr (b, subst (λ (q : Actor). IsCloser y.vault.dead q t) (sym (hand_b b other)) closer, written)
+  ]
+
+  slot_still : (b : ℕ) → (actor_in actors' b).slot ≡ (actor_in y.actors b).slot
+  slot_still b = elim (cases_eq b a) [
+    | inl same ↦ ap (λ (q : ℕ). (actor_in actors' q).slot) same ∙ ap (λ (q : Actor). q.slot) hand_a ∙ ap (λ (q : ℕ). (actor_in y.actors q).slot) (sym same)
+    | inr other ↦ ap (λ (q : Actor). q.slot) (hand_b b other)
+  ]
+
+  stands_then : (t : ℕ) → t ≢ s → SlotStands y.shape y.vault.cells y.vault.dead y.uses y.actors P t → SlotStands y.shape y.vault.cells y.vault.dead uses' actors' P t
+  stands_then t apart (is_node chain stage) = is_node (record { there = chain.there; taken = use_other t apart ∙ chain.taken; key = chain.key }) (stage_still t stage)
+  stands_then t apart (is_held b slot) = is_held b (slot_still b ∙ slot)
+  stands_then t apart (is_out b out) = elim (cases_eq b a) [
+    | inl same ↦ absurd (apart (same_Some _ _ (sym (ap (λ (q : ℕ). (actor_in y.actors q).curr) (sym same) ∙ out.node) ∙ h.0)))
+    | inr other ↦ is_out b (subst (λ (q : Actor). IsOut q t) (sym (hand_b b other)) out)
+  ]
+  stands_then t apart (is_free loose is' stage) = is_free loose (use_other t apart ∙ is') stage
+  stands_then t apart (is_limbo sights loose limbo stage) = is_limbo sights loose (use_other t apart ∙ limbo) stage
+
+  retired_slots : SlotsSound y.shape y.vault.cells y.vault.dead uses' actors' P
+  retired_slots =
+      let gone = sound.slots.out a s out_a in
+      record {
+        count = length-set y.uses s _ ∙ sound.slots.count;
+        each = λ t within. elim (cases_eq t s) [
+          | inl same ↦ subst (SlotStands y.shape y.vault.cells y.vault.dead uses' actors' P) (sym same) (is_limbo (replicate y.shape.passes Unseen) gone.loose use_same gone.stage)
+          | inr other ↦ stands_then t other (sound.slots.each t within)
+        ];
+        hand = λ b t slot.
+            let old = held_then b t slot in
+            let was = sound.slots.hand b t old.1 in
+            record { in_range = was.in_range; loose = was.loose; taken = use_other t old.0 ∙ was.taken; stage = hand_stage b t slot was.stage };
+        out = λ b t out. let old = out_then b t out in let was = sound.slots.out b t old.1 in record { in_range = was.in_range; loose = was.loose; taken = use_other t old.0 ∙ was.taken; stage = was.stage };
+        one_hand = λ b d t one two. sound.slots.one_hand b d t (held_then b t one).1 (held_then d t two).1;
+        one_out = λ b d t one two. sound.slots.one_out b d t (out_then b t one).1 (out_then d t two).1;
+        hand_out = λ b d t hand out. sound.slots.hand_out b d t (held_then b t hand).1 (out_then d t out).1;
+        opened = λ b t slot is'. elim (cases_eq b a) [
+          | inl same ↦ absurd (false≢true (ap (λ (q : Actor). unlocks q.hold) (sym hand_a) ∙ ap (λ (q : ℕ). unlocks (actor_in actors' q).hold) (sym same) ∙ is'))
+          | inr other ↦ sound.slots.opened b t (held_then b t slot).1 (ap (λ (q : Actor). unlocks q.hold) (sym (hand_b b other)) ∙ is')
+        ];
+        closed = λ b t here shut. elim (cases_eq b a) [
+          | inl same ↦ absurd (false≢true (ap (λ (q : Actor). shuts q.hold) (sym hand_a) ∙ ap (λ (q : ℕ). shuts (actor_in actors' q).hold) (sym same) ∙ shut))
+          | inr other ↦ sound.slots.closed b t (ap (λ (q : Actor). q.curr) (sym (hand_b b other)) ∙ here) (ap (λ (q : Actor). shuts q.hold) (sym (hand_b b other)) ∙ shut)
+        ];
+        added = sound.slots.added;
+        removed = sound.slots.removed;
+      }
+    where
+      hand_stage : (b t : ℕ) → (actor_in actors' b).slot ≡ Some t → IsHandStage y.vault.cells y.vault.dead (actor_in y.actors b) P t → IsHandStage y.vault.cells y.vault.dead (actor_in actors' b) P t
+      hand_stage b t slot (inl shut) = inl shut
+      hand_stage b t slot (inr opened) = elim (cases_eq b a) [
+        | inl same ↦ absurd (false≢true (ap (opens y.vault.dead) (sym h.2.0) ∙ ap (λ (q : ℕ). opens y.vault.dead (actor_in y.actors q).hold) (sym same) ∙ opened.0))
+        | inr other ↦ inr (ap (λ (q : Actor). opens y.vault.dead q.hold) (hand_b b other) ∙ opened.0, opened.1, opened.2)
+      ]
+
+  -- no pass has been seen yet
+  unseen : (b m : ℕ) → (of_pass (replicate m Unseen) b Left ≡ Unseen) ⊎ (((1 ≤ b) × (b ≤ m)) → ⊥)
+  unseen zero m = inr (λ r. omega (arith, r.0))
+  unseen (suc j) m = elim (cases_lt j m) [
+    | inl within ↦ inl (get_or-replicate m j Unseen Left within)
+    | inr past ↦ inr (λ r. omega (arith, r.1, past))
+  ]
+
+  seen_new : (b : ℕ) (sight : Sight) → (sight ≡ Unseen) ⊎ (IsInside (pin_in y.words.pins b) → ⊥) → (sight ≡ Unseen) ⊎ (sight ≡ Left) → IsSeen y.shape.buckets (pin_in y.words.pins b) (notes.begun b) P s sight
+  seen_new b Unseen why one = tt
+  seen_new b Left (inr never) one = λ inside. absurd (never inside)
+  seen_new b Left (inl no_sight) one = absurd cc
+  seen_new b (Inside u) why (inl e) = absurd cc
+  seen_new b (Inside u) why (inr e) = absurd cc
+
+  retired_reuse : ReuseSound y.shape y.words.pins uses' actors' P notes.begun
+  retired_reuse = record {
+    worn = sound.reuse.worn;
+    sights = λ t seen limbo. elim (cases_eq t s) [
+      | inl same ↦ ap length (limbo_same (sym limbo ∙ ap (use_of uses') same ∙ use_same)) ∙ length-replicate y.shape.passes Unseen
+      | inr other ↦ sound.reuse.sights t seen (sym (use_other t other) ∙ limbo)
+    ];
+    seen = λ b t seen limbo. elim (cases_eq t s) [
+      | inl same ↦
+          subst (λ (q : ℕ). IsSeen y.shape.buckets (pin_in y.words.pins b) (notes.begun b) P q (of_pass seen b Left)) (sym same)
+          (subst (λ (l : List Sight). IsSeen y.shape.buckets (pin_in y.words.pins b) (notes.begun b) P s (of_pass l b Left)) (sym (limbo_same (sym limbo ∙ ap (use_of uses') same ∙ use_same)))
+          (fresh b))
+      | inr other ↦ sound.reuse.seen b t seen (sym (use_other t other) ∙ limbo)
+    ];
+    free = λ b t free inside. elim (cases_eq t s) [
+      | inl same ↦ absurd (free_limbo (sym (sym use_same ∙ ap (use_of uses') (sym same) ∙ free)))
+      | inr other ↦ sound.reuse.free b t (sym (use_other t other) ∙ free) inside
+    ];
+    reserved = λ b d t slot inside. sound.reuse.reserved b d t (held_then d t slot).1 inside;
+  }
+    where
+      fresh : (b : ℕ) → IsSeen y.shape.buckets (pin_in y.words.pins b) (notes.begun b) P s (of_pass (replicate y.shape.passes Unseen) b Left)
+      fresh b = elim (unseen b y.shape.passes) [
+        | inl none ↦ subst (IsSeen y.shape.buckets (pin_in y.words.pins b) (notes.begun b) P s) (sym none) tt
+        | inr outside ↦ never b (λ inside. let r = inside_range y.words.pins b inside in outside (r.0, omega (arith, r.1, sound.trace.pins)))
+      ]
+        where
+          all_unseen : (j m : ℕ) → (get_or (replicate m Unseen) j Left ≡ Unseen) ⊎ (get_or (replicate m Unseen) j Left ≡ Left)
+          all_unseen j zero = inr refl
+          all_unseen zero (suc m) = inl refl
+          all_unseen (suc j) (suc m) = all_unseen j m
+
+          either : (d : ℕ) → (of_pass (replicate y.shape.passes Unseen) d Left ≡ Unseen) ⊎ (of_pass (replicate y.shape.passes Unseen) d Left ≡ Left)
+          either zero = inr refl
+          either (suc j) = all_unseen j y.shape.passes
+
+          never : (d : ℕ) → (IsInside (pin_in y.words.pins d) → ⊥) → IsSeen y.shape.buckets (pin_in y.words.pins d) (notes.begun d) P s (of_pass (replicate y.shape.passes Unseen) d Left)
+          never d no_inside = seen_new d (of_pass (replicate y.shape.passes Unseen) d Left) (inr no_inside) (either d)
+
+  pub retire_keeps : Sound n calls (yard_done y (actor_at y a) a Retire) (moving callers a (call_at i (Remove k) at) (progress_after y.shape (Remove k) at Done)) disk M P notes
+  retire_keeps =
+      let me = own n calls y callers disk M P notes a i (Remove k) at is sound in
+      let done : Sound n calls (record { shape = y.shape; words = y.words; locks = y.locks; vault = y.vault; uses = uses'; actors = actors' }) (moving callers a (call_at i (Remove k) at) (Answering Yes)) disk M P notes = record {
+        trace = sound.trace;
+        images = sound.images;
+        slots = retired_slots;
+        locks = held_locks y.shape y.locks y.actors actors' P a hand_b sound.locks
+            (λ place lock. absurd (false≢true (subst (λ (q : Actor). HasLock q place) hand_a lock).locks))
+            (subst (λ (q : Actor). RestsOn y.shape.buckets q.hold q P) (sym hand_a) tt);
+        callers = callers_turn callers a (call_at i (Remove k) at) is (Answering Yes) y.shape y.vault y.words.pins y.actors actors' P notes (length-set_of_pass y.actors a x) hand_b
+            (subst (λ (q : Actor). CallerSound (record { buckets = y.shape.buckets; passes = y.shape.passes; cells = y.vault.cells; dead = y.vault.dead; actor = q }) (pin_in y.words.pins a) (Some (call_at i (Remove k) (Answering Yes))) (notes.begun a) P (notes.changed a)) (sym hand_a) (record { quiet = me.quiet; begins = me.begins; stands = (me.stands.0, me.stands.1, (h.2.1, inl refl)) }))
+            sound.callers;
+        reuse = retired_reuse;
+        ledger = ledger_turn callers a (call_at i (Remove k) at) is (Answering Yes) n calls y.shape.passes P M notes sound.ledger;
+        tails = tails_turn callers a (call_at i (Remove k) at) is (Answering Yes) y.shape.passes notes (in_passes n calls y callers disk M P notes a (call_at i (Remove k) at) is sound) (λ none is. absurd (none-some _ (sym (sym h.2.1.is ∙ none)))) y.shape y.vault.cells y.actors actors' P M slot_still sound.tails;
+      } in
+      subst (λ (q : ℕ). Sound n calls (record { shape = y.shape; words = y.words; locks = y.locks; vault = y.vault; uses = retire y.shape.passes y.uses q; actors = actors' }) (moving callers a (call_at i (Remove k) at) (Answering Yes)) disk M P notes) (sym (ap (λ (q : Option ℕ). unwrap_or q 0) h.0)) done

@@ -1,0 +1,256 @@
+-- A sync, and the death of the vault, keep the invariant.
+use Rattle.std.proofs.Common.{◌≡◌, ◌≢◌, inl, inr, ℕ, zero, suc, Bool, true, false, List, [], ◌∷◌, map, Option, Some, refl, sym, ap, ◌∙◌, subst, arith}
+use mathlib.Core.Bool.{false≢true}
+use Rattle.std.proofs.lemmas.List.{length-map}
+use Rattle.lz_slot.specs.declared.command.Command.{Command}
+use Rattle.lz_slot.specs.declared.command.Command.TheVariants.{Add, Remove}
+use Rattle.lz_slot.specs.Histories.{History}
+use Rattle.lz_disk.specs.Images.{Medium, synced}
+use Rattle.lz_vault.specs.declared.vault.Stage.{Stage}
+use Rattle.lz_vault.specs.declared.vault.Stage.TheVariants.{Closed, KeyLoose, Keyed, Opening, Open, Closing}
+use Rattle.lz_vault.specs.Stages.{Cell, Keeps, stage_synced, cell_synced, is_covered}
+use Rattle.lz_vault.specs.Vaults.{SyncAll, medium_after, syncs_after, died}
+use Rattle.lz_vault.proofs.Changes.{from_map, sync_keeps}
+use Rattle.lz_allot.specs.Uses.{Use}
+use Rattle.lz_list.specs.declared.walk.Look.TheVariants.{AtHead}
+use Rattle.lz_list.specs.Traces.{Trace}
+use Rattle.lz_machine.specs.declared.event.Event.TheVariants.{Sync}
+use Rattle.lz_machine.specs.declared.event.Outcome.TheVariants.{Done}
+use Rattle.lz_machine.specs.declared.event.Reply.{Reply}
+use Rattle.lz_machine.specs.declared.actor.Actor.{Actor}
+use Rattle.lz_machine.specs.declared.caller.Script.TheVariants.{Writing, Adding, Removing, Resting}
+use Rattle.lz_machine.specs.declared.caller.Progress.TheVariants.{Playing, Walking}
+use Rattle.lz_machine.specs.Yards.{Yard, Shape, actor_at}
+use Rattle.lz_machine.specs.Table.{is_sure, call_of, with_vault, yard_done}
+use Rattle.lz_machine.specs.Calls.{progress_after}
+use Rattle.lz_machine.specs.Runs.{Caller, caller_at}
+use Rattle.lz_machine.specs.Ledgers.{Row}
+use Rattle.lz_machine.specs.Sound.{Notes, actor_in, pin_in, cell_in, stage_in, IsGateClosed, IsGateOpened, IsGateWritten, IsNodeStage, IsHandStage, SlotStands, is_node, is_held, is_out, is_free, is_limbo, SlotsSound, HasTail, TailsSound, IsKeyed, Sound, entries}
+use Rattle.lz_machine.proofs.Frames.OneActor.{moving}
+use Rattle.lz_machine.proofs.Frames.Grip.{keeps_itself, slots_turn}
+use Rattle.lz_machine.proofs.Frames.Cells.{KeepsCell, caller_vaulted}
+use Rattle.lz_machine.proofs.Steps.Hop.{call_at, own, goes_on_keeps}
+
+-- the cell of a slot after a sync
+pub cell_map : (cells : List Cell) (s : ℕ) → cell_in (map cell_synced cells) s ≡ cell_synced (cell_in cells s)
+cell_map [] s = refl
+cell_map (c ∷ cells) zero = refl
+cell_map (c ∷ cells) (suc s) = cell_map cells s
+
+-- What a sync does to a stage.
+pub closed_synced : (stage : Stage) → IsGateClosed stage → IsGateClosed (stage_synced stage)
+closed_synced stage (inl e) = rw e (inl refl)
+closed_synced stage (inr (inl e)) = rw e (inr (inr refl))
+closed_synced stage (inr (inr e)) = rw e (inr (inr refl))
+
+pub opened_synced : (stage : Stage) → IsGateOpened stage → IsGateOpened (stage_synced stage)
+opened_synced stage (inl e) = rw e (inr refl)
+opened_synced stage (inr e) = rw e (inr refl)
+
+pub written_synced : (stage : Stage) → IsGateWritten stage → IsGateWritten (stage_synced stage)
+written_synced stage (inl e) = rw e (inr refl)
+written_synced stage (inr e) = rw e (inr refl)
+
+opened_before : (stage : Stage) → IsGateOpened (stage_synced stage) → IsGateOpened stage
+opened_before Opening h = inl refl
+opened_before Open h = inr refl
+opened_before Closed (inl e) = absurd cc
+opened_before Closed (inr e) = absurd cc
+opened_before KeyLoose (inl e) = absurd cc
+opened_before KeyLoose (inr e) = absurd cc
+opened_before Keyed (inl e) = absurd cc
+opened_before Keyed (inr e) = absurd cc
+opened_before Closing (inl e) = absurd cc
+opened_before Closing (inr e) = absurd cc
+
+written_before : (stage : Stage) → IsGateWritten (stage_synced stage) → IsGateWritten stage
+written_before Closing h = inl refl
+written_before Closed h = inr refl
+written_before Opening (inl e) = absurd cc
+written_before Opening (inr e) = absurd cc
+written_before Open (inl e) = absurd cc
+written_before Open (inr e) = absurd cc
+written_before KeyLoose (inl e) = absurd cc
+written_before KeyLoose (inr e) = absurd cc
+written_before Keyed (inl e) = absurd cc
+written_before Keyed (inr e) = absurd cc
+
+-- after a sync nothing is being opened
+pub not_opening : (stage : Stage) → stage_synced stage ≢ Opening
+not_opening Closed e = absurd cc
+not_opening KeyLoose e = absurd cc
+not_opening Keyed e = absurd cc
+not_opening Opening e = absurd cc
+not_opening Open e = absurd cc
+not_opening Closing e = absurd cc
+
+module _ (cells : List Cell) where
+  abbrev cells' : List Cell
+  cells' = map cell_synced cells
+
+  stage_map : (s : ℕ) → stage_in cells' s ≡ stage_synced (stage_in cells s)
+  stage_map s = ap (λ (c : Cell). c.stage) (cell_map cells s)
+
+  key_map : (s : ℕ) → (cell_in cells' s).key ≡ (cell_in cells s).key
+  key_map s = ap (λ (c : Cell). c.key) (cell_map cells s)
+
+  synced_is : (A : Stage → Type 0) → ((stage : Stage) → A stage → A (stage_synced stage)) → (s : ℕ) → A (stage_in cells s) → A (stage_in cells' s)
+  synced_is A f s h = subst A (sym (stage_map s)) (f (stage_in cells s) h)
+
+  pub cell_keeps : (s : ℕ) → KeepsCell (cell_in cells s) (cell_in cells' s)
+  cell_keeps s = record {
+    key = key_map s;
+    keyed = synced_is IsKeyed keyed s;
+    sure = synced_is (λ stage. stage ≡ Keyed) (λ stage e. ap stage_synced e) s;
+  }
+    where
+      keyed : (stage : Stage) → IsKeyed stage → IsKeyed (stage_synced stage)
+      keyed stage (inl e) = rw e (inr refl)
+      keyed stage (inr e) = rw e (inr refl)
+
+  module _ (shape : Shape) (dead : Bool) (uses : List Use) (actors : List Actor) (P : Trace) where
+    node_synced : (s : ℕ) → IsNodeStage cells dead actors P s → IsNodeStage cells' dead actors P s
+    node_synced s (inl (clear, opened)) = inl (clear, synced_is IsGateOpened opened_synced s opened)
+    node_synced s (inr (b, closer, written)) = inr (b, closer, synced_is IsGateWritten written_synced s written)
+
+    hand_synced : (actor : Actor) (s : ℕ) → IsHandStage cells dead actor P s → IsHandStage cells' dead actor P s
+    hand_synced actor s (inl shut) = inl (synced_is IsGateClosed closed_synced s shut)
+    hand_synced actor s (inr (opener, opened, key)) = inr (opener, synced_is IsGateOpened opened_synced s opened, key_map s ∙ key)
+
+    stands_synced : (s : ℕ) → SlotStands shape cells dead uses actors P s → SlotStands shape cells' dead uses actors P s
+    stands_synced s (is_node chain stage) = is_node (record { there = chain.there; taken = chain.taken; key = key_map s ∙ chain.key }) (node_synced s stage)
+    stands_synced s (is_held a slot) = is_held a slot
+    stands_synced s (is_out a out) = is_out a out
+    stands_synced s (is_free loose free stage) = is_free loose free (synced_is IsGateClosed closed_synced s stage)
+    stands_synced s (is_limbo sights loose limbo stage) = is_limbo sights loose limbo (synced_is (λ q. q ≡ Closed) (λ q e. ap stage_synced e) s stage)
+
+    pub slots_synced : SlotsSound shape cells dead uses actors P → SlotsSound shape cells' dead uses actors P
+    slots_synced h = record {
+      count = h.count;
+      each = λ s lt. stands_synced s (h.each s lt);
+      hand = λ a s slot. let was = h.hand a s slot in record { in_range = was.in_range; loose = was.loose; taken = was.taken; stage = hand_synced (actor_in actors a) s was.stage };
+      out = λ a s out. let was = h.out a s out in record { in_range = was.in_range; loose = was.loose; taken = was.taken; stage = synced_is (λ q. q ≡ Closed) (λ q e. ap stage_synced e) s was.stage };
+      one_hand = h.one_hand;
+      one_out = h.one_out;
+      hand_out = h.hand_out;
+      opened = λ a s slot is. synced_is IsGateOpened opened_synced s (h.opened a s slot is);
+      closed = λ a s at is. synced_is IsGateWritten written_synced s (h.closed a s at is);
+      added = λ k s key there is. λ e. not_opening (stage_in cells s) (sym (stage_map s) ∙ e);
+      removed = λ k s key there is. synced_is (λ q. q ≡ Closed) (λ q e. ap stage_synced e) s (h.removed k s key there is);
+    }
+
+    pub tails_synced : (callers : List (Option Caller)) (rows : List Row) (M : History) → TailsSound shape cells actors P callers rows M → TailsSound shape cells' actors P callers rows M
+    tails_synced callers rows M h = record {
+      adding = λ a s slot opened. subst (λ (q : ℕ). HasTail (Add q) callers rows M) (sym (key_map s)) (h.adding a s slot (opened_before (stage_in cells s) (subst IsGateOpened (stage_map s) opened)));
+      removing = λ s there clear written. subst (λ (q : ℕ). HasTail (Remove q) callers rows M) (sym (key_map s)) (h.removing s there clear (written_before (stage_in cells s) (subst IsGateWritten (stage_map s) written)));
+    }
+
+-- the yard after a sync that succeeded
+abbrev pub synced_yard : Yard → ℕ → Yard
+synced_yard y syncs = with_vault y (record { cells = map cell_synced y.vault.cells; syncs = syncs; dead = y.vault.dead })
+
+module _ (n calls : ℕ) (y : Yard) (callers : List (Option Caller)) (disk : Medium) (M : History) (P : Trace) (notes : Notes) (sound : Sound n calls y callers disk M P notes) where
+  -- a sync makes sure what was written, while the vault lives
+  pub synced_keeps : (syncs : ℕ) → y.vault.dead ≡ false → Sound n calls (synced_yard y syncs) callers (synced disk) M P notes
+  synced_keeps syncs alive = record {
+    trace = sound.trace;
+    images = record {
+      slots = sound.images.slots;
+      count = length-map y.vault.cells cell_synced ∙ sound.images.count;
+      keys = λ s cell at. let was = from_map y.vault.cells s cell at in omega (arith, ap (λ (c : Cell). c.key) was.2, sound.images.keys s was.0 was.1);
+      keeps = subst (λ (b : Bool). Keeps (map cell_synced y.vault.cells) b (synced disk)) (sym alive) (sync_keeps y.vault.cells disk (subst (λ (b : Bool). Keeps y.vault.cells b disk) alive sound.images.keeps));
+    };
+    slots = slots_synced y.vault.cells y.shape y.vault.dead y.uses y.actors P sound.slots;
+    locks = sound.locks;
+    callers = record {
+      count = sound.callers.count;
+      hands = sound.callers.hands;
+      each = λ b. caller_vaulted y.shape.buckets y.shape.passes y.vault.cells (map cell_synced y.vault.cells) y.vault.dead y.vault.dead (actor_in y.actors b) (notes.begun b) P (notes.changed b) (λ e. e) (λ s slot. cell_keeps y.vault.cells s) (pin_in y.words.pins b) (caller_at callers b) (sound.callers.each b);
+    };
+    reuse = sound.reuse;
+    ledger = sound.ledger;
+    tails = tails_synced y.vault.cells y.shape y.vault.dead y.uses y.actors P callers (entries y.shape.passes callers notes) M sound.tails;
+  }
+
+  -- the event, whether a sync is made or not
+  pub sync_done : (a s : ℕ) → y.vault.dead ≡ false → Sound n calls (yard_done y (actor_at y a) a (Sync s)) callers (medium_after (call_of y (actor_at y a) (Sync s)) disk) M P notes
+  sync_done a s alive = go (is_sure y s) refl
+    where
+      go : (b : Bool) → is_sure y s ≡ b → Sound n calls (yard_done y (actor_at y a) a (Sync s)) callers (medium_after (call_of y (actor_at y a) (Sync s)) disk) M P notes
+      go true sure = rw sure sound
+      go false loose = rw loose (synced_keeps (syncs_after SyncAll y.vault.syncs) alive)
+
+  -- the slot's last write is sure then
+  sure_then : (a s : ℕ) → IsKeyed (stage_in y.vault.cells s) → stage_in (yard_done y (actor_at y a) a (Sync s)).vault.cells s ≡ Keyed
+  sure_then a s keyed = go (is_sure y s) refl
+    where
+      covered : (stage : Stage) → IsKeyed stage → is_covered stage ≡ true → stage ≡ Keyed
+      covered stage (inl e) sure = absurd (false≢true (ap is_covered (sym e) ∙ sure))
+      covered stage (inr e) sure = e
+
+      synced_keyed : (stage : Stage) → IsKeyed stage → stage_synced stage ≡ Keyed
+      synced_keyed stage (inl e) = ap stage_synced e
+      synced_keyed stage (inr e) = ap stage_synced e
+
+      go : (b : Bool) → is_sure y s ≡ b → stage_in (yard_done y (actor_at y a) a (Sync s)).vault.cells s ≡ Keyed
+      go true sure = rw sure (covered (stage_in y.vault.cells s) keyed sure)
+      go false loose = rw loose (stage_map y.vault.cells s ∙ synced_keyed (stage_in y.vault.cells s) keyed)
+
+  same_key : (a s t : ℕ) → (cell_in (yard_done y (actor_at y a) a (Sync s)).vault.cells t).key ≡ (cell_in y.vault.cells t).key
+  same_key a s t = go (is_sure y s) refl
+    where
+      go : (b : Bool) → is_sure y s ≡ b → (cell_in (yard_done y (actor_at y a) a (Sync s)).vault.cells t).key ≡ (cell_in y.vault.cells t).key
+      go true sure = rw sure refl
+      go false loose = rw loose (key_map y.vault.cells t)
+
+  -- behind the write of a key
+  pub sync_written_keeps : (a i : ℕ) (c : Command) (s : ℕ) → y.vault.dead ≡ false → caller_at callers a ≡ Some (call_at i c (Playing (Writing s) 1))
+      → Sound n calls (yard_done y (actor_at y a) a (Sync s)) (moving callers a (call_at i c (Playing (Writing s) 1)) (progress_after y.shape c (Playing (Writing s) 1) Done)) (medium_after (call_of y (actor_at y a) (Sync s)) disk) M P notes
+  sync_written_keeps a i c s alive is =
+      let h = (own n calls y callers disk M P notes a i c (Playing (Writing s) 1) is sound).stands.2 in
+      goes_on_keeps n calls (yard_done y (actor_at y a) a (Sync s)) callers (medium_after (call_of y (actor_at y a) (Sync s)) disk) M P notes a i c (Playing (Writing s) 1) is (sync_done a s alive) (Walking (Some s) AtHead) refl (λ none is. absurd (false≢true is))
+      (record { relies = (record { hold = h.0.hold; none = h.0.none }, record { slot = h.1; stage = sure_then a s h.4; key = same_key a s s ∙ h.2; word = h.3 }, tt, h.5); inside = refl })
+
+  -- behind a linking
+  pub sync_added_keeps : (a i k s : ℕ) → y.vault.dead ≡ false → caller_at callers a ≡ Some (call_at i (Add k) (Playing (Adding s) 3))
+      → Sound n calls (yard_done y (actor_at y a) a (Sync s)) (moving callers a (call_at i (Add k) (Playing (Adding s) 3)) (progress_after y.shape (Add k) (Playing (Adding s) 3) Done)) (medium_after (call_of y (actor_at y a) (Sync s)) disk) M P notes
+  sync_added_keeps a i k s alive is =
+      let h = (own n calls y callers disk M P notes a i (Add k) (Playing (Adding s) 3) is sound).stands.2 in
+      goes_on_keeps n calls (yard_done y (actor_at y a) a (Sync s)) callers (medium_after (call_of y (actor_at y a) (Sync s)) disk) M P notes a i (Add k) (Playing (Adding s) 3) is (sync_done a s alive) (Playing (Adding s) 4) refl (λ none is. refl) (record { relies = h; inside = refl })
+
+  -- behind a marking
+  pub sync_marked_keeps : (a i k s : ℕ) → y.vault.dead ≡ false → caller_at callers a ≡ Some (call_at i (Remove k) (Playing (Removing s) 2))
+      → Sound n calls (yard_done y (actor_at y a) a (Sync s)) (moving callers a (call_at i (Remove k) (Playing (Removing s) 2)) (progress_after y.shape (Remove k) (Playing (Removing s) 2) Done)) (medium_after (call_of y (actor_at y a) (Sync s)) disk) M P notes
+  sync_marked_keeps a i k s alive is =
+      let h = (own n calls y callers disk M P notes a i (Remove k) (Playing (Removing s) 2) is sound).stands.2 in
+      goes_on_keeps n calls (yard_done y (actor_at y a) a (Sync s)) callers (medium_after (call_of y (actor_at y a) (Sync s)) disk) M P notes a i (Remove k) (Playing (Removing s) 2) is (sync_done a s alive) (Playing (Removing s) 3) refl (λ none is. refl) (record { relies = h; inside = refl })
+
+  -- resting on a node
+  pub sync_rest_keeps : (a i : ℕ) (c : Command) (s : ℕ) (reply : Reply) → y.vault.dead ≡ false → caller_at callers a ≡ Some (call_at i c (Playing (Resting s reply) 0))
+      → Sound n calls (yard_done y (actor_at y a) a (Sync s)) (moving callers a (call_at i c (Playing (Resting s reply) 0)) (progress_after y.shape c (Playing (Resting s reply) 0) Done)) (medium_after (call_of y (actor_at y a) (Sync s)) disk) M P notes
+  sync_rest_keeps a i c s reply alive is =
+      let h = (own n calls y callers disk M P notes a i c (Playing (Resting s reply) 0) is sound).stands.2 in
+      goes_on_keeps n calls (yard_done y (actor_at y a) a (Sync s)) callers (medium_after (call_of y (actor_at y a) (Sync s)) disk) M P notes a i c (Playing (Resting s reply) 0) is (sync_done a s alive) (Playing (Resting s reply) 1) refl (λ none is. absurd (false≢true is))
+      (record { relies = (record { hold = h.0.hold; none = h.0.none }, h.1); inside = refl })
+
+  -- the vault dies, and what it says of the disk is so still
+  pub died_keeps : Sound n calls (with_vault y (died y.vault)) callers disk M P notes
+  died_keeps = record {
+    trace = sound.trace;
+    images = record {
+      slots = sound.images.slots;
+      count = sound.images.count;
+      keys = sound.images.keys;
+      keeps = record { sound = sound.images.keeps.sound; vouches = sound.images.keeps.vouches; reads = λ alive. absurd (false≢true (sym alive)) };
+    };
+    slots = slots_turn y.shape y.vault.cells y.vault.dead true y.uses y.actors y.actors P (λ b. keeps_itself y.vault.dead true (actor_in y.actors b) (actor_in y.actors b) (λ e. refl) refl) sound.slots;
+    locks = sound.locks;
+    callers = record {
+      count = sound.callers.count;
+      hands = sound.callers.hands;
+      each = λ b. caller_vaulted y.shape.buckets y.shape.passes y.vault.cells y.vault.cells y.vault.dead true (actor_in y.actors b) (notes.begun b) P (notes.changed b) (λ e. refl) (λ s slot. record { key = refl; keyed = λ k. k; sure = λ k. k }) (pin_in y.words.pins b) (caller_at callers b) (sound.callers.each b);
+    };
+    reuse = sound.reuse;
+    ledger = sound.ledger;
+    tails = sound.tails;
+  }

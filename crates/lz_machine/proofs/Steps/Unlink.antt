@@ -1,0 +1,350 @@
+-- Unlink keeps the invariant: the node that its remover has marked and settled is taken out.
+use Rattle.std.proofs.Common.{◌≡◌, ◌≢◌, ◌⊎◌, inl, inr, ℕ, suc, ◌<◌, not, true, List, ◌∷◌, ◌++◌, Option, Some, None, refl, sym, ap, ◌∙◌, subst, arith}
+use mathlib.Core.Bool.{false≢true}
+use Rattle.std.specs.Prelude.{unwrap_or}
+use Rattle.std.proofs.lemmas.Bool.{cases_eq}
+use Rattle.std.proofs.lemmas.Bool.Decides.{nat_tests}
+use Rattle.std.proofs.lemmas.Option.{same_Some}
+use Rattle.lz_slot.specs.declared.command.Command.TheVariants.{Add, Remove}
+use Rattle.lz_slot.specs.Counted.{of_pass, set_of_pass}
+use Rattle.lz_slot.specs.Histories.{History}
+use Rattle.lz_slot.proofs.Counted.{length-set_of_pass}
+use Rattle.lz_disk.specs.Images.{Medium}
+use Rattle.lz_allot.specs.declared.sight.Sight.TheVariants.{Left}
+use Rattle.lz_allot.specs.Uses.{Taken, use_of}
+use Rattle.lz_list.specs.declared.place.Place.{Place}
+use Rattle.lz_list.specs.declared.place.Place.TheVariants.{Bucket, Node}
+use Rattle.lz_list.specs.declared.publishing.Publishing.TheVariants.{Unlinked as unlinked}
+use Rattle.lz_list.specs.declared.word.Word.TheVariants.{Key as key_at}
+use Rattle.lz_list.specs.Words.{Words, get, redirect, next_at, place_number}
+use Rattle.lz_list.specs.Traces.{Trace, Lawful, IsLoose, on, chain, chain_of, bucket_of, key_word, is_marked, next_link, node_next}
+use Rattle.lz_list.proofs.Shown.{words_show_chain}
+use Rattle.lz_list.proofs.Nodes.{node, one_node, on_without}
+use Rattle.lz_list.proofs.Resting.{on_without_other}
+use Rattle.lz_list.specs.Locks.{claimed_places, owner}
+use Rattle.lz_machine.specs.declared.event.Event.TheVariants.{Unlink}
+use Rattle.lz_machine.specs.declared.actor.Actor.{Actor}
+use Rattle.lz_machine.specs.declared.actor.Hold.{Hold}
+use Rattle.lz_machine.specs.declared.actor.Hold.TheVariants.{Nothing, Locks, Checked, GateOpened, Linked, GateClosed, Marked, Unlinked, Released}
+use Rattle.lz_machine.specs.declared.caller.Script.TheVariants.{Removing}
+use Rattle.lz_machine.specs.declared.caller.Progress.{Progress}
+use Rattle.lz_machine.specs.declared.caller.Progress.TheVariants.{Playing}
+use Rattle.lz_machine.specs.Yards.{Yard, actor_at}
+use Rattle.lz_machine.specs.Table.{with_hold, node_of, yard_done, publishes}
+use Rattle.lz_machine.specs.Runs.{Caller, caller_at}
+use Rattle.lz_machine.specs.Stands.{FacesNode, IsLeaving, InBucket}
+use Rattle.lz_machine.specs.Sound.{Notes, actor_in, pin_in, cell_in, opens, shuts, unlocks, has_removed_node, has_locks, IsOut, IsCloser, IsNodeStage, IsHandStage, SlotStands, is_node, is_held, is_out, is_free, is_limbo, IsGone, SlotsSound, ReuseSound, HasPlace, HasLock, IsBefore, HasClosed, RestsOn, LocksSound, Relies, view_of, CallerSound, CallersSound, Sound}
+use Rattle.lz_machine.proofs.Frames.ActorTable.{by_actor}
+use Rattle.lz_machine.proofs.Frames.OneActor.{moving, moved_same, moved_other, carry, ledger_turn}
+use Rattle.lz_machine.proofs.Frames.Limbo.{seen_step, away_stays}
+use Rattle.lz_machine.proofs.Frames.Publishing.{LeavesCaller, caller_published, change_stays}
+use Rattle.lz_machine.proofs.Steps.Pin.{limbo_loose, free_loose}
+use Rattle.lz_machine.proofs.Frames.Ranges.{on_range}
+use Rattle.lz_machine.proofs.Frames.LoadedWord.{link_next, key_load}
+use Rattle.lz_machine.proofs.Ledger.QuietPublishing.{ledger_published}
+use Rattle.lz_machine.proofs.Steps.Halt.{held_node}
+use Rattle.lz_machine.proofs.Steps.Hop.{call_at, own}
+use Rattle.lz_machine.proofs.Frames.Hand.{same_hand, other_hand}
+use Rattle.lz_machine.proofs.Frames.HeldLocks.{rests_on_pair, pair_published, unlinked_leaves, one_place}
+use Rattle.lz_machine.proofs.Frames.Store.{trace_unlinked}
+use Rattle.lz_machine.proofs.Frames.OtherUnlink as unlinks
+use Rattle.lz_machine.proofs.Frames.SameYard.{in_passes, tail_turn}
+
+-- an actor that rests on its pair has its locks
+pub resting_locks : (hold : Hold) → rests_on_pair hold ≡ true → has_locks hold ≡ true
+resting_locks Nothing is = absurd (false≢true is)
+resting_locks Released is = absurd (false≢true is)
+resting_locks _ is = refl
+
+pub first_place : (pred : Place) (curr : Option ℕ) → HasPlace pred (claimed_places pred curr)
+first_place pred None = inl refl
+first_place pred (Some s) = inl refl
+
+pub node_place : (pred : Place) (curr : Option ℕ) (s : ℕ) → curr ≡ Some s → HasPlace (Node s) (claimed_places pred curr)
+node_place pred None s is = absurd cc
+node_place pred (Some t) s is = inr (inl (ap Node (same_Some _ _ is)))
+
+-- a redirection leaves the pins
+pub redirect_pins : (words : Words) (pred : Place) (next : ℕ) → (redirect words pred next).pins ≡ words.pins
+redirect_pins words (Bucket b) next = refl
+redirect_pins words (Node s) next = refl
+
+module _ (n calls : ℕ) (y : Yard) (callers : List (Option Caller)) (disk : Medium) (M : History) (P : Trace) (notes : Notes) (sound : Sound n calls y callers disk M P notes) (a i k s : ℕ) (is : caller_at callers a ≡ Some (call_at i (Remove k) (Playing (Removing s) 4))) where
+  abbrev at : Progress
+  at = Playing (Removing s) 4
+
+  h : Relies (view_of y.shape y.vault y.actors a) (Remove k) at (notes.begun a) P (notes.changed a)
+  h = (own n calls y callers disk M P notes a i (Remove k) at is sound).stands.2
+
+  abbrev x : Actor
+  x = with_hold (actor_at y a) Unlinked
+
+  abbrev actors' : List Actor
+  actors' = set_of_pass y.actors a x
+
+  abbrev P' : Trace
+  P' = unlinked k s a ∷ P
+
+  hand_a : actor_in actors' a ≡ x
+  hand_a = same_hand n calls y callers disk M P notes a (call_at i (Remove k) at) is sound x
+
+  hand_b : (b : ℕ) → b ≢ a → actor_in actors' b ≡ actor_in y.actors b
+  hand_b b other = other_hand n calls y callers disk M P notes a (call_at i (Remove k) at) is sound x b other
+
+  rests : HasClosed y.shape.buckets true (actor_in y.actors a) P
+  rests = subst (λ (q : Hold). RestsOn y.shape.buckets q (actor_in y.actors a) P) h.2.0 (sound.locks.rests a)
+
+  own_node : rests.node ≡ s
+  own_node = same_Some _ _ (sym rests.curr ∙ h.0)
+
+  before : IsBefore y.shape.buckets (actor_at y a).pred s P
+  before = subst (λ (q : ℕ). IsBefore y.shape.buckets (actor_at y a).pred q P) own_node rests.before
+
+  marked_s : is_marked s P ≡ true
+  marked_s = ap (λ (q : ℕ). is_marked q P) (sym own_node) ∙ rests.marked
+
+  abbrev spot : ℕ
+  spot = place_number (actor_at y a).pred
+
+  faces : FacesNode y.shape.buckets k spot s P
+  faces = subst (λ (q : ℕ). FacesNode y.shape.buckets q spot s P) h.2.1 before.faces
+
+  there : on 0 (chain_of y.shape.buckets k P) (suc s) ≡ true
+  there = subst (λ (q : ℕ). on 0 (chain_of y.shape.buckets q P) (suc s) ≡ true) h.2.1 (held_node y.shape P Marked (actor_in y.actors a) sound.trace.lawful rests s h.0 refl)
+
+  leaving : IsLeaving y.shape.buckets k spot s P
+  leaving = record {
+    before = faces;
+    no_member = (node y.shape.buckets y.shape.slots k s P sound.trace.lawful there h.2.1).is_member ∙ ap not marked_s;
+    removed = h.2.2;
+  }
+
+  law : Lawful y.shape.buckets y.shape.slots P'
+  law = (unlinks.may_unlink y.shape.buckets y.shape.slots k spot s a P sound.trace.lawful leaving, sound.trace.lawful)
+
+  off : IsLoose y.shape.buckets s P → ⊥
+  off loose = false≢true (sym (loose (bucket_of y.shape.buckets k)) ∙ there)
+
+  loose_then : (t : ℕ) → IsLoose y.shape.buckets t P → IsLoose y.shape.buckets t P'
+  loose_then t loose = unlinks.loose_stays y.shape.buckets y.shape.slots k spot s a P sound.trace.lawful leaving t loose
+
+  -- another node stays on its chain
+  chain_then : (t : ℕ) → t ≢ s → on 0 (chain_of y.shape.buckets (key_word t P) P) (suc t) ≡ true → on 0 (chain_of y.shape.buckets (key_word t P) P') (suc t) ≡ true
+  chain_then t apart on_it = elim (cases_eq (bucket_of y.shape.buckets k) (bucket_of y.shape.buckets (key_word t P))) [
+    | inl same ↦
+        let shown = words_show_chain y.shape.buckets y.shape.slots P sound.trace.lawful (bucket_of y.shape.buckets (key_word t P)) in
+        let theirs : on 0 (chain_of y.shape.buckets (key_word t P) P) (suc s) ≡ true = subst (λ (b : ℕ). on 0 (chain y.shape.buckets b P) (suc s) ≡ true) same there in
+        let still = on_without_other (next_link y.shape.buckets (bucket_of y.shape.buckets (key_word t P)) P) (λ t. key_word t P) k t 0 (chain_of y.shape.buckets (key_word t P) P) shown.shows (λ key. apart (suc_same (one_node (next_link y.shape.buckets (bucket_of y.shape.buckets (key_word t P)) P) (λ t. key_word t P) 0 (chain_of y.shape.buckets (key_word t P) P) shown.shows (suc t) (suc s) on_it theirs (omega (arith, key, h.2.1))))) on_it in
+        grind (arith, nat_tests, same, still)
+    | inr other ↦ grind (arith, nat_tests, other, on_it)
+  ]
+    where
+      suc_same : {r u : ℕ} → suc r ≡ suc u → r ≡ u
+      suc_same e = omega (arith, e)
+
+  chain_before : (j t : ℕ) → on 0 (chain_of y.shape.buckets j P') (suc t) ≡ true → on 0 (chain_of y.shape.buckets j P) (suc t) ≡ true
+  chain_before j t on_it = grind (arith, nat_tests, on_it, on_without k 0 (suc t) (chain_of y.shape.buckets j P))
+
+  slot_still : (b : ℕ) → (actor_in actors' b).slot ≡ (actor_in y.actors b).slot
+  slot_still b = elim (cases_eq b a) [
+    | inl same ↦ ap (λ (q : ℕ). (actor_in actors' q).slot) same ∙ ap (λ (q : Actor). q.slot) hand_a ∙ ap (λ (q : ℕ). (actor_in y.actors q).slot) (sym same)
+    | inr other ↦ ap (λ (q : Actor). q.slot) (hand_b b other)
+  ]
+
+  stage_still : (t : ℕ) → t ≢ s → IsNodeStage y.vault.cells y.vault.dead y.actors P t → IsNodeStage y.vault.cells y.vault.dead actors' P' t
+  stage_still t apart (inl opened) = inl opened
+  stage_still t apart (inr (b, closer, written)) = elim (cases_eq b a) [
+    | inl same ↦ absurd (apart (same_Some _ _ (sym (ap (λ (q : ℕ). (actor_in y.actors q).curr) (sym same) ∙ closer.node) ∙ h.0)))
+    | inr other ↦ inr (b, subst (λ (q : Actor). IsCloser y.vault.dead q t) (sym (hand_b b other)) closer, written)
+  ]
+
+  stands_then : (t : ℕ) → t ≢ s → SlotStands y.shape y.vault.cells y.vault.dead y.uses y.actors P t → SlotStands y.shape y.vault.cells y.vault.dead y.uses actors' P' t
+  stands_then t apart (is_node on_it stage) = is_node (record { there = chain_then t apart on_it.there; taken = on_it.taken; key = on_it.key }) (stage_still t apart stage)
+  stands_then t apart (is_held b slot) = is_held b (slot_still b ∙ slot)
+  stands_then t apart (is_out b out) = elim (cases_eq b a) [
+    | inl same ↦ absurd (false≢true (ap has_removed_node (sym h.2.0) ∙ (subst (λ (q : ℕ). IsOut (actor_in y.actors q) t) same out).removed))
+    | inr other ↦ is_out b (subst (λ (q : Actor). IsOut q t) (sym (hand_b b other)) out)
+  ]
+  stands_then t apart (is_free loose free stage) = is_free (loose_then t loose) free stage
+  stands_then t apart (is_limbo sights loose limbo stage) = is_limbo sights (loose_then t loose) limbo stage
+
+  out_s : IsOut (actor_in actors' a) s
+  out_s = subst (λ (q : Actor). IsOut q s) (sym hand_a) (record { node = h.0; removed = refl })
+
+  out_then : (b t : ℕ) → IsOut (actor_in actors' b) t → ((b ≡ a) × (t ≡ s)) ⊎ ((b ≢ a) × IsOut (actor_in y.actors b) t)
+  out_then b t out = elim (cases_eq b a) [
+    | inl same ↦
+        let mine = subst (λ (q : Actor). IsOut q t) hand_a (subst (λ (q : ℕ). IsOut (actor_in actors' q) t) same out) in
+        inl (same, same_Some _ _ (sym mine.node ∙ h.0))
+    | inr other ↦ inr (other, subst (λ (q : Actor). IsOut q t) (hand_b b other) out)
+  ]
+
+  taken_s : use_of y.uses s ≡ Taken
+  taken_s = go (sound.slots.each s (on_range y.shape.buckets y.shape.slots P (bucket_of y.shape.buckets k) s sound.trace.lawful there))
+    where
+      go : SlotStands y.shape y.vault.cells y.vault.dead y.uses y.actors P s → use_of y.uses s ≡ Taken
+      go (is_node on_it stage) = on_it.taken
+      go (is_held b slot) = (sound.slots.hand b s slot).taken
+      go (is_out b out) = (sound.slots.out b s out).taken
+      go (is_free loose free stage) = absurd (off loose)
+      go (is_limbo sights loose limbo stage) = absurd (off loose)
+
+  gone_s : IsGone y.shape y.vault.cells y.uses P' s
+  gone_s = record {
+    in_range = on_range y.shape.buckets y.shape.slots P (bucket_of y.shape.buckets k) s sound.trace.lawful there;
+    loose = unlinks.now_loose y.shape.buckets y.shape.slots k spot s a P sound.trace.lawful leaving;
+    taken = taken_s;
+    stage = sound.slots.removed k s h.2.1 there h.2.2;
+  }
+
+  unlinked_slots : SlotsSound y.shape y.vault.cells y.vault.dead y.uses actors' P'
+  unlinked_slots = record {
+    count = sound.slots.count;
+    each = λ t within. elim (cases_eq t s) [
+      | inl same ↦ is_out a (subst (IsOut (actor_in actors' a)) (sym same) out_s)
+      | inr other ↦ stands_then t other (sound.slots.each t within)
+    ];
+    hand = λ b t slot.
+        let was = sound.slots.hand b t (sym (slot_still b) ∙ slot) in
+        record { in_range = was.in_range; loose = loose_then t was.loose; taken = was.taken; stage = hand_stage b t was.stage };
+    out = λ b t out. elim (out_then b t out) [
+      | inl new ↦ subst (IsGone y.shape y.vault.cells y.uses P') (sym new.1) gone_s
+      | inr old ↦ let was = sound.slots.out b t old.1 in record { in_range = was.in_range; loose = loose_then t was.loose; taken = was.taken; stage = was.stage }
+    ];
+    one_hand = λ b d t one two. sound.slots.one_hand b d t (sym (slot_still b) ∙ one) (sym (slot_still d) ∙ two);
+    one_out = λ b d t one two. elim (out_then b t one) [
+      | inl new ↦ elim (out_then d t two) [
+        | inl too ↦ new.0 ∙ sym too.0
+        | inr old ↦ absurd (off (subst (λ (q : ℕ). IsLoose y.shape.buckets q P) new.1 (sound.slots.out d t old.1).loose))
+      ]
+      | inr old ↦ elim (out_then d t two) [
+        | inl new ↦ absurd (off (subst (λ (q : ℕ). IsLoose y.shape.buckets q P) new.1 (sound.slots.out b t old.1).loose))
+        | inr too ↦ sound.slots.one_out b d t old.1 too.1
+      ]
+    ];
+    hand_out = λ b d t hand out. elim (out_then d t out) [
+      | inl new ↦ off (subst (λ (q : ℕ). IsLoose y.shape.buckets q P) new.1 (sound.slots.hand b t (sym (slot_still b) ∙ hand)).loose)
+      | inr old ↦ sound.slots.hand_out b d t (sym (slot_still b) ∙ hand) old.1
+    ];
+    opened = λ b t slot is'. elim (cases_eq b a) [
+      | inl same ↦ absurd (false≢true (ap (λ (q : Actor). unlocks q.hold) (sym hand_a) ∙ ap (λ (q : ℕ). unlocks (actor_in actors' q).hold) (sym same) ∙ is'))
+      | inr other ↦ sound.slots.opened b t (sym (slot_still b) ∙ slot) (ap (λ (q : Actor). unlocks q.hold) (sym (hand_b b other)) ∙ is')
+    ];
+    closed = λ b t here shut. elim (cases_eq b a) [
+      | inl same ↦ absurd (false≢true (ap (λ (q : Actor). shuts q.hold) (sym hand_a) ∙ ap (λ (q : ℕ). shuts (actor_in actors' q).hold) (sym same) ∙ shut))
+      | inr other ↦ sound.slots.closed b t (ap (λ (q : Actor). q.curr) (sym (hand_b b other)) ∙ here) (ap (λ (q : Actor). shuts q.hold) (sym (hand_b b other)) ∙ shut)
+    ];
+    added = λ j t key on_it flag. sound.slots.added j t key (chain_before j t on_it) flag;
+    removed = λ j t key on_it flag. sound.slots.removed j t key (chain_before j t on_it) flag;
+  }
+    where
+      hand_stage : (b t : ℕ) → IsHandStage y.vault.cells y.vault.dead (actor_in y.actors b) P t → IsHandStage y.vault.cells y.vault.dead (actor_in actors' b) P' t
+      hand_stage b t (inl shut) = inl shut
+      hand_stage b t (inr opened) = elim (cases_eq b a) [
+        | inl same ↦ absurd (false≢true (ap (opens y.vault.dead) (sym h.2.0) ∙ ap (λ (q : ℕ). opens y.vault.dead (actor_in y.actors q).hold) (sym same) ∙ opened.0))
+        | inr other ↦ inr (ap (λ (q : Actor). opens y.vault.dead q.hold) (hand_b b other) ∙ opened.0, opened.1, opened.2)
+      ]
+
+  -- the actor's own locks
+  my_lock : (place : Place) → HasPlace place (claimed_places (actor_at y a).pred (actor_at y a).curr) → HasLock (actor_in y.actors a) place
+  my_lock place among = record { locks = ap has_locks h.2.0; among = among }
+
+  -- another actor's place is neither the one that changes nor the node
+  places_apart : (b : ℕ) → b ≢ a → rests_on_pair (actor_in y.actors b).hold ≡ true → (j : ℕ) → InBucket y.shape.buckets j (actor_in y.actors b).pred → bucket_of y.shape.buckets j ≡ bucket_of y.shape.buckets k
+      → (place_number (actor_in y.actors b).pred ≢ spot) × (place_number (actor_in y.actors b).pred ≢ suc s)
+  places_apart b other rest j bucket same =
+      let theirs : HasLock (actor_in y.actors b) (actor_in y.actors b).pred = record { locks = resting_locks (actor_in y.actors b).hold rest; among = first_place (actor_in y.actors b).pred (actor_in y.actors b).curr } in
+      let apart : (q : Place) → HasLock (actor_in y.actors a) q → (actor_in y.actors b).pred ≡ q → ⊥ = λ q lock e. other (sym (sound.locks.has b q (subst (HasLock (actor_in y.actors b)) e theirs)) ∙ sound.locks.has a q lock) in (
+        (λ number. apart (actor_at y a).pred (my_lock (actor_at y a).pred (first_place (actor_at y a).pred (actor_at y a).curr)) (one_place y.shape.buckets j k (actor_in y.actors b).pred (actor_at y a).pred bucket (subst (λ (q : ℕ). InBucket y.shape.buckets q (actor_at y a).pred) h.2.1 before.bucket) same number)),
+        (λ number. apart (Node s) (my_lock (Node s) (node_place (actor_at y a).pred (actor_at y a).curr s h.0)) (one_place y.shape.buckets j k (actor_in y.actors b).pred (Node s) bucket tt same number)),
+      )
+
+  unlinked_locks : LocksSound y.shape y.locks actors' P'
+  unlinked_locks = record {
+    heads = sound.locks.heads;
+    nodes = sound.locks.nodes;
+    has = by_actor (λ b. (place : Place) → HasLock (actor_in actors' b) place → owner y.locks place ≡ b) a
+        (λ place lock. sound.locks.has a place (my_lock place (subst (λ (q : Actor). HasLock q place) hand_a lock).among))
+        (λ b other place lock. sound.locks.has b place (subst (λ (q : Actor). HasLock q place) (hand_b b other) lock));
+    rests = by_actor (λ b. RestsOn y.shape.buckets (actor_in actors' b).hold (actor_in actors' b) P') a
+        (subst (λ (q : Actor). RestsOn y.shape.buckets q.hold q P') (sym hand_a) tt)
+        (λ b other. subst (λ (q : Actor). RestsOn y.shape.buckets q.hold q P') (sym (hand_b b other))
+        (pair_published y.shape.buckets (unlinked k s a) (actor_in y.actors b) P (λ rest. unlinked_leaves y.shape.buckets y.shape.slots k spot s a (actor_in y.actors b) P sound.trace.lawful leaving (places_apart b other rest)) (sound.locks.rests b)));
+  }
+
+  unlinked_reuse : ReuseSound y.shape y.words.pins y.uses actors' P' notes.begun
+  unlinked_reuse = record {
+    worn = sound.reuse.worn;
+    sights = sound.reuse.sights;
+    seen = λ b t seen limbo. seen_step y.shape.buckets t (pin_in y.words.pins b) (notes.begun b) (unlinked k s a) P (of_pass seen b Left) (loose_then t (limbo_loose y.shape y.vault.cells y.vault.dead y.uses y.actors P t seen sound.slots limbo)) (sound.reuse.seen b t seen limbo);
+    free = λ b t free inside. away_stays y.shape.buckets t (notes.begun b) (unlinked k s a) P (loose_then t (free_loose y.shape y.vault.cells y.vault.dead y.uses y.actors P t sound.slots free)) (sound.reuse.free b t free inside);
+    reserved = λ b d t slot inside. away_stays y.shape.buckets t (notes.begun b) (unlinked k s a) P (loose_then t (sound.slots.hand d t (sym (slot_still d) ∙ slot)).loose) (sound.reuse.reserved b d t (sym (slot_still d) ∙ slot) inside);
+  }
+
+  leaves : (b : ℕ) → LeavesCaller y.shape.buckets y.shape.slots (unlinked k s a) P law (actor_in y.actors b) (pin_in y.words.pins b) (notes.begun b)
+  leaves b = record {
+    kept = λ inside. tt;
+    word = λ t slot. refl;
+    node = held_node y.shape P (actor_in y.actors b).hold (actor_in y.actors b) sound.trace.lawful (sound.locks.rests b);
+  }
+
+  abbrev callers' : List (Option Caller)
+  callers' = moving callers a (call_at i (Remove k) at) (Playing (Removing s) 5)
+
+  unlinked_callers : CallersSound y.shape y.vault y.words.pins actors' callers' P' notes
+  unlinked_callers =
+      let me = own n calls y callers disk M P notes a i (Remove k) at is sound in
+      record {
+        count = length-set_of_pass callers a _ ∙ sound.callers.count;
+        hands = length-set_of_pass y.actors a x ∙ sound.callers.hands;
+        each = by_actor (λ b. CallerSound (view_of y.shape y.vault actors' b) (pin_in y.words.pins b) (caller_at callers' b) (notes.begun b) P' (notes.changed b)) a
+            (carry y.shape.buckets y.shape.passes y.vault.cells y.vault.dead P' x (actor_in actors' a) (pin_in y.words.pins a) (pin_in y.words.pins a) (Some (call_at i (Remove k) (Playing (Removing s) 5))) (caller_at callers' a) (notes.begun a) (notes.begun a) (notes.changed a) (notes.changed a) hand_a refl (moved_same callers a (call_at i (Remove k) at) is (Playing (Removing s) 5)) refl refl
+            (record {
+              quiet = λ inside. (tt, me.quiet inside);
+              begins = λ inside. inr (me.begins inside);
+              stands = (me.stands.0, me.stands.1, (h.0, h.1, (refl, change_stays y.shape.buckets y.shape.slots (unlinked k s a) P law k (notes.changed a) h.2.3)));
+            }))
+            (λ b other. carry y.shape.buckets y.shape.passes y.vault.cells y.vault.dead P' (actor_in y.actors b) (actor_in actors' b) (pin_in y.words.pins b) (pin_in y.words.pins b) (caller_at callers b) (caller_at callers' b) (notes.begun b) (notes.begun b) (notes.changed b) (notes.changed b) (hand_b b other) refl (moved_other callers a (call_at i (Remove k) at) is (Playing (Removing s) 5) b other) refl refl
+            (caller_published y.shape.buckets y.shape.slots (unlinked k s a) P law y.shape.passes y.vault.cells y.vault.dead (actor_in y.actors b) (pin_in y.words.pins b) (notes.begun b) (notes.changed b) (leaves b) (caller_at callers b) (sound.callers.each b)));
+      }
+
+  node_range : (t : ℕ) → (actor_at y a).pred ≡ Node t → t < y.shape.slots
+  node_range t e = on_range y.shape.buckets y.shape.slots P (bucket_of y.shape.buckets k) t sound.trace.lawful (subst (λ (q : Place). on 0 (chain_of y.shape.buckets k P) (place_number q) ≡ true) e faces.faces.there)
+
+  abbrev words' : ℕ → Words
+  words' next = redirect y.words (actor_at y a).pred next
+
+  pins_same : (next : ℕ) → (words' next).pins ≡ y.words.pins
+  pins_same next = redirect_pins y.words (actor_at y a).pred next
+
+  abbrev yard' : ℕ → Yard
+  yard' next = record { shape = y.shape; words = words' next; locks = y.locks; vault = y.vault; uses = y.uses; actors = actors' }
+
+  unlinked_sound : Sound n calls (yard' (node_next y.shape.buckets s P)) callers' disk M P' notes
+  unlinked_sound =
+      let next = node_next y.shape.buckets s P in
+      let same = sym (pins_same (node_next y.shape.buckets s P)) in
+      record {
+        trace = trace_unlinked y.shape y.words P sound.trace sound.images.slots.1 k s a (actor_at y a).pred law.0 (subst (λ (q : ℕ). InBucket y.shape.buckets q (actor_at y a).pred) h.2.1 before.bucket) node_range (unlinks.place_at y.shape.buckets y.shape.slots k spot s a P sound.trace.lawful leaving);
+        images = sound.images;
+        slots = unlinked_slots;
+        locks = unlinked_locks;
+        callers = subst (λ (q : List ℕ). CallersSound y.shape y.vault q actors' callers' P' notes) same unlinked_callers;
+        reuse = subst (λ (q : List ℕ). ReuseSound y.shape q y.uses actors' P' notes.begun) same unlinked_reuse;
+        ledger = ledger_published n calls y.shape.passes callers' (unlinked k s a) P M notes tt (ledger_turn callers a (call_at i (Remove k) at) is (Playing (Removing s) 5) n calls y.shape.passes P M notes sound.ledger);
+        tails = record {
+          adding = λ b t slot opened. tail_turn callers a (call_at i (Remove k) at) is (Playing (Removing s) 5) y.shape.passes notes (in_passes n calls y callers disk M P notes a (call_at i (Remove k) at) is sound) (λ none is. refl) (Add (cell_in y.vault.cells t).key) M (sound.tails.adding b t (sym (slot_still b) ∙ slot) opened);
+          removing = λ t on_it clear written. tail_turn callers a (call_at i (Remove k) at) is (Playing (Removing s) 5) y.shape.passes notes (in_passes n calls y callers disk M P notes a (call_at i (Remove k) at) is sound) (λ none is. refl) (Remove (cell_in y.vault.cells t).key) M (sound.tails.removing t (chain_before (key_word t P) t on_it) clear written);
+        };
+      }
+
+  pub unlink_keeps : Sound n calls (yard_done y (actor_at y a) a Unlink) callers' disk M (publishes y (actor_at y a) a Unlink ++ P) notes
+  unlink_keeps =
+      let few = sound.images.slots.1 in
+      let lt = on_range y.shape.buckets y.shape.slots P (bucket_of y.shape.buckets k) s sound.trace.lawful there in
+      let claimed : s ≡ node_of (actor_at y a) = sym (ap (λ (q : Option ℕ). unwrap_or q 0) h.0) in
+      let next : node_next y.shape.buckets s P ≡ next_at y.words (Node s) = sym (link_next y.shape y.words P sound.trace few s lt) in
+      let key : k ≡ get y.words (key_at s) = sym (key_load y.shape y.words P sound.trace few s lt ∙ h.2.1) in
+      subst (λ (q : ℕ). Sound n calls (yard' (next_at y.words (Node q))) callers' disk M (unlinked (get y.words (key_at q)) q a ∷ P) notes) claimed
+      (subst (λ (q : ℕ). Sound n calls (yard' (next_at y.words (Node s))) callers' disk M (unlinked q s a ∷ P) notes) key
+      (subst (λ (q : ℕ). Sound n calls (yard' q) callers' disk M P' notes) next unlinked_sound))

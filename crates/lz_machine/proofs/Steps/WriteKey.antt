@@ -1,0 +1,480 @@
+-- WriteKey keeps the invariant: the adder's key is put into the slot that it has reserved.
+use Rattle.std.proofs.Common.{◌≡◌, ◌≢◌, ◌⊎◌, inl, inr, ℕ, zero, suc, ◌<◌, ◌≤◌, ◌+◌, ◌*◌, ◌==◌, Bool, true, false, List, ◌∷◌, ◌++◌, length, Option, Some, None, refl, sym, ap, ◌∙◌, subst, arith, length-set, get_or-set_same, get_or-set_other}
+use mathlib.Core.Bool.{false≢true}
+use Rattle.std.specs.Prelude.{slice_get, slice_set, unwrap_or}
+use Rattle.std.proofs.lemmas.Bool.{cases_eq}
+use Rattle.std.proofs.lemmas.Bool.Decides.{nat_tests}
+use Rattle.std.proofs.lemmas.Option.{slice_get-get_or, none-some}
+use Rattle.lz_slot.specs.Limits.{largest_key}
+use Rattle.lz_slot.specs.declared.command.Command.{Command}
+use Rattle.lz_slot.specs.declared.command.Command.TheVariants.{Add, Remove}
+use Rattle.lz_slot.specs.Sets.{key_of}
+use Rattle.lz_slot.specs.Bytes.{slot_body}
+use Rattle.lz_slot.specs.Counted.{of_pass}
+use Rattle.lz_slot.specs.Histories.{History}
+use Rattle.lz_disk.specs.Images.{Medium, AreBytes, WriteFailed, written}
+use Rattle.lz_vault.specs.declared.vault.Stage.{Stage}
+use Rattle.lz_vault.specs.declared.vault.Stage.TheVariants.{Closed, KeyLoose, Keyed, Opening}
+use Rattle.lz_vault.specs.Stages.{Cell, IsFree, IsAt, Keeps}
+use Rattle.lz_vault.specs.Vaults.{Vaulted, medium_after}
+use Rattle.lz_vault.proofs.Calls.{written_keeps, failed_keeps}
+use Rattle.lz_vault.proofs.Changes.{set_cases}
+use Rattle.lz_vault.proofs.Gates.{shut_stays, body_reads}
+use Rattle.lz_allot.specs.declared.sight.Sight.TheVariants.{Left}
+use Rattle.lz_list.specs.declared.publishing.Publishing.{Publishing}
+use Rattle.lz_list.specs.declared.publishing.Publishing.TheVariants.{KeyPrepared as key_prepared}
+use Rattle.lz_list.specs.declared.word.Word.TheVariants.{Key as key_at}
+use Rattle.lz_list.specs.Words.{set, place_number, link_to}
+use Rattle.lz_list.specs.Traces.{Trace, Lawful, Adjacent, IsLoose, on, chain, chain_of, bucket_of, key_word}
+use Rattle.lz_list.proofs.Chains.{adjacent_next}
+use Rattle.lz_list.proofs.Hindsight.{stands}
+use Rattle.lz_machine.specs.declared.event.Event.TheVariants.{WriteKey}
+use Rattle.lz_machine.specs.declared.event.Reply.TheVariants.{Device}
+use Rattle.lz_machine.specs.declared.actor.Actor.{Actor}
+use Rattle.lz_machine.specs.declared.actor.Hold.{Hold}
+use Rattle.lz_machine.specs.declared.actor.Hold.TheVariants.{Nothing, Locks, Checked, GateOpened, Linked, GateClosed, Marked, Unlinked, Released}
+use Rattle.lz_machine.specs.declared.caller.Script.TheVariants.{Writing}
+use Rattle.lz_machine.specs.declared.caller.Progress.{Progress}
+use Rattle.lz_machine.specs.declared.caller.Progress.TheVariants.{Playing}
+use Rattle.lz_machine.specs.Yards.{Shape, Yard, actor_at, no_cell}
+use Rattle.lz_machine.specs.Table.{with_vault, call_of, slot_of, yard_done, publishes}
+use Rattle.lz_machine.specs.Calls.{halts}
+use Rattle.lz_machine.specs.Runs.{Caller, caller_at}
+use Rattle.lz_machine.specs.Stands.{Faces}
+use Rattle.lz_machine.specs.Sound.{Notes, entries, actor_in, pin_in, cell_in, stage_in, opens, unlocks, IsGateClosed, IsGateOpened, IsGateWritten, IsOut, IsNodeStage, IsHandStage, SlotStands, is_node, is_held, is_out, is_free, is_limbo, SlotsSound, IsBefore, RestsOn, LocksSound, DiskSound, Relies, view_of, CallerSound, CallersSound, ReuseSound, HasTail, Sound}
+use Rattle.lz_machine.proofs.Frames.ActorTable.{by_actor}
+use Rattle.lz_machine.proofs.Frames.Grip.{closes_dead, opens_dead}
+use Rattle.lz_machine.proofs.Frames.OneActor.{moving}
+use Rattle.lz_machine.proofs.Frames.Limbo.{seen_step, away_stays}
+use Rattle.lz_machine.proofs.Frames.Publishing.{LeavesCaller, caller_published, shut_relies}
+use Rattle.lz_machine.proofs.Steps.Pin.{limbo_loose, free_loose}
+use Rattle.lz_machine.proofs.Ledger.QuietPublishing.{ledger_published}
+use Rattle.lz_machine.proofs.Frames.Store.{trace_key}
+use Rattle.lz_machine.proofs.Steps.Halt.{held_node}
+use Rattle.lz_machine.proofs.Frames.HeldLocks.{LeavesPair, pair_stays, key_leaves}
+use Rattle.lz_machine.proofs.Steps.Hop.{call_at, own, goes_on_keeps}
+use Rattle.lz_machine.proofs.Frames.Cells.{KeepsCell, caller_vaulted}
+use Rattle.lz_machine.proofs.Open.Texts.{high_small}
+
+-- and so are those of a slot's body
+body_bytes : (k : ℕ) → AreBytes (slot_body k)
+body_bytes k zero = omega arith
+body_bytes k (suc zero) = omega arith
+body_bytes k (suc (suc zero)) = omega arith
+body_bytes k (suc (suc (suc zero))) = omega arith
+body_bytes k (suc (suc (suc (suc zero)))) = omega arith
+body_bytes k (suc (suc (suc (suc (suc zero))))) = omega arith
+body_bytes k (suc (suc (suc (suc (suc (suc zero)))))) = omega arith
+body_bytes k (suc (suc (suc (suc (suc (suc (suc i))))))) = high_small 8 k i
+
+-- a key may be put where the gate is surely closed
+free_stage : (stage : Stage) → IsGateClosed stage → IsFree stage
+free_stage stage (inl e) = subst IsFree (sym e) tt
+free_stage stage (inr (inl e)) = subst IsFree (sym e) tt
+free_stage stage (inr (inr e)) = subst IsFree (sym e) tt
+
+-- What a write of a key makes of the disk, done or failed.
+module _ (shape : Shape) (vault : Vaulted) (disk : Medium) (images : DiskSound shape vault disk) (alive : vault.dead ≡ false) (s k : ℕ) (lt : s < shape.slots) (fits : k ≤ largest_key) (shut : IsGateClosed (stage_in vault.cells s)) where
+  abbrev key_cell : Cell
+  key_cell = record { stage = KeyLoose; key = k }
+
+  within : s < length vault.cells
+  within = omega (arith, lt, images.count)
+
+  keeps : Keeps vault.cells false disk
+  keeps = subst (λ (b : Bool). Keeps vault.cells b disk) alive images.keeps
+
+  free_here : IsAt vault.cells s (λ cell. IsFree cell.stage)
+  free_here = (cell_in vault.cells s, slice_get-get_or vault.cells s no_cell within, free_stage (stage_in vault.cells s) shut)
+
+  -- the new key too is a key
+  keys : (i : ℕ) (cell : Cell) → slice_get (slice_set vault.cells s key_cell) i ≡ Some cell → cell.key ≤ largest_key
+  keys i cell there = elim (set_cases vault.cells s i key_cell cell there) [
+    | inl it ↦ omega (arith, ap (λ (q : Cell). q.key) it.1, fits)
+    | inr other ↦ images.keys i cell other.1
+  ]
+
+  -- the key is written
+  pub key_written : (syncs : ℕ) → DiskSound shape (record { cells = slice_set vault.cells s key_cell; syncs = syncs; dead = false }) (written disk (17 + 16 * s) (slot_body k))
+  key_written syncs = record {
+    slots = images.slots;
+    count = length-set vault.cells s key_cell ∙ images.count;
+    keys = keys;
+    keeps = written_keeps vault.cells disk (17 + 16 * s) (slot_body k) s key_cell (body_bytes k) within (omega arith) (omega arith)
+        (shut_stays vault.cells false disk keeps s free_here (17 + 16 * s) 15 (omega arith)) keeps (body_reads vault.cells false disk keeps s within (17 + 16 * s) (slot_body k) k (omega arith) refl);
+  }
+
+  -- the write fails
+  pub key_failed : (syncs : ℕ) (medium : Medium) → (medium ≡ disk) ⊎ WriteFailed disk (17 + 16 * s) 15 medium → DiskSound shape (record { cells = slice_set vault.cells s key_cell; syncs = syncs; dead = true }) medium
+  key_failed syncs medium may = record {
+    slots = images.slots;
+    count = length-set vault.cells s key_cell ∙ images.count;
+    keys = keys;
+    keeps = failed_keeps vault.cells disk (17 + 16 * s) (slot_body k) s key_cell (body_bytes k) within (omega arith) (omega arith)
+        (shut_stays vault.cells false disk keeps s free_here (17 + 16 * s) 15 (omega arith)) medium keeps may;
+  }
+
+-- What a preparing of a loose slot leaves of an actor that doesn't have it.
+module _ (buckets slots s : ℕ) (e : Publishing) (actor : Actor) (P : Trace) (law : Lawful buckets slots P) (loose : IsLoose buckets s P)
+    (leaves : ((t : ℕ) → actor.curr ≡ Some t → t ≢ s) → ((t : ℕ) → place_number actor.pred ≡ suc t → t ≢ s) → LeavesPair buckets e actor P) where
+  -- a slot on a chain is another one
+  on_apart : (b t : ℕ) → on 0 (chain buckets b P) (suc t) ≡ true → t ≢ s
+  on_apart b t there it = false≢true (sym (loose b) ∙ subst (λ (q : ℕ). on 0 (chain buckets b P) (suc q) ≡ true) it there)
+
+  -- its place and its node stand on a chain, and the slot doesn't
+  faces_leave : (j : ℕ) → Faces buckets j (place_number actor.pred) (link_to actor.curr) P → LeavesPair buckets e actor P
+  faces_leave j h = leaves (λ t is. on_apart (bucket_of buckets j) t (node_on t is)) (λ t at. on_apart (bucket_of buckets j) t (subst (λ (q : ℕ). on 0 (chain_of buckets j P) q ≡ true) at h.there))
+    where
+      node_on : (t : ℕ) → actor.curr ≡ Some t → on 0 (chain_of buckets j P) (suc t) ≡ true
+      node_on t is =
+          let adj = subst (Adjacent 0 (chain_of buckets j P) (place_number actor.pred)) (h.next ∙ ap link_to is) (stands buckets slots P (bucket_of buckets j) (place_number actor.pred) P law h.there) in
+          adjacent_next 0 (chain_of buckets j P) (place_number actor.pred) (suc t) adj (λ none. grind arith)
+
+  before_leave : (t : ℕ) → actor.curr ≡ Some t → IsBefore buckets actor.pred t P → LeavesPair buckets e actor P
+  before_leave t is h = faces_leave (key_word t P) (subst (λ (q : ℕ). Faces buckets (key_word t P) (place_number actor.pred) q P) (sym (ap link_to is)) h.faces.faces)
+
+  -- a pair that was checked without a slot and without a node says nothing of its place, which may be loose by now
+  checked_prepared : (slot curr : Option ℕ) → actor.slot ≡ slot → actor.curr ≡ curr → RestsOn buckets Checked actor P → RestsOn buckets Checked actor (e ∷ P)
+  checked_prepared (Some t) curr is at h = pair_stays buckets e actor P (faces_leave (key_word t P) (h.beside t is).round.faces) Checked h
+  checked_prepared None (Some t) is at h = pair_stays buckets e actor P (before_leave t at (h.before t at).0) Checked h
+  checked_prepared None None is at h = record { beside = λ t slot. absurd (none-some _ (sym is ∙ slot)); before = λ t node. absurd (none-some _ (sym at ∙ node)) }
+
+  -- what the actor relies on because of its locks stays
+  pub rests_prepared : (hold : Hold) → RestsOn buckets hold actor P → RestsOn buckets hold actor (e ∷ P)
+  rests_prepared Checked h = checked_prepared actor.slot actor.curr refl refl h
+  rests_prepared GateOpened h = pair_stays buckets e actor P (faces_leave (key_word h.own P) h.beside.round.faces) GateOpened h
+  rests_prepared GateClosed h = pair_stays buckets e actor P (before_leave h.node h.curr h.before) GateClosed h
+  rests_prepared Marked h = pair_stays buckets e actor P (before_leave h.node h.curr h.before) Marked h
+  rests_prepared _ h = tt
+
+module _ (n calls : ℕ) (y : Yard) (callers : List (Option Caller)) (disk : Medium) (M : History) (P : Trace) (notes : Notes) (sound : Sound n calls y callers disk M P notes) (a i : ℕ) (c : Command) (s : ℕ) (is : caller_at callers a ≡ Some (call_at i c (Playing (Writing s) 0))) where
+  abbrev at : Progress
+  at = Playing (Writing s) 0
+
+  abbrev k : ℕ
+  k = key_of c
+
+  -- what is known of the adder before the write
+  me : CallerSound (view_of y.shape y.vault y.actors a) (pin_in y.words.pins a) (Some (call_at i c at)) (notes.begun a) P (notes.changed a)
+  me = own n calls y callers disk M P notes a i c at is sound
+
+  h : Relies (view_of y.shape y.vault y.actors a) c at (notes.begun a) P (notes.changed a)
+  h = me.stands.2
+
+  lt : s < y.shape.slots
+  lt = (sound.slots.hand a s h.1).in_range
+
+  loose : IsLoose y.shape.buckets s P
+  loose = (sound.slots.hand a s h.1).loose
+
+  -- nothing has been done to its gate
+  shut : IsGateClosed (stage_in y.vault.cells s)
+  shut = go (sound.slots.hand a s h.1).stage
+    where
+      go : IsHandStage y.vault.cells y.vault.dead (actor_in y.actors a) P s → IsGateClosed (stage_in y.vault.cells s)
+      go (inl closed) = closed
+      go (inr opened) = absurd (false≢true (ap (opens y.vault.dead) (sym h.0.hold) ∙ opened.0))
+
+  -- a slot on a chain is another one
+  chain_apart : (j t : ℕ) → on 0 (chain_of y.shape.buckets j P) (suc t) ≡ true → t ≢ s
+  chain_apart j t there it = false≢true (sym (loose (bucket_of y.shape.buckets j)) ∙ subst (λ (q : ℕ). on 0 (chain_of y.shape.buckets j P) (suc q) ≡ true) it there)
+
+  -- and so is one in another's hand, and one that is out
+  hand_apart : (b t : ℕ) → b ≢ a → (actor_in y.actors b).slot ≡ Some t → t ≢ s
+  hand_apart b t other slot it = other (sound.slots.one_hand b a t slot (h.1 ∙ ap Some (sym it)))
+
+  out_apart : (b t : ℕ) → IsOut (actor_in y.actors b) t → t ≢ s
+  out_apart b t out it = sound.slots.hand_out a b t (h.1 ∙ ap Some (sym it)) out
+
+  -- The words: the key is published, where its slot's gate is closed.
+  abbrev P' : Trace
+  P' = key_prepared s k ∷ P
+
+  law : Lawful y.shape.buckets y.shape.slots P'
+  law = (loose, sound.trace.lawful)
+
+  -- one key word is changed
+  word_same : key_word s P' ≡ k
+  word_same = let same : (s == s) ≡ true = grind (arith, nat_tests) in rw same refl
+
+  word_other : (t : ℕ) → t ≢ s → key_word t P' ≡ key_word t P
+  word_other t other = let apart : (s == t) ≡ false = grind (arith, nat_tests, other) in rw apart refl
+
+  -- where each slot stands
+  stands_published : (t : ℕ) → t ≢ s → SlotStands y.shape y.vault.cells y.vault.dead y.uses y.actors P t → SlotStands y.shape y.vault.cells y.vault.dead y.uses y.actors P' t
+  stands_published t apart (is_node on_it stage) = is_node (record {
+    there = subst (λ (q : ℕ). on 0 (chain_of y.shape.buckets q P) (suc t) ≡ true) (sym (word_other t apart)) on_it.there;
+    taken = on_it.taken;
+    key = on_it.key ∙ sym (word_other t apart);
+  }) stage
+  stands_published t apart (is_held b slot) = is_held b slot
+  stands_published t apart (is_out b out) = is_out b out
+  stands_published t apart (is_free free_of free stage) = is_free free_of free stage
+  stands_published t apart (is_limbo sights free_of limbo stage) = is_limbo sights free_of limbo stage
+
+  -- the gate of a slot in hand: that of this one is closed, so that nothing is said of its key
+  hand_published : (b t : ℕ) → IsHandStage y.vault.cells y.vault.dead (actor_in y.actors b) P t → IsHandStage y.vault.cells y.vault.dead (actor_in y.actors b) P' t
+  hand_published b t stage = elim (cases_eq t s) [
+    | inl same ↦ inl (subst (λ (q : ℕ). IsGateClosed (stage_in y.vault.cells q)) (sym same) shut)
+    | inr other ↦ go other stage
+  ]
+    where
+      go : t ≢ s → IsHandStage y.vault.cells y.vault.dead (actor_in y.actors b) P t → IsHandStage y.vault.cells y.vault.dead (actor_in y.actors b) P' t
+      go apart (inl closed) = inl closed
+      go apart (inr opened) = inr (opened.0, opened.1, opened.2 ∙ sym (word_other t apart))
+
+  -- so what is said of slots stays
+  published_slots : SlotsSound y.shape y.vault.cells y.vault.dead y.uses y.actors P'
+  published_slots = record {
+    count = sound.slots.count;
+    each = λ t within. elim (cases_eq t s) [
+      | inl same ↦ is_held a (h.1 ∙ ap Some (sym same))
+      | inr other ↦ stands_published t other (sound.slots.each t within)
+    ];
+    hand = λ b t slot. let was = sound.slots.hand b t slot in record { in_range = was.in_range; loose = was.loose; taken = was.taken; stage = hand_published b t was.stage };
+    out = λ b t out. let was = sound.slots.out b t out in record { in_range = was.in_range; loose = was.loose; taken = was.taken; stage = was.stage };
+    one_hand = sound.slots.one_hand;
+    one_out = sound.slots.one_out;
+    hand_out = sound.slots.hand_out;
+    opened = sound.slots.opened;
+    closed = sound.slots.closed;
+    added = λ j t key on_it flag. sound.slots.added j t (sym (word_other t (chain_apart j t on_it)) ∙ key) on_it flag;
+    removed = λ j t key on_it flag. sound.slots.removed j t (sym (word_other t (chain_apart j t on_it)) ∙ key) on_it flag;
+  }
+
+  -- what is said of locks stays: the adder has none
+  published_locks : LocksSound y.shape y.locks y.actors P'
+  published_locks = record {
+    heads = sound.locks.heads;
+    nodes = sound.locks.nodes;
+    has = sound.locks.has;
+    rests = by_actor (λ b. RestsOn y.shape.buckets (actor_in y.actors b).hold (actor_in y.actors b) P') a
+        (subst (λ (q : Hold). RestsOn y.shape.buckets q (actor_in y.actors a) P') (sym h.0.hold) tt)
+        (λ b other. rests_prepared y.shape.buckets y.shape.slots s (key_prepared s k) (actor_in y.actors b) P sound.trace.lawful loose (λ node place. key_leaves y.shape.buckets s k (actor_in y.actors b) P (λ t slot. hand_apart b t other slot) node place) (actor_in y.actors b).hold (sound.locks.rests b));
+  }
+
+  -- no pass that is inside has stood on the slot, so that no walk reads the new key
+  leaves_others : (b : ℕ) → b ≢ a → LeavesCaller y.shape.buckets y.shape.slots (key_prepared s k) P law (actor_in y.actors b) (pin_in y.words.pins b) (notes.begun b)
+  leaves_others b other = record {
+    kept = λ inside. sound.reuse.reserved b a s h.1 inside;
+    word = λ t slot. word_other t (hand_apart b t other slot);
+    node = held_node y.shape P (actor_in y.actors b).hold (actor_in y.actors b) sound.trace.lawful (sound.locks.rests b);
+  }
+
+  -- before the write the adder relies on no word
+  published_callers : CallersSound y.shape y.vault y.words.pins y.actors callers P' notes
+  published_callers = record {
+    count = sound.callers.count;
+    hands = sound.callers.hands;
+    each = by_actor (λ b. CallerSound (view_of y.shape y.vault y.actors b) (pin_in y.words.pins b) (caller_at callers b) (notes.begun b) P' (notes.changed b)) a
+        (subst (λ (q : Option Caller). CallerSound (view_of y.shape y.vault y.actors a) (pin_in y.words.pins a) q (notes.begun a) P' (notes.changed a)) (sym is)
+        (record { quiet = λ inside. (sound.reuse.reserved a a s h.1 inside, me.quiet inside); begins = λ inside. inr (me.begins inside); stands = (me.stands.0, me.stands.1, h) }))
+        (λ b other. caller_published y.shape.buckets y.shape.slots (key_prepared s k) P law y.shape.passes y.vault.cells y.vault.dead (actor_in y.actors b) (pin_in y.words.pins b) (notes.begun b) (notes.changed b) (leaves_others b other) (caller_at callers b) (sound.callers.each b));
+  }
+
+  -- passes stay away from loose slots
+  published_reuse : ReuseSound y.shape y.words.pins y.uses y.actors P' notes.begun
+  published_reuse = record {
+    worn = sound.reuse.worn;
+    sights = sound.reuse.sights;
+    seen = λ b t seen limbo. seen_step y.shape.buckets t (pin_in y.words.pins b) (notes.begun b) (key_prepared s k) P (of_pass seen b Left) (limbo_loose y.shape y.vault.cells y.vault.dead y.uses y.actors P t seen sound.slots limbo) (sound.reuse.seen b t seen limbo);
+    free = λ b t free inside. away_stays y.shape.buckets t (notes.begun b) (key_prepared s k) P (free_loose y.shape y.vault.cells y.vault.dead y.uses y.actors P t sound.slots free) (sound.reuse.free b t free inside);
+    reserved = λ b d t slot inside. away_stays y.shape.buckets t (notes.begun b) (key_prepared s k) P (sound.slots.hand d t slot).loose (sound.reuse.reserved b d t slot inside);
+  }
+
+  -- all of it
+  published_sound : Sound n calls (record { shape = y.shape; words = set y.words (key_at s) k; locks = y.locks; vault = y.vault; uses = y.uses; actors = y.actors }) callers disk M P' notes
+  published_sound = record {
+    trace = trace_key y.shape y.words P sound.trace sound.images.slots.1 s k lt loose;
+    images = sound.images;
+    slots = published_slots;
+    locks = published_locks;
+    callers = published_callers;
+    reuse = published_reuse;
+    ledger = ledger_published n calls y.shape.passes callers (key_prepared s k) P M notes tt sound.ledger;
+    tails = record {
+      adding = sound.tails.adding;
+      removing = λ t on_it clear gate.
+          sound.tails.removing t (subst (λ (q : ℕ). on 0 (chain_of y.shape.buckets q P) (suc t) ≡ true) (word_other t (chain_apart (key_word t P') t on_it)) on_it) clear gate;
+    };
+  }
+
+  -- The cells: the key is put, and the vault may die.
+  module _ (dead' : Bool) (dies : y.vault.dead ≡ true → dead' ≡ true) where
+    abbrev new : Cell
+    new = record { stage = KeyLoose; key = k }
+
+    abbrev cells' : List Cell
+    cells' = slice_set y.vault.cells s new
+
+    abbrev vault' : Vaulted
+    vault' = record { cells = cells'; syncs = y.vault.syncs; dead = dead' }
+
+    -- one cell is changed
+    cell_same : cell_in cells' s ≡ new
+    cell_same = get_or-set_same y.vault.cells s new no_cell (omega (arith, lt, sound.images.count))
+
+    stage_same : stage_in cells' s ≡ KeyLoose
+    stage_same = ap (λ (q : Cell). q.stage) cell_same
+
+    cell_other : (t : ℕ) → t ≢ s → cell_in cells' t ≡ cell_in y.vault.cells t
+    cell_other t other = get_or-set_other y.vault.cells s t new no_cell other
+
+    stage_other : (A : Stage → Type 0) (t : ℕ) → t ≢ s → A (stage_in y.vault.cells t) → A (stage_in cells' t)
+    stage_other A t other was = subst A (ap (λ (q : Cell). q.stage) (sym (cell_other t other))) was
+
+    key_other : (t : ℕ) → t ≢ s → (cell_in cells' t).key ≡ (cell_in y.vault.cells t).key
+    key_other t other = ap (λ (q : Cell). q.key) (cell_other t other)
+
+    -- its gate isn't opened
+    loose_opened : IsGateOpened KeyLoose → ⊥
+    loose_opened (inl e) = absurd cc
+    loose_opened (inr e) = absurd cc
+
+    opened_apart : (t : ℕ) → IsGateOpened (stage_in cells' t) → t ≢ s
+    opened_apart t opened it = loose_opened (subst IsGateOpened (ap (stage_in cells') it ∙ stage_same) opened)
+
+    -- the gate of a node
+    node_then : (t : ℕ) → t ≢ s → IsNodeStage y.vault.cells y.vault.dead y.actors P t → IsNodeStage cells' dead' y.actors P t
+    node_then t apart (inl opened) = inl (opened.0, stage_other IsGateOpened t apart opened.1)
+    node_then t apart (inr (b, closer, gate)) = inr (b, record { node = closer.node; closes = closes_dead y.vault.dead dead' (actor_in y.actors b).hold dies closer.closes }, stage_other IsGateWritten t apart gate)
+
+    -- where each other slot stands
+    stands_then : (t : ℕ) → t ≢ s → SlotStands y.shape y.vault.cells y.vault.dead y.uses y.actors P t → SlotStands y.shape cells' dead' y.uses y.actors P t
+    stands_then t apart (is_node on_it stage) = is_node (record { there = on_it.there; taken = on_it.taken; key = key_other t apart ∙ on_it.key }) (node_then t apart stage)
+    stands_then t apart (is_held b slot) = is_held b slot
+    stands_then t apart (is_out b out) = is_out b out
+    stands_then t apart (is_free free_of free stage) = is_free free_of free (stage_other IsGateClosed t apart stage)
+    stands_then t apart (is_limbo sights free_of limbo stage) = is_limbo sights free_of limbo (stage_other (λ q. q ≡ Closed) t apart stage)
+
+    -- the gate of a slot in hand
+    hand_then : (b t : ℕ) → IsHandStage y.vault.cells y.vault.dead (actor_in y.actors b) P t → IsHandStage cells' dead' (actor_in y.actors b) P t
+    hand_then b t stage = elim (cases_eq t s) [
+      | inl same ↦ inl (subst (λ (q : ℕ). IsGateClosed (stage_in cells' q)) (sym same) (inr (inl stage_same)))
+      | inr other ↦ go other stage
+    ]
+      where
+        go : t ≢ s → IsHandStage y.vault.cells y.vault.dead (actor_in y.actors b) P t → IsHandStage cells' dead' (actor_in y.actors b) P t
+        go apart (inl closed) = inl (stage_other IsGateClosed t apart closed)
+        go apart (inr opened) = inr (opens_dead y.vault.dead dead' (actor_in y.actors b).hold dies opened.0, stage_other IsGateOpened t apart opened.1, key_other t apart ∙ opened.2)
+
+    -- so what is said of slots stays
+    put_slots : SlotsSound y.shape cells' dead' y.uses y.actors P
+    put_slots = record {
+      count = sound.slots.count;
+      each = λ t within. elim (cases_eq t s) [
+        | inl same ↦ is_held a (h.1 ∙ ap Some (sym same))
+        | inr other ↦ stands_then t other (sound.slots.each t within)
+      ];
+      hand = λ b t slot. let was = sound.slots.hand b t slot in record { in_range = was.in_range; loose = was.loose; taken = was.taken; stage = hand_then b t was.stage };
+      out = λ b t out. let was = sound.slots.out b t out in record { in_range = was.in_range; loose = was.loose; taken = was.taken; stage = stage_other (λ q. q ≡ Closed) t (out_apart b t out) was.stage };
+      one_hand = sound.slots.one_hand;
+      one_out = sound.slots.one_out;
+      hand_out = sound.slots.hand_out;
+      opened = λ b t slot does. elim (cases_eq b a) [
+        | inl same ↦ absurd (false≢true (ap unlocks (sym h.0.hold) ∙ ap (λ (q : ℕ). unlocks (actor_in y.actors q).hold) (sym same) ∙ does))
+        | inr other ↦ stage_other IsGateOpened t (hand_apart b t other slot) (sound.slots.opened b t slot does)
+      ];
+      closed = λ b t curr does.
+          let there = held_node y.shape P (actor_in y.actors b).hold (actor_in y.actors b) sound.trace.lawful (sound.locks.rests b) t curr (shut_relies (actor_in y.actors b).hold does) in
+          stage_other IsGateWritten t (chain_apart (key_word t P) t there) (sound.slots.closed b t curr does);
+      added = λ j t key on_it flag. stage_other (λ q. q ≢ Opening) t (chain_apart j t on_it) (sound.slots.added j t key on_it flag);
+      removed = λ j t key on_it flag. stage_other (λ q. q ≡ Closed) t (chain_apart j t on_it) (sound.slots.removed j t key on_it flag);
+    }
+
+    -- another's cell is the old one
+    keeps_cell : (t : ℕ) → t ≢ s → KeepsCell (cell_in y.vault.cells t) (cell_in cells' t)
+    keeps_cell t apart = record { key = key_other t apart; keyed = λ e. subst (λ (q : Cell). (q.stage ≡ KeyLoose) ⊎ (q.stage ≡ Keyed)) (sym (cell_other t apart)) e; sure = λ e. stage_other (λ q. q ≡ Keyed) t apart e }
+
+    -- all of it, over a disk that is as the new cells say
+    put_sound : (medium : Medium) → DiskSound y.shape vault' medium → Sound n calls (with_vault y vault') callers medium M P notes
+    put_sound medium images = record {
+      trace = sound.trace;
+      images = images;
+      slots = put_slots;
+      locks = sound.locks;
+      callers = record {
+        count = sound.callers.count;
+        hands = sound.callers.hands;
+        each = by_actor (λ b. CallerSound (view_of y.shape vault' y.actors b) (pin_in y.words.pins b) (caller_at callers b) (notes.begun b) P (notes.changed b)) a
+            (subst (λ (q : Option Caller). CallerSound (view_of y.shape vault' y.actors a) (pin_in y.words.pins a) q (notes.begun a) P (notes.changed a)) (sym is)
+            (record { quiet = me.quiet; begins = me.begins; stands = (me.stands.0, me.stands.1, (record { hold = h.0.hold; none = h.0.none }, h.1, h.2)) }))
+            (λ b other. caller_vaulted y.shape.buckets y.shape.passes y.vault.cells cells' y.vault.dead dead' (actor_in y.actors b) (notes.begun b) P (notes.changed b) dies (λ t slot. keeps_cell t (hand_apart b t other slot)) (pin_in y.words.pins b) (caller_at callers b) (sound.callers.each b));
+      };
+      reuse = sound.reuse;
+      ledger = sound.ledger;
+      tails = record {
+        adding = λ b t slot opened.
+            let apart = opened_apart t opened in
+            subst (λ (q : ℕ). HasTail (Add q) callers (entries y.shape.passes callers notes) M) (sym (key_other t apart)) (sound.tails.adding b t slot (subst IsGateOpened (ap (λ (q : Cell). q.stage) (cell_other t apart)) opened));
+        removing = λ t on_it clear gate.
+            let apart = chain_apart (key_word t P) t on_it in
+            subst (λ (q : ℕ). HasTail (Remove q) callers (entries y.shape.passes callers notes) M) (sym (key_other t apart)) (sound.tails.removing t on_it clear (subst IsGateWritten (ap (λ (q : Cell). q.stage) (cell_other t apart)) gate));
+      };
+    }
+
+module _ (n calls : ℕ) (y : Yard) (callers : List (Option Caller)) (disk : Medium) (M : History) (P : Trace) (notes : Notes) (sound : Sound n calls y callers disk M P notes) (a i : ℕ) (c : Command) (s : ℕ) (is : caller_at callers a ≡ Some (call_at i c (Playing (Writing s) 0))) (alive : y.vault.dead ≡ false) where
+  abbrev cells_put : List Cell
+  cells_put = slice_set y.vault.cells s (record { stage = KeyLoose; key = key_of c })
+
+  abbrev vault_put : Bool → Vaulted
+  vault_put dead' = record { cells = cells_put; syncs = y.vault.syncs; dead = dead' }
+
+  abbrev medium_put : Medium
+  medium_put = written disk (17 + 16 * s) (slot_body (key_of c))
+
+  abbrev yard_put : Yard
+  yard_put = with_vault y (vault_put y.vault.dead)
+
+  -- a call's key is a key, and its slot's gate is closed
+  fits : key_of c ≤ largest_key
+  fits = (me n calls y callers disk M P notes sound a i c s is).stands.1
+
+  in_range : s < y.shape.slots
+  in_range = lt n calls y callers disk M P notes sound a i c s is
+
+  still_shut : IsGateClosed (stage_in y.vault.cells s)
+  still_shut = shut n calls y callers disk M P notes sound a i c s is
+
+  -- the write is done, and the key isn't published yet
+  written_sound : Sound n calls yard_put callers medium_put M P notes
+  written_sound = put_sound n calls y callers disk M P notes sound a i c s is y.vault.dead (λ e. e) medium_put
+      (subst (λ (b : Bool). DiskSound y.shape (vault_put b) medium_put) (sym alive) (key_written y.shape y.vault disk sound.images alive s (key_of c) in_range fits still_shut y.vault.syncs))
+
+  abbrev yard_keyed : Yard
+  yard_keyed = record { shape = y.shape; words = set y.words (key_at s) (key_of c); locks = y.locks; vault = vault_put y.vault.dead; uses = y.uses; actors = y.actors }
+
+  -- the key is published, and the call goes on to its sync
+  keyed_sound : Sound n calls yard_keyed (moving callers a (call_at i c (Playing (Writing s) 0)) (Playing (Writing s) 1)) medium_put M (key_prepared s (key_of c) ∷ P) notes
+  keyed_sound =
+      let here = h n calls y callers disk M P notes sound a i c s is in
+      let cell : cell_in cells_put s ≡ record { stage = KeyLoose; key = key_of c } = cell_same n calls y callers disk M P notes sound a i c s is y.vault.dead (λ e. e) in
+      goes_on_keeps n calls yard_keyed callers medium_put M (key_prepared s (key_of c) ∷ P) notes a i c (Playing (Writing s) 0) is
+      (published_sound n calls yard_put callers medium_put M P notes written_sound a i c s is) (Playing (Writing s) 1) refl (λ none is. absurd (false≢true is))
+      (record {
+        relies = (
+          record { hold = here.0.hold; none = here.0.none },
+          here.1,
+          ap (λ (q : Cell). q.key) cell,
+          word_same n calls y callers disk M P notes sound a i c s is,
+          inl (ap (λ (q : Cell). q.stage) cell),
+          here.2,
+        );
+        inside = refl;
+      })
+
+  -- the turn in which the key is written
+  pub write_key_keeps : Sound n calls (yard_done y (actor_at y a) a (WriteKey (key_of c))) (moving callers a (call_at i c (Playing (Writing s) 0)) (Playing (Writing s) 1))
+      (medium_after (call_of y (actor_at y a) (WriteKey (key_of c))) disk) M (publishes y (actor_at y a) a (WriteKey (key_of c)) ++ P) notes
+  write_key_keeps =
+      let mine : s ≡ slot_of (actor_at y a) = sym (ap (λ (q : Option ℕ). unwrap_or q 0) (h n calls y callers disk M P notes sound a i c s is).1) in
+      subst (λ (q : ℕ). Sound n calls (record { shape = y.shape; words = set y.words (key_at q) (key_of c); locks = y.locks; vault = record { cells = slice_set y.vault.cells q (record { stage = KeyLoose; key = key_of c }); syncs = y.vault.syncs; dead = y.vault.dead }; uses = y.uses; actors = y.actors })
+      (moving callers a (call_at i c (Playing (Writing s) 0)) (Playing (Writing s) 1)) (written disk (17 + 16 * q) (slot_body (key_of c))) M (key_prepared q (key_of c) ∷ P) notes) mine keyed_sound
+
+  -- the turn in which the write fails: the vault dies, and no word is changed
+  pub write_key_fails_keeps : (medium : Medium) → (medium ≡ disk) ⊎ WriteFailed disk (17 + 16 * s) 15 medium
+      → Sound n calls (with_vault y (vault_put true)) (moving callers a (call_at i c (Playing (Writing s) 0)) (halts Device)) medium M P notes
+  write_key_fails_keeps medium may =
+      goes_on_keeps n calls (with_vault y (vault_put true)) callers medium M P notes a i c (Playing (Writing s) 0) is
+      (put_sound n calls y callers disk M P notes sound a i c s is true (λ e. refl) medium (key_failed y.shape y.vault disk sound.images alive s (key_of c) in_range fits still_shut y.vault.syncs medium may))
+      (halts Device) refl (λ none is. refl) (record { relies = (tt, refl); inside = refl })

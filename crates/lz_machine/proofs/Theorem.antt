@@ -1,0 +1,7 @@
+pub mod Reached
+pub mod Marks
+pub mod MovedLoad
+pub mod Timeliness
+pub mod Rows
+pub mod Readiness
+pub mod ShownChains

@@ -1,0 +1,235 @@
+-- A load may be put into a run behind its actor's last step: the later steps don't look at it.
+use Rattle.std.proofs.Common.{◌≡◌, ◌≢◌, inl, inr, ℕ, zero, suc, ◌%◌, false, List, [], ◌∷◌, ◌++◌, Option, Some, None, refl, sym, ap, ◌∙◌, subst, arith}
+use mathlib.Core.Bool.{false≢true}
+use Rattle.std.specs.Prelude.{IsSome}
+use Rattle.std.specs.List.{list_any}
+use Rattle.std.proofs.lemmas.Bool.{cases_Bool, or_parts}
+use Rattle.std.proofs.lemmas.Bool.Decides.{nat_tests}
+use Rattle.lz_slot.specs.declared.command.Command.{Command}
+use Rattle.lz_slot.specs.Counted.{set_of_pass}
+use Rattle.lz_slot.specs.Histories.{Life, lives}
+use Rattle.lz_slot.proofs.Counted.{of_pass_other, length-set_of_pass}
+use Rattle.lz_disk.specs.Images.{Medium}
+use Rattle.lz_vault.specs.Vaults.{NoCall, medium_after}
+use Rattle.lz_allot.specs.Uses.{is_outside}
+use Rattle.lz_list.specs.declared.word.Word.{Word}
+use Rattle.lz_list.specs.declared.publishing.Publishing.{Publishing}
+use Rattle.lz_list.specs.Words.{Words, get}
+use Rattle.lz_list.specs.Traces.{Trace}
+use Rattle.lz_machine.specs.declared.course.Course.TheVariants.{Plays}
+use Rattle.lz_machine.specs.declared.event.Event.{Event}
+use Rattle.lz_machine.specs.declared.event.Event.TheVariants.{Hop}
+use Rattle.lz_machine.specs.declared.event.Outcome.{Outcome}
+use Rattle.lz_machine.specs.declared.event.Outcome.TheVariants.{Value, NotNow}
+use Rattle.lz_machine.specs.declared.event.Reply.{Reply}
+use Rattle.lz_machine.specs.declared.caller.Script.{Script}
+use Rattle.lz_machine.specs.declared.caller.Script.TheVariants.{Pinning, Resting, Writing, Adding, Removing, Releasing, Halting}
+use Rattle.lz_machine.specs.declared.caller.Progress.{Progress}
+use Rattle.lz_machine.specs.declared.caller.Progress.TheVariants.{Playing, LoadsHalt, Walking, Reserving, SeeingPins, Claiming, Checking, Answering}
+use Rattle.lz_machine.specs.Yards.{Yard, Shape, actor_at}
+use Rattle.lz_machine.specs.Table.{pin_of, course, line, line_on, line_call, call_on, published_on, line_publishes}
+use Rattle.lz_machine.specs.Calls.{event_of, event_at, loaded, progress_after}
+use Rattle.lz_machine.specs.Runs.{Caller, Service, State, Up, Down, Start, IsStart, start_keys, Step, Turn, Point, point_after, run, IsRun, first_point, played, caller_at, next_event, reply_at, moved_on, after_turn, state_after, HasTurn, MayStep, mark_of_turn, marks_of_turn, marks_of, turn_publishes, trace_after, calls_after}
+use Rattle.lz_machine.specs.Laws.{is_of, outcome_at, outcomes, hop_of, hop_of_caller, next_hop, SameBut, WalksMove}
+use Rattle.lz_machine.specs.Sound.{is_before_pin, side_of, StateSound, PointSound, IsSound}
+use Rattle.lz_machine.proofs.Frames.OneActor.{mine}
+use Rattle.lz_machine.proofs.Runs.Twins.{Twin, apart, same, left, right, follows}
+use Rattle.lz_machine.proofs.Runs.Composition.{run_append}
+
+-- a call whose next event is a load: it is inside, and gives no reply yet
+record Loads (words : Words) (e : Event) (at : Progress) : Type 0 where
+  word : Word
+  is_hop : loaded words e ≡ Hop word
+  inside : is_before_pin at ≡ false
+  no_reply : reply_at at ≡ None
+
+script_loads : (words : Words) (c : Command) (script : Script) (i : ℕ) → hop_of (loaded words (event_of c script i)) ≡ None
+script_loads words c Pinning zero = refl
+script_loads words c Pinning (suc i) = refl
+script_loads words c (Resting s reply) zero = refl
+script_loads words c (Resting s reply) (suc zero) = refl
+script_loads words c (Resting s reply) (suc (suc i)) = refl
+script_loads words c (Writing s) zero = refl
+script_loads words c (Writing s) (suc zero) = refl
+script_loads words c (Writing s) (suc (suc i)) = refl
+script_loads words c (Adding s) zero = refl
+script_loads words c (Adding s) (suc zero) = refl
+script_loads words c (Adding s) (suc (suc zero)) = refl
+script_loads words c (Adding s) (suc (suc (suc zero))) = refl
+script_loads words c (Adding s) (suc (suc (suc (suc zero)))) = refl
+script_loads words c (Adding s) (suc (suc (suc (suc (suc i))))) = refl
+script_loads words c (Removing s) zero = refl
+script_loads words c (Removing s) (suc zero) = refl
+script_loads words c (Removing s) (suc (suc zero)) = refl
+script_loads words c (Removing s) (suc (suc (suc zero))) = refl
+script_loads words c (Removing s) (suc (suc (suc (suc zero)))) = refl
+script_loads words c (Removing s) (suc (suc (suc (suc (suc zero))))) = refl
+script_loads words c (Removing s) (suc (suc (suc (suc (suc (suc zero)))))) = refl
+script_loads words c (Removing s) (suc (suc (suc (suc (suc (suc (suc i))))))) = refl
+script_loads words c (Releasing aim) zero = refl
+script_loads words c (Releasing aim) (suc i) = refl
+script_loads words c (Halting reply) zero = refl
+script_loads words c (Halting reply) (suc i) = refl
+
+loads : (words : Words) (shape : Shape) (c : Command) (at : Progress) → IsSome (hop_of (loaded words (event_at shape c at))) → Loads words (event_at shape c at) at
+loads words shape c (Playing script i) is = absurd (false≢true (rw (script_loads words c script i) at is))
+loads words shape c LoadsHalt is = record { word = _; is_hop = refl; inside = refl; no_reply = refl }
+loads words shape c (Walking aim look) is = record { word = _; is_hop = refl; inside = refl; no_reply = refl }
+loads words shape c _ is = absurd (false≢true is)
+
+-- a load by an actor that is inside is played, in a dead vault too
+course_plays : (y : Yard) (a : ℕ) (word : Word) → pin_of y a % 2 ≡ 1 → course y a (Hop word) ≡ Plays
+course_plays y a word odd =
+    let within : is_outside (pin_of y a) ≡ false = grind (arith, nat_tests) in
+    elim (cases_Bool y.vault.dead) [
+      | inl dead ↦ rw (dead, within) refl
+      | inr live ↦ rw (live, within) refl
+    ]
+
+-- two points whose states differ in one actor's call at most
+record Beside (a : ℕ) (one other : Point) : Type 0 where
+  twin : Twin a
+  left_is : left a twin ≡ one.state
+  right_is : right a twin ≡ other.state
+  marks : other.marks ≡ one.marks
+  trace : other.trace ≡ one.trace
+  calls : other.calls ≡ one.calls
+
+-- the load itself
+module _ (a : ℕ) (y : Yard) (callers : List (Option Caller)) (disk : Medium) (caller : Caller) (is : caller_at callers a ≡ Some caller) (load : Loads y.words (event_at y.shape caller.command caller.progress) caller.progress) (odd : pin_of y a % 2 ≡ 1) where
+  abbrev serving : Service
+  serving = record { yard = y; callers = callers }
+
+  plays : course y a (next_event y caller) ≡ Plays
+  plays = ap (course y a) load.is_hop ∙ course_plays y a load.word odd
+
+  hop_line : line y a (next_event y caller) ≡ (y, Value (get y.words load.word))
+  hop_line = λ i. line_on (plays i) y (actor_at y a) a (load.is_hop i)
+
+  hop_call : line_call y a (next_event y caller) ≡ NoCall
+  hop_call = λ i. call_on (plays i) y (actor_at y a) (load.is_hop i)
+
+  hop_publishes : line_publishes y a (next_event y caller) ≡ []
+  hop_publishes = λ i. published_on (plays i) y (actor_at y a) a (load.is_hop i)
+
+  abbrev after : Option Caller
+  after = moved_on (reply_at caller.progress) caller (progress_after y.shape caller.command caller.progress (Value (get y.words load.word)))
+
+  loaded_state : after_turn serving disk a (caller_at callers a) ≡ Up (record { yard = y; callers = set_of_pass callers a after }) disk
+  loaded_state = ap (after_turn serving disk a) is ∙ (λ i. Up (played serving a caller (hop_line i)) (medium_after (hop_call i) disk))
+
+  value_now : (value : ℕ) → Value value ≢ NotNow
+  value_now value e = absurd cc
+
+  hop_may : MayStep (Up serving disk) (Turn a)
+  hop_may = subst (HasTurn serving a) (sym is) (λ bad. value_now _ (sym (ap (λ (l : Yard × Outcome). l.1) hop_line) ∙ bad))
+
+  hop_beside : (p : Point) → p.state ≡ Up serving disk → Beside a p (point_after p (Turn a))
+  hop_beside p at = record {
+    twin = apart y disk callers (set_of_pass callers a after) (sym (length-set_of_pass callers a after)) (λ b other. sym (of_pass_other callers a b after None other));
+    left_is = sym at;
+    right_is = sym (ap (λ (w : State). state_after (suc p.calls) w (Turn a)) at ∙ loaded_state);
+    marks = ap (λ (w : State). marks_of (suc p.calls) w (Turn a) ++ p.marks) at ∙ ap (λ (q : Option Caller). marks_of_turn q ++ p.marks) is ∙ ap (λ (r : Option Reply). mark_of_turn caller.number r ++ p.marks) load.no_reply;
+    trace = ap (λ (w : State). trace_after w p.trace (Turn a)) at ∙ ap (λ (q : Option Caller). turn_publishes serving a q ++ p.trace) is ∙ ap (λ (l : List Publishing). l ++ p.trace) hop_publishes;
+    calls = refl;
+  }
+
+-- at a point that is sound an actor whose next event is a load is inside
+pin_inside : (start : Start) (p : Point) (L : List Life) (service : Service) (disk : Medium) (a : ℕ) (caller : Caller) → p.state ≡ Up service disk → PointSound start p L
+    → caller_at service.callers a ≡ Some caller → is_before_pin caller.progress ≡ false → pin_of service.yard a % 2 ≡ 1
+pin_inside start p [] service disk a caller at h is inside = absurd h
+pin_inside start p (life ∷ earlier) service disk a caller at h is inside =
+    let up = subst (λ (w : State). StateSound p w life) at h.2 in
+    let own = mine service.yard.shape service.yard.vault service.yard.words.pins service.yard.actors service.callers p.trace up.1 a caller is up.2.sound.callers in
+    own.stands.0 ∙ ap side_of inside
+
+-- what a load does at a point
+record HopsBeside (a : ℕ) (p : Point) : Type 0 where
+  may : MayStep p.state (Turn a)
+  beside : Beside a p (point_after p (Turn a))
+
+hops_caller : (start : Start) (p : Point) (a : ℕ) (service : Service) (disk : Medium) → IsSound start p → p.state ≡ Up service disk → (q : Option Caller) → caller_at service.callers a ≡ q → IsSome (hop_of_caller service q) → HopsBeside a p
+hops_caller start p a service disk sound at None is hop = absurd (false≢true hop)
+hops_caller start p a service disk sound at (Some caller) is hop =
+    let load = loads service.yard.words service.yard.shape caller.command caller.progress hop in
+    let odd = pin_inside start p (lives (start_keys start) p.marks) service disk a caller at sound is load.inside in
+    record {
+      may = subst (λ (w : State). MayStep w (Turn a)) (sym at) (hop_may a service.yard service.callers disk caller is load odd);
+      beside = hop_beside a service.yard service.callers disk caller is load odd p at;
+    }
+
+hops_state : (start : Start) (p : Point) (a : ℕ) → IsSound start p → (w : State) → p.state ≡ w → IsSome (next_hop w a) → HopsBeside a p
+hops_state start p a sound (Up service disk) at hop = hops_caller start p a service disk sound at (caller_at service.callers a) refl hop
+hops_state start p a sound (Down shape disk) at hop = absurd (false≢true hop)
+
+-- a later step, which isn't the actor's
+record StepsBeside (a : ℕ) (one other : Point) (step : Step) : Type 0 where
+  may : MayStep other.state step
+  outcome : outcome_at other.state step ≡ outcome_at one.state step
+  beside : Beside a (point_after one step) (point_after other step)
+
+steps_beside : (a : ℕ) (one other : Point) (step : Step) → is_of a step ≡ false → MayStep one.state step → Beside a one other → StepsBeside a one other step
+steps_beside a one other step apart_from may h =
+    let n = suc one.calls in
+    let f = follows a n h.twin one.trace step apart_from (subst (λ (w : State). MayStep w step) (sym h.left_is) may) in
+    let marks = ap (λ (m : ℕ). marks_of (suc m) other.state step) h.calls ∙ ap (λ (w : State). marks_of n w step) (sym h.right_is) ∙ sym f.marks ∙ ap (λ (w : State). marks_of n w step) h.left_is in
+    record {
+      may = subst (λ (w : State). MayStep w step) h.right_is f.may;
+      outcome = ap (λ (w : State). outcome_at w step) (sym h.right_is) ∙ sym f.outcome ∙ ap (λ (w : State). outcome_at w step) h.left_is;
+      beside = record {
+        twin = f.next;
+        left_is = f.left_is ∙ ap (λ (w : State). state_after n w step) h.left_is;
+        right_is = f.right_is ∙ ap (λ (w : State). state_after n w step) h.right_is ∙ ap (λ (m : ℕ). state_after (suc m) other.state step) (sym h.calls);
+        marks = λ i. marks i ++ h.marks i;
+        trace = ap (λ (P : Trace). trace_after other.state P step) h.trace ∙ ap (λ (w : State). trace_after w one.trace step) (sym h.right_is) ∙ sym f.trace ∙ ap (λ (w : State). trace_after w one.trace step) h.left_is;
+        calls = ap (λ (m : ℕ). calls_after m step) h.calls;
+      };
+    }
+
+run_before : (p : Point) (later before : List Step) → IsRun p (later ++ before) → IsRun p before
+run_before p [] before runs = runs
+run_before p (step ∷ later) before runs = run_before p later before runs.1
+
+-- the later steps, one after the other
+module _ (p : Point) (a : ℕ) (before : List Step) (hops : HopsBeside a (run p before)) where
+  record Later (later : List Step) : Type 0 where
+    runs : IsRun p (later ++ Turn a ∷ before)
+    same_outcomes : outcomes (run p (Turn a ∷ before)) later ≡ outcomes (run p before) later
+    beside : Beside a (run p (later ++ before)) (run p (later ++ Turn a ∷ before))
+
+  goes_later : (later : List Step) → IsRun p (later ++ before) → list_any (is_of a) later ≡ false → Later later
+  goes_later [] runs none = record { runs = (hops.may, runs); same_outcomes = refl; beside = hops.beside }
+  goes_later (step ∷ later) runs none =
+      let parts = or_parts (is_of a step) (list_any (is_of a) later) none in
+      let rest = goes_later later runs.1 parts.1 in
+      let now = steps_beside a (run p (later ++ before)) (run p (later ++ Turn a ∷ before)) step parts.0 runs.0 rest.beside in
+      let outcome = ap (λ (q : Point). outcome_at q.state step) (run_append p later (Turn a ∷ before)) ∙ now.outcome ∙ ap (λ (q : Point). outcome_at q.state step) (sym (run_append p later before)) in
+      record {
+        runs = (now.may, rest.runs);
+        same_outcomes = λ i. outcome i ∷ rest.same_outcomes i;
+        beside = now.beside;
+      }
+
+twins_same : (a : ℕ) (t : Twin a) → SameBut a (left a t) (right a t)
+twins_same a (apart y disk one other count rest) = (refl, refl, rest)
+twins_same a (same (Up service disk)) = (refl, refl, λ b away. refl)
+twins_same a (same (Down shape disk)) = (refl, refl)
+
+beside_same : (a : ℕ) (one other : Point) → Beside a one other → SameBut a one.state other.state
+beside_same a one other h = subst (λ (w : State). SameBut a one.state w) h.right_is (subst (λ (w : State). SameBut a w (right a h.twin)) h.left_is (twins_same a h.twin))
+
+module _ (reached_sound : (start : Start) (steps : List Step) → IsStart start → IsRun (first_point start) steps → IsSound start (run (first_point start) steps)) where
+  pub walks_move : WalksMove
+  walks_move start later before a starts runs none hop =
+      let p = first_point start in
+      let sound = reached_sound start before starts (run_before p later before runs) in
+      let hops = hops_state start (run p before) a sound (run p before).state refl hop in
+      let rest = goes_later p a before hops later runs none in
+      record {
+        may = hops.may;
+        runs = rest.runs;
+        outcomes = rest.same_outcomes;
+        marks = rest.beside.marks;
+        trace = rest.beside.trace;
+        state = beside_same a (run p (later ++ before)) (run p (later ++ Turn a ∷ before)) rest.beside;
+      }

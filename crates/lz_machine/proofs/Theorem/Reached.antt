@@ -1,0 +1,47 @@
+-- Every point that a run reaches is sound.
+use Rattle.std.proofs.Common.{ℕ, List, [], ◌∷◌}
+use Rattle.lz_slot.specs.Histories.{History}
+use Rattle.lz_list.specs.Traces.{Trace}
+use Rattle.lz_machine.specs.Runs.{Start, IsStart, State, Up, Down, Step, Calls, Turn, Fails, Looks, Trips, Stops, Crashes, CrashesIn, Opens, OpenFails, MayStep, point_after, first_point, run, IsRun}
+use Rattle.lz_machine.specs.Laws.{EveryHistory, WhatLasts, WalksMove}
+use Rattle.lz_machine.specs.Sound.{IsSound}
+use Rattle.lz_machine.proofs.Steps.Trip.{point, trips_up, trips_down}
+use Rattle.lz_machine.proofs.Steps.Invoke.{call_keeps}
+use Rattle.lz_machine.proofs.Steps.Point as at_point
+use Rattle.lz_machine.proofs.Steps.Point.{fails_keeps, looks_keeps}
+use Rattle.lz_machine.proofs.Steps.Answer.{answer_up}
+use Rattle.lz_machine.proofs.Crash.Down.{stops_keeps, crashes_keeps, open_fails_keeps}
+use Rattle.lz_machine.proofs.Crash.Leftovers as leaving
+use Rattle.lz_machine.proofs.Open.FirstPoint.{first_sound, opens_keeps, down_seen}
+use Rattle.lz_machine.proofs.Theorem.MovedLoad as walks
+
+-- each step keeps the invariant
+step_keeps : (start : Start) → IsStart start → (w : State) (M : History) (P : Trace) (calls : ℕ) (step : Step) → IsSound start (point w M P calls) → MayStep w step → IsSound start (point_after (point w M P calls) step)
+step_keeps start is (Up service disk) M P calls (Calls a c) sound may = call_keeps start a c service disk M P calls sound may
+step_keeps start is (Up service disk) M P calls (Turn a) sound may = at_point.turn_keeps answer_up start a service disk M P calls sound may
+step_keeps start is (Up service disk) M P calls (Fails a new) sound may = fails_keeps start a new service disk M P calls sound may
+step_keeps start is (Up service disk) M P calls (Looks a) sound may = looks_keeps start a service disk M P calls sound may
+step_keeps start is (Up service disk) M P calls Trips sound may = trips_up start service disk M P calls sound
+step_keeps start is w M P calls Stops sound may = stops_keeps start w M P calls sound may
+step_keeps start is w M P calls (Crashes t) sound may = crashes_keeps start w M P calls t sound may
+step_keeps start is w M P calls (CrashesIn a t) sound may = leaving.crash_in_keeps (at_point.turn_keeps answer_up) start w M P calls a t sound may
+step_keeps start is w M P calls (OpenFails why done) sound may = open_fails_keeps start w M P calls why done sound may
+step_keeps start is (Down shape disk) M P calls Trips sound may = trips_down start shape disk M P calls sound
+step_keeps start is (Down shape disk) M P calls Opens sound may = opens_keeps start shape disk M P calls is (down_seen start shape disk M P calls sound) sound may
+step_keeps start is _ _ _ calls _ sound may = absurd may
+
+-- the main induction
+pub reached_sound : (start : Start) (steps : List Step) → IsStart start → IsRun (first_point start) steps → IsSound start (run (first_point start) steps)
+reached_sound start [] is runs = first_sound start is is.bytes
+reached_sound start (step ∷ steps) is runs =
+    let before = run (first_point start) steps in
+    step_keeps start is before.state before.marks before.trace before.calls step (reached_sound start steps is runs.1) runs.0
+
+pub every_history : EveryHistory
+every_history = leaving.every_history (at_point.turn_keeps answer_up) reached_sound
+
+pub what_lasts : WhatLasts
+what_lasts = leaving.what_lasts (at_point.turn_keeps answer_up) reached_sound
+
+pub walks_move : WalksMove
+walks_move = walks.walks_move reached_sound

@@ -1,0 +1,407 @@
+-- What an event rests on where it is played follows from the invariant.
+use Rattle.std.proofs.Common.{◌≡◌, ◌≢◌, ◌⊎◌, inl, inr, ℕ, zero, suc, ◌<◌, ◌≤◌, ◌==◌, if◌then◌else◌, not, ◌&&◌, Bool, true, false, List, [], ◌∷◌, length, Option, Some, None, is_some, refl, sym, ap, ◌∙◌, subst, arith}
+use mathlib.Core.Bool.{false≢true}
+use Rattle.std.specs.Prelude.{unwrap_or, IsSomeAnd, IfSome}
+use Rattle.std.proofs.lemmas.Bool.Decides.{eqb_tells}
+use Rattle.std.proofs.lemmas.Bool.{not-true}
+use Rattle.lz_slot.specs.declared.command.Command.{Command}
+use Rattle.lz_slot.specs.declared.command.Command.TheVariants.{Add, Remove, Has}
+use Rattle.lz_slot.specs.Histories.{History, Life, lives}
+use Rattle.lz_disk.specs.Images.{Medium}
+use Rattle.lz_vault.specs.declared.vault.Stage.{Stage}
+use Rattle.lz_vault.specs.declared.vault.Stage.TheVariants.{Closed, KeyLoose, Keyed, Opening, Open, Closing}
+use Rattle.lz_vault.specs.Vaults.{Vaulted}
+use Rattle.lz_allot.specs.Allots.{IsTakenAt}
+use Rattle.lz_allot.specs.Uses.{Use}
+use Rattle.lz_list.specs.declared.place.Place.{Place}
+use Rattle.lz_list.specs.declared.place.Place.TheVariants.{Node}
+use Rattle.lz_list.specs.declared.word.Word.TheVariants.{Pin as pin_at}
+use Rattle.lz_list.specs.Words.{Words, get}
+use Rattle.lz_list.specs.Locks.{NodeLocks, claimed_places}
+use Rattle.lz_list.specs.Lists.{IsPlace, IsCurr}
+use Rattle.lz_list.specs.Traces.{Trace, IsLoose, on, chain_of, bucket_of, key_word}
+use Rattle.lz_machine.specs.declared.actor.Actor.{Actor}
+use Rattle.lz_machine.specs.declared.actor.Hold.{Hold}
+use Rattle.lz_machine.specs.declared.actor.Hold.TheVariants.{Nothing, Locks, Checked, GateOpened, Linked, GateClosed, Marked, Unlinked, Released}
+use Rattle.lz_machine.specs.declared.caller.Script.{Script}
+use Rattle.lz_machine.specs.declared.caller.Script.TheVariants.{Pinning, Resting, Writing, Adding, Removing, Releasing, Halting}
+use Rattle.lz_machine.specs.declared.caller.Progress.{Progress}
+use Rattle.lz_machine.specs.declared.caller.Progress.TheVariants.{Playing, LoadsHalt, Walking, Reserving, SeeingPins, Claiming, Checking, Answering}
+use Rattle.lz_machine.specs.declared.course.Course.{Course}
+use Rattle.lz_machine.specs.declared.course.Course.TheVariants.{Refused, Plays}
+use Rattle.lz_machine.specs.declared.event.Event.{Event}
+use Rattle.lz_machine.specs.declared.event.Event.TheVariants.{Invoke, Pin, Hop, Reserve, WriteKey, Claim, Check, WriteOpen, Link, WriteClose, Mark, Release, Sync, Settle, Unlink, Retire, SeePin, Answer, Halt}
+use Rattle.lz_machine.specs.declared.event.Outcome.{Outcome}
+use Rattle.lz_machine.specs.declared.event.Outcome.TheVariants.{Dead, Done, NotNow, Worn}
+use Rattle.lz_machine.specs.Yards.{Shape, Yard, actor_at, cell_at}
+use Rattle.lz_machine.specs.Table.{last_pin, pin_of, needs, is_played_dead, course_alive, course, is_unused, has_stage, may_check, has_checked, has_opened, has_closed, has_marked, may_release, may_retire}
+use Rattle.lz_machine.specs.Calls.{event_at, loaded}
+use Rattle.lz_machine.specs.Runs.{Start, State, Up, Point, Service, Caller, caller_at, next_event, with_words, first_point, run, start_keys, IsNext, MayPlay}
+use Rattle.lz_machine.specs.Sound.{Notes, View, view_of, actor_in, stage_in, closes, opens, has_locks, has_removed_node, HasPlace, HasLock, RestsOn, IsChecked, HasOpened, HasClosed, IsHandStage, IsNodeStage, SlotStands, is_node, is_held, is_out, is_free, is_limbo, Relies, Sound, StateSound, PointSound}
+use Rattle.lz_machine.specs.Ready.{IsEventOf, IsReadyFor, IsReady}
+use Rattle.lz_machine.proofs.Frames.OneActor.{caller_range, mine}
+use Rattle.lz_machine.proofs.Steps.Halt.{held_node}
+use Rattle.lz_machine.proofs.Steps.Unlink.{first_place, node_place}
+use Rattle.lz_machine.proofs.Runs.NextEvent.{plays_alive, refused_plays}
+use Rattle.lz_machine.proofs.Theorem.ShownChains.{links_are, keeps_key, keeps_link, may_link_at, may_unlink_at, owned_place, is_curr}
+use Rattle.lz_machine.proofs.Theorem.Reached.{reached_sound}
+use Rattle.lz_machine.proofs.Steps.ReturnedSlot.{closed_unused}
+use Rattle.lz_machine.proofs.Frames.Grip.{closer_locks}
+
+-- what the needs say
+both : (p q : Bool) → (p && q) ≡ true → (p ≡ true) × (q ≡ true)
+both true true is = (refl, refl)
+both true false is = absurd (false≢true is)
+both false q is = absurd (false≢true is)
+
+some_of : (slot : Option ℕ) → is_some slot ≡ true → (s : ℕ) × (slot ≡ Some s)
+some_of None is = absurd (false≢true is)
+some_of (Some s) is = (s, refl)
+
+is_checked : (hold : Hold) → has_checked hold ≡ true → hold ≡ Checked
+is_checked Checked is = refl
+is_checked _ is = absurd (false≢true is)
+
+is_opened : (hold : Hold) → has_opened hold ≡ true → hold ≡ GateOpened
+is_opened GateOpened is = refl
+is_opened _ is = absurd (false≢true is)
+
+is_closed : (hold : Hold) → has_closed hold ≡ true → hold ≡ GateClosed
+is_closed GateClosed is = refl
+is_closed _ is = absurd (false≢true is)
+
+is_marking : (hold : Hold) → has_marked hold ≡ true → hold ≡ Marked
+is_marking Marked is = refl
+is_marking _ is = absurd (false≢true is)
+
+is_released : (hold : Hold) → may_retire hold ≡ true → hold ≡ Released
+is_released Released is = refl
+is_released _ is = absurd (false≢true is)
+
+check_locks : (hold : Hold) → may_check hold ≡ true → has_locks hold ≡ true
+check_locks Nothing is = absurd (false≢true is)
+check_locks Released is = absurd (false≢true is)
+check_locks _ is = refl
+
+release_locks : (hold : Hold) → may_release hold ≡ true → has_locks hold ≡ true
+release_locks Nothing is = absurd (false≢true is)
+release_locks Released is = absurd (false≢true is)
+release_locks _ is = refl
+
+-- in a vault that lives only an opened gate is open
+opens_alive : (hold : Hold) → opens false hold ≡ true → has_opened hold ≡ true
+opens_alive GateOpened is = refl
+opens_alive _ is = absurd (false≢true is)
+
+is_keyed : (stage : Stage) → has_stage Keyed stage ≡ true → stage ≡ Keyed
+is_keyed Keyed is = refl
+is_keyed _ is = absurd (false≢true is)
+
+-- a pin that isn't worn
+not_last : (dead may : Bool) (pin : ℕ) (outcome : Outcome) → (if dead && not true then Refused Dead else if may then (if pin == last_pin then Refused outcome else Plays) else Refused NotNow) ≡ Plays → pin ≢ last_pin
+not_last dead false pin outcome plays = absurd (refused_plays (go dead plays))
+  where
+    go : (q : Bool) → (if q && not true then Refused Dead else Refused NotNow) ≡ Plays → Refused NotNow ≡ Plays
+    go true is = is
+    go false is = is
+not_last dead true pin outcome plays = elim (eqb_tells pin last_pin) [
+  | inl same ↦ absurd (refused_plays (sym (ap (λ (q : Bool). if q then Refused outcome else Plays) same.0) ∙ go dead plays))
+  | inr other ↦ other.1
+]
+  where
+    go : (q : Bool) → (if q && not true then Refused Dead else (if pin == last_pin then Refused outcome else Plays)) ≡ Plays → (if pin == last_pin then Refused outcome else Plays) ≡ Plays
+    go true is = is
+    go false is = is
+
+-- the yard of a sound service, with words of which only pins differ, and not the actor's own
+module _ (n calls : ℕ) (y : Yard) (callers : List (Option Caller)) (disk : Medium) (M : History) (P : Trace) (notes : Notes) (sound : Sound n calls y callers disk M P notes)
+    (w : Words) (heads : w.heads ≡ y.words.heads) (links : w.links ≡ y.words.links) (keys : w.keys ≡ y.words.keys)
+    (a : ℕ) (low : 1 ≤ a) (pin : get w (pin_at a) ≡ get y.words (pin_at a)) where
+  abbrev z : Yard
+  z = with_words y w
+
+  abbrev actor : Actor
+  actor = actor_in y.actors a
+
+  -- what the actor has locked is in range
+  has_place : has_locks actor.hold ≡ true → (place : Place) → HasPlace place (claimed_places actor.pred actor.curr) → IsPlace w place
+  has_place locks place among =
+      owned_place y.shape y.words P sound.trace sound.images.slots.1 w heads links keys y.locks a place sound.locks.heads sound.locks.nodes low (sound.locks.has a place (record { locks = locks; among = among }))
+
+  pred_place : has_locks actor.hold ≡ true → IsPlace w actor.pred
+  pred_place locks = has_place locks actor.pred (first_place actor.pred actor.curr)
+
+  node_there : has_locks actor.hold ≡ true → (s : ℕ) → actor.curr ≡ Some s → IsPlace w (Node s)
+  node_there locks s is = has_place locks (Node s) (node_place actor.pred actor.curr s is)
+
+  curr_there : has_locks actor.hold ≡ true → IsCurr w actor.curr
+  curr_there locks = is_curr y.shape y.words P sound.trace sound.images.slots.1 w heads links keys actor.curr (node_there locks)
+
+  pin_below : pin_of z a ≢ last_pin → pin_of z a < last_pin
+  pin_below other = omega (arith, pin, sound.reuse.worn a, other)
+
+  abbrev Follows : Event → Type 0
+  Follows e = needs z a e ≡ true → course z a e ≡ Plays → IsReadyFor z actor a e
+
+  ready_pin : Follows Pin
+  ready_pin has plays = pin_below (not_last y.vault.dead (needs z a Pin) (pin_of z a) Worn plays)
+
+  ready_key : (k : ℕ) → Follows (WriteKey k)
+  ready_key k has plays =
+      let two = both (is_some actor.slot) (not (has_opened actor.hold)) has in
+      let slot = some_of actor.slot two.0 in
+      let hand = sound.slots.hand a slot.0 slot.1 in
+      (slot.0, slot.1, (hand.in_range, unused slot.0 hand.stage (not-true (has_opened actor.hold) two.1), keeps_key y.shape y.words P sound.trace sound.images.slots.1 w heads links keys slot.0 k hand.loose))
+    where
+      unused : (s : ℕ) → IsHandStage y.vault.cells y.vault.dead actor P s → has_opened actor.hold ≡ false → is_unused (stage_in y.vault.cells s) ≡ true
+      unused s (inl closed) shut = closed_unused (stage_in y.vault.cells s) closed
+      unused s (inr opened) shut = absurd (false≢true (sym shut ∙ opens_alive actor.hold (ap (λ (q : Bool). opens q actor.hold) (sym (plays_alive z a (WriteKey k) refl plays)) ∙ opened.0)))
+
+  ready_check : Follows Check
+  ready_check has plays = let locks = check_locks actor.hold has in (pred_place locks, curr_there locks)
+
+  ready_open : Follows WriteOpen
+  ready_open has plays =
+      let two = both (has_checked actor.hold && is_some actor.slot) (has_stage Keyed (cell_at z (unwrap_or actor.slot 0)).stage) has in
+      let first = both (has_checked actor.hold) (is_some actor.slot) two.0 in
+      let slot = some_of actor.slot first.1 in
+      let hand = sound.slots.hand a slot.0 slot.1 in (
+        slot.0,
+        slot.1,
+        (
+          hand.in_range,
+          is_keyed (stage_in y.vault.cells slot.0) (ap (λ (q : Option ℕ). has_stage Keyed (stage_in y.vault.cells (unwrap_or q 0))) (sym slot.1) ∙ two.1),
+          keeps_link y.shape y.words P sound.trace sound.images.slots.1 w heads links keys slot.0 _ hand.loose,
+          curr_there (ap has_locks (is_checked actor.hold first.0)),
+        ),
+      )
+
+  ready_link : Follows Link
+  ready_link has plays =
+      let hold = is_opened actor.hold has in
+      let rests : HasOpened y.shape.buckets actor P = subst (λ (q : Hold). RestsOn y.shape.buckets q actor P) hold (sound.locks.rests a) in
+      let hand = sound.slots.hand a rests.own rests.slot in
+      (rests.own, rests.slot, (pred_place (ap has_locks hold), may_link_at y.shape y.words P sound.trace sound.images.slots.1 w heads links keys actor.pred actor.curr rests.own hand.in_range rests.beside rests.ready))
+
+  slot_lt : has_locks actor.hold ≡ true → (s : ℕ) → actor.curr ≡ Some s → s < y.shape.slots
+  slot_lt locks s is = omega (arith, node_there locks s is, links_are y.shape y.words P sound.trace sound.images.slots.1 w heads links keys)
+
+  -- a node that the actor has found unmarked, with the gate open, in a vault that lives
+  gate_open : actor.hold ≡ Checked → y.vault.dead ≡ false → (s : ℕ) → actor.curr ≡ Some s → s < y.shape.slots → (stage_in y.vault.cells s ≡ Opening) ⊎ (stage_in y.vault.cells s ≡ Open)
+  gate_open hold lives s is lt = by_stand (sound.slots.each s lt)
+    where
+      rests : IsChecked y.shape.buckets actor P
+      rests = subst (λ (q : Hold). RestsOn y.shape.buckets q actor P) hold (sound.locks.rests a)
+
+      there : on 0 (chain_of y.shape.buckets (key_word s P) P) (suc s) ≡ true
+      there = held_node y.shape P Checked actor sound.trace.lawful rests s is refl
+
+      off : IsLoose y.shape.buckets s P → ⊥
+      off loose = false≢true (sym (loose (bucket_of y.shape.buckets (key_word s P))) ∙ there)
+
+      by_stage : IsNodeStage y.vault.cells y.vault.dead y.actors P s → (stage_in y.vault.cells s ≡ Opening) ⊎ (stage_in y.vault.cells s ≡ Open)
+      by_stage (inl opened) = opened.1
+      by_stage (inr (b, closer, written)) =
+          let theirs : HasLock (actor_in y.actors b) (Node s) = record { locks = closer_locks y.vault.dead (actor_in y.actors b).hold closer.closes; among = node_place (actor_in y.actors b).pred (actor_in y.actors b).curr s closer.node } in
+          let own : HasLock actor (Node s) = record { locks = ap has_locks hold; among = node_place actor.pred actor.curr s is } in
+          let same : b ≡ a = sym (sound.locks.has b (Node s) theirs) ∙ sound.locks.has a (Node s) own in
+          absurd (false≢true (sym (ap (λ (q : Hold). closes y.vault.dead q) hold ∙ lives) ∙ ap (λ (q : ℕ). closes y.vault.dead (actor_in y.actors q).hold) (sym same) ∙ closer.closes))
+
+      by_stand : SlotStands y.shape y.vault.cells y.vault.dead y.uses y.actors P s → (stage_in y.vault.cells s ≡ Opening) ⊎ (stage_in y.vault.cells s ≡ Open)
+      by_stand (is_node on_it stage) = by_stage stage
+      by_stand (is_held b slot) = absurd (off (sound.slots.hand b s slot).loose)
+      by_stand (is_out b out) = absurd (off (sound.slots.out b s out).loose)
+      by_stand (is_free loose free stage) = absurd (off loose)
+      by_stand (is_limbo sights loose limbo stage) = absurd (off loose)
+
+  ready_close : Follows WriteClose
+  ready_close has plays =
+      let two = both (has_checked actor.hold && is_some actor.curr) _ has in
+      let first = both (has_checked actor.hold) (is_some actor.curr) two.0 in
+      let node = some_of actor.curr first.1 in
+      let hold = is_checked actor.hold first.0 in
+      let lt = slot_lt (ap has_locks hold) node.0 node.1 in
+      (node.0, node.1, (lt, gate_open hold (plays_alive z a WriteClose refl plays) node.0 node.1 lt))
+
+  ready_mark : Follows Mark
+  ready_mark has plays =
+      let hold = is_closed actor.hold has in
+      let rests : HasClosed y.shape.buckets false actor P = subst (λ (q : Hold). RestsOn y.shape.buckets q actor P) hold (sound.locks.rests a) in
+      (rests.node, rests.curr, slot_lt (ap has_locks hold) rests.node rests.curr)
+
+  ready_release : Follows Release
+  ready_release has plays = let locks = release_locks actor.hold has in (pred_place locks, curr_there locks)
+
+  ready_unlink : Follows Unlink
+  ready_unlink has plays =
+      let two = both (has_marked actor.hold && is_some actor.curr) _ has in
+      let first = both (has_marked actor.hold) (is_some actor.curr) two.0 in
+      let hold = is_marking actor.hold first.0 in
+      let rests : HasClosed y.shape.buckets true actor P = subst (λ (q : Hold). RestsOn y.shape.buckets q actor P) hold (sound.locks.rests a) in
+      (rests.node, rests.curr, (slot_lt (ap has_locks hold) rests.node rests.curr, pred_place (ap has_locks hold), may_unlink_at y.shape y.words P sound.trace sound.images.slots.1 w heads links keys actor.pred rests.node rests.before))
+
+  -- of the node that was claimed, which a call that retires it knows
+  ready_retire : (s : ℕ) → actor.curr ≡ Some s → Follows Retire
+  ready_retire s node has plays =
+      let gone = sound.slots.out a s (record { node = node; removed = ap has_removed_node (is_released actor.hold has) }) in
+      (s, node, (omega (arith, gone.in_range, sound.slots.count), gone.taken))
+
+  ready_answer : Follows Answer
+  ready_answer has plays = (pin_below (not_last y.vault.dead (needs z a Answer) (pin_of z a) Done plays), slot_kept actor.slot refl)
+    where
+      slot_kept : (slot : Option ℕ) → actor.slot ≡ slot → IfSome slot (λ s. (s < y.shape.slots) × (is_unused (cell_at z s).stage ≡ true → IsTakenAt y.uses s))
+      slot_kept None is = tt
+      slot_kept (Some s) is =
+          let hand = sound.slots.hand a s is in
+          (hand.in_range, λ unused. (omega (arith, hand.in_range, sound.slots.count), hand.taken))
+
+  ready_for : (e : Event) → (e ≡ Retire → (s : ℕ) × (actor.curr ≡ Some s)) → Follows e
+  ready_for Pin knows has plays = ready_pin has plays
+  ready_for (WriteKey k) knows has plays = ready_key k has plays
+  ready_for Check knows has plays = ready_check has plays
+  ready_for WriteOpen knows has plays = ready_open has plays
+  ready_for Link knows has plays = ready_link has plays
+  ready_for WriteClose knows has plays = ready_close has plays
+  ready_for Mark knows has plays = ready_mark has plays
+  ready_for Release knows has plays = ready_release has plays
+  ready_for Unlink knows has plays = ready_unlink has plays
+  ready_for Retire knows has plays = let node = knows refl in ready_retire node.0 node.1 has plays
+  ready_for Answer knows has plays = ready_answer has plays
+  ready_for _ knows has plays = tt
+
+-- A call that retires knows the node.
+abbrev is_retire : Event → Bool
+is_retire Retire = true
+is_retire _ = false
+
+module _ (words : Words) (shape : Shape) (v : View) (c : Command) (P0 P : Trace) (changed : Option ℕ) where
+  abbrev Retires : Progress → Type 0
+  Retires at = is_retire (loaded words (event_at shape c at)) ≡ true
+
+  retires_in : (script : Script) (i : ℕ) → Relies v c (Playing script i) P0 P changed → Retires (Playing script i) → (s : ℕ) × (v.actor.curr ≡ Some s)
+  retires_in Pinning zero h is = absurd (false≢true is)
+  retires_in Pinning (suc i) h is = absurd h
+  retires_in (Resting s reply) zero h is = absurd (false≢true is)
+  retires_in (Resting s reply) (suc zero) h is = absurd (false≢true is)
+  retires_in (Resting s reply) (suc (suc i)) h is = absurd h
+  retires_in (Writing s) zero h is = absurd (false≢true is)
+  retires_in (Writing s) (suc zero) h is = absurd (false≢true is)
+  retires_in (Writing s) (suc (suc i)) h is = absurd h
+  retires_in (Releasing aim) zero h is = absurd (false≢true is)
+  retires_in (Releasing aim) (suc i) h is = absurd h
+  retires_in (Halting reply) zero h is = absurd (false≢true is)
+  retires_in (Halting reply) (suc i) h is = absurd h
+  retires_in (Adding s) i h is = adding c i h is
+    where
+      adding : (d : Command) (j : ℕ) → Relies v d (Playing (Adding s) j) P0 P changed → is_retire (loaded words (event_at shape d (Playing (Adding s) j))) ≡ true → (s : ℕ) × (v.actor.curr ≡ Some s)
+      adding (Add k) (suc (suc (suc (suc (suc j))))) g at = absurd g
+      adding (Remove k) j g at = absurd g
+      adding (Has k) j g at = absurd g
+      adding _ _ g at = absurd (false≢true at)
+  retires_in (Removing s) i h is = removing c h
+    where
+      removing : (d : Command) → Relies v d (Playing (Removing s) i) P0 P changed → (s : ℕ) × (v.actor.curr ≡ Some s)
+      removing (Remove k) g = (s, g.0)
+      removing (Add k) g = absurd g
+      removing (Has k) g = absurd g
+
+  retires_node : (at : Progress) → Relies v c at P0 P changed → Retires at → (s : ℕ) × (v.actor.curr ≡ Some s)
+  retires_node (Playing script i) h is = retires_in script i h is
+  retires_node _ h is = absurd (false≢true is)
+
+-- an event that begins a call
+abbrev pub is_invoke : Event → Bool
+is_invoke (Invoke c) = true
+is_invoke _ = false
+
+called : (caller : Option Caller) (A : Caller → Type 0) → IsSomeAnd caller A → (x : Caller) × (caller ≡ Some x) × A x
+called None A h = absurd h
+called (Some x) A h = (x, refl, h)
+
+-- any other one is the next of a caller
+abbrev pub NextOf : Service → ℕ → Event → Type 0
+NextOf service a e = (x : Caller) × (caller_at service.callers a ≡ Some x) × (next_event service.yard x ≡ e)
+
+pub next_of : (service : Service) (a : ℕ) (e : Event) → is_invoke e ≡ false → IsNext service a e → NextOf service a e
+next_of service a (Invoke c) other next = absurd (false≢true (sym other))
+next_of service a e other next = called (caller_at service.callers a) (λ x. next_event service.yard x ≡ e) next
+
+-- The point that was reached is sound.
+abbrev pub HasSound : Service → Medium → Type 0
+HasSound service disk = (n : ℕ) × (calls : ℕ) × (M : History) × (P : Trace) × (notes : Notes) × Sound n calls service.yard service.callers disk M P notes
+
+point_sound : (start : Start) (p : Point) (service : Service) (disk : Medium) (L : List Life) → p.state ≡ Up service disk → PointSound start p L → HasSound service disk
+point_sound start p service disk [] is h = absurd h
+point_sound start p service disk (life ∷ earlier) is h =
+    let up : StateSound p (Up service disk) life = subst (λ (q : State). StateSound p q life) is h.2 in
+    (up.0, p.calls, life.history, p.trace, up.1, up.2.sound)
+
+-- a yard, by its parts
+by_parts : (y other : Yard) → y.shape ≡ other.shape → y.locks ≡ other.locks → y.vault ≡ other.vault → y.uses ≡ other.uses → y.actors ≡ other.actors → y ≡ with_words other y.words
+by_parts y other shape locks vault uses actors =
+    ap (λ (q : Shape). record { shape = q; words = y.words; locks = y.locks; vault = y.vault; uses = y.uses; actors = y.actors }) shape
+    ∙ ap (λ (q : NodeLocks). record { shape = other.shape; words = y.words; locks = q; vault = y.vault; uses = y.uses; actors = y.actors }) locks
+    ∙ ap (λ (q : Vaulted). record { shape = other.shape; words = y.words; locks = other.locks; vault = q; uses = y.uses; actors = y.actors }) vault
+    ∙ ap (λ (q : List Use). record { shape = other.shape; words = y.words; locks = other.locks; vault = other.vault; uses = q; actors = y.actors }) uses
+    ∙ ap (λ (q : List Actor). record { shape = other.shape; words = y.words; locks = other.locks; vault = other.vault; uses = other.uses; actors = q }) actors
+
+module _ (y : Yard) (honest : Bool) (disk : Medium) (a : ℕ) (e : Event) (may : MayPlay y honest disk a e) where
+  pub sound_there : HasSound may.service may.medium
+  sound_there =
+      let last : Point = run (first_point may.start) may.reached.steps in
+      point_sound may.start last may.service may.medium (lives (start_keys may.start) last.marks) may.reached.state (reached_sound may.start may.reached.steps may.reached.starts may.reached.runs)
+
+  -- the yard is that of the service, with its own pin words
+  pub same_yard : y ≡ with_words may.service.yard y.words
+  same_yard = by_parts y may.service.yard may.yard.shape may.yard.locks may.yard.vault may.yard.uses may.yard.actors
+
+  actors_are : length y.actors ≡ may.service.yard.shape.passes
+  actors_are = ap (λ (l : List Actor). length l) may.yard.actors ∙ sound_there.5.callers.hands
+
+  -- a caller is one of the yard's actors
+  pub next_in_range : is_invoke e ≡ false → (1 ≤ a) × (a ≤ length y.actors)
+  next_in_range other =
+      let caller = next_of may.service a e other may.next in
+      let range = caller_range may.service.callers a caller.0 caller.1 in
+      (range.0, omega (arith, range.1, actors_are, sound_there.5.callers.count))
+
+  knows : e ≡ Retire → (s : ℕ) × ((actor_in may.service.yard.actors a).curr ≡ Some s)
+  knows is =
+      let caller = next_of may.service a e (ap is_invoke is) may.next in
+      let sound = sound_there.5 in
+      let own = mine may.service.yard.shape may.service.yard.vault may.service.yard.words.pins may.service.yard.actors may.service.callers sound_there.3 sound_there.4 a caller.0 caller.1 sound.callers in
+      retires_node may.service.yard.words may.service.yard.shape (view_of may.service.yard.shape may.service.yard.vault may.service.yard.actors a) caller.0.command (sound_there.4.begun a) sound_there.3 (sound_there.4.changed a) caller.0.progress own.stands.2 (ap is_retire (caller.2 ∙ is))
+
+  -- an event of an actor of the yard that is played has what its calls ask for
+  pub ready_in_range : (1 ≤ a) × (a ≤ length y.actors) → IsEventOf y e → needs y a e ≡ true → course y a e ≡ Plays → IsReady y a e
+  ready_in_range range event has plays =
+      let there = sound_there in
+      record {
+        actor = range;
+        event = event;
+        calls = subst (λ (q : Yard). IsReadyFor q (actor_at q a) a e) (sym same_yard)
+            (ready_for there.0 there.1 may.service.yard may.service.callers may.medium there.2 there.3 there.4 there.5 y.words may.yard.heads may.yard.links may.yard.keys a range.0 may.yard.pin e knows
+            (subst (λ (q : Yard). needs q a e ≡ true) same_yard has) (subst (λ (q : Yard). course q a e ≡ Plays) same_yard plays));
+      }
+
+-- What is played in a reached state has what its calls ask for. An Invoke may come of any number, so its actor's range is
+-- asked for.
+pub ready : (y : Yard) (honest : Bool) (disk : Medium) (a : ℕ) (e : Event) → MayPlay y honest disk a e → (is_invoke e ≡ true → (1 ≤ a) × (a ≤ length y.actors)) → IsEventOf y e → needs y a e ≡ true → course y a e ≡ Plays → IsReady y a e
+ready y honest disk a e may invoker = ready_in_range y honest disk a e may (in_range (is_invoke e) refl)
+  where
+    in_range : (b : Bool) → is_invoke e ≡ b → (1 ≤ a) × (a ≤ length y.actors)
+    in_range true is = invoker is
+    in_range false is = next_in_range y honest disk a e may is
+
+-- what is played has what it needs
+only_needed : (dies may : Bool) (taken : Course) → (if dies then Refused Dead else if may then taken else Refused NotNow) ≡ Plays → may ≡ true
+only_needed true may taken plays = absurd (refused_plays plays)
+only_needed false true taken plays = refl
+only_needed false false taken plays = absurd (refused_plays plays)
+
+pub plays_needs : (y : Yard) (a : ℕ) (e : Event) → course y a e ≡ Plays → needs y a e ≡ true
+plays_needs y a e plays = only_needed (y.vault.dead && not (is_played_dead e)) (needs y a e) (course_alive y a (pin_of y a) e) plays
+
+-- The same of an actor in range, from the course alone.
+pub ready_to_play : (y : Yard) (honest : Bool) (disk : Medium) (a : ℕ) (e : Event) → MayPlay y honest disk a e → 1 ≤ a → a ≤ length y.actors → IsEventOf y e → course y a e ≡ Plays → IsReady y a e
+ready_to_play y honest disk a e may low high event plays = ready_in_range y honest disk a e may (low, high) event (plays_needs y a e plays) plays
