@@ -54,7 +54,7 @@ impl<D: Disk> Parts<D> {
     }
 
     // What becomes of an event.
-    #[tactic(auto, using(lz_machine::proofs::Coursing::course_rules))]
+    #[tactic(auto, using(lz_machine::proofs::Runs::Course::course_rules))]
     pub(crate) fn course(&self, actor: usize, event: Event) -> Course
         requires low { 1 ≤ actor }
         requires high { actor ≤ length self.now.yard.actors }
