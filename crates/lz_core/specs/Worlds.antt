@@ -6,7 +6,6 @@ use Rattle.lz_slot.specs.Histories.{ChainTo, lives}
 use Rattle.lz_slot.specs.Bytes.{Holds}
 use Rattle.lz_disk.specs.Images.{Medium, at_rest}
 use Rattle.lz_disk.specs.Records.{Past, after, device_of}
-use Rattle.lz_allot.specs.Uses.{is_outside}
 use Rattle.lz_machine.specs.declared.event.Event.{Event}
 use Rattle.lz_machine.specs.declared.event.Outcome.{Outcome}
 use Rattle.lz_machine.specs.declared.event.Outcome.TheVariants.{Fault}
@@ -17,7 +16,7 @@ use Rattle.lz_core.specs.declared.play.Step.TheVariants.{Call, Turn as TurnOf, O
 use Rattle.lz_core.specs.declared.open_calls.OpenCall.{OpenCall}
 use Rattle.lz_machine.specs.Yards.{Shape}
 use Rattle.lz_yard.specs.Parts.{YardOver}
-use Rattle.lz_machine.specs.Table.{line, line_failed, needs, pin_of}
+use Rattle.lz_machine.specs.Table.{line, line_failed, needs}
 use Rattle.lz_machine.specs.Orders.{shape_with}
 use Rattle.lz_machine.specs.Calls.{event_at, loaded, progress_after}
 use Rattle.lz_machine.specs.Ready.{IsEventOf}
@@ -28,7 +27,8 @@ use Rattle.lz_list.specs.declared.word.Word.TheVariants.{Key}
 use Rattle.lz_list.specs.Words.{Words, get}
 use Rattle.lz_list.specs.Lists.{IsMember}
 use Rattle.lz_slot.specs.Limits.{largest_key}
-use Rattle.lz_core.specs.Plays.{IsReached, PlaysTo}
+use Rattle.lz_machine.specs.Points.{IsQuiet, IsReached}
+use Rattle.lz_core.specs.Plays.{PlaysTo}
 
 -- A world as contracts see it: its state in a run, and how many calls were made.
 pub record WorldOver : Type 0 where
@@ -73,11 +73,6 @@ IsTripped None None = Unit {0}
 pub record IsAt (w : WorldOver) (p : Point) : Type 0 where
   pub state : p.state ≡ w.state
   pub calls : p.calls ≡ w.calls
-
--- no look is half done: the pin word of an actor without a call is even
-abbrev pub IsQuiet : State → Type 0
-IsQuiet (Up service disk) = (a : ℕ) → IsNone (caller_at service.callers a) → IsTrue (is_outside (pin_of service.yard a))
-IsQuiet (Down shape disk) = Unit {0}
 
 -- some run of a yard of this shape leads to where the world is
 pub record HasRun (its_shape : Shape) (w : WorldOver) : Type 0 where

@@ -4,6 +4,7 @@ pub mod Table
 pub mod Calls
 pub mod Orders
 pub mod Runs
+pub mod Points
 pub mod Laws
 pub mod Marks
 pub mod InTime
