@@ -217,6 +217,6 @@ MayCall yard callers a = IsSome yard × (1 ≤ a) × (a ≤ 64) × IsNone (slice
 
 -- an event was played on an open yard
 abbrev pub StepsOn : Option (YardOver Past) → ℕ → Event → Outcome → Option (YardOver Past) → Type 0
-StepsOn (Some old) a e outcome (Some new) = Played old.yard a e outcome new.yard new.changed (device_of old.disk) (device_of new.disk)
+StepsOn (Some old) a e outcome (Some new) = Played old.yard a e outcome new.yard new.told (device_of old.disk) (device_of new.disk)
 StepsOn None a e outcome new = new ≡ None
 StepsOn (Some old) a e outcome None = ⊥

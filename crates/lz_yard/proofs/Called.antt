@@ -1,5 +1,5 @@
 -- What the calls of the vault ask for, and what they make of an event.
-use Rattle.std.proofs.Common.{◌≡◌, ◌⊎◌, inl, inr, ℕ, ◌+◌, ◌*◌, ◌<◌, ◌≤◌, Bool, true, false, not, ◌&&◌, ◌==◌, List, length, refl, sym, ap, ◌∙◌, subst, arith}
+use Rattle.std.proofs.Common.{◌≡◌, ◌≢◌, ◌⊎◌, inl, inr, ℕ, ◌+◌, ◌*◌, ◌<◌, ◌≤◌, Bool, true, false, not, ◌&&◌, ◌==◌, List, length, refl, sym, ap, ◌∙◌, subst, arith}
 use Rattle.std.specs.Prelude.{Option, Some, Result, Ok, Err, if◌then◌else◌, slice_get, slice_set, map, unwrap_or}
 use Rattle.std.proofs.lemmas.Option.{same_Some, slice_get-get_or}
 use mathlib.Core.Bool.{false≢true}
@@ -90,11 +90,12 @@ spent_dies cells old new before after (Err fault.Dead) spent called = (called.1,
 module _ (y : Yard) (a : ℕ) (e : Event) (call : DeviceCall) (cells : List Cell) (new : Vaulted) (before after : Device)
     (call_is : call_of y (actor_at y a) e ≡ call) (cells_is : cells_after y (actor_at y a) e ≡ cells) where
   -- its device call failed
-  pub does_fail : (why : VaultFault) → (IsSpent call y.vault → ⊥) → Called call cells y.vault new before after (Err why) → Does y a e (Err why) (with_vault y new) before after
-  does_fail why alive called =
+  pub does_fail : (why : VaultFault) → (IsSpent call y.vault → ⊥) → call ≢ NoCall → Called call cells y.vault new before after (Err why) → Does y a e (Err why) (with_vault y new) before after
+  does_fail why alive asked called =
       let fails = called_fails call cells y.vault new before after why alive called in (
         ap (with_vault y) (fails.0 ∙ ap (λ (q : List Cell). record { cells = q; syncs = y.vault.syncs; dead = true }) (sym (ap (λ (c : DeviceCall). cells_failed c y.vault.cells (cells_after y (actor_at y a) e)) call_is ∙ ap (cells_failed call y.vault.cells) cells_is))),
         subst (λ (c : DeviceCall). Fails c before after) (sym call_is) fails.1,
+        λ none. asked (sym call_is ∙ none),
       )
 
   -- it was done
@@ -136,4 +137,4 @@ pub sync_fails : (y : Yard) (a s : ℕ) (new : Vaulted) (before after : Device) 
 sync_fails y a s new before after why known most loose called =
     does_fail y a (Sync s) SyncAll (map cell_synced y.vault.cells) new before after
     (ap (λ (b : Bool). if b then NoCall else SyncAll) loose) (ap (λ (b : Bool). if b then y.vault.cells else map cell_synced y.vault.cells) loose)
-    why (sync_made y a s known most loose) called
+    why (sync_made y a s known most loose) (λ none. cc) called

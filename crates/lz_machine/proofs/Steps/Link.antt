@@ -57,7 +57,7 @@ use Rattle.lz_machine.proofs.Frames.OtherLink as links
 use Rattle.lz_machine.proofs.Frames.SameYard.{tail_turn}
 
 -- a gate that is surely closed is neither opened nor written open
-opened_shut : (stage : Stage) → IsGateOpened stage → IsGateClosed stage → ⊥
+pub opened_shut : (stage : Stage) → IsGateOpened stage → IsGateClosed stage → ⊥
 opened_shut Opening h (inl e) = absurd cc
 opened_shut Opening h (inr (inl e)) = absurd cc
 opened_shut Opening h (inr (inr e)) = absurd cc

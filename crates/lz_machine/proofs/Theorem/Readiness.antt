@@ -4,6 +4,8 @@ use mathlib.Core.Bool.{false≢true}
 use Rattle.std.specs.Prelude.{unwrap_or, IsSomeAnd, IfSome}
 use Rattle.std.proofs.lemmas.Bool.Decides.{eqb_tells}
 use Rattle.std.proofs.lemmas.Bool.{not-true}
+use Rattle.std.proofs.lemmas.Option.{slice_get-get_or}
+use Rattle.lz_slot.specs.Limits.{largest_key}
 use Rattle.lz_slot.specs.declared.command.Command.{Command}
 use Rattle.lz_slot.specs.declared.command.Command.TheVariants.{Add, Remove, Has}
 use Rattle.lz_slot.specs.Histories.{History, Life, lives}
@@ -15,7 +17,7 @@ use Rattle.lz_allot.specs.Allots.{IsTakenAt}
 use Rattle.lz_allot.specs.Uses.{Use}
 use Rattle.lz_list.specs.declared.place.Place.{Place}
 use Rattle.lz_list.specs.declared.place.Place.TheVariants.{Node}
-use Rattle.lz_list.specs.declared.word.Word.TheVariants.{Pin as pin_at}
+use Rattle.lz_list.specs.declared.word.Word.TheVariants.{Key as key_at, Pin as pin_at}
 use Rattle.lz_list.specs.Words.{Words, get}
 use Rattle.lz_list.specs.Locks.{NodeLocks, claimed_places}
 use Rattle.lz_list.specs.Lists.{IsPlace, IsCurr}
@@ -33,17 +35,18 @@ use Rattle.lz_machine.specs.declared.event.Event.{Event}
 use Rattle.lz_machine.specs.declared.event.Event.TheVariants.{Invoke, Pin, Hop, Reserve, WriteKey, Claim, Check, WriteOpen, Link, WriteClose, Mark, Release, Sync, Settle, Unlink, Retire, SeePin, Answer, Halt}
 use Rattle.lz_machine.specs.declared.event.Outcome.{Outcome}
 use Rattle.lz_machine.specs.declared.event.Outcome.TheVariants.{Dead, Done, NotNow, Worn}
-use Rattle.lz_machine.specs.Yards.{Shape, Yard, actor_at, cell_at}
+use Rattle.lz_machine.specs.Yards.{Shape, Yard, actor_at, cell_at, no_cell}
 use Rattle.lz_machine.specs.Table.{last_pin, pin_of, needs, is_played_dead, course_alive, course, is_unused, has_stage, may_check, has_checked, has_opened, has_closed, has_marked, may_release, may_retire}
 use Rattle.lz_machine.specs.Calls.{event_at, loaded}
 use Rattle.lz_machine.specs.Runs.{Start, State, Up, Point, Service, Caller, caller_at, next_event, with_words, first_point, run, start_keys, IsNext, MayPlay}
-use Rattle.lz_machine.specs.Sound.{Notes, View, view_of, actor_in, stage_in, closes, opens, has_locks, has_removed_node, HasPlace, HasLock, RestsOn, IsChecked, HasOpened, HasClosed, IsHandStage, IsNodeStage, SlotStands, is_node, is_held, is_out, is_free, is_limbo, Relies, Sound, StateSound, PointSound}
+use Rattle.lz_machine.specs.Sound.{Notes, View, view_of, actor_in, cell_in, stage_in, closes, opens, unlocks, has_locks, has_removed_node, HasPlace, HasLock, RestsOn, IsChecked, HasOpened, HasClosed, IsHandStage, IsNodeStage, SlotStands, is_node, is_held, is_out, is_free, is_limbo, Relies, Sound, StateSound, PointSound}
 use Rattle.lz_machine.specs.Ready.{IsEventOf, IsReadyFor, IsReady}
 use Rattle.lz_machine.proofs.Frames.OneActor.{caller_range, mine}
 use Rattle.lz_machine.proofs.Steps.Halt.{held_node}
+use Rattle.lz_machine.proofs.Steps.Link.{opened_shut}
 use Rattle.lz_machine.proofs.Steps.Unlink.{first_place, node_place}
 use Rattle.lz_machine.proofs.Runs.NextEvent.{plays_alive, refused_plays}
-use Rattle.lz_machine.proofs.Theorem.ShownChains.{links_are, keeps_key, keeps_link, may_link_at, may_unlink_at, owned_place, is_curr}
+use Rattle.lz_machine.proofs.Theorem.ShownChains.{links_are, key_is, keeps_key, keeps_link, may_link_at, may_unlink_at, owned_place, is_curr}
 use Rattle.lz_machine.proofs.Theorem.Reached.{reached_sound}
 use Rattle.lz_machine.proofs.Steps.ReturnedSlot.{closed_unused}
 use Rattle.lz_machine.proofs.Frames.Grip.{closer_locks}
@@ -137,6 +140,34 @@ module _ (n calls : ℕ) (y : Yard) (callers : List (Option Caller)) (disk : Med
   curr_there : has_locks actor.hold ≡ true → IsCurr w actor.curr
   curr_there locks = is_curr y.shape y.words P sound.trace sound.images.slots.1 w heads links keys actor.curr (node_there locks)
 
+  -- the key word of a slot is a key, where it is that of the slot's cell
+  is_key : (s : ℕ) → s < y.shape.slots → (cell_in y.vault.cells s).key ≡ key_word s P → get w (key_at s) ≤ largest_key
+  is_key s lt same =
+      let fits = sound.images.keys s (cell_in y.vault.cells s) (slice_get-get_or y.vault.cells s no_cell (omega (arith, lt, sound.images.count))) in
+      omega (arith, fits, same, key_is y.shape y.words P sound.trace sound.images.slots.1 w heads links keys s lt)
+
+  -- as it is on a chain
+  node_key : (s : ℕ) → s < y.shape.slots → on 0 (chain_of y.shape.buckets (key_word s P) P) (suc s) ≡ true → get w (key_at s) ≤ largest_key
+  node_key s lt there = by_stand (sound.slots.each s lt)
+    where
+      off : IsLoose y.shape.buckets s P → ⊥
+      off loose = false≢true (sym (loose (bucket_of y.shape.buckets (key_word s P))) ∙ there)
+
+      by_stand : SlotStands y.shape y.vault.cells y.vault.dead y.uses y.actors P s → get w (key_at s) ≤ largest_key
+      by_stand (is_node on_it stage) = is_key s lt on_it.key
+      by_stand (is_held b slot) = absurd (off (sound.slots.hand b s slot).loose)
+      by_stand (is_out b out) = absurd (off (sound.slots.out b s out).loose)
+      by_stand (is_free loose free stage) = absurd (off loose)
+      by_stand (is_limbo sights loose limbo stage) = absurd (off loose)
+
+  -- and in the hand of an actor that has opened its gate
+  opened_key : (s : ℕ) → actor.slot ≡ Some s → actor.hold ≡ GateOpened → get w (key_at s) ≤ largest_key
+  opened_key s slot hold = by_hand (sound.slots.hand a s slot).stage
+    where
+      by_hand : IsHandStage y.vault.cells y.vault.dead actor P s → get w (key_at s) ≤ largest_key
+      by_hand (inl shut) = absurd (opened_shut (stage_in y.vault.cells s) (sound.slots.opened a s slot (ap unlocks hold)) shut)
+      by_hand (inr opened) = is_key s (sound.slots.hand a s slot).in_range opened.2
+
   pin_below : pin_of z a ≢ last_pin → pin_of z a < last_pin
   pin_below other = omega (arith, pin, sound.reuse.worn a, other)
 
@@ -181,7 +212,7 @@ module _ (n calls : ℕ) (y : Yard) (callers : List (Option Caller)) (disk : Med
       let hold = is_opened actor.hold has in
       let rests : HasOpened y.shape.buckets actor P = subst (λ (q : Hold). RestsOn y.shape.buckets q actor P) hold (sound.locks.rests a) in
       let hand = sound.slots.hand a rests.own rests.slot in
-      (rests.own, rests.slot, (pred_place (ap has_locks hold), may_link_at y.shape y.words P sound.trace sound.images.slots.1 w heads links keys actor.pred actor.curr rests.own hand.in_range rests.beside rests.ready))
+      (rests.own, rests.slot, (pred_place (ap has_locks hold), may_link_at y.shape y.words P sound.trace sound.images.slots.1 w heads links keys actor.pred actor.curr rests.own hand.in_range rests.beside rests.ready, opened_key rests.own rests.slot hold))
 
   slot_lt : has_locks actor.hold ≡ true → (s : ℕ) → actor.curr ≡ Some s → s < y.shape.slots
   slot_lt locks s is = omega (arith, node_there locks s is, links_are y.shape y.words P sound.trace sound.images.slots.1 w heads links keys)
@@ -227,7 +258,8 @@ module _ (n calls : ℕ) (y : Yard) (callers : List (Option Caller)) (disk : Med
   ready_mark has plays =
       let hold = is_closed actor.hold has in
       let rests : HasClosed y.shape.buckets false actor P = subst (λ (q : Hold). RestsOn y.shape.buckets q actor P) hold (sound.locks.rests a) in
-      (rests.node, rests.curr, slot_lt (ap has_locks hold) rests.node rests.curr)
+      let lt = slot_lt (ap has_locks hold) rests.node rests.curr in
+      (rests.node, rests.curr, (lt, node_key rests.node lt (held_node y.shape P GateClosed actor sound.trace.lawful rests rests.node rests.curr refl)))
 
   ready_release : Follows Release
   ready_release has plays = let locks = release_locks actor.hold has in (pred_place locks, curr_there locks)
@@ -238,7 +270,9 @@ module _ (n calls : ℕ) (y : Yard) (callers : List (Option Caller)) (disk : Med
       let first = both (has_marked actor.hold) (is_some actor.curr) two.0 in
       let hold = is_marking actor.hold first.0 in
       let rests : HasClosed y.shape.buckets true actor P = subst (λ (q : Hold). RestsOn y.shape.buckets q actor P) hold (sound.locks.rests a) in
-      (rests.node, rests.curr, (slot_lt (ap has_locks hold) rests.node rests.curr, pred_place (ap has_locks hold), may_unlink_at y.shape y.words P sound.trace sound.images.slots.1 w heads links keys actor.pred rests.node rests.before))
+      let lt = slot_lt (ap has_locks hold) rests.node rests.curr in
+      let leads = may_unlink_at y.shape y.words P sound.trace sound.images.slots.1 w heads links keys actor.pred rests.node rests.before in
+      (rests.node, rests.curr, (lt, pred_place (ap has_locks hold), leads, node_key rests.node lt (held_node y.shape P Marked actor sound.trace.lawful rests rests.node rests.curr refl)))
 
   -- of the node that was claimed, which a call that retires it knows
   ready_retire : (s : ℕ) → actor.curr ≡ Some s → Follows Retire
