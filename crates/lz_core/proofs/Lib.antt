@@ -1,6 +1,5 @@
 pub mod Ascending
 pub mod Worlding
-pub mod Timing
 pub mod TurningOn
 pub mod WorldKeys
 pub mod WorldOpens

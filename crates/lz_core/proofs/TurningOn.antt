@@ -30,27 +30,17 @@ use Rattle.lz_machine.specs.Ready.{IsEventOf}
 use Rattle.lz_yard.specs.Steps.{Played}
 use Rattle.lz_machine.specs.Runs.{Step, IsNext, Caller, Service, State, Up, Turn, Fails, HasTurn, HasFault, MayPlay, Reached, caller_at, next_event, reply_at, moved_on, played, after_turn, after_fault, marks_of_turn, mark_of_turn, state_after, Point}
 use Rattle.lz_yard.specs.Parts.{YardOver}
-use Rattle.lz_core.specs.Worlds.{WorldOver, IsQuiet, HasRun, PlaysOn, HasOne, IsCallOn, IsLawful, IsOutcome, IsWorld, MayStepOn, StepsOn, call_shown, call_after, event_asked, event_loaded, mark_list, next_of, next_of_caller, state_shown}
+use Rattle.lz_machine.specs.Points.{IsQuiet}
+use Rattle.lz_core.specs.Worlds.{WorldOver, HasRun, PlaysOn, HasOne, IsCallOn, IsLawful, IsOutcome, IsWorld, MayStepOn, StepsOn, call_shown, call_after, event_asked, event_loaded, mark_list, next_of, next_of_caller, state_shown}
 use Rattle.lz_core.proofs.Worlding.{Goes, leads, runs_on, shape_is, shown_at, shown_caller, shown_set, set_at, on_set, same_count}
 use Rattle.std.proofs.lemmas.List.{length-map, get_or-set_same}
 use Rattle.lz_list.specs.Words.{Words}
 use Rattle.lz_machine.proofs.Frames.OneActor.{caller_range}
 use Rattle.lz_yard.proofs.Keeping.{played_shape, fault_or_not}
-use Rattle.lz_core.proofs.Timing.{is_event, in_time, may_take, quiet_step}
+use Rattle.lz_machine.proofs.Runs.CallerTable.{fault_no_reply}
+use Rattle.lz_machine.proofs.Runs.OpenCall.{shaped, same_event, same_follows, is_next}
+use Rattle.lz_machine.proofs.Theorem.Timing.{is_event, in_time, may_take, quiet_step}
 use Rattle.lz_machine.proofs.Theorem.Timeliness.{is_look, may_take_fault}
-
--- how many slots a yard has plays no part in the order of events
-abbrev shaped : ℕ → ℕ → ℕ → Shape
-shaped slots buckets passes = record { slots = slots; buckets = buckets; passes = passes }
-
-same_event : (n m buckets passes : ℕ) (c : Command) (at : Progress) → event_at (shaped n buckets passes) c at ≡ event_at (shaped m buckets passes) c at
-same_event n m buckets passes c (Playing script i) = refl
-same_event n m buckets passes c _ = refl
-
-same_follows : (n m buckets passes : ℕ) (c : Command) (at : Progress) (o : Outcome) → progress_after (shaped n buckets passes) c at o ≡ progress_after (shaped m buckets passes) c at o
-same_follows n m buckets passes c LoadsHalt o = search
-same_follows n m buckets passes c at Fault = refl
-same_follows n m buckets passes c _ _ = refl
 
 -- the caller whose next event this is
 pub record Next (service : Service) (a : ℕ) (e : Event) : Type 0 where
@@ -65,48 +55,8 @@ next_by service a (Some caller) e at next = record { caller = caller; at = at; e
 pub next_is : (service : Service) (disk : Medium) (a : ℕ) (e : Event) → next_of (Up service disk) a ≡ Some e → Next service a e
 next_is service disk a e next = next_by service a (caller_at service.callers a) e refl next
 
--- no next event is an Invoke
-abbrev is_invoke : Event → Bool
-is_invoke (Invoke c) = true
-is_invoke _ = false
-
-abbrev AreNot : List Event → Type 0
-AreNot [] = Unit {0}
-AreNot (e ∷ es) = (is_invoke e ≡ false) × AreNot es
-
-never_in : (es : List Event) (i : ℕ) → AreNot es → is_invoke (slice_index_or es i Check) ≡ false
-never_in [] i none = refl
-never_in (e ∷ es) zero none = none.0
-never_in (e ∷ es) (suc i) none = never_in es i none.1
-
-are_not : (c : Command) (script : Script) → AreNot (events_of c script)
-are_not c (Resting s reply) = (refl, (refl, tt))
-are_not c (Writing s) = (refl, (refl, tt))
-are_not c (Adding s) = (refl, (refl, (refl, (refl, (refl, tt)))))
-are_not c (Removing s) = (refl, (refl, (refl, (refl, (refl, (refl, (refl, tt)))))))
-are_not c _ = (refl, tt)
-
-not_loaded : (w : Words) (e : Event) → is_invoke e ≡ false → is_invoke (loaded w e) ≡ false
-not_loaded w (SeePin p value) not = refl
-not_loaded w e not = not
-
-never : (shape : Shape) (c : Command) (at : Progress) → is_invoke (event_at shape c at) ≡ false
-never shape c (Playing script i) = never_in (events_of c script) i (are_not c script)
-never shape c _ = refl
-
-as_next : (service : Service) (a : ℕ) (e : Event) → is_invoke e ≡ false → IsSomeAnd (caller_at service.callers a) (λ caller. next_event service.yard caller ≡ e) → IsNext service a e
-as_next service a (Invoke c) not some = absurd (false≢true (sym not))
-as_next service a e not some = some
-
-some_and : {X : Type 0} (o : Option X) (x : X) (P : X → Type 0) → o ≡ Some x → P x → IsSomeAnd o P
-some_and o x P at h = rw at h
-
-is_next : (service : Service) (a : ℕ) (e : Event) → Next service a e → IsNext service a e
-is_next service a e next =
-    as_next service a e
-    (subst (λ (q : Event). is_invoke q ≡ false) next.event
-    (not_loaded service.yard.words (event_at service.yard.shape next.caller.command next.caller.progress) (never service.yard.shape next.caller.command next.caller.progress)))
-    (some_and (caller_at service.callers a) next.caller (λ caller. next_event service.yard caller ≡ e) next.at next.event)
+next_of_call : (service : Service) (a : ℕ) (e : Event) → Next service a e → IsNext service a e
+next_of_call service a e next = subst (IsNext service a) next.event (is_next service a next.caller next.at)
 
 -- a world with an open service, one of whose calls has this next event
 module _ (shape : Shape) (over : YardOver Past) (disk : Option Past) (callers : List (Option OpenCall)) (calls a : ℕ) (world : IsWorld shape (Some over) disk callers calls) (e : Event) (is : next_of (state_shown shape (Some over) disk callers) a ≡ Some e) where
@@ -152,7 +102,7 @@ module _ (shape : Shape) (over : YardOver Past) (disk : Option Past) (callers : 
     history = ran.point.marks;
     trace = ran.point.trace;
     reached = reached;
-    next = is_next service a e next;
+    next = next_of_call service a e next;
     yard = record { shape = refl; heads = refl; links = refl; keys = refl; halt = refl; pin = refl; locks = refl; vault = refl; uses = refl; actors = refl };
     device = λ honest. refl;
   }
@@ -236,16 +186,6 @@ called_on shape over disk callers calls a world e is =
     let there = sym (of_at callers a (in_range shape over disk callers calls a world e is).0) ∙ own.1 in
     subst (IsCallOn shape) (sym there) (world.on_it (a - 1) (Some own.0) (get_at callers (a - 1) own.0 there))
 
--- an Answer makes no device call
-quiet_answer : (taken : Course) (y : Yard) (actor : Actor) (before now : Medium) → MayFail (call_on taken y actor Answer) before now → ⊥
-quiet_answer Plays y actor before now fails = fails
-quiet_answer Dies y actor before now fails = fails
-quiet_answer (Refused outcome) y actor before now fails = fails
-
-no_reply : (shape : Shape) (y : Yard) (a i : ℕ) (c : Command) (at : Progress) (before now : Medium) → MayFail (line_call y a (loaded y.words (event_at shape c at))) before now → mark_of_turn i (reply_at at) ≡ []
-no_reply shape y a i c (Answering reply) before now fails = absurd (quiet_answer (course y a Answer) y (actor_at y a) before now fails)
-no_reply shape y a i c _ before now fails = refl
-
 -- A world with an open service goes on by this event.
 module _ (shape : Shape) (over : YardOver Past) (disk : Option Past) (callers : List (Option OpenCall)) (calls a : ℕ) (world : IsWorld shape (Some over) disk callers calls) (e : Event) (is : next_of (state_shown shape (Some over) disk callers) a ≡ Some e)
     (over' : YardOver Past) (outcome : Outcome) (call' : Option OpenCall) (event : Played over.yard a e outcome over'.yard over'.told (device_of over.disk) (device_of over'.disk))
@@ -323,7 +263,7 @@ module _ (shape : Shape) (over : YardOver Past) (disk : Option Past) (callers : 
   goes_failed marks told fault =
       let failed = event.failed fault in
       let fails : MayFail (line_call over.yard a (next_event over.yard asks.caller)) disk_then disk_now = subst (λ (ev : Event). MayFail (line_call over.yard a ev) disk_then disk_now) (sym asks.event) (failed.call.medium refl) in
-      let silent : marks_of_turn (caller_at served.callers a) ≡ [] = ap marks_of_turn asks.at ∙ no_reply over.yard.shape over.yard a asks.caller.number asks.caller.command asks.caller.progress disk_then disk_now fails in
+      let silent : marks_of_turn (caller_at served.callers a) ≡ [] = ap marks_of_turn asks.at ∙ ap (mark_of_turn asks.caller.number) (fault_no_reply over.yard a asks.caller.command asks.caller.progress disk_then disk_now fails) in
       record {
         is = inr (disk_now, refl);
         may = subst (λ (o : Option Caller). HasFault served disk_then a o disk_now) (sym asks.at) fails;

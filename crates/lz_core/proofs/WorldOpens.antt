@@ -18,7 +18,8 @@ use Rattle.lz_yard.specs.Filling.{OpensYard}
 use Rattle.lz_yard.specs.Parts.{YardOver}
 use Rattle.lz_machine.specs.Runs.{Caller, Start, IsStart, start_keys, State, Up, Down, Opens, OpenFails, Point, first_point, opened_service, keys_found}
 use Rattle.lz_machine.specs.Sound.{StateSound, PointSound, IsSound}
-use Rattle.lz_core.specs.Worlds.{WorldOver, IsNew, IsQuiet, IsWorld, HasOne, HasRun, IsCallOn, PlaysOn, StopsEarly, call_shown, state_shown}
+use Rattle.lz_machine.specs.Points.{IsQuiet}
+use Rattle.lz_core.specs.Worlds.{WorldOver, IsNew, IsWorld, HasOne, HasRun, IsCallOn, PlaysOn, StopsEarly, call_shown, state_shown}
 use Rattle.lz_machine.proofs.Theorem.Reached.{reached_sound}
 use Rattle.lz_machine.proofs.Open.FirstState.{pass_of}
 use Rattle.lz_yard.proofs.Opened.{holds_listed}

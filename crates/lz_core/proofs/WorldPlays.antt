@@ -6,7 +6,8 @@ use Rattle.std.proofs.Math.Seq.{take-suc}
 use Rattle.lz_slot.specs.declared.history.Mark.{Mark}
 use Rattle.lz_core.specs.declared.play.Step.{Step as PlayStep}
 use Rattle.lz_machine.specs.Runs.{Step, MayStep, Point, run, IsRun}
-use Rattle.lz_core.specs.Plays.{IsPlayOf, ArePlaysOf, IsReached}
+use Rattle.lz_machine.specs.Points.{IsReached}
+use Rattle.lz_core.specs.Plays.{IsPlayOf, ArePlaysOf}
 use Rattle.lz_core.specs.Worlds.{WorldOver, StopsAt, StopsEarly, IsLawful, PlaysOn, IsChain, mark_list}
 use Rattle.lz_machine.proofs.Theorem.Reached.{every_history}
 use Rattle.lz_machine.proofs.Runs.Composition.{run_append}

@@ -22,27 +22,9 @@ use Rattle.lz_machine.specs.Table.{is_old}
 use Rattle.lz_core.specs.Plays.{IsPlayOf, IsReached}
 use Rattle.lz_yard.specs.Parts.{YardOver}
 use Rattle.lz_core.specs.Worlds.{WorldOver, StopsEarly, IsQuiet, HasRun, PlaysOn, HasOne, IsCallOn, IsLawful, IsOpenFor, IsWorld, MayCall, call_shown, state_shown, disk_shown}
+use Rattle.lz_machine.specs.Points.{IsQuiet, IsReached}
 use Rattle.lz_machine.specs.Sound.{PointSound}
-use Rattle.lz_machine.proofs.Theorem.Reached.{reached_sound}
-
--- a point that is reached leads to another by a step that may be taken
-pub reach : (start : Start) (p : Point) (step : Step) → IsReached start p → MayStep p.state step → IsReached start (point_after p step)
-reach start p step h may = record {
-  steps = step ∷ h.steps;
-  starts = h.starts;
-  runs = (subst (λ (q : Point). MayStep q.state step) (sym h.point) may, h.runs);
-  point = ap (λ (q : Point). point_after q step) h.point;
-}
-
--- the shape of a state that is reached is that of its start
-shape_by : (start : Start) (p : Point) (L : List Life) → PointSound start p L → shape_of p.state ≡ start.shape
-shape_by start p [] h = absurd h
-shape_by start p (life ∷ earlier) h = h.0
-
-pub shape_kept : (start : Start) (p : Point) → IsReached start p → shape_of p.state ≡ start.shape
-shape_kept start p h =
-    subst (λ (q : Point). shape_of q.state ≡ start.shape) h.point
-    (shape_by start (run (first_point start) h.steps) (lives (start_keys start) (run (first_point start) h.steps).marks) (reached_sound start h.steps h.starts h.runs))
+use Rattle.lz_machine.proofs.Runs.ReachedPoint.{reach, shape_kept}
 
 -- one step of a play, as a step of a run
 pub record Goes (old : WorldOver) (play : PlayStep) (step : Step) (marks : List Mark) (new : WorldOver) : Type 0 where

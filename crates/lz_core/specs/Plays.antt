@@ -22,13 +22,6 @@ ArePlaysOf p [] steps = steps ≡ []
 ArePlaysOf p (play ∷ plays) [] = ⊥
 ArePlaysOf p (play ∷ plays) (step ∷ steps) = IsPlayOf (run p steps).state play step × ArePlaysOf p plays steps
 
--- a point of a run from the start
-pub record IsReached (start : Start) (p : Point) : Type 0 where
-  pub steps : List Step
-  pub starts : IsStart start
-  pub runs : IsRun (first_point start) steps
-  pub point : run (first_point start) steps ≡ p
-
 -- From the point p these steps of a play lead to the state, and answer these marks; both lists stand oldest first.
 pub record PlaysTo (p : Point) (plays : List PlayStep) (marks : List Mark) (new : State) : Type 0 where
   pub steps : List Step

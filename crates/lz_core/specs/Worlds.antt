@@ -8,13 +8,11 @@ use Rattle.lz_slot.specs.declared.command.Command.{Command}
 use Rattle.lz_slot.specs.declared.format.Format.{Format}
 use Rattle.lz_disk.specs.Images.{Medium, at_rest}
 use Rattle.lz_disk.specs.Records.{Past, after, device_of}
-use Rattle.lz_allot.specs.Uses.{is_outside}
 use Rattle.lz_machine.specs.declared.event.Event.{Event}
-use Rattle.lz_machine.specs.declared.event.Event.TheVariants as event
 use Rattle.lz_machine.specs.declared.event.Outcome.{Outcome}
 use Rattle.lz_machine.specs.declared.event.Outcome.TheVariants.{Fault}
-use Rattle.lz_core.specs.declared.kind.Kind.{Kind}
-use Rattle.lz_core.specs.declared.kind.Kind.TheVariants as kind
+use Rattle.lz_machine.specs.declared.kind.Kind.{Kind}
+use Rattle.lz_machine.specs.Kinds.{kind_of}
 use Rattle.lz_core.specs.declared.play.Step.{Step as PlayStep}
 use Rattle.lz_core.specs.declared.play.Step.TheVariants.{Call, Turn as TurnOf, Open}
 use Rattle.lz_core.specs.declared.open_calls.OpenCall.{OpenCall}
@@ -31,7 +29,8 @@ use Rattle.lz_list.specs.declared.word.Word.TheVariants.{Key}
 use Rattle.lz_list.specs.Words.{Words, get}
 use Rattle.lz_list.specs.Lists.{IsMember}
 use Rattle.lz_slot.specs.Limits.{largest_key}
-use Rattle.lz_core.specs.Plays.{IsReached, PlaysTo}
+use Rattle.lz_machine.specs.Points.{IsQuiet, IsReached}
+use Rattle.lz_core.specs.Plays.{PlaysTo}
 
 -- A world as contracts see it: its state in a run, and how many calls were made.
 pub record WorldOver : Type 0 where
@@ -76,11 +75,6 @@ IsTripped None None = Unit {0}
 pub record IsAt (w : WorldOver) (p : Point) : Type 0 where
   pub state : p.state ≡ w.state
   pub calls : p.calls ≡ w.calls
-
--- no look is half done: the pin word of an actor without a call is even
-abbrev pub IsQuiet : State → Type 0
-IsQuiet (Up service disk) = (a : ℕ) → IsNone (caller_at service.callers a) → IsTrue (is_outside (pin_of service.yard a))
-IsQuiet (Down shape disk) = Unit {0}
 
 -- some run of a yard of this shape leads to where the world is
 pub record HasRun (its_shape : Shape) (w : WorldOver) : Type 0 where
@@ -153,28 +147,6 @@ pub record StopsEarly (old : WorldOver) (plays : List PlayStep) (new : WorldOver
   pub few : count ≤ length plays
   pub marks : List Mark
   pub before : PlaysOn old (take count plays) marks new
-
--- the kind of an event
-abbrev pub kind_of : Event → Kind
-kind_of (event.Invoke c) = kind.Invoke
-kind_of event.Pin = kind.Pin
-kind_of (event.Hop word) = kind.Hop
-kind_of event.Reserve = kind.Reserve
-kind_of (event.WriteKey k) = kind.WriteKey
-kind_of (event.Claim pred curr) = kind.Claim
-kind_of event.Check = kind.Check
-kind_of event.WriteOpen = kind.WriteOpen
-kind_of event.Link = kind.Link
-kind_of event.WriteClose = kind.WriteClose
-kind_of event.Mark = kind.Mark
-kind_of event.Release = kind.Release
-kind_of (event.Sync s) = kind.Sync
-kind_of (event.Settle s) = kind.Settle
-kind_of event.Unlink = kind.Unlink
-kind_of event.Retire = kind.Retire
-kind_of (event.SeePin p value) = kind.SeePin
-kind_of event.Answer = kind.Answer
-kind_of event.Halt = kind.Halt
 
 -- an actor's next event, if it has a call
 abbrev pub next_of_caller : Service → Option Caller → Option Event

@@ -5,7 +5,6 @@ ghost use Rattle.lz_slot.specs.Counted.{of_pass};
 ghost use Rattle.lz_core.specs.Worlds.{Ascend, IsChain, IsLawful, IsNew, IsOpenFor, IsOutcome, IsTold, IsUp, MayCall, MayStepOn, PlaysOn, Shows, StepsOn, StopsAt, StopsEarly, event_asked, event_loaded, mark_list, next_of, state_shown};
 
 use crate::disks::{crash_disk, stop_disk, trip_disk};
-use crate::kind::Kind;
 use crate::open_calls::{OpenCall, next_of_call, no_calls, take_outcome};
 use crate::play::Step;
 use crate::reopening::open_anew;
@@ -14,6 +13,8 @@ use lz_caller::{Caller, key_of};
 use lz_disk::{MemoryDisk, Pick};
 use lz_machine::{Event, Outcome};
 use lz_slot::{Command, Format, Found, Key, Mark};
+use lz_machine::{Event, Kind, Outcome};
+use lz_slot::{Command, Found, Key, Mark};
 use lz_vault::{OpenFault, make};
 use lz_yard::Yard;
 use std::alloc::{AllocError, Global};

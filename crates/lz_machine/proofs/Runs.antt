@@ -6,3 +6,5 @@ pub mod Course
 pub mod SlotCount
 pub mod EventRange
 pub mod Twins
+pub mod OpenCall
+pub mod ReachedPoint

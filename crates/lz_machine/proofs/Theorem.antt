@@ -5,3 +5,4 @@ pub mod Timeliness
 pub mod Rows
 pub mod Readiness
 pub mod ShownChains
+pub mod Timing

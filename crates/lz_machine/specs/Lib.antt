@@ -1,8 +1,10 @@
 pub mod Yards
+pub mod Kinds
 pub mod Table
 pub mod Calls
 pub mod Orders
 pub mod Runs
+pub mod Points
 pub mod Laws
 pub mod Marks
 pub mod InTime

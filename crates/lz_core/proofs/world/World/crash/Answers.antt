@@ -10,7 +10,8 @@ use Rattle.lz_core.specs.declared.open_calls.OpenCall.{OpenCall}
 use Rattle.lz_machine.specs.Yards.{Shape}
 use Rattle.lz_yard.specs.Parts.{YardOver}
 use Rattle.lz_machine.specs.Runs.{Down, Crashes, disk_of}
-use Rattle.lz_core.specs.Worlds.{WorldOver, IsWorld, IsQuiet, HasOne, state_shown, disk_shown}
+use Rattle.lz_machine.specs.Points.{IsQuiet}
+use Rattle.lz_core.specs.Worlds.{WorldOver, IsWorld, HasOne, state_shown, disk_shown}
 use Rattle.lz_core.proofs.Worlding.{Goes, leads, crashes, now_at, disk_is}
 use Rattle.lz_core.proofs.world.World.crash.Goals as goal
 use Rattle.lz_core.proofs.world.World.crash.Goals.{in-Ok, in-Err}

@@ -5,7 +5,8 @@ use Rattle.lz_core.specs.declared.open_calls.OpenCall.{OpenCall}
 use Rattle.lz_machine.specs.Yards.{Shape}
 use Rattle.lz_yard.specs.Parts.{YardOver}
 use Rattle.lz_machine.specs.Runs.{Down, disk_of}
-use Rattle.lz_core.specs.Worlds.{IsQuiet, state_shown, disk_shown}
+use Rattle.lz_machine.specs.Points.{IsQuiet}
+use Rattle.lz_core.specs.Worlds.{state_shown, disk_shown}
 use Rattle.lz_core.proofs.Worlding.{leads, stops, now_at, disk_is}
 use Rattle.lz_core.proofs.world.World.stop.Goals as goal
 

@@ -1,23 +1,29 @@
 -- What is known of the next event of an open call, at a point that is reached.
-use Rattle.std.proofs.Common.{◌≡◌, ◌≢◌, ℕ, ◌==◌, ◌%◌, Bool, false, ◌||◌, Option, Some, None, IsNone, refl, sym, ap, ◌∙◌, subst}
+use Rattle.std.proofs.Common.{◌≡◌, ◌≢◌, inl, inr, IsTrue, ℕ, ◌==◌, ◌%◌, Bool, false, ◌||◌, Option, Some, None, IsNone, refl, sym, ap, ◌∙◌, subst}
 use Rattle.std.proofs.lemmas.Bool.{false≢true}
+use Rattle.std.proofs.lemmas.Bool.Decides.{eqb_tells}
 use Rattle.std.proofs.lemmas.Option.{none-some}
+use Rattle.lz_allot.specs.Uses.{is_outside}
 use Rattle.lz_disk.specs.Images.{Medium}
 use Rattle.lz_machine.specs.declared.event.Outcome.TheVariants.{NotNow}
 use Rattle.lz_machine.specs.Table.{line, pin_of}
 use Rattle.lz_machine.specs.Ready.{IsEventOf}
 use Rattle.lz_machine.specs.Orders.{MayTake}
 use Rattle.lz_machine.specs.Runs.{Start, Service, Caller, State, Up, Down, Step, Point, MayStep, state_after, caller_at, next_event}
-use Rattle.lz_core.specs.Plays.{IsReached}
+use Rattle.lz_machine.specs.Points.{IsQuiet, IsReached}
 use Rattle.lz_machine.specs.Sound.{IsSound}
-use Rattle.lz_core.specs.Worlds.{IsQuiet}
 use Rattle.lz_machine.proofs.Theorem.Reached.{reached_sound}
-use Rattle.lz_core.proofs.Ascending.{eq_of}
 use Rattle.lz_machine.proofs.Theorem.Timeliness.{Fits, AllFit, is_look, is_event_there, in_time_reached, may_take_there, worn_there, step_fits}
 
 is_none : {X : Type 0} (o : Option X) → IsNone o → o ≡ None
 is_none None none = refl
 is_none (Some x) none = absurd (false≢true (sym none))
+
+even_of : (pin : ℕ) → IsTrue (is_outside pin) → pin % 2 ≡ 0
+even_of pin outside = elim (eqb_tells (pin % 2) 0) [
+  | inl same ↦ same.1
+  | inr other ↦ absurd (false≢true (sym other.0 ∙ outside))
+]
 
 module _ (start : Start) (p : Point) (reached : IsReached start p) where
   sound_at : IsSound start p
@@ -37,7 +43,7 @@ module _ (start : Start) (p : Point) (reached : IsReached start p) where
     may_take = may_take_there start p service disk sound_at up a caller at
 
   fits_one : (service : Service) (disk : Medium) → p.state ≡ Up service disk → IsQuiet (Up service disk) → (a : ℕ) (o : Option Caller) → caller_at service.callers a ≡ o → Fits false o (pin_of service.yard a)
-  fits_one service disk up quiet a None at = λ same. eq_of (pin_of service.yard a % 2) 0 (quiet a (rw at refl))
+  fits_one service disk up quiet a None at = λ same. even_of (pin_of service.yard a) (quiet a (rw at refl))
   fits_one service disk up quiet a (Some caller) at = worn_there start reached.steps reached.starts reached.runs service disk (ap (λ (q : Point). q.state) reached.point ∙ up) a caller at
 
   all_fit : (w : State) → p.state ≡ w → IsQuiet w → AllFit false w

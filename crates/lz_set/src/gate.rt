@@ -1,0 +1,17 @@
+//! What is told of each event that a thread has played.
+use lz_machine::Kind;
+use std::sync::Wait;
+
+/// Is called by the thread that played an event, while the set isn't held: other threads go on meanwhile.
+pub trait StepGate: Drop {
+    /// An event of this kind was played for the pass.
+    fn after<R: Wait>(&self, rt: &R, pass: usize, kind: Kind);
+}
+
+/// Does nothing.
+#[derive(Clone, Copy, Debug)]
+pub struct NoGate;
+
+impl StepGate for NoGate {
+    fn after<R: Wait>(&self, _rt: &R, _pass: usize, _kind: Kind) {}
+}
