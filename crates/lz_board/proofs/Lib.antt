@@ -1,13 +1,3 @@
-pub mod Openings
-pub mod Starts
-pub mod Rows
-pub mod Splices
-pub mod Grows
-pub mod Parts
-pub mod Places
-pub mod Moves
-pub mod Calls
-pub mod Walkers
-pub mod Told
-pub mod Rests
-pub mod Ways
+pub mod Start
+pub mod Upkeep
+pub mod Walk

@@ -1,13 +1,13 @@
 -- What a glance promises: P is what the pass had seen before, Q what it has seen after. Traces stand newest first.
-use Rattle.std.specs.Prelude.{◌≡◌, ℕ, ◌<◌, Bool, true, false, [], ◌++◌, Result, Ok, Err}
+use Rattle.std.specs.Prelude.{◌≡◌, ℕ, suc, ◌<◌, Bool, true, false, [], ◌++◌, Result, Ok, Err}
 use Rattle.lz_list.specs.Traces.{Trace, Begins, linking, linking_in, flags_after, halt_word, IsSettled}
 use Rattle.lz_flush.specs.declared.need.Need.TheVariants.{Sync as asks_sync}
 use Rattle.lz_flush.specs.Settling.{may_answer}
 use Rattle.lz_machine.specs.Table.{last_pin}
-use Rattle.lz_board.specs.declared.board.Glance.{Glance}
-use Rattle.lz_board.specs.declared.board.Glance.TheVariants.{Yes, No, Unsettled}
-use Rattle.lz_board.specs.declared.board.GlanceFault.{GlanceFault}
-use Rattle.lz_board.specs.declared.board.GlanceFault.TheVariants.{Halted, Worn, BusyPass}
+use Rattle.lz_board.specs.declared.answer.Glance.{Glance}
+use Rattle.lz_board.specs.declared.answer.Glance.TheVariants.{Yes, No, Unsettled}
+use Rattle.lz_board.specs.declared.answer.GlanceFault.{GlanceFault}
+use Rattle.lz_board.specs.declared.answer.GlanceFault.TheVariants.{Halted, Worn, BusyPass}
 use Rattle.lz_board.specs.declared.view.Part.{Part}
 use Rattle.lz_board.specs.Notes.{own}
 use Rattle.lz_board.specs.Kept.{IsInside}
@@ -45,3 +45,9 @@ Glances k (Ok (Unsettled s)) before after = GlancedUnsettled k s before.known af
 Glances k (Err Halted) before after = (halt_word after.known ≡ 1) × Changes before.number before.known after.known []
 Glances k (Err Worn) before after = (before.pin ≡ last_pin) × Changes before.number before.known after.known []
 Glances k (Err BusyPass) before after = IsInside before.pin × (after ≡ before)
+
+-- The pass was inside meanwhile, so its pin word was counted up twice; where it couldn't go inside, nothing changed.
+abbrev pub Turns : Result Glance GlanceFault → Part → Part → Type 0
+Turns (Err Worn) before after = after ≡ before
+Turns (Err BusyPass) before after = after ≡ before
+Turns _ before after = after.pin ≡ suc (suc before.pin)

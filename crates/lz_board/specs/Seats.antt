@@ -9,7 +9,7 @@ use Rattle.lz_board.specs.declared.view.Part.{Part}
 use Rattle.lz_board.specs.declared.view.View.{View}
 use Rattle.lz_board.specs.declared.board.Board.{Board}
 use Rattle.lz_board.specs.declared.board.Pen.{Pen}
-use Rattle.lz_board.specs.declared.board.Pass.{Pass}
+use Rattle.lz_board.specs.declared.pass.Pass.{Pass}
 use Rattle.lz_board.specs.Opened.{opened_by}
 use Rattle.lz_board.specs.Plays.{no_sizes, alone, pen_view, fresh, parts_from}
 

@@ -12,13 +12,16 @@ use Rattle.lz_board.specs.declared.view.Sizes.{Sizes}
 use Rattle.lz_board.specs.declared.view.Note.{Note}
 use Rattle.lz_board.specs.declared.view.Part.{Part}
 use Rattle.lz_board.specs.declared.view.View.{View}
-use Rattle.lz_board.specs.declared.board.Pass.{Pass}
+use Rattle.lz_board.specs.declared.pass.Pass.{Pass}
 use Rattle.lz_board.specs.Notes.{IsShared, trace_of}
-use Rattle.lz_board.specs.Kept.{index, word_at, is_calling, IsPart, Keeps, MayNote, KeepsPin, MovesPin, Writes, PinTold}
+use Rattle.lz_board.specs.Addresses.{index, word_at}
+use Rattle.lz_board.specs.Kept.{is_calling, IsPart, Keeps, PinTold}
+use Rattle.lz_board.specs.Noting.{MayNote, KeepsPin, MovesPin, Writes}
 use Rattle.lz_board.specs.Plays.{Looked, Loaded, Entered, Saw, Noted, Moved, alone, pen_view, found_view, pass_at, Finds}
 use Rattle.lz_board.specs.Seats.{BoardId, IsAtHand}
-use Rattle.lz_board.proofs.Places.{shared_boards, decode}
-use Rattle.lz_board.proofs.Moves.{looks, loads, saws, notes_in, moves_in, enters_in}
+use Rattle.lz_board.proofs.Upkeep.Address.{shared_boards, decode}
+use Rattle.lz_board.proofs.Upkeep.LoadStep.{looks, loads, saws}
+use Rattle.lz_board.proofs.Upkeep.StoreStep.{notes_in, moves_in, enters_in}
 
 pub only : (h : Part) → IsPart (alone h).held h
 only h = (0, refl)

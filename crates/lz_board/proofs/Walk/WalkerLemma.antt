@@ -33,8 +33,9 @@ use Rattle.lz_board.specs.declared.view.Part.{Part}
 use Rattle.lz_board.specs.Notes.{own, Extends, is_for, Since, IsShared}
 use Rattle.lz_board.specs.Kept.{IsInside}
 use Rattle.lz_board.specs.Plays.{knowing, IsShownTo}
-use Rattle.lz_board.specs.Walkers.{IsWalkable, Ended, IsOnWalk, Walked, keys_left, hops_left, IsNearer, AtWalk, IsHop}
-use Rattle.lz_board.proofs.Grows.{begins_of}
+use Rattle.lz_board.specs.Addresses.{IsWalkable}
+use Rattle.lz_board.specs.Walkers.{Ended, IsOnWalk, Walked, keys_left, hops_left, IsNearer, AtWalk, IsHop}
+use Rattle.lz_board.proofs.Upkeep.Growth.{begins_of}
 
 -- a walk goes on, or has ended
 abbrev pub GoneOn : ℕ → ℕ → Trace → Trace → Hopped → Type 0

@@ -33,11 +33,12 @@ use Rattle.lz_machine.specs.Stands.{WasBetween}
 use Rattle.lz_machine.proofs.Steps.Walk.{once_some}
 use Rattle.lz_board.specs.declared.view.Sizes.{Sizes}
 use Rattle.lz_board.specs.Notes.{Extends}
-use Rattle.lz_board.specs.Walkers.{IsWalkable, MetNode, Ended, Walked}
+use Rattle.lz_board.specs.Addresses.{IsWalkable}
+use Rattle.lz_board.specs.Walkers.{MetNode, Ended, Walked}
 use Rattle.lz_board.specs.Ways.{Rests, MetSince, says, KnowsAnswer, KnowsNode, NoMember, Lacks, KnowsFull, Way}
-use Rattle.lz_board.proofs.Grows.{begins_of}
-use Rattle.lz_board.proofs.Rests.{settled_on, settles_it, removes_it, rests_yes, rests_no}
-use Rattle.lz_board.proofs.Walkers.{on_later}
+use Rattle.lz_board.proofs.Upkeep.Growth.{begins_of}
+use Rattle.lz_board.proofs.Walk.Rest.{settled_on, settles_it, removes_it, rests_yes, rests_no}
+use Rattle.lz_board.proofs.Walk.WalkerLemma.{on_later}
 
 -- what a call knows it knows later
 rests_later : (k : ℕ) (side : Bool) (P0 P Q : Trace) → Begins P Q → Rests k side P0 P → Rests k side P0 Q

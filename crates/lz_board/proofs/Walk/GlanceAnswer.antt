@@ -16,15 +16,15 @@ use Rattle.lz_flush.specs.Settling.{may_answer}
 use Rattle.lz_machine.proofs.Steps.Walk.{once_some}
 use Rattle.lz_machine.proofs.Frames.Publishing.{halt_stays}
 use Rattle.lz_board.specs.declared.view.Part.{Part}
-use Rattle.lz_board.specs.declared.board.Glance.{Glance}
-use Rattle.lz_board.specs.declared.board.Glance.TheVariants.{Yes, No, Unsettled}
-use Rattle.lz_board.specs.declared.board.GlanceFault.{GlanceFault}
-use Rattle.lz_board.specs.declared.board.GlanceFault.TheVariants.{Halted, Worn, BusyPass}
+use Rattle.lz_board.specs.declared.answer.Glance.{Glance}
+use Rattle.lz_board.specs.declared.answer.Glance.TheVariants.{Yes, No, Unsettled}
+use Rattle.lz_board.specs.declared.answer.GlanceFault.{GlanceFault}
+use Rattle.lz_board.specs.declared.answer.GlanceFault.TheVariants.{Halted, Worn, BusyPass}
 use Rattle.lz_board.specs.Notes.{Since}
 use Rattle.lz_board.specs.Glances.{Changes, Between, Glanced, GlancedUnsettled, Glances}
 use Rattle.lz_board.specs.Walkers.{MetNode, Ended, sure_or, glance_of, IsGlance}
-use Rattle.lz_board.proofs.Grows.{begins_of}
-use Rattle.lz_board.proofs.Walkers.{since_trans}
+use Rattle.lz_board.proofs.Upkeep.Growth.{begins_of}
+use Rattle.lz_board.proofs.Walk.WalkerLemma.{since_trans}
 
 module _ (buckets slots : ℕ) (P0 P : Trace) (law : Lawful buckets slots P) (quiet : IsQuiet buckets P0 P) (k : ℕ) where
   absent_told : Once P0 P (λ R. SettledNo R R k) → Glanced k P0 P false

@@ -14,10 +14,12 @@ use Rattle.lz_board.specs.declared.view.Note.{Note}
 use Rattle.lz_board.specs.declared.view.Load.{Load}
 use Rattle.lz_board.specs.declared.view.Part.{Part}
 use Rattle.lz_board.specs.Notes.{listed, trace_of, steps_of, Extends, Since, load_note, splice, Quiet, InOrder, IsShared, AllShown, pin_after_played, pin_after, pin_after_what}
-use Rattle.lz_board.specs.Kept.{word_at, is_calling, shows_played, shows, Knows, PinTold, IsStep, MayNote, KeepsPin}
+use Rattle.lz_board.specs.Addresses.{word_at}
+use Rattle.lz_board.specs.Kept.{is_calling, shows_played, shows, Knows, PinTold}
+use Rattle.lz_board.specs.Noting.{IsStep, MayNote, KeepsPin}
 use Rattle.lz_board.specs.Plays.{noted, noted_part, moved_part, knowing, loading, entering, found_note}
-use Rattle.lz_board.proofs.Splices.{trace_splice, own_step, other_step, steps_splice, steps_splice_other, quiet_more, quiet_splice, quiet_splice_other, pin_splice}
-use Rattle.lz_board.proofs.Grows.{extends_more, extends_refl, extends_trans, extends_length, since_more, shown_more, found_splice, found_all, found_same, quiet_more_by}
+use Rattle.lz_board.proofs.Upkeep.Splice.{trace_splice, own_step, other_step, steps_splice, steps_splice_other, quiet_more, quiet_splice, quiet_splice_other, pin_splice}
+use Rattle.lz_board.proofs.Upkeep.Growth.{extends_more, extends_refl, extends_trans, extends_length, since_more, shown_more, found_splice, found_all, found_same, quiet_more_by}
 
 -- a step of another pass shows no pin word of this one and leaves it
 pin_other : (q p : ℕ) (what : What) (pin : ℕ) → IsStep what → p ≢ q → pin_after_what q p what pin ≡ pin
