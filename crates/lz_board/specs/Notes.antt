@@ -23,9 +23,11 @@ use Rattle.lz_board.specs.declared.view.What.TheVariants.{Called, Played, Found}
 use Rattle.lz_board.specs.declared.view.Note.{Note}
 use Rattle.lz_board.specs.declared.view.Load.{Load}
 
+-- a note of pass p
 abbrev pub note_by : ℕ → What → Option Publishing → Note
 note_by p what published = record { by = p; what = what; published = published }
 
+-- what was published, as a list
 abbrev pub listed : Option Publishing → List Publishing
 listed None = []
 listed (Some x) = x ∷ []
@@ -46,6 +48,7 @@ is_for p (marked k s q) = q == p
 is_for p (unlinked k s q) = q == p
 is_for p _ = false
 
+-- all of a trace that was published for pass p
 abbrev pub own : ℕ → Trace → Trace
 own p P = filter (is_for p) P
 
@@ -61,6 +64,7 @@ Since p Q P = (more : Trace) × (Q ≡ more ++ P) × (own p more ≡ [])
 abbrev pub load_note : ℕ → Load → Note
 load_note p h = note_by p (Played (Hop h.word) (Value h.value)) None
 
+-- a load among the notes, behind the newest place where the trace has the length that it saw
 abbrev pub insert : Trace → ℕ → Load → List Note → List Note
 insert opened p h [] = load_note p h ∷ []
 insert opened p h (n ∷ ns) =
@@ -97,6 +101,7 @@ pub record Shown (z : Sizes) (P : Trace) (h : Load) : Type 0 where
   pub shared : IsShared z h.word
   pub value : h.value ≡ word_after z.buckets seen h.word
 
+-- each of these loads did
 abbrev pub AllShown : Sizes → Trace → List Load → Type 0
 AllShown z P [] = Unit {0}
 AllShown z P (h ∷ hs) = Shown z P h × AllShown z P hs
@@ -105,16 +110,19 @@ AllShown z P (h ∷ hs) = Shown z P h × AllShown z P hs
 abbrev pub shape_of : Sizes → Shape
 shape_of z = record { slots = z.slots; buckets = z.buckets; passes = z.passes }
 
+-- a call that has its reply has no place any more
 abbrev pub goes_on : Option Reply → Command → Progress → Option (Command × Progress)
 goes_on (Some reply) c at = None
 goes_on None c at = Some (c, at)
 
+-- the place after one more step
 abbrev pub placed : Shape → What → Option (Command × Progress) → Option (Command × Progress)
 placed shape (Called c) at = Some (c, first_progress)
 placed shape (Played e o) None = None
 placed shape (Played e o) (Some call) = goes_on (reply_at call.1) call.0 (progress_after shape call.0 call.1 o)
 placed shape (Found q v) at = at
 
+-- the place after the steps, where a call is open
 abbrev pub place : Shape → List Note → Option (Command × Progress)
 place shape [] = None
 place shape (n ∷ ns) = placed shape n.what (place shape ns)
@@ -126,11 +134,13 @@ pin_after_played Pin Done pin = suc pin
 pin_after_played Answer Done pin = if pin == last_pin then pin else suc pin
 pin_after_played e o pin = pin
 
+-- the pin word of pass q after a note of pass p
 abbrev pub pin_after_what : ℕ → ℕ → What → ℕ → ℕ
 pin_after_what q p (Called c) pin = pin
 pin_after_what q p (Played e o) pin = if p == q then pin_after_played e o pin else pin
 pin_after_what q p (Found r v) pin = if r == q then v else pin
 
+-- the pin word of pass q after the notes
 abbrev pub pin_after : ℕ → List Note → ℕ
 pin_after q [] = 0
 pin_after q (n ∷ ns) = pin_after_what q n.by n.what (pin_after q ns)

@@ -19,13 +19,16 @@ pub record BoardId : Type 0 where
   pub sizes : Sizes
   pub opened : Trace
 
+-- the board of a handle
 abbrev pub id_of : Board → BoardId
 id_of b = record { table = b.table.shared.table_id; sizes = b.table.shared.key.sizes; opened = opened_by b.table.shared.key.words.value }
 
+-- the first of some parts
 abbrev pub first_of : List Part → Part
 first_of [] = fresh no_sizes [] 0
 first_of (h ∷ hs) = h
 
+-- the part at a seat with one view
 abbrev pub part_at : List View → Part
 part_at [] = fresh no_sizes [] 0
 part_at (v ∷ vs) = first_of v.held
@@ -46,10 +49,15 @@ pub record IsAtHand (b : BoardId) (p : Pass) (h : Part) : Type 0 where
 abbrev pub IsOf : BoardId → Pass → Type 0
 IsOf b p = (p.badge.table_id ≡ b.table) × (p.badge.views ≡ alone (part p) ∷ []) × IsAtHand b p (part p)
 
--- the pen's notes, and the part that has joined it
+-- the pass has a seat at this board, and has done nothing yet: it is outside, and has no call
+abbrev pub IsNew : BoardId → Pass → Type 0
+IsNew b p = IsOf b p × (part p ≡ fresh b.sizes b.opened p.number)
+
+-- the pen's notes
 abbrev pub notes : Pen → List Note
 notes pen = pen.seat.me.0.notes
 
+-- the part that has joined the pen
 abbrev pub carried : Pen → Part
 carried pen = first_of pen.seat.me.0.held
 

@@ -53,6 +53,7 @@ Walked z k P0 P (End pred curr met) = Ended z.buckets k P0 P pred curr met
 abbrev pub keys_left : ℕ → Trace → Place → ℕ
 keys_left k P pred = suc k - rank (λ t. key_word t P) (place_number pred)
 
+-- and how many loads it has still to make, at most
 abbrev pub hops_left : ℕ → Trace → Look → ℕ
 hops_left k P AtHead = 1 + 2 * suc k
 hops_left k P (AtKey pred s) = 2 * keys_left k P pred
@@ -81,16 +82,18 @@ pub record IsHop (z : Sizes) (k : ℕ) (h : Part) (P seen : Trace) (look : Look)
 abbrev pub HasMet : Sizes → ℕ → Part → Trace → Met → Type 0
 HasMet z k h seen met = (pred : Place) × (curr : Option ℕ) × Ended z.buckets k h.begun seen pred curr met
 
--- the answer of a glance whose walk met this
+-- the answer, or the slot in which the change isn't sure
 abbrev pub sure_or : Need → Glance → ℕ → Glance
 sure_or Now answer s = answer
 sure_or asks_sync answer s = Unsettled s
 
+-- the answer of a glance whose walk met this
 abbrev pub glance_of : Met → Glance
 glance_of Absent = No
 glance_of (Unmarked s flags) = sure_or (may_answer flags) Yes s
 glance_of (Marked s flags) = sure_or (may_answer flags) No s
 
+-- the answer was so at a trace from P to Q
 abbrev pub IsGlance : ℕ → Trace → Trace → Glance → Type 0
 IsGlance k P Q Yes = Glanced k P Q true
 IsGlance k P Q No = Glanced k P Q false

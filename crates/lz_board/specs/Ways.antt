@@ -36,10 +36,12 @@ says (Add k) No = Some true
 says (Remove k) No = Some false
 says _ _ = None
 
+-- what it says was settled since the pin
 abbrev pub KnowsAnswer : ℕ → Option Bool → Trace → Trace → Type 0
 KnowsAnswer k None P0 Q = Unit {0}
 KnowsAnswer k (Some side) P0 Q = Rests k side P0 Q
 
+-- the node that it rests on was met since the pin
 abbrev pub KnowsNode : ℕ → ℕ → ℕ → Option Bool → Trace → Trace → Type 0
 KnowsNode buckets k s None P0 Q = Unit {0}
 KnowsNode buckets k s (Some side) P0 Q = MetSince buckets k s (not side) P0 Q
@@ -55,10 +57,12 @@ abbrev pub Lacks : Command → Trace → Trace → Type 0
 Lacks (Add k) P0 Q = NoMember k P0 Q
 Lacks _ P0 Q = Unit {0}
 
+-- and an adding that is full knows of no member
 abbrev pub KnowsFull : Command → Reply → Trace → Trace → Type 0
 KnowsFull c (Full counts) P0 Q = Lacks c P0 Q
 KnowsFull c _ P0 Q = Unit {0}
 
+-- What the pass knows, by the place of its call.
 abbrev pub Way : Sizes → Command → Progress → Trace → Trace → Type 0
 Way z c (Walking aim look) P0 Q = IsOnWalk z (key_of c) P0 Q look
 Way z c (Playing (Resting s reply) i) P0 Q = KnowsNode z.buckets (key_of c) s (says c reply) P0 Q × KnowsFull c reply P0 Q

@@ -31,7 +31,7 @@ impl Board {
     ghost use Rattle.lz_board.specs.Addresses.{words_count};
     ghost use Rattle.lz_board.specs.Opened.{sizes_in, opened_by, IsOpened};
     ghost use Rattle.lz_board.specs.Plays.{fresh, parts_from};
-    ghost use Rattle.lz_board.specs.Seats.{id_of, part, IsOf, notes, IsPenOf, HasParts};
+    ghost use Rattle.lz_board.specs.Seats.{id_of, part, IsOf, IsNew, notes, IsPenOf, HasParts};
 
     /// The board of these words, its pen, and a pass for each pin word. `None` only for want of memory.
     pub fn new(alloc: Global, words: &Words) -> Option<(Board, Pen, Vec<Pass>)>
@@ -39,7 +39,7 @@ impl Board {
         requires opened { IsOpened words.now }
         ensures board { IfSome result (λ r. ((id_of r.0).sizes ≡ sizes_in words.now) × ((id_of r.0).opened ≡ opened_by words.now)) }
         ensures pen { IfSome result (λ r. IsPenOf (id_of r.0) r.1 × (notes r.1 ≡ [])) }
-        ensures passes { IfSome result (λ r. (length r.2.items ≡ length words.now.pins) × All (λ p. IsOf (id_of r.0) p) r.2.items × (map (λ p. part p) r.2.items ≡ parts_from (id_of r.0).sizes (id_of r.0).opened (length words.now.pins) 1)) }
+        ensures passes { IfSome result (λ r. (length r.2.items ≡ length words.now.pins) × All (λ p. IsNew (id_of r.0) p) r.2.items × (map (λ p. part p) r.2.items ≡ parts_from (id_of r.0).sizes (id_of r.0).opened (length words.now.pins) 1)) }
     {
         let sizes = Sizes {
             slots: words.slots(),
@@ -68,7 +68,7 @@ impl Board {
     fn deal_all(&self, alloc: Global, pen: &mut Pen) -> Result<Vec<Pass>, AllocError>
         requires { HasParts (id_of self.now) 1 pen.old }
         ensures pen { IfOk result (λ _. IsPenOf (id_of self.now) pen.new × (notes pen.new ≡ [])) }
-        ensures passes { IfOk result (λ all. (length all.items ≡ (id_of self.now).sizes.passes) × All (λ p. IsOf (id_of self.now) p) all.items × (map (λ p. part p) all.items ≡ parts_from (id_of self.now).sizes (id_of self.now).opened (id_of self.now).sizes.passes 1)) }
+        ensures passes { IfOk result (λ all. (length all.items ≡ (id_of self.now).sizes.passes) × All (λ p. IsNew (id_of self.now) p) all.items × (map (λ p. part p) all.items ≡ parts_from (id_of self.now).sizes (id_of self.now).opened (id_of self.now).sizes.passes 1)) }
     {
         let mut all = Vec::new(alloc);
         for number in 1..self.sizes.passes + 1 {
@@ -84,6 +84,7 @@ impl Board {
         requires pen { HasParts (id_of self.now) number pen.old }
         ensures pen { HasParts (id_of self.now) (number + 1) pen.new }
         ensures here { IsOf (id_of self.now) result }
+        ensures number { result.number ≡ number }
         ensures part { part result ≡ fresh (id_of self.now).sizes (id_of self.now).opened number }
     {
         let seat = self.table.shared.split_seat::<Hand>(&mut pen.seat);
