@@ -18,7 +18,7 @@ use Rattle.lz_list.specs.Pinned.{Stood, IsQuiet}
 use Rattle.lz_list.specs.Laws.{IsHigh}
 use Rattle.lz_list.proofs.Chains.{on_start}
 use Rattle.lz_list.proofs.Hindsight.{stood_bucket}
-use Rattle.lz_list.proofs.Resting.{left_since}
+use Rattle.lz_list.proofs.Resting.{left_surely}
 use Rattle.lz_list.specs.Locks.{check, is_marked_node}
 use Rattle.lz_machine.specs.declared.event.Event.TheVariants.{Check}
 use Rattle.lz_machine.specs.declared.actor.Actor.{Actor}
@@ -69,7 +69,7 @@ module _ (shape : Shape) (words : Words) (P : Trace) (trace : TraceSound shape w
       let same : bucket_of buckets (key_word s P) ≡ bucket_of buckets k = stood_bucket buckets shape.slots P0 (bucket_of buckets k) s P trace.lawful quiet stood in
       let clear : is_marked s P ≡ false = sym (link_mark shape words P trace few s lt) ∙ unmarked in
       record {
-        there = elim (left_since buckets shape.slots P0 (key_word s P) s P trace.lawful quiet (subst (λ (b : ℕ). Stood buckets b P0 P (suc s)) (sym same) stood) refl) [
+        there = elim (left_surely buckets shape.slots P0 (key_word s P) s P trace.lawful quiet (subst (λ (b : ℕ). Stood buckets b P0 P (suc s)) (sym same) stood) refl) [
           | inl there ↦ subst (λ (b : ℕ). on 0 (chain buckets b P) (suc s) ≡ true) same there
           | inr gone ↦ absurd (false≢true (sym clear ∙ gone.1))
         ];
