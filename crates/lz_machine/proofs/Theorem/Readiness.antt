@@ -37,6 +37,7 @@ use Rattle.lz_machine.specs.declared.event.Event.{Event}
 use Rattle.lz_machine.specs.declared.event.Event.TheVariants.{Invoke, Pin, Hop, Reserve, WriteKey, Claim, Check, WriteOpen, Link, WriteClose, Mark, Release, Sync, Settle, Unlink, Retire, SeePin, Answer, Halt}
 use Rattle.lz_machine.specs.declared.event.Outcome.{Outcome}
 use Rattle.lz_machine.specs.declared.event.Outcome.TheVariants.{Dead, Done, NotNow, Worn}
+use Rattle.lz_slot.proofs.Exact.{key_of_format}
 use Rattle.lz_machine.specs.Yards.{Shape, Yard, actor_at, cell_at, no_cell}
 use Rattle.lz_machine.specs.Table.{last_pin, pin_of, needs, is_played_dead, course_alive, course, is_unused, has_stage, may_check, has_checked, has_opened, has_closed, has_marked, may_release, may_retire}
 use Rattle.lz_machine.specs.Calls.{event_at, loaded}
@@ -153,7 +154,7 @@ module _ (n calls : ℕ) (y : Yard) (callers : List (Option Caller)) (disk : Med
   is_key : (s : ℕ) → s < y.shape.slots → (cell_in y.vault.cells s).key ≡ key_word s P → get w (key_at s) ≤ largest_key
   is_key s lt same =
       let fits = sound.images.keys s (cell_in y.vault.cells s) (slice_get-get_or y.vault.cells s no_cell (omega (arith, lt, sound.images.count))) in
-      omega (arith, fits, same, key_is y.shape y.words P sound.trace sound.images.slots.1 w heads links keys s lt)
+      omega (arith, key_of_format y.vault.format _ fits, same, key_is y.shape y.words P sound.trace sound.images.slots.1 w heads links keys s lt)
 
   -- as it is on a chain
   node_key : (s : ℕ) → s < y.shape.slots → on 0 (chain_of y.shape.buckets (key_word s P) P) (suc s) ≡ true → get w (key_at s) ≤ largest_key
