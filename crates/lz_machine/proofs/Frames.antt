@@ -19,3 +19,5 @@ pub mod NodeLocks
 pub mod Ranges
 pub mod LoadedWord
 pub mod Limbo
+pub mod Outside
+pub mod Refusal

@@ -10,8 +10,8 @@ use Rattle.lz_slot.specs.Bytes.{Holds}
 use Rattle.lz_slot.specs.Histories.{History, Life, lives}
 use Rattle.lz_disk.specs.Images.{Medium}
 use Rattle.lz_list.specs.Traces.{Trace}
-use Rattle.lz_machine.specs.declared.event.Reply.TheVariants.{Worn as SaysWorn, Halted, Device}
-use Rattle.lz_machine.specs.Table.{pin_of, last_pin}
+use Rattle.lz_machine.specs.declared.event.Reply.TheVariants.{Worn as SaysWorn, OldFile as SaysOldFile, Halted, Device}
+use Rattle.lz_machine.specs.Table.{pin_of, last_pin, is_old}
 use Rattle.lz_machine.specs.Runs.{Start, IsStart, Service, Caller, Up, Step, Calls, Turn, Fails, Looks, CrashesIn, MayStep, MayLeave, Reached, IsRun, run, first_point, start_keys, caller_at, reply_at}
 
 -- the step is this actor's, or no actor's
@@ -97,7 +97,8 @@ FullIsRight =
     → AreSized start.shape.slots (lives (start_keys start) (run (first_point start) steps).marks)
 
 -- A turn that answers worn is taken where the pin word is 2^62, and one that answers halted or device where the vault is
--- dead. This holds of any number of actors.
+-- dead. A call is told of an old file exactly where it adds a key that can't be held by the format of the text that the open
+-- read: then it comes to no other answer. This holds of any number of actors.
 abbrev pub RefusalsAreRight : Type 0
 RefusalsAreRight =
     (start : Start) (service : Service) (disk : Medium) (M : History) (P : Trace) (a : ℕ) (caller : Caller)
@@ -105,3 +106,5 @@ RefusalsAreRight =
     → (reply_at caller.progress ≡ Some SaysWorn → pin_of service.yard a ≡ last_pin)
     × (reply_at caller.progress ≡ Some Halted → service.yard.vault.dead ≡ true)
     × (reply_at caller.progress ≡ Some Device → service.yard.vault.dead ≡ true)
+    × (reply_at caller.progress ≡ Some SaysOldFile → is_old service.yard.vault.format caller.command ≡ true)
+    × (is_old service.yard.vault.format caller.command ≡ true → reply_at caller.progress ≡ Some SaysOldFile)

@@ -21,7 +21,7 @@ pub record Shape : Type 0 where
   pub passes : ℕ
 
 abbrev pub idle_actor : Actor
-idle_actor = record { slot = None; hold = Nothing; pred = Bucket 0; curr = None }
+idle_actor = record { slot = None; hold = Nothing; pred = Bucket 0; curr = None; refused = false }
 
 pub record Yard : Type 0 where
   pub shape : Shape

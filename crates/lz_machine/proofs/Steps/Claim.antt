@@ -59,7 +59,7 @@ module _ (n calls : ℕ) (y : Yard) (callers : List (Option Caller)) (disk : Med
   at = Claiming aim pred curr
 
   abbrev x : Actor
-  x = record { slot = (actor_at y a).slot; hold = Locks; pred = pred; curr = curr }
+  x = record (actor_at y a) { hold = Locks; pred = pred; curr = curr }
 
   pred_in : InBucket y.shape.buckets (key_of c) pred → Stood y.shape.buckets (bucket_of y.shape.buckets (key_of c)) (notes.begun a) P (place_number pred) → IsPlaceIn y.locks pred
   pred_in = go pred

@@ -14,7 +14,7 @@ use Rattle.lz_list.proofs.Hindsight.{stands}
 use Rattle.lz_machine.specs.declared.event.Event.TheVariants.{Halt}
 use Rattle.lz_machine.specs.declared.event.Outcome.TheVariants.{Done}
 use Rattle.lz_machine.specs.declared.event.Reply.{Reply}
-use Rattle.lz_machine.specs.declared.event.Reply.TheVariants.{Yes, No, Full, Worn, Halted, Device}
+use Rattle.lz_machine.specs.declared.event.Reply.TheVariants.{Yes, No, Full, Worn, OldFile, Halted, Device}
 use Rattle.lz_machine.specs.declared.actor.Actor.{Actor}
 use Rattle.lz_machine.specs.declared.actor.Hold.{Hold}
 use Rattle.lz_machine.specs.declared.actor.Hold.TheVariants.{Nothing, Locks, Checked, GateOpened, Linked, GateClosed, Marked, Unlinked, Released}
@@ -86,6 +86,7 @@ module _ (n calls : ℕ) (y : Yard) (callers : List (Option Caller)) (disk : Med
   cut_answers c No a cut = absurd cut
   cut_answers c (Full counts) a cut = absurd cut
   cut_answers c Worn a cut = absurd cut
+  cut_answers c OldFile a cut = absurd cut
 
   cut_tail : (reply : Reply) → IsCut reply → may_have_tail (Answering reply) ≡ true
   cut_tail Halted cut = refl

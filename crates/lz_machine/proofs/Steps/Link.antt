@@ -105,7 +105,7 @@ module _ (n calls : ℕ) (y : Yard) (callers : List (Option Caller)) (disk : Med
   h = (own n calls y callers disk M P notes a i (Add k) at is sound).stands.2
 
   abbrev x : Actor
-  x = record { slot = None; hold = Linked; pred = (actor_at y a).pred; curr = (actor_at y a).curr }
+  x = record (actor_at y a) { slot = None; hold = Linked }
 
   abbrev actors' : List Actor
   actors' = set_of_pass y.actors a x

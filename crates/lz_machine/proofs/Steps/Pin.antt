@@ -22,7 +22,7 @@ use Rattle.lz_list.proofs.Absent.{begins_itself}
 use Rattle.lz_list.proofs.Hindsight.{once_begins}
 use Rattle.lz_machine.specs.declared.event.Event.TheVariants.{Pin}
 use Rattle.lz_machine.specs.declared.event.Outcome.TheVariants.{Done, Worn}
-use Rattle.lz_machine.specs.declared.event.Reply.TheVariants.{Worn as SaysWorn}
+use Rattle.lz_machine.specs.declared.event.Reply.TheVariants.{Worn as SaysWorn, OldFile as SaysOldFile}
 use Rattle.lz_machine.specs.declared.actor.Actor.{Actor}
 use Rattle.lz_machine.specs.declared.caller.Script.TheVariants.{Pinning}
 use Rattle.lz_machine.specs.declared.caller.Progress.TheVariants.{Playing, LoadsHalt, Answering}
@@ -261,7 +261,7 @@ module _ (n calls : ℕ) (y : Yard) (callers : List (Option Caller)) (disk : Med
             (subst (λ (q : Option Caller). CallerSound (view_of y.shape y.vault y.actors a) to q P P (notes.changed a)) (sym (moved_same callers a (call_at i c (Playing Pinning 0)) is LoadsHalt)) (record {
               quiet = λ inside. quiet_new y.shape.buckets P P (omega arith);
               begins = λ inside. begins_itself P;
-              stands = (omega (arith, me.stands.0), me.stands.1, me.stands.2);
+              stands = (omega (arith, me.stands.0), λ inside. me.stands.2.2, (me.stands.2.0, me.stands.2.1));
             }));
         reuse = entered_reuse y.shape y.vault.cells y.vault.dead y.words.pins y.uses y.actors P notes a low in_pins sound.slots sound.reuse me.stands.0 fresh;
         ledger = ledger_noted n calls y.shape.passes (moving callers a (call_at i c (Playing Pinning 0)) LoadsHalt) P M notes (begins_now notes a P).begun (ledger_turn callers a (call_at i c (Playing Pinning 0)) is LoadsHalt n calls y.shape.passes P M notes sound.ledger);

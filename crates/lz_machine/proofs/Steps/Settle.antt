@@ -24,7 +24,7 @@ use Rattle.lz_machine.specs.declared.event.Event.TheVariants.{Settle}
 use Rattle.lz_machine.specs.declared.event.Outcome.{Outcome}
 use Rattle.lz_machine.specs.declared.event.Outcome.TheVariants.{Done, Early}
 use Rattle.lz_machine.specs.declared.event.Reply.{Reply}
-use Rattle.lz_machine.specs.declared.event.Reply.TheVariants.{Yes, No, Full, Worn, Halted, Device}
+use Rattle.lz_machine.specs.declared.event.Reply.TheVariants.{Yes, No, Full, Worn, OldFile, Halted, Device}
 use Rattle.lz_machine.specs.declared.actor.Hold.{Hold}
 use Rattle.lz_machine.specs.declared.actor.Hold.TheVariants.{Marked}
 use Rattle.lz_machine.specs.declared.caller.Script.TheVariants.{Adding, Removing, Resting}
@@ -275,13 +275,16 @@ module _ (n calls : ℕ) (y : Yard) (callers : List (Option Caller)) (disk : Med
       now (Remove k) Yes at sure fresh m = absurd m
       now (Add k) (Full counts) at sure fresh m = absurd m
       now (Add k) Worn at sure fresh m = absurd m
+      now (Add k) OldFile at sure fresh m = absurd m
       now (Add k) Halted at sure fresh m = absurd m
       now (Add k) Device at sure fresh m = absurd m
       now (Remove k) (Full counts) at sure fresh m = absurd m
       now (Remove k) Worn at sure fresh m = absurd m
+      now (Remove k) OldFile at sure fresh m = absurd m
       now (Remove k) Halted at sure fresh m = absurd m
       now (Remove k) Device at sure fresh m = absurd m
       now (Has k) (Full counts) at sure fresh m = absurd m
       now (Has k) Worn at sure fresh m = absurd m
+      now (Has k) OldFile at sure fresh m = absurd m
       now (Has k) Halted at sure fresh m = absurd m
       now (Has k) Device at sure fresh m = absurd m

@@ -419,7 +419,7 @@ module _ (n calls : ℕ) (y : Yard) (callers : List (Option Caller)) (disk : Med
 
   -- a call's key is one of the file's, and its slot's gate is closed
   fits : key_of c ≤ largest_of y.vault.format
-  fits = adds_fitting y.vault.format c (h n calls y callers disk M P notes sound a i c s is).2 (me n calls y callers disk M P notes sound a i c s is).stands.1
+  fits = adds_fitting y.vault.format c (h n calls y callers disk M P notes sound a i c s is).2 ((me n calls y callers disk M P notes sound a i c s is).stands.1 (me n calls y callers disk M P notes sound a i c s is).stands.0)
 
   in_range : s < y.shape.slots
   in_range = lt n calls y callers disk M P notes sound a i c s is

@@ -305,7 +305,7 @@ module _ (n calls : ℕ) (y : Yard) (callers : List (Option Caller)) (disk : Med
 
   -- the pair alone, without the slot, which is the one that is prepared
   abbrev pair : Actor
-  pair = record { slot = None; hold = Checked; pred = (actor_in y.actors a).pred; curr = (actor_in y.actors a).curr }
+  pair = record (actor_in y.actors a) { slot = None; hold = Checked }
 
   -- so the preparing leaves it
   pair_leaves : LeavesPair y.shape.buckets (link_prepared s v) pair P

@@ -2,7 +2,6 @@
 use Rattle.std.proofs.Common.{◌≡◌, ◌≢◌, ◌⊎◌, inl, inr, ℕ, zero, suc, ◌<◌, ◌≤◌, ◌==◌, if◌then◌else◌, not, ◌&&◌, Bool, true, false, List, [], ◌∷◌, length, Option, Some, None, is_some, refl, sym, ap, ◌∙◌, subst, arith}
 use mathlib.Core.Bool.{false≢true}
 use Rattle.std.specs.Prelude.{unwrap_or, IsSomeAnd, IfSome}
-use Rattle.std.proofs.lemmas.Bool.Decides.{eqb_tells}
 use Rattle.std.proofs.lemmas.Bool.{cases_Bool, not-true}
 use Rattle.lz_slot.specs.declared.format.Format.{Format}
 use Rattle.lz_slot.specs.Rooms.{largest_of}
@@ -39,10 +38,10 @@ use Rattle.lz_machine.specs.declared.event.Outcome.{Outcome}
 use Rattle.lz_machine.specs.declared.event.Outcome.TheVariants.{Dead, Done, NotNow, Worn}
 use Rattle.lz_slot.proofs.Exact.{key_of_format}
 use Rattle.lz_machine.specs.Yards.{Shape, Yard, actor_at, cell_at, no_cell}
-use Rattle.lz_machine.specs.Table.{last_pin, pin_of, needs, is_played_dead, course_alive, course, is_unused, has_stage, may_check, has_checked, has_opened, has_closed, has_marked, may_release, may_retire}
+use Rattle.lz_machine.specs.Table.{last_pin, pin_of, needs, is_played_dead, course_alive, course, is_unused, has_stage, may_check, has_checked, has_opened, has_closed, has_marked, may_release, may_retire, is_old, stays_out}
 use Rattle.lz_machine.specs.Calls.{event_at, loaded}
 use Rattle.lz_machine.specs.Runs.{Start, State, Up, Point, Service, Caller, caller_at, next_event, with_words, first_point, run, start_keys, FitsFile, IsNext, MayPlay}
-use Rattle.lz_machine.specs.Sound.{Notes, View, view_of, actor_in, stage_in, closes, opens, has_locks, has_removed_node, HasPlace, HasLock, RestsOn, IsChecked, HasOpened, HasClosed, IsHandStage, IsNodeStage, SlotStands, is_node, is_held, is_out, is_free, is_limbo, Relies, Sound, StateSound, PointSound, cell_in, unlocks}
+use Rattle.lz_machine.specs.Sound.{Notes, View, view_of, actor_in, stage_in, closes, opens, has_locks, has_removed_node, HasPlace, HasLock, RestsOn, IsChecked, HasOpened, HasClosed, IsHandStage, IsNodeStage, SlotStands, is_node, is_held, is_out, is_free, is_limbo, Relies, Sound, StateSound, PointSound, cell_in, unlocks, is_before_pin, side_of}
 use Rattle.lz_machine.specs.Ready.{IsEventOf, IsReadyFor, IsReady}
 use Rattle.lz_machine.proofs.Frames.OneActor.{caller_range, mine}
 use Rattle.lz_machine.proofs.Frames.FittingKeys.{key_written, writes_fitting}
@@ -54,6 +53,7 @@ use Rattle.lz_machine.proofs.Theorem.ShownChains.{links_are, key_is, keeps_key, 
 use Rattle.lz_machine.proofs.Theorem.Reached.{reached_sound}
 use Rattle.lz_machine.proofs.Steps.ReturnedSlot.{closed_unused}
 use Rattle.lz_machine.proofs.Frames.Grip.{closer_locks}
+use Rattle.lz_machine.proofs.Frames.Outside.{worn_out}
 
 -- what a call knows of its next event: the node that it retires, and that the file can hold the key that it writes
 abbrev Knows : Format → Actor → Event → Type 0
@@ -111,20 +111,17 @@ is_keyed Keyed is = refl
 is_keyed _ is = absurd (false≢true is)
 
 -- a pin that isn't worn
+-- an event that is played isn't refused
+not_refused : (dead may refuses : Bool) (outcome : Outcome) → (if dead && not true then Refused Dead else if may then (if refuses then Refused outcome else Plays) else Refused NotNow) ≡ Plays → refuses ≡ true → ⊥
+not_refused true false refuses outcome plays is = refused_plays plays
+not_refused true true true outcome plays is = refused_plays plays
+not_refused true true false outcome plays is = false≢true is
+not_refused false false refuses outcome plays is = refused_plays plays
+not_refused false true true outcome plays is = refused_plays plays
+not_refused false true false outcome plays is = false≢true is
+
 not_last : (dead may : Bool) (pin : ℕ) (outcome : Outcome) → (if dead && not true then Refused Dead else if may then (if pin == last_pin then Refused outcome else Plays) else Refused NotNow) ≡ Plays → pin ≢ last_pin
-not_last dead false pin outcome plays = absurd (refused_plays (go dead plays))
-  where
-    go : (q : Bool) → (if q && not true then Refused Dead else Refused NotNow) ≡ Plays → Refused NotNow ≡ Plays
-    go true is = is
-    go false is = is
-not_last dead true pin outcome plays = elim (eqb_tells pin last_pin) [
-  | inl same ↦ absurd (refused_plays (sym (ap (λ (q : Bool). if q then Refused outcome else Plays) same.0) ∙ go dead plays))
-  | inr other ↦ other.1
-]
-  where
-    go : (q : Bool) → (if q && not true then Refused Dead else (if pin == last_pin then Refused outcome else Plays)) ≡ Plays → (if pin == last_pin then Refused outcome else Plays) ≡ Plays
-    go true is = is
-    go false is = is
+not_last dead may pin outcome plays last = not_refused dead may (pin == last_pin) outcome plays (ap (λ (q : ℕ). q == last_pin) last)
 
 -- the yard of a sound service, with words of which only pins differ, and not the actor's own
 module _ (n calls : ℕ) (y : Yard) (callers : List (Option Caller)) (disk : Medium) (M : History) (P : Trace) (notes : Notes) (sound : Sound n calls y callers disk M P notes)
@@ -291,7 +288,7 @@ module _ (n calls : ℕ) (y : Yard) (callers : List (Option Caller)) (disk : Med
       (s, node, (omega (arith, gone.in_range, sound.slots.count), gone.taken))
 
   ready_answer : Follows Answer
-  ready_answer has plays = (pin_below (not_last y.vault.dead (needs z a Answer) (pin_of z a) Done plays), slot_kept actor.slot refl)
+  ready_answer has plays = (pin_below (λ last. not_refused y.vault.dead (needs z a Answer) (stays_out (actor_at z a) (pin_of z a)) Done plays (worn_out (actor_at z a) (pin_of z a) last)), slot_kept actor.slot refl)
     where
       slot_kept : (slot : Option ℕ) → actor.slot ≡ slot → IfSome slot (λ s. (s < y.shape.slots) × (is_unused (cell_at z s).stage ≡ true → IsTakenAt y.uses s))
       slot_kept None is = tt
@@ -353,7 +350,7 @@ module _ (words : Words) (shape : Shape) (v : View) (c : Command) (P0 P : Trace)
   retires_node (Playing script i) h is = retires_in script i h is
   retires_node _ h is = absurd (false≢true is)
 
-  caller_knows : (at : Progress) → FitsFile v.format c → Relies v c at P0 P changed → (e : Event) → loaded words (event_at shape c at) ≡ e → Knows v.format v.actor e
+  caller_knows : (at : Progress) → (is_before_pin at ≡ false → is_old v.format c ≡ false) → Relies v c at P0 P changed → (e : Event) → loaded words (event_at shape c at) ≡ e → Knows v.format v.actor e
   caller_knows at fits h Retire is = retires_node at h (ap is_retire is)
   caller_knows at fits h (WriteKey k) is = writes_fitting words shape v c P0 P changed k at fits h (ap key_written is)
   caller_knows at fits h _ is = tt
@@ -421,7 +418,7 @@ module _ (y : Yard) (honest : Bool) (disk : Medium) (a : ℕ) (e : Event) (may :
         let caller = next_of may.service a e other may.next in
         let sound = sound_there.5 in
         let own = mine may.service.yard.shape may.service.yard.vault may.service.yard.words.pins may.service.yard.actors may.service.callers sound_there.3 sound_there.4 a caller.0 caller.1 sound.callers in
-        caller_knows may.service.yard.words may.service.yard.shape (view_of may.service.yard.shape may.service.yard.vault may.service.yard.actors a) caller.0.command (sound_there.4.begun a) sound_there.3 (sound_there.4.changed a) caller.0.progress own.stands.1 own.stands.2 e caller.2
+        caller_knows may.service.yard.words may.service.yard.shape (view_of may.service.yard.shape may.service.yard.vault may.service.yard.actors a) caller.0.command (sound_there.4.begun a) sound_there.3 (sound_there.4.changed a) caller.0.progress (λ after. own.stands.1 (own.stands.0 ∙ ap side_of after)) own.stands.2 e caller.2
   ]
     where
       begins_knowing : (e' : Event) → is_invoke e' ≡ true → Knows may.service.yard.vault.format (actor_in may.service.yard.actors a) e'
