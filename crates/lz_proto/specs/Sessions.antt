@@ -1,5 +1,5 @@
 -- What a session writes.
-use Rattle.std.specs.Prelude.{◌≡◌, ℕ, List, [], ◌∷◌, ◌++◌, ◌⊎◌, take, codes, Option, None, Some, Result, Ok, Err}
+use Rattle.std.specs.Prelude.{◌≡◌, ℕ, List, [], ◌∷◌, ◌++◌, ◌⊎◌, ◌<◌, length, take, codes, Option, None, Some, Result, Ok, Err}
 use Rattle.std.specs.Io.KnownBytes.{Appends, Consumes}
 use Rattle.lz_proto.specs.declared.request.Request.{Request}
 use Rattle.lz_proto.specs.declared.request.Request.TheVariants.{Quit}
@@ -74,6 +74,7 @@ pub record Answered {S : Type 0} (answers : S → Request → Reply → S → Ty
   pub ends : end_of items replies ≡ ended
 
 -- A write failed at one of the items: those before it were answered whole, its own request was asked, and none after it.
+-- What was sent of its own text is not all.
 pub record CutOff {S : Type 0} (answers : S → Request → Reply → S → Type 0) (old : S) (items : List Item) (new : S) (written : List ℕ) : Type 0 where
   pub done : List Item
   pub item : Item
@@ -85,6 +86,7 @@ pub record CutOff {S : Type 0} (answers : S → Request → Reply → S → Type
   pub reply : List Reply
   pub served : Serves answers mid (item ∷ []) reply new
   pub sent : ℕ
+  pub part : sent < length (session_text (item ∷ []) reply)
   pub text : written ≡ before ++ take sent (session_text (item ∷ []) reply)
 
 -- the text is what the reader has left, where it tells
