@@ -40,7 +40,7 @@ use Rattle.lz_slot.proofs.Exact.{key_of_format}
 use Rattle.lz_machine.specs.Yards.{Shape, Yard, actor_at, cell_at, no_cell}
 use Rattle.lz_machine.specs.Table.{last_pin, pin_of, needs, is_played_dead, course_alive, course, is_unused, has_stage, may_check, has_checked, has_opened, has_closed, has_marked, may_release, may_retire, is_old, stays_out}
 use Rattle.lz_machine.specs.Calls.{event_at, loaded}
-use Rattle.lz_machine.specs.Runs.{Start, State, Up, Point, Service, Caller, caller_at, next_event, with_words, first_point, run, start_keys, FitsFile, IsNext, MayPlay}
+use Rattle.lz_machine.specs.Runs.{Start, State, Up, Point, Service, Caller, caller_at, next_event, with_words, first_point, run, start_keys, IsNext, MayPlay}
 use Rattle.lz_machine.specs.Sound.{Notes, View, view_of, actor_in, stage_in, closes, opens, has_locks, has_removed_node, HasPlace, HasLock, RestsOn, IsChecked, HasOpened, HasClosed, IsHandStage, IsNodeStage, SlotStands, is_node, is_held, is_out, is_free, is_limbo, Relies, Sound, StateSound, PointSound, cell_in, unlocks, is_before_pin, side_of}
 use Rattle.lz_machine.specs.Ready.{IsEventOf, IsReadyFor, IsReady}
 use Rattle.lz_machine.proofs.Frames.OneActor.{caller_range, mine}
