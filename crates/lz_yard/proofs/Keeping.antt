@@ -21,7 +21,7 @@ use Rattle.lz_flush.specs.Settling.{settle}
 use Rattle.lz_machine.specs.declared.event.Event.{Event}
 use Rattle.lz_machine.specs.declared.event.Event.TheVariants.{Invoke, Pin, Hop, Reserve, WriteKey, Claim, Check, WriteOpen, Link, WriteClose, Mark, Release, Sync, Settle, Unlink, Retire, SeePin, Answer, Halt}
 use Rattle.lz_machine.specs.declared.event.Outcome.{Outcome}
-use Rattle.lz_machine.specs.declared.event.Outcome.TheVariants.{Done, Value, Slot, NoSlot, Taken as WasTaken, Busy, True, False, Early, Worn, NotNow, Fault, Dead}
+use Rattle.lz_machine.specs.declared.event.Outcome.TheVariants.{Done, Value, Slot, NoSlot, Taken as WasTaken, Busy, True, False, Early, Worn, OldFile, NotNow, Fault, Dead}
 use Rattle.lz_machine.specs.declared.course.Course.{Course}
 use Rattle.lz_machine.specs.declared.course.Course.TheVariants.{Refused, Dies, Plays}
 use Rattle.lz_machine.specs.declared.actor.Hold.{Hold}
@@ -169,11 +169,12 @@ module _ (y : Yard) (known : ℕ) (fits : Fits y known) (a : ℕ) (low : 1 ≤ a
   curr_range (Some s) is = omega (arith, is, fits.links)
 
   claimed : (b : Bool) (pred : Place) (curr : Option ℕ) → IsCurr y.words curr
-      → IsKept (if b then set_of_pass y.actors a (record { slot = mine.slot; hold = Locks; pred = pred; curr = curr }) else y.actors)
-  claimed true pred curr is = has (record { slot = mine.slot; hold = Locks; pred = pred; curr = curr }) (record { slot = in_range.slot; curr = curr_range curr is })
+      → IsKept (if b then set_of_pass y.actors a (record mine { hold = Locks; pred = pred; curr = curr }) else y.actors)
+  claimed true pred curr is = has (record mine { hold = Locks; pred = pred; curr = curr }) (record { slot = in_range.slot; curr = curr_range curr is })
   claimed false pred curr is = unchanged
 
   actors_kept : (e : Event) → IsEventOf y e → IsKept (actors_after y mine a e)
+  actors_kept (Invoke c) is = has _ (record { slot = in_range.slot; curr = in_range.curr })
   actors_kept Reserve is = has (with_slot mine (lowest_free (collect y.uses))) (record { slot = found_range (lowest_free (collect y.uses)) refl; curr = in_range.curr })
   actors_kept (Claim pred curr) is = claimed (is_pair_free y.locks pred curr) pred curr is.1
   actors_kept Check is = holds _
@@ -244,6 +245,7 @@ fault_or_not True = inr (λ h. cc)
 fault_or_not False = inr (λ h. cc)
 fault_or_not Early = inr (λ h. cc)
 fault_or_not Worn = inr (λ h. cc)
+fault_or_not OldFile = inr (λ h. cc)
 fault_or_not NotNow = inr (λ h. cc)
 fault_or_not Fault = inl refl
 fault_or_not Dead = inr (λ h. cc)

@@ -11,11 +11,11 @@ use Rattle.lz_list.specs.declared.word.Word.{Word}
 use Rattle.lz_machine.specs.declared.event.Event.{Event}
 use Rattle.lz_machine.specs.declared.event.Event.TheVariants.{Invoke, Pin, Hop, Reserve, WriteKey, Claim, Check, WriteOpen, Link, WriteClose, Mark, Release, Sync, Settle, Unlink, Retire, SeePin, Answer, Halt}
 use Rattle.lz_machine.specs.declared.event.Outcome.{Outcome}
-use Rattle.lz_machine.specs.declared.event.Outcome.TheVariants.{Done, Taken, Busy, True, False, Early, Fault, Dead}
+use Rattle.lz_machine.specs.declared.event.Outcome.TheVariants.{Done, Taken, Busy, True, False, Early, OldFile, Fault, Dead}
 use Rattle.lz_machine.specs.declared.course.Course.TheVariants.{Refused, Dies, Plays}
 use Rattle.lz_machine.specs.declared.actor.Actor.{Actor}
 use Rattle.lz_machine.specs.Yards.{Yard, actor_at}
-use Rattle.lz_machine.specs.Table.{course, call_of, call_on, line, line_call, line_changes, line_on, line_publishes, changed_on, published_on, outcome_of, slot_found, is_sure, with_vault}
+use Rattle.lz_machine.specs.Table.{course, call_of, call_on, line, line_call, line_changes, line_on, line_publishes, changed_on, published_on, outcome_of, slot_found, is_sure, with_vault, word_changed, is_old}
 use Rattle.lz_yard.specs.Steps.{IsDone, Played, Tells, nothing_told, value_of}
 use Rattle.lz_yard.specs.declared.told.Told.{Told}
 use Rattle.lz_yard.specs.Parts.{Known, Does}
@@ -33,7 +33,7 @@ bool_no_fault false x y p q = q
 
 -- what an event that is done answers is no fault
 pub no_fault : (y : Yard) (actor : Actor) (e : Event) → outcome_of y actor e ≢ Fault
-no_fault y actor (Invoke c) = λ h. cc
+no_fault y actor (Invoke c) = bool_no_fault (is_old y.vault.format c) OldFile Done (λ h. cc) (λ h. cc)
 no_fault y actor Pin = λ h. cc
 no_fault y actor (Hop word) = λ h. cc
 no_fault y actor Reserve = slot_no_fault (lowest_free (collect y.uses)) (collect y.uses)

@@ -20,6 +20,7 @@ const IDLE: Actor = Actor {
     hold: Hold::Nothing,
     pred: Place::Bucket(0),
     curr: None,
+    refused: false,
 };
 
 // The tables that stand beside the vault.

@@ -10,7 +10,7 @@ ghost use Rattle.lz_machine.specs.Table.{given_back, is_unused, kept_slot, set_a
 ghost use Rattle.lz_machine.specs.Ready.{IsReady};
 ghost use Rattle.lz_yard.specs.Parts.{Does, Fits, Known, with_actors, with_uses};
 
-use crate::hold::{is_unused, released};
+use crate::hold::{is_old, is_unused, released};
 use crate::parts::Parts;
 use lz_disk::Disk;
 use lz_flush::settle;
@@ -76,7 +76,14 @@ impl<D: Disk> Parts<D> {
         ensures done { Does self.old.yard actor (Event.Invoke command) result self.new.yard (D.device self.old.disk) (D.device self.new.disk) }
         ensures rest { (self.new.rows ≡ self.old.rows) × (self.new.told ≡ self.old.told) }
     {
-        Ok(Outcome::Done)
+        let refused = is_old(self.vault.format(), command);
+        let hand = self.actor(actor);
+        self.actors[actor - 1] = Actor { refused, ..hand };
+        if refused {
+            Ok(Outcome::OldFile)
+        } else {
+            Ok(Outcome::Done)
+        }
     }
 
     pub(crate) fn play_pin(&mut self, actor: usize) -> Result<Outcome, VaultFault>
