@@ -43,5 +43,6 @@ pub fn bad_text(bad: Bad) -> &'static str
         Bad::NoNumber => "bad 3\n",
         Bad::KeyTooLarge => "bad 4\n",
         Bad::NoEnd => "bad 5\n",
+        Bad::BadRoom => "bad 6\n",
     }
 }
