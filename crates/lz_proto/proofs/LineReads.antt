@@ -1,23 +1,21 @@
 -- What the tests of a line find is what the line is.
 use Rattle.std.proofs.Common.{◌≡◌, ℕ, zero, suc, ◌++◌, ◌-◌, ◌≤◌, ◌<◌, List, length, take, drop, get_or, decimal, codes, Result, Ok, Err, true, false, nat_eq, nat_lt, arith, refl, sym, ap, ◌∙◌}
 use Rattle.std.specs.List.{starts_with}
-use Rattle.std.specs.Cmp.Lexicographic.{pointwise, same_text}
+use Rattle.std.specs.Cmp.Lexicographic.{pointwise}
 use Rattle.std.proofs.lemmas.List.{take_rest}
 use Rattle.std.proofs.lemmas.Bool.{cond_both}
 use Rattle.std.proofs.lemmas.Slice.Eq.{starts_is}
+use Rattle.std.specs.Cmp.Lexicographic.{same_text}
 use Rattle.lz_proto.specs.declared.request.Request.{Request}
 use Rattle.lz_proto.specs.declared.request.Request.TheVariants.{Add, Remove, Has, Quit}
 use Rattle.lz_proto.specs.declared.fault.Bad.{Bad}
 use Rattle.std.proofs.lemmas.Bool.Decides.{nat_tests, Decides-eqb}
-use Rattle.std.proofs.lemmas.Fmt.{decimal-digits_value, digits_decimal, digits_value-decimal, length-decimal-le, decimal_nonempty, first_decimal, decimal_digit}
-use Rattle.std.proofs.lemmas.Str.Parse.{digits_value_short}
-use Rattle.lz_slot.specs.Limits.{largest_number as largest_key, largest_key}
-use Rattle.lz_proto.proofs.Digits.{tested}
-use Rattle.lz_proto.specs.Lines.{is_number, is_digit, request_text, NamesKey, fault_of_body, without_return, IsItem, item_of, bad_of, IsRequestText}
+use Rattle.lz_slot.specs.Limits.{largest_key}
 use Rattle.lz_slot.specs.Texts as texts
 use Rattle.lz_slot.specs.Texts.{key_fault, Spells}
 use Rattle.lz_slot.specs.declared.spelling.KeyFault.{KeyFault}
 use Rattle.lz_slot.proofs.Spellings.{keys_are_refused, read_spelled, spelled_read, spelled_short}
+use Rattle.lz_proto.specs.Lines.{bad_of, IsRequestText, fault_of_body, without_return, IsItem, item_of}
 use Rattle.lz_proto.specs.declared.item.Item.{Item}
 use Rattle.lz_proto.specs.declared.item.Item.TheVariants.{Asks, Faulty}
 use Rattle.lz_proto.specs.Reading.{key_read, key_told, request_read, with_key}

@@ -1,7 +1,7 @@
 -- What lines ask for. A text is a list of bytes.
-use Rattle.std.specs.Prelude.{◌≡◌, ◌≢◌, ℕ, ◌≤◌, Bool, false, not, ◌&&◌, ◌==◌, ◌-◌, take, nat_lt, nat_le, nat_eq, if◌then◌else◌, Result, Ok, Err, slice_index, List, [], ◌∷◌, ◌++◌, length, drop, codes, decimal}
-use Rattle.std.specs.List.{list_any, list_all, starts_with}
-use Rattle.lz_slot.specs.Limits.{largest_number as largest_key, largest_key}
+use Rattle.std.specs.Prelude.{◌≡◌, ◌≢◌, ℕ, ◌≤◌, Bool, false, ◌&&◌, ◌==◌, ◌-◌, take, nat_lt, nat_eq, if◌then◌else◌, Result, Ok, Err, slice_index, List, [], ◌∷◌, ◌++◌, length, drop, codes}
+use Rattle.std.specs.List.{list_any, starts_with}
+use Rattle.lz_slot.specs.Limits.{largest_key}
 use Rattle.lz_slot.specs.Texts.{key_fault, Spells}
 use Rattle.lz_slot.specs.declared.spelling.KeyFault.{KeyFault}
 use Rattle.lz_slot.specs.declared.spelling.KeyFault.TheVariants as key
