@@ -35,6 +35,7 @@ use Rattle.lz_core.proofs.Worlding.{Goes, leads, runs_on, shape_is, shown_at, sh
 use Rattle.std.proofs.lemmas.List.{length-map, get_or-set_same}
 use Rattle.lz_list.specs.Words.{Words}
 use Rattle.lz_machine.proofs.Frames.OneActor.{caller_range}
+use Rattle.lz_machine.proofs.Runs.CallerEvent.{Next, is_next, some_and}
 use Rattle.lz_yard.proofs.Keeping.{played_shape, fault_or_not}
 use Rattle.lz_core.proofs.Timing.{is_event, in_time, may_take, quiet_step}
 use Rattle.lz_machine.proofs.Theorem.Timeliness.{is_look, may_take_fault}
@@ -52,61 +53,12 @@ same_follows n m buckets passes c LoadsHalt o = search
 same_follows n m buckets passes c at Fault = refl
 same_follows n m buckets passes c _ _ = refl
 
--- the caller whose next event this is
-pub record Next (service : Service) (a : ℕ) (e : Event) : Type 0 where
-  pub caller : Caller
-  pub at : caller_at service.callers a ≡ Some caller
-  pub event : next_event service.yard caller ≡ e
-
 next_by : (service : Service) (a : ℕ) (o : Option Caller) (e : Event) → caller_at service.callers a ≡ o → next_of_caller service o ≡ Some e → Next service a e
 next_by service a None e at next = absurd (false≢true (ap is_some next))
 next_by service a (Some caller) e at next = record { caller = caller; at = at; event = ap (λ (o : Option Event). unwrap_or o Check) next }
 
 pub next_is : (service : Service) (disk : Medium) (a : ℕ) (e : Event) → next_of (Up service disk) a ≡ Some e → Next service a e
 next_is service disk a e next = next_by service a (caller_at service.callers a) e refl next
-
--- no next event is an Invoke
-abbrev is_invoke : Event → Bool
-is_invoke (Invoke c) = true
-is_invoke _ = false
-
-abbrev AreNot : List Event → Type 0
-AreNot [] = Unit {0}
-AreNot (e ∷ es) = (is_invoke e ≡ false) × AreNot es
-
-never_in : (es : List Event) (i : ℕ) → AreNot es → is_invoke (slice_index_or es i Check) ≡ false
-never_in [] i none = refl
-never_in (e ∷ es) zero none = none.0
-never_in (e ∷ es) (suc i) none = never_in es i none.1
-
-are_not : (c : Command) (script : Script) → AreNot (events_of c script)
-are_not c (Resting s reply) = (refl, (refl, tt))
-are_not c (Writing s) = (refl, (refl, tt))
-are_not c (Adding s) = (refl, (refl, (refl, (refl, (refl, tt)))))
-are_not c (Removing s) = (refl, (refl, (refl, (refl, (refl, (refl, (refl, tt)))))))
-are_not c _ = (refl, tt)
-
-not_loaded : (w : Words) (e : Event) → is_invoke e ≡ false → is_invoke (loaded w e) ≡ false
-not_loaded w (SeePin p value) not = refl
-not_loaded w e not = not
-
-never : (shape : Shape) (c : Command) (at : Progress) → is_invoke (event_at shape c at) ≡ false
-never shape c (Playing script i) = never_in (events_of c script) i (are_not c script)
-never shape c _ = refl
-
-as_next : (service : Service) (a : ℕ) (e : Event) → is_invoke e ≡ false → IsSomeAnd (caller_at service.callers a) (λ caller. next_event service.yard caller ≡ e) → IsNext service a e
-as_next service a (Invoke c) not some = absurd (false≢true (sym not))
-as_next service a e not some = some
-
-some_and : {X : Type 0} (o : Option X) (x : X) (P : X → Type 0) → o ≡ Some x → P x → IsSomeAnd o P
-some_and o x P at h = rw at h
-
-is_next : (service : Service) (a : ℕ) (e : Event) → Next service a e → IsNext service a e
-is_next service a e next =
-    as_next service a e
-    (subst (λ (q : Event). is_invoke q ≡ false) next.event
-    (not_loaded service.yard.words (event_at service.yard.shape next.caller.command next.caller.progress) (never service.yard.shape next.caller.command next.caller.progress)))
-    (some_and (caller_at service.callers a) next.caller (λ caller. next_event service.yard caller ≡ e) next.at next.event)
 
 -- a world with an open service, one of whose calls has this next event
 module _ (shape : Shape) (over : YardOver Past) (disk : Option Past) (callers : List (Option OpenCall)) (calls a : ℕ) (world : IsWorld shape (Some over) disk callers calls) (e : Event) (is : next_of (state_shown shape (Some over) disk callers) a ≡ Some e) where

@@ -5,16 +5,14 @@
 #![tactic(auto)]
 
 mod disks;
-mod kind;
 mod open_calls;
 mod play;
 mod reopening;
 mod shown;
 mod world;
 
-pub use kind::Kind;
 pub use lz_caller::Caller;
-pub use lz_machine::{Actor, Course, Event, Hold, Outcome, Progress, Reply, Script, laws};
+pub use lz_machine::{Actor, Course, Event, Hold, Kind, Outcome, Progress, Reply, Script, laws};
 pub use lz_yard::Yard;
 pub use play::Step;
 pub use world::{ACTORS, PlayFault, Turned, World};

@@ -6,3 +6,4 @@ pub mod Course
 pub mod SlotCount
 pub mod EventRange
 pub mod Twins
+pub mod CallerEvent

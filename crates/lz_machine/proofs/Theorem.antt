@@ -1,7 +1,11 @@
 pub mod Reached
 pub mod Marks
+pub mod MovedCall
 pub mod MovedLoad
 pub mod Timeliness
 pub mod Rows
 pub mod Readiness
 pub mod ShownChains
+pub mod FreedSlots
+pub mod OneAdd
+pub mod JoinedRuns

@@ -9,9 +9,11 @@ mod actor;
 mod caller;
 mod course;
 mod event;
+mod kind;
 pub mod laws;
 
 pub use actor::{Actor, Hold};
 pub use caller::{Progress, Script};
 pub use course::Course;
 pub use event::{Event, Outcome, Reply};
+pub use kind::Kind;

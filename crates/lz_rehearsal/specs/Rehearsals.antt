@@ -4,7 +4,7 @@ use Rattle.std.specs.Io.KnownBytes.{Appends}
 use Rattle.lz_slot.specs.declared.history.Mark.{Mark}
 use Rattle.lz_machine.specs.declared.event.Outcome.{Outcome}
 use Rattle.lz_machine.specs.declared.event.Outcome.TheVariants.{Busy}
-use Rattle.lz_core.specs.declared.kind.Kind.{Kind}
+use Rattle.lz_machine.specs.declared.kind.Kind.{Kind}
 use Rattle.lz_core.specs.declared.play.Step.{Step as PlayStep}
 use Rattle.lz_core.specs.declared.play.Step.TheVariants as step
 use Rattle.lz_machine.specs.Runs.{State}

@@ -9,8 +9,8 @@ use Rattle.lz_disk.specs.declared.memory.Pick.TheVariants.{Old, New, Byte}
 use Rattle.lz_proto.specs.declared.fault.Bad.{Bad}
 use Rattle.lz_proto.specs.Lines.{has_line_feed, line_feed}
 use Rattle.lz_proto.specs.Reading.{key_read}
-use Rattle.lz_core.specs.declared.kind.Kind.{Kind}
-use Rattle.lz_core.specs.declared.kind.Kind.TheVariants as kind
+use Rattle.lz_machine.specs.declared.kind.Kind.{Kind}
+use Rattle.lz_machine.specs.declared.kind.Kind.TheVariants as kind
 use Rattle.lz_rehearsal.specs.declared.line.Line.{Line}
 use Rattle.lz_rehearsal.specs.declared.line.Line.TheVariants.{Call, Turn, Until, Finish, Trip, Stop, Crash, Open, Show}
 
