@@ -8,3 +8,4 @@ pub mod EventRange
 pub mod Twins
 pub mod OpenCall
 pub mod ReachedPoint
+pub mod CallerEvent

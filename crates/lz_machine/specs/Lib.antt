@@ -17,3 +17,9 @@ pub mod Lasts
 pub mod Ready
 pub mod Sound
 pub mod Alone
+pub mod NextEvents
+pub mod Kinds
+pub mod FreedSlots
+pub mod OneAdd
+pub mod OpenFailures
+pub mod JoinedRuns
