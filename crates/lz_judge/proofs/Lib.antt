@@ -1,7 +1,7 @@
 pub mod Slots
 pub mod Files
 pub mod Passing
-pub mod Laws
+pub mod LawfulRuns
 pub mod Floors
 pub mod Lives
 pub mod Orders
@@ -12,3 +12,5 @@ pub mod Pasts
 pub mod Wrongs
 pub mod LineWords
 pub mod TextLines
+pub mod MarkLines
+pub mod Rows
