@@ -1,430 +1,352 @@
-//! Two actors on one key, with one of them cut off after each count of its turns; and plays that end early.
-use lz_core::{Outcome, PlayFault, Step, World};
-use lz_disk::Pick;
-use lz_rehearsal::write_marks;
-use lz_slot::{Command, Key, Mark};
+//! Commands on one key that are cut off after each count of their turns: by a crash, and by another actor's command.
+//!
+//! The rehearsals are written out for each count of turns. What they have to print is what a plain set of one key answers.
+use crate::rehearsal::rehearse_all;
 use std::alloc::{AllocError, Global};
-use std::process::Abort;
 use std::test::Fail;
 
-const PICKS: [Pick; 3] = [Pick::Old, Pick::New, Pick::Byte(0xa5)];
+// What a crash picks for a loose gate: the byte that is sure, the one that is read, an open gate, or a closed one.
+const PICKS: [&str; 4] = ["old", "new", "a5", "37"];
 
-// Each of the first actor's calls, alone, has so many turns.
-const TURNS: u32 = 15;
+// Each of these commands, alone, has so many turns.
+const TURNS: usize = 15;
 
-// No call has more turns, also where it has to begin anew.
-const MOST_TURNS: u32 = 200;
-
-// How an actor's turns ended.
-#[derive(Clone, Copy, Debug, PartialEq, Eq)]
-enum Stand {
-    Answered(bool),
-    // It found a lock taken.
-    Busy,
-    // It took all its turns, and its call is open.
-    Open,
-    // Something else came than these.
-    Odd,
+// A command that changes the set of nine alone, or the empty one.
+#[derive(Clone, Copy)]
+struct Change {
+    verb: &'static str,
+    // Whether nine is a member before it.
+    is_held: bool,
+    turns: [&'static str; TURNS],
+    // The turn with which it writes its gate; its last sync makes that sure.
+    gate: &'static str,
 }
 
-fn nine(rt: &impl Abort) -> Key {
-    Key::new(9).expect(rt, "a key")
-}
+const ADDITION: Change = Change {
+    verb: "add",
+    is_held: false,
+    turns: [
+        "Pin",
+        "Hop",
+        "Hop",
+        "Reserve",
+        "WriteKey",
+        "Sync",
+        "Hop",
+        "Claim",
+        "Check",
+        "WriteOpen",
+        "Link",
+        "Release",
+        "Sync",
+        "Settle",
+        "Answer",
+    ],
+    gate: "WriteOpen",
+};
 
-fn add(rt: &impl Abort) -> Command {
-    Command::Add(nine(rt))
-}
+const REMOVAL: Change = Change {
+    verb: "remove",
+    is_held: true,
+    turns: [
+        "Pin",
+        "Hop",
+        "Hop",
+        "Hop",
+        "Hop",
+        "Claim",
+        "Check",
+        "WriteClose",
+        "Mark",
+        "Sync",
+        "Settle",
+        "Unlink",
+        "Release",
+        "Retire",
+        "Answer",
+    ],
+    gate: "WriteClose",
+};
 
-fn remove(rt: &impl Abort) -> Command {
-    Command::Remove(nine(rt))
-}
-
-fn has(rt: &impl Abort) -> Command {
-    Command::Has(nine(rt))
-}
-
-// Makes a call, and tells whether that was lawful.
-fn call(world: &mut World, alloc: Global, actor: usize, command: Command) -> bool {
-    world.play(alloc, &[Step::Call(actor, command)]).is_ok()
-}
-
-fn stand_of(mark: &Mark) -> Stand {
-    match mark {
-        Mark::Answer(_, answer) => Stand::Answered(*answer),
-        _ => Stand::Odd,
-    }
-}
-
-// Takes turns of an actor, at most so many, up to its call's end or a lock that is taken.
-fn take_turns(world: &mut World, actor: usize, most: u32) -> Stand {
-    for _ in 0..most {
-        let Ok(turned) = world.turn(actor) else {
-            return Stand::Odd;
-        };
-        if let Some(mark) = &turned.mark {
-            return stand_of(mark);
+// After how many turns the first one of this kind was taken.
+fn first_turn(change: Change, kind: &str) -> usize {
+    let mut before = 0usize;
+    for turn in change.turns {
+        if turn == kind {
+            break;
         }
-        if turned.outcome == Outcome::Busy {
-            return Stand::Busy;
+        before = before.wrapping_add(1);
+    }
+    before.wrapping_add(1)
+}
+
+// After how many turns the last one of this kind was taken.
+fn last_turn(change: Change, kind: &str) -> usize {
+    let mut last = 0usize;
+    for (before, turn) in change.turns.iter().enumerate() {
+        if *turn == kind {
+            last = before.wrapping_add(1);
         }
     }
-    Stand::Open
+    last
 }
 
-// Takes the turns that are left, where the call is open.
-fn finish(world: &mut World, actor: usize, stand: Stand) -> Stand {
-    match stand {
-        Stand::Busy | Stand::Open => take_turns(world, actor, MOST_TURNS),
-        ended => ended,
+// What a plain set answers, that has nine or doesn't, and whether it has nine then.
+fn ask(verb: &str, is_member: bool) -> (&'static str, bool) {
+    match (verb, is_member) {
+        ("add", false) => ("yes", true),
+        ("remove", true) => ("yes", false),
+        ("has", true) => ("yes", true),
+        (_, is_member) => ("no", is_member),
     }
 }
 
-// A set of nine alone, or an empty one.
-fn world_with(rt: &impl Abort, alloc: Global, is_member: bool) -> Result<World, Fail> {
-    let mut world = World::new(alloc, 2, 1)?;
-    if is_member {
-        assert!(rt; call(&mut world, alloc, 1, add(rt)));
-        assert_eq!(rt;
-            take_turns(&mut world, 1, MOST_TURNS),
-            Stand::Answered(true)
-        );
+// What a crash leaves of nine after so many turns of a change, before which it was a member or not. Before the gate is
+// written the change isn't done, from its sync on it is, and between the two the crash picks.
+fn left(change: Change, is_member: bool, turns: usize, pick: &str) -> bool {
+    let (_, after) = ask(change.verb, is_member);
+    if turns < first_turn(change, change.gate) {
+        return is_member;
     }
-    Ok(world)
-}
-
-// The first actor takes so many turns of its call, and then the second takes those of its own.
-fn cut_off(
-    world: &mut World,
-    alloc: Global,
-    first: Command,
-    second: Command,
-    turns: u32,
-) -> (Stand, Stand) {
-    if !call(world, alloc, 1, first) {
-        return (Stand::Odd, Stand::Odd);
+    if turns >= last_turn(change, "Sync") {
+        return after;
     }
-    let first = take_turns(world, 1, turns);
-    if !call(world, alloc, 2, second) {
-        return (first, Stand::Odd);
-    }
-    (first, take_turns(world, 2, MOST_TURNS))
-}
-
-// Then the first finishes, and then the second.
-fn interleave(
-    world: &mut World,
-    alloc: Global,
-    first: Command,
-    second: Command,
-    turns: u32,
-) -> (Stand, Stand) {
-    let (first, second) = cut_off(world, alloc, first, second, turns);
-    let first = finish(world, 1, first);
-    (first, finish(world, 2, second))
-}
-
-// Whether these keys are nine alone, or none.
-fn are(rt: &impl Abort, keys: &[Key], is_member: bool) -> bool {
-    match keys {
-        [] => !is_member,
-        [key] => is_member && *key == nine(rt),
-        _ => false,
+    match pick {
+        "old" => is_member,
+        "new" => after,
+        pick => pick == "a5",
     }
 }
 
-fn shows(
-    rt: &impl Abort,
-    alloc: Global,
-    world: &World,
+// The number of the change's call: the set of nine was made by one before it.
+fn number_of(change: Change) -> u64 {
+    if change.is_held { 2 } else { 1 }
+}
+
+// The head of a rehearsal, the lines that make the set, and so many turns of the change, which has this answer.
+fn write_turns(
+    text: &mut String,
+    change: Change,
+    turns: usize,
+    answer: &str,
+    name: &str,
+) -> Result<(), AllocError> {
+    let (verb, number) = (change.verb, number_of(change));
+    write!(
+        text,
+        "== slots 2, buckets 1: {name}, after {turns} turns of {verb}\n"
+    )?;
+    if change.is_held {
+        write!(
+            text,
+            "> call 64 add 9\ncall 1 64 add 9\n> finish 64\nanswer 1 yes\n"
+        )?;
+    }
+    write!(text, "> call 1 {verb} 9\ncall {number} 1 {verb} 9\n")?;
+    if turns > 0 {
+        write!(text, "> turn 1 {turns}\n")?;
+    }
+    if turns == TURNS {
+        write!(text, "answer {number} {answer}\n")?;
+    }
+    Ok(())
+}
+
+// A crash that picks so, and what is found behind it.
+fn write_crash(text: &mut String, pick: &str, is_member: bool) -> Result<(), AllocError> {
+    let found = if is_member { " 9" } else { "" };
+    write!(
+        text,
+        "> crash {pick}\ncrash\n> open\nopen{found}\n> show\nshow{found}\n"
+    )
+}
+
+#[test]
+fn a_crash_after_each_turn(rt: HostRuntime) -> Result<(), Fail> {
+    let mut text = String::new(rt.alloc());
+    for change in [ADDITION, REMOVAL] {
+        for pick in PICKS {
+            for turns in 0..TURNS + 1 {
+                write_turns(&mut text, change, turns, "yes", pick)?;
+                write_crash(&mut text, pick, left(change, change.is_held, turns, pick))?;
+            }
+        }
+    }
+    rehearse_all(&rt, rt.alloc(), text.as_str())
+}
+
+// A change by actor 1, and a command of actor 2 that is called after some of its turns. The command comes first on the plain
+// set up to the turn `after`, and behind the change from there on; up to the turn `until` it waits for a lock.
+#[derive(Clone, Copy)]
+struct Meeting {
+    change: Change,
+    verb: &'static str,
+    after: &'static str,
+    until: &'static str,
+}
+
+const MEETINGS: [Meeting; 6] = [
+    Meeting {
+        change: ADDITION,
+        verb: "add",
+        after: "Claim",
+        until: "Link",
+    },
+    Meeting {
+        change: ADDITION,
+        verb: "remove",
+        after: "Link",
+        until: "Release",
+    },
+    Meeting {
+        change: ADDITION,
+        verb: "has",
+        after: "Link",
+        until: "Link",
+    },
+    Meeting {
+        change: REMOVAL,
+        verb: "remove",
+        after: "Claim",
+        until: "Mark",
+    },
+    Meeting {
+        change: REMOVAL,
+        verb: "add",
+        after: "Mark",
+        until: "Release",
+    },
+    Meeting {
+        change: REMOVAL,
+        verb: "has",
+        after: "Mark",
+        until: "Mark",
+    },
+];
+
+// Where the command is called after so many turns of the change.
+#[derive(Clone, Copy)]
+struct Met {
+    meeting: Meeting,
+    turns: usize,
+    waits: bool,
+    // What the change and the command answer.
+    first: &'static str,
+    second: &'static str,
+    // Whether nine is a member once both have answered, and once the command alone has, where it comes first.
     is_member: bool,
-) -> Result<bool, AllocError> {
-    let members = world.members(alloc)?;
-    Ok(are(rt, members.as_slice(), is_member))
+    is_first: Option<bool>,
 }
 
-// Whether an open after this crash finds nine alone, or nothing.
-fn finds(rt: &impl Abort, alloc: Global, world: &mut World, pick: Pick, is_member: bool) -> bool {
-    let Ok(marks) = world.play(alloc, &[Step::Crash(pick), Step::Open]) else {
-        return false;
-    };
-    match marks.as_slice() {
-        [Mark::Crash, Mark::Opened(found)] => are(rt, found.keys(), is_member),
-        _ => false,
-    }
-}
-
-// Whether members, and what a crash leaves, are as the answers make them.
-fn keeps(
-    rt: &impl Abort,
-    alloc: Global,
-    world: &mut World,
-    pick: Pick,
-    is_member: bool,
-) -> Result<bool, AllocError> {
-    Ok(shows(rt, alloc, world, is_member)? && finds(rt, alloc, world, pick, is_member))
-}
-
-const YES: Stand = Stand::Answered(true);
-
-const NO: Stand = Stand::Answered(false);
-
-// How the second of two actors stands that ask the same, where the first claims its locks with the turn `claims`, and its
-// change comes in sight with the turn `shows`.
-fn beside(turns: u32, claims: u32, shows: u32) -> Stand {
-    if turns < claims {
-        YES
-    } else if turns < shows {
-        Stand::Busy
+fn meet(meeting: Meeting, turns: usize) -> Met {
+    let change = meeting.change;
+    let comes_first = turns < first_turn(change, meeting.after);
+    let (first, second, is_member, is_first) = if comes_first {
+        let (second, between) = ask(meeting.verb, change.is_held);
+        let (first, is_member) = ask(change.verb, between);
+        (first, second, is_member, Some(between))
     } else {
-        NO
-    }
-}
-
-// Exactly one of two additions changes the set.
-#[test]
-fn two_additions(rt: HostRuntime) -> Result<(), Fail> {
-    for pick in PICKS {
-        for turns in 0..TURNS + 1 {
-            let mut world = world_with(&rt, rt.alloc(), false)?;
-            let answers = interleave(&mut world, rt.alloc(), add(&rt), add(&rt), turns);
-            assert!(rt;
-                answers == (YES, NO) || answers == (NO, YES),
-                "after {turns} turns"
-            );
-            assert!(rt;
-                keeps(&rt, rt.alloc(), &mut world, pick, true)?,
-                "after {turns} turns"
-            );
-        }
-    }
-    Ok(())
-}
-
-// Exactly one of two removals changes the set.
-#[test]
-fn two_removals(rt: HostRuntime) -> Result<(), Fail> {
-    for pick in PICKS {
-        for turns in 0..TURNS + 1 {
-            let mut world = world_with(&rt, rt.alloc(), true)?;
-            let answers = interleave(&mut world, rt.alloc(), remove(&rt), remove(&rt), turns);
-            assert!(rt;
-                answers == (YES, NO) || answers == (NO, YES),
-                "after {turns} turns"
-            );
-            assert!(rt;
-                keeps(&rt, rt.alloc(), &mut world, pick, false)?,
-                "after {turns} turns"
-            );
-        }
-    }
-    Ok(())
-}
-
-// The addition changes the empty set, and the removal where it finds the key linked: from the eleventh turn on.
-#[test]
-fn an_addition_and_a_removal(rt: HostRuntime) -> Result<(), Fail> {
-    for pick in PICKS {
-        for turns in 0..TURNS + 1 {
-            let is_removed = turns >= 11;
-            let mut world = world_with(&rt, rt.alloc(), false)?;
-            let answers = interleave(&mut world, rt.alloc(), add(&rt), remove(&rt), turns);
-            assert_eq!(rt;
-                answers,
-                (YES, Stand::Answered(is_removed)),
-                "after {turns} turns"
-            );
-            assert!(rt;
-                keeps(&rt, rt.alloc(), &mut world, pick, !is_removed)?,
-                "after {turns} turns"
-            );
-        }
-    }
-    Ok(())
-}
-
-// The removal changes the set of that key, and the addition where it finds the key marked: from the ninth turn on.
-#[test]
-fn a_removal_and_an_addition(rt: HostRuntime) -> Result<(), Fail> {
-    for pick in PICKS {
-        for turns in 0..TURNS + 1 {
-            let is_added = turns >= 9;
-            let mut world = world_with(&rt, rt.alloc(), true)?;
-            let answers = interleave(&mut world, rt.alloc(), remove(&rt), add(&rt), turns);
-            assert_eq!(rt;
-                answers,
-                (YES, Stand::Answered(is_added)),
-                "after {turns} turns"
-            );
-            assert!(rt;
-                keeps(&rt, rt.alloc(), &mut world, pick, is_added)?,
-                "after {turns} turns"
-            );
-        }
-    }
-    Ok(())
-}
-
-// The first of two actors that ask the same never goes on. The second waits for its locks until the change is in sight, and
-// otherwise answers; what it answered, a no as well as a yes, is kept by each crash.
-#[test]
-fn an_answered_addition_stays_where_another_never_ends(rt: HostRuntime) -> Result<(), Fail> {
-    for pick in PICKS {
-        for turns in 0..TURNS + 1 {
-            let mut world = world_with(&rt, rt.alloc(), false)?;
-            let (first, second) = cut_off(&mut world, rt.alloc(), add(&rt), add(&rt), turns);
-            assert_eq!(rt; first == YES, turns == TURNS, "after {turns} turns");
-            assert_eq!(rt; second, beside(turns, 8, 11), "after {turns} turns");
-            assert!(rt;
-                second == Stand::Busy || finds(&rt, rt.alloc(), &mut world, pick, true),
-                "after {turns} turns"
-            );
-        }
-    }
-    Ok(())
-}
-
-#[test]
-fn an_answered_removal_stays_where_another_never_ends(rt: HostRuntime) -> Result<(), Fail> {
-    for pick in PICKS {
-        for turns in 0..TURNS + 1 {
-            let mut world = world_with(&rt, rt.alloc(), true)?;
-            let (first, second) = cut_off(&mut world, rt.alloc(), remove(&rt), remove(&rt), turns);
-            assert_eq!(rt; first == YES, turns == TURNS, "after {turns} turns");
-            assert_eq!(rt; second, beside(turns, 6, 9), "after {turns} turns");
-            assert!(rt;
-                second == Stand::Busy || finds(&rt, rt.alloc(), &mut world, pick, false),
-                "after {turns} turns"
-            );
-        }
-    }
-    Ok(())
-}
-
-// The second actor removes what the first has linked and never answers: the addition was released with its twelfth turn.
-#[test]
-fn a_removal_of_an_addition_under_way_stays(rt: HostRuntime) -> Result<(), Fail> {
-    for pick in PICKS {
-        for turns in 12..TURNS + 1 {
-            let mut world = world_with(&rt, rt.alloc(), false)?;
-            let (_first, second) = cut_off(&mut world, rt.alloc(), add(&rt), remove(&rt), turns);
-            assert_eq!(rt; second, YES, "after {turns} turns");
-            assert!(rt;
-                finds(&rt, rt.alloc(), &mut world, pick, false),
-                "after {turns} turns"
-            );
-        }
-    }
-    Ok(())
-}
-
-// The second actor adds what the first has unlinked and never answers: the removal was released with its thirteenth turn.
-#[test]
-fn an_addition_after_a_removal_under_way_stays(rt: HostRuntime) -> Result<(), Fail> {
-    for pick in PICKS {
-        for turns in 13..TURNS + 1 {
-            let mut world = world_with(&rt, rt.alloc(), true)?;
-            let (_first, second) = cut_off(&mut world, rt.alloc(), remove(&rt), add(&rt), turns);
-            assert_eq!(rt; second, YES, "after {turns} turns");
-            assert!(rt;
-                finds(&rt, rt.alloc(), &mut world, pick, true),
-                "after {turns} turns"
-            );
-        }
-    }
-    Ok(())
-}
-
-// Whether a play ends at the step with this number, which isn't lawful.
-fn ends_at(world: &mut World, alloc: Global, steps: &[Step], number: usize) -> bool {
-    match world.play(alloc, steps) {
-        Err(PlayFault::NotNow(step)) => step == number,
-        _ => false,
-    }
-}
-
-#[test]
-fn a_play_whose_first_step_is_not_lawful(rt: HostRuntime) -> Result<(), Fail> {
-    let mut world = world_with(&rt, rt.alloc(), true)?;
-    for step in [
-        Step::Turn(0),
-        Step::Turn(1),
-        Step::Turn(64),
-        Step::Turn(65),
-        Step::Call(0, add(&rt)),
-        Step::Call(65, add(&rt)),
-        Step::Open,
-    ] {
-        let steps = [step, Step::Stop];
-        assert!(rt; ends_at(&mut world, rt.alloc(), &steps, 1));
-        assert!(rt; world.is_open());
-        assert!(rt; shows(&rt, rt.alloc(), &world, true)?);
-    }
-    assert!(rt; matches!(world.turn(1), Err(PlayFault::NotNow(1))));
-    Ok(())
-}
-
-// The steps before it are played, those with a mark and those without one.
-#[test]
-fn a_play_of_which_a_later_step_is_not_lawful(rt: HostRuntime) -> Result<(), Fail> {
-    let mut world = world_with(&rt, rt.alloc(), false)?;
-    let twice = [
-        Step::Call(1, add(&rt)),
-        Step::Turn(1),
-        Step::Call(1, add(&rt)),
-    ];
-    assert!(rt; ends_at(&mut world, rt.alloc(), &twice, 3));
-    assert_eq!(rt; take_turns(&mut world, 1, MOST_TURNS), YES);
-    assert!(rt; shows(&rt, rt.alloc(), &world, true)?);
-    let stopped = [
-        Step::Trip,
-        Step::Stop,
-        Step::Trip,
-        Step::Crash(Pick::Old),
-        Step::Turn(1),
-    ];
-    assert!(rt; ends_at(&mut world, rt.alloc(), &stopped, 5));
-    assert!(rt; !world.is_open());
-    assert!(rt; shows(&rt, rt.alloc(), &world, false)?);
-    let opened = [Step::Open, Step::Open, Step::Stop];
-    assert!(rt; ends_at(&mut world, rt.alloc(), &opened, 2));
-    assert!(rt; world.is_open());
-    assert!(rt; shows(&rt, rt.alloc(), &world, true)?);
-    Ok(())
-}
-
-// Whether a play takes all its steps, and its marks have this text.
-fn tells(world: &mut World, alloc: Global, steps: &[Step], told: &[u8]) -> bool {
-    let Ok(marks) = world.play(alloc, steps) else {
-        return false;
+        let (first, between) = ask(change.verb, change.is_held);
+        let (second, is_member) = ask(meeting.verb, between);
+        (first, second, is_member, None)
     };
-    let mut output: Vec<u8> = Vec::new(alloc);
-    write_marks(&mut output, marks.as_slice()).is_ok() && output.as_slice() == told
+    Met {
+        meeting,
+        turns,
+        waits: !comes_first && turns < first_turn(change, meeting.until),
+        first,
+        second,
+        is_member,
+        is_first,
+    }
 }
 
-// Two look-ups in the empty set, of four turns each.
+// The turns of the change, and then those of the command up to its answer, or to the lock that is taken.
+fn write_meeting(text: &mut String, met: Met, pick: &str) -> Result<(), AllocError> {
+    write_turns(text, met.meeting.change, met.turns, met.first, pick)?;
+    let verb = met.meeting.verb;
+    let number = number_of(met.meeting.change).wrapping_add(1);
+    write!(
+        text,
+        "> call 2 {verb} 9\ncall {number} 2 {verb} 9\n> finish 2\n"
+    )?;
+    if met.waits {
+        write!(text, "busy 2\n")
+    } else {
+        write!(text, "answer {number} {}\n", met.second)
+    }
+}
+
+// The turns that are left, the change's first.
+fn write_ends(text: &mut String, met: Met) -> Result<(), AllocError> {
+    let number = number_of(met.meeting.change);
+    if met.turns < TURNS {
+        write!(text, "> finish 1\nanswer {number} {}\n", met.first)?;
+    }
+    if met.waits {
+        let number = number.wrapping_add(1);
+        write!(text, "> finish 2\nanswer {number} {}\n", met.second)?;
+    }
+    let shown = if met.is_member { " 9" } else { "" };
+    write!(text, "> show\nshow{shown}\n")
+}
+
+// Two commands answer as a plain set does, one after the other, and each crash keeps what they answered.
 #[test]
-fn a_play_tells_its_marks_in_order(rt: HostRuntime) -> Result<(), Fail> {
-    let mut world = world_with(&rt, rt.alloc(), false)?;
-    let steps = [
-        Step::Call(1, has(&rt)),
-        Step::Turn(1),
-        Step::Call(64, has(&rt)),
-        Step::Turn(64),
-        Step::Turn(64),
-        Step::Turn(64),
-        Step::Turn(64),
-        Step::Turn(1),
-        Step::Turn(1),
-        Step::Turn(1),
-        Step::Stop,
-        Step::Trip,
-        Step::Open,
-        Step::Open,
-        Step::Call(2, has(&rt)),
-        Step::Crash(Pick::New),
-    ];
-    let told: &[u8] =
-        b"call 1 1 has 9\ncall 2 64 has 9\nanswer 2 no\nanswer 1 no\nstop\nopen fault 7\nopen\ncall 3 2 has 9\ncrash\n";
-    assert!(rt; tells(&mut world, rt.alloc(), &steps, told));
-    Ok(())
+fn two_commands_that_both_end(rt: HostRuntime) -> Result<(), Fail> {
+    let mut text = String::new(rt.alloc());
+    for meeting in MEETINGS {
+        for pick in PICKS {
+            for turns in 0..TURNS + 1 {
+                let met = meet(meeting, turns);
+                write_meeting(&mut text, met, pick)?;
+                write_ends(&mut text, met)?;
+                write_crash(&mut text, pick, met.is_member)?;
+            }
+        }
+    }
+    rehearse_all(&rt, rt.alloc(), text.as_str())
+}
+
+// The change never goes on. What the command answered, a no as well as a yes, is kept by each crash.
+#[test]
+fn a_command_beside_one_that_never_ends(rt: HostRuntime) -> Result<(), Fail> {
+    let mut text = String::new(rt.alloc());
+    for meeting in MEETINGS {
+        for pick in PICKS {
+            for turns in 0..TURNS + 1 {
+                let met = meet(meeting, turns);
+                write_meeting(&mut text, met, pick)?;
+                if !met.waits {
+                    let is_found = match met.is_first {
+                        Some(between) => left(meeting.change, between, turns, pick),
+                        None => met.is_member,
+                    };
+                    write_crash(&mut text, pick, is_found)?;
+                }
+            }
+        }
+    }
+    rehearse_all(&rt, rt.alloc(), text.as_str())
+}
+
+// Where the first turn of a kind was awaited, so many turns end the call, and fewer don't.
+#[test]
+fn turns_up_to_each_kind(rt: HostRuntime) -> Result<(), Fail> {
+    let mut text = String::new(rt.alloc());
+    for change in [ADDITION, REMOVAL] {
+        for kind in change.turns {
+            let left = TURNS.wrapping_sub(first_turn(change, kind));
+            write_turns(&mut text, change, 0, "", kind)?;
+            write!(text, "> until 1 {kind}\n")?;
+            if left > 1 {
+                write!(text, "> turn 1 {}\n", left.wrapping_sub(1))?;
+            }
+            if left > 0 {
+                write!(text, "> turn 1 1\n")?;
+            }
+            write!(text, "answer {} yes\n", number_of(change))?;
+        }
+    }
+    rehearse_all(&rt, rt.alloc(), text.as_str())
 }
