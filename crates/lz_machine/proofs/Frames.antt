@@ -6,6 +6,7 @@ pub mod Hand
 pub mod HeldLocks
 pub mod Publishing
 pub mod Cells
+pub mod FittingKeys
 pub mod OtherLink
 pub mod OtherUnlink
 pub mod OtherSettling

@@ -3,7 +3,7 @@ use Rattle.std.specs.Prelude.{◌≡◌, ◌⊎◌, ℕ, ◌<◌, Bool, true, fa
 use Rattle.std.specs.List.{IsDistinct}
 use Rattle.lz_slot.specs.declared.command.Command.{Command}
 use Rattle.lz_slot.specs.declared.command.Command.TheVariants.{Add}
-use Rattle.lz_slot.specs.declared.history.Refusal.TheVariants.{Full, Worn}
+use Rattle.lz_slot.specs.declared.history.Refusal.TheVariants.{Full, Worn, OldFile}
 use Rattle.lz_slot.specs.declared.history.Mark.TheVariants.{Call, Answer, Refused, Cut}
 use Rattle.lz_slot.specs.Sets.{Keys, Same, members, key_of, after, reply}
 use Rattle.lz_slot.specs.Bytes.{Holds}
@@ -35,14 +35,15 @@ has_cut (Cut i why ∷ M) = true
 has_cut (m ∷ M) = has_cut M
 
 -- The calls of one life, made one after the other, lead a plain set from S to T. An answer is that of the set, and a refused
--- call changes nothing. Once a call was cut off, each later one is cut off or worn; of the calls without an answer the first
--- one may be done, and no other.
+-- call changes nothing. Once a call was cut off, each later one is cut off, worn, or one that the file's format
+-- can't serve; of the calls without an answer the first one may be done, and no other.
 abbrev pub IsPlain : Keys → History → Keys → Type 0
 IsPlain S [] T = Same S T
 IsPlain S (Answer i answer ∷ Call j a c ∷ M) T =
     (i ≡ j) × (has_cut M ≡ false) × ((U : Keys) × IsPlain S M U × (reply c (U (key_of c)) ≡ answer) × Same (after c U) T)
 IsPlain S (Refused i Full ∷ Call j a c ∷ M) T = (i ≡ j) × (has_cut M ≡ false) × IsPlain S M T
 IsPlain S (Refused i Worn ∷ Call j a c ∷ M) T = (i ≡ j) × IsPlain S M T
+IsPlain S (Refused i OldFile ∷ Call j a c ∷ M) T = (i ≡ j) × IsPlain S M T
 IsPlain S (Cut i why ∷ Call j a c ∷ M) T = (i ≡ j) × IsPlain S (Call j a c ∷ M) T
 IsPlain S (Call j a c ∷ M) T = IsPlain S M T ⊎ ((has_cut M ≡ false) × ((U : Keys) × IsPlain S M U × Same (after c U) T))
 IsPlain S _ T = ⊥

@@ -1,6 +1,7 @@
 -- Runs of the machine: callers' steps, device failures, stops, crashes and opens. Steps, marks and traces stand newest first.
 use Rattle.std.specs.Prelude.{◌≡◌, ◌≢◌, ◌⊎◌, ℕ, suc, ◌+◌, ◌*◌, ◌≤◌, Bool, true, false, List, [], ◌∷◌, ◌++◌, map, replicate, Option, Some, None, IsTrue, IsNone, IsSomeAnd}
 use Rattle.lz_slot.specs.declared.command.Command.{Command}
+use Rattle.lz_slot.specs.declared.format.Format.{Format}
 use Rattle.lz_slot.specs.declared.history.Refusal.TheVariants.{Full as refused_full, Worn as refused_worn}
 use Rattle.lz_slot.specs.declared.history.Cut.TheVariants.{Halted as cut_halted, Device as cut_device}
 use Rattle.lz_slot.specs.declared.history.Mark.{Mark}
@@ -25,7 +26,7 @@ use Rattle.lz_machine.specs.declared.event.Outcome.TheVariants.{NotNow}
 use Rattle.lz_machine.specs.declared.event.Reply.{Reply}
 use Rattle.lz_machine.specs.declared.event.Reply.TheVariants.{Yes, No, Full, Worn, Halted, Device}
 use Rattle.lz_machine.specs.Yards.{Shape, Yard, opened_yard, first_trace}
-use Rattle.lz_machine.specs.Table.{line, line_failed, line_call, line_publishes, pin_of, last_pin}
+use Rattle.lz_machine.specs.Table.{line, line_failed, line_call, line_publishes, pin_of, last_pin, is_old}
 use Rattle.lz_machine.specs.declared.caller.Progress.{Progress}
 use Rattle.lz_machine.specs.declared.caller.Progress.TheVariants.{Answering}
 use Rattle.lz_machine.specs.Calls.{first_progress, event_at, progress_after, loaded}
@@ -148,7 +149,7 @@ abbrev pub keys_found : List ℕ → ℕ → List ℕ
 keys_found t N = map (λ f. f.0) (by_key (held t N))
 
 -- A step may be taken in a state. An open succeeds where what it reads holds a set, and a call begins where the
--- actor's pin word is even, so that no look is half done; its key is one of the format.
+-- actor's pin word is even, so that no look is half done; its key is one that the file can hold, where it adds it.
 abbrev pub HasTurn : Service → ℕ → Option Caller → Type 0
 HasTurn service a None = ⊥
 HasTurn service a (Some caller) = (line service.yard a (next_event service.yard caller)).1 ≢ NotNow
@@ -167,9 +168,13 @@ LeftInside service disk a (Some caller) t =
 abbrev pub IsActor : Service → ℕ → Type 0
 IsActor service a = (1 ≤ a) × (a ≤ service.yard.shape.passes)
 
+-- the command's key is a key, and one that a file of this format can hold where it adds it
+abbrev pub FitsFile : Format → Command → Type 0
+FitsFile format c = (key_of c ≤ largest_key) × (is_old format c ≡ false)
+
 abbrev pub MayStep : State → Step → Type 0
 MayStep (Up service disk) (Calls a c) =
-    IsActor service a × IsNone (caller_at service.callers a) × IsTrue (is_outside (pin_of service.yard a)) × (key_of c ≤ largest_key)
+    IsActor service a × IsNone (caller_at service.callers a) × IsTrue (is_outside (pin_of service.yard a)) × FitsFile service.yard.vault.format c
 MayStep (Up service disk) (Turn a) = HasTurn service a (caller_at service.callers a)
 MayStep (Up service disk) (Fails a new) = HasFault service disk a (caller_at service.callers a) new
 MayStep (Up service disk) (Looks a) = IsActor service a × IsNone (caller_at service.callers a) × (pin_of service.yard a ≢ last_pin)
@@ -281,9 +286,9 @@ first_point s =
       calls = 0;
     }
 
--- a freshly made file
-abbrev pub made_text : ℕ → List ℕ
-made_text N = (open_byte ∷ header_body N) ++ replicate (16 * N) 0
+-- a freshly made file of a format
+abbrev pub made_text : Format → ℕ → List ℕ
+made_text F N = (open_byte ∷ header_body F N) ++ replicate (16 * N) 0
 
 -- The state w comes from the start by a list of steps, with marks M and the trace P.
 pub record Reached (start : Start) (w : State) (M : History) (P : Trace) : Type 0 where

@@ -1,5 +1,9 @@
 -- The table of the nineteen events: what each needs, which device call it makes, what it changes and what it answers.
-use Rattle.std.specs.Prelude.{ℕ, ◌+◌, ◌*◌, ◌^◌, Bool, true, false, not, ◌&&◌, ◌||◌, ◌==◌, if◌then◌else◌, List, [], ◌∷◌, map, slice_set, Option, Some, None, is_some, unwrap_or}
+use Rattle.std.specs.Prelude.{ℕ, ◌+◌, ◌*◌, ◌^◌, Bool, true, false, not, ◌&&◌, ◌||◌, ◌==◌, if◌then◌else◌, List, [], ◌∷◌, map, slice_set, Option, Some, None, is_some, nat_lt, unwrap_or}
+use Rattle.lz_slot.specs.declared.command.Command.{Command}
+use Rattle.lz_slot.specs.declared.command.Command.TheVariants.{Add}
+use Rattle.lz_slot.specs.declared.format.Format.{Format}
+use Rattle.lz_slot.specs.Rooms.{largest_of}
 use Rattle.lz_slot.specs.Bytes.{open_byte, closed_byte, slot_body}
 use Rattle.lz_slot.specs.Counted.{set_of_pass}
 use Rattle.lz_vault.specs.declared.vault.Stage.{Stage}
@@ -84,6 +88,11 @@ abbrev pub may_retire : Hold → Bool
 may_retire Released = true
 may_retire _ = false
 
+-- an Add of a key that a file of this format can't hold
+abbrev pub is_old : Format → Command → Bool
+is_old format (Add k) = nat_lt (largest_of format) k
+is_old format _ = false
+
 -- The needs of each event.
 abbrev pub needs_of : Yard → Actor → ℕ → Event → Bool
 needs_of y actor pin (Invoke c) = true
@@ -147,11 +156,11 @@ cells_after y actor _ = y.vault.cells
 
 -- the vault after an event whose device call, if it has one, succeeds
 abbrev pub vault_after : Yard → Actor → Event → Vaulted
-vault_after y actor e = record { cells = cells_after y actor e; syncs = syncs_after (call_of y actor e) y.vault.syncs; dead = y.vault.dead }
+vault_after y actor e = record y.vault { cells = cells_after y actor e; syncs = syncs_after (call_of y actor e) y.vault.syncs }
 
 -- the vault after an event whose device call fails: a failed sync leaves all stages
 abbrev pub vault_failed : Yard → Actor → Event → Vaulted
-vault_failed y actor e = record { cells = cells_failed (call_of y actor e) y.vault.cells (cells_after y actor e); syncs = y.vault.syncs; dead = true }
+vault_failed y actor e = record y.vault { cells = cells_failed (call_of y actor e) y.vault.cells (cells_after y actor e); dead = true }
 
 -- The words after each event.
 abbrev pub words_after : Yard → Actor → ℕ → Event → Words

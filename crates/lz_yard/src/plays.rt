@@ -129,7 +129,7 @@ impl<D: Disk> Parts<D> {
     {
         let slot = self.slot(actor);
         self.vault.put_key(slot, key)?;
-        self.list.set(Word::Key(slot), key.get());
+        self.list.set(Word::Key(slot), key.rank());
         Ok(Outcome::Done)
     }
 

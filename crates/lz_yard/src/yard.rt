@@ -13,6 +13,7 @@ use crate::parts::Parts;
 use lz_disk::Disk;
 use lz_list::{Word, Words};
 use lz_machine::{Event, Outcome};
+use lz_slot::Format;
 use lz_vault::{OpenFault, Refused, Vault};
 use std::alloc::{AllocError, Global};
 use std::marker::Model;
@@ -106,6 +107,13 @@ impl<D: Disk> Yard<D> {
         ensures { result.now ≡ self.now.yard.words }
     {
         self.parts.list.words()
+    }
+
+    /// The format of its file.
+    pub fn format(&self) -> Format
+        ensures { result ≡ self.now.yard.vault.format }
+    {
+        self.parts.vault.format()
     }
 
     /// The word that the last `step` changed, if it changed one.

@@ -4,6 +4,7 @@ use Rattle.std.proofs.Common.{List, ◌≡◌, ◌⊎◌, ⊎_elim, inl, inr, �
 use mathlib.Core.Bool.{false≢true}
 use Rattle.std.proofs.lemmas.Bool.{cases_Bool}
 use Rattle.std.proofs.lemmas.Bool.Decides.{eqb_tells}
+use Rattle.lz_slot.specs.declared.format.Format.{Format}
 use Rattle.lz_slot.specs.declared.command.Command.{Command}
 use Rattle.lz_slot.specs.declared.command.Command.TheVariants.{Add, Remove, Has}
 use Rattle.lz_slot.specs.Sets.{key_of}
@@ -222,9 +223,9 @@ module _ (buckets slots : ℕ) (e : Publishing) (P : Trace) (law : Lawful bucket
     pub word : (s : ℕ) → actor.slot ≡ Some s → key_word s (e ∷ P) ≡ key_word s P
     pub node : (t : ℕ) → actor.curr ≡ Some t → relies_on_node actor.hold ≡ true → on 0 (chain_of buckets (key_word t P) P) (suc t) ≡ true
 
-  module _ (passes : ℕ) (cells : List Cell) (dead : Bool) (actor : Actor) (pin : ℕ) (P0 : Trace) (changed : Option ℕ) (leaves : LeavesCaller actor pin P0) where
+  module _ (passes : ℕ) (format : Format) (cells : List Cell) (dead : Bool) (actor : Actor) (pin : ℕ) (P0 : Trace) (changed : Option ℕ) (leaves : LeavesCaller actor pin P0) where
     abbrev v : View
-    v = record { buckets = buckets; passes = passes; cells = cells; dead = dead; actor = actor }
+    v = record { buckets = buckets; passes = passes; format = format; cells = cells; dead = dead; actor = actor }
 
     written_stays : (k s : ℕ) → IsWritten v k s P → IsWritten v k s (e ∷ P)
     written_stays k s h = record { slot = h.slot; stage = h.stage; key = h.key; word = leaves.word s h.slot ∙ h.word }

@@ -4,8 +4,7 @@ use mathlib.Core.Bool.{false≢true}
 use Rattle.std.proofs.lemmas.Bool.{cases_eq}
 use Rattle.std.proofs.lemmas.Bool.Decides.{nat_tests}
 use Rattle.std.proofs.lemmas.Option.{same_Some}
-use Rattle.lz_slot.specs.Limits.{largest_key}
-use Rattle.lz_slot.specs.Sets.{Keys, key_of}
+use Rattle.lz_slot.specs.Sets.{Keys}
 use Rattle.lz_slot.specs.declared.command.Command.{Command}
 use Rattle.lz_slot.specs.declared.command.Command.TheVariants.{Add, Remove}
 use Rattle.lz_slot.specs.declared.history.Mark.{Mark}
@@ -19,7 +18,7 @@ use Rattle.lz_machine.specs.Calls.{first_progress}
 use Rattle.lz_machine.specs.Kept.{publishing}
 use Rattle.lz_machine.specs.Ledgers.{Row, HasRow, Each, change_at, times}
 use Rattle.lz_machine.specs.Entries.{IsRowIn, IsLedger, IsSettledEntry, IsChangeOf}
-use Rattle.lz_machine.specs.Runs.{Start, Service, Caller, Up, Calls, MayStep, point_after, caller_at, start_keys}
+use Rattle.lz_machine.specs.Runs.{Start, Service, Caller, Up, Calls, FitsFile, MayStep, point_after, caller_at, start_keys}
 use Rattle.lz_machine.specs.Yards.{Yard}
 use Rattle.lz_machine.specs.Table.{pin_of}
 use Rattle.lz_machine.specs.Sound.{Notes, pending_row, pending, entries, pin_in, cell_in, view_of, CallerSound, CallersSound, LedgerSound, HasTail, TailsSound, Sound, IsInside, IsAfter, UpSound, PointSound, IsSound}
@@ -197,11 +196,11 @@ tail_still M calls a c d callers rows rows' same low high below h = record {
   ];
 }
 
-module _ (n calls a : ℕ) (c : Command) (y : Yard) (callers : List (Option Caller)) (disk : Medium) (P : Trace) (M : History) (notes : Notes) (low : 1 ≤ a) (high : a ≤ length callers) (none : caller_at callers a ≡ None) (even : pin_in y.words.pins a % 2 ≡ 0) (key : key_of c ≤ largest_key) where
+module _ (n calls a : ℕ) (c : Command) (y : Yard) (callers : List (Option Caller)) (disk : Medium) (P : Trace) (M : History) (notes : Notes) (low : 1 ≤ a) (high : a ≤ length callers) (none : caller_at callers a ≡ None) (even : pin_in y.words.pins a % 2 ≡ 0) (fits : FitsFile y.vault.format c) where
   new_caller : CallersSound y.shape y.vault y.words.pins y.actors callers P notes → CallerSound (view_of y.shape y.vault y.actors a) (pin_in y.words.pins a) (Some (begun (suc calls) c)) (notes.begun a) P (notes.changed a)
   new_caller h =
       let old = subst (λ (q : Option Caller). CallerSound (view_of y.shape y.vault y.actors a) (pin_in y.words.pins a) q (notes.begun a) P (notes.changed a)) none (h.each a) in
-      record { quiet = old.quiet; begins = old.begins; stands = (even, key, old.stands) }
+      record { quiet = old.quiet; begins = old.begins; stands = (even, fits, old.stands) }
 
   calling_callers : CallersSound y.shape y.vault y.words.pins y.actors callers P notes → CallersSound y.shape y.vault y.words.pins y.actors (calling callers a (suc calls) c) P notes
   calling_callers h = record {

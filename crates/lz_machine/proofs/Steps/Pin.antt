@@ -198,8 +198,8 @@ module _ (n calls : ℕ) (y : Yard) (callers : List (Option Caller)) (disk : Med
     count = count ∙ sound.callers.count;
     hands = sound.callers.hands;
     each = by_actor (λ b. CallerSound (view_of y.shape y.vault y.actors b) (pin_in (set_of_pass y.words.pins a to) b) (caller_at callers' b) ((begins_now notes a P).begun b) P (notes.changed b)) a
-        (carry y.shape.buckets y.shape.passes y.vault.cells y.vault.dead P (actor_in y.actors a) (actor_in y.actors a) to (pin_in (set_of_pass y.words.pins a to) a) (caller_at callers' a) (caller_at callers' a) P ((begins_now notes a P).begun a) (notes.changed a) (notes.changed a) refl (of_pass_same y.words.pins a to 0 low in_pins) refl (begun_same notes a P) refl mine)
-        (λ b other. carry y.shape.buckets y.shape.passes y.vault.cells y.vault.dead P (actor_in y.actors b) (actor_in y.actors b) (pin_in y.words.pins b) (pin_in (set_of_pass y.words.pins a to) b) (caller_at callers b) (caller_at callers' b) (notes.begun b) ((begins_now notes a P).begun b) (notes.changed b) (notes.changed b) refl (of_pass_other y.words.pins a b to 0 other) (others b other) (begun_other notes a P b other) refl (sound.callers.each b));
+        (carry y.shape.buckets y.shape.passes y.vault.format y.vault.cells y.vault.dead P (actor_in y.actors a) (actor_in y.actors a) to (pin_in (set_of_pass y.words.pins a to) a) (caller_at callers' a) (caller_at callers' a) P ((begins_now notes a P).begun a) (notes.changed a) (notes.changed a) refl (of_pass_same y.words.pins a to 0 low in_pins) refl (begun_same notes a P) refl mine)
+        (λ b other. carry y.shape.buckets y.shape.passes y.vault.format y.vault.cells y.vault.dead P (actor_in y.actors b) (actor_in y.actors b) (pin_in y.words.pins b) (pin_in (set_of_pass y.words.pins a to) b) (caller_at callers b) (caller_at callers' b) (notes.begun b) ((begins_now notes a P).begun b) (notes.changed b) (notes.changed b) refl (of_pass_other y.words.pins a b to 0 other) (others b other) (begun_other notes a P b other) refl (sound.callers.each b));
   }
 
   left_callers : (callers' : List (Option Caller)) → length callers' ≡ length callers → ((b : ℕ) → b ≢ a → caller_at callers' b ≡ caller_at callers b)
@@ -209,8 +209,8 @@ module _ (n calls : ℕ) (y : Yard) (callers : List (Option Caller)) (disk : Med
     count = count ∙ sound.callers.count;
     hands = sound.callers.hands;
     each = by_actor (λ b. CallerSound (view_of y.shape y.vault y.actors b) (pin_in (set_of_pass y.words.pins a to) b) (caller_at callers' b) (notes.begun b) P (notes.changed b)) a
-        (carry y.shape.buckets y.shape.passes y.vault.cells y.vault.dead P (actor_in y.actors a) (actor_in y.actors a) to (pin_in (set_of_pass y.words.pins a to) a) (caller_at callers' a) (caller_at callers' a) (notes.begun a) (notes.begun a) (notes.changed a) (notes.changed a) refl (of_pass_same y.words.pins a to 0 low in_pins) refl refl refl mine)
-        (λ b other. carry y.shape.buckets y.shape.passes y.vault.cells y.vault.dead P (actor_in y.actors b) (actor_in y.actors b) (pin_in y.words.pins b) (pin_in (set_of_pass y.words.pins a to) b) (caller_at callers b) (caller_at callers' b) (notes.begun b) (notes.begun b) (notes.changed b) (notes.changed b) refl (of_pass_other y.words.pins a b to 0 other) (others b other) refl refl (sound.callers.each b));
+        (carry y.shape.buckets y.shape.passes y.vault.format y.vault.cells y.vault.dead P (actor_in y.actors a) (actor_in y.actors a) to (pin_in (set_of_pass y.words.pins a to) a) (caller_at callers' a) (caller_at callers' a) (notes.begun a) (notes.begun a) (notes.changed a) (notes.changed a) refl (of_pass_same y.words.pins a to 0 low in_pins) refl refl refl mine)
+        (λ b other. carry y.shape.buckets y.shape.passes y.vault.format y.vault.cells y.vault.dead P (actor_in y.actors b) (actor_in y.actors b) (pin_in y.words.pins b) (pin_in (set_of_pass y.words.pins a to) b) (caller_at callers b) (caller_at callers' b) (notes.begun b) (notes.begun b) (notes.changed b) (notes.changed b) refl (of_pass_other y.words.pins a b to 0 other) (others b other) refl refl (sound.callers.each b));
   }
 
   -- an actor without a call looks: it goes in, or goes out

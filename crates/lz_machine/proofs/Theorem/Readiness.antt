@@ -3,7 +3,9 @@ use Rattle.std.proofs.Common.{◌≡◌, ◌≢◌, ◌⊎◌, inl, inr, ℕ, ze
 use mathlib.Core.Bool.{false≢true}
 use Rattle.std.specs.Prelude.{unwrap_or, IsSomeAnd, IfSome}
 use Rattle.std.proofs.lemmas.Bool.Decides.{eqb_tells}
-use Rattle.std.proofs.lemmas.Bool.{not-true}
+use Rattle.std.proofs.lemmas.Bool.{cases_Bool, not-true}
+use Rattle.lz_slot.specs.declared.format.Format.{Format}
+use Rattle.lz_slot.specs.Rooms.{largest_of}
 use Rattle.lz_slot.specs.declared.command.Command.{Command}
 use Rattle.lz_slot.specs.declared.command.Command.TheVariants.{Add, Remove, Has}
 use Rattle.lz_slot.specs.Histories.{History, Life, lives}
@@ -36,10 +38,11 @@ use Rattle.lz_machine.specs.declared.event.Outcome.TheVariants.{Dead, Done, NotN
 use Rattle.lz_machine.specs.Yards.{Shape, Yard, actor_at, cell_at}
 use Rattle.lz_machine.specs.Table.{last_pin, pin_of, needs, is_played_dead, course_alive, course, is_unused, has_stage, may_check, has_checked, has_opened, has_closed, has_marked, may_release, may_retire}
 use Rattle.lz_machine.specs.Calls.{event_at, loaded}
-use Rattle.lz_machine.specs.Runs.{Start, State, Up, Point, Service, Caller, caller_at, next_event, with_words, first_point, run, start_keys, IsNext, MayPlay}
+use Rattle.lz_machine.specs.Runs.{Start, State, Up, Point, Service, Caller, caller_at, next_event, with_words, first_point, run, start_keys, FitsFile, IsNext, MayPlay}
 use Rattle.lz_machine.specs.Sound.{Notes, View, view_of, actor_in, stage_in, closes, opens, has_locks, has_removed_node, HasPlace, HasLock, RestsOn, IsChecked, HasOpened, HasClosed, IsHandStage, IsNodeStage, SlotStands, is_node, is_held, is_out, is_free, is_limbo, Relies, Sound, StateSound, PointSound}
 use Rattle.lz_machine.specs.Ready.{IsEventOf, IsReadyFor, IsReady}
 use Rattle.lz_machine.proofs.Frames.OneActor.{caller_range, mine}
+use Rattle.lz_machine.proofs.Frames.FittingKeys.{key_written, writes_fitting}
 use Rattle.lz_machine.proofs.Steps.Halt.{held_node}
 use Rattle.lz_machine.proofs.Steps.Unlink.{first_place, node_place}
 use Rattle.lz_machine.proofs.Runs.NextEvent.{plays_alive, refused_plays}
@@ -47,6 +50,12 @@ use Rattle.lz_machine.proofs.Theorem.ShownChains.{links_are, keeps_key, keeps_li
 use Rattle.lz_machine.proofs.Theorem.Reached.{reached_sound}
 use Rattle.lz_machine.proofs.Steps.ReturnedSlot.{closed_unused}
 use Rattle.lz_machine.proofs.Frames.Grip.{closer_locks}
+
+-- what a call knows of its next event: the node that it retires, and that the file can hold the key that it writes
+abbrev Knows : Format → Actor → Event → Type 0
+Knows format actor Retire = (s : ℕ) × (actor.curr ≡ Some s)
+Knows format actor (WriteKey k) = k ≤ largest_of format
+Knows format actor _ = Unit {0}
 
 -- what the needs say
 both : (p q : Bool) → (p && q) ≡ true → (p ≡ true) × (q ≡ true)
@@ -146,12 +155,12 @@ module _ (n calls : ℕ) (y : Yard) (callers : List (Option Caller)) (disk : Med
   ready_pin : Follows Pin
   ready_pin has plays = pin_below (not_last y.vault.dead (needs z a Pin) (pin_of z a) Worn plays)
 
-  ready_key : (k : ℕ) → Follows (WriteKey k)
-  ready_key k has plays =
+  ready_key : (k : ℕ) → k ≤ largest_of y.vault.format → Follows (WriteKey k)
+  ready_key k fits has plays =
       let two = both (is_some actor.slot) (not (has_opened actor.hold)) has in
       let slot = some_of actor.slot two.0 in
       let hand = sound.slots.hand a slot.0 slot.1 in
-      (slot.0, slot.1, (hand.in_range, unused slot.0 hand.stage (not-true (has_opened actor.hold) two.1), keeps_key y.shape y.words P sound.trace sound.images.slots.1 w heads links keys slot.0 k hand.loose))
+      ((slot.0, slot.1, (hand.in_range, unused slot.0 hand.stage (not-true (has_opened actor.hold) two.1), keeps_key y.shape y.words P sound.trace sound.images.slots.1 w heads links keys slot.0 k hand.loose)), fits)
     where
       unused : (s : ℕ) → IsHandStage y.vault.cells y.vault.dead actor P s → has_opened actor.hold ≡ false → is_unused (stage_in y.vault.cells s) ≡ true
       unused s (inl closed) shut = closed_unused (stage_in y.vault.cells s) closed
@@ -255,9 +264,9 @@ module _ (n calls : ℕ) (y : Yard) (callers : List (Option Caller)) (disk : Med
           let hand = sound.slots.hand a s is in
           (hand.in_range, λ unused. (omega (arith, hand.in_range, sound.slots.count), hand.taken))
 
-  ready_for : (e : Event) → (e ≡ Retire → (s : ℕ) × (actor.curr ≡ Some s)) → Follows e
+  ready_for : (e : Event) → Knows y.vault.format actor e → Follows e
   ready_for Pin knows has plays = ready_pin has plays
-  ready_for (WriteKey k) knows has plays = ready_key k has plays
+  ready_for (WriteKey k) knows has plays = ready_key k knows has plays
   ready_for Check knows has plays = ready_check has plays
   ready_for WriteOpen knows has plays = ready_open has plays
   ready_for Link knows has plays = ready_link has plays
@@ -265,7 +274,7 @@ module _ (n calls : ℕ) (y : Yard) (callers : List (Option Caller)) (disk : Med
   ready_for Mark knows has plays = ready_mark has plays
   ready_for Release knows has plays = ready_release has plays
   ready_for Unlink knows has plays = ready_unlink has plays
-  ready_for Retire knows has plays = let node = knows refl in ready_retire node.0 node.1 has plays
+  ready_for Retire knows has plays = ready_retire knows.0 knows.1 has plays
   ready_for Answer knows has plays = ready_answer has plays
   ready_for _ knows has plays = tt
 
@@ -308,6 +317,11 @@ module _ (words : Words) (shape : Shape) (v : View) (c : Command) (P0 P : Trace)
   retires_node : (at : Progress) → Relies v c at P0 P changed → Retires at → (s : ℕ) × (v.actor.curr ≡ Some s)
   retires_node (Playing script i) h is = retires_in script i h is
   retires_node _ h is = absurd (false≢true is)
+
+  caller_knows : (at : Progress) → FitsFile v.format c → Relies v c at P0 P changed → (e : Event) → loaded words (event_at shape c at) ≡ e → Knows v.format v.actor e
+  caller_knows at fits h Retire is = retires_node at h (ap is_retire is)
+  caller_knows at fits h (WriteKey k) is = writes_fitting words shape v c P0 P changed k at fits h (ap key_written is)
+  caller_knows at fits h _ is = tt
 
 -- an event that begins a call
 abbrev pub is_invoke : Event → Bool
@@ -365,12 +379,19 @@ module _ (y : Yard) (honest : Bool) (disk : Medium) (a : ℕ) (e : Event) (may :
       let range = caller_range may.service.callers a caller.0 caller.1 in
       (range.0, omega (arith, range.1, actors_are, sound_there.5.callers.count))
 
-  knows : e ≡ Retire → (s : ℕ) × ((actor_in may.service.yard.actors a).curr ≡ Some s)
-  knows is =
-      let caller = next_of may.service a e (ap is_invoke is) may.next in
-      let sound = sound_there.5 in
-      let own = mine may.service.yard.shape may.service.yard.vault may.service.yard.words.pins may.service.yard.actors may.service.callers sound_there.3 sound_there.4 a caller.0 caller.1 sound.callers in
-      retires_node may.service.yard.words may.service.yard.shape (view_of may.service.yard.shape may.service.yard.vault may.service.yard.actors a) caller.0.command (sound_there.4.begun a) sound_there.3 (sound_there.4.changed a) caller.0.progress own.stands.2 (ap is_retire (caller.2 ∙ is))
+  knows : Knows may.service.yard.vault.format (actor_in may.service.yard.actors a) e
+  knows = elim (cases_Bool (is_invoke e)) [
+    | inl invokes ↦ begins_knowing e invokes
+    | inr other ↦
+        let caller = next_of may.service a e other may.next in
+        let sound = sound_there.5 in
+        let own = mine may.service.yard.shape may.service.yard.vault may.service.yard.words.pins may.service.yard.actors may.service.callers sound_there.3 sound_there.4 a caller.0 caller.1 sound.callers in
+        caller_knows may.service.yard.words may.service.yard.shape (view_of may.service.yard.shape may.service.yard.vault may.service.yard.actors a) caller.0.command (sound_there.4.begun a) sound_there.3 (sound_there.4.changed a) caller.0.progress own.stands.1 own.stands.2 e caller.2
+  ]
+    where
+      begins_knowing : (e' : Event) → is_invoke e' ≡ true → Knows may.service.yard.vault.format (actor_in may.service.yard.actors a) e'
+      begins_knowing (Invoke c) is = tt
+      begins_knowing _ is = absurd (false≢true is)
 
   -- an event of an actor of the yard that is played has what its calls ask for
   pub ready_in_range : (1 ≤ a) × (a ≤ length y.actors) → IsEventOf y e → needs y a e ≡ true → course y a e ≡ Plays → IsReady y a e
