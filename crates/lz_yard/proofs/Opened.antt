@@ -271,7 +271,7 @@ module _ (vault : Vaulted) (B S : ℕ) (list : Listed) (allot : Allotted) (actor
       | inr other ↦
           let names = text_format vault.format vault.cells in
           let is = begins (text_of vault.format vault.cells) (text_bytes vault.format vault.cells keys) (sym names) (text_size vault.format vault.cells)
-              (text_head vault.format vault.cells ∙ ap (λ (F : Format). open_byte ∷ header_body F (length vault.cells)) (sym names)) (text_says vault.format vault.cells keys steady)
+          (text_head vault.format vault.cells ∙ ap (λ (F : Format). open_byte ∷ header_body F (length vault.cells)) (sym names)) (text_says vault.format vault.cells keys steady)
           in
           (text_of vault.format vault.cells, (λ yes. absurd (false≢true (sym other ∙ yes))), is.0, is.1)
     ]
