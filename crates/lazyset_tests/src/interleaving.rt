@@ -11,84 +11,101 @@ const PICKS: [&str; 4] = ["old", "new", "a5", "37"];
 // Each of these commands, alone, has so many turns.
 const TURNS: usize = 15;
 
+// The turns of an addition to the empty set.
+const ADDITION: [&str; TURNS] = [
+    "Pin",
+    "Hop",
+    "Hop",
+    "Reserve",
+    "WriteKey",
+    "Sync",
+    "Hop",
+    "Claim",
+    "Check",
+    "WriteOpen",
+    "Link",
+    "Release",
+    "Sync",
+    "Settle",
+    "Answer",
+];
+
+// The turns of a removal from the set of its key alone.
+const REMOVAL: [&str; TURNS] = [
+    "Pin",
+    "Hop",
+    "Hop",
+    "Hop",
+    "Hop",
+    "Claim",
+    "Check",
+    "WriteClose",
+    "Mark",
+    "Sync",
+    "Settle",
+    "Unlink",
+    "Release",
+    "Retire",
+    "Answer",
+];
+
 // A command that changes the set of nine alone, or the empty one.
 #[derive(Clone, Copy)]
-struct Change {
-    verb: &'static str,
+enum Change {
+    Addition,
+    Removal,
+}
+
+impl Change {
+    fn verb(self) -> &'static str {
+        match self {
+            Change::Addition => "add",
+            Change::Removal => "remove",
+        }
+    }
+
     // Whether nine is a member before it.
-    is_held: bool,
-    turns: [&'static str; TURNS],
-    // The turn with which it writes its gate; its last sync makes that sure.
-    gate: &'static str,
-}
-
-const ADDITION: Change = Change {
-    verb: "add",
-    is_held: false,
-    turns: [
-        "Pin",
-        "Hop",
-        "Hop",
-        "Reserve",
-        "WriteKey",
-        "Sync",
-        "Hop",
-        "Claim",
-        "Check",
-        "WriteOpen",
-        "Link",
-        "Release",
-        "Sync",
-        "Settle",
-        "Answer",
-    ],
-    gate: "WriteOpen",
-};
-
-const REMOVAL: Change = Change {
-    verb: "remove",
-    is_held: true,
-    turns: [
-        "Pin",
-        "Hop",
-        "Hop",
-        "Hop",
-        "Hop",
-        "Claim",
-        "Check",
-        "WriteClose",
-        "Mark",
-        "Sync",
-        "Settle",
-        "Unlink",
-        "Release",
-        "Retire",
-        "Answer",
-    ],
-    gate: "WriteClose",
-};
-
-// After how many turns the first one of this kind was taken.
-fn first_turn(change: Change, kind: &str) -> usize {
-    let mut before = 0usize;
-    for turn in change.turns {
-        if turn == kind {
-            break;
-        }
-        before = before.wrapping_add(1);
+    fn is_held(self) -> bool {
+        matches!(self, Change::Removal)
     }
-    before.wrapping_add(1)
-}
 
-// After how many turns the last one of this kind was taken.
-fn last_turn(change: Change, kind: &str) -> usize {
-    let mut last = 0usize;
-    for (before, turn) in change.turns.iter().enumerate() {
-        if *turn == kind {
-            last = before.wrapping_add(1);
+    fn turns(self) -> &'static [&'static str] {
+        match self {
+            Change::Addition => &ADDITION,
+            Change::Removal => &REMOVAL,
         }
     }
-    last
+
+    // The number of its call: the set of nine was made by one before it.
+    fn number(self) -> u64 {
+        if self.is_held() { 2 } else { 1 }
+    }
+
+    // After how many turns the first one of this kind was taken.
+    fn first(self, kind: &str) -> usize {
+        for (before, turn) in self.turns().iter().enumerate() {
+            if *turn == kind {
+                return before.wrapping_add(1);
+            }
+        }
+        0
+    }
+
+    // After how many turns its gate is written.
+    fn gate(self) -> usize {
+        match self {
+            Change::Addition => self.first("WriteOpen"),
+            Change::Removal => self.first("WriteClose"),
+        }
+    }
+
+    // After how many turns its gate is sure.
+    fn sure(self) -> usize {
+        match self {
+            Change::Addition => self.first("Release").wrapping_add(1),
+            Change::Removal => self.first("Sync"),
+        }
+    }
 }
 
 // What a plain set answers, that has nine or doesn't, and whether it has nine then.
@@ -102,13 +119,13 @@ fn ask(verb: &str, is_member: bool) -> (&'static str, bool) {
 }
 
 // What a crash leaves of nine after so many turns of a change, before which it was a member or not. Before the gate is
-// written the change isn't done, from its sync on it is, and between the two the crash picks.
+// written the change isn't done, once it is sure it is, and between the two the crash picks.
 fn left(change: Change, is_member: bool, turns: usize, pick: &str) -> bool {
-    let (_, after) = ask(change.verb, is_member);
-    if turns < first_turn(change, change.gate) {
+    let (_, after) = ask(change.verb(), is_member);
+    if turns < change.gate() {
         return is_member;
     }
-    if turns >= last_turn(change, "Sync") {
+    if turns >= change.sure() {
         return after;
     }
     match pick {
@@ -116,11 +133,6 @@ fn left(change: Change, is_member: bool, turns: usize, pick: &str) -> bool {
         "new" => after,
         pick => pick == "a5",
     }
-}
-
-// The number of the change's call: the set of nine was made by one before it.
-fn number_of(change: Change) -> u64 {
-    if change.is_held { 2 } else { 1 }
 }
 
 // The head of a rehearsal, the lines that make the set, and so many turns of the change, which has this answer.
@@ -131,12 +143,12 @@ fn write_turns(
     answer: &str,
     name: &str,
 ) -> Result<(), AllocError> {
-    let (verb, number) = (change.verb, number_of(change));
+    let (verb, number) = (change.verb(), change.number());
     write!(
         text,
         "== slots 2, buckets 1: {name}, after {turns} turns of {verb}\n"
     )?;
-    if change.is_held {
+    if change.is_held() {
         write!(
             text,
             "> call 64 add 9\ncall 1 64 add 9\n> finish 64\nanswer 1 yes\n"
@@ -161,16 +173,21 @@ fn write_crash(text: &mut String, pick: &str, is_member: bool) -> Result<(), All
     )
 }
 
+// A crash after each count of turns.
+fn write_crashes(text: &mut String, change: Change, pick: &str) -> Result<(), AllocError> {
+    for turns in 0..TURNS + 1 {
+        write_turns(text, change, turns, "yes", pick)?;
+        write_crash(text, pick, left(change, change.is_held(), turns, pick))?;
+    }
+    Ok(())
+}
+
 #[test]
 fn a_crash_after_each_turn(rt: HostRuntime) -> Result<(), Fail> {
     let mut text = String::new(rt.alloc());
-    for change in [ADDITION, REMOVAL] {
-        for pick in PICKS {
-            for turns in 0..TURNS + 1 {
-                write_turns(&mut text, change, turns, "yes", pick)?;
-                write_crash(&mut text, pick, left(change, change.is_held, turns, pick))?;
-            }
-        }
+    for pick in PICKS {
+        write_crashes(&mut text, Change::Addition, pick)?;
+        write_crashes(&mut text, Change::Removal, pick)?;
     }
     rehearse_all(&rt, rt.alloc(), text.as_str())
 }
@@ -187,108 +204,142 @@ struct Meeting {
 
 const MEETINGS: [Meeting; 6] = [
     Meeting {
-        change: ADDITION,
+        change: Change::Addition,
         verb: "add",
         after: "Claim",
         until: "Link",
     },
     Meeting {
-        change: ADDITION,
+        change: Change::Addition,
         verb: "remove",
         after: "Link",
         until: "Release",
     },
     Meeting {
-        change: ADDITION,
+        change: Change::Addition,
         verb: "has",
         after: "Link",
         until: "Link",
     },
     Meeting {
-        change: REMOVAL,
+        change: Change::Removal,
         verb: "remove",
         after: "Claim",
         until: "Mark",
     },
     Meeting {
-        change: REMOVAL,
+        change: Change::Removal,
         verb: "add",
         after: "Mark",
         until: "Release",
     },
     Meeting {
-        change: REMOVAL,
+        change: Change::Removal,
         verb: "has",
         after: "Mark",
         until: "Mark",
     },
 ];
 
-// Where the command is called after so many turns of the change.
+// What a plain set answers to the change and to the command, in their order, and whether nine is a member in the end and
+// between the two.
 #[derive(Clone, Copy)]
-struct Met {
-    meeting: Meeting,
-    turns: usize,
-    waits: bool,
-    // What the change and the command answer.
-    first: &'static str,
-    second: &'static str,
-    // Whether nine is a member once both have answered, and once the command alone has, where it comes first.
+struct Answers {
+    change: &'static str,
+    command: &'static str,
     is_member: bool,
-    is_first: Option<bool>,
+    between: bool,
 }
 
-fn meet(meeting: Meeting, turns: usize) -> Met {
-    let change = meeting.change;
-    let comes_first = turns < first_turn(change, meeting.after);
-    let (first, second, is_member, is_first) = if comes_first {
-        let (second, between) = ask(meeting.verb, change.is_held);
-        let (first, is_member) = ask(change.verb, between);
-        (first, second, is_member, Some(between))
-    } else {
-        let (first, between) = ask(change.verb, change.is_held);
-        let (second, is_member) = ask(meeting.verb, between);
-        (first, second, is_member, None)
-    };
-    Met {
-        meeting,
-        turns,
-        waits: !comes_first && turns < first_turn(change, meeting.until),
-        first,
-        second,
-        is_member,
-        is_first,
+impl Meeting {
+    // Whether the command comes first where it is called after so many turns.
+    fn comes_first(self, turns: usize) -> bool {
+        turns < self.change.first(self.after)
     }
-}
 
-// The turns of the change, and then those of the command up to its answer, or to the lock that is taken.
-fn write_meeting(text: &mut String, met: Met, pick: &str) -> Result<(), AllocError> {
-    write_turns(text, met.meeting.change, met.turns, met.first, pick)?;
-    let verb = met.meeting.verb;
-    let number = number_of(met.meeting.change).wrapping_add(1);
-    write!(
-        text,
-        "> call 2 {verb} 9\ncall {number} 2 {verb} 9\n> finish 2\n"
-    )?;
-    if met.waits {
-        write!(text, "busy 2\n")
-    } else {
-        write!(text, "answer {number} {}\n", met.second)
+    // Whether the command waits for a lock then.
+    fn waits(self, turns: usize) -> bool {
+        !self.comes_first(turns) && turns < self.change.first(self.until)
     }
-}
 
-// The turns that are left, the change's first.
-fn write_ends(text: &mut String, met: Met) -> Result<(), AllocError> {
-    let number = number_of(met.meeting.change);
-    if met.turns < TURNS {
-        write!(text, "> finish 1\nanswer {number} {}\n", met.first)?;
+    fn answers(self, turns: usize) -> Answers {
+        let verb = self.change.verb();
+        if self.comes_first(turns) {
+            let (command, between) = ask(self.verb, self.change.is_held());
+            let (change, is_member) = ask(verb, between);
+            Answers {
+                change,
+                command,
+                is_member,
+                between,
+            }
+        } else {
+            let (change, between) = ask(verb, self.change.is_held());
+            let (command, is_member) = ask(self.verb, between);
+            Answers {
+                change,
+                command,
+                is_member,
+                between,
+            }
+        }
     }
-    if met.waits {
-        let number = number.wrapping_add(1);
-        write!(text, "> finish 2\nanswer {number} {}\n", met.second)?;
+
+    // The turns of the change, and then those of the command up to its answer, or to the lock that is taken.
+    fn write(self, text: &mut String, turns: usize, name: &str) -> Result<(), AllocError> {
+        let answers = self.answers(turns);
+        write_turns(text, self.change, turns, answers.change, name)?;
+        let verb = self.verb;
+        let number = self.change.number().wrapping_add(1);
+        write!(
+            text,
+            "> call 2 {verb} 9\ncall {number} 2 {verb} 9\n> finish 2\n"
+        )?;
+        if self.waits(turns) {
+            write!(text, "busy 2\n")
+        } else {
+            write!(text, "answer {number} {}\n", answers.command)
+        }
     }
-    let shown = if met.is_member { " 9" } else { "" };
-    write!(text, "> show\nshow{shown}\n")
+
+    // The turns that are left, the change's first.
+    fn write_ends(self, text: &mut String, turns: usize) -> Result<(), AllocError> {
+        let answers = self.answers(turns);
+        let number = self.change.number();
+        if turns < TURNS {
+            write!(text, "> finish 1\nanswer {number} {}\n", answers.change)?;
+        }
+        if self.waits(turns) {
+            let number = number.wrapping_add(1);
+            write!(text, "> finish 2\nanswer {number} {}\n", answers.command)?;
+        }
+        let shown = if answers.is_member { " 9" } else { "" };
+        write!(text, "> show\nshow{shown}\n")
+    }
+
+    // Both end, and then a crash comes.
+    fn write_both(self, text: &mut String, pick: &str) -> Result<(), AllocError> {
+        for turns in 0..TURNS + 1 {
+            self.write(text, turns, pick)?;
+            self.write_ends(text, turns)?;
+            write_crash(text, pick, self.answers(turns).is_member)?;
+        }
+        Ok(())
+    }
+
+    // The change never goes on, and a crash comes once the command has answered.
+    fn write_one(self, text: &mut String, pick: &str) -> Result<(), AllocError> {
+        for turns in 0..TURNS + 1 {
+            let answers = self.answers(turns);
+            self.write(text, turns, pick)?;
+            if self.comes_first(turns) {
+                write_crash(text, pick, left(self.change, answers.between, turns, pick))?;
+            } else if !self.waits(turns) {
+                write_crash(text, pick, answers.is_member)?;
+            }
+        }
+        Ok(())
+    }
 }
 
 // Two commands answer as a plain set does, one after the other, and each crash keeps what they answered.
@@ -297,56 +348,45 @@ fn two_commands_that_both_end(rt: HostRuntime) -> Result<(), Fail> {
     let mut text = String::new(rt.alloc());
     for meeting in MEETINGS {
         for pick in PICKS {
-            for turns in 0..TURNS + 1 {
-                let met = meet(meeting, turns);
-                write_meeting(&mut text, met, pick)?;
-                write_ends(&mut text, met)?;
-                write_crash(&mut text, pick, met.is_member)?;
-            }
+            meeting.write_both(&mut text, pick)?;
         }
     }
     rehearse_all(&rt, rt.alloc(), text.as_str())
 }
 
-// The change never goes on. What the command answered, a no as well as a yes, is kept by each crash.
+// What a command answered, a no as well as a yes, is kept by each crash, where the change beside it never ends.
 #[test]
 fn a_command_beside_one_that_never_ends(rt: HostRuntime) -> Result<(), Fail> {
     let mut text = String::new(rt.alloc());
     for meeting in MEETINGS {
         for pick in PICKS {
-            for turns in 0..TURNS + 1 {
-                let met = meet(meeting, turns);
-                write_meeting(&mut text, met, pick)?;
-                if !met.waits {
-                    let is_found = match met.is_first {
-                        Some(between) => left(meeting.change, between, turns, pick),
-                        None => met.is_member,
-                    };
-                    write_crash(&mut text, pick, is_found)?;
-                }
-            }
+            meeting.write_one(&mut text, pick)?;
         }
     }
     rehearse_all(&rt, rt.alloc(), text.as_str())
 }
 
 // Where the first turn of a kind was awaited, so many turns end the call, and fewer don't.
+fn write_kinds(text: &mut String, change: Change) -> Result<(), AllocError> {
+    for kind in change.turns().iter() {
+        let left = TURNS.wrapping_sub(change.first(kind));
+        write_turns(text, change, 0, "", kind)?;
+        write!(text, "> until 1 {kind}\n")?;
+        if left > 1 {
+            write!(text, "> turn 1 {}\n", left.wrapping_sub(1))?;
+        }
+        if left > 0 {
+            write!(text, "> turn 1 1\n")?;
+        }
+        write!(text, "answer {} yes\n", change.number())?;
+    }
+    Ok(())
+}
+
 #[test]
 fn turns_up_to_each_kind(rt: HostRuntime) -> Result<(), Fail> {
     let mut text = String::new(rt.alloc());
-    for change in [ADDITION, REMOVAL] {
-        for kind in change.turns {
-            let left = TURNS.wrapping_sub(first_turn(change, kind));
-            write_turns(&mut text, change, 0, "", kind)?;
-            write!(text, "> until 1 {kind}\n")?;
-            if left > 1 {
-                write!(text, "> turn 1 {}\n", left.wrapping_sub(1))?;
-            }
-            if left > 0 {
-                write!(text, "> turn 1 1\n")?;
-            }
-            write!(text, "answer {} yes\n", number_of(change))?;
-        }
-    }
+    write_kinds(&mut text, Change::Addition)?;
+    write_kinds(&mut text, Change::Removal)?;
     rehearse_all(&rt, rt.alloc(), text.as_str())
 }
