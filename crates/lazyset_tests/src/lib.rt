@@ -14,7 +14,11 @@ mod large;
 #[cfg(test)]
 mod lists;
 #[cfg(test)]
+mod plays;
+#[cfg(test)]
 mod refusals;
+#[cfg(test)]
+mod rehearsal;
 #[cfg(test)]
 mod rehearsing;
 #[cfg(test)]
@@ -25,3 +29,5 @@ mod sessions;
 mod slots;
 #[cfg(test)]
 mod surveying;
+#[cfg(test)]
+mod transcript;

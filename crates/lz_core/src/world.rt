@@ -1,5 +1,6 @@
 //! A rehearsal: a service over a disk in memory, and what its callers do to it, step by step.
 ghost use Rattle.std.specs.Prelude.{◌≡◌, ◌≤◌, ◌↔◌, ◌==◌, ◌||◌, IfOk, IfErr, OnErr, IsErrOf, IsTrue, IfSome, Some, None, [], ◌∷◌, length};
+ghost use Rattle.lz_slot.specs.Limits.{most_buckets, most_rehearsed};
 ghost use Rattle.lz_slot.specs.Sets.{members};
 ghost use Rattle.lz_slot.specs.Counted.{of_pass};
 ghost use Rattle.lz_core.specs.Worlds.{Ascend, IsChain, IsLawful, IsNew, IsOpenFor, IsOutcome, IsTold, IsUp, MayCall, MayStepOn, PlaysOn, Shows, StepsOn, StopsAt, StopsEarly, event_asked, event_loaded, mark_list, next_of, state_shown};
@@ -10,17 +11,17 @@ use crate::open_calls::{OpenCall, next_of_call, no_calls, take_outcome};
 use crate::play::Step;
 use crate::reopening::open_anew;
 use crate::shown::members_of;
-use lz_caller::{Caller, key_of};
+use lz_caller::Caller;
 use lz_disk::{MemoryDisk, Pick};
 use lz_machine::{Event, Kind, Outcome};
-use lz_slot::{Command, Format, Found, Key, Mark};
+use lz_slot::{Command, Format, Found, Key, Mark, MOST_PASSES};
 use lz_vault::{OpenFault, make};
 use lz_yard::Yard;
 use std::alloc::{AllocError, Global};
 use std::marker::Model;
 
 /// How many actors a world has.
-pub const ACTORS: usize = 64;
+pub const ACTORS: usize = MOST_PASSES;
 
 /// Why a play ended before its last step. Steps count from 1, and a turn by itself is step 1.
 #[derive(Clone, Copy, Debug, PartialEq, Eq)]
@@ -73,8 +74,8 @@ impl World {
         buckets: usize,
         format: Format,
     ) -> Result<World, AllocError>
-        requires slots { (1 ≤ slots) × (slots ≤ 64) }
-        requires buckets { (1 ≤ buckets) × (buckets ≤ 4096) }
+        requires slots { (1 ≤ slots) × (slots ≤ most_rehearsed) }
+        requires buckets { (1 ≤ buckets) × (buckets ≤ most_buckets) }
         ensures { IfOk result (λ world. IsNew (record { slots = slots; buckets = buckets; passes = 64 }) format world) }
     {
         let callers = no_calls(alloc)?;
@@ -201,7 +202,7 @@ impl World {
         }
         let told = command;
         let asked = command;
-        let _key = key_of(asked).rank();
+        let _key = asked.key().rank();
         self.calls += 1;
         self.callers[actor - 1] = Some(OpenCall {
             number: self.calls,

@@ -6,7 +6,7 @@ use Rattle.lz_slot.specs.declared.history.Refusal.TheVariants.{Full as refused_f
 use Rattle.lz_slot.specs.declared.history.Cut.TheVariants.{Halted as cut_halted, Device as cut_device}
 use Rattle.lz_slot.specs.declared.history.Mark.{Mark}
 use Rattle.lz_slot.specs.declared.history.Mark.TheVariants.{Call, Answer, Refused, Cut, Stop, Crash, Opened, OpenFailed}
-use Rattle.lz_slot.specs.Limits.{largest_key}
+use Rattle.lz_slot.specs.Limits.{largest_key, most_buckets, most_passes}
 use Rattle.lz_slot.specs.Sets.{Keys, members, key_of}
 use Rattle.lz_slot.specs.Counted.{of_pass, set_of_pass}
 use Rattle.lz_slot.specs.Histories.{History}
@@ -275,8 +275,8 @@ abbrev pub start_keys : Start → Keys
 start_keys s = members (keys_found s.text s.shape.slots)
 
 pub record IsStart (s : Start) : Type 0 where
-  pub buckets : (1 ≤ s.shape.buckets) × (s.shape.buckets ≤ 4096)
-  pub passes : (1 ≤ s.shape.passes) × (s.shape.passes ≤ 64)
+  pub buckets : (1 ≤ s.shape.buckets) × (s.shape.buckets ≤ most_buckets)
+  pub passes : (1 ≤ s.shape.passes) × (s.shape.passes ≤ most_passes)
   pub bytes : AreBytes s.text
   pub text : Holds s.text s.shape.slots (start_keys s)
 

@@ -4,21 +4,18 @@ use Rattle.lz_disk.specs.Images.{Medium, AreBytes}
 use Rattle.lz_list.specs.Lists.{IsWord}
 use Rattle.lz_yard.specs.declared.told.Told.{Told}
 use Rattle.lz_yard.proofs.Founding.{opened_fits}
-use Rattle.lz_yard.proofs.Opened.{first_yard, refused_for}
+use Rattle.lz_yard.proofs.Opened.{first_yard}
 use Rattle.lz_yard.proofs.yard.Yard.open.Goals as goal
 
 pub invariant_of-result : goal.invariant_of-result
 invariant_of-result g c = (
-  opened_fits _ _ _ _ _ _ _ c.in-Ok-of.ensures c.slots.ensures.count c.in_ok-vault.ensures.ok.fresh.0,
+  opened_fits _ _ _ _ _ _ _ c.in-Ok-of.ensures c.slots.ensures.count c.in_ok.ensures.ok.fresh.0,
   subst (λ (told : Told). IfSome told.changed (IsWord c.in-Ok-of.tables.list.words)) (sym c.nothing_told.ensures) tt,
 )
 
-pub returns-in-Err-clause-err : goal.returns-in-Err-clause-err
-returns-in-Err-clause-err g c = rw c.close.ensures (refused_for _ _ _ _ c.in_ok-vault.ensures.ok c.in-Err.ensures.err)
-
 pub returns-in-Ok-of-clause-ok : goal.returns-in-Ok-of-clause-ok
 returns-in-Ok-of-clause-ok g c =
-    let opens = c.in_ok-vault.ensures.ok in
+    let opens = c.in_ok.ensures.ok in
     let count = c.slots.ensures.count in
     let bytes = λ (honest : IsTrue (g.D.Disk.device c.args.disk).honest).
     ap (λ (m : Medium). m.seen) (opens.medium honest) in
