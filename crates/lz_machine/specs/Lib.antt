@@ -18,7 +18,6 @@ pub mod Ready
 pub mod Sound
 pub mod Alone
 pub mod NextEvents
-pub mod Kinds
 pub mod FreedSlots
 pub mod OneAdd
 pub mod OpenFailures

@@ -1,13 +1,14 @@
 -- The machine running: one adding to a freshly made set of one slot. And what a crash may leave.
 use Rattle.std.specs.Prelude.{◌≡◌, ℕ, true, List, [], ◌∷◌, ◌++◌, replicate}
 use Rattle.lz_slot.specs.declared.command.Command.TheVariants.{Add}
+use Rattle.lz_slot.specs.declared.format.Format.TheVariants.{Two}
 use Rattle.lz_slot.specs.declared.history.Mark.TheVariants.{Call, Answer}
 use Rattle.lz_slot.specs.Histories.{History}
 use Rattle.lz_list.specs.Traces.{Trace}
 use Rattle.lz_machine.specs.Runs.{Start, IsStart, State, Step, Calls, Turn, IsRun, run, first_point, made_text, Reached, MayLeave}
 
 abbrev pub one_slot : Start
-one_slot = record { shape = record { slots = 1; buckets = 1; passes = 1 }; text = made_text 1 }
+one_slot = record { shape = record { slots = 1; buckets = 1; passes = 1 }; text = made_text Two 1 }
 
 -- the call and its fifteen turns, the newest first
 abbrev pub one_add : List Step

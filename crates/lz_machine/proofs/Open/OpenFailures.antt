@@ -1,6 +1,6 @@
 -- A text that holds a set has no fault.
 use Rattle.std.proofs.Common.{◌≡◌, ◌⊎◌, inl, inr, ℕ, ◌<◌, List, ◌∷◌, length, take, Ok, Err, refl, ap, ◌∙◌, arith}
-use Rattle.lz_slot.specs.Bytes.{Holds, header_read, header_body, open_byte}
+use Rattle.lz_slot.specs.Bytes.{Holds, header_read, format_of, header_body, open_byte}
 use Rattle.lz_slot.specs.Sets.{Keys}
 use Rattle.lz_slot.specs.declared.header.HeaderFault.{HeaderFault}
 use Rattle.lz_slot.proofs.Exact.{header_reads_back}
@@ -11,7 +11,7 @@ use Rattle.lz_machine.specs.OpenFailures.{HeldIsOpened}
 
 module _ (t : List ℕ) (N : ℕ) (S : Keys) (holds : Holds t N S) where
   head : header_read (take 16 t) (length t) ≡ Ok N
-  head = ap (λ (l : List ℕ). header_read l (length t)) holds.head ∙ ap (header_read (open_byte ∷ header_body N)) holds.size ∙ header_reads_back N holds.count.0 holds.count.1
+  head = ap (λ (l : List ℕ). header_read l (length t)) holds.head ∙ ap (header_read (open_byte ∷ header_body (format_of t) N)) holds.size ∙ (header_reads_back (format_of t) N holds.count.0 holds.count.1).0
 
   no_fault : (why : HeaderFault) → header_read (take 16 t) (length t) ≡ Err why → ⊥
   no_fault why is = absurd (cc (head, is))

@@ -1,8 +1,12 @@
 -- One adding to a freshly made set of one slot is a run; and each state that is reached may leave a text.
-use Rattle.std.proofs.Common.{◌≡◌, ◌≢◌, inl, ℕ, zero, suc, ◌<◌, true, false, List, [], ◌∷◌, refl, sym, subst, arith}
+use Rattle.std.proofs.Common.{◌≡◌, ◌≢◌, inl, ℕ, zero, suc, ◌<◌, true, false, ◌≤◌, List, [], ◌∷◌, slice_get, Option, Some, is_some, refl, sym, ap, subst, arith}
+use Rattle.std.specs.Prelude.{unwrap_or}
 use mathlib.Core.Bool.{false≢true}
+use Rattle.lz_slot.specs.declared.format.Format.TheVariants.{Two}
 use Rattle.lz_slot.specs.declared.slot.SlotRead.TheVariants.{Closed, Member, BadKey}
 use Rattle.lz_slot.specs.Bytes.{slot_at}
+use Rattle.lz_slot.specs.Rooms.{largest_of}
+use Rattle.lz_vault.specs.Stages.{Cell}
 use Rattle.lz_list.specs.Traces.{bucket_of}
 use Rattle.lz_slot.specs.Histories.{Life, lives}
 use Rattle.lz_machine.specs.declared.event.Outcome.TheVariants.{Done, Value, Slot, Taken, True, NotNow}
@@ -13,18 +17,23 @@ use Rattle.lz_machine.specs.Yards.{no_cell}
 use Rattle.lz_machine.proofs.Open.Texts.{text_bytes}
 use Rattle.lz_machine.proofs.Theorem.Reached.{reached_sound}
 
-closed_slot : slot_at (made_text 1) 0 ≡ Closed
+closed_slot : slot_at (made_text Two 1) 0 ≡ Closed
 closed_slot = refl
 
-no_bad : (i : ℕ) → i < 1 → slot_at (made_text 1) i ≢ BadKey
+no_bad : (i : ℕ) → i < 1 → slot_at (made_text Two 1) i ≢ BadKey
 no_bad zero lt bad = absurd (cc (closed_slot, bad))
 no_bad (suc i) lt bad = absurd (omega (arith, lt))
+
+-- the key of a slot that was just made is one of any format
+fresh_keys : (i : ℕ) (cell : Cell) → slice_get (no_cell ∷ []) i ≡ Some cell → cell.key ≤ largest_of Two
+fresh_keys zero cell is = omega (arith, ap (λ (o : Option Cell). (unwrap_or o no_cell).key) is)
+fresh_keys (suc i) cell is = absurd (false≢true (ap is_some is))
 
 starts : IsStart one_slot
 starts = record {
   buckets = (omega arith, omega arith);
   passes = (omega arith, omega arith);
-  bytes = text_bytes (no_cell ∷ []);
+  bytes = text_bytes Two (no_cell ∷ []) fresh_keys;
   text = record {
     count = (omega arith, omega arith);
     size = refl;
@@ -35,7 +44,7 @@ starts = record {
   };
 }
   where
-    none : (i k : ℕ) → i < 1 → slot_at (made_text 1) i ≢ Member k
+    none : (i k : ℕ) → i < 1 → slot_at (made_text Two 1) i ≢ Member k
     none zero k lt is = absurd (cc (closed_slot, is))
     none (suc i) k lt is = absurd (omega (arith, lt))
 
