@@ -4,4 +4,5 @@ pub mod MovedLoad
 pub mod Timeliness
 pub mod Rows
 pub mod Readiness
+pub mod Formats
 pub mod ShownChains

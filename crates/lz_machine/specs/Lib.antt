@@ -6,6 +6,7 @@ pub mod Runs
 pub mod Laws
 pub mod Marks
 pub mod InTime
+pub mod Formats
 pub mod Ledgers
 pub mod Kept
 pub mod Entries

@@ -3,6 +3,7 @@
 ghost use Rattle.lz_machine.specs.Alone.{AloneIsPlain, FullIsRight, RefusalsAreRight};
 ghost use Rattle.lz_machine.specs.Entries.{LedgerFits};
 ghost use Rattle.lz_machine.specs.Laws.{EveryHistory, WhatLasts, WalksMove};
+ghost use Rattle.lz_machine.specs.Formats.{FormatsStay};
 ghost use Rattle.lz_machine.specs.InTime.{NeverLate};
 ghost use Rattle.lz_machine.specs.Marks.{MarksTell};
 
@@ -59,4 +60,10 @@ pub fn refusals_are_right()
 /// another reason. That holds of a call too that was refused because its pass is worn: its pass has the last pin.
 pub fn never_late()
     ensures { NeverLate }
+{}
+
+/// A file keeps its format: in each state that a run reaches the service is over a file of the format with which the run
+/// began, and so is each text that a crash may leave.
+pub fn formats_stay()
+    ensures { FormatsStay }
 {}
