@@ -10,7 +10,7 @@ use Rattle.lz_vault.specs.Vaults.{MayFail, medium_after}
 use Rattle.lz_machine.specs.declared.event.Event.{Event}
 use Rattle.lz_machine.specs.declared.event.Event.TheVariants.{Invoke, Check, SeePin, Answer}
 use Rattle.lz_machine.specs.declared.event.Outcome.{Outcome}
-use Rattle.lz_machine.specs.declared.event.Outcome.TheVariants.{Worn, Fault, Dead}
+use Rattle.lz_machine.specs.declared.event.Outcome.TheVariants.{Worn, OldFile, Fault, Dead}
 use Rattle.lz_machine.specs.declared.event.Reply.{Reply}
 use Rattle.lz_machine.specs.declared.caller.Script.{Script}
 use Rattle.lz_machine.specs.declared.caller.Script.TheVariants.{Pinning, Resting, Writing, Adding, Removing, Releasing, Halting}

@@ -3,7 +3,7 @@ ghost use Rattle.std.specs.Prelude.{◌≡◌, ◌≤◌, ◌↔◌, ◌==◌, �
 ghost use Rattle.lz_slot.specs.Limits.{most_buckets, most_rehearsed};
 ghost use Rattle.lz_slot.specs.Sets.{members};
 ghost use Rattle.lz_slot.specs.Counted.{of_pass};
-ghost use Rattle.lz_core.specs.Worlds.{Ascend, IsChain, IsLawful, IsNew, IsOpenFor, IsOutcome, IsTold, IsUp, MayCall, MayStepOn, PlaysOn, Shows, StepsOn, StopsAt, StopsEarly, event_asked, event_loaded, mark_list, next_of, state_shown};
+ghost use Rattle.lz_core.specs.Worlds.{Ascend, IsChain, IsLawful, IsNew, IsOpenFor, IsOutcome, IsTold, IsUp, MayCall, MayStepOn, PlaysOn, Shows, StepsOn, StopsAt, StopsEarly, event_asked, event_loaded, mark_list, next_of, state_shown, begun_after};
 ghost use Rattle.lz_machine.specs.Kinds.{kind_of};
 
 use crate::disks::{crash_disk, stop_disk, trip_disk};
@@ -27,8 +27,7 @@ pub const ACTORS: usize = MOST_PASSES;
 #[derive(Clone, Copy, Debug, PartialEq, Eq)]
 pub enum PlayFault {
     /// The step isn't lawful now: its actor isn't one of the world's, calls where it has a call open, or takes a turn where it
-    /// has none; or it calls or takes a turn without an open service; or it opens where a service is open; or it adds a key
-    /// that the file's format can't hold.
+    /// has none; or it calls or takes a turn without an open service; or it opens where a service is open.
     NotNow(usize),
     /// There is no memory, or no number is left for a call.
     Memory,
@@ -194,7 +193,7 @@ impl World {
         ensures not_now { (i : _) → IsErrOf result (PlayFault.NotNow i) → (i ≡ place) × (self.new ≡ self.old) × ¬ IsLawful self.old.state (Step.Call actor command) }
         ensures memory { IsErrOf result PlayFault.Memory → StopsEarly self.old (Step.Call actor command ∷ []) self.new }
     {
-        if !may_call(&self.yard, &self.callers, actor, &command) {
+        if !may_call(&self.yard, &self.callers, actor) {
             return Err(PlayFault::NotNow(place));
         }
         if self.calls == u64::MAX {
@@ -202,11 +201,13 @@ impl World {
         }
         let told = command;
         let asked = command;
+        let played = command;
         let _key = asked.key().rank();
+        let outcome = step_on(&mut self.yard, actor, Event::Invoke(played));
         self.calls += 1;
         self.callers[actor - 1] = Some(OpenCall {
             number: self.calls,
-            caller: Caller::new(command, self.buckets, ACTORS),
+            caller: call_begun(command, self.buckets, outcome),
         });
         Ok(Some(Mark::Call(self.calls, actor, told)))
     }
@@ -296,31 +297,24 @@ impl World {
     }
 }
 
-// Whether the service is open for the command, and the actor is one of the world's and has no call.
-fn may_call(
-    yard: &Option<Yard<MemoryDisk>>,
-    callers: &[Option<OpenCall>],
-    actor: usize,
-    command: &Command,
-) -> bool
+// Whether the service is open, and the actor is one of the world's and has no call.
+fn may_call(yard: &Option<Yard<MemoryDisk>>, callers: &[Option<OpenCall>], actor: usize) -> bool
     requires { length callers.now ≡ 64 }
-    ensures { IsTrue result ↔ MayCall yard.now callers.now actor command.now }
+    ensures { IsTrue result ↔ MayCall yard.now callers.now actor }
 {
-    is_open_for(yard, command) && 1 <= actor && actor <= ACTORS && callers[actor - 1].is_none()
+    yard.is_some() && 1 <= actor && actor <= ACTORS && callers[actor - 1].is_none()
 }
 
-// Whether the service is open, and its file can hold the key of a command that adds one.
-fn is_open_for(yard: &Option<Yard<MemoryDisk>>, command: &Command) -> bool
-    ensures { IsTrue result ↔ IsOpenFor yard.now command.now }
+// A call whose Invoke answered so. One that the file's format refuses is about to tell it.
+fn call_begun(command: Command, buckets: usize, outcome: Outcome) -> Caller
+    requires { (1 ≤ buckets) × (buckets ≤ 4096) }
+    ensures { result ≡ record { command = command; buckets = buckets; passes = 64; progress = begun_after outcome } }
 {
-    match yard {
-        None => false,
-        Some(yard) => match command {
-            Command::Add(key) => yard.format().has_room_for(*key),
-            Command::Remove(_) => true,
-            Command::Has(_) => true,
-        },
+    let mut caller = Caller::new(command, buckets, ACTORS);
+    if let Outcome::OldFile = outcome {
+        caller.take(Outcome::OldFile);
     }
+    caller
 }
 
 // The next event of an actor's call on this yard, if it has one.

@@ -5,6 +5,7 @@ pub mod MovedLoad
 pub mod Timeliness
 pub mod Rows
 pub mod Readiness
+pub mod Formats
 pub mod ShownChains
 pub mod Timing
 pub mod FreedSlots

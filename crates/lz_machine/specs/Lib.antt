@@ -8,6 +8,7 @@ pub mod Points
 pub mod Laws
 pub mod Marks
 pub mod InTime
+pub mod Formats
 pub mod Ledgers
 pub mod Kept
 pub mod Entries

@@ -5,6 +5,7 @@ ghost use Rattle.lz_machine.specs.Entries.{LedgerFits};
 ghost use Rattle.lz_machine.specs.FreedSlots.{FreedIsAllFree};
 ghost use Rattle.lz_machine.specs.JoinedRuns.{LeftIsStart, RunsJoin};
 ghost use Rattle.lz_machine.specs.Laws.{EveryHistory, WhatLasts, WalksMove};
+ghost use Rattle.lz_machine.specs.Formats.{FormatsStay};
 ghost use Rattle.lz_machine.specs.InTime.{NeverLate};
 ghost use Rattle.lz_machine.specs.Marks.{MarksTell};
 ghost use Rattle.lz_machine.specs.NextEvents.{NextIsKnown};
@@ -107,4 +108,10 @@ pub fn left_is_start()
 /// leave, their lives together are a chain.
 pub fn runs_join()
     ensures { RunsJoin }
+{}
+
+/// A file keeps its format: in each state that a run reaches the service is over a file of the format with which the run
+/// began, and so is each text that a crash may leave.
+pub fn formats_stay()
+    ensures { FormatsStay }
 {}
