@@ -12,3 +12,5 @@ pub mod Pasts
 pub mod Wrongs
 pub mod LineWords
 pub mod TextLines
+mod Runs
+mod Flawless

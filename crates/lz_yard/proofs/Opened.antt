@@ -205,6 +205,7 @@ pub refused_for : (before after : Device) (memory : Vaulted) (fault : OpenFault)
 refused_for before after memory fault opens none = record {
   honest = opens.honest;
   medium = λ honest. inr (opens.medium honest);
+  synced_first = λ honest other. opens.medium honest;
   time = opens.time;
   faults = opens.faults;
   why = λ honest. ⊎_elim
