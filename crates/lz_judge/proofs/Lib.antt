@@ -1,7 +1,7 @@
 pub mod Slots
 pub mod Files
 pub mod Passing
-pub mod Laws
+pub mod LawfulRuns
 pub mod Floors
 pub mod Lives
 pub mod Orders
@@ -14,3 +14,5 @@ pub mod LineWords
 pub mod TextLines
 mod Runs
 mod Flawless
+pub mod MarkLines
+pub mod Rows

@@ -1,9 +1,9 @@
 use Rattle.std.proofs.Common.{◌+◌, ◌∙◌, ℕ, arith, ap}
 use Rattle.std.specs.Str.Parse.{digits_value}
 use Rattle.std.proofs.lemmas.List.{take_all}
-use Rattle.lz_judge.specs.LinesRead.{largest_number, within}
-use Rattle.lz_judge.proofs.LineWords.{digits_next, too_large, fits}
-use Rattle.lz_judge.proofs.line.value_of.Goals as goal
+use Rattle.lz_slot.specs.Numerals.{largest_read, within}
+use Rattle.lz_slot.proofs.Numerals.{digits_next, too_large, fits}
+use Rattle.lz_slot.proofs.numeral.value_of.Goals as goal
 
 pub returns-in_err-checked_mul : goal.returns-in_err-checked_mul
 returns-in_err-checked_mul c =
@@ -21,4 +21,4 @@ loop-digit-preserved c =
     record { value = grind (arith, more, c.loop-digit.invariant.value); range = grind (arith, c.in_ok-number.ensures) }
 
 pub returns : goal.returns
-returns c = fits c.loop-digit.number c.loop-digit.invariant.range ∙ ap (λ (n : ℕ). within 0 largest_number n) (c.loop-digit.invariant.value ∙ ap (digits_value 10) (take_all c.loop-digit.digit-index c.args.digits.now c.loop-digit-test.false))
+returns c = fits c.loop-digit.number c.loop-digit.invariant.range ∙ ap (λ (n : ℕ). within 0 largest_read n) (c.loop-digit.invariant.value ∙ ap (digits_value 10) (take_all c.loop-digit.digit-index c.args.digits.now c.loop-digit-test.false))
