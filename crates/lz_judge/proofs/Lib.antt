@@ -12,5 +12,7 @@ pub mod Pasts
 pub mod Wrongs
 pub mod LineWords
 pub mod TextLines
+mod Runs
+mod Flawless
 pub mod MarkLines
 pub mod Rows
