@@ -5,11 +5,11 @@ use Rattle.lz_yard.proofs.Opened.{first_yard}
 use Rattle.lz_yard.proofs.yard.Yard.open.Goals as goal
 
 pub invariant_of-result : goal.invariant_of-result
-invariant_of-result g c = opened_fits _ _ _ _ _ _ _ c.in-Ok-of.ensures c.slots.ensures.count c.in_ok.ensures.ok.fresh.0
+invariant_of-result g c = opened_fits _ _ _ _ _ _ _ c.in-Ok.ensures c.slots.ensures.count c.in_ok-vault.ensures.ok.fresh.0
 
-pub returns-in-Ok-of-clause-ok : goal.returns-in-Ok-of-clause-ok
-returns-in-Ok-of-clause-ok g c =
-    let opens = c.in_ok.ensures.ok in
+pub returns-in-Ok-clause-ok : goal.returns-in-Ok-clause-ok
+returns-in-Ok-clause-ok g c =
+    let opens = c.in_ok-vault.ensures.ok in
     let count = c.slots.ensures.count in
     let bytes = λ (honest : IsTrue (g.D.Disk.device c.args.disk).honest).
     ap (λ (m : Medium). m.seen) (opens.medium honest) in
@@ -17,6 +17,6 @@ returns-in-Ok-of-clause-ok g c =
       vault = opens;
       buckets = refl;
       passes = refl;
-      first = first_yard _ _ _ _ _ _ c.in-Ok-of.ensures opens.fresh opens.blank c.requires.buckets c.requires.passes (rw count at c.slots.ensures.range) _ count (g.D.Disk.device c.args.disk)
+      first = first_yard _ _ _ _ _ _ c.in-Ok.ensures opens.fresh opens.blank c.requires.buckets c.requires.passes (rw count at c.slots.ensures.range) _ count (g.D.Disk.device c.args.disk)
           c.slots.ensures.kept.keys opens.steady opens.found opens.format (λ honest. subst AreBytes (bytes honest) (opens.kept honest).sound.seen.bytes);
     }
