@@ -1,17 +1,18 @@
 //! The commands over a disk in memory, byte for byte.
 use lazyset_commands::{make_on, run_on};
 use lz_disk::MemoryDisk;
+use lz_slot::Format;
 use std::alloc::{AllocError, Global};
 use std::test::Fail;
 
-/// A made file of two slots, as the format says.
+/// A made file of two slots, as format 1 says.
 pub const TWO_SLOTS: [u8; 48] = [
     0xa5, 0x4c, 0x5a, 0x59, 0x53, 0x45, 0x54, 0x31, 0, 0, 0, 0, 0, 0, 0, 2, //
     0, 0, 0, 0, 0, 0, 0, 0, 0, 0, 0, 0, 0, 0, 0, 0, //
     0, 0, 0, 0, 0, 0, 0, 0, 0, 0, 0, 0, 0, 0, 0, 0,
 ];
 
-/// A made file of one slot.
+/// A made file of one slot, of format 1.
 pub const ONE_SLOT: [u8; 32] = [
     0xa5, 0x4c, 0x5a, 0x59, 0x53, 0x45, 0x54, 0x31, 0, 0, 0, 0, 0, 0, 0, 1, //
     0, 0, 0, 0, 0, 0, 0, 0, 0, 0, 0, 0, 0, 0, 0, 0,
@@ -42,11 +43,11 @@ pub fn run(alloc: Global, disk: MemoryDisk, lines: &[u8]) -> Ran {
     }
 }
 
-/// A making on a disk, of so many slots.
-pub fn make(alloc: Global, disk: MemoryDisk, slots: u64) -> Ran {
+/// A making on a disk, of so many slots, in this format.
+pub fn make(alloc: Global, disk: MemoryDisk, slots: u64, format: Format) -> Ran {
     let mut disk = disk;
     let mut printed: Vec<u8> = Vec::new(alloc);
-    let status = make_on(&mut printed, &mut disk, slots);
+    let status = make_on(&mut printed, &mut disk, slots, format);
     Ran {
         code: status.code(),
         printed,
@@ -68,9 +69,21 @@ impl Ran {
 
 #[test]
 fn makes_a_file_of_two_slots(rt: HostRuntime) -> Result<(), Fail> {
-    let made = make(rt.alloc(), disk_with(rt.alloc(), &[])?, 2);
+    let made = make(rt.alloc(), disk_with(rt.alloc(), &[])?, 2, Format::One);
     assert!(rt; made.tells(0, b"made 2\n"));
     assert!(rt; made.leaves(&TWO_SLOTS));
+    assert_eq!(rt; made.disk.calls(), 10);
+    Ok(())
+}
+
+// A file of format 2 names it in byte 7, and is else as one of format 1.
+#[test]
+fn makes_a_file_of_format_2(rt: HostRuntime) -> Result<(), Fail> {
+    let mut bytes = TWO_SLOTS;
+    bytes[7] = 0x32;
+    let made = make(rt.alloc(), disk_with(rt.alloc(), &[])?, 2, Format::Two);
+    assert!(rt; made.tells(0, b"made 2\n"));
+    assert!(rt; made.leaves(&bytes));
     assert_eq!(rt; made.disk.calls(), 10);
     Ok(())
 }

@@ -1,6 +1,7 @@
 //! Each device call of a short run fails in turn, and each kind of crash follows.
 use crate::commands::{Ran, TWO_SLOTS, disk_with, make, run};
 use lz_disk::{Disk, MemoryDisk, Pick};
+use lz_slot::Format;
 use std::alloc::Global;
 use std::process::Abort;
 use std::test::Fail;
@@ -109,7 +110,7 @@ fn an_answered_removal_lasts(rt: HostRuntime) -> Result<(), Fail> {
 fn make_until(alloc: Global, passes: u64) -> Result<Ran, Fail> {
     let mut disk = disk_with(alloc, &[])?;
     disk.fuse(passes);
-    Ok(make(alloc, disk, 2))
+    Ok(make(alloc, disk, 2, Format::One))
 }
 
 // Before its last sync has succeeded, a making is done or not done, as the crash picks.
@@ -129,7 +130,7 @@ fn a_making_that_fails_at_its_last_sync(rt: HostRuntime) -> Result<(), Fail> {
 // The file that a crash in making's first write may leave is made anew.
 #[test]
 fn a_broken_off_making_is_made_anew(rt: HostRuntime) -> Result<(), Fail> {
-    let made = make(rt.alloc(), disk_with(rt.alloc(), &[0xa5])?, 2);
+    let made = make(rt.alloc(), disk_with(rt.alloc(), &[0xa5])?, 2, Format::One);
     assert!(rt; made.tells(0, b"made 2\n"));
     assert!(rt; made.leaves(&TWO_SLOTS));
     Ok(())

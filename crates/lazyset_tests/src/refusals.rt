@@ -1,5 +1,6 @@
 //! Each refusal of a make and of an open, once.
 use crate::commands::{ONE_SLOT, TWO_SLOTS, disk_with, make, run};
+use lz_slot::Format;
 use std::test::Fail;
 
 // A file of two slots with this byte at this place.
@@ -95,7 +96,12 @@ fn refuses_to_make(rt: HostRuntime) -> Result<(), Fail> {
         (&long, 2, b"refused 4\n", 3),
     ];
     for (bytes, slots, told, code) in rows {
-        let made = make(rt.alloc(), disk_with(rt.alloc(), bytes)?, slots);
+        let made = make(
+            rt.alloc(),
+            disk_with(rt.alloc(), bytes)?,
+            slots,
+            Format::One,
+        );
         assert!(rt; made.tells(code, told));
         assert!(rt; made.leaves(bytes));
     }
