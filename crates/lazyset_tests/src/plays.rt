@@ -27,7 +27,7 @@ type Play<'a> = (&'a [Step], &'a [u8], bool, bool);
 
 // Whether the plays, one after another on one world, tell this and leave it so.
 fn hold(alloc: Global, plays: &[Play], nine: Key) -> Result<bool, AllocError> {
-    let mut world = World::new(alloc, Format::One, 2, 1)?;
+    let mut world = World::new(alloc, 2, 1, Format::One)?;
     for (steps, tells, is_open, is_member) in plays.iter() {
         let told = told(&mut world, alloc, steps)?;
         let members = world.members(alloc)?;

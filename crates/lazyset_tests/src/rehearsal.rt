@@ -1,11 +1,13 @@
 //! Rehearsals, as transcripts and byte for byte.
 use crate::transcript::{Transcript, transcripts};
 use lazyset_commands::rehearse_on;
+use lz_slot::{Format, MOST_BUCKETS, MOST_REHEARSED};
 use std::alloc::Global;
 use std::process::Abort;
 use std::test::Fail;
 
-/// Whether the rehearsal of a script, on so many slots and buckets, ends with this code and has printed this.
+/// Whether the rehearsal of a script, on so many slots and buckets, ends with this code and has printed this, in a file of
+/// either format.
 pub fn prints(
     alloc: Global,
     slots: usize,
@@ -14,13 +16,18 @@ pub fn prints(
     code: u8,
     told: &[u8],
 ) -> bool {
-    if slots < 1 || 64 < slots || buckets < 1 || 4096 < buckets {
+    if slots < 1 || MOST_REHEARSED < slots || buckets < 1 || MOST_BUCKETS < buckets {
         return false;
     }
-    let mut reader = script;
-    let mut output: Vec<u8> = Vec::new(alloc);
-    let status = rehearse_on(alloc, &mut reader, &mut output, slots, buckets);
-    status.code() == code && output.as_slice() == told
+    for format in [Format::One, Format::Two] {
+        let mut reader = script;
+        let mut output: Vec<u8> = Vec::new(alloc);
+        let status = rehearse_on(alloc, &mut reader, &mut output, slots, buckets, format);
+        if status.code() != code || output.as_slice() != told {
+            return false;
+        }
+    }
+    true
 }
 
 // Whether the last line of what is printed names a line of the script, one that isn't lawful.
@@ -50,7 +57,7 @@ fn rehearse(rt: &impl Abort, alloc: Global, transcript: &Transcript) -> Result<(
 }
 
 /// Rehearses each transcript of a text, and asserts that each of its lines prints what stands below it. A line that isn't
-/// lawful where it stands is a transcript's last.
+/// lawful where it stands prints its number, and nothing is printed behind it.
 pub fn rehearse_all(rt: &impl Abort, alloc: Global, text: &str) -> Result<(), Fail> {
     let transcripts = transcripts(rt, alloc, text)?;
     for transcript in transcripts.iter() {
