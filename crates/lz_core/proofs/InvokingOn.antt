@@ -82,7 +82,7 @@ module _ (shape : Shape) (over : YardOver Past) (disk : Option Past) (callers : 
     };
   }
 
-  module _ (over' : YardOver Past) (outcome : Outcome) (event : Played over.yard a (Invoke c) outcome over'.yard over'.changed (device_of over.disk) (device_of over'.disk)) where
+  module _ (over' : YardOver Past) (outcome : Outcome) (event : Played over.yard a (Invoke c) outcome over'.yard over'.told (device_of over.disk) (device_of over'.disk)) where
     abbrev disk_now : Medium
     disk_now = after over'.disk.start over'.disk.records
 

@@ -17,9 +17,9 @@ use Rattle.lz_core.specs.declared.play.Step.TheVariants.{Call as CallOf, Trip, S
 use Rattle.lz_core.specs.declared.open_calls.OpenCall.{OpenCall}
 use Rattle.lz_machine.specs.Yards.{Shape}
 use Rattle.lz_machine.specs.Runs.{Caller, Calls, caller_at, Start, start_keys, State, Up, Down, Step, Trips, Stops, Crashes, MayStep, disk_of, state_after, calls_after, marks_of, shape_of, Point, point_after, run, first_point}
-use Rattle.lz_core.specs.Plays.{IsPlayOf, IsReached}
+use Rattle.lz_core.specs.Plays.{IsPlayOf}
 use Rattle.lz_yard.specs.Parts.{YardOver}
-use Rattle.lz_core.specs.Worlds.{WorldOver, StopsEarly, IsQuiet, HasRun, PlaysOn, HasOne, IsCallOn, IsLawful, IsOpenFor, IsWorld, MayCall, call_shown, state_shown, disk_shown}
+use Rattle.lz_core.specs.Worlds.{WorldOver, StopsEarly, HasRun, PlaysOn, HasOne, IsCallOn, IsLawful, IsWorld, MayCall, call_shown, state_shown, disk_shown}
 use Rattle.lz_machine.specs.Points.{IsQuiet, IsReached}
 use Rattle.lz_machine.specs.Sound.{PointSound}
 use Rattle.lz_machine.proofs.Runs.ReachedPoint.{reach, shape_kept}

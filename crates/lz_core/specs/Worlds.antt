@@ -15,8 +15,6 @@ use Rattle.lz_machine.specs.Kinds.{kind_of}
 use Rattle.lz_machine.specs.declared.event.Reply.TheVariants.{OldFile as SaysOldFile}
 use Rattle.lz_machine.specs.declared.caller.Progress.{Progress}
 use Rattle.lz_machine.specs.declared.caller.Progress.TheVariants.{Answering}
-use Rattle.lz_core.specs.declared.kind.Kind.{Kind}
-use Rattle.lz_core.specs.declared.kind.Kind.TheVariants as kind
 use Rattle.lz_core.specs.declared.play.Step.{Step as PlayStep}
 use Rattle.lz_core.specs.declared.play.Step.TheVariants.{Call, Turn as TurnOf, Open}
 use Rattle.lz_core.specs.declared.open_calls.OpenCall.{OpenCall}

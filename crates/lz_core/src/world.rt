@@ -3,7 +3,7 @@ ghost use Rattle.std.specs.Prelude.{◌≡◌, ◌≤◌, ◌↔◌, ◌==◌, �
 ghost use Rattle.lz_slot.specs.Limits.{most_buckets, most_rehearsed};
 ghost use Rattle.lz_slot.specs.Sets.{members};
 ghost use Rattle.lz_slot.specs.Counted.{of_pass};
-ghost use Rattle.lz_core.specs.Worlds.{Ascend, IsChain, IsLawful, IsNew, IsOpenFor, IsOutcome, IsTold, IsUp, MayCall, MayStepOn, PlaysOn, Shows, StepsOn, StopsAt, StopsEarly, event_asked, event_loaded, mark_list, next_of, state_shown, begun_after};
+ghost use Rattle.lz_core.specs.Worlds.{Ascend, IsChain, IsLawful, IsNew, IsOutcome, IsTold, IsUp, MayCall, MayStepOn, PlaysOn, Shows, StepsOn, StopsAt, StopsEarly, event_asked, event_loaded, mark_list, next_of, state_shown, begun_after};
 ghost use Rattle.lz_machine.specs.Kinds.{kind_of};
 
 use crate::disks::{crash_disk, stop_disk, trip_disk};
