@@ -15,7 +15,7 @@ use Rattle.std.specs.Str.Parse.{digits_value}
 use Rattle.std.proofs.lemmas.Bool.Decides.{nat_tests, Decides-eqb}
 use Rattle.std.proofs.lemmas.Fmt.{decimal-digits_value, digits_decimal, digits_value-decimal, length-decimal-le, decimal_nonempty, first_decimal, decimal_digit}
 use Rattle.std.proofs.lemmas.Str.Parse.{digits_value_short}
-use Rattle.lz_slot.specs.Limits.{largest_key}
+use Rattle.lz_slot.specs.Limits.{largest_number as largest_key}
 use Rattle.lz_proto.proofs.Digits.{tested}
 use Rattle.lz_proto.specs.Lines.{is_number, is_digit, request_text, NamesKey, fault_of_body, without_return, IsItem, item_of}
 use Rattle.lz_proto.specs.declared.item.Item.{Item}

@@ -1,7 +1,7 @@
 -- What lines ask for. A text is a list of bytes.
 use Rattle.std.specs.Prelude.{◌≡◌, ◌≢◌, ℕ, ◌≤◌, Bool, false, not, ◌&&◌, ◌==◌, ◌-◌, take, nat_lt, nat_le, nat_eq, if◌then◌else◌, Result, Ok, Err, slice_index, List, [], ◌∷◌, ◌++◌, length, drop, codes, decimal}
 use Rattle.std.specs.List.{list_any, list_all, starts_with}
-use Rattle.lz_slot.specs.Limits.{largest_key}
+use Rattle.lz_slot.specs.Limits.{largest_number as largest_key}
 use Rattle.lz_proto.specs.declared.request.Request.{Request}
 use Rattle.lz_proto.specs.declared.request.Request.TheVariants.{Add, Remove, Has, Quit}
 use Rattle.lz_proto.specs.declared.fault.Bad.{Bad}

@@ -8,7 +8,7 @@ use Rattle.lz_proto.specs.declared.fault.Bad.TheVariants.{TooLong, NoCommand, No
 use Rattle.lz_proto.specs.declared.item.Item.{Item}
 use Rattle.lz_proto.specs.declared.item.Item.TheVariants.{Asks, Faulty}
 use Rattle.lz_proto.specs.declared.reply.Reply.{Reply}
-use Rattle.lz_proto.specs.declared.reply.Reply.TheVariants.{Yes, No, Full, Halted, Worn}
+use Rattle.lz_proto.specs.declared.reply.Reply.TheVariants.{Yes, No, Full, Halted, Worn, OldFile}
 use Rattle.lz_proto.specs.declared.fault.SessionFault.{SessionFault}
 use Rattle.lz_proto.specs.declared.fault.SessionFault.TheVariants.{Read, Write, Memory}
 use Rattle.lz_proto.specs.declared.end.End.{End}
@@ -22,6 +22,7 @@ reply_text No = codes "no\n"
 reply_text Full = codes "full\n"
 reply_text Halted = codes "halted\n"
 reply_text Worn = codes "worn\n"
+reply_text OldFile = codes "oldfile\n"
 
 abbrev pub bad_text : Bad → List ℕ
 bad_text TooLong = codes "bad 1\n"
