@@ -49,8 +49,9 @@ pub fn alone_is_plain()
     ensures { AloneIsPlain }
 {}
 
-/// Where no other actor takes a step, an adding is full exactly where its key is no member and the set has as many members
-/// as there are slots: one that is answered yes found fewer.
+/// Where no other actor takes a step, a call is told of an old file exactly where it adds a key that the file's format can't
+/// hold; else an adding is full exactly where its key is no member and the set has as many members as there are slots: one
+/// that is answered yes found fewer.
 pub fn full_is_right()
     ensures { FullIsRight }
 {}

@@ -95,7 +95,7 @@ step_format : (start : Start) (w : State) (M : History) (P : Trace) (calls : ℕ
 step_format start (Up service disk) M P calls sound timely format i step may h = up_format start service disk M P calls sound (timely service disk refl) format i step may h
 step_format start (Down shape disk) M P calls sound timely format i step may h = down_format start shape disk M P calls sound format i step may h
 
-run_format : (start : Start) (steps : List Step) → IsStart start → IsRun (first_point start) steps → HasFormat (format_of start.text) (run (first_point start) steps).state
+pub run_format : (start : Start) (steps : List Step) → IsStart start → IsRun (first_point start) steps → HasFormat (format_of start.text) (run (first_point start) steps).state
 run_format start [] is runs = refl
 run_format start (step ∷ steps) is runs =
     let before = run (first_point start) steps in
