@@ -4,6 +4,7 @@ ghost use Rattle.std.specs.Io.KnownBytes.{Appends};
 ghost use Rattle.lz_disk.specs.Devices.{LeavesOnly};
 ghost use Rattle.lz_vault.specs.Opens.{IsFaultOf, Opens};
 ghost use Rattle.lz_vault.specs.Vaults.{VaultOver};
+ghost use Rattle.lz_slot.specs.Bytes.{format_of};
 ghost use Rattle.lz_slot.specs.Sets.{Keys};
 ghost use Rattle.lazyset_commands.specs.Plains.{EachHolds};
 ghost use Rattle.lazyset_commands.specs.Runs.{CarriedOut, HoldsOne, HoldsSome, RepliesOfSet, ServedWhole, refusal_text};
@@ -65,7 +66,7 @@ pub fn run_on<R: Read + Drop, W: Write + Drop, D: Disk>(
 
     // Where each image holds S, the replies of such a run are the plain set's, and it leaves the set after them.
     ensures plain { (N : ℕ) (S : Keys) → IsTrue (D.device disk).honest → EachHolds (D.device disk).medium N S → result.0 ≡ Status.Done
-        → RepliesOfSet N S (R.remaining reader.old) (W.contents writer.old) (W.contents writer.new) (D.device result.1).medium }
+        → RepliesOfSet (format_of (D.device disk).medium.seen) N S (R.remaining reader.old) (W.contents writer.old) (W.contents writer.new) (D.device result.1).medium }
 
     // Where all that a crash may leave holds one set, a crash at any moment of the run leaves a file that holds some set.
     ensures any_moment { (N : ℕ) → IsTrue (D.device disk).honest → HoldsOne (D.device disk).medium N

@@ -4,7 +4,7 @@ use Rattle.lz_slot.specs.Sets.{key_of}
 use Rattle.lz_slot.specs.declared.command.Command.{Command}
 use Rattle.lz_slot.specs.declared.command.Command.TheVariants.{Add, Remove, Has}
 use Rattle.lz_slot.specs.declared.history.Refusal.{Refusal}
-use Rattle.lz_slot.specs.declared.history.Refusal.TheVariants.{Full, Worn}
+use Rattle.lz_slot.specs.declared.history.Refusal.TheVariants.{Full, Worn, OldFile}
 use Rattle.lz_slot.specs.declared.history.Cut.{Cut}
 use Rattle.lz_slot.specs.declared.history.Cut.TheVariants.{Halted, Device}
 use Rattle.lz_slot.specs.declared.history.Mark.{Mark}
@@ -22,6 +22,7 @@ answer_word false = codes "no"
 abbrev pub refusal_word : Refusal → List ℕ
 refusal_word Full = codes "full"
 refusal_word Worn = codes "worn"
+refusal_word OldFile = codes "oldfile"
 
 abbrev pub cut_word : Cut → List ℕ
 cut_word Halted = codes "halted"

@@ -152,6 +152,7 @@ fn refusal_word(why: Refusal) -> &'static str
     match why {
         Refusal::Full => "full",
         Refusal::Worn => "worn",
+        Refusal::OldFile => "oldfile",
     }
 }
 
