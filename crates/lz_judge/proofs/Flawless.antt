@@ -17,7 +17,7 @@ use Rattle.lz_judge.specs.declared.flaw.Flaw.TheVariants.{Unlisted, NeverCalled,
 use Rattle.lz_judge.specs.Passes.{IsAt, is_made}
 use Rattle.lz_judge.specs.Plays.{IsKnown, lives_before, this_start}
 use Rattle.lz_judge.specs.Verdicts.{AreCalled, AreListed}
-use Rattle.lz_judge.proofs.Laws.{made_more}
+use Rattle.lz_judge.proofs.LawfulRuns.{made_more}
 use Rattle.lz_judge.proofs.Pasts.{listed_append, listed_left, listed_right}
 use Rattle.lz_judge.proofs.Runs.{AreApart, RunIs, chain_before, chain_run, run_leads, run_replies}
 
