@@ -22,7 +22,9 @@ fn format<'a>(alloc: Global) -> Arg<'a> {
         .value_name("F")
         .value_parser(value_parser!(u64).range(1..=2))
         .default_value("2")
-        .help("The format of the file: 2, whose keys are in the rooms 0 to 15, or 1, whose keys are in room 0")
+        .help(
+            "The format of the file: 2, whose keys are in the rooms 0 to 15, or 1, whose keys are in room 0",
+        )
 }
 
 fn make<'a>(alloc: Global) -> Result<Command<'a>, AllocError> {
