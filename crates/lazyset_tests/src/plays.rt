@@ -31,8 +31,12 @@ fn hold(alloc: Global, plays: &[Play], nine: Key) -> Result<bool, AllocError> {
     for (steps, tells, is_open, is_member) in plays.iter() {
         let told = told(&mut world, alloc, steps)?;
         let members = world.members(alloc)?;
-        let keys: &[Key] = if *is_member { &[nine] } else { &[] };
-        if told.as_slice() != *tells || world.is_open() != *is_open || members.as_slice() != keys {
+        let is_shown = match members.as_slice() {
+            [] => !*is_member,
+            [key] => *is_member && *key == nine,
+            _ => false,
+        };
+        if told.as_slice() != *tells || world.is_open() != *is_open || !is_shown {
             return Ok(false);
         }
     }
