@@ -2,6 +2,7 @@
 ghost use Rattle.std.specs.Prelude.{◌≡◌, ◌≤◌, ◌↔◌, ◌==◌, ◌||◌, IfOk, IfErr, OnErr, IsErrOf, IsTrue, IfSome, Some, None, [], ◌∷◌, length};
 ghost use Rattle.lz_slot.specs.Sets.{members};
 ghost use Rattle.lz_slot.specs.Counted.{of_pass};
+ghost use Rattle.lz_machine.specs.Kinds.{kind_of};
 ghost use Rattle.lz_core.specs.Worlds.{Ascend, IsChain, IsLawful, IsNew, IsOutcome, IsTold, IsUp, MayCall, MayStepOn, PlaysOn, Shows, StepsOn, StopsAt, StopsEarly, event_asked, event_loaded, mark_list, next_of, state_shown};
 
 use crate::disks::{crash_disk, stop_disk, trip_disk};
@@ -38,15 +39,6 @@ pub struct Turned {
     pub outcome: Outcome,
     /// How its call ended, if it did.
     pub mark: Option<Mark>,
-}
-
-// One line for each kind of event. Whatever the kind, the event is played on the yard and the caller takes the outcome.
-macro_rules! turned {
-    ($world:ident, $actor:ident, $event:ident; $($pattern:pat => $kind:ident;)*) => {
-        match $event {
-            $($pattern => Ok($world.play_event($actor, Kind::$kind, $event)),)*
-        }
-    };
 }
 
 /// A service over a fresh disk in memory, with the calls of 64 actors. What a device would do it does where the disk was
@@ -109,27 +101,7 @@ impl World {
         let Some(event) = self.next_event(actor) else {
             return Err(PlayFault::NotNow(1));
         };
-        turned! { self, actor, event;
-            Event::Invoke(_) => Invoke;
-            Event::Pin => Pin;
-            Event::Hop(_) => Hop;
-            Event::Reserve => Reserve;
-            Event::WriteKey(_) => WriteKey;
-            Event::Claim(_, _) => Claim;
-            Event::Check => Check;
-            Event::WriteOpen => WriteOpen;
-            Event::Link => Link;
-            Event::WriteClose => WriteClose;
-            Event::Mark => Mark;
-            Event::Release => Release;
-            Event::Sync(_) => Sync;
-            Event::Settle(_) => Settle;
-            Event::Unlink => Unlink;
-            Event::Retire => Retire;
-            Event::SeePin(_, _) => SeePin;
-            Event::Answer => Answer;
-            Event::Halt => Halt;
-        }
+        Ok(self.play_event(actor, event))
     }
 
     /// The members now, ascending: the keys that are linked and not marked. There are none without an open service.
@@ -242,19 +214,20 @@ impl World {
         }
     }
 
-    // Plays an actor's next event, which is of this kind.
-    fn play_event(&mut self, actor: usize, kind: Kind, event: Event) -> Turned
+    // Plays an actor's next event.
+    fn play_event(&mut self, actor: usize, event: Event) -> Turned
         requires { next_of self.old.state actor ≡ Some event }
-        ensures kind { result.kind ≡ kind }
+        ensures kind { result.kind ≡ kind_of event }
         ensures outcome { IsOutcome self.old.state actor event result.outcome self.new.state }
         ensures plays { PlaysOn self.old (Step.Turn actor ∷ []) (mark_list result.mark) self.new }
         ensures goes_on { result.mark ≡ None → IsLawful self.new.state (Step.Turn actor) }
     {
+        let played = event;
         let outcome = step_on(&mut self.yard, actor, event);
         let told = outcome;
         let mark = take_outcome(&mut self.callers[actor - 1], outcome);
         Turned {
-            kind,
+            kind: played.kind(),
             outcome: told,
             mark,
         }

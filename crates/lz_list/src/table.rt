@@ -83,6 +83,13 @@ impl Words {
         self.links.len()
     }
 
+    /// How many passes there are.
+    pub fn passes(&self) -> usize
+        ensures { result ≡ length self.now.pins }
+    {
+        self.pins.len()
+    }
+
     pub fn get(&self, word: Word) -> u64
         requires { IsWord self.now word }
         ensures { result ≡ get self.now word }

@@ -1,5 +1,5 @@
 -- One caller: each life is a plain set's, one command after the other.
-use Rattle.std.specs.Prelude.{◌≡◌, ◌⊎◌, ℕ, ◌<◌, Bool, true, false, List, [], ◌∷◌, length, nat_eq, Some}
+use Rattle.std.specs.Prelude.{◌≡◌, ◌⊎◌, ℕ, ◌<◌, Bool, true, false, List, [], ◌∷◌, length, nat_eq, None, Some}
 use Rattle.std.specs.List.{IsDistinct}
 use Rattle.lz_slot.specs.declared.command.Command.{Command}
 use Rattle.lz_slot.specs.declared.command.Command.TheVariants.{Add}
@@ -9,7 +9,9 @@ use Rattle.lz_slot.specs.Sets.{Keys, Same, members, key_of, after, reply}
 use Rattle.lz_slot.specs.Bytes.{Holds}
 use Rattle.lz_slot.specs.Histories.{History, Life, lives}
 use Rattle.lz_disk.specs.Images.{Medium}
-use Rattle.lz_list.specs.Traces.{Trace}
+use Rattle.lz_allot.specs.Uses.{collect, lowest_free}
+use Rattle.lz_list.specs.Traces.{Trace, member}
+use Rattle.lz_machine.specs.declared.caller.Progress.TheVariants.{Reserving}
 use Rattle.lz_machine.specs.declared.event.Reply.TheVariants.{Worn as SaysWorn, Halted, Device}
 use Rattle.lz_machine.specs.Table.{pin_of, last_pin}
 use Rattle.lz_machine.specs.Runs.{Start, IsStart, Service, Caller, Up, Step, Calls, Turn, Fails, Looks, CrashesIn, MayStep, MayLeave, Reached, IsRun, run, first_point, start_keys, caller_at, reply_at}
@@ -94,6 +96,15 @@ FullIsRight =
     (start : Start) (steps : List Step) (a : ℕ)
     → IsStart start → IsRun (first_point start) steps → IsAlone a steps
     → AreSized start.shape.slots (lives (start_keys start) (run (first_point start) steps).marks)
+
+-- In a set of one pass: where an adding that has seen all pins finds no slot, as many keys are members as there are slots, by
+-- the trace.
+abbrev pub FullOfOnePass : Type 0
+FullOfOnePass =
+    (start : Start) (service : Service) (disk : Medium) (M : History) (P : Trace) (a : ℕ) (caller : Caller)
+    → Reached start (Up service disk) M P → service.yard.shape.passes ≡ 1 → caller_at service.callers a ≡ Some caller
+    → caller.progress ≡ Reserving true → lowest_free (collect service.yard.uses) ≡ None
+    → HasMembers (λ k. member k P) service.yard.shape.slots
 
 -- A turn that answers worn is taken where the pin word is 2^62, and one that answers halted or device where the vault is
 -- dead. This holds of any number of actors.

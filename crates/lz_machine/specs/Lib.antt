@@ -1,5 +1,4 @@
 pub mod Yards
-pub mod Kinds
 pub mod Table
 pub mod Calls
 pub mod Orders
@@ -17,3 +16,9 @@ pub mod Lasts
 pub mod Ready
 pub mod Sound
 pub mod Alone
+pub mod NextEvents
+pub mod Kinds
+pub mod FreedSlots
+pub mod OneAdd
+pub mod OpenFailures
+pub mod JoinedRuns

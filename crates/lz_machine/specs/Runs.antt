@@ -24,6 +24,7 @@ use Rattle.lz_machine.specs.declared.event.Outcome.{Outcome}
 use Rattle.lz_machine.specs.declared.event.Outcome.TheVariants.{NotNow}
 use Rattle.lz_machine.specs.declared.event.Reply.{Reply}
 use Rattle.lz_machine.specs.declared.event.Reply.TheVariants.{Yes, No, Full, Worn, Halted, Device}
+use Rattle.lz_machine.specs.OpenFailures.{IsOpenFailure}
 use Rattle.lz_machine.specs.Yards.{Shape, Yard, opened_yard, first_trace}
 use Rattle.lz_machine.specs.Table.{line, line_failed, line_call, line_publishes, pin_of, last_pin}
 use Rattle.lz_machine.specs.declared.caller.Progress.{Progress}
@@ -147,7 +148,8 @@ by_key (f ∷ found) = insert f.0 f.1 (by_key found)
 abbrev pub keys_found : List ℕ → ℕ → List ℕ
 keys_found t N = map (λ f. f.0) (by_key (held t N))
 
--- A step may be taken in a state. An open succeeds where what it reads holds a set, and a call begins where the
+-- A step may be taken in a state. An open succeeds where what it reads holds a set, and is refused because of the device or
+-- for want of memory; a call begins where the
 -- actor's pin word is even, so that no look is half done; its key is one of the format.
 abbrev pub HasTurn : Service → ℕ → Option Caller → Type 0
 HasTurn service a None = ⊥
@@ -188,7 +190,7 @@ MayStep (Down shape disk) Stops = Unit {0}
 MayStep (Down shape disk) (Crashes t) = IsImage disk t
 MayStep (Down shape disk) (CrashesIn a t) = ⊥
 MayStep (Down shape disk) Opens = Holds disk.seen shape.slots (members (keys_found disk.seen shape.slots))
-MayStep (Down shape disk) (OpenFails why done) = Unit {0}
+MayStep (Down shape disk) (OpenFails why done) = IsOpenFailure why
 
 -- the mark of a reply
 abbrev pub mark_of : ℕ → Reply → Mark

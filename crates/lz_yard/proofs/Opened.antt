@@ -34,11 +34,12 @@ use Rattle.lz_machine.specs.Yards.{Yard, Shape, no_cell, cell_read, use_read, sl
 use Rattle.lz_yard.specs.Filling.{member_in, member_at, has_node, AreDistinct, AreTables, HasNoTables}
 use Rattle.lz_machine.specs.Runs.{IsStart, by_key, keys_found}
 use Rattle.lz_machine.proofs.Open.Texts.{text_of, text_size, text_head, text_says, text_bytes}
-use Rattle.lz_machine.proofs.Open.FirstNodes.{has_node as node_in, node_has_key, node_held, held_found, key_held}
+use Rattle.lz_machine.proofs.Open.FirstNodes.{has_node as node_in, node_held, held_found}
+use Rattle.lz_machine.proofs.Open.ListedKeys.{holds_listed}
 use Rattle.lz_yard.proofs.Members.{node_cases, node_slot, slot_node, are_found, are_distinct}
 use Rattle.lz_yard.proofs.Arranged.{Within, same_words_after}
 use Rattle.lz_yard.proofs.Founding.{opened}
-use Rattle.lz_yard.proofs.FoundSlots.{read_length, any_key, key_by}
+use Rattle.lz_yard.proofs.FoundSlots.{read_length}
 
 same_node : (k s : ℕ) (c : Chain) → node_in k s c ≡ has_node k s c
 same_node k s [] = refl
@@ -213,21 +214,6 @@ refused_for before after memory fault opens none = record {
   where
     apart : Memory ≡ DeviceFailed → ⊥
     apart h = absurd cc
-
--- a text that says what distinct cells do holds the set that is listed of it
-pub holds_listed : (t : List ℕ) (N : ℕ) → 1 ≤ N → N ≤ most_slots → length t ≡ 16 + 16 * N → take 16 t ≡ open_byte ∷ header_body N
-    → ((i : ℕ) → i < N → slot_at t i ≢ BadKey_read) → ((i j k : ℕ) → i < N → j < N → slot_at t i ≡ Member_read k → slot_at t j ≡ Member_read k → i ≡ j)
-    → Holds t N (members (keys_found t N))
-holds_listed t N low high size head fine once = record {
-  count = (low, high);
-  size = size;
-  head = head;
-  no_bad_key = fine;
-  no_key_twice = once;
-  set = λ k.
-      let same : members (keys_found t N) k ≡ has_key k (held t N) = any_key k (by_key (held t N)) ∙ key_by k (held t N) in
-      ((λ yes. key_held t N k (sym same ∙ yes)), (λ found. same ∙ node_has_key k found.0 (held t N) (node_held t N k found.0 found.1 found.2)));
-}
 
 -- a text that says what the cells of an open do begins a life
 module _ (vault : Vaulted) (B S : ℕ) (list : Listed) (allot : Allotted) (actors : List Actor) (are : AreTables vault.cells B S list allot actors)

@@ -46,12 +46,12 @@ use Rattle.lz_machine.proofs.Runs.CallerTable.{none_of, fault_no_reply}
 use Rattle.lz_machine.proofs.Steps.Point.{reply_lives}
 
 -- of a state
-abbrev FullAt : ℕ → State → Trace → Type 0
+abbrev pub FullAt : ℕ → State → Trace → Type 0
 FullAt a (Up service disk) P = AloneFull a service.yard (caller_at service.callers a) P
 FullAt a (Down shape disk) P = Unit {0}
 
 -- a service that is opened
-no_limbo_read : (rs : List SlotRead) (s : ℕ) (seen : List Sight) → use_of (map use_read rs) s ≡ Limbo seen → ⊥
+pub no_limbo_read : (rs : List SlotRead) (s : ℕ) (seen : List Sight) → use_of (map use_read rs) s ≡ Limbo seen → ⊥
 no_limbo_read [] s seen is = absurd cc
 no_limbo_read (Member k ∷ rs) zero seen is = absurd cc
 no_limbo_read (Shut ∷ rs) zero seen is = absurd cc
@@ -148,7 +148,8 @@ full_step start a (Down shape disk) M P calls Opens own may (life ∷ earlier) s
 full_step start a (Down shape disk) M P calls (OpenFails why true) own may (life ∷ earlier) sound h = tt
 full_step start a (Down shape disk) M P calls (OpenFails why false) own may (life ∷ earlier) sound h = tt
 
-reached_full : (start : Start) (steps : List Step) (a : ℕ) → IsStart start → IsRun (first_point start) steps → IsAlone a steps → FullAt a (run (first_point start) steps).state (run (first_point start) steps).trace
+-- at each point that is reached
+pub reached_full : (start : Start) (steps : List Step) (a : ℕ) → IsStart start → IsRun (first_point start) steps → IsAlone a steps → FullAt a (run (first_point start) steps).state (run (first_point start) steps).trace
 reached_full start [] a is runs alone = opened_full a start.shape start.text (first_trace start.shape start.text) (at_rest start.text)
 reached_full start (step ∷ steps) a is runs alone =
     let p = run (first_point start) steps in

@@ -49,7 +49,7 @@ use Rattle.lz_machine.proofs.Frames.PinOrder.{since_pin, turn_after, adds_change
 use Rattle.lz_machine.proofs.Runs.NextEvent.{since_same, Goes, turned, turned_same, by_course, by_course_too, plays_turn, plays_turn_too, sync_turn}
 
 -- a settling changes no pin
-settled_pins : (y : Yard) (a s : ℕ) → (words_after y (actor_at y a) a (Settle s)).pins ≡ y.words.pins
+pub settled_pins : (y : Yard) (a s : ℕ) → (words_after y (actor_at y a) a (Settle s)).pins ≡ y.words.pins
 settled_pins y a s = go (is_sure y s)
   where
     go : (sure : Bool) → (if sure then change_flags (settle (cell_at y s).stage) y.words s else y.words).pins ≡ y.words.pins
