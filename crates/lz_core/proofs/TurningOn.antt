@@ -36,13 +36,12 @@ use Rattle.lz_core.proofs.Worlding.{Goes, leads, runs_on, shape_is, shown_at, sh
 use Rattle.std.proofs.lemmas.List.{length-map, get_or-set_same}
 use Rattle.lz_list.specs.Words.{Words}
 use Rattle.lz_machine.proofs.Frames.OneActor.{caller_range}
-use Rattle.lz_machine.proofs.Runs.CallerEvent.{Next, is_next, some_and}
+use Rattle.lz_machine.proofs.Runs.CallerEvent.{Next, is_next}
 use Rattle.lz_yard.proofs.Keeping.{played_shape, fault_or_not}
 use Rattle.lz_machine.proofs.Runs.CallerTable.{fault_no_reply}
-use Rattle.lz_machine.proofs.Runs.OpenCall.{shaped, same_event, same_follows}
 use Rattle.lz_machine.proofs.Theorem.Timing.{is_event, in_time, may_take, quiet_step}
 use Rattle.lz_machine.proofs.Theorem.Timeliness.{is_look, may_take_fault}
-
+use Rattle.lz_machine.proofs.Runs.EventOrder.{shaped, same_event, same_follows}
 
 next_by : (service : Service) (a : ℕ) (o : Option Caller) (e : Event) → caller_at service.callers a ≡ o → next_of_caller service o ≡ Some e → Next service a e
 next_by service a None e at next = absurd (false≢true (ap is_some next))

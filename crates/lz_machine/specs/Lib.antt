@@ -1,5 +1,4 @@
 pub mod Yards
-pub mod Kinds
 pub mod Table
 pub mod Calls
 pub mod Orders

@@ -20,7 +20,7 @@ use Rattle.lz_machine.specs.Ready.{IsEventOf}
 use Rattle.lz_machine.specs.Runs.{Caller, Calls, MayPlay, MayStep, Point, Service, State, Step, Up, caller_at, first_point, moved_on, next_event, point_after, reply_at, shape_of, state_after}
 use Rattle.lz_machine.specs.Table.{line}
 use Rattle.lz_machine.specs.Yards.{Shape, Yard}
-use Rattle.lz_machine.proofs.Runs.OpenCall.{same_event, same_follows}
+use Rattle.lz_machine.proofs.Runs.EventOrder.{same_event, same_follows}
 use Rattle.lz_machine.proofs.Runs.ReachedPoint.{as_reached, reach, shape_kept}
 use Rattle.lz_machine.proofs.Theorem.Reached.{every_history}
 use Rattle.lz_machine.proofs.Theorem.Timeliness.{is_look, may_take_fault}

@@ -1,19 +1,12 @@
--- The order of a call's events is the same in yards of any number of slots.
-use Rattle.std.proofs.Common.{◌≡◌, ℕ, zero, suc, Bool, true, false, List, [], ◌∷◌, slice_index_or, Option, Some, None, IsSomeAnd, refl, sym}
-use Rattle.std.proofs.lemmas.Bool.{false≢true}
+-- What plays no part in the order of events.
+use Rattle.std.proofs.Common.{◌≡◌, ℕ, refl}
 use Rattle.lz_slot.specs.declared.command.Command.{Command}
-use Rattle.lz_list.specs.Words.{Words}
-use Rattle.lz_machine.specs.declared.event.Event.{Event}
-use Rattle.lz_machine.specs.declared.event.Event.TheVariants.{Invoke, Check, SeePin}
 use Rattle.lz_machine.specs.declared.event.Outcome.{Outcome}
 use Rattle.lz_machine.specs.declared.event.Outcome.TheVariants.{Fault}
-use Rattle.lz_machine.specs.declared.caller.Script.{Script}
-use Rattle.lz_machine.specs.declared.caller.Script.TheVariants.{Resting, Writing, Adding, Removing}
 use Rattle.lz_machine.specs.declared.caller.Progress.{Progress}
 use Rattle.lz_machine.specs.declared.caller.Progress.TheVariants.{Playing, LoadsHalt}
 use Rattle.lz_machine.specs.Yards.{Shape}
-use Rattle.lz_machine.specs.Calls.{event_at, events_of, loaded, progress_after}
-use Rattle.lz_machine.specs.Runs.{IsNext, Caller, Service, caller_at, next_event}
+use Rattle.lz_machine.specs.Calls.{event_at, progress_after}
 
 -- how many slots a yard has plays no part in the order of events
 abbrev pub shaped : ℕ → ℕ → ℕ → Shape
