@@ -1,17 +1,18 @@
 //! The commands over a disk in memory, byte for byte.
 use lazyset_commands::{Status, make_on, run_on};
 use lz_disk::MemoryDisk;
+use lz_slot::Format;
 use std::alloc::{AllocError, Global};
 use std::test::Fail;
 
-/// A made file of two slots, as the format says.
+/// A made file of two slots, as format 1 says.
 pub const TWO_SLOTS: [u8; 48] = [
     0xa5, 0x4c, 0x5a, 0x59, 0x53, 0x45, 0x54, 0x31, 0, 0, 0, 0, 0, 0, 0, 2, //
     0, 0, 0, 0, 0, 0, 0, 0, 0, 0, 0, 0, 0, 0, 0, 0, //
     0, 0, 0, 0, 0, 0, 0, 0, 0, 0, 0, 0, 0, 0, 0, 0,
 ];
 
-/// A made file of one slot.
+/// A made file of one slot, of format 1.
 pub const ONE_SLOT: [u8; 32] = [
     0xa5, 0x4c, 0x5a, 0x59, 0x53, 0x45, 0x54, 0x31, 0, 0, 0, 0, 0, 0, 0, 1, //
     0, 0, 0, 0, 0, 0, 0, 0, 0, 0, 0, 0, 0, 0, 0, 0,
@@ -26,10 +27,25 @@ pub fn disk_with(alloc: Global, bytes: &[u8]) -> Result<MemoryDisk, AllocError> 
 fn makes_a_file_of_two_slots(rt: HostRuntime) -> Result<(), Fail> {
     let mut disk = disk_with(rt.alloc(), &[])?;
     let mut output: Vec<u8> = Vec::new(rt.alloc());
-    let status = make_on(&mut output, &mut disk, 2);
+    let status = make_on(&mut output, &mut disk, 2, Format::One);
     assert_eq!(rt; status.code(), 0);
     assert_eq!(rt; output.as_slice(), b"made 2\n".as_slice());
     assert_eq!(rt; disk.bytes(), TWO_SLOTS.as_slice());
+    assert_eq!(rt; disk.calls(), 10);
+    Ok(())
+}
+
+// A file of format 2 names it in byte 7, and is else as one of format 1.
+#[test]
+fn makes_a_file_of_format_2(rt: HostRuntime) -> Result<(), Fail> {
+    let mut disk = disk_with(rt.alloc(), &[])?;
+    let mut output: Vec<u8> = Vec::new(rt.alloc());
+    let status = make_on(&mut output, &mut disk, 2, Format::Two);
+    assert_eq!(rt; status.code(), 0);
+    assert_eq!(rt; output.as_slice(), b"made 2\n".as_slice());
+    let mut bytes = TWO_SLOTS;
+    bytes[7] = 0x32;
+    assert_eq!(rt; disk.bytes(), bytes.as_slice());
     assert_eq!(rt; disk.calls(), 10);
     Ok(())
 }

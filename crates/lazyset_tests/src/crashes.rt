@@ -2,6 +2,7 @@
 use crate::commands::{TWO_SLOTS, disk_with};
 use lazyset_commands::{make_on, run_on};
 use lz_disk::{Disk, MemoryDisk, Pick};
+use lz_slot::Format;
 use std::alloc::Global;
 use std::test::Fail;
 
@@ -132,7 +133,7 @@ fn a_making_that_fails_at_its_last_sync(rt: HostRuntime) -> Result<(), Fail> {
         let mut disk = disk_with(rt.alloc(), &[])?;
         disk.fuse(9);
         let mut output: Vec<u8> = Vec::new(rt.alloc());
-        let status = make_on(&mut output, &mut disk, 2);
+        let status = make_on(&mut output, &mut disk, 2, Format::One);
         assert_eq!(rt; status.code(), 1);
         assert_eq!(rt; output.as_slice(), b"refused 3\n".as_slice());
         disk.crash(pick)?;
@@ -150,7 +151,7 @@ fn a_making_that_fails_at_its_last_sync(rt: HostRuntime) -> Result<(), Fail> {
 fn a_broken_off_making_is_made_anew(rt: HostRuntime) -> Result<(), Fail> {
     let mut disk = disk_with(rt.alloc(), &[0xa5])?;
     let mut output: Vec<u8> = Vec::new(rt.alloc());
-    let status = make_on(&mut output, &mut disk, 2);
+    let status = make_on(&mut output, &mut disk, 2, Format::One);
     assert_eq!(rt; status.code(), 0);
     assert_eq!(rt; output.as_slice(), b"made 2\n".as_slice());
     assert_eq!(rt; disk.bytes(), TWO_SLOTS.as_slice());
@@ -165,7 +166,7 @@ fn a_making_that_fails_leaves_no_half_file(rt: HostRuntime) -> Result<(), Fail> 
             let mut disk = disk_with(rt.alloc(), &[])?;
             disk.fuse(passes);
             let mut output: Vec<u8> = Vec::new(rt.alloc());
-            let status = make_on(&mut output, &mut disk, 2);
+            let status = make_on(&mut output, &mut disk, 2, Format::One);
             assert_eq!(rt; status.code(), 1);
             assert_eq!(rt; output.as_slice(), b"refused 3\n".as_slice());
             disk.crash(pick)?;

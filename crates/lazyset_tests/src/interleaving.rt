@@ -2,7 +2,7 @@
 use lz_core::{Outcome, PlayFault, Step, World};
 use lz_disk::Pick;
 use lz_rehearsal::write_marks;
-use lz_slot::{Command, Key, Mark};
+use lz_slot::{Command, Format, Key, Mark};
 use std::alloc::{AllocError, Global};
 use std::process::Abort;
 use std::test::Fail;
@@ -81,7 +81,7 @@ fn finish(world: &mut World, actor: usize, stand: Stand) -> Stand {
 
 // A set of nine alone, or an empty one.
 fn world_with(rt: &impl Abort, alloc: Global, is_member: bool) -> Result<World, Fail> {
-    let mut world = World::new(alloc, 2, 1)?;
+    let mut world = World::new(alloc, 2, 1, Format::One)?;
     if is_member {
         assert!(rt; call(&mut world, alloc, 1, add(rt)));
         assert_eq!(rt;

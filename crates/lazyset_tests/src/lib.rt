@@ -18,6 +18,8 @@ mod refusals;
 #[cfg(test)]
 mod rehearsing;
 #[cfg(test)]
+mod rooms;
+#[cfg(test)]
 mod scripts;
 #[cfg(test)]
 mod sessions;

@@ -1,6 +1,7 @@
 //! Each refusal of a make and of an open, once.
 use crate::commands::{ONE_SLOT, TWO_SLOTS, disk_with};
 use lazyset_commands::{make_on, run_on};
+use lz_slot::Format;
 use std::test::Fail;
 
 // A file of two slots with this byte at this place.
@@ -107,7 +108,7 @@ fn refuses_to_make(rt: HostRuntime) -> Result<(), Fail> {
     for (bytes, slots, told, code) in rows {
         let mut disk = disk_with(rt.alloc(), bytes)?;
         let mut output: Vec<u8> = Vec::new(rt.alloc());
-        let status = make_on(&mut output, &mut disk, slots);
+        let status = make_on(&mut output, &mut disk, slots, Format::One);
         assert_eq!(rt; status.code(), code);
         assert_eq!(rt; output.as_slice(), told);
         assert_eq!(rt; disk.bytes(), bytes);

@@ -1,9 +1,11 @@
 //! What a rehearsal prints of scripts whose every line is lawful.
 use lazyset_commands::rehearse_on;
+use lz_slot::Format;
 use std::alloc::Global;
 use std::test::Fail;
 
-/// Whether the rehearsal of a script, on so many slots and buckets, ends with this code and has printed this.
+/// Whether the rehearsal of a script, on so many slots and buckets, ends with this code and has printed this, in a file of
+/// either format.
 pub fn prints(
     alloc: Global,
     slots: usize,
@@ -15,10 +17,15 @@ pub fn prints(
     if slots < 1 || 64 < slots || buckets < 1 || 4096 < buckets {
         return false;
     }
-    let mut reader = script;
-    let mut output: Vec<u8> = Vec::new(alloc);
-    let status = rehearse_on(alloc, &mut reader, &mut output, slots, buckets);
-    status.code() == code && output.as_slice() == told
+    for format in [Format::One, Format::Two] {
+        let mut reader = script;
+        let mut output: Vec<u8> = Vec::new(alloc);
+        let status = rehearse_on(alloc, &mut reader, &mut output, slots, buckets, format);
+        if status.code() != code || output.as_slice() != told {
+            return false;
+        }
+    }
+    true
 }
 
 // Slots, buckets, a script and its output.
