@@ -24,6 +24,8 @@ mod rehearsal;
 #[cfg(test)]
 mod rehearsing;
 #[cfg(test)]
+mod rooms;
+#[cfg(test)]
 mod scripts;
 #[cfg(test)]
 mod sessions;

@@ -1,4 +1,5 @@
 pub mod Yards
+pub mod Kinds
 pub mod Table
 pub mod Calls
 pub mod Orders
