@@ -1,8 +1,7 @@
 -- What is written of a mark is read as the mark.
-use Rattle.std.proofs.Common.{◌≡◌, ℕ, zero, suc, ◌+◌, ◌<◌, ◌≤◌, ◌==◌, Bool, List, [], ◌∷◌, ◌++◌, map, reverse, length, length-append, decimal, codes, true, false, nat_eq, nat_le, All, Option, Some, None, Ok, arith, refl, sym, ap, subst, ◌∙◌, append_assoc}
+use Rattle.std.proofs.Common.{◌≡◌, ℕ, suc, ◌+◌, ◌≤◌, ◌==◌, Bool, List, [], ◌∷◌, ◌++◌, map, reverse, length, length-append, decimal, codes, true, false, nat_le, All, Option, Some, arith, refl, sym, ap, subst, ◌∙◌, append_assoc}
 use Rattle.std.specs.Prelude.{option_map, option_and_then}
-use Rattle.std.specs.List.{list_any}
-use Rattle.std.specs.Cmp.Lexicographic.{pointwise, same_text}
+use Rattle.std.specs.Cmp.Lexicographic.{same_text}
 use Rattle.std.proofs.lemmas.Bool.{false_from_ne_true, false≢true}
 use Rattle.std.proofs.lemmas.Bool.Decides.{nat_tests}
 use Rattle.std.proofs.lemmas.List.{append-nil, reverse-append}
@@ -26,11 +25,10 @@ use Rattle.lz_slot.proofs.MarkTexts.{marks_join}
 use Rattle.lz_slot.proofs.Numerals.{decimal_read}
 use Rattle.lz_slot.proofs.Spellings.{decimal_lacks, key_text_lacks, lacks_join, spelled_read, written_keys_are_spelled}
 use Rattle.lz_judge.specs.declared.line.Line.{Line}
-use Rattle.lz_judge.specs.declared.line.Line.TheVariants.{Seen, Placed, Other}
-use Rattle.lz_judge.specs.LinesRead.{actor_number, answer_read, at_end, call_number, call_read, command_named, cut_read, fault_read, found_read, is_word, key_from, key_named, key_told, keys_from, kind_read, line_read, not_below, open_read, refusal_read, take_word, with_word, words_of}
-use Rattle.lz_judge.specs.MarkLines.{AreMarksOfRun, AscendFrom, IsMarkOfRun, ReadsMark, MarksReadBack, HistoriesReadBack}
-use Rattle.lz_judge.specs.Records.{IsLawful, Record}
-use Rattle.lz_judge.specs.TextsRead.{IsClear, Reads, nothing, line, calls_in, calls_of, most_bytes, most_calls, with_line}
+use Rattle.lz_judge.specs.declared.line.Line.TheVariants.{Seen}
+use Rattle.lz_judge.specs.LinesRead.{actor_number, answer_read, at_end, call_number, command_named, found_read, is_word, key_from, key_named, key_told, keys_from, kind_read, line_read, not_below, refusal_read, with_word, words_of}
+use Rattle.lz_judge.specs.MarkLines.{AscendFrom, IsMarkOfRun, ReadsMark, MarksReadBack, HistoriesReadBack}
+use Rattle.lz_judge.specs.TextsRead.{Reads, nothing, line, most_bytes}
 
 -- no byte of a word is this one
 none_of : (c : ℕ) (word : List ℕ) → Lacks c word → All (λ b. b == c ≡ false) word
