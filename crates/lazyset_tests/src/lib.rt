@@ -25,3 +25,5 @@ mod sessions;
 mod slots;
 #[cfg(test)]
 mod surveying;
+#[cfg(test)]
+mod threads;
