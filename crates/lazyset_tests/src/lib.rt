@@ -35,3 +35,4 @@ mod slots;
 mod surveying;
 #[cfg(test)]
 mod transcript;
+mod threads;
