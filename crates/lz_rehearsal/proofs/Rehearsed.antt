@@ -18,7 +18,8 @@ use Rattle.lz_rehearsal.specs.declared.line.Line.{Line}
 use Rattle.lz_rehearsal.specs.declared.line.Line.TheVariants.{Call, Turn, Until, Finish, Trip, Stop, Crash, Open, Show}
 use Rattle.lz_rehearsal.specs.Scripts.{most_turns}
 use Rattle.lz_rehearsal.specs.Rehearsals.{Adds, Does, EndsAt, EndsWithin, IsLawfulLine, Rehearsed, Rehearses, Turns, enough, ended, busy, met, again, nothing, more}
-use Rattle.lz_rehearsal.specs.Rehearsing.{ShowsMembers, TakesTurns, Tells}
+use Rattle.lz_rehearsal.specs.Rehearsing.{PlaysStep, ShowsMembers, TakesTurns, Tells}
+use Rattle.lz_rehearsal.specs.Tellings.{marks_text}
 
 -- what lines do is the play of some steps
 abbrev pub IsPlay : WorldOver → List Mark → WorldOver → Type 0
@@ -234,3 +235,14 @@ stopped old new play i h still =
 pub show_adds : {F : Type 0} (r : Result (Unit {0}) F) (old : WorldOver) (line : Line) (b a : Text) → line ≡ Show → OnOk r (ShowsMembers old b a) → OnOk r (Adds old line old b a)
 show_adds (Err e) old line b a is h = tt
 show_adds (Ok done) old line b a is h = subst (λ (l : Line). Adds old l old b a) (sym is) (adds_show old old b a h refl)
+
+-- a step was played, and the lines of its marks were written
+pub step_told : {E F : Type 0} (r : Result (Unit {0}) F) (told : Result (Unit {0}) E) (old new : WorldOver) (play : PlayStep) (marks shown : List Mark) (b a : Option (List ℕ)) → (r ≡ Ok tt → told ≡ Ok tt) → shown ≡ marks → PlaysOn old (play ∷ []) marks new
+    → OnOk told (Appends b a (marks_text shown)) → OnOk r (PlaysStep old play new b a)
+step_told (Err fault) told old new play marks shown b a same is plays written = tt
+step_told (Ok done) told old new play marks shown b a same is plays written = record {
+  seen = marks;
+  text = marks_text marks;
+  plays = (plays, refl);
+  written = subst (λ (M : List Mark). Appends b a (marks_text M)) is (subst (λ (q : Result (Unit {0}) _). OnOk q (Appends b a (marks_text shown))) (same refl) written);
+}
