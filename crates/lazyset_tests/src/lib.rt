@@ -35,4 +35,5 @@ mod slots;
 mod surveying;
 #[cfg(test)]
 mod transcript;
+#[cfg(test)]
 mod threads;

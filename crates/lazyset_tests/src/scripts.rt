@@ -110,7 +110,7 @@ fn kinds_and_picks_that_do_not_read(rt: HostRuntime) -> Result<(), Fail> {
         b"crash a5a\n",
         b"crash 0g\n",
         b"crash Old\n",
-        b"crash part 1\n",
+        b"crash part 10000\n",
         b"crash  a5\n",
     ];
     for line in lines {
