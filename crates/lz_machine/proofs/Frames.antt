@@ -18,3 +18,4 @@ pub mod NodeLocks
 pub mod Ranges
 pub mod LoadedWord
 pub mod Limbo
+pub mod PinNotes

@@ -9,3 +9,5 @@ pub mod ShownChains
 pub mod FreedSlots
 pub mod OneAdd
 pub mod JoinedRuns
+pub mod TraceOutside
+pub mod NoSlotCounts

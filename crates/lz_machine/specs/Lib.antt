@@ -21,3 +21,5 @@ pub mod FreedSlots
 pub mod OneAdd
 pub mod OpenFailures
 pub mod JoinedRuns
+pub mod CallsStand
+pub mod NoSlotCounts

@@ -261,7 +261,7 @@ module _ (n calls a : ℕ) (c : Command) (y : Yard) (callers : List (Option Call
     after = calling_after h.sound.callers h.sound.ledger h.after;
   }
 
-even_of : (pin : ℕ) → (pin % 2 == 0) ≡ true → pin % 2 ≡ 0
+pub even_of : (pin : ℕ) → (pin % 2 == 0) ≡ true → pin % 2 ≡ 0
 even_of pin is = grind (arith, nat_tests)
 
 -- at a point: a call that may begin keeps the invariant
