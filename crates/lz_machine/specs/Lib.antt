@@ -1,4 +1,5 @@
 pub mod Yards
+pub mod Kinds
 pub mod Table
 pub mod Calls
 pub mod Orders
@@ -22,3 +23,5 @@ pub mod FreedSlots
 pub mod OneAdd
 pub mod OpenFailures
 pub mod JoinedRuns
+pub mod CallsStand
+pub mod NoSlotCounts
