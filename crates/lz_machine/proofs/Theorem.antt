@@ -11,3 +11,5 @@ pub mod Timing
 pub mod FreedSlots
 pub mod OneAdd
 pub mod JoinedRuns
+pub mod TraceOutside
+pub mod NoSlotCounts

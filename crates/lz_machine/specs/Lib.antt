@@ -23,3 +23,5 @@ pub mod FreedSlots
 pub mod OneAdd
 pub mod OpenFailures
 pub mod JoinedRuns
+pub mod CallsStand
+pub mod NoSlotCounts

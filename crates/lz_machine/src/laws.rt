@@ -1,6 +1,7 @@
 //! Laws of runs. Each function is one law.
 
 ghost use Rattle.lz_machine.specs.Alone.{AloneIsPlain, FullIsRight, FullOfOnePass, RefusalsAreRight};
+ghost use Rattle.lz_machine.specs.CallsStand.{CallsStand, MarkedIsClosed};
 ghost use Rattle.lz_machine.specs.Entries.{LedgerFits};
 ghost use Rattle.lz_machine.specs.FreedSlots.{FreedIsAllFree};
 ghost use Rattle.lz_machine.specs.JoinedRuns.{LeftIsStart, RunsJoin};
@@ -9,6 +10,7 @@ ghost use Rattle.lz_machine.specs.Formats.{FormatsStay};
 ghost use Rattle.lz_machine.specs.InTime.{NeverLate};
 ghost use Rattle.lz_machine.specs.Marks.{MarksTell};
 ghost use Rattle.lz_machine.specs.NextEvents.{NextIsKnown};
+ghost use Rattle.lz_machine.specs.NoSlotCounts.{CountsAreRight};
 ghost use Rattle.lz_machine.specs.OneAdd.{LeavesText, OneAddRuns};
 ghost use Rattle.lz_machine.specs.OpenFailures.{HeldIsOpened};
 
@@ -115,4 +117,21 @@ pub fn runs_join()
 /// began, and so is each text that a crash may leave.
 pub fn formats_stay()
     ensures { FormatsStay }
+{}
+
+/// Hindsight, for the machine: in each state that a run reaches, an open call may rely on what is said of how far it has come,
+/// with the trace at which its pass went in. So an answer rests on a set that was there, and settled, since then.
+pub fn calls_stand()
+    ensures { CallsStand }
+{}
+
+/// A marked slot on which a pass that is inside may stand is closed once its last write is sure.
+pub fn marked_is_closed()
+    ensures { MarkedIsClosed }
+{}
+
+/// Where a slot is asked for and none is found, none is free, and the counts that are told sum to the number of slots. A call
+/// that is answered full tells those of its own last asking.
+pub fn counts_are_right()
+    ensures { CountsAreRight }
 {}

@@ -440,3 +440,16 @@ mark_then_sync : marks_crashed Old (fresh 2 64) (Calls 1 (Add 9) ∷ turns 1 15 
     ≡ Call 1 1 (Add 9) ∷ Answer 1 true ∷ Call 2 2 (Remove 9) ∷ Call 3 3 (Has 9) ∷ Answer 3 false ∷ Crash ∷ Opened [] ∷ []
 unfolding bucket_of
 mark_then_sync = refl
+
+-- a gate that was opened and then closed with no sync between: an open byte keeps the adding and drops the removal, and a
+-- closed one keeps both
+abbrev choice_steps : List Step
+choice_steps = Calls 1 (Add 9) ∷ turns 1 12 ++ Calls 2 (Remove 9) ∷ turns 2 9
+
+choice_open : marks_crashed (Byte 0xa5) (fresh 2 64) choice_steps ≡ Call 1 1 (Add 9) ∷ Call 2 2 (Remove 9) ∷ Crash ∷ Opened (9 ∷ []) ∷ []
+unfolding bucket_of
+choice_open = refl
+
+choice_closed : marks_crashed (Byte 0x37) (fresh 2 64) choice_steps ≡ Call 1 1 (Add 9) ∷ Call 2 2 (Remove 9) ∷ Crash ∷ Opened [] ∷ []
+unfolding bucket_of
+choice_closed = refl
