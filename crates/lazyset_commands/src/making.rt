@@ -4,7 +4,8 @@ ghost use Rattle.std.specs.Io.KnownBytes.{Appends};
 ghost use Rattle.lz_slot.specs.Bytes.{IsUnmadeOrEmpty};
 ghost use Rattle.lz_disk.specs.Images.{IsImage};
 ghost use Rattle.lz_disk.specs.Devices.{LeavesOnly};
-ghost use Rattle.lz_vault.specs.Makes.{IsFresh, make_fault_number};
+ghost use Rattle.lz_vault.specs.Makes.{IsFresh, MayBeMade, WritesNothing, make_fault_number};
+ghost use Rattle.lazyset_commands.specs.Ends.{make_status};
 ghost use Rattle.lazyset_commands.specs.Makings.{IsRefusal, made_text, refused_text};
 
 use crate::refusal::write_number;
@@ -26,7 +27,8 @@ pub fn make_on<W: Write + Drop, D: Disk>(
     ensures done { result ≡ Status.Done → Appends (W.contents writer.old) (W.contents writer.new) (made_text slots)
         × (IsTrue (D.device disk.old).honest → IsFresh (D.device disk.new).medium format slots) }
     ensures refused { result ≡ Status.Refused → (fault : MakeFault) × Appends (W.contents writer.old) (W.contents writer.new) (refused_text (make_fault_number fault))
-        × (IsTrue (D.device disk.old).honest → IsRefusal fault (D.device disk.old).medium.seen slots) }
+        × (make_status fault ≡ Status.Refused) × (IsTrue (D.device disk.old).honest → IsRefusal fault (D.device disk.old).medium.seen slots) }
+    ensures safe { IsTrue (D.device disk.old).honest → (MayBeMade (D.device disk.old).medium.seen slots → ⊥) → WritesNothing (D.device disk.old) (D.device disk.new) }
     ensures other { (result ≡ Status.Done) ⊎ (result ≡ Status.Refused) ⊎ (result ≡ Status.Failed) }
     ensures faults { (D.device disk.old).faults ≤ (D.device disk.new).faults }
     ensures honest { (D.device disk.new).honest ≡ (D.device disk.old).honest }

@@ -6,6 +6,7 @@ ghost use Rattle.lz_vault.specs.Opens.{IsFaultOf, Opens};
 ghost use Rattle.lz_vault.specs.Vaults.{VaultOver};
 ghost use Rattle.lz_slot.specs.Bytes.{format_of};
 ghost use Rattle.lz_slot.specs.Sets.{Keys};
+ghost use Rattle.lazyset_commands.specs.Ends.{open_status, session_status};
 ghost use Rattle.lazyset_commands.specs.Plains.{EachHolds};
 ghost use Rattle.lazyset_commands.specs.Runs.{CarriedOut, HoldsOne, HoldsSome, RepliesOfSet, ServedWhole, refusal_text};
 
@@ -36,6 +37,7 @@ fn serve<R: Read + Drop, W: Write + Drop, D: Disk>(
 
 // The status after a session.
 fn status_after(ended: Result<End, SessionFault>) -> Status
+    ensures table { result ≡ session_status ended }
     ensures done { result ≡ Status.Done → (end : End) × (ended ≡ Ok end) × (end ≢ End.Halted) }
     ensures ends { (result ≡ Status.Done) ⊎ (result ≡ Status.Failed) }
 {
@@ -55,6 +57,7 @@ pub fn run_on<R: Read + Drop, W: Write + Drop, D: Disk>(
 ) -> (Status, D)
     ensures done { IsTrue (D.device disk).honest → result.0 ≡ Status.Done → (N : ℕ) × HoldsSome N (D.device disk).medium.seen }
     ensures refused { result.0 ≡ Status.Refused → (fault : OpenFault) × Appends (W.contents writer.old) (W.contents writer.new) (refusal_text fault)
+        × (open_status fault ≡ Status.Refused)
         × (IsTrue (D.device disk).honest → IsFaultOf (D.device disk).medium.seen fault) }
     ensures other { (result.0 ≡ Status.Done) ⊎ (result.0 ≡ Status.Refused) ⊎ (result.0 ≡ Status.Failed) }
     ensures honest { (D.device result.1).honest ≡ (D.device disk).honest }
@@ -88,6 +91,8 @@ pub fn run_on<R: Read + Drop, W: Write + Drop, D: Disk>(
 // Says why an open was refused.
 fn refuse<W: Write + Drop>(writer: &mut W, fault: OpenFault) -> Status
     ensures refused { result ≡ Status.Refused → Appends (W.contents writer.old) (W.contents writer.new) (refusal_text fault) }
+    ensures table { (result ≡ open_status fault) ⊎ (result ≡ Status.Failed) }
+    ensures named { result ≡ Status.Refused → open_status fault ≡ Status.Refused }
     ensures other { (result ≡ Status.Refused) ⊎ (result ≡ Status.Failed) }
 {
     let told = fault;
@@ -100,7 +105,8 @@ fn refuse<W: Write + Drop>(writer: &mut W, fault: OpenFault) -> Status
 
 // The status after a refused open.
 fn status_of(fault: OpenFault) -> Status
-    ensures { (result ≡ Status.Refused) ⊎ (result ≡ Status.Failed) }
+    ensures table { result ≡ open_status fault }
+    ensures ends { (result ≡ Status.Refused) ⊎ (result ≡ Status.Failed) }
 {
     match fault {
         OpenFault::Device | OpenFault::Memory => Status::Failed,
