@@ -34,6 +34,6 @@ mod slots;
 #[cfg(test)]
 mod surveying;
 #[cfg(test)]
-mod transcript;
-#[cfg(test)]
 mod threads;
+#[cfg(test)]
+mod transcript;

@@ -14,7 +14,7 @@ use crate::shown::members_of;
 use lz_caller::Caller;
 use lz_disk::{MemoryDisk, Pick};
 use lz_machine::{Event, Kind, Outcome};
-use lz_slot::{Command, Format, Found, Key, Mark, MOST_PASSES};
+use lz_slot::{Command, Format, Found, Key, MOST_PASSES, Mark};
 use lz_vault::{OpenFault, make};
 use lz_yard::Yard;
 use std::alloc::{AllocError, Global};

@@ -191,7 +191,6 @@ module _ (t : List ℕ) where
         subst (λ (n : ℕ). ◌≡◌ {A = Yard} (record { shape = record { slots = n; buckets = B; passes = S }; words = list.words; locks = list.locks; vault = vault; uses = allot.uses; actors = actors }) (opened_yard (record { slots = n; buckets = B; passes = S }) t))
         (sym count) yard_at
 
-
 -- a text that says what the cells of an open do begins a life
 module _ (vault : Vaulted) (B S : ℕ) (list : Listed) (allot : Allotted) (actors : List Actor) (are : AreTables vault.cells B S list allot actors)
     (fresh : (vault.syncs ≡ 0) × (vault.dead ≡ false)) (blank : AreBlank vault.cells) (some : (1 ≤ B) × (B ≤ most_buckets)) (passes : (1 ≤ S) × (S ≤ most_passes))

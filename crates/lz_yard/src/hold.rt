@@ -1,6 +1,7 @@
 //! Small tests, by which the table says what may be done.
 ghost use Rattle.std.specs.Prelude.{◌≡◌};
 ghost use Rattle.lz_machine.specs.Table.{has_checked, has_closed, has_marked, has_opened, is_old, is_played_dead, may_check, may_claim, may_release, may_retire, released, stays_out};
+
 use lz_list::LAST_PIN;
 use lz_machine::{Actor, Event, Hold};
 use lz_slot::{Command, Format};
