@@ -12,12 +12,12 @@ ghost use Rattle.lazyset_commands.specs.Checks.{IsChecked, finding_text, survey_
 use crate::status::Status;
 use crate::telling::{NO_MEMORY, tell};
 use lz_judge::{Finding, Survey, survey};
-use lz_slot::{Key, MAX_SLOTS, Slot};
+use lz_slot::{Key, MOST_SLOTS, Slot};
 use std::alloc::{AllocError, Global};
 use std::io::Write;
 
 // The length of a file with the most slots.
-const LONGEST_FILE: usize = 16 + 16 * MAX_SLOTS as usize;
+const LONGEST_FILE: usize = 16 + 16 * MOST_SLOTS as usize;
 
 /// The most bytes of a file that a survey needs: one more than the longest file of slots has.
 pub const MOST_SURVEYED: usize = LONGEST_FILE + 1;
