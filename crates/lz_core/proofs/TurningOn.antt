@@ -40,7 +40,8 @@ use Rattle.lz_machine.proofs.Runs.CallerEvent.{Next, is_next}
 use Rattle.lz_yard.proofs.Keeping.{played_shape, fault_or_not}
 use Rattle.lz_machine.proofs.Runs.CallerTable.{fault_no_reply}
 use Rattle.lz_machine.proofs.Theorem.Timing.{is_event, in_time, may_take, quiet_step}
-use Rattle.lz_machine.proofs.Theorem.Timeliness.{is_look, may_take_fault}
+use Rattle.lz_machine.proofs.Theorem.EventNeeds.{may_take_fault}
+use Rattle.lz_machine.proofs.Theorem.WornPass.{is_look}
 use Rattle.lz_machine.proofs.Runs.EventOrder.{shaped, same_event, same_follows}
 
 next_by : (service : Service) (a : ℕ) (o : Option Caller) (e : Event) → caller_at service.callers a ≡ o → next_of_caller service o ≡ Some e → Next service a e

@@ -33,11 +33,12 @@ use Rattle.lz_machine.specs.Sound.{Notes, IsSound, UpSound}
 use Rattle.lz_core.specs.Worlds.{Ascend, IsAmong, IsWorld, Shows, call_shown, state_shown}
 use Rattle.lz_machine.proofs.Theorem.ShownChains as showing
 use Rattle.lz_machine.proofs.Crash.ImageSlots.{node_stands}
-use Rattle.lz_machine.proofs.Open.FirstState.{first_notes, opened_up}
+use Rattle.lz_machine.proofs.Open.FoundSlots.{first_notes}
+use Rattle.lz_machine.proofs.Open.FirstState.{opened_up}
 use Rattle.lz_machine.proofs.Open.FirstNodes.{held_found}
 use Rattle.lz_machine.proofs.Frames.LoadedWord.{bucket_range}
 use Rattle.lz_core.proofs.Ascending.{eq_of, first_of, later_of}
-use Rattle.lz_machine.proofs.Theorem.Timeliness.{up_at}
+use Rattle.lz_machine.proofs.Theorem.WornPass.{up_at}
 use Rattle.lz_machine.proofs.Theorem.Reached.{reached_sound}
 use Rattle.lz_yard.proofs.FoundSlots.{read_length}
 use Rattle.lz_machine.proofs.Open.ListedKeys.{any_key, key_by}

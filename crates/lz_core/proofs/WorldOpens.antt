@@ -23,7 +23,7 @@ use Rattle.lz_machine.specs.Sound.{StateSound, PointSound, IsSound}
 use Rattle.lz_machine.specs.Points.{IsQuiet}
 use Rattle.lz_core.specs.Worlds.{WorldOver, IsNew, IsWorld, HasOne, HasRun, IsCallOn, PlaysOn, StopsEarly, call_shown, state_shown}
 use Rattle.lz_machine.proofs.Theorem.Reached.{reached_sound}
-use Rattle.lz_machine.proofs.Open.FirstState.{pass_of}
+use Rattle.lz_machine.proofs.Open.FoundSlots.{pass_of}
 use Rattle.lz_machine.proofs.Open.ListedKeys.{listed}
 use Rattle.lz_machine.proofs.Open.FirstPoint.{one_set}
 use Rattle.lz_core.proofs.Worlding.{Goes, leads, runs_on}

@@ -10,3 +10,5 @@ pub mod Turn
 pub mod Room
 pub mod Halt
 pub mod FullSet
+pub mod CalmEvent
+pub mod Answered

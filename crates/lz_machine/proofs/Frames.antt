@@ -22,3 +22,6 @@ pub mod Limbo
 pub mod Outside
 pub mod Refusal
 pub mod PinNotes
+pub mod KeyWrite
+pub mod OpenedGate
+pub mod BesideKey

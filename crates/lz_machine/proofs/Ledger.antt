@@ -8,3 +8,4 @@ pub mod QuietPublishing
 pub mod Change
 pub mod End
 pub mod Reply
+pub mod Parts

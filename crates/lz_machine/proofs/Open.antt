@@ -4,3 +4,4 @@ pub mod FirstPoint
 pub mod Texts
 pub mod OpenFailures
 pub mod ListedKeys
+pub mod FoundSlots

@@ -13,3 +13,7 @@ pub mod OneAdd
 pub mod JoinedRuns
 pub mod TraceOutside
 pub mod NoSlotCounts
+pub mod EventNeeds
+pub mod WornPass
+pub mod TraceRows
+pub mod Needs

@@ -9,7 +9,7 @@ use Rattle.lz_machine.specs.Orders.{Calling}
 use Rattle.lz_machine.specs.Points.{IsQuiet}
 use Rattle.lz_machine.specs.Runs.{Caller, Start, Up, first_point, opened_service}
 use Rattle.lz_machine.specs.Yards.{Shape, Yard}
-use Rattle.lz_machine.proofs.Open.FirstState.{pass_of}
+use Rattle.lz_machine.proofs.Open.FoundSlots.{pass_of}
 use Rattle.lz_yard.specs.Filling.{OpensYard}
 use Rattle.lz_set.specs.Locks.{IsOfRun, kept_call}
 use Rattle.lz_set.specs.declared.pass.Pass.{Pass}

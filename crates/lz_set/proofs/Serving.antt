@@ -23,7 +23,8 @@ use Rattle.lz_machine.specs.Yards.{Shape, Yard}
 use Rattle.lz_machine.proofs.Runs.EventOrder.{same_event, same_follows}
 use Rattle.lz_machine.proofs.Runs.ReachedPoint.{as_reached, reach, shape_kept}
 use Rattle.lz_machine.proofs.Theorem.Reached.{every_history}
-use Rattle.lz_machine.proofs.Theorem.Timeliness.{is_look, may_take_fault}
+use Rattle.lz_machine.proofs.Theorem.EventNeeds.{may_take_fault}
+use Rattle.lz_machine.proofs.Theorem.WornPass.{is_look}
 use Rattle.lz_machine.proofs.Theorem.Timing.{is_event, may_take, quiet_step}
 use Rattle.lz_yard.specs.Steps.{Played}
 use Rattle.lz_yard.proofs.Keeping.{fault_or_not, played_shape}

@@ -18,7 +18,7 @@ use Rattle.lz_machine.proofs.Frames.OneActor.{caller_range}
 use Rattle.lz_machine.proofs.Runs.CallerEvent.{is_next}
 use Rattle.lz_machine.proofs.Runs.ReachedPoint.{as_reached}
 use Rattle.lz_machine.proofs.Theorem.Timing.{in_time}
-use Rattle.lz_machine.proofs.Theorem.Timeliness.{is_look}
+use Rattle.lz_machine.proofs.Theorem.WornPass.{is_look}
 use Rattle.lz_yard.specs.Steps.{Played}
 use Rattle.lz_yard.proofs.Keeping.{fault_or_not}
 

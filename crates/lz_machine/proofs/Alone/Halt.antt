@@ -33,7 +33,8 @@ use Rattle.lz_machine.proofs.Steps.Trip.{point}
 use Rattle.lz_machine.proofs.Steps.Hop.{call_at, own}
 use Rattle.lz_machine.proofs.Theorem.Reached.{reached_sound}
 use Rattle.lz_machine.specs.declared.caller.Script.TheVariants.{Pinning}
-use Rattle.lz_machine.proofs.Theorem.Timeliness.{IsUpAt, up_at, worn_there}
+use Rattle.lz_machine.proofs.Theorem.WornPass.{IsUpAt, up_at}
+use Rattle.lz_machine.proofs.Theorem.Timeliness.{worn_there}
 use Rattle.lz_machine.proofs.Frames.OneActor.{mine}
 
 -- only one event writes the halt word

@@ -32,7 +32,7 @@ use Rattle.lz_machine.specs.Runs.{Start, IsStart, Caller, Service, State, Up, Do
 use Rattle.lz_machine.specs.Sound.{Notes, cell_in, stage_in, pin_in, view_of, CallerSound, Sound, PointSound, IsSound}
 use Rattle.lz_machine.specs.Alone.{IsOwn, IsAlone, IsPlain, IsFull, HasRoom, IsSized, AreSized, FullIsRight}
 use Rattle.lz_machine.proofs.Steps.Trip.{point}
-use Rattle.lz_machine.proofs.Open.FirstState.{pass_of}
+use Rattle.lz_machine.proofs.Open.FoundSlots.{pass_of}
 use Rattle.lz_machine.proofs.Frames.OneActor.{caller_range}
 use Rattle.lz_machine.proofs.Steps.Hop.{call_at, own}
 use Rattle.lz_machine.specs.Formats.{HasFormat}
@@ -44,7 +44,8 @@ use Rattle.lz_machine.proofs.Crash.ImageSlots.{reads}
 use Rattle.lz_machine.proofs.Theorem.Reached.{reached_sound}
 use Rattle.lz_machine.proofs.Alone.Service.{Ended}
 use Rattle.lz_machine.proofs.Alone.Run.{IsTold, answer_is_quiet}
-use Rattle.lz_machine.proofs.Alone.Crash.{AloneAt, AloneLives, HasSet, reached_alone}
+use Rattle.lz_machine.proofs.Alone.Answered.{AloneAt, AloneLives, HasSet}
+use Rattle.lz_machine.proofs.Alone.Crash.{reached_alone}
 use Rattle.lz_machine.proofs.Alone.Size.{HoldsOther, has_room, is_full}
 use Rattle.lz_machine.proofs.Alone.Full.{AreOther, WalkStands, AloneFull}
 use Rattle.lz_machine.proofs.Alone.Turn.{turned, faulted}

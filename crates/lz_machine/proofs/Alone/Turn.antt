@@ -1,6 +1,6 @@
 -- Where one actor is alone, each turn keeps what makes full right.
 use Rattle.std.proofs.Common.{◌≡◌, ◌≢◌, ◌⊎◌, ⊎_elim, inl, inr, ℕ, zero, suc, ◌+◌, ◌≤◌, ◌%◌, ◌&&◌, not, nat_lt, Bool, true, false, List, ◌++◌, map, unwrap_or, Option, Some, None, refl, sym, ap, ◌∙◌, subst, arith}
-use Rattle.std.specs.Prelude.{if◌then◌else◌, ◌==◌}
+use Rattle.std.specs.Prelude.{if◌then◌else◌}
 use mathlib.Core.Bool.{false≢true}
 use Rattle.std.proofs.lemmas.Bool.{cases_eq, cases_Bool}
 use Rattle.std.proofs.lemmas.Bool.Decides.{nat_tests}
@@ -13,12 +13,11 @@ use Rattle.lz_disk.specs.Images.{Medium}
 use Rattle.lz_vault.specs.declared.vault.Stage.TheVariants.{Opening}
 use Rattle.lz_vault.specs.Stages.{Cell, cell_synced, is_covered}
 use Rattle.lz_allot.specs.declared.sight.Sight.{Sight}
-use Rattle.lz_allot.specs.declared.counts.Counts.{Counts}
 use Rattle.lz_allot.specs.Uses.{Free, collect, see_pin, lowest_free, give_back}
 use Rattle.lz_list.specs.declared.word.Word.TheVariants.{Halt as halt_at}
 use Rattle.lz_list.specs.declared.walk.Look.{Look}
 use Rattle.lz_list.specs.declared.place.Place.{Place}
-use Rattle.lz_list.specs.Words.{Words, get}
+use Rattle.lz_list.specs.Words.{get}
 use Rattle.lz_list.specs.Walks.{wants, hopped}
 use Rattle.lz_list.specs.Traces.{Trace}
 use Rattle.lz_machine.specs.declared.course.Course.{Course}
@@ -30,16 +29,16 @@ use Rattle.lz_machine.specs.declared.event.Event.TheVariants.{Hop, Reserve, Clai
 use Rattle.lz_machine.specs.declared.event.Outcome.{Outcome}
 use Rattle.lz_machine.specs.declared.event.Outcome.TheVariants.{Done, Early, NotNow, Dead}
 use Rattle.lz_machine.specs.declared.event.Reply.{Reply}
-use Rattle.lz_machine.specs.declared.event.Reply.TheVariants.{Yes, No, Full, Worn as SaysWorn, OldFile as SaysOldFile, Halted, Device}
+use Rattle.lz_machine.specs.declared.event.Reply.TheVariants.{Yes, Halted, Device}
 use Rattle.lz_machine.specs.declared.caller.Script.{Script}
 use Rattle.lz_machine.specs.declared.caller.Script.TheVariants.{Pinning, Resting, Writing, Adding, Removing, Releasing, Halting}
 use Rattle.lz_machine.specs.declared.caller.Progress.{Progress}
 use Rattle.lz_machine.specs.declared.caller.Progress.TheVariants.{Playing, LoadsHalt, Walking, Reserving, SeeingPins, Claiming, Checking, Answering}
 use Rattle.lz_machine.specs.Yards.{Shape, Yard, actor_at, cell_at}
 use Rattle.lz_machine.specs.Table.{line_publishes, line_failed, course, course_alive, line, line_on, published_on, pin_of, slot_found, given_back, is_unused, is_sure, is_spent, slot_of, stays_out}
-use Rattle.lz_machine.specs.Calls.{halts, progress_after, event_of, loaded, goes_on}
+use Rattle.lz_machine.specs.Calls.{halts, progress_after, event_of, loaded}
 use Rattle.lz_machine.specs.Runs.{Caller, caller_at, reply_at, next_event, moved_on}
-use Rattle.lz_machine.specs.Sound.{View, IsAdder, ReliesOn, Notes, actor_in, stage_in, pin_in, view_of, Relies, Sound}
+use Rattle.lz_machine.specs.Sound.{IsAdder, Notes, actor_in, stage_in, pin_in, view_of, Relies, Sound}
 use Rattle.lz_machine.specs.Limbo.{IsSeen}
 use Rattle.lz_machine.proofs.Steps.Hop.{call_at, own, own_inside}
 use Rattle.lz_machine.proofs.Alone.Sights.{HasLeft, IsSeenOdd, set_cases, left_set, left_seen, seen_outside}
@@ -49,72 +48,7 @@ use Rattle.lz_machine.proofs.Alone.Full.{LeftBelow, WalkStands, AddsTo, says_yes
 use Rattle.lz_machine.proofs.Frames.Uses.{free_limbo}
 use Rattle.lz_machine.proofs.Runs.Course.{course_dead}
 use Rattle.lz_machine.proofs.Frames.Outside.{out_even}
-
-no_full_rest : (v : View) (c : Command) (s : ℕ) (counts : Counts) (i : ℕ) (P0 P : Trace) (changed : Option ℕ) → ReliesOn v c (Resting s (Full counts)) i P0 P changed → ⊥
-no_full_rest v (Add k) s counts (suc (suc i)) P0 P changed h = h
-no_full_rest v (Remove k) s counts (suc (suc i)) P0 P changed h = h
-no_full_rest v (Has k) s counts (suc (suc i)) P0 P changed h = h
-no_full_rest v _ s counts _ _ _ changed h = h.1
-
-no_full_halt : (v : View) (c : Command) (counts : Counts) (i : ℕ) (P0 P : Trace) (changed : Option ℕ) → ReliesOn v c (Halting (Full counts)) i P0 P changed → ⊥
-no_full_halt v (Add k) counts (suc i) P0 P changed h = h
-no_full_halt v (Remove k) counts (suc i) P0 P changed h = h
-no_full_halt v (Has k) counts (suc i) P0 P changed h = h
-no_full_halt v _ counts zero _ _ changed h = h.0
-
--- what a script leads to
-script_goes : (y : Yard) (Q : Trace) (v : View) (c : Command) (script : Script) (i : ℕ) (P0 P : Trace) (changed : Option ℕ) → ReliesOn v c script i P0 P changed → WalkStands y Q (goes_on script) c
-script_goes y Q v c Pinning i P0 P changed h = tt
-script_goes y Q v c (Resting s Yes) i P0 P changed h = tt
-script_goes y Q v c (Resting s No) i P0 P changed h = tt
-script_goes y Q v c (Resting s (Full counts)) i P0 P changed h = absurd (no_full_rest v c s counts i P0 P changed h)
-script_goes y Q v c (Resting s SaysWorn) i P0 P changed h = tt
-script_goes y Q v c (Resting s SaysOldFile) i P0 P changed h = tt
-script_goes y Q v c (Resting s Halted) i P0 P changed h = tt
-script_goes y Q v c (Resting s Device) i P0 P changed h = tt
-script_goes y Q v c (Writing s) i P0 P changed h = tt
-script_goes y Q v c (Adding s) i P0 P changed h = tt
-script_goes y Q v c (Removing s) i P0 P changed h = tt
-script_goes y Q v (Add k) (Releasing None) i P0 P changed h = tt
-script_goes y Q v (Remove k) (Releasing None) i P0 P changed h = tt
-script_goes y Q v (Has k) (Releasing None) i P0 P changed h = tt
-script_goes y Q v c (Releasing (Some s)) i P0 P changed h = tt
-script_goes y Q v c (Halting Yes) i P0 P changed h = tt
-script_goes y Q v c (Halting No) i P0 P changed h = tt
-script_goes y Q v c (Halting (Full counts)) i P0 P changed h = absurd (no_full_halt v c counts i P0 P changed h)
-script_goes y Q v c (Halting SaysWorn) i P0 P changed h = tt
-script_goes y Q v c (Halting SaysOldFile) i P0 P changed h = tt
-script_goes y Q v c (Halting Halted) i P0 P changed h = tt
-script_goes y Q v c (Halting Device) i P0 P changed h = tt
-
--- an event that opens no gate, retires no slot and gives none back
-abbrev IsCalm : Event → Type 0
-IsCalm e = (is_opening_event e ≡ false) × (is_use_event e ≡ false)
-
-abbrev is_calm_script : Script → Bool
-is_calm_script (Adding s) = false
-is_calm_script (Removing s) = false
-is_calm_script _ = true
-
-calm_script : (w : Words) (c : Command) (script : Script) (i : ℕ) → is_calm_script script ≡ true → IsCalm (loaded w (event_of c script i))
-calm_script w c Pinning zero calm = (refl, refl)
-calm_script w c Pinning (suc i) calm = (refl, refl)
-calm_script w c (Resting s reply) zero calm = (refl, refl)
-calm_script w c (Resting s reply) (suc zero) calm = (refl, refl)
-calm_script w c (Resting s reply) (suc (suc i)) calm = (refl, refl)
-calm_script w c (Writing s) zero calm = (refl, refl)
-calm_script w c (Writing s) (suc zero) calm = (refl, refl)
-calm_script w c (Writing s) (suc (suc i)) calm = (refl, refl)
-calm_script w c (Adding s) i calm = absurd (false≢true calm)
-calm_script w c (Removing s) i calm = absurd (false≢true calm)
-calm_script w c (Releasing aim) zero calm = (refl, refl)
-calm_script w c (Releasing aim) (suc i) calm = (refl, refl)
-calm_script w c (Halting reply) zero calm = (refl, refl)
-calm_script w c (Halting reply) (suc i) calm = (refl, refl)
-
-calm_adds : (script : Script) (i s : ℕ) → is_calm_script script ≡ true → AddsTo (Playing script i) s → ⊥
-calm_adds (Adding t) i s calm adds = false≢true calm
-calm_adds _ i s calm adds = adds
+use Rattle.lz_machine.proofs.Alone.CalmEvent.{IsCalm, calm_adds, calm_script, is_calm_script, script_goes}
 
 module _ (n calls : ℕ) (y : Yard) (callers : List (Option Caller)) (disk : Medium) (M : History) (P : Trace) (notes : Notes) (sound : Sound n calls y callers disk M P notes) (a i : ℕ) (c : Command) where
   abbrev actor : Actor

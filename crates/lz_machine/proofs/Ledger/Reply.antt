@@ -25,7 +25,8 @@ use Rattle.lz_machine.proofs.Ledger.Fit.{each_has}
 use Rattle.lz_machine.proofs.Ledger.Order.{has_left}
 use Rattle.lz_machine.proofs.Frames.Limbo.{shorter}
 use Rattle.lz_machine.proofs.Steps.Hop.{call_at}
-use Rattle.lz_machine.proofs.Ledger.End.{ending, ends_now, EndsCall, IsLast, ledger_quiet, ledger_moved, pend_listed}
+use Rattle.lz_machine.proofs.Ledger.Parts.{ending, ends_now}
+use Rattle.lz_machine.proofs.Ledger.End.{EndsCall, IsLast, ledger_quiet, ledger_moved, pend_listed}
 
 -- the beginning of that length
 pub upto_is : (R P : Trace) → Begins R P → upto (length R) P ≡ R

@@ -10,7 +10,8 @@ use Rattle.lz_machine.specs.Yards.{Shape, first_trace}
 use Rattle.lz_machine.specs.Runs.{Start, IsStart, start_keys, first_point, Down, Opens, MayStep, point_after, keys_found}
 use Rattle.lz_machine.specs.Sound.{PointSound, IsSound}
 use Rattle.lz_machine.proofs.Steps.Trip.{point}
-use Rattle.lz_machine.proofs.Open.FirstState.{first_notes, opened_up}
+use Rattle.lz_machine.proofs.Open.FoundSlots.{first_notes}
+use Rattle.lz_machine.proofs.Open.FirstState.{opened_up}
 
 -- the first open
 pub first_sound : (start : Start) → IsStart start → AreBytes start.text → IsSound start (first_point start)

@@ -1,21 +1,17 @@
 -- An open begins a sound life: its yard, its disk and its trace show the keys that it found, and nothing is under way.
-use Rattle.std.proofs.Common.{◌≡◌, ◌≢◌, ◌⊎◌, inl, inr, ⊎_elim, ℕ, zero, suc, ◌+◌, ◌*◌, ◌-◌, ◌<◌, ◌≤◌, true, false, List, [], ◌∷◌, length, get_or, take, drop, map, replicate, Option, Some, None, refl, sym, ap, ◌∙◌, subst, arith}
+use Rattle.std.proofs.Common.{◌≡◌, ◌≢◌, ◌⊎◌, inl, inr, ⊎_elim, ℕ, zero, suc, ◌+◌, ◌*◌, ◌-◌, ◌<◌, ◌≤◌, true, false, List, [], ◌∷◌, length, get_or, take, map, replicate, Option, Some, None, refl, sym, ap, ◌∙◌, subst, arith}
 use mathlib.Core.Bool.{false≢true}
 use Rattle.std.specs.Prelude.{slice_get}
 use Rattle.std.proofs.lemmas.Bool.{cases_Bool, cases_lt}
-use Rattle.std.proofs.lemmas.Bool.Decides.{nat_tests}
-use Rattle.std.proofs.lemmas.List.{length-replicate, length-append, length-map, length-take, get_or-replicate, get_or-map, get_or-take, get_or-drop, get_or_past, get_or_append_left, get_or_push}
+use Rattle.std.proofs.lemmas.List.{length-replicate, length-append, length-map, get_or-map, get_or_past, get_or_append_left, get_or_push}
 use Rattle.std.proofs.lemmas.List.Edits.{length-between}
 use Rattle.std.proofs.lemmas.Option.{slice_get_within, get_or_from_slice_get, none-some}
 use Rattle.std.specs.Cmp.{both_ways}
 use Rattle.lz_slot.specs.Rooms.{largest_of}
-use Rattle.lz_slot.specs.declared.format.Format.{Format}
 use Rattle.lz_slot.specs.Sets.{Keys}
-use Rattle.lz_slot.specs.Counted.{of_pass}
-use Rattle.lz_slot.specs.Bytes.{Holds, format_of, open_byte, header_body, slot_bytes, slot_read, slot_at, held}
+use Rattle.lz_slot.specs.Bytes.{Holds, format_of, open_byte, header_body, slot_bytes, slot_at, held}
 use Rattle.lz_slot.specs.declared.slot.SlotRead.{SlotRead}
 use Rattle.lz_slot.specs.declared.slot.SlotRead.TheVariants as read
-use Rattle.lz_slot.proofs.Exact.{read_fits, slot_is_of_its_key, zero_fits}
 use Rattle.lz_disk.specs.Images.{AreBytes, IsImage, at_rest}
 use Rattle.lz_disk.proofs.Writes.{synced_image, synced_sound}
 use Rattle.lz_vault.specs.declared.vault.Stage.TheVariants.{Closed, Opening, Open, Closing}
@@ -35,63 +31,7 @@ use Rattle.lz_machine.proofs.Ledger.Membership.{upto_all}
 use Rattle.lz_machine.proofs.Frames.Ranges.{on_range, opening_small}
 use Rattle.lz_machine.proofs.Open.FirstNodes.{node_has_key, off_chains, node_key, node_on, none_marked, none_removed, never_linked, slot_closed, node_held, key_held, held_found}
 use Rattle.lz_machine.proofs.Steps.Invoke.{pending_none}
-
--- what is kept beside the first state of a life
-abbrev pub first_notes : Shape → List ℕ → Notes
-first_notes shape t = record { begun = λ a. first_trace shape t; changed = λ a. None; ended = [] }
-
-replicate_at : {X : Type 0} (n i : ℕ) (x : X) → get_or (replicate n x) i x ≡ x
-replicate_at n i x = ⊎_elim (λ lt. get_or-replicate n i x x lt) (λ le. get_or_past (replicate n x) i x (omega (arith, le, length-replicate n x))) (cases_lt i n)
-
-pub pass_of : {X : Type 0} (n a : ℕ) (x : X) → of_pass (replicate n x) a x ≡ x
-pass_of n zero x = refl
-pass_of n (suc i) x = replicate_at n i x
-
-read_cases : (r : SlotRead) → r ≢ read.BadKey → ((k : ℕ) × (r ≡ read.Member k)) ⊎ (r ≡ read.Closed)
-read_cases (read.Member k) fine = inl (k, refl)
-read_cases read.Closed fine = inr refl
-read_cases read.BadKey fine = absurd (fine refl)
-
-closed_says : (F : Format) (bytes : List ℕ) → slot_read F bytes ≡ read.Closed → get_or bytes 0 0 ≢ open_byte
-closed_says F bytes is = grind (arith, nat_tests)
-
--- what is read of a slot is what its cell says
-read_says : (F : Format) (r : SlotRead) (bytes : List ℕ) → slot_read F bytes ≡ r → r ≢ read.BadKey → length bytes ≡ 16 → AreBytes bytes → Says (cell_read r).stage (cell_read r).key bytes
-read_says F read.Closed bytes is fine long fits = closed_says F bytes is
-read_says F (read.Member k) bytes is fine long fits =
-    let law = slot_is_of_its_key F bytes k long fits is in
-    (ap (λ (l : List ℕ). get_or l 0 0) law.1, ap (λ (l : List ℕ). drop 1 l) law.1)
-read_says F read.BadKey bytes is fine long fits = absurd (fine refl)
-
-read_reads : (r : SlotRead) (bytes : List ℕ) → Reads (cell_read r).stage (cell_read r).key bytes
-read_reads read.Closed bytes = tt
-read_reads (read.Member k) bytes = tt
-read_reads read.BadKey bytes = tt
-
-read_key : (F : Format) (r : SlotRead) (bytes : List ℕ) → slot_read F bytes ≡ r → (cell_read r).key ≤ largest_of F
-read_key F read.Closed bytes is = zero_fits F
-read_key F (read.Member k) bytes is = read_fits F bytes k is
-read_key F read.BadKey bytes is = zero_fits F
-
--- a slot as an open finds it is steady, and in no limbo
-read_steady : (r : SlotRead) → ((cell_read r).stage ≡ Open) ⊎ ((cell_read r).stage ≡ Closed)
-read_steady read.Closed = inr refl
-read_steady (read.Member k) = inl refl
-read_steady read.BadKey = inr refl
-
-read_limbo : (r : SlotRead) (sights : List Sight) → use_read r ≡ Limbo sights → ⊥
-read_limbo read.Closed sights e = absurd cc
-read_limbo (read.Member k) sights e = absurd cc
-read_limbo read.BadKey sights e = absurd cc
-
-bytes_taken : (n : ℕ) (t : List ℕ) → AreBytes t → AreBytes (take n t)
-bytes_taken n t bytes i = ⊎_elim
-    (λ lt. rw (get_or-take n t i 0 lt) (bytes i))
-    (λ le. rw (get_or_past (take n t) i 0 (omega (arith, length-take n t))) (omega arith))
-    (cases_lt i n)
-
-slot_fits : (t : List ℕ) (i : ℕ) → AreBytes t → AreBytes (slot_bytes t i)
-slot_fits t i bytes = bytes_taken (32 + 16 * i - (16 + 16 * i)) (drop (16 + 16 * i) t) (λ k. rw (get_or-drop (16 + 16 * i) t k 0) (bytes (16 + 16 * i + k)))
+use Rattle.lz_machine.proofs.Open.FoundSlots.{first_notes, pass_of, read_cases, read_key, read_limbo, read_reads, read_says, read_steady, slot_fits}
 
 module _ (t : List ℕ) where
   length-read : (n : ℕ) → length (slots_read t n) ≡ n

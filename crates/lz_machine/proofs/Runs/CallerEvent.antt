@@ -16,7 +16,8 @@ use Rattle.lz_machine.specs.NextEvents.{NextIsKnown}
 use Rattle.lz_machine.proofs.Frames.OneActor.{caller_range}
 use Rattle.lz_machine.proofs.Theorem.Reached.{reached_sound}
 use Rattle.lz_machine.proofs.Theorem.Readiness.{is_invoke}
-use Rattle.lz_machine.proofs.Theorem.Timeliness.{up_at, is_event_there, may_take_there}
+use Rattle.lz_machine.proofs.Theorem.WornPass.{up_at}
+use Rattle.lz_machine.proofs.Theorem.Timeliness.{is_event_there, may_take_there}
 
 -- the caller whose next event this is
 pub record Next (service : Service) (a : ℕ) (e : Event) : Type 0 where

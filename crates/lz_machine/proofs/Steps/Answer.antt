@@ -36,7 +36,8 @@ use Rattle.lz_machine.proofs.Frames.Hand.{reuse_turn}
 use Rattle.lz_machine.proofs.Steps.Hop.{call_at, own}
 use Rattle.lz_machine.proofs.Steps.Pin.{pinned, trace_pinned, left_reuse}
 use Rattle.lz_machine.proofs.Frames.Uses.{slots_uses, seen_keeps, seen_reuse}
-use Rattle.lz_machine.proofs.Ledger.End.{ending, ends_now, none_now, changed_still, gone, stays_open, after_ended, tail_ended}
+use Rattle.lz_machine.proofs.Ledger.Parts.{ending, ends_now, none_now, changed_still, gone, stays_open}
+use Rattle.lz_machine.proofs.Ledger.End.{after_ended, tail_ended}
 use Rattle.lz_machine.proofs.Ledger.Reply.{EndsSo, ends}
 use Rattle.lz_machine.proofs.Steps.ReturnedSlot.{closed_unused, given_slots, given_locks, given_reuse, given_none, given_hold, held_then, hand_b}
 use Rattle.lz_machine.proofs.Steps.Point.{AnswerUp}

@@ -31,7 +31,7 @@ use Rattle.lz_machine.proofs.Steps.Hop.{call_at, own}
 use Rattle.lz_machine.proofs.Steps.Death.{sync_fails_keeps}
 use Rattle.lz_machine.proofs.Steps.WriteClose.{write_close_fails_keeps}
 use Rattle.lz_machine.proofs.Steps.WriteKey.{write_key_fails_keeps}
-use Rattle.lz_machine.proofs.Steps.WriteOpen.{write_open_fails_keeps}
+use Rattle.lz_machine.proofs.Frames.OpenedGate.{write_open_fails_keeps}
 use Rattle.lz_machine.proofs.Runs.NextEvent.{plays_alive, turned_same}
 
 -- an event whose device call may fail is played, and makes that call

@@ -1,5 +1,5 @@
 -- Link keeps the invariant: the node whose gate its adder has opened is put on its chain.
-use Rattle.std.proofs.Common.{◌≡◌, ◌≢◌, inl, inr, ℕ, suc, ◌<◌, ◌≤◌, ◌==◌, not, Bool, true, List, ◌∷◌, ◌++◌, length, Option, Some, None, refl, sym, ap, ◌∙◌, subst, arith}
+use Rattle.std.proofs.Common.{◌≡◌, ◌≢◌, inl, inr, ℕ, suc, ◌<◌, ◌≤◌, ◌==◌, not, true, List, ◌∷◌, ◌++◌, length, Option, Some, None, refl, sym, ap, ◌∙◌, subst, arith}
 use mathlib.Core.Bool.{false≢true}
 use Rattle.std.specs.Prelude.{unwrap_or}
 use Rattle.std.proofs.lemmas.Bool.{cases_eq}
@@ -10,8 +10,6 @@ use Rattle.lz_slot.specs.Counted.{of_pass, set_of_pass}
 use Rattle.lz_slot.specs.Histories.{History}
 use Rattle.lz_slot.proofs.Counted.{length-set_of_pass}
 use Rattle.lz_disk.specs.Images.{Medium}
-use Rattle.lz_vault.specs.declared.vault.Stage.{Stage}
-use Rattle.lz_vault.specs.declared.vault.Stage.TheVariants.{Closed, KeyLoose, Keyed, Opening, Open, Closing}
 use Rattle.lz_allot.specs.declared.sight.Sight.{Sight}
 use Rattle.lz_allot.specs.declared.sight.Sight.TheVariants.{Left}
 use Rattle.lz_allot.specs.Uses.{Free, Taken, Limbo, use_of}
@@ -28,7 +26,7 @@ use Rattle.lz_list.specs.Locks.{claimed_places, owner}
 use Rattle.lz_machine.specs.declared.event.Event.TheVariants.{Link}
 use Rattle.lz_machine.specs.declared.actor.Actor.{Actor}
 use Rattle.lz_machine.specs.declared.actor.Hold.{Hold}
-use Rattle.lz_machine.specs.declared.actor.Hold.TheVariants.{Nothing, Locks, Checked, GateOpened, Linked, GateClosed, Marked, Unlinked, Released}
+use Rattle.lz_machine.specs.declared.actor.Hold.TheVariants.{Linked}
 use Rattle.lz_machine.specs.declared.caller.Script.TheVariants.{Adding}
 use Rattle.lz_machine.specs.declared.caller.Progress.{Progress}
 use Rattle.lz_machine.specs.declared.caller.Progress.TheVariants.{Playing}
@@ -37,7 +35,7 @@ use Rattle.lz_machine.specs.Table.{slot_of, yard_done, publishes}
 use Rattle.lz_machine.specs.Runs.{Caller, caller_at}
 use Rattle.lz_machine.specs.Kept.{upto}
 use Rattle.lz_machine.specs.Stands.{IsReady, InBucket}
-use Rattle.lz_machine.specs.Sound.{Notes, entries, actor_in, pin_in, cell_in, stage_in, closes, opens, shuts, unlocks, has_removed_node, has_locks, IsOut, IsCloser, IsNodeStage, IsHandStage, IsGateClosed, IsGateOpened, IsGateWritten, SlotStands, is_node, is_held, is_out, is_free, is_limbo, SlotsSound, ReuseSound, HasPlace, HasLock, IsBeside, HasOpened, RestsOn, LocksSound, Relies, HasAdded, view_of, CallerSound, CallersSound, TailsSound, Sound}
+use Rattle.lz_machine.specs.Sound.{Notes, entries, actor_in, pin_in, cell_in, stage_in, closes, opens, shuts, unlocks, has_removed_node, has_locks, IsOut, IsCloser, IsNodeStage, IsHandStage, IsGateOpened, IsGateWritten, SlotStands, is_node, is_held, is_out, is_free, is_limbo, SlotsSound, ReuseSound, HasPlace, HasLock, IsBeside, HasOpened, RestsOn, LocksSound, Relies, HasAdded, view_of, CallerSound, CallersSound, TailsSound, Sound}
 use Rattle.lz_machine.proofs.Frames.ActorTable.{by_actor}
 use Rattle.lz_machine.proofs.Frames.OneActor.{caller_range, moving, moved_same, moved_other, carry, ledger_turn}
 use Rattle.lz_machine.proofs.Frames.Limbo.{seen_step, away_stays}
@@ -55,47 +53,7 @@ use Rattle.lz_machine.proofs.Ledger.Change.{row_of, changes_at, changed_same, ch
 use Rattle.lz_machine.proofs.Steps.Unlink.{resting_locks, first_place, redirect_pins}
 use Rattle.lz_machine.proofs.Frames.OtherLink as links
 use Rattle.lz_machine.proofs.Frames.SameYard.{tail_turn}
-
--- a gate that is surely closed is neither opened nor written open
-pub opened_shut : (stage : Stage) → IsGateOpened stage → IsGateClosed stage → ⊥
-opened_shut Opening h (inl e) = absurd cc
-opened_shut Opening h (inr (inl e)) = absurd cc
-opened_shut Opening h (inr (inr e)) = absurd cc
-opened_shut Open h (inl e) = absurd cc
-opened_shut Open h (inr (inl e)) = absurd cc
-opened_shut Open h (inr (inr e)) = absurd cc
-opened_shut Closed (inl e) h = absurd cc
-opened_shut Closed (inr e) h = absurd cc
-opened_shut KeyLoose (inl e) h = absurd cc
-opened_shut KeyLoose (inr e) h = absurd cc
-opened_shut Keyed (inl e) h = absurd cc
-opened_shut Keyed (inr e) h = absurd cc
-opened_shut Closing (inl e) h = absurd cc
-opened_shut Closing (inr e) h = absurd cc
-
-pub opened_written : (stage : Stage) → IsGateOpened stage → IsGateWritten stage → ⊥
-opened_written stage (inl e) (inl f) = opening_closing (sym e ∙ f)
-  where
-    opening_closing : Opening ≡ Closing → ⊥
-    opening_closing g = absurd cc
-opened_written stage (inl e) (inr f) = opening_closed (sym e ∙ f)
-  where
-    opening_closed : Opening ≡ Closed → ⊥
-    opening_closed g = absurd cc
-opened_written stage (inr e) (inl f) = open_closing (sym e ∙ f)
-  where
-    open_closing : Open ≡ Closing → ⊥
-    open_closing g = absurd cc
-opened_written stage (inr e) (inr f) = open_closed (sym e ∙ f)
-  where
-    open_closed : Open ≡ Closed → ⊥
-    open_closed g = absurd cc
-
--- an actor that has opened its slot's gate stands beside its key's place
-beside_of : (buckets : ℕ) (dead : Bool) (hold : Hold) (actor : Actor) (P : Trace) (t : ℕ) → RestsOn buckets hold actor P → opens dead hold ≡ true → actor.slot ≡ Some t → IsBeside buckets (key_word t P) actor.pred actor.curr P × (rests_on_pair hold ≡ true)
-beside_of buckets dead Checked actor P t h opened slot = (h.beside t slot, refl)
-beside_of buckets dead GateOpened actor P t h opened slot = (subst (λ (q : ℕ). IsBeside buckets (key_word q P) actor.pred actor.curr P) (same_Some _ _ (sym h.slot ∙ slot)) h.beside, refl)
-beside_of buckets dead _ actor _ t h opened slot = absurd (false≢true opened)
+use Rattle.lz_machine.proofs.Frames.BesideKey.{beside_of, opened_shut, opened_written}
 
 module _ (n calls : ℕ) (y : Yard) (callers : List (Option Caller)) (disk : Medium) (M : History) (P : Trace) (notes : Notes) (sound : Sound n calls y callers disk M P notes) (a i k s : ℕ) (is : caller_at callers a ≡ Some (call_at i (Add k) (Playing (Adding s) 1))) where
   abbrev at : Progress

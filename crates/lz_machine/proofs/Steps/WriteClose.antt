@@ -56,7 +56,7 @@ use Rattle.lz_machine.proofs.Frames.Hand.{reuse_turn}
 use Rattle.lz_machine.proofs.Frames.Cells.{KeepsCell, caller_vaulted}
 use Rattle.lz_machine.proofs.Frames.GateWrite.{gate_written}
 use Rattle.lz_machine.proofs.Ledger.Change.{own_tail}
-use Rattle.lz_machine.proofs.Steps.Link.{opened_written}
+use Rattle.lz_machine.proofs.Frames.BesideKey.{opened_written}
 use Rattle.lz_machine.proofs.Frames.SameYard.{in_passes, tail_turn}
 
 module _ (n calls : ℕ) (y : Yard) (callers : List (Option Caller)) (disk : Medium) (M : History) (P : Trace) (notes : Notes) (sound : Sound n calls y callers disk M P notes) (a i k s : ℕ) (is : caller_at callers a ≡ Some (call_at i (Remove k) (Playing (Removing s) 0))) (alive : y.vault.dead ≡ false) where

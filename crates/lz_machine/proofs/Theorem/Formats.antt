@@ -22,7 +22,8 @@ use Rattle.lz_machine.proofs.Steps.Answer.{answer_up}
 use Rattle.lz_machine.proofs.Crash.Down.{rest_image}
 use Rattle.lz_machine.proofs.Open.FirstPoint.{down_seen}
 use Rattle.lz_machine.proofs.Theorem.Reached.{reached_sound}
-use Rattle.lz_machine.proofs.Theorem.Timeliness.{up_at, in_time_reached}
+use Rattle.lz_machine.proofs.Theorem.WornPass.{up_at}
+use Rattle.lz_machine.proofs.Theorem.Timeliness.{in_time_reached}
 
 -- no event changes the format
 line_format : (taken : Course) (y : Yard) (a : ℕ) (e : Event) → (line_on taken y (actor_at y a) a e).0.vault.format ≡ y.vault.format

@@ -42,7 +42,8 @@ use Rattle.lz_machine.proofs.Alone.Sights.{set_cases, sight_cases, saw, collecte
 use Rattle.lz_machine.proofs.Alone.Room.{no_limbo_read}
 use Rattle.lz_machine.proofs.Crash.ImageSlots.{node_stands}
 use Rattle.lz_machine.proofs.Runs.Shape.{line_keeps_shape}
-use Rattle.lz_machine.proofs.Theorem.Readiness.{both, is_marking, plays_needs}
+use Rattle.lz_machine.proofs.Theorem.Needs.{both, is_marking}
+use Rattle.lz_machine.proofs.Theorem.Readiness.{plays_needs}
 use Rattle.lz_machine.proofs.Theorem.Reached.{reached_sound}
 
 -- What a sight of pass q says of slot s, where the pass's pin word is v.

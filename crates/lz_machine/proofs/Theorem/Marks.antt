@@ -21,7 +21,7 @@ use Rattle.lz_machine.specs.Runs.{Caller, Service, State, Up, Down, Start, Step,
 use Rattle.lz_machine.specs.Marks.{IsOpenCall, MayFollow, IsTold, MarksTell}
 use Rattle.lz_machine.proofs.Frames.OneActor.{caller_range}
 use Rattle.lz_machine.proofs.Runs.Shape.{line_keeps_shape}
-use Rattle.lz_machine.proofs.Open.FirstState.{pass_of}
+use Rattle.lz_machine.proofs.Open.FoundSlots.{pass_of}
 use Rattle.lz_machine.proofs.Runs.CallerTable.{none_of, fault_no_reply}
 
 abbrev is_call : Mark → Bool

@@ -7,7 +7,7 @@ use Rattle.lz_disk.specs.Images.{Medium, at_rest}
 use Rattle.lz_machine.specs.Yards.{Shape, Yard}
 use Rattle.lz_machine.specs.Runs.{Caller, Service, State, Up, Down, Step, Calls, Turn, Fails, Looks, Trips, Stops, Crashes, CrashesIn, Opens, OpenFails, caller_at, after_turn, after_fault, state_after}
 use Rattle.lz_machine.specs.Laws.{is_of, SameBut, call_in, ends_life}
-use Rattle.lz_machine.proofs.Open.FirstState.{pass_of}
+use Rattle.lz_machine.proofs.Open.FoundSlots.{pass_of}
 
 module _ (a : ℕ) where
   other_turn : (service : Service) (disk : Medium) (b : ℕ) (who : Option Caller) → a ≢ b → call_in (after_turn service disk b who) a ≡ caller_at service.callers a

@@ -13,7 +13,7 @@ use Rattle.lz_machine.specs.Runs.{run, first_point}
 use Rattle.lz_machine.specs.Table.{line, line_on, needs, slot_found}
 use Rattle.lz_machine.specs.Yards.{Yard, actor_at}
 use Rattle.lz_machine.proofs.Theorem.Reached.{reached_sound}
-use Rattle.lz_machine.proofs.Theorem.Timeliness.{up_at}
+use Rattle.lz_machine.proofs.Theorem.WornPass.{up_at}
 
 none_counted : (uses : List Use) → lowest_free uses ≡ None → (counts uses).free ≡ 0
 none_counted [] none = refl

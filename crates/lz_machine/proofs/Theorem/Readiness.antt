@@ -1,9 +1,8 @@
 -- What an event rests on where it is played follows from the invariant.
-use Rattle.std.proofs.Common.{◌≡◌, ◌≢◌, ◌⊎◌, inl, inr, ℕ, zero, suc, ◌<◌, ◌≤◌, ◌==◌, if◌then◌else◌, not, ◌&&◌, Bool, true, false, List, [], ◌∷◌, length, Option, Some, None, is_some, refl, sym, ap, ◌∙◌, subst, arith}
+use Rattle.std.proofs.Common.{◌≡◌, ◌≢◌, ◌⊎◌, inl, inr, ℕ, zero, suc, ◌<◌, ◌≤◌, if◌then◌else◌, not, ◌&&◌, Bool, true, false, List, [], ◌∷◌, length, Option, Some, None, is_some, refl, sym, ap, ◌∙◌, subst, arith}
 use mathlib.Core.Bool.{false≢true}
 use Rattle.std.specs.Prelude.{unwrap_or, IsSomeAnd, IfSome}
 use Rattle.std.proofs.lemmas.Bool.{cases_Bool, not-true}
-use Rattle.lz_slot.specs.declared.format.Format.{Format}
 use Rattle.lz_slot.specs.Rooms.{largest_of}
 use Rattle.std.proofs.lemmas.Option.{slice_get-get_or}
 use Rattle.lz_slot.specs.Limits.{largest_key}
@@ -11,8 +10,7 @@ use Rattle.lz_slot.specs.declared.command.Command.{Command}
 use Rattle.lz_slot.specs.declared.command.Command.TheVariants.{Add, Remove, Has}
 use Rattle.lz_slot.specs.Histories.{History, Life, lives}
 use Rattle.lz_disk.specs.Images.{Medium}
-use Rattle.lz_vault.specs.declared.vault.Stage.{Stage}
-use Rattle.lz_vault.specs.declared.vault.Stage.TheVariants.{Closed, KeyLoose, Keyed, Opening, Open, Closing}
+use Rattle.lz_vault.specs.declared.vault.Stage.TheVariants.{Keyed, Opening, Open}
 use Rattle.lz_vault.specs.Vaults.{Vaulted}
 use Rattle.lz_allot.specs.Allots.{IsTakenAt}
 use Rattle.lz_allot.specs.Uses.{Use}
@@ -25,20 +23,19 @@ use Rattle.lz_list.specs.Lists.{IsPlace, IsCurr}
 use Rattle.lz_list.specs.Traces.{Trace, IsLoose, on, chain_of, bucket_of, key_word}
 use Rattle.lz_machine.specs.declared.actor.Actor.{Actor}
 use Rattle.lz_machine.specs.declared.actor.Hold.{Hold}
-use Rattle.lz_machine.specs.declared.actor.Hold.TheVariants.{Nothing, Locks, Checked, GateOpened, Linked, GateClosed, Marked, Unlinked, Released}
+use Rattle.lz_machine.specs.declared.actor.Hold.TheVariants.{Checked, GateOpened, GateClosed, Marked}
 use Rattle.lz_machine.specs.declared.caller.Script.{Script}
 use Rattle.lz_machine.specs.declared.caller.Script.TheVariants.{Pinning, Resting, Writing, Adding, Removing, Releasing, Halting}
 use Rattle.lz_machine.specs.declared.caller.Progress.{Progress}
-use Rattle.lz_machine.specs.declared.caller.Progress.TheVariants.{Playing, LoadsHalt, Walking, Reserving, SeeingPins, Claiming, Checking, Answering}
+use Rattle.lz_machine.specs.declared.caller.Progress.TheVariants.{Playing}
 use Rattle.lz_machine.specs.declared.course.Course.{Course}
 use Rattle.lz_machine.specs.declared.course.Course.TheVariants.{Refused, Plays}
 use Rattle.lz_machine.specs.declared.event.Event.{Event}
-use Rattle.lz_machine.specs.declared.event.Event.TheVariants.{Invoke, Pin, Hop, Reserve, WriteKey, Claim, Check, WriteOpen, Link, WriteClose, Mark, Release, Sync, Settle, Unlink, Retire, SeePin, Answer, Halt}
-use Rattle.lz_machine.specs.declared.event.Outcome.{Outcome}
+use Rattle.lz_machine.specs.declared.event.Event.TheVariants.{Invoke, Pin, WriteKey, Check, WriteOpen, Link, WriteClose, Mark, Release, Unlink, Retire, Answer}
 use Rattle.lz_machine.specs.declared.event.Outcome.TheVariants.{Dead, Done, NotNow, Worn}
 use Rattle.lz_slot.proofs.Exact.{key_of_format}
 use Rattle.lz_machine.specs.Yards.{Shape, Yard, actor_at, cell_at, no_cell}
-use Rattle.lz_machine.specs.Table.{last_pin, pin_of, needs, is_played_dead, course_alive, course, is_unused, has_stage, may_check, has_checked, has_opened, has_closed, has_marked, may_release, may_retire, is_old, stays_out}
+use Rattle.lz_machine.specs.Table.{last_pin, pin_of, needs, is_played_dead, course_alive, course, is_unused, has_stage, has_checked, has_opened, has_marked, is_old, stays_out}
 use Rattle.lz_machine.specs.Calls.{event_at, loaded}
 use Rattle.lz_machine.specs.Runs.{Start, State, Up, Point, Service, Caller, caller_at, next_event, with_words, first_point, run, start_keys, IsNext, MayPlay}
 use Rattle.lz_machine.specs.Sound.{Notes, View, view_of, actor_in, stage_in, closes, opens, has_locks, has_removed_node, HasPlace, HasLock, RestsOn, IsChecked, HasOpened, HasClosed, IsHandStage, IsNodeStage, SlotStands, is_node, is_held, is_out, is_free, is_limbo, Relies, Sound, StateSound, PointSound, cell_in, unlocks, is_before_pin, side_of}
@@ -46,7 +43,7 @@ use Rattle.lz_machine.specs.Ready.{IsEventOf, IsReadyFor, IsReady}
 use Rattle.lz_machine.proofs.Frames.OneActor.{caller_range, mine}
 use Rattle.lz_machine.proofs.Frames.FittingKeys.{key_written, writes_fitting}
 use Rattle.lz_machine.proofs.Steps.Halt.{held_node}
-use Rattle.lz_machine.proofs.Steps.Link.{opened_shut}
+use Rattle.lz_machine.proofs.Frames.BesideKey.{opened_shut}
 use Rattle.lz_machine.proofs.Steps.Unlink.{first_place, node_place}
 use Rattle.lz_machine.proofs.Runs.NextEvent.{plays_alive, refused_plays}
 use Rattle.lz_machine.proofs.Theorem.ShownChains.{links_are, key_is, keeps_key, keeps_link, may_link_at, may_unlink_at, owned_place, is_curr}
@@ -55,74 +52,7 @@ use Rattle.lz_machine.proofs.Steps.ReturnedSlot.{closed_unused}
 use Rattle.lz_machine.proofs.Frames.Grip.{closer_locks}
 use Rattle.lz_machine.proofs.Crash.ImageSlots.{node_stands}
 use Rattle.lz_machine.proofs.Frames.Outside.{worn_out}
-
--- what a call knows of its next event: the node that it retires, and that the file can hold the key that it writes
-abbrev Knows : Format → Actor → Event → Type 0
-Knows format actor Retire = (s : ℕ) × (actor.curr ≡ Some s)
-Knows format actor (WriteKey k) = k ≤ largest_of format
-Knows format actor _ = Unit {0}
-
--- what the needs say
-pub both : (p q : Bool) → (p && q) ≡ true → (p ≡ true) × (q ≡ true)
-both true true is = (refl, refl)
-both true false is = absurd (false≢true is)
-both false q is = absurd (false≢true is)
-
-some_of : (slot : Option ℕ) → is_some slot ≡ true → (s : ℕ) × (slot ≡ Some s)
-some_of None is = absurd (false≢true is)
-some_of (Some s) is = (s, refl)
-
-is_checked : (hold : Hold) → has_checked hold ≡ true → hold ≡ Checked
-is_checked Checked is = refl
-is_checked _ is = absurd (false≢true is)
-
-is_opened : (hold : Hold) → has_opened hold ≡ true → hold ≡ GateOpened
-is_opened GateOpened is = refl
-is_opened _ is = absurd (false≢true is)
-
-is_closed : (hold : Hold) → has_closed hold ≡ true → hold ≡ GateClosed
-is_closed GateClosed is = refl
-is_closed _ is = absurd (false≢true is)
-
-pub is_marking : (hold : Hold) → has_marked hold ≡ true → hold ≡ Marked
-is_marking Marked is = refl
-is_marking _ is = absurd (false≢true is)
-
-is_released : (hold : Hold) → may_retire hold ≡ true → hold ≡ Released
-is_released Released is = refl
-is_released _ is = absurd (false≢true is)
-
-check_locks : (hold : Hold) → may_check hold ≡ true → has_locks hold ≡ true
-check_locks Nothing is = absurd (false≢true is)
-check_locks Released is = absurd (false≢true is)
-check_locks _ is = refl
-
-release_locks : (hold : Hold) → may_release hold ≡ true → has_locks hold ≡ true
-release_locks Nothing is = absurd (false≢true is)
-release_locks Released is = absurd (false≢true is)
-release_locks _ is = refl
-
--- in a vault that lives only an opened gate is open
-opens_alive : (hold : Hold) → opens false hold ≡ true → has_opened hold ≡ true
-opens_alive GateOpened is = refl
-opens_alive _ is = absurd (false≢true is)
-
-is_keyed : (stage : Stage) → has_stage Keyed stage ≡ true → stage ≡ Keyed
-is_keyed Keyed is = refl
-is_keyed _ is = absurd (false≢true is)
-
--- a pin that isn't worn
--- an event that is played isn't refused
-not_refused : (dead may refuses : Bool) (outcome : Outcome) → (if dead && not true then Refused Dead else if may then (if refuses then Refused outcome else Plays) else Refused NotNow) ≡ Plays → refuses ≡ true → ⊥
-not_refused true false refuses outcome plays is = refused_plays plays
-not_refused true true true outcome plays is = refused_plays plays
-not_refused true true false outcome plays is = false≢true is
-not_refused false false refuses outcome plays is = refused_plays plays
-not_refused false true true outcome plays is = refused_plays plays
-not_refused false true false outcome plays is = false≢true is
-
-not_last : (dead may : Bool) (pin : ℕ) (outcome : Outcome) → (if dead && not true then Refused Dead else if may then (if pin == last_pin then Refused outcome else Plays) else Refused NotNow) ≡ Plays → pin ≢ last_pin
-not_last dead may pin outcome plays last = not_refused dead may (pin == last_pin) outcome plays (ap (λ (q : ℕ). q == last_pin) last)
+use Rattle.lz_machine.proofs.Theorem.Needs.{Knows, both, check_locks, is_checked, is_closed, is_keyed, is_marking, is_opened, is_released, not_last, not_refused, opens_alive, release_locks, some_of}
 
 -- the yard of a sound service, with words of which only pins differ, and not the actor's own
 module _ (n calls : ℕ) (y : Yard) (callers : List (Option Caller)) (disk : Medium) (M : History) (P : Trace) (notes : Notes) (sound : Sound n calls y callers disk M P notes)

@@ -13,7 +13,8 @@ use Rattle.lz_machine.specs.Runs.{Start, Service, Caller, State, Up, Down, Step,
 use Rattle.lz_machine.specs.Points.{IsQuiet, IsReached}
 use Rattle.lz_machine.specs.Sound.{IsSound}
 use Rattle.lz_machine.proofs.Theorem.Reached.{reached_sound}
-use Rattle.lz_machine.proofs.Theorem.Timeliness.{Fits, AllFit, is_look, is_event_there, in_time_reached, may_take_there, worn_there, step_fits}
+use Rattle.lz_machine.proofs.Theorem.WornPass.{Fits, AllFit, is_look, step_fits}
+use Rattle.lz_machine.proofs.Theorem.Timeliness.{is_event_there, in_time_reached, may_take_there, worn_there}
 
 is_none : {X : Type 0} (o : Option X) → IsNone o → o ≡ None
 is_none None none = refl

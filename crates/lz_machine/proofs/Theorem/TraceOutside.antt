@@ -30,10 +30,10 @@ use Rattle.lz_machine.proofs.Steps.Point.{look_up, answer_publishes}
 use Rattle.lz_machine.proofs.Steps.Turn.{turn_up}
 use Rattle.lz_machine.proofs.Frames.PinNotes.{IsNoted, noted_same}
 use Rattle.lz_machine.proofs.Frames.Ranges.{stood_range}
-use Rattle.lz_machine.proofs.Open.FirstState.{pass_of}
+use Rattle.lz_machine.proofs.Open.FoundSlots.{pass_of}
 use Rattle.lz_machine.proofs.Runs.CallerTable.{none_of}
 use Rattle.lz_machine.proofs.Theorem.Reached.{reached_sound}
-use Rattle.lz_machine.proofs.Theorem.Timeliness.{up_at}
+use Rattle.lz_machine.proofs.Theorem.WornPass.{up_at}
 
 -- an open service is sound, with notes that are tied to these traces
 record IsTied (calls : ℕ) (service : Service) (disk : Medium) (P : Trace) (B : ℕ → Trace) : Type 0 where

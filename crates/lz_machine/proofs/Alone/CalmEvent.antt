@@ -1,0 +1,84 @@
+-- Events of one actor alone that open no gate, retire no slot and give none back.
+use Rattle.std.proofs.Common.{◌≡◌, ◌≢◌, ℕ, zero, suc, Bool, true, false, Option, Some, None, refl}
+use mathlib.Core.Bool.{false≢true}
+use Rattle.lz_slot.specs.declared.command.Command.{Command}
+use Rattle.lz_slot.specs.declared.command.Command.TheVariants.{Add, Remove, Has}
+use Rattle.lz_allot.specs.declared.counts.Counts.{Counts}
+use Rattle.lz_list.specs.Words.{Words}
+use Rattle.lz_list.specs.Traces.{Trace}
+use Rattle.lz_machine.specs.declared.event.Event.{Event}
+use Rattle.lz_machine.specs.declared.event.Reply.TheVariants.{Yes, No, Full, Worn as SaysWorn, OldFile as SaysOldFile, Halted, Device}
+use Rattle.lz_machine.specs.declared.caller.Script.{Script}
+use Rattle.lz_machine.specs.declared.caller.Script.TheVariants.{Pinning, Resting, Writing, Adding, Removing, Releasing, Halting}
+use Rattle.lz_machine.specs.declared.caller.Progress.TheVariants.{Playing}
+use Rattle.lz_machine.specs.Yards.{Yard}
+use Rattle.lz_machine.specs.Calls.{event_of, loaded, goes_on}
+use Rattle.lz_machine.specs.Sound.{View, ReliesOn}
+use Rattle.lz_machine.proofs.Alone.Frame.{is_use_event, is_opening_event}
+use Rattle.lz_machine.proofs.Alone.Full.{WalkStands, AddsTo}
+
+no_full_rest : (v : View) (c : Command) (s : ℕ) (counts : Counts) (i : ℕ) (P0 P : Trace) (changed : Option ℕ) → ReliesOn v c (Resting s (Full counts)) i P0 P changed → ⊥
+no_full_rest v (Add k) s counts (suc (suc i)) P0 P changed h = h
+no_full_rest v (Remove k) s counts (suc (suc i)) P0 P changed h = h
+no_full_rest v (Has k) s counts (suc (suc i)) P0 P changed h = h
+no_full_rest v _ s counts _ _ _ changed h = h.1
+
+no_full_halt : (v : View) (c : Command) (counts : Counts) (i : ℕ) (P0 P : Trace) (changed : Option ℕ) → ReliesOn v c (Halting (Full counts)) i P0 P changed → ⊥
+no_full_halt v (Add k) counts (suc i) P0 P changed h = h
+no_full_halt v (Remove k) counts (suc i) P0 P changed h = h
+no_full_halt v (Has k) counts (suc i) P0 P changed h = h
+no_full_halt v _ counts zero _ _ changed h = h.0
+
+-- what a script leads to
+pub script_goes : (y : Yard) (Q : Trace) (v : View) (c : Command) (script : Script) (i : ℕ) (P0 P : Trace) (changed : Option ℕ) → ReliesOn v c script i P0 P changed → WalkStands y Q (goes_on script) c
+script_goes y Q v c Pinning i P0 P changed h = tt
+script_goes y Q v c (Resting s Yes) i P0 P changed h = tt
+script_goes y Q v c (Resting s No) i P0 P changed h = tt
+script_goes y Q v c (Resting s (Full counts)) i P0 P changed h = absurd (no_full_rest v c s counts i P0 P changed h)
+script_goes y Q v c (Resting s SaysWorn) i P0 P changed h = tt
+script_goes y Q v c (Resting s SaysOldFile) i P0 P changed h = tt
+script_goes y Q v c (Resting s Halted) i P0 P changed h = tt
+script_goes y Q v c (Resting s Device) i P0 P changed h = tt
+script_goes y Q v c (Writing s) i P0 P changed h = tt
+script_goes y Q v c (Adding s) i P0 P changed h = tt
+script_goes y Q v c (Removing s) i P0 P changed h = tt
+script_goes y Q v (Add k) (Releasing None) i P0 P changed h = tt
+script_goes y Q v (Remove k) (Releasing None) i P0 P changed h = tt
+script_goes y Q v (Has k) (Releasing None) i P0 P changed h = tt
+script_goes y Q v c (Releasing (Some s)) i P0 P changed h = tt
+script_goes y Q v c (Halting Yes) i P0 P changed h = tt
+script_goes y Q v c (Halting No) i P0 P changed h = tt
+script_goes y Q v c (Halting (Full counts)) i P0 P changed h = absurd (no_full_halt v c counts i P0 P changed h)
+script_goes y Q v c (Halting SaysWorn) i P0 P changed h = tt
+script_goes y Q v c (Halting SaysOldFile) i P0 P changed h = tt
+script_goes y Q v c (Halting Halted) i P0 P changed h = tt
+script_goes y Q v c (Halting Device) i P0 P changed h = tt
+
+-- an event that opens no gate, retires no slot and gives none back
+abbrev pub IsCalm : Event → Type 0
+IsCalm e = (is_opening_event e ≡ false) × (is_use_event e ≡ false)
+
+abbrev pub is_calm_script : Script → Bool
+is_calm_script (Adding s) = false
+is_calm_script (Removing s) = false
+is_calm_script _ = true
+
+pub calm_script : (w : Words) (c : Command) (script : Script) (i : ℕ) → is_calm_script script ≡ true → IsCalm (loaded w (event_of c script i))
+calm_script w c Pinning zero calm = (refl, refl)
+calm_script w c Pinning (suc i) calm = (refl, refl)
+calm_script w c (Resting s reply) zero calm = (refl, refl)
+calm_script w c (Resting s reply) (suc zero) calm = (refl, refl)
+calm_script w c (Resting s reply) (suc (suc i)) calm = (refl, refl)
+calm_script w c (Writing s) zero calm = (refl, refl)
+calm_script w c (Writing s) (suc zero) calm = (refl, refl)
+calm_script w c (Writing s) (suc (suc i)) calm = (refl, refl)
+calm_script w c (Adding s) i calm = absurd (false≢true calm)
+calm_script w c (Removing s) i calm = absurd (false≢true calm)
+calm_script w c (Releasing aim) zero calm = (refl, refl)
+calm_script w c (Releasing aim) (suc i) calm = (refl, refl)
+calm_script w c (Halting reply) zero calm = (refl, refl)
+calm_script w c (Halting reply) (suc i) calm = (refl, refl)
+
+pub calm_adds : (script : Script) (i s : ℕ) → is_calm_script script ≡ true → AddsTo (Playing script i) s → ⊥
+calm_adds (Adding t) i s calm adds = false≢true calm
+calm_adds _ i s calm adds = adds

@@ -1,0 +1,86 @@
+-- What the needs of an event say of what its actor has in hand.
+use Rattle.std.proofs.Common.{◌≡◌, ◌≢◌, ℕ, ◌≤◌, ◌==◌, if◌then◌else◌, not, ◌&&◌, Bool, true, false, Option, Some, None, is_some, refl, ap}
+use mathlib.Core.Bool.{false≢true}
+use Rattle.lz_slot.specs.declared.format.Format.{Format}
+use Rattle.lz_slot.specs.Rooms.{largest_of}
+use Rattle.lz_vault.specs.declared.vault.Stage.{Stage}
+use Rattle.lz_vault.specs.declared.vault.Stage.TheVariants.{Keyed}
+use Rattle.lz_machine.specs.declared.actor.Actor.{Actor}
+use Rattle.lz_machine.specs.declared.actor.Hold.{Hold}
+use Rattle.lz_machine.specs.declared.actor.Hold.TheVariants.{Nothing, Checked, GateOpened, GateClosed, Marked, Released}
+use Rattle.lz_machine.specs.declared.course.Course.TheVariants.{Refused, Plays}
+use Rattle.lz_machine.specs.declared.event.Event.{Event}
+use Rattle.lz_machine.specs.declared.event.Event.TheVariants.{WriteKey, Retire}
+use Rattle.lz_machine.specs.declared.event.Outcome.{Outcome}
+use Rattle.lz_machine.specs.declared.event.Outcome.TheVariants.{Dead, NotNow}
+use Rattle.lz_machine.specs.Table.{last_pin, has_stage, may_check, has_checked, has_opened, has_closed, has_marked, may_release, may_retire}
+use Rattle.lz_machine.specs.Sound.{opens, has_locks}
+use Rattle.lz_machine.proofs.Runs.NextEvent.{refused_plays}
+
+-- what a call knows of its next event: the node that it retires, and that the file can hold the key that it writes
+abbrev pub Knows : Format → Actor → Event → Type 0
+Knows format actor Retire = (s : ℕ) × (actor.curr ≡ Some s)
+Knows format actor (WriteKey k) = k ≤ largest_of format
+Knows format actor _ = Unit {0}
+
+-- what the needs say
+pub both : (p q : Bool) → (p && q) ≡ true → (p ≡ true) × (q ≡ true)
+both true true is = (refl, refl)
+both true false is = absurd (false≢true is)
+both false q is = absurd (false≢true is)
+
+pub some_of : (slot : Option ℕ) → is_some slot ≡ true → (s : ℕ) × (slot ≡ Some s)
+some_of None is = absurd (false≢true is)
+some_of (Some s) is = (s, refl)
+
+pub is_checked : (hold : Hold) → has_checked hold ≡ true → hold ≡ Checked
+is_checked Checked is = refl
+is_checked _ is = absurd (false≢true is)
+
+pub is_opened : (hold : Hold) → has_opened hold ≡ true → hold ≡ GateOpened
+is_opened GateOpened is = refl
+is_opened _ is = absurd (false≢true is)
+
+pub is_closed : (hold : Hold) → has_closed hold ≡ true → hold ≡ GateClosed
+is_closed GateClosed is = refl
+is_closed _ is = absurd (false≢true is)
+
+pub is_marking : (hold : Hold) → has_marked hold ≡ true → hold ≡ Marked
+is_marking Marked is = refl
+is_marking _ is = absurd (false≢true is)
+
+pub is_released : (hold : Hold) → may_retire hold ≡ true → hold ≡ Released
+is_released Released is = refl
+is_released _ is = absurd (false≢true is)
+
+pub check_locks : (hold : Hold) → may_check hold ≡ true → has_locks hold ≡ true
+check_locks Nothing is = absurd (false≢true is)
+check_locks Released is = absurd (false≢true is)
+check_locks _ is = refl
+
+pub release_locks : (hold : Hold) → may_release hold ≡ true → has_locks hold ≡ true
+release_locks Nothing is = absurd (false≢true is)
+release_locks Released is = absurd (false≢true is)
+release_locks _ is = refl
+
+-- in a vault that lives only an opened gate is open
+pub opens_alive : (hold : Hold) → opens false hold ≡ true → has_opened hold ≡ true
+opens_alive GateOpened is = refl
+opens_alive _ is = absurd (false≢true is)
+
+pub is_keyed : (stage : Stage) → has_stage Keyed stage ≡ true → stage ≡ Keyed
+is_keyed Keyed is = refl
+is_keyed _ is = absurd (false≢true is)
+
+-- a pin that isn't worn
+-- an event that is played isn't refused
+pub not_refused : (dead may refuses : Bool) (outcome : Outcome) → (if dead && not true then Refused Dead else if may then (if refuses then Refused outcome else Plays) else Refused NotNow) ≡ Plays → refuses ≡ true → ⊥
+not_refused true false refuses outcome plays is = refused_plays plays
+not_refused true true true outcome plays is = refused_plays plays
+not_refused true true false outcome plays is = false≢true is
+not_refused false false refuses outcome plays is = refused_plays plays
+not_refused false true true outcome plays is = refused_plays plays
+not_refused false true false outcome plays is = false≢true is
+
+pub not_last : (dead may : Bool) (pin : ℕ) (outcome : Outcome) → (if dead && not true then Refused Dead else if may then (if pin == last_pin then Refused outcome else Plays) else Refused NotNow) ≡ Plays → pin ≢ last_pin
+not_last dead may pin outcome plays last = not_refused dead may (pin == last_pin) outcome plays (ap (λ (q : ℕ). q == last_pin) last)

@@ -1,0 +1,375 @@
+-- A pass that is worn: its pin word is the last one, and its call answers worn.
+use Rattle.std.proofs.Common.{◌≡◌, ◌≢◌, inl, inr, ℕ, zero, suc, ◌≤◌, ◌+◌, ◌%◌, ◌==◌, if◌then◌else◌, not, ◌&&◌, ◌||◌, nat_lt, Bool, true, false, List, [], ◌∷◌, length, Option, Some, None, refl, sym, ap, ◌∙◌, subst, arith}
+use mathlib.Core.Bool.{false≢true}
+use Rattle.std.specs.List.{list_any}
+use Rattle.std.proofs.lemmas.Bool.{cases_Bool}
+use Rattle.std.proofs.lemmas.Option.{none-some}
+use Rattle.lz_slot.specs.declared.command.Command.{Command}
+use Rattle.lz_slot.specs.declared.command.Command.TheVariants.{Add, Remove, Has}
+use Rattle.lz_slot.specs.Sets.{key_of}
+use Rattle.lz_slot.specs.Counted.{of_pass, set_of_pass}
+use Rattle.lz_slot.specs.Histories.{History, Life, lives}
+use Rattle.lz_slot.proofs.Counted.{of_pass_same, of_pass_other}
+use Rattle.lz_disk.specs.Images.{Medium, at_rest, synced}
+use Rattle.lz_list.specs.declared.place.Place.{Place}
+use Rattle.lz_list.specs.declared.walk.Look.{Look}
+use Rattle.lz_list.specs.declared.walk.Look.TheVariants.{AtHead}
+use Rattle.lz_list.specs.declared.walk.Met.{Met}
+use Rattle.lz_list.specs.declared.walk.Met.TheVariants.{Absent, Unmarked as met_unmarked, Marked as met_marked}
+use Rattle.lz_list.specs.Words.{link_to, change_flags}
+use Rattle.lz_list.specs.Walks.{Hopped, More, End, hopped}
+use Rattle.lz_list.specs.Traces.{Trace}
+use Rattle.lz_flush.specs.declared.need.Need.{Need}
+use Rattle.lz_flush.specs.declared.need.Need.TheVariants.{Now, Sync as needs_sync}
+use Rattle.lz_flush.specs.Settling.{may_answer, settle}
+use Rattle.lz_machine.specs.declared.course.Course.{Course}
+use Rattle.lz_machine.specs.declared.course.Course.TheVariants.{Refused, Dies, Plays}
+use Rattle.lz_machine.specs.declared.event.Event.{Event}
+use Rattle.lz_machine.specs.declared.event.Event.TheVariants.{Pin, Link, Sync, Settle, Unlink, Answer}
+use Rattle.lz_machine.specs.declared.event.Outcome.{Outcome}
+use Rattle.lz_machine.specs.declared.event.Outcome.TheVariants.{Done, Value, Slot, NoSlot, Taken, True, False, Early, Worn, NotNow, Fault, Dead, OldFile}
+use Rattle.lz_machine.specs.declared.event.Reply.{Reply}
+use Rattle.lz_machine.specs.declared.event.Reply.TheVariants.{Yes, No, Worn as SaysWorn, OldFile as SaysOldFile, Halted}
+use Rattle.lz_machine.specs.declared.caller.Script.{Script}
+use Rattle.lz_machine.specs.declared.caller.Script.TheVariants.{Resting, Halting}
+use Rattle.lz_machine.specs.declared.caller.Progress.{Progress}
+use Rattle.lz_machine.specs.declared.caller.Progress.TheVariants.{Playing, LoadsHalt, Walking, Reserving, SeeingPins, Claiming, Checking, Answering}
+use Rattle.lz_machine.specs.Yards.{Shape, Yard, actor_at, cell_at, opened_yard}
+use Rattle.lz_machine.specs.Table.{last_pin, pin_of, needs, is_played_dead, is_sure, is_spent, words_after, course_alive, course, line_on, line, line_failed, is_old, stays_out}
+use Rattle.lz_machine.specs.Calls.{goes_on, events_of, after_event, first_progress, progress_after, follows, walked, rests, hops_on, changes, after_playing, after_halt, after_hop, after_reserve, after_see_pin, after_claim, after_check, begun}
+use Rattle.lz_machine.specs.Runs.{Start, State, Up, Down, Step, Calls, Turn, Fails, Looks, Trips, Stops, Crashes, CrashesIn, Opens, OpenFails, Point, Service, Caller, caller_at, next_event, reply_at, moved_on, looked, state_after, after_turn, after_fault, HasTurn, HasFault, MayStep, first_point, run, IsRun, IsStart, opened_service, start_keys, invoked}
+use Rattle.lz_machine.specs.Sound.{Notes, View, view_of, MayRest, IsCut, Relies, CallerSound, Sound, UpSound, StateSound, PointSound, IsSound}
+use Rattle.lz_machine.proofs.Steps.Trip.{point}
+use Rattle.lz_machine.proofs.Frames.ActorTable.{by_actor}
+use Rattle.lz_machine.proofs.Frames.OneActor.{caller_range, mine}
+use Rattle.lz_machine.proofs.Steps.Hop.{call_at}
+use Rattle.lz_machine.proofs.Steps.Unlink.{redirect_pins}
+use Rattle.lz_machine.proofs.Open.FoundSlots.{pass_of}
+use Rattle.lz_machine.proofs.Theorem.Reached.{reached_sound}
+use Rattle.lz_machine.proofs.Runs.CallerTable.{none_of, fault_no_reply}
+use Rattle.lz_machine.proofs.Frames.Outside.{out_even}
+use Rattle.lz_machine.proofs.Theorem.EventNeeds.{IsWornAt, is_worn, last_of, odd_of, plain, v}
+
+-- After its Answer an actor's pin word is even.
+module _ (y : Yard) (a : ℕ) (low : 1 ≤ a) (high : a ≤ length y.words.pins) where
+  abbrev QuietOn : Course → Type 0
+  QuietOn taken = (line_on taken y (actor_at y a) a Answer).1 ≢ NotNow → pin_of (line_on taken y (actor_at y a) a Answer).0 a % 2 ≡ 0
+
+  pub quiet_after : QuietOn (course y a Answer)
+  quiet_after = go y.vault.dead (needs y a Answer) out refl refl
+    where
+      out : Bool
+      out = stays_out (actor_at y a) (pin_of y a)
+
+      go : (dead may refuses : Bool) → needs y a Answer ≡ may → out ≡ refuses → QuietOn (if dead && not true then Refused Dead else if may then (if refuses then Refused Done else Plays) else Refused NotNow)
+      go true false last may is now = absurd (now refl)
+      go false false last may is now = absurd (now refl)
+      go true true true may is now = out_even (actor_at y a) (pin_of y a) is
+      go false true true may is now = out_even (actor_at y a) (pin_of y a) is
+      go true true false may is now = ap (λ (q : ℕ). q % 2) (of_pass_same y.words.pins a (pin_of y a + 1) 0 low high) ∙ odd_of (pin_of y a) out may is
+      go false true false may is now = ap (λ (q : ℕ). q % 2) (of_pass_same y.words.pins a (pin_of y a + 1) 0 low high) ∙ odd_of (pin_of y a) out may is
+
+-- An event changes no other actor's pin word.
+module _ (y : Yard) (a b : ℕ) (other : b ≢ a) where
+  words_other : (e : Event) → of_pass (words_after y (actor_at y a) a e).pins b 0 ≡ pin_of y b
+  words_other Pin = of_pass_other y.words.pins a b (pin_of y a + 1) 0 other
+  words_other Answer = of_pass_other y.words.pins a b (pin_of y a + 1) 0 other
+  words_other Link = ap (λ (l : List ℕ). of_pass l b 0) (redirect_pins y.words (actor_at y a).pred (link_to (actor_at y a).slot))
+  words_other Unlink = ap (λ (l : List ℕ). of_pass l b 0) (redirect_pins y.words (actor_at y a).pred _)
+  words_other (Settle s) = go (is_sure y s)
+    where
+      go : (sure : Bool) → of_pass (if sure then change_flags (settle (cell_at y s).stage) y.words s else y.words).pins b 0 ≡ pin_of y b
+      go true = refl
+      go false = refl
+  words_other e = refl
+
+  on_other : (e : Event) (taken : Course) → pin_of (line_on taken y (actor_at y a) a e).0 b ≡ pin_of y b
+  on_other e (Refused outcome) = refl
+  on_other e Dies = refl
+  on_other e Plays = words_other e
+
+  pub pin_other : (e : Event) → pin_of (line y a e).0 b ≡ pin_of y b
+  pin_other e = on_other e (course y a e)
+
+-- an event that is refused as worn leaves the last pin
+alive_worn : (y : Yard) (a : ℕ) (e : Event) → is_worn (line_on (course_alive y a (pin_of y a) e) y (actor_at y a) a e).1 ≡ true → pin_of (line_on (course_alive y a (pin_of y a) e) y (actor_at y a) a e).0 a ≡ last_pin
+alive_worn y a Pin = go (pin_of y a == last_pin) refl
+  where
+    go : (last : Bool) → (pin_of y a == last_pin) ≡ last → is_worn (line_on (if last then Refused Worn else Plays) y (actor_at y a) a Pin).1 ≡ true → pin_of (line_on (if last then Refused Worn else Plays) y (actor_at y a) a Pin).0 a ≡ last_pin
+    go true same is = last_of (pin_of y a) same
+    go false same is = absurd (false≢true is)
+alive_worn y a Answer = go (stays_out (actor_at y a) (pin_of y a))
+  where
+    go : (last : Bool) → is_worn (line_on (if last then Refused Done else Plays) y (actor_at y a) a Answer).1 ≡ true → pin_of (line_on (if last then Refused Done else Plays) y (actor_at y a) a Answer).0 a ≡ last_pin
+    go true is = absurd (false≢true is)
+    go false is = absurd (false≢true is)
+alive_worn y a (Sync s) = go (not (is_sure y s) && is_spent y)
+  where
+    go : (spent : Bool) → is_worn (line_on (if spent then Dies else Plays) y (actor_at y a) a (Sync s)).1 ≡ true → pin_of (line_on (if spent then Dies else Plays) y (actor_at y a) a (Sync s)).0 a ≡ last_pin
+    go true is = absurd (false≢true is)
+    go false is = absurd (false≢true is)
+alive_worn y a e = λ is. absurd (false≢true (sym (plain y (actor_at y a) e).1 ∙ is))
+
+-- so does each event
+worn_last : (y : Yard) (a : ℕ) (e : Event) → is_worn (line y a e).1 ≡ true → pin_of (line y a e).0 a ≡ last_pin
+worn_last y a e = go (y.vault.dead && not (is_played_dead e)) (needs y a e)
+  where
+    taken : Bool → Bool → Course
+    taken dies may = if dies then Refused Dead else if may then course_alive y a (pin_of y a) e else Refused NotNow
+
+    go : (dies may : Bool) → is_worn (line_on (taken dies may) y (actor_at y a) a e).1 ≡ true → pin_of (line_on (taken dies may) y (actor_at y a) a e).0 a ≡ last_pin
+    go true may is = absurd (false≢true is)
+    go false true is = alive_worn y a e is
+    go false false is = absurd (false≢true is)
+
+-- A call comes to the answer that its pass is worn only by such an outcome.
+abbrev ends_worn : Progress → Bool
+ends_worn (Answering SaysWorn) = true
+ends_worn _ = false
+
+not_worn : (pin : ℕ) (at : Progress) → ends_worn at ≡ false → IsWornAt pin at
+not_worn pin at is same = absurd (false≢true (sym is ∙ ap ends_worn same))
+
+begins_not : (b : Bool) → ends_worn (if b then Answering SaysOldFile else first_progress) ≡ false
+begins_not true = refl
+begins_not false = refl
+
+rests_not : (s : ℕ) (need : Need) (reply : Reply) → ends_worn (Answering reply) ≡ false → ends_worn (rests s need reply) ≡ false
+rests_not s Now reply is = is
+rests_not s needs_sync reply is = refl
+
+walked_not : (c : Command) (aim : Option ℕ) (pred : Place) (curr : Option ℕ) (met : Met) → ends_worn (walked c aim pred curr met) ≡ false
+walked_not (Has k) aim pred curr Absent = refl
+walked_not (Has k) aim pred curr (met_unmarked s flags) = rests_not s (may_answer flags) Yes refl
+walked_not (Has k) aim pred curr (met_marked s flags) = rests_not s (may_answer flags) No refl
+walked_not (Add k) aim pred curr (met_unmarked s flags) = rests_not s (may_answer flags) No refl
+walked_not (Add k) None pred curr Absent = refl
+walked_not (Add k) None pred curr (met_marked s flags) = refl
+walked_not (Add k) (Some slot) pred curr Absent = refl
+walked_not (Add k) (Some slot) pred curr (met_marked s flags) = refl
+walked_not (Remove k) aim pred curr Absent = refl
+walked_not (Remove k) aim pred curr (met_marked s flags) = rests_not s (may_answer flags) No refl
+walked_not (Remove k) aim pred curr (met_unmarked s flags) = refl
+
+hops_not : (c : Command) (aim : Option ℕ) (h : Hopped) → ends_worn (hops_on c aim h) ≡ false
+hops_not c aim (More look) = refl
+hops_not c aim (End pred curr met) = walked_not c aim pred curr met
+
+changes_not : (c : Command) (aim curr : Option ℕ) → ends_worn (changes c aim curr) ≡ false
+changes_not (Add k) (Some s) curr = refl
+changes_not (Add k) None curr = refl
+changes_not (Remove k) aim (Some s) = refl
+changes_not (Remove k) aim None = refl
+changes_not (Has k) aim curr = refl
+
+met_not : (buckets : ℕ) (c : Command) (reply : Reply) (s : ℕ) (P0 P : Trace) → MayRest buckets c reply s P0 P → ends_worn (Answering reply) ≡ false
+met_not buckets (Has k) SaysWorn s P0 P h = absurd h
+met_not buckets (Add k) SaysWorn s P0 P h = absurd h
+met_not buckets (Remove k) SaysWorn s P0 P h = absurd h
+met_not buckets c _ s _ _ h = refl
+
+cut_not : (reply : Reply) → IsCut reply → ends_worn (Answering reply) ≡ false
+cut_not SaysWorn h = absurd h
+cut_not _ h = refl
+
+module _ (shape : Shape) (v : View) (c : Command) (P0 P : Trace) (changed : Option ℕ) where
+  goes_not : (script : Script) (i : ℕ) → Relies v c (Playing script i) P0 P changed → ends_worn (goes_on script) ≡ false
+  goes_not (Resting s reply) zero h = met_not v.buckets c reply s P0 P h.1
+  goes_not (Resting s reply) (suc zero) h = met_not v.buckets c reply s P0 P h.1
+  goes_not (Resting s reply) (suc (suc i)) h = absurd h
+  goes_not (Halting reply) zero h = cut_not reply h.0
+  goes_not (Halting reply) (suc i) h = absurd h
+  goes_not _ i h = refl
+
+  event_not : (script : Script) (i : ℕ) → Relies v c (Playing script i) P0 P changed → ends_worn (after_event c script i) ≡ false
+  event_not script i h = go (nat_lt (i + 1) (length (events_of c script)))
+    where
+      go : (more : Bool) → ends_worn (if more then Playing script (i + 1) else goes_on script) ≡ false
+      go true = refl
+      go false = goes_not script i h
+
+  playing_not : (script : Script) (i : ℕ) (outcome : Outcome) → Relies v c (Playing script i) P0 P changed → ends_worn (after_playing c script i outcome) ≡ false
+  playing_not script i Early h = refl
+  playing_not script i outcome h = event_not script i h
+
+  halt_not : (outcome : Outcome) → ends_worn (after_halt outcome) ≡ false
+  halt_not (Value value) = go (value == 1)
+    where
+      go : (halted : Bool) → ends_worn (if halted then Answering Halted else Walking None AtHead) ≡ false
+      go true = refl
+      go false = refl
+  halt_not outcome = refl
+
+  hop_not : (aim : Option ℕ) (look : Look) (outcome : Outcome) → ends_worn (after_hop shape c aim look outcome) ≡ false
+  hop_not aim look (Value value) = hops_not c aim (hopped shape.buckets (key_of c) look value)
+  hop_not aim look outcome = refl
+
+  reserve_not : (again : Bool) (outcome : Outcome) → ends_worn (after_reserve again outcome) ≡ false
+  reserve_not again (Slot s) = refl
+  reserve_not false (NoSlot counts) = refl
+  reserve_not true (NoSlot counts) = refl
+  reserve_not again outcome = refl
+
+  see_not : (p : ℕ) → ends_worn (after_see_pin shape p) ≡ false
+  see_not p = go (nat_lt p shape.passes)
+    where
+      go : (more : Bool) → ends_worn (if more then SeeingPins (p + 1) else Reserving true) ≡ false
+      go true = refl
+      go false = refl
+
+  claim_not : (aim : Option ℕ) (pred : Place) (curr : Option ℕ) (outcome : Outcome) → ends_worn (after_claim aim pred curr outcome) ≡ false
+  claim_not aim pred curr Taken = refl
+  claim_not aim pred curr outcome = refl
+
+  check_not : (aim curr : Option ℕ) (outcome : Outcome) → ends_worn (after_check c aim curr outcome) ≡ false
+  check_not aim curr True = changes_not c aim curr
+  check_not aim curr False = refl
+  check_not aim curr outcome = refl
+
+  abbrev FollowsNot : Progress → Outcome → Type 0
+  FollowsNot at outcome = Relies v c at P0 P changed → reply_at at ≡ None → ends_worn (follows shape c at outcome) ≡ false
+
+  follows_not : (at : Progress) (outcome : Outcome) → FollowsNot at outcome
+  follows_not (Playing script i) outcome h on_its_way = playing_not script i outcome h
+  follows_not LoadsHalt outcome h on_its_way = halt_not outcome
+  follows_not (Walking aim look) outcome h on_its_way = hop_not aim look outcome
+  follows_not (Reserving again) outcome h on_its_way = reserve_not again outcome
+  follows_not (SeeingPins p) outcome h on_its_way = see_not p
+  follows_not (Claiming aim pred curr) outcome h on_its_way = claim_not aim pred curr outcome
+  follows_not (Checking aim curr) outcome h on_its_way = check_not aim curr outcome
+  follows_not (Answering reply) outcome h on_its_way = absurd (none-some _ (sym on_its_way))
+
+  progress_not : (at : Progress) (outcome : Outcome) → Relies v c at P0 P changed → reply_at at ≡ None → is_worn outcome ≡ false → ends_worn (progress_after shape c at outcome) ≡ false
+  progress_not at Fault h on_its_way is = refl
+  progress_not at Dead h on_its_way is = refl
+  progress_not at OldFile h on_its_way is = refl
+  progress_not at Worn h on_its_way is = absurd (false≢true (sym is))
+  progress_not at outcome h on_its_way is = follows_not at outcome h on_its_way
+
+-- Between its calls an actor's pin word is even, in a run without looks; and a call that is refused as worn has the last pin.
+abbrev pub Fits : Bool → Option Caller → ℕ → Type 0
+Fits looks None pin = looks ≡ false → pin % 2 ≡ 0
+Fits looks (Some caller) pin = IsWornAt pin caller.progress
+
+abbrev pub AllFit : Bool → State → Type 0
+AllFit looks (Up service disk) = (a : ℕ) → Fits looks (caller_at service.callers a) (pin_of service.yard a)
+AllFit looks (Down shape disk) = Unit {0}
+
+module _ (looks : Bool) (n calls : ℕ) (y : Yard) (callers : List (Option Caller)) (disk : Medium) (M : History) (P : Trace) (notes : Notes) (sound : Sound n calls y callers disk M P notes) (fits : AllFit looks (Up (record { yard = y; callers = callers }) disk)) where
+  abbrev serving : Service
+  serving = record { yard = y; callers = callers }
+
+  -- where one actor's call and pin change
+  changes_one : (a : ℕ) (x : Option Caller) (y' : Yard) → 1 ≤ a → a ≤ length callers → Fits looks x (pin_of y' a) → ((b : ℕ) → b ≢ a → pin_of y' b ≡ pin_of y b)
+      → (b : ℕ) → Fits looks (caller_at (set_of_pass callers a x) b) (pin_of y' b)
+  changes_one a x y' low high own others = by_actor (λ b. Fits looks (caller_at (set_of_pass callers a x) b) (pin_of y' b)) a
+      (subst (λ (q : Option Caller). Fits looks q (pin_of y' a)) (sym (of_pass_same callers a x None low high)) own)
+      (λ b other. subst (λ (q : ℕ). Fits looks (caller_at (set_of_pass callers a x) b) q) (sym (others b other))
+      (subst (λ (q : Option Caller). Fits looks q (pin_of y b)) (sym (of_pass_other callers a b x None other)) (fits b)))
+
+  module _ (a i : ℕ) (c : Command) where
+    abbrev GoesTo : Progress → Yard × Outcome → Type 0
+    GoesTo at after = Fits looks (moved_on (reply_at at) (call_at i c at) (progress_after after.0.shape c at after.1)) (pin_of after.0 a)
+
+    goes_to : (at : Progress) → caller_at callers a ≡ Some (call_at i c at) → reply_at at ≡ None → GoesTo at (line y a (next_event y (call_at i c at)))
+    goes_to at is on_its_way = subst (λ (q : Option Reply). Fits looks (moved_on q (call_at i c at) (progress_after after.0.shape c at after.1)) (pin_of after.0 a)) (sym on_its_way) (elim (cases_Bool (is_worn after.1)) [
+      | inl worn ↦ λ same. worn_last y a (next_event y (call_at i c at)) worn
+      | inr other ↦ not_worn (pin_of after.0 a) (progress_after after.0.shape c at after.1) (progress_not after.0.shape (view_of y.shape y.vault y.actors a) c (notes.begun a) P (notes.changed a) at after.1 own.stands.2 on_its_way other)
+    ])
+      where
+        after : Yard × Outcome
+        after = line y a (next_event y (call_at i c at))
+
+        own : CallerSound (view_of y.shape y.vault y.actors a) (pin_of y a) (Some (call_at i c at)) (notes.begun a) P (notes.changed a)
+        own = mine y.shape y.vault y.words.pins y.actors callers P notes a (call_at i c at) is sound.callers
+
+    goes : (at : Progress) → caller_at callers a ≡ Some (call_at i c at) → (line y a (next_event y (call_at i c at))).1 ≢ NotNow → GoesTo at (line y a (next_event y (call_at i c at)))
+    goes (Answering reply) is now =
+        let range = caller_range callers a (call_at i c (Answering reply)) is in
+        λ still. quiet_after y a range.0 (omega (arith, range.1, sound.callers.count, sound.trace.pins)) now
+    goes at is now = goes_to at is refl
+
+    fails_to : (at : Progress) → reply_at at ≡ None → GoesTo at (line_failed y a (next_event y (call_at i c at)))
+    fails_to at on_its_way = subst (λ (q : Option Reply). Fits looks (moved_on q (call_at i c at) (progress_after y.shape c at Fault)) (pin_of y a)) (sym on_its_way) (not_worn (pin_of y a) (progress_after y.shape c at Fault) refl)
+
+  turn_fits : (a : ℕ) (q : Option Caller) → caller_at callers a ≡ q → HasTurn serving a q → AllFit looks (after_turn serving disk a q)
+  turn_fits a None is may = absurd may
+  turn_fits a (Some caller) is may =
+      let range = caller_range callers a caller is in
+      changes_one a _ (line y a (next_event y caller)).0 range.0 range.1 (goes a caller.number caller.command caller.progress is may) (λ b other. pin_other y a b other (next_event y caller))
+
+  fault_fits : (new : Medium) (a : ℕ) (q : Option Caller) → caller_at callers a ≡ q → HasFault serving disk a q new → AllFit looks (after_fault serving new a q)
+  fault_fits new a None is may = absurd may
+  fault_fits new a (Some caller) is may =
+      let range = caller_range callers a caller is in
+      changes_one a _ (line_failed y a (next_event y caller)).0 range.0 range.1 (fails_to a caller.number caller.command caller.progress (fault_no_reply y a caller.command caller.progress disk new may)) (λ b other. refl)
+
+  -- with a look nothing is said of actors without calls
+  loosens : (q : Option Caller) (pin : ℕ) → Fits looks q pin → Fits true q pin
+  loosens None pin h = λ is. absurd (false≢true (sym is))
+  loosens (Some caller) pin h = h
+
+  look_fits : (a : ℕ) → caller_at callers a ≡ None → AllFit true (Up (record { yard = looked y a; callers = callers }) disk)
+  look_fits a none = by_actor (λ b. Fits true (caller_at callers b) (pin_of (looked y a) b)) a
+      (subst (λ (q : Option Caller). Fits true q (pin_of (looked y a) a)) (sym none) (λ is. absurd (false≢true (sym is))))
+      (λ b other. subst (Fits true (caller_at callers b)) (sym (of_pass_other y.words.pins a b (pin_of y a + 1) 0 other)) (loosens (caller_at callers b) (pin_of y b) (fits b)))
+
+-- a look
+abbrev pub is_look : Step → Bool
+is_look (Looks a) = true
+is_look _ = false
+
+module _ (looks : Bool) (n calls : ℕ) (y : Yard) (callers : List (Option Caller)) (disk : Medium) (M : History) (P : Trace) (notes : Notes) (sound : Sound n calls y callers disk M P notes) (fits : AllFit looks (Up (record { yard = y; callers = callers }) disk)) where
+  up_fits : (i : ℕ) (step : Step) → MayStep (Up (record { yard = y; callers = callers }) disk) step → AllFit (is_look step || looks) (state_after i (Up (record { yard = y; callers = callers }) disk) step)
+  up_fits i (Calls a c) may =
+      changes_one looks n calls y callers disk M P notes sound fits a (Some (call_at i c (begun y.vault.format c))) (invoked y a c) may.0.0 (omega (arith, may.0.1, sound.callers.count)) (not_worn (pin_of y a) (begun y.vault.format c) (begins_not (is_old y.vault.format c))) (λ b other. refl)
+  up_fits i (Turn a) may = turn_fits looks n calls y callers disk M P notes sound fits a (caller_at callers a) refl may
+  up_fits i (Fails a new) may = fault_fits looks n calls y callers disk M P notes sound fits new a (caller_at callers a) refl may
+  up_fits i (Looks a) may = look_fits looks n calls y callers disk M P notes sound fits a (none_of (caller_at callers a) may.1)
+  up_fits i Trips may = fits
+  up_fits i Stops may = tt
+  up_fits i (Crashes t) may = tt
+  up_fits i (CrashesIn a t) may = tt
+  up_fits i Opens may = absurd may
+  up_fits i (OpenFails why done) may = absurd may
+
+-- an open begins with no callers, and pins that are 0
+opened_fits : (looks : Bool) (shape : Shape) (t : List ℕ) (disk : Medium) → AllFit looks (Up (opened_service shape t) disk)
+opened_fits looks shape t disk a = subst (λ (q : Option Caller). Fits looks q (pin_of (opened_yard shape t) a)) (sym (pass_of shape.passes a None)) (λ is. ap (λ (q : ℕ). q % 2) (pass_of shape.passes a 0))
+
+down_fits : (looks : Bool) (i : ℕ) (shape : Shape) (disk : Medium) (step : Step) → MayStep (Down shape disk) step → AllFit (is_look step || looks) (state_after i (Down shape disk) step)
+down_fits looks i shape disk Opens may = opened_fits looks shape disk.seen (synced disk)
+down_fits looks i shape disk Trips may = tt
+down_fits looks i shape disk Stops may = tt
+down_fits looks i shape disk (Crashes t) may = tt
+down_fits looks i shape disk (OpenFails why true) may = tt
+down_fits looks i shape disk (OpenFails why false) may = tt
+down_fits looks i shape disk _ may = absurd may
+
+-- what the invariant says of an open service at a point
+pub record IsUpAt (calls : ℕ) (service : Service) (disk : Medium) (P : Trace) : Type 0 where
+  pub n : ℕ
+  pub life : Life
+  pub notes : Notes
+  pub up : UpSound n calls service disk life P notes
+
+pub up_at : (start : Start) (p : Point) (service : Service) (disk : Medium) → IsSound start p → p.state ≡ Up service disk → IsUpAt p.calls service disk p.trace
+up_at start p service disk sound is = go (lives (start_keys start) p.marks) sound
+  where
+    go : (L : List Life) → PointSound start p L → IsUpAt p.calls service disk p.trace
+    go [] h = absurd h
+    go (life ∷ earlier) h =
+        let there : StateSound p (Up service disk) life = subst (λ (q : State). StateSound p q life) is h.2 in
+        record { n = there.0; life = life; notes = there.1; up = there.2 }
+
+pub step_fits : (looks : Bool) (start : Start) (w : State) (M : History) (P : Trace) (calls i : ℕ) (step : Step) → IsSound start (point w M P calls) → MayStep w step → AllFit looks w → AllFit (is_look step || looks) (state_after i w step)
+step_fits looks start (Up service disk) M P calls i step sound may fits =
+    let there = up_at start (point (Up service disk) M P calls) service disk sound refl in
+    up_fits looks there.n calls service.yard service.callers disk there.life.history P there.notes there.up.sound fits i step may
+step_fits looks start (Down shape disk) M P calls i step sound may fits = down_fits looks i shape disk step may
+
+pub run_fits : (start : Start) (steps : List Step) → IsStart start → IsRun (first_point start) steps → AllFit (list_any is_look steps) (run (first_point start) steps).state
+run_fits start [] is runs = opened_fits false start.shape start.text (at_rest start.text)
+run_fits start (step ∷ steps) is runs =
+    let before = run (first_point start) steps in
+    step_fits (list_any is_look steps) start before.state before.marks before.trace before.calls (suc before.calls) step (reached_sound start steps is runs.1) runs.0 (run_fits start steps is runs.1)
