@@ -1,13 +1,13 @@
 -- A service that was opened begins a run.
-use Rattle.std.proofs.Common.{◌≡◌, ◌+◌, ◌%◌, ◌==◌, ◌∷◌, ◌++◌, [], arith, ℕ, zero, suc, List, Option, None, IsTrue, map, length, replicate, refl, sym, ap, ◌∙◌, subst}
+use Rattle.std.proofs.Common.{◌≡◌, ◌+◌, ◌%◌, ◌==◌, ◌∷◌, ◌++◌, [], arith, ℕ, zero, suc, List, Option, None, IsTrue, map, replicate, refl, sym, ap, ◌∙◌, subst}
 use Rattle.std.specs.List.{range_with_len}
 use Rattle.std.proofs.lemmas.List.{length-replicate}
 use mathlib.Core.List.{map-append}
 use Rattle.lz_disk.specs.Devices.{Device}
-use Rattle.lz_disk.specs.Images.{Medium, at_rest, synced}
+use Rattle.lz_disk.specs.Images.{Medium, at_rest}
 use Rattle.lz_machine.specs.Orders.{Calling}
 use Rattle.lz_machine.specs.Points.{IsQuiet}
-use Rattle.lz_machine.specs.Runs.{Caller, Start, Up, first_point, opened_service}
+use Rattle.lz_machine.specs.Runs.{Start, Up, first_point, opened_service}
 use Rattle.lz_machine.specs.Yards.{Shape, Yard}
 use Rattle.lz_machine.proofs.Open.FoundSlots.{pass_of}
 use Rattle.lz_yard.specs.Filling.{OpensYard}

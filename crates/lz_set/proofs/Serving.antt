@@ -1,25 +1,34 @@
 -- A service goes on: what a run reaches leads by a call or by an event to what a run reaches.
-use Rattle.std.proofs.Common.{◌≡◌, ◌≢◌, inl, inr, ◌≤◌, ◌-◌, arith, length, map, IsNone, IsSome, IsTrue, IfSome, IfNone, ℕ, zero, suc, Bool, true, false, List, [], ◌∷◌, Option, Some, None, is_some, unwrap_or, slice_index_or, slice_set, refl, sym, ap, ◌∙◌, subst}
+use Rattle.std.proofs.Common.{◌≡◌, ◌≢◌, inl, inr, ◌≤◌, ◌-◌, arith, length, map, IsNone, IsTrue, IfSome, IfNone, if◌then◌else◌, ℕ, zero, suc, Bool, true, false, List, [], ◌∷◌, Option, Some, None, is_some, unwrap_or, slice_index_or, slice_set, refl, sym, ap, ◌∙◌, subst}
 use Rattle.std.proofs.lemmas.Bool.{false≢true}
 use Rattle.std.proofs.lemmas.List.{length-map}
 use Rattle.lz_slot.specs.declared.command.Command.{Command}
 use Rattle.lz_slot.specs.Bytes.{Holds}
 use Rattle.lz_slot.specs.Counted.{of_pass, set_of_pass}
-use Rattle.lz_slot.specs.Limits.{largest_key}
+use Rattle.lz_slot.specs.Limits.{largest_key, most_buckets, most_passes}
 use Rattle.lz_slot.specs.Sets.{key_of}
 use Rattle.lz_slot.proofs.Counted.{of_pass_same}
 use Rattle.lz_disk.specs.Devices.{Device}
 use Rattle.lz_disk.specs.Images.{IsImage, Medium}
+use Rattle.lz_vault.specs.Vaults.{DeviceCall, NoCall, Succeeds}
+use Rattle.lz_machine.specs.declared.course.Course.{Course}
+use Rattle.lz_machine.specs.declared.caller.Progress.{Progress}
+use Rattle.lz_machine.specs.declared.caller.Progress.TheVariants.{Answering}
 use Rattle.lz_machine.specs.declared.event.Event.{Event}
+use Rattle.lz_machine.specs.declared.event.Event.TheVariants.{Invoke}
 use Rattle.lz_machine.specs.declared.event.Outcome.{Outcome}
+use Rattle.lz_machine.specs.declared.event.Outcome.TheVariants.{Done, Fault, OldFile}
 use Rattle.lz_machine.specs.declared.event.Reply.{Reply}
-use Rattle.lz_machine.specs.Calls.{first_progress, loaded, progress_after}
-use Rattle.lz_machine.specs.Orders.{Calling, MayTake, shape_with}
-use Rattle.lz_machine.specs.Points.{IsQuiet, IsReached}
+use Rattle.lz_machine.specs.declared.event.Reply.TheVariants.{OldFile as SaysOldFile}
+use Rattle.lz_machine.specs.declared.kind.Kind.{Kind}
+use Rattle.lz_machine.specs.Calls.{begun, first_progress, loaded, progress_after}
+use Rattle.lz_machine.specs.Orders.{Calling, MayTake}
+use Rattle.lz_machine.specs.Points.{IsQuiet}
 use Rattle.lz_machine.specs.Ready.{IsEventOf}
-use Rattle.lz_machine.specs.Runs.{Caller, Calls, MayPlay, MayStep, Point, Service, State, Step, Up, caller_at, first_point, moved_on, next_event, point_after, reply_at, shape_of, state_after}
-use Rattle.lz_machine.specs.Table.{line}
-use Rattle.lz_machine.specs.Yards.{Shape, Yard}
+use Rattle.lz_machine.specs.Runs.{Caller, Calls, MayPlay, MayStep, Service, State, Step, Up, caller_at, invoked, moved_on, next_event, point_after, reply_at, shape_of, state_after}
+use Rattle.lz_machine.specs.Table.{call_on, is_old, line_call, line_on}
+use Rattle.lz_machine.specs.Yards.{Shape, Yard, actor_at}
+use Rattle.lz_machine.proofs.Runs.Course.{invoke_plays}
 use Rattle.lz_machine.proofs.Runs.EventOrder.{same_event, same_follows}
 use Rattle.lz_machine.proofs.Runs.ReachedPoint.{as_reached, reach, shape_kept}
 use Rattle.lz_machine.proofs.Theorem.Reached.{every_history}
@@ -28,8 +37,8 @@ use Rattle.lz_machine.proofs.Theorem.WornPass.{is_look}
 use Rattle.lz_machine.proofs.Theorem.Timing.{is_event, may_take, quiet_step}
 use Rattle.lz_yard.specs.Steps.{Played}
 use Rattle.lz_yard.proofs.Keeping.{fault_or_not, played_shape}
-use Rattle.lz_yard.proofs.Onward.{Steps, after_it, in_range, may_play, moved, steps_on}
-use Rattle.lz_set.specs.Locks.{HasHistory, IsCallOf, IsLeft, IsOfRun, IsReplied, first_call, goes_on, kept_call, next_of}
+use Rattle.lz_yard.proofs.Onward.{may_play, moved, steps_on}
+use Rattle.lz_set.specs.Locks.{Begins, HasHistory, IsCallOf, IsHeld, IsHold, IsLeft, IsOfRun, IsReplied, IsTurn, ServiceOver, begun_after, first_call, goes_on, kept_call, next_of}
 
 -- lists of what passes have, one for one
 index_map : (s : Shape) (xs : List (Option Caller)) (i : ℕ) → slice_index_or (map (kept_call s) xs) i None ≡ kept_call s (slice_index_or xs i None)
@@ -87,6 +96,22 @@ pub none_to : {T A B : Type 0} (r : Option T) → (A → B) → IfNone r A → I
 none_to None f h = f h
 none_to (Some x) f h = tt
 
+-- a call's first hold makes it, and another one finds it made
+module _ (D : Type 0) (device : D → Device) (first : Bool) (old held new : ServiceOver D) (a : ℕ) (c : Command) (kind : Kind) (outcome : Outcome) (reply : Option Reply) (turn : IsTurn D device held a c kind outcome reply new) where
+  pub first_hold : (made : Bool) → first ≡ true → made ≡ true → Begins D device old a c made held → IsHold D device first old a c kind outcome reply new
+  first_hold made is_first is_made begins = record {
+    held = held;
+    is_held = subst (λ (f : Bool). IsHeld D device f old a c held) (sym is_first) (subst (λ (b : Bool). Begins D device old a c b held) is_made begins);
+    turn = turn;
+  }
+
+  pub later_hold : first ≡ false → held ≡ old → IsHold D device first old a c kind outcome reply new
+  later_hold later same = record {
+    held = held;
+    is_held = subst (λ (f : Bool). IsHeld D device f old a c held) (sym later) same;
+    turn = turn;
+  }
+
 -- a call of a run, as it is kept
 abbrev kept_one : Shape → Caller → Calling
 kept_one s caller = record { command = caller.command; buckets = s.buckets; passes = s.passes; progress = caller.progress }
@@ -112,6 +137,11 @@ no_call : (s : Shape) (o : Option Caller) → kept_call s o ≡ None → IsNone 
 no_call s None none = refl
 no_call s (Some caller) none = absurd (false≢true (sym (ap is_some none)))
 
+-- a call begins as the file's format says
+begins : (refused : Bool) → begun_after (if refused then OldFile else Done) ≡ (if refused then Answering SaysOldFile else first_progress)
+begins true = refl
+begins false = refl
+
 module _ (y : Yard) (calls : List (Option Calling)) (honest : Bool) (disk : Medium) (h : IsOfRun y calls honest disk) where
   abbrev served : Service
   served = record { yard = y; callers = h.callers }
@@ -119,11 +149,11 @@ module _ (y : Yard) (calls : List (Option Calling)) (honest : Bool) (disk : Medi
   pub shape_is : h.start.shape ≡ y.shape
   shape_is = sym (shape_kept h.start h.point h.reached) ∙ ap shape_of h.state
 
-  pub buckets_are : (1 ≤ y.shape.buckets) × (y.shape.buckets ≤ 4096)
-  buckets_are = subst (λ (s : Shape). (1 ≤ s.buckets) × (s.buckets ≤ 4096)) shape_is h.reached.starts.buckets
+  pub buckets_are : (1 ≤ y.shape.buckets) × (y.shape.buckets ≤ most_buckets)
+  buckets_are = subst (λ (s : Shape). (1 ≤ s.buckets) × (s.buckets ≤ most_buckets)) shape_is h.reached.starts.buckets
 
-  pub passes_are : (1 ≤ y.shape.passes) × (y.shape.passes ≤ 64)
-  passes_are = subst (λ (s : Shape). (1 ≤ s.passes) × (s.passes ≤ 64)) shape_is h.reached.starts.passes
+  pub passes_are : (1 ≤ y.shape.passes) × (y.shape.passes ≤ most_passes)
+  passes_are = subst (λ (s : Shape). (1 ≤ s.passes) × (s.passes ≤ most_passes)) shape_is h.reached.starts.passes
 
   pub count : length calls ≡ y.shape.passes
   count = ap length h.kept ∙ length-map h.callers (kept_call y.shape) ∙ h.count
@@ -175,32 +205,81 @@ module _ (y : Yard) (calls : List (Option Calling)) (honest : Bool) (disk : Medi
       }
 
   -- a pass without a call makes one
-  pub invokes : (a : ℕ) (c : Command) → 1 ≤ a → a ≤ y.shape.passes → key_of c ≤ largest_key → of_pass calls a None ≡ None
-      → IsOfRun y (set_of_pass calls a (Some (first_call y.shape c))) honest disk
-  invokes a c low high key none =
-      let free : IsNone (caller_at h.callers a) = no_call y.shape (caller_at h.callers a) (sym (kept_at a) ∙ none) in
-      let quiet : IsQuiet (Up served h.medium) = subst IsQuiet h.state h.quiet in
-      let made : Caller = record { number = suc h.point.calls; command = c; progress = first_progress } in
-      let here : MayStep h.point.state (Calls a c) = subst (λ (w : State). MayStep w (Calls a c)) (sym h.state) ((low, high), free, quiet a free, key) in
-      record {
-        start = h.start;
-        point = point_after h.point (Calls a c);
-        reached = reach h.start h.point (Calls a c) h.reached here;
-        callers = set_of_pass h.callers a (Some made);
-        medium = h.medium;
-        state = ap (λ (w : State). state_after (suc h.point.calls) w (Calls a c)) h.state;
-        quiet = quiet_step h.start h.point h.reached (suc h.point.calls) (Calls a c) here refl h.quiet;
-        kept = ap (λ (cs : List (Option Calling)). set_of_pass cs a (Some (first_call y.shape c))) h.kept ∙ sym (map_set y.shape h.callers a (Some made));
-        count = count_set h.callers a (Some made) ∙ h.count;
-        device = h.device;
-      }
+  module _ (a : ℕ) (c : Command) (low : 1 ≤ a) (high : a ≤ y.shape.passes) (none : of_pass calls a None ≡ None) where
+    free : IsNone (caller_at h.callers a)
+    free = no_call y.shape (caller_at h.callers a) (sym (kept_at a) ∙ none)
 
-  pub invokes_at : (a : ℕ) (c : Command) (call : Calling) → 1 ≤ a → a ≤ y.shape.passes → key_of c ≤ largest_key → of_pass calls a None ≡ None → call ≡ first_call y.shape c
-      → IsOfRun y (slice_set calls (a - 1) (Some call)) honest disk
-  invokes_at a c call low high key none is =
-      subst (λ (cs : List (Option Calling)). IsOfRun y cs honest disk)
-      (set_at calls a (Some (first_call y.shape c)) low ∙ ap (λ (k : Calling). slice_set calls (a - 1) (Some k)) (sym is))
-      (invokes a c low high key none)
+    -- its Invoke may be played
+    pub may_invoke : MayPlay y honest disk a (Invoke c)
+    may_invoke = record {
+      start = h.start;
+      service = served;
+      medium = h.medium;
+      history = h.point.marks;
+      trace = h.point.trace;
+      reached = as_reached h.start h.point (Up served h.medium) h.reached h.state;
+      next = free;
+      yard = record { shape = refl; heads = refl; links = refl; keys = refl; halt = refl; pin = refl; locks = refl; vault = refl; uses = refl; actors = refl };
+      device = h.device;
+    }
+
+    module _ (before after : Device) (new : Yard) (outcome : Outcome) (told : _) (event : Played y a (Invoke c) outcome new told before after) where
+      asks_nothing : line_call y a (Invoke c) ≡ NoCall
+      asks_nothing = ap (λ (taken : Course). call_on taken y (actor_at y a) (Invoke c)) (invoke_plays y a c)
+
+      no_fault : outcome ≢ Fault
+      no_fault fault = (event.failed fault).asked asks_nothing
+
+      pub invoke_yard : new ≡ invoked y a c
+      invoke_yard = (event.done no_fault).yard ∙ ap (λ (taken : Course). (line_on taken y (actor_at y a) a (Invoke c)).0) (invoke_plays y a c)
+
+      pub invoke_disk : Succeeds NoCall before after
+      invoke_disk = subst (λ (call : DeviceCall). Succeeds call before after) asks_nothing (event.done no_fault).call
+
+      outcome_is : outcome ≡ (if is_old y.vault.format c then OldFile else Done)
+      outcome_is = (event.done no_fault).answer ∙ ap (λ (taken : Course). (line_on taken y (actor_at y a) a (Invoke c)).1) (invoke_plays y a c)
+
+      -- the call that was made
+      pub made_call : (buckets passes : ℕ) (call : Calling) → buckets ≡ y.shape.buckets → passes ≡ length calls
+          → call ≡ record { command = c; buckets = buckets; passes = passes; progress = begun_after outcome } → call ≡ first_call y c
+      made_call buckets passes call own room is =
+          is
+          ∙ ap (λ (b : ℕ). record { command = c; buckets = b; passes = passes; progress = begun_after outcome }) own
+          ∙ ap (λ (p : ℕ). record { command = c; buckets = y.shape.buckets; passes = p; progress = begun_after outcome }) (room ∙ count)
+          ∙ ap (λ (at : Progress). record { command = c; buckets = y.shape.buckets; passes = y.shape.passes; progress = at }) (ap begun_after outcome_is ∙ begins (is_old y.vault.format c))
+
+      pub invokes : key_of c ≤ largest_key → before.honest ≡ honest → before.medium ≡ disk
+          → IsOfRun new (set_of_pass calls a (Some (first_call y c))) after.honest after.medium
+      invokes key same_honest same_disk =
+          let made : Caller = record { number = suc h.point.calls; command = c; progress = begun y.vault.format c } in
+          let callers : List (Option Caller) = set_of_pass h.callers a (Some made) in
+          let quiet : IsQuiet (Up served h.medium) = subst IsQuiet h.state h.quiet in
+          let shape : new.shape ≡ y.shape = ap (λ (yard : Yard). yard.shape) invoke_yard in
+          let here : MayStep h.point.state (Calls a c) = subst (λ (w : State). MayStep w (Calls a c)) (sym h.state) ((low, high), free, quiet a free, key) in
+          record {
+            start = h.start;
+            point = point_after h.point (Calls a c);
+            reached = reach h.start h.point (Calls a c) h.reached here;
+            callers = callers;
+            medium = h.medium;
+            state =
+                ap (λ (w : State). state_after (suc h.point.calls) w (Calls a c)) h.state
+                ∙ ap (λ (yard : Yard). Up (record { yard = yard; callers = callers }) h.medium) (sym invoke_yard);
+            quiet = quiet_step h.start h.point h.reached (suc h.point.calls) (Calls a c) here refl h.quiet;
+            kept = subst (λ (s : Shape). set_of_pass calls a (Some (first_call y c)) ≡ map (kept_call s) callers) (sym shape)
+                (ap (λ (cs : List (Option Calling)). set_of_pass cs a (Some (first_call y c))) h.kept ∙ sym (map_set y.shape h.callers a (Some made)));
+            count = count_set h.callers a (Some made) ∙ h.count ∙ ap (λ (s : Shape). s.passes) (sym shape);
+            device = λ is.
+                let was = subst IsTrue invoke_disk.honest is in
+                invoke_disk.medium was ∙ same_disk ∙ h.device (subst IsTrue same_honest was);
+          }
+
+      pub invokes_at : (call : Calling) → key_of c ≤ largest_key → before.honest ≡ honest → before.medium ≡ disk → call ≡ first_call y c
+          → IsOfRun new (slice_set calls (a - 1) (Some call)) after.honest after.medium
+      invokes_at call key same_honest same_disk is =
+          subst (λ (cs : List (Option Calling)). IsOfRun new cs after.honest after.medium)
+          (set_at calls a (Some (first_call y c)) low ∙ ap (λ (k : Calling). slice_set calls (a - 1) (Some k)) (sym is))
+          (invokes key same_honest same_disk)
 
   -- a pass with a call
   module _ (a : ℕ) (call : Calling) (at : of_pass calls a None ≡ Some call) where

@@ -4,7 +4,7 @@ use Rattle.lz_slot.specs.declared.command.Command.{Command}
 use Rattle.lz_machine.specs.declared.event.Reply.{Reply}
 use Rattle.lz_machine.specs.declared.event.Reply.TheVariants as reply
 use Rattle.lz_set.specs.declared.fault.Fault.{Fault}
-use Rattle.lz_set.specs.declared.fault.Fault.TheVariants.{Full, Halted, Worn, Device}
+use Rattle.lz_set.specs.declared.fault.Fault.TheVariants.{Full, Halted, Worn, Device, OldFile}
 use Rattle.lz_set.specs.Locks.{IsReplied}
 use Rattle.lz_set.specs.Names.{Name}
 
@@ -14,6 +14,7 @@ fault_number (Full counts) = 1
 fault_number Halted = 2
 fault_number Worn = 3
 fault_number Device = 4
+fault_number OldFile = 5
 
 -- the machine's reply that an answer stands for
 abbrev pub reply_of : Result Bool Fault → Reply
@@ -23,6 +24,7 @@ reply_of (Err (Full counts)) = reply.Full counts
 reply_of (Err Halted) = reply.Halted
 reply_of (Err Worn) = reply.Worn
 reply_of (Err Device) = reply.Device
+reply_of (Err OldFile) = reply.OldFile
 
 -- the answer is the reply of this pass's call of this command, in a state that a run of a set of this name reaches
 abbrev pub IsAnswer : Name → ℕ → Command → Result Bool Fault → Type 0

@@ -8,16 +8,21 @@ use Rattle.lz_slot.specs.Histories.{History, ChainTo, lives}
 use Rattle.lz_slot.specs.Sets.{Keys}
 use Rattle.lz_disk.specs.Devices.{Device}
 use Rattle.lz_disk.specs.Images.{Medium, IsImage}
+use Rattle.lz_vault.specs.Vaults.{NoCall, Succeeds}
 use Rattle.lz_list.specs.Traces.{Trace}
 use Rattle.lz_machine.specs.declared.event.Event.{Event}
+use Rattle.lz_machine.specs.declared.caller.Progress.{Progress}
+use Rattle.lz_machine.specs.declared.caller.Progress.TheVariants.{Answering}
 use Rattle.lz_machine.specs.declared.event.Outcome.{Outcome}
+use Rattle.lz_machine.specs.declared.event.Outcome.TheVariants.{OldFile}
 use Rattle.lz_machine.specs.declared.event.Reply.{Reply}
+use Rattle.lz_machine.specs.declared.event.Reply.TheVariants.{OldFile as SaysOldFile}
 use Rattle.lz_machine.specs.declared.kind.Kind.{Kind}
-use Rattle.lz_machine.specs.Calls.{event_at, first_progress, loaded, progress_after}
+use Rattle.lz_machine.specs.Calls.{begun, event_at, first_progress, loaded, progress_after}
 use Rattle.lz_machine.specs.Kinds.{kind_of}
 use Rattle.lz_machine.specs.Orders.{Calling, shape_with}
 use Rattle.lz_machine.specs.Points.{IsReached, IsQuiet}
-use Rattle.lz_machine.specs.Runs.{Start, Caller, Service, Up, Point, Reached, reply_at, start_keys}
+use Rattle.lz_machine.specs.Runs.{Start, Caller, Service, Up, Point, Reached, invoked, reply_at, start_keys}
 use Rattle.lz_machine.specs.Yards.{Shape, Yard}
 use Rattle.lz_yard.specs.Steps.{Played}
 use Rattle.lz_yard.specs.declared.told.Told.{Told}
@@ -97,9 +102,14 @@ abbrev pub goes_on : Option Reply → Calling → Outcome → Option Calling
 goes_on (Some reply) call outcome = None
 goes_on None call outcome = Some (record { command = call.command; buckets = call.buckets; passes = call.passes; progress = progress_after (shape_with call) call.command call.progress outcome })
 
--- a call of a command that was just made
-abbrev pub first_call : Shape → Command → Calling
-first_call shape c = record { command = c; buckets = shape.buckets; passes = shape.passes; progress = first_progress }
+-- where a call begins, whose Invoke answered so
+abbrev pub begun_after : Outcome → Progress
+begun_after OldFile = Answering SaysOldFile
+begun_after _ = first_progress
+
+-- a call of a command that was just made on a yard: it begins as the format of the file says
+abbrev pub first_call : Yard → Command → Calling
+first_call y c = record { command = c; buckets = y.shape.buckets; passes = y.shape.passes; progress = begun y.vault.format c }
 
 -- this is an open call of the command
 abbrev pub IsCallOf : Command → Option Calling → Type 0
@@ -110,15 +120,17 @@ IsCallOf c (Some call) = call.command ≡ c
 abbrev pub HasCallOf : {D : Type 0} → ServiceOver D → ℕ → Command → Type 0
 HasCallOf service pass c = IsCallOf c (call_of service pass)
 
--- the service in which a pass has made a call
-abbrev pub begun : {D : Type 0} → ServiceOver D → ℕ → Command → ServiceOver D
-begun old pass c = record { yard = old.yard; disk = old.disk; calls = set_of_pass old.calls pass (Some (first_call old.yard.shape c)) }
+-- A pass that had no call open has made one: its Invoke was played, which asks nothing of the device.
+pub record IsMade (D : Type 0) (device : D → Device) (old : ServiceOver D) (pass : ℕ) (c : Command) (new : ServiceOver D) : Type 0 where
+  pub free : call_of old pass ≡ None
+  pub yard : new.yard ≡ invoked old.yard pass c
+  pub disk : Succeeds NoCall (device old.disk) (device new.disk)
+  pub calls : new.calls ≡ set_of_pass old.calls pass (Some (first_call old.yard c))
 
 -- a pass that has no call open made one; one that has is as it was
-abbrev pub Begins : {D : Type 0} → ServiceOver D → ℕ → Command → Bool → ServiceOver D → Type 0
-Begins old pass c true new =
-    (call_of old pass ≡ None) × (new ≡ begun old pass c)
-Begins old pass c false new = IsSome (call_of old pass) × (new ≡ old)
+abbrev pub Begins : (D : Type 0) → (D → Device) → ServiceOver D → ℕ → Command → Bool → ServiceOver D → Type 0
+Begins D device old pass c true new = IsMade D device old pass c new
+Begins D device old pass c false new = IsSome (call_of old pass) × (new ≡ old)
 
 -- The next event of a pass's call of a command was played: its kind, its outcome, and the reply with which the call ended.
 pub record IsTurn (D : Type 0) (device : D → Device) (old : ServiceOver D) (pass : ℕ) (c : Command) (kind : Kind) (outcome : Outcome) (reply : Option Reply) (new : ServiceOver D) : Type 0 where
@@ -131,10 +143,16 @@ pub record IsTurn (D : Type 0) (device : D → Device) (old : ServiceOver D) (pa
   pub ends : reply ≡ reply_at call.progress
   pub calls : new.calls ≡ set_of_pass old.calls pass (goes_on (reply_at call.progress) call outcome)
 
--- the service in which a hold plays: the call is made at the start of its first one
-abbrev pub held : {D : Type 0} → Bool → ServiceOver D → ℕ → Command → ServiceOver D
-held true old pass c = begun old pass c
-held false old pass c = old
+-- this is the service in which a hold plays its turn: the call is made at the start of its first one
+abbrev pub IsHeld : (D : Type 0) → (D → Device) → Bool → ServiceOver D → ℕ → Command → ServiceOver D → Type 0
+IsHeld D device true old pass c held = IsMade D device old pass c held
+IsHeld D device false old pass c held = held ≡ old
+
+-- A hold that was the pass's turn: the turn's kind, its outcome, and the reply with which the call ended.
+pub record IsHold (D : Type 0) (device : D → Device) (first : Bool) (old : ServiceOver D) (pass : ℕ) (c : Command) (kind : Kind) (outcome : Outcome) (reply : Option Reply) (new : ServiceOver D) : Type 0 where
+  pub held : ServiceOver D
+  pub is_held : IsHeld D device first old pass c held
+  pub turn : IsTurn D device held pass c kind outcome reply new
 
 -- a hold that isn't the pass's turn: its first one where a call is open, or another one where no call of the command is
 abbrev pub IsNotNow : {D : Type 0} → Bool → ServiceOver D → ℕ → Command → Type 0

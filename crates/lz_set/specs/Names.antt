@@ -1,5 +1,5 @@
 -- Names of sets, by which a set and its passes are known to belong together.
-use Rattle.std.specs.Prelude.{ℕ, ◌≤◌}
+use Rattle.std.specs.Prelude.{◌≤◌}
 use Rattle.lz_machine.specs.Yards.{Shape}
 use Rattle.lz_set.specs.declared.pass.Pass.{Pass}
 

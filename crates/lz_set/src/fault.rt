@@ -15,6 +15,8 @@ pub enum Fault {
     Worn,
     /// The device failed in this call, which counts as still under way.
     Device,
+    /// The file has format 1 and the room isn't 0. The set is as if the call hadn't been made.
+    OldFile,
 }
 
 impl Fault {
@@ -27,6 +29,7 @@ impl Fault {
             Fault::Halted => 2,
             Fault::Worn => 3,
             Fault::Device => 4,
+            Fault::OldFile => 5,
         }
     }
 }

@@ -4,7 +4,8 @@ use std::sync::Wait;
 
 /// Is called by the thread that played an event, while the set isn't held: other threads go on meanwhile.
 pub trait StepGate: Drop {
-    /// An event of this kind was played for the pass.
+    /// An event of this kind was played for the pass. The Invoke of a call is played in one hold with the event after it, and
+    /// isn't told.
     fn after<R: Wait>(&self, rt: &R, pass: usize, kind: Kind);
 }
 

@@ -2,7 +2,8 @@
 //!
 //! A set is opened over a device, and hands out as many passes as were asked for. A thread with a pass of its own calls `add`,
 //! `remove` and `has`; the calls of several passes overlap, and each is played as the machine's events, one hold of the lock
-//! for each. A program's work stands in a function generic in the set's name, which is called with std's `Brand`:
+//! for each but the Invoke, which is played with the event after it. A program's work stands in a function generic in the
+//! set's name, which is called with std's `Brand`:
 //!
 //! ```text
 //! let blank = Set::open(alloc, disk, NoGate, 1, 8)?;

@@ -1,6 +1,6 @@
 //! What lies under a set's lock.
-ghost use Rattle.std.specs.Prelude.{◌≡◌, ◌≤◌, IfNone, IfSome, true, None};
-ghost use Rattle.lz_set.specs.Locks.{HasHistory, IsLeft, IsNotNow, IsOfRun, IsReplied, IsTurn, call_of, held};
+ghost use Rattle.std.specs.Prelude.{◌≡◌, ◌≤◌, IfNone, IfSome};
+ghost use Rattle.lz_set.specs.Locks.{HasHistory, IsHold, IsLeft, IsNotNow, IsOfRun, IsReplied};
 
 use crate::named::Named;
 use crate::service::{Service, Turned};
@@ -30,8 +30,7 @@ impl<D: Disk, N: Named> Locked<D, N> {
     // isn't the pass's turn.
     pub(crate) fn play(&mut self, pass: usize, command: Command, first: bool) -> Option<Turned>
         requires { (1 ≤ pass) × (pass ≤ N.name.shape.passes) }
-        ensures begins { IfSome result (λ turned. first ≡ true → call_of self.old.service pass ≡ None) }
-        ensures turned { IfSome result (λ turned. IsTurn D D.device (held first self.old.service pass command) pass command turned.kind turned.outcome turned.reply self.new.service) }
+        ensures turned { IfSome result (λ turned. IsHold D D.device first self.old.service pass command turned.kind turned.outcome turned.reply self.new.service) }
         ensures none { IfNone result (IsNotNow first self.old.service pass command × (self.new.service ≡ self.old.service)) }
         ensures replied { IfSome result (λ turned. IfSome turned.reply (IsReplied N.name.shape pass command)) }
     {

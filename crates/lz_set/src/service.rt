@@ -1,14 +1,15 @@
 //! A yard with the calls of its passes.
 ghost use Rattle.std.specs.Prelude.{◌≡◌, ◌≤◌, ◌↔◌, IfErr, IfNone, IfOk, IfSome, IsTrue, None, Some, replicate, true};
 ghost use Rattle.lz_slot.specs.Counted.{of_pass};
+ghost use Rattle.lz_slot.specs.Limits.{most_buckets, most_passes};
 ghost use Rattle.lz_vault.specs.Opens.{IsRefusedFor};
 ghost use Rattle.lz_machine.specs.Calls.{event_at};
 ghost use Rattle.lz_machine.specs.Orders.{HasPass, MayTake, shape_with};
 ghost use Rattle.lz_machine.specs.Runs.{reply_at};
 ghost use Rattle.lz_yard.specs.Filling.{OpensYard};
-ghost use Rattle.lz_set.specs.Locks.{Begins, HasCallOf, HasHistory, IsCallOf, IsLeft, IsOfRun, IsReplied, IsTurn, call_of, goes_on, next_of};
+ghost use Rattle.lz_set.specs.Locks.{Begins, HasCallOf, HasHistory, IsCallOf, IsLeft, IsOfRun, IsReplied, IsTurn, begun_after, call_of, goes_on, next_of};
 
-use lz_caller::{Caller, key_of};
+use lz_caller::Caller;
 use lz_disk::Disk;
 use lz_machine::{Event, Kind, Outcome, Reply};
 use lz_slot::Command;
@@ -52,8 +53,8 @@ impl<D: Disk> Service<D> {
         buckets: usize,
         passes: usize,
     ) -> Result<Service<D>, Refused<D>>
-        requires buckets { (1 ≤ buckets) × (buckets ≤ 4096) }
-        requires passes { (1 ≤ passes) × (passes ≤ 64) }
+        requires buckets { (1 ≤ buckets) × (buckets ≤ most_buckets) }
+        requires passes { (1 ≤ passes) × (passes ≤ most_passes) }
         ensures ok { IfOk result (λ service. OpensYard (D.device disk) (D.device service.disk) buckets passes service.yard) }
         ensures err { IfErr result (λ refused. IsRefusedFor (D.device disk) (D.device refused.disk) refused.fault) }
     {
@@ -71,10 +72,10 @@ impl<D: Disk> Service<D> {
         }
     }
 
-    // Makes a call of a pass, where it has none open.
+    // Makes a call of a pass, where it has none open: its Invoke is played.
     pub(crate) fn invoke(&mut self, pass: usize, command: Command) -> bool
         requires { (1 ≤ pass) × (pass ≤ self.old.yard.shape.passes) }
-        ensures begins { Begins self.old pass command result self.new }
+        ensures begins { Begins D D.device self.old pass command result self.new }
         ensures has { result ≡ true → HasCallOf self.new pass command }
         ensures shape { self.new.yard.shape ≡ self.old.yard.shape }
     {
@@ -82,9 +83,11 @@ impl<D: Disk> Service<D> {
             return false;
         }
         let asked = command;
-        let _key = key_of(asked).get();
+        let played = command;
+        let _key = asked.key().rank();
+        let outcome = self.yard.step(pass, Event::Invoke(played));
         let passes = self.calls.len();
-        self.calls[pass - 1] = Some(Caller::new(command, self.buckets, passes));
+        self.calls[pass - 1] = Some(call_begun(command, self.buckets, passes, outcome));
         true
     }
 
@@ -145,6 +148,19 @@ fn no_calls(alloc: Global, passes: usize) -> Result<Vec<Option<Caller>>, AllocEr
         calls.push(None)?;
     }
     Ok(calls)
+}
+
+// A call whose Invoke answered so. One that the file's format refuses is about to tell it.
+fn call_begun(command: Command, buckets: usize, passes: usize, outcome: Outcome) -> Caller
+    requires buckets { (1 ≤ buckets) × (buckets ≤ most_buckets) }
+    requires passes { (1 ≤ passes) × (passes ≤ most_passes) }
+    ensures { result ≡ record { command = command; buckets = buckets; passes = passes; progress = begun_after outcome } }
+{
+    let mut caller = Caller::new(command, buckets, passes);
+    if let Outcome::OldFile = outcome {
+        caller.take(Outcome::OldFile);
+    }
+    caller
 }
 
 // Whether the commands are the same.

@@ -1,6 +1,7 @@
 //! The set.
 ghost use Rattle.std.specs.Prelude.{◌≡◌, ◌≤◌, IfErr, IfOk, IfSome};
 ghost use Rattle.lz_slot.specs.declared.command.Command.TheVariants as command;
+ghost use Rattle.lz_slot.specs.Limits.{most_buckets, most_passes};
 ghost use Rattle.lz_vault.specs.Opens.{IsRefusedFor};
 ghost use Rattle.lz_yard.specs.Filling.{OpensYard};
 ghost use Rattle.lz_set.specs.Names.{MayCall};
@@ -40,8 +41,8 @@ impl<D: Disk, G: StepGate> Set<D, G, Brand> {
         buckets: usize,
         passes: usize,
     ) -> Result<Blank<D, G>, Refused<D>>
-        requires buckets { (1 ≤ buckets) × (buckets ≤ 4096) }
-        requires passes { (1 ≤ passes) × (passes ≤ 64) }
+        requires buckets { (1 ≤ buckets) × (buckets ≤ most_buckets) }
+        requires passes { (1 ≤ passes) × (passes ≤ most_passes) }
         ensures ok { IfOk result (λ blank. OpensYard (D.device disk) (D.device blank.disk) buckets passes blank.yard) }
         ensures name { IfOk result (λ blank. blank.name.shape ≡ blank.yard.shape) }
         ensures err { IfErr result (λ refused. IsRefusedFor (D.device disk) (D.device refused.disk) refused.fault) }
@@ -165,5 +166,6 @@ fn answer_of(reply: Reply) -> Result<bool, Fault>
         Reply::Worn => Err(Fault::Worn),
         Reply::Halted => Err(Fault::Halted),
         Reply::Device => Err(Fault::Device),
+        Reply::OldFile => Err(Fault::OldFile),
     }
 }

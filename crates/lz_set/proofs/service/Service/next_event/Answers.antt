@@ -1,4 +1,4 @@
-use Rattle.std.proofs.Common.{◌≡◌, ◌∙◌, ap, subst, ℕ}
+use Rattle.std.proofs.Common.{◌∙◌, ap, subst, ℕ}
 use Rattle.lz_machine.specs.Calls.{loaded}
 use Rattle.lz_machine.specs.Orders.{HasPass}
 use Rattle.lz_set.proofs.Serving.{has_passes}
