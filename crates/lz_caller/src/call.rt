@@ -14,13 +14,14 @@ use lz_slot::{Command, Slot};
 use std::marker::Model;
 
 // One line for each kind of event, with what follows it. A call ends in one way, whichever of its events found the device
-// failing or dead, or the pass worn.
+// failing or dead, the pass worn, or the file of an older format than its key.
 macro_rules! taken {
     ($caller:ident, $outcome:ident; $($event:pat => $follows:ident;)*) => {
         match $outcome {
             Outcome::Fault => $caller.progress = Progress::Playing(Script::Halting(Reply::Device), 0),
             Outcome::Dead => $caller.progress = Progress::Playing(Script::Halting(Reply::Halted), 0),
             Outcome::Worn => $caller.progress = Progress::Answering(Reply::Worn),
+            Outcome::OldFile => $caller.progress = Progress::Answering(Reply::OldFile),
             outcome => match $caller.event() {
                 $($event => $caller.progress = $caller.$follows(outcome),)*
             },
@@ -49,7 +50,7 @@ impl Model for Caller {
 }
 
 impl Caller {
-    /// A call that was just made: its Invoke is behind it.
+    /// A call that was just made: its Invoke is behind it, unless that answered OldFile, which it is still to take.
     pub fn new(command: Command, buckets: usize, passes: usize) -> Caller
         requires buckets { (1 ≤ buckets) × (buckets ≤ 4096) }
         requires passes { (1 ≤ passes) × (passes ≤ 64) }

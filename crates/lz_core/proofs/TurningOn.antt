@@ -188,7 +188,7 @@ called_on shape over disk callers calls a world e is =
 
 -- A world with an open service goes on by this event.
 module _ (shape : Shape) (over : YardOver Past) (disk : Option Past) (callers : List (Option OpenCall)) (calls a : ℕ) (world : IsWorld shape (Some over) disk callers calls) (e : Event) (is : next_of (state_shown shape (Some over) disk callers) a ≡ Some e)
-    (over' : YardOver Past) (outcome : Outcome) (call' : Option OpenCall) (event : Played over.yard a e outcome over'.yard over'.changed (device_of over.disk) (device_of over'.disk))
+    (over' : YardOver Past) (outcome : Outcome) (call' : Option OpenCall) (event : Played over.yard a e outcome over'.yard over'.told (device_of over.disk) (device_of over'.disk))
     (shown : call_shown call' ≡ call_after (slice_index_or callers (a - 1) None) outcome) where
   abbrev served : Service
   served = service shape over disk callers calls a world e is
@@ -221,7 +221,7 @@ module _ (shape : Shape) (over : YardOver Past) (disk : Option Past) (callers : 
   on_own = world.on_it (a - 1) (Some own.0) (get_at callers (a - 1) own.0 there)
 
   same_yard_shape : over'.yard.shape ≡ over.yard.shape
-  same_yard_shape = played_shape over.yard a e outcome over'.yard over'.changed (device_of over.disk) (device_of over'.disk) event
+  same_yard_shape = played_shape over.yard a e outcome over'.yard over'.told (device_of over.disk) (device_of over'.disk) event
 
   moved_so : call_shown call' ≡ moved over'.yard.shape asks.caller outcome
   moved_so =
@@ -301,7 +301,7 @@ take_by : (call : Option OpenCall) (own : OpenCall) (outcome : Outcome) → call
 take_by call own outcome at may = rw at may
 
 pub takes_on : (shape : Shape) (over : YardOver Past) (disk : Option Past) (callers : List (Option OpenCall)) (calls a : ℕ) (world : IsWorld shape (Some over) disk callers calls) (e : Event) (is : next_of (state_shown shape (Some over) disk callers) a ≡ Some e)
-    (over' : YardOver Past) (outcome : Outcome) (event : Played over.yard a e outcome over'.yard over'.changed (device_of over.disk) (device_of over'.disk))
+    (over' : YardOver Past) (outcome : Outcome) (event : Played over.yard a e outcome over'.yard over'.told (device_of over.disk) (device_of over'.disk))
     → IfSome (slice_index_or callers (a - 1) None) (λ under_way. MayTake under_way.caller.progress outcome)
 takes_on shape over disk callers calls a world e is over' outcome event =
     let asks = next shape over disk callers calls a world e is in

@@ -11,6 +11,7 @@ use Rattle.lz_slot.specs.Limits.{most_slots}
 use Rattle.lz_slot.specs.Sets.{Keys, members}
 use Rattle.lz_slot.specs.Histories.{Life}
 use Rattle.lz_slot.specs.Bytes.{Holds, held}
+use Rattle.lz_slot.proofs.Exact.{key_of_format}
 use Rattle.lz_disk.specs.Images.{Medium, IsImage, AreBytes, at_rest}
 use Rattle.lz_disk.specs.Devices.{Device}
 use Rattle.lz_list.specs.Words.{Words}
@@ -65,7 +66,7 @@ module _ (n calls : ℕ) (service : Service) (disk : Medium) (life : Life) (P : 
       let there : on 0 (chain_of at.shape.buckets (key_word s P) P) (suc s) ≡ true = subst (λ (b : ℕ). on 0 (chain at.shape.buckets b P) (suc s) ≡ true) (at_home ∙ ap (bucket_of at.shape.buckets) (sym word)) stands in
       let node = node_stands n calls at service.callers disk life.history P notes up.sound s lt there in
       let cell = slice_get-get_or at.vault.cells s no_cell (omega (arith, lt, up.sound.images.count)) in
-      let high = up.sound.images.keys s _ cell in
+      let high = key_of_format at.vault.format _ (up.sound.images.keys s _ cell) in
       (s, low, (is.1.key, is, omega (arith, high, node.0.key, word)))
 
   pub among_members : (k : ℕ) → IsAmong words (length words.links) k ↔ IsMember words k

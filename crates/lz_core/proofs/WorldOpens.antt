@@ -2,6 +2,7 @@
 use Rattle.std.proofs.Common.{◌≡◌, inl, inr, ⊎_elim, ℕ, zero, suc, ◌≤◌, true, false, List, [], ◌∷◌, length, map, slice_get, ◌%◌, ◌==◌, Option, Some, None, refl, sym, ap, ◌∙◌, subst, arith, replicate}
 use Rattle.std.proofs.lemmas.List.{length-map, length-replicate}
 use Rattle.lz_slot.specs.declared.history.Mark.TheVariants.{Opened as opened, OpenFailed as refused}
+use Rattle.lz_slot.specs.declared.format.Format.{Format}
 use Rattle.lz_slot.specs.Bytes.{Holds}
 use Rattle.lz_slot.specs.Sets.{Keys, members}
 use Rattle.lz_slot.specs.Histories.{Life, lives}
@@ -124,7 +125,7 @@ module _ (shape : Shape) (before : Past) (over : YardOver Past) (opens : OpensYa
     }
 
   -- and a disk that was just made begins a run
-  module _ (some : (1 ≤ shape.buckets) × (shape.buckets ≤ 4096)) (few : (1 ≤ shape.passes) × (shape.passes ≤ 64)) (made : IsFresh disk shape.slots)
+  module _ (format : Format) (some : (1 ≤ shape.buckets) × (shape.buckets ≤ 4096)) (few : (1 ≤ shape.passes) × (shape.passes ≤ 64)) (made : IsFresh disk format shape.slots)
       (callers : List (Option OpenCall)) (none : callers ≡ replicate shape.passes None) where
     abbrev first : Start
     first = record { shape = shape; text = disk.seen }
@@ -135,12 +136,13 @@ module _ (shape : Shape) (before : Past) (over : YardOver Past) (opens : OpensYa
     first_state : state_shown shape (Some over) None callers ≡ Up (opened_service shape disk.seen) (at_rest disk.seen)
     first_state = state_opened (members []) None callers made.empty none
 
-    pub new_is : IsNew shape (record { state = state_shown shape (Some over) None callers; calls = 0 })
+    pub new_is : IsNew shape format (record { state = state_shown shape (Some over) None callers; calls = 0 })
     new_is = record {
       start = first;
       starts = starts;
       shape = refl;
       empty = one_set disk.seen shape.slots (start_keys first) (members []) (listed disk.seen shape.slots (members []) made.empty) made.empty;
+      named = made.named;
       at = record { state = sym first_state; calls = refl };
     }
 

@@ -1,9 +1,11 @@
 -- What contracts see of a world, and what a play does to it.
-use Rattle.std.specs.Prelude.{◌≡◌, ◌⊎◌, ◌↔◌, ℕ, true, ◌-◌, ◌<◌, ◌≤◌, IsTrue, IsNone, IsSome, IsSomeAnd, List, [], ◌∷◌, ◌++◌, length, map, reverse, take, slice_get, slice_index_or, Option, Some, None}
+use Rattle.std.specs.Prelude.{◌≡◌, ◌⊎◌, ◌↔◌, ℕ, true, false, ◌-◌, ◌<◌, ◌≤◌, IsTrue, IsNone, IsSome, IsSomeAnd, List, [], ◌∷◌, ◌++◌, length, map, reverse, take, slice_get, slice_index_or, Option, Some, None}
 use Rattle.lz_slot.specs.declared.history.Mark.{Mark}
 use Rattle.lz_slot.specs.Sets.{Keys, Same, members}
 use Rattle.lz_slot.specs.Histories.{ChainTo, lives}
-use Rattle.lz_slot.specs.Bytes.{Holds}
+use Rattle.lz_slot.specs.Bytes.{Holds, format_of}
+use Rattle.lz_slot.specs.declared.command.Command.{Command}
+use Rattle.lz_slot.specs.declared.format.Format.{Format}
 use Rattle.lz_disk.specs.Images.{Medium, at_rest}
 use Rattle.lz_disk.specs.Records.{Past, after, device_of}
 use Rattle.lz_machine.specs.declared.event.Event.{Event}
@@ -16,7 +18,7 @@ use Rattle.lz_core.specs.declared.play.Step.TheVariants.{Call, Turn as TurnOf, O
 use Rattle.lz_core.specs.declared.open_calls.OpenCall.{OpenCall}
 use Rattle.lz_machine.specs.Yards.{Shape}
 use Rattle.lz_yard.specs.Parts.{YardOver}
-use Rattle.lz_machine.specs.Table.{line, line_failed, needs}
+use Rattle.lz_machine.specs.Table.{line, line_failed, needs, pin_of, is_old}
 use Rattle.lz_machine.specs.Orders.{shape_with}
 use Rattle.lz_machine.specs.Calls.{event_at, loaded, progress_after}
 use Rattle.lz_machine.specs.Ready.{IsEventOf}
@@ -65,8 +67,8 @@ HasOne _ _ = ⊥
 
 -- the next call of its device fails
 abbrev pub IsTripped : Option (YardOver Past) → Option Past → Type 0
-IsTripped (Some over) disk = over.disk.trip ≡ true
-IsTripped None (Some disk) = disk.trip ≡ true
+IsTripped (Some over) disk = over.disk.trip ≡ Some 0
+IsTripped None (Some disk) = disk.trip ≡ Some 0
 IsTripped None None = Unit {0}
 
 -- the world is at this point of a run
@@ -95,12 +97,13 @@ pub record IsWorld (shape : Shape) (over : Option (YardOver Past)) (disk : Optio
   pub on_it : (i : ℕ) (call : Option OpenCall) → slice_get callers i ≡ Some call → IsCallOn shape call
   pub ran : HasRun shape (record { state = state_shown shape over disk callers; calls = calls })
 
--- a world that was just made: its run begins with the empty set
-pub record IsNew (its_shape : Shape) (w : WorldOver) : Type 0 where
+-- a world that was just made: its run begins with a file of the format that holds the empty set
+pub record IsNew (its_shape : Shape) (format : Format) (w : WorldOver) : Type 0 where
   pub start : Start
   pub starts : IsStart start
   pub shape : start.shape ≡ its_shape
   pub empty : Same (start_keys start) (members [])
+  pub named : format_of start.text ≡ format
   pub at : IsAt w (first_point start)
 
 -- From a point at which a world was, the steps of a play lead, one for one, to where it is now, and answer these marks; what
@@ -122,7 +125,7 @@ IsChain old marks new =
 
 -- A step is lawful in a state.
 abbrev pub IsLawful : State → PlayStep → Type 0
-IsLawful (Up service disk) (Call a c) = IsActor service a × IsNone (caller_at service.callers a)
+IsLawful (Up service disk) (Call a c) = IsActor service a × IsNone (caller_at service.callers a) × (is_old service.yard.vault.format c ≡ false)
 IsLawful (Up service disk) (TurnOf a) = IsSome (caller_at service.callers a)
 IsLawful (Up service disk) Open = ⊥
 IsLawful (Up service disk) _ = Unit {0}
@@ -211,12 +214,17 @@ pub record MayStepOn (over : YardOver Past) (a : ℕ) (e : Event) : Type 0 where
   pub event : IsEventOf over.yard e
   pub plays : needs over.yard a e ≡ true → MayPlay over.yard true (after over.disk.start over.disk.records) a e
 
--- the service is open, and the actor is one of the world's without a call
-abbrev pub MayCall : Option (YardOver Past) → List (Option OpenCall) → ℕ → Type 0
-MayCall yard callers a = IsSome yard × (1 ≤ a) × (a ≤ 64) × IsNone (slice_index_or callers (a - 1) None)
+-- the service is open, and its file can hold the key of a command that adds one
+abbrev pub IsOpenFor : Option (YardOver Past) → Command → Type 0
+IsOpenFor (Some over) c = is_old over.yard.vault.format c ≡ false
+IsOpenFor None c = ⊥
+
+-- such a service, and an actor that is one of the world's without a call
+abbrev pub MayCall : Option (YardOver Past) → List (Option OpenCall) → ℕ → Command → Type 0
+MayCall yard callers a c = IsOpenFor yard c × (1 ≤ a) × (a ≤ 64) × IsNone (slice_index_or callers (a - 1) None)
 
 -- an event was played on an open yard
 abbrev pub StepsOn : Option (YardOver Past) → ℕ → Event → Outcome → Option (YardOver Past) → Type 0
-StepsOn (Some old) a e outcome (Some new) = Played old.yard a e outcome new.yard new.changed (device_of old.disk) (device_of new.disk)
+StepsOn (Some old) a e outcome (Some new) = Played old.yard a e outcome new.yard new.told (device_of old.disk) (device_of new.disk)
 StepsOn None a e outcome new = new ≡ None
 StepsOn (Some old) a e outcome None = ⊥

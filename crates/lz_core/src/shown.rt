@@ -28,7 +28,7 @@ fn member_at(yard: &Yard<MemoryDisk>, slot: Slot) -> Option<Key>
     requires { slot < length yard.now.yard.words.keys }
     ensures { (k : ℕ) → (result ≡ Some k) ↔ IsListed yard.now.yard.words slot k }
 {
-    let key = Key::new(yard.words().get(Word::Key(slot)))?;
+    let key = Key::of_rank(yard.words().get(Word::Key(slot)))?;
     if yard.is_member(key) { Some(key) } else { None }
 }
 

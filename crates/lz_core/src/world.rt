@@ -2,7 +2,7 @@
 ghost use Rattle.std.specs.Prelude.{◌≡◌, ◌≤◌, ◌↔◌, ◌==◌, ◌||◌, IfOk, IfErr, OnErr, IsErrOf, IsTrue, IfSome, Some, None, [], ◌∷◌, length};
 ghost use Rattle.lz_slot.specs.Sets.{members};
 ghost use Rattle.lz_slot.specs.Counted.{of_pass};
-ghost use Rattle.lz_core.specs.Worlds.{Ascend, IsChain, IsLawful, IsNew, IsOutcome, IsTold, IsUp, MayCall, MayStepOn, PlaysOn, Shows, StepsOn, StopsAt, StopsEarly, event_asked, event_loaded, mark_list, next_of, state_shown};
+ghost use Rattle.lz_core.specs.Worlds.{Ascend, IsChain, IsLawful, IsNew, IsOpenFor, IsOutcome, IsTold, IsUp, MayCall, MayStepOn, PlaysOn, Shows, StepsOn, StopsAt, StopsEarly, event_asked, event_loaded, mark_list, next_of, state_shown};
 
 use crate::disks::{crash_disk, stop_disk, trip_disk};
 use crate::open_calls::{OpenCall, next_of_call, no_calls, take_outcome};
@@ -12,7 +12,7 @@ use crate::shown::members_of;
 use lz_caller::{Caller, key_of};
 use lz_disk::{MemoryDisk, Pick};
 use lz_machine::{Event, Kind, Outcome};
-use lz_slot::{Command, Found, Key, Mark};
+use lz_slot::{Command, Format, Found, Key, Mark};
 use lz_vault::{OpenFault, make};
 use lz_yard::Yard;
 use std::alloc::{AllocError, Global};
@@ -25,7 +25,8 @@ pub const ACTORS: usize = 64;
 #[derive(Clone, Copy, Debug, PartialEq, Eq)]
 pub enum PlayFault {
     /// The step isn't lawful now: its actor isn't one of the world's, calls where it has a call open, or takes a turn where it
-    /// has none; or it calls or takes a turn without an open service; or it opens where a service is open.
+    /// has none; or it calls or takes a turn without an open service; or it opens where a service is open; or it adds a key
+    /// that the file's format can't hold.
     NotNow(usize),
     /// There is no memory, or no number is left for a call.
     Memory,
@@ -73,15 +74,20 @@ impl Model for World {
 }
 
 impl World {
-    /// A disk in memory, made and opened.
-    pub fn new(alloc: Global, slots: usize, buckets: usize) -> Result<World, AllocError>
+    /// A disk in memory, made of this format and opened.
+    pub fn new(
+        alloc: Global,
+        slots: usize,
+        buckets: usize,
+        format: Format,
+    ) -> Result<World, AllocError>
         requires slots { (1 ≤ slots) × (slots ≤ 64) }
         requires buckets { (1 ≤ buckets) × (buckets ≤ 4096) }
-        ensures { IfOk result (λ world. IsNew (record { slots = slots; buckets = buckets; passes = 64 }) world) }
+        ensures { IfOk result (λ world. IsNew (record { slots = slots; buckets = buckets; passes = 64 }) format world) }
     {
         let callers = no_calls(alloc)?;
         let mut disk = MemoryDisk::new(alloc, Vec::new(alloc))?;
-        if make(&mut disk, slots as u64).is_err() {
+        if make(&mut disk, format, slots as u64).is_err() {
             return Err(AllocError);
         }
         match Yard::open(alloc, disk, buckets, ACTORS) {
@@ -215,7 +221,7 @@ impl World {
         ensures not_now { (i : _) → IsErrOf result (PlayFault.NotNow i) → (i ≡ place) × (self.new ≡ self.old) × ¬ IsLawful self.old.state (Step.Call actor command) }
         ensures memory { IsErrOf result PlayFault.Memory → StopsEarly self.old (Step.Call actor command ∷ []) self.new }
     {
-        if !may_call(&self.yard, &self.callers, actor) {
+        if !may_call(&self.yard, &self.callers, actor, &command) {
             return Err(PlayFault::NotNow(place));
         }
         if self.calls == u64::MAX {
@@ -223,7 +229,7 @@ impl World {
         }
         let told = command;
         let asked = command;
-        let _key = key_of(asked).get();
+        let _key = key_of(asked).rank();
         self.calls += 1;
         self.callers[actor - 1] = Some(OpenCall {
             number: self.calls,
@@ -316,12 +322,31 @@ impl World {
     }
 }
 
-// Whether the service is open, and the actor is one of the world's and has no call.
-fn may_call(yard: &Option<Yard<MemoryDisk>>, callers: &[Option<OpenCall>], actor: usize) -> bool
+// Whether the service is open for the command, and the actor is one of the world's and has no call.
+fn may_call(
+    yard: &Option<Yard<MemoryDisk>>,
+    callers: &[Option<OpenCall>],
+    actor: usize,
+    command: &Command,
+) -> bool
     requires { length callers.now ≡ 64 }
-    ensures { IsTrue result ↔ MayCall yard.now callers.now actor }
+    ensures { IsTrue result ↔ MayCall yard.now callers.now actor command.now }
 {
-    yard.is_some() && 1 <= actor && actor <= ACTORS && callers[actor - 1].is_none()
+    is_open_for(yard, command) && 1 <= actor && actor <= ACTORS && callers[actor - 1].is_none()
+}
+
+// Whether the service is open, and its file can hold the key of a command that adds one.
+fn is_open_for(yard: &Option<Yard<MemoryDisk>>, command: &Command) -> bool
+    ensures { IsTrue result ↔ IsOpenFor yard.now command.now }
+{
+    match yard {
+        None => false,
+        Some(yard) => match command {
+            Command::Add(key) => yard.format().has_room_for(*key),
+            Command::Remove(_) => true,
+            Command::Has(_) => true,
+        },
+    }
 }
 
 // The next event of an actor's call on this yard, if it has one.

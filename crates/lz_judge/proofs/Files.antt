@@ -7,29 +7,25 @@ use Rattle.std.proofs.lemmas.Bool.{and_parts, and_from}
 use Rattle.std.proofs.lemmas.Bool.Decides.{nat_tests}
 use Rattle.lz_slot.specs.Limits.{most_slots}
 use Rattle.lz_slot.specs.Sets.{Keys}
-use Rattle.lz_slot.specs.Bytes.{Holds, header_read, header_body, open_byte, slot_at}
+use Rattle.lz_slot.specs.Bytes.{Holds, format_of, header_read, header_body, open_byte, slot_at}
 use Rattle.lz_slot.proofs.Heads.{head_alone}
-use Rattle.lz_slot.proofs.Exact.{header_is_of_its_count, header_reads_back}
+use Rattle.lz_slot.proofs.Exact.{header_counts, header_is_of_its_count, header_reads_back}
 use Rattle.lz_judge.specs.declared.finding.Finding.{Finding}
 use Rattle.lz_judge.specs.Surveys.{AreFindings, is_sound}
 use Rattle.lz_judge.proofs.Slots.{keys_found, no_bad_key, no_key_twice, set_found, sound_where}
 
--- a head that says a number of slots
-pub head_counts : (t : List ℕ) (size count : ℕ) → header_read t size ≡ Ok count → (1 ≤ count) × (count ≤ most_slots) × (size ≡ 16 + 16 * count)
-head_counts t size count is = grind (arith, nat_tests)
-
 -- a file that holds a set has no fault of the head
 pub held_head : (t : List ℕ) (N : ℕ) (S : Keys) → Holds t N S → header_read t (length t) ≡ Ok N
 held_head t N S holds =
-    head_alone t (length t) ∙ ap (λ (l : List ℕ). header_read l (length t)) holds.head ∙ ap (header_read (open_byte ∷ header_body N)) holds.size
-    ∙ header_reads_back N holds.count.0 holds.count.1
+    head_alone t (length t) ∙ ap (λ (l : List ℕ). header_read l (length t)) holds.head ∙ ap (header_read (open_byte ∷ header_body (format_of t) N)) holds.size
+    ∙ (header_reads_back (format_of t) N holds.count.0 holds.count.1).0
 
 pub sound_holds : (t : List ℕ) (N : ℕ) (found : List Finding) → ((i : ℕ) → get_or t i 0 < 256) → header_read t (length t) ≡ Ok N → AreFindings (slot_at t) N found
     → IsTrue (list_all is_sound found) ↔ ((n : ℕ) × (S : Keys) × Holds t n S)
 sound_holds t N found bytes head findings = (holds, sound)
   where
     range : (1 ≤ N) × (N ≤ most_slots) × (length t ≡ 16 + 16 * N)
-    range = head_counts t (length t) N head
+    range = header_counts t (length t) N head
 
     pass : IsTrue (list_all is_sound found) → All (λ f. IsTrue (is_sound f)) found
     pass all = passes found all

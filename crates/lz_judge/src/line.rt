@@ -3,12 +3,12 @@ ghost use Rattle.std.specs.Prelude.{◌≡◌, ◌≤◌, ◌∷◌, ℕ, length
 ghost use Rattle.std.specs.Int.{IsInRange};
 ghost use Rattle.std.specs.List.{list_all};
 ghost use Rattle.std.specs.Str.Parse.{digits_value};
-ghost use Rattle.lz_slot.specs.Limits.{largest_key};
+ghost use Rattle.lz_slot.specs.Limits.{largest_number as largest_key};
 ghost use Rattle.lz_judge.specs.Lines.{IsLow};
 ghost use Rattle.lz_judge.specs.LinesRead.{answer_read, answered_read, at_end, busy_read, call_number, call_read, command_named, cut_read, fault_read, is_digit, is_number, keys_from, largest_number, line_read, number_in, number_read, open_read, point_read, refusal_read, refused_read, show_read, take_word, within, words_behind, words_of};
 
 use crate::history::{MAX_PLACE, Point};
-use lz_slot::{Command, Cut, Found, Key, MAX_KEY, Mark, Refusal};
+use lz_slot::{Command, Cut, Found, Key, MAX_NUMBER, Mark, Refusal};
 use memchr::memchr;
 use std::alloc::{AllocError, Global};
 
@@ -75,7 +75,7 @@ fn read_call(text: Option<&[u8]>) -> Option<Line>
     let (call, text) = read_call_number(text)?;
     let (actor, text) = read_actor(text)?;
     let (name, text) = split_word(text?);
-    let (key, text) = read_number(text, 0, MAX_KEY)?;
+    let (key, text) = read_number(text, 0, MAX_NUMBER)?;
     let mark = Mark::Call(call, actor, command_of(name, key)?);
     read_end(text, Line::Seen(mark))
 }
@@ -301,7 +301,7 @@ fn read_keys(alloc: Global, text: Option<&[u8]>) -> Result<Option<Vec<Key>>, All
             return Ok(None);
         };
         keys.push(key)?;
-        least = key.get() + 1;
+        least = key.rank() + 1;
         rest = behind;
     }
     Ok(Some(keys))
@@ -311,5 +311,5 @@ fn read_keys(alloc: Global, text: Option<&[u8]>) -> Result<Option<Vec<Key>>, All
 fn key_of(word: &[u8], least: u64) -> Option<Key>
     ensures { result ≡ number_in least largest_key word.now }
 {
-    Key::new(number_between(word, least, MAX_KEY)?)
+    Key::new(number_between(word, least, MAX_NUMBER)?)
 }

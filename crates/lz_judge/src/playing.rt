@@ -195,9 +195,9 @@ fn apply(set: &mut BTreeSet<u64>, command: Command) -> Result<bool, AllocError>
     ensures { (S : Keys) → IsSet set.old S → IfOk result (λ yes. (yes ≡ reply command (S (key_of command))) × IsSet set.new (after command S)) }
 {
     match command {
-        Command::Add(key) => Ok(set.insert(key.get())?),
-        Command::Remove(key) => Ok(set.remove(&key.get())),
-        Command::Has(key) => Ok(set.contains(&key.get())),
+        Command::Add(key) => Ok(set.insert(key.rank())?),
+        Command::Remove(key) => Ok(set.remove(&key.rank())),
+        Command::Has(key) => Ok(set.contains(&key.rank())),
     }
 }
 
@@ -206,7 +206,7 @@ fn set_of(alloc: Global, keys: &[Key]) -> Result<BTreeSet<u64>, AllocError>
 {
     let mut found = BTreeSet::new(alloc);
     for key in keys {
-        found.insert(key.get())?;
+        found.insert(key.rank())?;
     }
     Ok(found)
 }

@@ -1,14 +1,14 @@
 //! The survey of a file, slot by slot.
 ghost use Rattle.std.specs.Prelude.{◌≡◌, ◌↔◌, ℕ, ◌+◌, ◌*◌, ◌<◌, ◌≤◌, length, IfOk, OnOk, IsTrue};
 ghost use Rattle.lz_slot.specs.Sets.{Keys};
-ghost use Rattle.lz_slot.specs.Bytes.{Holds, slot_at};
+ghost use Rattle.lz_slot.specs.Bytes.{Holds, format_of, slot_at};
 ghost use Rattle.lz_slot.specs.Limits.{most_slots};
 ghost use Rattle.lz_slot.specs.declared.slot.SlotRead.{SlotRead};
 ghost use Rattle.lz_judge.specs.Surveys.{AreFindings, IsSurveyOf, is_good};
 ghost use Rattle.lz_judge.specs.Scans.{KnowsFirsts, Places, Scanned};
 
 use crate::finding::{Finding, Survey};
-use lz_slot::{Key, Slot, SlotRead, read_header, read_slot};
+use lz_slot::{Header, Key, Slot, SlotRead, read_header, read_slot};
 use std::alloc::{AllocError, Global};
 use std::collections::BTreeMap;
 
@@ -21,23 +21,24 @@ pub fn survey(alloc: Global, bytes: &[u8]) -> Result<Survey, AllocError>
     ensures good { IfOk result (λ survey. IsTrue (is_good survey) ↔ ((N : ℕ) × (S : Keys) × Holds bytes.now N S)) }
 {
     match read_header(bytes, bytes.len() as u64) {
-        Ok(count) => Ok(Survey::Found(find_all(alloc, bytes, count)?)),
+        Ok(header) => Ok(Survey::Found(find_all(alloc, bytes, header)?)),
         Err(fault) => Ok(Survey::Refused(fault)),
     }
 }
 
-// What is found in the slots of a file of so many.
-fn find_all(alloc: Global, bytes: &[u8], count: u64) -> Result<Vec<Finding>, AllocError>
-    requires range { count ≤ most_slots }
-    requires file { length bytes.now ≡ 16 + 16 * count }
-    ensures { IfOk result (λ findings. AreFindings (slot_at bytes.now) count findings.items) }
+// What is found in the slots of a file with this head.
+fn find_all(alloc: Global, bytes: &[u8], header: Header) -> Result<Vec<Finding>, AllocError>
+    requires format { header.format ≡ format_of bytes.now }
+    requires range { header.slots ≤ most_slots }
+    requires file { length bytes.now ≡ 16 + 16 * header.slots }
+    ensures { IfOk result (λ findings. AreFindings (slot_at bytes.now) header.slots findings.items) }
 {
     let mut scan = Scan::new(alloc);
-    for index in 0..count {
+    for index in 0..header.slots {
         let at = 16 + 16 * index as usize;
         let mut slot = [0; 16];
         slot.copy_from_slice(&bytes[at..at + 16]);
-        scan.note(Slot::new(index as u16), read_slot(&slot))?;
+        scan.note(Slot::new(index as u16), read_slot(header.format, &slot))?;
     }
     Ok(scan.findings)
 }
@@ -81,9 +82,9 @@ fn place_key(places: &mut BTreeMap<u64, Slot>, slot: Slot, key: Key) -> Result<F
     ensures { (says : ℕ → SlotRead) → says slot ≡ SlotRead.Member key → KnowsFirsts says slot places.old
         → IfOk result (λ finding. Places says slot finding places.new) }
 {
-    if let Some(first) = places.get(&key.get()) {
+    if let Some(first) = places.get(&key.rank()) {
         return Ok(Finding::Twice(slot, *first));
     }
-    places.insert(key.get(), slot)?;
+    places.insert(key.rank(), slot)?;
     Ok(Finding::Key(slot, key))
 }

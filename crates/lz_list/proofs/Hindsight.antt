@@ -39,6 +39,12 @@ lawful_begins buckets slots R [] to law = rw to law
 lawful_begins buckets slots R (e ∷ P) (inl here) law = rw here law
 lawful_begins buckets slots R (e ∷ P) (inr to) law = lawful_begins buckets slots R P to law.1
 
+-- what a walker may rely on it could rely on before
+pub quiet_begins : (buckets : ℕ) (P0 R P : Trace) → Begins R P → IsQuiet buckets P0 P → IsQuiet buckets P0 R
+quiet_begins buckets P0 R [] to quiet = subst (IsQuiet buckets P0) (sym to) quiet
+quiet_begins buckets P0 R (e ∷ P) (inl here) quiet = subst (IsQuiet buckets P0) (sym here) quiet
+quiet_begins buckets P0 R (e ∷ P) (inr to) quiet = quiet_begins buckets P0 R P to quiet.1
+
 module _ (buckets slots : ℕ) (P0 : Trace) where
   -- a key word stays
   pub key_stays : (b t : ℕ) (e : Publishing) (P : Trace) → IsKept buckets P0 e P → Stood buckets b P0 P (suc t) → key_word t (e ∷ P) ≡ key_word t P

@@ -5,7 +5,7 @@ use Rattle.std.proofs.lemmas.Bool.{cases_eq, cases_Bool}
 use Rattle.std.proofs.lemmas.Bool.Decides.{nat_tests, eqb_tells}
 use Rattle.lz_list.specs.declared.publishing.Publishing.{Publishing}
 use Rattle.lz_list.specs.declared.publishing.Publishing.TheVariants.{Linked as linked, Marked as marked, Unlinked as unlinked, Settled as settled, LinkPrepared as link_prepared}
-use Rattle.lz_list.specs.Traces.{Trace, Begins, Chain, insert, without, on, Shows, bucket_of, chain_of, key_word, next_link, member, linking, linking_in, is_settled, is_removed, is_marked, Lawful, SettledYes, SettledNo}
+use Rattle.lz_list.specs.Traces.{Trace, Begins, Chain, insert, without, on, Shows, bucket_of, chain_of, key_word, next_link, member, linking, linking_in, is_settled, is_removed, is_marked, has_added, has_removed, Lawful, IsNode, SettledYes, SettledNo}
 use Rattle.lz_list.specs.Pinned.{Once, Stood, IsKept, IsQuiet}
 use Rattle.lz_list.proofs.Chains.{on_start}
 use Rattle.lz_list.proofs.Shown.{words_show_chain}
@@ -48,11 +48,21 @@ module _ (buckets slots : ℕ) (P0 : Trace) where
   ]
   mark_stays b s _ P kept stood is = is
 
-  -- a node that stood on the chain stands there still, or it was marked, and k's absence was settled since
-  pub left_since : (k s : ℕ) (P : Trace) → Lawful buckets slots P → IsQuiet buckets P0 P → Stood buckets (bucket_of buckets k) P0 P (suc s) → key_word s P ≡ k → (on 0 (chain_of buckets k P) (suc s) ≡ true) ⊎ (Once P0 P (λ R. SettledNo R R k) × (is_marked s P ≡ true))
-  left_since k s [] law quiet stood key = inl stood.1
-  left_since k s (e ∷ P) law quiet (inl now) key = inl now.1
-  left_since k s (e ∷ P) law quiet (inr before) key = elim (left_since k s P law.1 quiet.1 before was) [
+  -- and so does a removed flag
+  pub removed_stays : (b s : ℕ) (e : Publishing) (P : Trace) → IsKept buckets P0 e P → Stood buckets b P0 P (suc s) → has_removed s P ≡ true → has_removed s (e ∷ P) ≡ true
+  removed_stays b s (settled t c) P kept stood is = grind (arith, nat_tests, is)
+  removed_stays b s (link_prepared t v) P kept stood is = elim (eqb_tells t s) [
+    | inl same ↦ absurd (kept b (rw (ap suc same.1) stood))
+    | inr f ↦ rw f.0 is
+  ]
+  removed_stays b s _ P kept stood is = is
+
+  -- a node that stood on the chain stands there still, or k's absence was settled since, and its slot says so
+  pub left_surely : (k s : ℕ) (P : Trace) → Lawful buckets slots P → IsQuiet buckets P0 P → Stood buckets (bucket_of buckets k) P0 P (suc s) → key_word s P ≡ k
+      → (on 0 (chain_of buckets k P) (suc s) ≡ true) ⊎ (Once P0 P (λ R. SettledNo R R k) × (is_marked s P ≡ true) × (has_removed s P ≡ true))
+  left_surely k s [] law quiet stood key = inl stood.1
+  left_surely k s (e ∷ P) law quiet (inl now) key = inl now.1
+  left_surely k s (e ∷ P) law quiet (inr before) key = elim (left_surely k s P law.1 quiet.1 before was) [
     | inl there ↦ elim (cases_Bool (on 0 (chain_of buckets k (e ∷ P)) (suc s))) [
       | inl still ↦ inl still
       | inr off ↦
@@ -62,9 +72,10 @@ module _ (buckets slots : ℕ) (P0 : Trace) where
           inr (
             inr (once_from P0 P P (λ R. SettledNo R R k) from (begins_itself P) (record { begins = begins_itself P; no_member = facts.0; settled = inr facts.1 })),
             facts.2 ∙ grind (arith, h.is_member, facts.0),
+            removed_stays (bucket_of buckets k) s e P quiet.0 before (h.removed ∙ facts.1),
           )
     ]
-    | inr gone ↦ inr (inr gone.0, mark_stays (bucket_of buckets k) s e P quiet.0 before gone.1)
+    | inr gone ↦ inr (inr gone.0, mark_stays (bucket_of buckets k) s e P quiet.0 before gone.1, removed_stays (bucket_of buckets k) s e P quiet.0 before gone.2)
   ]
     where
       was : key_word s P ≡ k
@@ -94,7 +105,7 @@ module _ (buckets slots : ℕ) (P0 : Trace) where
     | inl slot ↦
         let key : key_word s P ≡ j = subst (λ (q : ℕ). key_word q P ≡ j) slot.1 law.0.key in
         let bucket : bucket_of buckets j ≡ b = ap (bucket_of buckets) (sym key) ∙ stood_bucket buckets slots P0 b s P law.1 quiet stood in
-        elim (left_since buckets slots P0 j s P law.1 quiet (rw bucket stood) key) [
+        elim (left_surely buckets slots P0 j s P law.1 quiet (rw bucket stood) key) [
           | inl there ↦ absurd (false≢true (sym (law.0.loose (bucket_of buckets j)) ∙ subst (λ (q : ℕ). on 0 (chain_of buckets j P) (suc q) ≡ true) (sym slot.1) there))
           | inr gone ↦ absurd (false≢true (sym law.0.no_mark ∙ subst (λ (q : ℕ). is_marked q P ≡ true) (sym slot.1) gone.1))
         ]
@@ -112,7 +123,7 @@ module _ (buckets slots : ℕ) (P0 : Trace) where
   module _ (k s : ℕ) (P Q : Trace) (law : Lawful buckets slots P) (quiet : IsQuiet buckets P0 P) (stood : Stood buckets (bucket_of buckets k) P0 P (suc s)) (key : key_word s P ≡ k) (to : Begins P Q) where
     -- a walk that ended on a marked node whose removal is settled by Q
     pub marked_rests : is_marked s P ≡ true → is_removed (linking_in s P) Q ≡ true → Once P0 P (λ R. SettledNo R Q k)
-    marked_rests mark is = elim (left_since buckets slots P0 k s P law quiet stood key) [
+    marked_rests mark is = elim (left_surely buckets slots P0 k s P law quiet stood key) [
       | inl there ↦
           let h = node buckets slots k s P law there key in
           once_from P0 P P (λ R. SettledNo R Q k) (once_begins P0 P (λ R. on 0 (chain_of buckets k R) (suc s) ≡ true) stood) (begins_itself P) (record {
@@ -129,9 +140,37 @@ module _ (buckets slots : ℕ) (P0 : Trace) where
 
     -- a walk that ended on an unmarked node whose adding is settled by Q
     pub unmarked_rests : is_marked s P ≡ false → is_settled (linking_in s P) Q ≡ true → SettledYes P Q k
-    unmarked_rests mark is = elim (left_since buckets slots P0 k s P law quiet stood key) [
+    unmarked_rests mark is = elim (left_surely buckets slots P0 k s P law quiet stood key) [
       | inl there ↦
           let h = node buckets slots k s P law there key in
           record { begins = to; member = h.is_member ∙ ap not mark; settled = rw h.same at is }
       | inr gone ↦ absurd (false≢true (sym mark ∙ gone.1))
     ]
+
+  -- What the flags of a node that stood tell of its key, at the trace itself.
+  module _ (k s : ℕ) (P : Trace) (law : Lawful buckets slots P) (quiet : IsQuiet buckets P0 P) (stood : Stood buckets (bucket_of buckets k) P0 P (suc s)) (key : key_word s P ≡ k) where
+    -- marked, with the removed flag: k's absence was settled then already
+    pub marked_was_sure : is_marked s P ≡ true → has_removed s P ≡ true → Once P0 P (λ R. SettledNo R R k)
+    marked_was_sure mark is = elim (left_surely buckets slots P0 k s P law quiet stood key) [
+      | inl there ↦
+          let h = node buckets slots k s P law there key in
+          once_from P0 P P (λ R. SettledNo R R k) (once_begins P0 P (λ R. on 0 (chain_of buckets k R) (suc s) ≡ true) stood) (begins_itself P) (record {
+            begins = begins_itself P;
+            no_member = h.is_member ∙ ap not mark;
+            settled = inr (sym h.removed ∙ is);
+          })
+      | inr gone ↦ gone.0
+    ]
+
+    -- not marked, or not settled as removed: it is k's node still
+    pub unsure_node : (is_marked s P ≡ false) ⊎ (has_removed s P ≡ false) → IsNode k s P
+    unsure_node still = elim (left_surely buckets slots P0 k s P law quiet stood key) [
+      | inl there ↦ node buckets slots k s P law there key
+      | inr gone ↦ ⊎_elim (λ mark. absurd (false≢true (sym mark ∙ gone.1))) (λ is. absurd (false≢true (sym is ∙ gone.2))) still
+    ]
+
+    -- not marked, with the added flag: k is a member, and surely
+    pub unmarked_surely : is_marked s P ≡ false → has_added s P ≡ true → SettledYes P P k
+    unmarked_surely mark is =
+        let h = unsure_node (inl mark) in
+        record { begins = begins_itself P; member = h.is_member ∙ ap not mark; settled = sym h.added ∙ is }

@@ -147,7 +147,7 @@ impl List {
     pub fn member(&self, key: Key) -> bool
         ensures { IsTrue result ↔ IsMember self.now.words key }
     {
-        match self.find(key.get()) {
+        match self.find(key.rank()) {
             None => false,
             Some(slot) => !self.words.is_marked(Place::Node(slot)),
         }

@@ -83,6 +83,14 @@ impl Words {
         self.links.len()
     }
 
+    /// How many passes there are: each has a pin word.
+    pub fn passes(&self) -> usize
+        ensures count { result ≡ length self.now.pins }
+        ensures table { IsTable self.now }
+    {
+        self.pins.len()
+    }
+
     pub fn get(&self, word: Word) -> u64
         requires { IsWord self.now word }
         ensures { result ≡ get self.now word }

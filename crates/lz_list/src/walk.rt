@@ -72,7 +72,7 @@ impl Walk {
         requires { 1 ≤ self.now.buckets }
         ensures { result ≡ bucket_of self.now.buckets self.now.key }
     {
-        (self.key.get() % self.buckets as u64) as usize
+        (self.key.rank() % self.buckets as u64) as usize
     }
 
     /// The word to load.
@@ -137,14 +137,14 @@ impl Walk {
         ensures key { self.new.key ≡ self.old.key }
         ensures buckets { self.new.buckets ≡ self.old.buckets }
     {
-        if word > self.key.get() {
+        if word > self.key.rank() {
             return Hop::End {
                 pred,
                 curr: Some(slot),
                 met: Met::Absent,
             };
         }
-        self.look = if word == self.key.get() {
+        self.look = if word == self.key.rank() {
             Look::AtMet(pred, slot)
         } else {
             Look::AtBelow(slot)

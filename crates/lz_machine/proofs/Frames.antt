@@ -6,6 +6,7 @@ pub mod Hand
 pub mod HeldLocks
 pub mod Publishing
 pub mod Cells
+pub mod FittingKeys
 pub mod OtherLink
 pub mod OtherUnlink
 pub mod OtherSettling
@@ -18,3 +19,5 @@ pub mod NodeLocks
 pub mod Ranges
 pub mod LoadedWord
 pub mod Limbo
+pub mod Outside
+pub mod Refusal

@@ -3,15 +3,15 @@ use Rattle.std.specs.Prelude.{◌≡◌, ◌⊎◌, ℕ, ◌<◌, Bool, true, fa
 use Rattle.std.specs.List.{IsDistinct}
 use Rattle.lz_slot.specs.declared.command.Command.{Command}
 use Rattle.lz_slot.specs.declared.command.Command.TheVariants.{Add}
-use Rattle.lz_slot.specs.declared.history.Refusal.TheVariants.{Full, Worn}
+use Rattle.lz_slot.specs.declared.history.Refusal.TheVariants.{Full, Worn, OldFile}
 use Rattle.lz_slot.specs.declared.history.Mark.TheVariants.{Call, Answer, Refused, Cut}
 use Rattle.lz_slot.specs.Sets.{Keys, Same, members, key_of, after, reply}
 use Rattle.lz_slot.specs.Bytes.{Holds}
 use Rattle.lz_slot.specs.Histories.{History, Life, lives}
 use Rattle.lz_disk.specs.Images.{Medium}
 use Rattle.lz_list.specs.Traces.{Trace}
-use Rattle.lz_machine.specs.declared.event.Reply.TheVariants.{Worn as SaysWorn, Halted, Device}
-use Rattle.lz_machine.specs.Table.{pin_of, last_pin}
+use Rattle.lz_machine.specs.declared.event.Reply.TheVariants.{Worn as SaysWorn, OldFile as SaysOldFile, Halted, Device}
+use Rattle.lz_machine.specs.Table.{pin_of, last_pin, is_old}
 use Rattle.lz_machine.specs.Runs.{Start, IsStart, Service, Caller, Up, Step, Calls, Turn, Fails, Looks, CrashesIn, MayStep, MayLeave, Reached, IsRun, run, first_point, start_keys, caller_at, reply_at}
 
 -- the step is this actor's, or no actor's
@@ -35,14 +35,15 @@ has_cut (Cut i why ∷ M) = true
 has_cut (m ∷ M) = has_cut M
 
 -- The calls of one life, made one after the other, lead a plain set from S to T. An answer is that of the set, and a refused
--- call changes nothing. Once a call was cut off, each later one is cut off or worn; of the calls without an answer the first
--- one may be done, and no other.
+-- call changes nothing. Once a call was cut off, each later one is cut off, worn, or one that the file's format
+-- can't serve; of the calls without an answer the first one may be done, and no other.
 abbrev pub IsPlain : Keys → History → Keys → Type 0
 IsPlain S [] T = Same S T
 IsPlain S (Answer i answer ∷ Call j a c ∷ M) T =
     (i ≡ j) × (has_cut M ≡ false) × ((U : Keys) × IsPlain S M U × (reply c (U (key_of c)) ≡ answer) × Same (after c U) T)
 IsPlain S (Refused i Full ∷ Call j a c ∷ M) T = (i ≡ j) × (has_cut M ≡ false) × IsPlain S M T
 IsPlain S (Refused i Worn ∷ Call j a c ∷ M) T = (i ≡ j) × IsPlain S M T
+IsPlain S (Refused i OldFile ∷ Call j a c ∷ M) T = (i ≡ j) × IsPlain S M T
 IsPlain S (Cut i why ∷ Call j a c ∷ M) T = (i ≡ j) × IsPlain S (Call j a c ∷ M) T
 IsPlain S (Call j a c ∷ M) T = IsPlain S M T ⊎ ((has_cut M ≡ false) × ((U : Keys) × IsPlain S M U × Same (after c U) T))
 IsPlain S _ T = ⊥
@@ -96,7 +97,8 @@ FullIsRight =
     → AreSized start.shape.slots (lives (start_keys start) (run (first_point start) steps).marks)
 
 -- A turn that answers worn is taken where the pin word is 2^62, and one that answers halted or device where the vault is
--- dead. This holds of any number of actors.
+-- dead. A call is told of an old file exactly where it adds a key that can't be held by the format of the text that the open
+-- read: then it comes to no other answer. This holds of any number of actors.
 abbrev pub RefusalsAreRight : Type 0
 RefusalsAreRight =
     (start : Start) (service : Service) (disk : Medium) (M : History) (P : Trace) (a : ℕ) (caller : Caller)
@@ -104,3 +106,5 @@ RefusalsAreRight =
     → (reply_at caller.progress ≡ Some SaysWorn → pin_of service.yard a ≡ last_pin)
     × (reply_at caller.progress ≡ Some Halted → service.yard.vault.dead ≡ true)
     × (reply_at caller.progress ≡ Some Device → service.yard.vault.dead ≡ true)
+    × (reply_at caller.progress ≡ Some SaysOldFile → is_old service.yard.vault.format caller.command ≡ true)
+    × (is_old service.yard.vault.format caller.command ≡ true → reply_at caller.progress ≡ Some SaysOldFile)

@@ -2,6 +2,7 @@
 use Rattle.std.specs.Prelude.{ℕ, ◌+◌, ◌-◌, Bool, true, false, ◌==◌, nat_lt, if◌then◌else◌, List, [], ◌∷◌, length, slice_index_or, Option, Some, None}
 use Rattle.lz_slot.specs.declared.command.Command.{Command}
 use Rattle.lz_slot.specs.declared.command.Command.TheVariants.{Add, Remove, Has}
+use Rattle.lz_slot.specs.declared.format.Format.{Format}
 use Rattle.lz_slot.specs.Sets.{key_of}
 use Rattle.lz_list.specs.declared.place.Place.{Place}
 use Rattle.lz_list.specs.declared.word.Word.TheVariants.{Halt as halt_word, Pin as pin_word}
@@ -17,14 +18,15 @@ use Rattle.lz_flush.specs.Settling.{may_answer}
 use Rattle.lz_machine.specs.declared.event.Event.{Event}
 use Rattle.lz_machine.specs.declared.event.Event.TheVariants.{Pin, Hop, Reserve, WriteKey, Claim, Check, WriteOpen, Link, WriteClose, Mark, Release, Sync, Settle, Unlink, Retire, SeePin, Answer, Halt}
 use Rattle.lz_machine.specs.declared.event.Outcome.{Outcome}
-use Rattle.lz_machine.specs.declared.event.Outcome.TheVariants.{Value, Slot, NoSlot, Taken, True, False, Early, Worn, Fault, Dead}
+use Rattle.lz_machine.specs.declared.event.Outcome.TheVariants.{Value, Slot, NoSlot, Taken, True, False, Early, Worn, OldFile, Fault, Dead}
 use Rattle.lz_machine.specs.declared.event.Reply.{Reply}
-use Rattle.lz_machine.specs.declared.event.Reply.TheVariants.{Yes, No, Full, Worn as SaysWorn, Halted, Device}
+use Rattle.lz_machine.specs.declared.event.Reply.TheVariants.{Yes, No, Full, Worn as SaysWorn, OldFile as SaysOldFile, Halted, Device}
 use Rattle.lz_machine.specs.declared.caller.Script.{Script}
 use Rattle.lz_machine.specs.declared.caller.Script.TheVariants.{Pinning, Resting, Writing, Adding, Removing, Releasing, Halting}
 use Rattle.lz_machine.specs.declared.caller.Progress.{Progress}
 use Rattle.lz_machine.specs.declared.caller.Progress.TheVariants.{Playing, LoadsHalt, Walking, Reserving, SeeingPins, Claiming, Checking, Answering}
 use Rattle.lz_machine.specs.Yards.{Shape}
+use Rattle.lz_machine.specs.Table.{is_old}
 
 -- the events of a script, as the rule lists them
 abbrev pub events_of : Command → Script → List Event
@@ -57,6 +59,10 @@ after_event c script i = if nat_lt (i + 1) (length (events_of c script)) then Pl
 -- after its Invoke a call pins, and its first walk begins with the halt word
 abbrev pub first_progress : Progress
 first_progress = Playing Pinning 0
+
+-- where a call of this command begins on a file of this format
+abbrev pub begun : Format → Command → Progress
+begun format c = if is_old format c then Answering SaysOldFile else first_progress
 
 -- the next event of a call of this command
 abbrev pub event_at : Shape → Command → Progress → Event
@@ -149,6 +155,7 @@ abbrev pub progress_after : Shape → Command → Progress → Outcome → Progr
 progress_after shape c at Fault = halts Device
 progress_after shape c at Dead = halts Halted
 progress_after shape c at Worn = Answering SaysWorn
+progress_after shape c at OldFile = Answering SaysOldFile
 progress_after shape c at outcome = follows shape c at outcome
 
 -- a pin word that is looked at is loaded by whoever plays the event

@@ -1,7 +1,8 @@
 -- Runs of the machine: callers' steps, device failures, stops, crashes and opens. Steps, marks and traces stand newest first.
 use Rattle.std.specs.Prelude.{◌≡◌, ◌≢◌, ◌⊎◌, ℕ, suc, ◌+◌, ◌*◌, ◌≤◌, Bool, true, false, List, [], ◌∷◌, ◌++◌, map, replicate, Option, Some, None, IsTrue, IsNone, IsSomeAnd}
 use Rattle.lz_slot.specs.declared.command.Command.{Command}
-use Rattle.lz_slot.specs.declared.history.Refusal.TheVariants.{Full as refused_full, Worn as refused_worn}
+use Rattle.lz_slot.specs.declared.format.Format.{Format}
+use Rattle.lz_slot.specs.declared.history.Refusal.TheVariants.{Full as refused_full, Worn as refused_worn, OldFile as refused_old_file}
 use Rattle.lz_slot.specs.declared.history.Cut.TheVariants.{Halted as cut_halted, Device as cut_device}
 use Rattle.lz_slot.specs.declared.history.Mark.{Mark}
 use Rattle.lz_slot.specs.declared.history.Mark.TheVariants.{Call, Answer, Refused, Cut, Stop, Crash, Opened, OpenFailed}
@@ -23,12 +24,12 @@ use Rattle.lz_machine.specs.declared.event.Event.TheVariants.{Invoke}
 use Rattle.lz_machine.specs.declared.event.Outcome.{Outcome}
 use Rattle.lz_machine.specs.declared.event.Outcome.TheVariants.{NotNow}
 use Rattle.lz_machine.specs.declared.event.Reply.{Reply}
-use Rattle.lz_machine.specs.declared.event.Reply.TheVariants.{Yes, No, Full, Worn, Halted, Device}
-use Rattle.lz_machine.specs.Yards.{Shape, Yard, opened_yard, first_trace}
-use Rattle.lz_machine.specs.Table.{line, line_failed, line_call, line_publishes, pin_of, last_pin}
+use Rattle.lz_machine.specs.declared.event.Reply.TheVariants.{Yes, No, Full, Worn, OldFile, Halted, Device}
+use Rattle.lz_machine.specs.Yards.{Shape, Yard, actor_at, opened_yard, first_trace}
+use Rattle.lz_machine.specs.Table.{yard_done, line, line_failed, line_call, line_publishes, pin_of, last_pin}
 use Rattle.lz_machine.specs.declared.caller.Progress.{Progress}
 use Rattle.lz_machine.specs.declared.caller.Progress.TheVariants.{Answering}
-use Rattle.lz_machine.specs.Calls.{first_progress, event_at, progress_after, loaded}
+use Rattle.lz_machine.specs.Calls.{begun, event_at, progress_after, loaded}
 
 -- A call that is open: its number, its command and how far it has come.
 pub record Caller : Type 0 where
@@ -118,6 +119,10 @@ with_words y words =
 abbrev pub looked : Yard → ℕ → Yard
 looked y a = with_words y (set y.words (pin_word a) (get y.words (pin_word a) + 1))
 
+-- the yard after the Invoke of a call, which is played on a dead vault too
+abbrev pub invoked : Yard → ℕ → Command → Yard
+invoked y a c = yard_done y (actor_at y a) a (Invoke c)
+
 abbrev pub opened_service : Shape → List ℕ → Service
 opened_service shape t = record { yard = opened_yard shape t; callers = replicate shape.passes None }
 
@@ -125,8 +130,8 @@ opened_service shape t = record { yard = opened_yard shape t; callers = replicat
 abbrev pub state_after : ℕ → State → Step → State
 state_after n (Up service disk) (Calls a c) =
     Up (record {
-      yard = service.yard;
-      callers = set_of_pass service.callers a (Some (record { number = n; command = c; progress = first_progress }));
+      yard = invoked service.yard a c;
+      callers = set_of_pass service.callers a (Some (record { number = n; command = c; progress = begun service.yard.vault.format c }));
     }) disk
 state_after n (Up service disk) (Turn a) = after_turn service disk a (caller_at service.callers a)
 state_after n (Up service disk) (Fails a new) = after_fault service new a (caller_at service.callers a)
@@ -148,7 +153,7 @@ abbrev pub keys_found : List ℕ → ℕ → List ℕ
 keys_found t N = map (λ f. f.0) (by_key (held t N))
 
 -- A step may be taken in a state. An open succeeds where what it reads holds a set, and a call begins where the
--- actor's pin word is even, so that no look is half done; its key is one of the format.
+-- actor's pin word is even, so that no look is half done; its key is one of some format.
 abbrev pub HasTurn : Service → ℕ → Option Caller → Type 0
 HasTurn service a None = ⊥
 HasTurn service a (Some caller) = (line service.yard a (next_event service.yard caller)).1 ≢ NotNow
@@ -196,6 +201,7 @@ mark_of i Yes = Answer i true
 mark_of i No = Answer i false
 mark_of i (Full counts) = Refused i refused_full
 mark_of i Worn = Refused i refused_worn
+mark_of i OldFile = Refused i refused_old_file
 mark_of i Halted = Cut i cut_halted
 mark_of i Device = Cut i cut_device
 
@@ -281,9 +287,9 @@ first_point s =
       calls = 0;
     }
 
--- a freshly made file
-abbrev pub made_text : ℕ → List ℕ
-made_text N = (open_byte ∷ header_body N) ++ replicate (16 * N) 0
+-- a freshly made file of a format
+abbrev pub made_text : Format → ℕ → List ℕ
+made_text F N = (open_byte ∷ header_body F N) ++ replicate (16 * N) 0
 
 -- The state w comes from the start by a list of steps, with marks M and the trace P.
 pub record Reached (start : Start) (w : State) (M : History) (P : Trace) : Type 0 where

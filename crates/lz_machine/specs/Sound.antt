@@ -1,7 +1,9 @@
 -- The invariant of the machine: what holds of each state that is reached, with its trace. Each field is a record of its own,
 -- over those parts of the state that it speaks of, so that a step shows only what it touches.
 use Rattle.std.specs.Prelude.{◌≡◌, ◌≢◌, ◌⊎◌, ℕ, zero, suc, ◌<◌, ◌≤◌, ◌%◌, Bool, true, false, List, [], ◌∷◌, ◌++◌, length, slice_get, slice_index_or, Option, Some, None}
-use Rattle.lz_slot.specs.Limits.{largest_key, most_slots}
+use Rattle.lz_slot.specs.Limits.{most_slots}
+use Rattle.lz_slot.specs.Rooms.{largest_of}
+use Rattle.lz_slot.specs.declared.format.Format.{Format}
 use Rattle.lz_slot.specs.declared.command.Command.{Command}
 use Rattle.lz_slot.specs.declared.command.Command.TheVariants.{Add, Remove, Has}
 use Rattle.lz_slot.specs.Sets.{Keys, key_of}
@@ -26,7 +28,7 @@ use Rattle.lz_list.specs.Pinned.{Stood, IsQuiet}
 use Rattle.lz_list.specs.Laws.{IsHigh}
 use Rattle.lz_list.specs.Locks.{NodeLocks, claimed_places, owner}
 use Rattle.lz_machine.specs.declared.event.Reply.{Reply}
-use Rattle.lz_machine.specs.declared.event.Reply.TheVariants.{Yes, No, Full, Worn as SaysWorn, Halted, Device}
+use Rattle.lz_machine.specs.declared.event.Reply.TheVariants.{Yes, No, Full, Worn as SaysWorn, OldFile as SaysOldFile, Halted, Device}
 use Rattle.lz_machine.specs.declared.actor.Actor.{Actor}
 use Rattle.lz_machine.specs.declared.actor.Hold.{Hold}
 use Rattle.lz_machine.specs.declared.actor.Hold.TheVariants.{Nothing, Locks, Checked, GateOpened, Linked, GateClosed, Marked, Unlinked, Released}
@@ -35,7 +37,7 @@ use Rattle.lz_machine.specs.declared.caller.Script.TheVariants.{Pinning, Resting
 use Rattle.lz_machine.specs.declared.caller.Progress.{Progress}
 use Rattle.lz_machine.specs.declared.caller.Progress.TheVariants.{Playing, LoadsHalt, Walking, Reserving, SeeingPins, Claiming, Checking, Answering}
 use Rattle.lz_machine.specs.Yards.{Shape, Yard, idle_actor, no_cell}
-use Rattle.lz_machine.specs.Table.{last_pin}
+use Rattle.lz_machine.specs.Table.{last_pin, is_old}
 use Rattle.lz_machine.specs.Runs.{Caller, Service, State, Up, Down, Start, Point, caller_at, shape_of, start_keys}
 use Rattle.lz_machine.specs.Ledgers.{Row, HasRow, Each, change_at, times}
 use Rattle.lz_machine.specs.Kept.{publishing, upto}
@@ -83,8 +85,8 @@ pub record TraceSound (shape : Shape) (words : Words) (P : Trace) : Type 0 where
 pub record DiskSound (shape : Shape) (vault : Vaulted) (disk : Medium) : Type 0 where
   pub slots : (1 ≤ shape.slots) × (shape.slots ≤ most_slots)
   pub count : length vault.cells ≡ shape.slots
-  pub keys : (s : ℕ) (cell : Cell) → slice_get vault.cells s ≡ Some cell → cell.key ≤ largest_key
-  pub keeps : Keeps vault.cells vault.dead disk
+  pub keys : (s : ℕ) (cell : Cell) → slice_get vault.cells s ≡ Some cell → cell.key ≤ largest_of vault.format
+  pub keeps : Keeps vault.format vault.cells vault.dead disk
 
 -- 3. Where a slot stands: its stage, its use and who has it.
 abbrev pub IsGateClosed : Stage → Type 0
@@ -247,10 +249,11 @@ pub record LocksSound (shape : Shape) (locks : NodeLocks) (actors : List Actor) 
   pub rests : (a : ℕ) → RestsOn shape.buckets (actor_in actors a).hold (actor_in actors a) P
 
 -- 5. What an open call relies on, by how far it has come. A caller's view: the table's buckets, how many passes there are,
--- the slots' cells, whether the vault is dead, and what its actor has in hand.
+-- the file's format, the slots' cells, whether the vault is dead, and what its actor has in hand.
 pub record View : Type 0 where
   pub buckets : ℕ
   pub passes : ℕ
+  pub format : Format
   pub cells : List Cell
   pub dead : Bool
   pub actor : Actor
@@ -323,6 +326,7 @@ MayAnswer (Remove k) Yes P0 P changed = IsSettledChange k P changed
 MayAnswer (Remove k) No P0 P changed = (changed ≡ None) × RestsNo k P0 P
 MayAnswer c (Full counts) P0 P changed = changed ≡ None
 MayAnswer c SaysWorn P0 P changed = changed ≡ None
+MayAnswer c SaysOldFile P0 P changed = changed ≡ None
 MayAnswer c _ P0 P changed = halt_word P ≡ 1
 
 -- the call's own adding of slot s, and its own removing of the node in s, which its locks keep on the chain
@@ -409,7 +413,7 @@ ReliesRemoving v k s _ P changed = ⊥
 
 -- before the event of a script with this index
 abbrev pub ReliesOn : View → Command → Script → ℕ → Trace → Trace → Option ℕ → Type 0
-ReliesOn v c Pinning zero P0 P changed = IsIdle v.actor P × (changed ≡ None)
+ReliesOn v c Pinning zero P0 P changed = IsIdle v.actor P × (changed ≡ None) × (is_old v.format c ≡ false)
 ReliesOn v c (Resting s reply) zero P0 P changed = IsFresh v changed × MayRest v.buckets c reply s P0 P
 ReliesOn v c (Resting s reply) (suc zero) P0 P changed = IsFresh v changed × MayRest v.buckets c reply s P0 P
 ReliesOn v c (Writing s) i P0 P changed = ReliesWriting v c s i P changed
@@ -431,23 +435,26 @@ Relies v c (Claiming aim pred curr) P0 P changed =
 Relies v c (Checking aim curr) P0 P changed =
     (changed ≡ None) × (v.actor.hold ≡ Locks) × (v.actor.curr ≡ curr) × IsAimed v (key_of c) P aim
     × HasEnded c aim v.buckets P0 P v.actor.pred curr
-Relies v c (Answering SaysWorn) P0 P changed = IsIdle v.actor P × (changed ≡ None)
+Relies v c (Answering SaysWorn) P0 P changed = IsIdle v.actor P × (changed ≡ None) × (is_old v.format c ≡ false)
+Relies v c (Answering SaysOldFile) P0 P changed = IsIdle v.actor P × (changed ≡ None) × (is_old v.format c ≡ true) × (v.actor.refused ≡ true)
 Relies v c (Answering reply) P0 P changed = MayAnswer c reply P0 P changed × ((v.actor.hold ≡ Nothing) ⊎ (halt_word P ≡ 1))
 
--- a call is outside before its Pin, and where that was worn
+-- a call is outside before its Pin, and where that was worn, or where the file can't hold the key that it adds
 abbrev pub is_before_pin : Progress → Bool
 is_before_pin (Playing Pinning i) = true
 is_before_pin (Answering SaysWorn) = true
+is_before_pin (Answering SaysOldFile) = true
 is_before_pin _ = false
 
 abbrev pub side_of : Bool → ℕ
 side_of true = 0
 side_of false = 1
 
+-- a call that is inside adds only a key that the file can hold
 abbrev pub IsCaller : View → ℕ → Option Caller → Trace → Trace → Option ℕ → Type 0
 IsCaller v pin None P0 P changed = IsIdle v.actor P × (changed ≡ None)
 IsCaller v pin (Some caller) P0 P changed =
-    (pin % 2 ≡ side_of (is_before_pin caller.progress)) × (key_of caller.command ≤ largest_key)
+    (pin % 2 ≡ side_of (is_before_pin caller.progress)) × (IsInside pin → is_old v.format caller.command ≡ false)
     × Relies v caller.command caller.progress P0 P changed
 
 pub record CallerSound (v : View) (pin : ℕ) (caller : Option Caller) (P0 P : Trace) (changed : Option ℕ) : Type 0 where
@@ -457,7 +464,7 @@ pub record CallerSound (v : View) (pin : ℕ) (caller : Option Caller) (P0 P : T
 
 abbrev pub view_of : Shape → Vaulted → List Actor → ℕ → View
 view_of shape vault actors a =
-    record { buckets = shape.buckets; passes = shape.passes; cells = vault.cells; dead = vault.dead; actor = actor_in actors a }
+    record { buckets = shape.buckets; passes = shape.passes; format = vault.format; cells = vault.cells; dead = vault.dead; actor = actor_in actors a }
 
 pub record CallersSound (shape : Shape) (vault : Vaulted) (pins : List ℕ) (actors : List Actor) (callers : List (Option Caller)) (P : Trace) (notes : Notes) : Type 0 where
   pub count : length callers ≡ shape.passes

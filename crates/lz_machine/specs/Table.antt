@@ -1,5 +1,9 @@
 -- The table of the nineteen events: what each needs, which device call it makes, what it changes and what it answers.
-use Rattle.std.specs.Prelude.{ℕ, ◌+◌, ◌*◌, ◌^◌, Bool, true, false, not, ◌&&◌, ◌||◌, ◌==◌, if◌then◌else◌, List, [], ◌∷◌, map, slice_set, Option, Some, None, is_some, unwrap_or}
+use Rattle.std.specs.Prelude.{ℕ, ◌+◌, ◌*◌, ◌^◌, Bool, true, false, not, ◌&&◌, ◌||◌, ◌==◌, if◌then◌else◌, List, [], ◌∷◌, map, slice_set, Option, Some, None, is_some, nat_lt, unwrap_or}
+use Rattle.lz_slot.specs.declared.command.Command.{Command}
+use Rattle.lz_slot.specs.declared.command.Command.TheVariants.{Add}
+use Rattle.lz_slot.specs.declared.format.Format.{Format}
+use Rattle.lz_slot.specs.Rooms.{largest_of}
 use Rattle.lz_slot.specs.Bytes.{open_byte, closed_byte, slot_body}
 use Rattle.lz_slot.specs.Counted.{set_of_pass}
 use Rattle.lz_vault.specs.declared.vault.Stage.{Stage}
@@ -19,7 +23,7 @@ use Rattle.lz_flush.specs.Settling.{settle}
 use Rattle.lz_machine.specs.declared.event.Event.{Event}
 use Rattle.lz_machine.specs.declared.event.Event.TheVariants.{Invoke, Pin, Hop, Reserve, WriteKey, Claim, Check, WriteOpen, Link, WriteClose, Mark, Release, Sync, Settle, Unlink, Retire, SeePin, Answer, Halt}
 use Rattle.lz_machine.specs.declared.event.Outcome.{Outcome}
-use Rattle.lz_machine.specs.declared.event.Outcome.TheVariants.{Done, Value, Slot, NoSlot, Taken, Busy, True, False, Early, Worn, NotNow, Fault, Dead}
+use Rattle.lz_machine.specs.declared.event.Outcome.TheVariants.{Done, Value, Slot, NoSlot, Taken, Busy, True, False, Early, Worn, OldFile, NotNow, Fault, Dead}
 use Rattle.lz_machine.specs.declared.actor.Hold.{Hold}
 use Rattle.lz_machine.specs.declared.actor.Hold.TheVariants.{Nothing, Locks, Checked, GateOpened, Linked, GateClosed, Marked, Unlinked, Released}
 use Rattle.lz_machine.specs.declared.actor.Actor.{Actor}
@@ -32,6 +36,10 @@ last_pin = 2 ^ 62
 
 abbrev pub pin_of : Yard → ℕ → ℕ
 pin_of y a = get y.words (pin_at a)
+
+-- an actor whose pass is worn, or whose call the file's format refused, answers without a pin
+abbrev pub stays_out : Actor → ℕ → Bool
+stays_out actor pin = (pin == last_pin) || (is_outside pin && actor.refused)
 
 -- an actor's slot, where it has one, and the slot of the node that it claimed last
 abbrev pub slot_of : Actor → ℕ
@@ -84,6 +92,11 @@ abbrev pub may_retire : Hold → Bool
 may_retire Released = true
 may_retire _ = false
 
+-- an Add of a key that a file of this format can't hold
+abbrev pub is_old : Format → Command → Bool
+is_old format (Add k) = nat_lt (largest_of format) k
+is_old format _ = false
+
 -- The needs of each event.
 abbrev pub needs_of : Yard → Actor → ℕ → Event → Bool
 needs_of y actor pin (Invoke c) = true
@@ -103,7 +116,7 @@ needs_of y actor pin (Settle s) = true
 needs_of y actor pin Unlink = has_marked actor.hold && is_some actor.curr && has_stage Closed (cell_at y (node_of actor)).stage
 needs_of y actor pin Retire = may_retire actor.hold
 needs_of y actor pin (SeePin p value) = true
-needs_of y actor pin Answer = not (is_outside pin) || (pin == last_pin)
+needs_of y actor pin Answer = not (is_outside pin) || stays_out actor pin
 needs_of y actor pin Halt = y.vault.dead
 
 abbrev pub needs : Yard → ℕ → Event → Bool
@@ -147,11 +160,11 @@ cells_after y actor _ = y.vault.cells
 
 -- the vault after an event whose device call, if it has one, succeeds
 abbrev pub vault_after : Yard → Actor → Event → Vaulted
-vault_after y actor e = record { cells = cells_after y actor e; syncs = syncs_after (call_of y actor e) y.vault.syncs; dead = y.vault.dead }
+vault_after y actor e = record y.vault { cells = cells_after y actor e; syncs = syncs_after (call_of y actor e) y.vault.syncs }
 
 -- the vault after an event whose device call fails: a failed sync leaves all stages
 abbrev pub vault_failed : Yard → Actor → Event → Vaulted
-vault_failed y actor e = record { cells = cells_failed (call_of y actor e) y.vault.cells (cells_after y actor e); syncs = y.vault.syncs; dead = true }
+vault_failed y actor e = record y.vault { cells = cells_failed (call_of y actor e) y.vault.cells (cells_after y actor e); dead = true }
 
 -- The words after each event.
 abbrev pub words_after : Yard → Actor → ℕ → Event → Words
@@ -189,7 +202,7 @@ locks_after y actor a Release = pair_owned y.locks actor.pred actor.curr 0
 locks_after y actor a _ = y.locks
 
 abbrev pub with_hold : Actor → Hold → Actor
-with_hold actor hold = record { slot = actor.slot; hold = hold; pred = actor.pred; curr = actor.curr }
+with_hold actor hold = record actor { hold = hold }
 
 abbrev pub released : Hold → Hold
 released Unlinked = Released
@@ -211,16 +224,17 @@ abbrev pub set_actor : Yard → ℕ → Actor → List Actor
 set_actor y a actor = set_of_pass y.actors a actor
 
 abbrev pub with_slot : Actor → Option ℕ → Actor
-with_slot actor slot = record { slot = slot; hold = actor.hold; pred = actor.pred; curr = actor.curr }
+with_slot actor slot = record actor { slot = slot }
 
 -- What the actors have in hand after each event.
 abbrev pub actors_after : Yard → Actor → ℕ → Event → List Actor
+actors_after y actor a (Invoke c) = set_actor y a (record actor { refused = is_old y.vault.format c })
 actors_after y actor a Reserve = set_actor y a (with_slot actor (lowest_free (collect y.uses)))
 actors_after y actor a (Claim pred curr) =
-    if is_pair_free y.locks pred curr then set_actor y a (record { slot = actor.slot; hold = Locks; pred = pred; curr = curr }) else y.actors
+    if is_pair_free y.locks pred curr then set_actor y a (record actor { hold = Locks; pred = pred; curr = curr }) else y.actors
 actors_after y actor a Check = set_actor y a (with_hold actor (if check y.words actor.pred actor.curr then Checked else Locks))
 actors_after y actor a WriteOpen = set_actor y a (with_hold actor GateOpened)
-actors_after y actor a Link = set_actor y a (record { slot = None; hold = Linked; pred = actor.pred; curr = actor.curr })
+actors_after y actor a Link = set_actor y a (record actor { slot = None; hold = Linked })
 actors_after y actor a WriteClose = set_actor y a (with_hold actor GateClosed)
 actors_after y actor a Mark = set_actor y a (with_hold actor Marked)
 actors_after y actor a Release = set_actor y a (with_hold actor (released actor.hold))
@@ -251,6 +265,7 @@ slot_found (Some s) uses = Slot s
 slot_found None uses = NoSlot (counts uses)
 
 abbrev pub outcome_of : Yard → Actor → Event → Outcome
+outcome_of y actor (Invoke c) = if is_old y.vault.format c then OldFile else Done
 outcome_of y actor (Hop word) = Value (get y.words word)
 outcome_of y actor Reserve = slot_found (lowest_free (collect y.uses)) (collect y.uses)
 outcome_of y actor (Claim pred curr) = if is_pair_free y.locks pred curr then Taken else Busy
@@ -274,10 +289,10 @@ yard_done y actor a e =
       actors = actors_after y actor a e;
     }
 
--- a pass that is worn isn't pinned, and its Answer changes no word
+-- a pass that is worn isn't pinned, and an Answer without a pin changes nothing
 abbrev pub course_alive : Yard → ℕ → ℕ → Event → Course
 course_alive y a pin Pin = if pin == last_pin then Refused Worn else Plays
-course_alive y a pin Answer = if pin == last_pin then Refused Done else Plays
+course_alive y a pin Answer = if stays_out (actor_at y a) pin then Refused Done else Plays
 course_alive y a pin (Sync s) = if not (is_sure y s) && is_spent y then Dies else Plays
 course_alive y a pin _ = Plays
 

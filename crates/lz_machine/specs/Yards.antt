@@ -2,7 +2,7 @@
 use Rattle.std.specs.Prelude.{ℕ, zero, suc, false, List, [], ◌∷◌, ◌++◌, map, replicate, slice_index_or, None}
 use Rattle.lz_slot.specs.declared.slot.SlotRead.{SlotRead}
 use Rattle.lz_slot.specs.declared.slot.SlotRead.TheVariants.{Member}
-use Rattle.lz_slot.specs.Bytes.{slot_at, held}
+use Rattle.lz_slot.specs.Bytes.{format_of, slot_at, held}
 use Rattle.lz_slot.specs.Counted.{of_pass}
 use Rattle.lz_vault.specs.declared.vault.Stage.TheVariants.{Closed, Open}
 use Rattle.lz_vault.specs.Stages.{Cell}
@@ -21,7 +21,7 @@ pub record Shape : Type 0 where
   pub passes : ℕ
 
 abbrev pub idle_actor : Actor
-idle_actor = record { slot = None; hold = Nothing; pred = Bucket 0; curr = None }
+idle_actor = record { slot = None; hold = Nothing; pred = Bucket 0; curr = None; refused = false }
 
 pub record Yard : Type 0 where
   pub shape : Shape
@@ -67,7 +67,7 @@ opened_yard shape t =
       shape = shape;
       words = words_after shape.slots shape.buckets shape.passes (first_trace shape t);
       locks = record { heads = replicate shape.buckets 0; nodes = replicate shape.slots 0 };
-      vault = record { cells = map cell_read (slots_read t shape.slots); syncs = 0; dead = false };
+      vault = record { format = format_of t; cells = map cell_read (slots_read t shape.slots); syncs = 0; dead = false };
       uses = map use_read (slots_read t shape.slots);
       actors = replicate shape.passes idle_actor;
     }

@@ -17,12 +17,13 @@ pub enum Hold {
     Released,
 }
 
-/// What an actor has in hand: a slot that it has reserved and not linked, and the pair that it claimed last. After a
-/// device failure it keeps what it had.
+/// What an actor has in hand: a slot that it has reserved and not linked, and the pair that it claimed last; and whether the
+/// file's format can't hold the key that its last call adds. After a device failure it keeps what it had.
 #[derive(Clone, Copy, Debug, PartialEq, Eq)]
 pub struct Actor {
     pub slot: Option<Slot>,
     pub hold: Hold,
     pub pred: Place,
     pub curr: Option<Slot>,
+    pub refused: bool,
 }

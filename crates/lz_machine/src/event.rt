@@ -48,6 +48,8 @@ pub enum Outcome {
     Early,
     /// The pass can't be pinned any more.
     Worn,
+    /// A file of this format can't hold the key that the call adds.
+    OldFile,
     /// The event's needs don't hold.
     NotNow,
     /// The device failed in this event.
@@ -63,6 +65,7 @@ pub enum Reply {
     No,
     Full(Counts),
     Worn,
+    OldFile,
     Halted,
     Device,
 }

@@ -49,7 +49,8 @@ pub fn full_is_right()
     ensures { FullIsRight }
 {}
 
-/// Worn is answered only where the pin word is 2^62, halted and device only where the vault is dead.
+/// Worn is answered only where the pin word is 2^62, halted and device only where the vault is dead; and a call is told of an
+/// old file exactly where it adds a key that the file's format can't hold.
 pub fn refusals_are_right()
     ensures { RefusalsAreRight }
 {}

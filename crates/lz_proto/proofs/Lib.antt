@@ -1,6 +1,5 @@
 pub mod Begun
 pub mod Bytes
-pub mod Digits
 pub mod LineReads
 pub mod Rows
 pub mod Serving

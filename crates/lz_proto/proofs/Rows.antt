@@ -1,17 +1,36 @@
 -- Worked lines.
-use Rattle.std.specs.Prelude.{◌≡◌, [], ◌∷◌, ◌++◌, ◌+◌, refl, codes, replicate}
+use Rattle.std.proofs.Common.{◌≡◌, inl, inr, [], ◌∷◌, ◌++◌, ◌+◌, refl, codes, replicate, arith}
 use Rattle.std.specs.Fmt.{digits}
 use Rattle.lz_proto.specs.declared.request.Request.TheVariants.{Add, Has}
-use Rattle.lz_proto.specs.declared.fault.Bad.TheVariants.{TooLong, NoCommand, NoNumber, KeyTooLarge, NoEnd}
+use Rattle.lz_proto.specs.declared.fault.Bad.TheVariants.{TooLong, NoCommand, NoNumber, KeyTooLarge, NoEnd, BadRoom}
 use Rattle.lz_proto.specs.declared.fault.Bad.{Bad}
 use Rattle.lz_proto.specs.declared.item.Item.TheVariants.{Asks, Faulty}
-use Rattle.lz_proto.specs.declared.reply.Reply.TheVariants.{Yes, Halted}
-use Rattle.lz_proto.specs.Lines.{bad_number, fault_of, without_return, request_text}
+use Rattle.lz_proto.specs.declared.reply.Reply.TheVariants.{Yes, No, Halted, OldFile}
+use Rattle.lz_proto.specs.Lines.{bad_number, fault_of, IsRequest}
 use Rattle.lz_proto.specs.Sessions.{bad_text, session_text}
 
-add_largest : without_return (codes "add 999999999999999999\r") ≡ request_text (Add 999999999999999999)
+add_largest : IsRequest (codes "add 999999999999999999\r") (Add 999999999999999999)
 unfolding digits
-add_largest = refl
+add_largest = (omega arith, (codes "999999999999999999", inr (refl, refl), refl))
+
+-- both spellings of a key in room 0, and one in room 3
+both_spellings : IsRequest (codes "has 17") (Has 17) × IsRequest (codes "has 0:17") (Has 17) × IsRequest (codes "has 3:17") (Has 3000000000000000017)
+unfolding digits
+both_spellings =
+    ((omega arith, (codes "17", inr (refl, refl), refl)), (omega arith, (codes "0:17", inl refl, refl)), (omega arith, (codes "3:17", inl refl, refl)))
+
+-- what stands before the first colon is a room, and this is tested before the number
+no_room : (fault_of (codes "add 16:1") ≡ BadRoom) × (fault_of (codes "add :5") ≡ BadRoom) × (fault_of (codes "add 05:1") ≡ BadRoom) × (fault_of (codes "add 16:x") ≡ BadRoom)
+no_room = (refl, refl, refl, refl)
+
+room_and_no_number : (fault_of (codes "add 1:2:3") ≡ NoNumber) × (fault_of (codes "add 1:") ≡ NoNumber) × (fault_of (codes "add 1:007") ≡ NoNumber)
+room_and_no_number = (refl, refl, refl)
+
+too_large_in_a_room : fault_of (codes "add 15:1000000000000000000") ≡ KeyTooLarge
+too_large_in_a_room = refl
+
+word_before_room : fault_of (codes "put 16:1") ≡ NoCommand
+word_before_room = refl
 
 too_large : fault_of (codes "add 1000000000000000000") ≡ KeyTooLarge
 too_large = refl
@@ -40,6 +59,9 @@ word_and_space = refl
 two_numbers : fault_of (codes "add 1 2") ≡ NoNumber
 two_numbers = refl
 
+old_file : session_text (Asks (Add 1) ∷ Asks (Has 1) ∷ []) (OldFile ∷ No ∷ []) ≡ codes "oldfile\nno\n"
+old_file = refl
+
 up_to_halted : session_text (Asks (Add 1) ∷ Faulty NoNumber ∷ Asks (Has 1) ∷ Asks (Has 2) ∷ []) (Yes ∷ Halted ∷ []) ≡ codes "yes\nbad 3\nhalted\n"
 up_to_halted = refl
 
@@ -55,3 +77,4 @@ bad_numbered NoCommand = refl
 bad_numbered NoNumber = refl
 bad_numbered KeyTooLarge = refl
 bad_numbered NoEnd = refl
+bad_numbered BadRoom = refl

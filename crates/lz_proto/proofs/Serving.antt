@@ -75,6 +75,7 @@ cut_more answers old mid new a b first second p q =
       reply = q.reply;
       served = q.served;
       sent = q.sent;
+      part = q.part;
       text = ap (λ (t : List ℕ). first ++ t) q.text ∙ sym (append_assoc first q.before (take q.sent (session_text (q.item ∷ []) q.reply)));
     }
 
@@ -211,9 +212,9 @@ request_sent answers old new request reply a b text other h is p = (
 )
 
 cut_one : {S : Type 0} (answers : S → Request → Reply → S → Type 0) (old new : S) (item : Item) (replies : List Reply) (a b : Option (List ℕ)) (text : List ℕ)
-    → Serves answers old (item ∷ []) replies new → text ≡ session_text (item ∷ []) replies → (n : ℕ) → Appends a b (take n text)
+    → Serves answers old (item ∷ []) replies new → text ≡ session_text (item ∷ []) replies → (n : ℕ) → n < length text → Appends a b (take n text)
     → Writes a b (λ written. CutOff answers old (item ∷ []) new written)
-cut_one answers old new item replies a b text served is n p = (
+cut_one answers old new item replies a b text served is n less p = (
   take n text,
   p,
   record {
@@ -227,6 +228,7 @@ cut_one answers old new item replies a b text served is n p = (
     reply = replies;
     served = served;
     sent = n;
+    part = subst (λ (t : List ℕ). n < length t) is less;
     text = ap (λ (t : List ℕ). take n t) is;
   },
 )
@@ -236,7 +238,7 @@ pub request_cut : {S : Type 0} (answers : S → Request → Reply → S → Type
     → Writes a b (λ written. AnswersTell answers old (Asks request ∷ []) new written (Err fault))
 request_cut answers old new request reply a b text Read other h is p = absurd p
 request_cut answers old new request reply a b text Write other h is p =
-    cut_one answers old new (Asks request) (reply ∷ []) a b text (serves_request answers old new request reply other h) (is ∙ sym (text_request request reply other)) p.0 p.1
+    cut_one answers old new (Asks request) (reply ∷ []) a b text (serves_request answers old new request reply other h) (is ∙ sym (text_request request reply other)) p.0 p.1 p.2
 request_cut answers old new request reply a b text Memory other h is p = absurd p
 
 pub fault_told : {S : Type 0} (answers : S → Request → Reply → S → Type 0) (old : S) (bad : Bad) (a b : Option (List ℕ)) (r : Result End SessionFault)
@@ -244,7 +246,7 @@ pub fault_told : {S : Type 0} (answers : S → Request → Reply → S → Type 
 fault_told answers old bad a b (Ok ended) p =
     (bad_text bad, p.0, record { replies = []; served = refl; text = sym (append-nil (bad_text bad)); ends = sym p.1 })
 fault_told answers old bad a b (Err Read) p = absurd p
-fault_told answers old bad a b (Err Write) p = cut_one answers old old (Faulty bad) [] a b (bad_text bad) refl (sym (append-nil (bad_text bad))) p.0 p.1
+fault_told answers old bad a b (Err Write) p = cut_one answers old old (Faulty bad) [] a b (bad_text bad) refl (sym (append-nil (bad_text bad))) p.0 p.1 p.2
 fault_told answers old bad a b (Err Memory) p = absurd p
 
 -- items after those at which a write failed
@@ -261,6 +263,7 @@ cut_on answers old new a b written p =
       reply = p.reply;
       served = p.served;
       sent = p.sent;
+      part = p.part;
       text = p.text;
     }
 

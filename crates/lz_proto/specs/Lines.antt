@@ -1,11 +1,14 @@
 -- What lines ask for. A text is a list of bytes.
-use Rattle.std.specs.Prelude.{◌≡◌, ◌≢◌, ℕ, ◌≤◌, Bool, false, not, ◌&&◌, ◌==◌, ◌-◌, take, nat_lt, nat_le, nat_eq, if◌then◌else◌, Result, Ok, Err, slice_index, List, [], ◌∷◌, ◌++◌, length, drop, codes, decimal}
-use Rattle.std.specs.List.{list_any, list_all, starts_with}
+use Rattle.std.specs.Prelude.{◌≡◌, ◌≢◌, ℕ, ◌≤◌, Bool, false, ◌&&◌, ◌==◌, ◌-◌, take, nat_lt, nat_eq, if◌then◌else◌, Result, Ok, Err, slice_index, List, [], ◌∷◌, ◌++◌, length, drop, codes}
+use Rattle.std.specs.List.{list_any, starts_with}
 use Rattle.lz_slot.specs.Limits.{largest_key}
+use Rattle.lz_slot.specs.Texts.{key_fault, Spells}
+use Rattle.lz_slot.specs.declared.spelling.KeyFault.{KeyFault}
+use Rattle.lz_slot.specs.declared.spelling.KeyFault.TheVariants as key
 use Rattle.lz_proto.specs.declared.request.Request.{Request}
 use Rattle.lz_proto.specs.declared.request.Request.TheVariants.{Add, Remove, Has, Quit}
 use Rattle.lz_proto.specs.declared.fault.Bad.{Bad}
-use Rattle.lz_proto.specs.declared.fault.Bad.TheVariants.{TooLong, NoCommand, NoNumber, KeyTooLarge, NoEnd}
+use Rattle.lz_proto.specs.declared.fault.Bad.TheVariants.{TooLong, NoCommand, NoNumber, KeyTooLarge, NoEnd, BadRoom}
 use Rattle.lz_proto.specs.declared.item.Item.{Item}
 use Rattle.lz_proto.specs.declared.item.Item.TheVariants.{Asks, Faulty}
 
@@ -21,23 +24,20 @@ without_return line =
     if nat_lt 0 (length line) && (slice_index line (length line - 1) == carriage_return) then take (length line - 1) line
     else line
 
--- the text of a request
-abbrev pub request_text : Request → List ℕ
-request_text (Add k) = codes "add " ++ decimal k
-request_text (Remove k) = codes "remove " ++ decimal k
-request_text (Has k) = codes "has " ++ decimal k
-request_text Quit = codes "quit"
+-- the line is this word and a spelling of the key
+abbrev pub Names : List ℕ → List ℕ → ℕ → Type 0
+Names line word k = (k ≤ largest_key) × ((text : List ℕ) × Spells text k × (line ≡ word ++ text))
 
--- the request names a key, if it names a number
-abbrev pub NamesKey : Request → Type 0
-NamesKey (Add k) = k ≤ largest_key
-NamesKey (Remove k) = k ≤ largest_key
-NamesKey (Has k) = k ≤ largest_key
-NamesKey Quit = Unit {0}
+-- a line less its carriage return is this request
+abbrev pub IsRequestText : List ℕ → Request → Type 0
+IsRequestText line (Add k) = Names line (codes "add ") k
+IsRequestText line (Remove k) = Names line (codes "remove ") k
+IsRequestText line (Has k) = Names line (codes "has ") k
+IsRequestText line Quit = line ≡ codes "quit"
 
 -- the line is this request
 abbrev pub IsRequest : List ℕ → Request → Type 0
-IsRequest line request = NamesKey request × (without_return line ≡ request_text request)
+IsRequest line request = IsRequestText (without_return line) request
 
 -- where the text after a command's word and one space begins, or 0 where there is no such word
 abbrev pub word_end : List ℕ → ℕ
@@ -47,23 +47,18 @@ word_end line =
     else if starts_with nat_eq line (codes "has ") then 4
     else 0
 
-abbrev pub is_digit : ℕ → Bool
-is_digit b = nat_le 48 b && nat_le b 57
-
-abbrev pub has_zero_in_front : List ℕ → Bool
-has_zero_in_front text = nat_lt 1 (length text) && (slice_index text 0 == 48)
-
--- digits, with no zero in front unless it stands alone
-abbrev pub is_number : List ℕ → Bool
-is_number text = nat_lt 0 (length text) && not (has_zero_in_front text) && list_all is_digit text
+-- the fault of a line by that of its key
+abbrev pub bad_of : KeyFault → Bad
+bad_of key.NoRoom = BadRoom
+bad_of key.NoNumber = NoNumber
+bad_of key.TooLarge = KeyTooLarge
 
 -- the fault of a line that is no request, by the first test that it fails
 abbrev pub fault_of_body : List ℕ → Bad
 fault_of_body line =
     if nat_lt 64 (length line) then TooLong
     else if word_end line == 0 then NoCommand
-    else if is_number (drop (word_end line) line) then KeyTooLarge
-    else NoNumber
+    else bad_of (key_fault (drop (word_end line) line))
 
 abbrev pub fault_of : List ℕ → Bad
 fault_of line = fault_of_body (without_return line)
@@ -85,6 +80,7 @@ bad_number NoCommand = 2
 bad_number NoNumber = 3
 bad_number KeyTooLarge = 4
 bad_number NoEnd = 5
+bad_number BadRoom = 6
 
 abbrev pub has_line_feed : List ℕ → Bool
 has_line_feed t = list_any (nat_eq line_feed) t

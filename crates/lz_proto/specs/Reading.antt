@@ -2,18 +2,21 @@
 use Rattle.std.specs.Prelude.{ℕ, nat_lt, nat_eq, if◌then◌else◌, List, length, drop, codes, Result, Ok, Err}
 use Rattle.std.specs.List.{starts_with}
 use Rattle.std.specs.Cmp.Lexicographic.{pointwise}
-use Rattle.std.specs.Str.Parse.{digits_value}
+use Rattle.lz_slot.specs.Texts as texts
+use Rattle.lz_slot.specs.declared.spelling.KeyFault.{KeyFault}
 use Rattle.lz_proto.specs.declared.request.Request.{Request}
 use Rattle.lz_proto.specs.declared.request.Request.TheVariants.{Add, Remove, Has, Quit}
 use Rattle.lz_proto.specs.declared.fault.Bad.{Bad}
-use Rattle.lz_proto.specs.declared.fault.Bad.TheVariants.{TooLong, NoCommand, NoNumber, KeyTooLarge}
-use Rattle.lz_proto.specs.Lines.{is_number}
+use Rattle.lz_proto.specs.declared.fault.Bad.TheVariants.{TooLong, NoCommand}
+use Rattle.lz_proto.specs.Lines.{bad_of}
 
--- the key that a text names
+abbrev pub key_told : Result ℕ KeyFault → Result ℕ Bad
+key_told (Ok k) = Ok k
+key_told (Err fault) = Err (bad_of fault)
+
+-- the key that a text spells
 abbrev pub key_read : List ℕ → Result ℕ Bad
-key_read text =
-    if is_number text then (if nat_lt 18 (length text) then Err KeyTooLarge else Ok (digits_value 10 text))
-    else Err NoNumber
+key_read text = key_told (texts.key_read text)
 
 abbrev pub with_key : (ℕ → Request) → Result ℕ Bad → Result Request Bad
 with_key command (Ok key) = Ok (command key)

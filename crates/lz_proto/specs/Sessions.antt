@@ -1,14 +1,14 @@
 -- What a session writes.
-use Rattle.std.specs.Prelude.{◌≡◌, ℕ, List, [], ◌∷◌, ◌++◌, ◌⊎◌, take, codes, Option, None, Some, Result, Ok, Err}
+use Rattle.std.specs.Prelude.{◌≡◌, ℕ, List, [], ◌∷◌, ◌++◌, ◌⊎◌, ◌<◌, length, take, codes, Option, None, Some, Result, Ok, Err}
 use Rattle.std.specs.Io.KnownBytes.{Appends, Consumes}
 use Rattle.lz_proto.specs.declared.request.Request.{Request}
 use Rattle.lz_proto.specs.declared.request.Request.TheVariants.{Quit}
 use Rattle.lz_proto.specs.declared.fault.Bad.{Bad}
-use Rattle.lz_proto.specs.declared.fault.Bad.TheVariants.{TooLong, NoCommand, NoNumber, KeyTooLarge, NoEnd}
+use Rattle.lz_proto.specs.declared.fault.Bad.TheVariants.{TooLong, NoCommand, NoNumber, KeyTooLarge, NoEnd, BadRoom}
 use Rattle.lz_proto.specs.declared.item.Item.{Item}
 use Rattle.lz_proto.specs.declared.item.Item.TheVariants.{Asks, Faulty}
 use Rattle.lz_proto.specs.declared.reply.Reply.{Reply}
-use Rattle.lz_proto.specs.declared.reply.Reply.TheVariants.{Yes, No, Full, Halted, Worn}
+use Rattle.lz_proto.specs.declared.reply.Reply.TheVariants.{Yes, No, Full, Halted, Worn, OldFile}
 use Rattle.lz_proto.specs.declared.fault.SessionFault.{SessionFault}
 use Rattle.lz_proto.specs.declared.fault.SessionFault.TheVariants.{Read, Write, Memory}
 use Rattle.lz_proto.specs.declared.end.End.{End}
@@ -22,6 +22,7 @@ reply_text No = codes "no\n"
 reply_text Full = codes "full\n"
 reply_text Halted = codes "halted\n"
 reply_text Worn = codes "worn\n"
+reply_text OldFile = codes "oldfile\n"
 
 abbrev pub bad_text : Bad → List ℕ
 bad_text TooLong = codes "bad 1\n"
@@ -29,6 +30,7 @@ bad_text NoCommand = codes "bad 2\n"
 bad_text NoNumber = codes "bad 3\n"
 bad_text KeyTooLarge = codes "bad 4\n"
 bad_text NoEnd = codes "bad 5\n"
+bad_text BadRoom = codes "bad 6\n"
 
 -- The texts of faults and replies in the order of the items, up to `quit`, the end or the first `halted`.
 abbrev pub session_text : List Item → List Reply → List ℕ
@@ -74,6 +76,7 @@ pub record Answered {S : Type 0} (answers : S → Request → Reply → S → Ty
   pub ends : end_of items replies ≡ ended
 
 -- A write failed at one of the items: those before it were answered whole, its own request was asked, and none after it.
+-- What was sent of its own text is not all.
 pub record CutOff {S : Type 0} (answers : S → Request → Reply → S → Type 0) (old : S) (items : List Item) (new : S) (written : List ℕ) : Type 0 where
   pub done : List Item
   pub item : Item
@@ -85,6 +88,7 @@ pub record CutOff {S : Type 0} (answers : S → Request → Reply → S → Type
   pub reply : List Reply
   pub served : Serves answers mid (item ∷ []) reply new
   pub sent : ℕ
+  pub part : sent < length (session_text (item ∷ []) reply)
   pub text : written ≡ before ++ take sent (session_text (item ∷ []) reply)
 
 -- the text is what the reader has left, where it tells

@@ -1,5 +1,5 @@
 -- What the steps of a session do.
-use Rattle.std.specs.Prelude.{◌≡◌, ℕ, List, [], take, Option, Result, Ok, Err}
+use Rattle.std.specs.Prelude.{◌≡◌, ℕ, ◌<◌, List, [], length, take, Option, Result, Ok, Err}
 use Rattle.std.specs.Io.KnownBytes.{Appends}
 use Rattle.lz_proto.specs.declared.request.Request.{Request}
 use Rattle.lz_proto.specs.declared.fault.Bad.{Bad}
@@ -18,11 +18,11 @@ abbrev pub end_after : Reply → End
 end_after Halted = ends.Halted
 end_after reply = ends.Done
 
--- a text was sent whole, or a part of it and then a write failed
+-- a text was sent whole, or a part of it that isn't all, and then a write failed
 abbrev pub SendTells : Option (List ℕ) → Option (List ℕ) → List ℕ → Result (Unit {0}) SessionFault → Type 0
 SendTells old new text (Ok done) = Appends old new text
 SendTells old new text (Err Read) = ⊥
-SendTells old new text (Err Write) = (sent : ℕ) × Appends old new (take sent text)
+SendTells old new text (Err Write) = (sent : ℕ) × (sent < length text) × Appends old new (take sent text)
 SendTells old new text (Err Memory) = ⊥
 
 -- what was written for a fault, as the result tells

@@ -70,7 +70,10 @@ fn send<W: Write>(writer: &mut W, text: &[u8]) -> Result<(), SessionFault>
             }
         }
     }
-    Err(SessionFault::Write)
+    if !rest.is_empty() {
+        return Err(SessionFault::Write);
+    }
+    Ok(())
 }
 
 // Reads what there is, up to the buffer's length. It reads again where a signal interrupted it.

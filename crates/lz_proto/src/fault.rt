@@ -12,10 +12,12 @@ pub enum Bad {
     NoCommand,
     /// What follows is no number: no bytes, another byte than a digit, or a zero in front.
     NoNumber,
-    /// The number has more than `MOST_DIGITS` digits.
+    /// The number is above `lz_slot::MAX_NUMBER`.
     KeyTooLarge,
     /// The input ended before the line did.
     NoEnd,
+    /// What follows has a `:`, and what stands before it is no room. This is tested before the number.
+    BadRoom,
 }
 
 impl Bad {
@@ -29,6 +31,7 @@ impl Bad {
             Bad::NoNumber => 3,
             Bad::KeyTooLarge => 4,
             Bad::NoEnd => 5,
+            Bad::BadRoom => 6,
         }
     }
 }

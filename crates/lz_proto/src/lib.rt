@@ -20,7 +20,7 @@ pub use conversation::session;
 pub use end::End;
 pub use fault::{Bad, SessionFault};
 pub use item::Item;
-pub use line::{LONGEST_LINE, MOST_DIGITS, parse, read_key};
+pub use line::{LONGEST_LINE, parse};
 pub use lines::{Lines, MOST_KEPT};
 pub use reply::{Reply, bad_text, reply_text};
 pub use request::Request;

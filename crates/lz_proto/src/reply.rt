@@ -15,6 +15,8 @@ pub enum Reply {
     Halted,
     /// The caller's counter has run out.
     Worn,
+    /// The file's format has no room for the key.
+    OldFile,
 }
 
 /// The line that tells a reply.
@@ -27,6 +29,7 @@ pub fn reply_text(reply: Reply) -> &'static str
         Reply::Full => "full\n",
         Reply::Halted => "halted\n",
         Reply::Worn => "worn\n",
+        Reply::OldFile => "oldfile\n",
     }
 }
 
@@ -40,5 +43,6 @@ pub fn bad_text(bad: Bad) -> &'static str
         Bad::NoNumber => "bad 3\n",
         Bad::KeyTooLarge => "bad 4\n",
         Bad::NoEnd => "bad 5\n",
+        Bad::BadRoom => "bad 6\n",
     }
 }

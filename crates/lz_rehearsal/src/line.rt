@@ -137,7 +137,7 @@ fn read_number(text: &[u8], most: u64) -> Option<u64>
     let Ok(key) = read_key(text) else {
         return None;
     };
-    let number = key.get();
+    let number = key.rank();
     if number < 1 || number > most {
         return None;
     }

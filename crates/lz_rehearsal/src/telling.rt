@@ -44,7 +44,7 @@ fn write_call<W: Write + Drop>(
 {
     let named = command;
     let word = word_of(command);
-    let key = key_of(named).get();
+    let key = key_of(named).rank();
     writeln!(writer, "call {number} {actor} {word} {key}")
 }
 
@@ -118,7 +118,7 @@ fn write_keys<W: Write + Drop>(writer: &mut W, keys: &[Key]) -> io::Result<()>
 fn write_key<W: Write + Drop>(writer: &mut W, key: Key) -> io::Result<()>
     ensures { OnOk result (Appends (W.contents writer.old) (W.contents writer.new) (keys_text (key ∷ []))) }
 {
-    let number = key.get();
+    let number = key.rank();
     write!(writer, " {number}")
 }
 

@@ -1,5 +1,5 @@
 -- What the calls of the vault ask for, and what they make of an event.
-use Rattle.std.proofs.Common.{◌≡◌, ◌⊎◌, inl, inr, ℕ, ◌+◌, ◌*◌, ◌<◌, ◌≤◌, Bool, true, false, not, ◌&&◌, ◌==◌, List, length, refl, sym, ap, ◌∙◌, subst, arith}
+use Rattle.std.proofs.Common.{◌≡◌, ◌≢◌, ◌⊎◌, inl, inr, ℕ, ◌+◌, ◌*◌, ◌<◌, ◌≤◌, Bool, true, false, not, ◌&&◌, ◌==◌, List, length, refl, sym, ap, ◌∙◌, subst, arith}
 use Rattle.std.specs.Prelude.{Option, Some, Result, Ok, Err, if◌then◌else◌, slice_get, slice_set, map, unwrap_or}
 use Rattle.std.proofs.lemmas.Option.{same_Some, slice_get-get_or}
 use mathlib.Core.Bool.{false≢true}
@@ -76,7 +76,7 @@ module _ (y : Yard) (s : ℕ) (low : s < length y.vault.cells) where
 
 -- a call of a vault that makes it
 called_fails : (call : DeviceCall) (cells : List Cell) (old new : Vaulted) (before after : Device) (why : VaultFault) → (IsSpent call old → ⊥)
-    → Called call cells old new before after (Err why) → (new ≡ record { cells = cells_failed call old.cells cells; syncs = old.syncs; dead = true }) × Fails call before after
+    → Called call cells old new before after (Err why) → (new ≡ record old { cells = cells_failed call old.cells cells; dead = true }) × Fails call before after
 called_fails call cells old new before after fault.Device alive called = (called.1, called.2)
 called_fails call cells old new before after fault.Dead alive called = absurd (alive called.0)
 
@@ -90,20 +90,21 @@ spent_dies cells old new before after (Err fault.Dead) spent called = (called.1,
 module _ (y : Yard) (a : ℕ) (e : Event) (call : DeviceCall) (cells : List Cell) (new : Vaulted) (before after : Device)
     (call_is : call_of y (actor_at y a) e ≡ call) (cells_is : cells_after y (actor_at y a) e ≡ cells) where
   -- its device call failed
-  pub does_fail : (why : VaultFault) → (IsSpent call y.vault → ⊥) → Called call cells y.vault new before after (Err why) → Does y a e (Err why) (with_vault y new) before after
-  does_fail why alive called =
+  pub does_fail : (why : VaultFault) → (IsSpent call y.vault → ⊥) → call ≢ NoCall → Called call cells y.vault new before after (Err why) → Does y a e (Err why) (with_vault y new) before after
+  does_fail why alive asked called =
       let fails = called_fails call cells y.vault new before after why alive called in (
-        ap (with_vault y) (fails.0 ∙ ap (λ (q : List Cell). record { cells = q; syncs = y.vault.syncs; dead = true }) (sym (ap (λ (c : DeviceCall). cells_failed c y.vault.cells (cells_after y (actor_at y a) e)) call_is ∙ ap (cells_failed call y.vault.cells) cells_is))),
+        ap (with_vault y) (fails.0 ∙ ap (λ (q : List Cell). record y.vault { cells = q; dead = true }) (sym (ap (λ (c : DeviceCall). cells_failed c y.vault.cells (cells_after y (actor_at y a) e)) call_is ∙ ap (cells_failed call y.vault.cells) cells_is))),
         subst (λ (c : DeviceCall). Fails c before after) (sym call_is) fails.1,
+        λ none. asked (sym call_is ∙ none),
       )
 
   -- it was done
   pub does_call : (done : Unit {0}) → y.vault.dead ≡ false → Called call cells y.vault new before after (Ok done)
       → (new ≡ vault_after y (actor_at y a) e) × Succeeds (call_of y (actor_at y a) e) before after
   does_call done alive called = (
-    called.1 ∙ sym (ap (λ (q : List Cell). record { cells = q; syncs = syncs_after (call_of y (actor_at y a) e) y.vault.syncs; dead = y.vault.dead }) cells_is
-        ∙ ap (λ (c : DeviceCall). record { cells = cells; syncs = syncs_after c y.vault.syncs; dead = y.vault.dead }) call_is
-        ∙ ap (λ (d : Bool). record { cells = cells; syncs = syncs_after call y.vault.syncs; dead = d }) alive),
+    called.1 ∙ sym (ap (λ (q : List Cell). record y.vault { cells = q; syncs = syncs_after (call_of y (actor_at y a) e) y.vault.syncs }) cells_is
+        ∙ ap (λ (c : DeviceCall). record y.vault { cells = cells; syncs = syncs_after c y.vault.syncs }) call_is
+        ∙ ap (λ (d : Bool). record y.vault { cells = cells; syncs = syncs_after call y.vault.syncs; dead = d }) alive),
     subst (λ (c : DeviceCall). Succeeds c before after) (sym call_is) called.2,
   )
 
@@ -136,4 +137,4 @@ pub sync_fails : (y : Yard) (a s : ℕ) (new : Vaulted) (before after : Device) 
 sync_fails y a s new before after why known most loose called =
     does_fail y a (Sync s) SyncAll (map cell_synced y.vault.cells) new before after
     (ap (λ (b : Bool). if b then NoCall else SyncAll) loose) (ap (λ (b : Bool). if b then y.vault.cells else map cell_synced y.vault.cells) loose)
-    why (sync_made y a s known most loose) called
+    why (sync_made y a s known most loose) (λ none. cc) called

@@ -15,13 +15,13 @@ use Rattle.lz_list.specs.declared.place.Place.TheVariants.{Bucket, Node}
 use Rattle.lz_list.specs.declared.word.Word.{Word}
 use Rattle.lz_list.specs.declared.word.Word.TheVariants.{Head, Link as link_at, Key as key_at, Pin as pin_at, Halt as halt_word}
 use Rattle.lz_list.specs.Words.{Words, set, redirect, change_flags}
-use Rattle.lz_list.specs.Lists.{IsCurr}
+use Rattle.lz_list.specs.Lists.{IsCurr, IsWord}
 use Rattle.lz_list.specs.Locks.{is_pair_free}
 use Rattle.lz_flush.specs.Settling.{settle}
 use Rattle.lz_machine.specs.declared.event.Event.{Event}
 use Rattle.lz_machine.specs.declared.event.Event.TheVariants.{Invoke, Pin, Hop, Reserve, WriteKey, Claim, Check, WriteOpen, Link, WriteClose, Mark, Release, Sync, Settle, Unlink, Retire, SeePin, Answer, Halt}
 use Rattle.lz_machine.specs.declared.event.Outcome.{Outcome}
-use Rattle.lz_machine.specs.declared.event.Outcome.TheVariants.{Done, Value, Slot, NoSlot, Taken as WasTaken, Busy, True, False, Early, Worn, NotNow, Fault, Dead}
+use Rattle.lz_machine.specs.declared.event.Outcome.TheVariants.{Done, Value, Slot, NoSlot, Taken as WasTaken, Busy, True, False, Early, Worn, OldFile, NotNow, Fault, Dead}
 use Rattle.lz_machine.specs.declared.course.Course.{Course}
 use Rattle.lz_machine.specs.declared.course.Course.TheVariants.{Refused, Dies, Plays}
 use Rattle.lz_machine.specs.declared.actor.Hold.{Hold}
@@ -30,6 +30,7 @@ use Rattle.lz_machine.specs.declared.actor.Actor.{Actor}
 use Rattle.lz_machine.specs.Yards.{Yard, actor_at, cell_at}
 use Rattle.lz_machine.specs.Table.{course, call_of, cells_after, words_after, uses_after, actors_after, given_back, reserved, kept_slot, is_unused, is_sure, is_spent, line_on, line_failed, with_hold, with_slot, yard_done}
 use Rattle.lz_yard.specs.Steps.{Played}
+use Rattle.lz_yard.specs.declared.told.Told.{Told}
 use Rattle.lz_machine.specs.Ready.{IsEventOf}
 use Rattle.lz_machine.specs.Runs.{with_words}
 use Rattle.lz_yard.specs.Parts.{Fits, HasInRange}
@@ -168,11 +169,12 @@ module _ (y : Yard) (known : ℕ) (fits : Fits y known) (a : ℕ) (low : 1 ≤ a
   curr_range (Some s) is = omega (arith, is, fits.links)
 
   claimed : (b : Bool) (pred : Place) (curr : Option ℕ) → IsCurr y.words curr
-      → IsKept (if b then set_of_pass y.actors a (record { slot = mine.slot; hold = Locks; pred = pred; curr = curr }) else y.actors)
-  claimed true pred curr is = has (record { slot = mine.slot; hold = Locks; pred = pred; curr = curr }) (record { slot = in_range.slot; curr = curr_range curr is })
+      → IsKept (if b then set_of_pass y.actors a (record mine { hold = Locks; pred = pred; curr = curr }) else y.actors)
+  claimed true pred curr is = has (record mine { hold = Locks; pred = pred; curr = curr }) (record { slot = in_range.slot; curr = curr_range curr is })
   claimed false pred curr is = unchanged
 
   actors_kept : (e : Event) → IsEventOf y e → IsKept (actors_after y mine a e)
+  actors_kept (Invoke c) is = has _ (record { slot = in_range.slot; curr = in_range.curr })
   actors_kept Reserve is = has (with_slot mine (lowest_free (collect y.uses))) (record { slot = found_range (lowest_free (collect y.uses)) refl; curr = in_range.curr })
   actors_kept (Claim pred curr) is = claimed (is_pair_free y.locks pred curr) pred curr is.1
   actors_kept Check is = holds _
@@ -243,41 +245,74 @@ fault_or_not True = inr (λ h. cc)
 fault_or_not False = inr (λ h. cc)
 fault_or_not Early = inr (λ h. cc)
 fault_or_not Worn = inr (λ h. cc)
+fault_or_not OldFile = inr (λ h. cc)
 fault_or_not NotNow = inr (λ h. cc)
 fault_or_not Fault = inl refl
 fault_or_not Dead = inr (λ h. cc)
 
--- the parts fit after a step
-pub played_fits : (y : Yard) (known : ℕ) (a : ℕ) (e : Event) (outcome : Outcome) (new : Yard) (rows : ℕ) (changed : Option Word) (before after : Device)
-    → Fits y known → (1 ≤ a) × (a ≤ y.shape.passes) → IsEventOf y e → Played y a e outcome new changed before after → rows ≡ known → Fits new rows
-played_fits y known a e outcome new rows changed before after fits actor is played same =
+-- a word of a table is one of another of the same sizes
+word_there : (old new : Words) → SameSizes old new → (word : Word) → IsWord old word → IsWord new word
+word_there old new same (Head b) is = omega (arith, is, same.heads)
+word_there old new same (link_at s) is = omega (arith, is, same.links)
+word_there old new same (key_at s) is = omega (arith, is, same.keys)
+word_there old new same (pin_at p) is = (is.0, omega (arith, is.1, same.pins))
+word_there old new same halt_word is = tt
+
+some_there : (old new : Words) → SameSizes old new → (word : Option Word) → IfSome word (IsWord old) → IfSome word (IsWord new)
+some_there old new same None is = tt
+some_there old new same (Some word) is = word_there old new same word is
+
+line_sizes : (c : Course) (y : Yard) (actor : Actor) (a : ℕ) (e : Event) → SameSizes y.words (line_on c y actor a e).0.words
+line_sizes (Refused outcome) y actor a e = same_sizes y.words
+line_sizes Dies y actor a e = same_sizes y.words
+line_sizes Plays y actor a e = words_sizes y actor a e
+
+-- What holds of a yard and of what its last step told: the parts fit, and the word is one of the yard's.
+abbrev pub Stands : Yard → ℕ → Told → Type 0
+Stands y known told = Fits y known × IfSome told.changed (IsWord y.words)
+
+-- it holds after a step
+pub played_fits : (y : Yard) (known : ℕ) (a : ℕ) (e : Event) (outcome : Outcome) (new : Yard) (rows : ℕ) (told : Told) (before after : Device)
+    → Fits y known → (1 ≤ a) × (a ≤ y.shape.passes) → IsEventOf y e → Played y a e outcome new told before after → rows ≡ known → Stands new rows told
+played_fits y known a e outcome new rows told before after fits actor is played same =
     let high : a ≤ length y.actors = omega (arith, actor.1, fits.actors) in
-    subst (λ (n : ℕ). Fits new n) (sym same) (elim (fault_or_not outcome) [
-      | inl fault ↦ subst (λ (q : Yard). Fits q known) (sym (played.failed fault).yard) (failed_fits y known fits a actor.0 high e)
-      | inr other ↦ subst (λ (q : Yard). Fits q known) (sym (played.done other).yard) (line_fits y known fits a actor.0 high (course y a e) e is refl)
+    subst (λ (n : ℕ). Stands new n told) (sym same) (elim (fault_or_not outcome) [
+      | inl fault ↦ (
+        subst (λ (q : Yard). Fits q known) (sym (played.failed fault).yard) (failed_fits y known fits a actor.0 high e),
+        subst (λ (t : Told). IfSome t.changed (IsWord new.words)) (sym (played.failed fault).nothing) tt,
+      )
+      | inr other ↦ (
+        subst (λ (q : Yard). Fits q known) (sym (played.done other).yard) (line_fits y known fits a actor.0 high (course y a e) e is refl),
+        subst (λ (q : Yard). IfSome told.changed (IsWord q.words)) (sym (played.done other).yard)
+            (some_there y.words (line_on (course y a e) y (actor_at y a) a e).0.words (line_sizes (course y a e) y (actor_at y a) a e) told.changed (played.done other).there),
+      )
     ])
 
 -- the shape stays
-pub played_shape : (y : Yard) (a : ℕ) (e : Event) (outcome : Outcome) (new : Yard) (changed : Option Word) (before after : Device)
-    → Played y a e outcome new changed before after → new.shape ≡ y.shape
-played_shape y a e outcome new changed before after played = elim (fault_or_not outcome) [
+pub played_shape : (y : Yard) (a : ℕ) (e : Event) (outcome : Outcome) (new : Yard) (told : Told) (before after : Device)
+    → Played y a e outcome new told before after → new.shape ≡ y.shape
+played_shape y a e outcome new told before after played = elim (fault_or_not outcome) [
   | inl fault ↦ ap (λ (q : Yard). q.shape) (played.failed fault).yard
   | inr other ↦ ap (λ (q : Yard). q.shape) (played.done other).yard ∙ line_keeps_shape (course y a e) y (actor_at y a) a e
 ]
 
--- the parts fit after a word was set
-pub set_fits : (y : Yard) (known : ℕ) (word : Word) (x : ℕ) (new : Yard) (rows : ℕ) → Fits y known → new ≡ with_words y (set y.words word x) → rows ≡ known → Fits new rows
-set_fits y known word x new rows fits is same =
+-- it holds after a word was set
+pub set_fits : (y : Yard) (known : ℕ) (word : Word) (x : ℕ) (new : Yard) (rows : ℕ) (old told : Told)
+    → Stands y known old → new ≡ with_words y (set y.words word x) → rows ≡ known → told ≡ old → Stands new rows told
+set_fits y known word x new rows old told (fits, there) is same as_told =
     let words = set_sizes y.words word x in
-    subst (λ (n : ℕ). Fits new n) (sym same) (subst (λ (q : Yard). Fits q known) (sym is) (record {
-      cells = fits.cells;
-      heads = words.heads ∙ fits.heads;
-      links = words.links ∙ fits.links;
-      keys = words.keys ∙ fits.keys;
-      pins = words.pins ∙ fits.pins;
-      uses = fits.uses;
-      rows = fits.rows;
-      actors = fits.actors;
-      syncs = fits.syncs;
-      hands = fits.hands;
-    }))
+    subst (λ (t : Told). Stands new rows t) (sym as_told) (subst (λ (n : ℕ). Stands new n old) (sym same) (subst (λ (q : Yard). Stands q known old) (sym is) (
+      record {
+        cells = fits.cells;
+        heads = words.heads ∙ fits.heads;
+        links = words.links ∙ fits.links;
+        keys = words.keys ∙ fits.keys;
+        pins = words.pins ∙ fits.pins;
+        uses = fits.uses;
+        rows = fits.rows;
+        actors = fits.actors;
+        syncs = fits.syncs;
+        hands = fits.hands;
+      },
+      some_there y.words (set y.words word x) words old.changed there,
+    )))

@@ -8,3 +8,4 @@ pub mod Opened
 pub mod Fitting
 pub mod Called
 pub mod Keeping
+pub mod Onward

@@ -10,9 +10,11 @@ use Rattle.std.proofs.lemmas.Bool.{cases_eq, cases_Bool}
 use Rattle.std.proofs.lemmas.Bool.Decides.{nat_tests}
 use Rattle.lz_slot.specs.declared.slot.SlotRead.{SlotRead}
 use Rattle.lz_slot.specs.declared.slot.SlotRead.TheVariants.{Closed as Closed_read, Member as Member_read, BadKey as BadKey_read}
-use Rattle.lz_slot.specs.Limits.{largest_key, most_slots}
+use Rattle.lz_slot.specs.Limits.{most_slots}
+use Rattle.lz_slot.specs.Rooms.{largest_of}
+use Rattle.lz_slot.specs.declared.format.Format.{Format}
 use Rattle.lz_slot.specs.Sets.{members}
-use Rattle.lz_slot.specs.Bytes.{Holds, open_byte, header_body, slot_at, held, held_key}
+use Rattle.lz_slot.specs.Bytes.{Holds, format_of, open_byte, header_body, slot_at, held, held_key}
 use Rattle.lz_disk.specs.Images.{AreBytes}
 use Rattle.lz_vault.specs.declared.vault.Stage.TheVariants.{Closed, Open}
 use Rattle.lz_vault.specs.Stages.{Cell, AreSteady}
@@ -33,7 +35,7 @@ use Rattle.lz_machine.specs.declared.actor.Actor.{Actor}
 use Rattle.lz_machine.specs.Yards.{Yard, Shape, no_cell, cell_read, use_read, slots_read, opened_yard}
 use Rattle.lz_yard.specs.Filling.{member_in, member_at, has_node, AreDistinct, AreTables, HasNoTables}
 use Rattle.lz_machine.specs.Runs.{IsStart, by_key, keys_found}
-use Rattle.lz_machine.proofs.Open.Texts.{text_of, text_size, text_head, text_says, text_bytes}
+use Rattle.lz_machine.proofs.Open.Texts.{text_of, text_size, text_head, text_format, text_says, text_bytes}
 use Rattle.lz_machine.proofs.Open.FirstNodes.{has_node as node_in, node_has_key, node_held, held_found, key_held}
 use Rattle.lz_yard.proofs.Members.{node_cases, node_slot, slot_node, are_found, are_distinct}
 use Rattle.lz_yard.proofs.Arranged.{Within, same_words_after}
@@ -103,7 +105,7 @@ module _ (t : List ℕ) where
           member_says (slot_at t n) k (ap member_in (sym same) ∙ is)
 
   module _ (vault : Vaulted) (B S : ℕ) (list : Listed) (allot : Allotted) (actors : List Actor) (are : AreTables vault.cells B S list allot actors)
-      (fresh : (vault.syncs ≡ 0) × (vault.dead ≡ false)) (each : (i : ℕ) (cell : Cell) → slice_get vault.cells i ≡ Some cell → IsCellOf (slot_at t i) cell) (blank : AreBlank vault.cells) where
+      (fresh : (vault.syncs ≡ 0) × (vault.dead ≡ false)) (named : vault.format ≡ format_of t) (each : (i : ℕ) (cell : Cell) → slice_get vault.cells i ≡ Some cell → IsCellOf (slot_at t i) cell) (blank : AreBlank vault.cells) where
     abbrev cells : List Cell
     cells = vault.cells
 
@@ -152,11 +154,12 @@ module _ (t : List ℕ) where
         ∙ ap (λ (n : ℕ). record { heads = replicate n 0; nodes = replicate (length (words_after N B S (opening B es)).links) 0 }) (length-table B (λ b. word_after B (opening B es) (Head b)))
         ∙ ap (λ (n : ℕ). record { heads = replicate B 0; nodes = replicate n 0 }) (length-table N (λ s. word_after B (opening B es) (Link s)))
 
-    vault_is : vault ≡ record { cells = map cell_read (slots_read t N); syncs = 0; dead = false }
+    vault_is : vault ≡ record { format = format_of t; cells = map cell_read (slots_read t N); syncs = 0; dead = false }
     vault_is =
-        ap (λ (c : List Cell). record { cells = c; syncs = vault.syncs; dead = vault.dead }) cells_are
-        ∙ ap (λ (n : ℕ). record { cells = map cell_read (slots_read t N); syncs = n; dead = vault.dead }) fresh.0
-        ∙ ap (λ (d : Bool). record { cells = map cell_read (slots_read t N); syncs = 0; dead = d }) fresh.1
+        ap (λ (F : Format). record vault { format = F }) named
+        ∙ ap (λ (c : List Cell). record vault { format = format_of t; cells = c }) cells_are
+        ∙ ap (λ (n : ℕ). record { format = format_of t; cells = map cell_read (slots_read t N); syncs = n; dead = vault.dead }) fresh.0
+        ∙ ap (λ (d : Bool). record { format = format_of t; cells = map cell_read (slots_read t N); syncs = 0; dead = d }) fresh.1
 
     use_same : (i : ℕ) → i < N → (b : Bool) → has_slot i es ≡ b → (r : SlotRead) → slot_at t i ≡ r → (if b then Taken else Free) ≡ use_read r
     use_same i low true has r is =
@@ -215,7 +218,7 @@ refused_for before after memory fault opens none = record {
     apart h = absurd cc
 
 -- a text that says what distinct cells do holds the set that is listed of it
-pub holds_listed : (t : List ℕ) (N : ℕ) → 1 ≤ N → N ≤ most_slots → length t ≡ 16 + 16 * N → take 16 t ≡ open_byte ∷ header_body N
+pub holds_listed : (t : List ℕ) (N : ℕ) → 1 ≤ N → N ≤ most_slots → length t ≡ 16 + 16 * N → take 16 t ≡ open_byte ∷ header_body (format_of t) N
     → ((i : ℕ) → i < N → slot_at t i ≢ BadKey_read) → ((i j k : ℕ) → i < N → j < N → slot_at t i ≡ Member_read k → slot_at t j ≡ Member_read k → i ≡ j)
     → Holds t N (members (keys_found t N))
 holds_listed t N low high size head fine once = record {
@@ -236,16 +239,16 @@ module _ (vault : Vaulted) (B S : ℕ) (list : Listed) (allot : Allotted) (actor
   abbrev Begins : List ℕ → Type 0
   Begins t = IsStart (record { shape = record { slots = slots; buckets = B; passes = S }; text = t }) × (opened vault B S slots list allot actors are slots_is ≡ opened_yard (record { slots = slots; buckets = B; passes = S }) t)
 
-  begins : (t : List ℕ) → AreBytes t → length t ≡ 16 + 16 * length vault.cells → take 16 t ≡ open_byte ∷ header_body (length vault.cells)
+  begins : (t : List ℕ) → AreBytes t → vault.format ≡ format_of t → length t ≡ 16 + 16 * length vault.cells → take 16 t ≡ open_byte ∷ header_body (format_of t) (length vault.cells)
       → ((i : ℕ) (cell : Cell) → slice_get vault.cells i ≡ Some cell → IsCellOf (slot_at t i) cell) → Begins t
-  begins t bytes size head each = (
+  begins t bytes named size head each = (
     record {
       buckets = some;
       passes = passes;
       bytes = bytes;
-      text = subst (λ (n : ℕ). Holds t n (members (keys_found t n))) (sym slots_is) (holds_listed t (length vault.cells) count.0 count.1 size head fine (no_key_twice t vault B S list allot actors are fresh each blank));
+      text = subst (λ (n : ℕ). Holds t n (members (keys_found t n))) (sym slots_is) (holds_listed t (length vault.cells) count.0 count.1 size head fine (no_key_twice t vault B S list allot actors are fresh named each blank));
     },
-    yard_is t vault B S list allot actors are fresh each blank slots slots_is,
+    yard_is t vault B S list allot actors are fresh named each blank slots slots_is,
   )
     where
       bad_cell : (cell : Cell) (r : SlotRead) → r ≡ BadKey_read → IsCellOf r cell → ⊥
@@ -256,16 +259,19 @@ module _ (vault : Vaulted) (B S : ℕ) (list : Listed) (allot : Allotted) (actor
           let mine : Cell = slice_index_or vault.cells i no_cell in
           bad_cell mine (slot_at t i) bad (each i mine (slice_get-get_or vault.cells i no_cell low))
 
-  module _ (before : Device) (keys : (i : ℕ) (cell : Cell) → slice_get vault.cells i ≡ Some cell → cell.key ≤ largest_key) (steady : AreSteady vault.cells)
-      (found : IsTrue before.honest → AreFound before.medium.seen vault.cells) (bytes : IsTrue before.honest → AreBytes before.medium.seen) where
+  module _ (before : Device) (keys : (i : ℕ) (cell : Cell) → slice_get vault.cells i ≡ Some cell → cell.key ≤ largest_of vault.format) (steady : AreSteady vault.cells)
+      (found : IsTrue before.honest → AreFound before.medium.seen vault.cells) (format : IsTrue before.honest → vault.format ≡ format_of before.medium.seen) (bytes : IsTrue before.honest → AreBytes before.medium.seen) where
     pub first_yard : (t : List ℕ) × (IsTrue before.honest → t ≡ before.medium.seen) × IsStart (record { shape = record { slots = slots; buckets = B; passes = S }; text = t })
         × (opened vault B S slots list allot actors are slots_is ≡ opened_yard (record { slots = slots; buckets = B; passes = S }) t)
     first_yard = elim (cases_Bool before.honest) [
       | inl honest ↦
           let told = found honest in
-          let is = begins before.medium.seen (bytes honest) told.held.size told.held.head told.each in
+          let is = begins before.medium.seen (bytes honest) (format honest) told.held.size told.held.head told.each in
           (before.medium.seen, (λ yes. refl), is.0, is.1)
       | inr other ↦
-          let is = begins (text_of vault.cells) (text_bytes vault.cells) (text_size vault.cells) (text_head vault.cells) (text_says vault.cells keys steady) in
-          (text_of vault.cells, (λ yes. absurd (false≢true (sym other ∙ yes))), is.0, is.1)
+          let names = text_format vault.format vault.cells in
+          let is = begins (text_of vault.format vault.cells) (text_bytes vault.format vault.cells keys) (sym names) (text_size vault.format vault.cells)
+          (text_head vault.format vault.cells ∙ ap (λ (F : Format). open_byte ∷ header_body F (length vault.cells)) (sym names)) (text_says vault.format vault.cells keys steady)
+          in
+          (text_of vault.format vault.cells, (λ yes. absurd (false≢true (sym other ∙ yes))), is.0, is.1)
     ]

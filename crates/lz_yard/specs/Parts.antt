@@ -1,10 +1,10 @@
 -- The yard as contracts see it, and what an event that is played does to its parts.
-use Rattle.std.specs.Prelude.{◌≡◌, ℕ, ◌<◌, ◌≤◌, true, false, not, ◌&&◌, List, length, slice_get, Option, Some, IfSome, Result, Ok, Err}
+use Rattle.std.specs.Prelude.{◌≡◌, ◌≢◌, ℕ, ◌<◌, ◌≤◌, true, false, not, ◌&&◌, List, length, slice_get, Option, Some, IfSome, Result, Ok, Err}
 use Rattle.lz_disk.specs.Devices.{Device}
-use Rattle.lz_vault.specs.Vaults.{Succeeds, Fails, last_sync}
+use Rattle.lz_vault.specs.Vaults.{NoCall, Succeeds, Fails, last_sync}
 use Rattle.lz_vault.specs.declared.vault.VaultFault.{VaultFault}
 use Rattle.lz_allot.specs.Uses.{Use}
-use Rattle.lz_list.specs.declared.word.Word.{Word}
+use Rattle.lz_yard.specs.declared.told.Told.{Told}
 use Rattle.lz_machine.specs.declared.event.Event.{Event}
 use Rattle.lz_machine.specs.declared.event.Outcome.{Outcome}
 use Rattle.lz_machine.specs.declared.course.Course.{Course}
@@ -13,17 +13,17 @@ use Rattle.lz_machine.specs.declared.actor.Actor.{Actor}
 use Rattle.lz_machine.specs.Yards.{Yard, actor_at}
 use Rattle.lz_machine.specs.Table.{needs, course, is_played_dead, call_of, yard_done, outcome_of, with_vault, vault_failed}
 
--- The yard, the word that the last step changed, and the disk.
+-- The yard, what the last step told, and the disk.
 pub record YardOver (D : Type 0) : Type 0 where
   pub yard : Yard
-  pub changed : Option Word
+  pub told : Told
   pub disk : D
 
 -- The same of its parts, with the number of passes that the slots' uses know.
 pub record PartsOver (D : Type 0) : Type 0 where
   pub yard : Yard
   pub rows : ℕ
-  pub changed : Option Word
+  pub told : Told
   pub disk : D
 
 -- what an actor has in hand are slots of so many
@@ -50,11 +50,11 @@ Known Plays y a e = (course y a e ≡ Plays) × (needs y a e ≡ true) × ((y.va
 Known Dies y a e = y.vault.syncs ≡ last_sync
 Known (Refused outcome) y a e = Unit {0}
 
--- an event that is played: it is done, or its device call failed
+-- an event that is played: it is done, or it has a device call, which failed
 abbrev pub Does : Yard → ℕ → Event → Result Outcome VaultFault → Yard → Device → Device → Type 0
 Does y a e (Ok outcome) new before after =
     (new ≡ yard_done y (actor_at y a) a e) × (outcome ≡ outcome_of y (actor_at y a) e) × Succeeds (call_of y (actor_at y a) e) before after
-Does y a e (Err fault) new before after = (new ≡ with_vault y (vault_failed y (actor_at y a) e)) × Fails (call_of y (actor_at y a) e) before after
+Does y a e (Err fault) new before after = (new ≡ with_vault y (vault_failed y (actor_at y a) e)) × Fails (call_of y (actor_at y a) e) before after × (call_of y (actor_at y a) e ≢ NoCall)
 
 -- the vault, the uses, what the actors have in hand: one of them is another, and the rest stays
 abbrev pub with_uses : Yard → List Use → Yard

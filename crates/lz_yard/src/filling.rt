@@ -20,6 +20,7 @@ const IDLE: Actor = Actor {
     hold: Hold::Nothing,
     pred: Place::Bucket(0),
     curr: None,
+    refused: false,
 };
 
 // The tables that stand beside the vault.
@@ -81,7 +82,7 @@ pub(crate) fn members_of<D: Disk>(
     for index in 0..vault.slots() {
         let slot = Slot::new(index as u16);
         if let Some(key) = key_held(vault, slot) {
-            if let Err(fault) = note_member(&mut members, key.get(), slot) {
+            if let Err(fault) = note_member(&mut members, key.rank(), slot) {
                 return Err(fault);
             }
         }

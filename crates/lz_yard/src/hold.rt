@@ -1,9 +1,11 @@
 //! Small tests, by which the table says what may be done.
 ghost use Rattle.std.specs.Prelude.{◌≡◌};
 ghost use Rattle.lz_vault.specs.Stages.{is_covered};
-ghost use Rattle.lz_machine.specs.Table.{has_checked, has_closed, has_marked, has_opened, has_stage, is_played_dead, is_unused, may_check, may_claim, may_release, may_retire, released};
+ghost use Rattle.lz_machine.specs.Table.{has_checked, has_closed, has_marked, has_opened, has_stage, is_old, is_played_dead, is_unused, may_check, may_claim, may_release, may_retire, released, stays_out};
 
-use lz_machine::{Event, Hold};
+use lz_list::LAST_PIN;
+use lz_machine::{Actor, Event, Hold};
+use lz_slot::{Command, Format};
 use lz_vault::Stage;
 
 pub(crate) fn may_claim(hold: Hold) -> bool
@@ -101,4 +103,21 @@ pub(crate) fn is_played_dead(event: Event) -> bool
         event,
         Event::Invoke(_) | Event::Pin | Event::Hop(_) | Event::Answer | Event::Halt
     )
+}
+
+// A command that adds a key which a file of this format can't hold.
+pub(crate) fn is_old(format: Format, command: Command) -> bool
+    ensures { result ≡ is_old format command }
+{
+    match command {
+        Command::Add(key) => !format.has_room_for(key),
+        Command::Remove(_) | Command::Has(_) => false,
+    }
+}
+
+// An actor that answers without a pin.
+pub(crate) fn stays_out(actor: Actor, pin: u64) -> bool
+    ensures { result ≡ stays_out actor pin }
+{
+    pin == LAST_PIN || (pin % 2 == 0 && actor.refused)
 }

@@ -1,53 +1,18 @@
 //! Holds of the yard: each plays one event.
-ghost use Rattle.std.specs.Prelude.{◌≡◌, ◌≤◌, ◌<◌, length, Some, None, if◌then◌else◌};
+ghost use Rattle.std.specs.Prelude.{◌≡◌, ◌≤◌, length};
 ghost use Rattle.lz_yard.specs.Steps.{Played};
-ghost use Rattle.lz_machine.specs.Table.{course, is_sure, word_changed};
+ghost use Rattle.lz_machine.specs.Table.{course};
 ghost use Rattle.lz_machine.specs.Ready.{IsEventOf, IsReady};
 ghost use Rattle.lz_vault.specs.Vaults.{NoCall, Succeeds};
-ghost use Rattle.lz_machine.specs.Yards.{actor_at};
 ghost use Rattle.lz_yard.specs.Parts.{Does, Fits, Known};
 
 use crate::parts::Parts;
+use crate::told::nothing_told;
 use lz_disk::Disk;
-use lz_list::Word;
 use lz_machine::{Course, Event, Outcome};
-use lz_slot::Slot;
 use lz_vault::VaultFault;
 
 impl<D: Disk> Parts<D> {
-    // The word that a settling writes.
-    fn settle_word(&self, slot: Slot) -> Option<Word>
-        requires { slot < length self.now.yard.vault.cells }
-        ensures { result ≡ (if is_sure self.now.yard slot then Some (Word.Link slot) else None) }
-    {
-        if self.is_sure(slot) {
-            Some(Word::Link(slot))
-        } else {
-            None
-        }
-    }
-
-    // The word that an event changes where it is played.
-    fn word_changed(&self, actor: usize, event: Event) -> Option<Word>
-        requires low { 1 ≤ actor }
-        requires high { actor ≤ length self.now.yard.actors }
-        requires fits { Fits self.now.yard self.now.rows }
-        requires ready { IsReady self.now.yard actor event }
-        requires known { Known Course.Plays self.now.yard actor event }
-        ensures { result ≡ word_changed self.now.yard (actor_at self.now.yard actor) actor event }
-    {
-        match event {
-            Event::Pin | Event::Answer => Some(Word::Pin(actor)),
-            Event::WriteKey(_) => Some(Word::Key(self.slot(actor))),
-            Event::WriteOpen => Some(Word::Link(self.slot(actor))),
-            Event::Link | Event::Unlink => Some(self.pred_word(actor)),
-            Event::Mark => Some(Word::Link(self.node(actor))),
-            Event::Settle(slot) => self.settle_word(slot),
-            Event::Halt => Some(Word::Halt),
-            _ => None,
-        }
-    }
-
     // Plays one event, which may be played.
     fn play(&mut self, actor: usize, event: Event) -> Result<Outcome, VaultFault>
         requires fits { Fits self.old.yard self.old.rows }
@@ -55,7 +20,7 @@ impl<D: Disk> Parts<D> {
         requires known { Known Course.Plays self.old.yard actor event }
         requires quiet { Succeeds NoCall (D.device self.old.disk) (D.device self.old.disk) }
         ensures done { Does self.old.yard actor event result self.new.yard (D.device self.old.disk) (D.device self.new.disk) }
-        ensures rest { (self.new.rows ≡ self.old.rows) × (self.new.changed ≡ self.old.changed) }
+        ensures rest { (self.new.rows ≡ self.old.rows) × (self.new.told ≡ self.old.told) }
     {
         match event {
             Event::Invoke(command) => self.play_invoke(actor, command),
@@ -80,7 +45,7 @@ impl<D: Disk> Parts<D> {
         }
     }
 
-    // Plays one event of an actor: the guard, the event, the path of a device failure, and the word that was changed.
+    // Plays one event of an actor: the guard, the event, the path of a device failure, and what is told.
     #[tactic(auto, using(crate::proofs::Lines::line_rules))]
     pub(crate) fn step(&mut self, actor: usize, event: Event) -> Outcome
         requires low { 1 ≤ actor }
@@ -88,12 +53,12 @@ impl<D: Disk> Parts<D> {
         requires fits { Fits self.old.yard self.old.rows }
         requires event { IsEventOf self.old.yard event }
         requires ready { course self.old.yard actor event ≡ Course.Plays → IsReady self.old.yard actor event }
-        ensures played { Played self.old.yard actor event result self.new.yard self.new.changed (D.device self.old.disk) (D.device self.new.disk) }
+        ensures played { Played self.old.yard actor event result self.new.yard self.new.told (D.device self.old.disk) (D.device self.new.disk) }
         ensures rows { self.new.rows ≡ self.old.rows }
     {
         let asked = event;
         let played = event;
-        self.changed = None;
+        self.told = nothing_told();
         match self.course(actor, asked) {
             Course::Refused(outcome) => outcome,
             Course::Dies => {
@@ -101,10 +66,10 @@ impl<D: Disk> Parts<D> {
                 Outcome::Dead
             }
             Course::Plays => {
-                let word = self.word_changed(actor, event);
+                let told = self.tell(actor, event);
                 match self.play(actor, played) {
                     Ok(outcome) => {
-                        self.changed = word;
+                        self.told = told;
                         outcome
                     }
                     Err(_) => Outcome::Fault,

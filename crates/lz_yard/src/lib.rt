@@ -10,6 +10,8 @@ mod holds;
 mod needs;
 mod parts;
 mod plays;
+mod telling;
+mod told;
 mod yard;
 mod yard_disk;
 

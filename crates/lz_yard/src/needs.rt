@@ -7,7 +7,7 @@ ghost use Rattle.lz_yard.specs.Parts.{Fits, Known};
 
 use crate::hold::{
     has_checked, has_closed, has_marked, has_opened, is_closed, is_keyed, is_played_dead,
-    may_check, may_claim, may_release, may_retire,
+    may_check, may_claim, may_release, may_retire, stays_out,
 };
 use crate::parts::Parts;
 use lz_disk::Disk;
@@ -48,7 +48,7 @@ impl<D: Disk> Parts<D> {
                 None => false,
             },
             Event::Retire => may_retire(hand.hold),
-            Event::Answer => pin % 2 != 0 || pin == LAST_PIN,
+            Event::Answer => pin % 2 != 0 || stays_out(hand, pin),
             Event::Halt => self.is_dead(),
         }
     }
@@ -73,10 +73,11 @@ impl<D: Disk> Parts<D> {
         if !self.needs(actor, tried) {
             return Course::Refused(Outcome::NotNow);
         }
-        let worn = self.word(Word::Pin(actor)) == LAST_PIN;
+        let hand = self.actor(actor);
+        let pin = self.word(Word::Pin(actor));
         match event {
-            Event::Pin if worn => Course::Refused(Outcome::Worn),
-            Event::Answer if worn => Course::Refused(Outcome::Done),
+            Event::Pin if pin == LAST_PIN => Course::Refused(Outcome::Worn),
+            Event::Answer if stays_out(hand, pin) => Course::Refused(Outcome::Done),
             Event::Sync(slot) if !self.is_sure(slot) && self.is_spent() => Course::Dies,
             _ => Course::Plays,
         }

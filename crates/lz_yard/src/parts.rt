@@ -9,6 +9,7 @@ ghost use Rattle.lz_machine.specs.Table.{is_spent, is_sure, set_actor, with_hold
 ghost use Rattle.lz_yard.specs.Parts.{with_actors};
 
 use crate::hold::is_covered;
+use crate::told::Told;
 use lz_allot::Allot;
 use lz_disk::Disk;
 use lz_list::{List, Place, Word, word_of};
@@ -28,7 +29,8 @@ pub(crate) struct Parts<D: Disk> {
     pub(crate) vault: Vault<D>,
     pub(crate) allot: Allot,
     pub(crate) actors: Vec<Actor>,
-    pub(crate) changed: Option<Word>,
+    // What the last step told.
+    pub(crate) told: Told,
 }
 
 impl<D: Disk> Model for Parts<D> {
@@ -47,7 +49,7 @@ impl<D: Disk> Model for Parts<D> {
         actors = p.actors.items;
       };
       rows = length p.allot.rows;
-      changed = p.changed;
+      told = p.told;
       disk = p.vault.disk;
     } };
 }
@@ -93,7 +95,7 @@ impl<D: Disk> Parts<D> {
         requires low { 1 ≤ actor }
         requires high { actor ≤ length self.old.yard.actors }
         ensures yard { self.new.yard ≡ with_actors self.old.yard (set_actor self.old.yard actor (with_hold (actor_at self.old.yard actor) hold)) }
-        ensures rest { (self.new.rows ≡ self.old.rows) × (self.new.changed ≡ self.old.changed) × (self.new.disk ≡ self.old.disk) }
+        ensures rest { (self.new.rows ≡ self.old.rows) × (self.new.told ≡ self.old.told) × (self.new.disk ≡ self.old.disk) }
     {
         let hand = self.actor(actor);
         self.actors[actor - 1] = Actor { hold, ..hand };
@@ -110,7 +112,7 @@ impl<D: Disk> Parts<D> {
     pub(crate) fn set_pin(&mut self, actor: usize, value: u64)
         requires { (1 ≤ actor) × (actor ≤ length self.old.yard.words.pins) }
         ensures yard { self.new.yard ≡ with_words self.old.yard (set self.old.yard.words (Word.Pin actor) value) }
-        ensures rest { (self.new.rows ≡ self.old.rows) × (self.new.changed ≡ self.old.changed) × (self.new.disk ≡ self.old.disk) }
+        ensures rest { (self.new.rows ≡ self.old.rows) × (self.new.told ≡ self.old.told) × (self.new.disk ≡ self.old.disk) }
     {
         self.list.set(Word::Pin(actor), value);
     }

@@ -10,7 +10,7 @@ ghost use Rattle.lz_machine.specs.Table.{given_back, is_unused, kept_slot, set_a
 ghost use Rattle.lz_machine.specs.Ready.{IsReady};
 ghost use Rattle.lz_yard.specs.Parts.{Does, Fits, Known, with_actors, with_uses};
 
-use crate::hold::{is_unused, released};
+use crate::hold::{is_old, is_unused, released};
 use crate::parts::Parts;
 use lz_disk::Disk;
 use lz_flush::settle;
@@ -25,7 +25,7 @@ impl<D: Disk> Parts<D> {
         requires low { 1 ≤ actor }
         requires high { actor ≤ length self.old.yard.actors }
         ensures yard { self.new.yard ≡ with_actors self.old.yard (set_actor self.old.yard actor (with_slot (actor_at self.old.yard actor) slot)) }
-        ensures rest { (self.new.rows ≡ self.old.rows) × (self.new.changed ≡ self.old.changed) × (self.new.disk ≡ self.old.disk) }
+        ensures rest { (self.new.rows ≡ self.old.rows) × (self.new.told ≡ self.old.told) × (self.new.disk ≡ self.old.disk) }
     {
         let hand = self.actor(actor);
         self.actors[actor - 1] = Actor { slot, ..hand };
@@ -36,7 +36,7 @@ impl<D: Disk> Parts<D> {
         requires { IfSome slot (λ s. (s < length self.old.yard.vault.cells) × (is_unused (cell_at self.old.yard s).stage ≡ true → IsTakenAt self.old.yard.uses s)) }
         ensures kept { result ≡ kept_slot self.old.yard slot }
         ensures yard { self.new.yard ≡ with_uses self.old.yard (given_back self.old.yard slot) }
-        ensures rest { (self.new.rows ≡ self.old.rows) × (self.new.changed ≡ self.old.changed) × (self.new.disk ≡ self.old.disk) }
+        ensures rest { (self.new.rows ≡ self.old.rows) × (self.new.told ≡ self.old.told) × (self.new.disk ≡ self.old.disk) }
     {
         match slot {
             None => None,
@@ -56,7 +56,7 @@ impl<D: Disk> Parts<D> {
         requires cell { slot < length self.old.yard.vault.cells }
         requires link { slot < length self.old.yard.words.links }
         ensures yard { self.new.yard ≡ with_words self.old.yard (change_flags (settle (cell_at self.old.yard slot).stage) self.old.yard.words slot) }
-        ensures rest { (self.new.rows ≡ self.old.rows) × (self.new.changed ≡ self.old.changed) × (self.new.disk ≡ self.old.disk) }
+        ensures rest { (self.new.rows ≡ self.old.rows) × (self.new.told ≡ self.old.told) × (self.new.disk ≡ self.old.disk) }
     {
         let LinkWord { next, flags } = link_of(self.word(Word::Link(slot)));
         let flags = settle(self.stage(slot), flags);
@@ -74,9 +74,16 @@ impl<D: Disk> Parts<D> {
         requires known { Known Course.Plays self.old.yard actor (Event.Invoke command) }
         requires quiet { Succeeds NoCall (D.device self.old.disk) (D.device self.old.disk) }
         ensures done { Does self.old.yard actor (Event.Invoke command) result self.new.yard (D.device self.old.disk) (D.device self.new.disk) }
-        ensures rest { (self.new.rows ≡ self.old.rows) × (self.new.changed ≡ self.old.changed) }
+        ensures rest { (self.new.rows ≡ self.old.rows) × (self.new.told ≡ self.old.told) }
     {
-        Ok(Outcome::Done)
+        let refused = is_old(self.vault.format(), command);
+        let hand = self.actor(actor);
+        self.actors[actor - 1] = Actor { refused, ..hand };
+        if refused {
+            Ok(Outcome::OldFile)
+        } else {
+            Ok(Outcome::Done)
+        }
     }
 
     pub(crate) fn play_pin(&mut self, actor: usize) -> Result<Outcome, VaultFault>
@@ -85,7 +92,7 @@ impl<D: Disk> Parts<D> {
         requires known { Known Course.Plays self.old.yard actor Event.Pin }
         requires quiet { Succeeds NoCall (D.device self.old.disk) (D.device self.old.disk) }
         ensures done { Does self.old.yard actor Event.Pin result self.new.yard (D.device self.old.disk) (D.device self.new.disk) }
-        ensures rest { (self.new.rows ≡ self.old.rows) × (self.new.changed ≡ self.old.changed) }
+        ensures rest { (self.new.rows ≡ self.old.rows) × (self.new.told ≡ self.old.told) }
     {
         let pin = self.word(Word::Pin(actor));
         self.list.set(Word::Pin(actor), pin + 1);
@@ -98,7 +105,7 @@ impl<D: Disk> Parts<D> {
         requires known { Known Course.Plays self.old.yard actor (Event.Hop word) }
         requires quiet { Succeeds NoCall (D.device self.old.disk) (D.device self.old.disk) }
         ensures done { Does self.old.yard actor (Event.Hop word) result self.new.yard (D.device self.old.disk) (D.device self.new.disk) }
-        ensures rest { (self.new.rows ≡ self.old.rows) × (self.new.changed ≡ self.old.changed) }
+        ensures rest { (self.new.rows ≡ self.old.rows) × (self.new.told ≡ self.old.told) }
     {
         Ok(Outcome::Value(self.word(word)))
     }
@@ -109,7 +116,7 @@ impl<D: Disk> Parts<D> {
         requires known { Known Course.Plays self.old.yard actor Event.Reserve }
         requires quiet { Succeeds NoCall (D.device self.old.disk) (D.device self.old.disk) }
         ensures done { Does self.old.yard actor Event.Reserve result self.new.yard (D.device self.old.disk) (D.device self.new.disk) }
-        ensures rest { (self.new.rows ≡ self.old.rows) × (self.new.changed ≡ self.old.changed) }
+        ensures rest { (self.new.rows ≡ self.old.rows) × (self.new.told ≡ self.old.told) }
     {
         self.allot.collect();
         let Some(slot) = self.allot.reserve() else {
@@ -125,11 +132,11 @@ impl<D: Disk> Parts<D> {
         requires ready { IsReady self.old.yard actor (Event.WriteKey key) }
         requires known { Known Course.Plays self.old.yard actor (Event.WriteKey key) }
         ensures done { Does self.old.yard actor (Event.WriteKey key) result self.new.yard (D.device self.old.disk) (D.device self.new.disk) }
-        ensures rest { (self.new.rows ≡ self.old.rows) × (self.new.changed ≡ self.old.changed) }
+        ensures rest { (self.new.rows ≡ self.old.rows) × (self.new.told ≡ self.old.told) }
     {
         let slot = self.slot(actor);
         self.vault.put_key(slot, key)?;
-        self.list.set(Word::Key(slot), key.get());
+        self.list.set(Word::Key(slot), key.rank());
         Ok(Outcome::Done)
     }
 
@@ -144,7 +151,7 @@ impl<D: Disk> Parts<D> {
         requires known { Known Course.Plays self.old.yard actor (Event.Claim pred curr) }
         requires quiet { Succeeds NoCall (D.device self.old.disk) (D.device self.old.disk) }
         ensures done { Does self.old.yard actor (Event.Claim pred curr) result self.new.yard (D.device self.old.disk) (D.device self.new.disk) }
-        ensures rest { (self.new.rows ≡ self.old.rows) × (self.new.changed ≡ self.old.changed) }
+        ensures rest { (self.new.rows ≡ self.old.rows) × (self.new.told ≡ self.old.told) }
     {
         let place = pred;
         let node = curr;
@@ -167,7 +174,7 @@ impl<D: Disk> Parts<D> {
         requires known { Known Course.Plays self.old.yard actor Event.Check }
         requires quiet { Succeeds NoCall (D.device self.old.disk) (D.device self.old.disk) }
         ensures done { Does self.old.yard actor Event.Check result self.new.yard (D.device self.old.disk) (D.device self.new.disk) }
-        ensures rest { (self.new.rows ≡ self.old.rows) × (self.new.changed ≡ self.old.changed) }
+        ensures rest { (self.new.rows ≡ self.old.rows) × (self.new.told ≡ self.old.told) }
     {
         let hand = self.actor(actor);
         if self.list.check(hand.pred, hand.curr) {
@@ -184,7 +191,7 @@ impl<D: Disk> Parts<D> {
         requires ready { IsReady self.old.yard actor Event.WriteOpen }
         requires known { Known Course.Plays self.old.yard actor Event.WriteOpen }
         ensures done { Does self.old.yard actor Event.WriteOpen result self.new.yard (D.device self.old.disk) (D.device self.new.disk) }
-        ensures rest { (self.new.rows ≡ self.old.rows) × (self.new.changed ≡ self.old.changed) }
+        ensures rest { (self.new.rows ≡ self.old.rows) × (self.new.told ≡ self.old.told) }
     {
         let slot = self.slot(actor);
         self.vault.open_gate(slot)?;
@@ -200,7 +207,7 @@ impl<D: Disk> Parts<D> {
         requires known { Known Course.Plays self.old.yard actor Event.Link }
         requires quiet { Succeeds NoCall (D.device self.old.disk) (D.device self.old.disk) }
         ensures done { Does self.old.yard actor Event.Link result self.new.yard (D.device self.old.disk) (D.device self.new.disk) }
-        ensures rest { (self.new.rows ≡ self.old.rows) × (self.new.changed ≡ self.old.changed) }
+        ensures rest { (self.new.rows ≡ self.old.rows) × (self.new.told ≡ self.old.told) }
     {
         let slot = self.slot(actor);
         let hand = self.actor(actor);
@@ -218,7 +225,7 @@ impl<D: Disk> Parts<D> {
         requires ready { IsReady self.old.yard actor Event.WriteClose }
         requires known { Known Course.Plays self.old.yard actor Event.WriteClose }
         ensures done { Does self.old.yard actor Event.WriteClose result self.new.yard (D.device self.old.disk) (D.device self.new.disk) }
-        ensures rest { (self.new.rows ≡ self.old.rows) × (self.new.changed ≡ self.old.changed) }
+        ensures rest { (self.new.rows ≡ self.old.rows) × (self.new.told ≡ self.old.told) }
     {
         let node = self.node(actor);
         self.vault.close_gate(node)?;
@@ -232,7 +239,7 @@ impl<D: Disk> Parts<D> {
         requires known { Known Course.Plays self.old.yard actor Event.Mark }
         requires quiet { Succeeds NoCall (D.device self.old.disk) (D.device self.old.disk) }
         ensures done { Does self.old.yard actor Event.Mark result self.new.yard (D.device self.old.disk) (D.device self.new.disk) }
-        ensures rest { (self.new.rows ≡ self.old.rows) × (self.new.changed ≡ self.old.changed) }
+        ensures rest { (self.new.rows ≡ self.old.rows) × (self.new.told ≡ self.old.told) }
     {
         let node = self.node(actor);
         self.list.mark(node);
@@ -246,7 +253,7 @@ impl<D: Disk> Parts<D> {
         requires known { Known Course.Plays self.old.yard actor Event.Release }
         requires quiet { Succeeds NoCall (D.device self.old.disk) (D.device self.old.disk) }
         ensures done { Does self.old.yard actor Event.Release result self.new.yard (D.device self.old.disk) (D.device self.new.disk) }
-        ensures rest { (self.new.rows ≡ self.old.rows) × (self.new.changed ≡ self.old.changed) }
+        ensures rest { (self.new.rows ≡ self.old.rows) × (self.new.told ≡ self.old.told) }
     {
         let hand = self.actor(actor);
         self.list.release(hand.pred, hand.curr);
@@ -260,7 +267,7 @@ impl<D: Disk> Parts<D> {
         requires known { Known Course.Plays self.old.yard actor (Event.Sync slot) }
         requires quiet { Succeeds NoCall (D.device self.old.disk) (D.device self.old.disk) }
         ensures done { Does self.old.yard actor (Event.Sync slot) result self.new.yard (D.device self.old.disk) (D.device self.new.disk) }
-        ensures rest { (self.new.rows ≡ self.old.rows) × (self.new.changed ≡ self.old.changed) }
+        ensures rest { (self.new.rows ≡ self.old.rows) × (self.new.told ≡ self.old.told) }
     {
         if !self.is_sure(slot) {
             self.vault.sync()?;
@@ -274,7 +281,7 @@ impl<D: Disk> Parts<D> {
         requires known { Known Course.Plays self.old.yard actor (Event.Settle slot) }
         requires quiet { Succeeds NoCall (D.device self.old.disk) (D.device self.old.disk) }
         ensures done { Does self.old.yard actor (Event.Settle slot) result self.new.yard (D.device self.old.disk) (D.device self.new.disk) }
-        ensures rest { (self.new.rows ≡ self.old.rows) × (self.new.changed ≡ self.old.changed) }
+        ensures rest { (self.new.rows ≡ self.old.rows) × (self.new.told ≡ self.old.told) }
     {
         if !self.is_sure(slot) {
             return Ok(Outcome::Early);
@@ -289,7 +296,7 @@ impl<D: Disk> Parts<D> {
         requires known { Known Course.Plays self.old.yard actor Event.Unlink }
         requires quiet { Succeeds NoCall (D.device self.old.disk) (D.device self.old.disk) }
         ensures done { Does self.old.yard actor Event.Unlink result self.new.yard (D.device self.old.disk) (D.device self.new.disk) }
-        ensures rest { (self.new.rows ≡ self.old.rows) × (self.new.changed ≡ self.old.changed) }
+        ensures rest { (self.new.rows ≡ self.old.rows) × (self.new.told ≡ self.old.told) }
     {
         let node = self.node(actor);
         let hand = self.actor(actor);
@@ -304,7 +311,7 @@ impl<D: Disk> Parts<D> {
         requires known { Known Course.Plays self.old.yard actor Event.Retire }
         requires quiet { Succeeds NoCall (D.device self.old.disk) (D.device self.old.disk) }
         ensures done { Does self.old.yard actor Event.Retire result self.new.yard (D.device self.old.disk) (D.device self.new.disk) }
-        ensures rest { (self.new.rows ≡ self.old.rows) × (self.new.changed ≡ self.old.changed) }
+        ensures rest { (self.new.rows ≡ self.old.rows) × (self.new.told ≡ self.old.told) }
     {
         let node = self.node(actor);
         self.allot.retire(node);
@@ -323,7 +330,7 @@ impl<D: Disk> Parts<D> {
         requires known { Known Course.Plays self.old.yard actor (Event.SeePin pass value) }
         requires quiet { Succeeds NoCall (D.device self.old.disk) (D.device self.old.disk) }
         ensures done { Does self.old.yard actor (Event.SeePin pass value) result self.new.yard (D.device self.old.disk) (D.device self.new.disk) }
-        ensures rest { (self.new.rows ≡ self.old.rows) × (self.new.changed ≡ self.old.changed) }
+        ensures rest { (self.new.rows ≡ self.old.rows) × (self.new.told ≡ self.old.told) }
     {
         self.allot.see_pin(pass, value);
         Ok(Outcome::Done)
@@ -335,7 +342,7 @@ impl<D: Disk> Parts<D> {
         requires known { Known Course.Plays self.old.yard actor Event.Answer }
         requires quiet { Succeeds NoCall (D.device self.old.disk) (D.device self.old.disk) }
         ensures done { Does self.old.yard actor Event.Answer result self.new.yard (D.device self.old.disk) (D.device self.new.disk) }
-        ensures rest { (self.new.rows ≡ self.old.rows) × (self.new.changed ≡ self.old.changed) }
+        ensures rest { (self.new.rows ≡ self.old.rows) × (self.new.told ≡ self.old.told) }
     {
         let pin = self.word(Word::Pin(actor)) + 1;
         self.list.set(Word::Pin(actor), pin);
@@ -352,7 +359,7 @@ impl<D: Disk> Parts<D> {
         requires known { Known Course.Plays self.old.yard actor Event.Halt }
         requires quiet { Succeeds NoCall (D.device self.old.disk) (D.device self.old.disk) }
         ensures done { Does self.old.yard actor Event.Halt result self.new.yard (D.device self.old.disk) (D.device self.new.disk) }
-        ensures rest { (self.new.rows ≡ self.old.rows) × (self.new.changed ≡ self.old.changed) }
+        ensures rest { (self.new.rows ≡ self.old.rows) × (self.new.told ≡ self.old.told) }
     {
         self.list.set(Word::Halt, 1);
         Ok(Outcome::Done)
@@ -363,7 +370,7 @@ impl<D: Disk> Parts<D> {
         requires spent { self.old.yard.vault.syncs ≡ last_sync }
         ensures yard { self.new.yard ≡ with_vault self.old.yard (died self.old.yard.vault) }
         ensures device { Succeeds NoCall (D.device self.old.disk) (D.device self.new.disk) }
-        ensures rest { (self.new.rows ≡ self.old.rows) × (self.new.changed ≡ self.old.changed) }
+        ensures rest { (self.new.rows ≡ self.old.rows) × (self.new.told ≡ self.old.told) }
     {
         let _ = self.vault.sync();
     }

@@ -1,18 +1,21 @@
 //! The yard: what callers share under one lock.
-ghost use Rattle.std.specs.Prelude.{◌≡◌, ◌≤◌, true, IfErr, IfOk};
+ghost use Rattle.std.specs.Prelude.{◌≡◌, ◌≤◌, true, IfErr, IfOk, IfSome};
 ghost use Rattle.lz_list.specs.Words.{set};
+ghost use Rattle.lz_list.specs.Lists.{IsWord};
 ghost use Rattle.lz_vault.specs.Opens.{IsRefusedFor};
 ghost use Rattle.lz_yard.specs.Filling.{OpensYard};
 ghost use Rattle.lz_machine.specs.Ready.{IsEventOf};
 ghost use Rattle.lz_machine.specs.Runs.{MayPlay, with_words};
-ghost use Rattle.lz_yard.specs.Steps.{Played};
+ghost use Rattle.lz_yard.specs.Steps.{Played, nothing_told};
 ghost use Rattle.lz_machine.specs.Table.{needs};
 
 use crate::filling::{Tables, members_of};
 use crate::parts::Parts;
+use crate::told::nothing_told;
 use lz_disk::Disk;
-use lz_list::{Word, Words};
+use lz_list::{Publishing, Word, Words};
 use lz_machine::{Event, Outcome};
+use lz_slot::Format;
 use lz_vault::{OpenFault, Refused, Vault};
 use std::alloc::{AllocError, Global};
 use std::marker::Model;
@@ -25,13 +28,15 @@ pub struct Yard<D: Disk> {
 }
 
 impl<D: Disk> Model for Yard<D> {
+    ghost use Rattle.std.specs.Prelude.{IfSome};
+    ghost use Rattle.lz_list.specs.Lists.{IsWord};
     ghost use Rattle.lz_yard.specs.Parts.{Fits, YardOver};
 
     ghost Value = { YardOver D };
 
-    ghost view = { λ y. record { yard = y.parts.yard; changed = y.parts.changed; disk = y.parts.disk } };
+    ghost view = { λ y. record { yard = y.parts.yard; told = y.parts.told; disk = y.parts.disk } };
 
-    ghost invariant = { λ y. Fits y.parts.yard y.parts.rows };
+    ghost invariant = { λ y. Fits y.parts.yard y.parts.rows × IfSome y.parts.told.changed (IsWord y.parts.yard.words) };
 }
 
 impl<D: Disk> Yard<D> {
@@ -46,6 +51,7 @@ impl<D: Disk> Yard<D> {
         requires buckets { (1 ≤ buckets) × (buckets ≤ 4096) }
         requires passes { (1 ≤ passes) × (passes ≤ 64) }
         ensures ok { IfOk result (λ yard. OpensYard (D.device disk) (D.device yard.disk) buckets passes yard.yard) }
+        ensures told { IfOk result (λ yard. yard.told ≡ nothing_told) }
         ensures err { IfErr result (λ refused. IsRefusedFor (D.device disk) (D.device refused.disk) refused.fault) }
     {
         let vault = Vault::open(alloc, disk)?;
@@ -68,7 +74,7 @@ impl<D: Disk> Yard<D> {
                     vault,
                     allot: tables.allot,
                     actors: tables.actors,
-                    changed: None,
+                    told: nothing_told(),
                 },
             }),
             Err(AllocError) => Err(Refused {
@@ -87,7 +93,7 @@ impl<D: Disk> Yard<D> {
         requires actor { (1 ≤ actor) × (actor ≤ self.old.yard.shape.passes) }
         requires event { IsEventOf self.old.yard event }
         requires may { needs self.old.yard actor event ≡ true → MayPlay self.old.yard (D.device self.old.disk).honest (D.device self.old.disk).medium actor event }
-        ensures played { Played self.old.yard actor event result self.new.yard self.new.changed (D.device self.old.disk) (D.device self.new.disk) }
+        ensures played { Played self.old.yard actor event result self.new.yard self.new.told (D.device self.old.disk) (D.device self.new.disk) }
         ensures shape { self.new.yard.shape ≡ self.old.yard.shape }
     {
         self.parts.step(actor, event)
@@ -97,7 +103,7 @@ impl<D: Disk> Yard<D> {
     pub fn note_pin(&mut self, actor: usize, value: u64)
         requires { (1 ≤ actor) × (actor ≤ self.old.yard.shape.passes) }
         ensures yard { self.new.yard ≡ with_words self.old.yard (set self.old.yard.words (Word.Pin actor) value) }
-        ensures rest { (self.new.changed ≡ self.old.changed) × (self.new.disk ≡ self.old.disk) }
+        ensures rest { (self.new.told ≡ self.old.told) × (self.new.disk ≡ self.old.disk) }
     {
         self.parts.set_pin(actor, value);
     }
@@ -108,11 +114,33 @@ impl<D: Disk> Yard<D> {
         self.parts.list.words()
     }
 
+    /// The format of its file.
+    pub fn format(&self) -> Format
+        ensures { result ≡ self.now.yard.vault.format }
+    {
+        self.parts.vault.format()
+    }
+
     /// The word that the last `step` changed, if it changed one.
     pub fn changed(&self) -> Option<Word>
-        ensures { result ≡ self.now.changed }
+        ensures changed { result ≡ self.now.told.changed }
+        ensures word { IfSome result (λ word. IsWord self.now.yard.words word) }
     {
-        self.parts.changed
+        self.parts.told.changed
+    }
+
+    /// What that word was before, 0 where none was changed.
+    pub fn before(&self) -> u64
+        ensures { result ≡ self.now.told.before }
+    {
+        self.parts.told.before
+    }
+
+    /// What the last `step` published, if it published something.
+    pub fn published(&self) -> Option<Publishing>
+        ensures { result ≡ self.now.told.published }
+    {
+        self.parts.told.published
     }
 
     /// Ends the life, and hands the disk back as it is.

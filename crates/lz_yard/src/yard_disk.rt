@@ -42,7 +42,7 @@ impl<D: Disk> Yard<D> {
 impl Yard<MemoryDisk> {
     /// Trips the disk.
     pub fn trip(&mut self)
-        ensures { self.new ≡ record self.old { disk = record self.old.disk { trip = true } } }
+        ensures { self.new ≡ record self.old { disk = record self.old.disk { trip = Some 0 } } }
     {
         self.parts.vault.trip();
     }

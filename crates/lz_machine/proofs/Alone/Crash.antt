@@ -20,13 +20,13 @@ use Rattle.lz_machine.specs.declared.event.Event.{Event}
 use Rattle.lz_machine.specs.declared.event.Event.TheVariants.{Answer}
 use Rattle.lz_machine.specs.declared.event.Outcome.{Outcome}
 use Rattle.lz_machine.specs.declared.event.Reply.{Reply}
-use Rattle.lz_machine.specs.declared.event.Reply.TheVariants.{Yes, No, Full, Worn, Halted, Device}
+use Rattle.lz_machine.specs.declared.event.Reply.TheVariants.{Yes, No, Full, Worn, OldFile, Halted, Device}
 use Rattle.lz_machine.specs.declared.caller.Progress.{Progress}
 use Rattle.lz_machine.specs.declared.caller.Progress.TheVariants.{Playing, LoadsHalt, Walking, Reserving, SeeingPins, Claiming, Checking, Answering}
 use Rattle.lz_machine.specs.Yards.{Shape, Yard, actor_at}
-use Rattle.lz_machine.specs.Table.{course, line, line_call, line_failed}
-use Rattle.lz_machine.specs.Calls.{first_progress, progress_after}
-use Rattle.lz_machine.specs.Runs.{Start, IsStart, Caller, Service, State, Up, Down, Step, Calls, Turn, Fails, Looks, Trips, Stops, Crashes, CrashesIn, Opens, OpenFails, Point, MayStep, MayLeave, LeftInside, looked, HasTurn, HasFault, IsRun, run, first_point, point_after, caller_at, next_event, reply_at, moved_on, after_turn, after_fault, opened_service, marks_of_turn, mark_of_turn, mark_of, turn_publishes, start_keys, keys_found, IsActor}
+use Rattle.lz_machine.specs.Table.{course, line, line_call, line_failed, is_old}
+use Rattle.lz_machine.specs.Calls.{progress_after, begun}
+use Rattle.lz_machine.specs.Runs.{Start, IsStart, Caller, Service, State, Up, Down, Step, Calls, Turn, Fails, Looks, Trips, Stops, Crashes, CrashesIn, Opens, OpenFails, Point, MayStep, MayLeave, LeftInside, looked, HasTurn, HasFault, IsRun, run, first_point, point_after, caller_at, next_event, reply_at, moved_on, after_turn, after_fault, opened_service, marks_of_turn, mark_of_turn, mark_of, turn_publishes, start_keys, keys_found, IsActor, invoked}
 use Rattle.lz_machine.specs.Sound.{View, Relies, IsCaller, view_of, pin_in, StateSound, HasList, PointSound, IsSound}
 use Rattle.lz_machine.specs.Alone.{IsOwn, IsAlone, has_cut, IsPlain, ArePlain, AloneIsPlain}
 use Rattle.lz_machine.proofs.Steps.Trip.{point}
@@ -40,7 +40,7 @@ use Rattle.lz_machine.proofs.Frames.OneActor.{caller_range}
 use Rattle.lz_machine.proofs.Runs.Shape.{line_keeps_shape}
 use Rattle.lz_machine.proofs.Theorem.Reached.{reached_sound}
 use Rattle.lz_machine.proofs.Alone.Service.{Ended, IsEnd, served, served_open, served_cut, served_same}
-use Rattle.lz_machine.proofs.Alone.Run.{IsHalting, HasHalting, IsTold, AloneUp, IsQuietCall, pin_is_quiet, answer_is_quiet, halting_quiet, only_images, turn_halted, answer_halt}
+use Rattle.lz_machine.proofs.Alone.Run.{IsHalting, HasHalting, IsTold, AloneUp, IsQuietCall, answer_is_quiet, halting_quiet, only_images, turn_halted, answer_halt, begun_halting}
 use Rattle.lz_machine.proofs.Runs.CallerTable.{none_of, fault_no_reply}
 use Rattle.lz_machine.proofs.Steps.Point.{reply_lives}
 
@@ -76,6 +76,7 @@ cut_word v c P0 P changed M i Yes h cut clean = absurd (false≢true (sym clean 
 cut_word v c P0 P changed M i No h cut clean = absurd (false≢true (sym clean ∙ cut))
 cut_word v c P0 P changed M i (Full counts) h cut clean = absurd (false≢true (sym clean ∙ cut))
 cut_word v c P0 P changed M i Worn h cut clean = absurd (false≢true (sym clean ∙ cut))
+cut_word v c P0 P changed M i OldFile h cut clean = absurd (false≢true (sym clean ∙ cut))
 
 -- what a reply's list leads to is served
 served_reply : (n i a : ℕ) (c : Command) (reply : Reply) (M : History) (S : Keys) (L : List ℕ) (T : Keys) → i < n → Ended i M → has_cut M ≡ false → Fits S (mark_of i reply ∷ Call i a c ∷ M) L T → IsPlain S (mark_of i reply ∷ Call i a c ∷ M) T
@@ -83,6 +84,7 @@ served_reply n i a c Yes M S L T low h clean fits = served n (mark_of i Yes ∷ 
 served_reply n i a c No M S L T low h clean fits = served n (mark_of i No ∷ Call i a c ∷ M) S L T (refl, low, h) clean fits
 served_reply n i a c (Full counts) M S L T low h clean fits = served n (mark_of i (Full counts) ∷ Call i a c ∷ M) S L T (refl, low, h) clean fits
 served_reply n i a c Worn M S L T low h clean fits = served n (mark_of i Worn ∷ Call i a c ∷ M) S L T (refl, low, h) clean fits
+served_reply n i a c OldFile M S L T low h clean fits = served n (mark_of i OldFile ∷ Call i a c ∷ M) S L T (refl, low, h) clean fits
 served_reply n i a c Halted M S L T low h clean fits = served_cut i a c cut_halted M S L T h clean fits
 served_reply n i a c Device M S L T low h clean fits = served_cut i a c cut_device M S L T h clean fits
 
@@ -98,7 +100,8 @@ served_halting : (S : Keys) (i a : ℕ) (c : Command) (reply : Reply) (M : Histo
 served_halting S i a c reply M T (inl is) cut h = absurd (none-some _ (ap reply_at (sym is)))
 served_halting S i a c reply M T (inr (inl is)) cut h = absurd (none-some _ (ap reply_at (sym is)))
 served_halting S i a c reply M T (inr (inr (inl is))) cut h = subst (λ (r : Reply). IsPlain S (mark_of i r ∷ Call i a c ∷ M) T) (sym (reply_is is)) (refl, h)
-served_halting S i a c reply M T (inr (inr (inr is))) cut h = subst (λ (r : Reply). IsPlain S (mark_of i r ∷ Call i a c ∷ M) T) (sym (reply_is is)) (refl, served_on S i a c M T cut h)
+served_halting S i a c reply M T (inr (inr (inr (inl is)))) cut h = subst (λ (r : Reply). IsPlain S (mark_of i r ∷ Call i a c ∷ M) T) (sym (reply_is is)) (refl, served_on S i a c M T cut h)
+served_halting S i a c reply M T (inr (inr (inr (inr is)))) cut h = subst (λ (r : Reply). IsPlain S (mark_of i r ∷ Call i a c ∷ M) T) (sym (reply_is is)) (refl, served_on S i a c M T cut h)
 
 -- the lists of a sound point
 left_at : (start : Start) (q : Point) (t : List ℕ) → IsSound start q → MayLeave q.state t → IsLeft q t (lives (start_keys start) q.marks)
@@ -148,13 +151,13 @@ module _ (start : Start) (a : ℕ) (service : Service) (disk : Medium) (M : Hist
   -- a call
   module _ (c : Command) (actor : IsActor service a) (none : caller_at service.callers a ≡ None) (range : a ≤ length service.callers) where
     abbrev new_call : Caller
-    new_call = record { number = suc calls; command = c; progress = first_progress }
+    new_call = record { number = suc calls; command = c; progress = begun y.vault.format c }
 
     abbrev called : Point
     called = point_after before (Calls a c)
 
     abbrev calling : Service
-    calling = record { yard = service.yard; callers = set_of_pass service.callers a (Some new_call) }
+    calling = record { yard = invoked y a c; callers = set_of_pass service.callers a (Some new_call) }
 
     here : caller_at calling.callers a ≡ Some new_call
     here = of_pass_same service.callers a (Some new_call) None actor.0 range
@@ -163,14 +166,14 @@ module _ (start : Start) (a : ℕ) (service : Service) (disk : Medium) (M : Hist
     call_told H h = record {
       others = away (Some new_call) h.others;
       told = subst (λ (who : Option Caller). IsTold a (suc (suc calls)) who (Call (suc calls) a c ∷ H)) (sym here) (H, refl, omega arith, subst (λ (who : Option Caller). IsTold a (suc calls) who H) none h.told);
-      halted = λ cut. ((h.halted cut).0, subst HasHalting (sym here) (inl refl));
+      halted = λ cut. ((h.halted cut).0, subst HasHalting (sym here) (begun_halting (is_old y.vault.format c)));
     }
 
     pub call_alone : IsSound start called → AloneAt start a called
     call_alone sound' =
         lives_marked start a before called (Call (suc calls) a c) (λ life st h. call_told life.history h)
         (λ life t h old leaves list.
-        let was = old t (inl (only_images a calling disk (away (Some new_call) h.others) (subst (IsQuietCall calling a) (sym here) (pin_is_quiet y a)) t leaves)) in
+        let was = old t (inl (only_images a calling disk (away (Some new_call) h.others) (subst (IsQuietCall calling a) (sym here) (halting_quiet (invoked y a c) a c (begun y.vault.format c) (begun_halting (is_old y.vault.format c)))) t leaves)) in
         (was.0, was.1, inl was.2))
         L sound sound' (λ t leaves. left_at start called t sound' leaves) alone
 

@@ -55,14 +55,14 @@ course_is y a e now = go y.vault.dead (is_played_dead e) (needs y a e) refl refl
 
 -- the hands and pins of others
 actors_other : (y : Yard) (actor : Actor) (a b : ℕ) (e : Event) → b ≢ a → of_pass (actors_after y actor a e) b idle_actor ≡ of_pass y.actors b idle_actor
-actors_other y actor a b (Invoke c) other = refl
+actors_other y actor a b (Invoke c) other = of_pass_other y.actors a b _ idle_actor other
 actors_other y actor a b Pin other = refl
 actors_other y actor a b (Hop word) other = refl
 actors_other y actor a b Reserve other = of_pass_other y.actors a b _ idle_actor other
 actors_other y actor a b (WriteKey k) other = refl
 actors_other y actor a b (Claim pred curr) other = go (is_pair_free y.locks pred curr)
   where
-    go : (free : Bool) → of_pass (if free then set_actor y a (record { slot = actor.slot; hold = Locks; pred = pred; curr = curr }) else y.actors) b idle_actor ≡ of_pass y.actors b idle_actor
+    go : (free : Bool) → of_pass (if free then set_actor y a (record actor { hold = Locks; pred = pred; curr = curr }) else y.actors) b idle_actor ≡ of_pass y.actors b idle_actor
     go true = of_pass_other y.actors a b _ idle_actor other
     go false = refl
 actors_other y actor a b Check other = of_pass_other y.actors a b _ idle_actor other

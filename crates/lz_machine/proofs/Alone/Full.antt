@@ -26,7 +26,7 @@ use Rattle.lz_flush.specs.declared.need.Need.TheVariants.{Now, Sync as needs_syn
 use Rattle.lz_flush.specs.Settling.{may_answer}
 use Rattle.lz_machine.specs.declared.actor.Hold.TheVariants.{Nothing}
 use Rattle.lz_machine.specs.declared.event.Outcome.{Outcome}
-use Rattle.lz_machine.specs.declared.event.Outcome.TheVariants.{Done, Value, Slot, NoSlot, Taken as was_taken, Busy, True, False, Early, Worn, NotNow, Fault, Dead}
+use Rattle.lz_machine.specs.declared.event.Outcome.TheVariants.{Done, Value, Slot, NoSlot, Taken as was_taken, Busy, True, False, Early, Worn, OldFile, NotNow, Fault, Dead}
 use Rattle.lz_machine.specs.declared.event.Reply.TheVariants.{Yes, No, Full, Halted}
 use Rattle.lz_machine.specs.declared.caller.Script.{Script}
 use Rattle.lz_machine.specs.declared.caller.Script.TheVariants.{Adding}
@@ -151,6 +151,7 @@ pub stands_playing : (y : Yard) (P : Trace) (shape : Shape) (c : Command) (scrip
 stands_playing y P shape c script i h Fault = tt
 stands_playing y P shape c script i h Dead = tt
 stands_playing y P shape c script i h Worn = tt
+stands_playing y P shape c script i h OldFile = tt
 stands_playing y P shape c script i h Early = tt
 stands_playing y P shape c script i h Done = calm_goes y P c script i h
 stands_playing y P shape c script i h (Value v) = calm_goes y P c script i h
@@ -176,6 +177,7 @@ stands_halt y P shape c (Value v) = go (v == 1)
 stands_halt y P shape c Fault = tt
 stands_halt y P shape c Dead = tt
 stands_halt y P shape c Worn = tt
+stands_halt y P shape c OldFile = tt
 stands_halt y P shape c Early = tt
 stands_halt y P shape c Done = tt
 stands_halt y P shape c (Slot s) = tt

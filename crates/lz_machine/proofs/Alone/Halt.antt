@@ -1,16 +1,14 @@
 -- The halt word is written only where the vault is dead; so halted is answered only there, and worn only at the last pin.
-use Rattle.std.proofs.Common.{◌≡◌, ◌≢◌, ◌⊎◌, ⊎_elim, inl, inr, ℕ, ◌%◌, ◌&&◌, ◌||◌, not, Bool, true, false, List, [], ◌∷◌, Option, Some, None, refl, sym, ap, ◌∙◌, subst, arith}
+use Rattle.std.proofs.Common.{◌≡◌, ◌≢◌, ◌⊎◌, ⊎_elim, inl, inr, ℕ, ◌%◌, ◌&&◌, ◌||◌, not, Bool, true, false, List, [], ◌∷◌, Option, Some, None, refl, sym, ap, ◌∙◌, subst, arith, zero, suc}
 use Rattle.std.specs.Prelude.{if◌then◌else◌, ◌==◌}
 use mathlib.Core.Bool.{false≢true}
 use Rattle.std.proofs.lemmas.Bool.{cases_Bool}
-use Rattle.std.proofs.lemmas.Bool.Decides.{nat_tests, eqb_tells}
 use Rattle.std.proofs.lemmas.Option.{none-some, same_Some}
 use Rattle.lz_slot.specs.declared.command.Command.{Command}
 use Rattle.lz_slot.specs.declared.command.Command.TheVariants.{Add, Remove, Has}
 use Rattle.lz_slot.specs.Bytes.{held}
 use Rattle.lz_slot.specs.Histories.{History, Life, lives}
 use Rattle.lz_disk.specs.Images.{Medium}
-use Rattle.lz_allot.specs.Uses.{is_outside}
 use Rattle.lz_list.specs.declared.place.Place.{Place}
 use Rattle.lz_list.specs.declared.place.Place.TheVariants.{Bucket, Node}
 use Rattle.lz_list.specs.Words.{Words, redirect, change_flags}
@@ -21,19 +19,22 @@ use Rattle.lz_machine.specs.declared.course.Course.TheVariants.{Refused, Dies, P
 use Rattle.lz_machine.specs.declared.actor.Actor.{Actor}
 use Rattle.lz_machine.specs.declared.event.Event.{Event}
 use Rattle.lz_machine.specs.declared.event.Event.TheVariants.{Invoke, Pin, Hop, Reserve, WriteKey, Claim, Check, WriteOpen, Link, WriteClose, Mark, Release, Sync, Settle, Unlink, Retire, SeePin, Answer, Halt}
-use Rattle.lz_machine.specs.declared.event.Outcome.TheVariants.{Done, NotNow, Dead}
+use Rattle.lz_machine.specs.declared.event.Outcome.TheVariants.{NotNow, Dead}
 use Rattle.lz_machine.specs.declared.event.Reply.{Reply}
-use Rattle.lz_machine.specs.declared.event.Reply.TheVariants.{Worn as SaysWorn, Halted, Device}
+use Rattle.lz_machine.specs.declared.event.Reply.TheVariants.{Worn as SaysWorn, OldFile as SaysOldFile, Halted, Device}
 use Rattle.lz_machine.specs.declared.caller.Progress.{Progress}
 use Rattle.lz_machine.specs.declared.caller.Progress.TheVariants.{Playing, LoadsHalt, Walking, Reserving, SeeingPins, Claiming, Checking, Answering}
 use Rattle.lz_machine.specs.Yards.{Shape, Yard, actor_at, cell_at, first_trace}
-use Rattle.lz_machine.specs.Table.{course, line, line_on, needs, pin_of, last_pin, words_after, is_sure}
-use Rattle.lz_machine.specs.Runs.{Start, Caller, Service, State, Up, Down, Step, Calls, Turn, Fails, Looks, Trips, Stops, Crashes, CrashesIn, Opens, OpenFails, Point, MayStep, HasTurn, Reached, IsRun, run, first_point, state_after, caller_at, next_event, reply_at, after_turn, after_fault, start_keys}
-use Rattle.lz_machine.specs.Sound.{View, Relies, view_of, PointSound}
+use Rattle.lz_machine.specs.Table.{course, line, line_on, pin_of, words_after, is_sure, is_old}
+use Rattle.lz_machine.specs.Runs.{Start, Caller, Service, State, Up, Down, Step, Calls, Turn, Fails, Looks, Trips, Stops, Crashes, CrashesIn, Opens, OpenFails, Point, MayStep, Reached, IsRun, run, first_point, state_after, caller_at, next_event, reply_at, after_turn, after_fault, start_keys}
+use Rattle.lz_machine.specs.Sound.{View, Relies, view_of, PointSound, IsCaller, is_before_pin, side_of}
 use Rattle.lz_machine.specs.Alone.{RefusalsAreRight}
 use Rattle.lz_machine.proofs.Steps.Trip.{point}
 use Rattle.lz_machine.proofs.Steps.Hop.{call_at, own}
 use Rattle.lz_machine.proofs.Theorem.Reached.{reached_sound}
+use Rattle.lz_machine.specs.declared.caller.Script.TheVariants.{Pinning}
+use Rattle.lz_machine.proofs.Theorem.Timeliness.{IsUpAt, up_at, worn_there}
+use Rattle.lz_machine.proofs.Frames.OneActor.{mine}
 
 -- only one event writes the halt word
 redirect_halt : (w : Words) (place : Place) (n : ℕ) → (redirect w place n).halt ≡ w.halt
@@ -153,32 +154,25 @@ device_word v (Add k) P0 P changed h = h.0
 device_word v (Remove k) P0 P changed h = h.0
 device_word v (Has k) P0 P changed h = h.0
 
--- an answer that may be given outside is that of the last pin
-last_of : (y : Yard) (a : ℕ) → pin_of y a % 2 ≡ 0 → (line y a Answer).1 ≢ NotNow → pin_of y a ≡ last_pin
-last_of y a even now = elim (eqb_tells (pin_of y a) last_pin) [
-  | inl same ↦ same.1
-  | inr other ↦ absurd (now (ap (λ (k : Course). (line_on k y (actor_at y a) a Answer).1) (refused y.vault.dead (needs y a Answer) (lacks other.0))))
+-- a call that is told of an old file adds a key that the file can't hold
+old_command : (v : View) (c : Command) (P0 P : Trace) (changed : Option ℕ) (at : Progress) → at ≡ Answering SaysOldFile → Relies v c at P0 P changed → is_old v.format c ≡ true
+old_command v c P0 P changed at is h = (subst (λ (q : Progress). Relies v c q P0 P changed) is h).2
+
+-- and such a call is told so
+outside_told : (v : View) (c : Command) (P0 P : Trace) (changed : Option ℕ) (at : Progress) → is_before_pin at ≡ true → Relies v c at P0 P changed → is_old v.format c ≡ true → reply_at at ≡ Some SaysOldFile
+outside_told v c P0 P changed (Playing Pinning zero) outside h is = absurd (false≢true (sym h.2 ∙ is))
+outside_told v c P0 P changed (Playing Pinning (suc i)) outside h is = absurd h
+outside_told v c P0 P changed (Answering SaysWorn) outside h is = absurd (false≢true (sym h.2 ∙ is))
+outside_told v c P0 P changed (Answering SaysOldFile) outside h is = refl
+outside_told v c _ _ changed at outside h is = absurd (false≢true outside)
+
+told_old : (v : View) (pin : ℕ) (caller : Caller) (P0 P : Trace) (changed : Option ℕ) → IsCaller v pin (Some caller) P0 P changed → is_old v.format caller.command ≡ true → reply_at caller.progress ≡ Some SaysOldFile
+told_old v pin caller P0 P changed h is = elim (cases_Bool (is_before_pin caller.progress)) [
+  | inl outside ↦ outside_told v caller.command P0 P changed caller.progress outside h.2 is
+  | inr inside ↦ absurd (false≢true (sym (h.1 (h.0 ∙ ap side_of inside)) ∙ is))
 ]
-  where
-    outside : is_outside (pin_of y a) ≡ true
-    outside = grind (arith, nat_tests, even)
-
-    lacks : (pin_of y a == last_pin) ≡ false → needs y a Answer ≡ false
-    lacks other = ap (λ (b : Bool). not b || (pin_of y a == last_pin)) outside ∙ other
-
-    refused : (dead may : Bool) → may ≡ false → (if dead && not true then Refused Dead else if may then (if pin_of y a == last_pin then Refused Done else Plays) else Refused NotNow) ≡ Refused NotNow
-    refused true false is = refl
-    refused false false is = refl
-    refused dead true is = absurd (false≢true (sym is))
 
 module _ (start : Start) (service : Service) (disk : Medium) (M : History) (P : Trace) (calls a i : ℕ) (c : Command) (dead : IsDeadHalt service.yard) where
-  worn_at : (at : Progress) → at ≡ Answering SaysWorn → caller_at service.callers a ≡ Some (call_at i c at) → HasTurn service a (Some (call_at i c at)) → (L : List Life) → PointSound start (point (Up service disk) M P calls) L → pin_of service.yard a ≡ last_pin
-  worn_at at same is may [] sound = absurd sound
-  worn_at at same is may (life ∷ earlier) sound =
-      let at_worn = subst (λ (q : Progress). caller_at service.callers a ≡ Some (call_at i c q)) same is in
-      last_of service.yard a (own sound.2.0 calls service.yard service.callers disk life.history P sound.2.1 a i c (Answering SaysWorn) at_worn sound.2.2.sound).stands.0
-      (subst (λ (q : Progress). HasTurn service a (Some (call_at i c q))) same may)
-
   halted_at : caller_at service.callers a ≡ Some (call_at i c (Answering Halted)) → (L : List Life) → PointSound start (point (Up service disk) M P calls) L → service.yard.vault.dead ≡ true
   halted_at is [] sound = absurd sound
   halted_at is (life ∷ earlier) sound =
@@ -193,12 +187,15 @@ module _ (start : Start) (service : Service) (disk : Medium) (M : History) (P : 
 abbrev at_end : {w : State} {M : History} {P : Trace} (start : Start) → Reached start w M P → Point
 at_end start reached = run (first_point start) reached.steps
 
--- worn comes only at the last pin, halted and device only of a dead vault
+-- worn comes only at the last pin, halted and device only of a dead vault, and an old file is told of exactly where a key is
+-- added that the file can't hold
 pub refusals_are_right : RefusalsAreRight
 refusals_are_right start service disk M P a caller reached is may = (
-  (λ worn. worn_at start service disk (at_end start reached).marks (at_end start reached).trace (at_end start reached).calls a caller.number caller.command dead caller.progress (replies caller.progress SaysWorn worn) is (subst (HasTurn service a) is may) (lives (start_keys start) (at_end start reached).marks) sound),
+  (λ worn. worn_there start reached.steps reached.starts reached.runs service disk reached.state a caller is (replies caller.progress SaysWorn worn)),
   (λ halted. halted_at start service disk (at_end start reached).marks (at_end start reached).trace (at_end start reached).calls a caller.number caller.command dead (is ∙ ap (λ (q : Progress). Some (call_at caller.number caller.command q)) (replies caller.progress Halted halted)) (lives (start_keys start) (at_end start reached).marks) sound),
   (λ device. device_at start service disk (at_end start reached).marks (at_end start reached).trace (at_end start reached).calls a caller.number caller.command dead (is ∙ ap (λ (q : Progress). Some (call_at caller.number caller.command q)) (replies caller.progress Device device)) (lives (start_keys start) (at_end start reached).marks) sound),
+  (λ old. old_command (view_of service.yard.shape service.yard.vault service.yard.actors a) caller.command (there.notes.begun a) (at_end start reached).trace (there.notes.changed a) caller.progress (replies caller.progress SaysOldFile old) known.2),
+  told_old (view_of service.yard.shape service.yard.vault service.yard.actors a) (pin_of service.yard a) caller (there.notes.begun a) (at_end start reached).trace (there.notes.changed a) known,
 )
   where
     dead : IsDeadHalt service.yard
@@ -206,3 +203,9 @@ refusals_are_right start service disk M P a caller reached is may = (
 
     sound : PointSound start (point (Up service disk) (at_end start reached).marks (at_end start reached).trace (at_end start reached).calls) (lives (start_keys start) (at_end start reached).marks)
     sound = subst (λ (w : State). PointSound start (point w (at_end start reached).marks (at_end start reached).trace (at_end start reached).calls) (lives (start_keys start) (at_end start reached).marks)) reached.state (reached_sound start reached.steps reached.starts reached.runs)
+
+    there : IsUpAt (at_end start reached).calls service disk (at_end start reached).trace
+    there = up_at start (at_end start reached) service disk (reached_sound start reached.steps reached.starts reached.runs) reached.state
+
+    known : IsCaller (view_of service.yard.shape service.yard.vault service.yard.actors a) (pin_of service.yard a) (Some caller) (there.notes.begun a) (at_end start reached).trace (there.notes.changed a)
+    known = (mine service.yard.shape service.yard.vault service.yard.words.pins service.yard.actors service.callers (at_end start reached).trace there.notes a caller is there.up.sound.callers).stands

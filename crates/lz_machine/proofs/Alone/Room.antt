@@ -1,5 +1,5 @@
 -- Where one actor is alone, full comes exactly where there is no room.
-use Rattle.std.proofs.Common.{◌≡◌, inl, ℕ, zero, suc, ◌≤◌, ◌<◌, ◌%◌, true, false, List, [], ◌∷◌, ◌++◌, length, map, Option, Some, None, refl, sym, ap, ◌∙◌, subst, arith}
+use Rattle.std.proofs.Common.{◌≡◌, inl, ℕ, zero, suc, ◌≤◌, ◌<◌, ◌%◌, if◌then◌else◌, Bool, true, false, List, [], ◌∷◌, ◌++◌, length, map, Option, Some, None, refl, sym, ap, ◌∙◌, subst, arith}
 use Rattle.lz_slot.specs.declared.command.Command.{Command}
 use Rattle.lz_slot.specs.declared.command.Command.TheVariants.{Add, Remove, Has}
 use Rattle.lz_slot.specs.declared.history.Mark.TheVariants.{Call}
@@ -21,13 +21,13 @@ use Rattle.lz_allot.specs.Uses.{Limbo, use_of}
 use Rattle.lz_list.specs.Traces.{Trace}
 use Rattle.lz_machine.specs.declared.actor.Actor.{Actor}
 use Rattle.lz_machine.specs.declared.event.Reply.{Reply}
-use Rattle.lz_machine.specs.declared.event.Reply.TheVariants.{Yes, No, Full, Worn, Halted, Device}
+use Rattle.lz_machine.specs.declared.event.Reply.TheVariants.{Yes, No, Full, Worn, OldFile, Halted, Device}
 use Rattle.lz_machine.specs.declared.caller.Progress.{Progress}
 use Rattle.lz_machine.specs.declared.caller.Progress.TheVariants.{Playing, LoadsHalt, Walking, Reserving, SeeingPins, Claiming, Checking, Answering}
 use Rattle.lz_machine.specs.Yards.{Shape, Yard, cell_read, use_read, slots_read, opened_yard, first_trace, idle_actor}
-use Rattle.lz_machine.specs.Table.{line, line_failed}
-use Rattle.lz_machine.specs.Calls.{first_progress, halts}
-use Rattle.lz_machine.specs.Runs.{Start, IsStart, Caller, Service, State, Up, Down, Step, Calls, Turn, Fails, Looks, Trips, Stops, Crashes, CrashesIn, Opens, OpenFails, Point, MayStep, HasTurn, HasFault, IsRun, run, first_point, point_after, state_after, trace_after, caller_at, next_event, reply_at, moved_on, after_turn, after_fault, opened_service, marks_of_turn, mark_of, turn_publishes, start_keys, looked}
+use Rattle.lz_machine.specs.Table.{line, line_failed, is_old}
+use Rattle.lz_machine.specs.Calls.{first_progress, halts, begun}
+use Rattle.lz_machine.specs.Runs.{Start, IsStart, Caller, Service, State, Up, Down, Step, Calls, Turn, Fails, Looks, Trips, Stops, Crashes, CrashesIn, Opens, OpenFails, Point, MayStep, HasTurn, HasFault, IsRun, run, first_point, point_after, state_after, trace_after, caller_at, next_event, reply_at, moved_on, after_turn, after_fault, opened_service, marks_of_turn, mark_of, turn_publishes, start_keys, looked, invoked}
 use Rattle.lz_machine.specs.Sound.{Notes, cell_in, stage_in, Sound, PointSound, IsSound}
 use Rattle.lz_machine.specs.Alone.{IsOwn, IsAlone, IsPlain, IsFull, HasRoom, IsSized, AreSized, FullIsRight}
 use Rattle.lz_machine.proofs.Steps.Trip.{point}
@@ -44,6 +44,9 @@ use Rattle.lz_machine.proofs.Alone.Full.{AreOther, WalkStands, AloneFull}
 use Rattle.lz_machine.proofs.Alone.Turn.{turned, faulted}
 use Rattle.lz_machine.proofs.Runs.CallerTable.{none_of, fault_no_reply}
 use Rattle.lz_machine.proofs.Steps.Point.{reply_lives}
+use Rattle.lz_machine.specs.declared.event.Event.TheVariants.{Invoke}
+use Rattle.lz_machine.specs.declared.course.Course.TheVariants.{Plays}
+use Rattle.lz_machine.proofs.Alone.Frame.{idle_on}
 
 -- of a state
 abbrev FullAt : ℕ → State → Trace → Type 0
@@ -81,11 +84,15 @@ module _ (n calls : ℕ) (y : Yard) (callers : List (Option Caller)) (disk : Med
   abbrev serving : Service
   serving = record { yard = y; callers = callers }
 
-  full_call : (i : ℕ) (c : Command) → 1 ≤ a → a ≤ length callers → caller_at callers a ≡ None → AloneFull a y (caller_at (set_of_pass callers a (Some (call_at i c first_progress))) a) P
-  full_call i c low high none = subst (λ (who : Option Caller). AloneFull a y who P) (sym (of_pass_same callers a (Some (call_at i c first_progress)) None low high)) (go (subst (λ (who : Option Caller). AloneFull a y who P) none h))
+  begun_stands : (z : Yard) (c : Command) (b : Bool) → WalkStands z P (if b then Answering OldFile else first_progress) c
+  begun_stands z c true = tt
+  begun_stands z c false = tt
+
+  full_call : (i : ℕ) (c : Command) → 1 ≤ a → a ≤ length callers → caller_at callers a ≡ None → AloneFull a (invoked y a c) (caller_at (set_of_pass callers a (Some (call_at i c (begun y.vault.format c)))) a) P
+  full_call i c low high none = subst (λ (who : Option Caller). AloneFull a (invoked y a c) who P) (sym (of_pass_same callers a (Some (call_at i c (begun y.vault.format c))) None low high)) (go (subst (λ (who : Option Caller). AloneFull a y who P) none h))
     where
-      go : AloneFull a y None P → AloneFull a y (Some (call_at i c first_progress)) P
-      go h = record { others = h.others; left = λ _. h.left refl; opening = λ lives s opens. absurd (h.opening lives s opens); stands = tt }
+      go : AloneFull a y None P → AloneFull a (invoked y a c) (Some (call_at i c (begun y.vault.format c))) P
+      go h = record { others = λ b other. idle_on Plays y a b (Invoke c) other (h.others b other); left = λ _. h.left refl; opening = λ lives s opens. absurd (h.opening lives s opens); stands = begun_stands (invoked y a c) c (is_old y.vault.format c) }
 
   full_turn : (who : Option Caller) → caller_at callers a ≡ who → HasTurn serving a who → FullAt a (after_turn serving disk a who) (turn_publishes serving a who ++ P)
   full_turn None is may = absurd may
@@ -174,6 +181,7 @@ module _ (N i a n : ℕ) (c : Command) (M : History) (S : Keys) (ended : Ended i
       let add = adds counts refl in
       ((λ T was. subst (λ (d : Command). IsFull N d T) (sym add.1) (is_full N i i i a add.0 M S T t new ended holds (subst (λ (d : Command). IsPlain S (mark_of i (Full counts) ∷ Call i a d ∷ M) new) add.1 plain) (each add.0 add.1 counts refl) was)), sized)
   sized_reply Worn plain each adds = sized
+  sized_reply OldFile plain each adds = sized
   sized_reply Halted plain each adds = sized
   sized_reply Device plain each adds = sized
 

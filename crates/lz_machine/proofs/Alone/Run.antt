@@ -15,20 +15,25 @@ use Rattle.lz_machine.specs.declared.event.Event.{Event}
 use Rattle.lz_machine.specs.declared.event.Event.TheVariants.{Pin, Hop, Answer}
 use Rattle.lz_machine.specs.declared.event.Outcome.TheVariants.{Worn, NotNow, Dead}
 use Rattle.lz_machine.specs.declared.event.Reply.{Reply}
-use Rattle.lz_machine.specs.declared.event.Reply.TheVariants.{Worn as SaysWorn, Halted}
+use Rattle.lz_machine.specs.declared.event.Reply.TheVariants.{Worn as SaysWorn, OldFile as SaysOldFile, Halted}
 use Rattle.lz_machine.specs.declared.caller.Script.TheVariants.{Pinning}
 use Rattle.lz_machine.specs.declared.caller.Progress.{Progress}
 use Rattle.lz_machine.specs.declared.caller.Progress.TheVariants.{Playing, LoadsHalt, Answering}
 use Rattle.lz_machine.specs.Yards.{Yard, actor_at}
 use Rattle.lz_machine.specs.Table.{course, line, line_on, line_call, call_on, call_of, needs, pin_of, last_pin}
-use Rattle.lz_machine.specs.Calls.{event_at, loaded, progress_after}
+use Rattle.lz_machine.specs.Calls.{event_at, loaded, progress_after, first_progress}
 use Rattle.lz_machine.specs.Runs.{Caller, Service, Up, caller_at, next_event, MayLeave, LeftInside}
 use Rattle.lz_machine.specs.Alone.{has_cut}
 use Rattle.lz_machine.proofs.Alone.Service.{Ended}
 
 -- a call that finds the halt word
 abbrev pub IsHalting : Progress → Type 0
-IsHalting at = (at ≡ Playing Pinning 0) ⊎ (at ≡ LoadsHalt) ⊎ (at ≡ Answering Halted) ⊎ (at ≡ Answering SaysWorn)
+IsHalting at = (at ≡ Playing Pinning 0) ⊎ (at ≡ LoadsHalt) ⊎ (at ≡ Answering Halted) ⊎ (at ≡ Answering SaysWorn) ⊎ (at ≡ Answering SaysOldFile)
+
+-- a call begins so
+pub begun_halting : (b : Bool) → IsHalting (if b then Answering SaysOldFile else first_progress)
+begun_halting true = inr (inr (inr (inr refl)))
+begun_halting false = inl refl
 
 abbrev pub HasHalting : Option Caller → Type 0
 HasHalting None = Unit {0}
@@ -54,7 +59,7 @@ calls_nothing Plays y actor e none = none
 calls_nothing Dies y actor e none = refl
 calls_nothing (Refused outcome) y actor e none = refl
 
-pub pin_is_quiet : (y : Yard) (a : ℕ) → line_call y a Pin ≡ NoCall
+pin_is_quiet : (y : Yard) (a : ℕ) → line_call y a Pin ≡ NoCall
 pin_is_quiet y a = calls_nothing (course y a Pin) y (actor_at y a) Pin refl
 
 pub answer_is_quiet : (y : Yard) (a : ℕ) → line_call y a Answer ≡ NoCall
@@ -67,7 +72,8 @@ pub halting_quiet : (y : Yard) (a : ℕ) (c : Command) (at : Progress) → IsHal
 halting_quiet y a c at (inl is) = subst (QuietAt y a c) (sym is) (pin_is_quiet y a)
 halting_quiet y a c at (inr (inl is)) = subst (QuietAt y a c) (sym is) (calls_nothing (course y a (Hop halt_word)) y (actor_at y a) (Hop halt_word) refl)
 halting_quiet y a c at (inr (inr (inl is))) = subst (QuietAt y a c) (sym is) (answer_is_quiet y a)
-halting_quiet y a c at (inr (inr (inr is))) = subst (QuietAt y a c) (sym is) (answer_is_quiet y a)
+halting_quiet y a c at (inr (inr (inr (inl is)))) = subst (QuietAt y a c) (sym is) (answer_is_quiet y a)
+halting_quiet y a c at (inr (inr (inr (inr is)))) = subst (QuietAt y a c) (sym is) (answer_is_quiet y a)
 
 -- what a crash may leave where no device call comes next
 inside_is_image : (service : Service) (disk : Medium) (b : ℕ) (who : Option Caller) (t : List ℕ) → IsQuietCall service b who → LeftInside service disk b who t → IsImage disk t
@@ -124,7 +130,7 @@ module _ (y : Yard) (a : ℕ) (c : Command) (halt : y.words.halt ≡ 1) where
 
   pin_halted : StaysHalted y a c (Playing Pinning 0)
   pin_halted now = ⊎_elim
-      (λ worn. subst AfterPin (sym worn) (halt, inr (inr (inr refl))))
+      (λ worn. subst AfterPin (sym worn) (halt, inr (inr (inr (inl refl)))))
       (λ rest. ⊎_elim
       (λ plays. subst AfterPin (sym plays) (halt, inr (inl refl)))
       (λ not_now. absurd (now (ap (λ (k : Course). (line_on k y (actor_at y a) a Pin).1) not_now)))
@@ -144,7 +150,8 @@ module _ (y : Yard) (a : ℕ) (c : Command) (halt : y.words.halt ≡ 1) where
   turn_halted at (inl is) going = subst (StaysHalted y a c) (sym is) pin_halted
   turn_halted at (inr (inl is)) going = subst (StaysHalted y a c) (sym is) hop_halted
   turn_halted at (inr (inr (inl is))) going = absurd (going Halted is)
-  turn_halted at (inr (inr (inr is))) going = absurd (going SaysWorn is)
+  turn_halted at (inr (inr (inr (inl is)))) going = absurd (going SaysWorn is)
+  turn_halted at (inr (inr (inr (inr is)))) going = absurd (going SaysOldFile is)
 
 -- an answer leaves the halt word
 pub answer_halt : (y : Yard) (a : ℕ) → (line y a Answer).0.words.halt ≡ y.words.halt

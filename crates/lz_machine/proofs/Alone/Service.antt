@@ -5,7 +5,7 @@ use Rattle.std.proofs.lemmas.Bool.{cases_eq}
 use Rattle.std.proofs.lemmas.Bool.Decides.{nat_tests}
 use Rattle.lz_slot.specs.declared.command.Command.{Command}
 use Rattle.lz_slot.specs.declared.command.Command.TheVariants.{Has}
-use Rattle.lz_slot.specs.declared.history.Refusal.TheVariants.{Full, Worn}
+use Rattle.lz_slot.specs.declared.history.Refusal.TheVariants.{Full, Worn, OldFile}
 use Rattle.lz_slot.specs.declared.history.Cut.{Cut}
 use Rattle.lz_slot.specs.declared.history.Mark.{Mark}
 use Rattle.lz_slot.specs.declared.history.Mark.TheVariants.{Call, Answer, Refused, Cut as CutOff, Stop, Crash, Opened, OpenFailed}
@@ -283,6 +283,10 @@ served n (Refused i Worn ∷ Call j a c ∷ M) S L T h clean fits = ⊎_elim
     (λ out. (h.0, served j M S L T h.2 clean out.fits))
     (λ on. absurd (fits.not_refused j (Worn, inl (ap (λ (x : ℕ). Refused x Worn) h.0)) on.there))
     (split (Refused i Worn ∷ Call j a c ∷ M) j c M (latest_ended (Refused i Worn) j a c M h.0) h.2 clean S L T fits)
+served n (Refused i OldFile ∷ Call j a c ∷ M) S L T h clean fits = ⊎_elim
+    (λ out. (h.0, served j M S L T h.2 clean out.fits))
+    (λ on. absurd (fits.not_refused j (OldFile, inl (ap (λ (x : ℕ). Refused x OldFile) h.0)) on.there))
+    (split (Refused i OldFile ∷ Call j a c ∷ M) j c M (latest_ended (Refused i OldFile) j a c M h.0) h.2 clean S L T fits)
 served n (CutOff i why ∷ Call q a c ∷ M) S L T h clean fits = absurd (false≢true (sym clean))
 served n (Call i b d' ∷ Call q a c ∷ M) S L T h clean fits = absurd h.0
 served n (Stop ∷ Call q a c ∷ M) S L T h clean fits = absurd h.0
@@ -320,6 +324,7 @@ served_same [] S T U same h = λ k. h k ∙ same k
 served_same (Answer i answer ∷ Call j a c ∷ M) S T U same h = (h.0, h.1, (h.2.0, h.2.1, h.2.2, λ k. h.2.3 k ∙ same k))
 served_same (Refused i Full ∷ Call j a c ∷ M) S T U same h = (h.0, h.1, served_same M S T U same h.2)
 served_same (Refused i Worn ∷ Call j a c ∷ M) S T U same h = (h.0, served_same M S T U same h.1)
+served_same (Refused i OldFile ∷ Call j a c ∷ M) S T U same h = (h.0, served_same M S T U same h.1)
 served_same (CutOff i why ∷ Call j a c ∷ M) S T U same h = (h.0, served_same (Call j a c ∷ M) S T U same h.1)
 served_same (Call j a c ∷ M) S T U same (inl h) = inl (served_same M S T U same h)
 served_same (Call j a c ∷ M) S T U same (inr h) = inr (h.0, (h.1.0, h.1.1, λ k. h.1.2 k ∙ same k))

@@ -10,7 +10,7 @@ use Rattle.std.proofs.lemmas.Bool.{cases_eq, cases_Bool, not-true}
 use Rattle.std.proofs.lemmas.Bool.Decides.{nat_tests}
 use Rattle.lz_slot.specs.declared.command.Command.{Command}
 use Rattle.lz_slot.specs.declared.command.Command.TheVariants.{Add, Remove, Has}
-use Rattle.lz_slot.specs.declared.history.Refusal.TheVariants.{Full, Worn}
+use Rattle.lz_slot.specs.declared.history.Refusal.TheVariants.{Full, Worn, OldFile}
 use Rattle.lz_slot.specs.declared.history.Mark.TheVariants.{Call, Answer, Refused, Cut, Stop, Crash, Opened, OpenFailed}
 use Rattle.lz_slot.specs.declared.slot.SlotRead.{SlotRead}
 use Rattle.lz_slot.specs.declared.slot.SlotRead.TheVariants.{Closed as Shut, Member, BadKey}
@@ -150,6 +150,7 @@ plain_once n (Answer i answer ∷ Call j a c ∷ M) S T U h clean one other =
     λ k. sym (one.2.3 k) ∙ after_same c one.2.0 other.2.0 (plain_once j M S one.2.0 other.2.0 h.2 clean one.2.1 other.2.1) k ∙ other.2.3 k
 plain_once n (Refused i Full ∷ Call j a c ∷ M) S T U h clean one other = plain_once j M S T U h.2 clean one.2 other.2
 plain_once n (Refused i Worn ∷ Call j a c ∷ M) S T U h clean one other = plain_once j M S T U h.2 clean one.1 other.1
+plain_once n (Refused i OldFile ∷ Call j a c ∷ M) S T U h clean one other = plain_once j M S T U h.2 clean one.1 other.1
 plain_once n (Cut i why ∷ M) S T U h clean one other = absurd (false≢true (sym clean))
 plain_once n (Answer i answer ∷ []) S T U h clean one other = absurd h
 plain_once n (Answer i answer ∷ Answer q told ∷ M) S T U h clean one other = absurd h
@@ -175,6 +176,14 @@ plain_once n (Refused i Worn ∷ Stop ∷ M) S T U h clean one other = absurd h
 plain_once n (Refused i Worn ∷ Crash ∷ M) S T U h clean one other = absurd h
 plain_once n (Refused i Worn ∷ Opened keys ∷ M) S T U h clean one other = absurd h
 plain_once n (Refused i Worn ∷ OpenFailed reason ∷ M) S T U h clean one other = absurd h
+plain_once n (Refused i OldFile ∷ []) S T U h clean one other = absurd h
+plain_once n (Refused i OldFile ∷ Answer q told ∷ M) S T U h clean one other = absurd h
+plain_once n (Refused i OldFile ∷ Refused q reason ∷ M) S T U h clean one other = absurd h
+plain_once n (Refused i OldFile ∷ Cut q reason ∷ M) S T U h clean one other = absurd h
+plain_once n (Refused i OldFile ∷ Stop ∷ M) S T U h clean one other = absurd h
+plain_once n (Refused i OldFile ∷ Crash ∷ M) S T U h clean one other = absurd h
+plain_once n (Refused i OldFile ∷ Opened keys ∷ M) S T U h clean one other = absurd h
+plain_once n (Refused i OldFile ∷ OpenFailed reason ∷ M) S T U h clean one other = absurd h
 plain_once n (Stop ∷ M) S T U h clean one other = absurd one
 plain_once n (Crash ∷ M) S T U h clean one other = absurd one
 plain_once n (Opened keys ∷ M) S T U h clean one other = absurd one

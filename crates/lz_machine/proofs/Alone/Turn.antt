@@ -3,7 +3,7 @@ use Rattle.std.proofs.Common.{◌≡◌, ◌≢◌, ◌⊎◌, ⊎_elim, inl, in
 use Rattle.std.specs.Prelude.{if◌then◌else◌, ◌==◌}
 use mathlib.Core.Bool.{false≢true}
 use Rattle.std.proofs.lemmas.Bool.{cases_eq, cases_Bool}
-use Rattle.std.proofs.lemmas.Bool.Decides.{nat_tests, eqb_tells}
+use Rattle.std.proofs.lemmas.Bool.Decides.{nat_tests}
 use Rattle.std.proofs.lemmas.Option.{none-some}
 use Rattle.lz_slot.specs.declared.command.Command.{Command}
 use Rattle.lz_slot.specs.declared.command.Command.TheVariants.{Add, Remove, Has}
@@ -30,13 +30,13 @@ use Rattle.lz_machine.specs.declared.event.Event.TheVariants.{Hop, Reserve, Clai
 use Rattle.lz_machine.specs.declared.event.Outcome.{Outcome}
 use Rattle.lz_machine.specs.declared.event.Outcome.TheVariants.{Done, Early, NotNow, Dead}
 use Rattle.lz_machine.specs.declared.event.Reply.{Reply}
-use Rattle.lz_machine.specs.declared.event.Reply.TheVariants.{Yes, No, Full, Worn as SaysWorn, Halted, Device}
+use Rattle.lz_machine.specs.declared.event.Reply.TheVariants.{Yes, No, Full, Worn as SaysWorn, OldFile as SaysOldFile, Halted, Device}
 use Rattle.lz_machine.specs.declared.caller.Script.{Script}
 use Rattle.lz_machine.specs.declared.caller.Script.TheVariants.{Pinning, Resting, Writing, Adding, Removing, Releasing, Halting}
 use Rattle.lz_machine.specs.declared.caller.Progress.{Progress}
 use Rattle.lz_machine.specs.declared.caller.Progress.TheVariants.{Playing, LoadsHalt, Walking, Reserving, SeeingPins, Claiming, Checking, Answering}
 use Rattle.lz_machine.specs.Yards.{Shape, Yard, actor_at, cell_at}
-use Rattle.lz_machine.specs.Table.{line_publishes, line_failed, course, course_alive, line, line_on, published_on, pin_of, last_pin, slot_found, given_back, is_unused, is_sure, is_spent, slot_of}
+use Rattle.lz_machine.specs.Table.{line_publishes, line_failed, course, course_alive, line, line_on, published_on, pin_of, slot_found, given_back, is_unused, is_sure, is_spent, slot_of, stays_out}
 use Rattle.lz_machine.specs.Calls.{halts, progress_after, event_of, loaded, goes_on}
 use Rattle.lz_machine.specs.Runs.{Caller, caller_at, reply_at, next_event, moved_on}
 use Rattle.lz_machine.specs.Sound.{View, IsAdder, ReliesOn, Notes, actor_in, stage_in, pin_in, view_of, Relies, Sound}
@@ -48,6 +48,7 @@ use Rattle.lz_machine.proofs.Alone.Walk.{Finds, walk_finds}
 use Rattle.lz_machine.proofs.Alone.Full.{LeftBelow, WalkStands, AddsTo, says_yes, AloneFull, all_other, stands_playing, stands_halt, stands_claim, stands_check, AsksToAdd, stands_hops}
 use Rattle.lz_machine.proofs.Frames.Uses.{free_limbo}
 use Rattle.lz_machine.proofs.Runs.Course.{course_dead}
+use Rattle.lz_machine.proofs.Frames.Outside.{out_even}
 
 no_full_rest : (v : View) (c : Command) (s : ℕ) (counts : Counts) (i : ℕ) (P0 P : Trace) (changed : Option ℕ) → ReliesOn v c (Resting s (Full counts)) i P0 P changed → ⊥
 no_full_rest v (Add k) s counts (suc (suc i)) P0 P changed h = h
@@ -68,6 +69,7 @@ script_goes y Q v c (Resting s Yes) i P0 P changed h = tt
 script_goes y Q v c (Resting s No) i P0 P changed h = tt
 script_goes y Q v c (Resting s (Full counts)) i P0 P changed h = absurd (no_full_rest v c s counts i P0 P changed h)
 script_goes y Q v c (Resting s SaysWorn) i P0 P changed h = tt
+script_goes y Q v c (Resting s SaysOldFile) i P0 P changed h = tt
 script_goes y Q v c (Resting s Halted) i P0 P changed h = tt
 script_goes y Q v c (Resting s Device) i P0 P changed h = tt
 script_goes y Q v c (Writing s) i P0 P changed h = tt
@@ -81,6 +83,7 @@ script_goes y Q v c (Halting Yes) i P0 P changed h = tt
 script_goes y Q v c (Halting No) i P0 P changed h = tt
 script_goes y Q v c (Halting (Full counts)) i P0 P changed h = absurd (no_full_halt v c counts i P0 P changed h)
 script_goes y Q v c (Halting SaysWorn) i P0 P changed h = tt
+script_goes y Q v c (Halting SaysOldFile) i P0 P changed h = tt
 script_goes y Q v c (Halting Halted) i P0 P changed h = tt
 script_goes y Q v c (Halting Device) i P0 P changed h = tt
 
@@ -179,7 +182,7 @@ module _ (n calls : ℕ) (y : Yard) (callers : List (Option Caller)) (disk : Med
     where
       finds : (d : Command) (aim : Option ℕ) → Relies (view_of y.shape y.vault y.actors a) d (Walking aim look) (notes.begun a) P (notes.changed a) → WalkStands y P (Walking aim look) d
           → AsksToAdd d aim (λ k. Finds y.shape y.words P sound.trace sound.images.slots.1 k (hopped y.shape.buckets (key_of d) look (get y.words (wants y.shape.buckets (key_of d) look))))
-      finds (Add k) None rely stands = walk_finds y.shape y.words P sound.trace sound.images.slots.1 y.shape.passes y.vault.cells y.vault.dead (actor_in y.actors a) rely.0.hold rely.1 k look stands
+      finds (Add k) None rely stands = walk_finds y.shape y.words P sound.trace sound.images.slots.1 y.shape.passes y.vault.format y.vault.cells y.vault.dead (actor_in y.actors a) rely.0.hold rely.1 k look stands
       finds (Add k) (Some s) rely stands = tt
       finds (Remove k) None rely stands = tt
       finds (Remove k) (Some s) rely stands = tt
@@ -363,16 +366,12 @@ module _ (n calls : ℕ) (y : Yard) (callers : List (Option Caller)) (disk : Med
   yes_left : (line y a Answer).1 ≢ NotNow → pin_of y a % 2 ≡ 1 → HasLeft (line y a Answer).0.uses a
   yes_left now odd = ⊎_elim
       (λ dead. absurd (false≢true (sym dead.1)))
-      (λ alive. subst (λ (k : Course). HasLeft (line_on k y actor a Answer).0.uses a) (sym alive) (go (pin_of y a == last_pin) refl))
+      (λ alive. subst (λ (k : Course). HasLeft (line_on k y actor a Answer).0.uses a) (sym alive) (go (stays_out actor (pin_of y a)) refl))
       (course_is y a Answer now)
     where
-      go : (worn : Bool) → (pin_of y a == last_pin) ≡ worn → HasLeft (line_on (if worn then Refused Done else Plays) y actor a Answer).0.uses a
+      go : (out : Bool) → stays_out actor (pin_of y a) ≡ out → HasLeft (line_on (if out then Refused Done else Plays) y actor a Answer).0.uses a
       go false is = seen_outside (given_back y actor.slot) a (pin_of y a + 1) (omega (arith, odd)) (given_odd actor.slot a)
-      go true is = absurd (parity (pin_of y a) odd (eqb_tells (pin_of y a) last_pin) is)
-        where
-          parity : (v : ℕ) → v % 2 ≡ 1 → (((v == last_pin) ≡ true) × (v ≡ last_pin)) ⊎ (((v == last_pin) ≡ false) × (v ≢ last_pin)) → (v == last_pin) ≡ true → ⊥
-          parity v odd (inl same) is = omega (arith, odd, same.1)
-          parity v odd (inr other) is = false≢true (sym other.0 ∙ is)
+      go true is = absurd (omega (arith, odd, out_even actor (pin_of y a) is))
 
   answering : (reply : Reply) → caller_at callers a ≡ Some (call_at i c (Answering reply)) → AloneFull a y (Some (call_at i c (Answering reply))) P → (line y a Answer).1 ≢ NotNow
       → AloneFull a (line y a Answer).0 None (line_publishes y a Answer ++ P)

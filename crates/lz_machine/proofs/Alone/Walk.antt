@@ -1,5 +1,6 @@
 -- A walk of one actor alone: nothing changes under it, so that it finds the set as it is.
 use Rattle.std.proofs.Common.{◌≡◌, inl, inr, ℕ, suc, ◌≤◌, ◌<◌, not, Bool, true, false, List, [], ◌∷◌, length, None, refl, ap, ◌∙◌, subst, arith}
+use Rattle.lz_slot.specs.declared.format.Format.{Format}
 use Rattle.lz_slot.specs.Limits.{most_slots}
 use Rattle.lz_slot.specs.declared.command.Command.TheVariants.{Has}
 use Rattle.lz_list.specs.declared.walk.Look.{Look}
@@ -66,9 +67,9 @@ module _ (shape : Shape) (words : Words) (P : Trace) (trace : TraceSound shape w
   Finds k (End pred curr (Marked s flags)) = member k P ≡ false
   Finds k (End pred curr (Unmarked s flags)) = Unit {0}
 
-  module _ (passes : ℕ) (cells : List Cell) (dead : Bool) (actor : Actor) (idle : actor.hold ≡ Nothing) (no_slot : actor.slot ≡ None) where
+  module _ (passes : ℕ) (format : Format) (cells : List Cell) (dead : Bool) (actor : Actor) (idle : actor.hold ≡ Nothing) (no_slot : actor.slot ≡ None) where
     abbrev v : View
-    v = record { buckets = shape.buckets; passes = passes; cells = cells; dead = dead; actor = actor }
+    v = record { buckets = shape.buckets; passes = passes; format = format; cells = cells; dead = dead; actor = actor }
 
     finds : (k : ℕ) (h : Hopped) → GoesOn v (Has k) (hops_on (Has k) None h) P P None → Finds k h
     finds k (More look) on = on.relies.2
@@ -82,4 +83,4 @@ module _ (shape : Shape) (words : Words) (P : Trace) (trace : TraceSound shape w
 
     pub walk_finds : (k : ℕ) (look : Look) → IsLooking shape.buckets k P P look → Finds k (hopped shape.buckets k look (get words (wants shape.buckets k look)))
     walk_finds k look looking = finds k (hopped shape.buckets k look (get words (wants shape.buckets k look)))
-        (hop_after shape words P trace few P (quiet_before shape.buckets P P (omega arith)) (begins_itself P) passes cells dead actor None (Has k) None look (record { hold = idle; none = refl }) no_slot tt looking)
+        (hop_after shape words P trace few P (quiet_before shape.buckets P P (omega arith)) (begins_itself P) passes format cells dead actor None (Has k) None look (record { hold = idle; none = refl }) no_slot tt looking)

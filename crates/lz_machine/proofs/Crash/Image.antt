@@ -7,11 +7,12 @@ use Rattle.std.proofs.lemmas.Bool.Decides.{nat_tests}
 use Rattle.lz_slot.specs.declared.command.Command.{Command}
 use Rattle.lz_slot.specs.declared.command.Command.TheVariants.{Add, Remove}
 use Rattle.lz_slot.specs.Sets.{Keys, Same, key_of, after, reply}
-use Rattle.lz_slot.specs.Bytes.{Holds, slot_at, open_byte, header_body}
+use Rattle.lz_slot.specs.Bytes.{Holds, format_of, slot_at, open_byte, header_body}
 use Rattle.lz_slot.specs.declared.slot.SlotRead.{SlotRead}
 use Rattle.lz_slot.specs.declared.slot.SlotRead.TheVariants.{Closed as Shut, Member, BadKey}
 use Rattle.lz_slot.specs.Histories.{History, Life, Fits, Runs, IsUnderWay}
 use Rattle.lz_disk.specs.Images.{Medium, IsImage}
+use Rattle.lz_vault.proofs.Reading.{image_format}
 use Rattle.lz_vault.specs.declared.vault.Stage.{Stage}
 use Rattle.lz_vault.specs.declared.vault.Stage.TheVariants.{Closed, KeyLoose, Keyed, Opening, Open, Closing}
 use Rattle.lz_list.specs.Traces.{Trace, on, chain_of, key_word, member, linking, is_settled, is_removed, is_marked, SettledYes, SettledNo, IsNode}
@@ -219,10 +220,15 @@ module _ (n calls : ℕ) (service : Service) (disk : Medium) (life : Life) (P : 
   image_holds : Holds t N now
   image_holds =
       let vouches = up.sound.images.keeps.vouches in
+      let count = up.sound.images.count in
+      let names : service.yard.vault.format ≡ format_of t =
+      sym (image_format service.yard.vault.format service.yard.vault.cells disk vouches t (omega (arith, count, up.sound.images.slots.0)) (omega (arith, count, up.sound.images.slots.1)) image)
+      in
       record {
         count = up.sound.images.slots;
-        size = vouches.size t image ∙ ap (λ (q : ℕ). 16 + 16 * q) up.sound.images.count;
-        head = vouches.head t image ∙ ap (λ (q : ℕ). open_byte ∷ header_body q) up.sound.images.count;
+        size = vouches.size t image ∙ ap (λ (q : ℕ). 16 + 16 * q) count;
+        head = vouches.head t image
+            ∙ (λ i. open_byte ∷ header_body (names i) (count i));
         no_bad_key = λ i lt. no_bad_key (cell_in service.yard.vault.cells i).key (slot_at t i) (one_or_other (stage_in service.yard.vault.cells i) (cell_in service.yard.vault.cells i).key (slot_at t i) (reads n calls service.yard service.callers disk life.history P notes up.sound t image i lt));
         no_key_twice = λ i j k lt lt' is is'. read_once n calls service.yard service.callers disk life.history P notes up.sound t image i j k lt lt' is is';
         set = λ k. (λ has. found_in t N k has, λ (i, lt, is). in_found t N k i lt is);

@@ -186,7 +186,7 @@ module _ (n calls : ℕ) (y : Yard) (callers : List (Option Caller)) (disk : Med
     pub reads : (s : ℕ) → s < y.shape.slots → MayRead (stage_in y.vault.cells s) (cell_in y.vault.cells s).key (slot_at t s)
     reads s lt =
         let there : slice_get y.vault.cells s ≡ Some (cell_in y.vault.cells s) = slice_get-get_or y.vault.cells s no_cell (omega (arith, lt, sound.images.count)) in
-        image_reads y.vault.cells disk sound.images.keeps.vouches t s (cell_in y.vault.cells s) image there (sound.images.keys s (cell_in y.vault.cells s) there)
+        image_reads y.vault.format y.vault.cells disk sound.images.keeps.vouches t s (cell_in y.vault.cells s) (omega (arith, sound.images.count, sound.images.slots.1)) image there (sound.images.keys s (cell_in y.vault.cells s) there)
 
     not_shut : (s k : ℕ) → s < y.shape.slots → slot_at t s ≡ Member k → IsGateClosed (stage_in y.vault.cells s) → ⊥
     not_shut s k lt is shut = not_both k (slot_at t s) (shut_read (stage_in y.vault.cells s) (cell_in y.vault.cells s).key (slot_at t s) (reads s lt) shut) is

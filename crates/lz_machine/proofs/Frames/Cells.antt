@@ -1,12 +1,13 @@
 -- What a caller relies on stays when another's event changes cells, or the vault dies.
 use Rattle.std.proofs.Common.{◌≡◌, ℕ, zero, suc, Bool, true, List, Option, Some, None, ◌∙◌}
+use Rattle.lz_slot.specs.declared.format.Format.{Format}
 use Rattle.lz_slot.specs.declared.command.Command.{Command}
 use Rattle.lz_slot.specs.declared.command.Command.TheVariants.{Add, Remove, Has}
 use Rattle.lz_slot.specs.Sets.{key_of}
 use Rattle.lz_vault.specs.declared.vault.Stage.TheVariants.{Keyed}
 use Rattle.lz_vault.specs.Stages.{Cell}
 use Rattle.lz_list.specs.Traces.{Trace}
-use Rattle.lz_machine.specs.declared.event.Reply.TheVariants.{Yes, No, Full, Worn as SaysWorn, Halted, Device}
+use Rattle.lz_machine.specs.declared.event.Reply.TheVariants.{Yes, No, Full, Worn as SaysWorn, OldFile as SaysOldFile, Halted, Device}
 use Rattle.lz_machine.specs.declared.actor.Actor.{Actor}
 use Rattle.lz_machine.specs.declared.caller.Script.{Script}
 use Rattle.lz_machine.specs.declared.caller.Script.TheVariants.{Pinning, Resting, Writing, Adding, Removing, Releasing, Halting}
@@ -21,12 +22,12 @@ pub record KeepsCell (old new : Cell) : Type 0 where
   pub keyed : IsKeyed old.stage → IsKeyed new.stage
   pub sure : old.stage ≡ Keyed → new.stage ≡ Keyed
 
-module _ (buckets passes : ℕ) (cells cells' : List Cell) (dead dead' : Bool) (actor : Actor) (P0 P : Trace) (changed : Option ℕ) (dies : dead ≡ true → dead' ≡ true) (keeps : (s : ℕ) → actor.slot ≡ Some s → KeepsCell (cell_in cells s) (cell_in cells' s)) where
+module _ (buckets passes : ℕ) (format : Format) (cells cells' : List Cell) (dead dead' : Bool) (actor : Actor) (P0 P : Trace) (changed : Option ℕ) (dies : dead ≡ true → dead' ≡ true) (keeps : (s : ℕ) → actor.slot ≡ Some s → KeepsCell (cell_in cells s) (cell_in cells' s)) where
   abbrev v : View
-  v = record { buckets = buckets; passes = passes; cells = cells; dead = dead; actor = actor }
+  v = record { buckets = buckets; passes = passes; format = format; cells = cells; dead = dead; actor = actor }
 
   abbrev w : View
-  w = record { buckets = buckets; passes = passes; cells = cells'; dead = dead'; actor = actor }
+  w = record { buckets = buckets; passes = passes; format = format; cells = cells'; dead = dead'; actor = actor }
 
   written_keeps : (k s : ℕ) → IsWritten v k s P → IsWritten w k s P
   written_keeps k s h = let c = keeps s h.slot in record { slot = h.slot; stage = c.sure h.stage; key = c.key ∙ h.key; word = h.word }

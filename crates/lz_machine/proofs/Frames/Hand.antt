@@ -44,7 +44,7 @@ module _ (n calls : ℕ) (y : Yard) (callers : List (Option Caller)) (disk : Med
   other_hand b other = of_pass_other y.actors a b x idle_actor other
 
   pub hands_keep : (locks : NodeLocks) (next : Progress) → KeepsTail (notes.changed a) caller.progress next → LocksSound y.shape locks (set_of_pass y.actors a x) P → KeepsGrips y.vault.dead y.vault.dead (actor_in y.actors a) x
-      → CallerSound (record { buckets = y.shape.buckets; passes = y.shape.passes; cells = y.vault.cells; dead = y.vault.dead; actor = x }) (pin_in y.words.pins a) (Some (moved caller next)) (notes.begun a) P (notes.changed a)
+      → CallerSound (record { buckets = y.shape.buckets; passes = y.shape.passes; format = y.vault.format; cells = y.vault.cells; dead = y.vault.dead; actor = x }) (pin_in y.words.pins a) (Some (moved caller next)) (notes.begun a) P (notes.changed a)
       → Sound n calls (in_hands y locks a x) (moving callers a caller next) disk M P notes
   hands_keep locks next keeps held grips mine = record {
     trace = sound.trace;
@@ -52,7 +52,7 @@ module _ (n calls : ℕ) (y : Yard) (callers : List (Option Caller)) (disk : Med
     slots = slots_turn y.shape y.vault.cells y.vault.dead y.vault.dead y.uses y.actors (set_of_pass y.actors a x) P every_grip sound.slots;
     locks = held;
     callers = callers_turn callers a caller at next y.shape y.vault y.words.pins y.actors (set_of_pass y.actors a x) P notes (length-set_of_pass y.actors a x) other_hand
-        (subst (λ (q : Actor). CallerSound (record { buckets = y.shape.buckets; passes = y.shape.passes; cells = y.vault.cells; dead = y.vault.dead; actor = q }) (pin_in y.words.pins a) (Some (moved caller next)) (notes.begun a) P (notes.changed a)) (sym same_hand) mine)
+        (subst (λ (q : Actor). CallerSound (record { buckets = y.shape.buckets; passes = y.shape.passes; format = y.vault.format; cells = y.vault.cells; dead = y.vault.dead; actor = q }) (pin_in y.words.pins a) (Some (moved caller next)) (notes.begun a) P (notes.changed a)) (sym same_hand) mine)
         sound.callers;
     reuse = reuse_turn y.shape y.words.pins y.uses y.actors (set_of_pass y.actors a x) P notes.begun same_slots sound.reuse;
     ledger = ledger_turn callers a caller at next n calls y.shape.passes P M notes sound.ledger;

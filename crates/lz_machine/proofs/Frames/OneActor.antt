@@ -4,6 +4,7 @@ use Rattle.std.proofs.lemmas.Bool.{cases_eq, cases_lt}
 use Rattle.std.proofs.lemmas.Bool.Decides.{eqb_tells}
 use Rattle.std.proofs.lemmas.List.{get_or_past}
 use Rattle.std.proofs.lemmas.Option.{same_Some, none-some}
+use Rattle.lz_slot.specs.declared.format.Format.{Format}
 use Rattle.lz_slot.specs.declared.command.Command.{Command}
 use Rattle.lz_slot.specs.Counted.{set_of_pass}
 use Rattle.lz_slot.specs.Histories.{History, IsUnderWay}
@@ -38,16 +39,16 @@ abbrev pub moving : List (Option Caller) → ℕ → Caller → Progress → Lis
 moving callers a caller next = set_of_pass callers a (Some (moved caller next))
 
 -- what is said of a caller depends on its actor, pin word, call, and notes alone
-pub carry : (buckets passes : ℕ) (cells : List Cell) (dead : Bool) (P : Trace) (actor actor' : Actor) (pin pin' : ℕ) (caller caller' : Option Caller) (P0 P0' : Trace) (changed changed' : Option ℕ)
+pub carry : (buckets passes : ℕ) (format : Format) (cells : List Cell) (dead : Bool) (P : Trace) (actor actor' : Actor) (pin pin' : ℕ) (caller caller' : Option Caller) (P0 P0' : Trace) (changed changed' : Option ℕ)
     → actor' ≡ actor → pin' ≡ pin → caller' ≡ caller → P0' ≡ P0 → changed' ≡ changed
-    → CallerSound (record { buckets = buckets; passes = passes; cells = cells; dead = dead; actor = actor }) pin caller P0 P changed
-    → CallerSound (record { buckets = buckets; passes = passes; cells = cells; dead = dead; actor = actor' }) pin' caller' P0' P changed'
-carry buckets passes cells dead P actor actor' pin pin' caller caller' P0 P0' changed changed' e1 e2 e3 e4 e5 h =
-    subst (λ (q : Actor). CallerSound (record { buckets = buckets; passes = passes; cells = cells; dead = dead; actor = q }) pin' caller' P0' P changed') (sym e1)
-    (subst (λ (q : ℕ). CallerSound (record { buckets = buckets; passes = passes; cells = cells; dead = dead; actor = actor }) q caller' P0' P changed') (sym e2)
-    (subst (λ (q : Option Caller). CallerSound (record { buckets = buckets; passes = passes; cells = cells; dead = dead; actor = actor }) pin q P0' P changed') (sym e3)
-    (subst (λ (q : Trace). CallerSound (record { buckets = buckets; passes = passes; cells = cells; dead = dead; actor = actor }) pin caller q P changed') (sym e4)
-    (subst (λ (q : Option ℕ). CallerSound (record { buckets = buckets; passes = passes; cells = cells; dead = dead; actor = actor }) pin caller P0 P q) (sym e5) h))))
+    → CallerSound (record { buckets = buckets; passes = passes; format = format; cells = cells; dead = dead; actor = actor }) pin caller P0 P changed
+    → CallerSound (record { buckets = buckets; passes = passes; format = format; cells = cells; dead = dead; actor = actor' }) pin' caller' P0' P changed'
+carry buckets passes format cells dead P actor actor' pin pin' caller caller' P0 P0' changed changed' e1 e2 e3 e4 e5 h =
+    subst (λ (q : Actor). CallerSound (record { buckets = buckets; passes = passes; format = format; cells = cells; dead = dead; actor = q }) pin' caller' P0' P changed') (sym e1)
+    (subst (λ (q : ℕ). CallerSound (record { buckets = buckets; passes = passes; format = format; cells = cells; dead = dead; actor = actor }) q caller' P0' P changed') (sym e2)
+    (subst (λ (q : Option Caller). CallerSound (record { buckets = buckets; passes = passes; format = format; cells = cells; dead = dead; actor = actor }) pin q P0' P changed') (sym e3)
+    (subst (λ (q : Trace). CallerSound (record { buckets = buckets; passes = passes; format = format; cells = cells; dead = dead; actor = actor }) pin caller q P changed') (sym e4)
+    (subst (λ (q : Option ℕ). CallerSound (record { buckets = buckets; passes = passes; format = format; cells = cells; dead = dead; actor = actor }) pin caller P0 P q) (sym e5) h))))
 
 module _ (callers : List (Option Caller)) (a : ℕ) (caller : Caller) (at : caller_at callers a ≡ Some caller) (next : Progress) where
   pub moved_same : caller_at (moving callers a caller next) a ≡ Some (moved caller next)
@@ -108,7 +109,7 @@ module _ (callers : List (Option Caller)) (a : ℕ) (caller : Caller) (at : call
     hands = count ∙ h.hands;
     each = by_actor (λ b. CallerSound (view_of shape vault actors' b) (pin_in pins b) (caller_at (moving callers a caller next) b) (notes.begun b) P (notes.changed b)) a
         (subst (λ (q : Option Caller). CallerSound (view_of shape vault actors' a) (pin_in pins a) q (notes.begun a) P (notes.changed a)) (sym moved_same) mine)
-        (λ b other. carry shape.buckets shape.passes vault.cells vault.dead P (actor_in actors b) (actor_in actors' b) (pin_in pins b) (pin_in pins b) (caller_at callers b) (caller_at (moving callers a caller next) b) (notes.begun b) (notes.begun b) (notes.changed b) (notes.changed b) (others b other) refl (moved_other b other) refl refl (h.each b));
+        (λ b other. carry shape.buckets shape.passes vault.format vault.cells vault.dead P (actor_in actors b) (actor_in actors' b) (pin_in pins b) (pin_in pins b) (caller_at callers b) (caller_at (moving callers a caller next) b) (notes.begun b) (notes.begun b) (notes.changed b) (notes.changed b) (others b other) refl (moved_other b other) refl refl (h.each b));
   }
 
 -- a pending row is listed

@@ -134,7 +134,7 @@ module _ (n calls : ℕ) (y : Yard) (callers : List (Option Caller)) (disk : Med
       callers = record {
         count = sound.callers.count;
         hands = sound.callers.hands;
-        each = λ b. caller_published y.shape.buckets y.shape.slots (settled s c) P (tt, sound.trace.lawful) y.shape.passes y.vault.cells y.vault.dead (actor_in y.actors b) (pin_in y.words.pins b) (notes.begun b) (notes.changed b) (leaves b) (caller_at callers b) (sound.callers.each b);
+        each = λ b. caller_published y.shape.buckets y.shape.slots (settled s c) P (tt, sound.trace.lawful) y.shape.passes y.vault.format y.vault.cells y.vault.dead (actor_in y.actors b) (pin_in y.words.pins b) (notes.begun b) (notes.changed b) (leaves b) (caller_at callers b) (sound.callers.each b);
       };
       reuse = reuse_settled s c y.shape y.vault.cells y.vault.dead y.uses y.actors P y.words.pins notes.begun sound.slots sound.reuse;
       ledger = ledger_published n calls y.shape.passes callers (settled s c) P M notes tt sound.ledger;

@@ -4,6 +4,7 @@ use Rattle.std.proofs.Common.{List, ◌≡◌, ◌⊎◌, ⊎_elim, inl, inr, �
 use mathlib.Core.Bool.{false≢true}
 use Rattle.std.proofs.lemmas.Bool.{cases_Bool}
 use Rattle.std.proofs.lemmas.Bool.Decides.{eqb_tells}
+use Rattle.lz_slot.specs.declared.format.Format.{Format}
 use Rattle.lz_slot.specs.declared.command.Command.{Command}
 use Rattle.lz_slot.specs.declared.command.Command.TheVariants.{Add, Remove, Has}
 use Rattle.lz_slot.specs.Sets.{key_of}
@@ -22,7 +23,7 @@ use Rattle.lz_list.proofs.Absent.{begins_itself}
 use Rattle.lz_list.proofs.Hindsight.{key_stays, once_weaker, next_stood}
 use Rattle.lz_list.proofs.Resting.{mark_stays, linking_stays, removed_later}
 use Rattle.lz_machine.specs.declared.event.Reply.{Reply}
-use Rattle.lz_machine.specs.declared.event.Reply.TheVariants.{Yes, No, Full, Worn as SaysWorn, Halted, Device}
+use Rattle.lz_machine.specs.declared.event.Reply.TheVariants.{Yes, No, Full, Worn as SaysWorn, OldFile as SaysOldFile, Halted, Device}
 use Rattle.lz_machine.specs.declared.actor.Actor.{Actor}
 use Rattle.lz_machine.specs.declared.actor.Hold.{Hold}
 use Rattle.lz_machine.specs.declared.actor.Hold.TheVariants.{Nothing, Checked, GateClosed, Marked, Locks, GateOpened, Linked, Unlinked, Released}
@@ -222,9 +223,9 @@ module _ (buckets slots : ℕ) (e : Publishing) (P : Trace) (law : Lawful bucket
     pub word : (s : ℕ) → actor.slot ≡ Some s → key_word s (e ∷ P) ≡ key_word s P
     pub node : (t : ℕ) → actor.curr ≡ Some t → relies_on_node actor.hold ≡ true → on 0 (chain_of buckets (key_word t P) P) (suc t) ≡ true
 
-  module _ (passes : ℕ) (cells : List Cell) (dead : Bool) (actor : Actor) (pin : ℕ) (P0 : Trace) (changed : Option ℕ) (leaves : LeavesCaller actor pin P0) where
+  module _ (passes : ℕ) (format : Format) (cells : List Cell) (dead : Bool) (actor : Actor) (pin : ℕ) (P0 : Trace) (changed : Option ℕ) (leaves : LeavesCaller actor pin P0) where
     abbrev v : View
-    v = record { buckets = buckets; passes = passes; cells = cells; dead = dead; actor = actor }
+    v = record { buckets = buckets; passes = passes; format = format; cells = cells; dead = dead; actor = actor }
 
     written_stays : (k s : ℕ) → IsWritten v k s P → IsWritten v k s (e ∷ P)
     written_stays k s h = record { slot = h.slot; stage = h.stage; key = h.key; word = leaves.word s h.slot ∙ h.word }
@@ -281,7 +282,7 @@ module _ (buckets slots : ℕ) (e : Publishing) (P : Trace) (law : Lawful bucket
       adding_stays k s _ h = (h.0, added_stays P0 (leaves.kept inside) quiet k s changed h.1)
 
       on_stays : (c : Command) (script : Script) (i : ℕ) → ReliesOn v c script i P0 P changed → ReliesOn v c script i P0 (e ∷ P) changed
-      on_stays c Pinning zero h = (idle_stays actor h.0, h.1)
+      on_stays c Pinning zero h = (idle_stays actor h.0, h.1, h.2)
       on_stays c (Resting s reply) zero h = (h.0, rest_stays c reply s P0 h.1)
       on_stays c (Resting s reply) (suc zero) h = (h.0, rest_stays c reply s P0 h.1)
       on_stays c (Writing s) i h = writing_stays c s i h
@@ -299,7 +300,8 @@ module _ (buckets slots : ℕ) (e : Publishing) (P : Trace) (law : Lawful bucket
       relies_stays c (SeeingPins p) h = h
       relies_stays c (Claiming aim pred curr) h = (h.0, aimed_stays (key_of c) aim h.1, ended_stays P0 (leaves.kept inside) quiet c aim pred curr h.2)
       relies_stays c (Checking aim curr) h = (h.0, h.1, h.2, aimed_stays (key_of c) aim h.3, ended_stays P0 (leaves.kept inside) quiet c aim actor.pred curr h.4)
-      relies_stays c (Answering SaysWorn) h = (idle_stays actor h.0, h.1)
+      relies_stays c (Answering SaysWorn) h = (idle_stays actor h.0, h.1, h.2)
+      relies_stays c (Answering SaysOldFile) h = (idle_stays actor h.0, h.1, h.2, h.3)
       relies_stays c (Answering Yes) h = (answer_stays c Yes P0 changed h.0, let_go actor.hold h.1)
       relies_stays c (Answering No) h = (answer_stays c No P0 changed h.0, let_go actor.hold h.1)
       relies_stays c (Answering (Full counts)) h = (answer_stays c (Full counts) P0 changed h.0, let_go actor.hold h.1)
@@ -308,9 +310,10 @@ module _ (buckets slots : ℕ) (e : Publishing) (P : Trace) (law : Lawful bucket
 
     -- a call whose pass is outside has nothing but what it keeps while idle
     outside_stays : (c : Command) (at : Progress) → is_before_pin at ≡ true → Relies v c at P0 P changed → Relies v c at P0 (e ∷ P) changed
-    outside_stays c (Playing Pinning zero) is h = (idle_stays actor h.0, h.1)
+    outside_stays c (Playing Pinning zero) is h = (idle_stays actor h.0, h.1, h.2)
     outside_stays c (Playing Pinning (suc i)) is h = absurd h
-    outside_stays c (Answering SaysWorn) is h = (idle_stays actor h.0, h.1)
+    outside_stays c (Answering SaysWorn) is h = (idle_stays actor h.0, h.1, h.2)
+    outside_stays c (Answering SaysOldFile) is h = (idle_stays actor h.0, h.1, h.2, h.3)
     outside_stays c _ is h = absurd (false≢true is)
 
     caller_stands : (caller : Option Caller) → (IsInside pin → IsQuiet buckets P0 P) → IsCaller v pin caller P0 P changed → IsCaller v pin caller P0 (e ∷ P) changed

@@ -7,20 +7,20 @@ use Rattle.lz_slot.specs.declared.command.Command.TheVariants.{Add, Remove, Has}
 use Rattle.lz_slot.specs.declared.history.Mark.{Mark}
 use Rattle.lz_slot.specs.declared.history.Mark.TheVariants.{Call, Answer, Refused, Cut}
 use Rattle.lz_slot.specs.declared.history.Refusal.{Refusal}
-use Rattle.lz_slot.specs.declared.history.Refusal.TheVariants.{Full as refused_full, Worn as refused_worn}
+use Rattle.lz_slot.specs.declared.history.Refusal.TheVariants.{Full as refused_full, Worn as refused_worn, OldFile as refused_old_file}
 use Rattle.lz_slot.specs.declared.history.Cut.{Cut as CutWhy}
 use Rattle.lz_slot.specs.declared.history.Cut.TheVariants.{Halted as cut_halted, Device as cut_device}
 use Rattle.lz_slot.specs.Sets.{key_of, reply, moved}
 use Rattle.lz_slot.specs.Histories.{History, HasMark, IsAnswered, IsUnderWay}
 use Rattle.lz_list.specs.Traces.{Trace, Begins, SettledYes, SettledNo}
 use Rattle.lz_machine.specs.declared.event.Reply.{Reply}
-use Rattle.lz_machine.specs.declared.event.Reply.TheVariants.{Yes, No, Full, Worn as SaysWorn, Halted, Device}
+use Rattle.lz_machine.specs.declared.event.Reply.TheVariants.{Yes, No, Full, Worn as SaysWorn, OldFile as SaysOldFile, Halted, Device}
 use Rattle.lz_machine.specs.declared.caller.Progress.TheVariants.{Answering}
 use Rattle.lz_machine.specs.Runs.{Caller, caller_at, mark_of}
 use Rattle.lz_machine.specs.Ledgers.{Row, HasRow, times}
 use Rattle.lz_machine.specs.Kept.{upto, IsRowOf}
 use Rattle.lz_machine.specs.Entries.{IsRowIn, IsSettledEntry}
-use Rattle.lz_machine.specs.Sound.{Notes, IsInside, pin_in, pending_row, entries, RestsYes, RestsNo, IsSettledChange, MayAnswer, LedgerSound, IsAfter, may_have_tail}
+use Rattle.lz_machine.specs.Sound.{Notes, IsInside, pin_in, pending_row, entries, RestsYes, RestsNo, IsSettledChange, MayAnswer, LedgerSound, IsAfter, may_have_tail, is_before_pin}
 use Rattle.lz_machine.proofs.Ledger.Fit.{each_has}
 use Rattle.lz_machine.proofs.Ledger.Order.{has_left}
 use Rattle.lz_machine.proofs.Frames.Limbo.{shorter}
@@ -254,25 +254,28 @@ module _ (n calls passes : ℕ) (callers : List (Option Caller)) (P : Trace) (M 
   abbrev pub EndsSo : (c : Command) (says : Reply) → caller_at callers a ≡ Some (call_at i c (Answering says)) → Type 0
   EndsSo c says at = Ends n calls passes callers P M notes a i c says at le sound pins after (mark_of i says)
 
-  -- a call whose pass is inside, or that is refused because its pass is worn
-  pub ends : (c : Command) (says : Reply) (at : caller_at callers a ≡ Some (call_at i c (Answering says))) → (says ≡ SaysWorn) ⊎ (IsInside (pin_in pins a) × (n ≤ length (notes.begun a))) → MayAnswer c says (notes.begun a) P (notes.changed a) → EndsSo c says at
+  -- a call whose pass is inside, or that was refused outside
+  pub ends : (c : Command) (says : Reply) (at : caller_at callers a ≡ Some (call_at i c (Answering says))) → (is_before_pin (Answering says) ≡ true) ⊎ (IsInside (pin_in pins a) × (n ≤ length (notes.begun a))) → MayAnswer c says (notes.begun a) P (notes.changed a) → EndsSo c says at
   ends (Has k) Yes at (inr h) may = rests_yes n calls passes callers P M notes a i (Has k) Yes at le sound pins after true refl refl refl h.0 h.1 may.0 may.1
   ends (Has k) No at (inr h) may = rests_no n calls passes callers P M notes a i (Has k) No at le sound pins after false refl refl refl h.0 h.1 may.0 may.1
   ends (Add k) Yes at (inr h) may = changed_row n calls passes callers P M notes a i (Add k) Yes at le sound pins after refl may
   ends (Add k) No at (inr h) may = rests_yes n calls passes callers P M notes a i (Add k) No at le sound pins after false refl (moved_yes k) refl h.0 h.1 may.0 may.1
   ends (Remove k) Yes at (inr h) may = changed_row n calls passes callers P M notes a i (Remove k) Yes at le sound pins after refl may
   ends (Remove k) No at (inr h) may = rests_no n calls passes callers P M notes a i (Remove k) No at le sound pins after false refl (moved_no k) refl h.0 h.1 may.0 may.1
-  ends (Has k) Yes at (inl e) may = absurd cc
-  ends (Has k) No at (inl e) may = absurd cc
-  ends (Add k) Yes at (inl e) may = absurd cc
-  ends (Add k) No at (inl e) may = absurd cc
-  ends (Remove k) Yes at (inl e) may = absurd cc
-  ends (Remove k) No at (inl e) may = absurd cc
+  ends (Has k) Yes at (inl e) may = absurd (false≢true e)
+  ends (Has k) No at (inl e) may = absurd (false≢true e)
+  ends (Add k) Yes at (inl e) may = absurd (false≢true e)
+  ends (Add k) No at (inl e) may = absurd (false≢true e)
+  ends (Remove k) Yes at (inl e) may = absurd (false≢true e)
+  ends (Remove k) No at (inl e) may = absurd (false≢true e)
   ends (Has k) (Full counts) at h may = refused_row n calls passes callers P M notes a i (Has k) (Full counts) at le sound pins after refused_full refl may
   ends (Add k) (Full counts) at h may = refused_row n calls passes callers P M notes a i (Add k) (Full counts) at le sound pins after refused_full refl may
   ends (Remove k) (Full counts) at h may = refused_row n calls passes callers P M notes a i (Remove k) (Full counts) at le sound pins after refused_full refl may
   ends (Has k) SaysWorn at h may = refused_row n calls passes callers P M notes a i (Has k) SaysWorn at le sound pins after refused_worn refl may
+  ends (Has k) SaysOldFile at h may = refused_row n calls passes callers P M notes a i (Has k) SaysOldFile at le sound pins after refused_old_file refl may
   ends (Add k) SaysWorn at h may = refused_row n calls passes callers P M notes a i (Add k) SaysWorn at le sound pins after refused_worn refl may
+  ends (Add k) SaysOldFile at h may = refused_row n calls passes callers P M notes a i (Add k) SaysOldFile at le sound pins after refused_old_file refl may
   ends (Remove k) SaysWorn at h may = refused_row n calls passes callers P M notes a i (Remove k) SaysWorn at le sound pins after refused_worn refl may
+  ends (Remove k) SaysOldFile at h may = refused_row n calls passes callers P M notes a i (Remove k) SaysOldFile at le sound pins after refused_old_file refl may
   ends c Halted at h may = cut_row n calls passes callers P M notes a i c Halted at le sound pins after cut_halted
   ends c Device at h may = cut_row n calls passes callers P M notes a i c Device at le sound pins after cut_device

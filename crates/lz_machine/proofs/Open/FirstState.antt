@@ -8,13 +8,14 @@ use Rattle.std.proofs.lemmas.List.{length-replicate, length-append, length-map, 
 use Rattle.std.proofs.lemmas.List.Edits.{length-between}
 use Rattle.std.proofs.lemmas.Option.{slice_get_within, get_or_from_slice_get, none-some}
 use Rattle.std.specs.Cmp.{both_ways}
-use Rattle.lz_slot.specs.Limits.{largest_key}
+use Rattle.lz_slot.specs.Rooms.{largest_of}
+use Rattle.lz_slot.specs.declared.format.Format.{Format}
 use Rattle.lz_slot.specs.Sets.{Keys}
 use Rattle.lz_slot.specs.Counted.{of_pass}
-use Rattle.lz_slot.specs.Bytes.{Holds, open_byte, header_body, slot_bytes, slot_read, slot_at, held}
+use Rattle.lz_slot.specs.Bytes.{Holds, format_of, open_byte, header_body, slot_bytes, slot_read, slot_at, held}
 use Rattle.lz_slot.specs.declared.slot.SlotRead.{SlotRead}
 use Rattle.lz_slot.specs.declared.slot.SlotRead.TheVariants as read
-use Rattle.lz_slot.proofs.Exact.{slot_is_of_its_key}
+use Rattle.lz_slot.proofs.Exact.{read_fits, slot_is_of_its_key, zero_fits}
 use Rattle.lz_disk.specs.Images.{AreBytes, IsImage, at_rest}
 use Rattle.lz_disk.proofs.Writes.{synced_image, synced_sound}
 use Rattle.lz_vault.specs.declared.vault.Stage.TheVariants.{Closed, Opening, Open, Closing}
@@ -51,26 +52,26 @@ read_cases (read.Member k) fine = inl (k, refl)
 read_cases read.Closed fine = inr refl
 read_cases read.BadKey fine = absurd (fine refl)
 
-closed_says : (bytes : List ℕ) → slot_read bytes ≡ read.Closed → get_or bytes 0 0 ≢ open_byte
-closed_says bytes is = grind (arith, nat_tests)
+closed_says : (F : Format) (bytes : List ℕ) → slot_read F bytes ≡ read.Closed → get_or bytes 0 0 ≢ open_byte
+closed_says F bytes is = grind (arith, nat_tests)
 
 -- what is read of a slot is what its cell says
-read_says : (r : SlotRead) (bytes : List ℕ) → slot_read bytes ≡ r → r ≢ read.BadKey → length bytes ≡ 16 → AreBytes bytes → Says (cell_read r).stage (cell_read r).key bytes
-read_says read.Closed bytes is fine long fits = closed_says bytes is
-read_says (read.Member k) bytes is fine long fits =
-    let law = slot_is_of_its_key bytes k long fits is in
+read_says : (F : Format) (r : SlotRead) (bytes : List ℕ) → slot_read F bytes ≡ r → r ≢ read.BadKey → length bytes ≡ 16 → AreBytes bytes → Says (cell_read r).stage (cell_read r).key bytes
+read_says F read.Closed bytes is fine long fits = closed_says F bytes is
+read_says F (read.Member k) bytes is fine long fits =
+    let law = slot_is_of_its_key F bytes k long fits is in
     (ap (λ (l : List ℕ). get_or l 0 0) law.1, ap (λ (l : List ℕ). drop 1 l) law.1)
-read_says read.BadKey bytes is fine long fits = absurd (fine refl)
+read_says F read.BadKey bytes is fine long fits = absurd (fine refl)
 
 read_reads : (r : SlotRead) (bytes : List ℕ) → Reads (cell_read r).stage (cell_read r).key bytes
 read_reads read.Closed bytes = tt
 read_reads (read.Member k) bytes = tt
 read_reads read.BadKey bytes = tt
 
-read_key : (r : SlotRead) (bytes : List ℕ) → slot_read bytes ≡ r → length bytes ≡ 16 → AreBytes bytes → (cell_read r).key ≤ largest_key
-read_key read.Closed bytes is long fits = omega arith
-read_key (read.Member k) bytes is long fits = (slot_is_of_its_key bytes k long fits is).0
-read_key read.BadKey bytes is long fits = omega arith
+read_key : (F : Format) (r : SlotRead) (bytes : List ℕ) → slot_read F bytes ≡ r → (cell_read r).key ≤ largest_of F
+read_key F read.Closed bytes is = zero_fits F
+read_key F (read.Member k) bytes is = read_fits F bytes k is
+read_key F read.BadKey bytes is = zero_fits F
 
 -- a slot as an open finds it is steady, and in no limbo
 read_steady : (r : SlotRead) → ((cell_read r).stage ≡ Open) ⊎ ((cell_read r).stage ≡ Closed)
@@ -189,12 +190,12 @@ module _ (shape : Shape) (t : List ℕ) (found : Keys) (some : 1 ≤ shape.bucke
   cell_there : (i : ℕ) (cell : Cell) → slice_get cells i ≡ Some cell → cell_read (slot_at t i) ≡ cell
   cell_there i cell there = sym (cell_is i (within i cell there)) ∙ get_or_from_slice_get cells i cell no_cell there
 
-  keeps : Keeps cells false (at_rest t)
+  keeps : Keeps (format_of t) cells false (at_rest t)
   keeps = record {
     sound = synced_sound (at_rest t) bytes;
     vouches = record {
       size = λ c image. ap length (is c image) ∙ holds.size ∙ ap (λ (n : ℕ). 16 + 16 * n) (sym count);
-      head = λ c image. ap (take 16) (is c image) ∙ holds.head ∙ ap (λ (n : ℕ). open_byte ∷ header_body n) (sym count);
+      head = λ c image. ap (take 16) (is c image) ∙ holds.head ∙ ap (λ (n : ℕ). open_byte ∷ header_body (format_of t) n) (sym count);
       each = λ c i cell image there. subst (λ (l : List ℕ). Says cell.stage cell.key (slot_bytes l i)) (sym (is c image)) (says i cell there);
     };
     reads = λ live i cell there. subst (λ (q : Cell). Reads q.stage q.key (slot_bytes t i)) (cell_there i cell there) (read_reads (slot_at t i) (slot_bytes t i));
@@ -206,13 +207,13 @@ module _ (shape : Shape) (t : List ℕ) (found : Keys) (some : 1 ≤ shape.bucke
       says : (i : ℕ) (cell : Cell) → slice_get cells i ≡ Some cell → Says cell.stage cell.key (slot_bytes t i)
       says i cell there =
           let lt = within i cell there in
-          subst (λ (q : Cell). Says q.stage q.key (slot_bytes t i)) (cell_there i cell there) (read_says (slot_at t i) (slot_bytes t i) refl (holds.no_bad_key i lt) (long i lt) (slot_fits t i bytes))
+          subst (λ (q : Cell). Says q.stage q.key (slot_bytes t i)) (cell_there i cell there) (read_says (format_of t) (slot_at t i) (slot_bytes t i) refl (holds.no_bad_key i lt) (long i lt) (slot_fits t i bytes))
 
   images : DiskSound shape (opened_yard shape t).vault (at_rest t)
   images = record {
     slots = holds.count;
     count = count;
-    keys = λ i cell there. subst (λ (q : Cell). q.key ≤ largest_key) (cell_there i cell there) (read_key (slot_at t i) (slot_bytes t i) refl (long i (within i cell there)) (slot_fits t i bytes));
+    keys = λ i cell there. subst (λ (q : Cell). q.key ≤ largest_of (format_of t)) (cell_there i cell there) (read_key (format_of t) (slot_at t i) (slot_bytes t i) refl);
     keeps = keeps;
   }
 

@@ -9,8 +9,11 @@ use Rattle.std.proofs.lemmas.List.Edits.{length-between, get_or-between}
 use Rattle.std.proofs.lemmas.Option.{slice_get_within, get_or_from_slice_get}
 use Rattle.std.proofs.lemmas.Grind.{same_number_lists}
 use Rattle.lz_slot.specs.Limits.{largest_key}
-use Rattle.lz_slot.specs.Bytes.{open_byte, magic, header_body, slot_body, slot_bytes, slot_read, slot_at}
-use Rattle.lz_slot.proofs.Exact.{slot_reads_back}
+use Rattle.lz_slot.specs.Rooms.{largest_of, number_of}
+use Rattle.lz_slot.specs.declared.format.Format.{Format}
+use Rattle.lz_slot.specs.declared.format.Format.TheVariants.{One, Two}
+use Rattle.lz_slot.specs.Bytes.{open_byte, magic, format_byte, format_of, header_body, slot_body, slot_bytes, slot_read, slot_at}
+use Rattle.lz_slot.proofs.Exact.{key_of_format, slot_reads_back}
 use Rattle.lz_vault.specs.declared.vault.Stage.{Stage}
 use Rattle.lz_vault.specs.declared.vault.Stage.TheVariants.{Closed, KeyLoose, Keyed, Opening, Open, Closing}
 use Rattle.lz_vault.specs.Stages.{Cell, IsSteady, AreSteady}
@@ -24,9 +27,9 @@ abbrev body_text : List Cell → List ℕ
 body_text [] = []
 body_text (cell ∷ cells) = slot_text cell ++ body_text cells
 
--- a text of as many slots, with a member where a gate is open
-abbrev pub text_of : List Cell → List ℕ
-text_of cells = (open_byte ∷ header_body (length cells)) ++ body_text cells
+-- a text of a format and of as many slots, with a member where a gate is open
+abbrev pub text_of : Format → List Cell → List ℕ
+text_of F cells = (open_byte ∷ header_body F (length cells)) ++ body_text cells
 
 slot_size : (stage : Stage) (k : ℕ) → length (slot_text (record { stage = stage; key = k })) ≡ 16
 slot_size Open k = refl
@@ -36,20 +39,20 @@ body_size : (cells : List Cell) → length (body_text cells) ≡ 16 * length cel
 body_size [] = refl
 body_size (cell ∷ cells) = length-append (slot_text cell) (body_text cells) ∙ omega (arith, slot_size cell.stage cell.key, body_size cells)
 
-head_size : (n : ℕ) → length (open_byte ∷ header_body n) ≡ 16
-head_size n = refl
+head_size : (F : Format) (n : ℕ) → length (open_byte ∷ header_body F n) ≡ 16
+head_size F n = refl
 
-pub text_size : (cells : List Cell) → length (text_of cells) ≡ 16 + 16 * length cells
-text_size cells = length-append (open_byte ∷ header_body (length cells)) (body_text cells) ∙ omega (arith, head_size (length cells), body_size cells)
+pub text_size : (F : Format) (cells : List Cell) → length (text_of F cells) ≡ 16 + 16 * length cells
+text_size F cells = length-append (open_byte ∷ header_body F (length cells)) (body_text cells) ∙ omega (arith, head_size F (length cells), body_size cells)
 
-pub text_head : (cells : List Cell) → take 16 (text_of cells) ≡ open_byte ∷ header_body (length cells)
-text_head cells =
-    let size = text_size cells in
-    let long = head_size (length cells) in
-    let taken = length-take 16 (text_of cells) in
-    same_number_lists (take 16 (text_of cells)) (open_byte ∷ header_body (length cells)) (omega (arith, size, long, taken)) (λ k lt.
+pub text_head : (F : Format) (cells : List Cell) → take 16 (text_of F cells) ≡ open_byte ∷ header_body F (length cells)
+text_head F cells =
+    let size = text_size F cells in
+    let long = head_size F (length cells) in
+    let taken = length-take 16 (text_of F cells) in
+    same_number_lists (take 16 (text_of F cells)) (open_byte ∷ header_body F (length cells)) (omega (arith, size, long, taken)) (λ k lt.
     let small : k < 16 = omega (arith, lt, size, taken) in
-    get_or-take 16 (text_of cells) k 0 small ∙ get_or_append_left (open_byte ∷ header_body (length cells)) (body_text cells) 0 k (omega (arith, small, long)))
+    get_or-take 16 (text_of F cells) k 0 small ∙ get_or_append_left (open_byte ∷ header_body F (length cells)) (body_text cells) 0 k (omega (arith, small, long)))
 
 body_at : (cells : List Cell) (i j : ℕ) → i < length cells → j < 16 → get_or (body_text cells) (16 * i + j) 0 ≡ get_or (slot_text (get_or cells i no_cell)) j 0
 body_at [] i j low lt = absurd (omega (arith, low))
@@ -61,30 +64,36 @@ body_at (cell ∷ cells) (suc i) j low lt =
     get_or-append_right (slot_text cell) (body_text cells) 16 (16 * suc i + j) 0 (slot_size cell.stage cell.key) (omega arith)
     ∙ ap (λ (n : ℕ). get_or (body_text cells) n 0) back ∙ body_at cells i j (omega (arith, low)) lt
 
-text_slot : (cells : List Cell) (i : ℕ) → i < length cells → slot_bytes (text_of cells) i ≡ slot_text (get_or cells i no_cell)
-text_slot cells i low =
-    let size = text_size cells in
+text_slot : (F : Format) (cells : List Cell) (i : ℕ) → i < length cells → slot_bytes (text_of F cells) i ≡ slot_text (get_or cells i no_cell)
+text_slot F cells i low =
+    let size = text_size F cells in
     let mine : Cell = get_or cells i no_cell in
-    let long : length (slot_bytes (text_of cells) i) ≡ 16 = length-between (text_of cells) (16 + 16 * i) (32 + 16 * i) (omega (arith, size, low)) ∙ omega arith in
-    same_number_lists (slot_bytes (text_of cells) i) (slot_text mine) (long ∙ sym (slot_size mine.stage mine.key)) (λ j lt.
+    let long : length (slot_bytes (text_of F cells) i) ≡ 16 = length-between (text_of F cells) (16 + 16 * i) (32 + 16 * i) (omega (arith, size, low)) ∙ omega arith in
+    same_number_lists (slot_bytes (text_of F cells) i) (slot_text mine) (long ∙ sym (slot_size mine.stage mine.key)) (λ j lt.
     let small : j < 16 = omega (arith, lt, long) in
     let back : 16 + 16 * i + j - 16 ≡ 16 * i + j = omega arith in
-    get_or-between (text_of cells) (16 + 16 * i) (32 + 16 * i) j 0 (omega (arith, small))
-    ∙ get_or-append_right (open_byte ∷ header_body (length cells)) (body_text cells) 16 (16 + 16 * i + j) 0 (head_size (length cells)) (omega arith)
+    get_or-between (text_of F cells) (16 + 16 * i) (32 + 16 * i) j 0 (omega (arith, small))
+    ∙ get_or-append_right (open_byte ∷ header_body F (length cells)) (body_text cells) 16 (16 + 16 * i + j) 0 (head_size F (length cells)) (omega arith)
     ∙ ap (λ (n : ℕ). get_or (body_text cells) n 0) back ∙ body_at cells i j low small)
 
-slot_says : (stage : Stage) (k : ℕ) → k ≤ largest_key → IsSteady stage → IsCellOf (slot_read (slot_text (record { stage = stage; key = k }))) (record { stage = stage; key = k })
-slot_says Open k fits steady = subst (λ r. IsCellOf r (record { stage = Open; key = k })) (sym (slot_reads_back k fits)) (refl, refl)
-slot_says Closed k fits steady = refl
-slot_says _ k fits steady = absurd steady
+slot_says : (F : Format) (stage : Stage) (k : ℕ) → k ≤ largest_of F → IsSteady stage → IsCellOf (slot_read F (slot_text (record { stage = stage; key = k }))) (record { stage = stage; key = k })
+slot_says F Open k fits steady = subst (λ r. IsCellOf r (record { stage = Open; key = k })) (sym (slot_reads_back F k fits)) (refl, refl)
+slot_says F Closed k fits steady = refl
+slot_says F _ k fits steady = absurd steady
+
+-- the text names its format
+pub text_format : (F : Format) (cells : List Cell) → format_of (text_of F cells) ≡ F
+text_format One cells = refl
+text_format Two cells = refl
 
 -- the text says of each slot what its cell does
-pub text_says : (cells : List Cell) → ((i : ℕ) (cell : Cell) → slice_get cells i ≡ Some cell → cell.key ≤ largest_key) → AreSteady cells
-    → (i : ℕ) (cell : Cell) → slice_get cells i ≡ Some cell → IsCellOf (slot_at (text_of cells) i) cell
-text_says cells keys steady i cell there =
+pub text_says : (F : Format) (cells : List Cell) → ((i : ℕ) (cell : Cell) → slice_get cells i ≡ Some cell → cell.key ≤ largest_of F) → AreSteady cells
+    → (i : ℕ) (cell : Cell) → slice_get cells i ≡ Some cell → IsCellOf (slot_at (text_of F cells) i) cell
+text_says F cells keys steady i cell there =
     let low = slice_get_within cells i cell there in
     let is : get_or cells i no_cell ≡ cell = get_or_from_slice_get cells i cell no_cell there in
-    subst (λ bytes. IsCellOf (slot_read bytes) cell) (sym (text_slot cells i low ∙ ap slot_text is)) (slot_says cell.stage cell.key (keys i cell there) (steady i cell there))
+    subst (λ (G : Format). IsCellOf (slot_read G (slot_bytes (text_of F cells) i)) cell) (sym (text_format F cells))
+    (subst (λ bytes. IsCellOf (slot_read F bytes) cell) (sym (text_slot F cells i low ∙ ap slot_text is)) (slot_says F cell.stage cell.key (keys i cell there) (steady i cell there)))
 
 -- the bytes of these texts are bytes
 small_append : (xs ys : List ℕ) → AreBytes xs → AreBytes ys → AreBytes (xs ++ ys)
@@ -110,28 +119,38 @@ high_small zero x i = grind arith
 high_small (suc n) x zero = byte_small n x
 high_small (suc n) x (suc i) = high_small n x i
 
-magic_small : AreBytes magic
-magic_small zero = omega arith
-magic_small (suc zero) = omega arith
-magic_small (suc (suc zero)) = omega arith
-magic_small (suc (suc (suc zero))) = omega arith
-magic_small (suc (suc (suc (suc zero)))) = omega arith
-magic_small (suc (suc (suc (suc (suc zero))))) = omega arith
-magic_small (suc (suc (suc (suc (suc (suc zero)))))) = omega arith
-magic_small (suc (suc (suc (suc (suc (suc (suc i))))))) = omega arith
+letter_small : (F : Format) → format_byte F < 256
+letter_small One = omega arith
+letter_small Two = omega arith
+
+magic_small : (F : Format) → AreBytes (magic F)
+magic_small F zero = omega arith
+magic_small F (suc zero) = omega arith
+magic_small F (suc (suc zero)) = omega arith
+magic_small F (suc (suc (suc zero))) = omega arith
+magic_small F (suc (suc (suc (suc zero)))) = omega arith
+magic_small F (suc (suc (suc (suc (suc zero))))) = omega arith
+magic_small F (suc (suc (suc (suc (suc (suc zero)))))) = letter_small F
+magic_small F (suc (suc (suc (suc (suc (suc (suc i))))))) = omega arith
 
 gate_small : (xs : List ℕ) → AreBytes xs → AreBytes (open_byte ∷ xs)
 gate_small xs all zero = omega arith
 gate_small xs all (suc i) = all i
 
-slot_small : (stage : Stage) (k : ℕ) → AreBytes (slot_text (record { stage = stage; key = k }))
-slot_small Open k = gate_small (slot_body k) (small_append (replicate 7 0) (bytes_high_first 8 k) (zeros_small 7) (high_small 8 k))
-slot_small _ k = zeros_small 16
+-- and those of a key's body, since its room is one
+pub key_small : (k : ℕ) → k ≤ largest_key → AreBytes (slot_body k)
+key_small k fits zero = omega (arith, fits)
+key_small k fits (suc i) = small_append (replicate 6 0) (bytes_high_first 8 (number_of k)) (zeros_small 6) (high_small 8 (number_of k)) i
 
-body_small : (cells : List Cell) → AreBytes (body_text cells)
-body_small [] = λ i. omega arith
-body_small (cell ∷ cells) = small_append (slot_text cell) (body_text cells) (slot_small cell.stage cell.key) (body_small cells)
+slot_small : (stage : Stage) (k : ℕ) → k ≤ largest_key → AreBytes (slot_text (record { stage = stage; key = k }))
+slot_small Open k fits = gate_small (slot_body k) (key_small k fits)
+slot_small _ k fits = zeros_small 16
 
-pub text_bytes : (cells : List Cell) → AreBytes (text_of cells)
-text_bytes cells = small_append (open_byte ∷ header_body (length cells)) (body_text cells)
-    (gate_small (header_body (length cells)) (small_append magic (bytes_high_first 8 (length cells)) magic_small (high_small 8 (length cells)))) (body_small cells)
+body_small : (cells : List Cell) → ((i : ℕ) (cell : Cell) → slice_get cells i ≡ Some cell → cell.key ≤ largest_key) → AreBytes (body_text cells)
+body_small [] keys = λ i. omega arith
+body_small (cell ∷ cells) keys = small_append (slot_text cell) (body_text cells) (slot_small cell.stage cell.key (keys 0 cell refl)) (body_small cells (λ i x there. keys (suc i) x there))
+
+pub text_bytes : (F : Format) (cells : List Cell) → ((i : ℕ) (cell : Cell) → slice_get cells i ≡ Some cell → cell.key ≤ largest_of F) → AreBytes (text_of F cells)
+text_bytes F cells keys = small_append (open_byte ∷ header_body F (length cells)) (body_text cells)
+    (gate_small (header_body F (length cells)) (small_append (magic F) (bytes_high_first 8 (length cells)) (magic_small F) (high_small 8 (length cells))))
+    (body_small cells (λ i cell there. key_of_format F cell.key (keys i cell there)))

@@ -1,9 +1,11 @@
 -- What becomes of an event, by whether the vault is dead and what the event needs.
-use Rattle.std.proofs.Common.{◌≡◌, ℕ, Bool, true, false, not, ◌&&◌, ap, ◌∙◌}
+use Rattle.std.proofs.Common.{◌≡◌, ℕ, Bool, true, false, not, ◌&&◌, refl, ap, ◌∙◌}
 use Rattle.std.specs.Prelude.{if◌then◌else◌}
+use Rattle.lz_slot.specs.declared.command.Command.{Command}
 use Rattle.lz_machine.specs.declared.event.Event.{Event}
+use Rattle.lz_machine.specs.declared.event.Event.TheVariants.{Invoke}
 use Rattle.lz_machine.specs.declared.event.Outcome.TheVariants.{Dead, NotNow}
-use Rattle.lz_machine.specs.declared.course.Course.TheVariants.{Refused}
+use Rattle.lz_machine.specs.declared.course.Course.TheVariants.{Refused, Plays}
 use Rattle.lz_machine.specs.Yards.{Yard}
 use Rattle.lz_machine.specs.Table.{needs, pin_of, is_played_dead, course, course_alive}
 
@@ -22,6 +24,14 @@ alive_course y a e h n =
     ∙ ap (λ b. if b then course_alive y a (pin_of y a) e else Refused NotNow) n
 
 pub ruleset course_rules = (dead_course, early_course, alive_course)
+
+-- an Invoke is always played
+pub invoke_plays : (y : Yard) (a : ℕ) (c : Command) → course y a (Invoke c) ≡ Plays
+invoke_plays y a c = go y.vault.dead
+  where
+    go : (dead : Bool) → (if dead && not true then Refused Dead else if true then Plays else Refused NotNow) ≡ Plays
+    go true = refl
+    go false = refl
 
 -- a dead vault refuses an event that is not played dead
 pub course_dead : (y : Yard) (a : ℕ) (e : Event) → is_played_dead e ≡ false → y.vault.dead ≡ true → course y a e ≡ Refused Dead

@@ -12,8 +12,8 @@ use Rattle.lz_list.specs.Traces.{Trace}
 use Rattle.lz_machine.specs.declared.event.Outcome.{Outcome}
 use Rattle.lz_machine.specs.Yards.{Yard}
 use Rattle.lz_machine.specs.Table.{line, line_failed, line_call}
-use Rattle.lz_machine.specs.Calls.{first_progress, progress_after}
-use Rattle.lz_machine.specs.Runs.{Caller, Service, State, Up, Down, Step, Calls, Turn, Fails, Looks, Trips, Stops, Crashes, CrashesIn, Opens, OpenFails, caller_at, next_event, reply_at, moved_on, after_turn, after_fault, looked, state_after, HasTurn, HasFault, LeftInside, MayStep, marks_of_turn, marks_of, turn_publishes, trace_after}
+use Rattle.lz_machine.specs.Calls.{begun, progress_after}
+use Rattle.lz_machine.specs.Runs.{invoked, Caller, Service, State, Up, Down, Step, Calls, Turn, Fails, Looks, Trips, Stops, Crashes, CrashesIn, Opens, OpenFails, caller_at, next_event, reply_at, moved_on, after_turn, after_fault, looked, state_after, HasTurn, HasFault, LeftInside, MayStep, marks_of_turn, marks_of, turn_publishes, trace_after}
 use Rattle.lz_machine.specs.Laws.{is_of, outcome_of_turn, outcome_at}
 
 set_alike : {X : Type 0} (xs ys : List X) (i j : ℕ) (x d : X) → length xs ≡ length ys → get_or xs j d ≡ get_or ys j d → get_or (set xs i x) j d ≡ get_or (set ys i x) j d
@@ -109,7 +109,7 @@ module _ (a : ℕ) where
       follows_apart : (step : Step) → is_of a step ≡ false → MayStep (Up (serving y one) disk) step → Follows n (apart y disk one other count rest) P step
       follows_apart (Calls b c) others may = record {
         may = (may.0, subst (λ (q : Option Caller). IsNone q) (rest b (off b others)) may.1, may.2, may.3);
-        next = both y disk b (Some (record { number = n; command = c; progress = first_progress }));
+        next = both (invoked y b c) disk b (Some (record { number = n; command = c; progress = begun y.vault.format c }));
         left_is = refl;
         right_is = refl;
         marks = refl;

@@ -1,8 +1,8 @@
 -- An answer keeps the invariant: the pass goes out, a slot that wasn't used is given back, and the call ends with its row.
-use Rattle.std.proofs.Common.{◌≡◌, ◌≢◌, ◌⊎◌, ⊎_elim, inl, inr, ℕ, ◌≤◌, ◌+◌, ◌%◌, ◌==◌, not, ◌&&◌, if◌then◌else◌, Bool, true, false, List, ◌∷◌, length, Option, Some, None, refl, sym, ap, ◌∙◌, subst, arith}
+use Rattle.std.proofs.Common.{◌≡◌, ◌≢◌, ◌⊎◌, ⊎_elim, inl, inr, ℕ, ◌≤◌, ◌+◌, ◌%◌, ◌==◌, not, ◌&&◌, ◌||◌, if◌then◌else◌, Bool, true, false, List, ◌∷◌, length, Option, Some, None, refl, sym, ap, ◌∙◌, subst, arith}
 use mathlib.Core.Bool.{false≢true}
 use Rattle.std.proofs.lemmas.Bool.{cases_Bool}
-use Rattle.std.proofs.lemmas.Bool.Decides.{nat_tests, eqb_tells}
+use Rattle.std.proofs.lemmas.Bool.Decides.{nat_tests}
 use Rattle.lz_slot.specs.declared.command.Command.{Command}
 use Rattle.lz_slot.specs.declared.command.Command.TheVariants.{Add, Remove, Has}
 use Rattle.lz_slot.specs.declared.history.Mark.{Mark}
@@ -17,18 +17,19 @@ use Rattle.lz_list.specs.Traces.{Trace, halt_word}
 use Rattle.lz_machine.specs.declared.event.Event.TheVariants.{Answer}
 use Rattle.lz_machine.specs.declared.event.Outcome.TheVariants.{Done, NotNow, Dead}
 use Rattle.lz_machine.specs.declared.event.Reply.{Reply}
-use Rattle.lz_machine.specs.declared.event.Reply.TheVariants.{Yes, No, Full, Worn as SaysWorn, Halted, Device}
+use Rattle.lz_machine.specs.declared.event.Reply.TheVariants.{Yes, No, Full, Worn as SaysWorn, OldFile as SaysOldFile, Halted, Device}
 use Rattle.lz_machine.specs.declared.actor.Actor.{Actor}
 use Rattle.lz_machine.specs.declared.actor.Hold.TheVariants.{Nothing}
 use Rattle.lz_machine.specs.declared.course.Course.{Course}
 use Rattle.lz_machine.specs.declared.course.Course.TheVariants.{Refused, Plays}
 use Rattle.lz_machine.specs.declared.caller.Progress.TheVariants.{Answering}
 use Rattle.lz_machine.specs.Yards.{Yard, actor_at, idle_actor}
-use Rattle.lz_machine.specs.Table.{last_pin, pin_of, needs, course, course_alive, line, line_on, call_on, yard_done, with_slot, kept_slot, given_back, is_unused}
+use Rattle.lz_machine.specs.Table.{last_pin, stays_out, pin_of, needs, course, course_alive, line, line_on, call_on, yard_done, with_slot, kept_slot, given_back, is_unused}
 use Rattle.lz_machine.specs.Runs.{Caller, caller_at, mark_of, played}
 use Rattle.lz_machine.specs.Sound.{HasLock, RestsOn, Notes, IsInside, actor_in, pin_in, stage_in, view_of, entries, opens, is_before_pin, side_of, IsIdle, MayAnswer, Relies, CallerSound, CallersSound, SlotsSound, LocksSound, ReuseSound, IsAfter, TailsSound, Sound, UpSound}
 use Rattle.lz_machine.proofs.Frames.ActorTable.{by_actor}
 use Rattle.lz_machine.proofs.Frames.OneActor.{caller_range, carry}
+use Rattle.lz_machine.proofs.Frames.Outside.{out_even, out_needs}
 use Rattle.lz_machine.proofs.Frames.Grip.{keeps_itself, slots_turn}
 use Rattle.lz_machine.proofs.Frames.NodeLocks.{held_locks}
 use Rattle.lz_machine.proofs.Frames.Hand.{reuse_turn}
@@ -67,11 +68,11 @@ module _ (n calls : ℕ) (y : Yard) (callers : List (Option Caller)) (disk : Med
     each = by_actor (λ b. CallerSound (view_of y.shape y.vault actors' b) (pin_in pins' b) (caller_at (ending callers a) b) (notes'.begun b) P (notes'.changed b)) a
         (subst (λ (q : Option Caller). CallerSound (view_of y.shape y.vault actors' a) (pin_in pins' a) q (notes.begun a) P (notes'.changed a)) (sym (gone callers notes a how.last (call_at i c (Answering says)) is))
         (subst (λ (q : Option ℕ). CallerSound (view_of y.shape y.vault actors' a) (pin_in pins' a) None (notes.begun a) P q) (sym (none_now callers notes a how.last (call_at i c (Answering says)) is)) mine))
-        (λ b other. carry y.shape.buckets y.shape.passes y.vault.cells y.vault.dead P (actor_in y.actors b) (actor_in actors' b) (pin_in y.words.pins b) (pin_in pins' b) (caller_at callers b) (caller_at (ending callers a) b) (notes.begun b) (notes'.begun b) (notes.changed b) (notes'.changed b)
+        (λ b other. carry y.shape.buckets y.shape.passes y.vault.format y.vault.cells y.vault.dead P (actor_in y.actors b) (actor_in actors' b) (pin_in y.words.pins b) (pin_in pins' b) (caller_at callers b) (caller_at (ending callers a) b) (notes.begun b) (notes'.begun b) (notes.changed b) (notes'.changed b)
         (others b other) (same_pins b other) (stays_open callers notes a how.last (call_at i c (Answering says)) is b other) refl (changed_still callers notes a how.last (call_at i c (Answering says)) is b other) (sound.callers.each b));
   }
 
-  -- a call that its pass was too worn for: the yard stays
+  -- a call that was refused outside: the yard stays
   worn_sound : IsIdle (actor_in y.actors a) P → (IsInside (pin_in y.words.pins a) → ⊥) → Sound n calls y (ending callers a) disk (m ∷ M) P notes'
   worn_sound idle outside = record {
     trace = sound.trace;
@@ -188,32 +189,30 @@ module _ (n calls : ℕ) (y : Yard) (callers : List (Option Caller)) (disk : Med
     pub played_sound : ((actor_in y.actors a).hold ≡ Nothing) ⊎ (halt_word P ≡ 1) → Sound n calls (yard_done y (actor_at y a) a Answer) (ending callers a) disk (m ∷ M) P notes'
     played_sound calm = answered_sound (actor_in y.actors a).slot refl calm
 
--- what the call relies on
-rests_of : (c : Command) (says : Reply) (a : ℕ) (y : Yard) (P0 P : Trace) (changed : Option ℕ) → (says ≡ SaysWorn → ⊥) → Relies (view_of y.shape y.vault y.actors a) c (Answering says) P0 P changed → MayAnswer c says P0 P changed × (((actor_in y.actors a).hold ≡ Nothing) ⊎ (halt_word P ≡ 1))
-rests_of c SaysWorn a y P0 P changed fit h = absurd (fit refl)
-rests_of c _ a y _ _ changed fit h = h
+-- what the call relies on, inside
+rests_of : (c : Command) (says : Reply) (a : ℕ) (y : Yard) (P0 P : Trace) (changed : Option ℕ) → is_before_pin (Answering says) ≡ false → Relies (view_of y.shape y.vault y.actors a) c (Answering says) P0 P changed → MayAnswer c says P0 P changed × (((actor_in y.actors a).hold ≡ Nothing) ⊎ (halt_word P ≡ 1))
+rests_of c SaysWorn a y P0 P changed inside h = absurd (false≢true (sym inside))
+rests_of c SaysOldFile a y P0 P changed inside h = absurd (false≢true (sym inside))
+rests_of c _ a y _ _ changed inside h = h
 
-worn_rests : (c : Command) (P0 P : Trace) (changed : Option ℕ) → changed ≡ None → MayAnswer c SaysWorn P0 P changed
-worn_rests (Add k) P0 P changed h = h
-worn_rests (Remove k) P0 P changed h = h
-worn_rests (Has k) P0 P changed h = h
+-- and outside, where it was refused
+out_rests : (c : Command) (says : Reply) (a : ℕ) (y : Yard) (P0 P : Trace) (changed : Option ℕ) → is_before_pin (Answering says) ≡ true → Relies (view_of y.shape y.vault y.actors a) c (Answering says) P0 P changed → IsIdle (actor_in y.actors a) P × MayAnswer c says P0 P changed
+out_rests (Add k) SaysWorn a y P0 P changed outside h = (h.0, h.1)
+out_rests (Remove k) SaysWorn a y P0 P changed outside h = (h.0, h.1)
+out_rests (Has k) SaysWorn a y P0 P changed outside h = (h.0, h.1)
+out_rests (Add k) SaysOldFile a y P0 P changed outside h = (h.0, h.1)
+out_rests (Remove k) SaysOldFile a y P0 P changed outside h = (h.0, h.1)
+out_rests (Has k) SaysOldFile a y P0 P changed outside h = (h.0, h.1)
+out_rests c _ a y _ _ changed outside h = absurd (false≢true outside)
 
--- a call that is outside at its answer was refused because its pass is worn
-says_worn : (says : Reply) → side_of (is_before_pin (Answering says)) ≡ 0 → says ≡ SaysWorn
-says_worn SaysWorn side = refl
-says_worn Yes side = absurd (omega (arith, side))
-says_worn No side = absurd (omega (arith, side))
-says_worn (Full counts) side = absurd (omega (arith, side))
-says_worn Halted side = absurd (omega (arith, side))
-says_worn Device side = absurd (omega (arith, side))
+-- a call's side tells whether it was refused outside
+out_of : (b : Bool) → side_of b ≡ 0 → b ≡ true
+out_of true side = refl
+out_of false side = absurd (omega (arith, side))
 
-not_worn : (says : Reply) → side_of (is_before_pin (Answering says)) ≡ 1 → says ≡ SaysWorn → ⊥
-not_worn SaysWorn side e = omega (arith, side)
-not_worn Yes side e = absurd cc
-not_worn No side e = absurd cc
-not_worn (Full counts) side e = absurd cc
-not_worn Halted side e = absurd cc
-not_worn Device side e = absurd cc
+in_of : (b : Bool) → side_of b ≡ 1 → b ≡ false
+in_of true side = absurd (omega (arith, side))
+in_of false side = refl
 
 module _ (n calls : ℕ) (y : Yard) (callers : List (Option Caller)) (disk : Medium) (M : History) (P : Trace) (start : Keys) (notes : Notes) (a i : ℕ) (c : Command) (says : Reply) (is : caller_at callers a ≡ Some (call_at i c (Answering says)))
     (up : UpSound n calls (record { yard = y; callers = callers }) disk (record { start = start; history = M }) P notes) where
@@ -228,32 +227,25 @@ module _ (n calls : ℕ) (y : Yard) (callers : List (Option Caller)) (disk : Med
   me : CallerSound (view_of y.shape y.vault y.actors a) (pin_in y.words.pins a) (Some (call_at i c (Answering says))) (notes.begun a) P (notes.changed a)
   me = own n calls y callers disk M P notes a i c (Answering says) is up.sound
 
-  -- its pass is worn
-  worn_up : (pin_in y.words.pins a % 2 ≡ 0) → Answered (Refused Done)
-  worn_up even = go says is me.stands.2 (says_worn says (sym me.stands.0 ∙ even))
-    where
-      go : (reply : Reply) (at : caller_at callers a ≡ Some (call_at i c (Answering reply))) → Relies (view_of y.shape y.vault y.actors a) c (Answering reply) (notes.begun a) P (notes.changed a) → reply ≡ SaysWorn
-          → (noted : Notes) × UpSound n calls (record { yard = y; callers = ending callers a }) disk (record { start = start; history = mark_of i reply ∷ M }) P noted
-      go SaysWorn at relies e =
-          let how = ends n calls y.shape.passes callers P M notes a i range.1 up.sound.ledger y.words.pins up.after c SaysWorn at (inl refl) (worn_rests c (notes.begun a) P (notes.changed a) relies.1) in (
-            ends_now notes a how.last,
-            record {
-              began = up.began;
-              sound = worn_sound n calls y callers disk M P notes up.sound up.after a i c SaysWorn at range.1 how relies.0 (λ inside. omega (arith, inside, even));
-              since = up.since;
-              after = worn_after n calls y callers disk M P notes up.sound up.after a i c SaysWorn at range.1 how;
-            },
-          )
-      go Yes at relies e = absurd cc
-      go No at relies e = absurd cc
-      go (Full counts) at relies e = absurd cc
-      go Halted at relies e = absurd cc
-      go Device at relies e = absurd cc
+  -- it was refused outside
+  refused_up : (pin_in y.words.pins a % 2 ≡ 0) → Answered (Refused Done)
+  refused_up even =
+      let outside = out_of (is_before_pin (Answering says)) (sym me.stands.0 ∙ even) in
+      let relies = out_rests c says a y (notes.begun a) P (notes.changed a) outside me.stands.2 in
+      let how = ends n calls y.shape.passes callers P M notes a i range.1 up.sound.ledger y.words.pins up.after c says is (inl outside) relies.1 in (
+        ends_now notes a how.last,
+        record {
+          began = up.began;
+          sound = worn_sound n calls y callers disk M P notes up.sound up.after a i c says is range.1 how relies.0 (λ inside. omega (arith, inside, even));
+          since = up.since;
+          after = worn_after n calls y callers disk M P notes up.sound up.after a i c says is range.1 how;
+        },
+      )
 
   -- its pass goes out
   played_up : (pin_in y.words.pins a % 2 ≡ 1) → pin_in y.words.pins a ≢ last_pin → Answered Plays
   played_up inside fresh =
-      let relies = rests_of c says a y (notes.begun a) P (notes.changed a) (not_worn says (sym me.stands.0 ∙ inside)) me.stands.2 in
+      let relies = rests_of c says a y (notes.begun a) P (notes.changed a) (in_of (is_before_pin (Answering says)) (sym me.stands.0 ∙ inside)) me.stands.2 in
       let how = ends n calls y.shape.passes callers P M notes a i range.1 up.sound.ledger y.words.pins up.after c says is (inr (inside, up.since a inside)) relies.0 in (
         ends_now notes a how.last,
         record {
@@ -278,21 +270,21 @@ module _ (n calls : ℕ) (y : Yard) (callers : List (Option Caller)) (disk : Med
   not_yet : needs y a Answer ≡ false → course y a Answer ≡ Refused NotNow
   not_yet lacks = either y.vault.dead (needs y a Answer) ∙ ap (taken false) lacks
 
-  needs_last : (pin_of y a == last_pin) ≡ true → needs y a Answer ≡ true
-  needs_last last = grind (arith, nat_tests, last)
+  abbrev out : Bool
+  out = stays_out (actor_at y a) (pin_of y a)
 
   needs_inside : is_outside (pin_of y a) ≡ false → needs y a Answer ≡ true
-  needs_inside inside = grind (arith, nat_tests, inside)
+  needs_inside inside = ap (λ (b : Bool). not b || out) inside
 
-  lacks_both : is_outside (pin_of y a) ≡ true → (pin_of y a == last_pin) ≡ false → needs y a Answer ≡ false
-  lacks_both outside fresh = grind (arith, nat_tests, outside, fresh)
+  lacks_both : is_outside (pin_of y a) ≡ true → out ≡ false → needs y a Answer ≡ false
+  lacks_both outside may_not = ap (λ (b : Bool). not b || out) outside ∙ may_not
 
   answered : (line y a Answer).1 ≢ NotNow → Answered (course y a Answer)
-  answered now = elim (eqb_tells (pin_of y a) last_pin) [
-    | inl last ↦ subst Answered (sym (plays (needs_last last.0) ∙ ap (λ (b : Bool). if b then Refused Done else Plays) last.0)) (worn_up (ap (λ (q : ℕ). q % 2) last.1))
-    | inr fresh ↦ elim (cases_Bool (is_outside (pin_of y a))) [
-      | inl outside ↦ absurd (now (ap (λ (taken : Course). (line_on taken y (actor_at y a) a Answer).1) (not_yet (lacks_both outside fresh.0))))
-      | inr inside ↦ subst Answered (sym (plays (needs_inside inside) ∙ ap (λ (b : Bool). if b then Refused Done else Plays) fresh.0)) (played_up (odd inside) fresh.1)
+  answered now = elim (cases_Bool out) [
+    | inl refused ↦ subst Answered (sym (plays (out_needs (actor_at y a) (pin_of y a) refused) ∙ ap (λ (b : Bool). if b then Refused Done else Plays) refused)) (refused_up (out_even (actor_at y a) (pin_of y a) refused))
+    | inr may_not ↦ elim (cases_Bool (is_outside (pin_of y a))) [
+      | inl outside ↦ absurd (now (ap (λ (taken : Course). (line_on taken y (actor_at y a) a Answer).1) (not_yet (lacks_both outside may_not))))
+      | inr inside ↦ subst Answered (sym (plays (needs_inside inside) ∙ ap (λ (b : Bool). if b then Refused Done else Plays) may_not)) (played_up (odd inside) (λ last. omega (arith, odd inside, last)))
     ]
   ]
     where

@@ -18,7 +18,7 @@ use Rattle.lz_list.specs.Pinned.{Stood, IsQuiet}
 use Rattle.lz_list.specs.Laws.{IsHigh}
 use Rattle.lz_list.proofs.Chains.{on_start}
 use Rattle.lz_list.proofs.Hindsight.{stood_bucket}
-use Rattle.lz_list.proofs.Resting.{left_since}
+use Rattle.lz_list.proofs.Resting.{left_surely}
 use Rattle.lz_list.specs.Locks.{check, is_marked_node}
 use Rattle.lz_machine.specs.declared.event.Event.TheVariants.{Check}
 use Rattle.lz_machine.specs.declared.actor.Actor.{Actor}
@@ -69,7 +69,7 @@ module _ (shape : Shape) (words : Words) (P : Trace) (trace : TraceSound shape w
       let same : bucket_of buckets (key_word s P) ≡ bucket_of buckets k = stood_bucket buckets shape.slots P0 (bucket_of buckets k) s P trace.lawful quiet stood in
       let clear : is_marked s P ≡ false = sym (link_mark shape words P trace few s lt) ∙ unmarked in
       record {
-        there = elim (left_since buckets shape.slots P0 (key_word s P) s P trace.lawful quiet (subst (λ (b : ℕ). Stood buckets b P0 P (suc s)) (sym same) stood) refl) [
+        there = elim (left_surely buckets shape.slots P0 (key_word s P) s P trace.lawful quiet (subst (λ (b : ℕ). Stood buckets b P0 P (suc s)) (sym same) stood) refl) [
           | inl there ↦ subst (λ (b : ℕ). on 0 (chain buckets b P) (suc s) ≡ true) same there
           | inr gone ↦ absurd (false≢true (sym clear ∙ gone.1))
         ];
@@ -121,9 +121,9 @@ module _ (n calls : ℕ) (y : Yard) (callers : List (Option Caller)) (disk : Med
   actor = actor_at y a
 
   abbrev v : Hold → View
-  v hold = record { buckets = y.shape.buckets; passes = y.shape.passes; cells = y.vault.cells; dead = y.vault.dead; actor = with_hold actor hold }
+  v hold = record { buckets = y.shape.buckets; passes = y.shape.passes; format = y.vault.format; cells = y.vault.cells; dead = y.vault.dead; actor = with_hold actor hold }
 
-  me : CallerSound (record { buckets = y.shape.buckets; passes = y.shape.passes; cells = y.vault.cells; dead = y.vault.dead; actor = actor }) (pin_in y.words.pins a) (Some (call_at i c at)) (notes.begun a) P (notes.changed a)
+  me : CallerSound (record { buckets = y.shape.buckets; passes = y.shape.passes; format = y.vault.format; cells = y.vault.cells; dead = y.vault.dead; actor = actor }) (pin_in y.words.pins a) (Some (call_at i c at)) (notes.begun a) P (notes.changed a)
   me = own n calls y callers disk M P notes a i c at is sound
 
   quiet : IsQuiet y.shape.buckets (notes.begun a) P
@@ -154,7 +154,7 @@ module _ (n calls : ℕ) (y : Yard) (callers : List (Option Caller)) (disk : Med
   false_keeps : Sound n calls (in_hands y y.locks a (with_hold actor Locks)) (moving callers a (call_at i c at) (Playing (Releasing aim) 0)) disk M P notes
   false_keeps =
       let h = me.stands.2 in
-      keeps_hold Locks (Playing (Releasing aim) 0) refl refl refl tt (record { relies = (refl, aimed_same y.shape.buckets y.shape.passes y.vault.cells y.vault.dead actor (with_hold actor Locks) (key_of c) P aim refl h.3, h.0, may_aim c h.4); inside = refl })
+      keeps_hold Locks (Playing (Releasing aim) 0) refl refl refl tt (record { relies = (refl, aimed_same y.shape.buckets y.shape.passes y.vault.format y.vault.cells y.vault.dead actor (with_hold actor Locks) (key_of c) P aim refl h.3, h.0, may_aim c h.4); inside = refl })
 
   -- under the three tests
   module _ (clear : is_marked_at y.words actor.pred ≡ false) (clear_node : is_marked_node y.words actor.curr ≡ false) (leads : next_at y.words actor.pred ≡ link_to actor.curr) where
@@ -205,7 +205,7 @@ module _ (n calls : ℕ) (y : Yard) (callers : List (Option Caller)) (disk : Med
     true_keeps : Sound n calls (in_hands y y.locks a (with_hold actor Checked)) (moving callers a (call_at i c at) (changes c aim curr)) disk M P notes
     true_keeps =
         let h = me.stands.2 in
-        let all = true_then c aim h.0 (aimed_same y.shape.buckets y.shape.passes y.vault.cells y.vault.dead actor (with_hold actor Locks) (key_of c) P aim refl h.3) (subst (λ (q : Option ℕ). HasEnded c aim y.shape.buckets (notes.begun a) P actor.pred q) (sym h.2) h.4) in
+        let all = true_then c aim h.0 (aimed_same y.shape.buckets y.shape.passes y.vault.format y.vault.cells y.vault.dead actor (with_hold actor Locks) (key_of c) P aim refl h.3) (subst (λ (q : Option ℕ). HasEnded c aim y.shape.buckets (notes.begun a) P actor.pred q) (sym h.2) h.4) in
         keeps_hold Checked (changes c aim curr) refl refl refl all.1 (subst (λ (q : Option ℕ). GoesOn (v Checked) c (changes c aim q) (notes.begun a) P (notes.changed a)) h.2 all.0)
 
   pub check_keeps : Sound n calls (yard_done y actor a Check) (moving callers a (call_at i c at) (progress_after y.shape c at (outcome_of y actor Check))) disk M P notes

@@ -1,5 +1,6 @@
 -- A claim keeps the invariant.
 use Rattle.std.proofs.Common.{◌≡◌, ℕ, suc, Bool, true, false, List, Option, Some, None, refl, sym, ap, ◌∙◌, subst, arith}
+use Rattle.lz_slot.specs.declared.format.Format.{Format}
 use Rattle.lz_slot.specs.declared.command.Command.{Command}
 use Rattle.lz_slot.specs.declared.command.Command.TheVariants.{Add, Remove, Has}
 use Rattle.lz_slot.specs.Sets.{key_of}
@@ -48,17 +49,17 @@ pred_was buckets k P0 P pred n h = once_weaker P0 P (λ R. Adjacent 0 (chain_of 
 pub node_was : (buckets slots k : ℕ) (P0 P : Trace) (pred : Place) (curr : Option ℕ) (s : ℕ) → curr ≡ Some s → WasBetween buckets k pred (link_to curr) P0 P → Stood buckets (bucket_of buckets k) P0 P (suc s)
 node_was buckets slots k P0 P pred curr s is h = next_stood buckets slots P0 (bucket_of buckets k) (place_number pred) (suc s) P (subst (λ (q : Option ℕ). WasBetween buckets k pred (link_to q) P0 P) is h).were (λ none. grind arith)
 
-pub aimed_same : (buckets passes : ℕ) (cells : List Cell) (dead : Bool) (old new : Actor) (k : ℕ) (P : Trace) (aim : Option ℕ) → new.slot ≡ old.slot
-    → IsAimed (record { buckets = buckets; passes = passes; cells = cells; dead = dead; actor = old }) k P aim → IsAimed (record { buckets = buckets; passes = passes; cells = cells; dead = dead; actor = new }) k P aim
-aimed_same buckets passes cells dead old new k P None same h = same ∙ h
-aimed_same buckets passes cells dead old new k P (Some s) same h = record { slot = same ∙ h.slot; stage = h.stage; key = h.key; word = h.word }
+pub aimed_same : (buckets passes : ℕ) (format : Format) (cells : List Cell) (dead : Bool) (old new : Actor) (k : ℕ) (P : Trace) (aim : Option ℕ) → new.slot ≡ old.slot
+    → IsAimed (record { buckets = buckets; passes = passes; format = format; cells = cells; dead = dead; actor = old }) k P aim → IsAimed (record { buckets = buckets; passes = passes; format = format; cells = cells; dead = dead; actor = new }) k P aim
+aimed_same buckets passes format cells dead old new k P None same h = same ∙ h
+aimed_same buckets passes format cells dead old new k P (Some s) same h = record { slot = same ∙ h.slot; stage = h.stage; key = h.key; word = h.word }
 
 module _ (n calls : ℕ) (y : Yard) (callers : List (Option Caller)) (disk : Medium) (M : History) (P : Trace) (notes : Notes) (a i : ℕ) (c : Command) (sound : Sound n calls y callers disk M P notes) (aim : Option ℕ) (pred : Place) (curr : Option ℕ) (is : caller_at callers a ≡ Some (call_at i c (Claiming aim pred curr))) where
   abbrev at : Progress
   at = Claiming aim pred curr
 
   abbrev x : Actor
-  x = record { slot = (actor_at y a).slot; hold = Locks; pred = pred; curr = curr }
+  x = record (actor_at y a) { hold = Locks; pred = pred; curr = curr }
 
   pred_in : InBucket y.shape.buckets (key_of c) pred → Stood y.shape.buckets (bucket_of y.shape.buckets (key_of c)) (notes.begun a) P (place_number pred) → IsPlaceIn y.locks pred
   pred_in = go pred
@@ -81,7 +82,7 @@ module _ (n calls : ℕ) (y : Yard) (callers : List (Option Caller)) (disk : Med
       (λ place lock. (subst (λ (q : Actor). HasLock q place) hand lock).among)
       (subst (λ (q : Actor). RestsOn y.shape.buckets q.hold q P) (sym hand) tt))
       (fresh_grip y.vault.dead (actor_at y a) x (ap (closes y.vault.dead) h.0.hold) (ap (opens y.vault.dead) h.0.hold) (ap has_removed_node h.0.hold) refl refl refl refl)
-      (record { quiet = me.quiet; begins = me.begins; stands = (me.stands.0, me.stands.1, (h.0.none, refl, refl, aimed_same y.shape.buckets y.shape.passes y.vault.cells y.vault.dead (actor_at y a) x (key_of c) P aim refl h.1, h.2)) })
+      (record { quiet = me.quiet; begins = me.begins; stands = (me.stands.0, me.stands.1, (h.0.none, refl, refl, aimed_same y.shape.buckets y.shape.passes y.vault.format y.vault.cells y.vault.dead (actor_at y a) x (key_of c) P aim refl h.1, h.2)) })
 
   -- one of them was taken
   busy_keeps : Sound n calls y (moving callers a (call_at i c at) at) disk M P notes

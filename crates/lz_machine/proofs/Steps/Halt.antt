@@ -14,7 +14,7 @@ use Rattle.lz_list.proofs.Hindsight.{stands}
 use Rattle.lz_machine.specs.declared.event.Event.TheVariants.{Halt}
 use Rattle.lz_machine.specs.declared.event.Outcome.TheVariants.{Done}
 use Rattle.lz_machine.specs.declared.event.Reply.{Reply}
-use Rattle.lz_machine.specs.declared.event.Reply.TheVariants.{Yes, No, Full, Worn, Halted, Device}
+use Rattle.lz_machine.specs.declared.event.Reply.TheVariants.{Yes, No, Full, Worn, OldFile, Halted, Device}
 use Rattle.lz_machine.specs.declared.actor.Actor.{Actor}
 use Rattle.lz_machine.specs.declared.actor.Hold.{Hold}
 use Rattle.lz_machine.specs.declared.actor.Hold.TheVariants.{Nothing, Locks, Checked, GateOpened, Linked, GateClosed, Marked, Unlinked, Released}
@@ -68,7 +68,7 @@ module _ (n calls : ℕ) (y : Yard) (callers : List (Option Caller)) (disk : Med
     callers = record {
       count = sound.callers.count;
       hands = sound.callers.hands;
-      each = λ b. caller_published y.shape.buckets y.shape.slots halted P (tt, sound.trace.lawful) y.shape.passes y.vault.cells y.vault.dead (actor_in y.actors b) (pin_in y.words.pins b) (notes.begun b) (notes.changed b) (leaves b) (caller_at callers b) (sound.callers.each b);
+      each = λ b. caller_published y.shape.buckets y.shape.slots halted P (tt, sound.trace.lawful) y.shape.passes y.vault.format y.vault.cells y.vault.dead (actor_in y.actors b) (pin_in y.words.pins b) (notes.begun b) (notes.changed b) (leaves b) (caller_at callers b) (sound.callers.each b);
     };
     reuse = reuse_halted y.shape y.vault.cells y.vault.dead y.uses y.actors P y.words.pins notes.begun sound.slots sound.reuse;
     ledger = ledger_published n calls y.shape.passes callers halted P M notes tt sound.ledger;
@@ -86,6 +86,7 @@ module _ (n calls : ℕ) (y : Yard) (callers : List (Option Caller)) (disk : Med
   cut_answers c No a cut = absurd cut
   cut_answers c (Full counts) a cut = absurd cut
   cut_answers c Worn a cut = absurd cut
+  cut_answers c OldFile a cut = absurd cut
 
   cut_tail : (reply : Reply) → IsCut reply → may_have_tail (Answering reply) ≡ true
   cut_tail Halted cut = refl

@@ -278,14 +278,14 @@ module _ (n calls : ℕ) (y : Yard) (callers : List (Option Caller)) (disk : Med
         count = length-set_of_pass callers a _ ∙ sound.callers.count;
         hands = length-set_of_pass y.actors a x ∙ sound.callers.hands;
         each = by_actor (λ b. CallerSound (view_of y.shape y.vault actors' b) (pin_in y.words.pins b) (caller_at callers' b) (notes'.begun b) P' (notes'.changed b)) a
-            (carry y.shape.buckets y.shape.passes y.vault.cells y.vault.dead P' x (actor_in actors' a) (pin_in y.words.pins a) (pin_in y.words.pins a) (Some (call_at i (Remove k) (Playing (Removing s) 2))) (caller_at callers' a) (notes.begun a) (notes.begun a) (Some (length P)) (notes'.changed a) hand_a refl (moved_same callers a (call_at i (Remove k) at) is (Playing (Removing s) 2)) refl (changed_same notes a (length P))
+            (carry y.shape.buckets y.shape.passes y.vault.format y.vault.cells y.vault.dead P' x (actor_in actors' a) (pin_in y.words.pins a) (pin_in y.words.pins a) (Some (call_at i (Remove k) (Playing (Removing s) 2))) (caller_at callers' a) (notes.begun a) (notes.begun a) (Some (length P)) (notes'.changed a) hand_a refl (moved_same callers a (call_at i (Remove k) at) is (Playing (Removing s) 2)) refl (changed_same notes a (length P))
             (record {
               quiet = λ inside. (tt, me.quiet inside);
               begins = λ inside. inr (me.begins inside);
               stands = (me.stands.0, me.stands.1, (h.0, h.1, (refl, my_mark)));
             }))
-            (λ b other. carry y.shape.buckets y.shape.passes y.vault.cells y.vault.dead P' (actor_in y.actors b) (actor_in actors' b) (pin_in y.words.pins b) (pin_in y.words.pins b) (caller_at callers b) (caller_at callers' b) (notes.begun b) (notes.begun b) (notes.changed b) (notes'.changed b) (hand_b b other) refl (moved_other callers a (call_at i (Remove k) at) is (Playing (Removing s) 2) b other) refl (changed_other notes a (length P) b other)
-            (caller_published y.shape.buckets y.shape.slots (marked k s a) P law y.shape.passes y.vault.cells y.vault.dead (actor_in y.actors b) (pin_in y.words.pins b) (notes.begun b) (notes.changed b) (leaves b) (caller_at callers b) (sound.callers.each b)));
+            (λ b other. carry y.shape.buckets y.shape.passes y.vault.format y.vault.cells y.vault.dead P' (actor_in y.actors b) (actor_in actors' b) (pin_in y.words.pins b) (pin_in y.words.pins b) (caller_at callers b) (caller_at callers' b) (notes.begun b) (notes.begun b) (notes.changed b) (notes'.changed b) (hand_b b other) refl (moved_other callers a (call_at i (Remove k) at) is (Playing (Removing s) 2) b other) refl (changed_other notes a (length P) b other)
+            (caller_published y.shape.buckets y.shape.slots (marked k s a) P law y.shape.passes y.vault.format y.vault.cells y.vault.dead (actor_in y.actors b) (pin_in y.words.pins b) (notes.begun b) (notes.changed b) (leaves b) (caller_at callers b) (sound.callers.each b)));
       }
 
   in_passes : a ≤ y.shape.passes

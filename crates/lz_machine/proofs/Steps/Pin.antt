@@ -22,7 +22,7 @@ use Rattle.lz_list.proofs.Absent.{begins_itself}
 use Rattle.lz_list.proofs.Hindsight.{once_begins}
 use Rattle.lz_machine.specs.declared.event.Event.TheVariants.{Pin}
 use Rattle.lz_machine.specs.declared.event.Outcome.TheVariants.{Done, Worn}
-use Rattle.lz_machine.specs.declared.event.Reply.TheVariants.{Worn as SaysWorn}
+use Rattle.lz_machine.specs.declared.event.Reply.TheVariants.{Worn as SaysWorn, OldFile as SaysOldFile}
 use Rattle.lz_machine.specs.declared.actor.Actor.{Actor}
 use Rattle.lz_machine.specs.declared.caller.Script.TheVariants.{Pinning}
 use Rattle.lz_machine.specs.declared.caller.Progress.TheVariants.{Playing, LoadsHalt, Answering}
@@ -198,8 +198,8 @@ module _ (n calls : ℕ) (y : Yard) (callers : List (Option Caller)) (disk : Med
     count = count ∙ sound.callers.count;
     hands = sound.callers.hands;
     each = by_actor (λ b. CallerSound (view_of y.shape y.vault y.actors b) (pin_in (set_of_pass y.words.pins a to) b) (caller_at callers' b) ((begins_now notes a P).begun b) P (notes.changed b)) a
-        (carry y.shape.buckets y.shape.passes y.vault.cells y.vault.dead P (actor_in y.actors a) (actor_in y.actors a) to (pin_in (set_of_pass y.words.pins a to) a) (caller_at callers' a) (caller_at callers' a) P ((begins_now notes a P).begun a) (notes.changed a) (notes.changed a) refl (of_pass_same y.words.pins a to 0 low in_pins) refl (begun_same notes a P) refl mine)
-        (λ b other. carry y.shape.buckets y.shape.passes y.vault.cells y.vault.dead P (actor_in y.actors b) (actor_in y.actors b) (pin_in y.words.pins b) (pin_in (set_of_pass y.words.pins a to) b) (caller_at callers b) (caller_at callers' b) (notes.begun b) ((begins_now notes a P).begun b) (notes.changed b) (notes.changed b) refl (of_pass_other y.words.pins a b to 0 other) (others b other) (begun_other notes a P b other) refl (sound.callers.each b));
+        (carry y.shape.buckets y.shape.passes y.vault.format y.vault.cells y.vault.dead P (actor_in y.actors a) (actor_in y.actors a) to (pin_in (set_of_pass y.words.pins a to) a) (caller_at callers' a) (caller_at callers' a) P ((begins_now notes a P).begun a) (notes.changed a) (notes.changed a) refl (of_pass_same y.words.pins a to 0 low in_pins) refl (begun_same notes a P) refl mine)
+        (λ b other. carry y.shape.buckets y.shape.passes y.vault.format y.vault.cells y.vault.dead P (actor_in y.actors b) (actor_in y.actors b) (pin_in y.words.pins b) (pin_in (set_of_pass y.words.pins a to) b) (caller_at callers b) (caller_at callers' b) (notes.begun b) ((begins_now notes a P).begun b) (notes.changed b) (notes.changed b) refl (of_pass_other y.words.pins a b to 0 other) (others b other) (begun_other notes a P b other) refl (sound.callers.each b));
   }
 
   left_callers : (callers' : List (Option Caller)) → length callers' ≡ length callers → ((b : ℕ) → b ≢ a → caller_at callers' b ≡ caller_at callers b)
@@ -209,8 +209,8 @@ module _ (n calls : ℕ) (y : Yard) (callers : List (Option Caller)) (disk : Med
     count = count ∙ sound.callers.count;
     hands = sound.callers.hands;
     each = by_actor (λ b. CallerSound (view_of y.shape y.vault y.actors b) (pin_in (set_of_pass y.words.pins a to) b) (caller_at callers' b) (notes.begun b) P (notes.changed b)) a
-        (carry y.shape.buckets y.shape.passes y.vault.cells y.vault.dead P (actor_in y.actors a) (actor_in y.actors a) to (pin_in (set_of_pass y.words.pins a to) a) (caller_at callers' a) (caller_at callers' a) (notes.begun a) (notes.begun a) (notes.changed a) (notes.changed a) refl (of_pass_same y.words.pins a to 0 low in_pins) refl refl refl mine)
-        (λ b other. carry y.shape.buckets y.shape.passes y.vault.cells y.vault.dead P (actor_in y.actors b) (actor_in y.actors b) (pin_in y.words.pins b) (pin_in (set_of_pass y.words.pins a to) b) (caller_at callers b) (caller_at callers' b) (notes.begun b) (notes.begun b) (notes.changed b) (notes.changed b) refl (of_pass_other y.words.pins a b to 0 other) (others b other) refl refl (sound.callers.each b));
+        (carry y.shape.buckets y.shape.passes y.vault.format y.vault.cells y.vault.dead P (actor_in y.actors a) (actor_in y.actors a) to (pin_in (set_of_pass y.words.pins a to) a) (caller_at callers' a) (caller_at callers' a) (notes.begun a) (notes.begun a) (notes.changed a) (notes.changed a) refl (of_pass_same y.words.pins a to 0 low in_pins) refl refl refl mine)
+        (λ b other. carry y.shape.buckets y.shape.passes y.vault.format y.vault.cells y.vault.dead P (actor_in y.actors b) (actor_in y.actors b) (pin_in y.words.pins b) (pin_in (set_of_pass y.words.pins a to) b) (caller_at callers b) (caller_at callers' b) (notes.begun b) (notes.begun b) (notes.changed b) (notes.changed b) refl (of_pass_other y.words.pins a b to 0 other) (others b other) refl refl (sound.callers.each b));
   }
 
   -- an actor without a call looks: it goes in, or goes out
@@ -261,7 +261,7 @@ module _ (n calls : ℕ) (y : Yard) (callers : List (Option Caller)) (disk : Med
             (subst (λ (q : Option Caller). CallerSound (view_of y.shape y.vault y.actors a) to q P P (notes.changed a)) (sym (moved_same callers a (call_at i c (Playing Pinning 0)) is LoadsHalt)) (record {
               quiet = λ inside. quiet_new y.shape.buckets P P (omega arith);
               begins = λ inside. begins_itself P;
-              stands = (omega (arith, me.stands.0), me.stands.1, me.stands.2);
+              stands = (omega (arith, me.stands.0), λ inside. me.stands.2.2, (me.stands.2.0, me.stands.2.1));
             }));
         reuse = entered_reuse y.shape y.vault.cells y.vault.dead y.words.pins y.uses y.actors P notes a low in_pins sound.slots sound.reuse me.stands.0 fresh;
         ledger = ledger_noted n calls y.shape.passes (moving callers a (call_at i c (Playing Pinning 0)) LoadsHalt) P M notes (begins_now notes a P).begun (ledger_turn callers a (call_at i c (Playing Pinning 0)) is LoadsHalt n calls y.shape.passes P M notes sound.ledger);

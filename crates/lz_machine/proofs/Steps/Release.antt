@@ -50,7 +50,7 @@ module _ (n calls : ℕ) (y : Yard) (callers : List (Option Caller)) (disk : Med
 
   release_to : (old new : Hold) (next : Progress) → actor.hold ≡ old → released old ≡ new → has_locks old ≡ true → has_locks new ≡ false → RestsOn y.shape.buckets new (with_hold actor new) P
       → KeepsGrips y.vault.dead y.vault.dead actor (with_hold actor new) → is_before_pin at ≡ false → KeepsTail (notes.changed a) at next
-      → GoesOn (record { buckets = y.shape.buckets; passes = y.shape.passes; cells = y.vault.cells; dead = y.vault.dead; actor = with_hold actor new }) c next (notes.begun a) P (notes.changed a)
+      → GoesOn (record { buckets = y.shape.buckets; passes = y.shape.passes; format = y.vault.format; cells = y.vault.cells; dead = y.vault.dead; actor = with_hold actor new }) c next (notes.begun a) P (notes.changed a)
       → Sound n calls (yard_done y actor a Release) (moving callers a (call_at i c at) next) disk M P notes
   release_to old new next hold to locked free rests grips inside keeps goes =
       let me = own n calls y callers disk M P notes a i c at is sound in
@@ -74,7 +74,7 @@ module _ (n calls : ℕ) (y : Yard) (callers : List (Option Caller)) (disk : Med
       let h = (own n calls y callers disk M P notes a i c (Playing (Releasing aim) 0) is sound).stands.2 in
       release_to n calls y callers disk M P notes a i c (Playing (Releasing aim) 0) is sound Locks Nothing (Walking aim AtHead) h.0 refl refl refl tt
       (fresh_grip y.vault.dead (actor_at y a) (with_hold (actor_at y a) Nothing) (ap (closes y.vault.dead) h.0) (ap (opens y.vault.dead) h.0) (ap has_removed_node h.0) refl refl refl refl) refl (λ none is. absurd (false≢true is))
-      (record { relies = (record { hold = refl; none = h.2 }, aimed_same y.shape.buckets y.shape.passes y.vault.cells y.vault.dead (actor_at y a) (with_hold (actor_at y a) Nothing) (key_of c) P aim refl h.1, tt, h.3); inside = refl })
+      (record { relies = (record { hold = refl; none = h.2 }, aimed_same y.shape.buckets y.shape.passes y.vault.format y.vault.cells y.vault.dead (actor_at y a) (with_hold (actor_at y a) Nothing) (key_of c) P aim refl h.1, tt, h.3); inside = refl })
 
   -- behind a linking
   pub linked_release_keeps : (k s : ℕ) → caller_at callers a ≡ Some (call_at i (Add k) (Playing (Adding s) 2))

@@ -242,7 +242,7 @@ module _ (n calls : ℕ) (y : Yard) (callers : List (Option Caller)) (disk : Med
         | inr other ↦ sym (take_other y.uses s t other) ∙ is'
       ]
 
-  pub take_keeps : (next : Progress) → is_before_pin at ≡ false → KeepsTail (notes.changed a) at next → GoesOn (record { buckets = y.shape.buckets; passes = y.shape.passes; cells = y.vault.cells; dead = y.vault.dead; actor = x }) c next (notes.begun a) P (notes.changed a)
+  pub take_keeps : (next : Progress) → is_before_pin at ≡ false → KeepsTail (notes.changed a) at next → GoesOn (record { buckets = y.shape.buckets; passes = y.shape.passes; format = y.vault.format; cells = y.vault.cells; dead = y.vault.dead; actor = x }) c next (notes.begun a) P (notes.changed a)
       → Sound n calls (record { shape = y.shape; words = y.words; locks = y.locks; vault = y.vault; uses = uses'; actors = actors' }) (moving callers a (call_at i c at) next) disk M P notes
   take_keeps next inside keeps goes =
       let me = own n calls y callers disk M P notes a i c at is sound in
@@ -254,7 +254,7 @@ module _ (n calls : ℕ) (y : Yard) (callers : List (Option Caller)) (disk : Med
             (λ place lock. let mine = subst (λ (q : Actor). HasLock q place) hand_a lock in record { locks = mine.locks; among = mine.among })
             (subst (λ (q : Actor). RestsOn y.shape.buckets q.hold q P) (sym hand_a) (subst (λ (q : Hold). RestsOn y.shape.buckets q x P) (sym nothing) tt));
         callers = callers_turn callers a (call_at i c at) is next y.shape y.vault y.words.pins y.actors actors' P notes (length-set_of_pass y.actors a x) hand_b
-            (subst (λ (q : Actor). CallerSound (record { buckets = y.shape.buckets; passes = y.shape.passes; cells = y.vault.cells; dead = y.vault.dead; actor = q }) (pin_in y.words.pins a) (Some (call_at i c next)) (notes.begun a) P (notes.changed a)) (sym hand_a) (record { quiet = me.quiet; begins = me.begins; stands = (me.stands.0 ∙ ap side_of inside ∙ ap side_of (sym goes.inside), me.stands.1, goes.relies) }))
+            (subst (λ (q : Actor). CallerSound (record { buckets = y.shape.buckets; passes = y.shape.passes; format = y.vault.format; cells = y.vault.cells; dead = y.vault.dead; actor = q }) (pin_in y.words.pins a) (Some (call_at i c next)) (notes.begun a) P (notes.changed a)) (sym hand_a) (record { quiet = me.quiet; begins = me.begins; stands = (me.stands.0 ∙ ap side_of inside ∙ ap side_of (sym goes.inside), me.stands.1, goes.relies) }))
             sound.callers;
         reuse = take_reuse;
         ledger = ledger_turn callers a (call_at i c at) is next n calls y.shape.passes P M notes sound.ledger;
@@ -304,7 +304,7 @@ module _ (n calls : ℕ) (y : Yard) (callers : List (Option Caller)) (disk : Med
   abbrev next : Option ℕ → Progress
   next found = progress_after y.shape c (Reserving again) (slot_found found uses)
 
-  me : CallerSound (record { buckets = y.shape.buckets; passes = y.shape.passes; cells = y.vault.cells; dead = y.vault.dead; actor = actor_at y a }) (pin_in y.words.pins a) (Some (call_at i c (Reserving again))) (notes.begun a) P (notes.changed a)
+  me : CallerSound (record { buckets = y.shape.buckets; passes = y.shape.passes; format = y.vault.format; cells = y.vault.cells; dead = y.vault.dead; actor = actor_at y a }) (pin_in y.words.pins a) (Some (call_at i c (Reserving again))) (notes.begun a) P (notes.changed a)
   me = own n calls y callers disk M P notes a i c (Reserving again) is sound
 
   full_relies : (d : Command) → IsAdder d → notes.changed a ≡ None → MayAnswer d (Full (counts uses)) (notes.begun a) P (notes.changed a)
@@ -313,7 +313,7 @@ module _ (n calls : ℕ) (y : Yard) (callers : List (Option Caller)) (disk : Med
   full_relies (Has k) adder none = absurd adder
 
   -- no slot is free
-  none_goes : (b : Bool) → GoesOn (record { buckets = y.shape.buckets; passes = y.shape.passes; cells = y.vault.cells; dead = y.vault.dead; actor = with_slot (actor_at y a) None }) c (after_reserve b (NoSlot (counts uses))) (notes.begun a) P (notes.changed a)
+  none_goes : (b : Bool) → GoesOn (record { buckets = y.shape.buckets; passes = y.shape.passes; format = y.vault.format; cells = y.vault.cells; dead = y.vault.dead; actor = with_slot (actor_at y a) None }) c (after_reserve b (NoSlot (counts uses))) (notes.begun a) P (notes.changed a)
   none_goes false =
       let r = range n calls y callers disk M P notes a (call_at i c (Reserving again)) is sound (actor_at y a) in
       record { relies = (record { hold = me.stands.2.0.hold; none = me.stands.2.0.none }, refl, omega arith, omega (arith, r.0, r.1, sound.callers.hands), me.stands.2.2); inside = refl }

@@ -18,13 +18,13 @@ use Rattle.lz_list.specs.declared.publishing.Publishing.TheVariants.{Settled as 
 use Rattle.lz_list.specs.Traces.{Trace, Begins, IsLoose, on, chain_of, bucket_of, key_word, linking, linking_in, is_settled, is_removed, is_marked, member, SettledNo}
 use Rattle.lz_list.specs.Pinned.{Stood, IsQuiet}
 use Rattle.lz_list.proofs.Nodes.{node}
-use Rattle.lz_list.proofs.Hindsight.{lawful_begins}
+use Rattle.lz_list.proofs.Hindsight.{lawful_begins, quiet_begins}
 use Rattle.lz_list.proofs.Resting.{linking_since, marked_rests, unmarked_rests, mark_stays, begins_before}
 use Rattle.lz_machine.specs.declared.event.Event.TheVariants.{Settle}
 use Rattle.lz_machine.specs.declared.event.Outcome.{Outcome}
 use Rattle.lz_machine.specs.declared.event.Outcome.TheVariants.{Done, Early}
 use Rattle.lz_machine.specs.declared.event.Reply.{Reply}
-use Rattle.lz_machine.specs.declared.event.Reply.TheVariants.{Yes, No, Full, Worn, Halted, Device}
+use Rattle.lz_machine.specs.declared.event.Reply.TheVariants.{Yes, No, Full, Worn, OldFile, Halted, Device}
 use Rattle.lz_machine.specs.declared.actor.Hold.{Hold}
 use Rattle.lz_machine.specs.declared.actor.Hold.TheVariants.{Marked}
 use Rattle.lz_machine.specs.declared.caller.Script.TheVariants.{Adding, Removing, Resting}
@@ -74,12 +74,6 @@ mark_since buckets slots P0 b s R (e ∷ P) quiet (inl here) stood mark = (ap (i
 mark_since buckets slots P0 b s R (e ∷ P) quiet (inr to) stood mark =
     let before = mark_since buckets slots P0 b s R P quiet.1 to stood mark in
     (mark_stays buckets slots P0 b s e P quiet.0 before.1 before.0, inr before.1)
-
--- what is quiet at a trace was so before
-quiet_begins : (buckets : ℕ) (P0 R P : Trace) → Begins R P → IsQuiet buckets P0 P → IsQuiet buckets P0 R
-quiet_begins buckets P0 R [] to quiet = subst (IsQuiet buckets P0) (sym to) quiet
-quiet_begins buckets P0 R (e ∷ P) (inl here) quiet = subst (IsQuiet buckets P0) (sym here) quiet
-quiet_begins buckets P0 R (e ∷ P) (inr to) quiet = quiet_begins buckets P0 R P to quiet.1
 
 module _ (n calls : ℕ) (y : Yard) (callers : List (Option Caller)) (disk : Medium) (M : History) (P : Trace) (notes : Notes) (sound : Sound n calls y callers disk M P notes) (a s : ℕ) where
   -- the event, where the slot's last write is sure, and where it isn't
@@ -281,13 +275,16 @@ module _ (n calls : ℕ) (y : Yard) (callers : List (Option Caller)) (disk : Med
       now (Remove k) Yes at sure fresh m = absurd m
       now (Add k) (Full counts) at sure fresh m = absurd m
       now (Add k) Worn at sure fresh m = absurd m
+      now (Add k) OldFile at sure fresh m = absurd m
       now (Add k) Halted at sure fresh m = absurd m
       now (Add k) Device at sure fresh m = absurd m
       now (Remove k) (Full counts) at sure fresh m = absurd m
       now (Remove k) Worn at sure fresh m = absurd m
+      now (Remove k) OldFile at sure fresh m = absurd m
       now (Remove k) Halted at sure fresh m = absurd m
       now (Remove k) Device at sure fresh m = absurd m
       now (Has k) (Full counts) at sure fresh m = absurd m
       now (Has k) Worn at sure fresh m = absurd m
+      now (Has k) OldFile at sure fresh m = absurd m
       now (Has k) Halted at sure fresh m = absurd m
       now (Has k) Device at sure fresh m = absurd m

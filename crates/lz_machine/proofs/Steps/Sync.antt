@@ -147,7 +147,7 @@ module _ (cells : List Cell) where
 
 -- the yard after a sync that succeeded
 abbrev pub synced_yard : Yard → ℕ → Yard
-synced_yard y syncs = with_vault y (record { cells = map cell_synced y.vault.cells; syncs = syncs; dead = y.vault.dead })
+synced_yard y syncs = with_vault y (record y.vault { cells = map cell_synced y.vault.cells; syncs = syncs })
 
 module _ (n calls : ℕ) (y : Yard) (callers : List (Option Caller)) (disk : Medium) (M : History) (P : Trace) (notes : Notes) (sound : Sound n calls y callers disk M P notes) where
   -- a sync makes sure what was written, while the vault lives
@@ -158,14 +158,14 @@ module _ (n calls : ℕ) (y : Yard) (callers : List (Option Caller)) (disk : Med
       slots = sound.images.slots;
       count = length-map y.vault.cells cell_synced ∙ sound.images.count;
       keys = λ s cell at. let was = from_map y.vault.cells s cell at in omega (arith, ap (λ (c : Cell). c.key) was.2, sound.images.keys s was.0 was.1);
-      keeps = subst (λ (b : Bool). Keeps (map cell_synced y.vault.cells) b (synced disk)) (sym alive) (sync_keeps y.vault.cells disk (subst (λ (b : Bool). Keeps y.vault.cells b disk) alive sound.images.keeps));
+      keeps = subst (λ (b : Bool). Keeps y.vault.format (map cell_synced y.vault.cells) b (synced disk)) (sym alive) (sync_keeps y.vault.format y.vault.cells disk (subst (λ (b : Bool). Keeps y.vault.format y.vault.cells b disk) alive sound.images.keeps));
     };
     slots = slots_synced y.vault.cells y.shape y.vault.dead y.uses y.actors P sound.slots;
     locks = sound.locks;
     callers = record {
       count = sound.callers.count;
       hands = sound.callers.hands;
-      each = λ b. caller_vaulted y.shape.buckets y.shape.passes y.vault.cells (map cell_synced y.vault.cells) y.vault.dead y.vault.dead (actor_in y.actors b) (notes.begun b) P (notes.changed b) (λ e. e) (λ s slot. cell_keeps y.vault.cells s) (pin_in y.words.pins b) (caller_at callers b) (sound.callers.each b);
+      each = λ b. caller_vaulted y.shape.buckets y.shape.passes y.vault.format y.vault.cells (map cell_synced y.vault.cells) y.vault.dead y.vault.dead (actor_in y.actors b) (notes.begun b) P (notes.changed b) (λ e. e) (λ s slot. cell_keeps y.vault.cells s) (pin_in y.words.pins b) (caller_at callers b) (sound.callers.each b);
     };
     reuse = sound.reuse;
     ledger = sound.ledger;
@@ -248,7 +248,7 @@ module _ (n calls : ℕ) (y : Yard) (callers : List (Option Caller)) (disk : Med
     callers = record {
       count = sound.callers.count;
       hands = sound.callers.hands;
-      each = λ b. caller_vaulted y.shape.buckets y.shape.passes y.vault.cells y.vault.cells y.vault.dead true (actor_in y.actors b) (notes.begun b) P (notes.changed b) (λ e. refl) (λ s slot. record { key = refl; keyed = λ k. k; sure = λ k. k }) (pin_in y.words.pins b) (caller_at callers b) (sound.callers.each b);
+      each = λ b. caller_vaulted y.shape.buckets y.shape.passes y.vault.format y.vault.cells y.vault.cells y.vault.dead true (actor_in y.actors b) (notes.begun b) P (notes.changed b) (λ e. refl) (λ s slot. record { key = refl; keyed = λ k. k; sure = λ k. k }) (pin_in y.words.pins b) (caller_at callers b) (sound.callers.each b);
     };
     reuse = sound.reuse;
     ledger = sound.ledger;

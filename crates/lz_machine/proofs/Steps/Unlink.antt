@@ -298,14 +298,14 @@ module _ (n calls : ℕ) (y : Yard) (callers : List (Option Caller)) (disk : Med
         count = length-set_of_pass callers a _ ∙ sound.callers.count;
         hands = length-set_of_pass y.actors a x ∙ sound.callers.hands;
         each = by_actor (λ b. CallerSound (view_of y.shape y.vault actors' b) (pin_in y.words.pins b) (caller_at callers' b) (notes.begun b) P' (notes.changed b)) a
-            (carry y.shape.buckets y.shape.passes y.vault.cells y.vault.dead P' x (actor_in actors' a) (pin_in y.words.pins a) (pin_in y.words.pins a) (Some (call_at i (Remove k) (Playing (Removing s) 5))) (caller_at callers' a) (notes.begun a) (notes.begun a) (notes.changed a) (notes.changed a) hand_a refl (moved_same callers a (call_at i (Remove k) at) is (Playing (Removing s) 5)) refl refl
+            (carry y.shape.buckets y.shape.passes y.vault.format y.vault.cells y.vault.dead P' x (actor_in actors' a) (pin_in y.words.pins a) (pin_in y.words.pins a) (Some (call_at i (Remove k) (Playing (Removing s) 5))) (caller_at callers' a) (notes.begun a) (notes.begun a) (notes.changed a) (notes.changed a) hand_a refl (moved_same callers a (call_at i (Remove k) at) is (Playing (Removing s) 5)) refl refl
             (record {
               quiet = λ inside. (tt, me.quiet inside);
               begins = λ inside. inr (me.begins inside);
               stands = (me.stands.0, me.stands.1, (h.0, h.1, (refl, change_stays y.shape.buckets y.shape.slots (unlinked k s a) P law k (notes.changed a) h.2.3)));
             }))
-            (λ b other. carry y.shape.buckets y.shape.passes y.vault.cells y.vault.dead P' (actor_in y.actors b) (actor_in actors' b) (pin_in y.words.pins b) (pin_in y.words.pins b) (caller_at callers b) (caller_at callers' b) (notes.begun b) (notes.begun b) (notes.changed b) (notes.changed b) (hand_b b other) refl (moved_other callers a (call_at i (Remove k) at) is (Playing (Removing s) 5) b other) refl refl
-            (caller_published y.shape.buckets y.shape.slots (unlinked k s a) P law y.shape.passes y.vault.cells y.vault.dead (actor_in y.actors b) (pin_in y.words.pins b) (notes.begun b) (notes.changed b) (leaves b) (caller_at callers b) (sound.callers.each b)));
+            (λ b other. carry y.shape.buckets y.shape.passes y.vault.format y.vault.cells y.vault.dead P' (actor_in y.actors b) (actor_in actors' b) (pin_in y.words.pins b) (pin_in y.words.pins b) (caller_at callers b) (caller_at callers' b) (notes.begun b) (notes.begun b) (notes.changed b) (notes.changed b) (hand_b b other) refl (moved_other callers a (call_at i (Remove k) at) is (Playing (Removing s) 5) b other) refl refl
+            (caller_published y.shape.buckets y.shape.slots (unlinked k s a) P law y.shape.passes y.vault.format y.vault.cells y.vault.dead (actor_in y.actors b) (pin_in y.words.pins b) (notes.begun b) (notes.changed b) (leaves b) (caller_at callers b) (sound.callers.each b)));
       }
 
   node_range : (t : ℕ) → (actor_at y a).pred ≡ Node t → t < y.shape.slots

@@ -1,6 +1,7 @@
 -- A load on a walk keeps the invariant: what the walk relies on next follows from the word that it loaded.
 use Rattle.std.proofs.Common.{◌≡◌, ◌≢◌, ◌⊎◌, inl, inr, ℕ, zero, suc, ◌≤◌, nat_lt, if◌then◌else◌, Bool, true, false, List, [], ◌∷◌, Option, Some, None, refl, sym, ◌∙◌, subst, arith}
 use Rattle.std.proofs.lemmas.Bool.Decides.{nat_tests, eqb_tells}
+use Rattle.lz_slot.specs.declared.format.Format.{Format}
 use Rattle.lz_slot.specs.Limits.{most_slots}
 use Rattle.lz_slot.specs.declared.command.Command.{Command}
 use Rattle.lz_slot.specs.declared.command.Command.TheVariants.{Add, Remove, Has}
@@ -73,9 +74,9 @@ module _ (shape : Shape) (words : Words) (P : Trace) (trace : TraceSound shape w
   abbrev slots : ℕ
   slots = shape.slots
 
-  module _ (passes : ℕ) (cells : List Cell) (dead : Bool) (actor : Actor) (changed : Option ℕ) where
+  module _ (passes : ℕ) (format : Format) (cells : List Cell) (dead : Bool) (actor : Actor) (changed : Option ℕ) where
     abbrev v : View
-    v = record { buckets = buckets; passes = passes; cells = cells; dead = dead; actor = actor }
+    v = record { buckets = buckets; passes = passes; format = format; cells = cells; dead = dead; actor = actor }
 
     answers : (c : Command) (reply : Reply) → IsFresh v changed → is_before_pin (Answering reply) ≡ false → Relies v c (Answering reply) P0 P changed → GoesOn v c (Answering reply) P0 P changed
     answers c reply fresh inside h = record { relies = h; inside = inside }

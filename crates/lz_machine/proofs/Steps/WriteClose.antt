@@ -233,7 +233,7 @@ module _ (n calls : ℕ) (y : Yard) (callers : List (Option Caller)) (disk : Med
   callers' = moving callers a (call_at i (Remove k) at) (Playing (Removing s) 1)
 
   abbrev vault' : Vaulted
-  vault' = record { cells = cells'; syncs = y.vault.syncs; dead = y.vault.dead }
+  vault' = record y.vault { cells = cells' }
 
   keeps_cell : (b t : ℕ) → (actor_in y.actors b).slot ≡ Some t → KeepsCell (cell_in y.vault.cells t) (cell_in cells' t)
   keeps_cell b t slot =
@@ -247,10 +247,10 @@ module _ (n calls : ℕ) (y : Yard) (callers : List (Option Caller)) (disk : Med
         count = length-set_of_pass callers a _ ∙ sound.callers.count;
         hands = length-set_of_pass y.actors a x ∙ sound.callers.hands;
         each = by_actor (λ b. CallerSound (view_of y.shape vault' actors' b) (pin_in y.words.pins b) (caller_at callers' b) (notes.begun b) P (notes.changed b)) a
-            (carry y.shape.buckets y.shape.passes cells' y.vault.dead P x (actor_in actors' a) (pin_in y.words.pins a) (pin_in y.words.pins a) (Some (call_at i (Remove k) (Playing (Removing s) 1))) (caller_at callers' a) (notes.begun a) (notes.begun a) (notes.changed a) (notes.changed a) hand_a refl (moved_same callers a (call_at i (Remove k) at) is (Playing (Removing s) 1)) refl refl
+            (carry y.shape.buckets y.shape.passes y.vault.format cells' y.vault.dead P x (actor_in actors' a) (pin_in y.words.pins a) (pin_in y.words.pins a) (Some (call_at i (Remove k) (Playing (Removing s) 1))) (caller_at callers' a) (notes.begun a) (notes.begun a) (notes.changed a) (notes.changed a) hand_a refl (moved_same callers a (call_at i (Remove k) at) is (Playing (Removing s) 1)) refl refl
             (record { quiet = me.quiet; begins = me.begins; stands = (me.stands.0, me.stands.1, (h.0, h.1, (refl, h.2.1, h.2.2))) }))
-            (λ b other. carry y.shape.buckets y.shape.passes cells' y.vault.dead P (actor_in y.actors b) (actor_in actors' b) (pin_in y.words.pins b) (pin_in y.words.pins b) (caller_at callers b) (caller_at callers' b) (notes.begun b) (notes.begun b) (notes.changed b) (notes.changed b) (hand_b b other) refl (moved_other callers a (call_at i (Remove k) at) is (Playing (Removing s) 1) b other) refl refl
-            (caller_vaulted y.shape.buckets y.shape.passes y.vault.cells cells' y.vault.dead y.vault.dead (actor_in y.actors b) (notes.begun b) P (notes.changed b) (λ e. e) (keeps_cell b) (pin_in y.words.pins b) (caller_at callers b) (sound.callers.each b)));
+            (λ b other. carry y.shape.buckets y.shape.passes y.vault.format cells' y.vault.dead P (actor_in y.actors b) (actor_in actors' b) (pin_in y.words.pins b) (pin_in y.words.pins b) (caller_at callers b) (caller_at callers' b) (notes.begun b) (notes.begun b) (notes.changed b) (notes.changed b) (hand_b b other) refl (moved_other callers a (call_at i (Remove k) at) is (Playing (Removing s) 1) b other) refl refl
+            (caller_vaulted y.shape.buckets y.shape.passes y.vault.format y.vault.cells cells' y.vault.dead y.vault.dead (actor_in y.actors b) (notes.begun b) P (notes.changed b) (λ e. e) (keeps_cell b) (pin_in y.words.pins b) (caller_at callers b) (sound.callers.each b)));
       }
 
   my_tail : HasTail (Remove (cell_in cells' s).key) callers (entries y.shape.passes callers notes) M
@@ -259,7 +259,7 @@ module _ (n calls : ℕ) (y : Yard) (callers : List (Option Caller)) (disk : Med
   closed_sound : Sound n calls (record { shape = y.shape; words = y.words; locks = y.locks; vault = vault'; uses = y.uses; actors = actors' }) callers' (written disk (16 + 16 * s) (closed_byte ∷ [])) M P notes
   closed_sound = record {
     trace = sound.trace;
-    images = subst (λ (b : Bool). DiskSound y.shape (record { cells = cells'; syncs = y.vault.syncs; dead = b }) (written disk (16 + 16 * s) (closed_byte ∷ []))) (sym alive)
+    images = subst (λ (b : Bool). DiskSound y.shape (record y.vault { cells = cells'; dead = b }) (written disk (16 + 16 * s) (closed_byte ∷ []))) (sym alive)
         (gate_written y.shape y.vault disk sound.images alive s lt closed_byte (omega arith) Closing (has_body (stage_in y.vault.cells s) facts.1) (λ j bytes e. e) (λ j bytes e opened. absurd (omega (arith, e, opened))) y.vault.syncs);
     slots = closed_slots;
     locks = held_locks y.shape y.locks y.actors actors' P a hand_b sound.locks
@@ -288,7 +288,7 @@ module _ (n calls : ℕ) (y : Yard) (callers : List (Option Caller)) (disk : Med
   pub write_close_keeps : Sound n calls (yard_done y (actor_at y a) a WriteClose) callers' (medium_after (call_of y (actor_at y a) WriteClose) disk) M P notes
   write_close_keeps =
       let claimed : s ≡ node_of (actor_at y a) = sym (ap (λ (q : Option ℕ). unwrap_or q 0) h.0) in
-      subst (λ (q : ℕ). Sound n calls (record { shape = y.shape; words = y.words; locks = y.locks; vault = record { cells = slice_set y.vault.cells q (record { stage = Closing; key = (cell_in y.vault.cells q).key }); syncs = y.vault.syncs; dead = y.vault.dead }; uses = y.uses; actors = actors' }) callers' (written disk (16 + 16 * q) (closed_byte ∷ [])) M P notes) claimed closed_sound
+      subst (λ (q : ℕ). Sound n calls (record { shape = y.shape; words = y.words; locks = y.locks; vault = record y.vault { cells = slice_set y.vault.cells q (record { stage = Closing; key = (cell_in y.vault.cells q).key }) }; uses = y.uses; actors = actors' }) callers' (written disk (16 + 16 * q) (closed_byte ∷ [])) M P notes) claimed closed_sound
 
   -- where the write fails, the vault dies, and the gate may be closed
   failed_stage : (t : ℕ) → t ≢ s → IsNodeStage y.vault.cells y.vault.dead y.actors P t → IsNodeStage cells' true y.actors P t
@@ -334,7 +334,7 @@ module _ (n calls : ℕ) (y : Yard) (callers : List (Option Caller)) (disk : Med
   }
 
   abbrev failed_yard : Yard
-  failed_yard = with_vault y (record { cells = cells'; syncs = y.vault.syncs; dead = true })
+  failed_yard = with_vault y (record y.vault { cells = cells'; dead = true })
 
   failed_sound : (medium : Medium) → (medium ≡ disk) ⊎ WriteFailed disk (16 + 16 * s) 1 medium → Sound n calls failed_yard callers medium M P notes
   failed_sound medium may = record {
@@ -345,7 +345,7 @@ module _ (n calls : ℕ) (y : Yard) (callers : List (Option Caller)) (disk : Med
     callers = record {
       count = sound.callers.count;
       hands = sound.callers.hands;
-      each = λ b. caller_vaulted y.shape.buckets y.shape.passes y.vault.cells cells' y.vault.dead true (actor_in y.actors b) (notes.begun b) P (notes.changed b) (λ e. refl) (keeps_cell b) (pin_in y.words.pins b) (caller_at callers b) (sound.callers.each b);
+      each = λ b. caller_vaulted y.shape.buckets y.shape.passes y.vault.format y.vault.cells cells' y.vault.dead true (actor_in y.actors b) (notes.begun b) P (notes.changed b) (λ e. refl) (keeps_cell b) (pin_in y.words.pins b) (caller_at callers b) (sound.callers.each b);
     };
     reuse = sound.reuse;
     ledger = sound.ledger;

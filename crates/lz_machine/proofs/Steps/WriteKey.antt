@@ -1,18 +1,19 @@
 -- WriteKey keeps the invariant: the adder's key is put into the slot that it has reserved.
-use Rattle.std.proofs.Common.{◌≡◌, ◌≢◌, ◌⊎◌, inl, inr, ℕ, zero, suc, ◌<◌, ◌≤◌, ◌+◌, ◌*◌, ◌==◌, Bool, true, false, List, ◌∷◌, ◌++◌, length, Option, Some, None, refl, sym, ap, ◌∙◌, subst, arith, length-set, get_or-set_same, get_or-set_other}
+use Rattle.std.proofs.Common.{◌≡◌, ◌≢◌, ◌⊎◌, inl, inr, ℕ, suc, ◌<◌, ◌≤◌, ◌+◌, ◌*◌, ◌==◌, Bool, true, false, List, ◌∷◌, ◌++◌, length, Option, Some, None, refl, sym, ap, ◌∙◌, subst, arith, length-set, get_or-set_same, get_or-set_other}
 use mathlib.Core.Bool.{false≢true}
 use Rattle.std.specs.Prelude.{slice_get, slice_set, unwrap_or}
 use Rattle.std.proofs.lemmas.Bool.{cases_eq}
 use Rattle.std.proofs.lemmas.Bool.Decides.{nat_tests}
 use Rattle.std.proofs.lemmas.Option.{slice_get-get_or, none-some}
-use Rattle.lz_slot.specs.Limits.{largest_key}
+use Rattle.lz_slot.specs.Rooms.{largest_of}
+use Rattle.lz_slot.proofs.Exact.{key_of_format}
 use Rattle.lz_slot.specs.declared.command.Command.{Command}
 use Rattle.lz_slot.specs.declared.command.Command.TheVariants.{Add, Remove}
 use Rattle.lz_slot.specs.Sets.{key_of}
 use Rattle.lz_slot.specs.Bytes.{slot_body}
 use Rattle.lz_slot.specs.Counted.{of_pass}
 use Rattle.lz_slot.specs.Histories.{History}
-use Rattle.lz_disk.specs.Images.{Medium, AreBytes, WriteFailed, written}
+use Rattle.lz_disk.specs.Images.{Medium, WriteFailed, written}
 use Rattle.lz_vault.specs.declared.vault.Stage.{Stage}
 use Rattle.lz_vault.specs.declared.vault.Stage.TheVariants.{Closed, KeyLoose, Keyed, Opening}
 use Rattle.lz_vault.specs.Stages.{Cell, IsFree, IsAt, Keeps}
@@ -53,19 +54,9 @@ use Rattle.lz_machine.proofs.Frames.Store.{trace_key}
 use Rattle.lz_machine.proofs.Steps.Halt.{held_node}
 use Rattle.lz_machine.proofs.Frames.HeldLocks.{LeavesPair, pair_stays, key_leaves}
 use Rattle.lz_machine.proofs.Steps.Hop.{call_at, own, goes_on_keeps}
+use Rattle.lz_machine.proofs.Frames.FittingKeys.{adds_fitting}
 use Rattle.lz_machine.proofs.Frames.Cells.{KeepsCell, caller_vaulted}
-use Rattle.lz_machine.proofs.Open.Texts.{high_small}
-
--- and so are those of a slot's body
-body_bytes : (k : ℕ) → AreBytes (slot_body k)
-body_bytes k zero = omega arith
-body_bytes k (suc zero) = omega arith
-body_bytes k (suc (suc zero)) = omega arith
-body_bytes k (suc (suc (suc zero))) = omega arith
-body_bytes k (suc (suc (suc (suc zero)))) = omega arith
-body_bytes k (suc (suc (suc (suc (suc zero))))) = omega arith
-body_bytes k (suc (suc (suc (suc (suc (suc zero)))))) = omega arith
-body_bytes k (suc (suc (suc (suc (suc (suc (suc i))))))) = high_small 8 k i
+use Rattle.lz_machine.proofs.Open.Texts.{key_small}
 
 -- a key may be put where the gate is surely closed
 free_stage : (stage : Stage) → IsGateClosed stage → IsFree stage
@@ -74,44 +65,44 @@ free_stage stage (inr (inl e)) = subst IsFree (sym e) tt
 free_stage stage (inr (inr e)) = subst IsFree (sym e) tt
 
 -- What a write of a key makes of the disk, done or failed.
-module _ (shape : Shape) (vault : Vaulted) (disk : Medium) (images : DiskSound shape vault disk) (alive : vault.dead ≡ false) (s k : ℕ) (lt : s < shape.slots) (fits : k ≤ largest_key) (shut : IsGateClosed (stage_in vault.cells s)) where
+module _ (shape : Shape) (vault : Vaulted) (disk : Medium) (images : DiskSound shape vault disk) (alive : vault.dead ≡ false) (s k : ℕ) (lt : s < shape.slots) (fits : k ≤ largest_of vault.format) (shut : IsGateClosed (stage_in vault.cells s)) where
   abbrev key_cell : Cell
   key_cell = record { stage = KeyLoose; key = k }
 
   within : s < length vault.cells
   within = omega (arith, lt, images.count)
 
-  keeps : Keeps vault.cells false disk
-  keeps = subst (λ (b : Bool). Keeps vault.cells b disk) alive images.keeps
+  keeps : Keeps vault.format vault.cells false disk
+  keeps = subst (λ (b : Bool). Keeps vault.format vault.cells b disk) alive images.keeps
 
   free_here : IsAt vault.cells s (λ cell. IsFree cell.stage)
   free_here = (cell_in vault.cells s, slice_get-get_or vault.cells s no_cell within, free_stage (stage_in vault.cells s) shut)
 
   -- the new key too is a key
-  keys : (i : ℕ) (cell : Cell) → slice_get (slice_set vault.cells s key_cell) i ≡ Some cell → cell.key ≤ largest_key
+  keys : (i : ℕ) (cell : Cell) → slice_get (slice_set vault.cells s key_cell) i ≡ Some cell → cell.key ≤ largest_of vault.format
   keys i cell there = elim (set_cases vault.cells s i key_cell cell there) [
     | inl it ↦ omega (arith, ap (λ (q : Cell). q.key) it.1, fits)
     | inr other ↦ images.keys i cell other.1
   ]
 
   -- the key is written
-  pub key_written : (syncs : ℕ) → DiskSound shape (record { cells = slice_set vault.cells s key_cell; syncs = syncs; dead = false }) (written disk (17 + 16 * s) (slot_body k))
+  pub key_written : (syncs : ℕ) → DiskSound shape (record vault { cells = slice_set vault.cells s key_cell; syncs = syncs; dead = false }) (written disk (17 + 16 * s) (slot_body k))
   key_written syncs = record {
     slots = images.slots;
     count = length-set vault.cells s key_cell ∙ images.count;
     keys = keys;
-    keeps = written_keeps vault.cells disk (17 + 16 * s) (slot_body k) s key_cell (body_bytes k) within (omega arith) (omega arith)
-        (shut_stays vault.cells false disk keeps s free_here (17 + 16 * s) 15 (omega arith)) keeps (body_reads vault.cells false disk keeps s within (17 + 16 * s) (slot_body k) k (omega arith) refl);
+    keeps = written_keeps vault.format vault.cells disk (17 + 16 * s) (slot_body k) s key_cell (key_small k (key_of_format vault.format k fits)) within (omega arith) (omega arith)
+        (shut_stays vault.format vault.cells false disk keeps s free_here (17 + 16 * s) 15 (omega arith)) keeps (body_reads vault.format vault.cells false disk keeps s within (17 + 16 * s) (slot_body k) k (omega arith) refl);
   }
 
   -- the write fails
-  pub key_failed : (syncs : ℕ) (medium : Medium) → (medium ≡ disk) ⊎ WriteFailed disk (17 + 16 * s) 15 medium → DiskSound shape (record { cells = slice_set vault.cells s key_cell; syncs = syncs; dead = true }) medium
+  pub key_failed : (syncs : ℕ) (medium : Medium) → (medium ≡ disk) ⊎ WriteFailed disk (17 + 16 * s) 15 medium → DiskSound shape (record vault { cells = slice_set vault.cells s key_cell; syncs = syncs; dead = true }) medium
   key_failed syncs medium may = record {
     slots = images.slots;
     count = length-set vault.cells s key_cell ∙ images.count;
     keys = keys;
-    keeps = failed_keeps vault.cells disk (17 + 16 * s) (slot_body k) s key_cell (body_bytes k) within (omega arith) (omega arith)
-        (shut_stays vault.cells false disk keeps s free_here (17 + 16 * s) 15 (omega arith)) medium keeps may;
+    keeps = failed_keeps vault.format vault.cells disk (17 + 16 * s) (slot_body k) s key_cell (key_small k (key_of_format vault.format k fits)) within (omega arith) (omega arith)
+        (shut_stays vault.format vault.cells false disk keeps s free_here (17 + 16 * s) 15 (omega arith)) medium keeps may;
   }
 
 -- What a preparing of a loose slot leaves of an actor that doesn't have it.
@@ -269,7 +260,7 @@ module _ (n calls : ℕ) (y : Yard) (callers : List (Option Caller)) (disk : Med
     each = by_actor (λ b. CallerSound (view_of y.shape y.vault y.actors b) (pin_in y.words.pins b) (caller_at callers b) (notes.begun b) P' (notes.changed b)) a
         (subst (λ (q : Option Caller). CallerSound (view_of y.shape y.vault y.actors a) (pin_in y.words.pins a) q (notes.begun a) P' (notes.changed a)) (sym is)
         (record { quiet = λ inside. (sound.reuse.reserved a a s h.1 inside, me.quiet inside); begins = λ inside. inr (me.begins inside); stands = (me.stands.0, me.stands.1, h) }))
-        (λ b other. caller_published y.shape.buckets y.shape.slots (key_prepared s k) P law y.shape.passes y.vault.cells y.vault.dead (actor_in y.actors b) (pin_in y.words.pins b) (notes.begun b) (notes.changed b) (leaves_others b other) (caller_at callers b) (sound.callers.each b));
+        (λ b other. caller_published y.shape.buckets y.shape.slots (key_prepared s k) P law y.shape.passes y.vault.format y.vault.cells y.vault.dead (actor_in y.actors b) (pin_in y.words.pins b) (notes.begun b) (notes.changed b) (leaves_others b other) (caller_at callers b) (sound.callers.each b));
   }
 
   -- passes stay away from loose slots
@@ -308,7 +299,7 @@ module _ (n calls : ℕ) (y : Yard) (callers : List (Option Caller)) (disk : Med
     cells' = slice_set y.vault.cells s new
 
     abbrev vault' : Vaulted
-    vault' = record { cells = cells'; syncs = y.vault.syncs; dead = dead' }
+    vault' = record y.vault { cells = cells'; dead = dead' }
 
     -- one cell is changed
     cell_same : cell_in cells' s ≡ new
@@ -399,7 +390,7 @@ module _ (n calls : ℕ) (y : Yard) (callers : List (Option Caller)) (disk : Med
         each = by_actor (λ b. CallerSound (view_of y.shape vault' y.actors b) (pin_in y.words.pins b) (caller_at callers b) (notes.begun b) P (notes.changed b)) a
             (subst (λ (q : Option Caller). CallerSound (view_of y.shape vault' y.actors a) (pin_in y.words.pins a) q (notes.begun a) P (notes.changed a)) (sym is)
             (record { quiet = me.quiet; begins = me.begins; stands = (me.stands.0, me.stands.1, (record { hold = h.0.hold; none = h.0.none }, h.1, h.2)) }))
-            (λ b other. caller_vaulted y.shape.buckets y.shape.passes y.vault.cells cells' y.vault.dead dead' (actor_in y.actors b) (notes.begun b) P (notes.changed b) dies (λ t slot. keeps_cell t (hand_apart b t other slot)) (pin_in y.words.pins b) (caller_at callers b) (sound.callers.each b));
+            (λ b other. caller_vaulted y.shape.buckets y.shape.passes y.vault.format y.vault.cells cells' y.vault.dead dead' (actor_in y.actors b) (notes.begun b) P (notes.changed b) dies (λ t slot. keeps_cell t (hand_apart b t other slot)) (pin_in y.words.pins b) (caller_at callers b) (sound.callers.each b));
       };
       reuse = sound.reuse;
       ledger = sound.ledger;
@@ -418,7 +409,7 @@ module _ (n calls : ℕ) (y : Yard) (callers : List (Option Caller)) (disk : Med
   cells_put = slice_set y.vault.cells s (record { stage = KeyLoose; key = key_of c })
 
   abbrev vault_put : Bool → Vaulted
-  vault_put dead' = record { cells = cells_put; syncs = y.vault.syncs; dead = dead' }
+  vault_put dead' = record y.vault { cells = cells_put; dead = dead' }
 
   abbrev medium_put : Medium
   medium_put = written disk (17 + 16 * s) (slot_body (key_of c))
@@ -426,9 +417,9 @@ module _ (n calls : ℕ) (y : Yard) (callers : List (Option Caller)) (disk : Med
   abbrev yard_put : Yard
   yard_put = with_vault y (vault_put y.vault.dead)
 
-  -- a call's key is a key, and its slot's gate is closed
-  fits : key_of c ≤ largest_key
-  fits = (me n calls y callers disk M P notes sound a i c s is).stands.1
+  -- a call's key is one of the file's, and its slot's gate is closed
+  fits : key_of c ≤ largest_of y.vault.format
+  fits = adds_fitting y.vault.format c (h n calls y callers disk M P notes sound a i c s is).2 ((me n calls y callers disk M P notes sound a i c s is).stands.1 (me n calls y callers disk M P notes sound a i c s is).stands.0)
 
   in_range : s < y.shape.slots
   in_range = lt n calls y callers disk M P notes sound a i c s is
@@ -468,7 +459,7 @@ module _ (n calls : ℕ) (y : Yard) (callers : List (Option Caller)) (disk : Med
       (medium_after (call_of y (actor_at y a) (WriteKey (key_of c))) disk) M (publishes y (actor_at y a) a (WriteKey (key_of c)) ++ P) notes
   write_key_keeps =
       let mine : s ≡ slot_of (actor_at y a) = sym (ap (λ (q : Option ℕ). unwrap_or q 0) (h n calls y callers disk M P notes sound a i c s is).1) in
-      subst (λ (q : ℕ). Sound n calls (record { shape = y.shape; words = set y.words (key_at q) (key_of c); locks = y.locks; vault = record { cells = slice_set y.vault.cells q (record { stage = KeyLoose; key = key_of c }); syncs = y.vault.syncs; dead = y.vault.dead }; uses = y.uses; actors = y.actors })
+      subst (λ (q : ℕ). Sound n calls (record { shape = y.shape; words = set y.words (key_at q) (key_of c); locks = y.locks; vault = record y.vault { cells = slice_set y.vault.cells q (record { stage = KeyLoose; key = key_of c }) }; uses = y.uses; actors = y.actors })
       (moving callers a (call_at i c (Playing (Writing s) 0)) (Playing (Writing s) 1)) (written disk (17 + 16 * q) (slot_body (key_of c))) M (key_prepared q (key_of c) ∷ P) notes) mine keyed_sound
 
   -- the turn in which the write fails: the vault dies, and no word is changed

@@ -95,7 +95,7 @@ module _ (n calls : ℕ) (y : Yard) (callers : List (Option Caller)) (disk : Med
     cells' = slice_set y.vault.cells s new
 
     abbrev vault' : Vaulted
-    vault' = record { cells = cells'; syncs = y.vault.syncs; dead = dead' }
+    vault' = record y.vault { cells = cells'; dead = dead' }
 
     -- one cell is changed
     cell_same : cell_in cells' s ≡ new
@@ -226,8 +226,8 @@ module _ (n calls : ℕ) (y : Yard) (callers : List (Option Caller)) (disk : Med
         hands = hands ∙ sound.callers.hands;
         each = by_actor (λ b. CallerSound (view_of y.shape vault' actors' b) (pin_in y.words.pins b) (caller_at (moving callers a (call_at i (Add k) at) next) b) (notes.begun b) P (notes.changed b)) a
             (subst (λ (q : Option Caller). CallerSound (view_of y.shape vault' actors' a) (pin_in y.words.pins a) q (notes.begun a) P (notes.changed a)) (sym (moved_same callers a (call_at i (Add k) at) is next)) mine)
-            (λ b other. carry y.shape.buckets y.shape.passes cells' dead' P (actor_in y.actors b) (actor_in actors' b) (pin_in y.words.pins b) (pin_in y.words.pins b) (caller_at callers b) (caller_at (moving callers a (call_at i (Add k) at) next) b) (notes.begun b) (notes.begun b) (notes.changed b) (notes.changed b) (hand_b b other) refl (moved_other callers a (call_at i (Add k) at) is next b other) refl refl
-            (caller_vaulted y.shape.buckets y.shape.passes y.vault.cells cells' y.vault.dead dead' (actor_in y.actors b) (notes.begun b) P (notes.changed b) dies (λ t slot. keeps_cell t (hand_apart b t other slot)) (pin_in y.words.pins b) (caller_at callers b) (sound.callers.each b)));
+            (λ b other. carry y.shape.buckets y.shape.passes y.vault.format cells' dead' P (actor_in y.actors b) (actor_in actors' b) (pin_in y.words.pins b) (pin_in y.words.pins b) (caller_at callers b) (caller_at (moving callers a (call_at i (Add k) at) next) b) (notes.begun b) (notes.begun b) (notes.changed b) (notes.changed b) (hand_b b other) refl (moved_other callers a (call_at i (Add k) at) is next b other) refl refl
+            (caller_vaulted y.shape.buckets y.shape.passes y.vault.format y.vault.cells cells' y.vault.dead dead' (actor_in y.actors b) (notes.begun b) P (notes.changed b) dies (λ t slot. keeps_cell t (hand_apart b t other slot)) (pin_in y.words.pins b) (caller_at callers b) (sound.callers.each b)));
       };
       reuse = reuse_turn y.shape y.words.pins y.uses y.actors actors' P notes.begun slot_still sound.reuse;
       ledger = ledger_turn callers a (call_at i (Add k) at) is next n calls y.shape.passes P M notes sound.ledger;
@@ -242,7 +242,7 @@ module _ (n calls : ℕ) (y : Yard) (callers : List (Option Caller)) (disk : Med
 
   -- The turn in which the write fails: the vault dies, no word is changed, and the gate may be opened.
   pub write_open_fails_keeps : y.vault.dead ≡ false → (medium : Medium) → (medium ≡ disk) ⊎ WriteFailed disk (16 + 16 * s) 1 medium
-      → Sound n calls (with_vault y (record { cells = slice_set y.vault.cells s (record { stage = Opening; key = (cell_in y.vault.cells s).key }); syncs = y.vault.syncs; dead = true })) (moving callers a (call_at i (Add k) (Playing (Adding s) 0)) (halts Device)) medium M P notes
+      → Sound n calls (with_vault y (record y.vault { cells = slice_set y.vault.cells s (record { stage = Opening; key = (cell_in y.vault.cells s).key }); dead = true })) (moving callers a (call_at i (Add k) (Playing (Adding s) 0)) (halts Device)) medium M P notes
   write_open_fails_keeps alive medium may =
       open_sound true (λ e. refl) alive y.actors refl (λ b other. refl) (λ b. refl) (ap (opens true) h.0) (ap shuts h.0) (ap has_removed_node h.0) (halts Device) refl medium
       (gate_failed y.shape y.vault disk sound.images alive s lt open_byte (omega arith) Opening (keyed_has_body (stage_in y.vault.cells s) h.1.stage) (λ j bytes e. e) (λ j bytes e. e) y.vault.syncs medium may)
@@ -305,7 +305,7 @@ module _ (n calls : ℕ) (y : Yard) (callers : List (Option Caller)) (disk : Med
 
   -- the pair alone, without the slot, which is the one that is prepared
   abbrev pair : Actor
-  pair = record { slot = None; hold = Checked; pred = (actor_in y.actors a).pred; curr = (actor_in y.actors a).curr }
+  pair = record (actor_in y.actors a) { slot = None; hold = Checked }
 
   -- so the preparing leaves it
   pair_leaves : LeavesPair y.shape.buckets (link_prepared s v) pair P
@@ -346,7 +346,7 @@ module _ (n calls : ℕ) (y : Yard) (callers : List (Option Caller)) (disk : Med
   published_callers = record {
     count = sound.callers.count;
     hands = sound.callers.hands;
-    each = λ b. caller_published y.shape.buckets y.shape.slots (link_prepared s v) P law y.shape.passes y.vault.cells y.vault.dead (actor_in y.actors b) (pin_in y.words.pins b) (notes.begun b) (notes.changed b) (leaves_callers b) (caller_at callers b) (sound.callers.each b);
+    each = λ b. caller_published y.shape.buckets y.shape.slots (link_prepared s v) P law y.shape.passes y.vault.format y.vault.cells y.vault.dead (actor_in y.actors b) (pin_in y.words.pins b) (notes.begun b) (notes.changed b) (leaves_callers b) (caller_at callers b) (sound.callers.each b);
   }
 
   -- passes stay away from loose slots
@@ -443,7 +443,7 @@ module _ (n calls : ℕ) (y : Yard) (callers : List (Option Caller)) (disk : Med
   cells_open = slice_set y.vault.cells s (record { stage = Opening; key = (cell_in y.vault.cells s).key })
 
   abbrev vault_open : Bool → Vaulted
-  vault_open dead = record { cells = cells_open; syncs = y.vault.syncs; dead = dead }
+  vault_open dead = record y.vault { cells = cells_open; dead = dead }
 
   abbrev medium_open : Medium
   medium_open = written disk (16 + 16 * s) (open_byte ∷ [])
@@ -476,5 +476,5 @@ module _ (n calls : ℕ) (y : Yard) (callers : List (Option Caller)) (disk : Med
       (medium_after (call_of y (actor_at y a) WriteOpen) disk) M (publishes y (actor_at y a) a WriteOpen ++ P) notes
   write_open_keeps =
       let claimed : s ≡ slot_of (actor_at y a) = sym (ap (λ (q : Option ℕ). unwrap_or q 0) known.1.slot) in
-      subst (λ (q : ℕ). Sound n calls (record { shape = y.shape; words = set y.words (link_at q) link; locks = y.locks; vault = record { cells = slice_set y.vault.cells q (record { stage = Opening; key = (cell_in y.vault.cells q).key }); syncs = y.vault.syncs; dead = y.vault.dead }; uses = y.uses; actors = actors' })
+      subst (λ (q : ℕ). Sound n calls (record { shape = y.shape; words = set y.words (link_at q) link; locks = y.locks; vault = record y.vault { cells = slice_set y.vault.cells q (record { stage = Opening; key = (cell_in y.vault.cells q).key }) }; uses = y.uses; actors = actors' })
       (moving callers a (call_at i (Add k) (Playing (Adding s) 0)) (Playing (Adding s) 1)) (written disk (16 + 16 * q) (open_byte ∷ [])) M (link_prepared q link ∷ P) notes) claimed opened_sound

@@ -13,7 +13,7 @@ use Rattle.lz_slot.proofs.Counted.{of_pass_same, of_pass_other, length-set_of_pa
 use Rattle.lz_disk.specs.Images.{Medium}
 use Rattle.lz_machine.specs.declared.event.Outcome.{Outcome}
 use Rattle.lz_machine.specs.declared.event.Reply.{Reply}
-use Rattle.lz_machine.specs.declared.event.Reply.TheVariants.{Yes, No, Full, Worn, Halted, Device}
+use Rattle.lz_machine.specs.declared.event.Reply.TheVariants.{Yes, No, Full, Worn, OldFile, Halted, Device}
 use Rattle.lz_machine.specs.Yards.{Yard, Shape, actor_at}
 use Rattle.lz_machine.specs.Table.{course, line, line_failed}
 use Rattle.lz_machine.specs.Calls.{progress_after}

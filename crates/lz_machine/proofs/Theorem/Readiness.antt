@@ -2,8 +2,11 @@
 use Rattle.std.proofs.Common.{◌≡◌, ◌≢◌, ◌⊎◌, inl, inr, ℕ, zero, suc, ◌<◌, ◌≤◌, ◌==◌, if◌then◌else◌, not, ◌&&◌, Bool, true, false, List, [], ◌∷◌, length, Option, Some, None, is_some, refl, sym, ap, ◌∙◌, subst, arith}
 use mathlib.Core.Bool.{false≢true}
 use Rattle.std.specs.Prelude.{unwrap_or, IsSomeAnd, IfSome}
-use Rattle.std.proofs.lemmas.Bool.Decides.{eqb_tells}
-use Rattle.std.proofs.lemmas.Bool.{not-true}
+use Rattle.std.proofs.lemmas.Bool.{cases_Bool, not-true}
+use Rattle.lz_slot.specs.declared.format.Format.{Format}
+use Rattle.lz_slot.specs.Rooms.{largest_of}
+use Rattle.std.proofs.lemmas.Option.{slice_get-get_or}
+use Rattle.lz_slot.specs.Limits.{largest_key}
 use Rattle.lz_slot.specs.declared.command.Command.{Command}
 use Rattle.lz_slot.specs.declared.command.Command.TheVariants.{Add, Remove, Has}
 use Rattle.lz_slot.specs.Histories.{History, Life, lives}
@@ -15,7 +18,7 @@ use Rattle.lz_allot.specs.Allots.{IsTakenAt}
 use Rattle.lz_allot.specs.Uses.{Use}
 use Rattle.lz_list.specs.declared.place.Place.{Place}
 use Rattle.lz_list.specs.declared.place.Place.TheVariants.{Node}
-use Rattle.lz_list.specs.declared.word.Word.TheVariants.{Pin as pin_at}
+use Rattle.lz_list.specs.declared.word.Word.TheVariants.{Key as key_at, Pin as pin_at}
 use Rattle.lz_list.specs.Words.{Words, get}
 use Rattle.lz_list.specs.Locks.{NodeLocks, claimed_places}
 use Rattle.lz_list.specs.Lists.{IsPlace, IsCurr}
@@ -33,20 +36,30 @@ use Rattle.lz_machine.specs.declared.event.Event.{Event}
 use Rattle.lz_machine.specs.declared.event.Event.TheVariants.{Invoke, Pin, Hop, Reserve, WriteKey, Claim, Check, WriteOpen, Link, WriteClose, Mark, Release, Sync, Settle, Unlink, Retire, SeePin, Answer, Halt}
 use Rattle.lz_machine.specs.declared.event.Outcome.{Outcome}
 use Rattle.lz_machine.specs.declared.event.Outcome.TheVariants.{Dead, Done, NotNow, Worn}
-use Rattle.lz_machine.specs.Yards.{Shape, Yard, actor_at, cell_at}
-use Rattle.lz_machine.specs.Table.{last_pin, pin_of, needs, is_played_dead, course_alive, course, is_unused, has_stage, may_check, has_checked, has_opened, has_closed, has_marked, may_release, may_retire}
+use Rattle.lz_slot.proofs.Exact.{key_of_format}
+use Rattle.lz_machine.specs.Yards.{Shape, Yard, actor_at, cell_at, no_cell}
+use Rattle.lz_machine.specs.Table.{last_pin, pin_of, needs, is_played_dead, course_alive, course, is_unused, has_stage, may_check, has_checked, has_opened, has_closed, has_marked, may_release, may_retire, is_old, stays_out}
 use Rattle.lz_machine.specs.Calls.{event_at, loaded}
 use Rattle.lz_machine.specs.Runs.{Start, State, Up, Point, Service, Caller, caller_at, next_event, with_words, first_point, run, start_keys, IsNext, MayPlay}
-use Rattle.lz_machine.specs.Sound.{Notes, View, view_of, actor_in, stage_in, closes, opens, has_locks, has_removed_node, HasPlace, HasLock, RestsOn, IsChecked, HasOpened, HasClosed, IsHandStage, IsNodeStage, SlotStands, is_node, is_held, is_out, is_free, is_limbo, Relies, Sound, StateSound, PointSound}
+use Rattle.lz_machine.specs.Sound.{Notes, View, view_of, actor_in, stage_in, closes, opens, has_locks, has_removed_node, HasPlace, HasLock, RestsOn, IsChecked, HasOpened, HasClosed, IsHandStage, IsNodeStage, SlotStands, is_node, is_held, is_out, is_free, is_limbo, Relies, Sound, StateSound, PointSound, cell_in, unlocks, is_before_pin, side_of}
 use Rattle.lz_machine.specs.Ready.{IsEventOf, IsReadyFor, IsReady}
 use Rattle.lz_machine.proofs.Frames.OneActor.{caller_range, mine}
+use Rattle.lz_machine.proofs.Frames.FittingKeys.{key_written, writes_fitting}
 use Rattle.lz_machine.proofs.Steps.Halt.{held_node}
+use Rattle.lz_machine.proofs.Steps.Link.{opened_shut}
 use Rattle.lz_machine.proofs.Steps.Unlink.{first_place, node_place}
 use Rattle.lz_machine.proofs.Runs.NextEvent.{plays_alive, refused_plays}
-use Rattle.lz_machine.proofs.Theorem.ShownChains.{links_are, keeps_key, keeps_link, may_link_at, may_unlink_at, owned_place, is_curr}
+use Rattle.lz_machine.proofs.Theorem.ShownChains.{links_are, key_is, keeps_key, keeps_link, may_link_at, may_unlink_at, owned_place, is_curr}
 use Rattle.lz_machine.proofs.Theorem.Reached.{reached_sound}
 use Rattle.lz_machine.proofs.Steps.ReturnedSlot.{closed_unused}
 use Rattle.lz_machine.proofs.Frames.Grip.{closer_locks}
+use Rattle.lz_machine.proofs.Frames.Outside.{worn_out}
+
+-- what a call knows of its next event: the node that it retires, and that the file can hold the key that it writes
+abbrev Knows : Format → Actor → Event → Type 0
+Knows format actor Retire = (s : ℕ) × (actor.curr ≡ Some s)
+Knows format actor (WriteKey k) = k ≤ largest_of format
+Knows format actor _ = Unit {0}
 
 -- what the needs say
 both : (p q : Bool) → (p && q) ≡ true → (p ≡ true) × (q ≡ true)
@@ -98,20 +111,17 @@ is_keyed Keyed is = refl
 is_keyed _ is = absurd (false≢true is)
 
 -- a pin that isn't worn
+-- an event that is played isn't refused
+not_refused : (dead may refuses : Bool) (outcome : Outcome) → (if dead && not true then Refused Dead else if may then (if refuses then Refused outcome else Plays) else Refused NotNow) ≡ Plays → refuses ≡ true → ⊥
+not_refused true false refuses outcome plays is = refused_plays plays
+not_refused true true true outcome plays is = refused_plays plays
+not_refused true true false outcome plays is = false≢true is
+not_refused false false refuses outcome plays is = refused_plays plays
+not_refused false true true outcome plays is = refused_plays plays
+not_refused false true false outcome plays is = false≢true is
+
 not_last : (dead may : Bool) (pin : ℕ) (outcome : Outcome) → (if dead && not true then Refused Dead else if may then (if pin == last_pin then Refused outcome else Plays) else Refused NotNow) ≡ Plays → pin ≢ last_pin
-not_last dead false pin outcome plays = absurd (refused_plays (go dead plays))
-  where
-    go : (q : Bool) → (if q && not true then Refused Dead else Refused NotNow) ≡ Plays → Refused NotNow ≡ Plays
-    go true is = is
-    go false is = is
-not_last dead true pin outcome plays = elim (eqb_tells pin last_pin) [
-  | inl same ↦ absurd (refused_plays (sym (ap (λ (q : Bool). if q then Refused outcome else Plays) same.0) ∙ go dead plays))
-  | inr other ↦ other.1
-]
-  where
-    go : (q : Bool) → (if q && not true then Refused Dead else (if pin == last_pin then Refused outcome else Plays)) ≡ Plays → (if pin == last_pin then Refused outcome else Plays) ≡ Plays
-    go true is = is
-    go false is = is
+not_last dead may pin outcome plays last = not_refused dead may (pin == last_pin) outcome plays (ap (λ (q : ℕ). q == last_pin) last)
 
 -- the yard of a sound service, with words of which only pins differ, and not the actor's own
 module _ (n calls : ℕ) (y : Yard) (callers : List (Option Caller)) (disk : Medium) (M : History) (P : Trace) (notes : Notes) (sound : Sound n calls y callers disk M P notes)
@@ -137,6 +147,34 @@ module _ (n calls : ℕ) (y : Yard) (callers : List (Option Caller)) (disk : Med
   curr_there : has_locks actor.hold ≡ true → IsCurr w actor.curr
   curr_there locks = is_curr y.shape y.words P sound.trace sound.images.slots.1 w heads links keys actor.curr (node_there locks)
 
+  -- the key word of a slot is a key, where it is that of the slot's cell
+  is_key : (s : ℕ) → s < y.shape.slots → (cell_in y.vault.cells s).key ≡ key_word s P → get w (key_at s) ≤ largest_key
+  is_key s lt same =
+      let fits = sound.images.keys s (cell_in y.vault.cells s) (slice_get-get_or y.vault.cells s no_cell (omega (arith, lt, sound.images.count))) in
+      omega (arith, key_of_format y.vault.format _ fits, same, key_is y.shape y.words P sound.trace sound.images.slots.1 w heads links keys s lt)
+
+  -- as it is on a chain
+  node_key : (s : ℕ) → s < y.shape.slots → on 0 (chain_of y.shape.buckets (key_word s P) P) (suc s) ≡ true → get w (key_at s) ≤ largest_key
+  node_key s lt there = by_stand (sound.slots.each s lt)
+    where
+      off : IsLoose y.shape.buckets s P → ⊥
+      off loose = false≢true (sym (loose (bucket_of y.shape.buckets (key_word s P))) ∙ there)
+
+      by_stand : SlotStands y.shape y.vault.cells y.vault.dead y.uses y.actors P s → get w (key_at s) ≤ largest_key
+      by_stand (is_node on_it stage) = is_key s lt on_it.key
+      by_stand (is_held b slot) = absurd (off (sound.slots.hand b s slot).loose)
+      by_stand (is_out b out) = absurd (off (sound.slots.out b s out).loose)
+      by_stand (is_free loose free stage) = absurd (off loose)
+      by_stand (is_limbo sights loose limbo stage) = absurd (off loose)
+
+  -- and in the hand of an actor that has opened its gate
+  opened_key : (s : ℕ) → actor.slot ≡ Some s → actor.hold ≡ GateOpened → get w (key_at s) ≤ largest_key
+  opened_key s slot hold = by_hand (sound.slots.hand a s slot).stage
+    where
+      by_hand : IsHandStage y.vault.cells y.vault.dead actor P s → get w (key_at s) ≤ largest_key
+      by_hand (inl shut) = absurd (opened_shut (stage_in y.vault.cells s) (sound.slots.opened a s slot (ap unlocks hold)) shut)
+      by_hand (inr opened) = is_key s (sound.slots.hand a s slot).in_range opened.2
+
   pin_below : pin_of z a ≢ last_pin → pin_of z a < last_pin
   pin_below other = omega (arith, pin, sound.reuse.worn a, other)
 
@@ -146,12 +184,12 @@ module _ (n calls : ℕ) (y : Yard) (callers : List (Option Caller)) (disk : Med
   ready_pin : Follows Pin
   ready_pin has plays = pin_below (not_last y.vault.dead (needs z a Pin) (pin_of z a) Worn plays)
 
-  ready_key : (k : ℕ) → Follows (WriteKey k)
-  ready_key k has plays =
+  ready_key : (k : ℕ) → k ≤ largest_of y.vault.format → Follows (WriteKey k)
+  ready_key k fits has plays =
       let two = both (is_some actor.slot) (not (has_opened actor.hold)) has in
       let slot = some_of actor.slot two.0 in
       let hand = sound.slots.hand a slot.0 slot.1 in
-      (slot.0, slot.1, (hand.in_range, unused slot.0 hand.stage (not-true (has_opened actor.hold) two.1), keeps_key y.shape y.words P sound.trace sound.images.slots.1 w heads links keys slot.0 k hand.loose))
+      ((slot.0, slot.1, (hand.in_range, unused slot.0 hand.stage (not-true (has_opened actor.hold) two.1), keeps_key y.shape y.words P sound.trace sound.images.slots.1 w heads links keys slot.0 k hand.loose)), fits)
     where
       unused : (s : ℕ) → IsHandStage y.vault.cells y.vault.dead actor P s → has_opened actor.hold ≡ false → is_unused (stage_in y.vault.cells s) ≡ true
       unused s (inl closed) shut = closed_unused (stage_in y.vault.cells s) closed
@@ -181,7 +219,7 @@ module _ (n calls : ℕ) (y : Yard) (callers : List (Option Caller)) (disk : Med
       let hold = is_opened actor.hold has in
       let rests : HasOpened y.shape.buckets actor P = subst (λ (q : Hold). RestsOn y.shape.buckets q actor P) hold (sound.locks.rests a) in
       let hand = sound.slots.hand a rests.own rests.slot in
-      (rests.own, rests.slot, (pred_place (ap has_locks hold), may_link_at y.shape y.words P sound.trace sound.images.slots.1 w heads links keys actor.pred actor.curr rests.own hand.in_range rests.beside rests.ready))
+      (rests.own, rests.slot, (pred_place (ap has_locks hold), may_link_at y.shape y.words P sound.trace sound.images.slots.1 w heads links keys actor.pred actor.curr rests.own hand.in_range rests.beside rests.ready, opened_key rests.own rests.slot hold))
 
   slot_lt : has_locks actor.hold ≡ true → (s : ℕ) → actor.curr ≡ Some s → s < y.shape.slots
   slot_lt locks s is = omega (arith, node_there locks s is, links_are y.shape y.words P sound.trace sound.images.slots.1 w heads links keys)
@@ -227,7 +265,8 @@ module _ (n calls : ℕ) (y : Yard) (callers : List (Option Caller)) (disk : Med
   ready_mark has plays =
       let hold = is_closed actor.hold has in
       let rests : HasClosed y.shape.buckets false actor P = subst (λ (q : Hold). RestsOn y.shape.buckets q actor P) hold (sound.locks.rests a) in
-      (rests.node, rests.curr, slot_lt (ap has_locks hold) rests.node rests.curr)
+      let lt = slot_lt (ap has_locks hold) rests.node rests.curr in
+      (rests.node, rests.curr, (lt, node_key rests.node lt (held_node y.shape P GateClosed actor sound.trace.lawful rests rests.node rests.curr refl)))
 
   ready_release : Follows Release
   ready_release has plays = let locks = release_locks actor.hold has in (pred_place locks, curr_there locks)
@@ -238,7 +277,9 @@ module _ (n calls : ℕ) (y : Yard) (callers : List (Option Caller)) (disk : Med
       let first = both (has_marked actor.hold) (is_some actor.curr) two.0 in
       let hold = is_marking actor.hold first.0 in
       let rests : HasClosed y.shape.buckets true actor P = subst (λ (q : Hold). RestsOn y.shape.buckets q actor P) hold (sound.locks.rests a) in
-      (rests.node, rests.curr, (slot_lt (ap has_locks hold) rests.node rests.curr, pred_place (ap has_locks hold), may_unlink_at y.shape y.words P sound.trace sound.images.slots.1 w heads links keys actor.pred rests.node rests.before))
+      let lt = slot_lt (ap has_locks hold) rests.node rests.curr in
+      let leads = may_unlink_at y.shape y.words P sound.trace sound.images.slots.1 w heads links keys actor.pred rests.node rests.before in
+      (rests.node, rests.curr, (lt, pred_place (ap has_locks hold), leads, node_key rests.node lt (held_node y.shape P Marked actor sound.trace.lawful rests rests.node rests.curr refl)))
 
   -- of the node that was claimed, which a call that retires it knows
   ready_retire : (s : ℕ) → actor.curr ≡ Some s → Follows Retire
@@ -247,7 +288,7 @@ module _ (n calls : ℕ) (y : Yard) (callers : List (Option Caller)) (disk : Med
       (s, node, (omega (arith, gone.in_range, sound.slots.count), gone.taken))
 
   ready_answer : Follows Answer
-  ready_answer has plays = (pin_below (not_last y.vault.dead (needs z a Answer) (pin_of z a) Done plays), slot_kept actor.slot refl)
+  ready_answer has plays = (pin_below (λ last. not_refused y.vault.dead (needs z a Answer) (stays_out (actor_at z a) (pin_of z a)) Done plays (worn_out (actor_at z a) (pin_of z a) last)), slot_kept actor.slot refl)
     where
       slot_kept : (slot : Option ℕ) → actor.slot ≡ slot → IfSome slot (λ s. (s < y.shape.slots) × (is_unused (cell_at z s).stage ≡ true → IsTakenAt y.uses s))
       slot_kept None is = tt
@@ -255,9 +296,9 @@ module _ (n calls : ℕ) (y : Yard) (callers : List (Option Caller)) (disk : Med
           let hand = sound.slots.hand a s is in
           (hand.in_range, λ unused. (omega (arith, hand.in_range, sound.slots.count), hand.taken))
 
-  ready_for : (e : Event) → (e ≡ Retire → (s : ℕ) × (actor.curr ≡ Some s)) → Follows e
+  ready_for : (e : Event) → Knows y.vault.format actor e → Follows e
   ready_for Pin knows has plays = ready_pin has plays
-  ready_for (WriteKey k) knows has plays = ready_key k has plays
+  ready_for (WriteKey k) knows has plays = ready_key k knows has plays
   ready_for Check knows has plays = ready_check has plays
   ready_for WriteOpen knows has plays = ready_open has plays
   ready_for Link knows has plays = ready_link has plays
@@ -265,7 +306,7 @@ module _ (n calls : ℕ) (y : Yard) (callers : List (Option Caller)) (disk : Med
   ready_for Mark knows has plays = ready_mark has plays
   ready_for Release knows has plays = ready_release has plays
   ready_for Unlink knows has plays = ready_unlink has plays
-  ready_for Retire knows has plays = let node = knows refl in ready_retire node.0 node.1 has plays
+  ready_for Retire knows has plays = ready_retire knows.0 knows.1 has plays
   ready_for Answer knows has plays = ready_answer has plays
   ready_for _ knows has plays = tt
 
@@ -308,6 +349,11 @@ module _ (words : Words) (shape : Shape) (v : View) (c : Command) (P0 P : Trace)
   retires_node : (at : Progress) → Relies v c at P0 P changed → Retires at → (s : ℕ) × (v.actor.curr ≡ Some s)
   retires_node (Playing script i) h is = retires_in script i h is
   retires_node _ h is = absurd (false≢true is)
+
+  caller_knows : (at : Progress) → (is_before_pin at ≡ false → is_old v.format c ≡ false) → Relies v c at P0 P changed → (e : Event) → loaded words (event_at shape c at) ≡ e → Knows v.format v.actor e
+  caller_knows at fits h Retire is = retires_node at h (ap is_retire is)
+  caller_knows at fits h (WriteKey k) is = writes_fitting words shape v c P0 P changed k at fits h (ap key_written is)
+  caller_knows at fits h _ is = tt
 
 -- an event that begins a call
 abbrev pub is_invoke : Event → Bool
@@ -365,12 +411,19 @@ module _ (y : Yard) (honest : Bool) (disk : Medium) (a : ℕ) (e : Event) (may :
       let range = caller_range may.service.callers a caller.0 caller.1 in
       (range.0, omega (arith, range.1, actors_are, sound_there.5.callers.count))
 
-  knows : e ≡ Retire → (s : ℕ) × ((actor_in may.service.yard.actors a).curr ≡ Some s)
-  knows is =
-      let caller = next_of may.service a e (ap is_invoke is) may.next in
-      let sound = sound_there.5 in
-      let own = mine may.service.yard.shape may.service.yard.vault may.service.yard.words.pins may.service.yard.actors may.service.callers sound_there.3 sound_there.4 a caller.0 caller.1 sound.callers in
-      retires_node may.service.yard.words may.service.yard.shape (view_of may.service.yard.shape may.service.yard.vault may.service.yard.actors a) caller.0.command (sound_there.4.begun a) sound_there.3 (sound_there.4.changed a) caller.0.progress own.stands.2 (ap is_retire (caller.2 ∙ is))
+  knows : Knows may.service.yard.vault.format (actor_in may.service.yard.actors a) e
+  knows = elim (cases_Bool (is_invoke e)) [
+    | inl invokes ↦ begins_knowing e invokes
+    | inr other ↦
+        let caller = next_of may.service a e other may.next in
+        let sound = sound_there.5 in
+        let own = mine may.service.yard.shape may.service.yard.vault may.service.yard.words.pins may.service.yard.actors may.service.callers sound_there.3 sound_there.4 a caller.0 caller.1 sound.callers in
+        caller_knows may.service.yard.words may.service.yard.shape (view_of may.service.yard.shape may.service.yard.vault may.service.yard.actors a) caller.0.command (sound_there.4.begun a) sound_there.3 (sound_there.4.changed a) caller.0.progress (λ after. own.stands.1 (own.stands.0 ∙ ap side_of after)) own.stands.2 e caller.2
+  ]
+    where
+      begins_knowing : (e' : Event) → is_invoke e' ≡ true → Knows may.service.yard.vault.format (actor_in may.service.yard.actors a) e'
+      begins_knowing (Invoke c) is = tt
+      begins_knowing _ is = absurd (false≢true is)
 
   -- an event of an actor of the yard that is played has what its calls ask for
   pub ready_in_range : (1 ≤ a) × (a ≤ length y.actors) → IsEventOf y e → needs y a e ≡ true → course y a e ≡ Plays → IsReady y a e

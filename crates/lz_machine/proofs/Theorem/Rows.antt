@@ -1,6 +1,7 @@
 -- Worked rows that the machine computes.
 use Rattle.std.proofs.lemmas.Bool.Decides.{nat_tests}
 use Rattle.std.proofs.Common.{◌≡◌, inl, inr, arith, reverse, lit<, ℕ, ◌+◌, ◌^◌, true, false, List, [], ◌∷◌, ◌++◌, replicate, refl, Option, Some, None, drop}
+use Rattle.lz_slot.specs.declared.format.Format.TheVariants.{One, Two}
 use Rattle.lz_slot.specs.Bytes.{slot_body, open_byte, header_body}
 use Rattle.lz_slot.specs.declared.command.Command.TheVariants.{Add, Remove, Has}
 use Rattle.lz_slot.specs.declared.history.Mark.{Mark}
@@ -28,7 +29,7 @@ use Rattle.lz_machine.specs.Laws.{outcome_at}
 use Rattle.lz_machine.specs.Runs.{Start, State, Up, Down, Step, Calls, Turn, Fails, Trips, Stops, Crashes, Opens, Point, first_point, point_after, run, made_text, caller_at, next_event, reply_at, disk_of}
 
 abbrev fresh : ℕ → ℕ → Start
-fresh slots passes = record { shape = record { slots = slots; buckets = 1; passes = passes }; text = made_text slots }
+fresh slots passes = record { shape = record { slots = slots; buckets = 1; passes = passes }; text = made_text One slots }
 
 abbrev turns : ℕ → ℕ → List Step
 turns a n = replicate n (Turn a)
@@ -67,8 +68,14 @@ fifteen_events : events (first_point (fresh 1 64)) 1 (Calls 1 (Add 9) ∷ turns 
 unfolding bucket_of
 fifteen_events = refl
 
+-- a key of another room, in a file of format 2
+row_of_room : seen_after (record { shape = record { slots = 1; buckets = 1; passes = 64 }; text = made_text Two 1 }) (Calls 1 (Add 3000000000000000017) ∷ turns 1 15)
+    ≡ (open_byte ∷ header_body Two 1) ++ open_byte ∷ 3 ∷ replicate 13 0 ++ 17 ∷ []
+unfolding bucket_of
+row_of_room = refl
+
 abbrev head_2 : List ℕ
-head_2 = open_byte ∷ header_body 2
+head_2 = open_byte ∷ header_body One 2
 
 -- a crash after the key was written, which leaves a5 at each loose byte
 row_key_loose : marks_after (fresh 2 64) (Calls 1 (Add 9) ∷ turns 1 5 ++ Crashes (head_2 ++ (0 ∷ replicate 15 0xa5) ++ replicate 16 0) ∷ Opens ∷ [])
@@ -161,7 +168,7 @@ unfolding bucket_of
 row_early = refl
 
 row_early_sure : sure_after (fresh 1 64) (Calls 1 (Add 9) ∷ turns 1 13 ++ Calls 2 (Remove 9) ∷ turns 2 8 ++ turns 1 4)
-    ≡ (open_byte ∷ header_body 1) ++ 0 ∷ slot_body 9
+    ≡ (open_byte ∷ header_body One 1) ++ 0 ∷ slot_body 9
 unfolding bucket_of
 row_early_sure = refl
 
@@ -277,7 +284,7 @@ unfolding bucket_of
 words_reopened = refl
 
 abbrev two_buckets : Start
-two_buckets = record { shape = record { slots = 3; buckets = 2; passes = 2 }; text = made_text 3 }
+two_buckets = record { shape = record { slots = 3; buckets = 2; passes = 2 }; text = made_text One 3 }
 
 -- three keys in two buckets, after an open: 4 and 8 in the first, 5 in the second
 words_two_buckets : words_of_state (play two_buckets

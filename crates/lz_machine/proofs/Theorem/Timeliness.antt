@@ -4,7 +4,7 @@ use mathlib.Core.Bool.{false≢true}
 use Rattle.std.specs.Prelude.{unwrap_or}
 use Rattle.std.specs.List.{list_any}
 use Rattle.std.proofs.lemmas.Bool.{cases_eq, cases_Bool}
-use Rattle.std.proofs.lemmas.Bool.Decides.{nat_tests, eqb_tells}
+use Rattle.std.proofs.lemmas.Bool.Decides.{eqb_tells}
 use Rattle.std.proofs.lemmas.Option.{none-some}
 use Rattle.lz_slot.specs.declared.command.Command.{Command}
 use Rattle.lz_slot.specs.declared.command.Command.TheVariants.{Add, Remove, Has}
@@ -36,20 +36,20 @@ use Rattle.lz_machine.specs.declared.actor.Hold.TheVariants.{Checked, Marked}
 use Rattle.lz_machine.specs.declared.course.Course.{Course}
 use Rattle.lz_machine.specs.declared.course.Course.TheVariants.{Refused, Dies, Plays}
 use Rattle.lz_machine.specs.declared.event.Event.{Event}
-use Rattle.lz_machine.specs.declared.event.Event.TheVariants.{Pin, Hop, Reserve, Claim, Check, WriteOpen, Link, WriteClose, Sync, Settle, Unlink, Answer}
+use Rattle.lz_machine.specs.declared.event.Event.TheVariants.{Pin, Hop, Reserve, Claim, Check, WriteOpen, Link, WriteClose, Sync, Settle, Unlink, Answer, Invoke}
 use Rattle.lz_machine.specs.declared.event.Outcome.{Outcome}
-use Rattle.lz_machine.specs.declared.event.Outcome.TheVariants.{Done, Value, Slot, NoSlot, Taken, Busy, True, False, Early, Worn, NotNow, Fault, Dead}
+use Rattle.lz_machine.specs.declared.event.Outcome.TheVariants.{Done, Value, Slot, NoSlot, Taken, Busy, True, False, Early, Worn, NotNow, Fault, Dead, OldFile}
 use Rattle.lz_machine.specs.declared.event.Reply.{Reply}
-use Rattle.lz_machine.specs.declared.event.Reply.TheVariants.{Yes, No, Full, Worn as SaysWorn, Halted, Device}
+use Rattle.lz_machine.specs.declared.event.Reply.TheVariants.{Yes, No, Full, Worn as SaysWorn, OldFile as SaysOldFile, Halted, Device}
 use Rattle.lz_machine.specs.declared.caller.Script.{Script}
 use Rattle.lz_machine.specs.declared.caller.Script.TheVariants.{Pinning, Resting, Writing, Adding, Removing, Releasing, Halting}
 use Rattle.lz_machine.specs.declared.caller.Progress.{Progress}
 use Rattle.lz_machine.specs.declared.caller.Progress.TheVariants.{Playing, LoadsHalt, Walking, Reserving, SeeingPins, Claiming, Checking, Answering}
 use Rattle.lz_machine.specs.Yards.{Shape, Yard, actor_at, cell_at, opened_yard}
-use Rattle.lz_machine.specs.Table.{last_pin, pin_of, needs, is_played_dead, is_sure, is_spent, has_stage, may_claim, may_check, has_checked, has_opened, has_closed, has_marked, may_release, may_retire, words_after, slot_found, outcome_of, course_alive, course, line_on, line, line_failed}
-use Rattle.lz_machine.specs.Calls.{goes_on, event_at, events_of, after_event, loaded, first_progress, progress_after, follows, walked, rests, hops_on, changes, after_playing, after_halt, after_hop, after_reserve, after_see_pin, after_claim, after_check}
+use Rattle.lz_machine.specs.Table.{last_pin, pin_of, needs, is_played_dead, is_sure, is_spent, has_stage, may_claim, may_check, has_checked, has_opened, has_closed, has_marked, may_release, may_retire, words_after, slot_found, outcome_of, course_alive, course, line_on, line, line_failed, is_old, stays_out}
+use Rattle.lz_machine.specs.Calls.{goes_on, event_at, events_of, after_event, loaded, first_progress, progress_after, follows, walked, rests, hops_on, changes, after_playing, after_halt, after_hop, after_reserve, after_see_pin, after_claim, after_check, begun}
 use Rattle.lz_machine.specs.Orders.{MayTake}
-use Rattle.lz_machine.specs.Runs.{Start, State, Up, Down, Step, Calls, Turn, Fails, Looks, Trips, Stops, Crashes, CrashesIn, Opens, OpenFails, Point, Service, Caller, caller_at, next_event, reply_at, moved_on, looked, state_after, after_turn, after_fault, HasTurn, HasFault, MayStep, first_point, run, IsRun, IsStart, opened_service, start_keys}
+use Rattle.lz_machine.specs.Runs.{Start, State, Up, Down, Step, Calls, Turn, Fails, Looks, Trips, Stops, Crashes, CrashesIn, Opens, OpenFails, Point, Service, Caller, caller_at, next_event, reply_at, moved_on, looked, state_after, after_turn, after_fault, HasTurn, HasFault, MayStep, first_point, run, IsRun, IsStart, opened_service, start_keys, invoked}
 use Rattle.lz_machine.specs.InTime.{NeverLate}
 use Rattle.lz_machine.specs.Sound.{Notes, View, view_of, actor_in, stage_in, RestsOn, IsChecked, MayRest, IsCut, Relies, is_before_pin, side_of, CallerSound, Sound, UpSound, IsLooking, StateSound, PointSound, IsSound}
 use Rattle.lz_machine.specs.Ready.{IsEventOf}
@@ -66,6 +66,7 @@ use Rattle.lz_machine.proofs.Runs.EventRange.{asks}
 use Rattle.lz_machine.proofs.Open.FirstState.{pass_of}
 use Rattle.lz_machine.proofs.Theorem.Reached.{reached_sound}
 use Rattle.lz_machine.proofs.Runs.CallerTable.{none_of, fault_no_reply}
+use Rattle.lz_machine.proofs.Frames.Outside.{outside_even, out_even, worn_out, refused_out, out_needs}
 
 -- outcomes
 abbrev is_now : Outcome → Bool
@@ -78,6 +79,11 @@ is_worn _ = false
 
 -- an event that was done isn't refused
 plain : (y : Yard) (actor : Actor) (e : Event) → (is_now (outcome_of y actor e) ≡ true) × (is_worn (outcome_of y actor e) ≡ false)
+plain y actor (Invoke c) = go (is_old y.vault.format c)
+  where
+    go : (b : Bool) → (is_now (if b then OldFile else Done) ≡ true) × (is_worn (if b then OldFile else Done) ≡ false)
+    go true = (refl, refl)
+    go false = (refl, refl)
 plain y actor Reserve = go (lowest_free (collect y.uses))
   where
     go : (slot : Option ℕ) → (is_now (slot_found slot (collect y.uses)) ≡ true) × (is_worn (slot_found slot (collect y.uses)) ≡ false)
@@ -107,7 +113,7 @@ alive_now y a Pin = go (pin_of y a == last_pin)
     go : (b : Bool) → is_now (line_on (if b then Refused Worn else Plays) y (actor_at y a) a Pin).1 ≡ true
     go true = refl
     go false = refl
-alive_now y a Answer = go (pin_of y a == last_pin)
+alive_now y a Answer = go (stays_out (actor_at y a) (pin_of y a))
   where
     go : (b : Bool) → is_now (line_on (if b then Refused Done else Plays) y (actor_at y a) a Answer).1 ≡ true
     go true = refl
@@ -127,9 +133,6 @@ timely y a e has late = false≢true (sym (ap is_now late) ∙ go (y.vault.dead 
     go true may is = refl
     go false true is = alive_now y a e
     go false false is = absurd (false≢true is)
-
-outside_even : (pin : ℕ) → pin % 2 ≡ 0 → is_outside pin ≡ true
-outside_even pin even = ap (λ (q : ℕ). q == 0) even
 
 inside_odd : (pin : ℕ) → pin % 2 ≡ 1 → not (is_outside pin) ≡ true
 inside_odd pin odd = ap (λ (q : ℕ). not (q == 0)) odd
@@ -213,14 +216,15 @@ module _ (n calls : ℕ) (y : Yard) (callers : List (Option Caller)) (disk : Med
   script_has c _ _ pin h = absurd h
 
   answers_inside : pin_of y a % 2 ≡ 1 → needs y a Answer ≡ true
-  answers_inside odd = ap (λ (q : Bool). q || (pin_of y a == last_pin)) (inside_odd (pin_of y a) odd)
+  answers_inside odd = ap (λ (q : Bool). q || stays_out actor (pin_of y a)) (inside_odd (pin_of y a) odd)
 
   answers_worn : pin_of y a ≡ last_pin → needs y a Answer ≡ true
-  answers_worn last = grind (arith, nat_tests, last)
+  answers_worn last = out_needs actor (pin_of y a) (worn_out actor (pin_of y a) last)
 
-  answer_has : (reply : Reply) → IsWornAt (pin_of y a) (Answering reply) → pin_of y a % 2 ≡ side_of (is_before_pin (Answering reply)) → needs y a Answer ≡ true
-  answer_has SaysWorn worn pin = answers_worn (worn refl)
-  answer_has _ worn pin = answers_inside pin
+  answer_has : (c : Command) (reply : Reply) → IsWornAt (pin_of y a) (Answering reply) → pin_of y a % 2 ≡ side_of (is_before_pin (Answering reply)) → Relies v c (Answering reply) (notes.begun a) P (notes.changed a) → needs y a Answer ≡ true
+  answer_has c SaysWorn worn pin h = answers_worn (worn refl)
+  answer_has c SaysOldFile worn pin h = out_needs actor (pin_of y a) (refused_out actor (pin_of y a) pin h.3)
+  answer_has c _ worn pin h = answers_inside pin
 
   -- a call's next event has what it needs
   has_needs : (c : Command) (at : Progress) → IsWornAt (pin_of y a) at → pin_of y a % 2 ≡ side_of (is_before_pin at) → Relies v c at (notes.begun a) P (notes.changed a)
@@ -232,7 +236,7 @@ module _ (n calls : ℕ) (y : Yard) (callers : List (Option Caller)) (disk : Med
   has_needs c (SeeingPins p) worn pin h = refl
   has_needs c (Claiming aim pred curr) worn pin h = ap may_claim h.0.hold
   has_needs c (Checking aim curr) worn pin h = ap may_check h.1
-  has_needs c (Answering reply) worn pin h = answer_has reply worn pin
+  has_needs c (Answering reply) worn pin h = answer_has c reply worn pin h
 
 -- What a caller takes is in range.
 module _ (n calls : ℕ) (y : Yard) (callers : List (Option Caller)) (disk : Medium) (M : History) (P : Trace) (notes : Notes) (sound : Sound n calls y callers disk M P notes) (a : ℕ) (c : Command) where
@@ -271,9 +275,9 @@ last_of pin is = elim (eqb_tells pin last_pin) [
   | inr other ↦ absurd (false≢true (sym other.0 ∙ is))
 ]
 
-odd_of : (pin : ℕ) → (not (is_outside pin) || (pin == last_pin)) ≡ true → (pin == last_pin) ≡ false → (pin + 1) % 2 ≡ 0
-odd_of pin may fresh = elim (cases_eq (pin % 2) 0) [
-  | inl even ↦ absurd (false≢true (sym (ap (λ (q : Bool). not q || (pin == last_pin)) (outside_even pin even) ∙ fresh) ∙ may))
+odd_of : (pin : ℕ) (out : Bool) → (not (is_outside pin) || out) ≡ true → out ≡ false → (pin + 1) % 2 ≡ 0
+odd_of pin out may fresh = elim (cases_eq (pin % 2) 0) [
+  | inl even ↦ absurd (false≢true (sym (ap (λ (q : Bool). not q || out) (outside_even pin even) ∙ fresh) ∙ may))
   | inr odd ↦ omega (arith, odd)
 ]
 
@@ -283,15 +287,18 @@ module _ (y : Yard) (a : ℕ) (low : 1 ≤ a) (high : a ≤ length y.words.pins)
   QuietOn taken = (line_on taken y (actor_at y a) a Answer).1 ≢ NotNow → pin_of (line_on taken y (actor_at y a) a Answer).0 a % 2 ≡ 0
 
   pub quiet_after : QuietOn (course y a Answer)
-  quiet_after = go y.vault.dead (needs y a Answer) (pin_of y a == last_pin) refl refl
+  quiet_after = go y.vault.dead (needs y a Answer) out refl refl
     where
-      go : (dead may last : Bool) → needs y a Answer ≡ may → (pin_of y a == last_pin) ≡ last → QuietOn (if dead && not true then Refused Dead else if may then (if last then Refused Done else Plays) else Refused NotNow)
+      out : Bool
+      out = stays_out (actor_at y a) (pin_of y a)
+
+      go : (dead may refuses : Bool) → needs y a Answer ≡ may → out ≡ refuses → QuietOn (if dead && not true then Refused Dead else if may then (if refuses then Refused Done else Plays) else Refused NotNow)
       go true false last may is now = absurd (now refl)
       go false false last may is now = absurd (now refl)
-      go true true true may is now = ap (λ (q : ℕ). q % 2) (last_of (pin_of y a) is)
-      go false true true may is now = ap (λ (q : ℕ). q % 2) (last_of (pin_of y a) is)
-      go true true false may is now = ap (λ (q : ℕ). q % 2) (of_pass_same y.words.pins a (pin_of y a + 1) 0 low high) ∙ odd_of (pin_of y a) may is
-      go false true false may is now = ap (λ (q : ℕ). q % 2) (of_pass_same y.words.pins a (pin_of y a + 1) 0 low high) ∙ odd_of (pin_of y a) may is
+      go true true true may is now = out_even (actor_at y a) (pin_of y a) is
+      go false true true may is now = out_even (actor_at y a) (pin_of y a) is
+      go true true false may is now = ap (λ (q : ℕ). q % 2) (of_pass_same y.words.pins a (pin_of y a + 1) 0 low high) ∙ odd_of (pin_of y a) out may is
+      go false true false may is now = ap (λ (q : ℕ). q % 2) (of_pass_same y.words.pins a (pin_of y a + 1) 0 low high) ∙ odd_of (pin_of y a) out may is
 
 -- An event changes no other actor's pin word.
 module _ (y : Yard) (a b : ℕ) (other : b ≢ a) where
@@ -322,7 +329,7 @@ alive_worn y a Pin = go (pin_of y a == last_pin) refl
     go : (last : Bool) → (pin_of y a == last_pin) ≡ last → is_worn (line_on (if last then Refused Worn else Plays) y (actor_at y a) a Pin).1 ≡ true → pin_of (line_on (if last then Refused Worn else Plays) y (actor_at y a) a Pin).0 a ≡ last_pin
     go true same is = last_of (pin_of y a) same
     go false same is = absurd (false≢true is)
-alive_worn y a Answer = go (pin_of y a == last_pin)
+alive_worn y a Answer = go (stays_out (actor_at y a) (pin_of y a))
   where
     go : (last : Bool) → is_worn (line_on (if last then Refused Done else Plays) y (actor_at y a) a Answer).1 ≡ true → pin_of (line_on (if last then Refused Done else Plays) y (actor_at y a) a Answer).0 a ≡ last_pin
     go true is = absurd (false≢true is)
@@ -353,6 +360,10 @@ ends_worn _ = false
 
 not_worn : (pin : ℕ) (at : Progress) → ends_worn at ≡ false → IsWornAt pin at
 not_worn pin at is same = absurd (false≢true (sym is ∙ ap ends_worn same))
+
+begins_not : (b : Bool) → ends_worn (if b then Answering SaysOldFile else first_progress) ≡ false
+begins_not true = refl
+begins_not false = refl
 
 rests_not : (s : ℕ) (need : Need) (reply : Reply) → ends_worn (Answering reply) ≡ false → ends_worn (rests s need reply) ≡ false
 rests_not s Now reply is = is
@@ -462,6 +473,7 @@ module _ (shape : Shape) (v : View) (c : Command) (P0 P : Trace) (changed : Opti
   progress_not : (at : Progress) (outcome : Outcome) → Relies v c at P0 P changed → reply_at at ≡ None → is_worn outcome ≡ false → ends_worn (progress_after shape c at outcome) ≡ false
   progress_not at Fault h on_its_way is = refl
   progress_not at Dead h on_its_way is = refl
+  progress_not at OldFile h on_its_way is = refl
   progress_not at Worn h on_its_way is = absurd (false≢true (sym is))
   progress_not at outcome h on_its_way is = follows_not at outcome h on_its_way
 
@@ -541,7 +553,7 @@ is_look _ = false
 module _ (looks : Bool) (n calls : ℕ) (y : Yard) (callers : List (Option Caller)) (disk : Medium) (M : History) (P : Trace) (notes : Notes) (sound : Sound n calls y callers disk M P notes) (fits : AllFit looks (Up (record { yard = y; callers = callers }) disk)) where
   up_fits : (i : ℕ) (step : Step) → MayStep (Up (record { yard = y; callers = callers }) disk) step → AllFit (is_look step || looks) (state_after i (Up (record { yard = y; callers = callers }) disk) step)
   up_fits i (Calls a c) may =
-      changes_one looks n calls y callers disk M P notes sound fits a (Some (call_at i c first_progress)) y may.0.0 (omega (arith, may.0.1, sound.callers.count)) (not_worn (pin_of y a) first_progress refl) (λ b other. refl)
+      changes_one looks n calls y callers disk M P notes sound fits a (Some (call_at i c (begun y.vault.format c))) (invoked y a c) may.0.0 (omega (arith, may.0.1, sound.callers.count)) (not_worn (pin_of y a) (begun y.vault.format c) (begins_not (is_old y.vault.format c))) (λ b other. refl)
   up_fits i (Turn a) may = turn_fits looks n calls y callers disk M P notes sound fits a (caller_at callers a) refl may
   up_fits i (Fails a new) may = fault_fits looks n calls y callers disk M P notes sound fits new a (caller_at callers a) refl may
   up_fits i (Looks a) may = look_fits looks n calls y callers disk M P notes sound fits a (none_of (caller_at callers a) may.1)

@@ -7,7 +7,7 @@ use Rattle.lz_judge.proofs.surveying.place_key.Goals as goal
 pub returns-in-Some : goal.returns-in-Some
 returns-in-Some c = λ says is knows.
     let there : tree.get nat_cmp c.args.places.now c.args.key ≡ Some c.in-Some.first.now =
-    ap (λ (k : ℕ). tree.get nat_cmp c.args.places.now k) (sym c.get.ensures.value) ∙ sym c.in-Some.ensures.value in
+    ap (λ (k : ℕ). tree.get nat_cmp c.args.places.now k) (sym c.rank.ensures.value) ∙ sym c.in-Some.ensures.value in
     let first = knows.found c.args.key c.in-Some.first.now there in
     record {
       true_of = (first.0, (c.args.key, is, first.1));
@@ -20,7 +20,7 @@ returns-in-Some c = λ says is knows.
 pub returns : goal.returns
 returns c = λ says is knows.
     let none : tree.get nat_cmp c.args.places.now c.args.key ≡ None =
-    ap (λ (k : ℕ). tree.get nat_cmp c.args.places.now k) (sym c.get.ensures.value) ∙ sym c.in_default.ensures.value in
+    ap (λ (k : ℕ). tree.get nat_cmp c.args.places.now k) (sym c.rank.ensures.value) ∙ sym c.in_default.ensures.value in
     let more = firsts_more says c.args.slot c.args.places.now c.insert.new.self c.args.key is none
-    (subst (λ (k : ℕ). tree.Updates nat_cmp c.args.places.now c.insert.new.self k (Some c.args.slot)) c.get-3.ensures.value c.in_ok-insert.ensures.updates) knows in
+    (subst (λ (k : ℕ). tree.Updates nat_cmp c.args.places.now c.insert.new.self k (Some c.args.slot)) c.rank-2.ensures.value c.in_ok-insert.ensures.updates) knows in
     record { true_of = more.0; slot = refl; firsts = more.1 }

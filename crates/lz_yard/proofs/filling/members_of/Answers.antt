@@ -7,10 +7,10 @@ pub loop-index-preserved : goal.loop-index-preserved
 loop-index-preserved g c = elim c.match-key_held.branch [
   | in-Some+in_default-note_member w ↦
       let ok = w.in_default-note_member.ensures.ok in
-      grown _ _ _ _ _ _ _ _ c.loop-index.invariant c.new-slot.ensures c.key_held.ensures w.in-Some.is w.get.ensures.value (ap (λ m. m.entries) w.members-is ∙ ok.0, ok.1)
+      grown _ _ _ _ _ _ _ _ c.loop-index.invariant c.new-slot.ensures c.key_held.ensures w.in-Some.is w.rank.ensures.value (ap (λ m. m.entries) w.members-is ∙ ok.0, ok.1)
   | in_default w ↦ stayed _ _ _ _ _ _ c.loop-index.invariant c.new-slot.ensures c.key_held.ensures w.in_default.is (ap (λ m. m.entries) w.members-is)
 ]
 
 pub returns-in-Err-clause-err : goal.returns-in-Err-clause-err
 returns-in-Err-clause-err g c =
-    not_grown _ _ _ _ _ _ _ _ c.loop-index.invariant (omega (arith, c.loop-index-test.true, c.slots-index-end.ensures.count)) c.new-slot.ensures c.key_held.ensures c.in-Some.is c.get.ensures.value c.in-Err.ensures.err
+    not_grown _ _ _ _ _ _ _ _ c.loop-index.invariant (omega (arith, c.loop-index-test.true, c.slots-index-end.ensures.count)) c.new-slot.ensures c.key_held.ensures c.in-Some.is c.rank.ensures.value c.in-Err.ensures.err

@@ -11,9 +11,9 @@ of_done (Err fault) is holds = absurd cc
 pub invariant_of-result : goal.invariant_of-result
 invariant_of-result c =
     new_world (record { slots = c.args.slots; buckets = c.args.buckets; passes = 64 }) c.make.new.disk c.in-Ok.yard c.in-Ok.ensures.ok
-    c.requires.buckets (omega arith, omega arith) (of_done c.make.result (sym c.is_err.ensures.value ∙ c.if-is_err.false) (c.make.ensures.made refl)).0 c.in_ok-callers.callers.items c.in_ok-callers.ensures
+    c.args.format c.requires.buckets (omega arith, omega arith) (of_done c.make.result (sym c.is_err.ensures.value ∙ c.if-is_err.false) (c.make.ensures.made refl)).0 c.in_ok-callers.callers.items c.in_ok-callers.ensures
 
 pub returns-in-Ok : goal.returns-in-Ok
 returns-in-Ok c =
     new_is (record { slots = c.args.slots; buckets = c.args.buckets; passes = 64 }) c.make.new.disk c.in-Ok.yard c.in-Ok.ensures.ok
-    c.requires.buckets (omega arith, omega arith) (of_done c.make.result (sym c.is_err.ensures.value ∙ c.if-is_err.false) (c.make.ensures.made refl)).0 c.in_ok-callers.callers.items c.in_ok-callers.ensures
+    c.args.format c.requires.buckets (omega arith, omega arith) (of_done c.make.result (sym c.is_err.ensures.value ∙ c.if-is_err.false) (c.make.ensures.made refl)).0 c.in_ok-callers.callers.items c.in_ok-callers.ensures

@@ -7,16 +7,16 @@ use Rattle.lz_list.proofs.list.List.member.Goals as goal
 
 pub is_marked-requires : goal.is_marked-requires
 is_marked-requires c =
-    let node = rw c.get.ensures.value at c.in-Some.ensures.some in
+    let node = rw c.rank.ensures.value at c.in-Some.ensures.some in
     subst (λ (l : Listed). c.in-Some.slot < length l.words.links) (sym c.self.view_is)
     (node_slot c.args.self.now.words (home c.args.self.now.words c.args.key) c.args.key c.in-Some.slot node)
 
 pub returns-in-None : goal.returns-in-None
 returns-in-None c =
-    let none = rw c.get.ensures.value at c.in-None.ensures.none in
+    let none = rw c.rank.ensures.value at c.in-None.ensures.none in
     ((λ never. absurd (false≢true never)), (λ is. absurd (none is.0 is.1)))
 
 pub returns-in-Some : goal.returns-in-Some
 returns-in-Some c =
-    let node = rw (c.get.ensures.value, ← c.self.view_is) at c.in-Some.ensures.some in
+    let node = rw (c.rank.ensures.value, ← c.self.view_is) at c.in-Some.ensures.some in
     rw (c.is_marked.ensures, ← c.self.view_is) (node_tells c.self.inside.words c.args.key c.in-Some.slot node)

@@ -5,4 +5,4 @@ pub returns-clause-done : goal.returns-clause-done
 returns-clause-done g c =
     let known = rw (← c.self.view_is) at c.requires.known in
     let slot = rw (← c.self.view_is) at c.slot-slot.ensures.slot in
-    rw (← c.self.view_is) (write_key_does _ c.args.actor c.args.key c.slot-slot.result c.get.result c.set.new.self c.put_key.new.self.memory _ _ _ known slot c.get.ensures.value c.set.ensures.list c.in_ok-put_key.ensures.call)
+    rw (← c.self.view_is) (write_key_does _ c.args.actor c.args.key c.slot-slot.result c.rank.result c.set.new.self c.put_key.new.self.memory _ _ _ known slot c.rank.ensures.value c.set.ensures.list c.in_ok-put_key.ensures.call)

@@ -1,11 +1,17 @@
-use Rattle.std.proofs.Common.{refl, ap, subst, IsTrue}
+use Rattle.std.proofs.Common.{refl, sym, ap, subst, IsTrue}
+use Rattle.std.specs.Prelude.{IfSome}
 use Rattle.lz_disk.specs.Images.{Medium, AreBytes}
+use Rattle.lz_list.specs.Lists.{IsWord}
+use Rattle.lz_yard.specs.declared.told.Told.{Told}
 use Rattle.lz_yard.proofs.Founding.{opened_fits}
 use Rattle.lz_yard.proofs.Opened.{first_yard, refused_for}
 use Rattle.lz_yard.proofs.yard.Yard.open.Goals as goal
 
 pub invariant_of-result : goal.invariant_of-result
-invariant_of-result g c = opened_fits _ _ _ _ _ _ _ c.in-Ok-of.ensures c.slots.ensures.count c.in_ok-vault.ensures.ok.fresh.0
+invariant_of-result g c = (
+  opened_fits _ _ _ _ _ _ _ c.in-Ok-of.ensures c.slots.ensures.count c.in_ok-vault.ensures.ok.fresh.0,
+  subst (λ (told : Told). IfSome told.changed (IsWord c.in-Ok-of.tables.list.words)) (sym c.nothing_told.ensures) tt,
+)
 
 pub returns-in-Err-clause-err : goal.returns-in-Err-clause-err
 returns-in-Err-clause-err g c = rw c.close.ensures (refused_for _ _ _ _ c.in_ok-vault.ensures.ok c.in-Err.ensures.err)
@@ -21,5 +27,5 @@ returns-in-Ok-of-clause-ok g c =
       buckets = refl;
       passes = refl;
       first = first_yard _ _ _ _ _ _ c.in-Ok-of.ensures opens.fresh opens.blank c.requires.buckets c.requires.passes (rw count at c.slots.ensures.range) _ count (g.D.Disk.device c.args.disk)
-          c.slots.ensures.kept.keys opens.steady opens.found (λ honest. subst AreBytes (bytes honest) (opens.kept honest).sound.seen.bytes);
+          c.slots.ensures.kept.keys opens.steady opens.found opens.format (λ honest. subst AreBytes (bytes honest) (opens.kept honest).sound.seen.bytes);
     }

@@ -9,10 +9,10 @@ step-requires-clause-ready g c = λ plays.
     let actor = rw (← c.self.view_is) at c.requires.actor in
     let event = rw (← c.self.view_is) at c.requires.event in
     let may = rw (← c.self.view_is) at c.requires.may in
-    ready_to_play y _ _ c.args.actor c.args.event (may (plays_needs y c.args.actor c.args.event plays)) actor.0 (omega (arith, actor.1, c.self.invariant.actors)) event plays
+    ready_to_play y _ _ c.args.actor c.args.event (may (plays_needs y c.args.actor c.args.event plays)) actor.0 (omega (arith, actor.1, c.self.invariant.0.actors)) event plays
 
 pub invariant_of-self : goal.invariant_of-self
 invariant_of-self g c =
     let actor = rw (← c.self.view_is) at c.requires.actor in
     let event = rw (← c.self.view_is) at c.requires.event in
-    played_fits _ _ c.args.actor c.args.event c.step.result _ _ _ _ _ c.self.invariant actor event c.step.ensures.played c.step.ensures.rows
+    played_fits _ _ c.args.actor c.args.event c.step.result _ _ _ _ _ c.self.invariant.0 actor event c.step.ensures.played c.step.ensures.rows

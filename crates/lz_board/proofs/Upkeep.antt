@@ -1,0 +1,10 @@
+pub mod Splice
+pub mod Growth
+pub mod PartUpkeep
+pub mod Address
+pub mod SeatTable
+pub mod LoadStep
+pub mod StoreStep
+pub mod Handover
+pub mod CallStep
+pub mod Reuse

@@ -1,0 +1,4 @@
+pub mod WalkerLemma
+pub mod GlanceAnswer
+pub mod Rest
+pub mod CallWay

@@ -1,0 +1,112 @@
+-- What the end of a walk tells to a glance.
+use Rattle.std.proofs.Common.{◌≡◌, inl, inr, ℕ, Bool, true, false, Option, [], ◌∷◌, ◌++◌, Result, Ok, Err, IfOk, IfErr, refl, sym, ap, ◌∙◌, subst}
+use Rattle.lz_list.specs.declared.flags.Flags.{Flags}
+use Rattle.lz_list.specs.declared.place.Place.{Place}
+use Rattle.lz_list.specs.declared.walk.Met.{Met}
+use Rattle.lz_list.specs.declared.walk.Met.TheVariants.{Absent, Unmarked, Marked}
+use Rattle.lz_list.specs.Words.{link_to, place_number}
+use Rattle.lz_list.specs.Traces.{Trace, Begins, Lawful, is_marked, halt_word, IsNode, SettledNo}
+use Rattle.lz_list.specs.Pinned.{Once, IsQuiet}
+use Rattle.lz_list.proofs.Absent.{begins_itself}
+use Rattle.lz_list.proofs.Hindsight.{once_begins, absent_since}
+use Rattle.lz_list.proofs.Resting.{begins_before, marked_was_sure, unsure_node, unmarked_surely}
+use Rattle.lz_flush.specs.declared.need.Need.{Need}
+use Rattle.lz_flush.specs.declared.need.Need.TheVariants.{Now, Sync as asks_sync}
+use Rattle.lz_flush.specs.Settling.{may_answer}
+use Rattle.lz_machine.proofs.Steps.Walk.{once_some}
+use Rattle.lz_machine.proofs.Frames.Publishing.{halt_stays}
+use Rattle.lz_board.specs.declared.view.Part.{Part}
+use Rattle.lz_board.specs.declared.answer.Glance.{Glance}
+use Rattle.lz_board.specs.declared.answer.Glance.TheVariants.{Yes, No, Unsettled}
+use Rattle.lz_board.specs.declared.answer.GlanceFault.{GlanceFault}
+use Rattle.lz_board.specs.declared.answer.GlanceFault.TheVariants.{Halted, Worn, BusyPass}
+use Rattle.lz_board.specs.Notes.{Since}
+use Rattle.lz_board.specs.Glances.{Changes, Between, Glanced, GlancedUnsettled, Glances}
+use Rattle.lz_board.specs.Walkers.{MetNode, Ended, sure_or, glance_of, IsGlance}
+use Rattle.lz_board.proofs.Upkeep.Growth.{begins_of}
+use Rattle.lz_board.proofs.Walk.WalkerLemma.{since_trans}
+
+module _ (buckets slots : ℕ) (P0 P : Trace) (law : Lawful buckets slots P) (quiet : IsQuiet buckets P0 P) (k : ℕ) where
+  absent_told : Once P0 P (λ R. SettledNo R R k) → Glanced k P0 P false
+  absent_told once = let r = once_some P0 P (λ R. SettledNo R R k) once in record { then = r.0; between = record { from = r.1; upto = r.2 }; settled = r.3 }
+
+  module _ (s : ℕ) (flags : Flags) (mark : Bool) (h : MetNode buckets k s flags mark P0 P) where
+    now : Between P0 P P
+    now = record { from = once_begins P0 P _ h.stood; upto = begins_itself P }
+
+    its_mark : is_marked s P ≡ mark
+    its_mark = sym (ap (λ (f : Flags). f.mark) h.shown) ∙ h.marked
+
+    unsure : IsNode k s P → may_answer flags ≡ asks_sync → GlancedUnsettled k s P0 P
+    unsure node asks = record { then = P; between = now; some = node.some; in_slot = node.same; asks = ap may_answer (sym h.shown) ∙ asks }
+
+  unmarked_told : (s : ℕ) (flags : Flags) → MetNode buckets k s flags false P0 P → IsGlance k P0 P (sure_or (may_answer flags) Yes s)
+  unmarked_told s flags h = go flags.add_settled refl
+    where
+      go : (added : Bool) → flags.add_settled ≡ added → IsGlance k P0 P (sure_or (may_answer flags) Yes s)
+      go true is =
+          let need : may_answer flags ≡ Now = rw (h.marked, is) refl in
+          subst (λ (n : Need). IsGlance k P0 P (sure_or n Yes s)) (sym need)
+          (record { then = P; between = now s flags false h; settled = unmarked_surely buckets slots P0 k s P law quiet h.stood h.key (its_mark s flags false h) (sym (ap (λ (f : Flags). f.add_settled) h.shown) ∙ is) })
+      go false is =
+          let need : may_answer flags ≡ asks_sync = rw (h.marked, is) refl in
+          subst (λ (n : Need). IsGlance k P0 P (sure_or n Yes s)) (sym need) (unsure s flags false h (unsure_node buckets slots P0 k s P law quiet h.stood h.key (inl (its_mark s flags false h))) need)
+
+  marked_told : (s : ℕ) (flags : Flags) → MetNode buckets k s flags true P0 P → IsGlance k P0 P (sure_or (may_answer flags) No s)
+  marked_told s flags h = go flags.remove_settled refl
+    where
+      go : (removed : Bool) → flags.remove_settled ≡ removed → IsGlance k P0 P (sure_or (may_answer flags) No s)
+      go true is =
+          let need : may_answer flags ≡ Now = rw (h.marked, is) refl in
+          subst (λ (n : Need). IsGlance k P0 P (sure_or n No s)) (sym need)
+          (absent_told (marked_was_sure buckets slots P0 k s P law quiet h.stood h.key (its_mark s flags true h) (sym (ap (λ (f : Flags). f.remove_settled) h.shown) ∙ is)))
+      go false is =
+          let need : may_answer flags ≡ asks_sync = rw (h.marked, is) refl in
+          subst (λ (n : Need). IsGlance k P0 P (sure_or n No s)) (sym need) (unsure s flags true h (unsure_node buckets slots P0 k s P law quiet h.stood h.key (inr (sym (ap (λ (f : Flags). f.remove_settled) h.shown) ∙ is))) need)
+
+  -- what the walk met is the glance's answer
+  pub told : (pred : Place) (curr : Option ℕ) (met : Met) → Ended buckets k P0 P pred curr met → IsGlance k P0 P (glance_of met)
+  told pred curr Absent (between, high) = absent_told (absent_since buckets slots P0 k (place_number pred) (link_to curr) P law quiet between.were between.low high)
+  told pred curr (Unmarked s flags) (is, between, h) = unmarked_told s flags h
+  told pred curr (Marked s flags) (is, between, h) = marked_told s flags h
+
+between_longer : (A P R Q B : Trace) → Begins A P → Begins Q B → Between P R Q → Between A R B
+between_longer A P R Q B before after h = record { from = begins_before A P R before h.from; upto = begins_before R Q B h.upto after }
+
+-- it stays so for one who had seen less before and has seen more after
+pub glance_longer : (k : ℕ) (A P Q B : Trace) (g : Glance) → Begins A P → Begins Q B → IsGlance k P Q g → IsGlance k A B g
+glance_longer k A P Q B Yes before after h = record { then = h.then; between = between_longer A P h.then Q B before after h.between; settled = h.settled }
+glance_longer k A P Q B No before after h = record { then = h.then; between = between_longer A P h.then Q B before after h.between; settled = h.settled }
+glance_longer k A P Q B (Unsettled s) before after h = record { then = h.then; between = between_longer A P h.then Q B before after h.between; some = h.some; in_slot = h.in_slot; asks = h.asks }
+
+halt_longer : (more P : Trace) → halt_word P ≡ 1 → halt_word (more ++ P) ≡ 1
+halt_longer [] P is = is
+halt_longer (e ∷ more) P is = halt_stays e (more ++ P) (halt_longer more P is)
+
+pub halt_since : (p : ℕ) (P Q : Trace) → Since p Q P → halt_word P ≡ 1 → halt_word Q ≡ 1
+halt_since p P Q since is = ap halt_word since.1 ∙ halt_longer since.0 P is
+
+no_changes : (p : ℕ) (P Q : Trace) → Since p Q P → Changes p P Q []
+no_changes p P Q since = record { since = since.0; goes_on = since.1; own = since.2 }
+
+-- the rows of a glance that was inside from P to Q
+pub rows : (k : ℕ) (before after : Part) (P Q : Trace) → Since before.number P before.known → Since before.number Q P → Since before.number after.known Q
+    → (r : Result Glance GlanceFault) → IfOk r (λ g. IsGlance k P Q g) → IfErr r (λ f. (f ≡ Halted) × (halt_word Q ≡ 1)) → Glances k r before after
+rows k before after P Q a b c r ok err = go r ok err
+  where
+    since : Since before.number after.known before.known
+    since = since_trans before.number before.known Q after.known (since_trans before.number before.known P Q a b) c
+
+    same : Changes before.number before.known after.known []
+    same = no_changes before.number before.known after.known since
+
+    longer : (g : Glance) → IsGlance k P Q g → IsGlance k before.known after.known g
+    longer g h = glance_longer k before.known P Q after.known g (begins_of before.known P (a.0, a.1)) (begins_of Q after.known (c.0, c.1)) h
+
+    go : (r : Result Glance GlanceFault) → IfOk r (λ g. IsGlance k P Q g) → IfErr r (λ f. (f ≡ Halted) × (halt_word Q ≡ 1)) → Glances k r before after
+    go (Ok Yes) ok err = (longer Yes ok, same)
+    go (Ok No) ok err = (longer No ok, same)
+    go (Ok (Unsettled s)) ok err = (longer (Unsettled s) ok, same)
+    go (Err Halted) ok err = (halt_since before.number Q after.known c err.1, same)
+    go (Err Worn) ok err = absurd cc
+    go (Err BusyPass) ok err = absurd cc

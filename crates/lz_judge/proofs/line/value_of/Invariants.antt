@@ -1,7 +1,0 @@
-use Rattle.std.proofs.Common.{◌≡◌, ◌≤◌, take}
-use Rattle.std.specs.Str.Parse.{digits_value}
-use Rattle.lz_judge.specs.LinesRead.{largest_number}
-use Rattle.lz_judge.proofs.line.value_of.Given as goal
-
-abbrev pub invariant-loop-digit : goal.invariant-loop-digit
-invariant-loop-digit l = record { value : l.number ≡ digits_value 10 (take l.digit-index l.digits); range : l.number ≤ largest_number }

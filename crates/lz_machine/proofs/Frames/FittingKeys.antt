@@ -1,0 +1,77 @@
+-- The key that a call writes is one that the file can hold.
+use Rattle.std.specs.Prelude.{nat_lt}
+use Rattle.std.proofs.Common.{◌≡◌, ℕ, zero, suc, ◌≤◌, false, Option, Some, None, refl, subst, arith}
+use Rattle.std.proofs.lemmas.Option.{none-some}
+use Rattle.std.proofs.lemmas.Bool.Decides.{nat_tests}
+use Rattle.lz_slot.specs.declared.command.Command.{Command}
+use Rattle.lz_slot.specs.declared.command.Command.TheVariants.{Add, Remove, Has}
+use Rattle.lz_slot.specs.declared.format.Format.{Format}
+use Rattle.lz_slot.specs.Rooms.{largest_of}
+use Rattle.lz_slot.specs.Sets.{key_of}
+use Rattle.lz_list.specs.Words.{Words}
+use Rattle.lz_list.specs.Traces.{Trace}
+use Rattle.lz_machine.specs.declared.caller.Script.{Script}
+use Rattle.lz_machine.specs.declared.caller.Script.TheVariants.{Pinning, Resting, Writing, Adding, Removing, Releasing, Halting}
+use Rattle.lz_machine.specs.declared.caller.Progress.{Progress}
+use Rattle.lz_machine.specs.declared.caller.Progress.TheVariants.{Playing}
+use Rattle.lz_machine.specs.declared.event.Event.{Event}
+use Rattle.lz_machine.specs.declared.event.Event.TheVariants.{WriteKey}
+use Rattle.lz_machine.specs.Yards.{Shape}
+use Rattle.lz_machine.specs.Calls.{event_at, loaded}
+use Rattle.lz_machine.specs.Table.{is_old}
+use Rattle.lz_machine.specs.Sound.{View, IsAdder, Relies, is_before_pin}
+
+within : (most k : ℕ) → nat_lt most k ≡ false → k ≤ most
+within most k is = grind (arith, nat_tests)
+
+pub adds_fitting : (format : Format) (c : Command) → IsAdder c → is_old format c ≡ false → key_of c ≤ largest_of format
+adds_fitting format (Add k) adder fits = within (largest_of format) k fits
+adds_fitting format (Remove k) adder fits = absurd adder
+adds_fitting format (Has k) adder fits = absurd adder
+
+-- the key that an event writes
+abbrev pub key_written : Event → Option ℕ
+key_written (WriteKey k) = Some k
+key_written _ = None
+
+module _ (words : Words) (shape : Shape) (v : View) (c : Command) (P0 P : Trace) (changed : Option ℕ) (k : ℕ) where
+  abbrev Writes : Progress → Type 0
+  Writes at = key_written (loaded words (event_at shape c at)) ≡ Some k
+
+  writes_in : (script : Script) (i : ℕ) → Relies v c (Playing script i) P0 P changed → Writes (Playing script i) → IsAdder c × (key_of c ≡ k) × (is_before_pin (Playing script i) ≡ false)
+  writes_in (Writing s) zero h is = (h.2, cc, refl)
+  writes_in (Writing s) (suc zero) h is = absurd (none-some _ is)
+  writes_in (Writing s) (suc (suc i)) h is = absurd h
+  writes_in Pinning zero h is = absurd (none-some _ is)
+  writes_in Pinning (suc i) h is = absurd h
+  writes_in (Resting s reply) zero h is = absurd (none-some _ is)
+  writes_in (Resting s reply) (suc zero) h is = absurd (none-some _ is)
+  writes_in (Resting s reply) (suc (suc i)) h is = absurd h
+  writes_in (Releasing aim) zero h is = absurd (none-some _ is)
+  writes_in (Releasing aim) (suc i) h is = absurd h
+  writes_in (Halting reply) zero h is = absurd (none-some _ is)
+  writes_in (Halting reply) (suc i) h is = absurd h
+  writes_in (Adding s) i h is = adding c i h is
+    where
+      adding : (d : Command) (j : ℕ) → Relies v d (Playing (Adding s) j) P0 P changed → key_written (loaded words (event_at shape d (Playing (Adding s) j))) ≡ Some k → IsAdder c × (key_of c ≡ k) × (is_before_pin (Playing (Adding s) i) ≡ false)
+      adding (Add q) (suc (suc (suc (suc (suc j))))) g at = absurd g
+      adding (Remove q) j g at = absurd g
+      adding (Has q) j g at = absurd g
+      adding _ _ g at = absurd (none-some _ at)
+  writes_in (Removing s) i h is = removing c i h is
+    where
+      removing : (d : Command) (j : ℕ) → Relies v d (Playing (Removing s) j) P0 P changed → key_written (loaded words (event_at shape d (Playing (Removing s) j))) ≡ Some k → IsAdder c × (key_of c ≡ k) × (is_before_pin (Playing (Removing s) i) ≡ false)
+      removing (Remove q) (suc (suc (suc (suc (suc (suc (suc j))))))) g at = absurd g.2
+      removing (Add q) j g at = absurd g
+      removing (Has q) j g at = absurd g
+      removing _ _ g at = absurd (none-some _ at)
+
+  -- only an adder writes a key, and it writes its own
+  writes : (at : Progress) → Relies v c at P0 P changed → Writes at → IsAdder c × (key_of c ≡ k) × (is_before_pin at ≡ false)
+  writes (Playing script i) h is = writes_in script i h is
+  writes _ h is = absurd (none-some _ is)
+
+  pub writes_fitting : (at : Progress) → (is_before_pin at ≡ false → is_old v.format c ≡ false) → Relies v c at P0 P changed → Writes at → k ≤ largest_of v.format
+  writes_fitting at fits h is =
+      let own = writes at h is in
+      subst (λ (q : ℕ). q ≤ largest_of v.format) own.1 (adds_fitting v.format c own.0 (fits own.2))

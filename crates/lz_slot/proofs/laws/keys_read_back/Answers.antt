@@ -1,0 +1,5 @@
+use Rattle.lz_slot.proofs.Spellings as proved
+use Rattle.lz_slot.proofs.laws.keys_read_back.Goals as goal
+
+pub returns : goal.returns
+returns c = proved.keys_read_back

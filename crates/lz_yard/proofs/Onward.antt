@@ -1,0 +1,121 @@
+-- A call's next event, played on a yard over any device, as a step of a run.
+use Rattle.std.proofs.Common.{◌≡◌, ◌≢◌, inl, inr, ◌≤◌, length, IsTrue, ℕ, Bool, true, false, List, Option, Some, None, refl, sym, ap, ◌∙◌, subst}
+use Rattle.std.proofs.lemmas.Bool.{false≢true}
+use Rattle.lz_slot.specs.Counted.{set_of_pass}
+use Rattle.lz_disk.specs.Images.{Medium}
+use Rattle.lz_disk.specs.Devices.{Device}
+use Rattle.lz_vault.specs.Vaults.{DeviceCall, NoCall, WriteAt, SyncAll, MayFail, medium_after}
+use Rattle.lz_machine.specs.declared.event.Event.{Event}
+use Rattle.lz_machine.specs.declared.event.Outcome.{Outcome}
+use Rattle.lz_machine.specs.declared.event.Outcome.TheVariants.{Fault}
+use Rattle.lz_machine.specs.declared.event.Reply.{Reply}
+use Rattle.lz_machine.specs.Yards.{Shape, Yard}
+use Rattle.lz_machine.specs.Table.{line, line_failed, line_call}
+use Rattle.lz_machine.specs.Calls.{progress_after}
+use Rattle.lz_machine.specs.Points.{IsReached}
+use Rattle.lz_machine.specs.Runs.{Start, Caller, Service, State, Up, Step, Turn, Fails, MayStep, HasTurn, HasFault, MayPlay, Point, caller_at, next_event, reply_at, moved_on, played, after_turn, after_fault, state_after}
+use Rattle.lz_machine.proofs.Frames.OneActor.{caller_range}
+use Rattle.lz_machine.proofs.Runs.OpenCall.{is_next}
+use Rattle.lz_machine.proofs.Runs.ReachedPoint.{as_reached}
+use Rattle.lz_machine.proofs.Theorem.Timing.{in_time}
+use Rattle.lz_machine.proofs.Theorem.Timeliness.{is_look}
+use Rattle.lz_yard.specs.Steps.{Played}
+use Rattle.lz_yard.proofs.Keeping.{fault_or_not}
+
+-- the call after its next event had this outcome
+abbrev pub moved : Shape → Caller → Outcome → Option Caller
+moved shape caller o = moved_on (reply_at caller.progress) caller (progress_after shape caller.command caller.progress o)
+
+-- the service after a caller's event gave this yard and outcome
+abbrev pub after_it : Service → ℕ → Caller → Yard → Outcome → Service
+after_it service a caller yard o = record { yard = yard; callers = set_of_pass service.callers a (moved yard.shape caller o) }
+
+-- A step of a run leads to this service; its disk is the device's, where that is honest.
+pub record Steps (w : State) (next : Service) (after : Device) : Type 0 where
+  pub step : Step
+  pub other : is_look step ≡ false
+  pub may : MayStep w step
+  pub medium : Medium
+  pub to : (n : ℕ) → state_after n w step ≡ Up next medium
+  pub device : IsTrue after.honest → after.medium ≡ medium
+
+as_played : (service : Service) (a : ℕ) (caller : Caller) (yard : Yard) (o : Outcome) (l : Yard × Outcome) → yard ≡ l.0 → o ≡ l.1 → played service a caller l ≡ after_it service a caller yard o
+as_played service a caller yard o l same_yard same_outcome =
+    ap (λ (y : Yard). after_it service a caller y l.1) (sym same_yard) ∙ ap (λ (r : Outcome). after_it service a caller yard r) (sym same_outcome)
+
+-- a device call that failed may have changed nothing
+may_fail : (call : DeviceCall) (disk : Medium) → call ≢ NoCall → MayFail call disk disk
+may_fail NoCall disk asked = absurd (asked refl)
+may_fail (WriteAt at bytes) disk asked = inl refl
+may_fail SyncAll disk asked = refl
+
+module _ (start : Start) (p : Point) (reached : IsReached start p) (service : Service) (medium : Medium) (up : p.state ≡ Up service medium) (a : ℕ) (caller : Caller) (at : caller_at service.callers a ≡ Some caller) where
+  pub may_play : (honest : Bool) (disk : Medium) → (IsTrue honest → disk ≡ medium) → MayPlay service.yard honest disk a (next_event service.yard caller)
+  may_play honest disk same = record {
+    start = start;
+    service = service;
+    medium = medium;
+    history = p.marks;
+    trace = p.trace;
+    reached = as_reached start p (Up service medium) reached up;
+    next = is_next service a caller at;
+    yard = record { shape = refl; heads = refl; links = refl; keys = refl; halt = refl; pin = refl; locks = refl; vault = refl; uses = refl; actors = refl };
+    device = same;
+  }
+
+  pub in_range : (1 ≤ a) × (a ≤ length service.callers)
+  in_range = caller_range service.callers a caller at
+
+  done : (before after : Device) (new : Yard) (outcome : Outcome) (changed : _) → (IsTrue before.honest → before.medium ≡ medium) → outcome ≢ Fault
+      → Played service.yard a (next_event service.yard caller) outcome new changed before after → Steps (Up service medium) (after_it service a caller new outcome) after
+  done before after new outcome changed same other event =
+      let e = next_event service.yard caller in
+      let h = event.done other in
+      record {
+        step = Turn a;
+        other = refl;
+        may = subst (HasTurn service a) (sym at) (in_time start p reached service medium up a caller at);
+        medium = medium_after (line_call service.yard a e) medium;
+        to = λ n.
+            ap (after_turn service medium a) at
+            ∙ ap (λ (s : Service). Up s (medium_after (line_call service.yard a e) medium)) (as_played service a caller new outcome (line service.yard a e) h.yard h.answer);
+        device = λ honest.
+            let was = subst IsTrue h.call.honest honest in
+            h.call.medium was ∙ ap (medium_after (line_call service.yard a e)) (same was);
+      }
+
+  failed_to : (before after : Device) (new : Yard) (outcome : Outcome) (changed : _) (left : Medium) → outcome ≡ Fault → MayFail (line_call service.yard a (next_event service.yard caller)) medium left
+      → (IsTrue after.honest → after.medium ≡ left)
+      → Played service.yard a (next_event service.yard caller) outcome new changed before after → Steps (Up service medium) (after_it service a caller new outcome) after
+  failed_to before after new outcome changed left fault fails there event =
+      let e = next_event service.yard caller in
+      record {
+        step = Fails a left;
+        other = refl;
+        may = subst (λ (o : Option Caller). HasFault service medium a o left) (sym at) fails;
+        medium = left;
+        to = λ n.
+            ap (after_fault service left a) at
+            ∙ ap (λ (s : Service). Up s left) (as_played service a caller new outcome (line_failed service.yard a e) (event.failed fault).yard fault);
+        device = there;
+      }
+
+  -- a device that isn't honest may do what it likes: in the run it changed nothing
+  failed : (before after : Device) (new : Yard) (outcome : Outcome) (changed : _) → (IsTrue before.honest → before.medium ≡ medium) → outcome ≡ Fault
+      → Played service.yard a (next_event service.yard caller) outcome new changed before after → (honest : Bool) → before.honest ≡ honest
+      → Steps (Up service medium) (after_it service a caller new outcome) after
+  failed before after new outcome changed same fault event true is =
+      let h = event.failed fault in
+      failed_to before after new outcome changed after.medium fault
+      (subst (λ (m : Medium). MayFail (line_call service.yard a (next_event service.yard caller)) m after.medium) (same is) (h.call.medium is)) (λ honest. refl) event
+  failed before after new outcome changed same fault event false is =
+      let h = event.failed fault in
+      failed_to before after new outcome changed medium fault (may_fail (line_call service.yard a (next_event service.yard caller)) medium h.asked)
+      (λ honest. absurd (false≢true (sym is ∙ sym h.call.honest ∙ honest))) event
+
+  pub steps_on : (before after : Device) (new : Yard) (outcome : Outcome) (changed : _) → (IsTrue before.honest → before.medium ≡ medium)
+      → Played service.yard a (next_event service.yard caller) outcome new changed before after → Steps (Up service medium) (after_it service a caller new outcome) after
+  steps_on before after new outcome changed same event = elim (fault_or_not outcome) [
+    | inl fault ↦ failed before after new outcome changed same fault event before.honest refl
+    | inr other ↦ done before after new outcome changed same other event
+  ]
