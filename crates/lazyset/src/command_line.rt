@@ -16,11 +16,23 @@ fn slots<'a>(alloc: Global) -> Arg<'a> {
         .help("How many keys the file has room for, 1 to 65536")
 }
 
+fn format<'a>(alloc: Global) -> Arg<'a> {
+    Arg::new(alloc, "format")
+        .long("format")
+        .value_name("F")
+        .value_parser(value_parser!(u64).range(1..=2))
+        .default_value("2")
+        .help(
+            "The format of the file: 2, whose keys are in the rooms 0 to 15, or 1, whose keys are in room 0",
+        )
+}
+
 fn make<'a>(alloc: Global) -> Result<Command<'a>, AllocError> {
     Command::new(alloc, "make")
         .about("Makes a slot file that holds the empty set, creating the file where it is absent")
         .arg(file(alloc))?
-        .arg(slots(alloc))
+        .arg(slots(alloc))?
+        .arg(format(alloc))
 }
 
 fn run<'a>(alloc: Global) -> Result<Command<'a>, AllocError> {
@@ -65,7 +77,8 @@ fn rehearse<'a>(alloc: Global) -> Result<Command<'a>, AllocError> {
             "Plays the script of standard input on a new set in memory: calls, turns, failures, stops, crashes and opens",
         )
         .arg(slots)?
-        .arg(buckets)
+        .arg(buckets)?
+        .arg(format(alloc))
 }
 
 /// The command line that the program understands.

@@ -8,6 +8,7 @@ use lazyset_commands::{
     MOST_JUDGED, MOST_SURVEYED, Status, check_on, judge_on, make_on, rehearse_on, run_on,
 };
 use lz_disk::FileDisk;
+use lz_slot::Format;
 use std::fs::File;
 use std::io::{ErrorKind, Read};
 use std::rt::{Env, Files};
@@ -53,8 +54,11 @@ fn open<R: Files<File = File>>(
 
 fn make<R: Files<File = File> + Print>(rt: &R, matches: &ArgMatches<'_>) -> Result<Status, Fault> {
     let slots = matches.get_one::<u64>("SLOTS").unwrap_or(0);
+    let Some(format) = format_of(matches) else {
+        return Ok(Status::CommandLine);
+    };
     let mut disk = open(rt, matches, true)?;
-    Ok(make_on(&mut io::writer(rt), &mut disk, slots))
+    Ok(make_on(&mut io::writer(rt), &mut disk, slots, format))
 }
 
 fn run_file<R>(rt: &R, matches: &ArgMatches<'_>) -> Result<Status, Fault>
@@ -92,13 +96,26 @@ where
     let Some(buckets) = number_within(matches, "buckets", 4096) else {
         return Status::CommandLine;
     };
+    let Some(format) = format_of(matches) else {
+        return Status::CommandLine;
+    };
     rehearse_on(
         rt.alloc(),
         &mut rt.reader(),
         &mut io::writer(rt),
         slots,
         buckets,
+        format,
     )
+}
+
+// The format that the command line names.
+fn format_of(matches: &ArgMatches<'_>) -> Option<Format> {
+    match matches.get_one::<u64>("format")? {
+        1 => Some(Format::One),
+        2 => Some(Format::Two),
+        _ => None,
+    }
 }
 
 // A number of the command line, from 1 to the most.

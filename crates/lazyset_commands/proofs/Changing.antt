@@ -6,7 +6,9 @@ use Rattle.std.proofs.lemmas.Bool.{cases_eq}
 use Rattle.lazyset_commands.proofs.Slots.{cell_there}
 use Rattle.std.proofs.lemmas.Option.{slice_get_within, slice_get-get_or, get_or_from_slice_get}
 use Rattle.std.proofs.Common.{get_or-set_same, get_or-set_other}
-use Rattle.lz_slot.specs.Limits.{largest_key}
+use Rattle.lz_slot.specs.Limits.{most_slots}
+use Rattle.lz_slot.specs.Rooms.{largest_of}
+use Rattle.lz_slot.specs.declared.format.Format.{Format}
 use Rattle.lz_slot.specs.Sets.{Keys, after}
 use Rattle.lz_slot.specs.declared.command.Command.{Command}
 use Rattle.lz_slot.specs.Bytes.{Holds, slot_at, open_byte, header_body}
@@ -63,17 +65,23 @@ set_elsewhere cells s i cell there other is =
     let low' : i < length (slice_set cells s cell) = omega (arith, length-set cells s cell) in
     slice_get-get_or (slice_set cells s cell) i there low' ∙ ap (λ (c : Cell). Some c) (get_or-set_other cells s i cell there other ∙ get_or_from_slice_get cells i there there is)
 
-module _ (cells : List Cell) (s k : ℕ) (S : Keys) (old : Medium)
-    (steady : AreSteady cells) (low : s < length cells) (vouches : Vouches cells old) (d : List ℕ) (image' : IsImage old d)
-    (keys : (i : ℕ) (cell : Cell) → slice_get cells i ≡ Some cell → cell.key ≤ largest_key) (range : k ≤ largest_key)
-    (holds : Holds d (length cells) S) (stage : Stage) (new : Medium) (vouches' : Vouches (slice_set cells s (record { stage = stage; key = k })) new) where
+module _ (format : Format) (cells : List Cell) (s k : ℕ) (S : Keys) (old : Medium)
+    (steady : AreSteady cells) (low : s < length cells) (vouches : Vouches format cells old) (d : List ℕ) (image' : IsImage old d)
+    (keys : (i : ℕ) (cell : Cell) → slice_get cells i ≡ Some cell → cell.key ≤ largest_of format) (range : k ≤ largest_of format)
+    (holds : Holds d (length cells) S) (stage : Stage) (new : Medium) (vouches' : Vouches format (slice_set cells s (record { stage = stage; key = k })) new) where
   alike : (t : List ℕ) → IsImage new t → AreAlike t d
   alike t image =
       let count = length-set cells s (record { stage = stage; key = k }) in
       record {
         size = let a = vouches'.size t image in let b = vouches.size d image' in omega arith;
-        head = vouches'.head t image ∙ ap (λ (n : ℕ). open_byte ∷ header_body n) count ∙ sym (vouches.head d image');
+        head = vouches'.head t image ∙ ap (λ (n : ℕ). open_byte ∷ header_body format n) count ∙ sym (vouches.head d image');
       }
+
+  few : length cells ≤ most_slots
+  few = holds.count.1
+
+  few' : length (slice_set cells s (record { stage = stage; key = k })) ≤ most_slots
+  few' = omega (arith, few, length-set cells s (record { stage = stage; key = k }))
 
   -- the other slots are read as before
   others : (t : List ℕ) → IsImage new t → (i : ℕ) → i < length cells → i ≢ s → slot_at t i ≡ slot_at d i
@@ -81,12 +89,12 @@ module _ (cells : List Cell) (s k : ℕ) (S : Keys) (old : Medium)
       let there = cell_there cells i below in
       let range' = keys i there.0 there.1 in
       steady_reads there.0.stage there.0.key _ _ (steady i there.0 there.1)
-      (image_reads _ new vouches' t i there.0 image (set_elsewhere cells s i _ there.0 other there.1) range')
-      (image_reads cells old vouches d i there.0 image' there.1 range')
+      (image_reads format _ new vouches' t i there.0 few' image (set_elsewhere cells s i _ there.0 other there.1) range')
+      (image_reads format cells old vouches d i there.0 few image' there.1 range')
 
   -- the slot itself is read as its stage says
   here : (t : List ℕ) → IsImage new t → MayRead stage k (slot_at t s)
-  here t image = image_reads _ new vouches' t s _ image (set_there cells s _ low) range
+  here t image = image_reads format _ new vouches' t s _ few' image (set_there cells s _ low) range
 
   -- where the slot is read as before, the image holds what was held
   pub image_before : (t : List ℕ) → IsImage new t → slot_at t s ≡ slot_at d s → Holds t (length cells) S
@@ -148,6 +156,12 @@ synced_steady (c ∷ cells) steady =
 pub synced_set : (cells : List Cell) (s : ℕ) (cell : Cell) → AreSteady cells → map cell_synced (slice_set cells s cell) ≡ slice_set cells s (cell_synced cell)
 synced_set cells s cell steady = map-set cell_synced cells s cell ∙ ap (λ (qs : List Cell). slice_set qs s (cell_synced cell)) (synced_steady cells steady)
 
+-- a call keeps the format
+pub called_format : (call : DeviceCall) (cells : List Cell) (was now : Vaulted) (before after : Device) (r : Result (Unit {0}) VaultFault) → Called call cells was now before after r → now.format ≡ was.format
+called_format call cells was now before after (Ok done) called = ap (λ (v : Vaulted). v.format) called.1
+called_format call cells was now before after (Err Failed) called = ap (λ (v : Vaulted). v.format) called.1
+called_format call cells was now before after (Err Dead) called = ap (λ (v : Vaulted). v.format) called.1
+
 -- how a call ends, of a vault that was alive
 pub call_ends : (call : DeviceCall) (cells : List Cell) (start before after : Device) (was now : Vaulted) (r : Result (Unit {0}) VaultFault)
     → Called call cells was now before after r → was.dead ≡ false → start.faults ≤ before.faults → Ends r now start after
@@ -169,19 +183,19 @@ ends_dead Failed vault before after ended = ended.0
 ends_dead Dead vault before after ended = ended.0
 
 -- the slots are as many as before
-pub come_length : (cells : List Cell) (s k : ℕ) (command : Command) (stage : Stage) (start now : Device) (vault : Vaulted) → HasCome cells s k command stage start now vault → length vault.cells ≡ length cells
-come_length cells s k command stage start now vault come = ap length come.cells_are ∙ length-set cells s _
+pub come_length : (was : Vaulted) (s k : ℕ) (command : Command) (stage : Stage) (start now : Device) (vault : Vaulted) → HasCome was s k command stage start now vault → length vault.cells ≡ length was.cells
+come_length was s k command stage start now vault come = ap length come.cells_are ∙ length-set was.cells s _
 
 -- the key of a slot's cell is in range
 pub range_of : (s k : ℕ) (start : Device) (vault : Vaulted) → MayChange vault s start → (stage : Stage) (now : Device) (after' : Vaulted)
-    → after'.cells ≡ slice_set vault.cells s (record { stage = stage; key = k }) → IsKept after' now → k ≤ largest_key
-range_of s k start vault may stage now after' are kept' =
-    kept'.keys s (record { stage = stage; key = k }) (ap (λ (qs : List Cell). slice_get qs s) are ∙ set_there vault.cells s _ may.low)
+    → after'.format ≡ vault.format → after'.cells ≡ slice_set vault.cells s (record { stage = stage; key = k }) → IsKept after' now → k ≤ largest_of vault.format
+range_of s k start vault may stage now after' same are kept' = subst (λ (F : Format). k ≤ largest_of F) same
+    (kept'.keys s (record { stage = stage; key = k }) (ap (λ (qs : List Cell). slice_get qs s) are ∙ set_there vault.cells s _ may.low))
 
 -- What the images hold at each stage of a slot, once a command that changes it is under way.
 abbrev pub ComesBy : ℕ → ℕ → Command → Device → Vaulted → Type 1
 ComesBy s k command start vault =
-    (stage : Stage) (now : Device) (now' : Vaulted) → now'.cells ≡ slice_set vault.cells s (record { stage = stage; key = k }) → IsKept now' now → now.honest ≡ start.honest
+    (stage : Stage) (now : Device) (now' : Vaulted) → now'.format ≡ vault.format → now'.cells ≡ slice_set vault.cells s (record { stage = stage; key = k }) → IsKept now' now → now.honest ≡ start.honest
     → (S : Keys) → IsTrue start.honest → EachHolds start.medium (length vault.cells) S → IsNews command S
     → (t : List ℕ) → IsImage now.medium t → HoldsBeforeOrAfter (length vault.cells) S command t
 
@@ -192,15 +206,16 @@ module _ (s k : ℕ) (command : Command) (start : Device) (vault : Vaulted) (may
   -- the first call of a change: a vault that is alive doesn't answer Dead
   pub first_call : (stage : Stage) (at : ℕ) (bytes : List ℕ) (now : Device) (after' : Vaulted) (r : Result (Unit {0}) VaultFault)
       → (IsTrue start.honest → IsTimely start) → Called (WriteAt at bytes) (slice_set cells s (record { stage = stage; key = k })) vault after' start now r → IsKept after' now
-      → HasCome cells s k command stage start now after'
+      → HasCome vault s k command stage start now after'
   first_call stage at bytes now after' r timely called kept' = record {
+    format = called_format (WriteAt at bytes) _ vault after' start now r called;
     cells_are = are r called;
     kept = kept';
     honest = same r called;
     faults = rise r called;
     leaves = λ S honest holds new. call_goes_on (WriteAt at bytes) (slice_set cells s (record { stage = stage; key = k })) vault after' start start now r _ called honest
         (quiet start _ (timely honest) (λ t image. inl (holds t image))) (λ t image. inl (holds t image))
-        (images stage now after' (are r called) kept' (same r called) S honest holds new);
+        (images stage now after' (called_format (WriteAt at bytes) _ vault after' start now r called) (are r called) kept' (same r called) S honest holds new);
   }
     where
       are : (r : Result (Unit {0}) VaultFault) → Called (WriteAt at bytes) (slice_set cells s (record { stage = stage; key = k })) vault after' start now r → after'.cells ≡ slice_set cells s (record { stage = stage; key = k })
@@ -220,23 +235,24 @@ module _ (s k : ℕ) (command : Command) (start : Device) (vault : Vaulted) (may
 
   -- a call that comes to a stage
   come_on : (call : DeviceCall) (cells' : List Cell) (stage stage' : Stage) (mid now : Device) (m after' : Vaulted) (r : Result (Unit {0}) VaultFault)
-      → HasCome cells s k command stage start mid m → Called call cells' m after' mid now r → after'.cells ≡ slice_set cells s (record { stage = stage'; key = k }) → IsKept after' now → now.honest ≡ mid.honest → mid.faults ≤ now.faults
-      → HasCome cells s k command stage' start now after'
+      → HasCome vault s k command stage start mid m → Called call cells' m after' mid now r → after'.cells ≡ slice_set cells s (record { stage = stage'; key = k }) → IsKept after' now → now.honest ≡ mid.honest → mid.faults ≤ now.faults
+      → HasCome vault s k command stage' start now after'
   come_on call cells' stage stage' mid now m after' r come called are kept' same more = record {
+    format = called_format call cells' m after' mid now r called ∙ come.format;
     cells_are = are;
     kept = kept';
     honest = same ∙ come.honest;
     faults = let first = come.faults in omega arith;
     leaves = λ S honest holds new. call_goes_on call cells' m after' start mid now r _ called (subst IsTrue (sym come.honest) honest)
         (come.leaves S honest holds new)
-        (images stage mid m come.cells_are come.kept come.honest S honest holds new)
-        (images stage' now after' are kept' (same ∙ come.honest) S honest holds new);
+        (images stage mid m come.format come.cells_are come.kept come.honest S honest holds new)
+        (images stage' now after' (called_format call cells' m after' mid now r called ∙ come.format) are kept' (same ∙ come.honest) S honest holds new);
   }
 
   -- each further call comes to its stage where it answers Ok, and else to that or stays at the one before
   pub next_call : (call : DeviceCall) (cells' : List Cell) (stage stage' : Stage) (mid now : Device) (m after' : Vaulted) (r : Result (Unit {0}) VaultFault)
-      → HasCome cells s k command stage start mid m → Called call cells' m after' mid now r → cells' ≡ slice_set cells s (record { stage = stage'; key = k }) → IsKept after' now
-      → (q : Stage) × HasCome cells s k command q start now after' × OnOk r (q ≡ stage')
+      → HasCome vault s k command stage start mid m → Called call cells' m after' mid now r → cells' ≡ slice_set cells s (record { stage = stage'; key = k }) → IsKept after' now
+      → (q : Stage) × HasCome vault s k command q start now after' × OnOk r (q ≡ stage')
   next_call call cells' stage stage' mid now m after' (Ok done) come called are kept' =
       (stage', come_on call cells' stage stage' mid now m after' (Ok done) come called (ap (λ (v : Vaulted). v.cells) called.1 ∙ are) kept' called.2.honest called.2.faults, refl)
   next_call call cells' stage stage' mid now m after' (Err Dead) come called are kept' =
@@ -250,23 +266,23 @@ module _ (s k : ℕ) (command : Command) (start : Device) (vault : Vaulted) (may
 
   -- a sync of what has come to a stage
   pub sync_call : (stage : Stage) (mid now : Device) (m after' : Vaulted) (r : Result (Unit {0}) VaultFault)
-      → HasCome cells s k command stage start mid m → Called SyncAll (map cell_synced m.cells) m after' mid now r → IsKept after' now
-      → (q : Stage) × HasCome cells s k command q start now after' × OnOk r (q ≡ stage_synced stage)
+      → HasCome vault s k command stage start mid m → Called SyncAll (map cell_synced m.cells) m after' mid now r → IsKept after' now
+      → (q : Stage) × HasCome vault s k command q start now after' × OnOk r (q ≡ stage_synced stage)
   sync_call stage mid now m after' r come called kept' =
       next_call SyncAll (map cell_synced m.cells) stage (stage_synced stage) mid now m after' r come called
       (ap (λ (qs : List Cell). map cell_synced qs) come.cells_are ∙ synced_set cells s _ may.steady) kept'
 
   -- the slot's cell
-  pub come_there : (stage : Stage) (mid : Device) (m : Vaulted) → HasCome cells s k command stage start mid m → slice_get m.cells s ≡ Some (record { stage = stage; key = k })
+  pub come_there : (stage : Stage) (mid : Device) (m : Vaulted) → HasCome vault s k command stage start mid m → slice_get m.cells s ≡ Some (record { stage = stage; key = k })
   come_there stage mid m come = ap (λ (qs : List Cell). slice_get qs s) come.cells_are ∙ set_there cells s _ may.low
 
   -- the same where it succeeded
   pub sync_comes : (stage : Stage) (mid now : Device) (m after' : Vaulted) (done : Unit {0})
-      → HasCome cells s k command stage start mid m → Called SyncAll (map cell_synced m.cells) m after' mid now (Ok done) → IsKept after' now → HasCome cells s k command (stage_synced stage) start now after'
+      → HasCome vault s k command stage start mid m → Called SyncAll (map cell_synced m.cells) m after' mid now (Ok done) → IsKept after' now → HasCome vault s k command (stage_synced stage) start now after'
   sync_comes stage mid now m after' done come called kept' =
       let then = sync_call stage mid now m after' (Ok done) come called kept' in
-      subst (λ (q : Stage). HasCome cells s k command q start now after') then.2 then.1
+      subst (λ (q : Stage). HasCome vault s k command q start now after') then.2 then.1
 
   pub sync_ends : (stage : Stage) (mid now : Device) (m after' : Vaulted) (r : Result (Unit {0}) VaultFault)
-      → HasCome cells s k command stage start mid m → Called SyncAll (map cell_synced m.cells) m after' mid now r → m.dead ≡ false → Ends r after' start now
+      → HasCome vault s k command stage start mid m → Called SyncAll (map cell_synced m.cells) m after' mid now r → m.dead ≡ false → Ends r after' start now
   sync_ends stage mid now m after' r come called alive = call_ends SyncAll (map cell_synced m.cells) start mid now m after' r called alive come.faults

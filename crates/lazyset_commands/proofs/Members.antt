@@ -12,7 +12,8 @@ use Rattle.std.proofs.lemmas.Option.{slice_get_within, same_Some, slice_get-get_
 use Rattle.std.proofs.lemmas.Bool.Decides.{nat_tests}
 use Rattle.std.proofs.lemmas.Bool.{cases_eq}
 use Rattle.lz_slot.specs.Sets.{Keys, Same, members, after}
-use Rattle.lz_slot.specs.Limits.{largest_key}
+use Rattle.lz_slot.specs.declared.format.Format.{Format}
+use Rattle.lz_slot.specs.Rooms.{largest_of}
 use Rattle.lz_slot.specs.Bytes.{slot_at}
 use Rattle.lz_slot.specs.declared.command.Command.TheVariants.{Add, Remove}
 use Rattle.lz_slot.specs.declared.slot.SlotRead.{SlotRead}
@@ -87,21 +88,21 @@ same_bool false true there back = absurd (let e : false ≡ true = back refl in 
 same_bool false false there back = refl
 
 -- the set that an image holds is that of the cells
-pub set_agrees : (cells : List Cell) (dead : Bool) (disk : Medium) (S : Keys) → AreSteady cells → ((i : ℕ) (cell : Cell) → slice_get cells i ≡ Some cell → cell.key ≤ largest_key)
-    → Keeps cells dead disk → EachHolds disk (length cells) S → (k : ℕ) → S k ≡ keys_of cells k
-set_agrees cells dead disk S steady keys keeps each k =
+pub set_agrees : (format : Format) (cells : List Cell) (dead : Bool) (disk : Medium) (S : Keys) → AreSteady cells → ((i : ℕ) (cell : Cell) → slice_get cells i ≡ Some cell → cell.key ≤ largest_of format)
+    → Keeps format cells dead disk → EachHolds disk (length cells) S → (k : ℕ) → S k ≡ keys_of cells k
+set_agrees format cells dead disk S steady keys keeps each k =
     let image = keeps.sound.seen in
     let holds = each disk.seen image in
     same_bool (S k) (keys_of cells k)
     (λ has.
     let (i, low, said) = (holds.set k).0 has in
     let (cell, there) = cell_there cells i low in
-    let may = image_reads cells disk keeps.vouches disk.seen i cell image there (keys i cell there) in
+    let may = image_reads format cells disk keeps.vouches disk.seen i cell holds.count.1 image there (keys i cell there) in
     let is = steady_member cell.stage k cell.key _ (steady i cell there) may said in
     member_there cells k i cell there is.0 is.1)
     (λ is.
     let (s, (cell, there, (stage, key))) = member_where cells k is in
-    let may = image_reads cells disk keeps.vouches disk.seen s cell image there (keys s cell there) in
+    let may = image_reads format cells disk keeps.vouches disk.seen s cell holds.count.1 image there (keys s cell there) in
     let P : Stage → Type 0 = λ q. MayRead q cell.key (slot_at disk.seen s) in
     (holds.set k).1 (s, slice_get_within cells s cell there, subst P stage may ∙ ap (λ (x : ℕ). read.Member x) key))
 
@@ -121,7 +122,7 @@ each_holds_without disk N S k absent each t image = holds_same_set t N S (after 
 
 -- the same between two calls
 pub plain_agrees : (vault : Vaulted) (disk : Device) (S : Keys) → IsPlain vault disk → vault.dead ≡ false → IsTrue disk.honest → EachHolds disk.medium (length vault.cells) S → (k : ℕ) → S k ≡ keys_of vault.cells k
-plain_agrees vault disk S plain alive honest each = set_agrees vault.cells vault.dead disk.medium S (plain.steady alive) plain.kept.keys (plain.kept.keeps honest) each
+plain_agrees vault disk S plain alive honest each = set_agrees vault.format vault.cells vault.dead disk.medium S (plain.steady alive) plain.kept.keys (plain.kept.keeps honest) each
 
 pub not_in : (b : Bool) → b ≡ false → IsTrue b → ⊥
 not_in b absent has = let e : false ≡ true = sym absent ∙ has in cc
@@ -175,7 +176,7 @@ full_members vault disk S plain alive honest each none =
     let reads : (i : ℕ) (cell : Cell) → slice_get cells i ≡ Some cell → slot_at disk.medium.seen i ≡ read.Member cell.key =
     λ i cell there.
     let P : Stage → Type 0 = λ q. MayRead q cell.key (slot_at disk.medium.seen i) in
-    subst P (opened i cell there) (image_reads cells disk.medium keeps.vouches disk.medium.seen i cell image there (plain.kept.keys i cell there)) in
+    subst P (opened i cell there) (image_reads vault.format cells disk.medium keeps.vouches disk.medium.seen i cell (each disk.medium.seen image).count.1 image there (plain.kept.keys i cell there)) in
     record {
       keys = keys_in cells;
       count = length-map cells _;

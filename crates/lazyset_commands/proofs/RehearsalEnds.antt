@@ -1,6 +1,7 @@
 -- How a rehearsal's end is told.
 use Rattle.std.proofs.Common.{◌≡◌, ◌⊎◌, inl, inr, ℕ, Option, None, Some, List, Result, Ok, Err, OnOk, IsErrOf, IfSome, sym, subst, ◌∙◌}
 use Rattle.std.specs.Io.KnownBytes.{Appends}
+use Rattle.lz_slot.specs.declared.format.Format.{Format}
 use Rattle.lz_machine.specs.Yards.{Shape}
 use Rattle.lz_core.specs.Worlds.{IsNew, WorldOver}
 use Rattle.lz_rehearsal.specs.declared.line.Line.{Line}
@@ -13,8 +14,8 @@ use Rattle.lazyset_commands.specs.declared.status.Status.{Status}
 use Rattle.lazyset_commands.specs.declared.status.Status.TheVariants.{Failed, Refused}
 use Rattle.lazyset_commands.specs.Rehearsals.{IsUnread, RehearsedAll, RehearsedTo}
 
-module _ (shape : Shape) (lines : List Line) (first last : WorldOver) (ended : Result (Unit {0}) RehearsalFault) (before middle after : Option (List ℕ)) (new : IsNew shape first) where
-  pub all_told : OnOk ended (Rehearses first lines last before middle) → (ended ≡ Ok tt) × (after ≡ middle) → RehearsedAll shape lines before after
+module _ (shape : Shape) (format : Format) (lines : List Line) (first last : WorldOver) (ended : Result (Unit {0}) RehearsalFault) (before middle after : Option (List ℕ)) (new : IsNew shape format first) where
+  pub all_told : OnOk ended (Rehearses first lines last before middle) → (ended ≡ Ok tt) × (after ≡ middle) → RehearsedAll shape format lines before after
   all_told done told = record {
     first = first;
     new = new;
@@ -23,7 +24,7 @@ module _ (shape : Shape) (lines : List Line) (first last : WorldOver) (ended : R
   }
 
   pub line_told : ((number : ℕ) → IsErrOf ended (Unlawful number) → EndsAt first lines number last before middle)
-      → ((number : ℕ) × (ended ≡ Err (Unlawful number)) × Appends middle after (line_text number)) → RehearsedTo shape lines before after
+      → ((number : ℕ) × (ended ≡ Err (Unlawful number)) × Appends middle after (line_text number)) → RehearsedTo shape format lines before after
   line_told ends told = record {
     first = first;
     new = new;

@@ -9,6 +9,7 @@ use Rattle.lz_disk.specs.Devices.{Device, IsTimely, LeavesOnly}
 use Rattle.lz_disk.proofs.Moments.{leaves_then, leaves_more, quiet}
 use Rattle.lz_disk.proofs.Writes.{synced_image}
 use Rattle.lz_vault.specs.Opens.{Opens}
+use Rattle.lz_slot.specs.declared.format.Format.{Format}
 use Rattle.lz_vault.specs.Vaults.{Vaulted, VaultOver, LeavesEither}
 use Rattle.lz_proto.specs.declared.request.Request.{Request}
 use Rattle.lz_proto.specs.declared.request.Request.TheVariants.{Add, Remove, Has, Quit}
@@ -29,6 +30,7 @@ use Rattle.lazyset_commands.specs.Runs.{HoldsSome, HoldsOne, CarriedOut, Replies
 pub nothing_done : (old : Device) (vault : Vaulted) → (IsTrue old.honest → IsTimely old) → CarriedOut old old vault vault
 nothing_done old vault timely = record {
   slots = refl;
+  format = refl;
   honest = refl;
   faults = omega arith;
   leaves = λ honest one. quiet old _ (timely honest) (λ t image. (one.0, one.1 t image));
@@ -41,6 +43,7 @@ done_then old mid new was between now alive first second =
     let still = λ (honest : IsTrue old.honest). subst IsTrue (sym first.honest) honest in
     record {
       slots = second.slots ∙ first.slots;
+      format = second.format ∙ first.format;
       honest = second.honest ∙ first.honest;
       faults = let a = first.faults in let b = second.faults in omega arith;
       leaves = λ honest one. leaves_then old mid new _ (first.leaves honest one)
@@ -52,6 +55,7 @@ done_then old mid new was between now alive first second =
 command_done : (command : Command) (reply : Reply) (was now : Vaulted) (old new : Device) → Asked command reply was now old new → CarriedOut old new was now
 command_done command reply was now old new asked = record {
   slots = asked.slots;
+  format = asked.format;
   honest = asked.honest;
   faults = asked.faults;
   leaves = λ honest one. leaves_more old new _ _ (λ t either. ⊎_elim (λ before. (one.0, before)) (λ done. (_, done)) either) (asked.any_moment one.0 honest one.1);
@@ -99,49 +103,50 @@ module _ {D : Type 0} (device : D → Device) (timely : (disk : D) → IsTrue (d
       (done_then _ _ _ _ _ _ live (request_done request reply old mid asked) then.0, then.1)
 
   -- one request, of the plain set
-  request_plain : (request : Request) (reply : Reply) (old new : VaultOver D) (N : ℕ) (S : Keys) → PlainAnswers device old request reply new → reply ≢ Halted
-      → IsTrue (device old.disk).honest → length old.memory.cells ≡ N → EachHolds (device old.disk).medium N S
-      → (T : Keys) × SetAnswers N S request reply T × EachHolds (device new.disk).medium N T × (length new.memory.cells ≡ N)
-  request_plain request reply old new N S asked goes honest count each = cases request asked (request_lives request reply old new asked goes)
+  request_plain : (request : Request) (reply : Reply) (old new : VaultOver D) (F : Format) (N : ℕ) (S : Keys) → PlainAnswers device old request reply new → reply ≢ Halted
+      → IsTrue (device old.disk).honest → old.memory.format ≡ F → length old.memory.cells ≡ N → EachHolds (device old.disk).medium N S
+      → (T : Keys) × SetAnswers F N S request reply T × EachHolds (device new.disk).medium N T × (length new.memory.cells ≡ N)
+  request_plain request reply old new F N S asked goes honest named count each = cases request asked (request_lives request reply old new asked goes)
     where
       told : (c : Command) → Asked c reply old.memory new.memory (device old.disk) (device new.disk) → new.memory.dead ≡ false
-          → IsPlainReply c reply S N × EachHolds (device new.disk).medium N (set_after_reply c reply S)
+          → IsPlainReply F c reply S N × EachHolds (device new.disk).medium N (set_after_reply c reply S)
       told c asked alive =
-          subst (λ (n : ℕ). IsPlainReply c reply S n × EachHolds (device new.disk).medium n (set_after_reply c reply S)) count
-          (asked.acknowledged S honest (subst (λ (n : ℕ). EachHolds (device old.disk).medium n S) (sym count) each) alive)
+          subst (λ (G : Format). IsPlainReply G c reply S N × EachHolds (device new.disk).medium N (set_after_reply c reply S)) named
+          (subst (λ (n : ℕ). IsPlainReply old.memory.format c reply S n × EachHolds (device new.disk).medium n (set_after_reply c reply S)) count
+          (asked.acknowledged S honest (subst (λ (n : ℕ). EachHolds (device old.disk).medium n S) (sym count) each) alive))
 
       cases : (request : Request) → PlainAnswers device old request reply new → new.memory.dead ≡ false
-          → (T : Keys) × SetAnswers N S request reply T × EachHolds (device new.disk).medium N T × (length new.memory.cells ≡ N)
+          → (T : Keys) × SetAnswers F N S request reply T × EachHolds (device new.disk).medium N T × (length new.memory.cells ≡ N)
       cases (Add k) asked alive = let said = told (command.Add k) asked alive in (_, (said.0, refl), said.1, asked.slots ∙ count)
       cases (Remove k) asked alive = let said = told (command.Remove k) asked alive in (_, (said.0, refl), said.1, asked.slots ∙ count)
       cases (Has k) asked alive = let said = told (command.Has k) asked alive in (_, (said.0, refl), said.1, asked.slots ∙ count)
       cases Quit asked alive = absurd asked
 
   -- what the items ask, of the plain set
-  items_plain : (items : List Item) (replies : List Reply) (old new : VaultOver D) (N : ℕ) (S : Keys) → Serves (PlainAnswers device) old items replies new → end_of items replies ≢ ends.Halted
-      → IsTrue (device old.disk).honest → length old.memory.cells ≡ N → EachHolds (device old.disk).medium N S
-      → (T : Keys) × Serves (SetAnswers N) S items replies T × EachHolds (device new.disk).medium N T
-  items_plain [] [] old new N S served goes honest count each = (S, refl, subst (λ (x : VaultOver D). EachHolds (device x.disk).medium N S) (sym served) each)
-  items_plain [] (reply ∷ replies) old new N S served goes honest count each = absurd served
-  items_plain (Faulty bad ∷ items) replies old new N S served goes honest count each = items_plain items replies old new N S served goes honest count each
-  items_plain (Asks Quit ∷ items) [] old new N S served goes honest count each = (S, refl, subst (λ (x : VaultOver D). EachHolds (device x.disk).medium N S) (sym served) each)
-  items_plain (Asks Quit ∷ items) (reply ∷ replies) old new N S served goes honest count each = absurd served
-  items_plain (Asks request ∷ items) [] old new N S served goes honest count each = absurd served
-  items_plain (Asks request ∷ items) (Halted ∷ replies) old new N S served goes honest count each = absurd (goes refl)
-  items_plain (Asks request ∷ items) (reply ∷ replies) old new N S served goes honest count each =
+  items_plain : (items : List Item) (replies : List Reply) (old new : VaultOver D) (F : Format) (N : ℕ) (S : Keys) → Serves (PlainAnswers device) old items replies new → end_of items replies ≢ ends.Halted
+      → IsTrue (device old.disk).honest → old.memory.format ≡ F → length old.memory.cells ≡ N → EachHolds (device old.disk).medium N S
+      → (T : Keys) × Serves (SetAnswers F N) S items replies T × EachHolds (device new.disk).medium N T
+  items_plain [] [] old new F N S served goes honest named count each = (S, refl, subst (λ (x : VaultOver D). EachHolds (device x.disk).medium N S) (sym served) each)
+  items_plain [] (reply ∷ replies) old new F N S served goes honest named count each = absurd served
+  items_plain (Faulty bad ∷ items) replies old new F N S served goes honest named count each = items_plain items replies old new F N S served goes honest named count each
+  items_plain (Asks Quit ∷ items) [] old new F N S served goes honest named count each = (S, refl, subst (λ (x : VaultOver D). EachHolds (device x.disk).medium N S) (sym served) each)
+  items_plain (Asks Quit ∷ items) (reply ∷ replies) old new F N S served goes honest named count each = absurd served
+  items_plain (Asks request ∷ items) [] old new F N S served goes honest named count each = absurd served
+  items_plain (Asks request ∷ items) (Halted ∷ replies) old new F N S served goes honest named count each = absurd (goes refl)
+  items_plain (Asks request ∷ items) (reply ∷ replies) old new F N S served goes honest named count each =
       let (mid, asked, rest) = served in
-      let (T, answers, held, count') = request_plain request reply old mid N S asked (λ is. cc) honest count each in
+      let (T, answers, held, count') = request_plain request reply old mid F N S asked (λ is. cc) honest named count each in
       let still : IsTrue (device mid.disk).honest = subst IsTrue (sym (request_done request reply old mid asked).honest) honest in
-      let then = items_plain items replies mid new N T rest goes still count' held in
+      let then = items_plain items replies mid new F N T rest goes still ((request_done request reply old mid asked).format ∙ named) count' held in
       (then.0, (T, answers, then.1), then.2)
 
   -- a whole session, of the plain set
-  pub session_plain : (input rest before after : Option (List ℕ)) (old new : VaultOver D) (N : ℕ) (S : Keys) → ServedWhole device input rest before after old new
-      → IsTrue (device old.disk).honest → length old.memory.cells ≡ N → EachHolds (device old.disk).medium N S → RepliesOfSet N S input before after (device new.disk).medium
-  session_plain input rest before after old new N S served honest count each =
+  pub session_plain : (input rest before after : Option (List ℕ)) (old new : VaultOver D) (F : Format) (N : ℕ) (S : Keys) → ServedWhole device input rest before after old new
+      → IsTrue (device old.disk).honest → old.memory.format ≡ F → length old.memory.cells ≡ N → EachHolds (device old.disk).medium N S → RepliesOfSet F N S input before after (device new.disk).medium
+  session_plain input rest before after old new F N S served honest named count each =
       let (written, appends, whole) = served.tells in
       let answered = whole.answered in
-      let plain = items_plain whole.items answered.replies old new N S answered.served (λ is. served.unhalted (sym answered.ends ∙ is)) honest count each in
+      let plain = items_plain whole.items answered.replies old new F N S answered.served (λ is. served.unhalted (sym answered.ends ∙ is)) honest named count each in
       record {
         text = whole.text;
         known = whole.known;

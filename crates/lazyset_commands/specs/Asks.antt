@@ -3,12 +3,14 @@ use Rattle.std.specs.Prelude.{◌≡◌, ◌⊎◌, ℕ, ◌≤◌, ◌<◌, Boo
 use Rattle.lz_slot.specs.Sets.{Keys, key_of, after, reply}
 use Rattle.lz_slot.specs.declared.command.Command.{Command}
 use Rattle.lz_slot.specs.declared.command.Command.TheVariants as command
+use Rattle.lz_slot.specs.declared.format.Format.{Format}
 use Rattle.lz_disk.specs.Devices.{Device, LeavesOnly}
 use Rattle.lz_vault.specs.Vaults.{Vaulted, VaultOver, last_sync}
+use Rattle.lz_machine.specs.Table.{is_old}
 use Rattle.lz_proto.specs.declared.request.Request.{Request}
 use Rattle.lz_proto.specs.declared.request.Request.TheVariants.{Add, Remove, Has, Quit}
 use Rattle.lz_proto.specs.declared.reply.Reply.{Reply}
-use Rattle.lz_proto.specs.declared.reply.Reply.TheVariants.{Yes, No, Full, Halted, Worn}
+use Rattle.lz_proto.specs.declared.reply.Reply.TheVariants.{Yes, No, Full, Halted, Worn, OldFile}
 use Rattle.lazyset_commands.specs.declared.plain.Fault.{Fault}
 use Rattle.lazyset_commands.specs.declared.plain.Fault.TheVariants as fault
 use Rattle.lazyset_commands.specs.Plains.{EachHolds, HasMembers, HoldsBeforeOrAfter}
@@ -17,6 +19,7 @@ use Rattle.lazyset_commands.specs.Plains.{EachHolds, HasMembers, HoldsBeforeOrAf
 abbrev pub reply_of : Result Bool Fault → Reply
 reply_of (Ok true) = Yes
 reply_of (Ok false) = No
+reply_of (Err fault.OldFile) = OldFile
 reply_of (Err fault.Full) = Full
 reply_of (Err fault.Halted) = Halted
 reply_of (Err fault.Device) = Halted
@@ -27,27 +30,30 @@ HasRoom (command.Add k) S N = HasMembers S N → ⊥
 HasRoom (command.Remove k) S N = Unit {0}
 HasRoom (command.Has k) S N = Unit {0}
 
--- The reply is that of the plain set S of a file of N slots: `full` exactly to an adding of a new key to N members.
-abbrev pub IsPlainReply : Command → Reply → Keys → ℕ → Type 0
-IsPlainReply command Yes S N = (reply command (S (key_of command)) ≡ true) × HasRoom command S N
-IsPlainReply command No S N = reply command (S (key_of command)) ≡ false
-IsPlainReply (command.Add k) Full S N = (S k ≡ false) × HasMembers S N
-IsPlainReply (command.Remove k) Full S N = ⊥
-IsPlainReply (command.Has k) Full S N = ⊥
-IsPlainReply command Halted S N = ⊥
-IsPlainReply command Worn S N = ⊥
+-- The reply is that of the plain set S of a file of a format with N slots: `oldfile` exactly to an adding of a key that the
+-- format can't hold, and `full` exactly to an adding of another new key to N members.
+abbrev pub IsPlainReply : Format → Command → Reply → Keys → ℕ → Type 0
+IsPlainReply F command Yes S N = (reply command (S (key_of command)) ≡ true) × HasRoom command S N × (is_old F command ≡ false)
+IsPlainReply F command No S N = (reply command (S (key_of command)) ≡ false) × (is_old F command ≡ false)
+IsPlainReply F command OldFile S N = is_old F command ≡ true
+IsPlainReply F (command.Add k) Full S N = (S k ≡ false) × HasMembers S N × (is_old F (command.Add k) ≡ false)
+IsPlainReply F (command.Remove k) Full S N = ⊥
+IsPlainReply F (command.Has k) Full S N = ⊥
+IsPlainReply F command Halted S N = ⊥
+IsPlainReply F command Worn S N = ⊥
 
 -- the set after a reply
 abbrev pub set_after_reply : Command → Reply → Keys → Keys
 set_after_reply command Full S = S
+set_after_reply command OldFile S = S
 set_after_reply command reply S = after command S
 
--- What the plain set replies over a file of N slots. No session asks it `quit`.
-abbrev pub SetAnswers : ℕ → Keys → Request → Reply → Keys → Type 0
-SetAnswers N S (Add k) reply T = IsPlainReply (command.Add k) reply S N × (T ≡ set_after_reply (command.Add k) reply S)
-SetAnswers N S (Remove k) reply T = IsPlainReply (command.Remove k) reply S N × (T ≡ set_after_reply (command.Remove k) reply S)
-SetAnswers N S (Has k) reply T = IsPlainReply (command.Has k) reply S N × (T ≡ set_after_reply (command.Has k) reply S)
-SetAnswers N S Quit reply T = ⊥
+-- What the plain set replies over a file of a format with N slots. No session asks it `quit`.
+abbrev pub SetAnswers : Format → ℕ → Keys → Request → Reply → Keys → Type 0
+SetAnswers F N S (Add k) reply T = IsPlainReply F (command.Add k) reply S N × (T ≡ set_after_reply (command.Add k) reply S)
+SetAnswers F N S (Remove k) reply T = IsPlainReply F (command.Remove k) reply S N × (T ≡ set_after_reply (command.Remove k) reply S)
+SetAnswers F N S (Has k) reply T = IsPlainReply F (command.Has k) reply S N × (T ≡ set_after_reply (command.Has k) reply S)
+SetAnswers F N S Quit reply T = ⊥
 
 -- The life is over after `halted`, and only then; it ends in a command only where the device fails in it, or has made its
 -- last sync.
@@ -59,13 +65,14 @@ Lives reply old new before after = new.dead ≡ false
 -- makes of S; and but for `halted`, the reply is the plain set's, and each image holds the set after it.
 pub record Asked (command : Command) (reply : Reply) (old new : Vaulted) (before after : Device) : Type 0 where
   pub slots : length new.cells ≡ length old.cells
+  pub format : new.format ≡ old.format
   pub honest : after.honest ≡ before.honest
   pub faults : before.faults ≤ after.faults
   pub lives : Lives reply old new before after
   pub any_moment : (S : Keys) → IsTrue before.honest → EachHolds before.medium (length old.cells) S
       → LeavesOnly before after (HoldsBeforeOrAfter (length old.cells) S command)
   pub acknowledged : (S : Keys) → IsTrue before.honest → EachHolds before.medium (length old.cells) S → new.dead ≡ false
-      → IsPlainReply command reply S (length old.cells) × EachHolds after.medium (length old.cells) (set_after_reply command reply S)
+      → IsPlainReply old.format command reply S (length old.cells) × EachHolds after.medium (length old.cells) (set_after_reply command reply S)
 
 -- what a set for one caller replies; it is never asked `quit`
 abbrev pub PlainAnswers : {D : Type 0} → (D → Device) → VaultOver D → Request → Reply → VaultOver D → Type 0

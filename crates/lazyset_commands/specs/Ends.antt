@@ -1,5 +1,12 @@
 -- How a command of the program ends.
-use Rattle.std.specs.Prelude.{ℕ}
+use Rattle.std.specs.Prelude.{ℕ, Result, Ok, Err}
+use Rattle.lz_proto.specs.declared.end.End.{End}
+use Rattle.lz_proto.specs.declared.end.End.TheVariants as ends
+use Rattle.lz_proto.specs.declared.fault.SessionFault.{SessionFault}
+use Rattle.lz_vault.specs.declared.making.MakeFault.{MakeFault}
+use Rattle.lz_vault.specs.declared.making.MakeFault.TheVariants as making
+use Rattle.lz_vault.specs.declared.opening.OpenFault.{OpenFault}
+use Rattle.lz_vault.specs.declared.opening.OpenFault.TheVariants as opening
 use Rattle.lazyset_commands.specs.declared.status.Status.{Status}
 use Rattle.lazyset_commands.specs.declared.status.Status.TheVariants.{Done, Failed, CommandLine, Refused, Damaged}
 
@@ -10,3 +17,21 @@ status_code Failed = 1
 status_code CommandLine = 2
 status_code Refused = 3
 status_code Damaged = 4
+
+-- how a run ends after its session
+abbrev pub session_status : Result End SessionFault → Status
+session_status (Ok ends.Done) = Done
+session_status (Ok ends.Quit) = Done
+session_status (Ok ends.Halted) = Failed
+session_status (Err fault) = Failed
+
+-- how it ends after a refused open, where that could be told
+abbrev pub open_status : OpenFault → Status
+open_status opening.Device = Failed
+open_status opening.Memory = Failed
+open_status fault = Refused
+
+-- how a making ends that made no file, where that could be told
+abbrev pub make_status : MakeFault → Status
+make_status making.Device = Failed
+make_status fault = Refused

@@ -34,6 +34,7 @@ pub record JudgedGood (text : List ℕ) (before after : Option (List ℕ)) : Typ
   pub history : Record
   pub reads : Reads lines text history
   pub ordered : IsOrdered history
+  pub flawless : (flaw : Flaw) → ¬ IsFlaw history flaw
   pub chain : Chain (members []) history.marks
   pub told : Appends before after good_text
 

@@ -5,6 +5,7 @@ use Rattle.lz_slot.specs.Sets.{Keys, Same, members, after}
 use Rattle.lz_slot.specs.declared.command.Command.{Command}
 use Rattle.lz_slot.specs.declared.command.Command.TheVariants.{Add}
 use Rattle.lz_slot.specs.Bytes.{Holds}
+use Rattle.lz_slot.specs.Rooms.{largest_of}
 use Rattle.lz_disk.specs.Images.{Medium, IsImage}
 use Rattle.lz_disk.specs.Devices as device
 use Rattle.lz_disk.specs.Devices.{LeavesOnly}
@@ -14,7 +15,7 @@ use Rattle.lz_vault.specs.declared.vault.VaultFault.{VaultFault}
 use Rattle.lz_vault.specs.declared.vault.VaultFault.TheVariants as vault_fault
 use Rattle.lz_vault.specs.Opens.{keys_of}
 use Rattle.lazyset_commands.specs.declared.plain.Fault.{Fault}
-use Rattle.lazyset_commands.specs.declared.plain.Fault.TheVariants.{Full, Halted, Device}
+use Rattle.lazyset_commands.specs.declared.plain.Fault.TheVariants.{OldFile, Full, Halted, Device}
 use Rattle.lz_vault.specs.declared.vault.Stage.{Stage}
 use Rattle.lz_vault.specs.declared.vault.Stage.TheVariants.{Open, Closed, KeyLoose, Keyed}
 use Rattle.lz_allot.specs.Uses.{Use, Free, Taken}
@@ -86,14 +87,15 @@ abbrev pub IsNews : Command → Keys → Type 0
 IsNews (Add k) S = IsTrue (S k) → ⊥
 IsNews command S = Unit {0}
 
--- A command on the key k, which changes slot s, has come to a stage of that slot.
-pub record HasCome (cells : List Cell) (s k : ℕ) (command : Command) (stage : Stage) (start now : device.Device) (vault : Vaulted) : Type 0 where
-  pub cells_are : vault.cells ≡ slice_set cells s (record { stage = stage; key = k })
+-- A command on the key k, which changes slot s of a vault, has come to a stage of that slot.
+pub record HasCome (was : Vaulted) (s k : ℕ) (command : Command) (stage : Stage) (start now : device.Device) (vault : Vaulted) : Type 0 where
+  pub format : vault.format ≡ was.format
+  pub cells_are : vault.cells ≡ slice_set was.cells s (record { stage = stage; key = k })
   pub kept : IsKept vault now
   pub honest : now.honest ≡ start.honest
   pub faults : start.faults ≤ now.faults
-  pub leaves : (S : Keys) → IsTrue start.honest → EachHolds start.medium (length cells) S → IsNews command S
-      → LeavesOnly start now (HoldsBeforeOrAfter (length cells) S command)
+  pub leaves : (S : Keys) → IsTrue start.honest → EachHolds start.medium (length was.cells) S → IsNews command S
+      → LeavesOnly start now (HoldsBeforeOrAfter (length was.cells) S command)
 
 -- How a call ends that begins on a vault that is alive.
 abbrev pub Ends : Result (Unit {0}) VaultFault → Vaulted → device.Device → device.Device → Type 0
@@ -112,15 +114,19 @@ Removes old key true new =
     (s : ℕ) × IsAt old s (λ cell. (cell.stage ≡ Open) × (cell.key ≡ key)) × (new ≡ slice_set old s (record { stage = Closed; key = key }))
 Removes old key false new = (keys_of old key ≡ false) × (new ≡ old)
 
--- Why an adding was not answered: full where the key is no member and no slot is free; halted where the life was over, or
+-- Why an adding was not answered: an old file where its format can't hold the key; full where it can, the key is no member
+-- and no slot is free; halted where the life was over, or
 -- has made its last sync; device where the device failed in this call.
 abbrev pub IsAddFault : Fault → ℕ → Vaulted → Vaulted → device.Device → device.Device → Type 0
-IsAddFault Full key old new before after = (old.dead ≡ false) × (keys_of old.cells key ≡ false) × HasNoFree old.cells (length old.cells)
+IsAddFault OldFile key old new before after = (old.dead ≡ false) × (largest_of old.format < key)
+IsAddFault Full key old new before after =
+    (old.dead ≡ false) × (keys_of old.cells key ≡ false) × HasNoFree old.cells (length old.cells) × (key ≤ largest_of old.format)
 IsAddFault Halted key old new before after = (new.dead ≡ true) × ((old.dead ≡ true) ⊎ (last_sync ≤ new.syncs))
 IsAddFault Device key old new before after = (old.dead ≡ false) × (new.dead ≡ true) × (before.faults < after.faults)
 
--- Why a removal was not answered: never for want of a slot.
+-- Why a removal was not answered: never for want of a slot, nor for the file's format.
 abbrev pub IsRemoveFault : Fault → Vaulted → Vaulted → device.Device → device.Device → Type 0
+IsRemoveFault OldFile old new before after = ⊥
 IsRemoveFault Full old new before after = ⊥
 IsRemoveFault Halted old new before after = (new.dead ≡ true) × ((old.dead ≡ true) ⊎ (last_sync ≤ new.syncs))
 IsRemoveFault Device old new before after = (old.dead ≡ false) × (new.dead ≡ true) × (before.faults < after.faults)

@@ -1,6 +1,7 @@
 -- What the rehearsal of a script tells.
 use Rattle.std.specs.Prelude.{ℕ, Option, List}
 use Rattle.std.specs.Io.KnownBytes.{Appends}
+use Rattle.lz_slot.specs.declared.format.Format.{Format}
 use Rattle.lz_machine.specs.Yards.{Shape}
 use Rattle.lz_core.specs.Worlds.{IsNew, WorldOver}
 use Rattle.lz_rehearsal.specs.declared.line.Line.{Line}
@@ -9,16 +10,16 @@ use Rattle.lz_rehearsal.specs.Scripts.{FailsAt, IsScript}
 use Rattle.lz_rehearsal.specs.Tellings.{line_text}
 
 -- all the lines were rehearsed on a new world, and their text written
-pub record RehearsedAll (shape : Shape) (lines : List Line) (before after : Option (List ℕ)) : Type 0 where
+pub record RehearsedAll (shape : Shape) (format : Format) (lines : List Line) (before after : Option (List ℕ)) : Type 0 where
   pub first : WorldOver
-  pub new : IsNew shape first
+  pub new : IsNew shape format first
   pub last : WorldOver
   pub rehearses : Rehearses first lines last before after
 
 -- the lines before this one were, and the line itself isn't lawful there, which was told behind their text
-pub record RehearsedTo (shape : Shape) (lines : List Line) (before after : Option (List ℕ)) : Type 0 where
+pub record RehearsedTo (shape : Shape) (format : Format) (lines : List Line) (before after : Option (List ℕ)) : Type 0 where
   pub first : WorldOver
-  pub new : IsNew shape first
+  pub new : IsNew shape format first
   pub number : ℕ
   pub last : WorldOver
   pub middle : Option (List ℕ)

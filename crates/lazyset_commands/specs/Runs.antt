@@ -2,6 +2,7 @@
 use Rattle.std.specs.Prelude.{◌≡◌, ◌≢◌, ℕ, Option, Ok, ◌≤◌, false, IsTrue, List, [], ◌∷◌, ◌++◌, codes, decimal, length}
 use Rattle.lz_slot.specs.Sets.{Keys}
 use Rattle.lz_slot.specs.Bytes.{Holds}
+use Rattle.lz_slot.specs.declared.format.Format.{Format}
 use Rattle.lz_disk.specs.Images.{Medium}
 use Rattle.lz_disk.specs.Devices.{Device, LeavesOnly}
 use Rattle.lz_vault.specs.Vaults.{Vaulted, VaultOver}
@@ -31,6 +32,7 @@ HoldsOne disk N = (S : Keys) × EachHolds disk N S
 -- one set that each image holds.
 pub record CarriedOut (old new : Device) (was now : Vaulted) : Type 0 where
   pub slots : length now.cells ≡ length was.cells
+  pub format : now.format ≡ was.format
   pub honest : new.honest ≡ old.honest
   pub faults : old.faults ≤ new.faults
   pub leaves : IsTrue old.honest → HoldsOne old.medium (length was.cells) → LeavesOnly old new (HoldsSome (length was.cells))
@@ -42,16 +44,17 @@ pub record ServedWhole {D : Type 0} (device : D → Device) (input rest before a
   pub unhalted : ended ≢ Halted
   pub tells : Writes before after (λ written. SessionTells (PlainAnswers device) input rest old new written (Ok ended))
 
--- What was written is the session text of the input's items and the plain set's replies to them, beginning with S, and
+-- What was written is the session text of the input's items and the plain set's replies to them over a file of the format
+-- F, beginning with S, and
 -- each image holds the last set.
-pub record RepliesOfSet (N : ℕ) (S : Keys) (input before after : Option (List ℕ)) (disk : Medium) : Type 0 where
+pub record RepliesOfSet (F : Format) (N : ℕ) (S : Keys) (input before after : Option (List ℕ)) (disk : Medium) : Type 0 where
   pub text : List ℕ
   pub known : IsInput input text
   pub items : List Item
   pub its : Items text items
   pub replies : List Reply
   pub last : Keys
-  pub served : Serves (SetAnswers N) S items replies last
+  pub served : Serves (SetAnswers F N) S items replies last
   pub written : Appends before after (session_text items replies)
   pub held : EachHolds disk N last
 

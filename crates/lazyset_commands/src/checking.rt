@@ -12,12 +12,17 @@ ghost use Rattle.lazyset_commands.specs.Checks.{IsChecked, finding_text, survey_
 use crate::status::Status;
 use crate::telling::{NO_MEMORY, tell};
 use lz_judge::{Finding, Survey, survey};
-use lz_slot::{Key, Slot};
+use lz_slot::{Key, MAX_SLOTS, Slot};
 use std::alloc::{AllocError, Global};
 use std::io::Write;
 
+// The length of a file with the most slots.
+const LONGEST_FILE: usize = 16 + 16 * MAX_SLOTS as usize;
+
 /// The most bytes of a file that a survey needs: one more than the longest file of slots has.
-pub const MOST_SURVEYED: usize = 1_048_593;
+pub const MOST_SURVEYED: usize = LONGEST_FILE + 1;
+
+const _: () = prove!(MOST_SURVEYED > LONGEST_FILE);
 
 /// Says what the file with these bytes holds: `refused N` with the fault of its head, or a line for each slot that isn't
 /// closed and then `good` or `damaged`. Failed where a line could not be written, and for want of memory, which says

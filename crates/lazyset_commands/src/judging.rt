@@ -5,6 +5,7 @@ ghost use Rattle.std.specs.Io.KnownBytes.{Appends};
 ghost use Rattle.lz_slot.specs.Sets.{members};
 ghost use Rattle.lz_slot.specs.Histories.{Chain};
 ghost use Rattle.lz_judge.specs.Flaws.{IsFlaw};
+ghost use Rattle.lz_judge.specs.declared.flaw.Flaw.{Flaw as AFlaw};
 ghost use Rattle.lazyset_commands.specs.Judgements.{IsOrdered, JudgedGood, JudgedUnread, JudgedWrong, flaw_text, good_text, line_text, numbers_text};
 
 use crate::status::Status;
@@ -15,6 +16,8 @@ use std::io::Write;
 
 /// The most bytes of a history that a judge needs: one more than the longest has.
 pub const MOST_JUDGED: usize = MOST_BYTES + 1;
+
+const _: () = prove!(MOST_JUDGED > MOST_BYTES);
 
 /// Judges the history that the bytes are the text of, and says `good`, `flaw N I` with the flaw's number and its call's or
 /// open's, or `line L` with the first line that doesn't read. Failed where the line could not be written, and for want of
@@ -33,7 +36,7 @@ pub fn judge_on<W: Write + Drop>(alloc: Global, bytes: &[u8], writer: &mut W) ->
 }
 
 fn judge_history<W: Write + Drop>(alloc: Global, history: &History, writer: &mut W) -> Status
-    ensures good { result ≡ Status.Done → IsOrdered history.now × Chain (members []) history.now.marks × Appends (W.contents writer.old) (W.contents writer.new) good_text }
+    ensures good { result ≡ Status.Done → IsOrdered history.now × ((flaw : AFlaw) → ¬ IsFlaw history.now flaw) × Chain (members []) history.now.marks × Appends (W.contents writer.old) (W.contents writer.new) good_text }
     ensures flaw { result ≡ Status.Damaged → (flaw : Flaw) × IsFlaw history.now flaw × Appends (W.contents writer.old) (W.contents writer.new) (flaw_text flaw) }
     ensures other { (result ≡ Status.Done) ⊎ (result ≡ Status.Damaged) ⊎ (result ≡ Status.Failed) }
 {

@@ -2,6 +2,7 @@
 ghost use Rattle.std.specs.Prelude.{◌≡◌, ◌⊎◌, ◌↔◌, ◌<◌, ◌≤◌, ℕ, Bool, true, false, length, slice_get, slice_set, Some, IsErrOf, IsTrue, is_some, IfOk, IfErr, IfSome, OnErr, OnOk};
 ghost use Rattle.lz_slot.specs.Sets.{Keys, after, reply};
 ghost use Rattle.lz_slot.specs.Bytes.{Holds};
+ghost use Rattle.lz_slot.specs.Rooms.{largest_of};
 ghost use Rattle.lz_disk.specs.Devices.{LeavesOnly};
 ghost use Rattle.lz_vault.specs.Stages.{AreSteady, Cell, IsAt, IsFree};
 ghost use Rattle.lz_vault.specs.Vaults.{IsKept, last_sync};
@@ -20,6 +21,8 @@ use std::marker::Model;
 /// Why a command was not answered yes or no.
 #[derive(Clone, Copy, Debug, PartialEq, Eq)]
 pub enum Fault {
+    /// The file's format can't hold the key. Nothing was changed.
+    OldFile,
     /// No slot is free, and the key is no member. Nothing was changed.
     Full,
     /// The life is over: the device failed in an earlier command.
@@ -89,11 +92,15 @@ impl<D: Disk> Plain<D> {
         Ok(find(&self.vault, key).is_some())
     }
 
-    /// Makes the key a member: true where it was none. The lowest free slot takes it, by four device calls.
+    /// Makes the key a member: true where it was none. The lowest free slot takes it, by four device calls. A key that the
+    /// file's format can't hold is refused before all else.
     pub fn add(&mut self, key: Key) -> Result<bool, Fault>
         ensures adds { IfOk result (λ answer. (self.new.memory.dead ≡ false) × Adds self.old.memory.cells key answer self.new.memory.cells) }
         ensures fault { IfErr result (λ fault. IsAddFault fault key self.old.memory self.new.memory (D.device self.old.disk) (D.device self.new.disk)) }
+        ensures fits { IfOk result (λ answer. key ≤ largest_of self.old.memory.format) }
         ensures full { IsErrOf result Fault.Full → self.new ≡ self.old }
+        ensures old_file { IsErrOf result Fault.OldFile → self.new ≡ self.old }
+        ensures format { self.new.memory.format ≡ self.old.memory.format }
         ensures slots { length self.new.memory.cells ≡ length self.old.memory.cells }
         ensures honest { (D.device self.new.disk).honest ≡ (D.device self.old.disk).honest }
         ensures faults { (D.device self.old.disk).faults ≤ (D.device self.new.disk).faults }
@@ -115,6 +122,9 @@ impl<D: Disk> Plain<D> {
         if self.vault.is_dead() {
             return Err(Fault::Halted);
         }
+        if !self.vault.format().has_room_for(key) {
+            return Err(Fault::OldFile);
+        }
         if find(&self.vault, key).is_some() {
             return Ok(false);
         }
@@ -131,6 +141,7 @@ impl<D: Disk> Plain<D> {
     pub fn remove(&mut self, key: Key) -> Result<bool, Fault>
         ensures removes { IfOk result (λ answer. (self.new.memory.dead ≡ false) × Removes self.old.memory.cells key answer self.new.memory.cells) }
         ensures fault { IfErr result (λ fault. IsRemoveFault fault self.old.memory self.new.memory (D.device self.old.disk) (D.device self.new.disk)) }
+        ensures format { self.new.memory.format ≡ self.old.memory.format }
         ensures slots { length self.new.memory.cells ≡ length self.old.memory.cells }
         ensures honest { (D.device self.new.disk).honest ≡ (D.device self.old.disk).honest }
         ensures faults { (D.device self.old.disk).faults ≤ (D.device self.new.disk).faults }
@@ -187,6 +198,7 @@ fn reply_of(answer: Result<bool, Fault>) -> Reply
     match answer {
         Ok(true) => Reply::Yes,
         Ok(false) => Reply::No,
+        Err(Fault::OldFile) => Reply::OldFile,
         Err(Fault::Full) => Reply::Full,
         Err(Fault::Halted | Fault::Device) => Reply::Halted,
     }
@@ -253,7 +265,8 @@ fn allot_of<D: Disk>(alloc: Global, vault: &Vault<D>) -> Result<Allot, AllocErro
 fn insert<D: Disk>(vault: &mut Vault<D>, slot: Slot, key: Key) -> Result<(), VaultFault>
     requires may { MayChange vault.old.memory slot (D.device vault.old.disk) }
     requires free { IsAt vault.old.memory.cells slot (λ cell. IsFree cell.stage) }
-    ensures come { (q : Stage) × HasCome vault.old.memory.cells slot key (Command.Add key) q (D.device vault.old.disk) (D.device vault.new.disk) vault.new.memory × OnOk result (q ≡ Stage.Open) }
+    requires fits { key ≤ largest_of vault.old.memory.format }
+    ensures come { (q : Stage) × HasCome vault.old.memory slot key (Command.Add key) q (D.device vault.old.disk) (D.device vault.new.disk) vault.new.memory × OnOk result (q ≡ Stage.Open) }
     ensures ended { Ends result vault.new.memory (D.device vault.old.disk) (D.device vault.new.disk) }
 {
     if let Err(fault) = vault.put_key(slot, key) {
@@ -273,7 +286,7 @@ fn erase<D: Disk>(vault: &mut Vault<D>, slot: Slot) -> Result<(), VaultFault>
     requires may { MayChange vault.old.memory slot (D.device vault.old.disk) }
     requires member { IsAt vault.old.memory.cells slot (λ cell. cell.stage ≡ Stage.Open) }
     ensures come { (key : ℕ) → IsAt vault.old.memory.cells slot (λ cell. (cell.stage ≡ Stage.Open) × (cell.key ≡ key))
-        → (q : Stage) × HasCome vault.old.memory.cells slot key (Command.Remove key) q (D.device vault.old.disk) (D.device vault.new.disk) vault.new.memory × OnOk result (q ≡ Stage.Closed) }
+        → (q : Stage) × HasCome vault.old.memory slot key (Command.Remove key) q (D.device vault.old.disk) (D.device vault.new.disk) vault.new.memory × OnOk result (q ≡ Stage.Closed) }
     ensures ended { Ends result vault.new.memory (D.device vault.old.disk) (D.device vault.new.disk) }
 {
     if let Err(fault) = vault.close_gate(slot) {

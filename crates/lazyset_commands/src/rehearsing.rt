@@ -8,10 +8,11 @@ use crate::status::Status;
 use crate::telling::{NO_MEMORY, NO_READ, tell};
 use lz_core::World;
 use lz_rehearsal::{Line, RehearsalFault, Script, ScriptFault, rehearse, write_line};
+use lz_slot::Format;
 use std::alloc::Global;
 use std::io::{Read, Write};
 
-/// Reads a script, rehearses it on a new set of so many slots and buckets, and writes what is seen as it comes. Refused, with
+/// Reads a script, rehearses it on a new set of so many slots and buckets in a file of this format, and writes what is seen as it comes. Refused, with
 /// `line L`, where the script doesn't read, and then nothing was rehearsed, or where a line isn't lawful where it stands.
 /// Failed, with `noread` or `nomemory`, where a read failed or there was no memory, and where a write failed.
 pub fn rehearse_on<R: Read, W: Write + Drop>(
@@ -20,17 +21,18 @@ pub fn rehearse_on<R: Read, W: Write + Drop>(
     writer: &mut W,
     slots: usize,
     buckets: usize,
+    format: Format,
 ) -> Status
     requires slots { (1 ≤ slots) × (slots ≤ 64) }
     requires buckets { (1 ≤ buckets) × (buckets ≤ 4096) }
     ensures done { result ≡ Status.Done → IfSome (R.remaining reader.old) (OfScript (λ lines.
-        RehearsedAll (record { slots = slots; buckets = buckets; passes = 64 }) lines (W.contents writer.old) (W.contents writer.new))) }
+        RehearsedAll (record { slots = slots; buckets = buckets; passes = 64 }) format lines (W.contents writer.old) (W.contents writer.new))) }
     ensures refused { result ≡ Status.Refused → IfSome (R.remaining reader.old) (λ input. IsUnread input (W.contents writer.old) (W.contents writer.new) ⊎ OfScript (λ lines.
-        RehearsedTo (record { slots = slots; buckets = buckets; passes = 64 }) lines (W.contents writer.old) (W.contents writer.new)) input) }
+        RehearsedTo (record { slots = slots; buckets = buckets; passes = 64 }) format lines (W.contents writer.old) (W.contents writer.new)) input) }
     ensures other { (result ≡ Status.Done) ⊎ (result ≡ Status.Refused) ⊎ (result ≡ Status.Failed) }
 {
     match Script::read(alloc, reader) {
-        Ok(script) => rehearse_lines(alloc, script.lines(), writer, slots, buckets),
+        Ok(script) => rehearse_lines(alloc, script.lines(), writer, slots, buckets, format),
         Err(ScriptFault::Line(number)) => refuse_line(writer, number),
         Err(ScriptFault::Read) => tell(writer, Status::Failed, NO_READ),
         Err(ScriptFault::Memory) => tell(writer, Status::Failed, NO_MEMORY),
@@ -44,14 +46,15 @@ fn rehearse_lines<W: Write + Drop>(
     writer: &mut W,
     slots: usize,
     buckets: usize,
+    format: Format,
 ) -> Status
     requires slots { (1 ≤ slots) × (slots ≤ 64) }
     requires buckets { (1 ≤ buckets) × (buckets ≤ 4096) }
-    ensures done { result ≡ Status.Done → RehearsedAll (record { slots = slots; buckets = buckets; passes = 64 }) lines.now (W.contents writer.old) (W.contents writer.new) }
-    ensures refused { result ≡ Status.Refused → RehearsedTo (record { slots = slots; buckets = buckets; passes = 64 }) lines.now (W.contents writer.old) (W.contents writer.new) }
+    ensures done { result ≡ Status.Done → RehearsedAll (record { slots = slots; buckets = buckets; passes = 64 }) format lines.now (W.contents writer.old) (W.contents writer.new) }
+    ensures refused { result ≡ Status.Refused → RehearsedTo (record { slots = slots; buckets = buckets; passes = 64 }) format lines.now (W.contents writer.old) (W.contents writer.new) }
     ensures other { (result ≡ Status.Done) ⊎ (result ≡ Status.Refused) ⊎ (result ≡ Status.Failed) }
 {
-    let Ok(world) = World::new(alloc, slots, buckets) else {
+    let Ok(world) = World::new(alloc, slots, buckets, format) else {
         return tell(writer, Status::Failed, NO_MEMORY);
     };
     let mut world = world;

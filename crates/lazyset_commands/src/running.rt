@@ -4,7 +4,9 @@ ghost use Rattle.std.specs.Io.KnownBytes.{Appends};
 ghost use Rattle.lz_disk.specs.Devices.{LeavesOnly};
 ghost use Rattle.lz_vault.specs.Opens.{IsFaultOf, Opens};
 ghost use Rattle.lz_vault.specs.Vaults.{VaultOver};
+ghost use Rattle.lz_slot.specs.Bytes.{format_of};
 ghost use Rattle.lz_slot.specs.Sets.{Keys};
+ghost use Rattle.lazyset_commands.specs.Ends.{open_status, session_status};
 ghost use Rattle.lazyset_commands.specs.Plains.{EachHolds};
 ghost use Rattle.lazyset_commands.specs.Runs.{CarriedOut, HoldsOne, HoldsSome, RepliesOfSet, ServedWhole, refusal_text};
 
@@ -35,6 +37,7 @@ fn serve<R: Read + Drop, W: Write + Drop, D: Disk>(
 
 // The status after a session.
 fn status_after(ended: Result<End, SessionFault>) -> Status
+    ensures table { result ≡ session_status ended }
     ensures done { result ≡ Status.Done → (end : End) × (ended ≡ Ok end) × (end ≢ End.Halted) }
     ensures ends { (result ≡ Status.Done) ⊎ (result ≡ Status.Failed) }
 {
@@ -54,6 +57,7 @@ pub fn run_on<R: Read + Drop, W: Write + Drop, D: Disk>(
 ) -> (Status, D)
     ensures done { IsTrue (D.device disk).honest → result.0 ≡ Status.Done → (N : ℕ) × HoldsSome N (D.device disk).medium.seen }
     ensures refused { result.0 ≡ Status.Refused → (fault : OpenFault) × Appends (W.contents writer.old) (W.contents writer.new) (refusal_text fault)
+        × (open_status fault ≡ Status.Refused)
         × (IsTrue (D.device disk).honest → IsFaultOf (D.device disk).medium.seen fault) }
     ensures other { (result.0 ≡ Status.Done) ⊎ (result.0 ≡ Status.Refused) ⊎ (result.0 ≡ Status.Failed) }
     ensures honest { (D.device result.1).honest ≡ (D.device disk).honest }
@@ -65,7 +69,7 @@ pub fn run_on<R: Read + Drop, W: Write + Drop, D: Disk>(
 
     // Where each image holds S, the replies of such a run are the plain set's, and it leaves the set after them.
     ensures plain { (N : ℕ) (S : Keys) → IsTrue (D.device disk).honest → EachHolds (D.device disk).medium N S → result.0 ≡ Status.Done
-        → RepliesOfSet N S (R.remaining reader.old) (W.contents writer.old) (W.contents writer.new) (D.device result.1).medium }
+        → RepliesOfSet (format_of (D.device disk).medium.seen) N S (R.remaining reader.old) (W.contents writer.old) (W.contents writer.new) (D.device result.1).medium }
 
     // Where all that a crash may leave holds one set, a crash at any moment of the run leaves a file that holds some set.
     ensures any_moment { (N : ℕ) → IsTrue (D.device disk).honest → HoldsOne (D.device disk).medium N
@@ -87,6 +91,8 @@ pub fn run_on<R: Read + Drop, W: Write + Drop, D: Disk>(
 // Says why an open was refused.
 pub(crate) fn refuse<W: Write + Drop>(writer: &mut W, fault: OpenFault) -> Status
     ensures refused { result ≡ Status.Refused → Appends (W.contents writer.old) (W.contents writer.new) (refusal_text fault) }
+    ensures table { (result ≡ open_status fault) ⊎ (result ≡ Status.Failed) }
+    ensures named { result ≡ Status.Refused → open_status fault ≡ Status.Refused }
     ensures other { (result ≡ Status.Refused) ⊎ (result ≡ Status.Failed) }
 {
     let told = fault;
@@ -99,7 +105,8 @@ pub(crate) fn refuse<W: Write + Drop>(writer: &mut W, fault: OpenFault) -> Statu
 
 // The status after a refused open.
 fn status_of(fault: OpenFault) -> Status
-    ensures { (result ≡ Status.Refused) ⊎ (result ≡ Status.Failed) }
+    ensures table { result ≡ open_status fault }
+    ensures ends { (result ≡ Status.Refused) ⊎ (result ≡ Status.Failed) }
 {
     match fault {
         OpenFault::Device | OpenFault::Memory => Status::Failed,

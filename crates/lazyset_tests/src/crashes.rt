@@ -1,22 +1,41 @@
 //! Each device call of a short run fails in turn, and each kind of crash follows.
-use crate::commands::{TWO_SLOTS, disk_with};
-use lazyset_commands::{make_on, run_on};
+use crate::commands::{Ran, TWO_SLOTS, disk_with, make, run};
 use lz_disk::{Disk, MemoryDisk, Pick};
+use lz_slot::Format;
 use std::alloc::Global;
+use std::process::Abort;
 use std::test::Fail;
 
 const PICKS: [Pick; 4] = [Pick::Old, Pick::New, Pick::Byte(0xa5), Pick::Byte(0x37)];
 
-// What a fresh run answers to whether 17 and 18 are members.
-fn members(alloc: Global, disk: MemoryDisk) -> Result<Vec<u8>, Fail> {
-    let mut output: Vec<u8> = Vec::new(alloc);
-    let (_status, _disk) = run_on(
-        alloc,
-        &mut b"has 17\nhas 18\n".as_slice(),
-        &mut output,
+// What a fresh run answers to whether 17 and 18 are members, once the disk has crashed so.
+fn found(alloc: Global, ran: Ran, pick: Pick) -> Result<Vec<u8>, Fail> {
+    let Ran {
+        code: _,
+        printed: _,
         disk,
+    } = ran;
+    let mut disk = disk;
+    disk.crash(pick)?;
+    Ok(run(alloc, disk, b"has 17\nhas 18\n").printed)
+}
+
+// A run over a disk whose call number `passes` fails, and no other is made.
+fn run_until(
+    rt: &impl Abort,
+    alloc: Global,
+    file: &[u8],
+    passes: u64,
+    lines: &[u8],
+) -> Result<Ran, Fail> {
+    let mut disk = disk_with(alloc, file)?;
+    disk.fuse(passes);
+    let ran = run(alloc, disk, lines);
+    assert!(rt;
+        ran.code == 1 && ran.disk.calls() == passes.wrapping_add(1),
+        "after {passes} calls"
     );
-    Ok(output)
+    Ok(ran)
 }
 
 // After the device's call number `passes` failed, each answered adding lasts, and the one under way may.
@@ -24,24 +43,10 @@ fn members(alloc: Global, disk: MemoryDisk) -> Result<Vec<u8>, Fail> {
 fn a_failed_call_ends_the_run(rt: HostRuntime) -> Result<(), Fail> {
     for pick in PICKS {
         for passes in 0..12 {
-            let mut disk = disk_with(rt.alloc(), &TWO_SLOTS)?;
-            disk.fuse(passes);
-            let mut output: Vec<u8> = Vec::new(rt.alloc());
-            let (status, mut disk) = run_on(
-                rt.alloc(),
-                &mut b"add 17\nadd 18\n".as_slice(),
-                &mut output,
-                disk,
-            );
-            assert_eq!(rt; status.code(), 1);
-            assert_eq!(rt;
-                disk.calls(),
-                passes + 1,
-                "no call is made after the failed one"
-            );
-            disk.crash(pick)?;
-            let found = members(rt.alloc(), disk)?;
-            let is_found = match output.as_slice() {
+            let ran = run_until(&rt, rt.alloc(), &TWO_SLOTS, passes, b"add 17\nadd 18\n")?;
+            let printed = ran.printed.as_slice().to_vec(rt.alloc())?;
+            let found = found(rt.alloc(), ran, pick)?;
+            let is_found = match printed.as_slice() {
                 b"refused 7\n" => found.as_slice() == b"no\nno\n".as_slice(),
                 b"halted\n" => found.as_slice() == b"no\nno\n".as_slice()
                     || found.as_slice() == b"yes\nno\n".as_slice(),
@@ -59,16 +64,9 @@ fn a_failed_call_ends_the_run(rt: HostRuntime) -> Result<(), Fail> {
 fn a_run_without_a_fault_makes_twelve_calls(rt: HostRuntime) -> Result<(), Fail> {
     let mut disk = disk_with(rt.alloc(), &TWO_SLOTS)?;
     disk.fuse(12);
-    let mut output: Vec<u8> = Vec::new(rt.alloc());
-    let (status, disk) = run_on(
-        rt.alloc(),
-        &mut b"add 17\nadd 18\n".as_slice(),
-        &mut output,
-        disk,
-    );
-    assert_eq!(rt; status.code(), 0);
-    assert_eq!(rt; output.as_slice(), b"yes\nyes\n".as_slice());
-    assert_eq!(rt; disk.calls(), 12);
+    let ran = run(rt.alloc(), disk, b"add 17\nadd 18\n");
+    assert!(rt; ran.tells(0, b"yes\nyes\n"));
+    assert_eq!(rt; ran.disk.calls(), 12);
     Ok(())
 }
 
@@ -80,26 +78,16 @@ fn a_failed_call_ends_a_removal(rt: HostRuntime) -> Result<(), Fail> {
     held[31] = 17;
     for pick in PICKS {
         for passes in 0..6 {
-            let mut disk = disk_with(rt.alloc(), &held)?;
-            disk.fuse(passes);
-            let mut output: Vec<u8> = Vec::new(rt.alloc());
-            let (status, mut disk) = run_on(
-                rt.alloc(),
-                &mut b"remove 17\n".as_slice(),
-                &mut output,
-                disk,
+            let ran = run_until(&rt, rt.alloc(), &held, passes, b"remove 17\n")?;
+            let is_refused = ran.tells(1, b"refused 7\n");
+            let is_halted = ran.tells(1, b"halted\n");
+            let found = found(rt.alloc(), ran, pick)?;
+            let is_kept = found.as_slice() == b"yes\nno\n".as_slice();
+            let is_removed = found.as_slice() == b"no\nno\n".as_slice();
+            assert!(rt;
+                is_refused && is_kept || is_halted && (is_kept || is_removed),
+                "after {passes} calls"
             );
-            assert_eq!(rt; status.code(), 1);
-            assert_eq!(rt; disk.calls(), passes + 1);
-            disk.crash(pick)?;
-            let found = members(rt.alloc(), disk)?;
-            let is_found = match output.as_slice() {
-                b"refused 7\n" => found.as_slice() == b"yes\nno\n".as_slice(),
-                b"halted\n" => found.as_slice() == b"yes\nno\n".as_slice()
-                    || found.as_slice() == b"no\nno\n".as_slice(),
-                _ => false,
-            };
-            assert!(rt; is_found, "after {passes} calls");
         }
     }
     Ok(())
@@ -110,50 +98,41 @@ fn a_failed_call_ends_a_removal(rt: HostRuntime) -> Result<(), Fail> {
 fn an_answered_removal_lasts(rt: HostRuntime) -> Result<(), Fail> {
     for pick in PICKS {
         let disk = disk_with(rt.alloc(), &TWO_SLOTS)?;
-        let mut output: Vec<u8> = Vec::new(rt.alloc());
-        let (_status, mut disk) = run_on(
-            rt.alloc(),
-            &mut b"add 17\nadd 18\nremove 17\n".as_slice(),
-            &mut output,
-            disk,
-        );
-        assert_eq!(rt; output.as_slice(), b"yes\nyes\nyes\n".as_slice());
-        disk.crash(pick)?;
-        let found = members(rt.alloc(), disk)?;
+        let ran = run(rt.alloc(), disk, b"add 17\nadd 18\nremove 17\n");
+        assert!(rt; ran.tells(0, b"yes\nyes\nyes\n"));
+        let found = found(rt.alloc(), ran, pick)?;
         assert_eq!(rt; found.as_slice(), b"no\nyes\n".as_slice());
     }
     Ok(())
 }
 
+// A making whose device's call number `passes` fails.
+fn make_until(alloc: Global, passes: u64) -> Result<Ran, Fail> {
+    let mut disk = disk_with(alloc, &[])?;
+    disk.fuse(passes);
+    Ok(make(alloc, disk, 2, Format::One))
+}
+
+// Before its last sync has succeeded, a making is done or not done, as the crash picks.
 #[test]
 fn a_making_that_fails_at_its_last_sync(rt: HostRuntime) -> Result<(), Fail> {
-    let rows: [(Pick, &[u8]); 2] = [(Pick::Old, b"refused 1\n"), (Pick::New, b"no\nno\n")];
-    for (pick, told) in rows {
-        let mut disk = disk_with(rt.alloc(), &[])?;
-        disk.fuse(9);
-        let mut output: Vec<u8> = Vec::new(rt.alloc());
-        let status = make_on(&mut output, &mut disk, 2);
-        assert_eq!(rt; status.code(), 1);
-        assert_eq!(rt; output.as_slice(), b"refused 3\n".as_slice());
-        disk.crash(pick)?;
-        if matches!(pick, Pick::New) {
-            assert_eq!(rt; disk.bytes(), TWO_SLOTS.as_slice());
-        }
-        let found = members(rt.alloc(), disk)?;
-        assert_eq!(rt; found.as_slice(), told);
-    }
+    let made = make_until(rt.alloc(), 9)?;
+    assert!(rt; made.tells(1, b"refused 3\n"));
+    let found_old = found(rt.alloc(), made, Pick::Old)?;
+    assert_eq!(rt; found_old.as_slice(), b"refused 1\n".as_slice());
+    let mut disk = make_until(rt.alloc(), 9)?.disk;
+    disk.crash(Pick::New)?;
+    assert_eq!(rt; disk.bytes(), TWO_SLOTS.as_slice());
+    assert!(rt; run(rt.alloc(), disk, b"has 17\nhas 18\n").tells(0, b"no\nno\n"));
     Ok(())
 }
 
 // The file that a crash in making's first write may leave is made anew.
 #[test]
 fn a_broken_off_making_is_made_anew(rt: HostRuntime) -> Result<(), Fail> {
-    let mut disk = disk_with(rt.alloc(), &[0xa5])?;
-    let mut output: Vec<u8> = Vec::new(rt.alloc());
-    let status = make_on(&mut output, &mut disk, 2);
-    assert_eq!(rt; status.code(), 0);
-    assert_eq!(rt; output.as_slice(), b"made 2\n".as_slice());
-    assert_eq!(rt; disk.bytes(), TWO_SLOTS.as_slice());
+    let made = make(rt.alloc(), disk_with(rt.alloc(), &[0xa5])?, 2, Format::One);
+    assert!(rt; made.tells(0, b"made 2\n"));
+    assert!(rt; made.leaves(&TWO_SLOTS));
     Ok(())
 }
 
@@ -162,14 +141,9 @@ fn a_broken_off_making_is_made_anew(rt: HostRuntime) -> Result<(), Fail> {
 fn a_making_that_fails_leaves_no_half_file(rt: HostRuntime) -> Result<(), Fail> {
     for pick in PICKS {
         for passes in 0..10 {
-            let mut disk = disk_with(rt.alloc(), &[])?;
-            disk.fuse(passes);
-            let mut output: Vec<u8> = Vec::new(rt.alloc());
-            let status = make_on(&mut output, &mut disk, 2);
-            assert_eq!(rt; status.code(), 1);
-            assert_eq!(rt; output.as_slice(), b"refused 3\n".as_slice());
-            disk.crash(pick)?;
-            let found = members(rt.alloc(), disk)?;
+            let made = make_until(rt.alloc(), passes)?;
+            assert!(rt; made.tells(1, b"refused 3\n"), "after {passes} calls");
+            let found = found(rt.alloc(), made, pick)?;
             let is_sound = found.as_slice() == b"refused 1\n".as_slice()
                 || found.as_slice() == b"no\nno\n".as_slice();
             assert!(rt; is_sound, "after {passes} calls");

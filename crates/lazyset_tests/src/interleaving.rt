@@ -1,430 +1,392 @@
-//! Two actors on one key, with one of them cut off after each count of its turns; and plays that end early.
-use lz_core::{Outcome, PlayFault, Step, World};
-use lz_disk::Pick;
-use lz_rehearsal::write_marks;
-use lz_slot::{Command, Key, Mark};
+//! Commands on one key that are cut off after each count of their turns: by a crash, and by another actor's command.
+//!
+//! The rehearsals are written out for each count of turns. What they have to print is what a plain set of one key answers.
+use crate::rehearsal::rehearse_all;
 use std::alloc::{AllocError, Global};
-use std::process::Abort;
 use std::test::Fail;
 
-const PICKS: [Pick; 3] = [Pick::Old, Pick::New, Pick::Byte(0xa5)];
+// What a crash picks for a loose gate: the byte that is sure, the one that is read, an open gate, or a closed one.
+const PICKS: [&str; 4] = ["old", "new", "a5", "37"];
 
-// Each of the first actor's calls, alone, has so many turns.
-const TURNS: u32 = 15;
+// Each of these commands, alone, has so many turns.
+const TURNS: usize = 15;
 
-// No call has more turns, also where it has to begin anew.
-const MOST_TURNS: u32 = 200;
+// The turns of an addition to the empty set.
+const ADDITION: [&str; TURNS] = [
+    "Pin",
+    "Hop",
+    "Hop",
+    "Reserve",
+    "WriteKey",
+    "Sync",
+    "Hop",
+    "Claim",
+    "Check",
+    "WriteOpen",
+    "Link",
+    "Release",
+    "Sync",
+    "Settle",
+    "Answer",
+];
 
-// How an actor's turns ended.
-#[derive(Clone, Copy, Debug, PartialEq, Eq)]
-enum Stand {
-    Answered(bool),
-    // It found a lock taken.
-    Busy,
-    // It took all its turns, and its call is open.
-    Open,
-    // Something else came than these.
-    Odd,
+// The turns of a removal from the set of its key alone.
+const REMOVAL: [&str; TURNS] = [
+    "Pin",
+    "Hop",
+    "Hop",
+    "Hop",
+    "Hop",
+    "Claim",
+    "Check",
+    "WriteClose",
+    "Mark",
+    "Sync",
+    "Settle",
+    "Unlink",
+    "Release",
+    "Retire",
+    "Answer",
+];
+
+// A command that changes the set of nine alone, or the empty one.
+#[derive(Clone, Copy)]
+enum Change {
+    Addition,
+    Removal,
 }
 
-fn nine(rt: &impl Abort) -> Key {
-    Key::new(9).expect(rt, "a key")
-}
-
-fn add(rt: &impl Abort) -> Command {
-    Command::Add(nine(rt))
-}
-
-fn remove(rt: &impl Abort) -> Command {
-    Command::Remove(nine(rt))
-}
-
-fn has(rt: &impl Abort) -> Command {
-    Command::Has(nine(rt))
-}
-
-// Makes a call, and tells whether that was lawful.
-fn call(world: &mut World, alloc: Global, actor: usize, command: Command) -> bool {
-    world.play(alloc, &[Step::Call(actor, command)]).is_ok()
-}
-
-fn stand_of(mark: &Mark) -> Stand {
-    match mark {
-        Mark::Answer(_, answer) => Stand::Answered(*answer),
-        _ => Stand::Odd,
-    }
-}
-
-// Takes turns of an actor, at most so many, up to its call's end or a lock that is taken.
-fn take_turns(world: &mut World, actor: usize, most: u32) -> Stand {
-    for _ in 0..most {
-        let Ok(turned) = world.turn(actor) else {
-            return Stand::Odd;
-        };
-        if let Some(mark) = &turned.mark {
-            return stand_of(mark);
-        }
-        if turned.outcome == Outcome::Busy {
-            return Stand::Busy;
+impl Change {
+    fn verb(self) -> &'static str {
+        match self {
+            Change::Addition => "add",
+            Change::Removal => "remove",
         }
     }
-    Stand::Open
-}
 
-// Takes the turns that are left, where the call is open.
-fn finish(world: &mut World, actor: usize, stand: Stand) -> Stand {
-    match stand {
-        Stand::Busy | Stand::Open => take_turns(world, actor, MOST_TURNS),
-        ended => ended,
+    // Whether nine is a member before it.
+    fn is_held(self) -> bool {
+        matches!(self, Change::Removal)
+    }
+
+    fn turns(self) -> &'static [&'static str] {
+        match self {
+            Change::Addition => &ADDITION,
+            Change::Removal => &REMOVAL,
+        }
+    }
+
+    // The number of its call: the set of nine was made by one before it.
+    fn number(self) -> u64 {
+        if self.is_held() { 2 } else { 1 }
+    }
+
+    // After how many turns the first one of this kind was taken.
+    fn first(self, kind: &str) -> usize {
+        for (before, turn) in self.turns().iter().enumerate() {
+            if *turn == kind {
+                return before.wrapping_add(1);
+            }
+        }
+        0
+    }
+
+    // After how many turns its gate is written.
+    fn gate(self) -> usize {
+        match self {
+            Change::Addition => self.first("WriteOpen"),
+            Change::Removal => self.first("WriteClose"),
+        }
+    }
+
+    // After how many turns its gate is sure.
+    fn sure(self) -> usize {
+        match self {
+            Change::Addition => self.first("Release").wrapping_add(1),
+            Change::Removal => self.first("Sync"),
+        }
     }
 }
 
-// A set of nine alone, or an empty one.
-fn world_with(rt: &impl Abort, alloc: Global, is_member: bool) -> Result<World, Fail> {
-    let mut world = World::new(alloc, 2, 1)?;
-    if is_member {
-        assert!(rt; call(&mut world, alloc, 1, add(rt)));
-        assert_eq!(rt;
-            take_turns(&mut world, 1, MOST_TURNS),
-            Stand::Answered(true)
-        );
-    }
-    Ok(world)
-}
-
-// The first actor takes so many turns of its call, and then the second takes those of its own.
-fn cut_off(
-    world: &mut World,
-    alloc: Global,
-    first: Command,
-    second: Command,
-    turns: u32,
-) -> (Stand, Stand) {
-    if !call(world, alloc, 1, first) {
-        return (Stand::Odd, Stand::Odd);
-    }
-    let first = take_turns(world, 1, turns);
-    if !call(world, alloc, 2, second) {
-        return (first, Stand::Odd);
-    }
-    (first, take_turns(world, 2, MOST_TURNS))
-}
-
-// Then the first finishes, and then the second.
-fn interleave(
-    world: &mut World,
-    alloc: Global,
-    first: Command,
-    second: Command,
-    turns: u32,
-) -> (Stand, Stand) {
-    let (first, second) = cut_off(world, alloc, first, second, turns);
-    let first = finish(world, 1, first);
-    (first, finish(world, 2, second))
-}
-
-// Whether these keys are nine alone, or none.
-fn are(rt: &impl Abort, keys: &[Key], is_member: bool) -> bool {
-    match keys {
-        [] => !is_member,
-        [key] => is_member && *key == nine(rt),
-        _ => false,
+// What a plain set answers, that has nine or doesn't, and whether it has nine then.
+fn ask(verb: &str, is_member: bool) -> (&'static str, bool) {
+    match (verb, is_member) {
+        ("add", false) => ("yes", true),
+        ("remove", true) => ("yes", false),
+        ("has", true) => ("yes", true),
+        (_, is_member) => ("no", is_member),
     }
 }
 
-fn shows(
-    rt: &impl Abort,
-    alloc: Global,
-    world: &World,
+// What a crash leaves of nine after so many turns of a change, before which it was a member or not. Before the gate is
+// written the change isn't done, once it is sure it is, and between the two the crash picks.
+fn left(change: Change, is_member: bool, turns: usize, pick: &str) -> bool {
+    let (_, after) = ask(change.verb(), is_member);
+    if turns < change.gate() {
+        return is_member;
+    }
+    if turns >= change.sure() {
+        return after;
+    }
+    match pick {
+        "old" => is_member,
+        "new" => after,
+        pick => pick == "a5",
+    }
+}
+
+// The head of a rehearsal, the lines that make the set, and so many turns of the change, which has this answer.
+fn write_turns(
+    text: &mut String,
+    change: Change,
+    turns: usize,
+    answer: &str,
+    name: &str,
+) -> Result<(), AllocError> {
+    let (verb, number) = (change.verb(), change.number());
+    write!(
+        text,
+        "== slots 2, buckets 1: {name}, after {turns} turns of {verb}\n"
+    )?;
+    if change.is_held() {
+        write!(
+            text,
+            "> call 64 add 9\ncall 1 64 add 9\n> finish 64\nanswer 1 yes\n"
+        )?;
+    }
+    write!(text, "> call 1 {verb} 9\ncall {number} 1 {verb} 9\n")?;
+    if turns > 0 {
+        write!(text, "> turn 1 {turns}\n")?;
+    }
+    if turns == TURNS {
+        write!(text, "answer {number} {answer}\n")?;
+    }
+    Ok(())
+}
+
+// A crash that picks so, and what is found behind it.
+fn write_crash(text: &mut String, pick: &str, is_member: bool) -> Result<(), AllocError> {
+    let found = if is_member { " 9" } else { "" };
+    write!(
+        text,
+        "> crash {pick}\ncrash\n> open\nopen{found}\n> show\nshow{found}\n"
+    )
+}
+
+// A crash after each count of turns.
+fn write_crashes(text: &mut String, change: Change, pick: &str) -> Result<(), AllocError> {
+    for turns in 0..TURNS + 1 {
+        write_turns(text, change, turns, "yes", pick)?;
+        write_crash(text, pick, left(change, change.is_held(), turns, pick))?;
+    }
+    Ok(())
+}
+
+#[test]
+fn a_crash_after_each_turn(rt: HostRuntime) -> Result<(), Fail> {
+    let mut text = String::new(rt.alloc());
+    for pick in PICKS {
+        write_crashes(&mut text, Change::Addition, pick)?;
+        write_crashes(&mut text, Change::Removal, pick)?;
+    }
+    rehearse_all(&rt, rt.alloc(), text.as_str())
+}
+
+// A change by actor 1, and a command of actor 2 that is called after some of its turns. The command comes first on the plain
+// set up to the turn `after`, and behind the change from there on; up to the turn `until` it waits for a lock.
+#[derive(Clone, Copy)]
+struct Meeting {
+    change: Change,
+    verb: &'static str,
+    after: &'static str,
+    until: &'static str,
+}
+
+const MEETINGS: [Meeting; 6] = [
+    Meeting {
+        change: Change::Addition,
+        verb: "add",
+        after: "Claim",
+        until: "Link",
+    },
+    Meeting {
+        change: Change::Addition,
+        verb: "remove",
+        after: "Link",
+        until: "Release",
+    },
+    Meeting {
+        change: Change::Addition,
+        verb: "has",
+        after: "Link",
+        until: "Link",
+    },
+    Meeting {
+        change: Change::Removal,
+        verb: "remove",
+        after: "Claim",
+        until: "Mark",
+    },
+    Meeting {
+        change: Change::Removal,
+        verb: "add",
+        after: "Mark",
+        until: "Release",
+    },
+    Meeting {
+        change: Change::Removal,
+        verb: "has",
+        after: "Mark",
+        until: "Mark",
+    },
+];
+
+// What a plain set answers to the change and to the command, in their order, and whether nine is a member in the end and
+// between the two.
+#[derive(Clone, Copy)]
+struct Answers {
+    change: &'static str,
+    command: &'static str,
     is_member: bool,
-) -> Result<bool, AllocError> {
-    let members = world.members(alloc)?;
-    Ok(are(rt, members.as_slice(), is_member))
+    between: bool,
 }
 
-// Whether an open after this crash finds nine alone, or nothing.
-fn finds(rt: &impl Abort, alloc: Global, world: &mut World, pick: Pick, is_member: bool) -> bool {
-    let Ok(marks) = world.play(alloc, &[Step::Crash(pick), Step::Open]) else {
-        return false;
-    };
-    match marks.as_slice() {
-        [Mark::Crash, Mark::Opened(found)] => are(rt, found.keys(), is_member),
-        _ => false,
+impl Meeting {
+    // Whether the command comes first where it is called after so many turns.
+    fn comes_first(self, turns: usize) -> bool {
+        turns < self.change.first(self.after)
     }
-}
 
-// Whether members, and what a crash leaves, are as the answers make them.
-fn keeps(
-    rt: &impl Abort,
-    alloc: Global,
-    world: &mut World,
-    pick: Pick,
-    is_member: bool,
-) -> Result<bool, AllocError> {
-    Ok(shows(rt, alloc, world, is_member)? && finds(rt, alloc, world, pick, is_member))
-}
-
-const YES: Stand = Stand::Answered(true);
-
-const NO: Stand = Stand::Answered(false);
-
-// How the second of two actors stands that ask the same, where the first claims its locks with the turn `claims`, and its
-// change comes in sight with the turn `shows`.
-fn beside(turns: u32, claims: u32, shows: u32) -> Stand {
-    if turns < claims {
-        YES
-    } else if turns < shows {
-        Stand::Busy
-    } else {
-        NO
+    // Whether the command waits for a lock then.
+    fn waits(self, turns: usize) -> bool {
+        !self.comes_first(turns) && turns < self.change.first(self.until)
     }
-}
 
-// Exactly one of two additions changes the set.
-#[test]
-fn two_additions(rt: HostRuntime) -> Result<(), Fail> {
-    for pick in PICKS {
+    fn answers(self, turns: usize) -> Answers {
+        let verb = self.change.verb();
+        if self.comes_first(turns) {
+            let (command, between) = ask(self.verb, self.change.is_held());
+            let (change, is_member) = ask(verb, between);
+            Answers {
+                change,
+                command,
+                is_member,
+                between,
+            }
+        } else {
+            let (change, between) = ask(verb, self.change.is_held());
+            let (command, is_member) = ask(self.verb, between);
+            Answers {
+                change,
+                command,
+                is_member,
+                between,
+            }
+        }
+    }
+
+    // The turns of the change, and then those of the command up to its answer, or to the lock that is taken.
+    fn write(self, text: &mut String, turns: usize, name: &str) -> Result<(), AllocError> {
+        let answers = self.answers(turns);
+        write_turns(text, self.change, turns, answers.change, name)?;
+        let verb = self.verb;
+        let number = self.change.number().wrapping_add(1);
+        write!(
+            text,
+            "> call 2 {verb} 9\ncall {number} 2 {verb} 9\n> finish 2\n"
+        )?;
+        if self.waits(turns) {
+            write!(text, "busy 2\n")
+        } else {
+            write!(text, "answer {number} {}\n", answers.command)
+        }
+    }
+
+    // The turns that are left, the change's first.
+    fn write_ends(self, text: &mut String, turns: usize) -> Result<(), AllocError> {
+        let answers = self.answers(turns);
+        let number = self.change.number();
+        if turns < TURNS {
+            write!(text, "> finish 1\nanswer {number} {}\n", answers.change)?;
+        }
+        if self.waits(turns) {
+            let number = number.wrapping_add(1);
+            write!(text, "> finish 2\nanswer {number} {}\n", answers.command)?;
+        }
+        let shown = if answers.is_member { " 9" } else { "" };
+        write!(text, "> show\nshow{shown}\n")
+    }
+
+    // Both end, and then a crash comes.
+    fn write_both(self, text: &mut String, pick: &str) -> Result<(), AllocError> {
         for turns in 0..TURNS + 1 {
-            let mut world = world_with(&rt, rt.alloc(), false)?;
-            let answers = interleave(&mut world, rt.alloc(), add(&rt), add(&rt), turns);
-            assert!(rt;
-                answers == (YES, NO) || answers == (NO, YES),
-                "after {turns} turns"
-            );
-            assert!(rt;
-                keeps(&rt, rt.alloc(), &mut world, pick, true)?,
-                "after {turns} turns"
-            );
+            self.write(text, turns, pick)?;
+            self.write_ends(text, turns)?;
+            write_crash(text, pick, self.answers(turns).is_member)?;
         }
+        Ok(())
     }
-    Ok(())
-}
 
-// Exactly one of two removals changes the set.
-#[test]
-fn two_removals(rt: HostRuntime) -> Result<(), Fail> {
-    for pick in PICKS {
+    // The change never goes on, and a crash comes once the command has answered.
+    fn write_one(self, text: &mut String, pick: &str) -> Result<(), AllocError> {
         for turns in 0..TURNS + 1 {
-            let mut world = world_with(&rt, rt.alloc(), true)?;
-            let answers = interleave(&mut world, rt.alloc(), remove(&rt), remove(&rt), turns);
-            assert!(rt;
-                answers == (YES, NO) || answers == (NO, YES),
-                "after {turns} turns"
-            );
-            assert!(rt;
-                keeps(&rt, rt.alloc(), &mut world, pick, false)?,
-                "after {turns} turns"
-            );
+            let answers = self.answers(turns);
+            self.write(text, turns, pick)?;
+            if self.comes_first(turns) {
+                write_crash(text, pick, left(self.change, answers.between, turns, pick))?;
+            } else if !self.waits(turns) {
+                write_crash(text, pick, answers.is_member)?;
+            }
+        }
+        Ok(())
+    }
+}
+
+// Two commands answer as a plain set does, one after the other, and each crash keeps what they answered.
+#[test]
+fn two_commands_that_both_end(rt: HostRuntime) -> Result<(), Fail> {
+    let mut text = String::new(rt.alloc());
+    for meeting in MEETINGS {
+        for pick in PICKS {
+            meeting.write_both(&mut text, pick)?;
         }
     }
-    Ok(())
+    rehearse_all(&rt, rt.alloc(), text.as_str())
 }
 
-// The addition changes the empty set, and the removal where it finds the key linked: from the eleventh turn on.
+// What a command answered, a no as well as a yes, is kept by each crash, where the change beside it never ends.
 #[test]
-fn an_addition_and_a_removal(rt: HostRuntime) -> Result<(), Fail> {
-    for pick in PICKS {
-        for turns in 0..TURNS + 1 {
-            let is_removed = turns >= 11;
-            let mut world = world_with(&rt, rt.alloc(), false)?;
-            let answers = interleave(&mut world, rt.alloc(), add(&rt), remove(&rt), turns);
-            assert_eq!(rt;
-                answers,
-                (YES, Stand::Answered(is_removed)),
-                "after {turns} turns"
-            );
-            assert!(rt;
-                keeps(&rt, rt.alloc(), &mut world, pick, !is_removed)?,
-                "after {turns} turns"
-            );
+fn a_command_beside_one_that_never_ends(rt: HostRuntime) -> Result<(), Fail> {
+    let mut text = String::new(rt.alloc());
+    for meeting in MEETINGS {
+        for pick in PICKS {
+            meeting.write_one(&mut text, pick)?;
         }
     }
-    Ok(())
+    rehearse_all(&rt, rt.alloc(), text.as_str())
 }
 
-// The removal changes the set of that key, and the addition where it finds the key marked: from the ninth turn on.
-#[test]
-fn a_removal_and_an_addition(rt: HostRuntime) -> Result<(), Fail> {
-    for pick in PICKS {
-        for turns in 0..TURNS + 1 {
-            let is_added = turns >= 9;
-            let mut world = world_with(&rt, rt.alloc(), true)?;
-            let answers = interleave(&mut world, rt.alloc(), remove(&rt), add(&rt), turns);
-            assert_eq!(rt;
-                answers,
-                (YES, Stand::Answered(is_added)),
-                "after {turns} turns"
-            );
-            assert!(rt;
-                keeps(&rt, rt.alloc(), &mut world, pick, is_added)?,
-                "after {turns} turns"
-            );
+// Where the first turn of a kind was awaited, so many turns end the call, and fewer don't.
+fn write_kinds(text: &mut String, change: Change) -> Result<(), AllocError> {
+    for kind in change.turns().iter() {
+        let left = TURNS.wrapping_sub(change.first(kind));
+        write_turns(text, change, 0, "", kind)?;
+        write!(text, "> until 1 {kind}\n")?;
+        if left > 1 {
+            write!(text, "> turn 1 {}\n", left.wrapping_sub(1))?;
         }
-    }
-    Ok(())
-}
-
-// The first of two actors that ask the same never goes on. The second waits for its locks until the change is in sight, and
-// otherwise answers; what it answered, a no as well as a yes, is kept by each crash.
-#[test]
-fn an_answered_addition_stays_where_another_never_ends(rt: HostRuntime) -> Result<(), Fail> {
-    for pick in PICKS {
-        for turns in 0..TURNS + 1 {
-            let mut world = world_with(&rt, rt.alloc(), false)?;
-            let (first, second) = cut_off(&mut world, rt.alloc(), add(&rt), add(&rt), turns);
-            assert_eq!(rt; first == YES, turns == TURNS, "after {turns} turns");
-            assert_eq!(rt; second, beside(turns, 8, 11), "after {turns} turns");
-            assert!(rt;
-                second == Stand::Busy || finds(&rt, rt.alloc(), &mut world, pick, true),
-                "after {turns} turns"
-            );
+        if left > 0 {
+            write!(text, "> turn 1 1\n")?;
         }
+        write!(text, "answer {} yes\n", change.number())?;
     }
     Ok(())
 }
 
 #[test]
-fn an_answered_removal_stays_where_another_never_ends(rt: HostRuntime) -> Result<(), Fail> {
-    for pick in PICKS {
-        for turns in 0..TURNS + 1 {
-            let mut world = world_with(&rt, rt.alloc(), true)?;
-            let (first, second) = cut_off(&mut world, rt.alloc(), remove(&rt), remove(&rt), turns);
-            assert_eq!(rt; first == YES, turns == TURNS, "after {turns} turns");
-            assert_eq!(rt; second, beside(turns, 6, 9), "after {turns} turns");
-            assert!(rt;
-                second == Stand::Busy || finds(&rt, rt.alloc(), &mut world, pick, false),
-                "after {turns} turns"
-            );
-        }
-    }
-    Ok(())
-}
-
-// The second actor removes what the first has linked and never answers: the addition was released with its twelfth turn.
-#[test]
-fn a_removal_of_an_addition_under_way_stays(rt: HostRuntime) -> Result<(), Fail> {
-    for pick in PICKS {
-        for turns in 12..TURNS + 1 {
-            let mut world = world_with(&rt, rt.alloc(), false)?;
-            let (_first, second) = cut_off(&mut world, rt.alloc(), add(&rt), remove(&rt), turns);
-            assert_eq!(rt; second, YES, "after {turns} turns");
-            assert!(rt;
-                finds(&rt, rt.alloc(), &mut world, pick, false),
-                "after {turns} turns"
-            );
-        }
-    }
-    Ok(())
-}
-
-// The second actor adds what the first has unlinked and never answers: the removal was released with its thirteenth turn.
-#[test]
-fn an_addition_after_a_removal_under_way_stays(rt: HostRuntime) -> Result<(), Fail> {
-    for pick in PICKS {
-        for turns in 13..TURNS + 1 {
-            let mut world = world_with(&rt, rt.alloc(), true)?;
-            let (_first, second) = cut_off(&mut world, rt.alloc(), remove(&rt), add(&rt), turns);
-            assert_eq!(rt; second, YES, "after {turns} turns");
-            assert!(rt;
-                finds(&rt, rt.alloc(), &mut world, pick, true),
-                "after {turns} turns"
-            );
-        }
-    }
-    Ok(())
-}
-
-// Whether a play ends at the step with this number, which isn't lawful.
-fn ends_at(world: &mut World, alloc: Global, steps: &[Step], number: usize) -> bool {
-    match world.play(alloc, steps) {
-        Err(PlayFault::NotNow(step)) => step == number,
-        _ => false,
-    }
-}
-
-#[test]
-fn a_play_whose_first_step_is_not_lawful(rt: HostRuntime) -> Result<(), Fail> {
-    let mut world = world_with(&rt, rt.alloc(), true)?;
-    for step in [
-        Step::Turn(0),
-        Step::Turn(1),
-        Step::Turn(64),
-        Step::Turn(65),
-        Step::Call(0, add(&rt)),
-        Step::Call(65, add(&rt)),
-        Step::Open,
-    ] {
-        let steps = [step, Step::Stop];
-        assert!(rt; ends_at(&mut world, rt.alloc(), &steps, 1));
-        assert!(rt; world.is_open());
-        assert!(rt; shows(&rt, rt.alloc(), &world, true)?);
-    }
-    assert!(rt; matches!(world.turn(1), Err(PlayFault::NotNow(1))));
-    Ok(())
-}
-
-// The steps before it are played, those with a mark and those without one.
-#[test]
-fn a_play_of_which_a_later_step_is_not_lawful(rt: HostRuntime) -> Result<(), Fail> {
-    let mut world = world_with(&rt, rt.alloc(), false)?;
-    let twice = [
-        Step::Call(1, add(&rt)),
-        Step::Turn(1),
-        Step::Call(1, add(&rt)),
-    ];
-    assert!(rt; ends_at(&mut world, rt.alloc(), &twice, 3));
-    assert_eq!(rt; take_turns(&mut world, 1, MOST_TURNS), YES);
-    assert!(rt; shows(&rt, rt.alloc(), &world, true)?);
-    let stopped = [
-        Step::Trip,
-        Step::Stop,
-        Step::Trip,
-        Step::Crash(Pick::Old),
-        Step::Turn(1),
-    ];
-    assert!(rt; ends_at(&mut world, rt.alloc(), &stopped, 5));
-    assert!(rt; !world.is_open());
-    assert!(rt; shows(&rt, rt.alloc(), &world, false)?);
-    let opened = [Step::Open, Step::Open, Step::Stop];
-    assert!(rt; ends_at(&mut world, rt.alloc(), &opened, 2));
-    assert!(rt; world.is_open());
-    assert!(rt; shows(&rt, rt.alloc(), &world, true)?);
-    Ok(())
-}
-
-// Whether a play takes all its steps, and its marks have this text.
-fn tells(world: &mut World, alloc: Global, steps: &[Step], told: &[u8]) -> bool {
-    let Ok(marks) = world.play(alloc, steps) else {
-        return false;
-    };
-    let mut output: Vec<u8> = Vec::new(alloc);
-    write_marks(&mut output, marks.as_slice()).is_ok() && output.as_slice() == told
-}
-
-// Two look-ups in the empty set, of four turns each.
-#[test]
-fn a_play_tells_its_marks_in_order(rt: HostRuntime) -> Result<(), Fail> {
-    let mut world = world_with(&rt, rt.alloc(), false)?;
-    let steps = [
-        Step::Call(1, has(&rt)),
-        Step::Turn(1),
-        Step::Call(64, has(&rt)),
-        Step::Turn(64),
-        Step::Turn(64),
-        Step::Turn(64),
-        Step::Turn(64),
-        Step::Turn(1),
-        Step::Turn(1),
-        Step::Turn(1),
-        Step::Stop,
-        Step::Trip,
-        Step::Open,
-        Step::Open,
-        Step::Call(2, has(&rt)),
-        Step::Crash(Pick::New),
-    ];
-    let told: &[u8] =
-        b"call 1 1 has 9\ncall 2 64 has 9\nanswer 2 no\nanswer 1 no\nstop\nopen fault 7\nopen\ncall 3 2 has 9\ncrash\n";
-    assert!(rt; tells(&mut world, rt.alloc(), &steps, told));
-    Ok(())
+fn turns_up_to_each_kind(rt: HostRuntime) -> Result<(), Fail> {
+    let mut text = String::new(rt.alloc());
+    write_kinds(&mut text, Change::Addition)?;
+    write_kinds(&mut text, Change::Removal)?;
+    rehearse_all(&rt, rt.alloc(), text.as_str())
 }

@@ -1,6 +1,7 @@
 //! What a judge says of histories.
 use lazyset_commands::judge_on;
 use std::alloc::{AllocError, Global};
+use std::process::Abort;
 use std::test::Fail;
 
 // Whether the judge says this of the text.
@@ -10,128 +11,234 @@ fn says(alloc: Global, text: &[u8], code: u8, told: &[u8]) -> bool {
     status.code() == code && output.as_slice() == told
 }
 
-// Whether the judge says this of the text with these points behind it.
-fn says_of(
-    alloc: Global,
-    text: &[u8],
-    points: &[u8],
-    code: u8,
-    told: &[u8],
-) -> Result<bool, AllocError> {
-    let mut whole = text.to_vec(alloc)?;
-    whole.extend_from_slice(points)?;
-    Ok(says(alloc, whole.as_slice(), code, told))
+// The status with which the judge says this.
+fn code_of(verdict: &str) -> u8 {
+    if verdict == "good" {
+        0
+    } else if verdict.starts_with("line ") {
+        3
+    } else {
+        4
+    }
 }
 
-// A slot is used again while a caller stands on it.
-const REUSED: &[u8] =
-    b"call 1 1 add 9\nanswer 1 yes\ncall 2 3 has 9\ncall 3 1 remove 9\nanswer 3 yes\ncall 4 2 add 9\nanswer 4 yes\nanswer 2 no\ncrash\nopen 9\n";
+// Whether the judge says this of a history, whose lines stand below one another or between semicolons, with these points
+// behind it.
+fn judges(alloc: Global, history: &str, points: &str, verdict: &str) -> Result<bool, AllocError> {
+    let mut text = String::new(alloc);
+    for line in history.split('\n') {
+        write_lines(&mut text, line, ';', "")?;
+    }
+    write_lines(&mut text, points, ',', "point ")?;
+    let told = format!(in alloc; "{verdict}\n")?;
+    Ok(says(alloc, text.as_bytes(), code_of(verdict), told.as_bytes()))
+}
+
+// Each of the lines that are parted so, behind this word.
+fn write_lines(
+    text: &mut String,
+    lines: &str,
+    parting: char,
+    word: &str,
+) -> Result<(), AllocError> {
+    for line in lines.split(parting) {
+        let line = line.trim();
+        if !line.is_empty() {
+            write!(text, "{word}{line}\n")?;
+        }
+    }
+    Ok(())
+}
+
+// The points of a history, each the number of a call and its place, and what is said of them.
+type Verdict<'a> = (&'a str, &'a str);
+
+fn judge_each(
+    rt: &impl Abort,
+    alloc: Global,
+    history: &str,
+    verdicts: &[Verdict],
+) -> Result<(), Fail> {
+    for (points, verdict) in verdicts.iter() {
+        assert!(rt; judges(alloc, history, points, verdict)?, "{points}");
+    }
+    Ok(())
+}
 
 #[test]
 fn judges_a_slot_used_again(rt: HostRuntime) -> Result<(), Fail> {
-    let rows: [(&[u8], u8, &[u8]); 2] = [
-        (
-            b"point 1 1\npoint 3 2\npoint 2 3\npoint 4 4\n",
-            0,
-            b"good\n",
-        ),
-        (
-            b"point 1 1\npoint 3 2\npoint 2 5\npoint 4 4\n",
-            4,
-            b"flaw 4 2\n",
-        ),
+    let history = "
+        call 1 1 add 9
+        answer 1 yes
+        call 2 3 has 9
+        call 3 1 remove 9
+        answer 3 yes
+        call 4 2 add 9
+        answer 4 yes
+        answer 2 no
+        crash
+        open 9
+    ";
+    let verdicts = [
+        ("1 1, 3 2, 2 3, 4 4", "good"),
+        ("1 1, 3 2, 2 5, 4 4", "flaw 4 2"),
     ];
-    for (points, code, told) in rows {
-        assert!(rt; says_of(rt.alloc(), REUSED, points, code, told)?);
-    }
-    Ok(())
+    judge_each(&rt, rt.alloc(), history, &verdicts)
 }
 
 // A caller makes a removal sure that another one began.
-const MADE_SURE: &[u8] =
-    b"call 1 1 add 9\ncall 2 2 remove 9\ncall 3 3 has 9\nanswer 3 no\ncrash\nopen\n";
-
 #[test]
 fn judges_calls_under_way(rt: HostRuntime) -> Result<(), Fail> {
-    let rows: [(&[u8], u8, &[u8]); 6] = [
-        (b"point 1 1\npoint 2 2\npoint 3 3\n", 0, b"good\n"),
-        (b"point 3 1\n", 0, b"good\n"),
-        (b"point 1 1\npoint 3 2\n", 4, b"flaw 4 3\n"),
-        (b"point 3 2\npoint 1 5\n", 4, b"flaw 5 1\n"),
-        (b"point 1 1\n", 4, b"flaw 1 3\n"),
-        (b"point 9 1\n", 4, b"flaw 2 9\n"),
+    let history = "
+        call 1 1 add 9
+        call 2 2 remove 9
+        call 3 3 has 9
+        answer 3 no
+        crash
+        open
+    ";
+    let verdicts = [
+        ("1 1, 2 2, 3 3", "good"),
+        ("3 1", "good"),
+        ("1 1, 3 2", "flaw 4 3"),
+        ("3 2, 1 5", "flaw 5 1"),
+        ("1 1", "flaw 1 3"),
+        ("9 1", "flaw 2 9"),
     ];
-    for (points, code, told) in rows {
-        assert!(rt; says_of(rt.alloc(), MADE_SURE, points, code, told)?);
-    }
-    Ok(())
+    judge_each(&rt, rt.alloc(), history, &verdicts)
 }
-
-const MANY_FLAWS: &[u8] =
-    b"call 1 1 add 1\nanswer 1 yes\ncall 2 1 add 2\nrefused 2 full\ncall 3 1 add 3\nanswer 3 yes\ncall 4 1 has 3\nanswer 4 no\ncrash\nopen 7\n";
 
 // Of several flaws the first in the judge's order is told, and of one kind the least call.
 #[test]
 fn tells_the_first_flaw(rt: HostRuntime) -> Result<(), Fail> {
-    let rows: [(&[u8], &[u8]); 10] = [
-        (
-            b"point 9 1\npoint 8 2\npoint 1 1\npoint 1 2\n",
-            b"flaw 2 8\n",
-        ),
-        (
-            b"point 3 3\npoint 3 4\npoint 1 1\npoint 1 2\npoint 2 3\n",
-            b"flaw 6 1\n",
-        ),
-        (b"point 2 1\npoint 2 2\npoint 1 2\n", b"flaw 6 2\n"),
-        (b"point 2 1\npoint 1 2\n", b"flaw 7 2\n"),
-        (b"point 1 5\npoint 3 2\n", b"flaw 1 4\n"),
-        (b"point 3 2\n", b"flaw 1 1\n"),
-        (b"point 1 5\npoint 3 2\npoint 4 1\n", b"flaw 3 3\n"),
-        (b"point 1 1\npoint 3 2\npoint 4 2\n", b"flaw 3 4\n"),
-        (b"point 1 1\npoint 3 2\npoint 4 3\n", b"flaw 4 4\n"),
-        (b"point 4 3\npoint 3 2\npoint 1 1\n", b"flaw 4 4\n"),
+    let history = "
+        call 1 1 add 1
+        answer 1 yes
+        call 2 1 add 2
+        refused 2 full
+        call 3 1 add 3
+        answer 3 yes
+        call 4 1 has 3
+        answer 4 no
+        crash
+        open 7
+    ";
+    let verdicts = [
+        ("9 1, 8 2, 1 1, 1 2", "flaw 2 8"),
+        ("3 3, 3 4, 1 1, 1 2, 2 3", "flaw 6 1"),
+        ("2 1, 2 2, 1 2", "flaw 6 2"),
+        ("2 1, 1 2", "flaw 7 2"),
+        ("1 5, 3 2", "flaw 1 4"),
+        ("3 2", "flaw 1 1"),
+        ("1 5, 3 2, 4 1", "flaw 3 3"),
+        ("1 1, 3 2, 4 2", "flaw 3 4"),
+        ("1 1, 3 2, 4 3", "flaw 4 4"),
+        ("4 3, 3 2, 1 1", "flaw 4 4"),
     ];
-    for (points, told) in rows {
-        assert!(rt; says_of(rt.alloc(), MANY_FLAWS, points, 4, told)?);
-    }
-    Ok(())
+    judge_each(&rt, rt.alloc(), history, &verdicts)
 }
 
 // Over lives: a call lies above those of the lives before its own, and each open is compared with the list.
 #[test]
 fn judges_lives(rt: HostRuntime) -> Result<(), Fail> {
-    let lives: &[u8] =
-        b"call 1 1 add 1\nstop\nopen 1\ncall 2 1 remove 1\ncrash\nopen fault 7\nopen\ncall 3 1 has 1\nanswer 3 no\n";
-    let rows: [(&[u8], u8, &[u8]); 5] = [
-        (b"point 1 1\npoint 2 2\npoint 3 3\n", 0, b"good\n"),
-        (b"point 1 2\npoint 2 1\npoint 3 3\n", 4, b"flaw 3 2\n"),
-        (b"point 1 2\npoint 3 2\n", 4, b"flaw 3 3\n"),
-        (b"point 2 2\npoint 3 3\n", 4, b"flaw 5 1\n"),
-        (b"point 1 1\npoint 3 3\n", 4, b"flaw 4 3\n"),
+    let lives = "
+        call 1 1 add 1
+        stop
+        open 1
+        call 2 1 remove 1
+        crash
+        open fault 7
+        open
+        call 3 1 has 1
+        answer 3 no
+    ";
+    let verdicts = [
+        ("1 1, 2 2, 3 3", "good"),
+        ("1 2, 2 1, 3 3", "flaw 3 2"),
+        ("1 2, 3 2", "flaw 3 3"),
+        ("2 2, 3 3", "flaw 5 1"),
+        ("1 1, 3 3", "flaw 4 3"),
     ];
-    for (points, code, told) in rows {
-        assert!(rt; says_of(rt.alloc(), lives, points, code, told)?);
-    }
-    let found: &[u8] = b"call 1 1 add 1\nstop\nopen 1\nstop\nopen 1 2\nstop\nopen 2\n";
-    assert!(rt; says_of(rt.alloc(), found, b"point 1 1\n", 4, b"flaw 5 2\n")?);
-    Ok(())
+    judge_each(&rt, rt.alloc(), lives, &verdicts)?;
+    let found = "
+        call 1 1 add 1
+        stop
+        open 1
+        stop
+        open 1 2
+        stop
+        open 2
+    ";
+    judge_each(&rt, rt.alloc(), found, &[("1 1", "flaw 5 2")])
 }
 
 #[test]
 fn reads_each_kind_of_line(rt: HostRuntime) -> Result<(), Fail> {
-    let rows: [&[u8]; 9] = [
-        b"",
-        b"show\nshow 1 2 999999999999999999\nbusy 1\nbusy 64\n",
-        b"open fault 1\nstop\nopen fault 8\nopen\nstop\ncrash\nopen\n",
-        b"call 1 64 add 0\nhalted 1\ncall 2 64 remove 999999999999999999\ndevice 2\n",
-        b"call 1 1 add 5\nrefused 1 worn\ncall 2 1 has 5\nrefused 2 full\n",
-        b"point 18446744073709551615 1\ncall 18446744073709551615 1 has 9\nanswer 18446744073709551615 no\n",
-        b"call 1 1 add 9\npoint 1 999999999999\nanswer 1 yes\nstop\nshow 5\nbusy 2\nopen 9\n",
-        b"call 1 1 add 9\nstop\nopen\ncall 2 1 add 9\nanswer 2 yes\npoint 2 0\n",
-        b"call 1 1 has 9\ncall 2 2 has 9\nanswer 1 no\ncall 3 1 has 9\nanswer 2 no\nanswer 3 no\npoint 1 1\npoint 3 2\npoint 2 3\n",
+    let histories = [
+        "",
+        "
+            show
+            show 1 2 999999999999999999
+            busy 1
+            busy 64
+        ",
+        "
+            open fault 1
+            stop
+            open fault 8
+            open
+            stop
+            crash
+            open
+        ",
+        "
+            call 1 64 add 0
+            halted 1
+            call 2 64 remove 999999999999999999
+            device 2
+        ",
+        "
+            call 1 1 add 5
+            refused 1 worn
+            call 2 1 has 5
+            refused 2 full
+        ",
+        "
+            point 18446744073709551615 1
+            call 18446744073709551615 1 has 9
+            answer 18446744073709551615 no
+        ",
+        "
+            call 1 1 add 9
+            point 1 999999999999
+            answer 1 yes
+            stop
+            show 5
+            busy 2
+            open 9
+        ",
+        "
+            call 1 1 add 9
+            stop
+            open
+            call 2 1 add 9
+            answer 2 yes
+            point 2 0
+        ",
+        "
+            call 1 1 has 9
+            call 2 2 has 9
+            answer 1 no
+            call 3 1 has 9
+            answer 2 no
+            answer 3 no
+            point 1 1
+            point 3 2
+            point 2 3
+        ",
     ];
-    for text in rows {
-        assert!(rt; says(rt.alloc(), text, 0, b"good\n"));
+    for history in histories {
+        judge_each(&rt, rt.alloc(), history, &[("", "good")])?;
     }
     Ok(())
 }
@@ -178,19 +285,19 @@ fn tells_the_first_line_that_does_not_read(rt: HostRuntime) -> Result<(), Fail> 
     for text in first {
         assert!(rt; says(rt.alloc(), text, 3, b"line 1\n"));
     }
-    let later: [(&[u8], &[u8]); 9] = [
-        (b"call 1 1 add 9\ncall 1 2 add 9\n", b"line 2\n"),
-        (b"call 1 1 add 9\ncall 2 1 add 8\n", b"line 2\n"),
-        (b"call 1 1 add 9\nstop\nopen\ncall 1 1 add 9\n", b"line 4\n"),
-        (b"call 1 1 add 9\nanswer 1 yes\nanswer 1 yes\n", b"line 3\n"),
-        (b"call 1 1 add 9\nhalted 1\ndevice 1\n", b"line 3\n"),
-        (b"call 1 1 add 9\nstop\nopen\nanswer 1 yes\n", b"line 4\n"),
-        (b"call 1 1 add 9\ncrash\nanswer 1 yes\n", b"line 3\n"),
-        (b"stop\ncall 1 1 add 9\n", b"line 2\n"),
-        (b"stop\nopen\nopen\nwhat\n", b"line 3\n"),
+    let later = [
+        ("call 1 1 add 9; call 1 2 add 9", "line 2"),
+        ("call 1 1 add 9; call 2 1 add 8", "line 2"),
+        ("call 1 1 add 9; stop; open; call 1 1 add 9", "line 4"),
+        ("call 1 1 add 9; answer 1 yes; answer 1 yes", "line 3"),
+        ("call 1 1 add 9; halted 1; device 1", "line 3"),
+        ("call 1 1 add 9; stop; open; answer 1 yes", "line 4"),
+        ("call 1 1 add 9; crash; answer 1 yes", "line 3"),
+        ("stop; call 1 1 add 9", "line 2"),
+        ("stop; open; open; what", "line 3"),
     ];
-    for (text, told) in later {
-        assert!(rt; says(rt.alloc(), text, 3, told));
+    for (history, verdict) in later {
+        assert!(rt; judges(rt.alloc(), history, "", verdict)?, "{history}");
     }
     Ok(())
 }

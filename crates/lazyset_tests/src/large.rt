@@ -1,6 +1,5 @@
 //! Files of as many slots as a file may have.
-use crate::commands::disk_with;
-use lazyset_commands::run_on;
+use crate::commands::{disk_with, run};
 use std::alloc::{AllocError, Global};
 use std::test::Fail;
 
@@ -22,23 +21,17 @@ fn full_file(alloc: Global, last: u32) -> Result<Vec<u8>, AllocError> {
 #[test]
 fn opens_a_full_file(rt: HostRuntime) -> Result<(), Fail> {
     let bytes = full_file(rt.alloc(), 65_535)?;
-    let disk = disk_with(rt.alloc(), &bytes)?;
-    let mut output: Vec<u8> = Vec::new(rt.alloc());
-    let mut input = b"has 0\nhas 65535\nhas 65536\nadd 65536\n".as_slice();
-    let (status, disk) = run_on(rt.alloc(), &mut input, &mut output, disk);
-    assert_eq!(rt; status.code(), 0);
-    assert_eq!(rt; output.as_slice(), b"yes\nyes\nno\nfull\n".as_slice());
-    assert_eq!(rt; disk.bytes(), bytes.as_slice());
+    let lines: &[u8] = b"has 0\nhas 65535\nhas 65536\nadd 65536\n";
+    let ran = run(rt.alloc(), disk_with(rt.alloc(), &bytes)?, lines);
+    assert!(rt; ran.tells(0, b"yes\nyes\nno\nfull\n"));
+    assert!(rt; ran.leaves(&bytes));
     Ok(())
 }
 
 #[test]
 fn refuses_a_key_that_the_last_slot_holds_again(rt: HostRuntime) -> Result<(), Fail> {
     let bytes = full_file(rt.alloc(), 7)?;
-    let disk = disk_with(rt.alloc(), &bytes)?;
-    let mut output: Vec<u8> = Vec::new(rt.alloc());
-    let (status, _disk) = run_on(rt.alloc(), &mut b"has 7\n".as_slice(), &mut output, disk);
-    assert_eq!(rt; status.code(), 3);
-    assert_eq!(rt; output.as_slice(), b"refused 6 7 65535\n".as_slice());
+    let ran = run(rt.alloc(), disk_with(rt.alloc(), &bytes)?, b"has 7\n");
+    assert!(rt; ran.tells(3, b"refused 6 7 65535\n"));
     Ok(())
 }

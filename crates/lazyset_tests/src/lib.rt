@@ -2,6 +2,8 @@
 #![tactic(auto)]
 
 #[cfg(test)]
+mod boards;
+#[cfg(test)]
 mod commands;
 #[cfg(test)]
 mod crashes;
@@ -14,9 +16,15 @@ mod large;
 #[cfg(test)]
 mod lists;
 #[cfg(test)]
+mod plays;
+#[cfg(test)]
 mod refusals;
 #[cfg(test)]
+mod rehearsal;
+#[cfg(test)]
 mod rehearsing;
+#[cfg(test)]
+mod rooms;
 #[cfg(test)]
 mod scripts;
 #[cfg(test)]
@@ -25,3 +33,7 @@ mod sessions;
 mod slots;
 #[cfg(test)]
 mod surveying;
+#[cfg(test)]
+mod threads;
+#[cfg(test)]
+mod transcript;

@@ -1,6 +1,6 @@
 //! Each refusal of a make and of an open, once.
-use crate::commands::{ONE_SLOT, TWO_SLOTS, disk_with};
-use lazyset_commands::{make_on, run_on};
+use crate::commands::{ONE_SLOT, TWO_SLOTS, disk_with, make, run};
+use lz_slot::Format;
 use std::test::Fail;
 
 // A file of two slots with this byte at this place.
@@ -52,12 +52,9 @@ fn refuses_to_open(rt: HostRuntime) -> Result<(), Fail> {
         (&[0xa5], b"refused 1\n"),
     ];
     for (bytes, told) in rows {
-        let disk = disk_with(rt.alloc(), bytes)?;
-        let mut output: Vec<u8> = Vec::new(rt.alloc());
-        let (status, disk) = run_on(rt.alloc(), &mut b"add 1\n".as_slice(), &mut output, disk);
-        assert_eq!(rt; status.code(), 3);
-        assert_eq!(rt; output.as_slice(), told);
-        assert_eq!(rt; disk.bytes(), bytes);
+        let ran = run(rt.alloc(), disk_with(rt.alloc(), bytes)?, b"add 1\n");
+        assert!(rt; ran.tells(3, told));
+        assert!(rt; ran.leaves(bytes));
     }
     Ok(())
 }
@@ -66,11 +63,9 @@ fn refuses_to_open(rt: HostRuntime) -> Result<(), Fail> {
 fn refuses_a_device_that_fails(rt: HostRuntime) -> Result<(), Fail> {
     let mut disk = disk_with(rt.alloc(), &TWO_SLOTS)?;
     disk.fuse(0);
-    let mut output: Vec<u8> = Vec::new(rt.alloc());
-    let (status, disk) = run_on(rt.alloc(), &mut b"has 1\n".as_slice(), &mut output, disk);
-    assert_eq!(rt; status.code(), 1);
-    assert_eq!(rt; output.as_slice(), b"refused 7\n".as_slice());
-    assert_eq!(rt; disk.calls(), 1);
+    let ran = run(rt.alloc(), disk, b"has 1\n");
+    assert!(rt; ran.tells(1, b"refused 7\n"));
+    assert_eq!(rt; ran.disk.calls(), 1);
     Ok(())
 }
 
@@ -81,16 +76,12 @@ fn opens_over_a_closed_slot(rt: HostRuntime) -> Result<(), Fail> {
     bytes[16..].copy_from_slice(&[
         0x37, 0, 0, 0, 0, 0, 0, 0, 0x0d, 0xe0, 0xb6, 0xb3, 0xa7, 0x64, 0, 0,
     ]);
-    let disk = disk_with(rt.alloc(), &bytes)?;
-    let mut output: Vec<u8> = Vec::new(rt.alloc());
-    let (status, _disk) = run_on(
+    let ran = run(
         rt.alloc(),
-        &mut b"has 0\nadd 7\n".as_slice(),
-        &mut output,
-        disk,
+        disk_with(rt.alloc(), &bytes)?,
+        b"has 0\nadd 7\n",
     );
-    assert_eq!(rt; status.code(), 0);
-    assert_eq!(rt; output.as_slice(), b"no\nyes\n".as_slice());
+    assert!(rt; ran.tells(0, b"no\nyes\n"));
     Ok(())
 }
 
@@ -105,12 +96,14 @@ fn refuses_to_make(rt: HostRuntime) -> Result<(), Fail> {
         (&long, 2, b"refused 4\n", 3),
     ];
     for (bytes, slots, told, code) in rows {
-        let mut disk = disk_with(rt.alloc(), bytes)?;
-        let mut output: Vec<u8> = Vec::new(rt.alloc());
-        let status = make_on(&mut output, &mut disk, slots);
-        assert_eq!(rt; status.code(), code);
-        assert_eq!(rt; output.as_slice(), told);
-        assert_eq!(rt; disk.bytes(), bytes);
+        let made = make(
+            rt.alloc(),
+            disk_with(rt.alloc(), bytes)?,
+            slots,
+            Format::One,
+        );
+        assert!(rt; made.tells(code, told));
+        assert!(rt; made.leaves(bytes));
     }
     Ok(())
 }

@@ -1,6 +1,7 @@
 //! Which scripts read, which of their lines are lawful, and what is printed up to the first line that isn't.
-use crate::rehearsing::prints;
+use crate::rehearsal::{prints, rehearse_all};
 use std::alloc::{AllocError, Global};
+use std::process::Abort;
 use std::test::Fail;
 
 // Whether a script with this line doesn't read, both where the line is the first and where two stand before it. Nothing of
@@ -109,7 +110,7 @@ fn kinds_and_picks_that_do_not_read(rt: HostRuntime) -> Result<(), Fail> {
         b"crash a5a\n",
         b"crash 0g\n",
         b"crash Old\n",
-        b"crash part 1\n",
+        b"crash part 10000\n",
         b"crash  a5\n",
     ];
     for line in lines {
@@ -169,34 +170,69 @@ fn the_first_line_that_does_not_read(rt: HostRuntime) -> Result<(), Fail> {
 
 #[test]
 fn the_most_that_reads(rt: HostRuntime) -> Result<(), Fail> {
-    let rows: [(&[u8], &[u8]); 7] = [
-        (b"", b""),
-        (
-            b"call 1 add 9\nturn 1 1000000\n",
-            b"call 1 1 add 9\nanswer 1 yes\n",
-        ),
-        (
-            b"call 64 add 999999999999999999\nturn 64 1\nuntil 64 Pin\n",
-            b"call 1 64 add 999999999999999999\nanswer 1 yes\n",
-        ),
-        (
-            b"call 64 add 0\nfinish 64\nshow\ncall 64 remove 0\nfinish 64\nshow\n",
-            b"call 1 64 add 0\nanswer 1 yes\nshow 0\ncall 2 64 remove 0\nanswer 2 yes\nshow\n",
-        ),
-        (
-            b"call 1 has 999999999999999999\ncall 2 remove 999999999999999999\nfinish 2\nfinish 1\n",
-            b"call 1 1 has 999999999999999999\ncall 2 2 remove 999999999999999999\nanswer 2 no\nanswer 1 no\n",
-        ),
-        (
-            b"crash 00\ncrash 09\ncrash af\ncrash ff\ncrash old\ncrash new\n",
-            b"crash\ncrash\ncrash\ncrash\ncrash\ncrash\n",
-        ),
-        (b"trip\nstop\nopen\nshow\n", b"stop\nopen\nshow\n"),
-    ];
-    for (script, output) in rows {
-        assert!(rt; prints(rt.alloc(), 2, 1, script, 0, output));
-    }
-    Ok(())
+    assert!(rt; prints(rt.alloc(), 2, 1, b"", 0, b""));
+    let text = "
+        == slots 2, buckets 1: the most turns
+        > call 1 add 9
+        call 1 1 add 9
+        > turn 1 1000000
+        answer 1 yes
+
+        == slots 2, buckets 1: the last actor, and a kind of turns that is its last
+        > call 64 add 999999999999999999
+        call 1 64 add 999999999999999999
+        > turn 64 1
+        > until 64 Pin
+        answer 1 yes
+
+        == slots 2, buckets 1: the least key
+        > call 64 add 0
+        call 1 64 add 0
+        > finish 64
+        answer 1 yes
+        > show
+        show 0
+        > call 64 remove 0
+        call 2 64 remove 0
+        > finish 64
+        answer 2 yes
+        > show
+        show
+
+        == slots 2, buckets 1: the largest key
+        > call 1 has 999999999999999999
+        call 1 1 has 999999999999999999
+        > call 2 remove 999999999999999999
+        call 2 2 remove 999999999999999999
+        > finish 2
+        answer 2 no
+        > finish 1
+        answer 1 no
+
+        == slots 2, buckets 1: each pick
+        > crash 00
+        crash
+        > crash 09
+        crash
+        > crash af
+        crash
+        > crash ff
+        crash
+        > crash old
+        crash
+        > crash new
+        crash
+
+        == slots 2, buckets 1: each word
+        > trip
+        > stop
+        stop
+        > open
+        open
+        > show
+        show
+    ";
+    rehearse_all(&rt, rt.alloc(), text)
 }
 
 // So many lines that print nothing.
@@ -217,110 +253,189 @@ fn as_many_lines_as_a_script_may_have(rt: HostRuntime) -> Result<(), Fail> {
     Ok(())
 }
 
-// Calls and turns that aren't lawful while a service is open.
+// Calls and turns that aren't lawful while a service is open. Nothing behind them is rehearsed.
 #[test]
 fn calls_and_turns_that_are_not_lawful(rt: HostRuntime) -> Result<(), Fail> {
-    let rows: [(&[u8], &[u8]); 12] = [
-        (
-            b"call 1 add 9\ncall 1 add 8\nshow\n",
-            b"call 1 1 add 9\nline 2\n",
-        ),
-        (
-            b"call 1 add 9\nturn 1 3\ncall 1 add 9\n",
-            b"call 1 1 add 9\nline 3\n",
-        ),
-        (b"turn 1 1\nshow\n", b"line 1\n"),
-        (b"until 1 Pin\nshow\n", b"line 1\n"),
-        (b"finish 1\nshow\n", b"line 1\n"),
-        (
-            b"call 1 add 9\nturn 2 1\nfinish 1\n",
-            b"call 1 1 add 9\nline 2\n",
-        ),
-        (
-            b"call 1 add 9\nfinish 1\nfinish 1\n",
-            b"call 1 1 add 9\nanswer 1 yes\nline 3\n",
-        ),
-        (
-            b"call 1 add 9\nfinish 1\nturn 1 1\n",
-            b"call 1 1 add 9\nanswer 1 yes\nline 3\n",
-        ),
-        (
-            b"call 1 add 9\nturn 1 15\nuntil 1 Pin\n",
-            b"call 1 1 add 9\nanswer 1 yes\nline 3\n",
-        ),
-        (
-            b"call 1 add 9\ntrip\nfinish 1\nfinish 1\n",
-            b"call 1 1 add 9\ndevice 1\nline 4\n",
-        ),
-        (b"open\nshow\n", b"line 1\n"),
-        (
-            b"call 1 add 9\nfinish 1\nshow\nopen\n",
-            b"call 1 1 add 9\nanswer 1 yes\nshow 9\nline 4\n",
-        ),
-    ];
-    for (script, told) in rows {
-        assert!(rt; prints(rt.alloc(), 2, 1, script, 3, told));
-    }
-    Ok(())
+    let text = "
+        == slots 2, buckets 1: a call by an actor that has one open
+        > call 1 add 9
+        call 1 1 add 9
+        > call 1 add 8
+        line 2
+        > show
+
+        == slots 2, buckets 1: a call by an actor whose call has taken turns
+        > call 1 add 9
+        call 1 1 add 9
+        > turn 1 3
+        > call 1 add 9
+        line 3
+
+        == slots 2, buckets 1: a turn without a call
+        > turn 1 1
+        line 1
+        > show
+
+        == slots 2, buckets 1: turns up to a kind without a call
+        > until 1 Pin
+        line 1
+        > show
+
+        == slots 2, buckets 1: an end without a call
+        > finish 1
+        line 1
+        > show
+
+        == slots 2, buckets 1: a turn of another actor
+        > call 1 add 9
+        call 1 1 add 9
+        > turn 2 1
+        line 2
+        > finish 1
+
+        == slots 2, buckets 1: a second end
+        > call 1 add 9
+        call 1 1 add 9
+        > finish 1
+        answer 1 yes
+        > finish 1
+        line 3
+
+        == slots 2, buckets 1: a turn behind the end
+        > call 1 add 9
+        call 1 1 add 9
+        > finish 1
+        answer 1 yes
+        > turn 1 1
+        line 3
+
+        == slots 2, buckets 1: turns up to a kind behind the last turn
+        > call 1 add 9
+        call 1 1 add 9
+        > turn 1 15
+        answer 1 yes
+        > until 1 Pin
+        line 3
+
+        == slots 2, buckets 1: a second end where the device failed
+        > call 1 add 9
+        call 1 1 add 9
+        > trip
+        > finish 1
+        device 1
+        > finish 1
+        line 4
+
+        == slots 2, buckets 1: an open of an open set
+        > open
+        line 1
+        > show
+
+        == slots 2, buckets 1: an open behind an answer
+        > call 1 add 9
+        call 1 1 add 9
+        > finish 1
+        answer 1 yes
+        > show
+        show 9
+        > open
+        line 4
+    ";
+    rehearse_all(&rt, rt.alloc(), text)
 }
 
-// Whether, once these lines were rehearsed and have printed this, the line isn't lawful, whose number is told so.
-fn ends_behind(
+// Whether each of these lines isn't lawful behind the transcript's.
+fn end_behind(
+    rt: &impl Abort,
     alloc: Global,
-    lines: &[u8],
-    printed: &[u8],
-    line: &[u8],
-    told: &[u8],
-) -> Result<bool, AllocError> {
-    let mut script = lines.to_vec(alloc)?;
-    script.extend_from_slice(line)?;
-    let mut output = printed.to_vec(alloc)?;
-    output.extend_from_slice(told)?;
-    Ok(prints(alloc, 2, 1, script.as_slice(), 3, output.as_slice()))
+    before: &str,
+    number: u32,
+    lines: &[&str],
+) -> Result<(), Fail> {
+    let mut text = String::new(alloc);
+    for line in lines.iter() {
+        write!(
+            text,
+            "== slots 2, buckets 1: {line}\n{before}> {line}\nline {number}\n"
+        )?;
+    }
+    rehearse_all(rt, alloc, text.as_str())
 }
 
 // Without an open service nothing is called, nor shown. The calls of the life that has ended are under way for good.
 #[test]
 fn lines_that_are_not_lawful_without_a_service(rt: HostRuntime) -> Result<(), Fail> {
-    let ended: [(&[u8], &[u8], &[u8]); 5] = [
+    let ended = [
         (
-            b"call 1 add 9\nturn 1 3\nstop\n",
-            b"call 1 1 add 9\nstop\n",
-            b"line 4\n",
+            "
+                > call 1 add 9
+                call 1 1 add 9
+                > turn 1 3
+                > stop
+                stop
+            ",
+            4,
         ),
         (
-            b"call 1 add 9\nturn 1 3\ncrash new\n",
-            b"call 1 1 add 9\ncrash\n",
-            b"line 4\n",
+            "
+                > call 1 add 9
+                call 1 1 add 9
+                > turn 1 3
+                > crash new
+                crash
+            ",
+            4,
         ),
         (
-            b"call 1 add 9\nstop\ntrip\nopen\n",
-            b"call 1 1 add 9\nstop\nopen fault 7\n",
-            b"line 5\n",
+            "
+                > call 1 add 9
+                call 1 1 add 9
+                > stop
+                stop
+                > trip
+                > open
+                open fault 7
+            ",
+            5,
         ),
         (
-            b"call 1 add 9\ncrash old\ntrip\nopen\ntrip\n",
-            b"call 1 1 add 9\ncrash\nopen fault 7\n",
-            b"line 6\n",
+            "
+                > call 1 add 9
+                call 1 1 add 9
+                > crash old
+                crash
+                > trip
+                > open
+                open fault 7
+                > trip
+            ",
+            6,
         ),
         (
-            b"stop\ntrip\nopen\ncrash a5\nstop\n",
-            b"stop\nopen fault 7\ncrash\nstop\n",
-            b"line 6\n",
+            "
+                > stop
+                stop
+                > trip
+                > open
+                open fault 7
+                > crash a5
+                crash
+                > stop
+                stop
+            ",
+            6,
         ),
     ];
-    let lines: [&[u8]; 6] = [
-        b"show\n",
-        b"call 1 add 9\n",
-        b"call 2 has 9\n",
-        b"turn 1 1\n",
-        b"until 1 Pin\n",
-        b"finish 1\n",
+    let lines = [
+        "show",
+        "call 1 add 9",
+        "call 2 has 9",
+        "turn 1 1",
+        "until 1 Pin",
+        "finish 1",
     ];
-    for (before, printed, told) in ended {
-        for line in lines {
-            assert!(rt; ends_behind(rt.alloc(), before, printed, line, told)?);
-        }
+    for (before, number) in ended {
+        end_behind(&rt, rt.alloc(), before, number, &lines)?;
     }
     Ok(())
 }
@@ -328,155 +443,136 @@ fn lines_that_are_not_lawful_without_a_service(rt: HostRuntime) -> Result<(), Fa
 // Nor does a call come back with the next service.
 #[test]
 fn calls_of_an_earlier_life_take_no_turns(rt: HostRuntime) -> Result<(), Fail> {
-    let before: &[u8] = b"call 1 add 9\nturn 1 3\nstop\nopen\n";
-    let printed: &[u8] = b"call 1 1 add 9\nstop\nopen\n";
-    let lines: [&[u8]; 4] = [b"turn 1 1\n", b"until 1 Sync\n", b"finish 1\n", b"open\n"];
-    for line in lines {
-        assert!(rt; ends_behind(rt.alloc(), before, printed, line, b"line 5\n")?);
-    }
-    Ok(())
+    let before = "
+        > call 1 add 9
+        call 1 1 add 9
+        > turn 1 3
+        > stop
+        stop
+        > open
+        open
+    ";
+    end_behind(
+        &rt,
+        rt.alloc(),
+        before,
+        5,
+        &["turn 1 1", "until 1 Sync", "finish 1", "open"],
+    )
 }
 
 #[test]
 fn lines_that_are_lawful_without_a_service(rt: HostRuntime) -> Result<(), Fail> {
-    let rows: [(&[u8], &[u8]); 7] = [
-        (
-            b"stop\ntrip\nstop\ncrash old\ncrash new\nopen\nshow\n",
-            b"stop\nstop\ncrash\ncrash\nopen\nshow\n",
-        ),
-        (
-            b"stop\ntrip\nopen\ntrip\nopen\nopen\n",
-            b"stop\nopen fault 7\nopen fault 7\nopen\n",
-        ),
-        (
-            b"stop\ntrip\ntrip\nopen\nopen\n",
-            b"stop\nopen fault 7\nopen\n",
-        ),
-        (b"stop\ntrip\nstop\nopen\n", b"stop\nstop\nopen\n"),
-        (b"stop\ntrip\ncrash 37\nopen\n", b"stop\ncrash\nopen\n"),
-        (b"trip\ncrash new\nopen\n", b"crash\nopen\n"),
-        (
-            b"call 1 add 9\nstop\nopen\ncall 1 add 9\nfinish 1\n",
-            b"call 1 1 add 9\nstop\nopen\ncall 2 1 add 9\nanswer 2 yes\n",
-        ),
-    ];
-    for (script, output) in rows {
-        assert!(rt; prints(rt.alloc(), 2, 1, script, 0, output));
-    }
-    Ok(())
+    let text = "
+        == slots 2, buckets 1: stops and crashes
+        > stop
+        stop
+        > trip
+        > stop
+        stop
+        > crash old
+        crash
+        > crash new
+        crash
+        > open
+        open
+        > show
+        show
+
+        == slots 2, buckets 1: two opens that fail
+        > stop
+        stop
+        > trip
+        > open
+        open fault 7
+        > trip
+        > open
+        open fault 7
+        > open
+        open
+
+        == slots 2, buckets 1: two trips that are one
+        > stop
+        stop
+        > trip
+        > trip
+        > open
+        open fault 7
+        > open
+        open
+
+        == slots 2, buckets 1: a stop takes a trip away
+        > stop
+        stop
+        > trip
+        > stop
+        stop
+        > open
+        open
+
+        == slots 2, buckets 1: so does a crash
+        > stop
+        stop
+        > trip
+        > crash 37
+        crash
+        > open
+        open
+
+        == slots 2, buckets 1: and a crash of an open service
+        > trip
+        > crash new
+        crash
+        > open
+        open
+
+        == slots 2, buckets 1: an actor calls anew
+        > call 1 add 9
+        call 1 1 add 9
+        > stop
+        stop
+        > open
+        open
+        > call 1 add 9
+        call 2 1 add 9
+        > finish 1
+        answer 2 yes
+    ";
+    rehearse_all(&rt, rt.alloc(), text)
 }
 
-// A trip waits for the next call that the device gets. A sync that another one covers isn't made.
+// A full set looks at all 64 pins before it says so, and asks once more. A failed device call halts the service.
 #[test]
-fn a_trip_waits_for_a_device_call(rt: HostRuntime) -> Result<(), Fail> {
-    let script: &[u8] =
-        b"call 1 add 9\nuntil 1 Release\ncall 2 has 9\nfinish 2\ntrip\ntrip\nfinish 1\ncall 3 has 9\nfinish 3\ncall 3 add 8\nfinish 3\n";
-    let output: &[u8] =
-        b"call 1 1 add 9\ncall 2 2 has 9\nanswer 2 yes\nanswer 1 yes\ncall 3 3 has 9\nanswer 3 yes\ncall 4 3 add 8\ndevice 4\n";
-    assert!(rt; prints(rt.alloc(), 2, 1, script, 0, output));
-    Ok(())
-}
+fn turns_up_to_a_kind_that_is_rare(rt: HostRuntime) -> Result<(), Fail> {
+    let text = "
+        == slots 1, buckets 1: no more turns than to the last pin
+        > call 1 add 9
+        call 1 1 add 9
+        > finish 1
+        answer 1 yes
+        > call 1 add 8
+        call 2 1 add 8
+        > until 1 SeePin
+        > turn 1 63
+        > turn 1 1
+        > turn 1 1
+        refused 2 full
 
-// Whether the turns of actor 1, after these lines, end with the first of this kind: so many more end its call, and fewer
-// don't.
-fn stops_at(
-    alloc: Global,
-    lines: &str,
-    printed: &str,
-    kind: &str,
-    left: u32,
-    ending: &str,
-) -> Result<bool, AllocError> {
-    let mut script = String::new(alloc);
-    write!(script, "{lines}until 1 {kind}\n")?;
-    if left > 1 {
-        let fewer = left - 1;
-        write!(script, "turn 1 {fewer}\n")?;
-    }
-    let is_open = prints(alloc, 1, 1, script.as_bytes(), 0, printed.as_bytes());
-    script.push_str("turn 1 1\n")?;
-    let mut output = String::new(alloc);
-    write!(output, "{printed}{ending}\n")?;
-    Ok(is_open && prints(alloc, 1, 1, script.as_bytes(), 0, output.as_bytes()))
-}
-
-#[test]
-fn turns_until_a_kind_of_an_addition(rt: HostRuntime) -> Result<(), Fail> {
-    let rows: [(&str, u32); 11] = [
-        ("Pin", 14),
-        ("Hop", 13),
-        ("Reserve", 11),
-        ("WriteKey", 10),
-        ("Sync", 9),
-        ("Claim", 7),
-        ("Check", 6),
-        ("WriteOpen", 5),
-        ("Link", 4),
-        ("Release", 3),
-        ("Settle", 1),
-    ];
-    let call = "call 1 add 9\n";
-    for (kind, left) in rows {
-        let stops = stops_at(
-            rt.alloc(),
-            call,
-            "call 1 1 add 9\n",
-            kind,
-            left,
-            "answer 1 yes",
-        )?;
-        assert!(rt; stops, "until {kind}");
-    }
-    Ok(())
-}
-
-#[test]
-fn turns_until_a_kind_of_a_removal(rt: HostRuntime) -> Result<(), Fail> {
-    let rows: [(&str, u32); 7] = [
-        ("WriteClose", 7),
-        ("Mark", 6),
-        ("Sync", 5),
-        ("Settle", 4),
-        ("Unlink", 3),
-        ("Release", 2),
-        ("Retire", 1),
-    ];
-    let lines = "call 1 add 9\nfinish 1\ncall 1 remove 9\n";
-    let printed = "call 1 1 add 9\nanswer 1 yes\ncall 2 1 remove 9\n";
-    for (kind, left) in rows {
-        let stops = stops_at(rt.alloc(), lines, printed, kind, left, "answer 2 yes")?;
-        assert!(rt; stops, "until {kind}");
-    }
-    Ok(())
-}
-
-// A full set looks at all pins before it says so, and asks once more. A failed device call halts the service.
-#[test]
-fn turns_until_a_kind_that_is_rare(rt: HostRuntime) -> Result<(), Fail> {
-    let full = stops_at(
-        rt.alloc(),
-        "call 1 add 9\nfinish 1\ncall 1 add 8\n",
-        "call 1 1 add 9\nanswer 1 yes\ncall 2 1 add 8\n",
-        "SeePin",
-        65,
-        "refused 2 full",
-    )?;
-    assert!(rt; full);
-    let failed = stops_at(
-        rt.alloc(),
-        "trip\ncall 1 add 9\n",
-        "call 1 1 add 9\n",
-        "Halt",
-        1,
-        "device 1",
-    )?;
-    assert!(rt; failed);
-    Ok(())
+        == slots 1, buckets 1: the turn before the answer
+        > trip
+        > call 1 add 9
+        call 1 1 add 9
+        > until 1 Halt
+        > turn 1 1
+        device 1
+    ";
+    rehearse_all(&rt, rt.alloc(), text)
 }
 
 // Where the call has no turn of that kind, or none but its last, the turns end with the call.
 #[test]
-fn turns_until_a_kind_that_does_not_come(rt: HostRuntime) -> Result<(), Fail> {
+fn turns_up_to_a_kind_that_does_not_come(rt: HostRuntime) -> Result<(), Fail> {
+    let mut text = String::new(rt.alloc());
     for kind in [
         "Invoke",
         "WriteClose",
@@ -487,13 +583,10 @@ fn turns_until_a_kind_that_does_not_come(rt: HostRuntime) -> Result<(), Fail> {
         "Answer",
         "Halt",
     ] {
-        let mut script = String::new(rt.alloc());
-        write!(script, "call 1 add 9\nuntil 1 {kind}\n")?;
-        let output: &[u8] = b"call 1 1 add 9\nanswer 1 yes\n";
-        assert!(rt;
-            prints(rt.alloc(), 2, 1, script.as_bytes(), 0, output),
-            "until {kind}"
-        );
+        write!(
+            text,
+            "== slots 2, buckets 1: {kind}\n> call 1 add 9\ncall 1 1 add 9\n> until 1 {kind}\nanswer 1 yes\n"
+        )?;
     }
-    Ok(())
+    rehearse_all(&rt, rt.alloc(), text.as_str())
 }

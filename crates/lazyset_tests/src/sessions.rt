@@ -1,5 +1,6 @@
 //! What a run answers to its lines, in whatever pieces they come, and where a reader or a writer fails.
 use crate::commands::{ONE_SLOT, TWO_SLOTS, disk_with};
+use crate::transcript::transcripts;
 use lazyset_commands::run_on;
 use std::alloc::{AllocError, Global};
 use std::io;
@@ -73,52 +74,138 @@ fn answers(alloc: Global, file: &[u8], lines: &[u8], replies: &[u8]) -> Result<b
     )
 }
 
+// Runs over made files of one slot or two.
+const RUNS: &str = "
+    == slots 2, buckets 1: an addition, look-ups, and the addition again
+    > add 17
+    yes
+    > has 17
+    yes
+    > add 17
+    no
+    > has 18
+    no
+
+    == slots 2, buckets 1: the largest key, the first number that is none, a zero in front, and the least key
+    > add 999999999999999999
+    yes
+    > add 1000000000000000000
+    bad 4
+    > add 007
+    bad 3
+    > add 0
+    yes
+
+    == slots 2, buckets 1: a full set
+    > add 5
+    yes
+    > add 5
+    no
+    > add 6
+    yes
+    > add 7
+    full
+    > has 7
+    no
+
+    == slots 2, buckets 1: a line of 65 letters
+    > aaaaaaaaaaaaaaaaaaaaaaaaaaaaaaaaaaaaaaaaaaaaaaaaaaaaaaaaaaaaaaaaa
+    bad 1
+    > has 1
+    no
+
+    == slots 2, buckets 1: removals
+    > add 1
+    yes
+    > remove 1
+    yes
+    > remove 1
+    no
+    > has 1
+    no
+    > add 1
+    yes
+
+    == slots 2, buckets 1: lines that ask for nothing
+    > add  5
+    bad 3
+    > Add 5
+    bad 2
+    > has
+    bad 2
+    > add 1 2
+    bad 3
+    > remove
+    bad 2
+    > remove 01
+    bad 3
+    > removed 1
+    bad 2
+    > remove +1
+    bad 3
+
+    == slots 2, buckets 1: what follows quit is ignored
+    > add 3
+    yes
+    > quit
+    > add 4
+
+    == slots 2, buckets 1: quit is a line by itself
+    > quit now
+    bad 2
+    > has 2
+    no
+
+    == slots 1, buckets 1: the slot of a removed key is used again
+    > add 5
+    yes
+    > add 5
+    no
+    > add 6
+    full
+    > remove 5
+    yes
+    > add 6
+    yes
+";
+
+// Each line is answered by what stands below it, whether it ends by a line feed alone or by both characters.
 #[test]
 fn answers_each_line(rt: HostRuntime) -> Result<(), Fail> {
-    let rows: [(&[u8], &[u8]); 15] = [
+    let transcripts = transcripts(&rt, rt.alloc(), RUNS)?;
+    for transcript in transcripts.iter() {
+        let file: &[u8] = if transcript.slots == 1 {
+            &ONE_SLOT
+        } else {
+            &TWO_SLOTS
+        };
+        for before in 0..transcript.lines() {
+            let lines = before + 1;
+            for ending in ["\n", "\r\n"] {
+                let (asked, told) = transcript.first(rt.alloc(), lines, ending)?;
+                let is_told = answers(rt.alloc(), file, asked.as_bytes(), told.as_bytes())?;
+                assert!(rt; is_told, "{}: line {lines}", transcript.name);
+            }
+        }
+    }
+    Ok(())
+}
+
+// Lines of no words, and bytes behind the last line feed.
+#[test]
+fn answers_what_is_no_line_of_words(rt: HostRuntime) -> Result<(), Fail> {
+    let rows: [(&[u8], &[u8]); 7] = [
         (b"", b""),
-        (b"add 17\nhas 17\nadd 17\nhas 18\n", b"yes\nyes\nno\nno\n"),
-        (
-            b"add 17\r\nhas 17\r\nadd 17\r\nhas 18\r\n",
-            b"yes\nyes\nno\nno\n",
-        ),
-        (
-            b"add 999999999999999999\nadd 1000000000000000000\nadd 007\nadd 0\n",
-            b"yes\nbad 4\nbad 3\nyes\n",
-        ),
-        (
-            b"add 5\nadd 5\nadd 6\nadd 7\nhas 7\n",
-            b"yes\nno\nyes\nfull\nno\n",
-        ),
+        (b"\n", b"bad 2\n"),
+        (b"has \n", b"bad 3\n"),
         (b"has 1", b"bad 5\n"),
         (b"has 1\r", b"bad 5\n"),
-        (
-            b"aaaaaaaaaaaaaaaaaaaaaaaaaaaaaaaaaaaaaaaaaaaaaaaaaaaaaaaaaaaaaaaaa\nhas 1\n",
-            b"bad 1\nno\n",
-        ),
-        (
-            b"add 1\nremove 1\nremove 1\nhas 1\nadd 1\n",
-            b"yes\nyes\nno\nno\nyes\n",
-        ),
-        (
-            b"add  5\nAdd 5\n\nhas\nhas \nadd 1 2\n",
-            b"bad 3\nbad 2\nbad 2\nbad 2\nbad 3\nbad 3\n",
-        ),
-        (
-            b"remove\nremove 01\nremoved 1\nremove +1\n",
-            b"bad 2\nbad 3\nbad 2\nbad 3\n",
-        ),
-        (b"add 3\nquit\nadd 4\n", b"yes\n"),
-        (b"quit\r\n", b""),
         (b"quit", b"bad 5\n"),
-        (b"quit now\nhas 2\n", b"bad 2\nno\n"),
+        (b"quit\r\n", b""),
     ];
     for (lines, replies) in rows {
         assert!(rt; answers(rt.alloc(), &TWO_SLOTS, lines, replies)?);
     }
-    let lines: &[u8] = b"add 5\nadd 5\nadd 6\nremove 5\nadd 6\n";
-    let replies: &[u8] = b"yes\nno\nfull\nyes\nyes\n";
-    assert!(rt; answers(rt.alloc(), &ONE_SLOT, lines, replies)?);
     Ok(())
 }
 

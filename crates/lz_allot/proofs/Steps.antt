@@ -5,7 +5,7 @@ use Rattle.std.proofs.lemmas.List.{map-set, length-map, length-replicate, get_or
 use Rattle.std.proofs.lemmas.List.FromFn.{length-map-range_with_len, get_or-map-range_with_len}
 use Rattle.std.proofs.lemmas.List.Quantifiers.{position-Some}
 use Rattle.std.proofs.lemmas.Bool.{cases_Bool, eqb-true, eqb-false, or_left, or_right, or_from}
-use Rattle.lz_slot.specs.Limits.{most_slots}
+use Rattle.lz_slot.specs.Limits.{most_passes, most_slots}
 use Rattle.lz_slot.specs.Counted.{of_pass}
 use Rattle.lz_slot.proofs.Counted.{length-set_of_pass}
 use Rattle.lz_allot.specs.declared.kind.Kind.{Kind}
@@ -15,7 +15,7 @@ use Rattle.lz_allot.specs.declared.sight.Sight.TheVariants.{Unseen}
 use Rattle.lz_allot.specs.declared.counts.Counts.{Counts}
 use Rattle.lz_allot.specs.Rows.{first_row, row_seen, rows_seen, row_freed, rows_freed, least_left}
 use Rattle.lz_allot.specs.Uses.{Use, Free, Taken, Limbo, use_of, is_free, counts, lowest_free, take_slot, give_back, retire, see_pin, collect}
-use Rattle.lz_allot.specs.Allots.{IsAllot, IsQueue, IsRow, IsTakenAt, first_uses, is_free_kind, kind_at, most_passes, set_each, use_told, uses_told}
+use Rattle.lz_allot.specs.Allots.{IsAllot, IsQueue, IsRow, IsTakenAt, first_uses, is_free_kind, kind_at, set_each, use_told, uses_told}
 use Rattle.lz_allot.proofs.Setting.{length-set_each, map-set_each, set_each_same, set_each_other}
 use Rattle.lz_allot.proofs.Telling.{IsPlain, Shows, length_told, use_told_at, shows_told, told_is, queue_set, told_set, queue_pushed, told_pushed}
 use Rattle.lz_allot.proofs.Seeing.{rows_are_seen, told_seen, sights_fresh, rows_longer}

@@ -1,7 +1,7 @@
 -- What is kept of the slots: the kind of each, the queue of those in limbo, and a row for each pass.
 use Rattle.std.specs.Prelude.{◌≡◌, ◌<◌, ◌≤◌, ◌%◌, ◌==◌, ℕ, nat_lt, Bool, true, false, if◌then◌else◌, List, length, map, fold, slice_index, slice_index_or, slice_set}
 use Rattle.std.specs.List.{list_any, position_or_len, range_with_len}
-use Rattle.lz_slot.specs.Limits.{most_slots}
+use Rattle.lz_slot.specs.Limits.{most_passes, most_slots}
 use Rattle.lz_allot.specs.declared.kind.Kind.{Kind}
 use Rattle.lz_allot.specs.declared.kind.Kind.TheVariants as kind
 use Rattle.lz_allot.specs.declared.row.Row.{Row}
@@ -15,10 +15,6 @@ use Rattle.lz_allot.specs.Uses.{Use, Free, Taken, Limbo, counts, use_of}
 pub record Allotted : Type 0 where
   pub uses : List Use
   pub rows : List Row
-
--- the most passes that are told apart
-abbrev pub most_passes : ℕ
-most_passes = 64
 
 -- the uses of N slots of which some are taken from the first
 abbrev pub first_uses : ℕ → List ℕ → List Use

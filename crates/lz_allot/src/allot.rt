@@ -1,9 +1,9 @@
 //! The slots that are free, taken or in limbo.
 ghost use Rattle.std.specs.Prelude.{◌≡◌, ◌+◌, ◌<◌, ◌≤◌, ◌↔◌, true, length, replicate, take, drop, All, IsTrue, IsNone, IfOk, IfSome};
 ghost use Rattle.std.specs.VecDeque.{deque_capacity};
-ghost use Rattle.lz_slot.specs.Limits.{most_slots};
+ghost use Rattle.lz_slot.specs.Limits.{most_passes, most_slots};
 ghost use Rattle.lz_allot.specs.Rows.{first_row, least_left, rows_freed, rows_seen};
-ghost use Rattle.lz_allot.specs.Allots.{IsTakenAt, first_uses, most_passes, set_each};
+ghost use Rattle.lz_allot.specs.Allots.{IsTakenAt, first_uses, set_each};
 
 use crate::counts::Counts;
 use crate::free::{FreeSlots, free_of};

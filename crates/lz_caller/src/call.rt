@@ -1,5 +1,6 @@
 //! A call under way.
 ghost use Rattle.std.specs.Prelude.{◌≡◌, ◌<◌, ◌≤◌, length};
+ghost use Rattle.lz_slot.specs.Limits.{most_buckets, most_passes};
 ghost use Rattle.lz_slot.specs.Sets.{key_of};
 ghost use Rattle.lz_list.specs.Hops.{LeadsOn};
 ghost use Rattle.lz_list.specs.Walks.{hopped};
@@ -7,7 +8,7 @@ ghost use Rattle.lz_machine.specs.Calls.{after_event, event_at, events_of, first
 ghost use Rattle.lz_machine.specs.Orders.{ComesAt, HasPass, IsAnswering, IsChecking, IsClaiming, IsEverywhere, IsLoading, IsPlaying, IsProgress, IsReserving, IsSeeingPins, MayTake, shape_with};
 ghost use Rattle.lz_machine.specs.Runs.{reply_at};
 
-use crate::order::{changes, count_of, event_of, follower_of, halt_loaded, hopped, key_of};
+use crate::order::{changes, count_of, event_of, follower_of, halt_loaded, hopped};
 use lz_list::{Look, Walk, Word};
 use lz_machine::{Event, Outcome, Progress, Reply, Script};
 use lz_slot::{Command, Slot};
@@ -52,8 +53,8 @@ impl Model for Caller {
 impl Caller {
     /// A call that was just made: its Invoke is behind it, unless that answered OldFile, which it is still to take.
     pub fn new(command: Command, buckets: usize, passes: usize) -> Caller
-        requires buckets { (1 ≤ buckets) × (buckets ≤ 4096) }
-        requires passes { (1 ≤ passes) × (passes ≤ 64) }
+        requires buckets { (1 ≤ buckets) × (buckets ≤ most_buckets) }
+        requires passes { (1 ≤ passes) × (passes ≤ most_passes) }
         ensures { result ≡ record { command = command; buckets = buckets; passes = passes; progress = first_progress } }
     {
         Caller {
@@ -141,7 +142,7 @@ impl Caller {
         ensures buckets { 1 ≤ self.now.buckets }
     {
         Walk {
-            key: key_of(self.command),
+            key: self.command.key(),
             buckets: self.buckets,
             look,
         }

@@ -7,4 +7,3 @@ mod call;
 mod order;
 
 pub use call::Caller;
-pub use order::key_of;

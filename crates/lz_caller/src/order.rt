@@ -1,6 +1,5 @@
 //! What a call plays next: its scripts, and what follows a walk or a check.
 ghost use Rattle.std.specs.Prelude.{◌≡◌, ◌<◌, length};
-ghost use Rattle.lz_slot.specs.Sets as sets;
 ghost use Rattle.lz_flush.specs.Settling.{may_answer};
 ghost use Rattle.lz_list.specs.Hops.{told};
 ghost use Rattle.lz_machine.specs.Orders.{IsEverywhere};
@@ -9,18 +8,7 @@ ghost use Rattle.lz_machine.specs.Calls.{changes, event_of, events_of, goes_on, 
 use lz_flush::{Need, may_answer};
 use lz_list::{Flags, Hop, Look, Met, Place};
 use lz_machine::{Event, Progress, Reply, Script};
-use lz_slot::{Command, Key, Slot};
-
-/// The key that a command names.
-pub fn key_of(command: Command) -> Key
-    ensures { result ≡ sets.key_of command }
-{
-    match command {
-        Command::Add(key) => key,
-        Command::Remove(key) => key,
-        Command::Has(key) => key,
-    }
-}
+use lz_slot::{Command, Slot};
 
 // How many events a script has.
 pub(crate) fn count_of(command: Command, script: Script) -> usize
@@ -46,7 +34,7 @@ pub(crate) fn event_of(command: Command, script: Script, index: usize) -> Event
             _ => Event::Settle(slot),
         },
         Script::Writing(slot) => match index {
-            0 => Event::WriteKey(key_of(command)),
+            0 => Event::WriteKey(command.key()),
             _ => Event::Sync(slot),
         },
         Script::Adding(slot) => match index {

@@ -10,7 +10,7 @@ use Rattle.lz_vault.specs.Vaults.{MayFail, medium_after}
 use Rattle.lz_machine.specs.declared.event.Event.{Event}
 use Rattle.lz_machine.specs.declared.event.Event.TheVariants.{Invoke, Check, SeePin, Answer}
 use Rattle.lz_machine.specs.declared.event.Outcome.{Outcome}
-use Rattle.lz_machine.specs.declared.event.Outcome.TheVariants.{Worn, Fault, Dead}
+use Rattle.lz_machine.specs.declared.event.Outcome.TheVariants.{Worn, OldFile, Fault, Dead}
 use Rattle.lz_machine.specs.declared.event.Reply.{Reply}
 use Rattle.lz_machine.specs.declared.caller.Script.{Script}
 use Rattle.lz_machine.specs.declared.caller.Script.TheVariants.{Pinning, Resting, Writing, Adding, Removing, Releasing, Halting}
@@ -36,17 +36,12 @@ use Rattle.lz_core.proofs.Worlding.{Goes, leads, runs_on, shape_is, shown_at, sh
 use Rattle.std.proofs.lemmas.List.{length-map, get_or-set_same}
 use Rattle.lz_list.specs.Words.{Words}
 use Rattle.lz_machine.proofs.Frames.OneActor.{caller_range}
+use Rattle.lz_machine.proofs.Runs.CallerEvent.{Next, is_next}
 use Rattle.lz_yard.proofs.Keeping.{played_shape, fault_or_not}
 use Rattle.lz_machine.proofs.Runs.CallerTable.{fault_no_reply}
-use Rattle.lz_machine.proofs.Runs.OpenCall.{shaped, same_event, same_follows, is_next}
 use Rattle.lz_machine.proofs.Theorem.Timing.{is_event, in_time, may_take, quiet_step}
 use Rattle.lz_machine.proofs.Theorem.Timeliness.{is_look, may_take_fault}
-
--- the caller whose next event this is
-pub record Next (service : Service) (a : ℕ) (e : Event) : Type 0 where
-  pub caller : Caller
-  pub at : caller_at service.callers a ≡ Some caller
-  pub event : next_event service.yard caller ≡ e
+use Rattle.lz_machine.proofs.Runs.EventOrder.{shaped, same_event, same_follows}
 
 next_by : (service : Service) (a : ℕ) (o : Option Caller) (e : Event) → caller_at service.callers a ≡ o → next_of_caller service o ≡ Some e → Next service a e
 next_by service a None e at next = absurd (false≢true (ap is_some next))
@@ -54,9 +49,6 @@ next_by service a (Some caller) e at next = record { caller = caller; at = at; e
 
 pub next_is : (service : Service) (disk : Medium) (a : ℕ) (e : Event) → next_of (Up service disk) a ≡ Some e → Next service a e
 next_is service disk a e next = next_by service a (caller_at service.callers a) e refl next
-
-next_of_call : (service : Service) (a : ℕ) (e : Event) → Next service a e → IsNext service a e
-next_of_call service a e next = subst (IsNext service a) next.event (is_next service a next.caller next.at)
 
 -- a world with an open service, one of whose calls has this next event
 module _ (shape : Shape) (over : YardOver Past) (disk : Option Past) (callers : List (Option OpenCall)) (calls a : ℕ) (world : IsWorld shape (Some over) disk callers calls) (e : Event) (is : next_of (state_shown shape (Some over) disk callers) a ≡ Some e) where
@@ -102,7 +94,7 @@ module _ (shape : Shape) (over : YardOver Past) (disk : Option Past) (callers : 
     history = ran.point.marks;
     trace = ran.point.trace;
     reached = reached;
-    next = next_of_call service a e next;
+    next = is_next service a e next;
     yard = record { shape = refl; heads = refl; links = refl; keys = refl; halt = refl; pin = refl; locks = refl; vault = refl; uses = refl; actors = refl };
     device = λ honest. refl;
   }

@@ -39,7 +39,8 @@ use Rattle.lz_machine.proofs.Frames.LoadedWord.{bucket_range}
 use Rattle.lz_core.proofs.Ascending.{eq_of, first_of, later_of}
 use Rattle.lz_machine.proofs.Theorem.Timeliness.{up_at}
 use Rattle.lz_machine.proofs.Theorem.Reached.{reached_sound}
-use Rattle.lz_yard.proofs.FoundSlots.{read_length, any_key, key_by}
+use Rattle.lz_yard.proofs.FoundSlots.{read_length}
+use Rattle.lz_machine.proofs.Open.ListedKeys.{any_key, key_by}
 
 -- in a sound open service
 module _ (n calls : ℕ) (service : Service) (disk : Medium) (life : Life) (P : Trace) (notes : Notes) (up : UpSound n calls service disk life P notes) where

@@ -9,7 +9,9 @@ use Rattle.lz_slot.specs.Histories.{Life, lives}
 use Rattle.lz_disk.specs.Images.{Medium, AreBytes, at_rest, synced}
 use Rattle.lz_disk.specs.Records.{Past, after, device_of}
 use Rattle.lz_vault.specs.declared.opening.OpenFault.{OpenFault}
-use Rattle.lz_vault.specs.Opens.{IsRefusedFor}
+use Rattle.lz_vault.specs.Opens.{IsRefusedFor, open_fault_number}
+use Rattle.lz_machine.specs.OpenFailures.{IsOpenFailure}
+use Rattle.lz_machine.proofs.Open.OpenFailures.{held_is_opened}
 use Rattle.lz_vault.specs.Makes.{IsFresh}
 use Rattle.lz_core.specs.declared.play.Step.TheVariants.{Open}
 use Rattle.lz_core.specs.declared.open_calls.OpenCall.{OpenCall}
@@ -22,17 +24,13 @@ use Rattle.lz_machine.specs.Points.{IsQuiet}
 use Rattle.lz_core.specs.Worlds.{WorldOver, IsNew, IsWorld, HasOne, HasRun, IsCallOn, PlaysOn, StopsEarly, call_shown, state_shown}
 use Rattle.lz_machine.proofs.Theorem.Reached.{reached_sound}
 use Rattle.lz_machine.proofs.Open.FirstState.{pass_of}
-use Rattle.lz_yard.proofs.Opened.{holds_listed}
+use Rattle.lz_machine.proofs.Open.ListedKeys.{listed}
 use Rattle.lz_machine.proofs.Open.FirstPoint.{one_set}
 use Rattle.lz_core.proofs.Worlding.{Goes, leads, runs_on}
 use Rattle.lz_core.proofs.WorldKeys.{yard_read}
 use Rattle.lz_yard.proofs.FoundSlots.{read_length}
 
--- a text that holds a set holds the one that is listed of it
-listed : (t : List ℕ) (N : ℕ) (S : Keys) → Holds t N S → Holds t N (members (keys_found t N))
-listed t N S h = holds_listed t N h.count.0 h.count.1 h.size h.head h.no_bad_key h.no_key_twice
-
--- and has one number of slots
+-- a text that holds a set has one number of slots
 one_count : (t : List ℕ) (N n : ℕ) (S T : Keys) → Holds t N S → Holds t n T → N ≡ n
 one_count t N n S T one other = omega (arith, one.size, other.size)
 
@@ -161,8 +159,8 @@ module _ (shape : Shape) (before : Past) (over : YardOver Past) (opens : OpensYa
       };
     }
 
--- an open that is refused leaves the disk as it was, or synced it
-module _ (shape : Shape) (before left : Past) (fault : OpenFault) (is : IsRefusedFor (device_of before) (device_of left) fault) (calls why : ℕ) where
+-- an open that is refused leaves the disk as it was, or synced it; it is the device's failure, or for want of memory
+module _ (shape : Shape) (before left : Past) (fault : OpenFault) (is : IsRefusedFor (device_of before) (device_of left) fault) (calls why : ℕ) (number : IsOpenFailure why) where
   abbrev was : Medium
   was = after before.start before.records
 
@@ -175,17 +173,17 @@ module _ (shape : Shape) (before left : Past) (fault : OpenFault) (is : IsRefuse
   pub refused_on : PlaysOn from (Open ∷ []) (refused why ∷ []) to
   refused_on = ⊎_elim
       (λ (same : after left.start left.records ≡ was). leads from to Open (OpenFails why false) (refused why ∷ [])
-      (record { is = inr (why, false, refl); may = tt; to = ap (Down shape) (sym same); counts = refl; told = refl }))
+      (record { is = inr (why, false, refl); may = number; to = ap (Down shape) (sym same); counts = refl; told = refl }))
       (λ (same : after left.start left.records ≡ synced was). leads from to Open (OpenFails why true) (refused why ∷ [])
-      (record { is = inr (why, true, refl); may = tt; to = ap (Down shape) (sym same); counts = refl; told = refl }))
+      (record { is = inr (why, true, refl); may = number; to = ap (Down shape) (sym same); counts = refl; told = refl }))
       (is.medium refl)
 
   pub refused_runs : HasRun shape from → HasRun shape to
   refused_runs ran = ⊎_elim
       (λ (same : after left.start left.records ≡ was). runs_on shape from to Open (OpenFails why false) (refused why ∷ []) ran
-      (record { is = inr (why, false, refl); may = tt; to = ap (Down shape) (sym same); counts = refl; told = refl }) tt)
+      (record { is = inr (why, false, refl); may = number; to = ap (Down shape) (sym same); counts = refl; told = refl }) tt)
       (λ (same : after left.start left.records ≡ synced was). runs_on shape from to Open (OpenFails why true) (refused why ∷ []) ran
-      (record { is = inr (why, true, refl); may = tt; to = ap (Down shape) (sym same); counts = refl; told = refl }) tt)
+      (record { is = inr (why, true, refl); may = number; to = ap (Down shape) (sym same); counts = refl; told = refl }) tt)
       (is.medium refl)
 
 -- a world with a disk has no service
@@ -220,6 +218,12 @@ module _ (shape : Shape) (yard : Option (YardOver Past)) (disk : Option Past) (c
     abbrev after_it : WorldOver
     after_it = record { state = state_shown shape yard (Some left) callers; calls = calls }
 
+    failure : IsOpenFailure (open_fault_number fault)
+    failure =
+        let held = run_holds shape (after taken.start taken.records) calls ran_down in
+        ⊎_elim (λ device. inl (ap open_fault_number device)) (λ memory. inr (ap open_fault_number memory))
+        (held_is_opened (after taken.start taken.records).seen shape.slots held.0 fault held.1 (for.why refl))
+
     state_left : state_shown shape yard (Some left) callers ≡ Down shape (after left.start left.records)
     state_left = ap (λ (y : Option (YardOver Past)). state_shown shape y (Some left) callers) no_service
 
@@ -228,14 +232,17 @@ module _ (shape : Shape) (yard : Option (YardOver Past)) (disk : Option Past) (c
       one = subst (λ (y : Option (YardOver Past)). HasOne y (Some left)) (sym no_service) tt;
       count = world.count;
       on_it = world.on_it;
-      ran = subst (λ (s : State). HasRun shape (record { state = s; calls = calls })) (sym state_left) (refused_runs shape taken left fault for calls 0 ran_down);
+      ran = subst (λ (s : State). HasRun shape (record { state = s; calls = calls })) (sym state_left) (refused_runs shape taken left fault for calls (open_fault_number fault) failure ran_down);
     }
 
-    pub still_down : (why : ℕ) → PlaysOn before_it (Open ∷ []) (refused why ∷ []) after_it
-    still_down why =
+    down_still : (why : ℕ) → IsOpenFailure why → PlaysOn before_it (Open ∷ []) (refused why ∷ []) after_it
+    down_still why number =
         subst (λ (s : State). PlaysOn before_it (Open ∷ []) (refused why ∷ []) (record { state = s; calls = calls })) (sym state_left)
         (subst (λ (s : State). PlaysOn (record { state = s; calls = calls }) (Open ∷ []) (refused why ∷ []) (record { state = Down shape (after left.start left.records); calls = calls })) (sym state_was)
-        (refused_on shape taken left fault for calls why))
+        (refused_on shape taken left fault for calls why number))
+
+    pub still_down : (why : ℕ) → why ≡ open_fault_number fault → PlaysOn before_it (Open ∷ []) (refused why ∷ []) after_it
+    still_down why same = down_still why (subst IsOpenFailure (sym same) failure)
 
     pub refused_memory : StopsEarly before_it (Open ∷ []) after_it
-    refused_memory = record { count = 1; few = omega arith; marks = refused 8 ∷ []; before = still_down 8 }
+    refused_memory = record { count = 1; few = omega arith; marks = refused 8 ∷ []; before = down_still 8 (inr refl) }

@@ -14,14 +14,12 @@ use Rattle.lz_disk.specs.Picks.{left_by}
 use Rattle.lz_disk.specs.Records.{Past, after}
 use Rattle.lz_core.specs.declared.play.Step.{Step as PlayStep}
 use Rattle.lz_core.specs.declared.play.Step.TheVariants.{Call as CallOf, Trip, Stop, Crash}
-use Rattle.lz_machine.specs.Calls.{first_progress}
 use Rattle.lz_core.specs.declared.open_calls.OpenCall.{OpenCall}
 use Rattle.lz_machine.specs.Yards.{Shape}
 use Rattle.lz_machine.specs.Runs.{Caller, Calls, caller_at, Start, start_keys, State, Up, Down, Step, Trips, Stops, Crashes, MayStep, disk_of, state_after, calls_after, marks_of, shape_of, Point, point_after, run, first_point}
-use Rattle.lz_machine.specs.Table.{is_old}
-use Rattle.lz_core.specs.Plays.{IsPlayOf, IsReached}
+use Rattle.lz_core.specs.Plays.{IsPlayOf}
 use Rattle.lz_yard.specs.Parts.{YardOver}
-use Rattle.lz_core.specs.Worlds.{WorldOver, StopsEarly, IsQuiet, HasRun, PlaysOn, HasOne, IsCallOn, IsLawful, IsOpenFor, IsWorld, MayCall, call_shown, state_shown, disk_shown}
+use Rattle.lz_core.specs.Worlds.{WorldOver, StopsEarly, HasRun, PlaysOn, HasOne, IsCallOn, IsLawful, IsWorld, MayCall, call_shown, state_shown, disk_shown}
 use Rattle.lz_machine.specs.Points.{IsQuiet, IsReached}
 use Rattle.lz_machine.specs.Sound.{PointSound}
 use Rattle.lz_machine.proofs.Runs.ReachedPoint.{reach, shape_kept}
@@ -168,57 +166,9 @@ set_at xs (suc a) x low =
     let same : suc a - 1 ≡ a = omega arith in
     rw same refl
 
-no_call : (call : Option OpenCall) → IsNone call → IsNone (call_shown call)
+pub no_call : (call : Option OpenCall) → IsNone call → IsNone (call_shown call)
 no_call None none = none
 no_call (Some call) none = none
-
--- the first progress of a call that was just made
-abbrev pub made : Shape → ℕ → Command → OpenCall
-made shape number c = record { number = number; caller = record { command = c; buckets = shape.buckets; passes = shape.passes; progress = first_progress } }
-
--- an actor without a call makes one
-module _ (shape : Shape) (disk : Option Past) (callers : List (Option OpenCall)) (calls a : ℕ) (c : Command) (low : 1 ≤ a) (high : a ≤ shape.passes) (key : key_of c ≤ largest_key) (free : IsNone (slice_index_or callers (a - 1) None)) where
-  pub call_goes : (over : YardOver Past)
-      → is_old over.yard.vault.format c ≡ false
-      → HasRun shape (record { state = state_shown shape (Some over) disk callers; calls = calls })
-      → Goes (record { state = state_shown shape (Some over) disk callers; calls = calls }) (CallOf a c) (Calls a c) (called (calls + 1) a c ∷ [])
-      (record { state = state_shown shape (Some over) disk (slice_set callers (a - 1) (Some (made shape (calls + 1) c))); calls = calls + 1 })
-  call_goes over fits ran =
-      let none : IsNone (caller_at (map call_shown callers) a) = subst IsNone (sym (shown_caller callers a low)) (no_call (slice_index_or callers (a - 1) None) free) in
-      let next : suc calls ≡ calls + 1 = omega arith in
-      record {
-        is = refl;
-        may = ((low, subst (λ (s : Shape). a ≤ s.passes) (sym (shape_is shape _ ran)) high), none, ran.quiet a none, (key, fits));
-        to =
-            ap (λ (n : ℕ). state_after n (state_shown shape (Some over) disk callers) (Calls a c)) next
-            ∙ ap (λ (cs : List (Option Caller)). Up (record { yard = over.yard; callers = cs }) (after over.disk.start over.disk.records))
-            (set_at (map call_shown callers) a _ low ∙ sym (shown_set callers (a - 1) (Some (made shape (calls + 1) c))));
-        counts = next;
-        told = ap (λ (n : ℕ). called n a c ∷ []) next;
-      }
-
-  pub call_runs : (yard : Option (YardOver Past)) → IsOpenFor yard c
-      → HasRun shape (record { state = state_shown shape yard disk callers; calls = calls })
-      → Goes (record { state = state_shown shape yard disk callers; calls = calls }) (CallOf a c) (Calls a c) (called (calls + 1) a c ∷ [])
-      (record { state = state_shown shape yard disk (slice_set callers (a - 1) (Some (made shape (calls + 1) c))); calls = calls + 1 })
-  call_runs (Some over) is ran = call_goes over is ran
-  call_runs None is ran = absurd is
-
--- an actor that has no call now had none before another one made its call
-none_at : (callers : List (Option Caller)) (i j : ℕ) (caller : Caller) → IsNone (slice_index_or (slice_set callers i (Some caller)) j None) → IsNone (slice_index_or callers j None)
-none_at (first ∷ callers) zero zero caller none = absurd (false≢true (sym none))
-none_at (first ∷ callers) (suc i) (suc j) caller none = none_at callers i j caller none
-none_at _ _ _ caller none = none
-
-none_of : (callers : List (Option Caller)) (i b : ℕ) (caller : Caller) → IsNone (caller_at (slice_set callers i (Some caller)) b) → IsNone (caller_at callers b)
-none_of callers i zero caller none = refl
-none_of callers i (suc b) caller none = none_at callers i b caller none
-
-pub call_quiet : (shape : Shape) (yard : Option (YardOver Past)) (disk : Option Past) (callers : List (Option OpenCall)) (i : ℕ) (call : OpenCall) (c : Command) → IsOpenFor yard c
-    → IsQuiet (state_shown shape yard disk callers) → IsQuiet (state_shown shape yard disk (slice_set callers i (Some call)))
-call_quiet shape None disk callers i call c is quiet = absurd is
-call_quiet shape (Some over) disk callers i call c is quiet = λ b none.
-    quiet b (none_of (map call_shown callers) i b _ (subst (λ (cs : List (Option Caller)). IsNone (caller_at cs b)) (shown_set callers i (Some call)) none))
 
 pub on_set : (shape : Shape) (callers : List (Option OpenCall)) (i : ℕ) (call : Option OpenCall) → IsCallOn shape call
     → ((j : ℕ) (other : Option OpenCall) → slice_get callers j ≡ Some other → IsCallOn shape other)
@@ -234,17 +184,6 @@ same_count [] i call = refl
 same_count (first ∷ callers) zero call = refl
 same_count (first ∷ callers) (suc i) call = ap suc (same_count callers i call)
 
-pub call_world : (shape : Shape) (yard : Option (YardOver Past)) (disk : Option Past) (callers : List (Option OpenCall)) (calls a : ℕ) (c : Command)
-    → 1 ≤ a → a ≤ shape.passes → key_of c ≤ largest_key → IsNone (slice_index_or callers (a - 1) None) → IsOpenFor yard c
-    → IsWorld shape yard disk callers calls → IsWorld shape yard disk (slice_set callers (a - 1) (Some (made shape (calls + 1) c))) (calls + 1)
-call_world shape yard disk callers calls a c low high key free is world = record {
-  one = world.one;
-  count = same_count callers (a - 1) (Some (made shape (calls + 1) c)) ∙ world.count;
-  on_it = on_set shape callers (a - 1) (Some (made shape (calls + 1) c)) (refl, refl) world.on_it;
-  ran = runs_on shape _ _ _ _ _ world.ran (call_runs shape disk callers calls a c low high key free yard is world.ran)
-      (call_quiet shape yard disk callers (a - 1) (made shape (calls + 1) c) c is world.ran.quiet);
-}
-
 -- a lawful call is one that an actor without a call makes
 not_shown : (call : Option OpenCall) → IsNone (call_shown call) → IsNone call
 not_shown None none = none
@@ -252,9 +191,9 @@ not_shown (Some call) none = none
 
 pub lawful_call : (shape : Shape) (yard : Option (YardOver Past)) (disk : Option Past) (callers : List (Option OpenCall)) (calls a : ℕ) (c : Command) → shape.passes ≡ 64
     → HasRun shape (record { state = state_shown shape yard disk callers; calls = calls })
-    → IsLawful (state_shown shape yard disk callers) (CallOf a c) → MayCall yard callers a c
-lawful_call shape (Some over) disk callers calls a c count ran ((low, high), none, fits) = (
-  fits,
+    → IsLawful (state_shown shape yard disk callers) (CallOf a c) → MayCall yard callers a
+lawful_call shape (Some over) disk callers calls a c count ran ((low, high), none) = (
+  refl,
   low,
   subst (λ (n : ℕ). a ≤ n) count (subst (λ (s : Shape). a ≤ s.passes) (shape_is shape _ ran) high),
   not_shown (slice_index_or callers (a - 1) None) (subst IsNone (shown_caller callers a low) none),

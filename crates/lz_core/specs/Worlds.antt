@@ -1,26 +1,28 @@
 -- What contracts see of a world, and what a play does to it.
-use Rattle.std.specs.Prelude.{◌≡◌, ◌⊎◌, ◌↔◌, ℕ, true, false, ◌-◌, ◌<◌, ◌≤◌, IsTrue, IsNone, IsSome, IsSomeAnd, List, [], ◌∷◌, ◌++◌, length, map, reverse, take, slice_get, slice_index_or, Option, Some, None}
+use Rattle.std.specs.Prelude.{◌≡◌, ◌⊎◌, ◌↔◌, ℕ, true, ◌-◌, ◌<◌, ◌≤◌, IsTrue, IsNone, IsSome, IsSomeAnd, List, [], ◌∷◌, ◌++◌, length, map, reverse, take, slice_get, slice_index_or, Option, Some, None}
 use Rattle.lz_slot.specs.declared.history.Mark.{Mark}
 use Rattle.lz_slot.specs.Sets.{Keys, Same, members}
 use Rattle.lz_slot.specs.Histories.{ChainTo, lives}
 use Rattle.lz_slot.specs.Bytes.{Holds, format_of}
-use Rattle.lz_slot.specs.declared.command.Command.{Command}
 use Rattle.lz_slot.specs.declared.format.Format.{Format}
 use Rattle.lz_disk.specs.Images.{Medium, at_rest}
 use Rattle.lz_disk.specs.Records.{Past, after, device_of}
 use Rattle.lz_machine.specs.declared.event.Event.{Event}
 use Rattle.lz_machine.specs.declared.event.Outcome.{Outcome}
-use Rattle.lz_machine.specs.declared.event.Outcome.TheVariants.{Fault}
+use Rattle.lz_machine.specs.declared.event.Outcome.TheVariants.{Fault, OldFile}
 use Rattle.lz_machine.specs.declared.kind.Kind.{Kind}
 use Rattle.lz_machine.specs.Kinds.{kind_of}
+use Rattle.lz_machine.specs.declared.event.Reply.TheVariants.{OldFile as SaysOldFile}
+use Rattle.lz_machine.specs.declared.caller.Progress.{Progress}
+use Rattle.lz_machine.specs.declared.caller.Progress.TheVariants.{Answering}
 use Rattle.lz_core.specs.declared.play.Step.{Step as PlayStep}
 use Rattle.lz_core.specs.declared.play.Step.TheVariants.{Call, Turn as TurnOf, Open}
 use Rattle.lz_core.specs.declared.open_calls.OpenCall.{OpenCall}
 use Rattle.lz_machine.specs.Yards.{Shape}
 use Rattle.lz_yard.specs.Parts.{YardOver}
-use Rattle.lz_machine.specs.Table.{line, line_failed, needs, pin_of, is_old}
+use Rattle.lz_machine.specs.Table.{line, line_failed, needs, pin_of}
 use Rattle.lz_machine.specs.Orders.{shape_with}
-use Rattle.lz_machine.specs.Calls.{event_at, loaded, progress_after}
+use Rattle.lz_machine.specs.Calls.{event_at, first_progress, loaded, progress_after}
 use Rattle.lz_machine.specs.Ready.{IsEventOf}
 use Rattle.lz_yard.specs.Steps.{Played}
 use Rattle.lz_machine.specs.Runs.{Start, IsStart, start_keys, first_point, Service, Caller, State, Up, Down, caller_at, next_event, reply_at, moved_on, MayPlay, IsActor, MayLeave, Point, run}
@@ -125,7 +127,7 @@ IsChain old marks new =
 
 -- A step is lawful in a state.
 abbrev pub IsLawful : State → PlayStep → Type 0
-IsLawful (Up service disk) (Call a c) = IsActor service a × IsNone (caller_at service.callers a) × (is_old service.yard.vault.format c ≡ false)
+IsLawful (Up service disk) (Call a c) = IsActor service a × IsNone (caller_at service.callers a)
 IsLawful (Up service disk) (TurnOf a) = IsSome (caller_at service.callers a)
 IsLawful (Up service disk) Open = ⊥
 IsLawful (Up service disk) _ = Unit {0}
@@ -214,14 +216,14 @@ pub record MayStepOn (over : YardOver Past) (a : ℕ) (e : Event) : Type 0 where
   pub event : IsEventOf over.yard e
   pub plays : needs over.yard a e ≡ true → MayPlay over.yard true (after over.disk.start over.disk.records) a e
 
--- the service is open, and its file can hold the key of a command that adds one
-abbrev pub IsOpenFor : Option (YardOver Past) → Command → Type 0
-IsOpenFor (Some over) c = is_old over.yard.vault.format c ≡ false
-IsOpenFor None c = ⊥
+-- the service is open, and the actor is one of the world's without a call
+abbrev pub MayCall : Option (YardOver Past) → List (Option OpenCall) → ℕ → Type 0
+MayCall yard callers a = IsSome yard × (1 ≤ a) × (a ≤ 64) × IsNone (slice_index_or callers (a - 1) None)
 
--- such a service, and an actor that is one of the world's without a call
-abbrev pub MayCall : Option (YardOver Past) → List (Option OpenCall) → ℕ → Command → Type 0
-MayCall yard callers a c = IsOpenFor yard c × (1 ≤ a) × (a ≤ 64) × IsNone (slice_index_or callers (a - 1) None)
+-- where a call begins, whose Invoke answered so
+abbrev pub begun_after : Outcome → Progress
+begun_after OldFile = Answering SaysOldFile
+begun_after _ = first_progress
 
 -- an event was played on an open yard
 abbrev pub StepsOn : Option (YardOver Past) → ℕ → Event → Outcome → Option (YardOver Past) → Type 0

@@ -48,6 +48,7 @@ fn mark_of(number: u64, reply: Reply) -> Mark
         Reply::No => Mark::Answer(number, false),
         Reply::Full(_) => Mark::Refused(number, Refusal::Full),
         Reply::Worn => Mark::Refused(number, Refusal::Worn),
+        Reply::OldFile => Mark::Refused(number, Refusal::OldFile),
         Reply::Halted => Mark::Cut(number, Cut::Halted),
         Reply::Device => Mark::Cut(number, Cut::Device),
     }

@@ -1,6 +1,7 @@
 //! A disk that is opened anew.
 ghost use Rattle.std.specs.Prelude.{◌≡◌, ◌≤◌, IfOk, IfErr};
 ghost use Rattle.lz_disk.specs.Records.{device_of};
+ghost use Rattle.lz_slot.specs.Limits.{most_buckets};
 ghost use Rattle.lz_vault.specs.Opens.{IsRefusedFor};
 ghost use Rattle.lz_yard.specs.Filling.{OpensYard};
 ghost use Rattle.lz_machine.specs.Runs.{keys_found};
@@ -26,7 +27,7 @@ pub(crate) fn open_anew(
     disk: MemoryDisk,
     buckets: usize,
 ) -> Result<Opened, Refused<MemoryDisk>>
-    requires { (1 ≤ buckets) × (buckets ≤ 4096) }
+    requires { (1 ≤ buckets) × (buckets ≤ most_buckets) }
     ensures ok { IfOk result (λ opened. OpensYard (device_of disk) (device_of opened.yard.disk) buckets 64 opened.yard.yard) }
     ensures keys { IfOk result (λ opened. opened.keys.items ≡ keys_found (device_of disk).medium.seen opened.yard.yard.shape.slots) }
     ensures err { IfErr result (λ refused. IsRefusedFor (device_of disk) (device_of refused.disk) refused.fault) }

@@ -1,32 +1,33 @@
 //! A rehearsal: a service over a disk in memory, and what its callers do to it, step by step.
 ghost use Rattle.std.specs.Prelude.{◌≡◌, ◌≤◌, ◌↔◌, ◌==◌, ◌||◌, IfOk, IfErr, OnErr, IsErrOf, IsTrue, IfSome, Some, None, [], ◌∷◌, length};
+ghost use Rattle.lz_slot.specs.Limits.{most_buckets, most_rehearsed};
 ghost use Rattle.lz_slot.specs.Sets.{members};
 ghost use Rattle.lz_slot.specs.Counted.{of_pass};
-ghost use Rattle.lz_core.specs.Worlds.{Ascend, IsChain, IsLawful, IsNew, IsOpenFor, IsOutcome, IsTold, IsUp, MayCall, MayStepOn, PlaysOn, Shows, StepsOn, StopsAt, StopsEarly, event_asked, event_loaded, mark_list, next_of, state_shown};
+ghost use Rattle.lz_core.specs.Worlds.{Ascend, IsChain, IsLawful, IsNew, IsOutcome, IsTold, IsUp, MayCall, MayStepOn, PlaysOn, Shows, StepsOn, StopsAt, StopsEarly, event_asked, event_loaded, mark_list, next_of, state_shown, begun_after};
+ghost use Rattle.lz_machine.specs.Kinds.{kind_of};
 
 use crate::disks::{crash_disk, stop_disk, trip_disk};
 use crate::open_calls::{OpenCall, next_of_call, no_calls, take_outcome};
 use crate::play::Step;
 use crate::reopening::open_anew;
 use crate::shown::members_of;
-use lz_caller::{Caller, key_of};
+use lz_caller::Caller;
 use lz_disk::{MemoryDisk, Pick};
 use lz_machine::{Event, Kind, Outcome};
-use lz_slot::{Command, Format, Found, Key, Mark};
+use lz_slot::{Command, Format, Found, Key, MOST_PASSES, Mark};
 use lz_vault::{OpenFault, make};
 use lz_yard::Yard;
 use std::alloc::{AllocError, Global};
 use std::marker::Model;
 
 /// How many actors a world has.
-pub const ACTORS: usize = 64;
+pub const ACTORS: usize = MOST_PASSES;
 
 /// Why a play ended before its last step. Steps count from 1, and a turn by itself is step 1.
 #[derive(Clone, Copy, Debug, PartialEq, Eq)]
 pub enum PlayFault {
     /// The step isn't lawful now: its actor isn't one of the world's, calls where it has a call open, or takes a turn where it
-    /// has none; or it calls or takes a turn without an open service; or it opens where a service is open; or it adds a key
-    /// that the file's format can't hold.
+    /// has none; or it calls or takes a turn without an open service; or it opens where a service is open.
     NotNow(usize),
     /// There is no memory, or no number is left for a call.
     Memory,
@@ -39,15 +40,6 @@ pub struct Turned {
     pub outcome: Outcome,
     /// How its call ended, if it did.
     pub mark: Option<Mark>,
-}
-
-// One line for each kind of event. Whatever the kind, the event is played on the yard and the caller takes the outcome.
-macro_rules! turned {
-    ($world:ident, $actor:ident, $event:ident; $($pattern:pat => $kind:ident;)*) => {
-        match $event {
-            $($pattern => Ok($world.play_event($actor, Kind::$kind, $event)),)*
-        }
-    };
 }
 
 /// A service over a fresh disk in memory, with the calls of 64 actors. What a device would do it does where the disk was
@@ -81,8 +73,8 @@ impl World {
         buckets: usize,
         format: Format,
     ) -> Result<World, AllocError>
-        requires slots { (1 ≤ slots) × (slots ≤ 64) }
-        requires buckets { (1 ≤ buckets) × (buckets ≤ 4096) }
+        requires slots { (1 ≤ slots) × (slots ≤ most_rehearsed) }
+        requires buckets { (1 ≤ buckets) × (buckets ≤ most_buckets) }
         ensures { IfOk result (λ world. IsNew (record { slots = slots; buckets = buckets; passes = 64 }) format world) }
     {
         let callers = no_calls(alloc)?;
@@ -115,27 +107,7 @@ impl World {
         let Some(event) = self.next_event(actor) else {
             return Err(PlayFault::NotNow(1));
         };
-        turned! { self, actor, event;
-            Event::Invoke(_) => Invoke;
-            Event::Pin => Pin;
-            Event::Hop(_) => Hop;
-            Event::Reserve => Reserve;
-            Event::WriteKey(_) => WriteKey;
-            Event::Claim(_, _) => Claim;
-            Event::Check => Check;
-            Event::WriteOpen => WriteOpen;
-            Event::Link => Link;
-            Event::WriteClose => WriteClose;
-            Event::Mark => Mark;
-            Event::Release => Release;
-            Event::Sync(_) => Sync;
-            Event::Settle(_) => Settle;
-            Event::Unlink => Unlink;
-            Event::Retire => Retire;
-            Event::SeePin(_, _) => SeePin;
-            Event::Answer => Answer;
-            Event::Halt => Halt;
-        }
+        Ok(self.play_event(actor, event))
     }
 
     /// The members now, ascending: the keys that are linked and not marked. There are none without an open service.
@@ -221,7 +193,7 @@ impl World {
         ensures not_now { (i : _) → IsErrOf result (PlayFault.NotNow i) → (i ≡ place) × (self.new ≡ self.old) × ¬ IsLawful self.old.state (Step.Call actor command) }
         ensures memory { IsErrOf result PlayFault.Memory → StopsEarly self.old (Step.Call actor command ∷ []) self.new }
     {
-        if !may_call(&self.yard, &self.callers, actor, &command) {
+        if !may_call(&self.yard, &self.callers, actor) {
             return Err(PlayFault::NotNow(place));
         }
         if self.calls == u64::MAX {
@@ -229,11 +201,13 @@ impl World {
         }
         let told = command;
         let asked = command;
-        let _key = key_of(asked).rank();
+        let played = command;
+        let _key = asked.key().rank();
+        let outcome = step_on(&mut self.yard, actor, Event::Invoke(played));
         self.calls += 1;
         self.callers[actor - 1] = Some(OpenCall {
             number: self.calls,
-            caller: Caller::new(command, self.buckets, ACTORS),
+            caller: call_begun(command, self.buckets, outcome),
         });
         Ok(Some(Mark::Call(self.calls, actor, told)))
     }
@@ -248,19 +222,20 @@ impl World {
         }
     }
 
-    // Plays an actor's next event, which is of this kind.
-    fn play_event(&mut self, actor: usize, kind: Kind, event: Event) -> Turned
+    // Plays an actor's next event.
+    fn play_event(&mut self, actor: usize, event: Event) -> Turned
         requires { next_of self.old.state actor ≡ Some event }
-        ensures kind { result.kind ≡ kind }
+        ensures kind { result.kind ≡ kind_of event }
         ensures outcome { IsOutcome self.old.state actor event result.outcome self.new.state }
         ensures plays { PlaysOn self.old (Step.Turn actor ∷ []) (mark_list result.mark) self.new }
         ensures goes_on { result.mark ≡ None → IsLawful self.new.state (Step.Turn actor) }
     {
+        let played = event;
         let outcome = step_on(&mut self.yard, actor, event);
         let told = outcome;
         let mark = take_outcome(&mut self.callers[actor - 1], outcome);
         Turned {
-            kind,
+            kind: played.kind(),
             outcome: told,
             mark,
         }
@@ -322,31 +297,24 @@ impl World {
     }
 }
 
-// Whether the service is open for the command, and the actor is one of the world's and has no call.
-fn may_call(
-    yard: &Option<Yard<MemoryDisk>>,
-    callers: &[Option<OpenCall>],
-    actor: usize,
-    command: &Command,
-) -> bool
+// Whether the service is open, and the actor is one of the world's and has no call.
+fn may_call(yard: &Option<Yard<MemoryDisk>>, callers: &[Option<OpenCall>], actor: usize) -> bool
     requires { length callers.now ≡ 64 }
-    ensures { IsTrue result ↔ MayCall yard.now callers.now actor command.now }
+    ensures { IsTrue result ↔ MayCall yard.now callers.now actor }
 {
-    is_open_for(yard, command) && 1 <= actor && actor <= ACTORS && callers[actor - 1].is_none()
+    yard.is_some() && 1 <= actor && actor <= ACTORS && callers[actor - 1].is_none()
 }
 
-// Whether the service is open, and its file can hold the key of a command that adds one.
-fn is_open_for(yard: &Option<Yard<MemoryDisk>>, command: &Command) -> bool
-    ensures { IsTrue result ↔ IsOpenFor yard.now command.now }
+// A call whose Invoke answered so. One that the file's format refuses is about to tell it.
+fn call_begun(command: Command, buckets: usize, outcome: Outcome) -> Caller
+    requires { (1 ≤ buckets) × (buckets ≤ 4096) }
+    ensures { result ≡ record { command = command; buckets = buckets; passes = 64; progress = begun_after outcome } }
 {
-    match yard {
-        None => false,
-        Some(yard) => match command {
-            Command::Add(key) => yard.format().has_room_for(*key),
-            Command::Remove(_) => true,
-            Command::Has(_) => true,
-        },
+    let mut caller = Caller::new(command, buckets, ACTORS);
+    if let Outcome::OldFile = outcome {
+        caller.take(Outcome::OldFile);
     }
+    caller
 }
 
 // The next event of an actor's call on this yard, if it has one.

@@ -14,7 +14,7 @@ use Rattle.lz_slot.specs.declared.history.Mark.TheVariants.{Call, Answer, Refuse
 use Rattle.lz_judge.specs.Records.{IsMade}
 use Rattle.lz_judge.specs.Flaws.{IsMisplaced, IsPast}
 use Rattle.lz_judge.specs.Passes.{Floored, IsAt, Ordered}
-use Rattle.lz_judge.proofs.Laws.{made_cases, made_less, made_more}
+use Rattle.lz_judge.proofs.LawfulRuns.{made_cases, made_less, made_more}
 use Rattle.lz_judge.proofs.Passing.{IsLesser, lesser_one, lesser_some}
 
 misplaced_more : (M : List Mark) (m : Mark) (i j p q : ℕ) → IsMisplaced M i j p q → IsMisplaced (m ∷ M) i j p q

@@ -17,7 +17,7 @@ use Rattle.lz_slot.specs.declared.history.Mark.{Mark}
 use Rattle.lz_slot.specs.declared.history.Mark.TheVariants.{Call, Answer, Refused, Cut, OpenFailed}
 use Rattle.lz_judge.specs.Records.{IsMade, IsOpen, MayFollow, actor_of, is_living}
 use Rattle.lz_judge.specs.Ledgers.{Ends, IsLedger}
-use Rattle.lz_judge.proofs.Laws.{made_cases, made_less, made_more, open_made}
+use Rattle.lz_judge.proofs.LawfulRuns.{made_cases, made_less, made_more, open_made}
 
 pub ledger_none : (calls : BTreeSet ℕ) (actors busy : BTreeMap ℕ ℕ) → set.IsEmpty calls → tree.IsEmpty actors → tree.IsEmpty busy → IsLedger [] calls actors busy true
 ledger_none calls actors busy no_calls no_actors no_busy = record {

@@ -1,7 +1,7 @@
 pub mod Slots
 pub mod Files
 pub mod Passing
-pub mod Laws
+pub mod LawfulRuns
 pub mod Floors
 pub mod Lives
 pub mod Orders
@@ -12,3 +12,7 @@ pub mod Pasts
 pub mod Wrongs
 pub mod LineWords
 pub mod TextLines
+mod Runs
+mod Flawless
+pub mod MarkLines
+pub mod Rows

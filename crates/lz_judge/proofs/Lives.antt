@@ -7,7 +7,7 @@ use Rattle.lz_slot.specs.declared.history.Mark.TheVariants.{Call, Answer, Refuse
 use Rattle.lz_slot.specs.Histories.{HasMark, IsAnswered, IsBefore, Life, lives, with_mark}
 use Rattle.lz_judge.specs.Records.{IsLawful, IsMade, actor_of}
 use Rattle.lz_judge.specs.Plays.{lives_before, this_life, this_start}
-use Rattle.lz_judge.proofs.Laws.{made_more}
+use Rattle.lz_judge.proofs.LawfulRuns.{made_more}
 
 abbrev pub now : List Mark → Life
 now M = record { start = this_start M; history = this_life M }

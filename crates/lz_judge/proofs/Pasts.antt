@@ -9,7 +9,7 @@ use Rattle.lz_judge.specs.Records.{IsMade}
 use Rattle.lz_judge.specs.Flaws.{IsLifeBefore, IsPast, Leads}
 use Rattle.lz_judge.specs.Plays.{Follows, past_of, this_life}
 use Rattle.lz_judge.specs.declared.playing.Listed.{Listed}
-use Rattle.lz_judge.proofs.Laws.{made_less, made_more}
+use Rattle.lz_judge.proofs.LawfulRuns.{made_less, made_more}
 use Rattle.lz_judge.proofs.Orders.{Among, calls_of, same_after}
 
 -- what was seen in the past was seen

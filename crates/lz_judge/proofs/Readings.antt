@@ -17,7 +17,7 @@ use Rattle.lz_judge.specs.declared.flaw.Flaw.TheVariants.{WrongReply}
 use Rattle.lz_judge.specs.Passes.{AreLow, HasPlaces, IsAt, Ordered, answer_of, is_made, place_of}
 use Rattle.lz_judge.specs.Plays.{IsKnown, IsWrong}
 use Rattle.lz_judge.specs.Verdicts.{AreListed}
-use Rattle.lz_judge.proofs.Laws.{made_more, open_made}
+use Rattle.lz_judge.proofs.LawfulRuns.{made_more, open_made}
 
 -- a call that was made is counted
 pub made_is : (M : List Mark) (i : ℕ) → IsMade M i → is_made M i ≡ true

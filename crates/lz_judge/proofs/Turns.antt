@@ -20,7 +20,7 @@ use Rattle.lz_judge.specs.Flaws.{IsInOrder, OrderedChain}
 use Rattle.lz_judge.specs.Passes.{IsAt}
 use Rattle.lz_judge.specs.Plays.{Finishes, IsKnown, IsLife, IsSet, Played, Plays, lives_before, this_life, this_start}
 use Rattle.lz_judge.specs.declared.playing.Listed.{Listed}
-use Rattle.lz_judge.proofs.Laws.{made_cases, made_less, so_far}
+use Rattle.lz_judge.proofs.LawfulRuns.{made_cases, made_less, so_far}
 use Rattle.lz_judge.proofs.Lives.{answered_life, life_before, life_made, life_mark, lives_parts}
 use Rattle.lz_judge.proofs.Orders.{among_listed, ascending, calls_of, earlier, listed_among, once, runs, OfLife, of_life}
 

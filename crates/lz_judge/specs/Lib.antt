@@ -10,3 +10,4 @@ pub mod Lines
 pub mod Readers
 pub mod LinesRead
 pub mod TextsRead
+pub mod MarkLines

@@ -1,16 +1,17 @@
 -- What a line of a history says, by its words.
-use Rattle.std.specs.Prelude.{ℕ, ◌+◌, ◌==◌, ◌&&◌, Bool, true, false, not, nat_lt, nat_le, nat_eq, if◌then◌else◌, List, [], ◌∷◌, length, slice_index, codes, Option, None, Some, option_map, option_and_then}
-use Rattle.std.specs.List.{list_all, slice_split}
-use Rattle.std.specs.Str.Parse.{digits_value}
+use Rattle.std.specs.Prelude.{ℕ, ◌+◌, ◌==◌, Bool, true, false, nat_le, nat_eq, if◌then◌else◌, List, [], ◌∷◌, codes, Option, None, Some, option_map, option_and_then, Result, Ok, Err}
+use Rattle.std.specs.List.{slice_split}
 use Rattle.std.specs.Cmp.Lexicographic.{pointwise}
 use denote.Ref.{Bor}
-use Rattle.lz_slot.specs.Limits.{largest_number as largest_key}
+use Rattle.lz_slot.specs.Numerals.{largest_read, number_in}
+use Rattle.lz_slot.specs.Texts.{key_read}
+use Rattle.lz_slot.specs.declared.spelling.KeyFault.{KeyFault}
 use Rattle.lz_slot.specs.declared.command.Command.{Command}
 use Rattle.lz_slot.specs.declared.command.Command.TheVariants.{Add, Remove, Has}
 use Rattle.lz_slot.specs.declared.history.Cut.{Cut}
 use Rattle.lz_slot.specs.declared.history.Cut.TheVariants.{Halted, Device}
 use Rattle.lz_slot.specs.declared.history.Refusal.{Refusal}
-use Rattle.lz_slot.specs.declared.history.Refusal.TheVariants.{Full, Worn}
+use Rattle.lz_slot.specs.declared.history.Refusal.TheVariants.{Full, Worn, OldFile}
 use Rattle.lz_slot.specs.declared.history.Mark.TheVariants as mark
 use Rattle.lz_judge.specs.declared.line.Line.{Line}
 use Rattle.lz_judge.specs.declared.line.Line.TheVariants.{Seen, Placed, Other}
@@ -29,34 +30,6 @@ words_behind (Some text) = words_of text.now
 abbrev pub is_word : List ℕ → List ℕ → Bool
 is_word word text = pointwise nat_eq word text
 
--- the byte is a decimal digit
-abbrev pub is_digit : ℕ → Bool
-is_digit b = nat_le 48 b && nat_le b 57
-
--- a zero stands in front, and not alone
-abbrev pub has_zero_in_front : List ℕ → Bool
-has_zero_in_front word = nat_lt 1 (length word) && (slice_index word 0 == 48)
-
--- digits, with no zero in front unless it stands alone
-abbrev pub is_number : List ℕ → Bool
-is_number word = nat_lt 0 (length word) && not (has_zero_in_front word) && list_all is_digit word
-
--- the largest number of a history
-abbrev pub largest_number : ℕ
-largest_number = 18_446_744_073_709_551_615
-
--- the number, where it lies from the lowest up to the highest
-abbrev pub within : ℕ → ℕ → ℕ → Option ℕ
-within low high n = if nat_le low n && nat_le n high then Some n else None
-
--- the number of which the word is the plain decimal text
-abbrev pub number_read : List ℕ → Option ℕ
-number_read word = if is_number word then within 0 largest_number (digits_value 10 word) else None
-
--- the same, where it lies from the lowest up to the highest
-abbrev pub number_in : ℕ → ℕ → List ℕ → Option ℕ
-number_in low high word = option_and_then (within low high) (number_read word)
-
 -- what is read of the first word, and the words behind it
 abbrev pub take_word : {A : Type 0} → (List ℕ → Option A) → List (List ℕ) → Option (A × List (List ℕ))
 take_word read [] = None
@@ -73,11 +46,19 @@ at_end line (word ∷ words) = None
 
 -- a call's number
 abbrev pub call_number : List ℕ → Option ℕ
-call_number = number_in 1 largest_number
+call_number = number_in 1 largest_read
 
 -- an actor
 abbrev pub actor_number : List ℕ → Option ℕ
 actor_number = number_in 1 64
+
+abbrev pub key_told : Result ℕ KeyFault → Option ℕ
+key_told (Ok k) = Some k
+key_told (Err fault) = None
+
+-- the key that a word spells
+abbrev pub key_named : List ℕ → Option ℕ
+key_named word = key_told (key_read word)
 
 -- the command of this name on a key
 abbrev pub command_named : List ℕ → ℕ → Option Command
@@ -87,11 +68,11 @@ command_named name key =
     else if is_word name (codes "has") then Some (Has key)
     else None
 
--- `call I A add K`, `call I A remove K` or `call I A has K`
+-- `call I A add K`, `call I A remove K` or `call I A has K`, where K is a key or `R:K`
 abbrev pub call_read : List (List ℕ) → Option Line
 call_read words =
     with_word call_number words (λ call words. with_word actor_number words (λ actor words.
-    with_word (λ name. Some name) words (λ name words. with_word (number_in 0 largest_key) words (λ key words.
+    with_word (λ name. Some name) words (λ name words. with_word key_named words (λ key words.
     option_and_then (λ command. at_end (Seen (mark.Call call actor command)) words) (command_named name key)))))
 
 -- yes or no
@@ -102,11 +83,15 @@ answer_read word = if is_word word (codes "yes") then Some true else if is_word 
 abbrev pub answered_read : List (List ℕ) → Option Line
 answered_read words = with_word call_number words (λ call words. with_word answer_read words (λ answer words. at_end (Seen (mark.Answer call answer)) words))
 
--- full or worn
+-- full, worn or oldfile
 abbrev pub refusal_read : List ℕ → Option Refusal
-refusal_read word = if is_word word (codes "full") then Some Full else if is_word word (codes "worn") then Some Worn else None
+refusal_read word =
+    if is_word word (codes "full") then Some Full
+    else if is_word word (codes "worn") then Some Worn
+    else if is_word word (codes "oldfile") then Some OldFile
+    else None
 
--- `refused I full` or `refused I worn`
+-- `refused I full`, `refused I worn` or `refused I oldfile`
 abbrev pub refused_read : List (List ℕ) → Option Line
 refused_read words = with_word call_number words (λ call words. with_word refusal_read words (λ why words. at_end (Seen (mark.Refused call why)) words))
 
@@ -123,10 +108,18 @@ abbrev pub point_read : List (List ℕ) → Option Line
 point_read words =
     with_word call_number words (λ call words. with_word (number_in 0 largest_place) words (λ place words. at_end (Placed (record { call = call; place = place })) words))
 
+-- the key, where it is not below the least one
+abbrev pub not_below : ℕ → ℕ → Option ℕ
+not_below least key = if nat_le least key then Some key else None
+
+-- the key that a word spells, where it is not below the least one
+abbrev pub key_from : ℕ → List ℕ → Option ℕ
+key_from least word = option_and_then (not_below least) (key_named word)
+
 -- keys from the least one on, each above the one before it
 abbrev pub keys_from : ℕ → List (List ℕ) → Option (List ℕ)
 keys_from least [] = Some []
-keys_from least (word ∷ words) = option_and_then (λ key. option_map (λ keys. key ∷ keys) (keys_from (key + 1) words)) (number_in least largest_key word)
+keys_from least (word ∷ words) = option_and_then (λ key. option_map (λ keys. key ∷ keys) (keys_from (key + 1) words)) (key_from least word)
 
 -- `open fault N`
 abbrev pub fault_read : List (List ℕ) → Option Line

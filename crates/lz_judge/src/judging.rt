@@ -5,7 +5,8 @@ ghost use Rattle.lz_slot.specs.Histories.{Chain, lives};
 ghost use Rattle.lz_judge.specs.Records.{ArePlaces, IsLawful, IsPoint};
 ghost use Rattle.lz_judge.specs.Flaws.{IsFlaw, OrderedChain};
 ghost use Rattle.lz_judge.specs.Passes.{HasPlaces, IsCensus, Ordered};
-ghost use Rattle.lz_judge.specs.Verdicts.{AreListed};
+ghost use Rattle.lz_judge.specs.Verdicts.{AreCalled, AreListed};
+ghost use Rattle.lz_judge.specs.declared.flaw.Flaw.{Flaw as AFlaw};
 
 use crate::census::{Census, read_places, take_census};
 use crate::flaw::Flaw;
@@ -24,6 +25,7 @@ pub fn judge(alloc: Global, history: &History) -> Result<Result<(), Flaw>, Alloc
     ensures ordered { IfOk result (λ verdict. OnOk verdict ((T : Keys) × OrderedChain (IsPoint history.now.points) (lives (members []) history.now.marks) T)) }
     ensures chain { IfOk result (λ verdict. OnOk verdict (Chain (members []) history.now.marks)) }
     ensures flaw { IfOk result (λ verdict. IfErr verdict (IsFlaw history.now)) }
+    ensures flawless { IfOk result (λ verdict. OnOk verdict ((flaw : AFlaw) → ¬ IsFlaw history.now flaw)) }
 {
     let marks = history.marks();
     let points = history.points();
@@ -57,6 +59,7 @@ fn flaw_of_points(
     requires places { HasPlaces (reverse points.now) places.now }
     ensures flaw { IfOk result (λ found. IfSome found (λ flaw. IsFlaw (record { marks = reverse marks.now; points = reverse points.now }) flaw)) }
     ensures none { IfOk result (λ found. found ≡ None → AreListed (reverse marks.now) (reverse points.now) places.now) }
+    ensures called { IfOk result (λ found. found ≡ None → AreCalled (reverse marks.now) (reverse points.now)) }
 {
     if let Some(call) = stranger(points, &census.calls) {
         return Ok(Some(Flaw::NeverCalled(call)));

@@ -10,6 +10,7 @@ mod finding;
 mod flaw;
 mod history;
 mod judging;
+pub mod laws;
 mod ledger;
 mod line;
 mod listing;

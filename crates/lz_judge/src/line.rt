@@ -1,14 +1,11 @@
 //! One line of a history.
-ghost use Rattle.std.specs.Prelude.{◌≡◌, ◌≤◌, ◌∷◌, ℕ, length, All, IfOk, IfSome, option_map};
-ghost use Rattle.std.specs.Int.{IsInRange};
-ghost use Rattle.std.specs.List.{list_all};
-ghost use Rattle.std.specs.Str.Parse.{digits_value};
-ghost use Rattle.lz_slot.specs.Limits.{largest_number as largest_key};
+ghost use Rattle.std.specs.Prelude.{◌≡◌, ◌≤◌, ◌∷◌, ℕ, IfOk, IfSome, option_map};
+ghost use Rattle.lz_slot.specs.Numerals.{largest_read, number_in};
 ghost use Rattle.lz_judge.specs.Lines.{IsLow};
-ghost use Rattle.lz_judge.specs.LinesRead.{answer_read, answered_read, at_end, busy_read, call_number, call_read, command_named, cut_read, fault_read, is_digit, is_number, keys_from, largest_number, line_read, number_in, number_read, open_read, point_read, refusal_read, refused_read, show_read, take_word, within, words_behind, words_of};
+ghost use Rattle.lz_judge.specs.LinesRead.{answer_read, answered_read, at_end, busy_read, call_read, command_named, cut_read, fault_read, key_from, key_named, keys_from, line_read, open_read, point_read, refusal_read, refused_read, show_read, take_word, words_behind, words_of};
 
 use crate::history::{MAX_PLACE, Point};
-use lz_slot::{Command, Cut, Found, Key, MAX_NUMBER, Mark, Refusal};
+use lz_slot::{Command, Cut, Found, Key, Mark, Refusal, read_key};
 use memchr::memchr;
 use std::alloc::{AllocError, Global};
 
@@ -75,15 +72,24 @@ fn read_call(text: Option<&[u8]>) -> Option<Line>
     let (call, text) = read_call_number(text)?;
     let (actor, text) = read_actor(text)?;
     let (name, text) = split_word(text?);
-    let (key, text) = read_number(text, 0, MAX_NUMBER)?;
-    let mark = Mark::Call(call, actor, command_of(name, key)?);
+    let (word, text) = split_word(text?);
+    let mark = Mark::Call(call, actor, command_of(name, key_of(word)?)?);
     read_end(text, Line::Seen(mark))
 }
 
-fn command_of(name: &[u8], key: u64) -> Option<Command>
-    ensures { key ≤ largest_key → result ≡ command_named name.now key }
+// The key that a word spells.
+fn key_of(word: &[u8]) -> Option<Key>
+    ensures { result ≡ key_named word.now }
 {
-    let key = Key::new(key)?;
+    match read_key(word) {
+        Ok(key) => Some(key),
+        Err(_) => None,
+    }
+}
+
+fn command_of(name: &[u8], key: Key) -> Option<Command>
+    ensures { result ≡ command_named name.now key }
+{
     if name == b"add".as_slice() {
         return Some(Command::Add(key));
     }
@@ -136,6 +142,9 @@ fn refusal_of(word: &[u8]) -> Option<Refusal>
     }
     if word == b"worn".as_slice() {
         return Some(Refusal::Worn);
+    }
+    if word == b"oldfile".as_slice() {
+        return Some(Refusal::OldFile);
     }
     None
 }
@@ -213,7 +222,7 @@ fn read_end(text: Option<&[u8]>, line: Line) -> Option<Line>
 
 // A call's number, and what stands behind it.
 fn read_call_number(text: Option<&[u8]>) -> Option<(u64, Option<&[u8]>)>
-    ensures { option_map (λ r. (r.0, words_behind r.1)) result ≡ take_word (number_in 1 largest_number) (words_behind text.entry) }
+    ensures { option_map (λ r. (r.0, words_behind r.1)) result ≡ take_word (number_in 1 largest_read) (words_behind text.entry) }
 {
     read_number(text, 1, u64::MAX)
 }
@@ -231,61 +240,7 @@ fn read_number(text: Option<&[u8]>, low: u64, high: u64) -> Option<(u64, Option<
     ensures range { IfSome result (λ r. r.0 ≤ high) }
 {
     let (word, rest) = split_word(text?);
-    Some((number_between(word, low, high)?, rest))
-}
-
-// The number from low up to high that the word is.
-fn number_between(word: &[u8], low: u64, high: u64) -> Option<u64>
-    ensures number { result ≡ number_in low high word.now }
-    ensures range { IfSome result (λ number. number ≤ high) }
-{
-    let number = number_of(word)?;
-    if number < low {
-        return None;
-    }
-    if number > high {
-        return None;
-    }
-    Some(number)
-}
-
-// The number of which the word is the plain decimal text.
-fn number_of(word: &[u8]) -> Option<u64>
-    ensures { result ≡ number_read word.now }
-{
-    if !is_number(word) {
-        return None;
-    }
-    value_of(word)
-}
-
-// Digits, with no zero in front unless it stands alone.
-fn is_number(word: &[u8]) -> bool
-    ensures { result ≡ is_number word.now }
-{
-    if word.is_empty() || word.len() > 1 && word[0] == b'0' {
-        return false;
-    }
-    are_digits(word)
-}
-
-fn are_digits(word: &[u8]) -> bool
-    ensures { result ≡ list_all is_digit word.now }
-{
-    word.iter().all(|byte| byte.is_ascii_digit())
-}
-
-fn value_of(digits: &[u8]) -> Option<u64>
-    requires { All (IsInRange 48 57) digits.now }
-    ensures { result ≡ within 0 largest_number (digits_value 10 digits.now) }
-{
-    let mut number: u64 = 0;
-    for digit in digits {
-        number = number
-            .checked_mul(10)?
-            .checked_add(u64::from(*digit - b'0'))?;
-    }
-    Some(number)
+    Some((lz_slot::read_number(word, low, high)?, rest))
 }
 
 // The keys that the words are, strictly ascending; none where they aren't.
@@ -297,7 +252,7 @@ fn read_keys(alloc: Global, text: Option<&[u8]>) -> Result<Option<Vec<Key>>, All
     let mut rest = text;
     while let Some(words) = rest {
         let (word, behind) = split_word(words);
-        let Some(key) = key_of(word, least) else {
+        let Some(key) = key_from(word, least) else {
             return Ok(None);
         };
         keys.push(key)?;
@@ -307,9 +262,13 @@ fn read_keys(alloc: Global, text: Option<&[u8]>) -> Result<Option<Vec<Key>>, All
     Ok(Some(keys))
 }
 
-// The key from the least one on that the word is.
-fn key_of(word: &[u8], least: u64) -> Option<Key>
-    ensures { result ≡ number_in least largest_key word.now }
+// The key that the word spells, where it is not below this rank.
+fn key_from(word: &[u8], least: u64) -> Option<Key>
+    ensures { result ≡ key_from least word.now }
 {
-    Key::new(number_between(word, least, MAX_NUMBER)?)
+    let key = key_of(word)?;
+    if key.rank() < least {
+        return None;
+    }
+    Some(key)
 }

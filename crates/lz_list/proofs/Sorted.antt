@@ -12,7 +12,7 @@ use Rattle.lz_list.proofs.Chains.{apart, on_start}
 use Rattle.lz_list.proofs.Shown.{bucket_on}
 use Rattle.lz_list.proofs.Nodes.{one_node}
 
-same_pair : (n m : ℕ × ℕ) → n.0 ≡ m.0 → n.1 ≡ m.1 → n ≡ m
+pub same_pair : (n m : ℕ × ℕ) → n.0 ≡ m.0 → n.1 ≡ m.1 → n ≡ m
 same_pair n m first second = ap (λ (a : ℕ). (a, n.1)) first ∙ ap (λ (b : ℕ). (m.0, b)) second
 
 -- one chain is shown

@@ -9,3 +9,4 @@ pub mod Full
 pub mod Turn
 pub mod Room
 pub mod Halt
+pub mod FullSet

@@ -21,3 +21,4 @@ pub mod LoadedWord
 pub mod Limbo
 pub mod Outside
 pub mod Refusal
+pub mod PinNotes

@@ -6,5 +6,6 @@ pub mod Course
 pub mod SlotCount
 pub mod EventRange
 pub mod Twins
-pub mod OpenCall
+pub mod EventOrder
 pub mod ReachedPoint
+pub mod CallerEvent

@@ -1,8 +1,15 @@
 pub mod Reached
 pub mod Marks
+pub mod MovedCall
 pub mod MovedLoad
 pub mod Timeliness
 pub mod Rows
 pub mod Readiness
+pub mod Formats
 pub mod ShownChains
 pub mod Timing
+pub mod FreedSlots
+pub mod OneAdd
+pub mod JoinedRuns
+pub mod TraceOutside
+pub mod NoSlotCounts

@@ -1,17 +1,20 @@
 -- One caller: each life is a plain set's, one command after the other.
-use Rattle.std.specs.Prelude.{◌≡◌, ◌⊎◌, ℕ, ◌<◌, Bool, true, false, List, [], ◌∷◌, length, nat_eq, Some}
+use Rattle.std.specs.Prelude.{◌≡◌, ◌⊎◌, ℕ, ◌<◌, Bool, true, false, List, [], ◌∷◌, length, nat_eq, None, Some}
 use Rattle.std.specs.List.{IsDistinct}
 use Rattle.lz_slot.specs.declared.command.Command.{Command}
 use Rattle.lz_slot.specs.declared.command.Command.TheVariants.{Add}
 use Rattle.lz_slot.specs.declared.history.Refusal.TheVariants.{Full, Worn, OldFile}
 use Rattle.lz_slot.specs.declared.history.Mark.TheVariants.{Call, Answer, Refused, Cut}
 use Rattle.lz_slot.specs.Sets.{Keys, Same, members, key_of, after, reply}
-use Rattle.lz_slot.specs.Bytes.{Holds}
+use Rattle.lz_slot.specs.declared.format.Format.{Format}
+use Rattle.lz_slot.specs.Bytes.{Holds, format_of}
 use Rattle.lz_slot.specs.Histories.{History, Life, lives}
 use Rattle.lz_disk.specs.Images.{Medium}
-use Rattle.lz_list.specs.Traces.{Trace}
+use Rattle.lz_list.specs.Traces.{Trace, member}
 use Rattle.lz_machine.specs.declared.event.Reply.TheVariants.{Worn as SaysWorn, OldFile as SaysOldFile, Halted, Device}
 use Rattle.lz_machine.specs.Table.{pin_of, last_pin, is_old}
+use Rattle.lz_allot.specs.Uses.{collect, lowest_free}
+use Rattle.lz_machine.specs.declared.caller.Progress.TheVariants.{Reserving}
 use Rattle.lz_machine.specs.Runs.{Start, IsStart, Service, Caller, Up, Step, Calls, Turn, Fails, Looks, CrashesIn, MayStep, MayLeave, Reached, IsRun, run, first_point, start_keys, caller_at, reply_at}
 
 -- the step is this actor's, or no actor's
@@ -78,23 +81,35 @@ abbrev pub HasRoom : ℕ → Command → Bool → Keys → Type 0
 HasRoom N (Add k) true S = (n : ℕ) × HasMembers S n × (n < N)
 HasRoom N _ _ S = Unit {0}
 
--- Where the set before a call was T: an adding is answered yes only with room in it, and is full only without.
-abbrev pub IsSized : ℕ → Keys → History → Type 0
-IsSized N S [] = Unit {0}
-IsSized N S (Answer i answer ∷ Call j a c ∷ M) = ((T : Keys) → IsPlain S M T → HasRoom N c answer T) × IsSized N S M
-IsSized N S (Refused i Full ∷ Call j a c ∷ M) = ((T : Keys) → IsPlain S M T → IsFull N c T) × IsSized N S M
-IsSized N S (m ∷ M) = IsSized N S M
+-- Where the set before a call was T: an adding is answered yes only with room in it, and is full only without. A call is told
+-- of an old file exactly where it adds a key that the file's format can't hold, and comes to no answer then.
+abbrev pub IsSized : Format → ℕ → Keys → History → Type 0
+IsSized F N S [] = Unit {0}
+IsSized F N S (Answer i answer ∷ Call j a c ∷ M) = (is_old F c ≡ false) × ((T : Keys) → IsPlain S M T → HasRoom N c answer T) × IsSized F N S M
+IsSized F N S (Refused i Full ∷ Call j a c ∷ M) = (is_old F c ≡ false) × ((T : Keys) → IsPlain S M T → IsFull N c T) × IsSized F N S M
+IsSized F N S (Refused i OldFile ∷ Call j a c ∷ M) = (is_old F c ≡ true) × IsSized F N S M
+IsSized F N S (m ∷ M) = IsSized F N S M
 
-abbrev pub AreSized : ℕ → List Life → Type 0
-AreSized N [] = Unit {0}
-AreSized N (life ∷ earlier) = IsSized N life.start life.history × AreSized N earlier
+abbrev pub AreSized : Format → ℕ → List Life → Type 0
+AreSized F N [] = Unit {0}
+AreSized F N (life ∷ earlier) = IsSized F N life.start life.history × AreSized F N earlier
 
--- Where one actor is alone, full comes exactly where the key is no member and the set has as many members as there are slots.
+-- Where one actor is alone, a call is told of an old file exactly where it adds a key that the format of the file can't hold;
+-- else full comes exactly where the key is no member and the set has as many members as there are slots.
 abbrev pub FullIsRight : Type 0
 FullIsRight =
     (start : Start) (steps : List Step) (a : ℕ)
     → IsStart start → IsRun (first_point start) steps → IsAlone a steps
-    → AreSized start.shape.slots (lives (start_keys start) (run (first_point start) steps).marks)
+    → AreSized (format_of start.text) start.shape.slots (lives (start_keys start) (run (first_point start) steps).marks)
+
+-- In a set of one pass: where an adding that has seen all pins finds no slot, as many keys are members as there are slots, by
+-- the trace.
+abbrev pub FullOfOnePass : Type 0
+FullOfOnePass =
+    (start : Start) (service : Service) (disk : Medium) (M : History) (P : Trace) (a : ℕ) (caller : Caller)
+    → Reached start (Up service disk) M P → service.yard.shape.passes ≡ 1 → caller_at service.callers a ≡ Some caller
+    → caller.progress ≡ Reserving true → lowest_free (collect service.yard.uses) ≡ None
+    → HasMembers (λ k. member k P) service.yard.shape.slots
 
 -- A turn that answers worn is taken where the pin word is 2^62, and one that answers halted or device where the vault is
 -- dead. A call is told of an old file exactly where it adds a key that can't be held by the format of the text that the open

@@ -1,5 +1,5 @@
 -- The main theorem over every history, and the two laws on which threads rest.
-use Rattle.std.specs.Prelude.{◌≡◌, ◌≢◌, ◌==◌, ℕ, Bool, false, List, [], ◌∷◌, ◌++◌, Option, Some, None, IsSome}
+use Rattle.std.specs.Prelude.{◌≡◌, ◌≢◌, ◌==◌, ℕ, Bool, true, false, List, [], ◌∷◌, ◌++◌, Option, Some, None, IsSome}
 use Rattle.std.specs.List.{list_any}
 use Rattle.lz_slot.specs.Sets.{Keys}
 use Rattle.lz_slot.specs.Histories.{History, ChainTo, lives, last_history}
@@ -12,7 +12,7 @@ use Rattle.lz_machine.specs.declared.event.Outcome.{Outcome}
 use Rattle.lz_machine.specs.declared.event.Outcome.TheVariants.{Fault}
 use Rattle.lz_machine.specs.Table.{line}
 use Rattle.lz_machine.specs.Lasts.{Lasts}
-use Rattle.lz_machine.specs.Runs.{Start, State, Up, Down, Step, Calls, Turn, Fails, Looks, CrashesIn, Point, Service, Caller, Reached, MayLeave, MayStep, IsRun, run, caller_at, next_event, start_keys, IsStart, first_point}
+use Rattle.lz_machine.specs.Runs.{Start, State, Up, Down, Step, Calls, Turn, Fails, Looks, Stops, Crashes, CrashesIn, Point, Service, Caller, Reached, MayLeave, MayStep, IsRun, run, caller_at, next_event, start_keys, IsStart, first_point}
 
 -- Whatever the run, each text that a crash may leave holds a set, and the lives lead from the first set to that one: each
 -- life has a list of commands that fits it.
@@ -73,8 +73,20 @@ SameBut a (Up one disk) (Up other disk') =
 SameBut a (Down shape disk) (Down shape' disk') = (shape ≡ shape') × (disk ≡ disk')
 SameBut a _ _ = ⊥
 
+-- the call of an actor, where a service is open
+abbrev pub call_in : State → ℕ → Option Caller
+call_in (Up service disk) a = caller_at service.callers a
+call_in (Down shape disk) a = None
+
+-- the step ends the life
+abbrev pub ends_life : Step → Bool
+ends_life Stops = true
+ends_life (Crashes t) = true
+ends_life (CrashesIn a t) = true
+ends_life _ = false
+
 -- Put behind the steps before, a turn of the actor may be taken, and the later steps stay steps, with their outcomes, marks
--- and trace.
+-- and trace. The actor's call is as the turn left it, until the life ends; after that nothing differs.
 pub record KeepsRun (p : Point) (a : ℕ) (later before : List Step) : Type 0 where
   pub may : MayStep (run p before).state (Turn a)
   pub runs : IsRun p (later ++ Turn a ∷ before)
@@ -82,6 +94,8 @@ pub record KeepsRun (p : Point) (a : ℕ) (later before : List Step) : Type 0 wh
   pub marks : (run p (later ++ Turn a ∷ before)).marks ≡ (run p (later ++ before)).marks
   pub trace : (run p (later ++ Turn a ∷ before)).trace ≡ (run p (later ++ before)).trace
   pub state : SameBut a (run p (later ++ before)).state (run p (later ++ Turn a ∷ before)).state
+  pub call : list_any ends_life later ≡ false → call_in (run p (later ++ Turn a ∷ before)).state a ≡ call_in (run p (Turn a ∷ before)).state a
+  pub over : list_any ends_life later ≡ true → (run p (later ++ Turn a ∷ before)).state ≡ (run p (later ++ before)).state
 
 -- A load may be put into a run behind its actor's last step: the other steps stay steps, with their outcomes, marks and
 -- trace. The newest step stands first.

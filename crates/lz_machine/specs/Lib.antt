@@ -8,6 +8,7 @@ pub mod Points
 pub mod Laws
 pub mod Marks
 pub mod InTime
+pub mod Formats
 pub mod Ledgers
 pub mod Kept
 pub mod Entries
@@ -17,3 +18,10 @@ pub mod Lasts
 pub mod Ready
 pub mod Sound
 pub mod Alone
+pub mod NextEvents
+pub mod FreedSlots
+pub mod OneAdd
+pub mod OpenFailures
+pub mod JoinedRuns
+pub mod CallsStand
+pub mod NoSlotCounts

@@ -1,6 +1,7 @@
 -- What a caller keeps, and what it may take.
 use Rattle.std.specs.Prelude.{ℕ, ◌<◌, ◌≤◌, length}
 use Rattle.lz_slot.specs.declared.command.Command.{Command}
+use Rattle.lz_slot.specs.Limits.{most_buckets, most_passes}
 use Rattle.lz_list.specs.Hops.{LeadsOn}
 use Rattle.lz_machine.specs.declared.caller.Progress.{Progress}
 use Rattle.lz_machine.specs.declared.caller.Progress.TheVariants.{Playing, LoadsHalt, Walking, Reserving, SeeingPins, Claiming, Checking, Answering}
@@ -34,8 +35,8 @@ IsEverywhere at = (passes : ℕ) (c : Command) → IsProgress passes c at
 
 -- a call with its numbers in their ranges
 pub record IsCalling (c : Calling) : Type 0 where
-  pub buckets : (1 ≤ c.buckets) × (c.buckets ≤ 4096)
-  pub passes : (1 ≤ c.passes) × (c.passes ≤ 64)
+  pub buckets : (1 ≤ c.buckets) × (c.buckets ≤ most_buckets)
+  pub passes : (1 ≤ c.passes) × (c.passes ≤ most_passes)
   pub progress : IsProgress c.passes c.command c.progress
 
 -- a link by which the call's walk goes on leads to a slot, or to the end

@@ -6,7 +6,7 @@ use Rattle.lz_slot.specs.declared.history.Refusal.TheVariants.{Full as refused_f
 use Rattle.lz_slot.specs.declared.history.Cut.TheVariants.{Halted as cut_halted, Device as cut_device}
 use Rattle.lz_slot.specs.declared.history.Mark.{Mark}
 use Rattle.lz_slot.specs.declared.history.Mark.TheVariants.{Call, Answer, Refused, Cut, Stop, Crash, Opened, OpenFailed}
-use Rattle.lz_slot.specs.Limits.{largest_key}
+use Rattle.lz_slot.specs.Limits.{largest_key, most_buckets, most_passes}
 use Rattle.lz_slot.specs.Sets.{Keys, members, key_of}
 use Rattle.lz_slot.specs.Counted.{of_pass, set_of_pass}
 use Rattle.lz_slot.specs.Histories.{History}
@@ -27,6 +27,7 @@ use Rattle.lz_machine.specs.declared.event.Reply.{Reply}
 use Rattle.lz_machine.specs.declared.event.Reply.TheVariants.{Yes, No, Full, Worn, OldFile, Halted, Device}
 use Rattle.lz_machine.specs.Yards.{Shape, Yard, actor_at, opened_yard, first_trace}
 use Rattle.lz_machine.specs.Table.{yard_done, line, line_failed, line_call, line_publishes, pin_of, last_pin}
+use Rattle.lz_machine.specs.OpenFailures.{IsOpenFailure}
 use Rattle.lz_machine.specs.declared.caller.Progress.{Progress}
 use Rattle.lz_machine.specs.declared.caller.Progress.TheVariants.{Answering}
 use Rattle.lz_machine.specs.Calls.{begun, event_at, progress_after, loaded}
@@ -152,8 +153,9 @@ by_key (f ∷ found) = insert f.0 f.1 (by_key found)
 abbrev pub keys_found : List ℕ → ℕ → List ℕ
 keys_found t N = map (λ f. f.0) (by_key (held t N))
 
--- A step may be taken in a state. An open succeeds where what it reads holds a set, and a call begins where the
--- actor's pin word is even, so that no look is half done; its key is one of some format.
+-- A step may be taken in a state. An open succeeds where what it reads holds a set, and is refused because of the device or
+-- for want of memory; a call begins where the actor's pin word is even, so that no look is half done; its key is one of
+-- some format.
 abbrev pub HasTurn : Service → ℕ → Option Caller → Type 0
 HasTurn service a None = ⊥
 HasTurn service a (Some caller) = (line service.yard a (next_event service.yard caller)).1 ≢ NotNow
@@ -193,7 +195,7 @@ MayStep (Down shape disk) Stops = Unit {0}
 MayStep (Down shape disk) (Crashes t) = IsImage disk t
 MayStep (Down shape disk) (CrashesIn a t) = ⊥
 MayStep (Down shape disk) Opens = Holds disk.seen shape.slots (members (keys_found disk.seen shape.slots))
-MayStep (Down shape disk) (OpenFails why done) = Unit {0}
+MayStep (Down shape disk) (OpenFails why done) = IsOpenFailure why
 
 -- the mark of a reply
 abbrev pub mark_of : ℕ → Reply → Mark
@@ -273,8 +275,8 @@ abbrev pub start_keys : Start → Keys
 start_keys s = members (keys_found s.text s.shape.slots)
 
 pub record IsStart (s : Start) : Type 0 where
-  pub buckets : (1 ≤ s.shape.buckets) × (s.shape.buckets ≤ 4096)
-  pub passes : (1 ≤ s.shape.passes) × (s.shape.passes ≤ 64)
+  pub buckets : (1 ≤ s.shape.buckets) × (s.shape.buckets ≤ most_buckets)
+  pub passes : (1 ≤ s.shape.passes) × (s.shape.passes ≤ most_passes)
   pub bytes : AreBytes s.text
   pub text : Holds s.text s.shape.slots (start_keys s)
 

@@ -310,6 +310,12 @@ pub record RestsNo (k : ℕ) (P0 P : Trace) : Type 0 where
   pub since : IsSince P0 then P
   pub settled : SettledNo then P k
 
+-- the key was no member at some time since the pin
+pub record WasAbsent (k : ℕ) (P0 P : Trace) : Type 0 where
+  pub then : Trace
+  pub since : IsSince P0 then P
+  pub gone : member k then ≡ false
+
 -- the call's own change, at this position, has been settled since
 pub record IsSettledChange (k : ℕ) (P : Trace) (changed : Option ℕ) : Type 0 where
   pub at : ℕ
@@ -324,7 +330,7 @@ MayAnswer (Add k) Yes P0 P changed = IsSettledChange k P changed
 MayAnswer (Add k) No P0 P changed = (changed ≡ None) × RestsYes k P0 P
 MayAnswer (Remove k) Yes P0 P changed = IsSettledChange k P changed
 MayAnswer (Remove k) No P0 P changed = (changed ≡ None) × RestsNo k P0 P
-MayAnswer c (Full counts) P0 P changed = changed ≡ None
+MayAnswer c (Full counts) P0 P changed = (changed ≡ None) × WasAbsent (key_of c) P0 P
 MayAnswer c SaysWorn P0 P changed = changed ≡ None
 MayAnswer c SaysOldFile P0 P changed = changed ≡ None
 MayAnswer c _ P0 P changed = halt_word P ≡ 1
@@ -428,8 +434,9 @@ Relies v c (Playing script i) P0 P changed = ReliesOn v c script i P0 P changed
 Relies v c LoadsHalt P0 P changed = IsIdle v.actor P × (changed ≡ None)
 Relies v c (Walking aim look) P0 P changed =
     IsFresh v changed × IsAimed v (key_of c) P aim × IsLooking v.buckets (key_of c) P0 P look × MayAim c aim
-Relies v c (Reserving again) P0 P changed = IsFresh v changed × (v.actor.slot ≡ None) × IsAdder c
-Relies v c (SeeingPins p) P0 P changed = IsFresh v changed × (v.actor.slot ≡ None) × (1 ≤ p) × (p ≤ v.passes) × IsAdder c
+Relies v c (Reserving again) P0 P changed = IsFresh v changed × (v.actor.slot ≡ None) × IsAdder c × WasAbsent (key_of c) P0 P
+Relies v c (SeeingPins p) P0 P changed =
+    IsFresh v changed × (v.actor.slot ≡ None) × (1 ≤ p) × (p ≤ v.passes) × IsAdder c × WasAbsent (key_of c) P0 P
 Relies v c (Claiming aim pred curr) P0 P changed =
     IsFresh v changed × IsAimed v (key_of c) P aim × HasEnded c aim v.buckets P0 P pred curr
 Relies v c (Checking aim curr) P0 P changed =

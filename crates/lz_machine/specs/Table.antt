@@ -8,7 +8,7 @@ use Rattle.lz_slot.specs.Bytes.{open_byte, closed_byte, slot_body}
 use Rattle.lz_slot.specs.Counted.{set_of_pass}
 use Rattle.lz_vault.specs.declared.vault.Stage.{Stage}
 use Rattle.lz_vault.specs.declared.vault.Stage.TheVariants.{Closed, KeyLoose, Keyed, Opening, Open, Closing}
-use Rattle.lz_vault.specs.Stages.{Cell, cell_synced, is_covered}
+use Rattle.lz_vault.specs.Stages.{Cell, cell_synced, is_closed, is_keyed, is_covered, is_free}
 use Rattle.lz_vault.specs.Vaults.{Vaulted, DeviceCall, NoCall, WriteAt, SyncAll, last_sync, syncs_after, cells_failed, died}
 use Rattle.lz_allot.specs.Uses.{Use, collect, lowest_free, take_slot, give_back, retire, see_pin, counts, is_outside}
 use Rattle.lz_list.specs.declared.place.Place.TheVariants.{Node}
@@ -49,9 +49,9 @@ abbrev pub node_of : Actor → ℕ
 node_of actor = unwrap_or actor.curr 0
 
 abbrev pub has_stage : Stage → Stage → Bool
-has_stage Closed Closed = true
-has_stage Keyed Keyed = true
-has_stage _ _ = false
+has_stage Closed stage = is_closed stage
+has_stage Keyed stage = is_keyed stage
+has_stage _ stage = false
 
 -- What an actor may do, by how far it has come since its claim.
 abbrev pub may_claim : Hold → Bool
@@ -211,10 +211,7 @@ released _ = Nothing
 -- A slot that was reserved and not used is given back. One whose gate may be open counts as used: where the write of the
 -- gate failed the slot stays taken, and stays its actor's.
 abbrev pub is_unused : Stage → Bool
-is_unused Closed = true
-is_unused KeyLoose = true
-is_unused Keyed = true
-is_unused _ = false
+is_unused stage = is_free stage
 
 abbrev pub kept_slot : Yard → Option ℕ → Option ℕ
 kept_slot y None = None

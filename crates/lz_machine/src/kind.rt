@@ -29,6 +29,7 @@ pub enum Kind {
 }
 
 impl Event {
+    /// Which kind of event it is.
     pub fn kind(self) -> Kind
         ensures { result ≡ kind_of self }
     {

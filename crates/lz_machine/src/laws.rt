@@ -1,10 +1,18 @@
 //! Laws of runs. Each function is one law.
 
-ghost use Rattle.lz_machine.specs.Alone.{AloneIsPlain, FullIsRight, RefusalsAreRight};
+ghost use Rattle.lz_machine.specs.Alone.{AloneIsPlain, FullIsRight, FullOfOnePass, RefusalsAreRight};
+ghost use Rattle.lz_machine.specs.CallsStand.{CallsStand, MarkedIsClosed};
 ghost use Rattle.lz_machine.specs.Entries.{LedgerFits};
+ghost use Rattle.lz_machine.specs.FreedSlots.{FreedIsAllFree};
+ghost use Rattle.lz_machine.specs.JoinedRuns.{LeftIsStart, RunsJoin};
 ghost use Rattle.lz_machine.specs.Laws.{EveryHistory, WhatLasts, WalksMove};
+ghost use Rattle.lz_machine.specs.Formats.{FormatsStay};
 ghost use Rattle.lz_machine.specs.InTime.{NeverLate};
 ghost use Rattle.lz_machine.specs.Marks.{MarksTell};
+ghost use Rattle.lz_machine.specs.NextEvents.{NextIsKnown};
+ghost use Rattle.lz_machine.specs.NoSlotCounts.{CountsAreRight};
+ghost use Rattle.lz_machine.specs.OneAdd.{LeavesText, OneAddRuns};
+ghost use Rattle.lz_machine.specs.OpenFailures.{HeldIsOpened};
 
 /// The list of calls that a trace and a ledger give fits the history.
 pub fn ledger_fits()
@@ -25,7 +33,7 @@ pub fn what_lasts()
 {}
 
 /// A load may be put into a run behind its actor's last step; all other steps stay steps, with their outcomes, marks and
-/// trace.
+/// trace, and the actor's call is as the load left it.
 pub fn walks_move()
     ensures { WalksMove }
 {}
@@ -43,8 +51,9 @@ pub fn alone_is_plain()
     ensures { AloneIsPlain }
 {}
 
-/// Where no other actor takes a step, an adding is full exactly where its key is no member and the set has as many members
-/// as there are slots: one that is answered yes found fewer.
+/// Where no other actor takes a step, a call is told of an old file exactly where it adds a key that the file's format can't
+/// hold; else an adding is full exactly where its key is no member and the set has as many members as there are slots: one
+/// that is answered yes found fewer.
 pub fn full_is_right()
     ensures { FullIsRight }
 {}
@@ -59,4 +68,70 @@ pub fn refusals_are_right()
 /// another reason. That holds of a call too that was refused because its pass is worn: its pass has the last pin.
 pub fn never_late()
     ensures { NeverLate }
+{}
+
+/// In each state that a run reaches the next event of a call is its actor's next one and one of the yard's, so that
+/// `Yard::step` may be asked for it, and the call may take what it gives.
+pub fn next_is_known()
+    ensures { NextIsKnown }
+{}
+
+/// In a set of one pass an adding that has seen all pins and finds no slot finds as many members as there are slots.
+pub fn full_of_one_pass()
+    ensures { FullOfOnePass }
+{}
+
+/// A slot in limbo that becomes free was left by every pass: each was outside in some state since the slot was last
+/// unlinked, so none that is inside stands on it or can come to it by an old link.
+pub fn freed_is_all_free()
+    ensures { FreedIsAllFree }
+{}
+
+/// One adding to a freshly made set of one slot is a call and fifteen turns of a run, and it is answered yes.
+pub fn one_add_runs()
+    ensures { OneAddRuns }
+{}
+
+/// In each state that a run reaches a crash may leave some text, so the laws on such texts speak of each run.
+pub fn leaves_text()
+    ensures { LeavesText }
+{}
+
+/// An open of a text that holds a set is refused only because of the device or for want of memory.
+pub fn held_is_opened()
+    ensures { HeldIsOpened }
+{}
+
+/// With each text that a run may leave another run may begin, whatever its buckets and passes.
+pub fn left_is_start()
+    ensures { LeftIsStart }
+{}
+
+/// The main theorem over runs whose opens have other buckets and passes: where one run begins with a text that another may
+/// leave, their lives together are a chain.
+pub fn runs_join()
+    ensures { RunsJoin }
+{}
+
+/// A file keeps its format: in each state that a run reaches the service is over a file of the format with which the run
+/// began, and so is each text that a crash may leave.
+pub fn formats_stay()
+    ensures { FormatsStay }
+{}
+
+/// Hindsight, for the machine: in each state that a run reaches, an open call may rely on what is said of how far it has come,
+/// with the trace at which its pass went in. So an answer rests on a set that was there, and settled, since then.
+pub fn calls_stand()
+    ensures { CallsStand }
+{}
+
+/// A marked slot on which a pass that is inside may stand is closed once its last write is sure.
+pub fn marked_is_closed()
+    ensures { MarkedIsClosed }
+{}
+
+/// Where a slot is asked for and none is found, none is free, and the counts that are told sum to the number of slots. A call
+/// that is answered full tells those of its own last asking.
+pub fn counts_are_right()
+    ensures { CountsAreRight }
 {}

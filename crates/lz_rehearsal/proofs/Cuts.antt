@@ -1,66 +1,12 @@
--- Texts that are cut at a byte.
-use Rattle.std.proofs.Common.{◌≡◌, ◌≢◌, ℕ, ◌+◌, ◌-◌, ◌<◌, ◌≤◌, List, [], ◌∷◌, ◌++◌, length, take, drop, get_or, true, false, nat_eq, Some, None, refl, sym, ap, ◌∙◌, arith}
-use Rattle.std.specs.List.{list_any}
-use Rattle.std.proofs.lemmas.List.{take-append-drop, drop_more, get_or-take, get_or_default, take_all, take_rest, length-take}
-use Rattle.std.proofs.lemmas.List.Folds.{list_any_none}
-use Rattle.std.proofs.lemmas.Bool.{eq-eqb, eqb-true}
-use Rattle.std.proofs.lemmas.Bool.Decides.{nat_tests}
-use Rattle.memchr.specs.Find.{IsFirstByte, Nowhere, Passes, is_byte}
-use Rattle.lz_rehearsal.specs.Scripts.{parted}
-
--- the byte doesn't stand in the text
-abbrev pub Lacks : ℕ → List ℕ → Type 0
-Lacks c text = list_any (nat_eq c) text ≡ false
-
-unlike : (c x : ℕ) → x ≢ c → nat_eq c x ≡ false
-unlike c x h = grind (arith, nat_tests)
-
-lacks_below : (c : ℕ) (r : List ℕ) (e : ℕ) → e ≤ length r → Nowhere (Passes (is_byte c) r) 0 e → Lacks c (take e r)
-lacks_below c r e inside none = list_any_none (nat_eq c) (take e r) (λ k d h.
-    let low : k < e = omega (arith, length-take e r) in
-    unlike c (get_or (take e r) k d) (λ is.
-    none k (omega arith) low (eq-eqb _ _ (get_or_default r k 0 d (omega arith) ∙ sym (get_or-take e r k d low) ∙ is))))
-
-pub lacks_all : (c : ℕ) (r : List ℕ) → IsFirstByte (is_byte c) r None → Lacks c r
-lacks_all c r none = ap (list_any (nat_eq c)) (sym (take_all (length r) r (omega arith))) ∙ lacks_below c r (length r) (omega arith) none
-
-pub lacks_first : (c : ℕ) (r : List ℕ) (e : ℕ) → IsFirstByte (is_byte c) r (Some e) → Lacks c (take e r)
-lacks_first c r e first = lacks_below c r e (omega (arith, first.0.high)) first.0.before
-
--- a text is the part before place e, the byte there and the rest
-pub cut_at : (c : ℕ) (r : List ℕ) (e : ℕ) → IsFirstByte (is_byte c) r (Some e) → r ≡ take e r ++ c ∷ drop (e + 1) r
-cut_at c r e first =
-    let at : get_or r e 0 ≡ c = eqb-true _ _ first.1 in
-    let rest : drop e r ≡ c ∷ drop (e + 1) r = drop_more r e 0 first.0.high ∙ ap (λ (x : ℕ). x ∷ drop (e + 1) r) at in
-    sym (take-append-drop e r) ∙ ap (λ (x : List ℕ). take e r ++ x) rest
-
-pub lacks_more : (c b : ℕ) (t : List ℕ) → Lacks c (b ∷ t) → (nat_eq c b ≡ false) × Lacks c t
-lacks_more c b t h = (grind (arith, nat_tests), grind (arith, nat_tests))
-
--- where two texts lack a byte, it ends both at one place
-pub first_cut : (c : ℕ) (t u rest others : List ℕ) → Lacks c t → Lacks c u → t ++ c ∷ rest ≡ u ++ c ∷ others → t ≡ u
-first_cut c [] [] rest others p q e = refl
-first_cut c [] (d ∷ u) rest others p q e = absurd (let same : c ≡ d = cc in let none = (lacks_more c d u q).0 in grind (arith, nat_tests))
-first_cut c (b ∷ t) [] rest others p q e = absurd (let same : c ≡ b = cc in let none = (lacks_more c b t p).0 in grind (arith, nat_tests))
-first_cut c (b ∷ t) (d ∷ u) rest others p q e = let same = first_cut c t u rest others (lacks_more c b t p).1 (lacks_more c d u q).1 (cc) in cc (same)
-
-pub stands : (c : ℕ) (t rest : List ℕ) → list_any (nat_eq c) (t ++ c ∷ rest) ≡ true
-stands c [] rest = grind (arith, nat_tests)
-stands c (b ∷ t) rest = let h = stands c t rest in grind (arith, nat_tests)
-
-parted_clear : (t rest : List ℕ) → Lacks 32 t → parted (t ++ 32 ∷ rest) ≡ Some (t, rest)
-parted_clear [] rest h = refl
-parted_clear (b ∷ t) rest h = let both = lacks_more 32 b t h in rw (both.0, parted_clear t rest both.1) refl
-
-pub parted_none : (t : List ℕ) → Lacks 32 t → parted t ≡ None
-parted_none [] h = refl
-parted_none (b ∷ t) h = let both = lacks_more 32 b t h in rw (both.0, parted_none t both.1) refl
-
-pub parted_at : (r : List ℕ) (e : ℕ) → IsFirstByte (is_byte 32) r (Some e) → parted r ≡ Some (take e r, drop (e + 1) r)
-parted_at r e first = ap parted (cut_at 32 r e first) ∙ parted_clear (take e r) (drop (e + 1) r) (lacks_first 32 r e first)
+-- Texts that are cut at a space.
+use Rattle.std.proofs.Common.{◌≡◌, ℕ, ◌+◌, ◌-◌, List, ◌∷◌, length, take, drop, Some, sym, ap, ◌∙◌}
+use Rattle.std.proofs.lemmas.List.{drop_more, take_rest}
+use Rattle.memchr.specs.Find.{IsFirstByte, is_byte}
+use Rattle.lz_slot.specs.Texts.{parted}
+use Rattle.lz_slot.proofs.Cuts.{parted_at}
 
 pub word_parted : (text word ended : List ℕ) (e : ℕ) → IsFirstByte (is_byte 32) text (Some e) → word ≡ take e text → ended ≡ drop e text
-    → Some (word, take (length ended - 1) (drop 1 ended)) ≡ parted text
+    → Some (word, take (length ended - 1) (drop 1 ended)) ≡ parted 32 text
 word_parted text word ended e first front back =
     let after : take (length ended - 1) (drop 1 ended) ≡ drop (e + 1) text = take_rest ended 1 ∙ ap (λ (x : List ℕ). drop 1 x) (back ∙ drop_more text e 0 first.0.high) in
-    rw (after, front) (sym (parted_at text e first))
+    rw (after, front) (sym (parted_at 32 text e first))

@@ -3,3 +3,4 @@ pub mod Scripting
 pub mod LineReads
 pub mod Appending
 pub mod Rehearsed
+pub mod Rows

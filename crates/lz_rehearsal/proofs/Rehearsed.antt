@@ -1,5 +1,5 @@
 -- A rehearsal goes on, line by line and turn by turn.
-use Rattle.std.proofs.Common.{◌≡◌, inl, inr, ◌≤◌, ◌<◌, ◌+◌, ◌-◌, ℕ, zero, suc, true, false, Option, None, Some, List, [], ◌∷◌, ◌++◌, length, take, drop, get_or, slice_get, is_some, unwrap_or, Result, Ok, Err, OnOk, refl, sym, ap, subst, ◌∙◌, arith}
+use Rattle.std.proofs.Common.{◌≡◌, inl, inr, ◌≤◌, ◌<◌, ◌+◌, ◌-◌, ℕ, zero, suc, true, false, Option, None, Some, List, [], ◌∷◌, ◌++◌, length, take, drop, get_or, slice_get, is_some, unwrap_or, Result, Ok, Err, OnOk, refl, sym, ap, subst, ◌∙◌, arith, ◌↔◌}
 use Rattle.std.proofs.lemmas.Bool.{false≢true}
 use Rattle.std.proofs.Math.Seq.{split_at}
 use Rattle.std.proofs.lemmas.List.{append-nil, length-take-le, take_more}
@@ -18,7 +18,8 @@ use Rattle.lz_rehearsal.specs.declared.line.Line.{Line}
 use Rattle.lz_rehearsal.specs.declared.line.Line.TheVariants.{Call, Turn, Until, Finish, Trip, Stop, Crash, Open, Show}
 use Rattle.lz_rehearsal.specs.Scripts.{most_turns}
 use Rattle.lz_rehearsal.specs.Rehearsals.{Adds, Does, EndsAt, EndsWithin, IsLawfulLine, Rehearsed, Rehearses, Turns, enough, ended, busy, met, again, nothing, more}
-use Rattle.lz_rehearsal.specs.Rehearsing.{ShowsMembers, TakesTurns, Tells}
+use Rattle.lz_slot.specs.MarkTexts.{marks_text}
+use Rattle.lz_rehearsal.specs.Rehearsing.{PlaysStep, ShowsMembers, TakesTurns, Tells}
 
 -- what lines do is the play of some steps
 abbrev pub IsPlay : WorldOver → List Mark → WorldOver → Type 0
@@ -234,3 +235,12 @@ stopped old new play i h still =
 pub show_adds : {F : Type 0} (r : Result (Unit {0}) F) (old : WorldOver) (line : Line) (b a : Text) → line ≡ Show → OnOk r (ShowsMembers old b a) → OnOk r (Adds old line old b a)
 show_adds (Err e) old line b a is h = tt
 show_adds (Ok done) old line b a is h = subst (λ (l : Line). Adds old l old b a) (sym is) (adds_show old old b a h refl)
+
+-- what holds once the marks are written holds where the step was told as done
+pub on_written : {E F A B : Type 0} (told : Result Unit E) (result : Result Unit F) → ((result ≡ Ok tt) ↔ (told ≡ Ok tt)) → OnOk told A → (A → B) → OnOk result B
+on_written {E = E} {A = A} told (Ok tt) same written then_ = then_ (subst (λ (r : Result Unit E). OnOk r A) (same.0 refl) written)
+on_written told (Err fault) same written then_ = tt
+
+-- a step whose marks are written was played
+pub step_written : (old : WorldOver) (play : PlayStep) (marks : List Mark) (new : WorldOver) (before after : Option (List ℕ)) → PlaysOn old (play ∷ []) marks new → Appends before after (marks_text marks) → PlaysStep old play new before after
+step_written old play marks new before after plays written = record { seen = marks; text = marks_text marks; plays = (plays, refl); written = written }

@@ -12,7 +12,8 @@ use Rattle.lz_core.specs.Worlds.{Ascend, IsChain, IsLawful, IsTold, IsUp, PlaysO
 use Rattle.lz_rehearsal.specs.declared.line.Line.{Line}
 use Rattle.lz_rehearsal.specs.declared.line.Line.TheVariants.{Call, Turn, Until, Finish, Trip, Stop, Crash, Open, Show}
 use Rattle.lz_rehearsal.specs.Scripts.{most_turns}
-use Rattle.lz_rehearsal.specs.Tellings.{busy_text, mark_text, marks_text, show_text}
+use Rattle.lz_slot.specs.MarkTexts.{marks_text}
+use Rattle.lz_rehearsal.specs.Tellings.{busy_text, mark_line, show_text}
 
 -- a step was played: these marks were seen, and their lines written
 abbrev pub IsStep : WorldOver → PlayStep → List Mark → List ℕ → WorldOver → Type 0
@@ -27,7 +28,7 @@ IsTurn old a kind outcome mark new = PlaysOn old (step.Turn a ∷ []) (mark_list
 pub data Turns (a : ℕ) (awaited : Option Kind) : ℕ → WorldOver → List Mark → List ℕ → WorldOver → Type 0 where
   enough : (w : WorldOver) → Turns a awaited 0 w [] [] w
   ended : (n : ℕ) (old new : WorldOver) (kind : Kind) (outcome : Outcome) (mark : Mark)
-      → IsTurn old a kind outcome (Some mark) new → Turns a awaited (suc n) old (mark ∷ []) (mark_text mark) new
+      → IsTurn old a kind outcome (Some mark) new → Turns a awaited (suc n) old (mark ∷ []) (mark_line mark) new
   busy : (n : ℕ) (old new : WorldOver) (kind : Kind)
       → IsTurn old a kind Busy None new → Turns a awaited (suc n) old [] (busy_text a) new
   met : (n : ℕ) (old new : WorldOver) (kind : Kind) (outcome : Outcome)

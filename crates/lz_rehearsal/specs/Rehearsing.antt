@@ -8,7 +8,7 @@ use Rattle.lz_core.specs.declared.play.Step.{Step as PlayStep}
 use Rattle.lz_core.specs.declared.world.Turned.{Turned}
 use Rattle.lz_core.specs.Worlds.{WorldOver}
 use Rattle.lz_rehearsal.specs.Rehearsals.{IsShow, IsStep, Turns}
-use Rattle.lz_rehearsal.specs.Tellings.{busy_text, mark_text}
+use Rattle.lz_rehearsal.specs.Tellings.{busy_text, mark_line}
 
 -- a step was played, and its text written
 pub record PlaysStep (old : WorldOver) (play : PlayStep) (new : WorldOver) (before after : Option (List ℕ)) : Type 0 where
@@ -33,7 +33,7 @@ pub record ShowsMembers (world : WorldOver) (before after : Option (List ℕ)) :
 -- the line of a turn was written, if it has one, and the turn is the last of its line or not
 abbrev pub Tells : ℕ → Option Kind → Turned → Bool → Option (List ℕ) → Option (List ℕ) → Type 0
 Tells a awaited turned true before after =
-    ((mark : Mark) × (turned.mark ≡ Some mark) × Appends before after (mark_text mark))
+    ((mark : Mark) × (turned.mark ≡ Some mark) × Appends before after (mark_line mark))
     ⊎ ((turned.mark ≡ None) × (turned.outcome ≡ Busy) × Appends before after (busy_text a))
     ⊎ ((turned.mark ≡ None) × (turned.outcome ≢ Busy) × (awaited ≡ Some turned.kind) × Appends before after [])
 Tells a awaited turned false before after = (turned.mark ≡ None) × (turned.outcome ≢ Busy) × (awaited ≢ Some turned.kind) × Appends before after []

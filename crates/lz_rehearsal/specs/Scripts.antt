@@ -5,12 +5,13 @@ use Rattle.std.specs.Cmp.Lexicographic.{pointwise}
 use Rattle.lz_slot.specs.declared.command.Command.{Command}
 use Rattle.lz_slot.specs.declared.command.Command.TheVariants.{Add, Remove, Has}
 use Rattle.lz_disk.specs.declared.memory.Pick.{Pick}
-use Rattle.lz_disk.specs.declared.memory.Pick.TheVariants.{Old, New, Byte}
-use Rattle.lz_proto.specs.declared.fault.Bad.{Bad}
+use Rattle.lz_disk.specs.declared.memory.Pick.TheVariants.{Old, New, Byte, Part}
 use Rattle.lz_proto.specs.Lines.{has_line_feed, line_feed}
-use Rattle.lz_proto.specs.Reading.{key_read}
 use Rattle.lz_machine.specs.declared.kind.Kind.{Kind}
 use Rattle.lz_machine.specs.declared.kind.Kind.TheVariants as kind
+use Rattle.lz_slot.specs.Numerals.{number_in}
+use Rattle.lz_slot.specs.Texts.{key_read, parted}
+use Rattle.lz_slot.specs.declared.spelling.KeyFault.{KeyFault}
 use Rattle.lz_rehearsal.specs.declared.line.Line.{Line}
 use Rattle.lz_rehearsal.specs.declared.line.Line.TheVariants.{Call, Turn, Until, Finish, Trip, Stop, Crash, Open, Show}
 
@@ -20,6 +21,10 @@ most_actors = 64
 -- the most turns that one line plays
 abbrev pub most_turns : ℕ
 most_turns = 1000000
+
+-- the most bytes that a crash in part keeps by its line
+abbrev pub most_kept : ℕ
+most_kept = 9999
 
 abbrev pub most_lines : ℕ
 most_lines = 100000
@@ -35,35 +40,22 @@ longest_line = 64
 abbrev pub space : ℕ
 space = 32
 
-abbrev pub in_range : ℕ → Result ℕ Bad → Option ℕ
-in_range most (Ok n) = if nat_le 1 n && nat_le n most then Some n else None
-in_range most (Err bad) = None
-
--- a number from 1 to the most, spelled as keys are
-abbrev pub number_read : ℕ → List ℕ → Option ℕ
-number_read most text = in_range most (key_read text)
-
--- the part of a text before its first space, and the part behind it
-abbrev pub parted : List ℕ → Option (List ℕ × List ℕ)
-parted [] = None
-parted (b ∷ t) = if nat_eq space b then Some ([], t) else option_map (λ p. (b ∷ p.0, p.1)) (parted t)
-
 abbrev pub actor_before : Option (List ℕ × List ℕ) → Option (ℕ × List ℕ)
 actor_before None = None
-actor_before (Some p) = option_map (λ a. (a, p.1)) (number_read most_actors p.0)
+actor_before (Some p) = option_map (λ a. (a, p.1)) (number_in 1 most_actors p.0)
 
 -- the actor that a text begins with, and what follows the space behind it
 abbrev pub actor_read : List ℕ → Option (ℕ × List ℕ)
-actor_read text = actor_before (parted text)
+actor_read text = actor_before (parted space text)
 
 -- what an actor and the rest of a text come to
 abbrev pub with_actor : (ℕ → List ℕ → Option Line) → Option (ℕ × List ℕ) → Option Line
 with_actor reads None = None
 with_actor reads (Some p) = reads p.0 p.1
 
-abbrev pub keyed : (ℕ → Command) → Result ℕ Bad → Option Command
+abbrev pub keyed : (ℕ → Command) → Result ℕ KeyFault → Option Command
 keyed command (Ok k) = Some (command k)
-keyed command (Err bad) = None
+keyed command (Err fault) = None
 
 -- a command's word and its key
 abbrev pub command_read : List ℕ → Option Command
@@ -131,19 +123,20 @@ abbrev pub pick_read : List ℕ → Option Pick
 pick_read text =
     if pointwise nat_eq text (codes "old") then Some Old
     else if pointwise nat_eq text (codes "new") then Some New
+    else if starts_with nat_eq text (codes "part ") then option_map (λ n. Part n) (number_in 0 most_kept (drop 5 text))
     else option_map (λ b. Byte b) (byte_read text)
 
 abbrev pub call_read : List ℕ → Option Line
 call_read text = with_actor (λ a rest. option_map (λ c. Call a c) (command_read rest)) (actor_read text)
 
 abbrev pub turn_read : List ℕ → Option Line
-turn_read text = with_actor (λ a rest. option_map (λ n. Turn a n) (number_read most_turns rest)) (actor_read text)
+turn_read text = with_actor (λ a rest. option_map (λ n. Turn a n) (number_in 1 most_turns rest)) (actor_read text)
 
 abbrev pub until_read : List ℕ → Option Line
 until_read text = with_actor (λ a rest. option_map (λ k. Until a k) (kind_read rest)) (actor_read text)
 
 abbrev pub finish_read : List ℕ → Option Line
-finish_read text = option_map (λ a. Finish a) (number_read most_actors text)
+finish_read text = option_map (λ a. Finish a) (number_in 1 most_actors text)
 
 abbrev pub crash_read : List ℕ → Option Line
 crash_read text = option_map (λ pick. Crash pick) (pick_read text)

@@ -9,7 +9,7 @@ mod rehearsal;
 mod script;
 mod telling;
 
-pub use line::{ACTORS, LONGEST_LINE, Line, MOST_TURNS, read_line};
+pub use line::{ACTORS, LONGEST_LINE, Line, MOST_KEPT, MOST_TURNS, read_line};
 pub use rehearsal::{RehearsalFault, rehearse};
 pub use script::{MOST_LINES, Script, ScriptFault};
 pub use telling::{write_line, write_marks};

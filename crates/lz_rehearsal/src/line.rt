@@ -1,11 +1,11 @@
 //! One line of a script.
 ghost use Rattle.std.specs.Prelude.{◌≡◌, ◌≤◌, IfSome, option_map};
-ghost use Rattle.lz_rehearsal.specs.Scripts.{actor_read, bare, byte_read, call_read, command_read, crash_read, finish_read, hex_digit, kind_read, line_read, number_read, parted, pick_read, turn_read, until_read};
+ghost use Rattle.lz_slot.specs.Texts.{parted};
+ghost use Rattle.lz_rehearsal.specs.Scripts.{actor_read, bare, byte_read, call_read, command_read, crash_read, finish_read, hex_digit, kind_read, line_read, pick_read, space, turn_read, until_read};
 
 use lz_core::Kind;
 use lz_disk::Pick;
-use lz_proto::read_key;
-use lz_slot::Command;
+use lz_slot::{Command, read_key, read_number};
 use memchr::memchr;
 
 /// The most callers that a rehearsal has at once.
@@ -13,6 +13,9 @@ pub const ACTORS: u64 = 64;
 
 /// The most turns that one line plays.
 pub const MOST_TURNS: u64 = 1_000_000;
+
+/// The most bytes that a crash in part keeps by its line.
+pub const MOST_KEPT: u64 = 9_999;
 
 /// A longer line is no line of a script.
 pub const LONGEST_LINE: usize = 64;
@@ -85,7 +88,7 @@ fn read_turn(text: &[u8]) -> Option<Line>
     ensures { result ≡ turn_read text.now }
 {
     let (actor, rest) = read_actor(text)?;
-    let count = read_number(rest, MOST_TURNS)?;
+    let count = read_number(rest, 1, MOST_TURNS)?;
     Some(Line::Turn(actor, count))
 }
 
@@ -100,7 +103,7 @@ fn read_until(text: &[u8]) -> Option<Line>
 fn read_finish(text: &[u8]) -> Option<Line>
     ensures { result ≡ finish_read text.now }
 {
-    let actor = read_number(text, ACTORS)?;
+    let actor = read_number(text, 1, ACTORS)?;
     Some(Line::Finish(actor as usize))
 }
 
@@ -116,32 +119,17 @@ fn read_actor(text: &[u8]) -> Option<(usize, &[u8])>
     ensures { option_map (λ p. (p.0, p.1.now)) result ≡ actor_read text.now }
 {
     let (word, rest) = split_word(text)?;
-    let actor = read_number(word, ACTORS)?;
+    let actor = read_number(word, 1, ACTORS)?;
     Some((actor as usize, rest))
 }
 
 // The part of a text before its first space, and the part behind it.
 fn split_word(text: &[u8]) -> Option<(&[u8], &[u8])>
-    ensures { option_map (λ p. (p.0.now, p.1.now)) result ≡ parted text.now }
+    ensures { option_map (λ p. (p.0.now, p.1.now)) result ≡ parted space text.now }
 {
     let end = memchr(b' ', text)?;
     let (word, rest) = text.split_at(end);
     Some((word, &rest[1..]))
-}
-
-// A number from 1 to the most, spelled as keys are.
-fn read_number(text: &[u8], most: u64) -> Option<u64>
-    ensures value { result ≡ number_read most text.now }
-    ensures range { IfSome result (λ n. n ≤ most) }
-{
-    let Ok(key) = read_key(text) else {
-        return None;
-    };
-    let number = key.rank();
-    if number < 1 || number > most {
-        return None;
-    }
-    Some(number)
 }
 
 fn read_command(text: &[u8]) -> Option<Command>
@@ -167,6 +155,10 @@ fn read_pick(text: &[u8]) -> Option<Pick>
     }
     if text == b"new".as_slice() {
         return Some(Pick::New);
+    }
+    if text.starts_with(b"part ") {
+        let count = read_number(&text[5..], 0, MOST_KEPT)?;
+        return Some(Pick::Part(count));
     }
     let byte = read_byte(text)?;
     Some(Pick::Byte(byte))

@@ -2,7 +2,8 @@
 ghost use Rattle.std.specs.Prelude.{◌≡◌, OnOk, ◌∷◌, ◌++◌, []};
 ghost use Rattle.std.specs.Io.KnownBytes.{Appends};
 ghost use Rattle.lz_slot.specs.Sets.{key_of};
-ghost use Rattle.lz_rehearsal.specs.Tellings.{answer_word, busy_text, cut_word, keys_text, line_text, mark_text, marks_text, refusal_word, show_text, word_of};
+ghost use Rattle.lz_slot.specs.MarkTexts.{answer_word, command_word, cut_word, keys_text, marks_text, refusal_word};
+ghost use Rattle.lz_rehearsal.specs.Tellings.{busy_text, line_text, mark_line, show_text};
 
 use lz_slot::{Command, Cut, Found, Key, Mark, Refusal};
 use std::io;
@@ -20,7 +21,7 @@ pub fn write_marks<W: Write + Drop>(writer: &mut W, marks: &[Mark]) -> io::Resul
 
 /// The line of what was seen.
 pub fn write_mark<W: Write + Drop>(writer: &mut W, mark: &Mark) -> io::Result<()>
-    ensures { OnOk result (Appends (W.contents writer.old) (W.contents writer.new) (mark_text mark.now)) }
+    ensures { OnOk result (Appends (W.contents writer.old) (W.contents writer.new) (mark_line mark.now)) }
 {
     match mark {
         Mark::Call(number, actor, command) => write_call(writer, *number, *actor, *command),
@@ -40,37 +41,37 @@ fn write_call<W: Write + Drop>(
     actor: usize,
     command: Command,
 ) -> io::Result<()>
-    ensures { OnOk result (Appends (W.contents writer.old) (W.contents writer.new) (mark_text (Mark.Call number actor command))) }
+    ensures { OnOk result (Appends (W.contents writer.old) (W.contents writer.new) (mark_line (Mark.Call number actor command))) }
 {
     let named = command;
-    let word = word_of(command);
-    let key = key_of(named).rank();
+    let word = command_word(command);
+    let key = key_of(named);
     writeln!(writer, "call {number} {actor} {word} {key}")
 }
 
 fn write_answer<W: Write + Drop>(writer: &mut W, number: u64, answer: bool) -> io::Result<()>
-    ensures { OnOk result (Appends (W.contents writer.old) (W.contents writer.new) (mark_text (Mark.Answer number answer))) }
+    ensures { OnOk result (Appends (W.contents writer.old) (W.contents writer.new) (mark_line (Mark.Answer number answer))) }
 {
     let word = answer_word(answer);
     writeln!(writer, "answer {number} {word}")
 }
 
 fn write_refused<W: Write + Drop>(writer: &mut W, number: u64, why: Refusal) -> io::Result<()>
-    ensures { OnOk result (Appends (W.contents writer.old) (W.contents writer.new) (mark_text (Mark.Refused number why))) }
+    ensures { OnOk result (Appends (W.contents writer.old) (W.contents writer.new) (mark_line (Mark.Refused number why))) }
 {
     let word = refusal_word(why);
     writeln!(writer, "refused {number} {word}")
 }
 
 fn write_cut<W: Write + Drop>(writer: &mut W, number: u64, why: Cut) -> io::Result<()>
-    ensures { OnOk result (Appends (W.contents writer.old) (W.contents writer.new) (mark_text (Mark.Cut number why))) }
+    ensures { OnOk result (Appends (W.contents writer.old) (W.contents writer.new) (mark_line (Mark.Cut number why))) }
 {
     let word = cut_word(why);
     writeln!(writer, "{word} {number}")
 }
 
 fn write_opened<W: Write + Drop>(writer: &mut W, found: &Found) -> io::Result<()>
-    ensures { OnOk result (Appends (W.contents writer.old) (W.contents writer.new) (mark_text (Mark.Opened found.now))) }
+    ensures { OnOk result (Appends (W.contents writer.old) (W.contents writer.new) (mark_line (Mark.Opened found.now))) }
 {
     write!(writer, "open")?;
     write_keys(writer, found.keys())?;
@@ -78,7 +79,7 @@ fn write_opened<W: Write + Drop>(writer: &mut W, found: &Found) -> io::Result<()
 }
 
 fn write_open_fault<W: Write + Drop>(writer: &mut W, why: u8) -> io::Result<()>
-    ensures { OnOk result (Appends (W.contents writer.old) (W.contents writer.new) (mark_text (Mark.OpenFailed why))) }
+    ensures { OnOk result (Appends (W.contents writer.old) (W.contents writer.new) (mark_line (Mark.OpenFailed why))) }
 {
     writeln!(writer, "open fault {why}")
 }
@@ -118,12 +119,11 @@ fn write_keys<W: Write + Drop>(writer: &mut W, keys: &[Key]) -> io::Result<()>
 fn write_key<W: Write + Drop>(writer: &mut W, key: Key) -> io::Result<()>
     ensures { OnOk result (Appends (W.contents writer.old) (W.contents writer.new) (keys_text (key ∷ []))) }
 {
-    let number = key.rank();
-    write!(writer, " {number}")
+    write!(writer, " {key}")
 }
 
-fn word_of(command: Command) -> &'static str
-    ensures { result.now ≡ word_of command }
+fn command_word(command: Command) -> &'static str
+    ensures { result.now ≡ command_word command }
 {
     match command {
         Command::Add(_) => "add",
@@ -152,6 +152,7 @@ fn refusal_word(why: Refusal) -> &'static str
     match why {
         Refusal::Full => "full",
         Refusal::Worn => "worn",
+        Refusal::OldFile => "oldfile",
     }
 }
 

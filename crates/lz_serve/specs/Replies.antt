@@ -7,7 +7,7 @@ use Rattle.lz_proto.specs.declared.request.Request.TheVariants.{Add, Remove, Has
 use Rattle.lz_proto.specs.declared.reply.Reply.{Reply}
 use Rattle.lz_proto.specs.declared.reply.Reply.TheVariants as reply
 use Rattle.lz_set.specs.declared.fault.Fault.{Fault}
-use Rattle.lz_set.specs.declared.fault.Fault.TheVariants.{Full, Halted, Worn, Device}
+use Rattle.lz_set.specs.declared.fault.Fault.TheVariants.{Full, Halted, Worn, Device, OldFile}
 use Rattle.lz_set.specs.declared.pass.Pass.{Pass}
 use Rattle.lz_set.specs.Names.{Name}
 use Rattle.lz_set.specs.Answers.{IsAnswer}
@@ -18,6 +18,7 @@ reply_of (Ok true) = reply.Yes
 reply_of (Ok false) = reply.No
 reply_of (Err (Full counts)) = reply.Full
 reply_of (Err Worn) = reply.Worn
+reply_of (Err OldFile) = reply.OldFile
 reply_of (Err Halted) = reply.Halted
 reply_of (Err Device) = reply.Halted
 

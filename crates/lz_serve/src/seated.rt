@@ -44,6 +44,7 @@ fn reply_of(answer: Result<bool, Fault>) -> Reply
         Ok(false) => Reply::No,
         Err(Fault::Full(_)) => Reply::Full,
         Err(Fault::Worn) => Reply::Worn,
+        Err(Fault::OldFile) => Reply::OldFile,
         Err(Fault::Halted | Fault::Device) => Reply::Halted,
     }
 }

@@ -1,15 +1,11 @@
 -- What a call answers.
-use Rattle.std.specs.Prelude.{◌≡◌, ℕ, Bool, true, false, Result, Ok, Err, Option, Some}
+use Rattle.std.specs.Prelude.{ℕ, Bool, true, false, Result, Ok, Err}
 use Rattle.lz_slot.specs.declared.command.Command.{Command}
-use Rattle.lz_slot.specs.Histories.{History}
-use Rattle.lz_disk.specs.Images.{Medium}
-use Rattle.lz_list.specs.Traces.{Trace}
 use Rattle.lz_machine.specs.declared.event.Reply.{Reply}
 use Rattle.lz_machine.specs.declared.event.Reply.TheVariants as reply
-use Rattle.lz_machine.specs.declared.caller.Progress.TheVariants.{Answering}
-use Rattle.lz_machine.specs.Runs.{Start, Service, Caller, Up, Reached, caller_at}
 use Rattle.lz_set.specs.declared.fault.Fault.{Fault}
 use Rattle.lz_set.specs.declared.fault.Fault.TheVariants.{Full, Halted, Worn, Device}
+use Rattle.lz_set.specs.Locks.{IsReplied}
 use Rattle.lz_set.specs.Names.{Name}
 
 -- the number by which a program tells a fault
@@ -28,16 +24,6 @@ reply_of (Err Halted) = reply.Halted
 reply_of (Err Worn) = reply.Worn
 reply_of (Err Device) = reply.Device
 
--- The answer is the reply of this pass's call of this command, in a state that a run of a set of this name reaches.
-pub record IsAnswer (name : Name) (pass : ℕ) (c : Command) (answer : Result Bool Fault) : Type 0 where
-  pub start : Start
-  pub shape : start.shape ≡ name.shape
-  pub service : Service
-  pub medium : Medium
-  pub history : History
-  pub trace : Trace
-  pub reached : Reached start (Up service medium) history trace
-  pub caller : Caller
-  pub call : caller_at service.callers pass ≡ Some caller
-  pub command : caller.command ≡ c
-  pub reply : caller.progress ≡ Answering (reply_of answer)
+-- the answer is the reply of this pass's call of this command, in a state that a run of a set of this name reaches
+abbrev pub IsAnswer : Name → ℕ → Command → Result Bool Fault → Type 0
+IsAnswer name pass c answer = IsReplied name.shape pass c (reply_of answer)

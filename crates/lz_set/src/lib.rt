@@ -25,13 +25,16 @@
 mod blank;
 mod fault;
 mod gate;
+mod locked;
 mod named;
 mod pass;
+mod service;
 mod set;
 
 pub use blank::Blank;
 pub use fault::Fault;
 pub use gate::{NoGate, StepGate};
+pub use locked::Locked;
 pub use named::Named;
 pub use pass::Pass;
 pub use set::Set;

@@ -7,18 +7,17 @@ use Rattle.lz_list.specs.Words.{link_with}
 use Rattle.lz_list.specs.Traces.{Trace, Chain, Shows, rank, on, IsFound, insert, bucket_of, chain, chain_of, place_of, has_slot, head_word, node_next, next_link, key_word, has_added, has_removed, flags_after, words_after, halt_word, opening}
 use Rattle.lz_list.proofs.Chains.{before_on, on_start}
 use Rattle.lz_list.proofs.Openings.{opening_lawful}
+use Rattle.lz_list.proofs.Sorted.{same_pair}
 use Rattle.lz_list.proofs.Shown.{words_show_chain}
-use Rattle.lz_yard.specs.Filling.{has_node, Ascends}
+use Rattle.lz_vault.specs.Members.{has_node, Ascends}
 use Rattle.lz_machine.proofs.Open.FirstNodes.{off_chains, none_marked}
-use Rattle.lz_yard.proofs.Members.{node_cases, node_first, node_later, node_slot, slot_node}
+use Rattle.lz_vault.proofs.Members.{node_cases, node_first, node_later}
+use Rattle.lz_yard.proofs.Members.{node_slot, slot_node}
 use Rattle.lz_machine.proofs.Frames.Store.{table_same}
 
 -- the nodes of the first are nodes of the second
 abbrev pub Within : Chain → Chain → Type 0
 Within c d = (k s : ℕ) → has_node k s c ≡ true → has_node k s d ≡ true
-
-same_pair : (n m : ℕ × ℕ) → n.0 ≡ m.0 → n.1 ≡ m.1 → n ≡ m
-same_pair n m one two = ap (λ (q : ℕ). (q, n.1)) one ∙ ap (λ (q : ℕ). (m.0, q)) two
 
 -- lists that ascend and have the same nodes are one
 pub same_list : (c d : Chain) → Ascends c → Ascends d → Within c d → Within d c → c ≡ d

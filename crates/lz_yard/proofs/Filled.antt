@@ -14,9 +14,10 @@ use Rattle.lz_list.specs.Traces.{Trace, Chain, Lawful, Shows, IsFound, insert, p
 use Rattle.lz_list.proofs.Openings.{opening_lawful}
 use Rattle.lz_list.proofs.Shown.{words_show_chain}
 use Rattle.lz_list.proofs.Tables.{table_at, table_set, length-table}
-use Rattle.lz_yard.specs.Filling.{has_node, Ascends, with_first, with_members}
+use Rattle.lz_vault.specs.Members.{has_node, Ascends}
+use Rattle.lz_yard.specs.Filling.{with_first, with_members}
 use Rattle.lz_machine.proofs.Frames.Ranges.{head_range}
-use Rattle.lz_yard.proofs.Members.{node_first, node_later}
+use Rattle.lz_vault.proofs.Members.{node_first, node_later}
 
 -- all keys of a chain are above this one
 abbrev AllAbove : ℕ → Chain → Type 0

@@ -22,8 +22,10 @@ use Rattle.lz_list.proofs.Traced.{sorted_after}
 use Rattle.lz_machine.specs.declared.actor.Actor.{Actor}
 use Rattle.lz_machine.specs.Yards.{Yard, idle_actor}
 use Rattle.lz_yard.specs.Parts.{Fits, HasInRange}
-use Rattle.lz_yard.specs.Filling.{has_node, AreMembers, AreTables, with_members}
-use Rattle.lz_yard.proofs.Members.{node_first, node_later, are_found}
+use Rattle.lz_vault.specs.Members.{has_node, AreMembers}
+use Rattle.lz_yard.specs.Filling.{AreTables, with_members}
+use Rattle.lz_vault.proofs.Members.{node_first, node_later}
+use Rattle.lz_yard.proofs.Members.{are_found}
 use Rattle.lz_yard.proofs.Filled.{filled_words}
 
 -- each entry of a list is a node of it

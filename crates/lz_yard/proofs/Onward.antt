@@ -15,7 +15,7 @@ use Rattle.lz_machine.specs.Calls.{progress_after}
 use Rattle.lz_machine.specs.Points.{IsReached}
 use Rattle.lz_machine.specs.Runs.{Start, Caller, Service, State, Up, Step, Turn, Fails, MayStep, HasTurn, HasFault, MayPlay, Point, caller_at, next_event, reply_at, moved_on, played, after_turn, after_fault, state_after}
 use Rattle.lz_machine.proofs.Frames.OneActor.{caller_range}
-use Rattle.lz_machine.proofs.Runs.OpenCall.{is_next}
+use Rattle.lz_machine.proofs.Runs.CallerEvent.{is_next}
 use Rattle.lz_machine.proofs.Runs.ReachedPoint.{as_reached}
 use Rattle.lz_machine.proofs.Theorem.Timing.{in_time}
 use Rattle.lz_machine.proofs.Theorem.Timeliness.{is_look}
@@ -58,7 +58,7 @@ module _ (start : Start) (p : Point) (reached : IsReached start p) (service : Se
     history = p.marks;
     trace = p.trace;
     reached = as_reached start p (Up service medium) reached up;
-    next = is_next service a caller at;
+    next = is_next service a (next_event service.yard caller) (record { caller = caller; at = at; event = refl });
     yard = record { shape = refl; heads = refl; links = refl; keys = refl; halt = refl; pin = refl; locks = refl; vault = refl; uses = refl; actors = refl };
     device = same;
   }

@@ -1,5 +1,5 @@
 -- A yard that was opened over an honest device is that of the text read.
-use Rattle.std.proofs.Common.{◌≡◌, ◌≢◌, ◌≤◌, ◌*◌, take, ◌⊎◌, inl, inr, ⊎_elim, ℕ, zero, suc, ◌+◌, ◌<◌, Bool, true, false, ◌&&◌, ◌||◌, ◌==◌, List, [], ◌∷◌, ◌++◌, length, map, refl, sym, ap, ◌∙◌, subst, arith, IsTrue}
+use Rattle.std.proofs.Common.{◌≡◌, ◌≢◌, ◌≤◌, ◌*◌, take, ◌⊎◌, inl, inr, ℕ, zero, suc, ◌+◌, ◌<◌, Bool, true, false, ◌&&◌, ◌||◌, ◌==◌, List, [], ◌∷◌, ◌++◌, length, map, refl, sym, ap, ◌∙◌, subst, arith, IsTrue}
 use mathlib.Core.Bool.{false≢true}
 use Rattle.std.specs.Prelude.{slice_get, Some, replicate, slice_index_or, if◌then◌else◌}
 use Rattle.std.specs.List.{range_with_len}
@@ -10,7 +10,7 @@ use Rattle.std.proofs.lemmas.Bool.{cases_eq, cases_Bool}
 use Rattle.std.proofs.lemmas.Bool.Decides.{nat_tests}
 use Rattle.lz_slot.specs.declared.slot.SlotRead.{SlotRead}
 use Rattle.lz_slot.specs.declared.slot.SlotRead.TheVariants.{Closed as Closed_read, Member as Member_read, BadKey as BadKey_read}
-use Rattle.lz_slot.specs.Limits.{most_slots}
+use Rattle.lz_slot.specs.Limits.{most_slots, most_buckets, most_passes}
 use Rattle.lz_slot.specs.Rooms.{largest_of}
 use Rattle.lz_slot.specs.declared.format.Format.{Format}
 use Rattle.lz_slot.specs.Sets.{members}
@@ -20,9 +20,7 @@ use Rattle.lz_vault.specs.declared.vault.Stage.TheVariants.{Closed, Open}
 use Rattle.lz_vault.specs.Stages.{Cell, AreSteady}
 use Rattle.lz_vault.specs.Vaults.{Vaulted}
 use Rattle.lz_disk.specs.Devices.{Device}
-use Rattle.lz_vault.specs.declared.opening.OpenFault.{OpenFault}
-use Rattle.lz_vault.specs.declared.opening.OpenFault.TheVariants.{Memory, Device as DeviceFailed}
-use Rattle.lz_vault.specs.Opens.{IsCellOf, AreFound, AreBlank, IsFaultOf, IsRefusedFor, Opens}
+use Rattle.lz_vault.specs.Opens.{IsCellOf, AreFound, AreBlank}
 use Rattle.lz_allot.specs.Uses.{Use, Free, Taken}
 use Rattle.lz_allot.specs.Allots.{Allotted}
 use Rattle.lz_list.specs.Words.{Words}
@@ -33,14 +31,17 @@ use Rattle.lz_list.specs.Traces.{Chain, IsFound, has_key, has_slot, word_after, 
 use Rattle.lz_list.proofs.Tables.{length-table}
 use Rattle.lz_machine.specs.declared.actor.Actor.{Actor}
 use Rattle.lz_machine.specs.Yards.{Yard, Shape, no_cell, cell_read, use_read, slots_read, opened_yard}
-use Rattle.lz_yard.specs.Filling.{member_in, member_at, has_node, AreDistinct, AreTables, HasNoTables}
+use Rattle.lz_vault.specs.Members.{member_in, member_at, has_node}
+use Rattle.lz_yard.specs.Filling.{AreTables}
 use Rattle.lz_machine.specs.Runs.{IsStart, by_key, keys_found}
 use Rattle.lz_machine.proofs.Open.Texts.{text_of, text_size, text_head, text_format, text_says, text_bytes}
 use Rattle.lz_machine.proofs.Open.FirstNodes.{has_node as node_in, node_has_key, node_held, held_found, key_held}
-use Rattle.lz_yard.proofs.Members.{node_cases, node_slot, slot_node, are_found, are_distinct}
+use Rattle.lz_machine.proofs.Open.ListedKeys.{holds_listed}
+use Rattle.lz_yard.proofs.Members.{node_slot, slot_node, are_found}
+use Rattle.lz_vault.proofs.Members.{node_cases, are_distinct}
 use Rattle.lz_yard.proofs.Arranged.{Within, same_words_after}
 use Rattle.lz_yard.proofs.Founding.{opened}
-use Rattle.lz_yard.proofs.FoundSlots.{read_length, any_key, key_by}
+use Rattle.lz_yard.proofs.FoundSlots.{read_length}
 
 same_node : (k s : ℕ) (c : Chain) → node_in k s c ≡ has_node k s c
 same_node k s [] = refl
@@ -93,16 +94,6 @@ module _ (t : List ℕ) where
     | inl before ↦ let was = held_node n k s before in (omega (arith, was.0), was.1)
     | inr last ↦ let is = held_read n k s (slot_at t n) refl last in (omega (arith, is.0), is.1)
   ]
-
-  -- where the text holds a set, the cells that say the same of each slot are distinct
-  pub found_distinct : (cells : List Cell) → AreFound t cells → AreBlank cells → AreDistinct cells
-  found_distinct cells told blank i j k low low' one two = told.held.no_key_twice i j k low low' (says i low one) (says j low' two)
-    where
-      says : (n : ℕ) → n < length cells → member_at cells n ≡ Some k → slot_at t n ≡ Member_read k
-      says n low is =
-          let there = slice_get-get_or cells n no_cell low in
-          let same = cell_same (slot_at t n) (slice_index_or cells n no_cell) (told.each n (slice_index_or cells n no_cell) there) (blank n (slice_index_or cells n no_cell) there) in
-          member_says (slot_at t n) k (ap member_in (sym same) ∙ is)
 
   module _ (vault : Vaulted) (B S : ℕ) (list : Listed) (allot : Allotted) (actors : List Actor) (are : AreTables vault.cells B S list allot actors)
       (fresh : (vault.syncs ≡ 0) × (vault.dead ≡ false)) (named : vault.format ≡ format_of t) (each : (i : ℕ) (cell : Cell) → slice_get vault.cells i ≡ Some cell → IsCellOf (slot_at t i) cell) (blank : AreBlank vault.cells) where
@@ -200,41 +191,9 @@ module _ (t : List ℕ) where
         subst (λ (n : ℕ). ◌≡◌ {A = Yard} (record { shape = record { slots = n; buckets = B; passes = S }; words = list.words; locks = list.locks; vault = vault; uses = allot.uses; actors = actors }) (opened_yard (record { slots = n; buckets = B; passes = S }) t))
         (sym count) yard_at
 
--- an open whose members have no tables is refused for that
-pub refused_for : (before after : Device) (memory : Vaulted) (fault : OpenFault) → Opens before after memory → HasNoTables memory.cells fault → IsRefusedFor before after fault
-refused_for before after memory fault opens none = record {
-  honest = opens.honest;
-  medium = λ honest. inr (opens.medium honest);
-  time = opens.time;
-  faults = opens.faults;
-  why = λ honest. ⊎_elim
-      (λ is. subst (IsFaultOf before.medium.seen) (sym is) tt)
-      (λ twice. absurd (twice.1 (found_distinct before.medium.seen memory.cells (opens.found honest) opens.blank)))
-      none;
-  cause = λ device. ⊎_elim (λ is. absurd (apart (sym is ∙ device))) (λ twice. absurd (twice.0 device)) none;
-}
-  where
-    apart : Memory ≡ DeviceFailed → ⊥
-    apart h = absurd cc
-
--- a text that says what distinct cells do holds the set that is listed of it
-pub holds_listed : (t : List ℕ) (N : ℕ) → 1 ≤ N → N ≤ most_slots → length t ≡ 16 + 16 * N → take 16 t ≡ open_byte ∷ header_body (format_of t) N
-    → ((i : ℕ) → i < N → slot_at t i ≢ BadKey_read) → ((i j k : ℕ) → i < N → j < N → slot_at t i ≡ Member_read k → slot_at t j ≡ Member_read k → i ≡ j)
-    → Holds t N (members (keys_found t N))
-holds_listed t N low high size head fine once = record {
-  count = (low, high);
-  size = size;
-  head = head;
-  no_bad_key = fine;
-  no_key_twice = once;
-  set = λ k.
-      let same : members (keys_found t N) k ≡ has_key k (held t N) = any_key k (by_key (held t N)) ∙ key_by k (held t N) in
-      ((λ yes. key_held t N k (sym same ∙ yes)), (λ found. same ∙ node_has_key k found.0 (held t N) (node_held t N k found.0 found.1 found.2)));
-}
-
 -- a text that says what the cells of an open do begins a life
 module _ (vault : Vaulted) (B S : ℕ) (list : Listed) (allot : Allotted) (actors : List Actor) (are : AreTables vault.cells B S list allot actors)
-    (fresh : (vault.syncs ≡ 0) × (vault.dead ≡ false)) (blank : AreBlank vault.cells) (some : (1 ≤ B) × (B ≤ 4096)) (passes : (1 ≤ S) × (S ≤ 64))
+    (fresh : (vault.syncs ≡ 0) × (vault.dead ≡ false)) (blank : AreBlank vault.cells) (some : (1 ≤ B) × (B ≤ most_buckets)) (passes : (1 ≤ S) × (S ≤ most_passes))
     (count : (1 ≤ length vault.cells) × (length vault.cells ≤ most_slots)) (slots : ℕ) (slots_is : slots ≡ length vault.cells) where
   abbrev Begins : List ℕ → Type 0
   Begins t = IsStart (record { shape = record { slots = slots; buckets = B; passes = S }; text = t }) × (opened vault B S slots list allot actors are slots_is ≡ opened_yard (record { slots = slots; buckets = B; passes = S }) t)

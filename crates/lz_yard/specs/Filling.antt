@@ -2,11 +2,9 @@
 use Rattle.std.specs.Prelude.{◌≡◌, ◌≢◌, ◌⊎◌, ℕ, suc, ◌<◌, Bool, true, false, ◌&&◌, ◌||◌, ◌==◌, if◌then◌else◌, IsTrue, List, [], ◌∷◌, length, map, replicate, slice_index_or, Option, Some, None}
 use Rattle.std.specs.List.{range_with_len}
 use Rattle.lz_disk.specs.Devices.{Device}
-use Rattle.lz_vault.specs.declared.vault.Stage.TheVariants.{Open}
 use Rattle.lz_vault.specs.Stages.{Cell}
+use Rattle.lz_vault.specs.Members.{AreMembers}
 use Rattle.lz_vault.specs.Opens.{Opens}
-use Rattle.lz_vault.specs.declared.opening.OpenFault.{OpenFault}
-use Rattle.lz_vault.specs.declared.opening.OpenFault.TheVariants.{Memory, Device as DeviceFailed}
 use Rattle.lz_allot.specs.Uses.{Free, Taken}
 use Rattle.lz_allot.specs.Allots.{Allotted}
 use Rattle.lz_list.specs.declared.place.Place.TheVariants.{Bucket}
@@ -16,38 +14,7 @@ use Rattle.lz_list.specs.Lists.{Listed, free_locks}
 use Rattle.lz_list.specs.Traces.{Chain, bucket_of, has_slot, opening, words_after}
 use Rattle.lz_machine.specs.declared.actor.Actor.{Actor}
 use Rattle.lz_machine.specs.Runs.{IsStart}
-use Rattle.lz_machine.specs.Yards.{Yard, opened_yard, idle_actor, no_cell}
-
--- the key that a slot holds, where its gate is open
-abbrev pub member_in : Cell → Option ℕ
-member_in cell = elim cell.stage [ Open ↦ Some cell.key | _ ↦ None ]
-
-abbrev pub member_at : List Cell → ℕ → Option ℕ
-member_at cells s = member_in (slice_index_or cells s no_cell)
-
--- a node of key k in slot s is among these
-abbrev pub has_node : ℕ → ℕ → Chain → Bool
-has_node k s [] = false
-has_node k s (f ∷ found) = ((f.0 == k) && (f.1 == s)) || has_node k s found
-
--- the keys ascend
-abbrev pub Ascends : Chain → Type 0
-Ascends [] = Unit {0}
-Ascends (f ∷ found) = ((k s : ℕ) → has_node k s found ≡ true → f.0 < k) × Ascends found
-
--- no two slots hold one key
-abbrev pub AreDistinct : List Cell → Type 0
-AreDistinct cells = (i j k : ℕ) → i < length cells → j < length cells → member_at cells i ≡ Some k → member_at cells j ≡ Some k → i ≡ j
-
--- These are the members that the first n slots hold, by key.
-pub record AreMembers (cells : List Cell) (n : ℕ) (members : Chain) : Type 0 where
-  pub ascend : Ascends members
-  pub each : (k s : ℕ) → has_node k s members ≡ true → (s < n) × (member_at cells s ≡ Some k)
-  pub all : (k s : ℕ) → s < n → member_at cells s ≡ Some k → has_node k s members ≡ true
-
--- why no tables are made of these cells: for want of memory, or since two slots hold one key
-abbrev pub HasNoTables : List Cell → OpenFault → Type 0
-HasNoTables cells fault = (fault ≡ Memory) ⊎ ((fault ≢ DeviceFailed) × (AreDistinct cells → ⊥))
+use Rattle.lz_machine.specs.Yards.{Yard, opened_yard, idle_actor}
 
 -- the words with a node of key k in slot s before all others of its bucket, settled as added
 abbrev pub with_first : Words → ℕ → ℕ → Words

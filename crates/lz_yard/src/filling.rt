@@ -1,16 +1,16 @@
 //! What an open makes of the members that the vault found.
-ghost use Rattle.std.specs.Prelude.{◌≡◌, ◌⊎◌, ◌≤◌, ◌<◌, ℕ, All, IfErr, IfOk, None, OnOk, Some, length, map, reverse};
-ghost use Rattle.std.specs.BTreeMap.{get, insert_entry};
-ghost use Rattle.std.specs.Ordering.{nat_cmp};
+ghost use Rattle.std.specs.Prelude.{◌≡◌, ◌≤◌, ◌<◌, All, IfOk, OnOk, length, map, reverse};
+ghost use Rattle.lz_slot.specs.Limits.{most_passes};
 ghost use Rattle.lz_list.specs.Traces.{bucket_of};
-ghost use Rattle.lz_yard.specs.Filling.{AreMembers, AreTables, HasNoTables, member_at, with_first, with_members};
+ghost use Rattle.lz_vault.specs.Members.{AreMembers};
+ghost use Rattle.lz_yard.specs.Filling.{AreTables, with_first, with_members};
 
 use lz_allot::Allot;
 use lz_disk::Disk;
 use lz_list::{Flags, LinkWord, List, Place, Word, Words, next_to};
 use lz_machine::{Actor, Hold};
-use lz_slot::{Key, Slot};
-use lz_vault::{OpenFault, Stage, Vault};
+use lz_slot::Slot;
+use lz_vault::Vault;
 use std::alloc::{AllocError, Global};
 use std::collections::BTreeMap;
 
@@ -41,7 +41,7 @@ impl Tables {
     ) -> Result<Tables, AllocError>
         requires members { AreMembers vault.now.memory.cells (length vault.now.memory.cells) members.entries }
         requires buckets { 1 ≤ buckets }
-        requires passes { (1 ≤ passes) × (passes ≤ 64) }
+        requires passes { (1 ≤ passes) × (passes ≤ most_passes) }
         ensures { IfOk result (λ tables. AreTables vault.now.memory.cells buckets passes tables.list tables.allot tables.actors.items) }
     {
         let slots = vault.slots();
@@ -55,50 +55,6 @@ impl Tables {
             allot,
             actors,
         })
-    }
-}
-
-// The key that a slot holds, where its gate is open.
-fn key_held<D: Disk>(vault: &Vault<D>, slot: Slot) -> Option<Key>
-    requires { slot < length vault.now.memory.cells }
-    ensures { result ≡ member_at vault.now.memory.cells slot }
-{
-    match vault.stage(slot) {
-        Stage::Open => vault.key_at(slot),
-        _ => None,
-    }
-}
-
-// The slot of each member, by its key. The vault's scan has refused a file that holds a key twice, but its contract says so
-// of an honest device alone.
-pub(crate) fn members_of<D: Disk>(
-    alloc: Global,
-    vault: &Vault<D>,
-) -> Result<BTreeMap<u64, Slot>, OpenFault>
-    ensures ok { IfOk result (λ members. AreMembers vault.now.memory.cells (length vault.now.memory.cells) members.entries) }
-    ensures err { IfErr result (HasNoTables vault.now.memory.cells) }
-{
-    let mut members = BTreeMap::new(alloc);
-    for index in 0..vault.slots() {
-        let slot = Slot::new(index as u16);
-        if let Some(key) = key_held(vault, slot) {
-            if let Err(fault) = note_member(&mut members, key.rank(), slot) {
-                return Err(fault);
-            }
-        }
-    }
-    Ok(members)
-}
-
-// Takes a member, whose key must not be there.
-fn note_member(members: &mut BTreeMap<u64, Slot>, key: u64, slot: Slot) -> Result<(), OpenFault>
-    ensures ok { OnOk result ((members.new.entries ≡ insert_entry nat_cmp members.old.entries key slot) × (get nat_cmp members.old key ≡ None)) }
-    ensures err { IfErr result (λ fault. (fault ≡ OpenFault.Memory) ⊎ ((first : ℕ) × (fault ≡ OpenFault.Twice first slot) × (get nat_cmp members.old key ≡ Some first))) }
-{
-    match members.insert(key, slot) {
-        Ok(None) => Ok(()),
-        Ok(Some(first)) => Err(OpenFault::Twice(first, slot)),
-        Err(_) => Err(OpenFault::Memory),
     }
 }
 

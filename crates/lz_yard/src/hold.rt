@@ -1,12 +1,10 @@
 //! Small tests, by which the table says what may be done.
 ghost use Rattle.std.specs.Prelude.{◌≡◌};
-ghost use Rattle.lz_vault.specs.Stages.{is_covered};
-ghost use Rattle.lz_machine.specs.Table.{has_checked, has_closed, has_marked, has_opened, has_stage, is_old, is_played_dead, is_unused, may_check, may_claim, may_release, may_retire, released, stays_out};
+ghost use Rattle.lz_machine.specs.Table.{has_checked, has_closed, has_marked, has_opened, is_old, is_played_dead, may_check, may_claim, may_release, may_retire, released, stays_out};
 
 use lz_list::LAST_PIN;
 use lz_machine::{Actor, Event, Hold};
 use lz_slot::{Command, Format};
-use lz_vault::Stage;
 
 pub(crate) fn may_claim(hold: Hold) -> bool
     ensures { result ≡ may_claim hold }
@@ -67,32 +65,6 @@ pub(crate) fn released(hold: Hold) -> Hold
         Hold::Unlinked => Hold::Released,
         _ => Hold::Nothing,
     }
-}
-
-pub(crate) fn is_keyed(stage: Stage) -> bool
-    ensures { result ≡ has_stage Stage.Keyed stage }
-{
-    matches!(stage, Stage::Keyed)
-}
-
-pub(crate) fn is_closed(stage: Stage) -> bool
-    ensures { result ≡ has_stage Stage.Closed stage }
-{
-    matches!(stage, Stage::Closed)
-}
-
-// A slot's last write is sure.
-pub(crate) fn is_covered(stage: Stage) -> bool
-    ensures { result ≡ is_covered stage }
-{
-    matches!(stage, Stage::Closed | Stage::Keyed | Stage::Open)
-}
-
-// A slot's gate is surely closed, so that it may be given back.
-pub(crate) fn is_unused(stage: Stage) -> bool
-    ensures { result ≡ is_unused stage }
-{
-    matches!(stage, Stage::Closed | Stage::KeyLoose | Stage::Keyed)
 }
 
 // An event that is played on a dead vault too.

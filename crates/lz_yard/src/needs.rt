@@ -6,8 +6,8 @@ ghost use Rattle.lz_machine.specs.Ready.{IsEventOf};
 ghost use Rattle.lz_yard.specs.Parts.{Fits, Known};
 
 use crate::hold::{
-    has_checked, has_closed, has_marked, has_opened, is_closed, is_keyed, is_played_dead,
-    may_check, may_claim, may_release, may_retire, stays_out,
+    has_checked, has_closed, has_marked, has_opened, is_played_dead, may_check, may_claim,
+    may_release, may_retire, stays_out,
 };
 use crate::parts::Parts;
 use lz_disk::Disk;
@@ -33,7 +33,7 @@ impl<D: Disk> Parts<D> {
             Event::Claim(_, _) => may_claim(hand.hold),
             Event::Check => may_check(hand.hold),
             Event::WriteOpen => match hand.slot {
-                Some(slot) => has_checked(hand.hold) && is_keyed(self.stage(slot)),
+                Some(slot) => has_checked(hand.hold) && self.stage(slot).is_keyed(),
                 None => false,
             },
             Event::Link => has_opened(hand.hold),
@@ -44,7 +44,7 @@ impl<D: Disk> Parts<D> {
             Event::Mark => has_closed(hand.hold),
             Event::Release => may_release(hand.hold),
             Event::Unlink => match hand.curr {
-                Some(slot) => has_marked(hand.hold) && is_closed(self.stage(slot)),
+                Some(slot) => has_marked(hand.hold) && self.stage(slot).is_closed(),
                 None => false,
             },
             Event::Retire => may_retire(hand.hold),

@@ -8,7 +8,6 @@ ghost use Rattle.lz_machine.specs.Runs.{with_words};
 ghost use Rattle.lz_machine.specs.Table.{is_spent, is_sure, set_actor, with_hold};
 ghost use Rattle.lz_yard.specs.Parts.{with_actors};
 
-use crate::hold::is_covered;
 use crate::told::Told;
 use lz_allot::Allot;
 use lz_disk::Disk;
@@ -147,7 +146,7 @@ impl<D: Disk> Parts<D> {
         requires { slot < length self.now.yard.vault.cells }
         ensures { result ≡ is_sure self.now.yard slot }
     {
-        is_covered(self.stage(slot))
+        self.stage(slot).is_covered()
     }
 
     // Whether no sync is left in this life.

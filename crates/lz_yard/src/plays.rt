@@ -10,7 +10,7 @@ ghost use Rattle.lz_machine.specs.Table.{given_back, is_unused, kept_slot, set_a
 ghost use Rattle.lz_machine.specs.Ready.{IsReady};
 ghost use Rattle.lz_yard.specs.Parts.{Does, Fits, Known, with_actors, with_uses};
 
-use crate::hold::{is_old, is_unused, released};
+use crate::hold::{is_old, released};
 use crate::parts::Parts;
 use lz_disk::Disk;
 use lz_flush::settle;
@@ -41,7 +41,7 @@ impl<D: Disk> Parts<D> {
         match slot {
             None => None,
             Some(slot) => {
-                if is_unused(self.stage(slot)) {
+                if self.stage(slot).is_free() {
                     self.allot.give_back(slot);
                     None
                 } else {

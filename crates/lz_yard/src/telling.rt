@@ -69,7 +69,7 @@ impl<D: Disk> Parts<D> {
         requires key { get self.now.yard.words (Word.Key slot) ≤ largest_key }
         ensures { result ≡ Some (get self.now.yard.words (Word.Key slot)) }
     {
-        Key::new(self.word(Word::Key(slot)))
+        Key::of_rank(self.word(Word::Key(slot)))
     }
 
     // What a settling publishes.

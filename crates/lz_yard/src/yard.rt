@@ -1,5 +1,6 @@
 //! The yard: what callers share under one lock.
 ghost use Rattle.std.specs.Prelude.{◌≡◌, ◌≤◌, true, IfErr, IfOk, IfSome};
+ghost use Rattle.lz_slot.specs.Limits.{most_buckets, most_passes};
 ghost use Rattle.lz_list.specs.Words.{set};
 ghost use Rattle.lz_list.specs.Lists.{IsWord};
 ghost use Rattle.lz_vault.specs.Opens.{IsRefusedFor};
@@ -9,14 +10,14 @@ ghost use Rattle.lz_machine.specs.Runs.{MayPlay, with_words};
 ghost use Rattle.lz_yard.specs.Steps.{Played, nothing_told};
 ghost use Rattle.lz_machine.specs.Table.{needs};
 
-use crate::filling::{Tables, members_of};
+use crate::filling::Tables;
 use crate::parts::Parts;
 use crate::told::nothing_told;
 use lz_disk::Disk;
 use lz_list::{Publishing, Word, Words};
 use lz_machine::{Event, Outcome};
 use lz_slot::Format;
-use lz_vault::{OpenFault, Refused, Vault};
+use lz_vault::{OpenFault, Opened, Refused, Vault};
 use std::alloc::{AllocError, Global};
 use std::marker::Model;
 
@@ -48,22 +49,13 @@ impl<D: Disk> Yard<D> {
         buckets: usize,
         passes: usize,
     ) -> Result<Yard<D>, Refused<D>>
-        requires buckets { (1 ≤ buckets) × (buckets ≤ 4096) }
-        requires passes { (1 ≤ passes) × (passes ≤ 64) }
+        requires buckets { (1 ≤ buckets) × (buckets ≤ most_buckets) }
+        requires passes { (1 ≤ passes) × (passes ≤ most_passes) }
         ensures ok { IfOk result (λ yard. OpensYard (D.device disk) (D.device yard.disk) buckets passes yard.yard) }
         ensures told { IfOk result (λ yard. yard.told ≡ nothing_told) }
         ensures err { IfErr result (λ refused. IsRefusedFor (D.device disk) (D.device refused.disk) refused.fault) }
     {
-        let vault = Vault::open(alloc, disk)?;
-        let members = match members_of(alloc, &vault) {
-            Ok(members) => members,
-            Err(fault) => {
-                return Err(Refused {
-                    disk: vault.close(),
-                    fault,
-                });
-            }
-        };
+        let Opened { vault, members } = Vault::open_with_members(alloc, disk)?;
         match Tables::of(alloc, &vault, members, buckets, passes) {
             Ok(tables) => Ok(Yard {
                 parts: Parts {

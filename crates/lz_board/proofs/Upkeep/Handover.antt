@@ -1,5 +1,5 @@
 -- A part that goes from seat to seat keeps the rule.
-use Rattle.std.proofs.Common.{◌≡◌, ◌≢◌, ◌⊎◌, ⊎_elim, ℕ, suc, Bool, true, false, List, ◌∷◌, length, set, refl, sym, ap, ◌∙◌, subst, length-set, true≢false}
+use Rattle.std.proofs.Common.{◌≡◌, ◌≢◌, ⊎_elim, ℕ, suc, Bool, List, ◌∷◌, length, set, refl, sym, ap, ◌∙◌, subst, length-set, true≢false}
 use mathlib.Core.Option.{some, some-ne-none}
 use lib.ListN.{get_elem?}
 use Rattle.atomic_table.specs.Table.{Splits, Joins}

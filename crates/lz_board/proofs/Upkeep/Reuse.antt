@@ -1,9 +1,9 @@
 -- What the rule says between any two steps: of the words, of what passes have seen, and of slots that are prepared anew.
-use Rattle.std.proofs.Common.{◌≡◌, inr, ℕ, suc, ◌∷◌, true, List, sym, subst}
+use Rattle.std.proofs.Common.{◌≡◌, inr, ℕ, suc, ◌∷◌, true, sym, subst}
 use Rattle.atomic_table.specs.Table.{State}
 use Rattle.lz_list.specs.declared.publishing.Publishing.{Publishing}
 use Rattle.lz_list.specs.declared.publishing.Publishing.TheVariants.{Linked as linked, Marked as marked, Unlinked as unlinked, Settled as settled, KeyPrepared as key_prepared, LinkPrepared as link_prepared, Halted as halted}
-use Rattle.lz_list.specs.Traces.{Trace, Begins, Lawful, on, chain, bucket_of}
+use Rattle.lz_list.specs.Traces.{Trace, Lawful, on, chain, bucket_of}
 use Rattle.lz_list.specs.Pinned.{Stood, IsKept, IsQuiet}
 use Rattle.lz_list.proofs.Absent.{begins_itself}
 use Rattle.lz_list.proofs.Hindsight.{once_from, lawful_begins, quiet_begins}

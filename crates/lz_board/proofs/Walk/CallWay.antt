@@ -24,7 +24,7 @@ use Rattle.lz_flush.specs.declared.need.Need.{Need}
 use Rattle.lz_flush.specs.declared.need.Need.TheVariants.{Now, Sync as asks_sync}
 use Rattle.lz_flush.specs.Settling.{may_answer}
 use Rattle.lz_machine.specs.declared.event.Reply.{Reply}
-use Rattle.lz_machine.specs.declared.event.Reply.TheVariants.{Yes, No, Full, Worn, Halted, Device}
+use Rattle.lz_machine.specs.declared.event.Reply.TheVariants.{Yes, No, Full, Worn, OldFile, Halted, Device}
 use Rattle.lz_machine.specs.declared.caller.Script.TheVariants.{Pinning, Resting, Writing, Adding, Removing, Releasing, Halting}
 use Rattle.lz_machine.specs.declared.caller.Progress.{Progress}
 use Rattle.lz_machine.specs.declared.caller.Progress.TheVariants.{Playing, LoadsHalt, Walking, Reserving, SeeingPins, Claiming, Checking, Answering}
@@ -65,6 +65,7 @@ full_later c (Full counts) P0 P Q to h = lacks_later c P0 P Q to h
 full_later c Yes P0 P Q to h = tt
 full_later c No P0 P Q to h = tt
 full_later c Worn P0 P Q to h = tt
+full_later c OldFile P0 P Q to h = tt
 full_later c Halted P0 P Q to h = tt
 full_later c Device P0 P Q to h = tt
 

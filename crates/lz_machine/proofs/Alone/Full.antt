@@ -19,7 +19,7 @@ use Rattle.lz_list.specs.declared.walk.Met.TheVariants.{Absent, Unmarked, Marked
 use Rattle.lz_list.specs.declared.place.Place.{Place}
 use Rattle.lz_list.specs.Words.{Words}
 use Rattle.lz_list.specs.Walks.{Hopped, More, End}
-use Rattle.lz_list.specs.Traces.{Trace, on, chain_of, key_word, member}
+use Rattle.lz_list.specs.Traces.{Trace, on, chain_of, key_word, is_marked, member}
 use Rattle.lz_list.proofs.Nodes.{node}
 use Rattle.lz_flush.specs.declared.need.Need.{Need}
 use Rattle.lz_flush.specs.declared.need.Need.TheVariants.{Now, Sync as needs_sync}
@@ -95,9 +95,9 @@ none_free (u ∷ uses) zero none lt free = absurd (grind (arith, nat_tests, none
 none_free (u ∷ uses) (suc s) none lt free = none_free uses s (grind (arith, nat_tests, none)) (omega (arith, lt)) free
 
 module _ (n calls : ℕ) (y : Yard) (callers : List (Option Caller)) (disk : Medium) (M : History) (P : Trace) (notes : Notes) (sound : Sound n calls y callers disk M P notes) where
-  -- where all hands are empty, and all passes have left, each slot that isn't found free is a node
-  module _ (k : ℕ) (gone : member k P ≡ false) (holds : (b : ℕ) → (actor_in y.actors b).hold ≡ Nothing) (slots : (b : ℕ) → (actor_in y.actors b).slot ≡ None)
-      (none_opening : NoneOpening y.vault.cells) (left : LeftBelow y.uses (suc y.shape.passes)) (nothing : lowest_free (collect y.uses) ≡ None) where
+  -- where all hands are empty, and all passes have left, each slot that isn't found free is an unmarked node
+  module _ (holds : (b : ℕ) → (actor_in y.actors b).hold ≡ Nothing) (slots : (b : ℕ) → (actor_in y.actors b).slot ≡ None)
+      (left : LeftBelow y.uses (suc y.shape.passes)) (nothing : lowest_free (collect y.uses) ≡ None) where
     not_free : (s : ℕ) → s < y.shape.slots → use_of (collect y.uses) s ≡ Free → ⊥
     not_free s lt free = none_free (collect y.uses) s nothing (omega (arith, lt, sound.slots.count, length-map y.uses collect_at)) free
 
@@ -111,33 +111,39 @@ module _ (n calls : ℕ) (y : Yard) (callers : List (Option Caller)) (disk : Med
         go true all = not_free s lt (now ∙ ap (λ (b : Bool). if b then Free else Limbo seen) all)
         go false some = no_limbo y.uses y.shape.passes s sound.reuse.sights (λ b low high. left b low (omega (arith, high))) seen (now ∙ ap (λ (b : Bool). if b then Free else Limbo seen) some)
 
-    opened : (s : ℕ) → IsGateOpened (stage_in y.vault.cells s) → stage_in y.vault.cells s ≡ Open
-    opened s (inl opening) = absurd (none_opening s opening)
-    opened s (inr is) = is
-
     no_closer : (b : ℕ) → closes y.vault.dead (actor_in y.actors b).hold ≡ true → ⊥
     no_closer b is = false≢true (sym (ap (closes y.vault.dead) (holds b)) ∙ is)
 
-    pub all_other : AreOther y k
-    all_other s lt = go (sound.slots.each s lt)
+    pub all_nodes : (s : ℕ) → s < y.shape.slots → IsOnChain y.shape y.vault.cells y.uses P s × (is_marked s P ≡ false) × IsGateOpened (stage_in y.vault.cells s)
+    all_nodes s lt = go (sound.slots.each s lt)
       where
-        of_node : IsOnChain y.shape y.vault.cells y.uses P s → IsNodeStage y.vault.cells y.vault.dead y.actors P s → (stage_in y.vault.cells s ≡ Open) × ((cell_in y.vault.cells s).key ≢ k)
+        of_node : IsOnChain y.shape y.vault.cells y.uses P s → IsNodeStage y.vault.cells y.vault.dead y.actors P s → IsOnChain y.shape y.vault.cells y.uses P s × (is_marked s P ≡ false) × IsGateOpened (stage_in y.vault.cells s)
         of_node chain (inr closed) = absurd (no_closer closed.0 closed.1.closes)
-        of_node chain (inl stage) = (
-          opened s stage.1,
-          λ same.
-              let word : key_word s P ≡ k = sym chain.key ∙ same in
-              let there : on 0 (chain_of y.shape.buckets k P) (suc s) ≡ true = subst (λ (q : ℕ). on 0 (chain_of y.shape.buckets q P) (suc s) ≡ true) word chain.there in
-              let is : member k P ≡ true = (node y.shape.buckets y.shape.slots k s P sound.trace.lawful there word).is_member ∙ ap not stage.0 in
-              false≢true (sym gone ∙ is),
-        )
+        of_node chain (inl stage) = (chain, stage.0, stage.1)
 
-        go : SlotStands y.shape y.vault.cells y.vault.dead y.uses y.actors P s → (stage_in y.vault.cells s ≡ Open) × ((cell_in y.vault.cells s).key ≢ k)
+        go : SlotStands y.shape y.vault.cells y.vault.dead y.uses y.actors P s → IsOnChain y.shape y.vault.cells y.uses P s × (is_marked s P ≡ false) × IsGateOpened (stage_in y.vault.cells s)
         go (is_node chain stage) = of_node chain stage
         go (is_held b slot) = absurd (none-some s (sym (slots b) ∙ slot))
         go (is_out b out) = absurd (false≢true (sym (ap has_removed_node (holds b)) ∙ out.removed))
         go (is_free loose free stage) = absurd (not_free s lt (use_map collect_at y.uses s refl ∙ ap collect_at free))
         go (is_limbo seen loose limbo stage) = absurd (not_limbo s seen lt limbo)
+
+    -- where no gate is opening, they surely hold other keys than one that is no member
+    module _ (k : ℕ) (gone : member k P ≡ false) (none_opening : NoneOpening y.vault.cells) where
+      opened : (s : ℕ) → IsGateOpened (stage_in y.vault.cells s) → stage_in y.vault.cells s ≡ Open
+      opened s (inl opening) = absurd (none_opening s opening)
+      opened s (inr is) = is
+
+      pub all_other : AreOther y k
+      all_other s lt =
+          let own = all_nodes s lt in (
+            opened s own.2,
+            λ same.
+                let word : key_word s P ≡ k = sym own.0.key ∙ same in
+                let there : on 0 (chain_of y.shape.buckets k P) (suc s) ≡ true = subst (λ (q : ℕ). on 0 (chain_of y.shape.buckets q P) (suc s) ≡ true) word own.0.there in
+                let is : member k P ≡ true = (node y.shape.buckets y.shape.slots k s P sound.trace.lawful there word).is_member ∙ ap not own.1 in
+                false≢true (sym gone ∙ is),
+          )
 
 -- What follows an event, in words of what an adding knows.
 calm_goes : (y : Yard) (P : Trace) (c : Command) (script : Script) (i : ℕ) → WalkStands y P (goes_on script) c → WalkStands y P (after_event c script i) c

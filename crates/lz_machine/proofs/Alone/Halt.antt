@@ -155,7 +155,7 @@ device_word v (Remove k) P0 P changed h = h.0
 device_word v (Has k) P0 P changed h = h.0
 
 -- a call that is told of an old file adds a key that the file can't hold
-old_command : (v : View) (c : Command) (P0 P : Trace) (changed : Option ℕ) (at : Progress) → at ≡ Answering SaysOldFile → Relies v c at P0 P changed → is_old v.format c ≡ true
+pub old_command : (v : View) (c : Command) (P0 P : Trace) (changed : Option ℕ) (at : Progress) → at ≡ Answering SaysOldFile → Relies v c at P0 P changed → is_old v.format c ≡ true
 old_command v c P0 P changed at is h = (subst (λ (q : Progress). Relies v c q P0 P changed) is h).2
 
 -- and such a call is told so
@@ -166,7 +166,7 @@ outside_told v c P0 P changed (Answering SaysWorn) outside h is = absurd (false�
 outside_told v c P0 P changed (Answering SaysOldFile) outside h is = refl
 outside_told v c _ _ changed at outside h is = absurd (false≢true outside)
 
-told_old : (v : View) (pin : ℕ) (caller : Caller) (P0 P : Trace) (changed : Option ℕ) → IsCaller v pin (Some caller) P0 P changed → is_old v.format caller.command ≡ true → reply_at caller.progress ≡ Some SaysOldFile
+pub told_old : (v : View) (pin : ℕ) (caller : Caller) (P0 P : Trace) (changed : Option ℕ) → IsCaller v pin (Some caller) P0 P changed → is_old v.format caller.command ≡ true → reply_at caller.progress ≡ Some SaysOldFile
 told_old v pin caller P0 P changed h is = elim (cases_Bool (is_before_pin caller.progress)) [
   | inl outside ↦ outside_told v caller.command P0 P changed caller.progress outside h.2 is
   | inr inside ↦ absurd (false≢true (sym (h.1 (h.0 ∙ ap side_of inside)) ∙ is))

@@ -1,12 +1,13 @@
 -- Where one actor is alone, full comes exactly where there is no room.
-use Rattle.std.proofs.Common.{◌≡◌, inl, ℕ, zero, suc, ◌≤◌, ◌<◌, ◌%◌, if◌then◌else◌, Bool, true, false, List, [], ◌∷◌, ◌++◌, length, map, Option, Some, None, refl, sym, ap, ◌∙◌, subst, arith}
+use Rattle.std.proofs.Common.{◌≡◌, inl, inr, ℕ, zero, suc, ◌≤◌, ◌<◌, ◌%◌, if◌then◌else◌, Bool, true, false, List, [], ◌∷◌, ◌++◌, length, map, Option, Some, None, refl, sym, ap, ◌∙◌, subst, arith}
 use Rattle.lz_slot.specs.declared.command.Command.{Command}
 use Rattle.lz_slot.specs.declared.command.Command.TheVariants.{Add, Remove, Has}
 use Rattle.lz_slot.specs.declared.history.Mark.TheVariants.{Call}
 use Rattle.lz_slot.specs.declared.slot.SlotRead.{SlotRead}
 use Rattle.lz_slot.specs.declared.slot.SlotRead.TheVariants.{Closed as Shut, Member, BadKey}
 use Rattle.lz_slot.specs.Sets.{Keys}
-use Rattle.lz_slot.specs.Bytes.{Holds, slot_at}
+use Rattle.lz_slot.specs.declared.format.Format.{Format}
+use Rattle.lz_slot.specs.Bytes.{Holds, format_of, slot_at}
 use Rattle.lz_slot.specs.Counted.{set_of_pass}
 use Rattle.lz_slot.specs.Histories.{History, Life, lives, with_mark}
 use Rattle.lz_slot.proofs.Counted.{of_pass_same, of_pass_other}
@@ -28,12 +29,17 @@ use Rattle.lz_machine.specs.Yards.{Shape, Yard, cell_read, use_read, slots_read,
 use Rattle.lz_machine.specs.Table.{line, line_failed, is_old}
 use Rattle.lz_machine.specs.Calls.{first_progress, halts, begun}
 use Rattle.lz_machine.specs.Runs.{Start, IsStart, Caller, Service, State, Up, Down, Step, Calls, Turn, Fails, Looks, Trips, Stops, Crashes, CrashesIn, Opens, OpenFails, Point, MayStep, HasTurn, HasFault, IsRun, run, first_point, point_after, state_after, trace_after, caller_at, next_event, reply_at, moved_on, after_turn, after_fault, opened_service, marks_of_turn, mark_of, turn_publishes, start_keys, looked, invoked}
-use Rattle.lz_machine.specs.Sound.{Notes, cell_in, stage_in, Sound, PointSound, IsSound}
+use Rattle.lz_machine.specs.Sound.{Notes, cell_in, stage_in, pin_in, view_of, CallerSound, Sound, PointSound, IsSound}
 use Rattle.lz_machine.specs.Alone.{IsOwn, IsAlone, IsPlain, IsFull, HasRoom, IsSized, AreSized, FullIsRight}
 use Rattle.lz_machine.proofs.Steps.Trip.{point}
 use Rattle.lz_machine.proofs.Open.FirstState.{pass_of}
 use Rattle.lz_machine.proofs.Frames.OneActor.{caller_range}
-use Rattle.lz_machine.proofs.Steps.Hop.{call_at}
+use Rattle.lz_machine.proofs.Steps.Hop.{call_at, own}
+use Rattle.lz_machine.specs.Formats.{HasFormat}
+use Rattle.lz_machine.proofs.Theorem.Formats.{run_format}
+use Rattle.lz_machine.proofs.Alone.Halt.{old_command, told_old}
+use Rattle.std.proofs.lemmas.Option.{same_Some}
+use Rattle.std.proofs.lemmas.Bool.{cases_Bool}
 use Rattle.lz_machine.proofs.Crash.ImageSlots.{reads}
 use Rattle.lz_machine.proofs.Theorem.Reached.{reached_sound}
 use Rattle.lz_machine.proofs.Alone.Service.{Ended}
@@ -49,12 +55,12 @@ use Rattle.lz_machine.specs.declared.course.Course.TheVariants.{Plays}
 use Rattle.lz_machine.proofs.Alone.Frame.{idle_on}
 
 -- of a state
-abbrev FullAt : ℕ → State → Trace → Type 0
+abbrev pub FullAt : ℕ → State → Trace → Type 0
 FullAt a (Up service disk) P = AloneFull a service.yard (caller_at service.callers a) P
 FullAt a (Down shape disk) P = Unit {0}
 
 -- a service that is opened
-no_limbo_read : (rs : List SlotRead) (s : ℕ) (seen : List Sight) → use_of (map use_read rs) s ≡ Limbo seen → ⊥
+pub no_limbo_read : (rs : List SlotRead) (s : ℕ) (seen : List Sight) → use_of (map use_read rs) s ≡ Limbo seen → ⊥
 no_limbo_read [] s seen is = absurd cc
 no_limbo_read (Member k ∷ rs) zero seen is = absurd cc
 no_limbo_read (Shut ∷ rs) zero seen is = absurd cc
@@ -155,7 +161,8 @@ full_step start a (Down shape disk) M P calls Opens own may (life ∷ earlier) s
 full_step start a (Down shape disk) M P calls (OpenFails why true) own may (life ∷ earlier) sound h = tt
 full_step start a (Down shape disk) M P calls (OpenFails why false) own may (life ∷ earlier) sound h = tt
 
-reached_full : (start : Start) (steps : List Step) (a : ℕ) → IsStart start → IsRun (first_point start) steps → IsAlone a steps → FullAt a (run (first_point start) steps).state (run (first_point start) steps).trace
+-- at each point that is reached
+pub reached_full : (start : Start) (steps : List Step) (a : ℕ) → IsStart start → IsRun (first_point start) steps → IsAlone a steps → FullAt a (run (first_point start) steps).state (run (first_point start) steps).trace
 reached_full start [] a is runs alone = opened_full a start.shape start.text (first_trace start.shape start.text) (at_rest start.text)
 reached_full start (step ∷ steps) a is runs alone =
     let p = run (first_point start) steps in
@@ -167,25 +174,32 @@ room_no N (Add k) T = tt
 room_no N (Remove k) T = tt
 room_no N (Has k) T = tt
 
-sized_mark : (N : ℕ) (i a : ℕ) (c : Command) (L : List Life) → AreSized N L → AreSized N (with_mark (Call i a c) L)
-sized_mark N i a c [] h = h
-sized_mark N i a c (life ∷ earlier) h = h
+sized_mark : (F : Format) (N i a : ℕ) (c : Command) (L : List Life) → AreSized F N L → AreSized F N (with_mark (Call i a c) L)
+sized_mark F N i a c [] h = h
+sized_mark F N i a c (life ∷ earlier) h = h
+
+-- a call that isn't told of an old file adds no key of another format
+not_old : (F : Format) (c : Command) (reply : Reply) → (is_old F c ≡ true → reply ≡ OldFile) → (reply ≡ OldFile → ⊥) → is_old F c ≡ false
+not_old F c reply tells other = elim (cases_Bool (is_old F c)) [
+  | inl old ↦ absurd (other (tells old))
+  | inr new ↦ new
+]
 
 -- what a reply says of room
-module _ (N i a n : ℕ) (c : Command) (M : History) (S : Keys) (ended : Ended i M) (sized : IsSized N S M) (t : List ℕ) (new : Keys) (holds : Holds t N new) where
+module _ (F : Format) (N i a n : ℕ) (c : Command) (M : History) (S : Keys) (ended : Ended i M) (sized : IsSized F N S M) (t : List ℕ) (new : Keys) (holds : Holds t N new) where
   sized_reply : (reply : Reply) → IsPlain S (mark_of i reply ∷ Call i a c ∷ M) new → ((k : ℕ) → c ≡ Add k → (counts : Counts) → reply ≡ Full counts → (s : ℕ) → s < N → HoldsOther t k s)
-      → ((counts : Counts) → reply ≡ Full counts → (k : ℕ) × (c ≡ Add k)) → IsSized N S (mark_of i reply ∷ Call i a c ∷ M)
-  sized_reply Yes plain each adds = ((λ T was. has_room N i i i a c M S T t new ended holds plain was), sized)
-  sized_reply No plain each adds = ((λ T was. room_no N c T), sized)
-  sized_reply (Full counts) plain each adds =
+      → ((counts : Counts) → reply ≡ Full counts → (k : ℕ) × (c ≡ Add k)) → (is_old F c ≡ true → reply ≡ OldFile) → (reply ≡ OldFile → is_old F c ≡ true) → IsSized F N S (mark_of i reply ∷ Call i a c ∷ M)
+  sized_reply Yes plain each adds tells told = (not_old F c Yes tells (λ same. cc), (λ T was. has_room N i i i a c M S T t new ended holds plain was), sized)
+  sized_reply No plain each adds tells told = (not_old F c No tells (λ same. cc), (λ T was. room_no N c T), sized)
+  sized_reply (Full counts) plain each adds tells told =
       let add = adds counts refl in
-      ((λ T was. subst (λ (d : Command). IsFull N d T) (sym add.1) (is_full N i i i a add.0 M S T t new ended holds (subst (λ (d : Command). IsPlain S (mark_of i (Full counts) ∷ Call i a d ∷ M) new) add.1 plain) (each add.0 add.1 counts refl) was)), sized)
-  sized_reply Worn plain each adds = sized
-  sized_reply OldFile plain each adds = sized
-  sized_reply Halted plain each adds = sized
-  sized_reply Device plain each adds = sized
+      (not_old F c (Full counts) tells (λ same. cc), (λ T was. subst (λ (d : Command). IsFull N d T) (sym add.1) (is_full N i i i a add.0 M S T t new ended holds (subst (λ (d : Command). IsPlain S (mark_of i (Full counts) ∷ Call i a d ∷ M) new) add.1 plain) (each add.0 add.1 counts refl) was)), sized)
+  sized_reply Worn plain each adds tells told = sized
+  sized_reply OldFile plain each adds tells told = (told refl, sized)
+  sized_reply Halted plain each adds tells told = sized
+  sized_reply Device plain each adds tells told = sized
 
-module _ (start : Start) (a : ℕ) (service : Service) (disk : Medium) (M : History) (P : Trace) (calls : ℕ) where
+module _ (start : Start) (a : ℕ) (service : Service) (disk : Medium) (M : History) (P : Trace) (calls : ℕ) (named : service.yard.vault.format ≡ format_of start.text) where
   abbrev y : Yard
   y = service.yard
 
@@ -195,17 +209,20 @@ module _ (start : Start) (a : ℕ) (service : Service) (disk : Medium) (M : Hist
   abbrev N : ℕ
   N = start.shape.slots
 
+  abbrev F : Format
+  F = format_of start.text
+
   abbrev of_turn : Option Caller → Point
   of_turn who = point (after_turn service disk a who) (marks_of_turn who ++ M) (turn_publishes service a who ++ P) calls
 
   -- an answer
   sized_answer : (i : ℕ) (c : Command) (reply : Reply) → caller_at service.callers a ≡ Some (call_at i c (Answering reply)) → (L : List Life) → PointSound start before L → FullAt a (Up service disk) P → AloneLives a N before L
-      → AloneLives a N (of_turn (Some (call_at i c (Answering reply)))) (with_mark (mark_of i reply) L) → AreSized N L → AreSized N (with_mark (mark_of i reply) L)
+      → AloneLives a N (of_turn (Some (call_at i c (Answering reply)))) (with_mark (mark_of i reply) L) → AreSized F N L → AreSized F N (with_mark (mark_of i reply) L)
   sized_answer i c reply is [] sound full alone after sized = absurd sound
   sized_answer i c reply is (life ∷ earlier) sound full alone after sized = (
-    subst (λ (H : History). IsSized N life.start (mark_of i reply ∷ H)) (sym told.1)
-        (sized_reply N i a (suc calls) c told.0 life.start told.3 (subst (IsSized N life.start) told.1 sized.0) disk.seen set.0 set.1 reply
-        (subst (λ (H : History). IsPlain life.start (mark_of i reply ∷ H) set.0) told.1 set.2) each adds),
+    subst (λ (H : History). IsSized F N life.start (mark_of i reply ∷ H)) (sym told.1)
+        (sized_reply F N i a (suc calls) c told.0 life.start told.3 (subst (IsSized F N life.start) told.1 sized.0) disk.seen set.0 set.1 reply
+        (subst (λ (H : History). IsPlain life.start (mark_of i reply ∷ H) set.0) told.1 set.2) each adds tells is_old_so),
     sized.1,
   )
     where
@@ -220,6 +237,15 @@ module _ (start : Start) (a : ℕ) (service : Service) (disk : Medium) (M : Hist
 
       here : AloneFull a y (Some (call_at i c (Answering reply))) P
       here = subst (λ (who : Option Caller). AloneFull a y who P) is full
+
+      known : CallerSound (view_of y.shape y.vault y.actors a) (pin_in y.words.pins a) (Some (call_at i c (Answering reply))) (sound.2.1.begun a) P (sound.2.1.changed a)
+      known = own sound.2.0 calls y service.callers disk life.history P sound.2.1 a i c (Answering reply) is sound.2.2.sound
+
+      tells : is_old F c ≡ true → reply ≡ OldFile
+      tells old = same_Some _ _ (told_old (view_of y.shape y.vault y.actors a) (pin_in y.words.pins a) (call_at i c (Answering reply)) (sound.2.1.begun a) P (sound.2.1.changed a) known.stands (ap (λ (f : Format). is_old f c) named ∙ old))
+
+      is_old_so : reply ≡ OldFile → is_old F c ≡ true
+      is_old_so same = sym (ap (λ (f : Format). is_old f c) named) ∙ old_command (view_of y.shape y.vault y.actors a) c (sound.2.1.begun a) P (sound.2.1.changed a) (Answering reply) (ap Answering same) known.stands.2
 
       stands : (r : Reply) → reply ≡ r → WalkStands y P (Answering r) c
       stands r same = subst (λ (q : Reply). WalkStands y P (Answering q) c) same here.stands
@@ -241,7 +267,7 @@ module _ (start : Start) (a : ℕ) (service : Service) (disk : Medium) (M : Hist
           ((cell_in y.vault.cells s).key, subst (λ (g : Stage). MayRead g (cell_in y.vault.cells s).key (slot_at disk.seen s)) own.0 read, own.1)
 
   sized_point : (i : ℕ) (c : Command) (at : Progress) → caller_at service.callers a ≡ Some (call_at i c at) → IsSound start before → FullAt a (Up service disk) P → AloneAt start a before
-      → AloneAt start a (of_turn (Some (call_at i c at))) → AreSized N (lives (start_keys start) M) → AreSized N (lives (start_keys start) (marks_of_turn (Some (call_at i c at)) ++ M))
+      → AloneAt start a (of_turn (Some (call_at i c at))) → AreSized F N (lives (start_keys start) M) → AreSized F N (lives (start_keys start) (marks_of_turn (Some (call_at i c at)) ++ M))
   sized_point i c (Playing script j) is sound full alone after sized = sized
   sized_point i c LoadsHalt is sound full alone after sized = sized
   sized_point i c (Walking aim look) is sound full alone after sized = sized
@@ -250,44 +276,44 @@ module _ (start : Start) (a : ℕ) (service : Service) (disk : Medium) (M : Hist
   sized_point i c (Claiming aim pred curr) is sound full alone after sized = sized
   sized_point i c (Checking aim curr) is sound full alone after sized = sized
   sized_point i c (Answering reply) is sound full alone after sized =
-      subst (AreSized N) (sym (reply_lives (start_keys start) i reply M))
+      subst (AreSized F N) (sym (reply_lives (start_keys start) i reply M))
       (sized_answer i c reply is (lives (start_keys start) M) sound full alone (subst (AloneLives a N (of_turn (Some (call_at i c (Answering reply))))) (reply_lives (start_keys start) i reply M) after) sized)
 
   sized_turn : (who : Option Caller) → caller_at service.callers a ≡ who → HasTurn service a who → IsSound start before → FullAt a (Up service disk) P → AloneAt start a before → AloneAt start a (of_turn who)
-      → AreSized N (lives (start_keys start) M) → AreSized N (lives (start_keys start) (marks_of_turn who ++ M))
+      → AreSized F N (lives (start_keys start) M) → AreSized F N (lives (start_keys start) (marks_of_turn who ++ M))
   sized_turn None is may sound full alone after sized = absurd may
   sized_turn (Some caller) is may sound full alone after sized = sized_point caller.number caller.command caller.progress is sound full alone after sized
 
-sized_step : (start : Start) (a : ℕ) (w : State) (M : History) (P : Trace) (calls : ℕ) (step : Step) → IsOwn a step → MayStep w step → IsSound start (point w M P calls) → FullAt a w P → AloneAt start a (point w M P calls) → AloneAt start a (point_after (point w M P calls) step)
-    → AreSized start.shape.slots (lives (start_keys start) M) → AreSized start.shape.slots (lives (start_keys start) (point_after (point w M P calls) step).marks)
-sized_step start a (Up service disk) M P calls (Calls b c) own may sound full alone after sized = sized_mark start.shape.slots (suc calls) b c (lives (start_keys start) M) sized
-sized_step start a (Up service disk) M P calls (Turn b) own may sound full alone after sized =
-    subst (λ (q : ℕ). MayStep (Up service disk) (Turn q) → AloneAt start a (point_after (point (Up service disk) M P calls) (Turn q)) → AreSized start.shape.slots (lives (start_keys start) (point_after (point (Up service disk) M P calls) (Turn q)).marks)) (sym own)
-    (λ may after. sized_turn start a service disk M P calls (caller_at service.callers a) refl may sound full alone after sized) may after
-sized_step start a (Up service disk) M P calls (Fails b new) own may sound full alone after sized = sized
-sized_step start a (Up service disk) M P calls (Looks b) own may sound full alone after sized = sized
-sized_step start a (Up service disk) M P calls Trips own may sound full alone after sized = sized
-sized_step start a (Up service disk) M P calls Stops own may sound full alone after sized = sized
-sized_step start a (Up service disk) M P calls (Crashes t) own may sound full alone after sized = sized
-sized_step start a (Up service disk) M P calls (CrashesIn b t) own may sound full alone after sized = sized
-sized_step start a (Up service disk) M P calls Opens own may sound full alone after sized = absurd may
-sized_step start a (Up service disk) M P calls (OpenFails why done) own may sound full alone after sized = absurd may
-sized_step start a (Down shape disk) M P calls (Calls b c) own may sound full alone after sized = absurd may
-sized_step start a (Down shape disk) M P calls (Turn b) own may sound full alone after sized = absurd may
-sized_step start a (Down shape disk) M P calls (Fails b new) own may sound full alone after sized = absurd may
-sized_step start a (Down shape disk) M P calls (Looks b) own may sound full alone after sized = absurd may
-sized_step start a (Down shape disk) M P calls Trips own may sound full alone after sized = sized
-sized_step start a (Down shape disk) M P calls Stops own may sound full alone after sized = sized
-sized_step start a (Down shape disk) M P calls (Crashes t) own may sound full alone after sized = sized
-sized_step start a (Down shape disk) M P calls (CrashesIn b t) own may sound full alone after sized = absurd may
-sized_step start a (Down shape disk) M P calls Opens own may sound full alone after sized = (tt, sized)
-sized_step start a (Down shape disk) M P calls (OpenFails why true) own may sound full alone after sized = sized
-sized_step start a (Down shape disk) M P calls (OpenFails why false) own may sound full alone after sized = sized
+sized_step : (start : Start) (a : ℕ) (w : State) (M : History) (P : Trace) (calls : ℕ) (step : Step) → HasFormat (format_of start.text) w → IsOwn a step → MayStep w step → IsSound start (point w M P calls) → FullAt a w P → AloneAt start a (point w M P calls) → AloneAt start a (point_after (point w M P calls) step)
+    → AreSized (format_of start.text) start.shape.slots (lives (start_keys start) M) → AreSized (format_of start.text) start.shape.slots (lives (start_keys start) (point_after (point w M P calls) step).marks)
+sized_step start a (Up service disk) M P calls (Calls b c) named own may sound full alone after sized = sized_mark (format_of start.text) start.shape.slots (suc calls) b c (lives (start_keys start) M) sized
+sized_step start a (Up service disk) M P calls (Turn b) named own may sound full alone after sized =
+    subst (λ (q : ℕ). MayStep (Up service disk) (Turn q) → AloneAt start a (point_after (point (Up service disk) M P calls) (Turn q)) → AreSized (format_of start.text) start.shape.slots (lives (start_keys start) (point_after (point (Up service disk) M P calls) (Turn q)).marks)) (sym own)
+    (λ may after. sized_turn start a service disk M P calls named (caller_at service.callers a) refl may sound full alone after sized) may after
+sized_step start a (Up service disk) M P calls (Fails b new) named own may sound full alone after sized = sized
+sized_step start a (Up service disk) M P calls (Looks b) named own may sound full alone after sized = sized
+sized_step start a (Up service disk) M P calls Trips named own may sound full alone after sized = sized
+sized_step start a (Up service disk) M P calls Stops named own may sound full alone after sized = sized
+sized_step start a (Up service disk) M P calls (Crashes t) named own may sound full alone after sized = sized
+sized_step start a (Up service disk) M P calls (CrashesIn b t) named own may sound full alone after sized = sized
+sized_step start a (Up service disk) M P calls Opens named own may sound full alone after sized = absurd may
+sized_step start a (Up service disk) M P calls (OpenFails why done) named own may sound full alone after sized = absurd may
+sized_step start a (Down shape disk) M P calls (Calls b c) named own may sound full alone after sized = absurd may
+sized_step start a (Down shape disk) M P calls (Turn b) named own may sound full alone after sized = absurd may
+sized_step start a (Down shape disk) M P calls (Fails b new) named own may sound full alone after sized = absurd may
+sized_step start a (Down shape disk) M P calls (Looks b) named own may sound full alone after sized = absurd may
+sized_step start a (Down shape disk) M P calls Trips named own may sound full alone after sized = sized
+sized_step start a (Down shape disk) M P calls Stops named own may sound full alone after sized = sized
+sized_step start a (Down shape disk) M P calls (Crashes t) named own may sound full alone after sized = sized
+sized_step start a (Down shape disk) M P calls (CrashesIn b t) named own may sound full alone after sized = absurd may
+sized_step start a (Down shape disk) M P calls Opens named own may sound full alone after sized = (tt, sized)
+sized_step start a (Down shape disk) M P calls (OpenFails why true) named own may sound full alone after sized = sized
+sized_step start a (Down shape disk) M P calls (OpenFails why false) named own may sound full alone after sized = sized
 
 -- full comes exactly where there is no room
 pub full_is_right : FullIsRight
 full_is_right start [] a is runs alone = (tt, tt)
 full_is_right start (step ∷ steps) a is runs alone =
     let p = run (first_point start) steps in
-    sized_step start a p.state p.marks p.trace p.calls step alone.0 runs.0 (reached_sound start steps is runs.1) (reached_full start steps a is runs.1 alone.1) (reached_alone start steps a is runs.1 alone.1) (reached_alone start (step ∷ steps) a is runs alone)
+    sized_step start a p.state p.marks p.trace p.calls step (run_format start steps is runs.1) alone.0 runs.0 (reached_sound start steps is runs.1) (reached_full start steps a is runs.1 alone.1) (reached_alone start steps a is runs.1 alone.1) (reached_alone start (step ∷ steps) a is runs alone)
     (full_is_right start steps a is runs.1 alone.1)

@@ -65,7 +65,7 @@ count_full k t (suc n) each =
     omega (arith, count_full k t n (λ s lt. each s (omega (arith, lt))), one_other k last.0 (slot_at t n) last.1 last.2, length-append (keys_but k t n) (key_but k (slot_at t n)))
 
 -- the members of that list
-members_append : (xs ys : List ℕ) (q : ℕ) → members (xs ++ ys) q ≡ (members xs q || members ys q)
+pub members_append : (xs ys : List ℕ) (q : ℕ) → members (xs ++ ys) q ≡ (members xs q || members ys q)
 members_append xs ys q = list_any-append (λ (x : ℕ). x == q) xs ys
 
 key_members : (k q : ℕ) (r : SlotRead) → members (key_but k r) q ≡ (not (k == q) && reads_key q r)
@@ -86,7 +86,7 @@ keys_members k t (suc n) q =
     members_append (keys_but k t n) (key_but k (slot_at t n)) q ∙ ap (λ (b : Bool). b || members (key_but k (slot_at t n)) q) (keys_members k t n q)
     ∙ ap (λ (b : Bool). (not (k == q) && found t n q) || b) (key_members k q (slot_at t n)) ∙ distribute (not (k == q)) (found t n q) (reads_key q (slot_at t n))
 
-members_among : (ks : List ℕ) (q : ℕ) → members ks q ≡ list_any (nat_eq q) ks
+pub members_among : (ks : List ℕ) (q : ℕ) → members ks q ≡ list_any (nat_eq q) ks
 members_among [] q = refl
 members_among (k ∷ ks) q = let rest = members_among ks q in grind (arith, nat_tests)
 
@@ -120,7 +120,7 @@ next_distinct k t N n S holds le before = go (slot_at t n) refl
     go BadKey is = subst (IsDistinct nat_eq) (sym (append_none (keys_but k t n))) before
     go (Member j) is = of_key j (j == k) is
 
-none_distinct : IsDistinct nat_eq []
+pub none_distinct : IsDistinct nat_eq []
 unfolding IsDistinct
 none_distinct = tt
 

@@ -289,7 +289,7 @@ module _ (n calls : ℕ) (y : Yard) (callers : List (Option Caller)) (disk : Med
       stands (Add k) false (Some s) lives is adder old = tt
       stands (Add k) false None lives is adder old = (old, λ b low below. absurd (omega (arith, low, below)))
       stands (Add k) true None lives is adder old =
-          all_other n calls y callers disk M P notes sound k old.0 holds slots (λ s opens. absurd (h.opening lives s opens)) old.1 is
+          all_other n calls y callers disk M P notes sound holds slots old.1 is k old.0 (λ s opens. absurd (h.opening lives s opens))
       stands (Remove k) again found lives is adder old = absurd adder
       stands (Has k) again found lives is adder old = absurd adder
 

@@ -135,7 +135,7 @@ module _ (n calls : ℕ) (y : Yard) (callers : List (Option Caller)) (disk : Med
   not_node_and_opened s u k at h = false≢true (sym (opened_has_none u k h) ∙ node_has_key s k at)
 
   -- one slot has a key
-  one_node_slot : (s u k : ℕ) → IsNodeOf y P s k → IsNodeOf y P u k → s ≡ u
+  pub one_node_slot : (s u k : ℕ) → IsNodeOf y P s k → IsNodeOf y P u k → s ≡ u
   one_node_slot s u k one other =
       let same : suc s ≡ suc u = one_node (next_link y.shape.buckets (bucket_of y.shape.buckets k) P) (λ q. key_word q P) 0 (chain_of y.shape.buckets k P) (shown k) (suc s) (suc u) one.0 other.0 (omega (arith, one.1, other.1)) in
       omega (arith, same)

@@ -64,8 +64,8 @@ module _ (buckets passes : ℕ) (format : Format) (cells cells' : List Cell) (de
   relies_keeps : (c : Command) (at : Progress) → Relies v c at P0 P changed → Relies w c at P0 P changed
   relies_keeps c (Playing script i) h = on_keeps c script i h
   relies_keeps c (Walking aim look) h = (record { hold = h.0.hold; none = h.0.none }, aimed_keeps (key_of c) aim h.1, h.2, h.3)
-  relies_keeps c (Reserving again) h = (record { hold = h.0.hold; none = h.0.none }, h.1, h.2)
-  relies_keeps c (SeeingPins p) h = (record { hold = h.0.hold; none = h.0.none }, h.1, h.2, h.3, h.4)
+  relies_keeps c (Reserving again) h = (record { hold = h.0.hold; none = h.0.none }, h.1, h.2, h.3)
+  relies_keeps c (SeeingPins p) h = (record { hold = h.0.hold; none = h.0.none }, h.1, h.2, h.3, h.4, h.5)
   relies_keeps c (Claiming aim pred curr) h = (record { hold = h.0.hold; none = h.0.none }, aimed_keeps (key_of c) aim h.1, h.2)
   relies_keeps c (Checking aim curr) h = (h.0, h.1, h.2, aimed_keeps (key_of c) aim h.3, h.4)
   relies_keeps c _ h = h

@@ -34,7 +34,7 @@ use Rattle.lz_machine.specs.declared.caller.Progress.TheVariants.{Playing, Loads
 use Rattle.lz_machine.specs.Runs.{Caller}
 use Rattle.lz_machine.specs.Kept.{upto}
 use Rattle.lz_machine.specs.Stands.{IsWalking, WasBetween}
-use Rattle.lz_machine.specs.Sound.{IsInside, View, IsWritten, IsAimed, IsBeyond, HasEnded, IsLooking, IsSince, HasMet, RestsYes, RestsNo, IsSettledChange, MayAnswer, HasAdded, HasMarked, MayRest, IsIdle, ReliesWriting, ReliesAdding, ReliesRemoving, ReliesOn, Relies, IsCaller, CallerSound, is_before_pin, side_of, shuts}
+use Rattle.lz_machine.specs.Sound.{IsInside, View, IsWritten, IsAimed, IsBeyond, HasEnded, IsLooking, IsSince, HasMet, RestsYes, RestsNo, WasAbsent, IsSettledChange, MayAnswer, HasAdded, HasMarked, MayRest, IsIdle, ReliesWriting, ReliesAdding, ReliesRemoving, ReliesOn, Relies, IsCaller, CallerSound, is_before_pin, side_of, shuts}
 use Rattle.lz_machine.proofs.Ledger.Growth.{upto_more, yes_stays, no_stays}
 
 pub halt_stays : (e : Publishing) (P : Trace) → halt_word P ≡ 1 → halt_word (e ∷ P) ≡ 1
@@ -184,6 +184,9 @@ module _ (buckets slots : ℕ) (e : Publishing) (P : Trace) (law : Lawful bucket
   pub rests_no_stays : (k : ℕ) (P0 : Trace) → RestsNo k P0 P → RestsNo k P0 (e ∷ P)
   rests_no_stays k P0 h = record { then = h.then; since = since_stays P0 h.then h.since; settled = no_stays e P h.then k h.settled }
 
+  absent_stays : (k : ℕ) (P0 : Trace) → WasAbsent k P0 P → WasAbsent k P0 (e ∷ P)
+  absent_stays k P0 h = record { then = h.then; since = since_stays P0 h.then h.since; gone = h.gone }
+
   pub change_stays : (k : ℕ) (changed : Option ℕ) → IsSettledChange k P changed → IsSettledChange k (e ∷ P) changed
   change_stays k changed h =
       let at = upto_more (suc h.at) e P (omega (arith, h.within)) in
@@ -207,6 +210,9 @@ module _ (buckets slots : ℕ) (e : Publishing) (P : Trace) (law : Lawful bucket
   answer_stays (Add k) Device P0 changed h = halt_stays e P h
   answer_stays (Remove k) Halted P0 changed h = halt_stays e P h
   answer_stays (Remove k) Device P0 changed h = halt_stays e P h
+  answer_stays (Has k) (Full counts) P0 changed h = (h.0, absent_stays k P0 h.1)
+  answer_stays (Add k) (Full counts) P0 changed h = (h.0, absent_stays k P0 h.1)
+  answer_stays (Remove k) (Full counts) P0 changed h = (h.0, absent_stays k P0 h.1)
   answer_stays _ _ _ changed h = h
 
   idle_stays : (actor : Actor) → IsIdle actor P → IsIdle actor (e ∷ P)
@@ -296,8 +302,8 @@ module _ (buckets slots : ℕ) (e : Publishing) (P : Trace) (law : Lawful bucket
       relies_stays c (Playing script i) h = on_stays c script i h
       relies_stays c LoadsHalt h = (idle_stays actor h.0, h.1)
       relies_stays c (Walking aim look) h = (h.0, aimed_stays (key_of c) aim h.1, looking_stays P0 (leaves.kept inside) quiet (key_of c) look h.2, h.3)
-      relies_stays c (Reserving again) h = h
-      relies_stays c (SeeingPins p) h = h
+      relies_stays c (Reserving again) h = (h.0, h.1, h.2, absent_stays (key_of c) P0 h.3)
+      relies_stays c (SeeingPins p) h = (h.0, h.1, h.2, h.3, h.4, absent_stays (key_of c) P0 h.5)
       relies_stays c (Claiming aim pred curr) h = (h.0, aimed_stays (key_of c) aim h.1, ended_stays P0 (leaves.kept inside) quiet c aim pred curr h.2)
       relies_stays c (Checking aim curr) h = (h.0, h.1, h.2, aimed_stays (key_of c) aim h.3, ended_stays P0 (leaves.kept inside) quiet c aim actor.pred curr h.4)
       relies_stays c (Answering SaysWorn) h = (idle_stays actor h.0, h.1, h.2)

@@ -131,7 +131,7 @@ collected_limbo (Limbo sights) seen is = elim (cases_Bool (list_all has_left sig
 collected_limbo Free seen is = absurd cc
 collected_limbo Taken seen is = absurd cc
 
-collected_free : (u : Use) → collect_at u ≡ Free → (u ≡ Free) ⊎ ((sights : List Sight) × (u ≡ Limbo sights) × (list_all has_left sights ≡ true))
+pub collected_free : (u : Use) → collect_at u ≡ Free → (u ≡ Free) ⊎ ((sights : List Sight) × (u ≡ Limbo sights) × (list_all has_left sights ≡ true))
 collected_free Free is = inl refl
 collected_free Taken is = absurd cc
 collected_free (Limbo sights) is = inr (
@@ -150,7 +150,7 @@ all_left (Left ∷ sights) (suc i) all = all_left sights i all
 all_left (Unseen ∷ sights) i all = absurd (false≢true all)
 all_left (Inside u ∷ sights) i all = absurd (false≢true all)
 
-left_of : (sights : List Sight) (a : ℕ) → list_all has_left sights ≡ true → of_pass sights a Left ≡ Left
+pub left_of : (sights : List Sight) (a : ℕ) → list_all has_left sights ≡ true → of_pass sights a Left ≡ Left
 left_of sights zero all = refl
 left_of sights (suc i) all = all_left sights i all
 

@@ -268,9 +268,9 @@ module _ (n calls passes : ℕ) (callers : List (Option Caller)) (P : Trace) (M 
   ends (Add k) No at (inl e) may = absurd (false≢true e)
   ends (Remove k) Yes at (inl e) may = absurd (false≢true e)
   ends (Remove k) No at (inl e) may = absurd (false≢true e)
-  ends (Has k) (Full counts) at h may = refused_row n calls passes callers P M notes a i (Has k) (Full counts) at le sound pins after refused_full refl may
-  ends (Add k) (Full counts) at h may = refused_row n calls passes callers P M notes a i (Add k) (Full counts) at le sound pins after refused_full refl may
-  ends (Remove k) (Full counts) at h may = refused_row n calls passes callers P M notes a i (Remove k) (Full counts) at le sound pins after refused_full refl may
+  ends (Has k) (Full counts) at h may = refused_row n calls passes callers P M notes a i (Has k) (Full counts) at le sound pins after refused_full refl may.0
+  ends (Add k) (Full counts) at h may = refused_row n calls passes callers P M notes a i (Add k) (Full counts) at le sound pins after refused_full refl may.0
+  ends (Remove k) (Full counts) at h may = refused_row n calls passes callers P M notes a i (Remove k) (Full counts) at le sound pins after refused_full refl may.0
   ends (Has k) SaysWorn at h may = refused_row n calls passes callers P M notes a i (Has k) SaysWorn at le sound pins after refused_worn refl may
   ends (Has k) SaysOldFile at h may = refused_row n calls passes callers P M notes a i (Has k) SaysOldFile at le sound pins after refused_old_file refl may
   ends (Add k) SaysWorn at h may = refused_row n calls passes callers P M notes a i (Add k) SaysWorn at le sound pins after refused_worn refl may

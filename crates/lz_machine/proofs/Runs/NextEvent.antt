@@ -24,14 +24,16 @@ use Rattle.lz_machine.specs.Sound.{Notes, IsInside, pin_in, entries, Sound, IsAf
 use Rattle.lz_machine.proofs.Frames.OneActor.{moving, same_entries}
 use Rattle.lz_machine.proofs.Steps.Hop.{call_at, dead_keeps}
 use Rattle.lz_machine.proofs.Steps.Death.{dies_keeps}
+use Rattle.lz_machine.proofs.Frames.PinNotes.{IsNoted, noted_same}
 use Rattle.lz_machine.proofs.Frames.PinOrder.{turn_after, adds_none, begun_grown}
 use Rattle.lz_machine.proofs.Runs.Course.{course_dead}
 
--- the service after an event that took this course is sound, with some notes
-abbrev pub Goes : ℕ → ℕ → Yard → List (Option Caller) → Medium → History → Trace → Keys → ℕ → Caller → Event → Course → Type 0
-Goes n calls y callers disk M P start a caller e taken =
+-- the service after an event that took this course is sound, with some notes, by which a pass that went in has the trace of then
+abbrev pub Goes : ℕ → ℕ → Yard → List (Option Caller) → Medium → History → Trace → Keys → (ℕ → Trace) → ℕ → Caller → Event → Course → Type 0
+Goes n calls y callers disk M P start begun a caller e taken =
     (notes : Notes) × UpSound n calls (played (record { yard = y; callers = callers }) a caller (line_on taken y (actor_at y a) a e)) (medium_after (call_on taken y (actor_at y a) e) disk)
     (record { start = start; history = M }) (published_on taken y (actor_at y a) a e ++ P) notes
+    × IsNoted y.words.pins (line_on taken y (actor_at y a) a e).0.words.pins P begun notes.begun
 
 -- the course, by whether the vault is dead, the event is played then too, and it has what it needs
 abbrev taken_of : Yard → ℕ → Event → Bool → Bool → Bool → Course
@@ -77,15 +79,15 @@ module _ (n calls : ℕ) (y : Yard) (callers : List (Option Caller)) (disk : Med
       (since_same pins)
 
   abbrev pub After : Event → Course → Type 0
-  After e taken = Goes n calls y callers disk M P start a (call_at i c at) e taken
+  After e taken = Goes n calls y callers disk M P start notes.begun a (call_at i c at) e taken
 
   -- the vault is dead
   dead_goes : (e : Event) → is_before_pin at ≡ false → y.vault.dead ≡ true → After e (Refused Dead)
-  dead_goes e inside dead = (notes, turned_same y Dead disk [] refl refl (dead_keeps n calls y callers disk M P notes a i c at is up.sound inside dead))
+  dead_goes e inside dead = (notes, turned_same y Dead disk [] refl refl (dead_keeps n calls y callers disk M P notes a i c at is up.sound inside dead), noted_same y.words.pins y.words.pins P notes.begun refl)
 
   -- no sync is left
   dies_goes : (e : Event) → is_before_pin at ≡ false → After e Dies
-  dies_goes e inside = (notes, turned_same (with_vault y (died y.vault)) Dead disk [] refl refl (dies_keeps n calls y callers disk M P notes a i c at is up.sound inside))
+  dies_goes e inside = (notes, turned_same (with_vault y (died y.vault)) Dead disk [] refl refl (dies_keeps n calls y callers disk M P notes a i c at is up.sound inside), noted_same y.words.pins y.words.pins P notes.begun refl)
 
   -- an event that is played has what it needs
   needed : (e : Event) (taken : Course) → course y a e ≡ taken → (line_on taken y (actor_at y a) a e).1 ≡ NotNow → (line y a e).1 ≢ NotNow → ⊥
@@ -133,7 +135,7 @@ module _ (n calls : ℕ) (y : Yard) (callers : List (Option Caller)) (disk : Med
       (publishes y (actor_at y a) a e ++ P) notes
 
   plays_goes : (e : Event) → (words_after y (actor_at y a) a e).pins ≡ y.words.pins → SoundAfter e → After e Plays
-  plays_goes e pins sound = (notes, turned_same (yard_done y (actor_at y a) a e) (outcome_of y (actor_at y a) e) (medium_after (call_of y (actor_at y a) e) disk) (publishes y (actor_at y a) a e) pins refl sound)
+  plays_goes e pins sound = (notes, turned_same (yard_done y (actor_at y a) a e) (outcome_of y (actor_at y a) e) (medium_after (call_of y (actor_at y a) e) disk) (publishes y (actor_at y a) a e) pins refl sound, noted_same y.words.pins (words_after y (actor_at y a) a e).pins P notes.begun pins)
 
   -- turns that leave the pins and the notes
   pub plays_turn : (e : Event) → is_played_dead e ≡ false → is_before_pin at ≡ false → course_alive y a (pin_of y a) e ≡ Plays → (words_after y (actor_at y a) a e).pins ≡ y.words.pins

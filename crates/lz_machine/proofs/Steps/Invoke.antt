@@ -264,30 +264,28 @@ module _ (n calls a : ℕ) (c : Command) (y : Yard) (callers : List (Option Call
     after = calling_after h.sound.callers h.sound.ledger h.after;
   }
 
+-- a call that may begin keeps the invariant of an open service
+module _ (n calls : ℕ) (service : Service) (disk : Medium) (life : Life) (P : Trace) (notes : Notes) (a : ℕ) (c : Command) (may : MayStep (Up service disk) (Calls a c)) (up : UpSound n calls service disk life P notes) where
+  none : caller_at service.callers a ≡ None
+  none = none_of (caller_at service.callers a) may.1
+
+  in_callers : a ≤ length service.callers
+  in_callers = omega (arith, may.0.1, up.sound.callers.count)
+
+  in_actors : a ≤ length service.yard.actors
+  in_actors = omega (arith, may.0.1, up.sound.callers.hands)
+
+  pub call_up : UpSound n (suc calls) (record { yard = invoked service.yard a c; callers = calling service.callers a (suc calls) c (progress_begun service.yard.vault.format c) }) disk
+      (record { start = life.start; history = Call (suc calls) a c ∷ life.history }) P notes
+  call_up = calling_up n calls a c (invoked service.yard a c) service.callers disk P life.history notes may.0.0 in_callers none (even_of (pin_of service.yard a) may.2) (progress_begun service.yard.vault.format c) (begun_outside (is_old_file service.yard.vault.format c))
+      (λ idle unchanged. begun_relies (view_of service.yard.shape service.yard.vault (invoked service.yard a c).actors a) c (notes.begun a) P (notes.changed a)
+      (noted_refusal n calls service.yard service.callers disk life.history P notes a c may.0.0 in_actors none up.sound) idle unchanged)
+      life.start (invoked_up n calls service.yard service.callers disk life P notes a c may.0.0 in_actors none up)
+
 -- at a point: a call that may begin keeps the invariant
 pub call_keeps : (start : Start) (a : ℕ) (c : Command) (service : Service) (disk : Medium) (M : History) (P : Trace) (calls : ℕ) → IsSound start (point (Up service disk) M P calls) → MayStep (Up service disk) (Calls a c) → IsSound start (point_after (point (Up service disk) M P calls) (Calls a c))
 call_keeps start a c service disk M P calls sound may = go (lives (start_keys start) M) sound
   where
     go : (L : List Life) → PointSound start (point (Up service disk) M P calls) L → PointSound start (point_after (point (Up service disk) M P calls) (Calls a c)) (with_mark (Call (suc calls) a c) L)
     go [] h = absurd h
-    go (life ∷ earlier) h = (
-      h.0,
-      h.1,
-      (
-        h.2.0,
-        h.2.1,
-        calling_up h.2.0 calls a c (invoked service.yard a c) service.callers disk P life.history h.2.1 may.0.0 (in_callers h.2.2) none (even_of (pin_of service.yard a) may.2) (progress_begun service.yard.vault.format c) (begun_outside (is_old_file service.yard.vault.format c))
-            (λ idle unchanged. begun_relies (view_of service.yard.shape service.yard.vault (invoked service.yard a c).actors a) c (h.2.1.begun a) P (h.2.1.changed a)
-            (noted_refusal h.2.0 calls service.yard service.callers disk life.history P h.2.1 a c may.0.0 (in_actors h.2.2) none h.2.2.sound) idle unchanged)
-            life.start (invoked_up h.2.0 calls service.yard service.callers disk life P h.2.1 a c may.0.0 (in_actors h.2.2) none h.2.2),
-      ),
-    )
-      where
-        none : caller_at service.callers a ≡ None
-        none = none_of (caller_at service.callers a) may.1
-
-        in_callers : UpSound h.2.0 calls service disk life P h.2.1 → a ≤ length service.callers
-        in_callers up = omega (arith, may.0.1, up.sound.callers.count)
-
-        in_actors : UpSound h.2.0 calls service disk life P h.2.1 → a ≤ length service.yard.actors
-        in_actors up = omega (arith, may.0.1, up.sound.callers.hands)
+    go (life ∷ earlier) h = (h.0, h.1, (h.2.0, h.2.1, call_up h.2.0 calls service disk life P h.2.1 a c may h.2.2))

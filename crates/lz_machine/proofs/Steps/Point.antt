@@ -23,6 +23,7 @@ use Rattle.lz_machine.specs.Runs.{Start, Service, Caller, Up, Turn, Fails, Looks
 use Rattle.lz_machine.specs.Sound.{Notes, entries, pin_in, UpSound, StateSound, PointSound, IsSound}
 use Rattle.lz_machine.proofs.Steps.Hop.{call_at}
 use Rattle.lz_machine.proofs.Steps.Pin.{begins_now, look_in_keeps, look_out_keeps}
+use Rattle.lz_machine.proofs.Frames.PinNotes.{IsNoted, noted_in, noted_out}
 use Rattle.lz_machine.proofs.Frames.PinOrder.{pin_after, since_pin, since_out, out_after}
 use Rattle.lz_machine.proofs.Steps.Turn.{turn_up}
 use Rattle.lz_machine.proofs.Steps.Fault.{fault_up}
@@ -36,7 +37,7 @@ AnswerUp =
     → caller_at callers a ≡ Some (call_at i c (Answering reply)) → UpSound n calls (record { yard = y; callers = callers }) disk (record { start = start; history = M }) P notes
     → (line y a Answer).1 ≢ NotNow
     → (notes' : Notes) × UpSound n calls (played (record { yard = y; callers = callers }) a (call_at i c (Answering reply)) (line y a Answer)) (medium_after (line_call y a Answer) disk)
-    (record { start = start; history = mark_of i reply ∷ M }) P notes'
+    (record { start = start; history = mark_of i reply ∷ M }) P notes' × IsNoted y.words.pins (line y a Answer).0.words.pins P notes.begun notes'.begun
 
 -- no event changes the shape, and an answer publishes nothing
 line_shape : (y : Yard) (a : ℕ) (e : Event) → (line y a e).0.shape ≡ y.shape
@@ -47,7 +48,7 @@ line_shape y a e = go (course y a e)
     go Dies = refl
     go Plays = refl
 
-answer_publishes : (y : Yard) (a : ℕ) → line_publishes y a Answer ≡ []
+pub answer_publishes : (y : Yard) (a : ℕ) → line_publishes y a Answer ≡ []
 answer_publishes y a = go (course y a Answer)
   where
     go : (taken : Course) → published_on taken y (actor_at y a) a Answer ≡ []
@@ -134,6 +135,7 @@ fails_keeps start a new service disk M P calls sound may = fault_of start a serv
 pub look_up : (n calls : ℕ) (y : Yard) (callers : List (Option Caller)) (disk : Medium) (M : History) (P : Trace) (start : Keys) (notes : Notes) (a : ℕ) → 1 ≤ a → a ≤ y.shape.passes → caller_at callers a ≡ None → pin_in y.words.pins a ≢ last_pin
     → UpSound n calls (record { yard = y; callers = callers }) disk (record { start = start; history = M }) P notes
     → (notes' : Notes) × UpSound n calls (record { yard = looked y a; callers = callers }) disk (record { start = start; history = M }) P notes'
+    × IsNoted y.words.pins (looked y a).words.pins P notes.begun notes'.begun
 look_up n calls y callers disk M P start notes a low high none fresh up = elim (cases_eq (pin_in y.words.pins a % 2) 0) [
   | inl even ↦ (
     begins_now notes a P,
@@ -143,6 +145,7 @@ look_up n calls y callers disk M P start notes a low high none fresh up = elim (
       after = pin_after n calls y.shape.passes callers P M notes up.sound.ledger y.words.pins a _ callers (λ b other. refl) (entries y.shape.passes callers (begins_now notes a P)) refl up.after;
       since = since_pin n y.words.pins P notes a _ up.sound.ledger.opened up.since;
     },
+    noted_in y.words.pins a P notes.begun even,
   )
   | inr odd ↦ (
     notes,
@@ -152,6 +155,7 @@ look_up n calls y callers disk M P start notes a low high none fresh up = elim (
       after = out_after y.words.pins a _ callers (entries y.shape.passes callers notes) M notes.begun none up.after;
       since = since_out n y.words.pins notes.begun a _ (inl (omega (arith, odd))) low (omega (arith, high, up.sound.trace.pins)) up.since;
     },
+    noted_out y.words.pins a P notes.begun (omega (arith, odd)) low (omega (arith, high, up.sound.trace.pins)),
   )
 ]
 

@@ -30,7 +30,8 @@ use Rattle.lz_machine.specs.Table.{with_slot, reserved, slot_found, yard_done, o
 use Rattle.lz_machine.specs.Calls.{progress_after, after_see_pin, after_reserve}
 use Rattle.lz_machine.specs.Runs.{Caller, caller_at}
 use Rattle.lz_machine.specs.Limbo.{IsAway}
-use Rattle.lz_machine.specs.Sound.{Notes, actor_in, pin_in, cell_in, stage_in, IsGateClosed, closes, opens, shuts, unlocks, has_removed_node, IsOut, IsCloser, IsNodeStage, IsHandStage, SlotStands, is_node, is_held, is_out, is_free, is_limbo, IsInHand, SlotsSound, ReuseSound, HasLock, RestsOn, IsGateOpened, IsAdder, MayAnswer, CallerSound, Sound, is_before_pin, side_of}
+use Rattle.lz_slot.specs.Sets.{key_of}
+use Rattle.lz_machine.specs.Sound.{Notes, actor_in, pin_in, cell_in, stage_in, IsGateClosed, closes, opens, shuts, unlocks, has_removed_node, IsOut, IsCloser, IsNodeStage, IsHandStage, SlotStands, is_node, is_held, is_out, is_free, is_limbo, IsInHand, SlotsSound, ReuseSound, HasLock, RestsOn, IsGateOpened, IsAdder, MayAnswer, CallerSound, Sound, is_before_pin, side_of, WasAbsent}
 use Rattle.lz_machine.proofs.Frames.OneActor.{moving, callers_turn, ledger_turn}
 use Rattle.lz_machine.proofs.Frames.SameYard.{KeepsTail, in_passes, tail_turn}
 use Rattle.lz_machine.proofs.Frames.NodeLocks.{held_locks}
@@ -69,8 +70,8 @@ module _ (n calls : ℕ) (y : Yard) (callers : List (Option Caller)) (disk : Med
       let h = (own n calls y callers disk M P notes a i c (SeeingPins p) is sound).stands.2 in
       let seen = uses_keep (see_pin p (pin_in y.words.pins p) y.uses) (seen_keeps p (pin_in y.words.pins p) y.uses) (seen_reuse p (pin_in y.words.pins p) y.shape y.words.pins y.uses y.actors P notes.begun refl h.2 h.3 sound.reuse) in
       goes_on_keeps n calls (with_uses y (see_pin p (pin_in y.words.pins p) y.uses)) callers disk M P notes a i c (SeeingPins p) is seen (after_see_pin y.shape p) refl (λ none is. absurd (false≢true is)) (elim (cases_Bool (nat_lt p y.shape.passes)) [
-        | inl less ↦ rw less (record { relies = (record { hold = h.0.hold; none = h.0.none }, h.1, omega arith, grind (arith, nat_tests, less), h.4); inside = refl })
-        | inr last ↦ rw last (record { relies = (record { hold = h.0.hold; none = h.0.none }, h.1, h.4); inside = refl })
+        | inl less ↦ rw less (record { relies = (record { hold = h.0.hold; none = h.0.none }, h.1, omega arith, grind (arith, nat_tests, less), h.4, h.5); inside = refl })
+        | inr last ↦ rw last (record { relies = (record { hold = h.0.hold; none = h.0.none }, h.1, h.4, h.5); inside = refl })
       ])
 
 -- the use of a slot after one was taken
@@ -307,17 +308,17 @@ module _ (n calls : ℕ) (y : Yard) (callers : List (Option Caller)) (disk : Med
   me : CallerSound (record { buckets = y.shape.buckets; passes = y.shape.passes; format = y.vault.format; cells = y.vault.cells; dead = y.vault.dead; actor = actor_at y a }) (pin_in y.words.pins a) (Some (call_at i c (Reserving again))) (notes.begun a) P (notes.changed a)
   me = own n calls y callers disk M P notes a i c (Reserving again) is sound
 
-  full_relies : (d : Command) → IsAdder d → notes.changed a ≡ None → MayAnswer d (Full (counts uses)) (notes.begun a) P (notes.changed a)
-  full_relies (Add k) adder none = none
-  full_relies (Remove k) adder none = absurd adder
-  full_relies (Has k) adder none = absurd adder
+  full_relies : (d : Command) → IsAdder d → notes.changed a ≡ None → WasAbsent (key_of d) (notes.begun a) P → MayAnswer d (Full (counts uses)) (notes.begun a) P (notes.changed a)
+  full_relies (Add k) adder none absent = (none, absent)
+  full_relies (Remove k) adder none absent = absurd adder
+  full_relies (Has k) adder none absent = absurd adder
 
   -- no slot is free
   none_goes : (b : Bool) → GoesOn (record { buckets = y.shape.buckets; passes = y.shape.passes; format = y.vault.format; cells = y.vault.cells; dead = y.vault.dead; actor = with_slot (actor_at y a) None }) c (after_reserve b (NoSlot (counts uses))) (notes.begun a) P (notes.changed a)
   none_goes false =
       let r = range n calls y callers disk M P notes a (call_at i c (Reserving again)) is sound (actor_at y a) in
-      record { relies = (record { hold = me.stands.2.0.hold; none = me.stands.2.0.none }, refl, omega arith, omega (arith, r.0, r.1, sound.callers.hands), me.stands.2.2); inside = refl }
-  none_goes true = record { relies = (full_relies c me.stands.2.2 me.stands.2.0.none, inl me.stands.2.0.hold); inside = refl }
+      record { relies = (record { hold = me.stands.2.0.hold; none = me.stands.2.0.none }, refl, omega arith, omega (arith, r.0, r.1, sound.callers.hands), me.stands.2.2, me.stands.2.3); inside = refl }
+  none_goes true = record { relies = (full_relies c me.stands.2.2 me.stands.2.0.none me.stands.2.3, inl me.stands.2.0.hold); inside = refl }
 
   none_keeps : Sound n calls (then None) (moving callers a (call_at i c (Reserving again)) (next None)) disk M P notes
   none_keeps =

@@ -45,11 +45,12 @@ use Rattle.lz_machine.proofs.Steps.WriteClose.{write_close_keeps}
 use Rattle.lz_machine.proofs.Steps.WriteKey.{write_key_keeps}
 use Rattle.lz_machine.proofs.Steps.WriteOpen.{write_open_keeps}
 use Rattle.lz_machine.proofs.Steps.Settle.{settle_added_keeps, settle_marked_keeps, settle_rest_keeps}
+use Rattle.lz_machine.proofs.Frames.PinNotes.{noted_same, noted_in}
 use Rattle.lz_machine.proofs.Frames.PinOrder.{since_pin, turn_after, adds_change, pin_after}
 use Rattle.lz_machine.proofs.Runs.NextEvent.{since_same, Goes, turned, turned_same, by_course, by_course_too, plays_turn, plays_turn_too, sync_turn}
 
 -- a settling changes no pin
-settled_pins : (y : Yard) (a s : ℕ) → (words_after y (actor_at y a) a (Settle s)).pins ≡ y.words.pins
+pub settled_pins : (y : Yard) (a s : ℕ) → (words_after y (actor_at y a) a (Settle s)).pins ≡ y.words.pins
 settled_pins y a s = go (is_sure y s)
   where
     go : (sure : Bool) → (if sure then change_flags (settle (cell_at y s).stage) y.words s else y.words).pins ≡ y.words.pins
@@ -60,7 +61,7 @@ module _ (n calls : ℕ) (y : Yard) (callers : List (Option Caller)) (disk : Med
   -- the call's next turn, where it has come so far
   abbrev pub Turns : Command → Progress → Type 0
   Turns c at =
-      (line y a (next_event y (call_at i c at))).1 ≢ NotNow → Goes n calls y callers disk M P start a (call_at i c at) (next_event y (call_at i c at)) (course y a (next_event y (call_at i c at)))
+      (line y a (next_event y (call_at i c at))).1 ≢ NotNow → Goes n calls y callers disk M P start notes.begun a (call_at i c at) (next_event y (call_at i c at)) (course y a (next_event y (call_at i c at)))
 
   abbrev IsAt : Command → Progress → Type 0
   IsAt c at = caller_at callers a ≡ Some (call_at i c at)
@@ -75,17 +76,19 @@ module _ (n calls : ℕ) (y : Yard) (callers : List (Option Caller)) (disk : Med
   -- a call pins, or its pass is worn
   pin_turn : (c : Command) → IsAt c (Playing Pinning 0) → Turns c (Playing Pinning 0)
   pin_turn c is now = by_course_too n calls y callers disk M P start notes up a i c (Playing Pinning 0) is refl Pin refl now (elim (eqb_tells (pin_of y a) last_pin) [
-    | inl last ↦ subst (Goes n calls y callers disk M P start a (call_at i c (Playing Pinning 0)) Pin) (sym (worn last.0)) (
+    | inl last ↦ subst (Goes n calls y callers disk M P start notes.begun a (call_at i c (Playing Pinning 0)) Pin) (sym (worn last.0)) (
       notes,
       turned_same n calls y callers disk M P start notes up a i c (Playing Pinning 0) is refl y Worn disk [] refl refl (worn_keeps n calls y callers disk M P notes a i c is up.sound),
+      noted_same y.words.pins y.words.pins P notes.begun refl,
     )
-    | inr fresh ↦ subst (Goes n calls y callers disk M P start a (call_at i c (Playing Pinning 0)) Pin) (sym (plays fresh.0)) (
+    | inr fresh ↦ subst (Goes n calls y callers disk M P start notes.begun a (call_at i c (Playing Pinning 0)) Pin) (sym (plays fresh.0)) (
       begins_now notes a P,
       turned n calls y callers disk M P start notes up a i c (Playing Pinning 0) is refl (begins_now notes a P) (yard_done y (actor_at y a) a Pin) Done disk []
           (pin_keeps n calls y callers disk M P notes up.sound a (in_range c (Playing Pinning 0) is).0 (in_range c (Playing Pinning 0) is).1 fresh.1 i c is)
           (pin_after n calls y.shape.passes callers P M notes up.sound.ledger y.words.pins a _ (moving callers a (call_at i c (Playing Pinning 0)) LoadsHalt) (moved_other callers a (call_at i c (Playing Pinning 0)) is LoadsHalt)
           (entries y.shape.passes (moving callers a (call_at i c (Playing Pinning 0)) LoadsHalt) (begins_now notes a P)) (same_entries callers a (call_at i c (Playing Pinning 0)) is LoadsHalt y.shape.passes notes) up.after)
           (since_pin n y.words.pins P notes a _ up.sound.ledger.opened up.since),
+      noted_in y.words.pins a P notes.begun (own n calls y callers disk M P notes a i c (Playing Pinning 0) is up.sound).stands.0,
     )
   ])
     where
@@ -121,6 +124,7 @@ module _ (n calls : ℕ) (y : Yard) (callers : List (Option Caller)) (disk : Med
         (redirect_pins y.words (actor_at y a).pred (link_to (actor_at y a).slot))
         (adds_change n calls y.shape.passes callers P M notes a (length P) (call_at i (Add k) (Playing (Adding s) 1)) is (Playing (Adding s) 2) (known (Add k) (Playing (Adding s) 1) is).3 (in_range (Add k) (Playing (Adding s) 1) is).1 up.sound.ledger) up.after)
         (since_same n calls y callers disk M P start notes up a i (Add k) (Playing (Adding s) 1) is refl (redirect_pins y.words (actor_at y a).pred (link_to (actor_at y a).slot))),
+    noted_same y.words.pins (yard_done y (actor_at y a) a Link).words.pins P notes.begun (redirect_pins y.words (actor_at y a).pred (link_to (actor_at y a).slot)),
   ))
 
   add_turn : (k s j : ℕ) → IsAt (Add k) (Playing (Adding s) j) → ReliesAdding (view_of y.shape y.vault y.actors a) k s j (notes.begun a) P (notes.changed a) → Turns (Add k) (Playing (Adding s) j)
@@ -144,6 +148,7 @@ module _ (n calls : ℕ) (y : Yard) (callers : List (Option Caller)) (disk : Med
         (entries y.shape.passes (moving callers a (call_at i (Remove k) (Playing (Removing s) 1)) (Playing (Removing s) 2)) (changes_at notes a (length P))) M notes.begun refl
         (adds_change n calls y.shape.passes callers P M notes a (length P) (call_at i (Remove k) (Playing (Removing s) 1)) is (Playing (Removing s) 2) (known (Remove k) (Playing (Removing s) 1) is).2.2 (in_range (Remove k) (Playing (Removing s) 1) is).1 up.sound.ledger) up.after)
         (since_same n calls y callers disk M P start notes up a i (Remove k) (Playing (Removing s) 1) is refl refl),
+    noted_same y.words.pins y.words.pins P notes.begun refl,
   ))
 
   remove_turn : (k s j : ℕ) → IsAt (Remove k) (Playing (Removing s) j) → ReliesRemoving (view_of y.shape y.vault y.actors a) k s j P (notes.changed a) → Turns (Remove k) (Playing (Removing s) j)

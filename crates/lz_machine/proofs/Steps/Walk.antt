@@ -1,5 +1,5 @@
 -- A load on a walk keeps the invariant: what the walk relies on next follows from the word that it loaded.
-use Rattle.std.proofs.Common.{◌≡◌, ◌≢◌, ◌⊎◌, inl, inr, ℕ, zero, suc, ◌≤◌, nat_lt, if◌then◌else◌, Bool, true, false, List, [], ◌∷◌, Option, Some, None, refl, sym, ◌∙◌, subst, arith}
+use Rattle.std.proofs.Common.{◌≡◌, ◌≢◌, ◌⊎◌, inl, inr, ℕ, zero, suc, ◌≤◌, nat_lt, if◌then◌else◌, not, Bool, true, false, List, [], ◌∷◌, Option, Some, None, refl, sym, ap, ◌∙◌, subst, arith}
 use Rattle.std.proofs.lemmas.Bool.Decides.{nat_tests, eqb_tells}
 use Rattle.lz_slot.specs.declared.format.Format.{Format}
 use Rattle.lz_slot.specs.Limits.{most_slots}
@@ -22,7 +22,8 @@ use Rattle.lz_list.specs.Laws.{IsHigh}
 use Rattle.lz_list.proofs.Chains.{on_start}
 use Rattle.lz_list.proofs.Absent.{begins_itself}
 use Rattle.lz_list.proofs.Hindsight.{once_from, hindsight, next_stood, absent_since}
-use Rattle.lz_list.proofs.Resting.{marked_rests, unmarked_rests, removed_later}
+use Rattle.lz_list.proofs.Nodes.{node}
+use Rattle.lz_list.proofs.Resting.{left_surely, marked_rests, unmarked_rests, removed_later}
 use Rattle.lz_flush.specs.declared.need.Need.{Need}
 use Rattle.lz_flush.specs.declared.need.Need.TheVariants.{Now, Sync as needs_sync}
 use Rattle.lz_flush.specs.Settling.{may_answer}
@@ -35,7 +36,7 @@ use Rattle.lz_machine.specs.declared.caller.Progress.TheVariants.{Answering}
 use Rattle.lz_machine.specs.Yards.{Shape}
 use Rattle.lz_machine.specs.Calls.{walked, hops_on, rests}
 use Rattle.lz_machine.specs.Stands.{WasBetween}
-use Rattle.lz_machine.specs.Sound.{TraceSound, View, IsFresh, IsAimed, MayAim, IsLooking, HasMet, RestsYes, RestsNo, MayRest, Relies, is_before_pin}
+use Rattle.lz_machine.specs.Sound.{TraceSound, View, IsFresh, IsAimed, MayAim, IsLooking, HasMet, RestsYes, RestsNo, WasAbsent, MayRest, Relies, is_before_pin}
 use Rattle.lz_machine.proofs.Frames.Ranges.{stood_range, added_tells, removed_tells}
 use Rattle.lz_machine.proofs.Frames.LoadedWord.{bucket_range, head_next, link_next, link_mark, link_added, link_removed, key_load}
 
@@ -67,6 +68,9 @@ absent_rests k P0 P once =
     later R to (inl none) = inl none
     later R to (inr is) = inr (removed_later (linking k R) R P to is)
 
+absent_then : (k : ℕ) (P0 P : Trace) → Once P0 P (λ R. SettledNo R R k) → WasAbsent k P0 P
+absent_then k P0 P once = let r = once_some P0 P (λ R. SettledNo R R k) once in record { then = r.0; since = record { from = r.1; upto = r.2 }; gone = r.3.no_member }
+
 module _ (shape : Shape) (words : Words) (P : Trace) (trace : TraceSound shape words P) (few : shape.slots ≤ most_slots) (P0 : Trace) (quiet : IsQuiet shape.buckets P0 P) (begins : Begins P0 P) where
   abbrev buckets : ℕ
   buckets = shape.buckets
@@ -91,7 +95,10 @@ module _ (shape : Shape) (words : Words) (P : Trace) (trace : TraceSound shape w
     absent_after : (c : Command) (aim : Option ℕ) (pred : Place) (curr : Option ℕ) → IsFresh v changed → IsAimed v (key_of c) P aim → MayAim c aim → WasBetween buckets (key_of c) pred (link_to curr) P0 P → IsHigh (key_of c) (link_to curr) P → GoesOn v c (walked c aim pred curr Absent) P0 P changed
     absent_after (Has k) aim pred curr fresh aimed may between high = (answers_no k fresh (absent_rests k P0 P (absent_since buckets slots P0 k (place_number pred) (link_to curr) P trace.lawful quiet between.were between.low high))).0
     absent_after (Remove k) aim pred curr fresh aimed may between high = (answers_no k fresh (absent_rests k P0 P (absent_since buckets slots P0 k (place_number pred) (link_to curr) P trace.lawful quiet between.were between.low high))).1
-    absent_after (Add k) None pred curr fresh aimed may between high = record { relies = (fresh, aimed, tt); inside = refl }
+    absent_after (Add k) None pred curr fresh aimed may between high = record {
+      relies = (fresh, aimed, tt, absent_then k P0 P (absent_since buckets slots P0 k (place_number pred) (link_to curr) P trace.lawful quiet between.were between.low high));
+      inside = refl;
+    }
     absent_after (Add k) (Some s) pred curr fresh aimed may between high = record { relies = (fresh, aimed, (between, inl high)); inside = refl }
 
     -- it goes along a next link
@@ -140,6 +147,13 @@ module _ (shape : Shape) (words : Words) (P : Trace) (trace : TraceSound shape w
               let later : may_answer flags ≡ needs_sync = rw (flag, is) refl in
               subst (λ (need : Need). GoesOn v c (rests s need reply) P0 P changed) (sym later) (record { relies = (fresh, rest); inside = refl })
 
+    -- where it is marked, the key was no member
+    marked_gone : (k s : ℕ) → Stood buckets (bucket_of buckets k) P0 P (suc s) → key_word s P ≡ k → is_marked s P ≡ true → WasAbsent k P0 P
+    marked_gone k s stood key mark = elim (left_surely buckets slots P0 k s P trace.lawful quiet stood key) [
+      | inl there ↦ record { then = P; since = record { from = begins; upto = begins_itself P }; gone = (node buckets slots k s P trace.lawful there key).is_member ∙ ap not mark }
+      | inr gone ↦ absent_then k P0 P gone.0
+    ]
+
     -- it has met the key's node, unmarked or marked
     unmarked_after : (c : Command) (aim : Option ℕ) (pred : Place) (s : ℕ) (flags : Flags) → IsFresh v changed → IsAimed v (key_of c) P aim → MayAim c aim → WasBetween buckets (key_of c) pred (suc s) P0 P → key_word s P ≡ key_of c
         → is_marked s P ≡ false → flags.mark ≡ false → flags.add_settled ≡ has_added s P → GoesOn v c (walked c aim pred (Some s) (Unmarked s flags)) P0 P changed
@@ -160,7 +174,7 @@ module _ (shape : Shape) (words : Words) (P : Trace) (trace : TraceSound shape w
     marked_after (Remove k) aim pred s flags fresh aimed may between key mark flag removed =
         let stood = there_since k pred s between in
         rest_marked k s stood key flags fresh (Remove k) No (met_now k s true stood key mark) (λ gone. (answers_no k fresh gone).1) mark flag removed
-    marked_after (Add k) None pred s flags fresh aimed may between key mark flag removed = record { relies = (fresh, aimed, tt); inside = refl }
+    marked_after (Add k) None pred s flags fresh aimed may between key mark flag removed = record { relies = (fresh, aimed, tt, marked_gone k s (there_since k pred s between) key mark); inside = refl }
     marked_after (Add k) (Some t) pred s flags fresh aimed may between key mark flag removed = record { relies = (fresh, aimed, (between, inr (s, refl, key, mark))); inside = refl }
 
     met_after : (c : Command) (aim : Option ℕ) (pred : Place) (s : ℕ) (flags : Flags) → IsFresh v changed → IsAimed v (key_of c) P aim → MayAim c aim → WasBetween buckets (key_of c) pred (suc s) P0 P → key_word s P ≡ key_of c

@@ -1,7 +1,7 @@
 -- A load may be put into a run behind its actor's last step: the later steps don't look at it.
-use Rattle.std.proofs.Common.{◌≡◌, ◌≢◌, inl, inr, ℕ, zero, suc, ◌%◌, false, List, [], ◌∷◌, ◌++◌, Option, Some, None, refl, sym, ap, ◌∙◌, subst, arith}
+use Rattle.std.proofs.Common.{◌≡◌, ◌≢◌, inl, inr, ℕ, zero, suc, ◌%◌, Bool, true, false, List, [], ◌∷◌, ◌++◌, Option, Some, None, refl, sym, ap, ◌∙◌, subst, arith}
 use mathlib.Core.Bool.{false≢true}
-use Rattle.std.specs.Prelude.{IsSome}
+use Rattle.std.specs.Prelude.{◌||◌, IsSome}
 use Rattle.std.specs.List.{list_any}
 use Rattle.std.proofs.lemmas.Bool.{cases_Bool, or_parts}
 use Rattle.std.proofs.lemmas.Bool.Decides.{nat_tests}
@@ -30,9 +30,10 @@ use Rattle.lz_machine.specs.Yards.{Yard, Shape, actor_at}
 use Rattle.lz_machine.specs.Table.{pin_of, course, line, line_on, line_call, call_on, published_on, line_publishes}
 use Rattle.lz_machine.specs.Calls.{event_of, event_at, loaded, progress_after}
 use Rattle.lz_machine.specs.Runs.{Caller, Service, State, Up, Down, Start, IsStart, start_keys, Step, Turn, Point, point_after, run, IsRun, first_point, played, caller_at, next_event, reply_at, moved_on, after_turn, state_after, HasTurn, MayStep, mark_of_turn, marks_of_turn, marks_of, turn_publishes, trace_after, calls_after}
-use Rattle.lz_machine.specs.Laws.{is_of, outcome_at, outcomes, hop_of, hop_of_caller, next_hop, SameBut, WalksMove}
+use Rattle.lz_machine.specs.Laws.{is_of, outcome_at, outcomes, hop_of, hop_of_caller, next_hop, SameBut, call_in, ends_life, WalksMove}
 use Rattle.lz_machine.specs.Sound.{is_before_pin, side_of, StateSound, PointSound, IsSound}
 use Rattle.lz_machine.proofs.Frames.OneActor.{mine}
+use Rattle.lz_machine.proofs.Theorem.MovedCall.{call_stays, ends_same}
 use Rattle.lz_machine.proofs.Runs.Twins.{Twin, apart, same, left, right, follows}
 use Rattle.lz_machine.proofs.Runs.Composition.{run_append}
 
@@ -218,6 +219,31 @@ twins_same a (same (Down shape disk)) = (refl, refl)
 beside_same : (a : ℕ) (one other : Point) → Beside a one other → SameBut a one.state other.state
 beside_same a one other h = subst (λ (w : State). SameBut a one.state w) h.right_is (subst (λ (w : State). SameBut a w (right a h.twin)) h.left_is (twins_same a h.twin))
 
+module _ (p : Point) (a : ℕ) (before : List Step) (hops : HopsBeside a (run p before)) where
+  -- the actor's call, while the life goes on
+  call_kept : (later : List Step) → list_any (is_of a) later ≡ false → list_any ends_life later ≡ false → call_in (run p (later ++ Turn a ∷ before)).state a ≡ call_in (run p (Turn a ∷ before)).state a
+  call_kept [] none goes = refl
+  call_kept (step ∷ later) none goes =
+      let parts = or_parts (is_of a step) (list_any (is_of a) later) none in
+      let ends = or_parts (ends_life step) (list_any ends_life later) goes in
+      let q = run p (later ++ Turn a ∷ before) in
+      call_stays a (suc q.calls) q.state step parts.0 ends.0 ∙ call_kept later parts.1 ends.1
+
+  -- the state, once it has ended
+  same_over : (later : List Step) → IsRun p (later ++ before) → list_any (is_of a) later ≡ false → list_any ends_life later ≡ true → (run p (later ++ Turn a ∷ before)).state ≡ (run p (later ++ before)).state
+  same_over [] runs none ends = absurd (false≢true ends)
+  same_over (step ∷ later) runs none ends =
+      let parts = or_parts (is_of a step) (list_any (is_of a) later) none in
+      let one = run p (later ++ before) in
+      let other = run p (later ++ Turn a ∷ before) in
+      let h = (goes_later p a before hops later runs.1 parts.1).beside in
+      elim (cases_Bool (ends_life step)) [
+        | inl here ↦ ends_same a (suc one.calls) (suc other.calls) one.state other.state step here (beside_same a one other h)
+        | inr later_on ↦
+            let same = same_over later runs.1 parts.1 (ap (λ (b : Bool). b || list_any ends_life later) (sym later_on) ∙ ends) in
+            ap (λ (w : State). state_after (suc other.calls) w step) same ∙ ap (λ (m : ℕ). state_after (suc m) one.state step) h.calls
+      ]
+
 module _ (reached_sound : (start : Start) (steps : List Step) → IsStart start → IsRun (first_point start) steps → IsSound start (run (first_point start) steps)) where
   pub walks_move : WalksMove
   walks_move start later before a starts runs none hop =
@@ -232,4 +258,6 @@ module _ (reached_sound : (start : Start) (steps : List Step) → IsStart start 
         marks = rest.beside.marks;
         trace = rest.beside.trace;
         state = beside_same a (run p (later ++ before)) (run p (later ++ Turn a ∷ before)) rest.beside;
+        call = call_kept p a before hops later none;
+        over = same_over p a before hops later runs none;
       }

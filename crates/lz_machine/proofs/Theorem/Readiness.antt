@@ -53,6 +53,7 @@ use Rattle.lz_machine.proofs.Theorem.ShownChains.{links_are, key_is, keeps_key, 
 use Rattle.lz_machine.proofs.Theorem.Reached.{reached_sound}
 use Rattle.lz_machine.proofs.Steps.ReturnedSlot.{closed_unused}
 use Rattle.lz_machine.proofs.Frames.Grip.{closer_locks}
+use Rattle.lz_machine.proofs.Crash.ImageSlots.{node_stands}
 use Rattle.lz_machine.proofs.Frames.Outside.{worn_out}
 
 -- what a call knows of its next event: the node that it retires, and that the file can hold the key that it writes
@@ -62,7 +63,7 @@ Knows format actor (WriteKey k) = k ≤ largest_of format
 Knows format actor _ = Unit {0}
 
 -- what the needs say
-both : (p q : Bool) → (p && q) ≡ true → (p ≡ true) × (q ≡ true)
+pub both : (p q : Bool) → (p && q) ≡ true → (p ≡ true) × (q ≡ true)
 both true true is = (refl, refl)
 both true false is = absurd (false≢true is)
 both false q is = absurd (false≢true is)
@@ -83,7 +84,7 @@ is_closed : (hold : Hold) → has_closed hold ≡ true → hold ≡ GateClosed
 is_closed GateClosed is = refl
 is_closed _ is = absurd (false≢true is)
 
-is_marking : (hold : Hold) → has_marked hold ≡ true → hold ≡ Marked
+pub is_marking : (hold : Hold) → has_marked hold ≡ true → hold ≡ Marked
 is_marking Marked is = refl
 is_marking _ is = absurd (false≢true is)
 
@@ -155,17 +156,7 @@ module _ (n calls : ℕ) (y : Yard) (callers : List (Option Caller)) (disk : Med
 
   -- as it is on a chain
   node_key : (s : ℕ) → s < y.shape.slots → on 0 (chain_of y.shape.buckets (key_word s P) P) (suc s) ≡ true → get w (key_at s) ≤ largest_key
-  node_key s lt there = by_stand (sound.slots.each s lt)
-    where
-      off : IsLoose y.shape.buckets s P → ⊥
-      off loose = false≢true (sym (loose (bucket_of y.shape.buckets (key_word s P))) ∙ there)
-
-      by_stand : SlotStands y.shape y.vault.cells y.vault.dead y.uses y.actors P s → get w (key_at s) ≤ largest_key
-      by_stand (is_node on_it stage) = is_key s lt on_it.key
-      by_stand (is_held b slot) = absurd (off (sound.slots.hand b s slot).loose)
-      by_stand (is_out b out) = absurd (off (sound.slots.out b s out).loose)
-      by_stand (is_free loose free stage) = absurd (off loose)
-      by_stand (is_limbo sights loose limbo stage) = absurd (off loose)
+  node_key s lt there = is_key s lt (node_stands n calls y callers disk M P notes sound s lt there).0.key
 
   -- and in the hand of an actor that has opened its gate
   opened_key : (s : ℕ) → actor.slot ≡ Some s → actor.hold ≡ GateOpened → get w (key_at s) ≤ largest_key

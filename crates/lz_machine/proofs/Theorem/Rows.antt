@@ -6,7 +6,7 @@ use Rattle.lz_slot.specs.Bytes.{slot_body, open_byte, header_body}
 use Rattle.lz_slot.specs.declared.command.Command.TheVariants.{Add, Remove, Has}
 use Rattle.lz_slot.specs.declared.history.Mark.{Mark}
 use Rattle.lz_slot.specs.declared.history.Mark.TheVariants.{Call, Answer, Refused, Cut, Stop, Crash, Opened}
-use Rattle.lz_slot.specs.declared.history.Refusal.TheVariants.{Full}
+use Rattle.lz_slot.specs.declared.history.Refusal.TheVariants.{Full, OldFile}
 use Rattle.lz_slot.specs.declared.history.Cut.TheVariants.{Halted, Device}
 use Rattle.lz_list.specs.declared.place.Place.TheVariants.{Bucket}
 use Rattle.lz_list.specs.declared.word.Word.TheVariants.{Head, Halt as HaltWord}
@@ -337,6 +337,20 @@ gate_loose_other : marks_crashed (Byte 0x37) (fresh 2 64) gate_steps ≡ Call 1 
 unfolding bucket_of
 gate_loose_other = refl
 
+-- a file of format 1 can't hold a key of room 3, and holds none
+row_old_file : marks_after (fresh 2 64) (Calls 1 (Add 3000000000000000017) ∷ turns 1 1 ++ Calls 1 (Has 3000000000000000017) ∷ turns 1 4
+    ++ Calls 1 (Remove 3000000000000000017) ∷ turns 1 4 ++ Calls 1 (Add 5) ∷ turns 1 15 ++ Calls 1 (Has 5) ∷ turns 1 6)
+    ≡ Call 1 1 (Add 3000000000000000017) ∷ Refused 1 OldFile ∷ Call 2 1 (Has 3000000000000000017) ∷ Answer 2 false
+    ∷ Call 3 1 (Remove 3000000000000000017) ∷ Answer 3 false ∷ Call 4 1 (Add 5) ∷ Answer 4 true ∷ Call 5 1 (Has 5) ∷ Answer 5 true ∷ []
+unfolding bucket_of
+row_old_file = refl
+
+-- of an old file a call is told on a halted service too
+row_old_halted : marks_after (fresh 2 64) (until_release ++ Trips ∷ Fails 1 (disk_of (play (fresh 2 64) until_release).state) ∷ turns 1 2 ++ Calls 2 (Add 3000000000000000017) ∷ turns 2 1)
+    ≡ Call 1 1 (Add 9) ∷ Cut 1 Device ∷ Call 2 2 (Add 3000000000000000017) ∷ Refused 2 OldFile ∷ []
+unfolding bucket_of
+row_old_halted = refl
+
 -- the reader's sync made the closing sure
 removal_found : marks_crashed Old (fresh 2 64) removal_steps
     ≡ Call 1 1 (Add 9) ∷ Call 2 2 (Remove 9) ∷ Call 3 3 (Has 9) ∷ Answer 3 false ∷ Crash ∷ Opened [] ∷ []
@@ -426,3 +440,16 @@ mark_then_sync : marks_crashed Old (fresh 2 64) (Calls 1 (Add 9) ∷ turns 1 15 
     ≡ Call 1 1 (Add 9) ∷ Answer 1 true ∷ Call 2 2 (Remove 9) ∷ Call 3 3 (Has 9) ∷ Answer 3 false ∷ Crash ∷ Opened [] ∷ []
 unfolding bucket_of
 mark_then_sync = refl
+
+-- a gate that was opened and then closed with no sync between: an open byte keeps the adding and drops the removal, and a
+-- closed one keeps both
+abbrev choice_steps : List Step
+choice_steps = Calls 1 (Add 9) ∷ turns 1 12 ++ Calls 2 (Remove 9) ∷ turns 2 9
+
+choice_open : marks_crashed (Byte 0xa5) (fresh 2 64) choice_steps ≡ Call 1 1 (Add 9) ∷ Call 2 2 (Remove 9) ∷ Crash ∷ Opened (9 ∷ []) ∷ []
+unfolding bucket_of
+choice_open = refl
+
+choice_closed : marks_crashed (Byte 0x37) (fresh 2 64) choice_steps ≡ Call 1 1 (Add 9) ∷ Call 2 2 (Remove 9) ∷ Crash ∷ Opened [] ∷ []
+unfolding bucket_of
+choice_closed = refl

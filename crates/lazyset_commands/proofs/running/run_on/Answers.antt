@@ -17,4 +17,4 @@ pub returns-in-Ok-clause-plain : goal.returns-in-Ok-clause-plain
 returns-in-Ok-clause-plain g c = λ N S honest each is.
     let opens = c.in-Ok.ensures.ok in
     let (count, held) = opened_holds _ _ _ N S (g.met.D.Disk.timely c.args.disk honest) honest opens each in
-    rw c.close.ensures (session_plain g.D.Disk.device g.met.D.Disk.timely _ _ _ _ _ _ N S (c.serve-status.ensures.whole is) (subst IsTrue (sym opens.honest) honest) count held)
+    rw c.close.ensures (session_plain g.D.Disk.device g.met.D.Disk.timely _ _ _ _ _ _ _ N S (c.serve-status.ensures.whole is) (subst IsTrue (sym opens.honest) honest) (opens.format honest) count held)

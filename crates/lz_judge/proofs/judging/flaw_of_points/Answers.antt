@@ -1,5 +1,6 @@
 use Rattle.std.proofs.Common.{◌≡◌, ◌∙◌, sym, Some, None, true, false}
 use Rattle.std.specs.Prelude.{reverse}
+use Rattle.lz_judge.proofs.Flawless.{is_made_tells}
 use Rattle.lz_judge.proofs.Readings.{made_is, only_place, place_point, point_place}
 use Rattle.lz_judge.proofs.judging.flaw_of_points.Goals as goal
 
@@ -32,4 +33,10 @@ returns-clause-none c = λ none. record {
   placed = λ i p at. c.requires.places i ∙ only_place (reverse c.args.points.now) i p (c.in_ok-call.ensures.1.none c.in_default-2.is i) at;
   refused = c.refused_listed.ensures.none c.in_default-refused_listed.is;
   answered = c.unlisted.ensures.none c.in_default-unlisted.is;
+}
+
+pub returns-clause-called : goal.returns-clause-called
+returns-clause-called c = λ none. record {
+  made = λ i p at. is_made_tells (reverse c.args.marks.now) i (sym (c.requires.census.made i) ∙ c.stranger.ensures.none c.in_default.is i p at);
+  once = λ i. c.in_ok-call.ensures.1.none c.in_default-2.is i;
 }

@@ -9,6 +9,8 @@ use Rattle.lz_judge.specs.Flaws.{IsFlaw, IsMisplaced, OrderedChain}
 use Rattle.lz_judge.specs.declared.flaw.Flaw.TheVariants.{WrongReply, WrongSet}
 use Rattle.lz_judge.specs.Passes.{IsAt, Ordered}
 use Rattle.lz_judge.proofs.Readings.{chain_same, known_all, ordered_chain, place_point, places_low, wrong_flaw, wrong_set_flaw}
+use Rattle.lz_judge.proofs.Flawless.{flawless}
+use Rattle.lz_judge.specs.declared.flaw.Flaw.{Flaw}
 use Rattle.lz_judge.proofs.judging.judge.Goals as goal
 
 pub misordered-requires-clause-low : goal.misordered-requires-clause-low
@@ -64,3 +66,17 @@ returns-in-Some-wrong_set-clause-flaw c =
     λ i p. (λ at. place_point (reverse c.points-points.result.now) i p (sym (c.in_ok-places.ensures i) ∙ at), listed.placed i p) in
     subst (λ (h : Record). IsFlaw h (WrongSet c.in-Some-wrong_set.open)) (sym (λ i. record { marks = c.marks-marks.ensures.marks i; points = c.points-points.ensures.points i }))
     (wrong_set_flaw (IsAt c.in_ok-places.places) (IsPoint (reverse c.points-points.result.now)) same (reverse c.marks-marks.result.now) c.in-Some-wrong_set.open (c.in_ok-play.ensures.wrong_set c.in-Some-wrong_set.open c.in-Some-wrong_set.is))
+
+pub returns-clause-flawless : goal.returns-clause-flawless
+returns-clause-flawless c =
+    let marks = reverse c.marks-marks.result.now in
+    let points = reverse c.points-points.result.now in
+    let (T, chain) = c.in_ok-play.ensures.chain c.in_default-wrong_reply.is c.in_default-wrong_set.is in
+    let listed = c.in_ok-flaw.ensures.none c.in_default.is in
+    let known = known_all marks points c.in_ok-places.places c.in_ok-census.census.answers (subst IsLawful c.marks-marks.ensures.marks c.marks-marks.ensures.lawful)
+    c.in_ok-census.ensures.told listed (subst (λ l. Ordered marks c.in_ok-places.places l) c.in_default-2.is c.in_ok-call.ensures) in
+    let same : (i p : ℕ) → IsAt c.in_ok-places.places i p ↔ IsPoint points i p =
+    λ i p. (λ at. place_point points i p (sym (c.in_ok-places.ensures i) ∙ at), listed.placed i p) in
+    subst (λ (h : Record). (flaw : Flaw) → IsFlaw h flaw → ⊥) (sym (λ i. record { marks = c.marks-marks.ensures.marks i; points = c.points-points.ensures.points i }))
+    (flawless (record { marks = marks; points = points }) c.in_ok-places.places c.in_ok-census.census.answers T known listed (c.in_ok-flaw.ensures.called c.in_default.is) same
+    (chain_same (IsAt c.in_ok-places.places) (IsPoint points) same (lives (members []) marks) T chain))

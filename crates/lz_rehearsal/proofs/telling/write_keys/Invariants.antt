@@ -1,6 +1,6 @@
 use Rattle.std.proofs.Common.{take}
 use Rattle.std.specs.Io.KnownBytes.{Appends}
-use Rattle.lz_rehearsal.specs.Tellings.{keys_text}
+use Rattle.lz_slot.specs.MarkTexts.{keys_text}
 use Rattle.lz_rehearsal.proofs.telling.write_keys.Given as goal
 
 abbrev pub invariant-loop-key : goal.invariant-loop-key

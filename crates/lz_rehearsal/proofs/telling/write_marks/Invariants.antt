@@ -1,6 +1,6 @@
 use Rattle.std.proofs.Common.{take}
 use Rattle.std.specs.Io.KnownBytes.{Appends}
-use Rattle.lz_rehearsal.specs.Tellings.{marks_text}
+use Rattle.lz_slot.specs.MarkTexts.{marks_text}
 use Rattle.lz_rehearsal.proofs.telling.write_marks.Given as goal
 
 abbrev pub invariant-loop-mark : goal.invariant-loop-mark

@@ -1,4 +1,5 @@
-use Rattle.std.proofs.Common.{◌≡◌, true, false, refl, sym, ◌∙◌, subst}
+use Rattle.lz_slot.specs.Rooms.{largest_of}
+use Rattle.std.proofs.Common.{◌≡◌, ◌≤◌, rules, true, false, refl, sym, ◌∙◌, subst}
 use Rattle.std.specs.Prelude.{slice_set}
 use Rattle.std.proofs.lemmas.Option.{slice_get_within}
 use Rattle.lz_vault.specs.Stages.{AreSteady}
@@ -40,7 +41,8 @@ insert-requires-clause-free g c = (found_lowest _ _ c.in-Some.slot (c.self.invar
 pub returns-in_default-clause-fault : goal.returns-in_default-clause-fault
 returns-in_default-clause-fault g c =
     let alive = sym c.if-is_dead.ensures.dead in
-    rw (← c.self.view_is) (alive, sym c.find.ensures.known ∙ sym c.if-is_some.ensures, none_free _ _ (c.self.invariant.allotted alive) c.in_default.ensures.slot)
+    let fits : c.args.key ≤ largest_of c.self.inside.vault.memory.format = search rules in
+    rw (← c.self.view_is) (alive, sym c.find.ensures.known ∙ sym c.if-is_some.ensures, none_free _ _ (c.self.invariant.allotted alive) c.in_default.ensures.slot, fits)
 
 pub returns-clause-adds : goal.returns-clause-adds
 returns-clause-adds g c =
@@ -61,7 +63,7 @@ returns-clause-acknowledged g c = rw (← c.self.view_is) (λ S honest each.
     let placed = subst (λ (q : Stage). c.insert.new.vault.memory.cells ≡ slice_set c.self.inside.vault.memory.cells c.in-Some.slot (record { stage = q; key = c.args.key })) come.2 come.1.cells_are in
     let free = (found_lowest _ _ c.in-Some.slot (c.self.invariant.allotted (sym c.if-is_dead.ensures.dead)) c.in-Some.ensures.slot).free in
     let may : MayChange _ _ _ = record { alive = sym c.if-is_dead.ensures.dead; kept = c.self.invariant.plain.kept; steady = c.self.invariant.plain.steady (sym c.if-is_dead.ensures.dead); low = slice_get_within _ _ free.0 free.1 } in
-    (rw absent refl, added_each c.in-Some.slot c.args.key _ _ may free _ _ placed come.1.kept come.1.honest S honest each (not_in _ absent)))
+    (rw absent refl, added_each c.in-Some.slot c.args.key _ _ may free _ _ come.1.format placed come.1.kept come.1.honest S honest each (not_in _ absent)))
 
 pub returns-in_default-clause-full_set : goal.returns-in_default-clause-full_set
 returns-in_default-clause-full_set g c = rw (← c.self.view_is) (λ S honest each full.

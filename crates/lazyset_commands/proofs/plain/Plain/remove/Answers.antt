@@ -81,7 +81,7 @@ returns-clause-acknowledged g c = rw (← c.self.view_is) (λ S honest each.
     let closed = subst (λ (q : Stage). c.erase.new.vault.memory.cells ≡ slice_set c.self.inside.vault.memory.cells c.in-Some.slot (record { stage = q; key = c.args.key })) come.2 come.1.cells_are in
     let found = c.in-Some.ensures.found in
     let may : MayChange _ _ _ = record { alive = sym c.if-is_dead.ensures.dead; kept = c.self.invariant.plain.kept; steady = c.self.invariant.plain.steady (sym c.if-is_dead.ensures.dead); low = slice_get_within _ _ found.0 found.1 } in
-    (rw has refl, removed_each c.in-Some.slot c.args.key _ _ may found _ _ closed come.1.kept come.1.honest S honest each))
+    (rw has refl, removed_each c.in-Some.slot c.args.key _ _ may found _ _ come.1.format closed come.1.kept come.1.honest S honest each))
 
 pub returns-clause-removes : goal.returns-clause-removes
 returns-clause-removes g c =
@@ -97,3 +97,9 @@ returns-clause-honest g c = rw (← c.self.view_is) (c.erase.ensures.come c.args
 
 pub returns-clause-faults : goal.returns-clause-faults
 returns-clause-faults g c = rw (← c.self.view_is) (c.erase.ensures.come c.args.key c.in-Some.ensures.found).1.faults
+
+pub returns-in-Err-clause-format : goal.returns-in-Err-clause-format
+returns-in-Err-clause-format g c = rw (← c.self.view_is) (c.erase.ensures.come c.args.key c.in-Some.ensures.found).1.format
+
+pub returns-clause-format : goal.returns-clause-format
+returns-clause-format g c = rw (← c.self.view_is) (c.erase.ensures.come c.args.key c.in-Some.ensures.found).1.format

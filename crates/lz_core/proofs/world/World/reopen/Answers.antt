@@ -38,7 +38,7 @@ pub returns : goal.returns
 returns c = record {
   ok = rw (← c.self.view_is)
       (still_down (record { slots = c.self.inside.slots; buckets = c.self.inside.buckets; passes = 64 }) c.self.inside.yard c.self.inside.disk c.self.inside.callers.items c.self.inside.calls c.in-Some.disk
-      (sym c.take.ensures.value ∙ c.in-Some.is) c.self.invariant c.in-Err.refused.disk c.in-Err.refused.fault c.in-Err.ensures.err c.number.result);
+      (sym c.take.ensures.value ∙ c.in-Some.is) c.self.invariant c.in-Err.refused.disk c.in-Err.refused.fault c.in-Err.ensures.err c.number.result c.number.ensures);
   not_now = λ i is. absurd (done_apart _ _ is);
   memory = λ is. absurd (done_apart _ _ is);
 }

@@ -4,20 +4,17 @@ use Rattle.lz_disk.specs.Images.{Medium, AreBytes}
 use Rattle.lz_list.specs.Lists.{IsWord}
 use Rattle.lz_yard.specs.declared.told.Told.{Told}
 use Rattle.lz_yard.proofs.Founding.{opened_fits}
-use Rattle.lz_yard.proofs.Opened.{first_yard, refused_for}
+use Rattle.lz_yard.proofs.Opened.{first_yard}
 use Rattle.lz_yard.proofs.yard.Yard.open.Goals as goal
 
 pub invariant_of-result : goal.invariant_of-result
 invariant_of-result g c = (
-  opened_fits _ _ _ _ _ _ _ c.in-Ok-of.ensures c.slots.ensures.count c.in_ok-vault.ensures.ok.fresh.0,
-  subst (λ (told : Told). IfSome told.changed (IsWord c.in-Ok-of.tables.list.words)) (sym c.nothing_told.ensures) tt,
+  opened_fits _ _ _ _ _ _ _ c.in-Ok.ensures c.slots.ensures.count c.in_ok-vault.ensures.ok.fresh.0,
+  subst (λ (told : Told). IfSome told.changed (IsWord c.in-Ok.tables.list.words)) (sym c.nothing_told.ensures) tt,
 )
 
-pub returns-in-Err-clause-err : goal.returns-in-Err-clause-err
-returns-in-Err-clause-err g c = rw c.close.ensures (refused_for _ _ _ _ c.in_ok-vault.ensures.ok c.in-Err.ensures.err)
-
-pub returns-in-Ok-of-clause-ok : goal.returns-in-Ok-of-clause-ok
-returns-in-Ok-of-clause-ok g c =
+pub returns-in-Ok-clause-ok : goal.returns-in-Ok-clause-ok
+returns-in-Ok-clause-ok g c =
     let opens = c.in_ok-vault.ensures.ok in
     let count = c.slots.ensures.count in
     let bytes = λ (honest : IsTrue (g.D.Disk.device c.args.disk).honest).
@@ -26,6 +23,6 @@ returns-in-Ok-of-clause-ok g c =
       vault = opens;
       buckets = refl;
       passes = refl;
-      first = first_yard _ _ _ _ _ _ c.in-Ok-of.ensures opens.fresh opens.blank c.requires.buckets c.requires.passes (rw count at c.slots.ensures.range) _ count (g.D.Disk.device c.args.disk)
+      first = first_yard _ _ _ _ _ _ c.in-Ok.ensures opens.fresh opens.blank c.requires.buckets c.requires.passes (rw count at c.slots.ensures.range) _ count (g.D.Disk.device c.args.disk)
           c.slots.ensures.kept.keys opens.steady opens.found opens.format (λ honest. subst AreBytes (bytes honest) (opens.kept honest).sound.seen.bytes);
     }

@@ -1,0 +1,195 @@
+-- The traces of a board of two slots: key 9 found in slot 0, then 12 linked in slot 1, settled, and the halt.
+use Rattle.std.proofs.Common.{◌≡◌, ◌≢◌, inl, inr, ℕ, zero, suc, ◌+◌, ◌^◌, ◌<◌, ◌==◌, if◌then◌else◌, Bool, true, false, [], ◌∷◌, Option, Some, Result, Ok, Err, IfOk, IfErr, refl, sym, ap, ◌∙◌, subst, arith}
+use mathlib.Core.Bool.{false≢true}
+use Rattle.lz_list.specs.declared.word.Word.{Word}
+use Rattle.lz_list.specs.declared.word.Word.TheVariants.{Head, Link, Key, Pin as PinOf, Halt}
+use Rattle.lz_list.specs.declared.publishing.Change.TheVariants.{Added}
+use Rattle.lz_list.specs.declared.publishing.Publishing.TheVariants.{Linked as linked, Settled as settled, KeyPrepared as key_prepared, LinkPrepared as link_prepared, Halted as halted}
+use Rattle.lz_list.specs.Words.{Words, set}
+use Rattle.lz_list.specs.Lists.{new_words}
+use Rattle.lz_list.specs.Traces.{Trace, insert, on, chain, bucket_of, word_after, IsLoose, MayLink, Lawful}
+use Rattle.lz_list.specs.Pinned.{Stood}
+use Rattle.lz_list.proofs.Openings.{opening_lawful}
+use Rattle.lz_machine.specs.Limbo.{IsAway}
+use Rattle.lz_board.specs.declared.view.Sizes.{Sizes}
+use Rattle.lz_board.specs.declared.view.Part.{Part}
+use Rattle.lz_board.specs.declared.answer.Glance.{Glance}
+use Rattle.lz_board.specs.declared.answer.Glance.TheVariants.{Yes, No, Unsettled}
+use Rattle.lz_board.specs.declared.answer.GlanceFault.{GlanceFault}
+use Rattle.lz_board.specs.declared.answer.GlanceFault.TheVariants.{Halted, Worn, BusyPass}
+use Rattle.lz_board.specs.Notes.{IsShared}
+use Rattle.lz_board.specs.Kept.{IsInside}
+use Rattle.lz_board.specs.Noting.{Writes}
+use Rattle.lz_board.specs.Opened.{shown_in, opened_by, IsOpened}
+use Rattle.lz_board.specs.Glances.{Turns}
+use Rattle.lz_board.specs.Laws.{Prepares}
+
+abbrev pub sizes : Sizes
+sizes = record { slots = 2; buckets = 1; passes = 2 }
+
+abbrev pub nine_words : Words
+nine_words = set (set (set (new_words 2 1 2) (Key 0) 9) (Link 0) (2 ^ 33)) (Head 0) 1
+
+pub nine_opened : IsOpened nine_words
+unfolding bucket_of
+nine_opened = record { found = (omega arith, refl, refl, tt); words = refl }
+
+abbrev pub T0 : Trace
+T0 = opened_by nine_words
+
+abbrev pub T1 : Trace
+T1 = key_prepared 1 12 ∷ T0
+
+abbrev pub T2 : Trace
+T2 = link_prepared 1 0 ∷ T1
+
+abbrev pub T3 : ℕ → Trace
+T3 p = linked 12 1 p ∷ T2
+
+abbrev pub T4 : ℕ → Trace
+T4 p = settled 1 Added ∷ T3 p
+
+-- slot 1 stands on no chain before 12 is linked
+off : (t : Bool) → on 0 (if t then insert 9 0 [] else []) 2 ≡ false
+off true = refl
+off false = refl
+
+loose : IsLoose 1 1 T0
+loose b = off (bucket_of 1 9 == b)
+
+clash : (t : Bool) → on 0 (if t then insert 9 0 [] else []) 2 ≡ true → ⊥
+clash t is = absurd (false≢true (sym (off t) ∙ is))
+
+away : (b : ℕ) → Stood 1 b T0 T0 2 → ⊥
+away b (inl h) = clash (bucket_of 1 9 == b) h.1
+away b (inr (inl h)) = clash (bucket_of 1 9 == b) h.1
+away b (inr (inr (inl h))) = absurd (false≢true h.1)
+away b (inr (inr (inr (inl h)))) = absurd (false≢true h.1)
+away b (inr (inr (inr (inr h)))) = absurd (false≢true h.1)
+
+away_later : (b : ℕ) → Stood 1 b T0 T1 2 → ⊥
+away_later b (inl h) = clash (bucket_of 1 9 == b) h.1
+away_later b (inr h) = away b h
+
+-- each trace is lawful
+law0 : Lawful 1 2 T0
+law0 = opening_lawful 1 2 (shown_in nine_words 2) nine_opened.found
+
+law2 : Lawful 1 2 T2
+law2 = (loose, (loose, law0))
+
+may_link : MayLink 1 2 12 1 T2
+unfolding bucket_of
+may_link = record { in_range = omega arith; loose = loose; no_member = refl; no_node = refl; key = refl; link = refl; no_mark = refl; not_added = refl; not_removed = refl }
+
+law4 : (p : ℕ) → Lawful 1 2 (T4 p)
+law4 p = (tt, (may_link, law2))
+
+-- each word is stored as the trace has it
+key_written : Writes sizes T0 (Key 1) 0 12 (Some (key_prepared 1 12))
+key_written = record { shared = omega arith; word = refl; others = others }
+  where
+    others : (v : Word) → IsShared sizes v → v ≢ Key 1 → word_after 1 T1 v ≡ word_after 1 T0 v
+    others (Head b) h ne = refl
+    others (Link s) h ne = refl
+    others (Key zero) h ne = refl
+    others (Key (suc zero)) h ne = absurd (ne refl)
+    others (Key (suc (suc s))) h ne = let l : suc (suc s) < 2 = h in absurd (omega (arith, l))
+    others (PinOf p) h ne = absurd h
+    others Halt h ne = refl
+
+link_written : Writes sizes T1 (Link 1) 0 0 (Some (link_prepared 1 0))
+link_written = record { shared = omega arith; word = refl; others = others }
+  where
+    others : (v : Word) → IsShared sizes v → v ≢ Link 1 → word_after 1 T2 v ≡ word_after 1 T1 v
+    others (Head b) h ne = refl
+    others (Link zero) h ne = refl
+    others (Link (suc zero)) h ne = absurd (ne refl)
+    others (Link (suc (suc s))) h ne = let l : suc (suc s) < 2 = h in absurd (omega (arith, l))
+    others (Key s) h ne = refl
+    others (PinOf p) h ne = absurd h
+    others Halt h ne = refl
+
+others_linked : (p : ℕ) (v : Word) → IsShared sizes v → v ≢ Link 0 → word_after 1 (T3 p) v ≡ word_after 1 T2 v
+unfolding bucket_of
+others_linked p (Head b) h ne = refl
+others_linked p (Link zero) h ne = absurd (ne refl)
+others_linked p (Link (suc zero)) h ne = refl
+others_linked p (Link (suc (suc s))) h ne = let l : suc (suc s) < 2 = h in absurd (omega (arith, l))
+others_linked p (Key s) h ne = refl
+others_linked p (PinOf q) h ne = absurd h
+others_linked p Halt h ne = refl
+
+linked_written : (p : ℕ) → Writes sizes T2 (Link 0) 8589934592 8589934594 (Some (linked 12 1 p))
+unfolding bucket_of
+linked_written p = record { shared = omega arith; word = refl; others = others_linked p }
+
+others_settled : (p : ℕ) (v : Word) → IsShared sizes v → v ≢ Link 1 → word_after 1 (T4 p) v ≡ word_after 1 (T3 p) v
+others_settled p (Head b) h ne = refl
+others_settled p (Link zero) h ne = refl
+others_settled p (Link (suc zero)) h ne = absurd (ne refl)
+others_settled p (Link (suc (suc s))) h ne = let l : suc (suc s) < 2 = h in absurd (omega (arith, l))
+others_settled p (Key s) h ne = refl
+others_settled p (PinOf q) h ne = absurd h
+others_settled p Halt h ne = refl
+
+settled_written : (p : ℕ) → Writes sizes (T3 p) (Link 1) 0 8589934592 (Some (settled 1 Added))
+unfolding bucket_of
+settled_written p = record { shared = omega arith; word = refl; others = others_settled p }
+
+halt_written : (p : ℕ) → Writes sizes (T4 p) Halt 0 1 (Some halted)
+halt_written p = record { shared = tt; word = refl; others = others }
+  where
+    others : (v : Word) → IsShared sizes v → v ≢ Halt → word_after 1 (halted ∷ T4 p) v ≡ word_after 1 (T4 p) v
+    others (Head b) h ne = refl
+    others (Link s) h ne = refl
+    others (Key s) h ne = refl
+    others (PinOf q) h ne = absurd h
+    others Halt h ne = absurd (ne refl)
+
+-- The same where sizes, trace, slot and key are known by equations.
+module _ (y : Sizes) (opened P : Trace) (s k : ℕ) (sized : y ≡ sizes) (slot : s ≡ 1) (key : k ≡ 12) where
+  pub writes_key : P ≡ T0 → Writes y P (Key s) 0 12 (Some (key_prepared s k))
+  writes_key is = subst (λ (x : Sizes × Trace × ℕ × ℕ). Writes x.0 x.1 (Key x.2) 0 12 (Some (key_prepared x.2 x.3))) (λ i. (sym sized i, sym is i, sym slot i, sym key i)) key_written
+
+  pub lawful_key : P ≡ T0 → Lawful y.buckets y.slots (key_prepared s k ∷ P)
+  lawful_key is = subst (λ (x : Sizes × Trace × ℕ × ℕ). Lawful x.0.buckets x.0.slots (key_prepared x.2 x.3 ∷ x.1)) (λ i. (sym sized i, sym is i, sym slot i, sym key i)) (loose, law0)
+
+  pub leaves_key : opened ≡ T0 → P ≡ T0 → (t : ℕ) → Prepares t (key_prepared s k) → IsAway y.buckets opened P t
+  leaves_key first is t at = subst (λ (x : Sizes × Trace × Trace × ℕ). IsAway x.0.buckets x.1 x.2 x.3) (λ i. (sym sized i, sym first i, sym is i, (sym slot ∙ at) i)) away
+
+  pub writes_link : P ≡ T1 → Writes y P (Link s) 0 0 (Some (link_prepared s 0))
+  writes_link is = subst (λ (x : Sizes × Trace × ℕ). Writes x.0 x.1 (Link x.2) 0 0 (Some (link_prepared x.2 0))) (λ i. (sym sized i, sym is i, sym slot i)) link_written
+
+  pub lawful_link : P ≡ T1 → Lawful y.buckets y.slots (link_prepared s 0 ∷ P)
+  lawful_link is = subst (λ (x : Sizes × Trace × ℕ). Lawful x.0.buckets x.0.slots (link_prepared x.2 0 ∷ x.1)) (λ i. (sym sized i, sym is i, sym slot i)) law2
+
+  pub leaves_link : opened ≡ T0 → P ≡ T1 → (t : ℕ) → Prepares t (link_prepared s 0) → IsAway y.buckets opened P t
+  leaves_link first is t at = subst (λ (x : Sizes × Trace × Trace × ℕ). IsAway x.0.buckets x.1 x.2 x.3) (λ i. (sym sized i, sym first i, sym is i, (sym slot ∙ at) i)) away_later
+
+  pub writes_linked : (p zero_slot : ℕ) → zero_slot ≡ 0 → P ≡ T2 → Writes y P (Link zero_slot) 8589934592 8589934594 (Some (linked k s p))
+  writes_linked p zero_slot none is = subst (λ (x : Sizes × Trace × ℕ × ℕ × ℕ). Writes x.0 x.1 (Link x.4) 8589934592 8589934594 (Some (linked x.3 x.2 p))) (λ i. (sym sized i, sym is i, sym slot i, sym key i, sym none i)) (linked_written p)
+
+  pub lawful_linked : (p : ℕ) → P ≡ T2 → Lawful y.buckets y.slots (linked k s p ∷ P)
+  lawful_linked p is = subst (λ (x : Sizes × Trace × ℕ × ℕ). Lawful x.0.buckets x.0.slots (linked x.3 x.2 p ∷ x.1)) (λ i. (sym sized i, sym is i, sym slot i, sym key i)) (may_link, law2)
+
+  pub writes_settled : (p : ℕ) → P ≡ T3 p → Writes y P (Link s) 0 8589934592 (Some (settled s Added))
+  writes_settled p is = subst (λ (x : Sizes × Trace × ℕ). Writes x.0 x.1 (Link x.2) 0 8589934592 (Some (settled x.2 Added))) (λ i. (sym sized i, sym is i, sym slot i)) (settled_written p)
+
+  pub lawful_settled : (p : ℕ) → P ≡ T3 p → Lawful y.buckets y.slots (settled s Added ∷ P)
+  lawful_settled p is = subst (λ (x : Sizes × Trace × ℕ). Lawful x.0.buckets x.0.slots (settled x.2 Added ∷ x.1)) (λ i. (sym sized i, sym is i, sym slot i)) (law4 p)
+
+  pub writes_halt : (p : ℕ) → P ≡ T4 p → Writes y P Halt 0 1 (Some halted)
+  writes_halt p is = subst (λ (x : Sizes × Trace). Writes x.0 x.1 Halt 0 1 (Some halted)) (λ i. (sym sized i, sym is i)) (halt_written p)
+
+  pub lawful_halt : (p : ℕ) → P ≡ T4 p → Lawful y.buckets y.slots (halted ∷ P)
+  lawful_halt p is = subst (λ (x : Sizes × Trace). Lawful x.0.buckets x.0.slots (halted ∷ x.1)) (λ i. (sym sized i, sym is i)) (tt, law4 p)
+
+-- a pass that was inside before a glance is inside after it
+pub inside_after : (r : Result Glance GlanceFault) (before after : Part) → Turns r before after → IsInside before.pin → IsInside after.pin
+inside_after (Ok Yes) before after turns inside = omega (arith, turns, inside)
+inside_after (Ok No) before after turns inside = omega (arith, turns, inside)
+inside_after (Ok (Unsettled s)) before after turns inside = omega (arith, turns, inside)
+inside_after (Err Halted) before after turns inside = omega (arith, turns, inside)
+inside_after (Err Worn) before after turns inside = subst (λ (h : Part). IsInside h.pin) (sym turns) inside
+inside_after (Err BusyPass) before after turns inside = subst (λ (h : Part). IsInside h.pin) (sym turns) inside

@@ -1,0 +1,5 @@
+use Rattle.lz_judge.proofs.MarkLines as proved
+use Rattle.lz_judge.proofs.laws.histories_read_back.Goals as goal
+
+pub returns : goal.returns
+returns c = proved.histories_read_back

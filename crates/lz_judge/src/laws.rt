@@ -1,0 +1,12 @@
+//! Laws of lines. Each function is one law.
+ghost use Rattle.lz_judge.specs.MarkLines.{HistoriesReadBack, MarksReadBack};
+
+/// The line that is written of a mark says the mark.
+pub fn marks_read_back()
+    ensures { MarksReadBack }
+{}
+
+/// The lines that are written of a run are its history.
+pub fn histories_read_back()
+    ensures { HistoriesReadBack }
+{}

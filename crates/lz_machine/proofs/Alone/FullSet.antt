@@ -1,0 +1,202 @@
+-- In a set of one pass an adding that finds no slot, once it has seen all pins, finds as many members as there are slots.
+use Rattle.std.proofs.Common.{◌≡◌, inl, inr, ℕ, zero, suc, ◌<◌, ◌≤◌, not, Bool, true, false, List, [], ◌∷◌, ◌++◌, length, Option, Some, None, refl, sym, ap, ◌∙◌, subst, arith}
+use Rattle.std.specs.Prelude.{◌||◌, ◌==◌, nat_eq}
+use Rattle.std.specs.List.{list_any, IsDistinct}
+use Rattle.std.specs.Cmp.{nat_eq_equiv}
+use mathlib.Core.Bool.{false≢true}
+use Rattle.std.proofs.lemmas.Map.Keys.{IsDistinct-push}
+use Rattle.std.proofs.lemmas.Bool.{cases_Bool, cases_eq, or_left, or_right}
+use Rattle.std.proofs.lemmas.Bool.Decides.{nat_tests}
+use Rattle.std.proofs.lemmas.List.{length-append}
+use Rattle.std.proofs.lemmas.Option.{none-some}
+use Rattle.lz_slot.specs.declared.command.Command.{Command}
+use Rattle.lz_slot.specs.declared.command.Command.TheVariants.{Add, Remove, Has}
+use Rattle.lz_slot.specs.Sets.{members}
+use Rattle.lz_slot.specs.Histories.{History, Life, lives}
+use Rattle.lz_disk.specs.Images.{Medium}
+use Rattle.lz_allot.specs.Uses.{collect, lowest_free}
+use Rattle.lz_list.specs.Traces.{Trace, on, chain_of, key_word, member, is_marked}
+use Rattle.lz_list.proofs.Nodes.{node}
+use Rattle.lz_machine.specs.declared.actor.Hold.TheVariants.{Nothing}
+use Rattle.lz_machine.specs.declared.caller.Progress.{Progress}
+use Rattle.lz_machine.specs.declared.caller.Progress.TheVariants.{Reserving}
+use Rattle.lz_machine.specs.Yards.{Yard}
+use Rattle.lz_machine.specs.Alone.{IsOwn, IsAlone, HasMembers, FullOfOnePass}
+use Rattle.lz_machine.specs.Runs.{Start, IsStart, Caller, Service, State, Up, Down, Step, Calls, Turn, Fails, Looks, Trips, Stops, Crashes, CrashesIn, Opens, OpenFails, Point, MayStep, HasTurn, HasFault, LeftInside, IsRun, run, first_point, caller_at, start_keys, shape_of}
+use Rattle.lz_machine.specs.Sound.{Notes, actor_in, Sound, PointSound, IsAdder, view_of, Relies}
+use Rattle.lz_machine.proofs.Steps.Trip.{point}
+use Rattle.lz_machine.proofs.Frames.OneActor.{caller_range, mine}
+use Rattle.lz_machine.proofs.Crash.ImageSlots.{member_node, one_node_slot}
+use Rattle.lz_machine.proofs.Theorem.Reached.{reached_sound}
+use Rattle.lz_machine.proofs.Theorem.Timeliness.{up_at}
+use Rattle.lz_machine.proofs.Runs.Shape.{run_keeps_shape}
+use Rattle.lz_machine.proofs.Alone.Full.{AloneFull, LeftBelow, WalkStands, all_nodes}
+use Rattle.lz_machine.proofs.Alone.Room.{FullAt, reached_full}
+use Rattle.lz_machine.proofs.Alone.Size.{members_append, members_among, none_distinct}
+
+-- an actor of a service of one pass is the first
+module _ (service : Service) (count : length service.callers ≡ 1) (b : ℕ) where
+  one_caller : (caller : Caller) → caller_at service.callers b ≡ Some caller → b ≡ 1
+  one_caller caller at = let range = caller_range service.callers b caller at in omega (arith, range.0, range.1, count)
+
+  one_turn : (who : Option Caller) → caller_at service.callers b ≡ who → HasTurn service b who → b ≡ 1
+  one_turn None at may = absurd may
+  one_turn (Some caller) at may = one_caller caller at
+
+  one_fault : (disk new : Medium) (who : Option Caller) → caller_at service.callers b ≡ who → HasFault service disk b who new → b ≡ 1
+  one_fault disk new None at may = absurd may
+  one_fault disk new (Some caller) at may = one_caller caller at
+
+  one_crash : (disk : Medium) (t : List ℕ) (who : Option Caller) → caller_at service.callers b ≡ who → LeftInside service disk b who t → b ≡ 1
+  one_crash disk t None at may = absurd may
+  one_crash disk t (Some caller) at may = one_caller caller at
+
+own_up : (service : Service) (disk : Medium) (step : Step) → service.yard.shape.passes ≡ 1 → length service.callers ≡ 1 → MayStep (Up service disk) step → IsOwn 1 step
+own_up service disk (Calls b c) one count may = omega (arith, may.0.0, may.0.1, one)
+own_up service disk (Turn b) one count may = one_turn service count b (caller_at service.callers b) refl may
+own_up service disk (Fails b new) one count may = one_fault service count b disk new (caller_at service.callers b) refl may
+own_up service disk (Looks b) one count may = omega (arith, may.0.0, may.0.1, one)
+own_up service disk (CrashesIn b t) one count may = one_crash service count b disk t (caller_at service.callers b) refl may
+own_up service disk Trips one count may = tt
+own_up service disk Stops one count may = tt
+own_up service disk (Crashes t) one count may = tt
+own_up service disk Opens one count may = tt
+own_up service disk (OpenFails why done) one count may = tt
+
+own_step : (start : Start) (w : State) (M : History) (P : Trace) (calls : ℕ) (step : Step) → start.shape.passes ≡ 1 → MayStep w step → (L : List Life) → PointSound start (point w M P calls) L → IsOwn 1 step
+own_step start w M P calls step one may [] sound = absurd sound
+own_step start (Up service disk) M P calls step one may (life ∷ earlier) sound =
+    let passes : service.yard.shape.passes ≡ 1 = ap (λ shape. shape.passes) sound.0 ∙ one in
+    own_up service disk step passes (sound.2.2.sound.callers.count ∙ passes) may
+own_step start (Down shape disk) M P calls (Calls b c) one may (life ∷ earlier) sound = absurd may
+own_step start (Down shape disk) M P calls (Turn b) one may (life ∷ earlier) sound = absurd may
+own_step start (Down shape disk) M P calls (Fails b new) one may (life ∷ earlier) sound = absurd may
+own_step start (Down shape disk) M P calls (Looks b) one may (life ∷ earlier) sound = absurd may
+own_step start (Down shape disk) M P calls (CrashesIn b t) one may (life ∷ earlier) sound = absurd may
+own_step start (Down shape disk) M P calls _ one may (life ∷ earlier) sound = tt
+
+-- so each run of one pass is its only actor's
+alone : (start : Start) (steps : List Step) → IsStart start → start.shape.passes ≡ 1 → IsRun (first_point start) steps → IsAlone 1 steps
+alone start [] is one runs = tt
+alone start (step ∷ steps) is one runs =
+    let p = run (first_point start) steps in
+    (own_step start p.state p.marks p.trace p.calls step one runs.0 (lives (start_keys start) p.marks) (reached_sound start steps is runs.1), alone start steps is one runs.1)
+
+-- the key words of the first n slots
+abbrev keys_of : Trace → ℕ → List ℕ
+keys_of P zero = []
+keys_of P (suc n) = keys_of P n ++ key_word n P ∷ []
+
+module _ (n calls : ℕ) (y : Yard) (callers : List (Option Caller)) (disk : Medium) (M : History) (P : Trace) (notes : Notes) (sound : Sound n calls y callers disk M P notes)
+    (nodes : (s : ℕ) → s < y.shape.slots → (on 0 (chain_of y.shape.buckets (key_word s P) P) (suc s) ≡ true) × (is_marked s P ≡ false)) where
+  count : (m : ℕ) → length (keys_of P m) ≡ m
+  count zero = refl
+  count (suc m) = omega (arith, count m, length-append (keys_of P m) (key_word m P ∷ []))
+
+  -- a key among them is a slot's
+  has_slot : (m q : ℕ) → members (keys_of P m) q ≡ true → (s : ℕ) × (s < m) × (key_word s P ≡ q)
+  has_slot zero q is = absurd (false≢true is)
+  has_slot (suc m) q is = elim (cases_Bool (members (keys_of P m) q)) [
+    | inl there ↦ let at = has_slot m q there in (at.0, omega (arith, at.1), at.2)
+    | inr none ↦ (m, omega arith, last none)
+  ]
+    where
+      last : members (keys_of P m) q ≡ false → key_word m P ≡ q
+      last none = grind (arith, nat_tests, none, is, members_append (keys_of P m) (key_word m P ∷ []) q)
+
+  slot_has : (m s : ℕ) → s < m → members (keys_of P m) (key_word s P) ≡ true
+  slot_has zero s lt = absurd (omega (arith, lt))
+  slot_has (suc m) s lt = members_append (keys_of P m) (key_word m P ∷ []) (key_word s P) ∙ elim (cases_eq s m) [
+    | inl same ↦ or_right (members (keys_of P m) (key_word s P)) (members (key_word m P ∷ []) (key_word s P)) (is_last same)
+    | inr other ↦ or_left (members (keys_of P m) (key_word s P)) (members (key_word m P ∷ []) (key_word s P)) (slot_has m s (omega (arith, lt, other)))
+  ]
+    where
+      is_last : s ≡ m → members (key_word m P ∷ []) (key_word s P) ≡ true
+      is_last same = subst (λ (q : ℕ). members (key_word q P ∷ []) (key_word s P) ≡ true) same (grind (arith, nat_tests))
+
+  abbrev N : ℕ
+  N = y.shape.slots
+
+  -- no key stands twice
+  distinct : (m : ℕ) → m ≤ N → IsDistinct nat_eq (keys_of P m)
+  distinct zero le = none_distinct
+  distinct (suc m) le = IsDistinct-push nat_eq_equiv (keys_of P m) (key_word m P) (distinct m (omega (arith, le))) (fresh (list_any (nat_eq (key_word m P)) (keys_of P m)) refl)
+    where
+      fresh : (b : Bool) → list_any (nat_eq (key_word m P)) (keys_of P m) ≡ b → list_any (nat_eq (key_word m P)) (keys_of P m) ≡ false
+      fresh false is = is
+      fresh true is =
+          let at = has_slot m (key_word m P) (members_among (keys_of P m) (key_word m P) ∙ is) in
+          let here = (nodes m (omega (arith, le))).0 in
+          let there : on 0 (chain_of y.shape.buckets (key_word m P) P) (suc at.0) ≡ true = subst (λ (q : ℕ). on 0 (chain_of y.shape.buckets q P) (suc at.0) ≡ true) at.2 (nodes at.0 (omega (arith, at.1, le))).0 in
+          absurd (omega (arith, at.1, one_node_slot n calls y callers disk M P notes sound at.0 m (key_word m P) (there, at.2) (here, refl)))
+
+  -- they are the members
+  all : (q : ℕ) → member q P ≡ members (keys_of P N) q
+  all q = elim (cases_Bool (member q P)) [
+    | inl is ↦
+        let at = member_node n calls y callers disk M P notes sound q is in
+        is ∙ sym (subst (λ (k : ℕ). members (keys_of P N) k ≡ true) at.2.1 (slot_has N at.0 at.1))
+    | inr none ↦ none ∙ sym (lacks (members (keys_of P N) q) refl none)
+  ]
+    where
+      lacks : (b : Bool) → members (keys_of P N) q ≡ b → member q P ≡ false → members (keys_of P N) q ≡ false
+      lacks false is none = is
+      lacks true is none =
+          let at = has_slot N q is in
+          let here = nodes at.0 at.1 in
+          let there : on 0 (chain_of y.shape.buckets q P) (suc at.0) ≡ true = subst (λ (k : ℕ). on 0 (chain_of y.shape.buckets k P) (suc at.0) ≡ true) at.2 here.0 in
+          let is_member : member q P ≡ true = (node y.shape.buckets y.shape.slots q at.0 P sound.trace.lawful there at.2).is_member ∙ ap not here.1 in
+          absurd (false≢true (sym none ∙ is_member))
+
+  pub full_of : HasMembers (λ k. member k P) N
+  full_of = record { keys = keys_of P N; count = count N; distinct = distinct N (omega arith); all = all }
+
+-- the adding at a sound point
+module _ (service : Service) (disk : Medium) (P : Trace) (a : ℕ) (caller : Caller) (one : service.yard.shape.passes ≡ 1) (at : caller_at service.callers a ≡ Some caller) (asks : caller.progress ≡ Reserving true)
+    (none : lowest_free (collect service.yard.uses) ≡ None) (n calls : ℕ) (H : History) (notes : Notes) (sound : Sound n calls service.yard service.callers disk H P notes) where
+  abbrev y : Yard
+  y = service.yard
+
+  abbrev Rests : Progress → Type 0
+  Rests progress = Relies (view_of y.shape y.vault y.actors a) caller.command progress (notes.begun a) P (notes.changed a)
+
+  nodes_here : AloneFull a y (Some caller) P → Rests (Reserving true) → WalkStands y P (Reserving true) caller.command → (s : ℕ) → s < y.shape.slots → (on 0 (chain_of y.shape.buckets (key_word s P) P) (suc s) ≡ true) × (is_marked s P ≡ false)
+  nodes_here h rely stands s lt =
+      let own = all_nodes n calls y service.callers disk H P notes sound holds slots (left caller.command rely.2 stands) none s lt in
+      (own.0.there, own.1)
+    where
+      holds : (b : ℕ) → (actor_in y.actors b).hold ≡ Nothing
+      holds b = elim (cases_eq b a) [
+        | inl same ↦ ap (λ (q : ℕ). (actor_in y.actors q).hold) same ∙ rely.0.hold
+        | inr other ↦ (h.others b other).hold
+      ]
+
+      slots : (b : ℕ) → (actor_in y.actors b).slot ≡ None
+      slots b = elim (cases_eq b a) [
+        | inl same ↦ ap (λ (q : ℕ). (actor_in y.actors q).slot) same ∙ rely.1
+        | inr other ↦ (h.others b other).slot
+      ]
+
+      left : (c : Command) → IsAdder c → WalkStands y P (Reserving true) c → LeftBelow y.uses (suc y.shape.passes)
+      left (Add k) adder stands = stands.1
+      left (Remove k) adder stands = absurd adder
+      left (Has k) adder stands = absurd adder
+
+  full_here : FullAt 1 (Up service disk) P → HasMembers (λ k. member k P) y.shape.slots
+  full_here full =
+      let first : 1 ≡ a = sym (one_caller service (sound.callers.count ∙ one) a caller at) in
+      let h : AloneFull a y (Some caller) P = subst (λ (who : Option Caller). AloneFull a y who P) at (subst (λ (b : ℕ). AloneFull b y (caller_at service.callers b) P) first full) in
+      let rely : Rests (Reserving true) = subst Rests asks (mine y.shape y.vault y.words.pins y.actors service.callers P notes a caller at sound.callers).stands.2 in
+      let stands : WalkStands y P (Reserving true) caller.command = subst (λ (progress : Progress). WalkStands y P progress caller.command) asks h.stands in
+      full_of n calls y service.callers disk H P notes sound (nodes_here h rely stands)
+
+pub full_of_one_pass : FullOfOnePass
+full_of_one_pass start service disk M P a caller reached one at asks none =
+    let p = run (first_point start) reached.steps in
+    let sound = reached_sound start reached.steps reached.starts reached.runs in
+    let here = up_at start p service disk sound reached.state in
+    full_here service disk P a caller one at asks none here.n p.calls here.life.history here.notes (subst (λ (Q : Trace). Sound here.n p.calls service.yard service.callers disk here.life.history Q here.notes) reached.trace here.up.sound)
+    (subst (λ (Q : Trace). FullAt 1 (Up service disk) Q) reached.trace (subst (λ (w : State). FullAt 1 w p.trace) reached.state (reached_full start reached.steps 1 reached.starts reached.runs (alone start reached.steps reached.starts one_start reached.runs))))
+  where
+    one_start : start.shape.passes ≡ 1
+    one_start = ap (λ shape. shape.passes) (sym (run_keeps_shape (first_point start) reached.steps) ∙ ap shape_of reached.state) ∙ one

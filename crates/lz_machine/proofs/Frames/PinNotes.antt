@@ -1,0 +1,45 @@
+-- What is noted of a pass when it goes in: the trace as it was.
+use Rattle.std.proofs.Common.{◌≡◌, ◌≢◌, inl, inr, ℕ, ◌+◌, ◌≤◌, ◌%◌, ◌==◌, if◌then◌else◌, Bool, true, false, List, length, refl, sym, ap, ◌∙◌, subst, arith}
+use Rattle.std.proofs.lemmas.Bool.{cases_eq}
+use Rattle.std.proofs.lemmas.Bool.Decides.{nat_tests}
+use Rattle.lz_slot.specs.Counted.{set_of_pass}
+use Rattle.lz_slot.proofs.Counted.{of_pass_same, of_pass_other}
+use Rattle.lz_list.specs.Traces.{Trace}
+use Rattle.lz_machine.specs.Sound.{IsInside, pin_in}
+
+-- Of a pass that is inside now the note is that of before, and of one that has gone in it is the trace P.
+abbrev pub IsNoted : List ℕ → List ℕ → Trace → (ℕ → Trace) → (ℕ → Trace) → Type 0
+IsNoted pins new P begun noted = (b : ℕ) → IsInside (pin_in new b) → (IsInside (pin_in pins b) → noted b ≡ begun b) × (pin_in pins b % 2 ≡ 0 → noted b ≡ P)
+
+-- the pins stay
+pub noted_same : (pins new : List ℕ) (P : Trace) (begun : ℕ → Trace) → new ≡ pins → IsNoted pins new P begun begun
+noted_same pins new P begun same b inside =
+    let was : IsInside (pin_in pins b) = subst (λ (q : List ℕ). IsInside (pin_in q b)) same inside in
+    ((λ still. refl), λ even. absurd (omega (arith, was, even)))
+
+module _ (pins : List ℕ) (a : ℕ) (P : Trace) (begun : ℕ → Trace) where
+  abbrev counted : List ℕ
+  counted = set_of_pass pins a (pin_in pins a + 1)
+
+  other_pin : (b : ℕ) → b ≢ a → IsInside (pin_in counted b) → IsInside (pin_in pins b)
+  other_pin b other inside = subst IsInside (of_pass_other pins a b (pin_in pins a + 1) 0 other) inside
+
+  -- the pass goes in
+  pub noted_in : pin_in pins a % 2 ≡ 0 → IsNoted pins counted P begun (λ b. if b == a then P else begun b)
+  noted_in even b inside = elim (cases_eq b a) [
+    | inl same ↦
+        let is : (b == a) ≡ true = grind (arith, nat_tests, same) in
+        ((λ was. absurd (omega (arith, was, even, ap (pin_in pins) same))), λ now. ap (λ (q : Bool). if q then P else begun b) is)
+    | inr other ↦
+        let is : (b == a) ≡ false = grind (arith, nat_tests, other) in
+        ((λ still. ap (λ (q : Bool). if q then P else begun b) is), λ was. absurd (omega (arith, was, other_pin b other inside)))
+  ]
+
+  -- the pass goes out
+  pub noted_out : pin_in pins a % 2 ≡ 1 → 1 ≤ a → a ≤ length pins → IsNoted pins counted P begun begun
+  noted_out odd low high b inside = elim (cases_eq b a) [
+    | inl same ↦
+        let now : pin_in counted b ≡ pin_in pins a + 1 = ap (pin_in counted) same ∙ of_pass_same pins a (pin_in pins a + 1) 0 low high in
+        absurd (omega (arith, now, odd, inside))
+    | inr other ↦ ((λ _. refl), λ was. absurd (omega (arith, was, other_pin b other inside)))
+  ]

@@ -1,0 +1,82 @@
+-- Runs that follow on one another.
+use Rattle.std.proofs.Common.{◌≡◌, inl, inr, ◌≤◌, ℕ, List, [], ◌∷◌, ◌++◌, Option, Some, None, refl, sym, subst, arith}
+use Rattle.lz_slot.specs.declared.history.Mark.{Mark}
+use Rattle.lz_slot.specs.declared.history.Mark.TheVariants.{Call, Answer, Refused, Cut, Stop, Crash, Opened, OpenFailed}
+use Rattle.lz_slot.specs.Bytes.{Holds}
+use Rattle.lz_slot.specs.Histories.{History, Life, ChainTo, lives, with_mark}
+use Rattle.lz_slot.specs.Sets.{Keys, Same, members}
+use Rattle.lz_disk.specs.Images.{Medium, AreBytes}
+use Rattle.lz_machine.specs.JoinedRuns.{LeftIsStart, RunsJoin}
+use Rattle.lz_machine.specs.Runs.{Caller, Service, State, Up, Down, LeftInside, MayLeave, caller_at, start_keys}
+use Rattle.lz_machine.proofs.Open.FirstPoint.{one_set, fits_same}
+use Rattle.lz_machine.proofs.Open.ListedKeys.{listed}
+use Rattle.lz_machine.proofs.Theorem.Reached.{every_history}
+
+-- what a crash may leave are bytes
+inside_bytes : (service : Service) (disk : Medium) (a : ℕ) (who : Option Caller) (t : List ℕ) → LeftInside service disk a who t → AreBytes t
+inside_bytes service disk a None t left = absurd left
+inside_bytes service disk a (Some caller) t (inl image) = image.bytes
+inside_bytes service disk a (Some caller) t (inr image) = image.bytes
+
+left_bytes : (w : State) (t : List ℕ) → MayLeave w t → AreBytes t
+left_bytes (Up service disk) t (inl image) = image.bytes
+left_bytes (Up service disk) t (inr (a, left)) = inside_bytes service disk a (caller_at service.callers a) t left
+left_bytes (Down shape disk) t image = image.bytes
+
+pub left_is_start : LeftIsStart
+left_is_start start w M P t buckets passes reached leaves some few =
+    let held = every_history start w M P t reached leaves in
+    record {
+      buckets = some;
+      passes = few;
+      bytes = left_bytes w t leaves;
+      text = listed t start.shape.slots held.0 held.1;
+    }
+
+-- the first of these lives, which stands last, began with this set
+abbrev Begins : List Life → Keys → Type 0
+Begins [] A = ⊥
+Begins (life ∷ []) A = life.start ≡ A
+Begins (life ∷ next ∷ rest) A = Begins (next ∷ rest) A
+
+newer : (life : Life) (L : List Life) (A : Keys) → Begins L A → Begins (life ∷ L) A
+newer life [] A h = absurd h
+newer life (next ∷ rest) A h = h
+
+marked : (m : Mark) (L : List Life) (A : Keys) → Begins L A → Begins (with_mark m L) A
+marked m [] A h = absurd h
+marked m (life ∷ []) A h = h
+marked m (life ∷ next ∷ rest) A h = h
+
+lives_begin : (A : Keys) (M : History) → Begins (lives A M) A
+lives_begin A [] = refl
+lives_begin A (Opened keys ∷ M) = newer (record { start = members keys; history = [] }) (lives A M) A (lives_begin A M)
+lives_begin A (Stop ∷ M) = lives_begin A M
+lives_begin A (Crash ∷ M) = lives_begin A M
+lives_begin A (OpenFailed why ∷ M) = lives_begin A M
+lives_begin A (Call i a c ∷ M) = marked (Call i a c) (lives A M) A (lives_begin A M)
+lives_begin A (Answer i answer ∷ M) = marked (Answer i answer) (lives A M) A (lives_begin A M)
+lives_begin A (Refused i why ∷ M) = marked (Refused i why) (lives A M) A (lives_begin A M)
+lives_begin A (Cut i why ∷ M) = marked (Cut i why) (lives A M) A (lives_begin A M)
+
+-- a chain to a set is one to the same keys
+chain_same : (L : List Life) (S T : Keys) → Same S T → ChainTo L S → ChainTo L T
+chain_same [] S T same h = tt
+chain_same (life ∷ earlier) S T same h = (h.0, fits_same life.start life.history h.0 S T same h.1, h.2)
+
+join : (L earlier : List Life) (A S : Keys) → Begins L A → ChainTo L S → ChainTo earlier A → ChainTo (L ++ earlier) S
+join [] earlier A S begins h old = absurd begins
+join (life ∷ []) earlier A S begins h old = (h.0, h.1, subst (ChainTo earlier) (sym begins) old)
+join (life ∷ next ∷ rest) earlier A S begins h old = (h.0, h.1, join (next ∷ rest) earlier A life.start begins h.2 old)
+
+pub runs_join : RunsJoin
+runs_join start next w v M H P Q t first leaves second left =
+    let before = every_history start w M P next.text first leaves in
+    let after = every_history next v H Q t second left in
+    let slots : next.shape.slots ≡ start.shape.slots = omega (arith, second.starts.text.size, before.1.size) in
+    let same : Same before.0 (start_keys next) = one_set next.text start.shape.slots before.0 (start_keys next) before.1 (subst (λ (n : ℕ). Holds next.text n (start_keys next)) slots second.starts.text) in (
+      after.0,
+      subst (λ (n : ℕ). Holds t n after.0) slots after.1,
+      join (lives (start_keys next) H) (lives (start_keys start) M) (start_keys next) after.0 (lives_begin (start_keys next) H) after.2
+          (chain_same (lives (start_keys start) M) before.0 (start_keys next) same before.2),
+    )

@@ -1,0 +1,48 @@
+-- The counts of a call that finds no slot.
+use Rattle.std.proofs.Common.{◌≡◌, ℕ, ◌+◌, not, ◌&&◌, if◌then◌else◌, Bool, true, false, List, [], ◌∷◌, length, Option, Some, None, refl, sym, ap, ◌∙◌, subst, arith}
+use Rattle.std.proofs.lemmas.Bool.Decides.{nat_tests}
+use Rattle.std.proofs.lemmas.List.{length-map}
+use Rattle.lz_allot.specs.declared.counts.Counts.{Counts}
+use Rattle.lz_allot.specs.Uses.{Use, Free, Taken, Limbo, collect, collect_at, counts, lowest_free}
+use Rattle.lz_allot.proofs.Counting.{counts_sum}
+use Rattle.lz_machine.specs.declared.course.Course.TheVariants.{Refused, Plays}
+use Rattle.lz_machine.specs.declared.event.Event.TheVariants.{Reserve}
+use Rattle.lz_machine.specs.declared.event.Outcome.TheVariants.{NoSlot, Dead, NotNow}
+use Rattle.lz_machine.specs.NoSlotCounts.{CountsAreRight}
+use Rattle.lz_machine.specs.Runs.{run, first_point}
+use Rattle.lz_machine.specs.Table.{line, line_on, needs, slot_found}
+use Rattle.lz_machine.specs.Yards.{Yard, actor_at}
+use Rattle.lz_machine.proofs.Theorem.Reached.{reached_sound}
+use Rattle.lz_machine.proofs.Theorem.Timeliness.{up_at}
+
+none_counted : (uses : List Use) → lowest_free uses ≡ None → (counts uses).free ≡ 0
+none_counted [] none = refl
+none_counted (Free ∷ uses) none = absurd (grind (arith, nat_tests, none))
+none_counted (Taken ∷ uses) none = grind (arith, nat_tests, none_counted uses (grind (arith, nat_tests, none)))
+none_counted (Limbo sights ∷ uses) none = grind (arith, nat_tests, none_counted uses (grind (arith, nat_tests, none)))
+
+found_none : (c : Counts) (o : Option ℕ) (uses : List Use) → slot_found o uses ≡ NoSlot c → (o ≡ None) × (counts uses ≡ c)
+found_none c None uses is = (refl, cc)
+found_none c (Some s) uses is = absurd cc
+
+-- no other course of the event tells counts
+told_by : (y : Yard) (a : ℕ) (c : Counts) → (line y a Reserve).1 ≡ NoSlot c → (lowest_free (collect y.uses) ≡ None) × (counts (collect y.uses) ≡ c)
+told_by y a c is = go y.vault.dead (needs y a Reserve) is
+  where
+    go : (dead may : Bool) → (line_on (if dead && not false then Refused Dead else if may then Plays else Refused NotNow) y (actor_at y a) a Reserve).1 ≡ NoSlot c
+        → (lowest_free (collect y.uses) ≡ None) × (counts (collect y.uses) ≡ c)
+    go true may is = absurd cc
+    go false false is = absurd cc
+    go false true is = found_none c (lowest_free (collect y.uses)) (collect y.uses) is
+
+pub counts_are_right : CountsAreRight
+counts_are_right start service disk M P a c reached is =
+    let y = service.yard in
+    let sound = reached_sound start reached.steps reached.starts reached.runs in
+    let slots = (up_at start (run (first_point start) reached.steps) service disk sound reached.state).up.sound.slots.count in
+    let told = told_by y a c is in
+    let sum = counts_sum (collect y.uses) in
+    let long : length (collect y.uses) ≡ length y.uses = length-map y.uses collect_at in (
+      sym (ap (λ (q : Counts). q.free) told.1) ∙ none_counted (collect y.uses) told.0,
+      subst (λ (q : Counts). q.free + q.taken + q.limbo ≡ y.shape.slots) told.1 (omega (arith, sum, long, slots)),
+    )

@@ -1,0 +1,238 @@
+-- The notes of a pass that is inside are those of the trace at which it went in.
+use Rattle.std.proofs.Common.{◌≡◌, ◌≢◌, ◌⊎◌, inl, inr, ℕ, zero, suc, ◌%◌, ◌==◌, if◌then◌else◌, Bool, true, false, List, [], ◌∷◌, ◌++◌, Option, Some, None, refl, sym, ap, ◌∙◌, subst, arith}
+use mathlib.Core.Bool.{false≢true}
+use Rattle.std.proofs.lemmas.Bool.{cases_eq}
+use Rattle.std.proofs.lemmas.Bool.Decides.{nat_tests}
+use Rattle.lz_slot.specs.declared.command.Command.{Command}
+use Rattle.lz_slot.specs.declared.history.Mark.TheVariants.{Call}
+use Rattle.lz_slot.specs.Histories.{Life}
+use Rattle.lz_disk.specs.Images.{Medium, at_rest, synced}
+use Rattle.lz_vault.specs.declared.vault.Stage.{Stage}
+use Rattle.lz_vault.specs.declared.vault.Stage.TheVariants.{Closed, KeyLoose, Keyed, Opening, Open, Closing}
+use Rattle.lz_vault.specs.Stages.{is_covered}
+use Rattle.lz_allot.specs.Uses.{is_outside}
+use Rattle.lz_list.specs.Pinned.{Stood}
+use Rattle.lz_list.specs.Traces.{Trace, is_marked}
+use Rattle.lz_machine.specs.declared.event.Reply.{Reply}
+use Rattle.lz_machine.specs.declared.caller.Progress.{Progress}
+use Rattle.lz_machine.specs.declared.caller.Progress.TheVariants.{Playing, LoadsHalt, Walking, Reserving, SeeingPins, Claiming, Checking, Answering}
+use Rattle.lz_machine.specs.Yards.{Shape, cell_at}
+use Rattle.lz_machine.specs.CallsStand.{is_out, trace_outside, CallsStand, MarkedIsClosed}
+use Rattle.lz_machine.specs.Runs.{Start, IsStart, Caller, Service, State, Up, Down, Step, Calls, Turn, Fails, Looks, Trips, Stops, Crashes, CrashesIn, Opens, OpenFails, Point, MayStep, HasTurn, HasFault, IsRun, run, first_point, point_after, caller_at, state_after, trace_after, calls_after, after_turn, after_fault, turn_publishes, reply_at, opened_service, marks_of, mark_of}
+use Rattle.lz_machine.specs.Sound.{Notes, IsInside, pin_in, stage_in, CallerSound, view_of, SlotStands, is_node, is_held, is_out as is_gone, is_free, is_limbo, IsNodeStage, UpSound, IsSound}
+use Rattle.lz_machine.specs.Limbo.{IsAway}
+use Rattle.lz_machine.proofs.Steps.Trip.{point}
+use Rattle.lz_machine.proofs.Steps.Hop.{call_at}
+use Rattle.lz_machine.proofs.Steps.Answer.{answer_up}
+use Rattle.lz_machine.proofs.Steps.Fault.{fault_up}
+use Rattle.lz_machine.proofs.Steps.Invoke.{call_up}
+use Rattle.lz_machine.proofs.Steps.Point.{look_up, answer_publishes}
+use Rattle.lz_machine.proofs.Steps.Turn.{turn_up}
+use Rattle.lz_machine.proofs.Frames.PinNotes.{IsNoted, noted_same}
+use Rattle.lz_machine.proofs.Frames.Ranges.{stood_range}
+use Rattle.lz_machine.proofs.Open.FirstState.{pass_of}
+use Rattle.lz_machine.proofs.Runs.CallerTable.{none_of}
+use Rattle.lz_machine.proofs.Theorem.Reached.{reached_sound}
+use Rattle.lz_machine.proofs.Theorem.Timeliness.{up_at}
+
+-- an open service is sound, with notes that are tied to these traces
+record IsTied (calls : ℕ) (service : Service) (disk : Medium) (P : Trace) (B : ℕ → Trace) : Type 0 where
+  n : ℕ
+  life : Life
+  notes : Notes
+  up : UpSound n calls service disk life P notes
+  tied : (a : ℕ) → IsInside (pin_in service.yard.words.pins a) → notes.begun a ≡ B a
+
+abbrev TiedAt : ℕ → Trace → State → (ℕ → Trace) → Type 0
+TiedAt calls P (Up service disk) B = IsTied calls service disk P B
+TiedAt calls P (Down shape disk) B = Unit {0}
+
+-- the service after a step is sound, with notes that go on from those before
+record GoesOn (calls : ℕ) (pins : List ℕ) (P : Trace) (begun : ℕ → Trace) (service : Service) (disk : Medium) (Q : Trace) : Type 0 where
+  n : ℕ
+  life : Life
+  notes : Notes
+  up : UpSound n calls service disk life Q notes
+  noted : IsNoted pins service.yard.words.pins P begun notes.begun
+
+abbrev NextAt : ℕ → List ℕ → Trace → (ℕ → Trace) → State → Trace → Type 0
+NextAt calls pins P begun (Up service disk) Q = GoesOn calls pins P begun service disk Q
+NextAt calls pins P begun (Down shape disk) Q = Unit {0}
+
+module _ (calls : ℕ) (service : Service) (disk : Medium) (P : Trace) (B : ℕ → Trace) (h : IsTied calls service disk P B) (a : ℕ) where
+  abbrev pins : List ℕ
+  pins = service.yard.words.pins
+
+  call_next : (c : Command) → MayStep (Up service disk) (Calls a c) → NextAt (suc calls) pins P h.notes.begun (state_after (suc calls) (Up service disk) (Calls a c)) P
+  call_next c may = record {
+    n = h.n;
+    life = record { start = h.life.start; history = Call (suc calls) a c ∷ h.life.history };
+    notes = h.notes;
+    up = call_up h.n calls service disk h.life P h.notes a c may h.up;
+    noted = noted_same pins pins P h.notes.begun refl;
+  }
+
+  abbrev TurnNext : Option Caller → Type 0
+  TurnNext who = NextAt calls pins P h.notes.begun (after_turn service disk a who) (turn_publishes service a who ++ P)
+
+  going_next : (i : ℕ) (c : Command) (at : Progress) → caller_at service.callers a ≡ Some (call_at i c at) → reply_at at ≡ None → HasTurn service a (Some (call_at i c at)) → TurnNext (Some (call_at i c at))
+  going_next i c at is goes_on may =
+      let done = turn_up h.n calls service.yard service.callers disk h.life.history P h.life.start h.notes h.up a i c at is goes_on may in
+      record { n = h.n; life = h.life; notes = done.0; up = done.1; noted = done.2 }
+
+  answer_next : (i : ℕ) (c : Command) (reply : Reply) → caller_at service.callers a ≡ Some (call_at i c (Answering reply)) → HasTurn service a (Some (call_at i c (Answering reply))) → TurnNext (Some (call_at i c (Answering reply)))
+  answer_next i c reply is may =
+      let done = answer_up h.n calls service.yard service.callers disk h.life.history P h.life.start h.notes a i c reply is h.up may in
+      subst (λ (Q : Trace). NextAt calls pins P h.notes.begun (after_turn service disk a (Some (call_at i c (Answering reply)))) Q) (ap (λ (q : Trace). q ++ P) (sym (answer_publishes service.yard a)))
+      (record { n = h.n; life = record { start = h.life.start; history = mark_of i reply ∷ h.life.history }; notes = done.0; up = done.1; noted = done.2 })
+
+  caller_next : (i : ℕ) (c : Command) (at : Progress) → caller_at service.callers a ≡ Some (call_at i c at) → HasTurn service a (Some (call_at i c at)) → TurnNext (Some (call_at i c at))
+  caller_next i c (Playing script j) is may = going_next i c (Playing script j) is refl may
+  caller_next i c LoadsHalt is may = going_next i c LoadsHalt is refl may
+  caller_next i c (Walking aim look) is may = going_next i c (Walking aim look) is refl may
+  caller_next i c (Reserving again) is may = going_next i c (Reserving again) is refl may
+  caller_next i c (SeeingPins p) is may = going_next i c (SeeingPins p) is refl may
+  caller_next i c (Claiming aim pred curr) is may = going_next i c (Claiming aim pred curr) is refl may
+  caller_next i c (Checking aim curr) is may = going_next i c (Checking aim curr) is refl may
+  caller_next i c (Answering reply) is may = answer_next i c reply is may
+
+  turn_next : (who : Option Caller) → caller_at service.callers a ≡ who → HasTurn service a who → TurnNext who
+  turn_next None is may = absurd may
+  turn_next (Some caller) is may = caller_next caller.number caller.command caller.progress is may
+
+  fault_next : (new : Medium) (who : Option Caller) → caller_at service.callers a ≡ who → HasFault service disk a who new → NextAt calls pins P h.notes.begun (after_fault service new a who) P
+  fault_next new None is may = absurd may
+  fault_next new (Some caller) is may = record {
+    n = h.n;
+    life = h.life;
+    notes = h.notes;
+    up = fault_up h.n calls service.yard service.callers disk h.life.history P h.life.start h.notes h.up a caller.number caller.command caller.progress is new may;
+    noted = noted_same pins pins P h.notes.begun refl;
+  }
+
+  look_next : MayStep (Up service disk) (Looks a) → NextAt calls pins P h.notes.begun (state_after (suc calls) (Up service disk) (Looks a)) P
+  look_next may =
+      let done = look_up h.n calls service.yard service.callers disk h.life.history P h.life.start h.notes a may.0.0 may.0.1 (none_of (caller_at service.callers a) may.1) may.2 h.up in
+      record { n = h.n; life = h.life; notes = done.0; up = done.1; noted = done.2 }
+
+-- a step of an open service
+up_next : (calls : ℕ) (service : Service) (disk : Medium) (P : Trace) (B : ℕ → Trace) (h : IsTied calls service disk P B) (step : Step) → MayStep (Up service disk) step
+    → NextAt (calls_after calls step) service.yard.words.pins P h.notes.begun (state_after (suc calls) (Up service disk) step) (trace_after (Up service disk) P step)
+up_next calls service disk P B h (Calls a c) may = call_next calls service disk P B h a c may
+up_next calls service disk P B h (Turn a) may = turn_next calls service disk P B h a (caller_at service.callers a) refl may
+up_next calls service disk P B h (Fails a new) may = fault_next calls service disk P B h a new (caller_at service.callers a) refl may
+up_next calls service disk P B h (Looks a) may = look_next calls service disk P B h a may
+up_next calls service disk P B h Trips may = record { n = h.n; life = h.life; notes = h.notes; up = h.up; noted = noted_same service.yard.words.pins service.yard.words.pins P h.notes.begun refl }
+up_next calls service disk P B h Stops may = tt
+up_next calls service disk P B h (Crashes t) may = tt
+up_next calls service disk P B h (CrashesIn a t) may = tt
+up_next calls service disk P B h Opens may = absurd may
+up_next calls service disk P B h (OpenFails why done) may = absurd may
+
+-- notes that go on from tied ones are tied to the trace at which each pass went in
+tie : (pins : List ℕ) (P Q : Trace) (begun B : ℕ → Trace) (calls : ℕ) (w : State)
+    → ((b : ℕ) → is_outside (pin_in pins b) ≡ true → B b ≡ P) → ((b : ℕ) → IsInside (pin_in pins b) → begun b ≡ B b)
+    → NextAt calls pins P begun w Q → TiedAt calls Q w (λ b. if is_out w b then Q else B b)
+tie pins P Q begun B calls (Down shape disk) out held next = tt
+tie pins P Q begun B calls (Up service disk) out held next = record { n = next.n; life = next.life; notes = next.notes; up = next.up; tied = tied }
+  where
+    tied : (b : ℕ) → IsInside (pin_in service.yard.words.pins b) → next.notes.begun b ≡ (if is_outside (pin_in service.yard.words.pins b) then Q else B b)
+    tied b inside =
+        let within : is_outside (pin_in service.yard.words.pins b) ≡ false = grind (arith, nat_tests, inside) in
+        let same : (if is_outside (pin_in service.yard.words.pins b) then Q else B b) ≡ B b = ap (λ (q : Bool). if q then Q else B b) within in
+        elim (cases_eq (pin_in pins b % 2) 0) [
+          | inl even ↦ (next.noted b inside).1 even ∙ sym (out b (grind (arith, nat_tests, even))) ∙ sym same
+          | inr odd ↦ (next.noted b inside).0 (omega (arith, odd)) ∙ held b (omega (arith, odd)) ∙ sym same
+        ]
+
+-- an open begins with all passes outside
+opened_tied : (start : Start) (p : Point) (shape : Shape) (t : List ℕ) (disk : Medium) (B : ℕ → Trace) → IsSound start p → p.state ≡ Up (opened_service shape t) disk → TiedAt p.calls p.trace (Up (opened_service shape t) disk) B
+opened_tied start p shape t disk B sound is =
+    let here = up_at start p (opened_service shape t) disk sound is in
+    record { n = here.n; life = here.life; notes = here.notes; up = here.up; tied = λ a inside. absurd (omega (arith, inside, pass_of {X = ℕ} shape.passes a 0)) }
+
+step_tied : (start : Start) (w : State) (p : Point) (step : Step) (B : ℕ → Trace) → p.state ≡ w → MayStep w step → ((b : ℕ) → is_out w b ≡ true → B b ≡ p.trace) → TiedAt p.calls p.trace w B
+    → IsSound start (point_after p step)
+    → TiedAt (calls_after p.calls step) (trace_after w p.trace step) (state_after (suc p.calls) w step) (λ b. if is_out (state_after (suc p.calls) w step) b then trace_after w p.trace step else B b)
+step_tied start (Up service disk) p step B at may out h sound =
+    tie service.yard.words.pins p.trace (trace_after (Up service disk) p.trace step) h.notes.begun B (calls_after p.calls step) (state_after (suc p.calls) (Up service disk) step) out h.tied
+    (up_next p.calls service disk p.trace B h step may)
+step_tied start (Down shape disk) p Opens B at may out h sound =
+    opened_here (subst (λ (w : State). IsSound start (point (state_after (suc p.calls) w Opens) (marks_of (suc p.calls) w Opens ++ p.marks) (trace_after w p.trace Opens) p.calls)) at sound)
+  where
+    opened_here : IsSound start (point (state_after (suc p.calls) (Down shape disk) Opens) (marks_of (suc p.calls) (Down shape disk) Opens ++ p.marks) (trace_after (Down shape disk) p.trace Opens) p.calls)
+        → TiedAt p.calls (trace_after (Down shape disk) p.trace Opens) (state_after (suc p.calls) (Down shape disk) Opens)
+        (λ b. if is_out (state_after (suc p.calls) (Down shape disk) Opens) b then trace_after (Down shape disk) p.trace Opens else B b)
+    opened_here there = opened_tied start
+        (point (state_after (suc p.calls) (Down shape disk) Opens) (marks_of (suc p.calls) (Down shape disk) Opens ++ p.marks) (trace_after (Down shape disk) p.trace Opens) p.calls)
+        shape disk.seen (synced disk) (λ b. if is_out (state_after (suc p.calls) (Down shape disk) Opens) b then trace_after (Down shape disk) p.trace Opens else B b) there refl
+step_tied start (Down shape disk) p (Calls a c) B at may out h sound = absurd may
+step_tied start (Down shape disk) p (Turn a) B at may out h sound = absurd may
+step_tied start (Down shape disk) p (Fails a new) B at may out h sound = absurd may
+step_tied start (Down shape disk) p (Looks a) B at may out h sound = absurd may
+step_tied start (Down shape disk) p Trips B at may out h sound = tt
+step_tied start (Down shape disk) p Stops B at may out h sound = tt
+step_tied start (Down shape disk) p (Crashes t) B at may out h sound = tt
+step_tied start (Down shape disk) p (CrashesIn a t) B at may out h sound = absurd may
+step_tied start (Down shape disk) p (OpenFails why true) B at may out h sound = tt
+step_tied start (Down shape disk) p (OpenFails why false) B at may out h sound = tt
+
+-- where a pass is outside its trace is that of now
+out_now : (p : Point) (steps : List Step) (b : ℕ) → is_out (run p steps).state b ≡ true → trace_outside p steps b ≡ (run p steps).trace
+out_now p [] b out = refl
+out_now p (step ∷ steps) b out = ap (λ (q : Bool). if q then (run p (step ∷ steps)).trace else trace_outside p steps b) out
+
+reached_tied : (start : Start) (steps : List Step) → IsStart start → IsRun (first_point start) steps
+    → TiedAt (run (first_point start) steps).calls (run (first_point start) steps).trace (run (first_point start) steps).state (trace_outside (first_point start) steps)
+reached_tied start [] is runs = opened_tied start (first_point start) start.shape start.text (at_rest start.text) (trace_outside (first_point start) []) (reached_sound start [] is runs) refl
+reached_tied start (step ∷ steps) is runs =
+    let p = run (first_point start) steps in
+    step_tied start p.state p step (trace_outside (first_point start) steps) refl runs.0 (out_now (first_point start) steps) (reached_tied start steps is runs.1) (reached_sound start (step ∷ steps) is runs)
+
+-- what is known of an open service
+module _ (start : Start) (steps : List Step) (service : Service) (disk : Medium) (is : IsStart start) (runs : IsRun (first_point start) steps) (state : (run (first_point start) steps).state ≡ Up service disk) where
+  abbrev p : Point
+  p = run (first_point start) steps
+
+  abbrev B : ℕ → Trace
+  B = trace_outside (first_point start) steps
+
+  tied : IsTied p.calls service disk p.trace B
+  tied = subst (λ (w : State). TiedAt p.calls p.trace w B) state (reached_tied start steps is runs)
+
+  module _ (a : ℕ) (inside : IsInside (pin_in service.yard.words.pins a)) where
+    stands : (changed : Option ℕ) × CallerSound (view_of service.yard.shape service.yard.vault service.yard.actors a) (pin_in service.yard.words.pins a) (caller_at service.callers a) (B a) p.trace changed
+    stands = (
+      tied.notes.changed a,
+      subst (λ (Q : Trace). CallerSound (view_of service.yard.shape service.yard.vault service.yard.actors a) (pin_in service.yard.words.pins a) (caller_at service.callers a) Q p.trace (tied.notes.changed a)) (tied.tied a inside)
+          (tied.up.sound.callers.each a),
+    )
+
+    -- a slot that stood on a chain since is no slot that may be prepared
+    module _ (b s : ℕ) (stood : Stood service.yard.shape.buckets b (B a) p.trace (suc s)) (marked : is_marked s p.trace ≡ true) (sure : is_covered (stage_in service.yard.vault.cells s) ≡ true) where
+      met : IsAway service.yard.shape.buckets (tied.notes.begun a) p.trace s → ⊥
+      met away = subst (λ (Q : Trace). IsAway service.yard.shape.buckets Q p.trace s) (tied.tied a inside) away b stood
+
+      written : (stage : Stage) → is_covered stage ≡ true → (stage ≡ Closing) ⊎ (stage ≡ Closed) → stage ≡ Closed
+      written stage covered (inr closed) = closed
+      written stage covered (inl closing) = absurd (false≢true (ap is_covered (sym closing) ∙ covered))
+
+      by_node : IsNodeStage service.yard.vault.cells service.yard.vault.dead service.yard.actors p.trace s → stage_in service.yard.vault.cells s ≡ Closed
+      by_node (inl unmarked) = absurd (false≢true (sym unmarked.0 ∙ marked))
+      by_node (inr closed) = written (stage_in service.yard.vault.cells s) sure closed.2
+
+      by_stand : SlotStands service.yard.shape service.yard.vault.cells service.yard.vault.dead service.yard.uses service.yard.actors p.trace s → stage_in service.yard.vault.cells s ≡ Closed
+      by_stand (is_node chain stage) = by_node stage
+      by_stand (is_held c slot) = absurd (met (tied.up.sound.reuse.reserved a c s slot inside))
+      by_stand (is_gone c out) = (tied.up.sound.slots.out c s out).stage
+      by_stand (is_free loose free stage) = absurd (met (tied.up.sound.reuse.free a s free inside))
+      by_stand (is_limbo sights loose limbo stage) = stage
+
+      closed_there : stage_in service.yard.vault.cells s ≡ Closed
+      closed_there = by_stand (tied.up.sound.slots.each s (stood_range service.yard.shape.buckets service.yard.shape.slots (B a) p.trace b s tied.up.sound.trace.lawful stood))
+
+pub calls_stand : CallsStand
+calls_stand start steps service disk a is runs state inside = stands start steps service disk is runs state a inside
+
+pub marked_is_closed : MarkedIsClosed
+marked_is_closed start steps service disk a b s is runs state inside stood marked sure = closed_there start steps service disk is runs state a inside b s stood marked sure

@@ -1,0 +1,5 @@
+use Rattle.lz_machine.proofs.Theorem.JoinedRuns.{left_is_start}
+use Rattle.lz_machine.proofs.laws.left_is_start.Goals as goal
+
+pub returns : goal.returns
+returns c = left_is_start

@@ -1,0 +1,5 @@
+use Rattle.lz_machine.proofs.Theorem.OneAdd.{one_add_runs}
+use Rattle.lz_machine.proofs.laws.one_add_runs.Goals as goal
+
+pub returns : goal.returns
+returns c = one_add_runs

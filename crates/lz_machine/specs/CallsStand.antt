@@ -1,0 +1,44 @@
+-- What an open call rests on since its pass went in, in each state that is reached.
+use Rattle.std.specs.Prelude.{◌≡◌, ℕ, suc, true, ◌%◌, if◌then◌else◌, Bool, List, [], ◌∷◌, Option}
+use Rattle.lz_disk.specs.Images.{Medium}
+use Rattle.lz_vault.specs.declared.vault.Stage.TheVariants.{Closed}
+use Rattle.lz_allot.specs.Uses.{is_outside}
+use Rattle.lz_list.specs.Pinned.{Stood}
+use Rattle.lz_list.specs.Traces.{Trace, is_marked}
+use Rattle.lz_machine.specs.Runs.{Start, IsStart, Service, State, Up, Down, Step, Point, IsRun, run, first_point, caller_at}
+use Rattle.lz_machine.specs.Sound.{CallerSound, view_of}
+use Rattle.lz_machine.specs.Table.{pin_of, is_sure}
+use Rattle.lz_machine.specs.Yards.{cell_at}
+
+-- the pass is outside
+abbrev pub is_out : State → ℕ → Bool
+is_out (Up service disk) a = is_outside (pin_of service.yard a)
+is_out (Down shape disk) a = true
+
+-- the trace of the newest state in which the pass was outside, which is that at which it went in
+abbrev pub trace_outside : Point → List Step → ℕ → Trace
+trace_outside p [] a = p.trace
+trace_outside p (step ∷ steps) a = if is_out (run p (step ∷ steps)).state a then (run p (step ∷ steps)).trace else trace_outside p steps a
+
+-- Where a pass is inside, no slot that stood on a chain since it went in was prepared anew; and its call, if it has one, may
+-- rely on what `Relies` says of how far it has come, with the trace at which the pass went in: what its walk has met, the
+-- change that it made, and what its answer rests on.
+abbrev pub CallsStand : Type 0
+CallsStand =
+    (start : Start) (steps : List Step) (service : Service) (disk : Medium) (a : ℕ)
+    → IsStart start → IsRun (first_point start) steps → (run (first_point start) steps).state ≡ Up service disk
+    → pin_of service.yard a % 2 ≡ 1
+    → (changed : Option ℕ)
+    × CallerSound (view_of service.yard.shape service.yard.vault service.yard.actors a) (pin_of service.yard a) (caller_at service.callers a)
+    (trace_outside (first_point start) steps a) (run (first_point start) steps).trace changed
+
+-- A slot that stood on a chain since a pass went in, and is marked with its last write sure, is closed: its settling is a
+-- removal's.
+abbrev pub MarkedIsClosed : Type 0
+MarkedIsClosed =
+    (start : Start) (steps : List Step) (service : Service) (disk : Medium) (a b s : ℕ)
+    → IsStart start → IsRun (first_point start) steps → (run (first_point start) steps).state ≡ Up service disk
+    → pin_of service.yard a % 2 ≡ 1
+    → Stood service.yard.shape.buckets b (trace_outside (first_point start) steps a) (run (first_point start) steps).trace (suc s)
+    → is_marked s (run (first_point start) steps).trace ≡ true → is_sure service.yard s ≡ true
+    → (cell_at service.yard s).stage ≡ Closed
