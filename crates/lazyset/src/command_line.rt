@@ -35,12 +35,47 @@ fn make<'a>(alloc: Global) -> Result<Command<'a>, AllocError> {
         .arg(format(alloc))
 }
 
+fn buckets<'a>(alloc: Global) -> Arg<'a> {
+    Arg::new(alloc, "buckets")
+        .long("buckets")
+        .value_name("B")
+        .value_parser(value_parser!(u64).range(1..=4096))
+        .default_value("1")
+        .help("How many lists the keys are spread over, 1 to 4096")
+}
+
 fn run<'a>(alloc: Global) -> Result<Command<'a>, AllocError> {
     Command::new(alloc, "run")
         .about(
             "Answers the lines `add K`, `remove K` and `has K` of standard input, each with one line: yes, no, full or halted",
         )
         .arg(file(alloc))
+}
+
+fn serve<'a>(alloc: Global) -> Result<Command<'a>, AllocError> {
+    let port = Arg::new(alloc, "PORT")
+        .required(true)
+        .value_parser(value_parser!(u64).range(0..=65535))
+        .help("The port of 127.0.0.1; 0 takes a free one, which is printed");
+    let passes = Arg::new(alloc, "PASSES")
+        .required(true)
+        .value_parser(value_parser!(u64).range(1..=64))
+        .help("How many connections are served at once, 1 to 64; further ones wait");
+    let sessions = Arg::new(alloc, "sessions")
+        .long("sessions")
+        .value_name("N")
+        .value_parser(value_parser!(u64).range(0..=65535))
+        .default_value("0")
+        .help("After how many connections each pass ends; 0 for no end");
+    Command::new(alloc, "serve")
+        .about(
+            "Answers the lines `add K`, `remove K` and `has K` of many connections at once, each with one line",
+        )
+        .arg(file(alloc))?
+        .arg(port)?
+        .arg(passes)?
+        .arg(sessions)?
+        .arg(buckets(alloc))
 }
 
 fn check<'a>(alloc: Global) -> Result<Command<'a>, AllocError> {
@@ -66,18 +101,12 @@ fn rehearse<'a>(alloc: Global) -> Result<Command<'a>, AllocError> {
         .required(true)
         .value_parser(value_parser!(u64).range(1..=64))
         .help("How many keys the set has room for, 1 to 64");
-    let buckets = Arg::new(alloc, "buckets")
-        .long("buckets")
-        .value_name("B")
-        .value_parser(value_parser!(u64).range(1..=4096))
-        .default_value("1")
-        .help("How many lists the keys are spread over, 1 to 4096");
     Command::new(alloc, "rehearse")
         .about(
             "Plays the script of standard input on a new set in memory: calls, turns, failures, stops, crashes and opens",
         )
         .arg(slots)?
-        .arg(buckets)?
+        .arg(buckets(alloc))?
         .arg(format(alloc))
 }
 
@@ -85,11 +114,12 @@ fn rehearse<'a>(alloc: Global) -> Result<Command<'a>, AllocError> {
 pub fn command_line<'a>(alloc: Global) -> Result<Command<'a>, AllocError> {
     Command::new(alloc, "lazyset")
         .about(
-            "A set of keys, 0 to 999999999999999999, that survives crashes: every answer that was given lasts",
+            "A set of keys, 0 to 999999999999999999 in each of 16 rooms, that survives crashes: every answer that was given lasts",
         )
         .subcommand_required(true)
         .subcommand(make(alloc)?)?
         .subcommand(run(alloc)?)?
+        .subcommand(serve(alloc)?)?
         .subcommand(check(alloc)?)?
         .subcommand(judge(alloc)?)?
         .subcommand(rehearse(alloc)?)

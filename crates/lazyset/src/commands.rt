@@ -5,19 +5,25 @@ use crate::command_line::{command_line, fault_of};
 use crate::fault::Fault;
 use clap::ArgMatches;
 use lazyset_commands::{
-    MOST_JUDGED, MOST_SURVEYED, Status, check_on, judge_on, make_on, rehearse_on, run_on,
+    MOST_JUDGED, MOST_SURVEYED, Serving, Status, check_on, judge_on, make_on, rehearse_on, run_on,
+    serve_on,
 };
 use lz_disk::FileDisk;
 use lz_slot::Format;
 use std::fs::File;
 use std::io::{ErrorKind, Read};
+use std::net::{Net, TcpListener, TcpStream};
 use std::rt::{Env, Files};
+use std::sync::Wait;
+use std::thread::Threads;
+use std::time::Clock;
 use std::{env, io};
 
 /// Runs the command that the process's arguments name.
 pub fn run<R>(rt: &R) -> Result<Status, Fault>
 where
     R: Env + Files<File = File> + Input + Print + AllocGlobal,
+    R: Net<Listener = TcpListener, Stream = TcpStream> + Threads + Wait + Clock + Sync,
 {
     let words: Vec<String> = env::args(rt)?.collect(rt.alloc())?;
     match command_line(rt.alloc())?.try_get_matches_from(words.as_slice()) {
@@ -29,12 +35,14 @@ where
 fn dispatch<R>(rt: &R, matches: &ArgMatches<'_>) -> Result<Status, Fault>
 where
     R: Files<File = File> + Input + Print + AllocGlobal,
+    R: Net<Listener = TcpListener, Stream = TcpStream> + Threads + Wait + Clock + Sync,
 {
     match matches.subcommand() {
         Some(("make", matches)) => make(rt, matches),
         Some(("check", matches)) => check(rt, matches),
         Some(("judge", matches)) => judge(rt, matches),
         Some(("rehearse", matches)) => Ok(rehearse(rt, matches)),
+        Some(("serve", matches)) => serve(rt, matches),
         Some((_, matches)) => run_file(rt, matches),
         None => Ok(Status::CommandLine),
     }
@@ -68,6 +76,34 @@ where
     let disk = open(rt, matches, false)?;
     let (status, _disk) = run_on(rt.alloc(), &mut rt.reader(), &mut io::writer(rt), disk);
     Ok(status)
+}
+
+fn serve<R>(rt: &R, matches: &ArgMatches<'_>) -> Result<Status, Fault>
+where
+    R: Files<File = File> + Print + AllocGlobal,
+    R: Net<Listener = TcpListener, Stream = TcpStream> + Threads + Wait + Clock + Sync,
+{
+    let Some(serving) = serving_of(matches) else {
+        return Ok(Status::CommandLine);
+    };
+    let disk = open(rt, matches, false)?;
+    Ok(serve_on(rt, &mut io::writer(rt), disk, serving))
+}
+
+// How the command line asks to serve.
+fn serving_of(matches: &ArgMatches<'_>) -> Option<Serving>
+    ensures passes { IfSome result (λ serving. (1 ≤ serving.passes) × (serving.passes ≤ 64)) }
+    ensures buckets { IfSome result (λ serving. (1 ≤ serving.buckets) × (serving.buckets ≤ 4096)) }
+{
+    let port = u16::try_from(matches.get_one::<u64>("PORT")?).ok()?;
+    let passes = number_within(matches, "PASSES", 64)?;
+    let buckets = number_within(matches, "buckets", 4096)?;
+    Some(Serving {
+        port,
+        passes,
+        sessions: matches.get_one::<u64>("sessions")?,
+        buckets,
+    })
 }
 
 fn check<R>(rt: &R, matches: &ArgMatches<'_>) -> Result<Status, Fault>

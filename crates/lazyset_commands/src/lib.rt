@@ -8,6 +8,7 @@ mod plain;
 mod refusal;
 mod rehearsing;
 mod running;
+mod serving;
 mod status;
 mod telling;
 
@@ -17,4 +18,5 @@ pub use making::make_on;
 pub use plain::{Fault, Plain};
 pub use rehearsing::rehearse_on;
 pub use running::run_on;
+pub use serving::{Serving, serve_on};
 pub use status::Status;

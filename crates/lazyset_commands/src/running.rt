@@ -89,7 +89,7 @@ pub fn run_on<R: Read + Drop, W: Write + Drop, D: Disk>(
 }
 
 // Says why an open was refused.
-fn refuse<W: Write + Drop>(writer: &mut W, fault: OpenFault) -> Status
+pub(crate) fn refuse<W: Write + Drop>(writer: &mut W, fault: OpenFault) -> Status
     ensures refused { result ≡ Status.Refused → Appends (W.contents writer.old) (W.contents writer.new) (refusal_text fault) }
     ensures table { (result ≡ open_status fault) ⊎ (result ≡ Status.Failed) }
     ensures named { result ≡ Status.Refused → open_status fault ≡ Status.Refused }

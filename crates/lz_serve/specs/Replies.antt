@@ -1,0 +1,39 @@
+-- What the service of one pass replies.
+use Rattle.std.specs.Prelude.{◌≡◌, Bool, true, false, Result, Ok, Err, Option, Some, None}
+use Rattle.lz_slot.specs.declared.command.Command.{Command}
+use Rattle.lz_slot.specs.declared.command.Command.TheVariants as command
+use Rattle.lz_proto.specs.declared.request.Request.{Request}
+use Rattle.lz_proto.specs.declared.request.Request.TheVariants.{Add, Remove, Has, Quit}
+use Rattle.lz_proto.specs.declared.reply.Reply.{Reply}
+use Rattle.lz_proto.specs.declared.reply.Reply.TheVariants as reply
+use Rattle.lz_set.specs.declared.fault.Fault.{Fault}
+use Rattle.lz_set.specs.declared.fault.Fault.TheVariants.{Full, Halted, Worn, Device, OldFile}
+use Rattle.lz_set.specs.declared.pass.Pass.{Pass}
+use Rattle.lz_set.specs.Names.{Name}
+use Rattle.lz_set.specs.Answers.{IsAnswer}
+
+-- the reply that tells what a call answered: of a device that failed, now or before, a client is told that the service halted
+abbrev pub reply_of : Result Bool Fault → Reply
+reply_of (Ok true) = reply.Yes
+reply_of (Ok false) = reply.No
+reply_of (Err (Full counts)) = reply.Full
+reply_of (Err Worn) = reply.Worn
+reply_of (Err OldFile) = reply.OldFile
+reply_of (Err Halted) = reply.Halted
+reply_of (Err Device) = reply.Halted
+
+-- the command that a request asks for; `quit` asks for none
+abbrev pub command_of : Request → Option Command
+command_of (Add k) = Some (command.Add k)
+command_of (Remove k) = Some (command.Remove k)
+command_of (Has k) = Some (command.Has k)
+command_of Quit = None
+
+-- The reply tells the answer of one call of the pass, which is that of the request; the pass stays this one.
+pub record SeatAnswers (name : Name) (old : Pass) (request : Request) (reply : Reply) (new : Pass) : Type 0 where
+  pub c : Command
+  pub asked : command_of request ≡ Some c
+  pub answer : Result Bool Fault
+  pub call : IsAnswer name old.number c answer
+  pub told : reply ≡ reply_of answer
+  pub same : new.number ≡ old.number

@@ -1,0 +1,11 @@
+//! A set that is served over the network.
+//!
+//! Each pass of a set has a thread of its own, which serves one connection after the other: a session of lines and replies.
+//! A client that goes away, sends half a line or stops reading ends its own session alone.
+#![tactic(auto)]
+
+mod seated;
+mod server;
+
+pub use seated::Seated;
+pub use server::{Served, serve};
