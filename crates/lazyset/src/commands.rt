@@ -5,7 +5,7 @@ use crate::command_line::{command_line, fault_of};
 use crate::fault::Fault;
 use clap::ArgMatches;
 use lazyset_commands::{
-    MOST_JUDGED, MOST_SURVEYED, Serving, Status, check_on, judge_on, make_on, rehearse_on, run_on,
+    MOST_JUDGED, MOST_SURVEYED, ServeOptions, Status, check_on, judge_on, make_on, rehearse_on, run_on,
     serve_on,
 };
 use lz_disk::FileDisk;
@@ -83,22 +83,23 @@ where
     R: Files<File = File> + Print + AllocGlobal,
     R: Net<Listener = TcpListener, Stream = TcpStream> + Threads + Wait + Clock + Sync,
 {
-    let Some(serving) = serving_of(matches) else {
+    let Some(options) = serve_options(matches) else {
         return Ok(Status::CommandLine);
     };
     let disk = open(rt, matches, false)?;
-    Ok(serve_on(rt, &mut io::writer(rt), disk, serving))
+    let (status, _disk) = serve_on(rt, &mut io::writer(rt), disk, options);
+    Ok(status)
 }
 
 // How the command line asks to serve.
-fn serving_of(matches: &ArgMatches<'_>) -> Option<Serving>
-    ensures passes { IfSome result (λ serving. (1 ≤ serving.passes) × (serving.passes ≤ 64)) }
-    ensures buckets { IfSome result (λ serving. (1 ≤ serving.buckets) × (serving.buckets ≤ 4096)) }
+fn serve_options(matches: &ArgMatches<'_>) -> Option<ServeOptions>
+    ensures passes { IfSome result (λ options. (1 ≤ options.passes) × (options.passes ≤ 64)) }
+    ensures buckets { IfSome result (λ options. (1 ≤ options.buckets) × (options.buckets ≤ 4096)) }
 {
     let port = u16::try_from(matches.get_one::<u64>("PORT")?).ok()?;
     let passes = number_within(matches, "PASSES", 64)?;
     let buckets = number_within(matches, "buckets", 4096)?;
-    Some(Serving {
+    Some(ServeOptions {
         port,
         passes,
         sessions: matches.get_one::<u64>("sessions")?,

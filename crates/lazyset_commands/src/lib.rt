@@ -4,19 +4,19 @@
 mod checking;
 mod judging;
 mod making;
+mod network;
 mod plain;
 mod refusal;
 mod rehearsing;
 mod running;
-mod serving;
 mod status;
 mod telling;
 
 pub use checking::{MOST_SURVEYED, check_on};
 pub use judging::{MOST_JUDGED, judge_on};
 pub use making::make_on;
+pub use network::{ServeOptions, serve_on};
 pub use plain::{Fault, Plain};
 pub use rehearsing::rehearse_on;
 pub use running::run_on;
-pub use serving::{Serving, serve_on};
 pub use status::Status;

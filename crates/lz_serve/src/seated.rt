@@ -55,12 +55,12 @@ impl<'a, D: Disk, G: StepGate, N: Named, R: Wait> Service for Seated<'a, D, G, N
     ghost answers = { λ old request reply new. SeatAnswers N.name old.pass request reply new.pass };
 
     fn ask(&mut self, request: Request) -> Reply {
-        let answer = match request {
-            Request::Add(key) => self.set.add(self.rt, &mut self.pass, key),
-            Request::Remove(key) => self.set.remove(self.rt, &mut self.pass, key),
-            Request::Has(key) => self.set.has(self.rt, &mut self.pass, key),
-            Request::Quit => return Reply::No,
-        };
-        reply_of(answer)
+        match request {
+            Request::Add(key) => reply_of(self.set.add(self.rt, &mut self.pass, key)),
+            Request::Remove(key) => reply_of(self.set.remove(self.rt, &mut self.pass, key)),
+            Request::Has(key) => reply_of(self.set.has(self.rt, &mut self.pass, key)),
+            // A session never asks it.
+            Request::Quit => Reply::No,
+        }
     }
 }

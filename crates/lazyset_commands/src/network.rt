@@ -20,7 +20,7 @@ use std::time::Clock;
 
 /// How a set is served.
 #[derive(Clone, Copy, Debug, PartialEq, Eq)]
-pub struct Serving {
+pub struct ServeOptions {
     /// The port of the loopback interface; 0 for any that is free.
     pub port: u16,
     /// How many connections are served at once, 1 to 64.
@@ -33,25 +33,25 @@ pub struct Serving {
 
 /// Opens the set that the disk holds and serves it on a port of 127.0.0.1, with a thread for each pass, each of which serves
 /// one connection after the other. Says `listening P` before the first one, `refused N` of a refused open as a run does, and
-/// `noport` where it can't listen there. It ends when each pass has served its sessions: Failed where the device failed, or
+/// `noport` where it can't listen there. It ends when each pass has served its sessions, and hands the disk back: Failed where the device failed, or
 /// where there was no thread for a pass.
-pub fn serve_on<R, W, D>(rt: &R, writer: &mut W, disk: D, serving: Serving) -> Status
+pub fn serve_on<R, W, D>(rt: &R, writer: &mut W, disk: D, options: ServeOptions) -> (Status, D)
 where
     R: Net<Listener = TcpListener, Stream = TcpStream>,
     R: Threads + Wait + Clock + AllocGlobal + Sync,
     W: Write + Drop,
     D: Disk + Send,
-    requires passes { (1 ≤ serving.passes) × (serving.passes ≤ 64) }
-    requires buckets { (1 ≤ serving.buckets) × (serving.buckets ≤ 4096) }
-    ensures refused { result ≡ Status.Refused → (fault : OpenFault) × Appends (W.contents writer.old) (W.contents writer.new) (refusal_text fault)
+    requires passes { (1 ≤ options.passes) × (options.passes ≤ 64) }
+    requires buckets { (1 ≤ options.buckets) × (options.buckets ≤ 4096) }
+    ensures refused { result.0 ≡ Status.Refused → (fault : OpenFault) × Appends (W.contents writer.old) (W.contents writer.new) (refusal_text fault)
         × (IsTrue (D.device disk).honest → IsFaultOf (D.device disk).medium.seen fault) }
-    ensures other { (result ≡ Status.Done) ⊎ (result ≡ Status.Refused) ⊎ (result ≡ Status.Failed) }
+    ensures other { (result.0 ≡ Status.Done) ⊎ (result.0 ≡ Status.Refused) ⊎ (result.0 ≡ Status.Failed) }
 {
-    match Set::open(rt.alloc(), disk, NoGate, serving.buckets, serving.passes) {
-        Ok(blank) => serve_blank::<R, W, D, Brand>(rt, writer, blank, serving),
+    match Set::open(rt.alloc(), disk, NoGate, options.buckets, options.passes) {
+        Ok(blank) => serve_blank::<R, W, D, Brand>(rt, writer, blank, options),
         Err(refused) => {
-            let Refused { disk: _, fault } = refused;
-            refuse(writer, fault)
+            let Refused { disk, fault } = refused;
+            (refuse(writer, fault), disk)
         }
     }
 }
@@ -61,8 +61,8 @@ fn serve_blank<R, W, D, N>(
     rt: &R,
     writer: &mut W,
     blank: Blank<D, NoGate>,
-    serving: Serving,
-) -> Status
+    options: ServeOptions,
+) -> (Status, D)
 where
     R: Net<Listener = TcpListener, Stream = TcpStream>,
     R: Threads + Wait + Clock + AllocGlobal + Sync,
@@ -70,22 +70,23 @@ where
     D: Disk + Send,
     N: Named + Send + Sync,
     requires { blank.name ≡ N.name }
-    ensures { (result ≡ Status.Done) ⊎ (result ≡ Status.Failed) }
+    ensures { (result.0 ≡ Status.Done) ⊎ (result.0 ≡ Status.Failed) }
 {
-    let Some((listener, port)) = listen(rt, serving.port) else {
+    let (set, passes) = blank.start::<N>();
+    let Some((listener, port)) = listen(rt, options.port) else {
         // Where standard output fails too, the status alone is left to tell.
-        let _ = write!(writer, "noport\n");
-        return Status::Failed;
+        let _ = writeln!(writer, "noport");
+        return (Status::Failed, set.close());
     };
     // A service goes on where nobody reads what it says.
     let _ = tell_port(writer, port);
-    let (set, passes) = blank.start::<N>();
-    let served = serve(rt, &listener, &set, passes, serving.sessions);
-    let _disk = set.close();
-    if served.halted || served.threadless > 0 {
-        return Status::Failed;
-    }
-    Status::Done
+    let served = serve(rt, &listener, &set, passes, options.sessions);
+    let status = if served.halted || served.threadless > 0 {
+        Status::Failed
+    } else {
+        Status::Done
+    };
+    (status, set.close())
 }
 
 // A listener on a port of the loopback interface, and its port.
