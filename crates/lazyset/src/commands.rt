@@ -5,8 +5,8 @@ use crate::command_line::{command_line, fault_of};
 use crate::fault::Fault;
 use clap::ArgMatches;
 use lazyset_commands::{
-    MOST_JUDGED, MOST_SURVEYED, ServeOptions, Status, check_on, judge_on, make_on, rehearse_on, run_on,
-    serve_on,
+    MOST_JUDGED, MOST_SURVEYED, ServeOptions, Status, check_on, judge_on, make_on, rehearse_on,
+    run_on, serve_on,
 };
 use lz_disk::FileDisk;
 use lz_slot::Format;
