@@ -49,7 +49,8 @@ fn run<'a>(alloc: Global) -> Result<Command<'a>, AllocError> {
         .about(
             "Answers the lines `add K`, `remove K` and `has K` of standard input, each with one line: yes, no, full or halted",
         )
-        .arg(file(alloc))
+        .arg(file(alloc))?
+        .arg(buckets(alloc))
 }
 
 fn serve<'a>(alloc: Global) -> Result<Command<'a>, AllocError> {

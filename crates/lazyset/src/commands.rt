@@ -73,6 +73,10 @@ fn run_file<R>(rt: &R, matches: &ArgMatches<'_>) -> Result<Status, Fault>
 where
     R: Files<File = File> + Input + Print + AllocGlobal,
 {
+    // A session of one caller looks through the slots: in how many lists they stand makes no difference to it yet.
+    if number_within(matches, "buckets", 4096).is_none() {
+        return Ok(Status::CommandLine);
+    }
     let disk = open(rt, matches, false)?;
     let (status, _disk) = run_on(rt.alloc(), &mut rt.reader(), &mut io::writer(rt), disk);
     Ok(status)

@@ -2,11 +2,35 @@
 use crate::commands::{Ran, TWO_SLOTS, disk_with, make, run};
 use lz_disk::{Disk, MemoryDisk, Pick};
 use lz_slot::Format;
-use std::alloc::Global;
+use std::alloc::{AllocError, Global};
 use std::process::Abort;
 use std::test::Fail;
 
-const PICKS: [Pick; 4] = [Pick::Old, Pick::New, Pick::Byte(0xa5), Pick::Byte(0x37)];
+const PICKS: [Pick; 6] = [
+    Pick::Old,
+    Pick::New,
+    Pick::Byte(0xa5),
+    Pick::Byte(0x37),
+    Pick::Byte(0),
+    Pick::Part(1),
+];
+
+/// Whether a device fails at one call or from then on.
+#[derive(Clone, Copy)]
+enum Failing {
+    Once,
+    ForGood,
+}
+
+const FAILINGS: [Failing; 2] = [Failing::Once, Failing::ForGood];
+
+// Lets so many calls pass before the one that fails.
+fn set_failing(disk: &mut MemoryDisk, failing: Failing, passes: u64) {
+    match failing {
+        Failing::Once => disk.trip_after(passes),
+        Failing::ForGood => disk.fuse(passes),
+    }
+}
 
 // What a fresh run answers to whether 17 and 18 are members, once the disk has crashed so.
 fn found(alloc: Global, ran: Ran, pick: Pick) -> Result<Vec<u8>, Fail> {
@@ -25,11 +49,12 @@ fn run_until(
     rt: &impl Abort,
     alloc: Global,
     file: &[u8],
+    failing: Failing,
     passes: u64,
     lines: &[u8],
 ) -> Result<Ran, Fail> {
     let mut disk = disk_with(alloc, file)?;
-    disk.fuse(passes);
+    set_failing(&mut disk, failing, passes);
     let ran = run(alloc, disk, lines);
     assert!(rt;
         ran.code == 1 && ran.disk.calls() == passes.wrapping_add(1),
@@ -41,22 +66,40 @@ fn run_until(
 // After the device's call number `passes` failed, each answered adding lasts, and the one under way may.
 #[test]
 fn a_failed_call_ends_the_run(rt: HostRuntime) -> Result<(), Fail> {
-    for pick in PICKS {
-        for passes in 0..12 {
-            let ran = run_until(&rt, rt.alloc(), &TWO_SLOTS, passes, b"add 17\nadd 18\n")?;
-            let printed = ran.printed.as_slice().to_vec(rt.alloc())?;
-            let found = found(rt.alloc(), ran, pick)?;
-            let is_found = match printed.as_slice() {
-                b"refused 7\n" => found.as_slice() == b"no\nno\n".as_slice(),
-                b"halted\n" => found.as_slice() == b"no\nno\n".as_slice()
-                    || found.as_slice() == b"yes\nno\n".as_slice(),
-                b"yes\nhalted\n" => found.as_slice() == b"yes\nno\n".as_slice()
-                    || found.as_slice() == b"yes\nyes\n".as_slice(),
-                _ => false,
-            };
-            assert!(rt; is_found, "after {passes} calls");
+    for failing in FAILINGS {
+        for pick in PICKS {
+            for passes in 0..12 {
+                two_additions(&rt, rt.alloc(), failing, passes, pick)?;
+            }
         }
     }
+    Ok(())
+}
+
+// Two additions on a disk that fails after so many calls, and a crash.
+fn two_additions(
+    rt: &impl Abort,
+    alloc: Global,
+    failing: Failing,
+    passes: u64,
+    pick: Pick,
+) -> Result<(), Fail> {
+    let ran = run_until(rt, alloc, &TWO_SLOTS, failing, passes, b"add 17\nadd 18\n")?;
+    let printed = ran.printed.as_slice().to_vec(alloc)?;
+    let found = found(alloc, ran, pick)?;
+    let is_found = match printed.as_slice() {
+        b"refused 7\n" => found.as_slice() == b"no\nno\n".as_slice(),
+        b"halted\n" => {
+            found.as_slice() == b"no\nno\n".as_slice()
+                || found.as_slice() == b"yes\nno\n".as_slice()
+        }
+        b"yes\nhalted\n" => {
+            found.as_slice() == b"yes\nno\n".as_slice()
+                || found.as_slice() == b"yes\nyes\n".as_slice()
+        }
+        _ => false,
+    };
+    assert!(rt; is_found, "after {passes} calls");
     Ok(())
 }
 
@@ -78,7 +121,14 @@ fn a_failed_call_ends_a_removal(rt: HostRuntime) -> Result<(), Fail> {
     held[31] = 17;
     for pick in PICKS {
         for passes in 0..6 {
-            let ran = run_until(&rt, rt.alloc(), &held, passes, b"remove 17\n")?;
+            let ran = run_until(
+                &rt,
+                rt.alloc(),
+                &held,
+                Failing::Once,
+                passes,
+                b"remove 17\n",
+            )?;
             let is_refused = ran.tells(1, b"refused 7\n");
             let is_halted = ran.tells(1, b"halted\n");
             let found = found(rt.alloc(), ran, pick)?;
@@ -107,20 +157,20 @@ fn an_answered_removal_lasts(rt: HostRuntime) -> Result<(), Fail> {
 }
 
 // A making whose device's call number `passes` fails.
-fn make_until(alloc: Global, passes: u64) -> Result<Ran, Fail> {
+fn make_until(alloc: Global, failing: Failing, passes: u64) -> Result<Ran, Fail> {
     let mut disk = disk_with(alloc, &[])?;
-    disk.fuse(passes);
+    set_failing(&mut disk, failing, passes);
     Ok(make(alloc, disk, 2, Format::One))
 }
 
 // Before its last sync has succeeded, a making is done or not done, as the crash picks.
 #[test]
 fn a_making_that_fails_at_its_last_sync(rt: HostRuntime) -> Result<(), Fail> {
-    let made = make_until(rt.alloc(), 9)?;
+    let made = make_until(rt.alloc(), Failing::ForGood, 9)?;
     assert!(rt; made.tells(1, b"refused 3\n"));
     let found_old = found(rt.alloc(), made, Pick::Old)?;
     assert_eq!(rt; found_old.as_slice(), b"refused 1\n".as_slice());
-    let mut disk = make_until(rt.alloc(), 9)?.disk;
+    let mut disk = make_until(rt.alloc(), Failing::ForGood, 9)?.disk;
     disk.crash(Pick::New)?;
     assert_eq!(rt; disk.bytes(), TWO_SLOTS.as_slice());
     assert!(rt; run(rt.alloc(), disk, b"has 17\nhas 18\n").tells(0, b"no\nno\n"));
@@ -139,17 +189,58 @@ fn a_broken_off_making_is_made_anew(rt: HostRuntime) -> Result<(), Fail> {
 // A making that was not acknowledged leaves no made file, or the empty set.
 #[test]
 fn a_making_that_fails_leaves_no_half_file(rt: HostRuntime) -> Result<(), Fail> {
-    for pick in PICKS {
-        for passes in 0..10 {
-            let made = make_until(rt.alloc(), passes)?;
-            assert!(rt; made.tells(1, b"refused 3\n"), "after {passes} calls");
-            let found = found(rt.alloc(), made, pick)?;
-            let is_sound = found.as_slice() == b"refused 1\n".as_slice()
-                || found.as_slice() == b"no\nno\n".as_slice();
-            assert!(rt; is_sound, "after {passes} calls");
+    for failing in FAILINGS {
+        for pick in PICKS {
+            for passes in 0..10 {
+                failed_making(&rt, rt.alloc(), failing, passes, pick)?;
+            }
         }
     }
     Ok(())
+}
+
+// A making on a disk that fails after so many calls, and a crash.
+fn failed_making(
+    rt: &impl Abort,
+    alloc: Global,
+    failing: Failing,
+    passes: u64,
+    pick: Pick,
+) -> Result<(), Fail> {
+    let made = make_until(alloc, failing, passes)?;
+    assert!(rt; made.tells(1, b"refused 3\n"), "after {passes} calls");
+    let found = found(alloc, made, pick)?;
+    let is_sound = found.as_slice() == b"refused 1\n".as_slice()
+        || found.as_slice() == b"no\nno\n".as_slice();
+    assert!(rt; is_sound, "after {passes} calls");
+    Ok(())
+}
+
+// A write that is made to fail leaves its bytes loose: the crash picks what they are, and an open gate is found.
+#[test]
+fn a_failed_write_is_loose(rt: HostRuntime) -> Result<(), Fail> {
+    // Of an addition the seventh call writes the gate: five of the open, two of the key.
+    for passes in 0..12 {
+        let ran = run_until(
+            &rt,
+            rt.alloc(),
+            &TWO_SLOTS,
+            Failing::Once,
+            passes,
+            b"add 17\nadd 18\n",
+        )?;
+        let mut disk = ran.disk;
+        let reads_as_before = disk.bytes()[16] != 0xa5;
+        disk.crash(Pick::Byte(0xa5))?;
+        if reads_as_before && disk.bytes()[16] == 0xa5 {
+            assert!(rt;
+                run(rt.alloc(), disk, b"has 17\n").tells(0, b"yes\n"),
+                "after {passes} calls"
+            );
+            return Ok(());
+        }
+    }
+    Err(Fail::from(AllocError))
 }
 
 #[test]

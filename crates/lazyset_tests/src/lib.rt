@@ -16,6 +16,8 @@ mod large;
 #[cfg(test)]
 mod lists;
 #[cfg(test)]
+mod parts;
+#[cfg(test)]
 mod plays;
 #[cfg(test)]
 mod refusals;

@@ -4,7 +4,7 @@ ghost use Rattle.lz_set.specs.Names.{MayCall};
 
 use lz_disk::MemoryDisk;
 use lz_set::{Blank, Fault, Named, NoGate, Pass, Set};
-use lz_slot::{Key, Slot};
+use lz_slot::{Format, Key, Slot};
 use lz_vault::{Vault, make};
 use std::alloc::Global;
 use std::marker::Brand;
@@ -140,7 +140,7 @@ fn run<R: Threads + Wait + Sync>(
     let Ok(mut disk) = MemoryDisk::new(alloc, Vec::new(alloc)) else {
         return None;
     };
-    if make(&mut disk, 1000).is_err() {
+    if make(&mut disk, Format::Two, 1000).is_err() {
         return None;
     }
     if let Some(calls) = fuse {
