@@ -2,7 +2,7 @@
 use crate::commands::{Ran, TWO_SLOTS, disk_with, make, run};
 use lz_disk::{Disk, MemoryDisk, Pick};
 use lz_slot::Format;
-use std::alloc::{AllocError, Global};
+use std::alloc::Global;
 use std::process::Abort;
 use std::test::Fail;
 
@@ -100,6 +100,43 @@ fn two_additions(
         _ => false,
     };
     assert!(rt; is_found, "after {passes} calls");
+    Ok(())
+}
+
+// Four commands on a disk that fails after so many calls, and a crash: the set is that after the answered ones, with the one
+// under way or without it. The last one asks the device for nothing.
+fn four_commands(
+    rt: &impl Abort,
+    alloc: Global,
+    failing: Failing,
+    passes: u64,
+    pick: Pick,
+) -> Result<(), Fail> {
+    let lines = b"add 17\nadd 18\nremove 17\nhas 18\n".as_slice();
+    let ran = run_until(rt, alloc, &TWO_SLOTS, failing, passes, lines)?;
+    let printed = ran.printed.as_slice().to_vec(alloc)?;
+    let found = found(alloc, ran, pick)?;
+    let (before, after) = match printed.as_slice() {
+        b"refused 7\n" => ("no\nno\n", "no\nno\n"),
+        b"halted\n" => ("no\nno\n", "yes\nno\n"),
+        b"yes\nhalted\n" => ("yes\nno\n", "yes\nyes\n"),
+        b"yes\nyes\nhalted\n" => ("yes\nyes\n", "no\nyes\n"),
+        _ => ("", ""),
+    };
+    let is_left = found.as_slice() == before.as_bytes() || found.as_slice() == after.as_bytes();
+    assert!(rt; is_left, "after {passes} calls");
+    Ok(())
+}
+
+#[test]
+fn a_failed_call_among_four_commands(rt: HostRuntime) -> Result<(), Fail> {
+    for failing in FAILINGS {
+        for pick in PICKS {
+            for passes in 0..14 {
+                four_commands(&rt, rt.alloc(), failing, passes, pick)?;
+            }
+        }
+    }
     Ok(())
 }
 
@@ -219,28 +256,16 @@ fn failed_making(
 // A write that is made to fail leaves its bytes loose: the crash picks what they are, and an open gate is found.
 #[test]
 fn a_failed_write_is_loose(rt: HostRuntime) -> Result<(), Fail> {
-    // Of an addition the seventh call writes the gate: five of the open, two of the key.
-    for passes in 0..12 {
-        let ran = run_until(
-            &rt,
-            rt.alloc(),
-            &TWO_SLOTS,
-            Failing::Once,
-            passes,
-            b"add 17\nadd 18\n",
-        )?;
-        let mut disk = ran.disk;
-        let reads_as_before = disk.bytes()[16] != 0xa5;
-        disk.crash(Pick::Byte(0xa5))?;
-        if reads_as_before && disk.bytes()[16] == 0xa5 {
-            assert!(rt;
-                run(rt.alloc(), disk, b"has 17\n").tells(0, b"yes\n"),
-                "after {passes} calls"
-            );
-            return Ok(());
-        }
-    }
-    Err(Fail::from(AllocError))
+    // The open makes four calls, and the writing of the key two; the next one writes the gate.
+    let ran = run_until(&rt, rt.alloc(), &TWO_SLOTS, Failing::Once, 6, b"add 17\n")?;
+    let mut disk = ran.disk;
+    assert!(rt;
+        matches!(disk.bytes().get(16), Some(0)),
+        "it reads as before"
+    );
+    disk.crash(Pick::Byte(0xa5))?;
+    assert!(rt; run(rt.alloc(), disk, b"has 17\n").tells(0, b"yes\n"));
+    Ok(())
 }
 
 #[test]

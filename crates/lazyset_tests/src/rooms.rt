@@ -52,8 +52,13 @@ fn rooms_share_a_file(rt: HostRuntime) -> Result<(), Fail> {
         Err(Fault::Full)
     );
     let disk = plain.close();
-    let slot = [0xa5, 3, 0, 0, 0, 0, 0, 0, 0, 0, 0, 0, 0, 0, 0, 0x11];
-    assert_eq!(rt; &disk.bytes()[16..32], slot.as_slice());
+    let mut left = bytes;
+    left[16] = 0xa5;
+    left[17] = 3;
+    left[31] = 0x11;
+    left[32] = 0xa5;
+    left[47] = 0x11;
+    assert_eq!(rt; disk.bytes(), left.as_slice());
     Ok(())
 }
 
