@@ -23,7 +23,7 @@ fn format<'a>(alloc: Global) -> Arg<'a> {
         .value_parser(value_parser!(u64).range(1..=2))
         .default_value("2")
         .help(
-            "The format of the file: 2, whose keys are in the rooms 0 to 15, or 1, whose keys are in room 0",
+            "The format of the file: 2, whose keys are in the rooms 0 to 15, or the older 1, whose keys are all in room 0",
         )
 }
 
@@ -47,7 +47,7 @@ fn buckets<'a>(alloc: Global) -> Arg<'a> {
 fn run<'a>(alloc: Global) -> Result<Command<'a>, AllocError> {
     Command::new(alloc, "run")
         .about(
-            "Answers the lines `add K`, `remove K` and `has K` of standard input, each with one line: yes, no, full or halted",
+            "Answers the lines `add K`, `remove K` and `has K` of standard input, each with one line: yes, no, full, oldfile or halted. K is a number, as in `add 17`, or a room from 0 to 15 and a number, as in `add 3:17`: rooms keep several tenants or classes of keys apart. A file of format 1 answers oldfile to an `add` in another room than 0",
         )
         .arg(file(alloc))?
         .arg(buckets(alloc))
