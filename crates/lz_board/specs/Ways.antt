@@ -8,7 +8,7 @@ use Rattle.lz_list.specs.declared.flags.Flags.{Flags}
 use Rattle.lz_list.specs.Traces.{Trace, Begins, member, IsSettled}
 use Rattle.lz_machine.specs.declared.event.Reply.{Reply}
 use Rattle.lz_machine.specs.declared.event.Reply.TheVariants.{Yes, No, Full}
-use Rattle.lz_machine.specs.declared.caller.Script.TheVariants.{Resting}
+use Rattle.lz_machine.specs.declared.caller.Sequence.TheVariants.{Resting}
 use Rattle.lz_machine.specs.declared.caller.Progress.{Progress}
 use Rattle.lz_machine.specs.declared.caller.Progress.TheVariants.{Playing, Walking, Reserving, SeeingPins, Answering}
 use Rattle.lz_board.specs.declared.view.Sizes.{Sizes}

@@ -10,7 +10,7 @@ ghost use Rattle.lz_machine.specs.Runs.{reply_at};
 
 use crate::order::{changes, count_of, event_of, follower_of, halt_loaded, hopped};
 use lz_list::{Look, Walk, Word};
-use lz_machine::{Event, Outcome, Progress, Reply, Script};
+use lz_machine::{Event, Outcome, Progress, Reply, Sequence};
 use lz_slot::{Command, Slot};
 use std::marker::Model;
 
@@ -19,8 +19,8 @@ use std::marker::Model;
 macro_rules! taken {
     ($caller:ident, $outcome:ident; $($event:pat => $follows:ident;)*) => {
         match $outcome {
-            Outcome::Fault => $caller.progress = Progress::Playing(Script::Halting(Reply::Device), 0),
-            Outcome::Dead => $caller.progress = Progress::Playing(Script::Halting(Reply::Halted), 0),
+            Outcome::Fault => $caller.progress = Progress::Playing(Sequence::Halting(Reply::Device), 0),
+            Outcome::Dead => $caller.progress = Progress::Playing(Sequence::Halting(Reply::Halted), 0),
             Outcome::Worn => $caller.progress = Progress::Answering(Reply::Worn),
             Outcome::OldFile => $caller.progress = Progress::Answering(Reply::OldFile),
             outcome => match $caller.event() {
@@ -61,7 +61,7 @@ impl Caller {
             command,
             buckets,
             passes,
-            progress: Progress::Playing(Script::Pinning, 0),
+            progress: Progress::Playing(Sequence::Pinning, 0),
         }
     }
 
@@ -97,7 +97,7 @@ impl Caller {
         ensures pass { HasPass self.now.passes result }
     {
         match self.progress {
-            Progress::Playing(script, index) => event_of(self.command, script, index),
+            Progress::Playing(sequence, index) => event_of(self.command, sequence, index),
             Progress::LoadsHalt => Event::Hop(Word::Halt),
             Progress::Walking(_, look) => Event::Hop(self.walk(look).wants()),
             Progress::Reserving(_) => Event::Reserve,
@@ -115,25 +115,25 @@ impl Caller {
         ensures { self.new ≡ record self.old { progress = progress_after (shape_with self.old) self.old.command self.old.progress outcome } }
     {
         taken! { self, outcome;
-            Event::Invoke(_) => after_script;
-            Event::Pin => after_script;
+            Event::Invoke(_) => after_sequence;
+            Event::Pin => after_sequence;
             Event::Hop(_) => after_hop;
             Event::Reserve => after_reserve;
-            Event::WriteKey(_) => after_script;
+            Event::WriteKey(_) => after_sequence;
             Event::Claim(_, _) => after_claim;
             Event::Check => after_check;
-            Event::WriteOpen => after_script;
-            Event::Link => after_script;
-            Event::WriteClose => after_script;
-            Event::Mark => after_script;
-            Event::Release => after_script;
-            Event::Sync(_) => after_script;
-            Event::Settle(_) => after_script;
-            Event::Unlink => after_script;
-            Event::Retire => after_script;
+            Event::WriteOpen => after_sequence;
+            Event::Link => after_sequence;
+            Event::WriteClose => after_sequence;
+            Event::Mark => after_sequence;
+            Event::Release => after_sequence;
+            Event::Sync(_) => after_sequence;
+            Event::Settle(_) => after_sequence;
+            Event::Unlink => after_sequence;
+            Event::Retire => after_sequence;
             Event::SeePin(_, _) => after_see_pin;
             Event::Answer => after_answer;
-            Event::Halt => after_script;
+            Event::Halt => after_sequence;
         }
     }
 
@@ -148,30 +148,30 @@ impl Caller {
         }
     }
 
-    // After an event of a script. Where a settling came early, the sync before it is played again.
-    fn after_script(&self, outcome: Outcome) -> Progress
+    // After an event of a sequence. Where a settling came early, the sync before it is played again.
+    fn after_sequence(&self, outcome: Outcome) -> Progress
         requires { IsPlaying self.now.progress }
         ensures follows { result ≡ follows (shape_with self.now) self.now.command self.now.progress outcome }
         ensures inside { IsProgress self.now.passes self.now.command result }
     {
         match self.progress {
-            Progress::Playing(script, index) => match outcome {
-                Outcome::Early => Progress::Playing(script, index.saturating_sub(1)),
-                _ => self.after_event(script, index),
+            Progress::Playing(sequence, index) => match outcome {
+                Outcome::Early => Progress::Playing(sequence, index.saturating_sub(1)),
+                _ => self.after_event(sequence, index),
             },
             other => other,
         }
     }
 
-    fn after_event(&self, script: Script, index: usize) -> Progress
-        requires { index < length (events_of self.now.command script) }
-        ensures follows { result ≡ after_event self.now.command script index }
+    fn after_event(&self, sequence: Sequence, index: usize) -> Progress
+        requires { index < length (events_of self.now.command sequence) }
+        ensures follows { result ≡ after_event self.now.command sequence index }
         ensures inside { IsProgress self.now.passes self.now.command result }
     {
-        let last = script;
-        let counted = script;
+        let last = sequence;
+        let counted = sequence;
         if index + 1 < count_of(self.command, counted) {
-            Progress::Playing(script, index + 1)
+            Progress::Playing(sequence, index + 1)
         } else {
             follower_of(last)
         }
@@ -213,7 +213,7 @@ impl Caller {
     {
         match self.progress {
             Progress::Reserving(again) => match outcome {
-                Outcome::Slot(slot) => Progress::Playing(Script::Writing(slot), 0),
+                Outcome::Slot(slot) => Progress::Playing(Sequence::Writing(slot), 0),
                 Outcome::NoSlot(counts) if again => Progress::Answering(Reply::Full(counts)),
                 Outcome::NoSlot(_) => Progress::SeeingPins(1),
                 _ => Progress::Reserving(again),
@@ -257,7 +257,7 @@ impl Caller {
         match self.progress {
             Progress::Checking(aim, curr) => match outcome {
                 Outcome::True => changes(self.command, aim, curr),
-                Outcome::False => Progress::Playing(Script::Releasing(aim), 0),
+                Outcome::False => Progress::Playing(Sequence::Releasing(aim), 0),
                 _ => Progress::Checking(aim, curr),
             },
             other => other,

@@ -1,4 +1,4 @@
-//! What a call plays next: its scripts, and what follows a walk or a check.
+//! What a call plays next: its sequences, and what follows a walk or a check.
 ghost use Rattle.std.specs.Prelude.{◌≡◌, ◌<◌, length};
 ghost use Rattle.lz_flush.specs.Settling.{may_answer};
 ghost use Rattle.lz_list.specs.Hops.{told};
@@ -7,44 +7,44 @@ ghost use Rattle.lz_machine.specs.Calls.{changes, event_of, events_of, goes_on, 
 
 use lz_flush::{Need, may_answer};
 use lz_list::{Flags, Hop, Look, Met, Place};
-use lz_machine::{Event, Progress, Reply, Script};
+use lz_machine::{Event, Progress, Reply, Sequence};
 use lz_slot::{Command, Slot};
 
-// How many events a script has.
-pub(crate) fn count_of(command: Command, script: Script) -> usize
-    ensures { result ≡ length (events_of command script) }
+// How many events a sequence has.
+pub(crate) fn count_of(command: Command, sequence: Sequence) -> usize
+    ensures { result ≡ length (events_of command sequence) }
 {
-    match script {
-        Script::Pinning | Script::Releasing(_) | Script::Halting(_) => 1,
-        Script::Resting(_, _) | Script::Writing(_) => 2,
-        Script::Adding(_) => 5,
-        Script::Removing(_) => 7,
+    match sequence {
+        Sequence::Pinning | Sequence::Releasing(_) | Sequence::Halting(_) => 1,
+        Sequence::Resting(_, _) | Sequence::Writing(_) => 2,
+        Sequence::Adding(_) => 5,
+        Sequence::Removing(_) => 7,
     }
 }
 
-// The event of a script with this index.
-pub(crate) fn event_of(command: Command, script: Script, index: usize) -> Event
-    requires { index < length (events_of command script) }
-    ensures { result ≡ event_of command script index }
+// The event of a sequence with this index.
+pub(crate) fn event_of(command: Command, sequence: Sequence, index: usize) -> Event
+    requires { index < length (events_of command sequence) }
+    ensures { result ≡ event_of command sequence index }
 {
-    match script {
-        Script::Pinning => Event::Pin,
-        Script::Resting(slot, _) => match index {
+    match sequence {
+        Sequence::Pinning => Event::Pin,
+        Sequence::Resting(slot, _) => match index {
             0 => Event::Sync(slot),
             _ => Event::Settle(slot),
         },
-        Script::Writing(slot) => match index {
+        Sequence::Writing(slot) => match index {
             0 => Event::WriteKey(command.key()),
             _ => Event::Sync(slot),
         },
-        Script::Adding(slot) => match index {
+        Sequence::Adding(slot) => match index {
             0 => Event::WriteOpen,
             1 => Event::Link,
             2 => Event::Release,
             3 => Event::Sync(slot),
             _ => Event::Settle(slot),
         },
-        Script::Removing(slot) => match index {
+        Sequence::Removing(slot) => match index {
             0 => Event::WriteClose,
             1 => Event::Mark,
             2 => Event::Sync(slot),
@@ -53,24 +53,24 @@ pub(crate) fn event_of(command: Command, script: Script, index: usize) -> Event
             5 => Event::Release,
             _ => Event::Retire,
         },
-        Script::Releasing(_) => Event::Release,
-        Script::Halting(_) => Event::Halt,
+        Sequence::Releasing(_) => Event::Release,
+        Sequence::Halting(_) => Event::Halt,
     }
 }
 
-// What follows a script.
-pub(crate) fn follower_of(script: Script) -> Progress
-    ensures follows { result ≡ goes_on script }
+// What follows a sequence.
+pub(crate) fn follower_of(sequence: Sequence) -> Progress
+    ensures follows { result ≡ goes_on sequence }
     ensures inside { IsEverywhere result }
 {
-    match script {
-        Script::Pinning => Progress::LoadsHalt,
-        Script::Resting(_, reply) => Progress::Answering(reply),
-        Script::Writing(slot) => Progress::Walking(Some(slot), Look::AtHead),
-        Script::Adding(_) => Progress::Answering(Reply::Yes),
-        Script::Removing(_) => Progress::Answering(Reply::Yes),
-        Script::Releasing(aim) => Progress::Walking(aim, Look::AtHead),
-        Script::Halting(reply) => Progress::Answering(reply),
+    match sequence {
+        Sequence::Pinning => Progress::LoadsHalt,
+        Sequence::Resting(_, reply) => Progress::Answering(reply),
+        Sequence::Writing(slot) => Progress::Walking(Some(slot), Look::AtHead),
+        Sequence::Adding(_) => Progress::Answering(Reply::Yes),
+        Sequence::Removing(_) => Progress::Answering(Reply::Yes),
+        Sequence::Releasing(aim) => Progress::Walking(aim, Look::AtHead),
+        Sequence::Halting(reply) => Progress::Answering(reply),
     }
 }
 
@@ -93,7 +93,7 @@ fn rests(slot: Slot, flags: Flags, reply: Reply) -> Progress
 {
     match may_answer(flags) {
         Need::Now => Progress::Answering(reply),
-        Need::Sync => Progress::Playing(Script::Resting(slot, reply), 0),
+        Need::Sync => Progress::Playing(Sequence::Resting(slot, reply), 0),
     }
 }
 
@@ -147,8 +147,8 @@ pub(crate) fn changes(command: Command, aim: Option<Slot>, curr: Option<Slot>) -
 {
     let kept = aim;
     match (command, aim, curr) {
-        (Command::Add(_), Some(slot), _) => Progress::Playing(Script::Adding(slot), 0),
-        (Command::Remove(_), _, Some(slot)) => Progress::Playing(Script::Removing(slot), 0),
-        _ => Progress::Playing(Script::Releasing(kept), 0),
+        (Command::Add(_), Some(slot), _) => Progress::Playing(Sequence::Adding(slot), 0),
+        (Command::Remove(_), _, Some(slot)) => Progress::Playing(Sequence::Removing(slot), 0),
+        _ => Progress::Playing(Sequence::Releasing(kept), 0),
     }
 }

@@ -12,11 +12,11 @@ use Rattle.lz_machine.specs.declared.event.Event.TheVariants.{Invoke, Check, See
 use Rattle.lz_machine.specs.declared.event.Outcome.{Outcome}
 use Rattle.lz_machine.specs.declared.event.Outcome.TheVariants.{Worn, OldFile, Fault, Dead}
 use Rattle.lz_machine.specs.declared.event.Reply.{Reply}
-use Rattle.lz_machine.specs.declared.caller.Script.{Script}
-use Rattle.lz_machine.specs.declared.caller.Script.TheVariants.{Pinning, Resting, Writing, Adding, Removing, Releasing, Halting}
+use Rattle.lz_machine.specs.declared.caller.Sequence.{Sequence}
+use Rattle.lz_machine.specs.declared.caller.Sequence.TheVariants.{Pinning, Resting, Writing, Adding, Removing, Releasing, Halting}
 use Rattle.lz_machine.specs.declared.caller.Progress.{Progress}
 use Rattle.lz_machine.specs.declared.caller.Progress.TheVariants.{Playing, LoadsHalt, Walking, Reserving, SeeingPins, Claiming, Checking, Answering}
-use Rattle.lz_core.specs.declared.play.Step.{Step as PlayStep}
+use Rattle.lz_core.specs.declared.play.Step.{Transition as PlayStep}
 use Rattle.lz_core.specs.declared.play.Step.TheVariants.{Turn as TurnOf}
 use Rattle.lz_machine.specs.declared.actor.Actor.{Actor}
 use Rattle.lz_machine.specs.declared.course.Course.{Course}
@@ -28,7 +28,7 @@ use Rattle.lz_machine.specs.Calls.{event_at, events_of, loaded, progress_after}
 use Rattle.lz_machine.specs.Orders.{MayTake, shape_with}
 use Rattle.lz_machine.specs.Ready.{IsEventOf}
 use Rattle.lz_yard.specs.Steps.{Played}
-use Rattle.lz_machine.specs.Runs.{Step, IsNext, Caller, Service, State, Up, Turn, Fails, HasTurn, HasFault, MayPlay, Reached, caller_at, next_event, reply_at, moved_on, played, after_turn, after_fault, marks_of_turn, mark_of_turn, state_after, Point}
+use Rattle.lz_machine.specs.Runs.{Transition, IsNext, Caller, Service, State, Up, Turn, Fails, HasTurn, HasFault, MayPlay, Reached, caller_at, next_event, reply_at, moved_on, played, after_turn, after_fault, marks_of_turn, mark_of_turn, state_after, Point}
 use Rattle.lz_yard.specs.Parts.{YardOver}
 use Rattle.lz_machine.specs.Points.{IsQuiet}
 use Rattle.lz_core.specs.Worlds.{WorldOver, HasRun, PlaysOn, HasOne, IsCallOn, IsLawful, IsOutcome, IsWorld, MayStepOn, StepsOn, call_shown, call_after, event_asked, event_loaded, mark_list, next_of, next_of_caller, state_shown}
@@ -108,7 +108,7 @@ module _ (shape : Shape) (over : YardOver Past) (disk : Option Past) (callers : 
   }
 
 -- where no look was half done, none is after a step of a play
-pub quiet_goes : (shape : Shape) (old new : WorldOver) (play : PlayStep) (step : Step) (marks : List Mark) → HasRun shape old → Goes old play step marks new → is_look step ≡ false → IsQuiet new.state
+pub quiet_goes : (shape : Shape) (old new : WorldOver) (play : PlayStep) (step : Transition) (marks : List Mark) → HasRun shape old → Goes old play step marks new → is_look step ≡ false → IsQuiet new.state
 quiet_goes shape old new play step marks ran goes other =
     subst IsQuiet (ap (λ (w : State). state_after (suc old.calls) w step) ran.at.state ∙ goes.to)
     (quiet_step ran.start ran.point ran.reached (suc old.calls) step (rw ran.at.state goes.may) other (rw ran.at.state ran.quiet))
@@ -269,7 +269,7 @@ module _ (shape : Shape) (over : YardOver Past) (disk : Option Past) (callers : 
         told = sym silent ∙ told;
       }
 
-  world_by : (step : Step) (marks : List Mark) → IsCallOn shape call' → HasOne (Some over') disk → Goes old (TurnOf a) step marks new → is_look step ≡ false → IsWorld shape (Some over') disk (slice_set callers (a - 1) call') calls
+  world_by : (step : Transition) (marks : List Mark) → IsCallOn shape call' → HasOne (Some over') disk → Goes old (TurnOf a) step marks new → is_look step ≡ false → IsWorld shape (Some over') disk (slice_set callers (a - 1) call') calls
   world_by step marks on one goes other = record {
     one = one;
     count = same_count callers (a - 1) call' ∙ world.count;

@@ -4,19 +4,19 @@ use Rattle.std.proofs.lemmas.List.{reverse-append, append-nil, append_assoc}
 use Rattle.std.proofs.lemmas.Option.{slice_get_within, get_or_from_slice_get}
 use Rattle.std.proofs.Math.Seq.{take-suc}
 use Rattle.lz_slot.specs.declared.history.Mark.{Mark}
-use Rattle.lz_core.specs.declared.play.Step.{Step as PlayStep}
-use Rattle.lz_machine.specs.Runs.{Step, MayStep, Point, run, IsRun}
+use Rattle.lz_core.specs.declared.play.Step.{Transition as PlayStep}
+use Rattle.lz_machine.specs.Runs.{Transition, MayStep, Point, run, IsRun}
 use Rattle.lz_machine.specs.Points.{IsReached}
 use Rattle.lz_core.specs.Plays.{IsPlayOf, ArePlaysOf}
 use Rattle.lz_core.specs.Worlds.{WorldOver, StopsAt, StopsEarly, IsLawful, PlaysOn, IsChain, mark_list}
 use Rattle.lz_machine.proofs.Theorem.Reached.{every_history}
 use Rattle.lz_machine.proofs.Runs.Composition.{run_append}
 
-may_on : (p : Point) (later before : List Step) → IsRun p before → IsRun (run p before) later → IsRun p (later ++ before)
+may_on : (p : Point) (later before : List Transition) → IsRun p before → IsRun (run p before) later → IsRun p (later ++ before)
 may_on p [] before first then_on = first
 may_on p (step ∷ later) before first then_on = (subst (λ (q : Point). MayStep q.state step) (run_append p later before) then_on.0, may_on p later before first then_on.1)
 
-plays_on : (p : Point) (ys xs : List PlayStep) (later before : List Step) → ArePlaysOf p xs before → ArePlaysOf (run p before) ys later → ArePlaysOf p (ys ++ xs) (later ++ before)
+plays_on : (p : Point) (ys xs : List PlayStep) (later before : List Transition) → ArePlaysOf p xs before → ArePlaysOf (run p before) ys later → ArePlaysOf p (ys ++ xs) (later ++ before)
 plays_on p [] xs [] before first are = first
 plays_on p [] xs (step ∷ later) before first are = absurd cc
 plays_on p (y ∷ ys) xs [] before first are = absurd are

@@ -12,11 +12,11 @@ use Rattle.lz_disk.specs.Images.{IsImage, at_rest}
 use Rattle.lz_disk.specs.declared.memory.Pick.{Pick}
 use Rattle.lz_disk.specs.Picks.{left_by}
 use Rattle.lz_disk.specs.Records.{Past, after}
-use Rattle.lz_core.specs.declared.play.Step.{Step as PlayStep}
+use Rattle.lz_core.specs.declared.play.Step.{Transition as PlayStep}
 use Rattle.lz_core.specs.declared.play.Step.TheVariants.{Call as CallOf, Trip, Stop, Crash}
 use Rattle.lz_core.specs.declared.open_calls.OpenCall.{OpenCall}
 use Rattle.lz_machine.specs.Yards.{Shape}
-use Rattle.lz_machine.specs.Runs.{Caller, Calls, caller_at, Start, start_keys, State, Up, Down, Step, Trips, Stops, Crashes, MayStep, disk_of, state_after, calls_after, marks_of, shape_of, Point, point_after, run, first_point}
+use Rattle.lz_machine.specs.Runs.{Caller, Calls, caller_at, Start, start_keys, State, Up, Down, Transition, Trips, Stops, Crashes, MayStep, disk_of, state_after, calls_after, marks_of, shape_of, Point, point_after, run, first_point}
 use Rattle.lz_core.specs.Plays.{IsPlayOf}
 use Rattle.lz_yard.specs.Parts.{YardOver}
 use Rattle.lz_core.specs.Worlds.{WorldOver, StopsEarly, HasRun, PlaysOn, HasOne, IsCallOn, IsLawful, IsWorld, MayCall, call_shown, state_shown, disk_shown}
@@ -25,14 +25,14 @@ use Rattle.lz_machine.specs.Sound.{PointSound}
 use Rattle.lz_machine.proofs.Runs.ReachedPoint.{reach, shape_kept}
 
 -- one step of a play, as a step of a run
-pub record Goes (old : WorldOver) (play : PlayStep) (step : Step) (marks : List Mark) (new : WorldOver) : Type 0 where
+pub record Goes (old : WorldOver) (play : PlayStep) (step : Transition) (marks : List Mark) (new : WorldOver) : Type 0 where
   pub is : IsPlayOf old.state play step
   pub may : MayStep old.state step
   pub to : state_after (suc old.calls) old.state step ≡ new.state
   pub counts : calls_after old.calls step ≡ new.calls
   pub told : marks_of (suc old.calls) old.state step ≡ reverse marks
 
-pub leads : (old new : WorldOver) (play : PlayStep) (step : Step) (marks : List Mark) → Goes old play step marks new → PlaysOn old (play ∷ []) marks new
+pub leads : (old new : WorldOver) (play : PlayStep) (step : Transition) (marks : List Mark) → Goes old play step marks new → PlaysOn old (play ∷ []) marks new
 leads old new play step marks goes p at = record {
   played = record {
     steps = step ∷ [];
@@ -46,7 +46,7 @@ leads old new play step marks goes p at = record {
 }
 
 -- so the world has a run to where it is now
-pub runs_on : (shape : Shape) (old new : WorldOver) (play : PlayStep) (step : Step) (marks : List Mark) → HasRun shape old → Goes old play step marks new → IsQuiet new.state → HasRun shape new
+pub runs_on : (shape : Shape) (old new : WorldOver) (play : PlayStep) (step : Transition) (marks : List Mark) → HasRun shape old → Goes old play step marks new → IsQuiet new.state → HasRun shape new
 runs_on shape old new play step marks ran goes quiet = record {
   start = ran.start;
   shape = ran.shape;
@@ -133,7 +133,7 @@ crashes shape old new pick ran image down calls = record {
 
 -- a world that has gone down is one
 module _ (shape : Shape) (yard : Option (YardOver Past)) (disk : Option Past) (callers : List (Option OpenCall)) (calls : ℕ) (world : IsWorld shape yard disk callers calls) where
-  pub now_at : (play : PlayStep) (step : Step) (marks : List Mark) (yard' : Option (YardOver Past)) (disk' : Option Past)
+  pub now_at : (play : PlayStep) (step : Transition) (marks : List Mark) (yard' : Option (YardOver Past)) (disk' : Option Past)
       → HasOne yard' disk' → Goes (record { state = state_shown shape yard disk callers; calls = calls }) play step marks (record { state = state_shown shape yard' disk' callers; calls = calls })
       → IsQuiet (state_shown shape yard' disk' callers) → IsWorld shape yard' disk' callers calls
   now_at play step marks yard' disk' one goes quiet = record {

@@ -12,7 +12,7 @@ mod shown;
 mod world;
 
 pub use lz_caller::Caller;
-pub use lz_machine::{Actor, Course, Event, Hold, Kind, Outcome, Progress, Reply, Script, laws};
+pub use lz_machine::{Actor, Course, Event, Hold, Kind, Outcome, Progress, Reply, Sequence, laws};
 pub use lz_yard::Yard;
 pub use play::Step;
 pub use world::{ACTORS, PlayFault, Turned, World};

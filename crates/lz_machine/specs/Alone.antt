@@ -15,10 +15,10 @@ use Rattle.lz_machine.specs.declared.event.Reply.TheVariants.{Worn as SaysWorn, 
 use Rattle.lz_machine.specs.Table.{pin_of, last_pin, is_old}
 use Rattle.lz_allot.specs.Uses.{collect, lowest_free}
 use Rattle.lz_machine.specs.declared.caller.Progress.TheVariants.{Reserving}
-use Rattle.lz_machine.specs.Runs.{Start, IsStart, Service, Caller, Up, Step, Calls, Turn, Fails, Looks, CrashesIn, MayStep, MayLeave, Reached, IsRun, run, first_point, start_keys, caller_at, reply_at}
+use Rattle.lz_machine.specs.Runs.{Start, IsStart, Service, Caller, Up, Transition, Calls, Turn, Fails, Looks, CrashesIn, MayStep, MayLeave, Reached, IsRun, run, first_point, start_keys, caller_at, reply_at}
 
 -- the step is this actor's, or no actor's
-abbrev pub IsOwn : ℕ → Step → Type 0
+abbrev pub IsOwn : ℕ → Transition → Type 0
 IsOwn a (Calls b c) = b ≡ a
 IsOwn a (Turn b) = b ≡ a
 IsOwn a (Fails b new) = b ≡ a
@@ -27,7 +27,7 @@ IsOwn a (CrashesIn b t) = b ≡ a
 IsOwn a _ = Unit {0}
 
 -- no other actor takes a step
-abbrev pub IsAlone : ℕ → List Step → Type 0
+abbrev pub IsAlone : ℕ → List Transition → Type 0
 IsAlone a [] = Unit {0}
 IsAlone a (step ∷ steps) = IsOwn a step × IsAlone a steps
 
@@ -59,7 +59,7 @@ ArePlain (life ∷ earlier) T = IsPlain life.start life.history T × ArePlain ea
 -- Where one actor is alone, each text that a crash may leave holds a set to which the lives lead as plain sets.
 abbrev pub AloneIsPlain : Type 0
 AloneIsPlain =
-    (start : Start) (steps : List Step) (a : ℕ) (t : List ℕ)
+    (start : Start) (steps : List Transition) (a : ℕ) (t : List ℕ)
     → IsStart start → IsRun (first_point start) steps → IsAlone a steps
     → MayLeave (run (first_point start) steps).state t
     → (T : Keys) × Holds t start.shape.slots T × ArePlain (lives (start_keys start) (run (first_point start) steps).marks) T
@@ -98,7 +98,7 @@ AreSized F N (life ∷ earlier) = IsSized F N life.start life.history × AreSize
 -- else full comes exactly where the key is no member and the set has as many members as there are slots.
 abbrev pub FullIsRight : Type 0
 FullIsRight =
-    (start : Start) (steps : List Step) (a : ℕ)
+    (start : Start) (steps : List Transition) (a : ℕ)
     → IsStart start → IsRun (first_point start) steps → IsAlone a steps
     → AreSized (format_of start.text) start.shape.slots (lives (start_keys start) (run (first_point start) steps).marks)
 

@@ -21,15 +21,15 @@ use Rattle.lz_machine.specs.declared.event.Outcome.{Outcome}
 use Rattle.lz_machine.specs.declared.event.Outcome.TheVariants.{Value, Slot, NoSlot, Taken, True, False, Early, Worn, OldFile, Fault, Dead}
 use Rattle.lz_machine.specs.declared.event.Reply.{Reply}
 use Rattle.lz_machine.specs.declared.event.Reply.TheVariants.{Yes, No, Full, Worn as SaysWorn, OldFile as SaysOldFile, Halted, Device}
-use Rattle.lz_machine.specs.declared.caller.Script.{Script}
-use Rattle.lz_machine.specs.declared.caller.Script.TheVariants.{Pinning, Resting, Writing, Adding, Removing, Releasing, Halting}
+use Rattle.lz_machine.specs.declared.caller.Sequence.{Sequence}
+use Rattle.lz_machine.specs.declared.caller.Sequence.TheVariants.{Pinning, Resting, Writing, Adding, Removing, Releasing, Halting}
 use Rattle.lz_machine.specs.declared.caller.Progress.{Progress}
 use Rattle.lz_machine.specs.declared.caller.Progress.TheVariants.{Playing, LoadsHalt, Walking, Reserving, SeeingPins, Claiming, Checking, Answering}
 use Rattle.lz_machine.specs.Yards.{Shape}
 use Rattle.lz_machine.specs.Table.{is_old}
 
--- the events of a script, as the rule lists them
-abbrev pub events_of : Command → Script → List Event
+-- the events of a sequence, as the rule lists them
+abbrev pub events_of : Command → Sequence → List Event
 events_of c Pinning = Pin ∷ []
 events_of c (Resting s reply) = Sync s ∷ Settle s ∷ []
 events_of c (Writing s) = WriteKey (key_of c) ∷ Sync s ∷ []
@@ -38,8 +38,8 @@ events_of c (Removing s) = WriteClose ∷ Mark ∷ Sync s ∷ Settle s ∷ Unlin
 events_of c (Releasing aim) = Release ∷ []
 events_of c (Halting reply) = Halt ∷ []
 
--- what follows a script
-abbrev pub goes_on : Script → Progress
+-- what follows a sequence
+abbrev pub goes_on : Sequence → Progress
 goes_on Pinning = LoadsHalt
 goes_on (Resting s reply) = Answering reply
 goes_on (Writing s) = Walking (Some s) AtHead
@@ -48,13 +48,13 @@ goes_on (Removing s) = Answering Yes
 goes_on (Releasing aim) = Walking aim AtHead
 goes_on (Halting reply) = Answering reply
 
--- the event of a script with this index
-abbrev pub event_of : Command → Script → ℕ → Event
-event_of c script i = slice_index_or (events_of c script) i Check
+-- the event of a sequence with this index
+abbrev pub event_of : Command → Sequence → ℕ → Event
+event_of c sequence i = slice_index_or (events_of c sequence) i Check
 
--- the event after it, or what follows the script
-abbrev pub after_event : Command → Script → ℕ → Progress
-after_event c script i = if nat_lt (i + 1) (length (events_of c script)) then Playing script (i + 1) else goes_on script
+-- the event after it, or what follows the sequence
+abbrev pub after_event : Command → Sequence → ℕ → Progress
+after_event c sequence i = if nat_lt (i + 1) (length (events_of c sequence)) then Playing sequence (i + 1) else goes_on sequence
 
 -- after its Invoke a call pins, and its first walk begins with the halt word
 abbrev pub first_progress : Progress
@@ -66,7 +66,7 @@ begun format c = if is_old format c then Answering SaysOldFile else first_progre
 
 -- the next event of a call of this command
 abbrev pub event_at : Shape → Command → Progress → Event
-event_at shape c (Playing script i) = event_of c script i
+event_at shape c (Playing sequence i) = event_of c sequence i
 event_at shape c LoadsHalt = Hop halt_word
 event_at shape c (Walking aim look) = Hop (wants shape.buckets (key_of c) look)
 event_at shape c (Reserving again) = Reserve
@@ -110,9 +110,9 @@ halt_loaded value = if value == 1 then Answering Halted else Walking None AtHead
 
 -- What follows an outcome that is no fault, where a call has come so far. At Early the sync that stands before the settling is
 -- played again.
-abbrev pub after_playing : Command → Script → ℕ → Outcome → Progress
-after_playing c script i Early = Playing script (i - 1)
-after_playing c script i _ = after_event c script i
+abbrev pub after_playing : Command → Sequence → ℕ → Outcome → Progress
+after_playing c sequence i Early = Playing sequence (i - 1)
+after_playing c sequence i _ = after_event c sequence i
 
 abbrev pub after_halt : Outcome → Progress
 after_halt (Value value) = halt_loaded value
@@ -141,7 +141,7 @@ after_check c aim curr False = Playing (Releasing aim) 0
 after_check c aim curr _ = Checking aim curr
 
 abbrev pub follows : Shape → Command → Progress → Outcome → Progress
-follows shape c (Playing script i) outcome = after_playing c script i outcome
+follows shape c (Playing sequence i) outcome = after_playing c sequence i outcome
 follows shape c LoadsHalt outcome = after_halt outcome
 follows shape c (Walking aim look) outcome = after_hop shape c aim look outcome
 follows shape c (Reserving again) outcome = after_reserve again outcome

@@ -5,7 +5,7 @@ use Rattle.lz_vault.specs.declared.vault.Stage.TheVariants.{Closed}
 use Rattle.lz_allot.specs.Uses.{is_outside}
 use Rattle.lz_list.specs.Pinned.{Stood}
 use Rattle.lz_list.specs.Traces.{Trace, is_marked}
-use Rattle.lz_machine.specs.Runs.{Start, IsStart, Service, State, Up, Down, Step, Point, IsRun, run, first_point, caller_at}
+use Rattle.lz_machine.specs.Runs.{Start, IsStart, Service, State, Up, Down, Transition, Point, IsRun, run, first_point, caller_at}
 use Rattle.lz_machine.specs.Sound.{CallerSound, view_of}
 use Rattle.lz_machine.specs.Table.{pin_of, is_sure}
 use Rattle.lz_machine.specs.Yards.{cell_at}
@@ -16,7 +16,7 @@ is_out (Up service disk) a = is_outside (pin_of service.yard a)
 is_out (Down shape disk) a = true
 
 -- the trace of the newest state in which the pass was outside, which is that at which it went in
-abbrev pub trace_outside : Point → List Step → ℕ → Trace
+abbrev pub trace_outside : Point → List Transition → ℕ → Trace
 trace_outside p [] a = p.trace
 trace_outside p (step ∷ steps) a = if is_out (run p (step ∷ steps)).state a then (run p (step ∷ steps)).trace else trace_outside p steps a
 
@@ -25,7 +25,7 @@ trace_outside p (step ∷ steps) a = if is_out (run p (step ∷ steps)).state a 
 -- change that it made, and what its answer rests on.
 abbrev pub CallsStand : Type 0
 CallsStand =
-    (start : Start) (steps : List Step) (service : Service) (disk : Medium) (a : ℕ)
+    (start : Start) (steps : List Transition) (service : Service) (disk : Medium) (a : ℕ)
     → IsStart start → IsRun (first_point start) steps → (run (first_point start) steps).state ≡ Up service disk
     → pin_of service.yard a % 2 ≡ 1
     → (changed : Option ℕ)
@@ -36,7 +36,7 @@ CallsStand =
 -- removal's.
 abbrev pub MarkedIsClosed : Type 0
 MarkedIsClosed =
-    (start : Start) (steps : List Step) (service : Service) (disk : Medium) (a b s : ℕ)
+    (start : Start) (steps : List Transition) (service : Service) (disk : Medium) (a b s : ℕ)
     → IsStart start → IsRun (first_point start) steps → (run (first_point start) steps).state ≡ Up service disk
     → pin_of service.yard a % 2 ≡ 1
     → Stood service.yard.shape.buckets b (trace_outside (first_point start) steps a) (run (first_point start) steps).trace (suc s)

@@ -12,7 +12,7 @@ use Rattle.lz_machine.specs.declared.event.Outcome.{Outcome}
 use Rattle.lz_machine.specs.declared.event.Outcome.TheVariants.{Fault}
 use Rattle.lz_machine.specs.Table.{line}
 use Rattle.lz_machine.specs.Lasts.{Lasts}
-use Rattle.lz_machine.specs.Runs.{Start, State, Up, Down, Step, Calls, Turn, Fails, Looks, Stops, Crashes, CrashesIn, Point, Service, Caller, Reached, MayLeave, MayStep, IsRun, run, caller_at, next_event, start_keys, IsStart, first_point}
+use Rattle.lz_machine.specs.Runs.{Start, State, Up, Down, Transition, Calls, Turn, Fails, Looks, Stops, Crashes, CrashesIn, Point, Service, Caller, Reached, MayLeave, MayStep, IsRun, run, caller_at, next_event, start_keys, IsStart, first_point}
 
 -- Whatever the run, each text that a crash may leave holds a set, and the lives lead from the first set to that one: each
 -- life has a list of commands that fits it.
@@ -31,7 +31,7 @@ WhatLasts =
     → (S : Keys) × Holds t start.shape.slots S × Lasts P (last_history (lives (start_keys start) M)) S
 
 -- a step of this actor
-abbrev pub is_of : ℕ → Step → Bool
+abbrev pub is_of : ℕ → Transition → Bool
 is_of a (Calls b c) = a == b
 is_of a (Turn b) = a == b
 is_of a (Fails b new) = a == b
@@ -44,12 +44,12 @@ abbrev pub outcome_of_turn : Service → ℕ → Option Caller → Option Outcom
 outcome_of_turn service a None = None
 outcome_of_turn service a (Some caller) = Some (line service.yard a (next_event service.yard caller)).1
 
-abbrev pub outcome_at : State → Step → Option Outcome
+abbrev pub outcome_at : State → Transition → Option Outcome
 outcome_at (Up service disk) (Turn a) = outcome_of_turn service a (caller_at service.callers a)
 outcome_at (Up service disk) (Fails a new) = Some Fault
 outcome_at _ _ = None
 
-abbrev pub outcomes : Point → List Step → List (Option Outcome)
+abbrev pub outcomes : Point → List Transition → List (Option Outcome)
 outcomes p [] = []
 outcomes p (step ∷ steps) = outcome_at (run p steps).state step ∷ outcomes p steps
 
@@ -79,7 +79,7 @@ call_in (Up service disk) a = caller_at service.callers a
 call_in (Down shape disk) a = None
 
 -- the step ends the life
-abbrev pub ends_life : Step → Bool
+abbrev pub ends_life : Transition → Bool
 ends_life Stops = true
 ends_life (Crashes t) = true
 ends_life (CrashesIn a t) = true
@@ -87,7 +87,7 @@ ends_life _ = false
 
 -- Put behind the steps before, a turn of the actor may be taken, and the later steps stay steps, with their outcomes, marks
 -- and trace. The actor's call is as the turn left it, until the life ends; after that nothing differs.
-pub record KeepsRun (p : Point) (a : ℕ) (later before : List Step) : Type 0 where
+pub record KeepsRun (p : Point) (a : ℕ) (later before : List Transition) : Type 0 where
   pub may : MayStep (run p before).state (Turn a)
   pub runs : IsRun p (later ++ Turn a ∷ before)
   pub outcomes : outcomes (run p (Turn a ∷ before)) later ≡ outcomes (run p before) later
@@ -101,7 +101,7 @@ pub record KeepsRun (p : Point) (a : ℕ) (later before : List Step) : Type 0 wh
 -- trace. The newest step stands first.
 abbrev pub WalksMove : Type 0
 WalksMove =
-    (start : Start) (later before : List Step) (a : ℕ)
+    (start : Start) (later before : List Transition) (a : ℕ)
     → IsStart start → IsRun (first_point start) (later ++ before)
     → list_any (is_of a) later ≡ false → IsSome (next_hop (run (first_point start) before).state a)
     → KeepsRun (first_point start) a later before

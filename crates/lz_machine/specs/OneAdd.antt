@@ -5,13 +5,13 @@ use Rattle.lz_slot.specs.declared.format.Format.TheVariants.{Two}
 use Rattle.lz_slot.specs.declared.history.Mark.TheVariants.{Call, Answer}
 use Rattle.lz_slot.specs.Histories.{History}
 use Rattle.lz_list.specs.Traces.{Trace}
-use Rattle.lz_machine.specs.Runs.{Start, IsStart, State, Step, Calls, Turn, IsRun, run, first_point, made_text, Reached, MayLeave}
+use Rattle.lz_machine.specs.Runs.{Start, IsStart, State, Transition, Calls, Turn, IsRun, run, first_point, made_text, Reached, MayLeave}
 
 abbrev pub one_slot : Start
 one_slot = record { shape = record { slots = 1; buckets = 1; passes = 1 }; text = made_text Two 1 }
 
 -- the call and its fifteen turns, the newest first
-abbrev pub one_add : List Step
+abbrev pub one_add : List Transition
 one_add = replicate 15 (Turn 1) ++ Calls 1 (Add 9) ∷ []
 
 -- They are the steps of a run, and the call is answered yes.

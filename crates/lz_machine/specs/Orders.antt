@@ -23,9 +23,9 @@ pub record Calling : Type 0 where
 abbrev pub shape_with : Calling → Shape
 shape_with c = record { slots = 0; buckets = c.buckets; passes = c.passes }
 
--- a script's index is inside the script, and a pass that is looked at is one of so many
+-- a sequence's index is inside the sequence, and a pass that is looked at is one of so many
 abbrev pub IsProgress : ℕ → Command → Progress → Type 0
-IsProgress passes c (Playing script i) = i < length (events_of c script)
+IsProgress passes c (Playing sequence i) = i < length (events_of c sequence)
 IsProgress passes c (SeeingPins p) = (1 ≤ p) × (p ≤ passes)
 IsProgress passes c _ = Unit {0}
 
@@ -46,7 +46,7 @@ MayTake _ _ = Unit {0}
 
 -- how far calls have come whose next event is of one kind
 abbrev pub IsPlaying : Progress → Type 0
-IsPlaying (Playing script i) = Unit {0}
+IsPlaying (Playing sequence i) = Unit {0}
 IsPlaying _ = ⊥
 
 abbrev pub IsLoading : Progress → Type 0
@@ -74,7 +74,7 @@ abbrev pub IsAnswering : Progress → Type 0
 IsAnswering (Answering reply) = Unit {0}
 IsAnswering _ = ⊥
 
--- the event is one that comes where a call has come so far; those without a line of their own stand in scripts
+-- the event is one that comes where a call has come so far; those without a line of their own stand in sequences
 abbrev pub ComesAt : Event → Progress → Type 0
 ComesAt (Invoke c) at = ⊥
 ComesAt (Hop word) at = IsLoading at

@@ -57,24 +57,24 @@ shape_of (Up service disk) = service.yard.shape
 shape_of (Down shape disk) = shape
 
 -- What may happen next.
-pub data Step : Type 0 where
-  Calls : ℕ → Command → Step
+pub data Transition : Type 0 where
+  Calls : ℕ → Command → Transition
   -- an actor's next event, whose device call, if it has one, succeeds
-  Turn : ℕ → Step
+  Turn : ℕ → Transition
   -- an actor's next event, whose device call fails and leaves this disk
-  Fails : ℕ → Medium → Step
+  Fails : ℕ → Medium → Transition
   -- an actor without a call looks: its pin word goes up by one, and later by one again
-  Looks : ℕ → Step
+  Looks : ℕ → Transition
   -- the next device call will fail: it changes nothing here, since any device call may fail
-  Trips : Step
-  Stops : Step
+  Trips : Transition
+  Stops : Transition
   -- a crash that leaves this text
-  Crashes : List ℕ → Step
+  Crashes : List ℕ → Transition
   -- a crash inside the device call of an actor's next event
-  CrashesIn : ℕ → List ℕ → Step
-  Opens : Step
+  CrashesIn : ℕ → List ℕ → Transition
+  Opens : Transition
   -- an open that is refused, with its number, and whether its sync was done
-  OpenFails : ℕ → Bool → Step
+  OpenFails : ℕ → Bool → Transition
 
 abbrev pub caller_at : List (Option Caller) → ℕ → Option Caller
 caller_at callers a = of_pass callers a None
@@ -128,7 +128,7 @@ abbrev pub opened_service : Shape → List ℕ → Service
 opened_service shape t = record { yard = opened_yard shape t; callers = replicate shape.passes None }
 
 -- the state after a step; the number is that of the next call
-abbrev pub state_after : ℕ → State → Step → State
+abbrev pub state_after : ℕ → State → Transition → State
 state_after n (Up service disk) (Calls a c) =
     Up (record {
       yard = invoked service.yard a c;
@@ -174,7 +174,7 @@ LeftInside service disk a (Some caller) t =
 abbrev pub IsActor : Service → ℕ → Type 0
 IsActor service a = (1 ≤ a) × (a ≤ service.yard.shape.passes)
 
-abbrev pub MayStep : State → Step → Type 0
+abbrev pub MayStep : State → Transition → Type 0
 MayStep (Up service disk) (Calls a c) =
     IsActor service a × IsNone (caller_at service.callers a) × IsTrue (is_outside (pin_of service.yard a)) × (key_of c ≤ largest_key)
 MayStep (Up service disk) (Turn a) = HasTurn service a (caller_at service.callers a)
@@ -216,7 +216,7 @@ marks_of_turn None = []
 marks_of_turn (Some caller) = mark_of_turn caller.number (reply_at caller.progress)
 
 -- the mark of a step, if it has one
-abbrev pub marks_of : ℕ → State → Step → List Mark
+abbrev pub marks_of : ℕ → State → Transition → List Mark
 marks_of n (Up service disk) (Calls a c) = Call n a c ∷ []
 marks_of n (Up service disk) (Turn a) = marks_of_turn (caller_at service.callers a)
 marks_of n w Stops = Stop ∷ []
@@ -231,7 +231,7 @@ abbrev pub turn_publishes : Service → ℕ → Option Caller → List Publishin
 turn_publishes service a None = []
 turn_publishes service a (Some caller) = line_publishes service.yard a (next_event service.yard caller)
 
-abbrev pub trace_after : State → Trace → Step → Trace
+abbrev pub trace_after : State → Trace → Transition → Trace
 trace_after (Up service disk) P (Turn a) = turn_publishes service a (caller_at service.callers a) ++ P
 trace_after (Down shape disk) P Opens = first_trace shape disk.seen
 trace_after w P _ = P
@@ -243,11 +243,11 @@ pub record Point : Type 0 where
   pub trace : Trace
   pub calls : ℕ
 
-abbrev pub calls_after : ℕ → Step → ℕ
+abbrev pub calls_after : ℕ → Transition → ℕ
 calls_after n (Calls a c) = suc n
 calls_after n _ = n
 
-abbrev pub point_after : Point → Step → Point
+abbrev pub point_after : Point → Transition → Point
 point_after p step =
     record {
       state = state_after (suc p.calls) p.state step;
@@ -257,12 +257,12 @@ point_after p step =
     }
 
 -- where these steps lead; the newest stands first
-abbrev pub run : Point → List Step → Point
+abbrev pub run : Point → List Transition → Point
 run p [] = p
 run p (step ∷ steps) = point_after (run p steps) step
 
 -- each of these steps may be taken where it comes
-abbrev pub IsRun : Point → List Step → Type 0
+abbrev pub IsRun : Point → List Transition → Type 0
 IsRun p [] = Unit {0}
 IsRun p (step ∷ steps) = MayStep (run p steps).state step × IsRun p steps
 
@@ -295,7 +295,7 @@ made_text F N = (open_byte ∷ header_body F N) ++ replicate (16 * N) 0
 
 -- The state w comes from the start by a list of steps, with marks M and the trace P.
 pub record Reached (start : Start) (w : State) (M : History) (P : Trace) : Type 0 where
-  pub steps : List Step
+  pub steps : List Transition
   pub starts : IsStart start
   pub runs : IsRun (first_point start) steps
   pub state : (run (first_point start) steps).state ≡ w
@@ -320,11 +320,11 @@ abbrev pub unlinkings : List Publishing → List Moment
 unlinkings [] = []
 unlinkings (x ∷ P) = unlinking x ++ unlinkings P
 
-abbrev pub moments_of_step : State → Step → List Moment
+abbrev pub moments_of_step : State → Transition → List Moment
 moments_of_step (Up service disk) (Turn a) = unlinkings (turn_publishes service a (caller_at service.callers a))
 moments_of_step w _ = []
 
-abbrev pub moments : Point → List Step → List Moment
+abbrev pub moments : Point → List Transition → List Moment
 moments p [] = pins_of p.state
 moments p (step ∷ steps) = pins_of (run p (step ∷ steps)).state ++ moments_of_step (run p steps).state step ++ moments p steps
 

@@ -32,8 +32,8 @@ use Rattle.lz_machine.specs.declared.event.Reply.TheVariants.{Yes, No, Full, Wor
 use Rattle.lz_machine.specs.declared.actor.Actor.{Actor}
 use Rattle.lz_machine.specs.declared.actor.Hold.{Hold}
 use Rattle.lz_machine.specs.declared.actor.Hold.TheVariants.{Nothing, Locks, Checked, GateOpened, Linked, GateClosed, Marked, Unlinked, Released}
-use Rattle.lz_machine.specs.declared.caller.Script.{Script}
-use Rattle.lz_machine.specs.declared.caller.Script.TheVariants.{Pinning, Resting, Writing, Adding, Removing, Releasing, Halting}
+use Rattle.lz_machine.specs.declared.caller.Sequence.{Sequence}
+use Rattle.lz_machine.specs.declared.caller.Sequence.TheVariants.{Pinning, Resting, Writing, Adding, Removing, Releasing, Halting}
 use Rattle.lz_machine.specs.declared.caller.Progress.{Progress}
 use Rattle.lz_machine.specs.declared.caller.Progress.TheVariants.{Playing, LoadsHalt, Walking, Reserving, SeeingPins, Claiming, Checking, Answering}
 use Rattle.lz_machine.specs.Yards.{Shape, Yard, idle_actor, no_cell}
@@ -417,8 +417,8 @@ ReliesRemoving v k s (suc (suc (suc (suc (suc zero))))) P changed = (v.actor.hol
 ReliesRemoving v k s (suc (suc (suc (suc (suc (suc zero)))))) P changed = (v.actor.hold ≡ Released) × IsSettledChange k P changed
 ReliesRemoving v k s _ P changed = ⊥
 
--- before the event of a script with this index
-abbrev pub ReliesOn : View → Command → Script → ℕ → Trace → Trace → Option ℕ → Type 0
+-- before the event of a sequence with this index
+abbrev pub ReliesOn : View → Command → Sequence → ℕ → Trace → Trace → Option ℕ → Type 0
 ReliesOn v c Pinning zero P0 P changed = IsIdle v.actor P × (changed ≡ None) × (is_old v.format c ≡ false)
 ReliesOn v c (Resting s reply) zero P0 P changed = IsFresh v changed × MayRest v.buckets c reply s P0 P
 ReliesOn v c (Resting s reply) (suc zero) P0 P changed = IsFresh v changed × MayRest v.buckets c reply s P0 P
@@ -430,7 +430,7 @@ ReliesOn v c (Halting reply) zero P0 P changed = IsCut reply × (v.dead ≡ true
 ReliesOn v c _ _ P0 P changed = ⊥
 
 abbrev pub Relies : View → Command → Progress → Trace → Trace → Option ℕ → Type 0
-Relies v c (Playing script i) P0 P changed = ReliesOn v c script i P0 P changed
+Relies v c (Playing sequence i) P0 P changed = ReliesOn v c sequence i P0 P changed
 Relies v c LoadsHalt P0 P changed = IsIdle v.actor P × (changed ≡ None)
 Relies v c (Walking aim look) P0 P changed =
     IsFresh v changed × IsAimed v (key_of c) P aim × IsLooking v.buckets (key_of c) P0 P look × MayAim c aim

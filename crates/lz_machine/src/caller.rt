@@ -5,7 +5,7 @@ use lz_slot::Slot;
 
 /// Events that are played one after the other.
 #[derive(Clone, Copy, Debug, PartialEq, Eq)]
-pub enum Script {
+pub enum Sequence {
     Pinning,
     /// It rests on a node whose last change isn't settled, and then gives this reply.
     Resting(Slot, Reply),
@@ -21,8 +21,8 @@ pub enum Script {
 /// How far a call has come: what it plays next. A slot in it is the one in which the key was written and synced.
 #[derive(Clone, Copy, Debug, PartialEq, Eq)]
 pub enum Progress {
-    /// The event of a script with this index.
-    Playing(Script, usize),
+    /// The event of a sequence with this index.
+    Playing(Sequence, usize),
     /// Its first walk begins with the halt word.
     LoadsHalt,
     Walking(Option<Slot>, Look),

@@ -13,7 +13,7 @@ mod kind;
 pub mod laws;
 
 pub use actor::{Actor, Hold};
-pub use caller::{Progress, Script};
+pub use caller::{Progress, Sequence};
 pub use course::Course;
 pub use event::{Event, Outcome, Reply};
 pub use kind::Kind;

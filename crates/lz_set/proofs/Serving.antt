@@ -25,7 +25,7 @@ use Rattle.lz_machine.specs.Calls.{begun, first_progress, loaded, progress_after
 use Rattle.lz_machine.specs.Orders.{Calling, MayTake}
 use Rattle.lz_machine.specs.Points.{IsQuiet}
 use Rattle.lz_machine.specs.Ready.{IsEventOf}
-use Rattle.lz_machine.specs.Runs.{Caller, Calls, MayPlay, MayStep, Service, State, Step, Up, caller_at, invoked, moved_on, next_event, point_after, reply_at, shape_of, state_after}
+use Rattle.lz_machine.specs.Runs.{Caller, Calls, MayPlay, MayStep, Service, State, Transition, Up, caller_at, invoked, moved_on, next_event, point_after, reply_at, shape_of, state_after}
 use Rattle.lz_machine.specs.Table.{call_on, is_old, line_call, line_on}
 use Rattle.lz_machine.specs.Yards.{Shape, Yard, actor_at}
 use Rattle.lz_machine.proofs.Runs.Course.{invoke_plays}
@@ -185,7 +185,7 @@ module _ (y : Yard) (calls : List (Option Calling)) (honest : Bool) (disk : Medi
   kept_at a = ap (λ (cs : List (Option Calling)). of_pass cs a None) h.kept ∙ of_map y.shape h.callers a
 
   -- a step of the run
-  go : (y' : Yard) (calls' : List (Option Calling)) (honest' : Bool) (disk' : Medium) (callers' : List (Option Caller)) (step : Step) (medium' : Medium)
+  go : (y' : Yard) (calls' : List (Option Calling)) (honest' : Bool) (disk' : Medium) (callers' : List (Option Caller)) (step : Transition) (medium' : Medium)
       → MayStep (Up served h.medium) step → is_look step ≡ false
       → ((n : ℕ) → state_after n (Up served h.medium) step ≡ Up (record { yard = y'; callers = callers' }) medium')
       → calls' ≡ map (kept_call y'.shape) callers' → length callers' ≡ y'.shape.passes → (IsTrue honest' → disk' ≡ medium') → IsOfRun y' calls' honest' disk'

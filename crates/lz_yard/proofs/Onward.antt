@@ -13,7 +13,7 @@ use Rattle.lz_machine.specs.Yards.{Shape, Yard}
 use Rattle.lz_machine.specs.Table.{line, line_failed, line_call}
 use Rattle.lz_machine.specs.Calls.{progress_after}
 use Rattle.lz_machine.specs.Points.{IsReached}
-use Rattle.lz_machine.specs.Runs.{Start, Caller, Service, State, Up, Step, Turn, Fails, MayStep, HasTurn, HasFault, MayPlay, Point, caller_at, next_event, reply_at, moved_on, played, after_turn, after_fault, state_after}
+use Rattle.lz_machine.specs.Runs.{Start, Caller, Service, State, Up, Transition, Turn, Fails, MayStep, HasTurn, HasFault, MayPlay, Point, caller_at, next_event, reply_at, moved_on, played, after_turn, after_fault, state_after}
 use Rattle.lz_machine.proofs.Frames.OneActor.{caller_range}
 use Rattle.lz_machine.proofs.Runs.CallerEvent.{is_next}
 use Rattle.lz_machine.proofs.Runs.ReachedPoint.{as_reached}
@@ -32,7 +32,7 @@ after_it service a caller yard o = record { yard = yard; callers = set_of_pass s
 
 -- A step of a run leads to this service; its disk is the device's, where that is honest.
 pub record Steps (w : State) (next : Service) (after : Device) : Type 0 where
-  pub step : Step
+  pub step : Transition
   pub other : is_look step ≡ false
   pub may : MayStep w step
   pub medium : Medium

@@ -23,7 +23,7 @@ use Rattle.lz_machine.specs.declared.caller.Progress.TheVariants.{Playing, Loads
 use Rattle.lz_machine.specs.Yards.{Shape, Yard, actor_at}
 use Rattle.lz_machine.specs.Table.{course, line, line_call, line_failed, is_old}
 use Rattle.lz_machine.specs.Calls.{progress_after, begun}
-use Rattle.lz_machine.specs.Runs.{Start, IsStart, Caller, Service, State, Up, Down, Step, Calls, Turn, Fails, Looks, Trips, Stops, Crashes, CrashesIn, Opens, OpenFails, Point, MayStep, MayLeave, LeftInside, looked, HasTurn, HasFault, IsRun, run, first_point, point_after, caller_at, next_event, reply_at, moved_on, after_turn, after_fault, opened_service, marks_of_turn, mark_of_turn, mark_of, turn_publishes, start_keys, keys_found, IsActor, invoked}
+use Rattle.lz_machine.specs.Runs.{Start, IsStart, Caller, Service, State, Up, Down, Transition, Calls, Turn, Fails, Looks, Trips, Stops, Crashes, CrashesIn, Opens, OpenFails, Point, MayStep, MayLeave, LeftInside, looked, HasTurn, HasFault, IsRun, run, first_point, point_after, caller_at, next_event, reply_at, moved_on, after_turn, after_fault, opened_service, marks_of_turn, mark_of_turn, mark_of, turn_publishes, start_keys, keys_found, IsActor, invoked}
 use Rattle.lz_machine.specs.Sound.{Relies, IsCaller, view_of, pin_in, StateSound, HasList, PointSound, IsSound}
 use Rattle.lz_machine.specs.Alone.{IsOwn, IsAlone, has_cut, IsPlain, ArePlain, AloneIsPlain}
 use Rattle.lz_machine.proofs.Steps.Trip.{point}
@@ -258,7 +258,7 @@ module _ (start : Start) (a : ℕ) (service : Service) (disk : Medium) (M : Hist
 
   turn_point : (i : ℕ) (c : Command) (at : Progress) → caller_at service.callers a ≡ Some (call_of_at i c at) → HasTurn service a (Some (call_of_at i c at))
       → IsSound start (turned_to (Some (call_of_at i c at))) → AloneAt start a (turned_to (Some (call_of_at i c at)))
-  turn_point i c (Playing script j) is may = going_on i c (Playing script j) is refl may
+  turn_point i c (Playing sequence j) is may = going_on i c (Playing sequence j) is refl may
   turn_point i c LoadsHalt is may = going_on i c LoadsHalt is refl may
   turn_point i c (Walking aim look) is may = going_on i c (Walking aim look) is refl may
   turn_point i c (Reserving again) is may = going_on i c (Reserving again) is refl may
@@ -289,7 +289,7 @@ module _ (start : Start) (a : ℕ) (service : Service) (disk : Medium) (M : Hist
       (λ life t h old leaves list. old t (inl (only_images a (record { yard = looked y a; callers = service.callers }) disk h.others (subst (IsQuietCall (record { yard = looked y a; callers = service.callers }) a) (sym none) tt) t leaves)))
       L sound sound' (λ t leaves. left_at start (point_after before (Looks a)) t sound' leaves) alone
 
-  abbrev AloneAfter : Step → Type 0
+  abbrev AloneAfter : Transition → Type 0
   AloneAfter step = MayStep (Up service disk) step → IsSound start (point_after before step) → AloneAt start a (point_after before step)
 
   callers_count : caller_at service.callers a ≡ None → IsActor service a → a ≤ length service.callers
@@ -299,7 +299,7 @@ module _ (start : Start) (a : ℕ) (service : Service) (disk : Medium) (M : Hist
       go [] h = absurd h
       go (life ∷ earlier) h = omega (arith, actor.1, h.2.2.sound.callers.count)
 
-  pub up_alone : (step : Step) → IsOwn a step → AloneAfter step
+  pub up_alone : (step : Transition) → IsOwn a step → AloneAfter step
   up_alone (Calls b d) own may sound' = subst (λ (q : ℕ). AloneAfter (Calls q d)) (sym own) (λ may sound'.
       let none = none_of (caller_at service.callers a) may.1 in call_alone d may.0 none (callers_count none may.0) sound') may sound'
   up_alone (Turn b) own may sound' = subst (λ (q : ℕ). AloneAfter (Turn q)) (sym own) (λ may sound'. turn_of (caller_at service.callers a) refl may sound') may sound'
@@ -332,7 +332,7 @@ module _ (start : Start) (a : ℕ) (shape : Shape) (disk : Medium) (M : History)
   abbrev down : Point
   down = point (Down shape disk) M P calls
 
-  abbrev DownAfter : Step → Type 0
+  abbrev DownAfter : Transition → Type 0
   DownAfter step = MayStep (Down shape disk) step → IsSound start (point_after down step) → AloneAt start a (point_after down step)
 
   read_image : IsImage disk disk.seen
@@ -354,7 +354,7 @@ module _ (start : Start) (a : ℕ) (shape : Shape) (disk : Medium) (M : History)
             (served_same life.history life.start was.0 (members (keys_found disk.seen shape.slots)) (one_set disk.seen start.shape.slots was.0 (members (keys_found disk.seen shape.slots)) was.1 holds) was.2, h.2),
           )
 
-  pub down_alone : (step : Step) → IsOwn a step → DownAfter step
+  pub down_alone : (step : Transition) → IsOwn a step → DownAfter step
   down_alone (Calls b c) own may sound' = absurd may
   down_alone (Turn b) own may sound' = absurd may
   down_alone (Fails b new) own may sound' = absurd may
@@ -371,12 +371,12 @@ module _ (start : Start) (a : ℕ) (shape : Shape) (disk : Medium) (M : History)
   down_alone (OpenFails why false) own may sound' =
       lives_stay start a down (point_after down (OpenFails why false)) (λ life st h. tt) (λ life t h old leaves list. old t leaves) (lives (start_keys start) M) sound sound' (λ t leaves. left_at start (point_after down (OpenFails why false)) t sound' leaves) alone
 
-step_alone : (start : Start) (a : ℕ) (w : State) (M : History) (P : Trace) (calls : ℕ) (step : Step) → IsOwn a step → MayStep w step → IsSound start (point w M P calls) → AloneAt start a (point w M P calls) → IsSound start (point_after (point w M P calls) step) → AloneAt start a (point_after (point w M P calls) step)
+step_alone : (start : Start) (a : ℕ) (w : State) (M : History) (P : Trace) (calls : ℕ) (step : Transition) → IsOwn a step → MayStep w step → IsSound start (point w M P calls) → AloneAt start a (point w M P calls) → IsSound start (point_after (point w M P calls) step) → AloneAt start a (point_after (point w M P calls) step)
 step_alone start a (Up service disk) M P calls step own may sound alone sound' = up_alone start a service disk M P calls sound alone step own may sound'
 step_alone start a (Down shape disk) M P calls step own may sound alone sound' = down_alone start a shape disk M P calls sound alone step own may sound'
 
 -- the induction
-pub reached_alone : (start : Start) (steps : List Step) (a : ℕ) → IsStart start → IsRun (first_point start) steps → IsAlone a steps → AloneAt start a (run (first_point start) steps)
+pub reached_alone : (start : Start) (steps : List Transition) (a : ℕ) → IsStart start → IsRun (first_point start) steps → IsAlone a steps → AloneAt start a (run (first_point start) steps)
 reached_alone start [] a is runs alone = (
   opened_alone a 0 start.shape start.text,
   (λ t leaves. (start_keys start, subst (λ (u : List ℕ). Holds u start.shape.slots (start_keys start)) (sym (opened_texts a start.shape start.text t leaves)) is.text, λ k. refl)),

@@ -28,8 +28,8 @@ use Rattle.lz_machine.specs.declared.actor.Hold.TheVariants.{Nothing}
 use Rattle.lz_machine.specs.declared.event.Outcome.{Outcome}
 use Rattle.lz_machine.specs.declared.event.Outcome.TheVariants.{Done, Value, Slot, NoSlot, Taken as was_taken, Busy, True, False, Early, Worn, OldFile, NotNow, Fault, Dead}
 use Rattle.lz_machine.specs.declared.event.Reply.TheVariants.{Yes, No, Full, Halted}
-use Rattle.lz_machine.specs.declared.caller.Script.{Script}
-use Rattle.lz_machine.specs.declared.caller.Script.TheVariants.{Adding}
+use Rattle.lz_machine.specs.declared.caller.Sequence.{Sequence}
+use Rattle.lz_machine.specs.declared.caller.Sequence.TheVariants.{Adding}
 use Rattle.lz_machine.specs.declared.caller.Progress.{Progress}
 use Rattle.lz_machine.specs.declared.caller.Progress.TheVariants.{Playing, LoadsHalt, Walking, Reserving, SeeingPins, Claiming, Checking, Answering}
 use Rattle.lz_machine.specs.Yards.{Shape, Yard}
@@ -146,28 +146,28 @@ module _ (n calls : ℕ) (y : Yard) (callers : List (Option Caller)) (disk : Med
           )
 
 -- What follows an event, in words of what an adding knows.
-calm_goes : (y : Yard) (P : Trace) (c : Command) (script : Script) (i : ℕ) → WalkStands y P (goes_on script) c → WalkStands y P (after_event c script i) c
-calm_goes y P c script i h = go (nat_lt (i + 1) (length (events_of c script)))
+calm_goes : (y : Yard) (P : Trace) (c : Command) (sequence : Sequence) (i : ℕ) → WalkStands y P (goes_on sequence) c → WalkStands y P (after_event c sequence i) c
+calm_goes y P c sequence i h = go (nat_lt (i + 1) (length (events_of c sequence)))
   where
-    go : (b : Bool) → WalkStands y P (if b then Playing script (i + 1) else goes_on script) c
+    go : (b : Bool) → WalkStands y P (if b then Playing sequence (i + 1) else goes_on sequence) c
     go true = tt
     go false = h
 
-pub stands_playing : (y : Yard) (P : Trace) (shape : Shape) (c : Command) (script : Script) (i : ℕ) → WalkStands y P (goes_on script) c → (outcome : Outcome) → WalkStands y P (progress_after shape c (Playing script i) outcome) c
-stands_playing y P shape c script i h Fault = tt
-stands_playing y P shape c script i h Dead = tt
-stands_playing y P shape c script i h Worn = tt
-stands_playing y P shape c script i h OldFile = tt
-stands_playing y P shape c script i h Early = tt
-stands_playing y P shape c script i h Done = calm_goes y P c script i h
-stands_playing y P shape c script i h (Value v) = calm_goes y P c script i h
-stands_playing y P shape c script i h (Slot s) = calm_goes y P c script i h
-stands_playing y P shape c script i h (NoSlot counts) = calm_goes y P c script i h
-stands_playing y P shape c script i h was_taken = calm_goes y P c script i h
-stands_playing y P shape c script i h Busy = calm_goes y P c script i h
-stands_playing y P shape c script i h True = calm_goes y P c script i h
-stands_playing y P shape c script i h False = calm_goes y P c script i h
-stands_playing y P shape c script i h NotNow = calm_goes y P c script i h
+pub stands_playing : (y : Yard) (P : Trace) (shape : Shape) (c : Command) (sequence : Sequence) (i : ℕ) → WalkStands y P (goes_on sequence) c → (outcome : Outcome) → WalkStands y P (progress_after shape c (Playing sequence i) outcome) c
+stands_playing y P shape c sequence i h Fault = tt
+stands_playing y P shape c sequence i h Dead = tt
+stands_playing y P shape c sequence i h Worn = tt
+stands_playing y P shape c sequence i h OldFile = tt
+stands_playing y P shape c sequence i h Early = tt
+stands_playing y P shape c sequence i h Done = calm_goes y P c sequence i h
+stands_playing y P shape c sequence i h (Value v) = calm_goes y P c sequence i h
+stands_playing y P shape c sequence i h (Slot s) = calm_goes y P c sequence i h
+stands_playing y P shape c sequence i h (NoSlot counts) = calm_goes y P c sequence i h
+stands_playing y P shape c sequence i h was_taken = calm_goes y P c sequence i h
+stands_playing y P shape c sequence i h Busy = calm_goes y P c sequence i h
+stands_playing y P shape c sequence i h True = calm_goes y P c sequence i h
+stands_playing y P shape c sequence i h False = calm_goes y P c sequence i h
+stands_playing y P shape c sequence i h NotNow = calm_goes y P c sequence i h
 
 pub stands_halt : (y : Yard) (P : Trace) (shape : Shape) (c : Command) (outcome : Outcome) → WalkStands y P (progress_after shape c LoadsHalt outcome) c
 stands_halt y P shape c (Value v) = go (v == 1)

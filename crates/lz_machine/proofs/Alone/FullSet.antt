@@ -22,7 +22,7 @@ use Rattle.lz_machine.specs.declared.caller.Progress.{Progress}
 use Rattle.lz_machine.specs.declared.caller.Progress.TheVariants.{Reserving}
 use Rattle.lz_machine.specs.Yards.{Yard}
 use Rattle.lz_machine.specs.Alone.{IsOwn, IsAlone, HasMembers, FullOfOnePass}
-use Rattle.lz_machine.specs.Runs.{Start, IsStart, Caller, Service, State, Up, Down, Step, Calls, Turn, Fails, Looks, Trips, Stops, Crashes, CrashesIn, Opens, OpenFails, Point, MayStep, HasTurn, HasFault, LeftInside, IsRun, run, first_point, caller_at, start_keys, shape_of}
+use Rattle.lz_machine.specs.Runs.{Start, IsStart, Caller, Service, State, Up, Down, Transition, Calls, Turn, Fails, Looks, Trips, Stops, Crashes, CrashesIn, Opens, OpenFails, Point, MayStep, HasTurn, HasFault, LeftInside, IsRun, run, first_point, caller_at, start_keys, shape_of}
 use Rattle.lz_machine.specs.Sound.{Notes, actor_in, Sound, PointSound, IsAdder, view_of, Relies}
 use Rattle.lz_machine.proofs.Steps.Trip.{point}
 use Rattle.lz_machine.proofs.Frames.OneActor.{caller_range, mine}
@@ -51,7 +51,7 @@ module _ (service : Service) (count : length service.callers ≡ 1) (b : ℕ) wh
   one_crash disk t None at may = absurd may
   one_crash disk t (Some caller) at may = one_caller caller at
 
-own_up : (service : Service) (disk : Medium) (step : Step) → service.yard.shape.passes ≡ 1 → length service.callers ≡ 1 → MayStep (Up service disk) step → IsOwn 1 step
+own_up : (service : Service) (disk : Medium) (step : Transition) → service.yard.shape.passes ≡ 1 → length service.callers ≡ 1 → MayStep (Up service disk) step → IsOwn 1 step
 own_up service disk (Calls b c) one count may = omega (arith, may.0.0, may.0.1, one)
 own_up service disk (Turn b) one count may = one_turn service count b (caller_at service.callers b) refl may
 own_up service disk (Fails b new) one count may = one_fault service count b disk new (caller_at service.callers b) refl may
@@ -63,7 +63,7 @@ own_up service disk (Crashes t) one count may = tt
 own_up service disk Opens one count may = tt
 own_up service disk (OpenFails why done) one count may = tt
 
-own_step : (start : Start) (w : State) (M : History) (P : Trace) (calls : ℕ) (step : Step) → start.shape.passes ≡ 1 → MayStep w step → (L : List Life) → PointSound start (point w M P calls) L → IsOwn 1 step
+own_step : (start : Start) (w : State) (M : History) (P : Trace) (calls : ℕ) (step : Transition) → start.shape.passes ≡ 1 → MayStep w step → (L : List Life) → PointSound start (point w M P calls) L → IsOwn 1 step
 own_step start w M P calls step one may [] sound = absurd sound
 own_step start (Up service disk) M P calls step one may (life ∷ earlier) sound =
     let passes : service.yard.shape.passes ≡ 1 = ap (λ shape. shape.passes) sound.0 ∙ one in
@@ -76,7 +76,7 @@ own_step start (Down shape disk) M P calls (CrashesIn b t) one may (life ∷ ear
 own_step start (Down shape disk) M P calls _ one may (life ∷ earlier) sound = tt
 
 -- so each run of one pass is its only actor's
-alone : (start : Start) (steps : List Step) → IsStart start → start.shape.passes ≡ 1 → IsRun (first_point start) steps → IsAlone 1 steps
+alone : (start : Start) (steps : List Transition) → IsStart start → start.shape.passes ≡ 1 → IsRun (first_point start) steps → IsAlone 1 steps
 alone start [] is one runs = tt
 alone start (step ∷ steps) is one runs =
     let p = run (first_point start) steps in

@@ -26,13 +26,13 @@ use Rattle.lz_machine.specs.declared.caller.Progress.{Progress}
 use Rattle.lz_machine.specs.declared.caller.Progress.TheVariants.{Playing, LoadsHalt, Walking, Reserving, SeeingPins, Claiming, Checking, Answering}
 use Rattle.lz_machine.specs.Yards.{Shape, Yard, actor_at, cell_at, first_trace}
 use Rattle.lz_machine.specs.Table.{course, line, line_on, pin_of, words_after, is_sure, is_old}
-use Rattle.lz_machine.specs.Runs.{Start, Caller, Service, State, Up, Down, Step, Calls, Turn, Fails, Looks, Trips, Stops, Crashes, CrashesIn, Opens, OpenFails, Point, MayStep, Reached, IsRun, run, first_point, state_after, caller_at, next_event, reply_at, after_turn, after_fault, start_keys}
+use Rattle.lz_machine.specs.Runs.{Start, Caller, Service, State, Up, Down, Transition, Calls, Turn, Fails, Looks, Trips, Stops, Crashes, CrashesIn, Opens, OpenFails, Point, MayStep, Reached, IsRun, run, first_point, state_after, caller_at, next_event, reply_at, after_turn, after_fault, start_keys}
 use Rattle.lz_machine.specs.Sound.{View, Relies, view_of, PointSound, IsCaller, is_before_pin, side_of}
 use Rattle.lz_machine.specs.Alone.{RefusalsAreRight}
 use Rattle.lz_machine.proofs.Steps.Trip.{point}
 use Rattle.lz_machine.proofs.Steps.Hop.{call_at, own}
 use Rattle.lz_machine.proofs.Theorem.Reached.{reached_sound}
-use Rattle.lz_machine.specs.declared.caller.Script.TheVariants.{Pinning}
+use Rattle.lz_machine.specs.declared.caller.Sequence.TheVariants.{Pinning}
 use Rattle.lz_machine.proofs.Theorem.WornPass.{IsUpAt, up_at}
 use Rattle.lz_machine.proofs.Theorem.Timeliness.{worn_there}
 use Rattle.lz_machine.proofs.Frames.OneActor.{mine}
@@ -113,7 +113,7 @@ fault_dead service new a (Some caller) h = λ halt. refl
 opens_dead : (shape : Shape) (t : List ℕ) → halt_word (first_trace shape t) ≡ 1 → false ≡ true
 opens_dead shape t halt = absurd (omega (arith, halt, no_halt_opening shape.buckets (held t shape.slots)))
 
-step_dead : (n : ℕ) (w : State) (step : Step) → MayStep w step → DeadAt w → DeadAt (state_after n w step)
+step_dead : (n : ℕ) (w : State) (step : Transition) → MayStep w step → DeadAt w → DeadAt (state_after n w step)
 step_dead n (Up service disk) (Calls a c) may h = h
 step_dead n (Up service disk) (Turn a) may h = turn_dead service disk a (caller_at service.callers a) h
 step_dead n (Up service disk) (Fails a new) may h = fault_dead service new a (caller_at service.callers a) h
@@ -136,7 +136,7 @@ step_dead n (Down shape disk) Opens may h = opens_dead shape disk.seen
 step_dead n (Down shape disk) (OpenFails why true) may h = tt
 step_dead n (Down shape disk) (OpenFails why false) may h = tt
 
-reached_dead : (start : Start) (steps : List Step) → IsRun (first_point start) steps → DeadAt (run (first_point start) steps).state
+reached_dead : (start : Start) (steps : List Transition) → IsRun (first_point start) steps → DeadAt (run (first_point start) steps).state
 reached_dead start [] runs = opens_dead start.shape start.text
 reached_dead start (step ∷ steps) runs = let p = run (first_point start) steps in step_dead _ p.state step runs.0 (reached_dead start steps runs.1)
 

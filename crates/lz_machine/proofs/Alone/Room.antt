@@ -28,7 +28,7 @@ use Rattle.lz_machine.specs.declared.caller.Progress.TheVariants.{Playing, Loads
 use Rattle.lz_machine.specs.Yards.{Shape, Yard, cell_read, use_read, slots_read, opened_yard, first_trace, idle_actor}
 use Rattle.lz_machine.specs.Table.{line, line_failed, is_old}
 use Rattle.lz_machine.specs.Calls.{first_progress, halts, begun}
-use Rattle.lz_machine.specs.Runs.{Start, IsStart, Caller, Service, State, Up, Down, Step, Calls, Turn, Fails, Looks, Trips, Stops, Crashes, CrashesIn, Opens, OpenFails, Point, MayStep, HasTurn, HasFault, IsRun, run, first_point, point_after, state_after, trace_after, caller_at, next_event, reply_at, moved_on, after_turn, after_fault, opened_service, marks_of_turn, mark_of, turn_publishes, start_keys, looked, invoked}
+use Rattle.lz_machine.specs.Runs.{Start, IsStart, Caller, Service, State, Up, Down, Transition, Calls, Turn, Fails, Looks, Trips, Stops, Crashes, CrashesIn, Opens, OpenFails, Point, MayStep, HasTurn, HasFault, IsRun, run, first_point, point_after, state_after, trace_after, caller_at, next_event, reply_at, moved_on, after_turn, after_fault, opened_service, marks_of_turn, mark_of, turn_publishes, start_keys, looked, invoked}
 use Rattle.lz_machine.specs.Sound.{Notes, cell_in, stage_in, pin_in, view_of, CallerSound, Sound, PointSound, IsSound}
 use Rattle.lz_machine.specs.Alone.{IsOwn, IsAlone, IsPlain, IsFull, HasRoom, IsSized, AreSized, FullIsRight}
 use Rattle.lz_machine.proofs.Steps.Trip.{point}
@@ -129,7 +129,7 @@ module _ (n calls : ℕ) (y : Yard) (callers : List (Option Caller)) (disk : Med
       }
 
 -- each step keeps it
-full_step : (start : Start) (a : ℕ) (w : State) (M : History) (P : Trace) (calls : ℕ) (step : Step) → IsOwn a step → MayStep w step → (L : List Life) → PointSound start (point w M P calls) L → FullAt a w P
+full_step : (start : Start) (a : ℕ) (w : State) (M : History) (P : Trace) (calls : ℕ) (step : Transition) → IsOwn a step → MayStep w step → (L : List Life) → PointSound start (point w M P calls) L → FullAt a w P
     → FullAt a (state_after (suc calls) w step) (trace_after w P step)
 full_step start a w M P calls step own may [] sound h = absurd sound
 full_step start a (Up service disk) M P calls (Calls b c) own may (life ∷ earlier) sound h =
@@ -163,7 +163,7 @@ full_step start a (Down shape disk) M P calls (OpenFails why true) own may (life
 full_step start a (Down shape disk) M P calls (OpenFails why false) own may (life ∷ earlier) sound h = tt
 
 -- at each point that is reached
-pub reached_full : (start : Start) (steps : List Step) (a : ℕ) → IsStart start → IsRun (first_point start) steps → IsAlone a steps → FullAt a (run (first_point start) steps).state (run (first_point start) steps).trace
+pub reached_full : (start : Start) (steps : List Transition) (a : ℕ) → IsStart start → IsRun (first_point start) steps → IsAlone a steps → FullAt a (run (first_point start) steps).state (run (first_point start) steps).trace
 reached_full start [] a is runs alone = opened_full a start.shape start.text (first_trace start.shape start.text) (at_rest start.text)
 reached_full start (step ∷ steps) a is runs alone =
     let p = run (first_point start) steps in
@@ -269,7 +269,7 @@ module _ (start : Start) (a : ℕ) (service : Service) (disk : Medium) (M : Hist
 
   sized_point : (i : ℕ) (c : Command) (at : Progress) → caller_at service.callers a ≡ Some (call_at i c at) → IsSound start before → FullAt a (Up service disk) P → AloneAt start a before
       → AloneAt start a (of_turn (Some (call_at i c at))) → AreSized F N (lives (start_keys start) M) → AreSized F N (lives (start_keys start) (marks_of_turn (Some (call_at i c at)) ++ M))
-  sized_point i c (Playing script j) is sound full alone after sized = sized
+  sized_point i c (Playing sequence j) is sound full alone after sized = sized
   sized_point i c LoadsHalt is sound full alone after sized = sized
   sized_point i c (Walking aim look) is sound full alone after sized = sized
   sized_point i c (Reserving again) is sound full alone after sized = sized
@@ -285,7 +285,7 @@ module _ (start : Start) (a : ℕ) (service : Service) (disk : Medium) (M : Hist
   sized_turn None is may sound full alone after sized = absurd may
   sized_turn (Some caller) is may sound full alone after sized = sized_point caller.number caller.command caller.progress is sound full alone after sized
 
-sized_step : (start : Start) (a : ℕ) (w : State) (M : History) (P : Trace) (calls : ℕ) (step : Step) → HasFormat (format_of start.text) w → IsOwn a step → MayStep w step → IsSound start (point w M P calls) → FullAt a w P → AloneAt start a (point w M P calls) → AloneAt start a (point_after (point w M P calls) step)
+sized_step : (start : Start) (a : ℕ) (w : State) (M : History) (P : Trace) (calls : ℕ) (step : Transition) → HasFormat (format_of start.text) w → IsOwn a step → MayStep w step → IsSound start (point w M P calls) → FullAt a w P → AloneAt start a (point w M P calls) → AloneAt start a (point_after (point w M P calls) step)
     → AreSized (format_of start.text) start.shape.slots (lives (start_keys start) M) → AreSized (format_of start.text) start.shape.slots (lives (start_keys start) (point_after (point w M P calls) step).marks)
 sized_step start a (Up service disk) M P calls (Calls b c) named own may sound full alone after sized = sized_mark (format_of start.text) start.shape.slots (suc calls) b c (lives (start_keys start) M) sized
 sized_step start a (Up service disk) M P calls (Turn b) named own may sound full alone after sized =

@@ -16,7 +16,7 @@ use Rattle.lz_machine.specs.declared.event.Event.TheVariants.{Pin, Hop, Answer}
 use Rattle.lz_machine.specs.declared.event.Outcome.TheVariants.{Worn, NotNow, Dead}
 use Rattle.lz_machine.specs.declared.event.Reply.{Reply}
 use Rattle.lz_machine.specs.declared.event.Reply.TheVariants.{Worn as SaysWorn, OldFile as SaysOldFile, Halted}
-use Rattle.lz_machine.specs.declared.caller.Script.TheVariants.{Pinning}
+use Rattle.lz_machine.specs.declared.caller.Sequence.TheVariants.{Pinning}
 use Rattle.lz_machine.specs.declared.caller.Progress.{Progress}
 use Rattle.lz_machine.specs.declared.caller.Progress.TheVariants.{Playing, LoadsHalt, Answering}
 use Rattle.lz_machine.specs.Yards.{Yard, actor_at}

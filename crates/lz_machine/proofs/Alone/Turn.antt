@@ -30,8 +30,8 @@ use Rattle.lz_machine.specs.declared.event.Outcome.{Outcome}
 use Rattle.lz_machine.specs.declared.event.Outcome.TheVariants.{Done, Early, NotNow, Dead}
 use Rattle.lz_machine.specs.declared.event.Reply.{Reply}
 use Rattle.lz_machine.specs.declared.event.Reply.TheVariants.{Yes, Halted, Device}
-use Rattle.lz_machine.specs.declared.caller.Script.{Script}
-use Rattle.lz_machine.specs.declared.caller.Script.TheVariants.{Pinning, Resting, Writing, Adding, Removing, Releasing, Halting}
+use Rattle.lz_machine.specs.declared.caller.Sequence.{Sequence}
+use Rattle.lz_machine.specs.declared.caller.Sequence.TheVariants.{Pinning, Resting, Writing, Adding, Removing, Releasing, Halting}
 use Rattle.lz_machine.specs.declared.caller.Progress.{Progress}
 use Rattle.lz_machine.specs.declared.caller.Progress.TheVariants.{Playing, LoadsHalt, Walking, Reserving, SeeingPins, Claiming, Checking, Answering}
 use Rattle.lz_machine.specs.Yards.{Shape, Yard, actor_at, cell_at}
@@ -48,7 +48,7 @@ use Rattle.lz_machine.proofs.Alone.Full.{LeftBelow, WalkStands, AddsTo, says_yes
 use Rattle.lz_machine.proofs.Frames.Uses.{free_limbo}
 use Rattle.lz_machine.proofs.Runs.Course.{course_dead}
 use Rattle.lz_machine.proofs.Frames.Outside.{out_even}
-use Rattle.lz_machine.proofs.Alone.CalmEvent.{IsCalm, calm_adds, calm_script, is_calm_script, script_goes}
+use Rattle.lz_machine.proofs.Alone.CalmEvent.{IsCalm, calm_adds, calm_sequence, is_calm_sequence, sequence_goes}
 
 module _ (n calls : ℕ) (y : Yard) (callers : List (Option Caller)) (disk : Medium) (M : History) (P : Trace) (notes : Notes) (sound : Sound n calls y callers disk M P notes) (a i : ℕ) (c : Command) where
   abbrev actor : Actor
@@ -87,12 +87,12 @@ module _ (n calls : ℕ) (y : Yard) (callers : List (Option Caller)) (disk : Med
     relies : Relies (view_of y.shape y.vault y.actors a) c at (notes.begun a) P (notes.changed a)
     relies = (own n calls y callers disk M P notes a i c at is sound).stands.2
 
-  -- scripts that change nothing
-  playing : (script : Script) (j : ℕ) → caller_at callers a ≡ Some (call_at i c (Playing script j)) → AloneFull a y (Some (call_at i c (Playing script j))) P → is_calm_script script ≡ true
-      → After (Playing script j) (loaded y.words (event_of c script j)) (course y a (loaded y.words (event_of c script j)))
-  playing script j is h calm_one =
-      calm (Playing script j) (loaded y.words (event_of c script j)) (course y a (loaded y.words (event_of c script j))) h (calm_script y.words c script j calm_one) refl (λ s adds. calm_adds script j s calm_one adds)
-      (λ z Q shape outcome. stands_playing z Q shape c script j (script_goes z Q (view_of y.shape y.vault y.actors a) c script j (notes.begun a) P (notes.changed a) (relies (Playing script j) is)) outcome)
+  -- sequences that change nothing
+  playing : (sequence : Sequence) (j : ℕ) → caller_at callers a ≡ Some (call_at i c (Playing sequence j)) → AloneFull a y (Some (call_at i c (Playing sequence j))) P → is_calm_sequence sequence ≡ true
+      → After (Playing sequence j) (loaded y.words (event_of c sequence j)) (course y a (loaded y.words (event_of c sequence j)))
+  playing sequence j is h calm_one =
+      calm (Playing sequence j) (loaded y.words (event_of c sequence j)) (course y a (loaded y.words (event_of c sequence j))) h (calm_sequence y.words c sequence j calm_one) refl (λ s adds. calm_adds sequence j s calm_one adds)
+      (λ z Q shape outcome. stands_playing z Q shape c sequence j (sequence_goes z Q (view_of y.shape y.vault y.actors a) c sequence j (notes.begun a) P (notes.changed a) (relies (Playing sequence j) is)) outcome)
 
   -- the halt word
   loads_halt : AloneFull a y (Some (call_at i c LoadsHalt)) P → After LoadsHalt (Hop halt_at) (course y a (Hop halt_at))

@@ -21,7 +21,7 @@ use Rattle.lz_machine.specs.declared.caller.Progress.TheVariants.{Playing, Loads
 use Rattle.lz_machine.specs.Yards.{Shape, Yard, actor_at}
 use Rattle.lz_machine.specs.Table.{course, line, line_on, call_on, call_of, published_on, publishes, yard_done, outcome_of}
 use Rattle.lz_machine.specs.Calls.{event_at, loaded}
-use Rattle.lz_machine.specs.Runs.{Start, Service, Caller, State, Up, Down, Turn, CrashesIn, Point, Reached, IsStart, IsRun, Step, MayStep, MayLeave, LeftInside, HasTurn, point_after, run, first_point, shape_of, start_keys, caller_at, next_event, reply_at, played, after_turn, marks_of_turn, mark_of_turn, turn_publishes}
+use Rattle.lz_machine.specs.Runs.{Start, Service, Caller, State, Up, Down, Turn, CrashesIn, Point, Reached, IsStart, IsRun, Transition, MayStep, MayLeave, LeftInside, HasTurn, point_after, run, first_point, shape_of, start_keys, caller_at, next_event, reply_at, played, after_turn, marks_of_turn, mark_of_turn, turn_publishes}
 use Rattle.lz_machine.specs.Lasts.{Lasts}
 use Rattle.lz_machine.specs.Laws.{EveryHistory, WhatLasts}
 use Rattle.lz_machine.specs.Sound.{HasList, PointSound, IsSound}
@@ -170,7 +170,7 @@ module _ (turn_keeps : (start : Start) (a : ℕ) (service : Service) (disk : Med
   may_leave_has start (Down shape disk) M P calls t sound image = image_of_down start shape M P calls disk t (lives (start_keys start) M) image sound
 
   -- Where each point that is reached is sound, the two laws of what a crash may leave.
-  module _ (reached_sound : (start : Start) (steps : List Step) → IsStart start → IsRun (first_point start) steps → IsSound start (run (first_point start) steps)) where
+  module _ (reached_sound : (start : Start) (steps : List Transition) → IsStart start → IsRun (first_point start) steps → IsSound start (run (first_point start) steps)) where
     left_at : (start : Start) (w : State) (M : History) (P : Trace) (t : List ℕ) (reached : Reached start w M P) → MayLeave w t → IsLeft (run (first_point start) reached.steps) t (lives (start_keys start) (run (first_point start) reached.steps).marks)
     left_at start w M P t reached leaves =
         let p = run (first_point start) reached.steps in

@@ -9,8 +9,8 @@ use Rattle.lz_vault.specs.Stages.{Cell}
 use Rattle.lz_list.specs.Traces.{Trace}
 use Rattle.lz_machine.specs.declared.event.Reply.TheVariants.{Yes, No, Full, Worn as SaysWorn, OldFile as SaysOldFile, Halted, Device}
 use Rattle.lz_machine.specs.declared.actor.Actor.{Actor}
-use Rattle.lz_machine.specs.declared.caller.Script.{Script}
-use Rattle.lz_machine.specs.declared.caller.Script.TheVariants.{Pinning, Resting, Writing, Adding, Removing, Releasing, Halting}
+use Rattle.lz_machine.specs.declared.caller.Sequence.{Sequence}
+use Rattle.lz_machine.specs.declared.caller.Sequence.TheVariants.{Pinning, Resting, Writing, Adding, Removing, Releasing, Halting}
 use Rattle.lz_machine.specs.declared.caller.Progress.{Progress}
 use Rattle.lz_machine.specs.declared.caller.Progress.TheVariants.{Playing, LoadsHalt, Walking, Reserving, SeeingPins, Claiming, Checking, Answering}
 use Rattle.lz_machine.specs.Runs.{Caller}
@@ -50,7 +50,7 @@ module _ (buckets passes : ℕ) (format : Format) (cells cells' : List Cell) (de
   removing_keeps k s (suc (suc (suc (suc (suc (suc (suc i))))))) h = absurd h
   removing_keeps k s _ h = h
 
-  on_keeps : (c : Command) (script : Script) (i : ℕ) → ReliesOn v c script i P0 P changed → ReliesOn w c script i P0 P changed
+  on_keeps : (c : Command) (sequence : Sequence) (i : ℕ) → ReliesOn v c sequence i P0 P changed → ReliesOn w c sequence i P0 P changed
   on_keeps c Pinning zero h = h
   on_keeps c (Resting s reply) zero h = (record { hold = h.0.hold; none = h.0.none }, h.1)
   on_keeps c (Resting s reply) (suc zero) h = (record { hold = h.0.hold; none = h.0.none }, h.1)
@@ -62,7 +62,7 @@ module _ (buckets passes : ℕ) (format : Format) (cells cells' : List Cell) (de
   on_keeps _ _ _ h = absurd h
 
   relies_keeps : (c : Command) (at : Progress) → Relies v c at P0 P changed → Relies w c at P0 P changed
-  relies_keeps c (Playing script i) h = on_keeps c script i h
+  relies_keeps c (Playing sequence i) h = on_keeps c sequence i h
   relies_keeps c (Walking aim look) h = (record { hold = h.0.hold; none = h.0.none }, aimed_keeps (key_of c) aim h.1, h.2, h.3)
   relies_keeps c (Reserving again) h = (record { hold = h.0.hold; none = h.0.none }, h.1, h.2, h.3)
   relies_keeps c (SeeingPins p) h = (record { hold = h.0.hold; none = h.0.none }, h.1, h.2, h.3, h.4, h.5)

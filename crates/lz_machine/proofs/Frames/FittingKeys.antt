@@ -10,8 +10,8 @@ use Rattle.lz_slot.specs.Rooms.{largest_of}
 use Rattle.lz_slot.specs.Sets.{key_of}
 use Rattle.lz_list.specs.Words.{Words}
 use Rattle.lz_list.specs.Traces.{Trace}
-use Rattle.lz_machine.specs.declared.caller.Script.{Script}
-use Rattle.lz_machine.specs.declared.caller.Script.TheVariants.{Pinning, Resting, Writing, Adding, Removing, Releasing, Halting}
+use Rattle.lz_machine.specs.declared.caller.Sequence.{Sequence}
+use Rattle.lz_machine.specs.declared.caller.Sequence.TheVariants.{Pinning, Resting, Writing, Adding, Removing, Releasing, Halting}
 use Rattle.lz_machine.specs.declared.caller.Progress.{Progress}
 use Rattle.lz_machine.specs.declared.caller.Progress.TheVariants.{Playing}
 use Rattle.lz_machine.specs.declared.event.Event.{Event}
@@ -38,7 +38,7 @@ module _ (words : Words) (shape : Shape) (v : View) (c : Command) (P0 P : Trace)
   abbrev Writes : Progress → Type 0
   Writes at = key_written (loaded words (event_at shape c at)) ≡ Some k
 
-  writes_in : (script : Script) (i : ℕ) → Relies v c (Playing script i) P0 P changed → Writes (Playing script i) → IsAdder c × (key_of c ≡ k) × (is_before_pin (Playing script i) ≡ false)
+  writes_in : (sequence : Sequence) (i : ℕ) → Relies v c (Playing sequence i) P0 P changed → Writes (Playing sequence i) → IsAdder c × (key_of c ≡ k) × (is_before_pin (Playing sequence i) ≡ false)
   writes_in (Writing s) zero h is = (h.2, cc, refl)
   writes_in (Writing s) (suc zero) h is = absurd (none-some _ is)
   writes_in (Writing s) (suc (suc i)) h is = absurd h
@@ -68,7 +68,7 @@ module _ (words : Words) (shape : Shape) (v : View) (c : Command) (P0 P : Trace)
 
   -- only an adder writes a key, and it writes its own
   writes : (at : Progress) → Relies v c at P0 P changed → Writes at → IsAdder c × (key_of c ≡ k) × (is_before_pin at ≡ false)
-  writes (Playing script i) h is = writes_in script i h is
+  writes (Playing sequence i) h is = writes_in sequence i h is
   writes _ h is = absurd (none-some _ is)
 
   pub writes_fitting : (at : Progress) → (is_before_pin at ≡ false → is_old v.format c ≡ false) → Relies v c at P0 P changed → Writes at → k ≤ largest_of v.format

@@ -25,7 +25,7 @@ use Rattle.lz_machine.specs.declared.event.Reply.TheVariants.{Device}
 use Rattle.lz_machine.specs.declared.actor.Actor.{Actor}
 use Rattle.lz_machine.specs.declared.actor.Hold.{Hold}
 use Rattle.lz_machine.specs.declared.actor.Hold.TheVariants.{Checked}
-use Rattle.lz_machine.specs.declared.caller.Script.TheVariants.{Adding}
+use Rattle.lz_machine.specs.declared.caller.Sequence.TheVariants.{Adding}
 use Rattle.lz_machine.specs.declared.caller.Progress.{Progress}
 use Rattle.lz_machine.specs.declared.caller.Progress.TheVariants.{Playing}
 use Rattle.lz_machine.specs.Yards.{Yard, no_cell}

@@ -27,8 +27,8 @@ use Rattle.lz_machine.specs.declared.event.Reply.TheVariants.{Yes, No, Full, Wor
 use Rattle.lz_machine.specs.declared.actor.Actor.{Actor}
 use Rattle.lz_machine.specs.declared.actor.Hold.{Hold}
 use Rattle.lz_machine.specs.declared.actor.Hold.TheVariants.{Nothing, Checked, GateClosed, Marked, Locks, GateOpened, Linked, Unlinked, Released}
-use Rattle.lz_machine.specs.declared.caller.Script.{Script}
-use Rattle.lz_machine.specs.declared.caller.Script.TheVariants.{Pinning, Resting, Writing, Adding, Removing, Releasing, Halting}
+use Rattle.lz_machine.specs.declared.caller.Sequence.{Sequence}
+use Rattle.lz_machine.specs.declared.caller.Sequence.TheVariants.{Pinning, Resting, Writing, Adding, Removing, Releasing, Halting}
 use Rattle.lz_machine.specs.declared.caller.Progress.{Progress}
 use Rattle.lz_machine.specs.declared.caller.Progress.TheVariants.{Playing, LoadsHalt, Walking, Reserving, SeeingPins, Claiming, Checking, Answering}
 use Rattle.lz_machine.specs.Runs.{Caller}
@@ -287,7 +287,7 @@ module _ (buckets slots : ℕ) (e : Publishing) (P : Trace) (law : Lawful bucket
       adding_stays k s (suc (suc (suc (suc (suc i))))) h = absurd h
       adding_stays k s _ h = (h.0, added_stays P0 (leaves.kept inside) quiet k s changed h.1)
 
-      on_stays : (c : Command) (script : Script) (i : ℕ) → ReliesOn v c script i P0 P changed → ReliesOn v c script i P0 (e ∷ P) changed
+      on_stays : (c : Command) (sequence : Sequence) (i : ℕ) → ReliesOn v c sequence i P0 P changed → ReliesOn v c sequence i P0 (e ∷ P) changed
       on_stays c Pinning zero h = (idle_stays actor h.0, h.1, h.2)
       on_stays c (Resting s reply) zero h = (h.0, rest_stays c reply s P0 h.1)
       on_stays c (Resting s reply) (suc zero) h = (h.0, rest_stays c reply s P0 h.1)
@@ -299,7 +299,7 @@ module _ (buckets slots : ℕ) (e : Publishing) (P : Trace) (law : Lawful bucket
       on_stays _ _ _ h = absurd h
 
       relies_stays : (c : Command) (at : Progress) → Relies v c at P0 P changed → Relies v c at P0 (e ∷ P) changed
-      relies_stays c (Playing script i) h = on_stays c script i h
+      relies_stays c (Playing sequence i) h = on_stays c sequence i h
       relies_stays c LoadsHalt h = (idle_stays actor h.0, h.1)
       relies_stays c (Walking aim look) h = (h.0, aimed_stays (key_of c) aim h.1, looking_stays P0 (leaves.kept inside) quiet (key_of c) look h.2, h.3)
       relies_stays c (Reserving again) h = (h.0, h.1, h.2, absent_stays (key_of c) P0 h.3)

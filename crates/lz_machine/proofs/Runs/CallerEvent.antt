@@ -5,8 +5,8 @@ use Rattle.lz_slot.specs.declared.command.Command.{Command}
 use Rattle.lz_list.specs.Words.{Words}
 use Rattle.lz_machine.specs.declared.event.Event.{Event}
 use Rattle.lz_machine.specs.declared.event.Event.TheVariants.{Invoke, Check, SeePin}
-use Rattle.lz_machine.specs.declared.caller.Script.{Script}
-use Rattle.lz_machine.specs.declared.caller.Script.TheVariants.{Pinning, Resting, Writing, Adding, Removing, Releasing, Halting}
+use Rattle.lz_machine.specs.declared.caller.Sequence.{Sequence}
+use Rattle.lz_machine.specs.declared.caller.Sequence.TheVariants.{Pinning, Resting, Writing, Adding, Removing, Releasing, Halting}
 use Rattle.lz_machine.specs.declared.caller.Progress.{Progress}
 use Rattle.lz_machine.specs.declared.caller.Progress.TheVariants.{Playing, LoadsHalt, Walking, Reserving, SeeingPins, Claiming, Checking, Answering}
 use Rattle.lz_machine.specs.Yards.{Shape}
@@ -36,7 +36,7 @@ never_in [] i none = refl
 never_in (e ∷ es) zero none = none.0
 never_in (e ∷ es) (suc i) none = never_in es i none.1
 
-are_not : (c : Command) (script : Script) → AreNot (events_of c script)
+are_not : (c : Command) (sequence : Sequence) → AreNot (events_of c sequence)
 are_not c (Resting s reply) = (refl, (refl, tt))
 are_not c (Writing s) = (refl, (refl, tt))
 are_not c (Adding s) = (refl, (refl, (refl, (refl, (refl, tt)))))
@@ -48,7 +48,7 @@ not_loaded w (SeePin p value) not = refl
 not_loaded w e not = not
 
 never : (shape : Shape) (c : Command) (at : Progress) → is_invoke (event_at shape c at) ≡ false
-never shape c (Playing script i) = never_in (events_of c script) i (are_not c script)
+never shape c (Playing sequence i) = never_in (events_of c sequence) i (are_not c sequence)
 never shape c _ = refl
 
 as_next : (service : Service) (a : ℕ) (e : Event) → is_invoke e ≡ false → IsSomeAnd (caller_at service.callers a) (λ caller. next_event service.yard caller ≡ e) → IsNext service a e

@@ -13,7 +13,7 @@ abbrev pub shaped : ℕ → ℕ → ℕ → Shape
 shaped slots buckets passes = record { slots = slots; buckets = buckets; passes = passes }
 
 pub same_event : (n m buckets passes : ℕ) (c : Command) (at : Progress) → event_at (shaped n buckets passes) c at ≡ event_at (shaped m buckets passes) c at
-same_event n m buckets passes c (Playing script i) = refl
+same_event n m buckets passes c (Playing sequence i) = refl
 same_event n m buckets passes c _ = refl
 
 pub same_follows : (n m buckets passes : ℕ) (c : Command) (at : Progress) (o : Outcome) → progress_after (shaped n buckets passes) c at o ≡ progress_after (shaped m buckets passes) c at o

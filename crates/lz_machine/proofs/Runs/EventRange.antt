@@ -21,8 +21,8 @@ use Rattle.lz_machine.specs.declared.event.Event.{Event}
 use Rattle.lz_machine.specs.declared.event.Event.TheVariants.{Invoke}
 use Rattle.lz_machine.specs.declared.event.Reply.{Reply}
 use Rattle.lz_machine.specs.declared.event.Reply.TheVariants.{Yes, No, Full, Worn as SaysWorn, OldFile as SaysOldFile, Halted, Device}
-use Rattle.lz_machine.specs.declared.caller.Script.{Script}
-use Rattle.lz_machine.specs.declared.caller.Script.TheVariants.{Pinning, Resting, Writing, Adding, Removing, Releasing, Halting}
+use Rattle.lz_machine.specs.declared.caller.Sequence.{Sequence}
+use Rattle.lz_machine.specs.declared.caller.Sequence.TheVariants.{Pinning, Resting, Writing, Adding, Removing, Releasing, Halting}
 use Rattle.lz_machine.specs.declared.caller.Progress.{Progress}
 use Rattle.lz_machine.specs.declared.caller.Progress.TheVariants.{Playing, LoadsHalt, Walking, Reserving, SeeingPins, Claiming, Checking, Answering}
 use Rattle.lz_machine.specs.Yards.{Yard}
@@ -104,8 +104,8 @@ module _ (n calls : ℕ) (y : Yard) (callers : List (Option Caller)) (disk : Med
       let there = held_node y.shape P Marked (actor_in y.actors a) sound.trace.lawful (subst (λ (q : Hold). RestsOn y.shape.buckets q (actor_in y.actors a) P) hold (sound.locks.rests a)) s curr refl in
       on_range y.shape.buckets y.shape.slots P (bucket_of y.shape.buckets (key_word s P)) s sound.trace.lawful there
 
-  abbrev AsksIn : Command → Script → ℕ → Type 0
-  AsksIn d script i = Relies v d (Playing script i) P0 P (notes.changed a) → IsEventOf z (loaded y.words (event_at y.shape d (Playing script i)))
+  abbrev AsksIn : Command → Sequence → ℕ → Type 0
+  AsksIn d sequence i = Relies v d (Playing sequence i) P0 P (notes.changed a) → IsEventOf z (loaded y.words (event_at y.shape d (Playing sequence i)))
 
   adds : (d : Command) (s i : ℕ) → AsksIn d (Adding s) i
   adds (Add k) s (suc (suc (suc zero))) h = stood_lt k s h.1.stood
@@ -123,7 +123,7 @@ module _ (n calls : ℕ) (y : Yard) (callers : List (Option Caller)) (disk : Med
   removes (Has k) s i h = absurd h
   removes _ s _ h = tt
 
-  asks_in : (script : Script) (i : ℕ) → AsksIn c script i
+  asks_in : (sequence : Sequence) (i : ℕ) → AsksIn c sequence i
   asks_in Pinning zero h = tt
   asks_in (Resting s reply) zero h = rests c reply s h.1
   asks_in (Resting s reply) (suc zero) h = rests c reply s h.1
@@ -137,7 +137,7 @@ module _ (n calls : ℕ) (y : Yard) (callers : List (Option Caller)) (disk : Med
 
   -- by how far the call has come
   pub asks : (at : Progress) → Relies v c at P0 P (notes.changed a) → Asks at
-  asks (Playing script i) h = asks_in script i h
+  asks (Playing sequence i) h = asks_in sequence i h
   asks (Walking aim look) h = looks look h.2
   asks (SeeingPins p) h = (h.2, h.3)
   asks (Claiming aim pred curr) h = claims pred curr (ended_between c aim y.shape.buckets P0 P pred curr h.2)

@@ -2,11 +2,11 @@
 use Rattle.std.proofs.Common.{◌≡◌, ◌∷◌, ap, ◌∙◌, sym, subst}
 use Rattle.lz_machine.specs.Yards.{Shape}
 use Rattle.lz_machine.specs.Points.{IsReached}
-use Rattle.lz_machine.specs.Runs.{Start, State, Step, MayStep, shape_of, Point, point_after, run, first_point, Reached}
+use Rattle.lz_machine.specs.Runs.{Start, State, Transition, MayStep, shape_of, Point, point_after, run, first_point, Reached}
 use Rattle.lz_machine.proofs.Runs.Shape.{run_keeps_shape}
 
 -- a point that is reached leads to another by a step that may be taken
-pub reach : (start : Start) (p : Point) (step : Step) → IsReached start p → MayStep p.state step → IsReached start (point_after p step)
+pub reach : (start : Start) (p : Point) (step : Transition) → IsReached start p → MayStep p.state step → IsReached start (point_after p step)
 reach start p step h may = record {
   steps = step ∷ h.steps;
   starts = h.starts;

@@ -7,7 +7,7 @@ use Rattle.lz_machine.specs.declared.course.Course.{Course}
 use Rattle.lz_machine.specs.declared.course.Course.TheVariants.{Refused, Dies, Plays}
 use Rattle.lz_machine.specs.Yards.{Yard, actor_at}
 use Rattle.lz_machine.specs.Table.{line_on, course}
-use Rattle.lz_machine.specs.Runs.{State, Up, Down, Step, Calls, Turn, Fails, Looks, Trips, Stops, Crashes, CrashesIn, Opens, OpenFails, Service, Caller, Point, run, state_after, shape_of, caller_at, after_turn, after_fault, next_event}
+use Rattle.lz_machine.specs.Runs.{State, Up, Down, Transition, Calls, Turn, Fails, Looks, Trips, Stops, Crashes, CrashesIn, Opens, OpenFails, Service, Caller, Point, run, state_after, shape_of, caller_at, after_turn, after_fault, next_event}
 use Rattle.lz_disk.specs.Images.{Medium}
 
 pub line_keeps_shape : (c : Course) (y : Yard) (actor : Actor) (a : ℕ) (e : Event) → (line_on c y actor a e).0.shape ≡ y.shape
@@ -24,7 +24,7 @@ fault_keeps_shape : (s : Service) (disk : Medium) (a : ℕ) (caller : Option Cal
 fault_keeps_shape s disk a None = refl
 fault_keeps_shape s disk a (Some caller) = refl
 
-pub step_keeps_shape : (n : ℕ) (w : State) (step : Step) → shape_of (state_after n w step) ≡ shape_of w
+pub step_keeps_shape : (n : ℕ) (w : State) (step : Transition) → shape_of (state_after n w step) ≡ shape_of w
 step_keeps_shape n (Up s disk) (Calls a c) = refl
 step_keeps_shape n (Up s disk) (Turn a) = turn_keeps_shape s disk a (caller_at s.callers a)
 step_keeps_shape n (Up s disk) (Fails a new) = fault_keeps_shape s new a (caller_at s.callers a)
@@ -48,6 +48,6 @@ step_keeps_shape n (Down shape disk) Opens = refl
 step_keeps_shape n (Down shape disk) (OpenFails why true) = refl
 step_keeps_shape n (Down shape disk) (OpenFails why false) = refl
 
-pub run_keeps_shape : (p : Point) (steps : List Step) → shape_of (run p steps).state ≡ shape_of p.state
+pub run_keeps_shape : (p : Point) (steps : List Transition) → shape_of (run p steps).state ≡ shape_of p.state
 run_keeps_shape p [] = refl
 run_keeps_shape p (step ∷ steps) = step_keeps_shape (suc (run p steps).calls) (run p steps).state step ∙ run_keeps_shape p steps

@@ -17,7 +17,7 @@ module _ (n m buckets passes : ℕ) (c : Command) where
   other = record { slots = m; buckets = buckets; passes = passes }
 
   pub event_same : (at : Progress) → event_at one c at ≡ event_at other c at
-  event_same (Playing script i) = refl
+  event_same (Playing sequence i) = refl
   event_same _ = refl
 
   hop_same : (aim : Option ℕ) (look : Look) (o : Outcome) → after_hop one c aim look o ≡ after_hop other c aim look o

@@ -13,7 +13,7 @@ use Rattle.lz_machine.specs.declared.event.Outcome.{Outcome}
 use Rattle.lz_machine.specs.Yards.{Yard}
 use Rattle.lz_machine.specs.Table.{line, line_failed, line_call}
 use Rattle.lz_machine.specs.Calls.{begun, progress_after}
-use Rattle.lz_machine.specs.Runs.{invoked, Caller, Service, State, Up, Down, Step, Calls, Turn, Fails, Looks, Trips, Stops, Crashes, CrashesIn, Opens, OpenFails, caller_at, next_event, reply_at, moved_on, after_turn, after_fault, looked, state_after, HasTurn, HasFault, LeftInside, MayStep, marks_of_turn, marks_of, turn_publishes, trace_after}
+use Rattle.lz_machine.specs.Runs.{invoked, Caller, Service, State, Up, Down, Transition, Calls, Turn, Fails, Looks, Trips, Stops, Crashes, CrashesIn, Opens, OpenFails, caller_at, next_event, reply_at, moved_on, after_turn, after_fault, looked, state_after, HasTurn, HasFault, LeftInside, MayStep, marks_of_turn, marks_of, turn_publishes, trace_after}
 use Rattle.lz_machine.specs.Laws.{is_of, outcome_of_turn, outcome_at}
 
 set_alike : {X : Type 0} (xs ys : List X) (i j : ℕ) (x d : X) → length xs ≡ length ys → get_or xs j d ≡ get_or ys j d → get_or (set xs i x) j d ≡ get_or (set ys i x) j d
@@ -43,7 +43,7 @@ module _ (a : ℕ) where
   right (same w) = w
 
   -- a step of both: what the second may do too, and what comes of it
-  pub record Follows (n : ℕ) (t : Twin a) (P : Trace) (step : Step) : Type 0 where
+  pub record Follows (n : ℕ) (t : Twin a) (P : Trace) (step : Transition) : Type 0 where
     pub may : MayStep (right t) step
     pub next : Twin a
     pub left_is : left next ≡ state_after n (left t) step
@@ -106,7 +106,7 @@ module _ (a : ℕ) where
       left_inside t (Some caller) h = h
 
     module _ (n : ℕ) (P : Trace) where
-      follows_apart : (step : Step) → is_of a step ≡ false → MayStep (Up (serving y one) disk) step → Follows n (apart y disk one other count rest) P step
+      follows_apart : (step : Transition) → is_of a step ≡ false → MayStep (Up (serving y one) disk) step → Follows n (apart y disk one other count rest) P step
       follows_apart (Calls b c) others may = record {
         may = (may.0, subst (λ (q : Option Caller). IsNone q) (rest b (off b others)) may.1, may.2, may.3);
         next = both (invoked y b c) disk b (Some (record { number = n; command = c; progress = begun y.vault.format c }));
@@ -143,6 +143,6 @@ module _ (a : ℕ) where
       follows_apart (OpenFails why done) others may = absurd may
 
   -- a step that isn't the actor's
-  pub follows : (n : ℕ) (t : Twin a) (P : Trace) (step : Step) → is_of a step ≡ false → MayStep (left t) step → Follows n t P step
+  pub follows : (n : ℕ) (t : Twin a) (P : Trace) (step : Transition) → is_of a step ≡ false → MayStep (left t) step → Follows n t P step
   follows n (apart y disk one other count rest) P step others may = follows_apart y disk one other count rest n P step others may
   follows n (same w) P step others may = record { may = may; next = same (state_after n w step); left_is = refl; right_is = refl; marks = refl; trace = refl; outcome = refl }

@@ -24,7 +24,7 @@ use Rattle.lz_machine.specs.declared.event.Event.TheVariants.{Check}
 use Rattle.lz_machine.specs.declared.actor.Actor.{Actor}
 use Rattle.lz_machine.specs.declared.actor.Hold.{Hold}
 use Rattle.lz_machine.specs.declared.actor.Hold.TheVariants.{Locks, Checked}
-use Rattle.lz_machine.specs.declared.caller.Script.TheVariants.{Releasing}
+use Rattle.lz_machine.specs.declared.caller.Sequence.TheVariants.{Releasing}
 use Rattle.lz_machine.specs.declared.caller.Progress.{Progress}
 use Rattle.lz_machine.specs.declared.caller.Progress.TheVariants.{Playing, Checking}
 use Rattle.lz_machine.specs.Yards.{Yard, Shape, actor_at}

@@ -17,8 +17,8 @@ use Rattle.lz_machine.specs.declared.event.Reply.{Reply}
 use Rattle.lz_machine.specs.declared.event.Reply.TheVariants.{Device}
 use Rattle.lz_machine.specs.declared.course.Course.{Course}
 use Rattle.lz_machine.specs.declared.course.Course.TheVariants.{Refused, Dies, Plays}
-use Rattle.lz_machine.specs.declared.caller.Script.{Script}
-use Rattle.lz_machine.specs.declared.caller.Script.TheVariants.{Pinning, Resting, Writing, Adding, Removing, Releasing, Halting}
+use Rattle.lz_machine.specs.declared.caller.Sequence.{Sequence}
+use Rattle.lz_machine.specs.declared.caller.Sequence.TheVariants.{Pinning, Resting, Writing, Adding, Removing, Releasing, Halting}
 use Rattle.lz_machine.specs.declared.caller.Progress.{Progress}
 use Rattle.lz_machine.specs.declared.caller.Progress.TheVariants.{Playing, LoadsHalt, Walking, Reserving, SeeingPins, Claiming, Checking, Answering}
 use Rattle.lz_machine.specs.Yards.{Yard, actor_at}
@@ -132,20 +132,20 @@ module _ (n calls : ℕ) (y : Yard) (callers : List (Option Caller)) (disk : Med
   remove_fault k s (suc (suc (suc (suc (suc (suc zero)))))) is relies new may = none_fault (Remove k) (Playing (Removing s) 6) refl new may
   remove_fault k s (suc (suc (suc (suc (suc (suc (suc j))))))) is relies new may = absurd relies
 
-  script_fault : (c : Command) (script : Script) (j : ℕ) → IsAt c (Playing script j) → ReliesOn (view_of y.shape y.vault y.actors a) c script j (notes.begun a) P (notes.changed a) → Faults c (Playing script j)
-  script_fault c Pinning zero is relies new may = none_fault c (Playing Pinning 0) refl new may
-  script_fault c (Resting s reply) j is relies new may = rest_fault c s reply j is relies new may
-  script_fault c (Writing s) j is relies new may = write_fault c s j is relies new may
-  script_fault (Add k) (Adding s) j is relies new may = add_fault k s j is relies new may
-  script_fault (Remove k) (Removing s) j is relies new may = remove_fault k s j is relies.2 new may
-  script_fault c (Releasing aim) zero is relies new may = none_fault c (Playing (Releasing aim) 0) refl new may
-  script_fault c (Halting reply) zero is relies new may = none_fault c (Playing (Halting reply) 0) refl new may
-  script_fault c Pinning (suc j) is relies new may = absurd relies
-  script_fault _ _ _ is relies new may = absurd relies
+  sequence_fault : (c : Command) (sequence : Sequence) (j : ℕ) → IsAt c (Playing sequence j) → ReliesOn (view_of y.shape y.vault y.actors a) c sequence j (notes.begun a) P (notes.changed a) → Faults c (Playing sequence j)
+  sequence_fault c Pinning zero is relies new may = none_fault c (Playing Pinning 0) refl new may
+  sequence_fault c (Resting s reply) j is relies new may = rest_fault c s reply j is relies new may
+  sequence_fault c (Writing s) j is relies new may = write_fault c s j is relies new may
+  sequence_fault (Add k) (Adding s) j is relies new may = add_fault k s j is relies new may
+  sequence_fault (Remove k) (Removing s) j is relies new may = remove_fault k s j is relies.2 new may
+  sequence_fault c (Releasing aim) zero is relies new may = none_fault c (Playing (Releasing aim) 0) refl new may
+  sequence_fault c (Halting reply) zero is relies new may = none_fault c (Playing (Halting reply) 0) refl new may
+  sequence_fault c Pinning (suc j) is relies new may = absurd relies
+  sequence_fault _ _ _ is relies new may = absurd relies
 
   -- each turn whose device call fails
   pub fault_up : (c : Command) (at : Progress) → IsAt c at → Faults c at
-  fault_up c (Playing script j) is = script_fault c script j is (known c (Playing script j) is)
+  fault_up c (Playing sequence j) is = sequence_fault c sequence j is (known c (Playing sequence j) is)
   fault_up c LoadsHalt is = none_fault c LoadsHalt refl
   fault_up c (Walking aim look) is = none_fault c (Walking aim look) refl
   fault_up c (Reserving again) is = none_fault c (Reserving again) refl

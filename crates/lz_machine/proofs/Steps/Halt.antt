@@ -18,7 +18,7 @@ use Rattle.lz_machine.specs.declared.event.Reply.TheVariants.{Yes, No, Full, Wor
 use Rattle.lz_machine.specs.declared.actor.Actor.{Actor}
 use Rattle.lz_machine.specs.declared.actor.Hold.{Hold}
 use Rattle.lz_machine.specs.declared.actor.Hold.TheVariants.{Nothing, Locks, Checked, GateOpened, Linked, GateClosed, Marked, Unlinked, Released}
-use Rattle.lz_machine.specs.declared.caller.Script.TheVariants.{Halting}
+use Rattle.lz_machine.specs.declared.caller.Sequence.TheVariants.{Halting}
 use Rattle.lz_machine.specs.declared.caller.Progress.TheVariants.{Playing, Answering}
 use Rattle.lz_machine.specs.Yards.{Yard, Shape, actor_at}
 use Rattle.lz_machine.specs.Table.{yard_done}

@@ -25,7 +25,7 @@ use Rattle.lz_list.specs.Locks.{claimed_places, owner}
 use Rattle.lz_machine.specs.declared.actor.Actor.{Actor}
 use Rattle.lz_machine.specs.declared.actor.Hold.{Hold}
 use Rattle.lz_machine.specs.declared.actor.Hold.TheVariants.{GateClosed, Marked}
-use Rattle.lz_machine.specs.declared.caller.Script.TheVariants.{Removing}
+use Rattle.lz_machine.specs.declared.caller.Sequence.TheVariants.{Removing}
 use Rattle.lz_machine.specs.declared.caller.Progress.{Progress}
 use Rattle.lz_machine.specs.declared.caller.Progress.TheVariants.{Playing}
 use Rattle.lz_machine.specs.Yards.{Yard, actor_at}

@@ -24,7 +24,7 @@ use Rattle.lz_machine.specs.declared.event.Event.TheVariants.{Pin}
 use Rattle.lz_machine.specs.declared.event.Outcome.TheVariants.{Done, Worn}
 use Rattle.lz_machine.specs.declared.event.Reply.TheVariants.{Worn as SaysWorn, OldFile as SaysOldFile}
 use Rattle.lz_machine.specs.declared.actor.Actor.{Actor}
-use Rattle.lz_machine.specs.declared.caller.Script.TheVariants.{Pinning}
+use Rattle.lz_machine.specs.declared.caller.Sequence.TheVariants.{Pinning}
 use Rattle.lz_machine.specs.declared.caller.Progress.TheVariants.{Playing, LoadsHalt, Answering}
 use Rattle.lz_machine.specs.Yards.{Yard, Shape, actor_at}
 use Rattle.lz_machine.specs.Table.{last_pin, yard_done}

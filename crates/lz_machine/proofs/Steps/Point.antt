@@ -103,7 +103,7 @@ module _ (start : Start) (a : ℕ) (service : Service) (disk : Medium) (M : Hist
       sound)
 
   turn_point : AnswerUp → (i : ℕ) (c : Command) (at : Progress) → caller_at service.callers a ≡ Some (call_at i c at) → HasTurn service a (Some (call_at i c at)) → IsSound start (turned_to (Some (call_at i c at)))
-  turn_point answer_up i c (Playing script j) is may = going_point i c (Playing script j) is refl may
+  turn_point answer_up i c (Playing sequence j) is may = going_point i c (Playing sequence j) is refl may
   turn_point answer_up i c LoadsHalt is may = going_point i c LoadsHalt is refl may
   turn_point answer_up i c (Walking aim look) is may = going_point i c (Walking aim look) is refl may
   turn_point answer_up i c (Reserving again) is may = going_point i c (Reserving again) is refl may

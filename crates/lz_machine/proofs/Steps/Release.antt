@@ -15,7 +15,7 @@ use Rattle.lz_machine.specs.declared.event.Outcome.TheVariants.{Done}
 use Rattle.lz_machine.specs.declared.actor.Actor.{Actor}
 use Rattle.lz_machine.specs.declared.actor.Hold.{Hold}
 use Rattle.lz_machine.specs.declared.actor.Hold.TheVariants.{Nothing, Locks, Linked, Unlinked, Released}
-use Rattle.lz_machine.specs.declared.caller.Script.TheVariants.{Releasing, Adding, Removing}
+use Rattle.lz_machine.specs.declared.caller.Sequence.TheVariants.{Releasing, Adding, Removing}
 use Rattle.lz_machine.specs.declared.caller.Progress.{Progress}
 use Rattle.lz_machine.specs.declared.caller.Progress.TheVariants.{Playing, Walking}
 use Rattle.lz_machine.specs.Yards.{Yard, actor_at}

@@ -27,7 +27,7 @@ use Rattle.lz_machine.specs.declared.event.Reply.{Reply}
 use Rattle.lz_machine.specs.declared.event.Reply.TheVariants.{Yes, No, Full, Worn, OldFile, Halted, Device}
 use Rattle.lz_machine.specs.declared.actor.Hold.{Hold}
 use Rattle.lz_machine.specs.declared.actor.Hold.TheVariants.{Marked}
-use Rattle.lz_machine.specs.declared.caller.Script.TheVariants.{Adding, Removing, Resting}
+use Rattle.lz_machine.specs.declared.caller.Sequence.TheVariants.{Adding, Removing, Resting}
 use Rattle.lz_machine.specs.declared.caller.Progress.{Progress}
 use Rattle.lz_machine.specs.declared.caller.Progress.TheVariants.{Playing, Answering}
 use Rattle.lz_machine.specs.Yards.{Yard, actor_at, cell_at}

@@ -18,7 +18,7 @@ use Rattle.lz_machine.specs.declared.event.Event.TheVariants.{Sync}
 use Rattle.lz_machine.specs.declared.event.Outcome.TheVariants.{Done}
 use Rattle.lz_machine.specs.declared.event.Reply.{Reply}
 use Rattle.lz_machine.specs.declared.actor.Actor.{Actor}
-use Rattle.lz_machine.specs.declared.caller.Script.TheVariants.{Writing, Adding, Removing, Resting}
+use Rattle.lz_machine.specs.declared.caller.Sequence.TheVariants.{Writing, Adding, Removing, Resting}
 use Rattle.lz_machine.specs.declared.caller.Progress.TheVariants.{Playing, Walking}
 use Rattle.lz_machine.specs.Yards.{Yard, Shape, actor_at}
 use Rattle.lz_machine.specs.Table.{is_sure, call_of, with_vault, yard_done}

@@ -19,8 +19,8 @@ use Rattle.lz_machine.specs.declared.event.Event.TheVariants.{Pin, Hop, Reserve,
 use Rattle.lz_machine.specs.declared.event.Outcome.TheVariants.{Done, Worn, NotNow}
 use Rattle.lz_machine.specs.declared.event.Reply.{Reply}
 use Rattle.lz_machine.specs.declared.course.Course.TheVariants.{Refused, Plays}
-use Rattle.lz_machine.specs.declared.caller.Script.{Script}
-use Rattle.lz_machine.specs.declared.caller.Script.TheVariants.{Pinning, Resting, Writing, Adding, Removing, Releasing, Halting}
+use Rattle.lz_machine.specs.declared.caller.Sequence.{Sequence}
+use Rattle.lz_machine.specs.declared.caller.Sequence.TheVariants.{Pinning, Resting, Writing, Adding, Removing, Releasing, Halting}
 use Rattle.lz_machine.specs.declared.caller.Progress.{Progress}
 use Rattle.lz_machine.specs.declared.caller.Progress.TheVariants.{Playing, LoadsHalt, Walking, Reserving, SeeingPins, Claiming, Checking, Answering}
 use Rattle.lz_machine.specs.Yards.{Yard, actor_at, cell_at}
@@ -177,17 +177,17 @@ module _ (n calls : ℕ) (y : Yard) (callers : List (Option Caller)) (disk : Med
   halt_turn c reply is now =
       plays_turn_too n calls y callers disk M P start notes up a i c (Playing (Halting reply) 0) is refl Halt refl refl refl now (halt_keeps n calls y callers disk M P notes up.sound a i c reply is)
 
-  -- each event of each script
-  script_turn : (c : Command) (script : Script) (j : ℕ) → IsAt c (Playing script j) → ReliesOn (view_of y.shape y.vault y.actors a) c script j (notes.begun a) P (notes.changed a) → Turns c (Playing script j)
-  script_turn c Pinning zero is relies now = pin_turn c is now
-  script_turn c (Resting s reply) j is relies now = rest_turn c s reply j is relies now
-  script_turn c (Writing s) j is relies now = write_turn c s j is relies now
-  script_turn (Add k) (Adding s) j is relies now = add_turn k s j is relies now
-  script_turn (Remove k) (Removing s) j is relies now = remove_turn k s j is relies.2 now
-  script_turn c (Releasing aim) zero is relies now = release_turn c aim is now
-  script_turn c (Halting reply) zero is relies now = halt_turn c reply is now
-  script_turn c Pinning (suc j) is relies now = absurd relies
-  script_turn _ _ _ is relies now = absurd relies
+  -- each event of each sequence
+  sequence_turn : (c : Command) (sequence : Sequence) (j : ℕ) → IsAt c (Playing sequence j) → ReliesOn (view_of y.shape y.vault y.actors a) c sequence j (notes.begun a) P (notes.changed a) → Turns c (Playing sequence j)
+  sequence_turn c Pinning zero is relies now = pin_turn c is now
+  sequence_turn c (Resting s reply) j is relies now = rest_turn c s reply j is relies now
+  sequence_turn c (Writing s) j is relies now = write_turn c s j is relies now
+  sequence_turn (Add k) (Adding s) j is relies now = add_turn k s j is relies now
+  sequence_turn (Remove k) (Removing s) j is relies now = remove_turn k s j is relies.2 now
+  sequence_turn c (Releasing aim) zero is relies now = release_turn c aim is now
+  sequence_turn c (Halting reply) zero is relies now = halt_turn c reply is now
+  sequence_turn c Pinning (suc j) is relies now = absurd relies
+  sequence_turn _ _ _ is relies now = absurd relies
 
   -- a call loads the halt word before its first walk
   load_turn : (c : Command) → IsAt c LoadsHalt → Turns c LoadsHalt
@@ -214,7 +214,7 @@ module _ (n calls : ℕ) (y : Yard) (callers : List (Option Caller)) (disk : Med
 
   -- each turn of a call that isn't answering
   pub turn_up : (c : Command) (at : Progress) → IsAt c at → reply_at at ≡ None → Turns c at
-  turn_up c (Playing script j) is goes_on = script_turn c script j is (known c (Playing script j) is)
+  turn_up c (Playing sequence j) is goes_on = sequence_turn c sequence j is (known c (Playing sequence j) is)
   turn_up c LoadsHalt is goes_on = load_turn c is
   turn_up c (Walking aim look) is goes_on = walk_turn c aim look is
   turn_up c (Reserving again) is goes_on = reserve_turn c again is

@@ -25,7 +25,7 @@ use Rattle.lz_list.proofs.Hindsight.{stands}
 use Rattle.lz_machine.specs.declared.event.Event.TheVariants.{WriteKey}
 use Rattle.lz_machine.specs.declared.event.Reply.TheVariants.{Device}
 use Rattle.lz_machine.specs.declared.actor.Hold.{Hold}
-use Rattle.lz_machine.specs.declared.caller.Script.TheVariants.{Writing}
+use Rattle.lz_machine.specs.declared.caller.Sequence.TheVariants.{Writing}
 use Rattle.lz_machine.specs.declared.caller.Progress.{Progress}
 use Rattle.lz_machine.specs.declared.caller.Progress.TheVariants.{Playing}
 use Rattle.lz_machine.specs.Yards.{Yard, actor_at, no_cell}

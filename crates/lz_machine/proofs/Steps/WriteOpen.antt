@@ -19,7 +19,7 @@ use Rattle.lz_list.specs.Traces.{Trace}
 use Rattle.lz_machine.specs.declared.event.Event.TheVariants.{WriteOpen}
 use Rattle.lz_machine.specs.declared.actor.Actor.{Actor}
 use Rattle.lz_machine.specs.declared.actor.Hold.TheVariants.{GateOpened}
-use Rattle.lz_machine.specs.declared.caller.Script.TheVariants.{Adding}
+use Rattle.lz_machine.specs.declared.caller.Sequence.TheVariants.{Adding}
 use Rattle.lz_machine.specs.declared.caller.Progress.TheVariants.{Playing}
 use Rattle.lz_machine.specs.Yards.{Yard, actor_at}
 use Rattle.lz_machine.specs.Table.{with_hold, call_of, slot_of, yard_done, publishes}

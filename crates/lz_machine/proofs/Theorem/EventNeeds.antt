@@ -30,8 +30,8 @@ use Rattle.lz_machine.specs.declared.event.Outcome.{Outcome}
 use Rattle.lz_machine.specs.declared.event.Outcome.TheVariants.{Done, Taken, Busy, True, False, Early, Worn, NotNow, Fault, Dead, OldFile}
 use Rattle.lz_machine.specs.declared.event.Reply.{Reply}
 use Rattle.lz_machine.specs.declared.event.Reply.TheVariants.{Worn as SaysWorn, OldFile as SaysOldFile}
-use Rattle.lz_machine.specs.declared.caller.Script.{Script}
-use Rattle.lz_machine.specs.declared.caller.Script.TheVariants.{Pinning, Resting, Writing, Adding, Removing, Releasing, Halting}
+use Rattle.lz_machine.specs.declared.caller.Sequence.{Sequence}
+use Rattle.lz_machine.specs.declared.caller.Sequence.TheVariants.{Pinning, Resting, Writing, Adding, Removing, Releasing, Halting}
 use Rattle.lz_machine.specs.declared.caller.Progress.{Progress}
 use Rattle.lz_machine.specs.declared.caller.Progress.TheVariants.{Playing, LoadsHalt, Walking, Reserving, SeeingPins, Claiming, Checking, Answering}
 use Rattle.lz_machine.specs.Yards.{Yard, actor_at}
@@ -126,10 +126,10 @@ module _ (n calls : ℕ) (y : Yard) (callers : List (Option Caller)) (disk : Med
   abbrev pub v : View
   v = view_of y.shape y.vault y.actors a
 
-  abbrev HasIn : Command → Script → ℕ → Type 0
-  HasIn c script i =
-      pin_of y a % 2 ≡ side_of (is_before_pin (Playing script i)) → Relies v c (Playing script i) (notes.begun a) P (notes.changed a)
-      → needs y a (loaded y.words (event_at y.shape c (Playing script i))) ≡ true
+  abbrev HasIn : Command → Sequence → ℕ → Type 0
+  HasIn c sequence i =
+      pin_of y a % 2 ≡ side_of (is_before_pin (Playing sequence i)) → Relies v c (Playing sequence i) (notes.begun a) P (notes.changed a)
+      → needs y a (loaded y.words (event_at y.shape c (Playing sequence i))) ≡ true
 
   held_lt : (hold : actor.hold ≡ Checked) (s : ℕ) → actor.curr ≡ Some s → (s < y.shape.slots) × (is_marked s P ≡ false)
   held_lt hold s curr =
@@ -160,7 +160,7 @@ module _ (n calls : ℕ) (y : Yard) (callers : List (Option Caller)) (disk : Med
       ∙ ap (λ (q : Option ℕ). is_some q && has_stage Closed (stage_in y.vault.cells (unwrap_or q 0))) curr
       ∙ ap (has_stage Closed) (sound.slots.removed k s key there removed)
 
-  -- each event of each script
+  -- each event of each sequence
   add_has : (c : Command) (s i : ℕ) → HasIn c (Adding s) i
   add_has (Add k) s zero pin h = opens_now s h.0 h.1.slot h.1.stage
   add_has (Add k) s (suc zero) pin h = ap has_opened h.0
@@ -181,17 +181,17 @@ module _ (n calls : ℕ) (y : Yard) (callers : List (Option Caller)) (disk : Med
   remove_has (Add k) s i pin h = absurd h
   remove_has (Has k) s i pin h = absurd h
 
-  script_has : (c : Command) (script : Script) (i : ℕ) → HasIn c script i
-  script_has c Pinning zero pin h = outside_even (pin_of y a) pin
-  script_has c (Resting s reply) zero pin h = refl
-  script_has c (Resting s reply) (suc zero) pin h = refl
-  script_has c (Writing s) zero pin h = ap (λ (q : Option ℕ). is_some q && not (has_opened actor.hold)) h.1 ∙ ap (λ (q : Hold). not (has_opened q)) h.0.hold
-  script_has c (Writing s) (suc zero) pin h = refl
-  script_has c (Adding s) i pin h = add_has c s i pin h
-  script_has c (Removing s) i pin h = remove_has c s i pin h
-  script_has c (Releasing aim) zero pin h = ap may_release h.0
-  script_has c (Halting reply) zero pin h = h.1
-  script_has c _ _ pin h = absurd h
+  sequence_has : (c : Command) (sequence : Sequence) (i : ℕ) → HasIn c sequence i
+  sequence_has c Pinning zero pin h = outside_even (pin_of y a) pin
+  sequence_has c (Resting s reply) zero pin h = refl
+  sequence_has c (Resting s reply) (suc zero) pin h = refl
+  sequence_has c (Writing s) zero pin h = ap (λ (q : Option ℕ). is_some q && not (has_opened actor.hold)) h.1 ∙ ap (λ (q : Hold). not (has_opened q)) h.0.hold
+  sequence_has c (Writing s) (suc zero) pin h = refl
+  sequence_has c (Adding s) i pin h = add_has c s i pin h
+  sequence_has c (Removing s) i pin h = remove_has c s i pin h
+  sequence_has c (Releasing aim) zero pin h = ap may_release h.0
+  sequence_has c (Halting reply) zero pin h = h.1
+  sequence_has c _ _ pin h = absurd h
 
   answers_inside : pin_of y a % 2 ≡ 1 → needs y a Answer ≡ true
   answers_inside odd = ap (λ (q : Bool). q || stays_out actor (pin_of y a)) (inside_odd (pin_of y a) odd)
@@ -207,7 +207,7 @@ module _ (n calls : ℕ) (y : Yard) (callers : List (Option Caller)) (disk : Med
   -- a call's next event has what it needs
   pub has_needs : (c : Command) (at : Progress) → IsWornAt (pin_of y a) at → pin_of y a % 2 ≡ side_of (is_before_pin at) → Relies v c at (notes.begun a) P (notes.changed a)
       → needs y a (loaded y.words (event_at y.shape c at)) ≡ true
-  has_needs c (Playing script i) worn pin h = script_has c script i pin h
+  has_needs c (Playing sequence i) worn pin h = sequence_has c sequence i pin h
   has_needs c LoadsHalt worn pin h = inside_odd (pin_of y a) pin
   has_needs c (Walking aim look) worn pin h = inside_odd (pin_of y a) pin
   has_needs c (Reserving again) worn pin h = ap (λ (q : Option ℕ). not (is_some q)) h.1

@@ -13,7 +13,7 @@ use Rattle.lz_machine.specs.declared.course.Course.{Course}
 use Rattle.lz_machine.specs.declared.course.Course.TheVariants.{Refused, Dies, Plays}
 use Rattle.lz_machine.specs.Yards.{Shape, Yard, actor_at}
 use Rattle.lz_machine.specs.Table.{course, line, line_call, line_on}
-use Rattle.lz_machine.specs.Runs.{Start, IsStart, Caller, Service, State, Up, Down, Step, Calls, Turn, Fails, Looks, Trips, Stops, Crashes, CrashesIn, Opens, OpenFails, Point, MayStep, MayLeave, LeftInside, HasTurn, IsRun, Reached, point_after, state_after, after_turn, after_fault, played, run, first_point, caller_at, next_event}
+use Rattle.lz_machine.specs.Runs.{Start, IsStart, Caller, Service, State, Up, Down, Transition, Calls, Turn, Fails, Looks, Trips, Stops, Crashes, CrashesIn, Opens, OpenFails, Point, MayStep, MayLeave, LeftInside, HasTurn, IsRun, Reached, point_after, state_after, after_turn, after_fault, played, run, first_point, caller_at, next_event}
 use Rattle.lz_machine.specs.Sound.{Notes, UpSound, IsSound}
 use Rattle.lz_machine.specs.Formats.{HasFormat, FormatsStay}
 use Rattle.lz_machine.proofs.Steps.Trip.{point}
@@ -68,7 +68,7 @@ module _ (start : Start) (service : Service) (disk : Medium) (M : History) (P : 
   may_leave_named t (inl image) = image_named t image
   may_leave_named t (inr (a, left)) = left_named a (caller_at service.callers a) refl t left
 
-  up_format : (format : Format) (i : ℕ) (step : Step) → MayStep (Up service disk) step → service.yard.vault.format ≡ format → HasFormat format (state_after i (Up service disk) step)
+  up_format : (format : Format) (i : ℕ) (step : Transition) → MayStep (Up service disk) step → service.yard.vault.format ≡ format → HasFormat format (state_after i (Up service disk) step)
   up_format format i (Calls a c) may h = h
   up_format format i (Turn a) may h = turn_format format service disk a (caller_at service.callers a) h
   up_format format i (Fails a new) may h = fault_format format service new a (caller_at service.callers a) h
@@ -80,7 +80,7 @@ module _ (start : Start) (service : Service) (disk : Medium) (M : History) (P : 
   up_format format i Opens may h = absurd may
   up_format format i (OpenFails why done) may h = absurd may
 
-down_format : (start : Start) (shape : Shape) (disk : Medium) (M : History) (P : Trace) (calls : ℕ) → IsSound start (point (Down shape disk) M P calls) → (format : Format) (i : ℕ) (step : Step) → MayStep (Down shape disk) step
+down_format : (start : Start) (shape : Shape) (disk : Medium) (M : History) (P : Trace) (calls : ℕ) → IsSound start (point (Down shape disk) M P calls) → (format : Format) (i : ℕ) (step : Transition) → MayStep (Down shape disk) step
     → HasFormat format (Down shape disk) → HasFormat format (state_after i (Down shape disk) step)
 down_format start shape disk M P calls sound format i Trips may h = h
 down_format start shape disk M P calls sound format i Stops may h = h
@@ -92,11 +92,11 @@ down_format start shape disk M P calls sound format i _ may h = absurd may
 
 step_format : (start : Start) (w : State) (M : History) (P : Trace) (calls : ℕ) → IsSound start (point w M P calls)
     → ((service : Service) (disk : Medium) → w ≡ Up service disk → (a : ℕ) (caller : Caller) → caller_at service.callers a ≡ Some caller → (line service.yard a (next_event service.yard caller)).1 ≢ NotNow)
-    → (format : Format) (i : ℕ) (step : Step) → MayStep w step → HasFormat format w → HasFormat format (state_after i w step)
+    → (format : Format) (i : ℕ) (step : Transition) → MayStep w step → HasFormat format w → HasFormat format (state_after i w step)
 step_format start (Up service disk) M P calls sound timely format i step may h = up_format start service disk M P calls sound (timely service disk refl) format i step may h
 step_format start (Down shape disk) M P calls sound timely format i step may h = down_format start shape disk M P calls sound format i step may h
 
-pub run_format : (start : Start) (steps : List Step) → IsStart start → IsRun (first_point start) steps → HasFormat (format_of start.text) (run (first_point start) steps).state
+pub run_format : (start : Start) (steps : List Transition) → IsStart start → IsRun (first_point start) steps → HasFormat (format_of start.text) (run (first_point start) steps).state
 run_format start [] is runs = refl
 run_format start (step ∷ steps) is runs =
     let before = run (first_point start) steps in

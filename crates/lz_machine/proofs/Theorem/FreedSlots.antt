@@ -28,7 +28,7 @@ use Rattle.lz_machine.specs.declared.event.Event.TheVariants.{Invoke, Pin, Hop, 
 use Rattle.lz_machine.specs.Yards.{Shape, Yard, actor_at, cell_at, slots_read}
 use Rattle.lz_machine.specs.Table.{course, line, line_on, line_publishes, published_on, publishes, settling, words_after, uses_after, node_of, has_marked, is_unused, given_back, reserved, needs}
 use Rattle.lz_machine.specs.Calls.{event_at, loaded}
-use Rattle.lz_machine.specs.Runs.{Start, IsStart, Caller, Service, State, Up, Down, Step, Calls, Turn, Fails, Looks, Trips, Stops, Crashes, CrashesIn, Opens, OpenFails, Point, MayStep, IsRun, run, first_point, caller_at, next_event, start_keys, state_after, after_turn, after_fault, looked, pins_of, unlinkings, moments_of_step, moments, turn_publishes, opened_service}
+use Rattle.lz_machine.specs.Runs.{Start, IsStart, Caller, Service, State, Up, Down, Transition, Calls, Turn, Fails, Looks, Trips, Stops, Crashes, CrashesIn, Opens, OpenFails, Point, MayStep, IsRun, run, first_point, caller_at, next_event, start_keys, state_after, after_turn, after_fault, looked, pins_of, unlinkings, moments_of_step, moments, turn_publishes, opened_service}
 use Rattle.lz_machine.specs.FreedSlots.{FreedIsAllFree}
 use Rattle.lz_machine.specs.Sound.{Notes, actor_in, pin_in, HasClosed, RestsOn, Sound, PointSound, IsSound}
 use Rattle.lz_machine.proofs.Steps.Trip.{point}
@@ -290,7 +290,7 @@ module _ (n calls : ℕ) (service : Service) (disk : Medium) (M : History) (P : 
 opened_seen : (shape : Shape) (t : List ℕ) (disk : Medium) (ms : List Moment) → SeenAt (Up (opened_service shape t) disk) ms
 opened_seen shape t disk ms s q seen low high is = absurd (no_limbo_read (slots_read t shape.slots) s seen is)
 
-step_seen : (start : Start) (w : State) (M : History) (P : Trace) (calls : ℕ) (step : Step) (ms : List Moment) → MayStep w step → (L : List Life) → PointSound start (point w M P calls) L → SeenAt w ms
+step_seen : (start : Start) (w : State) (M : History) (P : Trace) (calls : ℕ) (step : Transition) (ms : List Moment) → MayStep w step → (L : List Life) → PointSound start (point w M P calls) L → SeenAt w ms
     → SeenAt (state_after (suc calls) w step) (pins_of (state_after (suc calls) w step) ++ moments_of_step w step ++ ms)
 step_seen start w M P calls step ms may [] sound h = absurd sound
 step_seen start (Up service disk) M P calls (Calls a c) ms may (life ∷ earlier) sound h = same_seen service.yard.shape.passes service.yard.words.pins service.yard.uses ms h
@@ -315,7 +315,7 @@ step_seen start (Down shape disk) M P calls Opens ms may (life ∷ earlier) soun
 step_seen start (Down shape disk) M P calls (OpenFails why true) ms may (life ∷ earlier) sound h = tt
 step_seen start (Down shape disk) M P calls (OpenFails why false) ms may (life ∷ earlier) sound h = tt
 
-reached_seen : (start : Start) (steps : List Step) → IsStart start → IsRun (first_point start) steps → SeenAt (run (first_point start) steps).state (moments (first_point start) steps)
+reached_seen : (start : Start) (steps : List Transition) → IsStart start → IsRun (first_point start) steps → SeenAt (run (first_point start) steps).state (moments (first_point start) steps)
 reached_seen start [] is runs = opened_seen start.shape start.text (at_rest start.text) (moments (first_point start) [])
 reached_seen start (step ∷ steps) is runs =
     let p = run (first_point start) steps in

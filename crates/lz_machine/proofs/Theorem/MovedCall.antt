@@ -5,7 +5,7 @@ use Rattle.std.proofs.lemmas.Bool.Decides.{nat_tests}
 use Rattle.lz_slot.proofs.Counted.{of_pass_other}
 use Rattle.lz_disk.specs.Images.{Medium, at_rest}
 use Rattle.lz_machine.specs.Yards.{Shape, Yard}
-use Rattle.lz_machine.specs.Runs.{Caller, Service, State, Up, Down, Step, Calls, Turn, Fails, Looks, Trips, Stops, Crashes, CrashesIn, Opens, OpenFails, caller_at, after_turn, after_fault, state_after}
+use Rattle.lz_machine.specs.Runs.{Caller, Service, State, Up, Down, Transition, Calls, Turn, Fails, Looks, Trips, Stops, Crashes, CrashesIn, Opens, OpenFails, caller_at, after_turn, after_fault, state_after}
 use Rattle.lz_machine.specs.Laws.{is_of, SameBut, call_in, ends_life}
 use Rattle.lz_machine.proofs.Open.FoundSlots.{pass_of}
 
@@ -19,7 +19,7 @@ module _ (a : ℕ) where
   other_fault service disk b (Some caller) apart = of_pass_other service.callers b a _ None apart
 
   -- a step of others that doesn't end the life leaves it
-  pub call_stays : (n : ℕ) (w : State) (step : Step) → is_of a step ≡ false → ends_life step ≡ false → call_in (state_after n w step) a ≡ call_in w a
+  pub call_stays : (n : ℕ) (w : State) (step : Transition) → is_of a step ≡ false → ends_life step ≡ false → call_in (state_after n w step) a ≡ call_in w a
   call_stays n (Up service disk) (Calls b c) other goes = of_pass_other service.callers b a _ None (grind (arith, nat_tests, other))
   call_stays n (Up service disk) (Turn b) other goes = other_turn service disk b (caller_at service.callers b) (grind (arith, nat_tests, other))
   call_stays n (Up service disk) (Fails b new) other goes = other_fault service new b (caller_at service.callers b) (grind (arith, nat_tests, other))
@@ -43,7 +43,7 @@ module _ (a : ℕ) where
   call_stays n (Down shape disk) (OpenFails why false) other goes = refl
 
   -- after the life's end states that differ in the call alone are the same
-  pub ends_same : (n m : ℕ) (one other : State) (step : Step) → ends_life step ≡ true → SameBut a one other → state_after m other step ≡ state_after n one step
+  pub ends_same : (n m : ℕ) (one other : State) (step : Transition) → ends_life step ≡ true → SameBut a one other → state_after m other step ≡ state_after n one step
   ends_same n m (Up one disk) (Up other disk') Stops ends (yard, medium, rest) = λ i. Down (sym yard i).shape (sym medium i)
   ends_same n m (Up one disk) (Up other disk') (Crashes t) ends (yard, medium, rest) = ap (λ (y : Yard). Down y.shape (at_rest t)) (sym yard)
   ends_same n m (Up one disk) (Up other disk') (CrashesIn b t) ends (yard, medium, rest) = ap (λ (y : Yard). Down y.shape (at_rest t)) (sym yard)

@@ -22,14 +22,14 @@ use Rattle.lz_machine.specs.declared.event.Event.TheVariants.{Hop}
 use Rattle.lz_machine.specs.declared.event.Outcome.{Outcome}
 use Rattle.lz_machine.specs.declared.event.Outcome.TheVariants.{Value, NotNow}
 use Rattle.lz_machine.specs.declared.event.Reply.{Reply}
-use Rattle.lz_machine.specs.declared.caller.Script.{Script}
-use Rattle.lz_machine.specs.declared.caller.Script.TheVariants.{Pinning, Resting, Writing, Adding, Removing, Releasing, Halting}
+use Rattle.lz_machine.specs.declared.caller.Sequence.{Sequence}
+use Rattle.lz_machine.specs.declared.caller.Sequence.TheVariants.{Pinning, Resting, Writing, Adding, Removing, Releasing, Halting}
 use Rattle.lz_machine.specs.declared.caller.Progress.{Progress}
 use Rattle.lz_machine.specs.declared.caller.Progress.TheVariants.{Playing, LoadsHalt, Walking, Reserving, SeeingPins, Claiming, Checking, Answering}
 use Rattle.lz_machine.specs.Yards.{Yard, Shape, actor_at}
 use Rattle.lz_machine.specs.Table.{pin_of, course, line, line_on, line_call, call_on, published_on, line_publishes}
 use Rattle.lz_machine.specs.Calls.{event_of, event_at, loaded, progress_after}
-use Rattle.lz_machine.specs.Runs.{Caller, Service, State, Up, Down, Start, IsStart, start_keys, Step, Turn, Point, point_after, run, IsRun, first_point, played, caller_at, next_event, reply_at, moved_on, after_turn, state_after, HasTurn, MayStep, mark_of_turn, marks_of_turn, marks_of, turn_publishes, trace_after, calls_after}
+use Rattle.lz_machine.specs.Runs.{Caller, Service, State, Up, Down, Start, IsStart, start_keys, Transition, Turn, Point, point_after, run, IsRun, first_point, played, caller_at, next_event, reply_at, moved_on, after_turn, state_after, HasTurn, MayStep, mark_of_turn, marks_of_turn, marks_of, turn_publishes, trace_after, calls_after}
 use Rattle.lz_machine.specs.Laws.{is_of, outcome_at, outcomes, hop_of, hop_of_caller, next_hop, SameBut, call_in, ends_life, WalksMove}
 use Rattle.lz_machine.specs.Sound.{is_before_pin, side_of, StateSound, PointSound, IsSound}
 use Rattle.lz_machine.proofs.Frames.OneActor.{mine}
@@ -44,36 +44,36 @@ record Loads (words : Words) (e : Event) (at : Progress) : Type 0 where
   inside : is_before_pin at ≡ false
   no_reply : reply_at at ≡ None
 
-script_loads : (words : Words) (c : Command) (script : Script) (i : ℕ) → hop_of (loaded words (event_of c script i)) ≡ None
-script_loads words c Pinning zero = refl
-script_loads words c Pinning (suc i) = refl
-script_loads words c (Resting s reply) zero = refl
-script_loads words c (Resting s reply) (suc zero) = refl
-script_loads words c (Resting s reply) (suc (suc i)) = refl
-script_loads words c (Writing s) zero = refl
-script_loads words c (Writing s) (suc zero) = refl
-script_loads words c (Writing s) (suc (suc i)) = refl
-script_loads words c (Adding s) zero = refl
-script_loads words c (Adding s) (suc zero) = refl
-script_loads words c (Adding s) (suc (suc zero)) = refl
-script_loads words c (Adding s) (suc (suc (suc zero))) = refl
-script_loads words c (Adding s) (suc (suc (suc (suc zero)))) = refl
-script_loads words c (Adding s) (suc (suc (suc (suc (suc i))))) = refl
-script_loads words c (Removing s) zero = refl
-script_loads words c (Removing s) (suc zero) = refl
-script_loads words c (Removing s) (suc (suc zero)) = refl
-script_loads words c (Removing s) (suc (suc (suc zero))) = refl
-script_loads words c (Removing s) (suc (suc (suc (suc zero)))) = refl
-script_loads words c (Removing s) (suc (suc (suc (suc (suc zero))))) = refl
-script_loads words c (Removing s) (suc (suc (suc (suc (suc (suc zero)))))) = refl
-script_loads words c (Removing s) (suc (suc (suc (suc (suc (suc (suc i))))))) = refl
-script_loads words c (Releasing aim) zero = refl
-script_loads words c (Releasing aim) (suc i) = refl
-script_loads words c (Halting reply) zero = refl
-script_loads words c (Halting reply) (suc i) = refl
+sequence_loads : (words : Words) (c : Command) (sequence : Sequence) (i : ℕ) → hop_of (loaded words (event_of c sequence i)) ≡ None
+sequence_loads words c Pinning zero = refl
+sequence_loads words c Pinning (suc i) = refl
+sequence_loads words c (Resting s reply) zero = refl
+sequence_loads words c (Resting s reply) (suc zero) = refl
+sequence_loads words c (Resting s reply) (suc (suc i)) = refl
+sequence_loads words c (Writing s) zero = refl
+sequence_loads words c (Writing s) (suc zero) = refl
+sequence_loads words c (Writing s) (suc (suc i)) = refl
+sequence_loads words c (Adding s) zero = refl
+sequence_loads words c (Adding s) (suc zero) = refl
+sequence_loads words c (Adding s) (suc (suc zero)) = refl
+sequence_loads words c (Adding s) (suc (suc (suc zero))) = refl
+sequence_loads words c (Adding s) (suc (suc (suc (suc zero)))) = refl
+sequence_loads words c (Adding s) (suc (suc (suc (suc (suc i))))) = refl
+sequence_loads words c (Removing s) zero = refl
+sequence_loads words c (Removing s) (suc zero) = refl
+sequence_loads words c (Removing s) (suc (suc zero)) = refl
+sequence_loads words c (Removing s) (suc (suc (suc zero))) = refl
+sequence_loads words c (Removing s) (suc (suc (suc (suc zero)))) = refl
+sequence_loads words c (Removing s) (suc (suc (suc (suc (suc zero))))) = refl
+sequence_loads words c (Removing s) (suc (suc (suc (suc (suc (suc zero)))))) = refl
+sequence_loads words c (Removing s) (suc (suc (suc (suc (suc (suc (suc i))))))) = refl
+sequence_loads words c (Releasing aim) zero = refl
+sequence_loads words c (Releasing aim) (suc i) = refl
+sequence_loads words c (Halting reply) zero = refl
+sequence_loads words c (Halting reply) (suc i) = refl
 
 loads : (words : Words) (shape : Shape) (c : Command) (at : Progress) → IsSome (hop_of (loaded words (event_at shape c at))) → Loads words (event_at shape c at) at
-loads words shape c (Playing script i) is = absurd (false≢true (rw (script_loads words c script i) at is))
+loads words shape c (Playing sequence i) is = absurd (false≢true (rw (sequence_loads words c sequence i) at is))
 loads words shape c LoadsHalt is = record { word = _; is_hop = refl; inside = refl; no_reply = refl }
 loads words shape c (Walking aim look) is = record { word = _; is_hop = refl; inside = refl; no_reply = refl }
 loads words shape c _ is = absurd (false≢true is)
@@ -164,12 +164,12 @@ hops_state start p a sound (Up service disk) at hop = hops_caller start p a serv
 hops_state start p a sound (Down shape disk) at hop = absurd (false≢true hop)
 
 -- a later step, which isn't the actor's
-record StepsBeside (a : ℕ) (one other : Point) (step : Step) : Type 0 where
+record StepsBeside (a : ℕ) (one other : Point) (step : Transition) : Type 0 where
   may : MayStep other.state step
   outcome : outcome_at other.state step ≡ outcome_at one.state step
   beside : Beside a (point_after one step) (point_after other step)
 
-steps_beside : (a : ℕ) (one other : Point) (step : Step) → is_of a step ≡ false → MayStep one.state step → Beside a one other → StepsBeside a one other step
+steps_beside : (a : ℕ) (one other : Point) (step : Transition) → is_of a step ≡ false → MayStep one.state step → Beside a one other → StepsBeside a one other step
 steps_beside a one other step apart_from may h =
     let n = suc one.calls in
     let f = follows a n h.twin one.trace step apart_from (subst (λ (w : State). MayStep w step) (sym h.left_is) may) in
@@ -187,18 +187,18 @@ steps_beside a one other step apart_from may h =
       };
     }
 
-run_before : (p : Point) (later before : List Step) → IsRun p (later ++ before) → IsRun p before
+run_before : (p : Point) (later before : List Transition) → IsRun p (later ++ before) → IsRun p before
 run_before p [] before runs = runs
 run_before p (step ∷ later) before runs = run_before p later before runs.1
 
 -- the later steps, one after the other
-module _ (p : Point) (a : ℕ) (before : List Step) (hops : HopsBeside a (run p before)) where
-  record Later (later : List Step) : Type 0 where
+module _ (p : Point) (a : ℕ) (before : List Transition) (hops : HopsBeside a (run p before)) where
+  record Later (later : List Transition) : Type 0 where
     runs : IsRun p (later ++ Turn a ∷ before)
     same_outcomes : outcomes (run p (Turn a ∷ before)) later ≡ outcomes (run p before) later
     beside : Beside a (run p (later ++ before)) (run p (later ++ Turn a ∷ before))
 
-  goes_later : (later : List Step) → IsRun p (later ++ before) → list_any (is_of a) later ≡ false → Later later
+  goes_later : (later : List Transition) → IsRun p (later ++ before) → list_any (is_of a) later ≡ false → Later later
   goes_later [] runs none = record { runs = (hops.may, runs); same_outcomes = refl; beside = hops.beside }
   goes_later (step ∷ later) runs none =
       let parts = or_parts (is_of a step) (list_any (is_of a) later) none in
@@ -219,9 +219,9 @@ twins_same a (same (Down shape disk)) = (refl, refl)
 beside_same : (a : ℕ) (one other : Point) → Beside a one other → SameBut a one.state other.state
 beside_same a one other h = subst (λ (w : State). SameBut a one.state w) h.right_is (subst (λ (w : State). SameBut a w (right a h.twin)) h.left_is (twins_same a h.twin))
 
-module _ (p : Point) (a : ℕ) (before : List Step) (hops : HopsBeside a (run p before)) where
+module _ (p : Point) (a : ℕ) (before : List Transition) (hops : HopsBeside a (run p before)) where
   -- the actor's call, while the life goes on
-  call_kept : (later : List Step) → list_any (is_of a) later ≡ false → list_any ends_life later ≡ false → call_in (run p (later ++ Turn a ∷ before)).state a ≡ call_in (run p (Turn a ∷ before)).state a
+  call_kept : (later : List Transition) → list_any (is_of a) later ≡ false → list_any ends_life later ≡ false → call_in (run p (later ++ Turn a ∷ before)).state a ≡ call_in (run p (Turn a ∷ before)).state a
   call_kept [] none goes = refl
   call_kept (step ∷ later) none goes =
       let parts = or_parts (is_of a step) (list_any (is_of a) later) none in
@@ -230,7 +230,7 @@ module _ (p : Point) (a : ℕ) (before : List Step) (hops : HopsBeside a (run p 
       call_stays a (suc q.calls) q.state step parts.0 ends.0 ∙ call_kept later parts.1 ends.1
 
   -- the state, once it has ended
-  same_over : (later : List Step) → IsRun p (later ++ before) → list_any (is_of a) later ≡ false → list_any ends_life later ≡ true → (run p (later ++ Turn a ∷ before)).state ≡ (run p (later ++ before)).state
+  same_over : (later : List Transition) → IsRun p (later ++ before) → list_any (is_of a) later ≡ false → list_any ends_life later ≡ true → (run p (later ++ Turn a ∷ before)).state ≡ (run p (later ++ before)).state
   same_over [] runs none ends = absurd (false≢true ends)
   same_over (step ∷ later) runs none ends =
       let parts = or_parts (is_of a step) (list_any (is_of a) later) none in
@@ -244,7 +244,7 @@ module _ (p : Point) (a : ℕ) (before : List Step) (hops : HopsBeside a (run p 
             ap (λ (w : State). state_after (suc other.calls) w step) same ∙ ap (λ (m : ℕ). state_after (suc m) one.state step) h.calls
       ]
 
-module _ (reached_sound : (start : Start) (steps : List Step) → IsStart start → IsRun (first_point start) steps → IsSound start (run (first_point start) steps)) where
+module _ (reached_sound : (start : Start) (steps : List Transition) → IsStart start → IsRun (first_point start) steps → IsSound start (run (first_point start) steps)) where
   pub walks_move : WalksMove
   walks_move start later before a starts runs none hop =
       let p = first_point start in

@@ -2,7 +2,7 @@
 use Rattle.std.proofs.Common.{ℕ, List, [], ◌∷◌}
 use Rattle.lz_slot.specs.Histories.{History}
 use Rattle.lz_list.specs.Traces.{Trace}
-use Rattle.lz_machine.specs.Runs.{Start, IsStart, State, Up, Down, Step, Calls, Turn, Fails, Looks, Trips, Stops, Crashes, CrashesIn, Opens, OpenFails, MayStep, point_after, first_point, run, IsRun}
+use Rattle.lz_machine.specs.Runs.{Start, IsStart, State, Up, Down, Transition, Calls, Turn, Fails, Looks, Trips, Stops, Crashes, CrashesIn, Opens, OpenFails, MayStep, point_after, first_point, run, IsRun}
 use Rattle.lz_machine.specs.Laws.{EveryHistory, WhatLasts, WalksMove}
 use Rattle.lz_machine.specs.Sound.{IsSound}
 use Rattle.lz_machine.proofs.Steps.Trip.{point, trips_up, trips_down}
@@ -16,7 +16,7 @@ use Rattle.lz_machine.proofs.Open.FirstPoint.{first_sound, opens_keeps, down_see
 use Rattle.lz_machine.proofs.Theorem.MovedLoad as walks
 
 -- each step keeps the invariant
-step_keeps : (start : Start) → IsStart start → (w : State) (M : History) (P : Trace) (calls : ℕ) (step : Step) → IsSound start (point w M P calls) → MayStep w step → IsSound start (point_after (point w M P calls) step)
+step_keeps : (start : Start) → IsStart start → (w : State) (M : History) (P : Trace) (calls : ℕ) (step : Transition) → IsSound start (point w M P calls) → MayStep w step → IsSound start (point_after (point w M P calls) step)
 step_keeps start is (Up service disk) M P calls (Calls a c) sound may = call_keeps start a c service disk M P calls sound may
 step_keeps start is (Up service disk) M P calls (Turn a) sound may = at_point.turn_keeps answer_up start a service disk M P calls sound may
 step_keeps start is (Up service disk) M P calls (Fails a new) sound may = fails_keeps start a new service disk M P calls sound may
@@ -31,7 +31,7 @@ step_keeps start is (Down shape disk) M P calls Opens sound may = opens_keeps st
 step_keeps start is _ _ _ calls _ sound may = absurd may
 
 -- the main induction
-pub reached_sound : (start : Start) (steps : List Step) → IsStart start → IsRun (first_point start) steps → IsSound start (run (first_point start) steps)
+pub reached_sound : (start : Start) (steps : List Transition) → IsStart start → IsRun (first_point start) steps → IsSound start (run (first_point start) steps)
 reached_sound start [] is runs = first_sound start is is.bytes
 reached_sound start (step ∷ steps) is runs =
     let before = run (first_point start) steps in

@@ -24,8 +24,8 @@ use Rattle.lz_list.specs.Traces.{Trace, IsLoose, on, chain_of, bucket_of, key_wo
 use Rattle.lz_machine.specs.declared.actor.Actor.{Actor}
 use Rattle.lz_machine.specs.declared.actor.Hold.{Hold}
 use Rattle.lz_machine.specs.declared.actor.Hold.TheVariants.{Checked, GateOpened, GateClosed, Marked}
-use Rattle.lz_machine.specs.declared.caller.Script.{Script}
-use Rattle.lz_machine.specs.declared.caller.Script.TheVariants.{Pinning, Resting, Writing, Adding, Removing, Releasing, Halting}
+use Rattle.lz_machine.specs.declared.caller.Sequence.{Sequence}
+use Rattle.lz_machine.specs.declared.caller.Sequence.TheVariants.{Pinning, Resting, Writing, Adding, Removing, Releasing, Halting}
 use Rattle.lz_machine.specs.declared.caller.Progress.{Progress}
 use Rattle.lz_machine.specs.declared.caller.Progress.TheVariants.{Playing}
 use Rattle.lz_machine.specs.declared.course.Course.{Course}
@@ -240,7 +240,7 @@ module _ (words : Words) (shape : Shape) (v : View) (c : Command) (P0 P : Trace)
   abbrev Retires : Progress → Type 0
   Retires at = is_retire (loaded words (event_at shape c at)) ≡ true
 
-  retires_in : (script : Script) (i : ℕ) → Relies v c (Playing script i) P0 P changed → Retires (Playing script i) → (s : ℕ) × (v.actor.curr ≡ Some s)
+  retires_in : (sequence : Sequence) (i : ℕ) → Relies v c (Playing sequence i) P0 P changed → Retires (Playing sequence i) → (s : ℕ) × (v.actor.curr ≡ Some s)
   retires_in Pinning zero h is = absurd (false≢true is)
   retires_in Pinning (suc i) h is = absurd h
   retires_in (Resting s reply) zero h is = absurd (false≢true is)
@@ -268,7 +268,7 @@ module _ (words : Words) (shape : Shape) (v : View) (c : Command) (P0 P : Trace)
       removing (Has k) g = absurd g
 
   retires_node : (at : Progress) → Relies v c at P0 P changed → Retires at → (s : ℕ) × (v.actor.curr ≡ Some s)
-  retires_node (Playing script i) h is = retires_in script i h is
+  retires_node (Playing sequence i) h is = retires_in sequence i h is
   retires_node _ h is = absurd (false≢true is)
 
   caller_knows : (at : Progress) → (is_before_pin at ≡ false → is_old v.format c ≡ false) → Relies v c at P0 P changed → (e : Event) → loaded words (event_at shape c at) ≡ e → Knows v.format v.actor e

@@ -19,12 +19,12 @@ use Rattle.lz_machine.specs.declared.event.Outcome.TheVariants.{Busy}
 use Rattle.lz_machine.specs.declared.event.Reply.{Reply}
 use Rattle.lz_machine.specs.declared.event.Reply.TheVariants.{Full as SaysFull}
 use Rattle.lz_machine.specs.Laws.{outcome_at}
-use Rattle.lz_machine.specs.Runs.{Start, State, Up, Down, Step, Calls, Turn, Fails, Trips, Stops, Crashes, Opens, made_text, caller_at, reply_at, disk_of}
+use Rattle.lz_machine.specs.Runs.{Start, State, Up, Down, Transition, Calls, Turn, Fails, Trips, Stops, Crashes, Opens, made_text, caller_at, reply_at, disk_of}
 use Rattle.lz_machine.proofs.Theorem.TraceRows.{fresh, head_2, marks_after, play, reader_steps, reader_trace, removal_steps, turns, until_release, words_of_state}
 
 -- Another caller's sync covers a closing before its node is marked: the stage is Closed, the node is linked and unmarked,
 -- and `has` still answers yes.
-abbrev closed_unmarked : List Step
+abbrev closed_unmarked : List Transition
 closed_unmarked = Calls 1 (Add 9) ∷ turns 1 15 ++ Calls 2 (Remove 9) ∷ turns 2 8 ++ Calls 3 (Add 7) ∷ turns 3 7 ++ Calls 4 (Has 9) ∷ turns 4 6
 
 abbrev cells_of : State → List Cell
@@ -96,14 +96,14 @@ unfolding bucket_of
 words_two_buckets = refl
 
 -- a crash that leaves what the pick says, and an open
-abbrev crashed : Pick → Start → List Step → List Step
+abbrev crashed : Pick → Start → List Transition → List Transition
 crashed pick start steps = steps ++ Crashes (left_by pick (disk_of (play start steps).state)) ∷ Opens ∷ []
 
-abbrev marks_crashed : Pick → Start → List Step → List Mark
+abbrev marks_crashed : Pick → Start → List Transition → List Mark
 marks_crashed pick start steps = marks_after start (crashed pick start steps)
 
 -- the keys that are shown at the end
-abbrev shown_after : Start → List Step → List ℕ
+abbrev shown_after : Start → List Transition → List ℕ
 shown_after start steps = keys_shown (play start steps).trace
 
 abbrev uses_of : State → List Use
@@ -116,7 +116,7 @@ reply_of (Down shape disk) a = None
 reply_of (Up service disk) a = elim (caller_at service.callers a) [ None ↦ None | Some caller ↦ reply_at caller.progress ]
 
 -- the key was loose, and its gate surely closed: nothing is found or shown
-abbrev key_steps : List Step
+abbrev key_steps : List Transition
 key_steps = Calls 1 (Add 9) ∷ turns 1 5
 
 key_loose_found : marks_crashed (Byte 0xa5) (fresh 2 64) key_steps ≡ Call 1 1 (Add 9) ∷ Crash ∷ Opened [] ∷ []
@@ -128,7 +128,7 @@ unfolding bucket_of
 key_loose_shown = refl
 
 -- the gate was loose
-abbrev gate_steps : List Step
+abbrev gate_steps : List Transition
 gate_steps = Calls 1 (Add 9) ∷ turns 1 10
 
 gate_loose_open : marks_crashed (Byte 0xa5) (fresh 2 64) gate_steps ≡ Call 1 1 (Add 9) ∷ Crash ∷ Opened (9 ∷ []) ∷ []
@@ -160,7 +160,7 @@ unfolding bucket_of
 removal_found = refl
 
 -- the counts of the call that finds no slot, while the reader is inside
-abbrev until_full : List Step
+abbrev until_full : List Transition
 until_full = Calls 1 (Add 9) ∷ turns 1 15 ++ Calls 3 (Has 9) ∷ turns 3 4 ++ Calls 1 (Remove 9) ∷ turns 1 15 ++ Calls 2 (Add 9) ∷ turns 2 15 ++ Calls 4 (Add 10) ∷ turns 4 71
 
 full_counts : reply_of (play (fresh 2 64) until_full).state 4 ≡ Some (SaysFull (record { free = 0; taken = 1; limbo = 1 }))
@@ -168,7 +168,7 @@ unfolding bucket_of
 full_counts = refl
 
 -- after a sync that failed: a stop keeps the gate, a crash that leaves the sure bytes doesn't
-abbrev halted_steps : List Step
+abbrev halted_steps : List Transition
 halted_steps = until_release ++ Trips ∷ Fails 1 (disk_of (play (fresh 2 64) until_release).state) ∷ turns 1 2 ++ Calls 2 (Has 9) ∷ turns 2 3
 
 halted_stop_shown : shown_after (fresh 2 64) (halted_steps ++ Stops ∷ Opens ∷ []) ≡ 9 ∷ []
@@ -184,7 +184,7 @@ unfolding bucket_of
 halted_crash_shown = refl
 
 -- the open's sync made the gate sure
-abbrev reopened_steps : List Step
+abbrev reopened_steps : List Transition
 reopened_steps = gate_steps ++ Stops ∷ Opens ∷ Calls 1 (Has 9) ∷ turns 1 6
 
 reopened_found : marks_crashed Old (fresh 2 64) reopened_steps ≡ Call 1 1 (Add 9) ∷ Stop ∷ Opened (9 ∷ []) ∷ Call 2 1 (Has 9) ∷ Answer 2 true ∷ Crash ∷ Opened (9 ∷ []) ∷ []
@@ -205,7 +205,7 @@ unfolding bucket_of
 two_adders_uses = refl
 
 -- a closing that is loose: a crash may leave the gate closed or open
-abbrev closing_steps : List Step
+abbrev closing_steps : List Transition
 closing_steps = Calls 1 (Add 9) ∷ turns 1 15 ++ Calls 2 (Remove 9) ∷ turns 2 8
 
 closing_left_closed : marks_crashed (Byte 0x37) (fresh 1 64) closing_steps ≡ Call 1 1 (Add 9) ∷ Answer 1 true ∷ Call 2 2 (Remove 9) ∷ Crash ∷ Opened [] ∷ []
@@ -245,7 +245,7 @@ mark_then_sync = refl
 
 -- a gate that was opened and then closed with no sync between: an open byte keeps the adding and drops the removal, and a
 -- closed one keeps both
-abbrev choice_steps : List Step
+abbrev choice_steps : List Transition
 choice_steps = Calls 1 (Add 9) ∷ turns 1 12 ++ Calls 2 (Remove 9) ∷ turns 2 9
 
 choice_open : marks_crashed (Byte 0xa5) (fresh 2 64) choice_steps ≡ Call 1 1 (Add 9) ∷ Call 2 2 (Remove 9) ∷ Crash ∷ Opened (9 ∷ []) ∷ []

@@ -11,7 +11,7 @@ use Rattle.lz_machine.specs.declared.caller.Progress.TheVariants.{Answering}
 use Rattle.lz_machine.specs.Table.{last_pin, pin_of, line}
 use Rattle.lz_machine.specs.Calls.{begun}
 use Rattle.lz_machine.specs.Orders.{MayTake}
-use Rattle.lz_machine.specs.Runs.{Start, Up, Step, Point, Service, Caller, caller_at, next_event, first_point, run, IsRun, IsStart}
+use Rattle.lz_machine.specs.Runs.{Start, Up, Transition, Point, Service, Caller, caller_at, next_event, first_point, run, IsRun, IsStart}
 use Rattle.lz_machine.specs.InTime.{NeverLate}
 use Rattle.lz_machine.specs.Sound.{Notes, view_of, CallerSound, UpSound, IsSound}
 use Rattle.lz_machine.specs.Ready.{IsEventOf}
@@ -71,7 +71,7 @@ module _ (start : Start) (p : Point) (service : Service) (disk : Medium) (sound 
     quiet_there now = quiet_now here.n p.calls service disk here.life p.trace here.notes here.up a caller at now
 
 -- At a point that a run reaches.
-module _ (start : Start) (steps : List Step) (is : IsStart start) (runs : IsRun (first_point start) steps) (service : Service) (disk : Medium) (state : (run (first_point start) steps).state ≡ Up service disk) (a : ℕ) where
+module _ (start : Start) (steps : List Transition) (is : IsStart start) (runs : IsRun (first_point start) steps) (service : Service) (disk : Medium) (state : (run (first_point start) steps).state ≡ Up service disk) (a : ℕ) where
   fits_here : Fits (list_any is_look steps) (caller_at service.callers a) (pin_of service.yard a)
   fits_here = all (subst (AllFit (list_any is_look steps)) state (run_fits start steps is runs))
     where

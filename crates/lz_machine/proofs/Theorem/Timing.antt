@@ -9,7 +9,7 @@ use Rattle.lz_machine.specs.declared.event.Outcome.TheVariants.{NotNow}
 use Rattle.lz_machine.specs.Table.{line, pin_of}
 use Rattle.lz_machine.specs.Ready.{IsEventOf}
 use Rattle.lz_machine.specs.Orders.{MayTake}
-use Rattle.lz_machine.specs.Runs.{Start, Service, Caller, State, Up, Down, Step, Point, MayStep, state_after, caller_at, next_event}
+use Rattle.lz_machine.specs.Runs.{Start, Service, Caller, State, Up, Down, Transition, Point, MayStep, state_after, caller_at, next_event}
 use Rattle.lz_machine.specs.Points.{IsQuiet, IsReached}
 use Rattle.lz_machine.specs.Sound.{IsSound}
 use Rattle.lz_machine.proofs.Theorem.Reached.{reached_sound}
@@ -60,7 +60,7 @@ module _ (start : Start) (p : Point) (reached : IsReached start p) where
   all_quiet (Down shape disk) fits = tt
 
   -- where no look was half done, none is after a step that isn't a look
-  pub quiet_step : (i : ℕ) (step : Step) → MayStep p.state step → is_look step ≡ false → IsQuiet p.state → IsQuiet (state_after i p.state step)
+  pub quiet_step : (i : ℕ) (step : Transition) → MayStep p.state step → is_look step ≡ false → IsQuiet p.state → IsQuiet (state_after i p.state step)
   quiet_step i step may other quiet =
       all_quiet (state_after i p.state step)
       (subst (λ (b : Bool). AllFit b (state_after i p.state step)) (ap (λ (b : Bool). b || false) other)

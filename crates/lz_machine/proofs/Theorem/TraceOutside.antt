@@ -18,7 +18,7 @@ use Rattle.lz_machine.specs.declared.caller.Progress.{Progress}
 use Rattle.lz_machine.specs.declared.caller.Progress.TheVariants.{Playing, LoadsHalt, Walking, Reserving, SeeingPins, Claiming, Checking, Answering}
 use Rattle.lz_machine.specs.Yards.{Shape, cell_at}
 use Rattle.lz_machine.specs.CallsStand.{is_out, trace_outside, CallsStand, MarkedIsClosed}
-use Rattle.lz_machine.specs.Runs.{Start, IsStart, Caller, Service, State, Up, Down, Step, Calls, Turn, Fails, Looks, Trips, Stops, Crashes, CrashesIn, Opens, OpenFails, Point, MayStep, HasTurn, HasFault, IsRun, run, first_point, point_after, caller_at, state_after, trace_after, calls_after, after_turn, after_fault, turn_publishes, reply_at, opened_service, marks_of, mark_of}
+use Rattle.lz_machine.specs.Runs.{Start, IsStart, Caller, Service, State, Up, Down, Transition, Calls, Turn, Fails, Looks, Trips, Stops, Crashes, CrashesIn, Opens, OpenFails, Point, MayStep, HasTurn, HasFault, IsRun, run, first_point, point_after, caller_at, state_after, trace_after, calls_after, after_turn, after_fault, turn_publishes, reply_at, opened_service, marks_of, mark_of}
 use Rattle.lz_machine.specs.Sound.{Notes, IsInside, pin_in, stage_in, CallerSound, view_of, SlotStands, is_node, is_held, is_out as is_gone, is_free, is_limbo, IsNodeStage, UpSound, IsSound}
 use Rattle.lz_machine.specs.Limbo.{IsAway}
 use Rattle.lz_machine.proofs.Steps.Trip.{point}
@@ -87,7 +87,7 @@ module _ (calls : ℕ) (service : Service) (disk : Medium) (P : Trace) (B : ℕ 
       (record { n = h.n; life = record { start = h.life.start; history = mark_of i reply ∷ h.life.history }; notes = done.0; up = done.1; noted = done.2 })
 
   caller_next : (i : ℕ) (c : Command) (at : Progress) → caller_at service.callers a ≡ Some (call_at i c at) → HasTurn service a (Some (call_at i c at)) → TurnNext (Some (call_at i c at))
-  caller_next i c (Playing script j) is may = going_next i c (Playing script j) is refl may
+  caller_next i c (Playing sequence j) is may = going_next i c (Playing sequence j) is refl may
   caller_next i c LoadsHalt is may = going_next i c LoadsHalt is refl may
   caller_next i c (Walking aim look) is may = going_next i c (Walking aim look) is refl may
   caller_next i c (Reserving again) is may = going_next i c (Reserving again) is refl may
@@ -116,7 +116,7 @@ module _ (calls : ℕ) (service : Service) (disk : Medium) (P : Trace) (B : ℕ 
       record { n = h.n; life = h.life; notes = done.0; up = done.1; noted = done.2 }
 
 -- a step of an open service
-up_next : (calls : ℕ) (service : Service) (disk : Medium) (P : Trace) (B : ℕ → Trace) (h : IsTied calls service disk P B) (step : Step) → MayStep (Up service disk) step
+up_next : (calls : ℕ) (service : Service) (disk : Medium) (P : Trace) (B : ℕ → Trace) (h : IsTied calls service disk P B) (step : Transition) → MayStep (Up service disk) step
     → NextAt (calls_after calls step) service.yard.words.pins P h.notes.begun (state_after (suc calls) (Up service disk) step) (trace_after (Up service disk) P step)
 up_next calls service disk P B h (Calls a c) may = call_next calls service disk P B h a c may
 up_next calls service disk P B h (Turn a) may = turn_next calls service disk P B h a (caller_at service.callers a) refl may
@@ -151,7 +151,7 @@ opened_tied start p shape t disk B sound is =
     let here = up_at start p (opened_service shape t) disk sound is in
     record { n = here.n; life = here.life; notes = here.notes; up = here.up; tied = λ a inside. absurd (omega (arith, inside, pass_of {X = ℕ} shape.passes a 0)) }
 
-step_tied : (start : Start) (w : State) (p : Point) (step : Step) (B : ℕ → Trace) → p.state ≡ w → MayStep w step → ((b : ℕ) → is_out w b ≡ true → B b ≡ p.trace) → TiedAt p.calls p.trace w B
+step_tied : (start : Start) (w : State) (p : Point) (step : Transition) (B : ℕ → Trace) → p.state ≡ w → MayStep w step → ((b : ℕ) → is_out w b ≡ true → B b ≡ p.trace) → TiedAt p.calls p.trace w B
     → IsSound start (point_after p step)
     → TiedAt (calls_after p.calls step) (trace_after w p.trace step) (state_after (suc p.calls) w step) (λ b. if is_out (state_after (suc p.calls) w step) b then trace_after w p.trace step else B b)
 step_tied start (Up service disk) p step B at may out h sound =
@@ -178,11 +178,11 @@ step_tied start (Down shape disk) p (OpenFails why true) B at may out h sound = 
 step_tied start (Down shape disk) p (OpenFails why false) B at may out h sound = tt
 
 -- where a pass is outside its trace is that of now
-out_now : (p : Point) (steps : List Step) (b : ℕ) → is_out (run p steps).state b ≡ true → trace_outside p steps b ≡ (run p steps).trace
+out_now : (p : Point) (steps : List Transition) (b : ℕ) → is_out (run p steps).state b ≡ true → trace_outside p steps b ≡ (run p steps).trace
 out_now p [] b out = refl
 out_now p (step ∷ steps) b out = ap (λ (q : Bool). if q then (run p (step ∷ steps)).trace else trace_outside p steps b) out
 
-reached_tied : (start : Start) (steps : List Step) → IsStart start → IsRun (first_point start) steps
+reached_tied : (start : Start) (steps : List Transition) → IsStart start → IsRun (first_point start) steps
     → TiedAt (run (first_point start) steps).calls (run (first_point start) steps).trace (run (first_point start) steps).state (trace_outside (first_point start) steps)
 reached_tied start [] is runs = opened_tied start (first_point start) start.shape start.text (at_rest start.text) (trace_outside (first_point start) []) (reached_sound start [] is runs) refl
 reached_tied start (step ∷ steps) is runs =
@@ -190,7 +190,7 @@ reached_tied start (step ∷ steps) is runs =
     step_tied start p.state p step (trace_outside (first_point start) steps) refl runs.0 (out_now (first_point start) steps) (reached_tied start steps is runs.1) (reached_sound start (step ∷ steps) is runs)
 
 -- what is known of an open service
-module _ (start : Start) (steps : List Step) (service : Service) (disk : Medium) (is : IsStart start) (runs : IsRun (first_point start) steps) (state : (run (first_point start) steps).state ≡ Up service disk) where
+module _ (start : Start) (steps : List Transition) (service : Service) (disk : Medium) (is : IsStart start) (runs : IsRun (first_point start) steps) (state : (run (first_point start) steps).state ≡ Up service disk) where
   abbrev p : Point
   p = run (first_point start) steps
 

@@ -15,25 +15,25 @@ use Rattle.lz_list.specs.declared.publishing.Publishing.TheVariants.{Linked as l
 use Rattle.lz_list.specs.declared.publishing.Change.TheVariants.{Added, Removed}
 use Rattle.lz_list.specs.Words.{Words}
 use Rattle.lz_list.specs.Traces.{is_removed, linking, Trace, SettledYes, SettledNo, words_after, bucket_of}
-use Rattle.lz_machine.specs.Runs.{Start, State, Up, Down, Step, Calls, Turn, Fails, Trips, Stops, Crashes, Opens, Point, first_point, point_after, run, made_text, caller_at, next_event, disk_of}
+use Rattle.lz_machine.specs.Runs.{Start, State, Up, Down, Transition, Calls, Turn, Fails, Trips, Stops, Crashes, Opens, Point, first_point, point_after, run, made_text, caller_at, next_event, disk_of}
 
 abbrev pub fresh : ℕ → ℕ → Start
 fresh slots passes = record { shape = record { slots = slots; buckets = 1; passes = passes }; text = made_text One slots }
 
-abbrev pub turns : ℕ → ℕ → List Step
+abbrev pub turns : ℕ → ℕ → List Transition
 turns a n = replicate n (Turn a)
 
 -- the point to which a script leads; scripts stand oldest first, and so do their marks here
-abbrev pub play : Start → List Step → Point
+abbrev pub play : Start → List Transition → Point
 play start script = run (first_point start) (reverse script)
 
-abbrev pub marks_after : Start → List Step → List Mark
+abbrev pub marks_after : Start → List Transition → List Mark
 marks_after start script = reverse (play start script).marks
 
-abbrev seen_after : Start → List Step → List ℕ
+abbrev seen_after : Start → List Transition → List ℕ
 seen_after start script = (disk_of (play start script).state).seen
 
-abbrev sure_after : Start → List Step → List ℕ
+abbrev sure_after : Start → List Transition → List ℕ
 sure_after start script = (disk_of (play start script).state).sure
 
 -- the next event of an actor, if it has a call
@@ -42,7 +42,7 @@ next_of_actor (Down shape disk) a = []
 next_of_actor (Up service disk) a = elim (caller_at service.callers a) [ None ↦ [] | Some caller ↦ next_event service.yard caller ∷ [] ]
 
 -- its next events in turn, of a script
-abbrev events : Point → ℕ → List Step → List Event
+abbrev events : Point → ℕ → List Transition → List Event
 events p a [] = []
 events p a (step ∷ steps) = next_of_actor p.state a ++ events (point_after p step) a steps
 
@@ -84,7 +84,7 @@ unfolding bucket_of
 row_gate_other = refl
 
 -- actor 3 meets a node whose removal isn't sure, and its sync makes it so
-abbrev pub removal_steps : List Step
+abbrev pub removal_steps : List Transition
 removal_steps = Calls 1 (Add 9) ∷ turns 1 12 ++ Calls 2 (Remove 9) ∷ turns 2 9 ++ Calls 3 (Has 9) ∷ turns 3 8
 
 row_removal_settled : marks_after (fresh 2 64) removal_steps ≡ Call 1 1 (Add 9) ∷ Call 2 2 (Remove 9) ∷ Call 3 3 (Has 9) ∷ Answer 3 false ∷ []
@@ -96,7 +96,7 @@ unfolding bucket_of
 row_removal_sure = refl
 
 -- a reader stands on a node that is removed; the key comes again in another slot
-abbrev pub reader_steps : List Step
+abbrev pub reader_steps : List Transition
 reader_steps =
     Calls 1 (Add 9) ∷ turns 1 15 ++ Calls 3 (Has 9) ∷ turns 3 4 ++ Calls 1 (Remove 9) ∷ turns 1 15 ++ Calls 2 (Add 9) ∷ turns 2 15
     ++ turns 3 2
@@ -112,7 +112,7 @@ unfolding bucket_of
 row_second_slot = refl
 
 -- the slot in limbo can't be had while the reader is inside, and can afterwards
-abbrev full_steps : List Step
+abbrev full_steps : List Transition
 full_steps =
     Calls 1 (Add 9) ∷ turns 1 15 ++ Calls 3 (Has 9) ∷ turns 3 4 ++ Calls 1 (Remove 9) ∷ turns 1 15 ++ Calls 2 (Add 9) ∷ turns 2 15
     ++ Calls 4 (Add 10) ∷ turns 4 72 ++ turns 3 2 ++ Calls 4 (Add 10) ∷ turns 4 19
@@ -124,10 +124,10 @@ unfolding bucket_of
 row_full_then_yes = refl
 
 -- a sync that fails: the service halts, and the file holds what the disk kept
-abbrev pub until_release : List Step
+abbrev pub until_release : List Transition
 until_release = Calls 1 (Add 9) ∷ turns 1 12
 
-abbrev failed_sync_steps : List Step
+abbrev failed_sync_steps : List Transition
 failed_sync_steps =
     until_release ++ Trips ∷ Fails 1 (disk_of (play (fresh 2 64) until_release).state) ∷ turns 1 2 ++ Calls 2 (Has 9)
     ∷ turns 2 3 ++ Stops ∷ Opens ∷ []

@@ -30,14 +30,14 @@ use Rattle.lz_machine.specs.declared.event.Outcome.{Outcome}
 use Rattle.lz_machine.specs.declared.event.Outcome.TheVariants.{Done, Value, Slot, NoSlot, Taken, True, False, Early, Worn, NotNow, Fault, Dead, OldFile}
 use Rattle.lz_machine.specs.declared.event.Reply.{Reply}
 use Rattle.lz_machine.specs.declared.event.Reply.TheVariants.{Yes, No, Worn as SaysWorn, OldFile as SaysOldFile, Halted}
-use Rattle.lz_machine.specs.declared.caller.Script.{Script}
-use Rattle.lz_machine.specs.declared.caller.Script.TheVariants.{Resting, Halting}
+use Rattle.lz_machine.specs.declared.caller.Sequence.{Sequence}
+use Rattle.lz_machine.specs.declared.caller.Sequence.TheVariants.{Resting, Halting}
 use Rattle.lz_machine.specs.declared.caller.Progress.{Progress}
 use Rattle.lz_machine.specs.declared.caller.Progress.TheVariants.{Playing, LoadsHalt, Walking, Reserving, SeeingPins, Claiming, Checking, Answering}
 use Rattle.lz_machine.specs.Yards.{Shape, Yard, actor_at, cell_at, opened_yard}
 use Rattle.lz_machine.specs.Table.{last_pin, pin_of, needs, is_played_dead, is_sure, is_spent, words_after, course_alive, course, line_on, line, line_failed, is_old, stays_out}
 use Rattle.lz_machine.specs.Calls.{goes_on, events_of, after_event, first_progress, progress_after, follows, walked, rests, hops_on, changes, after_playing, after_halt, after_hop, after_reserve, after_see_pin, after_claim, after_check, begun}
-use Rattle.lz_machine.specs.Runs.{Start, State, Up, Down, Step, Calls, Turn, Fails, Looks, Trips, Stops, Crashes, CrashesIn, Opens, OpenFails, Point, Service, Caller, caller_at, next_event, reply_at, moved_on, looked, state_after, after_turn, after_fault, HasTurn, HasFault, MayStep, first_point, run, IsRun, IsStart, opened_service, start_keys, invoked}
+use Rattle.lz_machine.specs.Runs.{Start, State, Up, Down, Transition, Calls, Turn, Fails, Looks, Trips, Stops, Crashes, CrashesIn, Opens, OpenFails, Point, Service, Caller, caller_at, next_event, reply_at, moved_on, looked, state_after, after_turn, after_fault, HasTurn, HasFault, MayStep, first_point, run, IsRun, IsStart, opened_service, start_keys, invoked}
 use Rattle.lz_machine.specs.Sound.{Notes, View, view_of, MayRest, IsCut, Relies, CallerSound, Sound, UpSound, StateSound, PointSound, IsSound}
 use Rattle.lz_machine.proofs.Steps.Trip.{point}
 use Rattle.lz_machine.proofs.Frames.ActorTable.{by_actor}
@@ -173,7 +173,7 @@ cut_not SaysWorn h = absurd h
 cut_not _ h = refl
 
 module _ (shape : Shape) (v : View) (c : Command) (P0 P : Trace) (changed : Option ℕ) where
-  goes_not : (script : Script) (i : ℕ) → Relies v c (Playing script i) P0 P changed → ends_worn (goes_on script) ≡ false
+  goes_not : (sequence : Sequence) (i : ℕ) → Relies v c (Playing sequence i) P0 P changed → ends_worn (goes_on sequence) ≡ false
   goes_not (Resting s reply) zero h = met_not v.buckets c reply s P0 P h.1
   goes_not (Resting s reply) (suc zero) h = met_not v.buckets c reply s P0 P h.1
   goes_not (Resting s reply) (suc (suc i)) h = absurd h
@@ -181,16 +181,16 @@ module _ (shape : Shape) (v : View) (c : Command) (P0 P : Trace) (changed : Opti
   goes_not (Halting reply) (suc i) h = absurd h
   goes_not _ i h = refl
 
-  event_not : (script : Script) (i : ℕ) → Relies v c (Playing script i) P0 P changed → ends_worn (after_event c script i) ≡ false
-  event_not script i h = go (nat_lt (i + 1) (length (events_of c script)))
+  event_not : (sequence : Sequence) (i : ℕ) → Relies v c (Playing sequence i) P0 P changed → ends_worn (after_event c sequence i) ≡ false
+  event_not sequence i h = go (nat_lt (i + 1) (length (events_of c sequence)))
     where
-      go : (more : Bool) → ends_worn (if more then Playing script (i + 1) else goes_on script) ≡ false
+      go : (more : Bool) → ends_worn (if more then Playing sequence (i + 1) else goes_on sequence) ≡ false
       go true = refl
-      go false = goes_not script i h
+      go false = goes_not sequence i h
 
-  playing_not : (script : Script) (i : ℕ) (outcome : Outcome) → Relies v c (Playing script i) P0 P changed → ends_worn (after_playing c script i outcome) ≡ false
-  playing_not script i Early h = refl
-  playing_not script i outcome h = event_not script i h
+  playing_not : (sequence : Sequence) (i : ℕ) (outcome : Outcome) → Relies v c (Playing sequence i) P0 P changed → ends_worn (after_playing c sequence i outcome) ≡ false
+  playing_not sequence i Early h = refl
+  playing_not sequence i outcome h = event_not sequence i h
 
   halt_not : (outcome : Outcome) → ends_worn (after_halt outcome) ≡ false
   halt_not (Value value) = go (value == 1)
@@ -230,7 +230,7 @@ module _ (shape : Shape) (v : View) (c : Command) (P0 P : Trace) (changed : Opti
   FollowsNot at outcome = Relies v c at P0 P changed → reply_at at ≡ None → ends_worn (follows shape c at outcome) ≡ false
 
   follows_not : (at : Progress) (outcome : Outcome) → FollowsNot at outcome
-  follows_not (Playing script i) outcome h on_its_way = playing_not script i outcome h
+  follows_not (Playing sequence i) outcome h on_its_way = playing_not sequence i outcome h
   follows_not LoadsHalt outcome h on_its_way = halt_not outcome
   follows_not (Walking aim look) outcome h on_its_way = hop_not aim look outcome
   follows_not (Reserving again) outcome h on_its_way = reserve_not again outcome
@@ -315,12 +315,12 @@ module _ (looks : Bool) (n calls : ℕ) (y : Yard) (callers : List (Option Calle
       (λ b other. subst (Fits true (caller_at callers b)) (sym (of_pass_other y.words.pins a b (pin_of y a + 1) 0 other)) (loosens (caller_at callers b) (pin_of y b) (fits b)))
 
 -- a look
-abbrev pub is_look : Step → Bool
+abbrev pub is_look : Transition → Bool
 is_look (Looks a) = true
 is_look _ = false
 
 module _ (looks : Bool) (n calls : ℕ) (y : Yard) (callers : List (Option Caller)) (disk : Medium) (M : History) (P : Trace) (notes : Notes) (sound : Sound n calls y callers disk M P notes) (fits : AllFit looks (Up (record { yard = y; callers = callers }) disk)) where
-  up_fits : (i : ℕ) (step : Step) → MayStep (Up (record { yard = y; callers = callers }) disk) step → AllFit (is_look step || looks) (state_after i (Up (record { yard = y; callers = callers }) disk) step)
+  up_fits : (i : ℕ) (step : Transition) → MayStep (Up (record { yard = y; callers = callers }) disk) step → AllFit (is_look step || looks) (state_after i (Up (record { yard = y; callers = callers }) disk) step)
   up_fits i (Calls a c) may =
       changes_one looks n calls y callers disk M P notes sound fits a (Some (call_at i c (begun y.vault.format c))) (invoked y a c) may.0.0 (omega (arith, may.0.1, sound.callers.count)) (not_worn (pin_of y a) (begun y.vault.format c) (begins_not (is_old y.vault.format c))) (λ b other. refl)
   up_fits i (Turn a) may = turn_fits looks n calls y callers disk M P notes sound fits a (caller_at callers a) refl may
@@ -337,7 +337,7 @@ module _ (looks : Bool) (n calls : ℕ) (y : Yard) (callers : List (Option Calle
 opened_fits : (looks : Bool) (shape : Shape) (t : List ℕ) (disk : Medium) → AllFit looks (Up (opened_service shape t) disk)
 opened_fits looks shape t disk a = subst (λ (q : Option Caller). Fits looks q (pin_of (opened_yard shape t) a)) (sym (pass_of shape.passes a None)) (λ is. ap (λ (q : ℕ). q % 2) (pass_of shape.passes a 0))
 
-down_fits : (looks : Bool) (i : ℕ) (shape : Shape) (disk : Medium) (step : Step) → MayStep (Down shape disk) step → AllFit (is_look step || looks) (state_after i (Down shape disk) step)
+down_fits : (looks : Bool) (i : ℕ) (shape : Shape) (disk : Medium) (step : Transition) → MayStep (Down shape disk) step → AllFit (is_look step || looks) (state_after i (Down shape disk) step)
 down_fits looks i shape disk Opens may = opened_fits looks shape disk.seen (synced disk)
 down_fits looks i shape disk Trips may = tt
 down_fits looks i shape disk Stops may = tt
@@ -362,13 +362,13 @@ up_at start p service disk sound is = go (lives (start_keys start) p.marks) soun
         let there : StateSound p (Up service disk) life = subst (λ (q : State). StateSound p q life) is h.2 in
         record { n = there.0; life = life; notes = there.1; up = there.2 }
 
-pub step_fits : (looks : Bool) (start : Start) (w : State) (M : History) (P : Trace) (calls i : ℕ) (step : Step) → IsSound start (point w M P calls) → MayStep w step → AllFit looks w → AllFit (is_look step || looks) (state_after i w step)
+pub step_fits : (looks : Bool) (start : Start) (w : State) (M : History) (P : Trace) (calls i : ℕ) (step : Transition) → IsSound start (point w M P calls) → MayStep w step → AllFit looks w → AllFit (is_look step || looks) (state_after i w step)
 step_fits looks start (Up service disk) M P calls i step sound may fits =
     let there = up_at start (point (Up service disk) M P calls) service disk sound refl in
     up_fits looks there.n calls service.yard service.callers disk there.life.history P there.notes there.up.sound fits i step may
 step_fits looks start (Down shape disk) M P calls i step sound may fits = down_fits looks i shape disk step may
 
-pub run_fits : (start : Start) (steps : List Step) → IsStart start → IsRun (first_point start) steps → AllFit (list_any is_look steps) (run (first_point start) steps).state
+pub run_fits : (start : Start) (steps : List Transition) → IsStart start → IsRun (first_point start) steps → AllFit (list_any is_look steps) (run (first_point start) steps).state
 run_fits start [] is runs = opened_fits false start.shape start.text (at_rest start.text)
 run_fits start (step ∷ steps) is runs =
     let before = run (first_point start) steps in
