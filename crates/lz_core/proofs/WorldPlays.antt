@@ -4,7 +4,7 @@ use Rattle.std.proofs.lemmas.List.{reverse-append, append-nil, append_assoc}
 use Rattle.std.proofs.lemmas.Option.{slice_get_within, get_or_from_slice_get}
 use Rattle.std.proofs.Math.Seq.{take-suc}
 use Rattle.lz_slot.specs.declared.history.Mark.{Mark}
-use Rattle.lz_core.specs.declared.play.Step.{Transition as PlayStep}
+use Rattle.lz_core.specs.declared.play.Step.{Step as PlayStep}
 use Rattle.lz_machine.specs.Runs.{Transition, MayStep, Point, run, IsRun}
 use Rattle.lz_machine.specs.Points.{IsReached}
 use Rattle.lz_core.specs.Plays.{IsPlayOf, ArePlaysOf}

@@ -12,7 +12,7 @@ use Rattle.lz_disk.specs.Images.{IsImage, at_rest}
 use Rattle.lz_disk.specs.declared.memory.Pick.{Pick}
 use Rattle.lz_disk.specs.Picks.{left_by}
 use Rattle.lz_disk.specs.Records.{Past, after}
-use Rattle.lz_core.specs.declared.play.Step.{Transition as PlayStep}
+use Rattle.lz_core.specs.declared.play.Step.{Step as PlayStep}
 use Rattle.lz_core.specs.declared.play.Step.TheVariants.{Call as CallOf, Trip, Stop, Crash}
 use Rattle.lz_core.specs.declared.open_calls.OpenCall.{OpenCall}
 use Rattle.lz_machine.specs.Yards.{Shape}

@@ -3,7 +3,7 @@ use Rattle.std.specs.Prelude.{◌≡◌, ◌⊎◌, ℕ, Bool, List, [], ◌∷�
 use Rattle.lz_slot.specs.declared.history.Mark.{Mark}
 use Rattle.lz_disk.specs.Images.{Medium}
 use Rattle.lz_disk.specs.Picks.{left_by}
-use Rattle.lz_core.specs.declared.play.Step.{Transition as PlayStep}
+use Rattle.lz_core.specs.declared.play.Step.{Step as PlayStep}
 use Rattle.lz_core.specs.declared.play.Step.TheVariants.{Call, Turn as TurnOf, Trip, Stop, Crash, Open}
 use Rattle.lz_machine.specs.Runs.{Start, IsStart, first_point, State, disk_of, Transition, Calls, Turn, Fails, Trips, Stops, Crashes, Opens, OpenFails, Point, run, IsRun}
 
