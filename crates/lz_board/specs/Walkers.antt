@@ -14,7 +14,7 @@ use Rattle.lz_list.specs.Traces.{Trace, bucket_of, key_word, rank, flags_after}
 use Rattle.lz_list.specs.Pinned.{Stood}
 use Rattle.lz_list.specs.Laws.{IsHigh}
 use Rattle.lz_machine.specs.Stands.{WasBetween}
-use Rattle.lz_machine.specs.Sound.{IsLooking}
+use Rattle.lz_machine.specs.CallersSound.{IsLooking}
 use Rattle.lz_flush.specs.declared.need.Need.{Need}
 use Rattle.lz_flush.specs.declared.need.Need.TheVariants.{Now, Sync as asks_sync}
 use Rattle.lz_flush.specs.Settling.{may_answer}

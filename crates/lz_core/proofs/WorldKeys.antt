@@ -29,7 +29,8 @@ use Rattle.lz_core.specs.declared.open_calls.OpenCall.{OpenCall}
 use Rattle.lz_yard.specs.Parts.{YardOver}
 use Rattle.lz_machine.specs.Runs.{Service, Up, Point, Start, by_key, keys_found, opened_service}
 use Rattle.lz_machine.specs.Points.{IsReached}
-use Rattle.lz_machine.specs.Sound.{Notes, IsSound, UpSound}
+use Rattle.lz_machine.specs.Notes.{Notes}
+use Rattle.lz_machine.specs.Sound.{IsSound, UpSound}
 use Rattle.lz_core.specs.Worlds.{Ascend, IsAmong, IsWorld, Shows, call_shown, state_shown}
 use Rattle.lz_machine.proofs.Theorem.ShownChains as showing
 use Rattle.lz_machine.proofs.Crash.ImageSlots.{node_stands}

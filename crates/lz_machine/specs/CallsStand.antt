@@ -6,7 +6,7 @@ use Rattle.lz_allot.specs.Uses.{is_outside}
 use Rattle.lz_list.specs.Pinned.{Stood}
 use Rattle.lz_list.specs.Traces.{Trace, is_marked}
 use Rattle.lz_machine.specs.Runs.{Start, IsStart, Service, State, Up, Down, Transition, Point, IsRun, run, first_point, caller_at}
-use Rattle.lz_machine.specs.Sound.{CallerSound, view_of}
+use Rattle.lz_machine.specs.CallersSound.{CallerSound, view_of}
 use Rattle.lz_machine.specs.Table.{pin_of, is_sure}
 use Rattle.lz_machine.specs.Yards.{cell_at}
 

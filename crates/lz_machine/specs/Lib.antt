@@ -16,6 +16,11 @@ pub mod Stands
 pub mod Limbo
 pub mod Lasts
 pub mod Ready
+pub mod SlotsSound
+pub mod LocksSound
+pub mod Notes
+pub mod LedgerSound
+pub mod CallersSound
 pub mod Sound
 pub mod Alone
 pub mod NextEvents

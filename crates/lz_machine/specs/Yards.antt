@@ -1,9 +1,10 @@
 -- What the yard keeps: the state that events change.
-use Rattle.std.specs.Prelude.{ℕ, zero, suc, false, List, [], ◌∷◌, ◌++◌, map, replicate, slice_index_or, None}
+use Rattle.std.specs.Prelude.{◌≡◌, ◌%◌, ℕ, zero, suc, false, List, [], ◌∷◌, ◌++◌, map, replicate, slice_index_or, None}
 use Rattle.lz_slot.specs.declared.slot.SlotRead.{SlotRead}
 use Rattle.lz_slot.specs.declared.slot.SlotRead.TheVariants.{Member}
 use Rattle.lz_slot.specs.Bytes.{format_of, slot_at, held}
 use Rattle.lz_slot.specs.Counted.{of_pass}
+use Rattle.lz_vault.specs.declared.vault.Stage.{Stage}
 use Rattle.lz_vault.specs.declared.vault.Stage.TheVariants.{Closed, Open}
 use Rattle.lz_vault.specs.Stages.{Cell}
 use Rattle.lz_vault.specs.Vaults.{Vaulted}
@@ -41,6 +42,23 @@ no_cell = record { stage = Closed; key = 0 }
 
 abbrev pub cell_at : Yard → ℕ → Cell
 cell_at y s = slice_index_or y.vault.cells s no_cell
+
+-- what an actor has in hand, a slot's cell, a pass's pin word
+abbrev pub actor_in : List Actor → ℕ → Actor
+actor_in actors a = of_pass actors a idle_actor
+
+abbrev pub cell_in : List Cell → ℕ → Cell
+cell_in cells s = slice_index_or cells s no_cell
+
+abbrev pub stage_in : List Cell → ℕ → Stage
+stage_in cells s = (cell_in cells s).stage
+
+abbrev pub pin_in : List ℕ → ℕ → ℕ
+pin_in pins a = of_pass pins a 0
+
+-- a pin word of a pass that is inside
+abbrev pub IsInside : ℕ → Type 0
+IsInside pin = pin % 2 ≡ 1
 
 -- a slot as an open finds it
 abbrev pub cell_read : SlotRead → Cell

@@ -24,7 +24,7 @@ use Rattle.lz_list.proofs.Shown.{words_show_chain}
 use Rattle.lz_list.proofs.Finding.{next_rank}
 use Rattle.lz_list.proofs.Packed.{next_of_link, mark_of_link, added_of_link, removed_of_link}
 use Rattle.lz_machine.specs.Stands.{WasBetween}
-use Rattle.lz_machine.specs.Sound.{IsLooking}
+use Rattle.lz_machine.specs.CallersSound.{IsLooking}
 use Rattle.lz_machine.proofs.Frames.Ranges.{stood_range, head_range}
 use Rattle.lz_machine.proofs.Steps.Walk.{once_some}
 use Rattle.lz_machine.proofs.Frames.Publishing.{rank_stays, pred_stood, looking_stays}

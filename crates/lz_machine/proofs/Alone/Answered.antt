@@ -14,7 +14,8 @@ use Rattle.lz_machine.specs.declared.event.Reply.{Reply}
 use Rattle.lz_machine.specs.declared.event.Reply.TheVariants.{Yes, No, Full, Worn, OldFile, Halted, Device}
 use Rattle.lz_machine.specs.declared.caller.Progress.TheVariants.{Answering}
 use Rattle.lz_machine.specs.Runs.{Start, State, Up, Down, Point, MayLeave, reply_at, mark_of, start_keys}
-use Rattle.lz_machine.specs.Sound.{View, Relies, IsSound}
+use Rattle.lz_machine.specs.CallersSound.{View, Relies}
+use Rattle.lz_machine.specs.Sound.{IsSound}
 use Rattle.lz_machine.specs.Alone.{has_cut, IsPlain, ArePlain}
 use Rattle.lz_machine.proofs.Steps.Point as at_point
 use Rattle.lz_machine.proofs.Steps.Answer.{answer_up}

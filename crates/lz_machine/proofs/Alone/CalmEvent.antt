@@ -13,7 +13,7 @@ use Rattle.lz_machine.specs.declared.caller.Sequence.TheVariants.{Pinning, Resti
 use Rattle.lz_machine.specs.declared.caller.Progress.TheVariants.{Playing}
 use Rattle.lz_machine.specs.Yards.{Yard}
 use Rattle.lz_machine.specs.Calls.{event_of, loaded, goes_on}
-use Rattle.lz_machine.specs.Sound.{View, ReliesOn}
+use Rattle.lz_machine.specs.CallersSound.{View, ReliesOn}
 use Rattle.lz_machine.proofs.Alone.Frame.{is_use_event, is_opening_event}
 use Rattle.lz_machine.proofs.Alone.Full.{WalkStands, AddsTo}
 

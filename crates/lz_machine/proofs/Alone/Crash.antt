@@ -20,11 +20,12 @@ use Rattle.lz_machine.specs.declared.event.Outcome.{Outcome}
 use Rattle.lz_machine.specs.declared.event.Reply.{Reply}
 use Rattle.lz_machine.specs.declared.caller.Progress.{Progress}
 use Rattle.lz_machine.specs.declared.caller.Progress.TheVariants.{Playing, LoadsHalt, Walking, Reserving, SeeingPins, Claiming, Checking, Answering}
-use Rattle.lz_machine.specs.Yards.{Shape, Yard, actor_at}
+use Rattle.lz_machine.specs.Yards.{Shape, Yard, actor_at, pin_in}
 use Rattle.lz_machine.specs.Table.{course, line, line_call, line_failed, is_old}
 use Rattle.lz_machine.specs.Calls.{progress_after, begun}
 use Rattle.lz_machine.specs.Runs.{Start, IsStart, Caller, Service, State, Up, Down, Transition, Calls, Turn, Fails, Looks, Trips, Stops, Crashes, CrashesIn, Opens, OpenFails, Point, MayStep, MayLeave, LeftInside, looked, HasTurn, HasFault, IsRun, run, first_point, point_after, caller_at, next_event, reply_at, moved_on, after_turn, after_fault, opened_service, marks_of_turn, mark_of_turn, mark_of, turn_publishes, start_keys, keys_found, IsActor, invoked}
-use Rattle.lz_machine.specs.Sound.{Relies, IsCaller, view_of, pin_in, StateSound, HasList, PointSound, IsSound}
+use Rattle.lz_machine.specs.CallersSound.{Relies, IsCaller, view_of}
+use Rattle.lz_machine.specs.Sound.{StateSound, HasList, PointSound, IsSound}
 use Rattle.lz_machine.specs.Alone.{IsOwn, IsAlone, has_cut, IsPlain, ArePlain, AloneIsPlain}
 use Rattle.lz_machine.proofs.Steps.Trip.{point}
 use Rattle.lz_machine.proofs.Steps.Point as at_point

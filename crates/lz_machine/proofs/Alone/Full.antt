@@ -32,10 +32,13 @@ use Rattle.lz_machine.specs.declared.caller.Sequence.{Sequence}
 use Rattle.lz_machine.specs.declared.caller.Sequence.TheVariants.{Adding}
 use Rattle.lz_machine.specs.declared.caller.Progress.{Progress}
 use Rattle.lz_machine.specs.declared.caller.Progress.TheVariants.{Playing, LoadsHalt, Walking, Reserving, SeeingPins, Claiming, Checking, Answering}
-use Rattle.lz_machine.specs.Yards.{Shape, Yard}
+use Rattle.lz_machine.specs.Yards.{Shape, Yard, actor_in, cell_in, stage_in}
 use Rattle.lz_machine.specs.Calls.{progress_after, goes_on, hops_on, rests, after_event, changes, events_of}
 use Rattle.lz_machine.specs.Runs.{Caller}
-use Rattle.lz_machine.specs.Sound.{Notes, TraceSound, actor_in, cell_in, stage_in, closes, has_removed_node, IsGateOpened, IsNodeStage, IsOnChain, SlotStands, is_node, is_held, is_out, is_free, is_limbo, IsLooking, Sound}
+use Rattle.lz_machine.specs.Notes.{Notes}
+use Rattle.lz_machine.specs.SlotsSound.{closes, has_removed_node, IsGateOpened, IsNodeStage, IsOnChain, SlotStands, is_node, is_held, is_out, is_free, is_limbo}
+use Rattle.lz_machine.specs.CallersSound.{IsLooking}
+use Rattle.lz_machine.specs.Sound.{TraceSound, Sound}
 use Rattle.lz_machine.proofs.Alone.Sights.{HasLeft, no_limbo}
 use Rattle.lz_machine.proofs.Alone.Frame.{IsIdleNow, NoneOpening}
 use Rattle.lz_machine.proofs.Alone.Walk.{Finds}

@@ -20,10 +20,12 @@ use Rattle.lz_list.proofs.Nodes.{node}
 use Rattle.lz_machine.specs.declared.actor.Hold.TheVariants.{Nothing}
 use Rattle.lz_machine.specs.declared.caller.Progress.{Progress}
 use Rattle.lz_machine.specs.declared.caller.Progress.TheVariants.{Reserving}
-use Rattle.lz_machine.specs.Yards.{Yard}
+use Rattle.lz_machine.specs.Yards.{Yard, actor_in}
 use Rattle.lz_machine.specs.Alone.{IsOwn, IsAlone, HasMembers, FullOfOnePass}
 use Rattle.lz_machine.specs.Runs.{Start, IsStart, Caller, Service, State, Up, Down, Transition, Calls, Turn, Fails, Looks, Trips, Stops, Crashes, CrashesIn, Opens, OpenFails, Point, MayStep, HasTurn, HasFault, LeftInside, IsRun, run, first_point, caller_at, start_keys, shape_of}
-use Rattle.lz_machine.specs.Sound.{Notes, actor_in, Sound, PointSound, IsAdder, view_of, Relies}
+use Rattle.lz_machine.specs.Notes.{Notes}
+use Rattle.lz_machine.specs.CallersSound.{IsAdder, view_of, Relies}
+use Rattle.lz_machine.specs.Sound.{Sound, PointSound}
 use Rattle.lz_machine.proofs.Steps.Trip.{point}
 use Rattle.lz_machine.proofs.Frames.OneActor.{caller_range, mine}
 use Rattle.lz_machine.proofs.Crash.ImageSlots.{member_node, one_node_slot}

@@ -27,7 +27,8 @@ use Rattle.lz_machine.specs.declared.caller.Progress.TheVariants.{Playing, Loads
 use Rattle.lz_machine.specs.Yards.{Shape, Yard, actor_at, cell_at, first_trace}
 use Rattle.lz_machine.specs.Table.{course, line, line_on, pin_of, words_after, is_sure, is_old}
 use Rattle.lz_machine.specs.Runs.{Start, Caller, Service, State, Up, Down, Transition, Calls, Turn, Fails, Looks, Trips, Stops, Crashes, CrashesIn, Opens, OpenFails, Point, MayStep, Reached, IsRun, run, first_point, state_after, caller_at, next_event, reply_at, after_turn, after_fault, start_keys}
-use Rattle.lz_machine.specs.Sound.{View, Relies, view_of, PointSound, IsCaller, is_before_pin, side_of}
+use Rattle.lz_machine.specs.CallersSound.{View, Relies, view_of, IsCaller, is_before_pin, side_of}
+use Rattle.lz_machine.specs.Sound.{PointSound}
 use Rattle.lz_machine.specs.Alone.{RefusalsAreRight}
 use Rattle.lz_machine.proofs.Steps.Trip.{point}
 use Rattle.lz_machine.proofs.Steps.Hop.{call_at, own}

@@ -34,11 +34,13 @@ use Rattle.lz_machine.specs.declared.caller.Sequence.{Sequence}
 use Rattle.lz_machine.specs.declared.caller.Sequence.TheVariants.{Pinning, Resting, Writing, Adding, Removing, Releasing, Halting}
 use Rattle.lz_machine.specs.declared.caller.Progress.{Progress}
 use Rattle.lz_machine.specs.declared.caller.Progress.TheVariants.{Playing, LoadsHalt, Walking, Reserving, SeeingPins, Claiming, Checking, Answering}
-use Rattle.lz_machine.specs.Yards.{Shape, Yard, actor_at, cell_at}
+use Rattle.lz_machine.specs.Yards.{Shape, Yard, actor_at, cell_at, actor_in, stage_in, pin_in}
 use Rattle.lz_machine.specs.Table.{line_publishes, line_failed, course, course_alive, line, line_on, published_on, pin_of, slot_found, given_back, is_unused, is_sure, is_spent, slot_of, stays_out}
 use Rattle.lz_machine.specs.Calls.{halts, progress_after, event_of, loaded}
 use Rattle.lz_machine.specs.Runs.{Caller, caller_at, reply_at, next_event, moved_on}
-use Rattle.lz_machine.specs.Sound.{IsAdder, Notes, actor_in, stage_in, pin_in, view_of, Relies, Sound}
+use Rattle.lz_machine.specs.CallersSound.{IsAdder, view_of, Relies}
+use Rattle.lz_machine.specs.Notes.{Notes}
+use Rattle.lz_machine.specs.Sound.{Sound}
 use Rattle.lz_machine.specs.Limbo.{IsSeen}
 use Rattle.lz_machine.proofs.Steps.Hop.{call_at, own, own_inside}
 use Rattle.lz_machine.proofs.Alone.Sights.{HasLeft, IsSeenOdd, set_cases, left_set, left_seen, seen_outside}

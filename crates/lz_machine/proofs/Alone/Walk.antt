@@ -22,7 +22,8 @@ use Rattle.lz_machine.specs.declared.actor.Hold.TheVariants.{Nothing}
 use Rattle.lz_machine.specs.declared.event.Reply.TheVariants.{No}
 use Rattle.lz_machine.specs.Yards.{Shape}
 use Rattle.lz_machine.specs.Calls.{hops_on, rests}
-use Rattle.lz_machine.specs.Sound.{TraceSound, View, IsLooking, HasMet, RestsNo}
+use Rattle.lz_machine.specs.CallersSound.{View, IsLooking, HasMet, RestsNo}
+use Rattle.lz_machine.specs.Sound.{TraceSound}
 use Rattle.lz_machine.proofs.Steps.Walk.{GoesOn, once_some, hop_after}
 use Rattle.lz_machine.proofs.Frames.Limbo.{shorter}
 

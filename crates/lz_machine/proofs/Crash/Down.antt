@@ -6,7 +6,8 @@ use Rattle.lz_disk.specs.Images.{Medium, AreBytes, IsImage, at_rest, synced}
 use Rattle.lz_list.specs.Traces.{Trace}
 use Rattle.lz_machine.specs.Yards.{Shape}
 use Rattle.lz_machine.specs.Runs.{Start, Service, State, Up, Down, Stops, Crashes, OpenFails, Point, MayStep, point_after, shape_of, start_keys}
-use Rattle.lz_machine.specs.Sound.{Notes, UpSound, HasList, DownSound, StateSound, PointSound, IsSound}
+use Rattle.lz_machine.specs.Notes.{Notes}
+use Rattle.lz_machine.specs.Sound.{UpSound, HasList, DownSound, StateSound, PointSound, IsSound}
 use Rattle.lz_machine.proofs.Steps.Trip.{point}
 use Rattle.lz_machine.proofs.Crash.Image.{images_fit}
 

@@ -23,7 +23,9 @@ use Rattle.lz_machine.specs.Runs.{Service}
 use Rattle.lz_machine.specs.Kept.{upto, last_change, IsOpen, MayDrop, kept_keys, publishing}
 use Rattle.lz_machine.specs.Entries.{kept_rows, numbers}
 use Rattle.lz_machine.specs.Ledgers.{listed}
-use Rattle.lz_machine.specs.Sound.{Notes, entries, cell_in, stage_in, UpSound, HasList}
+use Rattle.lz_machine.specs.Notes.{Notes, entries}
+use Rattle.lz_machine.specs.Yards.{cell_in, stage_in}
+use Rattle.lz_machine.specs.Sound.{UpSound, HasList}
 use Rattle.lz_machine.proofs.Ledger.Membership.{upto_begins, length-upto, upto_all, yes_is_kept, no_is_kept, last_change_past}
 use Rattle.lz_machine.proofs.Ledger.Fit.{listed_fits}
 use Rattle.lz_machine.proofs.Ledger.KeptRows.{kept_ledger, kept_fits}

@@ -25,9 +25,12 @@ use Rattle.lz_list.proofs.Absent.{unlinked_is_settled}
 use Rattle.lz_list.proofs.Nodes.{one_node}
 use Rattle.lz_machine.specs.declared.actor.Hold.{Hold}
 use Rattle.lz_machine.specs.declared.actor.Hold.TheVariants.{Nothing, Locks, Checked, GateOpened, Linked, GateClosed, Marked, Unlinked, Released}
-use Rattle.lz_machine.specs.Yards.{Yard, no_cell}
+use Rattle.lz_machine.specs.Yards.{Yard, no_cell, actor_in, cell_in, stage_in}
 use Rattle.lz_machine.specs.Runs.{Caller}
-use Rattle.lz_machine.specs.Sound.{Notes, actor_in, cell_in, stage_in, opens, IsGateClosed, IsGateOpened, IsOnChain, IsNodeStage, SlotStands, is_node, is_held, is_out, is_free, is_limbo, IsBeside, RestsOn, Sound}
+use Rattle.lz_machine.specs.Notes.{Notes}
+use Rattle.lz_machine.specs.SlotsSound.{opens, IsGateClosed, IsGateOpened, IsOnChain, IsNodeStage, SlotStands, is_node, is_held, is_out, is_free, is_limbo}
+use Rattle.lz_machine.specs.LocksSound.{IsBeside, RestsOn}
+use Rattle.lz_machine.specs.Sound.{Sound}
 use Rattle.lz_machine.proofs.Frames.HeldLocks.{rests_on_pair, one_place}
 use Rattle.lz_machine.proofs.Frames.OtherLink.{round_place}
 use Rattle.lz_machine.proofs.Frames.Ranges.{on_range}

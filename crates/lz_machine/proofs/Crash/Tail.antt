@@ -16,10 +16,12 @@ use Rattle.lz_vault.specs.declared.vault.Stage.{Stage}
 use Rattle.lz_vault.specs.declared.vault.Stage.TheVariants.{Closed, KeyLoose, Keyed, Opening, Open, Closing}
 use Rattle.lz_vault.specs.Stages.{MayRead}
 use Rattle.lz_list.specs.Traces.{Trace, on, chain_of, bucket_of, key_word, is_marked}
-use Rattle.lz_machine.specs.Yards.{Yard}
+use Rattle.lz_machine.specs.Yards.{Yard, cell_in, stage_in}
 use Rattle.lz_machine.specs.Runs.{Caller}
 use Rattle.lz_machine.specs.Ledgers.{Row, times}
-use Rattle.lz_machine.specs.Sound.{Notes, entries, cell_in, stage_in, IsGateOpened, IsGateWritten, IsNodeStage, Sound}
+use Rattle.lz_machine.specs.Notes.{Notes, entries}
+use Rattle.lz_machine.specs.SlotsSound.{IsGateOpened, IsGateWritten, IsNodeStage}
+use Rattle.lz_machine.specs.Sound.{Sound}
 use Rattle.lz_machine.proofs.Crash.ImageSlots.{found, found_in, in_found, not_both, member_read, IsOpened, IsNodeOf, one_slot, node_stands, opened_or_node, reads}
 
 abbrev pub is_opening : Stage → Bool

@@ -15,7 +15,8 @@ use Rattle.lz_machine.specs.Yards.{Yard}
 use Rattle.lz_machine.specs.Runs.{Caller}
 use Rattle.lz_machine.specs.Ledgers.{Row, HasRow, Each, times, Gives, ends, Leads}
 use Rattle.lz_machine.specs.Entries.{IsRowIn, IsLedger}
-use Rattle.lz_machine.specs.Sound.{Notes, entries, Sound}
+use Rattle.lz_machine.specs.Notes.{Notes, entries}
+use Rattle.lz_machine.specs.Sound.{Sound}
 use Rattle.lz_machine.proofs.Ledger.Fit.{each_all, each_has, has_append}
 use Rattle.lz_machine.proofs.Ledger.Order.{has_left}
 use Rattle.lz_machine.proofs.Crash.ImageSlots.{found}

@@ -8,7 +8,8 @@ use Rattle.lz_list.specs.Traces.{Trace, key_word}
 use Rattle.lz_machine.specs.declared.actor.Actor.{Actor}
 use Rattle.lz_machine.specs.declared.actor.Hold.{Hold}
 use Rattle.lz_machine.specs.declared.actor.Hold.TheVariants.{Checked, GateOpened}
-use Rattle.lz_machine.specs.Sound.{opens, IsGateClosed, IsGateOpened, IsGateWritten, IsBeside, RestsOn}
+use Rattle.lz_machine.specs.SlotsSound.{opens, IsGateClosed, IsGateOpened, IsGateWritten}
+use Rattle.lz_machine.specs.LocksSound.{IsBeside, RestsOn}
 use Rattle.lz_machine.proofs.Frames.HeldLocks.{rests_on_pair}
 use Rattle.lz_machine.proofs.Frames.OtherLink as links
 

@@ -14,7 +14,8 @@ use Rattle.lz_machine.specs.declared.caller.Sequence.TheVariants.{Pinning, Resti
 use Rattle.lz_machine.specs.declared.caller.Progress.{Progress}
 use Rattle.lz_machine.specs.declared.caller.Progress.TheVariants.{Playing, LoadsHalt, Walking, Reserving, SeeingPins, Claiming, Checking, Answering}
 use Rattle.lz_machine.specs.Runs.{Caller}
-use Rattle.lz_machine.specs.Sound.{View, cell_in, IsWritten, IsAimed, IsKeyed, ReliesWriting, ReliesAdding, ReliesRemoving, ReliesOn, Relies, IsCaller, CallerSound}
+use Rattle.lz_machine.specs.CallersSound.{View, IsWritten, IsAimed, IsKeyed, ReliesWriting, ReliesAdding, ReliesRemoving, ReliesOn, Relies, IsCaller, CallerSound}
+use Rattle.lz_machine.specs.Yards.{cell_in}
 
 -- a slot's cell keeps its key, and what was written of it
 pub record KeepsCell (old new : Cell) : Type 0 where

@@ -19,7 +19,7 @@ use Rattle.lz_machine.specs.declared.event.Event.TheVariants.{WriteKey}
 use Rattle.lz_machine.specs.Yards.{Shape}
 use Rattle.lz_machine.specs.Calls.{event_at, loaded}
 use Rattle.lz_machine.specs.Table.{is_old}
-use Rattle.lz_machine.specs.Sound.{View, IsAdder, Relies, is_before_pin}
+use Rattle.lz_machine.specs.CallersSound.{View, IsAdder, Relies, is_before_pin}
 
 within : (most k : ℕ) → nat_lt most k ≡ false → k ≤ most
 within most k is = grind (arith, nat_tests)

@@ -17,10 +17,13 @@ use Rattle.lz_list.specs.Locks.{NodeLocks}
 use Rattle.lz_machine.specs.declared.actor.Actor.{Actor}
 use Rattle.lz_machine.specs.declared.actor.Hold.{Hold}
 use Rattle.lz_machine.specs.declared.actor.Hold.TheVariants.{Nothing, Locks, Checked, GateOpened, Linked, GateClosed, Marked, Unlinked, Released}
-use Rattle.lz_machine.specs.Yards.{Shape}
+use Rattle.lz_machine.specs.Yards.{Shape, actor_in, pin_in, stage_in}
 use Rattle.lz_machine.specs.Ledgers.{Row}
 use Rattle.lz_machine.specs.Stands.{Faces}
-use Rattle.lz_machine.specs.Sound.{actor_in, pin_in, stage_in, SlotStands, is_node, is_held, is_out, is_free, is_limbo, SlotsSound, IsBeside, IsBefore, HasClosed, RestsOn, LocksSound, ReuseSound, TailsSound}
+use Rattle.lz_machine.specs.SlotsSound.{SlotStands, is_node, is_held, is_out, is_free, is_limbo, SlotsSound}
+use Rattle.lz_machine.specs.LocksSound.{IsBeside, IsBefore, HasClosed, RestsOn, LocksSound}
+use Rattle.lz_machine.specs.LedgerSound.{TailsSound}
+use Rattle.lz_machine.specs.Sound.{ReuseSound}
 use Rattle.lz_machine.proofs.Frames.Limbo.{seen_step, away_stays}
 use Rattle.lz_machine.proofs.Steps.Pin.{limbo_loose, free_loose}
 use Rattle.std.specs.Prelude.{Option}

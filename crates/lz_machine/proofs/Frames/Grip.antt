@@ -7,8 +7,9 @@ use Rattle.lz_list.specs.Traces.{Trace}
 use Rattle.lz_machine.specs.declared.actor.Actor.{Actor}
 use Rattle.lz_machine.specs.declared.actor.Hold.{Hold}
 use Rattle.lz_machine.specs.declared.actor.Hold.TheVariants.{Nothing, Locks, Checked, GateOpened, Linked, GateClosed, Marked, Unlinked, Released}
-use Rattle.lz_machine.specs.Yards.{Shape}
-use Rattle.lz_machine.specs.Sound.{actor_in, IsOut, IsCloser, closes, opens, shuts, unlocks, has_removed_node, IsNodeStage, IsHandStage, SlotStands, is_node, is_held, is_out, is_free, is_limbo, SlotsSound, has_locks}
+use Rattle.lz_machine.specs.Yards.{Shape, actor_in}
+use Rattle.lz_machine.specs.SlotsSound.{IsOut, IsCloser, closes, opens, shuts, unlocks, has_removed_node, IsNodeStage, IsHandStage, SlotStands, is_node, is_held, is_out, is_free, is_limbo, SlotsSound}
+use Rattle.lz_machine.specs.LocksSound.{has_locks}
 
 pub closes_dead : (dead dead' : Bool) (hold : Hold) → (dead ≡ true → dead' ≡ true) → closes dead hold ≡ true → closes dead' hold ≡ true
 closes_dead dead dead' Checked dies is = dies is

@@ -9,9 +9,12 @@ use Rattle.lz_list.specs.Traces.{Trace}
 use Rattle.lz_list.specs.Locks.{NodeLocks}
 use Rattle.lz_machine.specs.declared.actor.Actor.{Actor}
 use Rattle.lz_machine.specs.declared.caller.Progress.{Progress}
-use Rattle.lz_machine.specs.Yards.{Yard, Shape, idle_actor}
+use Rattle.lz_machine.specs.Yards.{Yard, Shape, idle_actor, actor_in, pin_in}
 use Rattle.lz_machine.specs.Runs.{Caller, caller_at}
-use Rattle.lz_machine.specs.Sound.{Notes, actor_in, pin_in, CallerSound, LocksSound, ReuseSound, Sound}
+use Rattle.lz_machine.specs.Notes.{Notes}
+use Rattle.lz_machine.specs.CallersSound.{CallerSound}
+use Rattle.lz_machine.specs.LocksSound.{LocksSound}
+use Rattle.lz_machine.specs.Sound.{ReuseSound, Sound}
 use Rattle.lz_machine.proofs.Frames.ActorTable.{by_actor}
 use Rattle.lz_machine.proofs.Frames.OneActor.{moved, moving, caller_range, callers_turn, ledger_turn}
 use Rattle.lz_machine.proofs.Frames.Grip.{KeepsGrips, keeps_itself, slots_turn}

@@ -12,7 +12,7 @@ use Rattle.lz_machine.specs.declared.actor.Actor.{Actor}
 use Rattle.lz_machine.specs.declared.actor.Hold.{Hold}
 use Rattle.lz_machine.specs.declared.actor.Hold.TheVariants.{Nothing, Locks, Checked, GateOpened, Linked, GateClosed, Marked, Unlinked, Released}
 use Rattle.lz_machine.specs.Stands.{IsReady, Faces, InBucket, IsLeaving}
-use Rattle.lz_machine.specs.Sound.{IsBeside, IsBefore, HasClosed, RestsOn}
+use Rattle.lz_machine.specs.LocksSound.{IsBeside, IsBefore, HasClosed, RestsOn}
 use Rattle.lz_machine.proofs.Frames.OtherLink as links
 use Rattle.lz_machine.proofs.Frames.OtherUnlink as unlinks
 

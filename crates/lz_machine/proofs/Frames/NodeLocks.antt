@@ -8,8 +8,8 @@ use Rattle.lz_list.specs.declared.place.Place.TheVariants.{Bucket, Node}
 use Rattle.lz_list.specs.Traces.{Trace}
 use Rattle.lz_list.specs.Locks.{NodeLocks, owner, with_owner, is_pair_free, pair_owned, claimed_places}
 use Rattle.lz_machine.specs.declared.actor.Actor.{Actor}
-use Rattle.lz_machine.specs.Yards.{Shape}
-use Rattle.lz_machine.specs.Sound.{actor_in, has_locks, HasPlace, HasLock, RestsOn, LocksSound}
+use Rattle.lz_machine.specs.Yards.{Shape, actor_in}
+use Rattle.lz_machine.specs.LocksSound.{has_locks, HasPlace, HasLock, RestsOn, LocksSound}
 use Rattle.lz_machine.proofs.Frames.ActorTable.{by_actor}
 
 bucket_same : {b c : ℕ} → Bucket b ≡ Bucket c → b ≡ c

@@ -14,12 +14,14 @@ use Rattle.lz_vault.specs.Vaults.{Vaulted}
 use Rattle.lz_list.specs.Traces.{Trace}
 use Rattle.lz_machine.specs.declared.actor.Actor.{Actor}
 use Rattle.lz_machine.specs.declared.caller.Progress.{Progress}
-use Rattle.lz_machine.specs.Yards.{Shape}
+use Rattle.lz_machine.specs.Yards.{Shape, actor_in, pin_in}
 use Rattle.lz_machine.specs.Runs.{Caller, caller_at}
 use Rattle.lz_machine.specs.Ledgers.{Row, Each, change_at, times}
 use Rattle.lz_machine.specs.Kept.{publishing}
 use Rattle.lz_machine.specs.Entries.{IsLedger, IsSettledEntry, IsChangeOf}
-use Rattle.lz_machine.specs.Sound.{Notes, pending_row, pending, entries, actor_in, pin_in, view_of, CallerSound, CallersSound, LedgerSound}
+use Rattle.lz_machine.specs.Notes.{Notes, pending_row, pending, entries}
+use Rattle.lz_machine.specs.CallersSound.{view_of, CallerSound, CallersSound}
+use Rattle.lz_machine.specs.LedgerSound.{LedgerSound}
 use Rattle.lz_machine.proofs.Frames.ActorTable.{by_actor}
 use Rattle.lz_machine.proofs.Ledger.Order.{times_append}
 

@@ -28,13 +28,18 @@ use Rattle.lz_machine.specs.declared.actor.Hold.TheVariants.{Checked}
 use Rattle.lz_machine.specs.declared.caller.Sequence.TheVariants.{Adding}
 use Rattle.lz_machine.specs.declared.caller.Progress.{Progress}
 use Rattle.lz_machine.specs.declared.caller.Progress.TheVariants.{Playing}
-use Rattle.lz_machine.specs.Yards.{Yard, no_cell}
+use Rattle.lz_machine.specs.Yards.{Yard, no_cell, actor_in, pin_in, cell_in, stage_in}
 use Rattle.lz_machine.specs.Table.{with_vault}
 use Rattle.lz_machine.specs.Calls.{halts}
 use Rattle.lz_machine.specs.Runs.{Caller, caller_at}
 use Rattle.lz_machine.specs.Stands.{IsReady}
 use Rattle.lz_machine.proofs.Frames.Ranges.{on_range}
-use Rattle.lz_machine.specs.Sound.{Notes, entries, actor_in, pin_in, cell_in, stage_in, opens, shuts, unlocks, closes, has_removed_node, IsGateClosed, IsGateOpened, IsGateWritten, IsOut, IsCloser, IsNodeStage, IsHandStage, SlotStands, is_node, is_held, is_out, is_free, is_limbo, SlotsSound, IsBeside, IsChecked, RestsOn, LocksSound, DiskSound, Relies, view_of, CallerSound, CallersSound, ReuseSound, HasTail, Sound}
+use Rattle.lz_machine.specs.Notes.{Notes, entries}
+use Rattle.lz_machine.specs.SlotsSound.{opens, shuts, unlocks, closes, has_removed_node, IsGateClosed, IsGateOpened, IsGateWritten, IsOut, IsCloser, IsNodeStage, IsHandStage, SlotStands, is_node, is_held, is_out, is_free, is_limbo, SlotsSound}
+use Rattle.lz_machine.specs.LocksSound.{IsBeside, IsChecked, RestsOn, LocksSound}
+use Rattle.lz_machine.specs.CallersSound.{Relies, view_of, CallerSound, CallersSound}
+use Rattle.lz_machine.specs.LedgerSound.{HasTail, may_have_tail}
+use Rattle.lz_machine.specs.Sound.{DiskSound, ReuseSound, Sound}
 use Rattle.lz_machine.proofs.Frames.ActorTable.{by_actor}
 use Rattle.lz_machine.proofs.Frames.Grip.{closes_dead, opens_dead}
 use Rattle.lz_machine.proofs.Frames.GateWrite.{gate_failed}
@@ -52,7 +57,6 @@ use Rattle.lz_machine.proofs.Frames.Cells.{KeepsCell, caller_vaulted}
 use Rattle.lz_machine.proofs.Frames.KeyWrite.{rests_prepared}
 use Rattle.lz_machine.proofs.Ledger.Change.{own_tail}
 use Rattle.lz_machine.proofs.Frames.SameYard.{in_passes, tail_turn}
-use Rattle.lz_machine.specs.Sound.{may_have_tail}
 
 module _ (n calls : ℕ) (y : Yard) (callers : List (Option Caller)) (disk : Medium) (M : History) (P : Trace) (notes : Notes) (sound : Sound n calls y callers disk M P notes) (a i k s : ℕ) (is : caller_at callers a ≡ Some (call_at i (Add k) (Playing (Adding s) 0))) where
   abbrev at : Progress

@@ -18,10 +18,12 @@ use Rattle.lz_list.specs.Traces.{Trace, on, chain_of, key_word, linking, linking
 use Rattle.lz_list.specs.Pinned.{Stood}
 use Rattle.lz_list.proofs.Nodes.{node, linking_apart}
 use Rattle.lz_list.proofs.Tables.{table_set}
-use Rattle.lz_machine.specs.Yards.{Yard, Shape}
+use Rattle.lz_machine.specs.Yards.{Yard, Shape, IsInside, actor_in, pin_in, stage_in}
 use Rattle.std.specs.Prelude.{slice_set}
 use Rattle.lz_machine.specs.Runs.{Caller, caller_at, with_words}
-use Rattle.lz_machine.specs.Sound.{Notes, entries, IsInside, actor_in, pin_in, stage_in, TraceSound, SlotStands, is_node, is_held, is_out, is_free, is_limbo, IsNodeStage, IsOnChain, Sound}
+use Rattle.lz_machine.specs.Notes.{Notes, entries}
+use Rattle.lz_machine.specs.SlotsSound.{SlotStands, is_node, is_held, is_out, is_free, is_limbo, IsNodeStage, IsOnChain}
+use Rattle.lz_machine.specs.Sound.{TraceSound, Sound}
 use Rattle.lz_machine.proofs.Frames.LoadedWord.{link_next, link_mark, link_removed}
 use Rattle.lz_machine.proofs.Frames.Publishing.{LeavesCaller, caller_published}
 use Rattle.lz_machine.proofs.Frames.Flags.{locks_settled, slots_settled, reuse_settled, tails_settled}

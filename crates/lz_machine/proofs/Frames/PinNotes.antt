@@ -5,7 +5,7 @@ use Rattle.std.proofs.lemmas.Bool.Decides.{nat_tests}
 use Rattle.lz_slot.specs.Counted.{set_of_pass}
 use Rattle.lz_slot.proofs.Counted.{of_pass_same, of_pass_other}
 use Rattle.lz_list.specs.Traces.{Trace}
-use Rattle.lz_machine.specs.Sound.{IsInside, pin_in}
+use Rattle.lz_machine.specs.Yards.{IsInside, pin_in}
 
 -- Of a pass that is inside now the note is that of before, and of one that has gone in it is the trace P.
 abbrev pub IsNoted : List ℕ → List ℕ → Trace → (ℕ → Trace) → (ℕ → Trace) → Type 0

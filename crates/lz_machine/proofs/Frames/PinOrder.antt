@@ -11,7 +11,10 @@ use Rattle.lz_machine.specs.declared.caller.Progress.{Progress}
 use Rattle.lz_machine.specs.Runs.{Caller, caller_at}
 use Rattle.lz_machine.specs.Ledgers.{Row, HasRow}
 use Rattle.lz_machine.specs.Kept.{upto, IsRowOf}
-use Rattle.lz_machine.specs.Sound.{Notes, entries, pin_in, IsInside, LedgerSound, HasBegun, IsAfter}
+use Rattle.lz_machine.specs.Notes.{Notes, entries}
+use Rattle.lz_machine.specs.Yards.{pin_in, IsInside}
+use Rattle.lz_machine.specs.LedgerSound.{LedgerSound}
+use Rattle.lz_machine.specs.Sound.{HasBegun, IsAfter}
 use Rattle.lz_machine.proofs.Ledger.Fit.{each_has, was_answered}
 use Rattle.lz_machine.proofs.Ledger.Growth.{upto_more}
 use Rattle.lz_machine.proofs.Frames.OneActor.{moving, moved_same, moved_other, same_entries}

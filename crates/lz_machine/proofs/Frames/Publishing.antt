@@ -34,7 +34,9 @@ use Rattle.lz_machine.specs.declared.caller.Progress.TheVariants.{Playing, Loads
 use Rattle.lz_machine.specs.Runs.{Caller}
 use Rattle.lz_machine.specs.Kept.{upto}
 use Rattle.lz_machine.specs.Stands.{IsWalking, WasBetween}
-use Rattle.lz_machine.specs.Sound.{IsInside, View, IsWritten, IsAimed, IsBeyond, HasEnded, IsLooking, IsSince, HasMet, RestsYes, RestsNo, WasAbsent, IsSettledChange, MayAnswer, HasAdded, HasMarked, MayRest, IsIdle, ReliesWriting, ReliesAdding, ReliesRemoving, ReliesOn, Relies, IsCaller, CallerSound, is_before_pin, side_of, shuts}
+use Rattle.lz_machine.specs.Yards.{IsInside}
+use Rattle.lz_machine.specs.CallersSound.{View, IsWritten, IsAimed, IsBeyond, HasEnded, IsLooking, IsSince, HasMet, RestsYes, RestsNo, WasAbsent, IsSettledChange, MayAnswer, HasAdded, HasMarked, MayRest, IsIdle, ReliesWriting, ReliesAdding, ReliesRemoving, ReliesOn, Relies, IsCaller, CallerSound, is_before_pin, side_of}
+use Rattle.lz_machine.specs.SlotsSound.{shuts}
 use Rattle.lz_machine.proofs.Ledger.Growth.{upto_more, yes_stays, no_stays}
 
 pub halt_stays : (e : Publishing) (P : Trace) → halt_word P ≡ 1 → halt_word (e ∷ P) ≡ 1

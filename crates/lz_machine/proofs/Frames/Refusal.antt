@@ -11,11 +11,15 @@ use Rattle.lz_machine.specs.declared.actor.Actor.{Actor}
 use Rattle.lz_machine.specs.declared.actor.Hold.{Hold}
 use Rattle.lz_machine.specs.declared.actor.Hold.TheVariants.{Nothing, Locks, Checked, GateOpened, Linked, GateClosed, Marked, Unlinked, Released}
 use Rattle.lz_machine.specs.declared.caller.Progress.TheVariants.{Answering}
-use Rattle.lz_machine.specs.Yards.{Yard, actor_at, idle_actor}
+use Rattle.lz_machine.specs.Yards.{Yard, actor_at, idle_actor, actor_in, pin_in}
 use Rattle.lz_machine.specs.Table.{is_old}
 use Rattle.lz_machine.specs.Calls.{begun, first_progress}
 use Rattle.lz_machine.specs.Runs.{Caller, caller_at, invoked}
-use Rattle.lz_machine.specs.Sound.{Notes, View, IsIdle, Relies, is_before_pin, HasLock, RestsOn, actor_in, pin_in, entries, view_of, CallerSound, CallersSound, TailsSound, Sound, UpSound}
+use Rattle.lz_machine.specs.Notes.{Notes, entries}
+use Rattle.lz_machine.specs.CallersSound.{View, IsIdle, Relies, is_before_pin, view_of, CallerSound, CallersSound}
+use Rattle.lz_machine.specs.LocksSound.{HasLock, RestsOn}
+use Rattle.lz_machine.specs.LedgerSound.{TailsSound}
+use Rattle.lz_machine.specs.Sound.{Sound, UpSound}
 use Rattle.lz_machine.proofs.Frames.ActorTable.{by_actor}
 use Rattle.lz_machine.proofs.Frames.OneActor.{carry}
 use Rattle.lz_machine.proofs.Frames.Grip.{KeepsGrips, keeps_itself, slots_turn}

@@ -10,10 +10,13 @@ use Rattle.lz_vault.specs.Stages.{Cell}
 use Rattle.lz_list.specs.Traces.{Trace}
 use Rattle.lz_machine.specs.declared.actor.Actor.{Actor}
 use Rattle.lz_machine.specs.declared.caller.Progress.{Progress}
-use Rattle.lz_machine.specs.Yards.{Yard, Shape}
+use Rattle.lz_machine.specs.Yards.{Yard, Shape, actor_in, pin_in, cell_in}
 use Rattle.lz_machine.specs.Runs.{Caller, caller_at}
 use Rattle.lz_machine.specs.Ledgers.{times}
-use Rattle.lz_machine.specs.Sound.{Notes, actor_in, pin_in, cell_in, view_of, CallerSound, entries, may_have_tail, HasTail, TailsSound, Sound}
+use Rattle.lz_machine.specs.Notes.{Notes, entries}
+use Rattle.lz_machine.specs.CallersSound.{view_of, CallerSound}
+use Rattle.lz_machine.specs.LedgerSound.{may_have_tail, HasTail, TailsSound}
+use Rattle.lz_machine.specs.Sound.{Sound}
 use Rattle.lz_machine.proofs.Frames.OneActor.{caller_range, moved, moving, moved_same, moved_other, has_entry, same_entries, ledger_turn, callers_turn}
 
 -- a call that has changed nothing goes on so that its tail stays

@@ -12,9 +12,10 @@ use Rattle.lz_allot.specs.declared.sight.Sight.TheVariants.{Unseen, Inside, Left
 use Rattle.lz_allot.specs.Uses.{Use, Free, Taken, Limbo, use_of, collect_at, collect, see_pin_at, see_pin, sight_after, has_left}
 use Rattle.lz_list.specs.Traces.{Trace}
 use Rattle.lz_machine.specs.declared.actor.Actor.{Actor}
-use Rattle.lz_machine.specs.Yards.{Shape}
+use Rattle.lz_machine.specs.Yards.{Shape, IsInside, pin_in}
 use Rattle.lz_machine.specs.Limbo.{IsSeen}
-use Rattle.lz_machine.specs.Sound.{IsInside, pin_in, SlotStands, is_node, is_held, is_out, is_free, is_limbo, SlotsSound, ReuseSound}
+use Rattle.lz_machine.specs.SlotsSound.{SlotStands, is_node, is_held, is_out, is_free, is_limbo, SlotsSound}
+use Rattle.lz_machine.specs.Sound.{ReuseSound}
 use Rattle.lz_machine.proofs.Frames.Limbo.{seen_see}
 
 -- a change of each use that leaves taken slots

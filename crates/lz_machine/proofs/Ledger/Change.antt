@@ -14,7 +14,8 @@ use Rattle.lz_machine.specs.Runs.{Caller, caller_at}
 use Rattle.lz_machine.specs.Ledgers.{Row, HasRow, Stands, Each, change_at, times}
 use Rattle.lz_machine.specs.Kept.{publishing, upto, changes_key, IsRowOf}
 use Rattle.lz_machine.specs.Entries.{IsRowIn, IsLedger, IsSettledEntry, IsChangeOf}
-use Rattle.lz_machine.specs.Sound.{Notes, pending_row, pending, entries, LedgerSound, may_have_tail, HasTail}
+use Rattle.lz_machine.specs.Notes.{Notes, pending_row, pending, entries}
+use Rattle.lz_machine.specs.LedgerSound.{LedgerSound, may_have_tail, HasTail}
 use Rattle.lz_machine.proofs.Ledger.Fit.{each_has, has_append, was_answered}
 use Rattle.lz_machine.proofs.Ledger.Order.{has_left, stands_across, times_append}
 use Rattle.lz_machine.proofs.Ledger.Membership.{upto_all}

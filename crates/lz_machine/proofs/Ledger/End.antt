@@ -17,7 +17,10 @@ use Rattle.lz_machine.specs.Runs.{Caller, caller_at}
 use Rattle.lz_machine.specs.Ledgers.{Row, HasRow, Stands, Each, change_at, times}
 use Rattle.lz_machine.specs.Kept.{publishing, IsRowOf}
 use Rattle.lz_machine.specs.Entries.{IsRowIn, IsLedger, IsSettledEntry, IsChangeOf}
-use Rattle.lz_machine.specs.Sound.{Notes, IsInside, pin_in, pending_row, pending, entries, LedgerSound, IsAfter, may_have_tail, HasTail}
+use Rattle.lz_machine.specs.Notes.{Notes, pending_row, pending, entries}
+use Rattle.lz_machine.specs.Yards.{IsInside, pin_in}
+use Rattle.lz_machine.specs.LedgerSound.{LedgerSound, may_have_tail, HasTail}
+use Rattle.lz_machine.specs.Sound.{IsAfter}
 use Rattle.lz_machine.proofs.Ledger.Fit.{each_has, each_all, has_append, was_answered}
 use Rattle.lz_machine.proofs.Ledger.Order.{has_left, has_right, times_append}
 use Rattle.lz_machine.proofs.Ledger.Change.{pending_open, no_entry}

@@ -10,7 +10,7 @@ use Rattle.lz_list.specs.declared.publishing.Publishing.TheVariants.{Linked as l
 use Rattle.lz_machine.specs.Runs.{Caller, caller_at}
 use Rattle.lz_machine.specs.Ledgers.{Row, HasRow, Stands, Each, change_at, times}
 use Rattle.lz_machine.specs.Entries.{IsChangeOf}
-use Rattle.lz_machine.specs.Sound.{Notes, pending_row, pending}
+use Rattle.lz_machine.specs.Notes.{Notes, pending_row, pending}
 use Rattle.lz_machine.proofs.Ledger.Fit.{each_has, has_append}
 use Rattle.lz_machine.proofs.Ledger.Order.{has_left, has_right, stands_left, stands_across, times_append}
 use Rattle.lz_machine.proofs.Frames.OneActor.{caller_range}

@@ -12,7 +12,8 @@ use Rattle.lz_machine.specs.Runs.{Caller}
 use Rattle.lz_machine.specs.Ledgers.{Row, Each, change_at}
 use Rattle.lz_machine.specs.Kept.{publishing, upto, IsRowOf}
 use Rattle.lz_machine.specs.Entries.{IsLedger, IsSettledEntry, IsChangeOf}
-use Rattle.lz_machine.specs.Sound.{Notes, entries, LedgerSound}
+use Rattle.lz_machine.specs.Notes.{Notes, entries}
+use Rattle.lz_machine.specs.LedgerSound.{LedgerSound}
 use Rattle.lz_machine.proofs.Ledger.Fit.{each_has, each_all}
 use Rattle.lz_machine.proofs.Ledger.Answers.{each_weaker}
 use Rattle.lz_machine.proofs.Ledger.Growth.{row_stays, upto_more, publishing_more, yes_stays, no_stays}

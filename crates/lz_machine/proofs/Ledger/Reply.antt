@@ -20,7 +20,11 @@ use Rattle.lz_machine.specs.Runs.{Caller, caller_at, mark_of}
 use Rattle.lz_machine.specs.Ledgers.{Row, HasRow, times}
 use Rattle.lz_machine.specs.Kept.{upto, IsRowOf}
 use Rattle.lz_machine.specs.Entries.{IsRowIn, IsSettledEntry}
-use Rattle.lz_machine.specs.Sound.{Notes, IsInside, pin_in, pending_row, entries, RestsYes, RestsNo, IsSettledChange, MayAnswer, LedgerSound, IsAfter, may_have_tail, is_before_pin}
+use Rattle.lz_machine.specs.Notes.{Notes, pending_row, entries}
+use Rattle.lz_machine.specs.Yards.{IsInside, pin_in}
+use Rattle.lz_machine.specs.CallersSound.{RestsYes, RestsNo, IsSettledChange, MayAnswer, is_before_pin}
+use Rattle.lz_machine.specs.LedgerSound.{LedgerSound, may_have_tail}
+use Rattle.lz_machine.specs.Sound.{IsAfter}
 use Rattle.lz_machine.proofs.Ledger.Fit.{each_has}
 use Rattle.lz_machine.proofs.Ledger.Order.{has_left}
 use Rattle.lz_machine.proofs.Frames.Limbo.{shorter}

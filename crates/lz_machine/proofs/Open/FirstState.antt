@@ -21,12 +21,17 @@ use Rattle.lz_allot.specs.Uses.{Use, Taken, Limbo, use_of}
 use Rattle.lz_list.specs.Traces.{Trace, Chain, has_key, on, chain_of, key_word, member, linking, is_settled, IsFound, IsLoose}
 use Rattle.lz_list.proofs.Openings.{opening_lawful, opening_members, opening_settled}
 use Rattle.lz_machine.specs.declared.actor.Actor.{Actor}
-use Rattle.lz_machine.specs.Yards.{Shape, idle_actor, no_cell, cell_read, use_read, slots_read, first_trace, opened_yard}
+use Rattle.lz_machine.specs.Yards.{Shape, idle_actor, no_cell, cell_read, use_read, slots_read, first_trace, opened_yard, actor_in, cell_in, stage_in, pin_in, IsInside}
 use Rattle.lz_machine.specs.Runs.{Caller, caller_at, opened_service}
 use Rattle.lz_machine.specs.Ledgers.{Row, Each}
 use Rattle.lz_machine.specs.Kept.{upto}
 use Rattle.lz_machine.specs.Entries.{IsLedger, IsSettledEntry}
-use Rattle.lz_machine.specs.Sound.{Notes, actor_in, cell_in, stage_in, pin_in, IsInside, IsGateWritten, TraceSound, DiskSound, SlotStands, is_node, is_free, SlotsSound, has_locks, RestsOn, LocksSound, view_of, IsCaller, CallersSound, ReuseSound, pending, entries, LedgerSound, TailsSound, HasBegun, UpSound}
+use Rattle.lz_machine.specs.Notes.{Notes, pending, entries}
+use Rattle.lz_machine.specs.SlotsSound.{IsGateWritten, SlotStands, is_node, is_free, SlotsSound}
+use Rattle.lz_machine.specs.LocksSound.{has_locks, RestsOn, LocksSound}
+use Rattle.lz_machine.specs.CallersSound.{view_of, IsCaller, CallersSound}
+use Rattle.lz_machine.specs.LedgerSound.{LedgerSound, TailsSound}
+use Rattle.lz_machine.specs.Sound.{TraceSound, DiskSound, ReuseSound, HasBegun, UpSound}
 use Rattle.lz_machine.proofs.Ledger.Membership.{upto_all}
 use Rattle.lz_machine.proofs.Frames.Ranges.{on_range, opening_small}
 use Rattle.lz_machine.proofs.Open.FirstNodes.{node_has_key, off_chains, node_key, node_on, none_marked, none_removed, never_linked, slot_closed, node_held, key_held, held_found}

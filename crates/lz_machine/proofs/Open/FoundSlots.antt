@@ -16,7 +16,7 @@ use Rattle.lz_vault.specs.Stages.{Says, Reads}
 use Rattle.lz_allot.specs.declared.sight.Sight.{Sight}
 use Rattle.lz_allot.specs.Uses.{Limbo}
 use Rattle.lz_machine.specs.Yards.{Shape, cell_read, use_read, first_trace}
-use Rattle.lz_machine.specs.Sound.{Notes}
+use Rattle.lz_machine.specs.Notes.{Notes}
 
 -- what is kept beside the first state of a life
 abbrev pub first_notes : Shape → List ℕ → Notes

@@ -25,11 +25,14 @@ use Rattle.lz_machine.specs.declared.caller.Sequence.{Sequence}
 use Rattle.lz_machine.specs.declared.caller.Sequence.TheVariants.{Pinning, Resting, Writing, Adding, Removing, Releasing, Halting}
 use Rattle.lz_machine.specs.declared.caller.Progress.{Progress}
 use Rattle.lz_machine.specs.declared.caller.Progress.TheVariants.{Playing, LoadsHalt, Walking, Reserving, SeeingPins, Claiming, Checking, Answering}
-use Rattle.lz_machine.specs.Yards.{Yard}
+use Rattle.lz_machine.specs.Yards.{Yard, actor_in}
 use Rattle.lz_machine.specs.Calls.{event_at, loaded}
 use Rattle.lz_machine.specs.Runs.{Caller, with_words, next_event, MayPlay}
 use Rattle.lz_machine.specs.Stands.{InBucket, WasBetween}
-use Rattle.lz_machine.specs.Sound.{Notes, View, view_of, actor_in, RestsOn, HasMet, MayRest, IsLooking, Relies, Sound}
+use Rattle.lz_machine.specs.Notes.{Notes}
+use Rattle.lz_machine.specs.CallersSound.{View, view_of, HasMet, MayRest, IsLooking, Relies}
+use Rattle.lz_machine.specs.LocksSound.{RestsOn}
+use Rattle.lz_machine.specs.Sound.{Sound}
 use Rattle.lz_machine.specs.Ready.{IsEventOf}
 use Rattle.lz_machine.proofs.Frames.OneActor.{mine}
 use Rattle.lz_machine.proofs.Frames.Ranges.{on_range, stood_range}

@@ -23,10 +23,15 @@ use Rattle.lz_machine.specs.declared.actor.Hold.TheVariants.{Nothing}
 use Rattle.lz_machine.specs.declared.course.Course.{Course}
 use Rattle.lz_machine.specs.declared.course.Course.TheVariants.{Refused, Plays}
 use Rattle.lz_machine.specs.declared.caller.Progress.TheVariants.{Answering}
-use Rattle.lz_machine.specs.Yards.{Yard, actor_at, idle_actor}
+use Rattle.lz_machine.specs.Yards.{Yard, actor_at, idle_actor, IsInside, actor_in, pin_in, stage_in}
 use Rattle.lz_machine.specs.Table.{last_pin, stays_out, pin_of, needs, course, course_alive, line, line_on, call_on, yard_done, with_slot, kept_slot, given_back, is_unused}
 use Rattle.lz_machine.specs.Runs.{Caller, caller_at, mark_of, played}
-use Rattle.lz_machine.specs.Sound.{HasLock, RestsOn, Notes, IsInside, actor_in, pin_in, stage_in, view_of, entries, opens, is_before_pin, side_of, IsIdle, MayAnswer, Relies, CallerSound, CallersSound, SlotsSound, LocksSound, ReuseSound, IsAfter, TailsSound, Sound, UpSound}
+use Rattle.lz_machine.specs.LocksSound.{HasLock, RestsOn, LocksSound}
+use Rattle.lz_machine.specs.Notes.{Notes, entries}
+use Rattle.lz_machine.specs.CallersSound.{view_of, is_before_pin, side_of, IsIdle, MayAnswer, Relies, CallerSound, CallersSound}
+use Rattle.lz_machine.specs.SlotsSound.{opens, SlotsSound}
+use Rattle.lz_machine.specs.LedgerSound.{TailsSound}
+use Rattle.lz_machine.specs.Sound.{ReuseSound, IsAfter, Sound, UpSound}
 use Rattle.lz_machine.proofs.Frames.ActorTable.{by_actor}
 use Rattle.lz_machine.proofs.Frames.OneActor.{caller_range, carry}
 use Rattle.lz_machine.proofs.Frames.Outside.{out_even, out_needs}

@@ -27,12 +27,16 @@ use Rattle.lz_machine.specs.declared.actor.Hold.TheVariants.{Locks, Checked}
 use Rattle.lz_machine.specs.declared.caller.Sequence.TheVariants.{Releasing}
 use Rattle.lz_machine.specs.declared.caller.Progress.{Progress}
 use Rattle.lz_machine.specs.declared.caller.Progress.TheVariants.{Playing, Checking}
-use Rattle.lz_machine.specs.Yards.{Yard, Shape, actor_at}
+use Rattle.lz_machine.specs.Yards.{Yard, Shape, actor_at, pin_in}
 use Rattle.lz_machine.specs.Table.{with_hold, yard_done, outcome_of}
 use Rattle.lz_machine.specs.Calls.{progress_after, changes}
 use Rattle.lz_machine.specs.Runs.{Caller, caller_at}
 use Rattle.lz_machine.specs.Stands.{Faces, WasBetween, InBucket}
-use Rattle.lz_machine.specs.Sound.{TraceSound, Notes, pin_in, closes, opens, shuts, unlocks, has_removed_node, HasLock, has_locks, side_of, RestsOn, IsBeside, IsBefore, IsChecked, IsBeyond, HasEnded, MayAim, IsAimed, IsWritten, View, CallerSound, Sound}
+use Rattle.lz_machine.specs.Notes.{Notes}
+use Rattle.lz_machine.specs.SlotsSound.{closes, opens, shuts, unlocks, has_removed_node}
+use Rattle.lz_machine.specs.LocksSound.{HasLock, has_locks, RestsOn, IsBeside, IsBefore, IsChecked}
+use Rattle.lz_machine.specs.CallersSound.{side_of, IsBeyond, HasEnded, MayAim, IsAimed, IsWritten, View, CallerSound}
+use Rattle.lz_machine.specs.Sound.{TraceSound, Sound}
 use Rattle.lz_machine.proofs.Frames.OneActor.{moving}
 use Rattle.lz_machine.proofs.Frames.Grip.{fresh_grip}
 use Rattle.lz_machine.proofs.Frames.NodeLocks.{held_locks}

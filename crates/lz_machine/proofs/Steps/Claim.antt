@@ -23,7 +23,11 @@ use Rattle.lz_machine.specs.Table.{yard_done, outcome_of}
 use Rattle.lz_machine.specs.Calls.{progress_after}
 use Rattle.lz_machine.specs.Runs.{Caller, caller_at}
 use Rattle.lz_machine.specs.Stands.{WasBetween, InBucket}
-use Rattle.lz_machine.specs.Sound.{Notes, closes, opens, has_removed_node, HasLock, RestsOn, HasEnded, Sound, IsAimed}
+use Rattle.lz_machine.specs.Notes.{Notes}
+use Rattle.lz_machine.specs.SlotsSound.{closes, opens, has_removed_node}
+use Rattle.lz_machine.specs.LocksSound.{HasLock, RestsOn}
+use Rattle.lz_machine.specs.CallersSound.{HasEnded, IsAimed}
+use Rattle.lz_machine.specs.Sound.{Sound}
 use Rattle.lz_machine.proofs.Frames.OneActor.{moving}
 use Rattle.lz_machine.proofs.Frames.Grip.{fresh_grip}
 use Rattle.lz_machine.proofs.Frames.NodeLocks.{IsPlaceIn, claimed_locks}

@@ -13,7 +13,9 @@ use Rattle.lz_machine.specs.Yards.{Yard}
 use Rattle.lz_machine.specs.Table.{with_vault, is_sure, line_failed}
 use Rattle.lz_machine.specs.Calls.{progress_after, halts}
 use Rattle.lz_machine.specs.Runs.{Caller, caller_at}
-use Rattle.lz_machine.specs.Sound.{Notes, Sound, is_before_pin}
+use Rattle.lz_machine.specs.Notes.{Notes}
+use Rattle.lz_machine.specs.CallersSound.{is_before_pin}
+use Rattle.lz_machine.specs.Sound.{Sound}
 use Rattle.lz_machine.proofs.Frames.OneActor.{moving}
 use Rattle.lz_machine.proofs.Steps.Hop.{call_at, goes_on_keeps, dead_keeps}
 use Rattle.lz_machine.proofs.Steps.Sync.{died_keeps}

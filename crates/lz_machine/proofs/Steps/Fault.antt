@@ -21,11 +21,13 @@ use Rattle.lz_machine.specs.declared.caller.Sequence.{Sequence}
 use Rattle.lz_machine.specs.declared.caller.Sequence.TheVariants.{Pinning, Resting, Writing, Adding, Removing, Releasing, Halting}
 use Rattle.lz_machine.specs.declared.caller.Progress.{Progress}
 use Rattle.lz_machine.specs.declared.caller.Progress.TheVariants.{Playing, LoadsHalt, Walking, Reserving, SeeingPins, Claiming, Checking, Answering}
-use Rattle.lz_machine.specs.Yards.{Yard, actor_at}
+use Rattle.lz_machine.specs.Yards.{Yard, actor_at, cell_in}
 use Rattle.lz_machine.specs.Table.{slot_of, node_of, is_played_dead, is_sure, call_of, call_on, course, line_call, line_failed, vault_failed, with_vault}
 use Rattle.lz_machine.specs.Calls.{halts}
 use Rattle.lz_machine.specs.Runs.{Caller, caller_at, next_event, reply_at, played}
-use Rattle.lz_machine.specs.Sound.{Notes, cell_in, view_of, Relies, ReliesOn, ReliesAdding, ReliesRemoving, ReliesWriting, Sound, UpSound, is_before_pin}
+use Rattle.lz_machine.specs.Notes.{Notes}
+use Rattle.lz_machine.specs.CallersSound.{view_of, Relies, ReliesOn, ReliesAdding, ReliesRemoving, ReliesWriting, is_before_pin}
+use Rattle.lz_machine.specs.Sound.{Sound, UpSound}
 use Rattle.lz_machine.proofs.Frames.OneActor.{moving}
 use Rattle.lz_machine.proofs.Steps.Hop.{call_at, own}
 use Rattle.lz_machine.proofs.Steps.Death.{sync_fails_keeps}

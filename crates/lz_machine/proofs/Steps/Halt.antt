@@ -20,19 +20,22 @@ use Rattle.lz_machine.specs.declared.actor.Hold.{Hold}
 use Rattle.lz_machine.specs.declared.actor.Hold.TheVariants.{Nothing, Locks, Checked, GateOpened, Linked, GateClosed, Marked, Unlinked, Released}
 use Rattle.lz_machine.specs.declared.caller.Sequence.TheVariants.{Halting}
 use Rattle.lz_machine.specs.declared.caller.Progress.TheVariants.{Playing, Answering}
-use Rattle.lz_machine.specs.Yards.{Yard, Shape, actor_at}
+use Rattle.lz_machine.specs.Yards.{Yard, Shape, actor_at, actor_in, pin_in}
 use Rattle.lz_machine.specs.Table.{yard_done}
 use Rattle.lz_machine.specs.Calls.{progress_after}
 use Rattle.lz_machine.specs.Runs.{Caller, caller_at}
 use Rattle.lz_machine.specs.Stands.{FacesNode}
-use Rattle.lz_machine.specs.Sound.{Notes, entries, actor_in, pin_in, view_of, RestsOn, TraceSound, IsCut, Sound}
+use Rattle.lz_machine.specs.Notes.{Notes, entries}
+use Rattle.lz_machine.specs.CallersSound.{view_of, IsCut}
+use Rattle.lz_machine.specs.LocksSound.{RestsOn}
+use Rattle.lz_machine.specs.Sound.{TraceSound, Sound}
 use Rattle.lz_machine.proofs.Frames.OneActor.{moving}
 use Rattle.lz_machine.proofs.Frames.Publishing.{LeavesCaller, relies_on_node, caller_published}
 use Rattle.lz_machine.proofs.Frames.Flags.{locks_halted, slots_halted, reuse_halted, tails_halted}
 use Rattle.lz_machine.proofs.Ledger.QuietPublishing.{ledger_published}
 use Rattle.lz_machine.proofs.Steps.Walk.{GoesOn}
 use Rattle.lz_machine.proofs.Steps.Hop.{call_at, own, goes_on_keeps}
-use Rattle.lz_machine.specs.Sound.{may_have_tail}
+use Rattle.lz_machine.specs.LedgerSound.{may_have_tail}
 
 -- a node to which a place of its chain leads is on the chain
 pub faces_on : (buckets slots k x t : ℕ) (P : Trace) → Lawful buckets slots P → FacesNode buckets k x t P → on 0 (chain_of buckets k P) (suc t) ≡ true

@@ -16,10 +16,12 @@ use Rattle.lz_machine.specs.declared.event.Outcome.TheVariants.{Value, Dead}
 use Rattle.lz_machine.specs.declared.event.Reply.TheVariants.{Halted}
 use Rattle.lz_machine.specs.declared.caller.Progress.{Progress}
 use Rattle.lz_machine.specs.declared.caller.Progress.TheVariants.{LoadsHalt, Walking}
-use Rattle.lz_machine.specs.Yards.{Yard}
+use Rattle.lz_machine.specs.Yards.{Yard, IsInside, actor_in, pin_in}
 use Rattle.lz_machine.specs.Calls.{progress_after, halts, halt_loaded}
 use Rattle.lz_machine.specs.Runs.{Caller, caller_at}
-use Rattle.lz_machine.specs.Sound.{Notes, IsInside, actor_in, pin_in, view_of, IsIdle, MayAnswer, CallerSound, Sound, is_before_pin, side_of}
+use Rattle.lz_machine.specs.Notes.{Notes}
+use Rattle.lz_machine.specs.CallersSound.{view_of, IsIdle, MayAnswer, CallerSound, is_before_pin, side_of}
+use Rattle.lz_machine.specs.Sound.{Sound}
 use Rattle.lz_machine.proofs.Frames.OneActor.{moving, mine}
 use Rattle.lz_machine.proofs.Frames.SameYard.{KeepsTail, going_keeps}
 use Rattle.lz_machine.proofs.Steps.Walk.{GoesOn, hop_after}

@@ -20,9 +20,12 @@ use Rattle.lz_machine.specs.Kept.{publishing}
 use Rattle.lz_machine.specs.Ledgers.{Row, HasRow, Each, change_at, times}
 use Rattle.lz_machine.specs.Entries.{IsRowIn, IsLedger, IsSettledEntry, IsChangeOf}
 use Rattle.lz_machine.specs.Runs.{Start, Service, Caller, Up, Calls, MayStep, invoked, point_after, caller_at, start_keys}
-use Rattle.lz_machine.specs.Yards.{Yard}
+use Rattle.lz_machine.specs.Yards.{Yard, pin_in, actor_in, cell_in, IsInside}
 use Rattle.lz_machine.specs.Table.{pin_of, is_old as is_old_file}
-use Rattle.lz_machine.specs.Sound.{Notes, pending_row, pending, entries, pin_in, actor_in, side_of, is_before_pin, IsIdle, Relies, cell_in, view_of, CallerSound, CallersSound, LedgerSound, HasTail, TailsSound, Sound, IsInside, IsAfter, UpSound, PointSound, IsSound}
+use Rattle.lz_machine.specs.Notes.{Notes, pending_row, pending, entries}
+use Rattle.lz_machine.specs.CallersSound.{side_of, is_before_pin, IsIdle, Relies, view_of, CallerSound, CallersSound}
+use Rattle.lz_machine.specs.LedgerSound.{LedgerSound, HasTail, TailsSound}
+use Rattle.lz_machine.specs.Sound.{Sound, IsAfter, UpSound, PointSound, IsSound}
 use Rattle.lz_machine.proofs.Frames.ActorTable.{by_actor}
 use Rattle.lz_machine.proofs.Frames.Outside.{even_of}
 use Rattle.lz_machine.proofs.Frames.Refusal.{begun_outside, begun_relies, noted_refusal, invoked_up}

@@ -30,12 +30,17 @@ use Rattle.lz_machine.specs.declared.actor.Hold.TheVariants.{Linked}
 use Rattle.lz_machine.specs.declared.caller.Sequence.TheVariants.{Adding}
 use Rattle.lz_machine.specs.declared.caller.Progress.{Progress}
 use Rattle.lz_machine.specs.declared.caller.Progress.TheVariants.{Playing}
-use Rattle.lz_machine.specs.Yards.{Yard, actor_at}
+use Rattle.lz_machine.specs.Yards.{Yard, actor_at, actor_in, pin_in, cell_in, stage_in}
 use Rattle.lz_machine.specs.Table.{slot_of, yard_done, publishes}
 use Rattle.lz_machine.specs.Runs.{Caller, caller_at}
 use Rattle.lz_machine.specs.Kept.{upto}
 use Rattle.lz_machine.specs.Stands.{IsReady, InBucket}
-use Rattle.lz_machine.specs.Sound.{Notes, entries, actor_in, pin_in, cell_in, stage_in, closes, opens, shuts, unlocks, has_removed_node, has_locks, IsOut, IsCloser, IsNodeStage, IsHandStage, IsGateOpened, IsGateWritten, SlotStands, is_node, is_held, is_out, is_free, is_limbo, SlotsSound, ReuseSound, HasPlace, HasLock, IsBeside, HasOpened, RestsOn, LocksSound, Relies, HasAdded, view_of, CallerSound, CallersSound, TailsSound, Sound}
+use Rattle.lz_machine.specs.Notes.{Notes, entries}
+use Rattle.lz_machine.specs.SlotsSound.{closes, opens, shuts, unlocks, has_removed_node, IsOut, IsCloser, IsNodeStage, IsHandStage, IsGateOpened, IsGateWritten, SlotStands, is_node, is_held, is_out, is_free, is_limbo, SlotsSound}
+use Rattle.lz_machine.specs.LocksSound.{has_locks, HasPlace, HasLock, IsBeside, HasOpened, RestsOn, LocksSound}
+use Rattle.lz_machine.specs.CallersSound.{Relies, HasAdded, view_of, CallerSound, CallersSound}
+use Rattle.lz_machine.specs.LedgerSound.{TailsSound}
+use Rattle.lz_machine.specs.Sound.{ReuseSound, Sound}
 use Rattle.lz_machine.proofs.Frames.ActorTable.{by_actor}
 use Rattle.lz_machine.proofs.Frames.OneActor.{caller_range, moving, moved_same, moved_other, carry, ledger_turn}
 use Rattle.lz_machine.proofs.Frames.Limbo.{seen_step, away_stays}

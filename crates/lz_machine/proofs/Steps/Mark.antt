@@ -28,10 +28,15 @@ use Rattle.lz_machine.specs.declared.actor.Hold.TheVariants.{GateClosed, Marked}
 use Rattle.lz_machine.specs.declared.caller.Sequence.TheVariants.{Removing}
 use Rattle.lz_machine.specs.declared.caller.Progress.{Progress}
 use Rattle.lz_machine.specs.declared.caller.Progress.TheVariants.{Playing}
-use Rattle.lz_machine.specs.Yards.{Yard, actor_at}
+use Rattle.lz_machine.specs.Yards.{Yard, actor_at, actor_in, pin_in, cell_in, stage_in}
 use Rattle.lz_machine.specs.Table.{with_hold, node_of, yard_done, publishes}
 use Rattle.lz_machine.specs.Runs.{Caller, caller_at}
-use Rattle.lz_machine.specs.Sound.{Notes, HasMarked, IsGateWritten, entries, actor_in, pin_in, cell_in, stage_in, opens, shuts, unlocks, has_removed_node, has_locks, IsOut, IsCloser, IsNodeStage, IsHandStage, SlotStands, is_node, is_held, is_out, is_free, is_limbo, SlotsSound, ReuseSound, HasPlace, HasLock, IsBefore, HasClosed, RestsOn, LocksSound, Relies, view_of, CallerSound, CallersSound, TailsSound, Sound}
+use Rattle.lz_machine.specs.Notes.{Notes, entries}
+use Rattle.lz_machine.specs.CallersSound.{HasMarked, Relies, view_of, CallerSound, CallersSound}
+use Rattle.lz_machine.specs.SlotsSound.{IsGateWritten, opens, shuts, unlocks, has_removed_node, IsOut, IsCloser, IsNodeStage, IsHandStage, SlotStands, is_node, is_held, is_out, is_free, is_limbo, SlotsSound}
+use Rattle.lz_machine.specs.LocksSound.{has_locks, HasPlace, HasLock, IsBefore, HasClosed, RestsOn, LocksSound}
+use Rattle.lz_machine.specs.LedgerSound.{TailsSound}
+use Rattle.lz_machine.specs.Sound.{ReuseSound, Sound}
 use Rattle.lz_machine.proofs.Frames.ActorTable.{by_actor}
 use Rattle.lz_machine.proofs.Frames.OneActor.{caller_range, moving, moved_same, moved_other, carry, ledger_turn}
 use Rattle.lz_machine.proofs.Frames.Limbo.{seen_step, away_stays}

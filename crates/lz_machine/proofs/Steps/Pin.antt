@@ -26,12 +26,16 @@ use Rattle.lz_machine.specs.declared.event.Reply.TheVariants.{Worn as SaysWorn, 
 use Rattle.lz_machine.specs.declared.actor.Actor.{Actor}
 use Rattle.lz_machine.specs.declared.caller.Sequence.TheVariants.{Pinning}
 use Rattle.lz_machine.specs.declared.caller.Progress.TheVariants.{Playing, LoadsHalt, Answering}
-use Rattle.lz_machine.specs.Yards.{Yard, Shape, actor_at}
+use Rattle.lz_machine.specs.Yards.{Yard, Shape, actor_at, IsInside, actor_in, pin_in}
 use Rattle.lz_machine.specs.Table.{last_pin, yard_done}
 use Rattle.lz_machine.specs.Calls.{progress_after}
 use Rattle.lz_machine.specs.Runs.{Caller, caller_at, with_words}
 use Rattle.lz_machine.specs.Limbo.{IsAway, IsSeen}
-use Rattle.lz_machine.specs.Sound.{Notes, IsInside, actor_in, pin_in, view_of, SlotStands, is_node, is_held, is_out, is_free, is_limbo, SlotsSound, ReuseSound, CallerSound, CallersSound, TraceSound, LedgerSound, Sound}
+use Rattle.lz_machine.specs.Notes.{Notes}
+use Rattle.lz_machine.specs.CallersSound.{view_of, CallerSound, CallersSound}
+use Rattle.lz_machine.specs.SlotsSound.{SlotStands, is_node, is_held, is_out, is_free, is_limbo, SlotsSound}
+use Rattle.lz_machine.specs.LedgerSound.{LedgerSound}
+use Rattle.lz_machine.specs.Sound.{ReuseSound, TraceSound, Sound}
 use Rattle.lz_machine.proofs.Frames.ActorTable.{by_actor}
 use Rattle.lz_machine.proofs.Frames.Limbo.{away_new, seen_pin, seen_leave, shorter}
 use Rattle.lz_machine.proofs.Frames.OneActor.{moving, moved_same, moved_other, carry, ledger_turn}

@@ -17,10 +17,11 @@ use Rattle.lz_machine.specs.declared.course.Course.{Course}
 use Rattle.lz_machine.specs.declared.course.Course.TheVariants.{Refused, Dies, Plays}
 use Rattle.lz_machine.specs.declared.caller.Progress.{Progress}
 use Rattle.lz_machine.specs.declared.caller.Progress.TheVariants.{Playing, LoadsHalt, Walking, Reserving, SeeingPins, Claiming, Checking, Answering}
-use Rattle.lz_machine.specs.Yards.{Yard, actor_at}
+use Rattle.lz_machine.specs.Yards.{Yard, actor_at, pin_in}
 use Rattle.lz_machine.specs.Table.{last_pin, course, line_on, published_on, line, line_call, line_publishes}
 use Rattle.lz_machine.specs.Runs.{Start, Service, Caller, Up, Turn, Fails, Looks, Point, MayStep, HasTurn, HasFault, shape_of, after_turn, after_fault, turn_publishes, marks_of_turn, mark_of_turn, mark_of, point_after, caller_at, next_event, reply_at, played, looked, start_keys}
-use Rattle.lz_machine.specs.Sound.{Notes, entries, pin_in, UpSound, StateSound, PointSound, IsSound}
+use Rattle.lz_machine.specs.Notes.{Notes, entries}
+use Rattle.lz_machine.specs.Sound.{UpSound, StateSound, PointSound, IsSound}
 use Rattle.lz_machine.proofs.Steps.Hop.{call_at}
 use Rattle.lz_machine.proofs.Steps.Pin.{begins_now, look_in_keeps, look_out_keeps}
 use Rattle.lz_machine.proofs.Frames.PinNotes.{IsNoted, noted_in, noted_out}

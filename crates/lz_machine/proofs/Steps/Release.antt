@@ -22,7 +22,11 @@ use Rattle.lz_machine.specs.Yards.{Yard, actor_at}
 use Rattle.lz_machine.specs.Table.{with_hold, released, yard_done}
 use Rattle.lz_machine.specs.Calls.{progress_after}
 use Rattle.lz_machine.specs.Runs.{Caller, caller_at}
-use Rattle.lz_machine.specs.Sound.{Notes, closes, opens, has_removed_node, has_locks, RestsOn, Sound, is_before_pin, side_of}
+use Rattle.lz_machine.specs.Notes.{Notes}
+use Rattle.lz_machine.specs.SlotsSound.{closes, opens, has_removed_node}
+use Rattle.lz_machine.specs.LocksSound.{has_locks, RestsOn}
+use Rattle.lz_machine.specs.CallersSound.{is_before_pin, side_of}
+use Rattle.lz_machine.specs.Sound.{Sound}
 use Rattle.lz_machine.proofs.Frames.OneActor.{moving}
 use Rattle.lz_machine.proofs.Frames.Grip.{KeepsGrips, fresh_grip}
 use Rattle.lz_machine.proofs.Frames.NodeLocks.{released_locks}

@@ -25,13 +25,17 @@ use Rattle.lz_machine.specs.declared.actor.Hold.{Hold}
 use Rattle.lz_machine.specs.declared.actor.Hold.TheVariants.{Nothing}
 use Rattle.lz_machine.specs.declared.caller.Progress.{Progress}
 use Rattle.lz_machine.specs.declared.caller.Progress.TheVariants.{Reserving, SeeingPins}
-use Rattle.lz_machine.specs.Yards.{Yard, Shape, actor_at}
+use Rattle.lz_machine.specs.Yards.{Yard, Shape, actor_at, actor_in, pin_in, cell_in, stage_in}
 use Rattle.lz_machine.specs.Table.{with_slot, reserved, slot_found, yard_done, outcome_of}
 use Rattle.lz_machine.specs.Calls.{progress_after, after_see_pin, after_reserve}
 use Rattle.lz_machine.specs.Runs.{Caller, caller_at}
 use Rattle.lz_machine.specs.Limbo.{IsAway}
 use Rattle.lz_slot.specs.Sets.{key_of}
-use Rattle.lz_machine.specs.Sound.{Notes, actor_in, pin_in, cell_in, stage_in, IsGateClosed, closes, opens, shuts, unlocks, has_removed_node, IsOut, IsCloser, IsNodeStage, IsHandStage, SlotStands, is_node, is_held, is_out, is_free, is_limbo, IsInHand, SlotsSound, ReuseSound, HasLock, RestsOn, IsGateOpened, IsAdder, MayAnswer, CallerSound, Sound, is_before_pin, side_of, WasAbsent}
+use Rattle.lz_machine.specs.Notes.{Notes}
+use Rattle.lz_machine.specs.SlotsSound.{IsGateClosed, closes, opens, shuts, unlocks, has_removed_node, IsOut, IsCloser, IsNodeStage, IsHandStage, SlotStands, is_node, is_held, is_out, is_free, is_limbo, IsInHand, SlotsSound, IsGateOpened}
+use Rattle.lz_machine.specs.LocksSound.{HasLock, RestsOn}
+use Rattle.lz_machine.specs.CallersSound.{IsAdder, MayAnswer, CallerSound, is_before_pin, side_of, WasAbsent}
+use Rattle.lz_machine.specs.Sound.{ReuseSound, Sound}
 use Rattle.lz_machine.proofs.Frames.OneActor.{moving, callers_turn, ledger_turn}
 use Rattle.lz_machine.proofs.Frames.SameYard.{KeepsTail, in_passes, tail_turn}
 use Rattle.lz_machine.proofs.Frames.NodeLocks.{held_locks}

@@ -22,12 +22,16 @@ use Rattle.lz_machine.specs.declared.actor.Hold.TheVariants.{Nothing}
 use Rattle.lz_machine.specs.declared.caller.Sequence.TheVariants.{Removing}
 use Rattle.lz_machine.specs.declared.caller.Progress.{Progress}
 use Rattle.lz_machine.specs.declared.caller.Progress.TheVariants.{Playing, Answering}
-use Rattle.lz_machine.specs.Yards.{Yard, actor_at}
+use Rattle.lz_machine.specs.Yards.{Yard, actor_at, IsInside, actor_in, pin_in}
 use Rattle.lz_machine.specs.Table.{with_hold, yard_done}
 use Rattle.lz_machine.specs.Calls.{progress_after}
 use Rattle.lz_machine.specs.Runs.{Caller, caller_at}
 use Rattle.lz_machine.specs.Limbo.{IsSeen}
-use Rattle.lz_machine.specs.Sound.{Notes, IsInside, actor_in, pin_in, closes, opens, shuts, unlocks, has_removed_node, IsOut, IsCloser, IsNodeStage, IsHandStage, SlotStands, is_node, is_held, is_out, is_free, is_limbo, SlotsSound, ReuseSound, HasLock, RestsOn, Relies, view_of, CallerSound, Sound}
+use Rattle.lz_machine.specs.Notes.{Notes}
+use Rattle.lz_machine.specs.SlotsSound.{closes, opens, shuts, unlocks, has_removed_node, IsOut, IsCloser, IsNodeStage, IsHandStage, SlotStands, is_node, is_held, is_out, is_free, is_limbo, SlotsSound}
+use Rattle.lz_machine.specs.LocksSound.{HasLock, RestsOn}
+use Rattle.lz_machine.specs.CallersSound.{Relies, view_of, CallerSound}
+use Rattle.lz_machine.specs.Sound.{ReuseSound, Sound}
 use Rattle.lz_machine.proofs.Frames.OneActor.{moving, callers_turn, ledger_turn}
 use Rattle.lz_machine.proofs.Frames.SameYard.{in_passes, tails_turn}
 use Rattle.lz_machine.proofs.Frames.NodeLocks.{held_locks}

@@ -14,9 +14,11 @@ use Rattle.lz_list.specs.Traces.{Trace}
 use Rattle.lz_machine.specs.declared.actor.Actor.{Actor}
 use Rattle.lz_machine.specs.declared.actor.Hold.{Hold}
 use Rattle.lz_machine.specs.declared.actor.Hold.TheVariants.{Nothing, Locks, Checked, GateOpened, Linked, GateClosed, Marked, Unlinked, Released}
-use Rattle.lz_machine.specs.Yards.{Shape, idle_actor}
+use Rattle.lz_machine.specs.Yards.{Shape, idle_actor, actor_in, stage_in}
 use Rattle.lz_machine.specs.Table.{with_slot, is_unused}
-use Rattle.lz_machine.specs.Sound.{actor_in, stage_in, IsGateClosed, IsGateOpened, closes, opens, shuts, unlocks, has_removed_node, IsOut, IsNodeStage, IsHandStage, SlotStands, is_node, is_held, is_out, is_free, is_limbo, SlotsSound, ReuseSound, HasLock, RestsOn, LocksSound}
+use Rattle.lz_machine.specs.SlotsSound.{IsGateClosed, IsGateOpened, closes, opens, shuts, unlocks, has_removed_node, IsOut, IsNodeStage, IsHandStage, SlotStands, is_node, is_held, is_out, is_free, is_limbo, SlotsSound}
+use Rattle.lz_machine.specs.LocksSound.{HasLock, RestsOn, LocksSound}
+use Rattle.lz_machine.specs.Sound.{ReuseSound}
 use Rattle.lz_machine.proofs.Frames.NodeLocks.{held_locks}
 use Rattle.lz_machine.proofs.Frames.Uses.{free_limbo}
 

@@ -30,11 +30,15 @@ use Rattle.lz_machine.specs.declared.actor.Hold.TheVariants.{Marked}
 use Rattle.lz_machine.specs.declared.caller.Sequence.TheVariants.{Adding, Removing, Resting}
 use Rattle.lz_machine.specs.declared.caller.Progress.{Progress}
 use Rattle.lz_machine.specs.declared.caller.Progress.TheVariants.{Playing, Answering}
-use Rattle.lz_machine.specs.Yards.{Yard, actor_at, cell_at}
+use Rattle.lz_machine.specs.Yards.{Yard, actor_at, cell_at, IsInside, actor_in, pin_in, stage_in}
 use Rattle.lz_machine.specs.Table.{is_sure, settling, yard_done, outcome_of, publishes}
 use Rattle.lz_machine.specs.Calls.{progress_after}
 use Rattle.lz_machine.specs.Runs.{Caller, caller_at, with_words}
-use Rattle.lz_machine.specs.Sound.{Notes, IsInside, actor_in, pin_in, stage_in, view_of, IsNodeStage, IsOnChain, IsGateOpened, IsGateWritten, SlotStands, is_node, is_held, is_out, is_free, is_limbo, Relies, HasClosed, RestsOn, HasAdded, HasMarked, HasMet, MayRest, IsSettledChange, RestsYes, RestsNo, IsFresh, Sound, is_before_pin}
+use Rattle.lz_machine.specs.Notes.{Notes}
+use Rattle.lz_machine.specs.CallersSound.{view_of, Relies, HasAdded, HasMarked, HasMet, MayRest, IsSettledChange, RestsYes, RestsNo, IsFresh, is_before_pin}
+use Rattle.lz_machine.specs.SlotsSound.{IsNodeStage, IsOnChain, IsGateOpened, IsGateWritten, SlotStands, is_node, is_held, is_out, is_free, is_limbo}
+use Rattle.lz_machine.specs.LocksSound.{HasClosed, RestsOn}
+use Rattle.lz_machine.specs.Sound.{Sound}
 use Rattle.lz_machine.proofs.Frames.OneActor.{moving}
 use Rattle.lz_machine.proofs.Ledger.Membership.{upto_begins}
 use Rattle.lz_machine.proofs.Ledger.Growth.{upto_more}

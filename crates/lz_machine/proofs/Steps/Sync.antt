@@ -20,12 +20,16 @@ use Rattle.lz_machine.specs.declared.event.Reply.{Reply}
 use Rattle.lz_machine.specs.declared.actor.Actor.{Actor}
 use Rattle.lz_machine.specs.declared.caller.Sequence.TheVariants.{Writing, Adding, Removing, Resting}
 use Rattle.lz_machine.specs.declared.caller.Progress.TheVariants.{Playing, Walking}
-use Rattle.lz_machine.specs.Yards.{Yard, Shape, actor_at}
+use Rattle.lz_machine.specs.Yards.{Yard, Shape, actor_at, actor_in, pin_in, cell_in, stage_in}
 use Rattle.lz_machine.specs.Table.{is_sure, call_of, with_vault, yard_done}
 use Rattle.lz_machine.specs.Calls.{progress_after}
 use Rattle.lz_machine.specs.Runs.{Caller, caller_at}
 use Rattle.lz_machine.specs.Ledgers.{Row}
-use Rattle.lz_machine.specs.Sound.{Notes, actor_in, pin_in, cell_in, stage_in, IsGateClosed, IsGateOpened, IsGateWritten, IsNodeStage, IsHandStage, SlotStands, is_node, is_held, is_out, is_free, is_limbo, SlotsSound, HasTail, TailsSound, IsKeyed, Sound, entries}
+use Rattle.lz_machine.specs.Notes.{Notes, entries}
+use Rattle.lz_machine.specs.SlotsSound.{IsGateClosed, IsGateOpened, IsGateWritten, IsNodeStage, IsHandStage, SlotStands, is_node, is_held, is_out, is_free, is_limbo, SlotsSound}
+use Rattle.lz_machine.specs.LedgerSound.{HasTail, TailsSound}
+use Rattle.lz_machine.specs.CallersSound.{IsKeyed}
+use Rattle.lz_machine.specs.Sound.{Sound}
 use Rattle.lz_machine.proofs.Frames.OneActor.{moving}
 use Rattle.lz_machine.proofs.Frames.Grip.{keeps_itself, slots_turn}
 use Rattle.lz_machine.proofs.Frames.Cells.{KeepsCell, caller_vaulted}

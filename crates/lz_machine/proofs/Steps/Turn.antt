@@ -26,7 +26,9 @@ use Rattle.lz_machine.specs.declared.caller.Progress.TheVariants.{Playing, Loads
 use Rattle.lz_machine.specs.Yards.{Yard, actor_at, cell_at}
 use Rattle.lz_machine.specs.Table.{last_pin, node_of, is_sure, words_after, publishes, yard_done, course_alive, course, line, pin_of}
 use Rattle.lz_machine.specs.Runs.{Caller, caller_at, next_event, reply_at}
-use Rattle.lz_machine.specs.Sound.{Notes, entries, view_of, Relies, ReliesOn, ReliesAdding, ReliesRemoving, ReliesWriting, UpSound}
+use Rattle.lz_machine.specs.Notes.{Notes, entries}
+use Rattle.lz_machine.specs.CallersSound.{view_of, Relies, ReliesOn, ReliesAdding, ReliesRemoving, ReliesWriting}
+use Rattle.lz_machine.specs.Sound.{UpSound}
 use Rattle.lz_machine.proofs.Frames.OneActor.{moving, caller_range, moved_other, same_entries}
 use Rattle.lz_machine.proofs.Steps.Hop.{call_at, own, hop_keeps, halt_load_keeps}
 use Rattle.lz_machine.proofs.Steps.Claim.{claim_keeps}

@@ -36,7 +36,8 @@ use Rattle.lz_machine.specs.declared.caller.Progress.TheVariants.{Answering}
 use Rattle.lz_machine.specs.Yards.{Shape}
 use Rattle.lz_machine.specs.Calls.{walked, hops_on, rests}
 use Rattle.lz_machine.specs.Stands.{WasBetween}
-use Rattle.lz_machine.specs.Sound.{TraceSound, View, IsFresh, IsAimed, MayAim, IsLooking, HasMet, RestsYes, RestsNo, WasAbsent, MayRest, Relies, is_before_pin}
+use Rattle.lz_machine.specs.CallersSound.{View, IsFresh, IsAimed, MayAim, IsLooking, HasMet, RestsYes, RestsNo, WasAbsent, MayRest, Relies, is_before_pin}
+use Rattle.lz_machine.specs.Sound.{TraceSound}
 use Rattle.lz_machine.proofs.Frames.Ranges.{stood_range, added_tells, removed_tells}
 use Rattle.lz_machine.proofs.Frames.LoadedWord.{bucket_range, head_next, link_next, link_mark, link_added, link_removed, key_load}
 

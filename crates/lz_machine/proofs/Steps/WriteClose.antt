@@ -27,10 +27,15 @@ use Rattle.lz_machine.specs.declared.actor.Hold.TheVariants.{Nothing, Locks, Che
 use Rattle.lz_machine.specs.declared.caller.Sequence.TheVariants.{Removing}
 use Rattle.lz_machine.specs.declared.caller.Progress.{Progress}
 use Rattle.lz_machine.specs.declared.caller.Progress.TheVariants.{Playing}
-use Rattle.lz_machine.specs.Yards.{Yard, actor_at}
+use Rattle.lz_machine.specs.Yards.{Yard, actor_at, actor_in, pin_in, cell_in, stage_in}
 use Rattle.lz_machine.specs.Table.{with_hold, node_of, yard_done}
 use Rattle.lz_machine.specs.Runs.{Caller, caller_at}
-use Rattle.lz_machine.specs.Sound.{Notes, IsGateWritten, entries, actor_in, pin_in, cell_in, stage_in, opens, shuts, unlocks, has_removed_node, has_locks, IsOut, IsCloser, IsNodeStage, IsHandStage, SlotStands, is_node, is_held, is_out, is_free, is_limbo, SlotsSound, HasPlace, HasLock, IsBefore, RestsOn, Relies, view_of, CallerSound, CallersSound, HasTail, Sound}
+use Rattle.lz_machine.specs.Notes.{Notes, entries}
+use Rattle.lz_machine.specs.SlotsSound.{IsGateWritten, opens, shuts, unlocks, has_removed_node, IsOut, IsCloser, IsNodeStage, IsHandStage, SlotStands, is_node, is_held, is_out, is_free, is_limbo, SlotsSound, IsGateOpened, IsGateClosed, closes, IsOnChain}
+use Rattle.lz_machine.specs.LocksSound.{has_locks, HasPlace, HasLock, IsBefore, RestsOn, IsChecked}
+use Rattle.lz_machine.specs.CallersSound.{Relies, view_of, CallerSound, CallersSound, IsKeyed}
+use Rattle.lz_machine.specs.LedgerSound.{HasTail}
+use Rattle.lz_machine.specs.Sound.{Sound}
 use Rattle.lz_machine.proofs.Frames.ActorTable.{by_actor}
 use Rattle.lz_machine.proofs.Frames.OneActor.{moving, moved_same, moved_other, carry, ledger_turn}
 use Rattle.lz_machine.proofs.Frames.Ranges.{on_range}
@@ -49,7 +54,7 @@ use Rattle.lz_vault.specs.Stages.{Cell}
 use Rattle.lz_vault.specs.Vaults.{Vaulted, medium_after}
 use Rattle.lz_machine.specs.Yards.{no_cell}
 use Rattle.lz_machine.specs.Table.{call_of}
-use Rattle.lz_machine.specs.Sound.{IsGateOpened, IsGateClosed, IsChecked, IsKeyed, DiskSound, closes, opens, IsOnChain}
+use Rattle.lz_machine.specs.Sound.{DiskSound}
 use Rattle.lz_vault.proofs.Gates.{HasBody}
 use Rattle.lz_machine.proofs.Frames.NodeLocks.{held_locks}
 use Rattle.lz_machine.proofs.Frames.Hand.{reuse_turn}

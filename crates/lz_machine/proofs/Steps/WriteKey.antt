@@ -28,11 +28,16 @@ use Rattle.lz_machine.specs.declared.actor.Hold.{Hold}
 use Rattle.lz_machine.specs.declared.caller.Sequence.TheVariants.{Writing}
 use Rattle.lz_machine.specs.declared.caller.Progress.{Progress}
 use Rattle.lz_machine.specs.declared.caller.Progress.TheVariants.{Playing}
-use Rattle.lz_machine.specs.Yards.{Yard, actor_at, no_cell}
+use Rattle.lz_machine.specs.Yards.{Yard, actor_at, no_cell, actor_in, pin_in, cell_in, stage_in}
 use Rattle.lz_machine.specs.Table.{with_vault, call_of, slot_of, yard_done, publishes}
 use Rattle.lz_machine.specs.Calls.{halts}
 use Rattle.lz_machine.specs.Runs.{Caller, caller_at}
-use Rattle.lz_machine.specs.Sound.{Notes, entries, actor_in, pin_in, cell_in, stage_in, opens, unlocks, IsGateClosed, IsGateOpened, IsGateWritten, IsOut, IsNodeStage, IsHandStage, SlotStands, is_node, is_held, is_out, is_free, is_limbo, SlotsSound, RestsOn, LocksSound, DiskSound, Relies, view_of, CallerSound, CallersSound, ReuseSound, HasTail, Sound}
+use Rattle.lz_machine.specs.Notes.{Notes, entries}
+use Rattle.lz_machine.specs.SlotsSound.{opens, unlocks, IsGateClosed, IsGateOpened, IsGateWritten, IsOut, IsNodeStage, IsHandStage, SlotStands, is_node, is_held, is_out, is_free, is_limbo, SlotsSound}
+use Rattle.lz_machine.specs.LocksSound.{RestsOn, LocksSound}
+use Rattle.lz_machine.specs.CallersSound.{Relies, view_of, CallerSound, CallersSound}
+use Rattle.lz_machine.specs.LedgerSound.{HasTail}
+use Rattle.lz_machine.specs.Sound.{DiskSound, ReuseSound, Sound}
 use Rattle.lz_machine.proofs.Frames.ActorTable.{by_actor}
 use Rattle.lz_machine.proofs.Frames.Grip.{closes_dead, opens_dead}
 use Rattle.lz_machine.proofs.Frames.OneActor.{moving}

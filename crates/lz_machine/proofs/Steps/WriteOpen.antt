@@ -21,10 +21,14 @@ use Rattle.lz_machine.specs.declared.actor.Actor.{Actor}
 use Rattle.lz_machine.specs.declared.actor.Hold.TheVariants.{GateOpened}
 use Rattle.lz_machine.specs.declared.caller.Sequence.TheVariants.{Adding}
 use Rattle.lz_machine.specs.declared.caller.Progress.TheVariants.{Playing}
-use Rattle.lz_machine.specs.Yards.{Yard, actor_at}
+use Rattle.lz_machine.specs.Yards.{Yard, actor_at, actor_in, pin_in, cell_in, stage_in}
 use Rattle.lz_machine.specs.Table.{with_hold, call_of, slot_of, yard_done, publishes}
 use Rattle.lz_machine.specs.Runs.{Caller, caller_at}
-use Rattle.lz_machine.specs.Sound.{Notes, actor_in, pin_in, cell_in, stage_in, opens, shuts, has_removed_node, has_locks, HasLock, RestsOn, LocksSound, DiskSound, Relies, view_of, CallerSound, Sound}
+use Rattle.lz_machine.specs.Notes.{Notes}
+use Rattle.lz_machine.specs.SlotsSound.{opens, shuts, has_removed_node}
+use Rattle.lz_machine.specs.LocksSound.{has_locks, HasLock, RestsOn, LocksSound}
+use Rattle.lz_machine.specs.CallersSound.{Relies, view_of, CallerSound}
+use Rattle.lz_machine.specs.Sound.{DiskSound, Sound}
 use Rattle.lz_machine.proofs.Frames.GateWrite.{gate_written}
 use Rattle.lz_machine.proofs.Frames.OneActor.{moving}
 use Rattle.lz_machine.proofs.Frames.Hand.{same_hand, other_hand}

@@ -14,7 +14,8 @@ use Rattle.lz_machine.specs.declared.course.Course.TheVariants.{Refused, Dies, P
 use Rattle.lz_machine.specs.Yards.{Shape, Yard, actor_at}
 use Rattle.lz_machine.specs.Table.{course, line, line_call, line_on}
 use Rattle.lz_machine.specs.Runs.{Start, IsStart, Caller, Service, State, Up, Down, Transition, Calls, Turn, Fails, Looks, Trips, Stops, Crashes, CrashesIn, Opens, OpenFails, Point, MayStep, MayLeave, LeftInside, HasTurn, IsRun, Reached, point_after, state_after, after_turn, after_fault, played, run, first_point, caller_at, next_event}
-use Rattle.lz_machine.specs.Sound.{Notes, UpSound, IsSound}
+use Rattle.lz_machine.specs.Notes.{Notes}
+use Rattle.lz_machine.specs.Sound.{UpSound, IsSound}
 use Rattle.lz_machine.specs.Formats.{HasFormat, FormatsStay}
 use Rattle.lz_machine.proofs.Steps.Trip.{point}
 use Rattle.lz_machine.proofs.Steps.Point as at_point

@@ -25,12 +25,14 @@ use Rattle.lz_machine.specs.declared.course.Course.{Course}
 use Rattle.lz_machine.specs.declared.course.Course.TheVariants.{Refused, Dies, Plays}
 use Rattle.lz_machine.specs.declared.event.Event.{Event}
 use Rattle.lz_machine.specs.declared.event.Event.TheVariants.{Invoke, Pin, Hop, Reserve, WriteKey, Claim, Check, WriteOpen, Link, WriteClose, Mark, Release, Sync, Settle, Unlink, Retire, SeePin, Answer, Halt}
-use Rattle.lz_machine.specs.Yards.{Shape, Yard, actor_at, cell_at, slots_read}
+use Rattle.lz_machine.specs.Yards.{Shape, Yard, actor_at, cell_at, slots_read, actor_in, pin_in}
 use Rattle.lz_machine.specs.Table.{course, line, line_on, line_publishes, published_on, publishes, settling, words_after, uses_after, node_of, has_marked, is_unused, given_back, reserved, needs}
 use Rattle.lz_machine.specs.Calls.{event_at, loaded}
 use Rattle.lz_machine.specs.Runs.{Start, IsStart, Caller, Service, State, Up, Down, Transition, Calls, Turn, Fails, Looks, Trips, Stops, Crashes, CrashesIn, Opens, OpenFails, Point, MayStep, IsRun, run, first_point, caller_at, next_event, start_keys, state_after, after_turn, after_fault, looked, pins_of, unlinkings, moments_of_step, moments, turn_publishes, opened_service}
 use Rattle.lz_machine.specs.FreedSlots.{FreedIsAllFree}
-use Rattle.lz_machine.specs.Sound.{Notes, actor_in, pin_in, HasClosed, RestsOn, Sound, PointSound, IsSound}
+use Rattle.lz_machine.specs.Notes.{Notes}
+use Rattle.lz_machine.specs.LocksSound.{HasClosed, RestsOn}
+use Rattle.lz_machine.specs.Sound.{Sound, PointSound, IsSound}
 use Rattle.lz_machine.proofs.Steps.Trip.{point}
 use Rattle.lz_machine.proofs.Steps.Halt.{held_node}
 use Rattle.lz_machine.proofs.Steps.Turn.{settled_pins}

@@ -31,7 +31,8 @@ use Rattle.lz_machine.specs.Table.{pin_of, course, line, line_on, line_call, cal
 use Rattle.lz_machine.specs.Calls.{event_of, event_at, loaded, progress_after}
 use Rattle.lz_machine.specs.Runs.{Caller, Service, State, Up, Down, Start, IsStart, start_keys, Transition, Turn, Point, point_after, run, IsRun, first_point, played, caller_at, next_event, reply_at, moved_on, after_turn, state_after, HasTurn, MayStep, mark_of_turn, marks_of_turn, marks_of, turn_publishes, trace_after, calls_after}
 use Rattle.lz_machine.specs.Laws.{is_of, outcome_at, outcomes, hop_of, hop_of_caller, next_hop, SameBut, call_in, ends_life, WalksMove}
-use Rattle.lz_machine.specs.Sound.{is_before_pin, side_of, StateSound, PointSound, IsSound}
+use Rattle.lz_machine.specs.CallersSound.{is_before_pin, side_of}
+use Rattle.lz_machine.specs.Sound.{StateSound, PointSound, IsSound}
 use Rattle.lz_machine.proofs.Frames.OneActor.{mine}
 use Rattle.lz_machine.proofs.Theorem.MovedCall.{call_stays, ends_same}
 use Rattle.lz_machine.proofs.Runs.Twins.{Twin, apart, same, left, right, follows}

@@ -14,7 +14,8 @@ use Rattle.lz_machine.specs.declared.event.Event.TheVariants.{WriteKey, Retire}
 use Rattle.lz_machine.specs.declared.event.Outcome.{Outcome}
 use Rattle.lz_machine.specs.declared.event.Outcome.TheVariants.{Dead, NotNow}
 use Rattle.lz_machine.specs.Table.{last_pin, has_stage, may_check, has_checked, has_opened, has_closed, has_marked, may_release, may_retire}
-use Rattle.lz_machine.specs.Sound.{opens, has_locks}
+use Rattle.lz_machine.specs.SlotsSound.{opens}
+use Rattle.lz_machine.specs.LocksSound.{has_locks}
 use Rattle.lz_machine.proofs.Runs.NextEvent.{refused_plays}
 
 -- what a call knows of its next event: the node that it retires, and that the file can hold the key that it writes

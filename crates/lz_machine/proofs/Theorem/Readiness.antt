@@ -34,11 +34,15 @@ use Rattle.lz_machine.specs.declared.event.Event.{Event}
 use Rattle.lz_machine.specs.declared.event.Event.TheVariants.{Invoke, Pin, WriteKey, Check, WriteOpen, Link, WriteClose, Mark, Release, Unlink, Retire, Answer}
 use Rattle.lz_machine.specs.declared.event.Outcome.TheVariants.{Dead, Done, NotNow, Worn}
 use Rattle.lz_slot.proofs.Exact.{key_of_format}
-use Rattle.lz_machine.specs.Yards.{Shape, Yard, actor_at, cell_at, no_cell}
+use Rattle.lz_machine.specs.Yards.{Shape, Yard, actor_at, cell_at, no_cell, actor_in, stage_in, cell_in}
 use Rattle.lz_machine.specs.Table.{last_pin, pin_of, needs, is_played_dead, course_alive, course, is_unused, has_stage, has_checked, has_opened, has_marked, is_old, stays_out}
 use Rattle.lz_machine.specs.Calls.{event_at, loaded}
 use Rattle.lz_machine.specs.Runs.{Start, State, Up, Point, Service, Caller, caller_at, next_event, with_words, first_point, run, start_keys, IsNext, MayPlay}
-use Rattle.lz_machine.specs.Sound.{Notes, View, view_of, actor_in, stage_in, closes, opens, has_locks, has_removed_node, HasPlace, HasLock, RestsOn, IsChecked, HasOpened, HasClosed, IsHandStage, IsNodeStage, SlotStands, is_node, is_held, is_out, is_free, is_limbo, Relies, Sound, StateSound, PointSound, cell_in, unlocks, is_before_pin, side_of}
+use Rattle.lz_machine.specs.Notes.{Notes}
+use Rattle.lz_machine.specs.CallersSound.{View, view_of, Relies, is_before_pin, side_of}
+use Rattle.lz_machine.specs.SlotsSound.{closes, opens, has_removed_node, IsHandStage, IsNodeStage, SlotStands, is_node, is_held, is_out, is_free, is_limbo, unlocks}
+use Rattle.lz_machine.specs.LocksSound.{has_locks, HasPlace, HasLock, RestsOn, IsChecked, HasOpened, HasClosed}
+use Rattle.lz_machine.specs.Sound.{Sound, StateSound, PointSound}
 use Rattle.lz_machine.specs.Ready.{IsEventOf, IsReadyFor, IsReady}
 use Rattle.lz_machine.proofs.Frames.OneActor.{caller_range, mine}
 use Rattle.lz_machine.proofs.Frames.FittingKeys.{key_written, writes_fitting}

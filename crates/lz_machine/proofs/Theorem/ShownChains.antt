@@ -21,7 +21,8 @@ use Rattle.lz_list.proofs.Tables.{length-table}
 use Rattle.lz_list.proofs.Traced.{chain_slots}
 use Rattle.lz_machine.specs.Yards.{Shape}
 use Rattle.lz_machine.specs.Stands.{IsReady, InBucket}
-use Rattle.lz_machine.specs.Sound.{TraceSound, IsBeside, IsBefore as StandsBefore}
+use Rattle.lz_machine.specs.LocksSound.{IsBeside, IsBefore as StandsBefore}
+use Rattle.lz_machine.specs.Sound.{TraceSound}
 use Rattle.lz_machine.proofs.Frames.Ranges.{on_range}
 use Rattle.lz_machine.proofs.Frames.LoadedWord.{bucket_range, head_next, link_next, link_mark, key_load}
 use Rattle.lz_machine.proofs.Steps.Halt.{faces_on}

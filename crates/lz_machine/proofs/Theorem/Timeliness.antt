@@ -13,7 +13,9 @@ use Rattle.lz_machine.specs.Calls.{begun}
 use Rattle.lz_machine.specs.Orders.{MayTake}
 use Rattle.lz_machine.specs.Runs.{Start, Up, Transition, Point, Service, Caller, caller_at, next_event, first_point, run, IsRun, IsStart}
 use Rattle.lz_machine.specs.InTime.{NeverLate}
-use Rattle.lz_machine.specs.Sound.{Notes, view_of, CallerSound, UpSound, IsSound}
+use Rattle.lz_machine.specs.Notes.{Notes}
+use Rattle.lz_machine.specs.CallersSound.{view_of, CallerSound}
+use Rattle.lz_machine.specs.Sound.{UpSound, IsSound}
 use Rattle.lz_machine.specs.Ready.{IsEventOf}
 use Rattle.lz_machine.proofs.Frames.OneActor.{caller_range, mine}
 use Rattle.lz_machine.proofs.Runs.EventRange.{asks}

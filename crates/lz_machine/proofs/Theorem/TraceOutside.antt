@@ -16,10 +16,13 @@ use Rattle.lz_list.specs.Traces.{Trace, is_marked}
 use Rattle.lz_machine.specs.declared.event.Reply.{Reply}
 use Rattle.lz_machine.specs.declared.caller.Progress.{Progress}
 use Rattle.lz_machine.specs.declared.caller.Progress.TheVariants.{Playing, LoadsHalt, Walking, Reserving, SeeingPins, Claiming, Checking, Answering}
-use Rattle.lz_machine.specs.Yards.{Shape, cell_at}
+use Rattle.lz_machine.specs.Yards.{Shape, cell_at, IsInside, pin_in, stage_in}
 use Rattle.lz_machine.specs.CallsStand.{is_out, trace_outside, CallsStand, MarkedIsClosed}
 use Rattle.lz_machine.specs.Runs.{Start, IsStart, Caller, Service, State, Up, Down, Transition, Calls, Turn, Fails, Looks, Trips, Stops, Crashes, CrashesIn, Opens, OpenFails, Point, MayStep, HasTurn, HasFault, IsRun, run, first_point, point_after, caller_at, state_after, trace_after, calls_after, after_turn, after_fault, turn_publishes, reply_at, opened_service, marks_of, mark_of}
-use Rattle.lz_machine.specs.Sound.{Notes, IsInside, pin_in, stage_in, CallerSound, view_of, SlotStands, is_node, is_held, is_out as is_gone, is_free, is_limbo, IsNodeStage, UpSound, IsSound}
+use Rattle.lz_machine.specs.Notes.{Notes}
+use Rattle.lz_machine.specs.CallersSound.{CallerSound, view_of}
+use Rattle.lz_machine.specs.SlotsSound.{SlotStands, is_node, is_held, is_out as is_gone, is_free, is_limbo, IsNodeStage}
+use Rattle.lz_machine.specs.Sound.{UpSound, IsSound}
 use Rattle.lz_machine.specs.Limbo.{IsAway}
 use Rattle.lz_machine.proofs.Steps.Trip.{point}
 use Rattle.lz_machine.proofs.Steps.Hop.{call_at}

@@ -38,7 +38,9 @@ use Rattle.lz_machine.specs.Yards.{Shape, Yard, actor_at, cell_at, opened_yard}
 use Rattle.lz_machine.specs.Table.{last_pin, pin_of, needs, is_played_dead, is_sure, is_spent, words_after, course_alive, course, line_on, line, line_failed, is_old, stays_out}
 use Rattle.lz_machine.specs.Calls.{goes_on, events_of, after_event, first_progress, progress_after, follows, walked, rests, hops_on, changes, after_playing, after_halt, after_hop, after_reserve, after_see_pin, after_claim, after_check, begun}
 use Rattle.lz_machine.specs.Runs.{Start, State, Up, Down, Transition, Calls, Turn, Fails, Looks, Trips, Stops, Crashes, CrashesIn, Opens, OpenFails, Point, Service, Caller, caller_at, next_event, reply_at, moved_on, looked, state_after, after_turn, after_fault, HasTurn, HasFault, MayStep, first_point, run, IsRun, IsStart, opened_service, start_keys, invoked}
-use Rattle.lz_machine.specs.Sound.{Notes, View, view_of, MayRest, IsCut, Relies, CallerSound, Sound, UpSound, StateSound, PointSound, IsSound}
+use Rattle.lz_machine.specs.Notes.{Notes}
+use Rattle.lz_machine.specs.CallersSound.{View, view_of, MayRest, IsCut, Relies, CallerSound}
+use Rattle.lz_machine.specs.Sound.{Sound, UpSound, StateSound, PointSound, IsSound}
 use Rattle.lz_machine.proofs.Steps.Trip.{point}
 use Rattle.lz_machine.proofs.Frames.ActorTable.{by_actor}
 use Rattle.lz_machine.proofs.Frames.OneActor.{caller_range, mine}
