@@ -28,7 +28,8 @@ use Rattle.lz_judge.specs.declared.line.Line.{Line}
 use Rattle.lz_judge.specs.declared.line.Line.TheVariants.{Seen}
 use Rattle.lz_judge.specs.LinesRead.{actor_number, answer_read, at_end, call_number, command_named, found_read, is_word, key_from, key_named, key_told, keys_from, kind_read, line_read, not_below, refusal_read, with_word, words_of}
 use Rattle.lz_judge.specs.MarkLines.{AscendFrom, IsMarkOfRun, ReadsMark, MarksReadBack, HistoriesReadBack}
-use Rattle.lz_judge.specs.TextsRead.{Reads, nothing, line, most_bytes}
+use Rattle.lz_judge.specs.Limits.{most_bytes, most_actors, most_faults}
+use Rattle.lz_judge.specs.TextsRead.{Reads, nothing, line}
 
 -- no byte of a word is this one
 none_of : (c : ℕ) (word : List ℕ) → Lacks c word → All (λ b. b == c ≡ false) word
@@ -90,7 +91,7 @@ word_lacks (Add k) = refl
 word_lacks (Remove k) = refl
 word_lacks (Has k) = refl
 
-call_words : (i a k : ℕ) (word : List ℕ) → i ≤ largest_read → a ≤ 64 → k ≤ largest_key → Lacks 32 word
+call_words : (i a k : ℕ) (word : List ℕ) → i ≤ largest_read → a ≤ most_actors → k ≤ largest_key → Lacks 32 word
     → words_of (codes "call " ++ (decimal i ++ (codes " " ++ (decimal a ++ (codes " " ++ (word ++ (codes " " ++ key_text k))))))) ≡ codes "call" ∷ decimal i ∷ decimal a ∷ word ∷ key_text k ∷ []
 call_words i a k word few low small clear =
     first_word (codes "call") (decimal i ++ (codes " " ++ (decimal a ++ (codes " " ++ (word ++ (codes " " ++ key_text k)))))) refl
@@ -105,7 +106,7 @@ call_reads i a c ((some, few), one, low, small) =
     let nested = eight (codes "call ") (decimal i) (codes " ") (decimal a) (codes " ") (command_word c) (codes " ") (key_text (key_of c)) in
     of_words (mark_text (Call i a c)) (codes "call") words (ap words_of nested ∙ call_words i a (key_of c) (command_word c) few low small (word_lacks c))
     ∙ goes_on call_number (decimal i) (decimal a ∷ command_word c ∷ key_text (key_of c) ∷ []) i call_from (decimal_read 1 largest_read i (omega arith) some few)
-    ∙ goes_on actor_number (decimal a) (command_word c ∷ key_text (key_of c) ∷ []) a (actor_from i) (decimal_read 1 64 a (omega arith) one low)
+    ∙ goes_on actor_number (decimal a) (command_word c ∷ key_text (key_of c) ∷ []) a (actor_from i) (decimal_read 1 most_actors a (omega arith) one low)
     ∙ goes_on key_named (key_text (key_of c)) [] (key_of c) (keyed_from i a (command_word c)) (named (key_of c) small)
     ∙ command_is i a c
 
@@ -203,7 +204,7 @@ fault_reads : (why : ℕ) → IsMarkOfRun (OpenFailed why) → ReadsMark (mark_t
 fault_reads why (some, few) =
     let words = first_word (codes "open") (codes "fault" ++ (codes " " ++ decimal why)) refl ∙ ap (λ (ws : List (List ℕ)). codes "open" ∷ ws) (one_number (codes "fault") why (omega arith) refl) in
     of_words (mark_text (OpenFailed why)) (codes "open") (codes "fault" ∷ decimal why ∷ []) words
-    ∙ goes_on (number_in 1 8) (decimal why) [] why fault_from (decimal_read 1 8 why (omega arith) some few)
+    ∙ goes_on (number_in 1 most_faults) (decimal why) [] why fault_from (decimal_read 1 most_faults why (omega arith) some few)
 
 pub marks_read_back : MarksReadBack
 marks_read_back (Call i a c) is = call_reads i a c is

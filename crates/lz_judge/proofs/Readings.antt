@@ -11,7 +11,8 @@ use Rattle.lz_slot.specs.declared.history.Mark.{Mark}
 use Rattle.lz_slot.specs.declared.history.Mark.TheVariants.{Call, Answer, Refused, Cut, Stop, Crash, Opened, OpenFailed}
 use Rattle.lz_slot.specs.Histories.{ChainTo, IsAnswered, Life, count_of}
 use Rattle.lz_judge.specs.declared.history.Point.{Point}
-use Rattle.lz_judge.specs.Records.{ArePlaces, IsLawful, IsMade, IsPoint, actor_of, largest_place}
+use Rattle.lz_judge.specs.Limits.{largest_place}
+use Rattle.lz_judge.specs.Records.{ArePlaces, IsLawful, IsMade, IsPoint, actor_of}
 use Rattle.lz_judge.specs.Flaws.{IsFlaw, IsInOrder, IsWrongSet, OrderedChain}
 use Rattle.lz_judge.specs.declared.flaw.Flaw.TheVariants.{WrongReply}
 use Rattle.lz_judge.specs.Passes.{AreLow, HasPlaces, IsAt, Ordered, answer_of, is_made, place_of}

@@ -7,7 +7,8 @@ use Rattle.memchr.specs.Find.{IsFirstByte, is_byte}
 use Rattle.lz_judge.specs.declared.line.Line.{Line}
 use Rattle.lz_judge.specs.Records.{Record}
 use Rattle.lz_judge.specs.LinesRead.{line_read}
-use Rattle.lz_judge.specs.TextsRead.{HasRead, IsClear, IsFirstUnread, IsNext, MayCome, Reads, nothing, line, most_bytes, with_line}
+use Rattle.lz_judge.specs.Limits.{most_bytes}
+use Rattle.lz_judge.specs.TextsRead.{HasRead, IsClear, IsFirstUnread, IsNext, MayCome, Reads, nothing, line, with_line}
 
 eq_eqb : {n : ℕ} → n ≡ 10 → n == 10 ≡ true
 eq_eqb e = rw e refl

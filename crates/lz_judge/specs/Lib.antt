@@ -1,5 +1,6 @@
 pub mod Surveys
 pub mod Scans
+pub mod Limits
 pub mod Records
 pub mod Flaws
 pub mod Passes

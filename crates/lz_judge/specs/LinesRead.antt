@@ -15,7 +15,7 @@ use Rattle.lz_slot.specs.declared.history.Refusal.TheVariants.{Full, Worn, OldFi
 use Rattle.lz_slot.specs.declared.history.Mark.TheVariants as mark
 use Rattle.lz_judge.specs.declared.line.Line.{Line}
 use Rattle.lz_judge.specs.declared.line.Line.TheVariants.{Seen, Placed, Other}
-use Rattle.lz_judge.specs.Records.{largest_place}
+use Rattle.lz_judge.specs.Limits.{largest_place, most_actors, most_faults}
 
 -- the words of a text, parted by one space each
 abbrev pub words_of : List ℕ → List (List ℕ)
@@ -50,7 +50,7 @@ call_number = number_in 1 largest_read
 
 -- an actor
 abbrev pub actor_number : List ℕ → Option ℕ
-actor_number = number_in 1 64
+actor_number = number_in 1 most_actors
 
 abbrev pub key_told : Result ℕ KeyFault → Option ℕ
 key_told (Ok k) = Some k
@@ -123,7 +123,7 @@ keys_from least (word ∷ words) = option_and_then (λ key. option_map (λ keys.
 
 -- `open fault N`
 abbrev pub fault_read : List (List ℕ) → Option Line
-fault_read words = with_word (number_in 1 8) words (λ fault words. at_end (Seen (mark.OpenFailed fault)) words)
+fault_read words = with_word (number_in 1 most_faults) words (λ fault words. at_end (Seen (mark.OpenFailed fault)) words)
 
 -- `open` and keys
 abbrev pub found_read : List (List ℕ) → Option Line

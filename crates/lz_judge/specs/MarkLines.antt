@@ -9,7 +9,8 @@ use Rattle.lz_slot.specs.declared.history.Mark.TheVariants.{Call, Answer, Refuse
 use Rattle.lz_judge.specs.declared.line.Line.TheVariants.{Seen}
 use Rattle.lz_judge.specs.LinesRead.{line_read}
 use Rattle.lz_judge.specs.Records.{IsLawful}
-use Rattle.lz_judge.specs.TextsRead.{Reads, calls_of, most_bytes, most_calls}
+use Rattle.lz_judge.specs.Limits.{most_bytes, most_calls, most_actors, most_faults}
+use Rattle.lz_judge.specs.TextsRead.{Reads, calls_of}
 
 -- the line says this mark
 abbrev pub ReadsMark : List ℕ → Mark → Type 0
@@ -25,14 +26,14 @@ IsCallNumber i = (1 ≤ i) × (i ≤ largest_read)
 
 -- the numbers of a mark are those that a run may have
 abbrev pub IsMarkOfRun : Mark → Type 0
-IsMarkOfRun (Call i a c) = IsCallNumber i × (1 ≤ a) × (a ≤ 64) × (key_of c ≤ largest_key)
+IsMarkOfRun (Call i a c) = IsCallNumber i × (1 ≤ a) × (a ≤ most_actors) × (key_of c ≤ largest_key)
 IsMarkOfRun (Answer i answer) = IsCallNumber i
 IsMarkOfRun (Refused i why) = IsCallNumber i
 IsMarkOfRun (Cut i why) = IsCallNumber i
 IsMarkOfRun Stop = Unit {0}
 IsMarkOfRun Crash = Unit {0}
 IsMarkOfRun (Opened keys) = AscendFrom 0 keys
-IsMarkOfRun (OpenFailed why) = (1 ≤ why) × (why ≤ 8)
+IsMarkOfRun (OpenFailed why) = (1 ≤ why) × (why ≤ most_faults)
 
 -- the line that is written of a mark says the mark
 abbrev pub MarksReadBack : Type 0

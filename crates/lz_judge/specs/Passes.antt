@@ -9,7 +9,8 @@ use Rattle.lz_slot.specs.declared.history.Mark.{Mark}
 use Rattle.lz_slot.specs.declared.history.Mark.TheVariants.{Call, Answer}
 use Rattle.lz_slot.specs.Histories.{IsAnswered, IsBefore, IsRefused, count_of}
 use Rattle.lz_judge.specs.declared.history.Point.{Point}
-use Rattle.lz_judge.specs.Records.{IsMade, IsPoint, largest_place}
+use Rattle.lz_judge.specs.Limits.{largest_place}
+use Rattle.lz_judge.specs.Records.{IsMade, IsPoint}
 use Rattle.lz_judge.specs.Flaws.{IsLifeBefore, IsMadeBefore, IsMisplaced, IsPast}
 
 -- whether call i was made

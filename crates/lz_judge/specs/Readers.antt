@@ -2,7 +2,8 @@
 use Rattle.std.specs.Prelude.{◌≡◌, ◌≤◌, reverse}
 use Rattle.lz_judge.specs.Records.{ArePlaces, IsLawful, Record}
 use Rattle.lz_judge.specs.Ledgers.{IsLedger}
-use Rattle.lz_judge.specs.TextsRead.{calls_of, most_calls}
+use Rattle.lz_judge.specs.Limits.{most_calls}
+use Rattle.lz_judge.specs.TextsRead.{calls_of}
 use Rattle.lz_judge.specs.declared.reading.Reader.{Reader}
 
 -- the history that was read so far

@@ -4,16 +4,13 @@ use Rattle.lz_slot.specs.declared.command.Command.{Command}
 use Rattle.lz_slot.specs.declared.history.Mark.{Mark}
 use Rattle.lz_slot.specs.declared.history.Mark.TheVariants.{Call, Answer, Refused, Cut, Stop, Crash, Opened, OpenFailed}
 use Rattle.lz_slot.specs.Histories as seen
+use Rattle.lz_judge.specs.Limits.{largest_place}
 use Rattle.lz_judge.specs.declared.history.Point.{Point}
 
 -- a history and the points of its calls
 pub record Record : Type 0 where
   pub marks : List Mark
   pub points : List Point
-
--- the largest place of a point
-abbrev pub largest_place : ℕ
-largest_place = 999_999_999_999
 
 -- call i has a point at this place
 abbrev pub IsPoint : List Point → ℕ → ℕ → Type 0

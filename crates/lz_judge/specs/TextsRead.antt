@@ -2,18 +2,11 @@
 use Rattle.std.specs.Prelude.{◌≡◌, ◌≢◌, ◌⊎◌, ℕ, ◌+◌, ◌≤◌, ◌==◌, false, List, [], ◌∷◌, ◌++◌, All, length, Some}
 use Rattle.lz_slot.specs.declared.history.Mark.{Mark}
 use Rattle.lz_slot.specs.declared.history.Mark.TheVariants.{Call, Answer, Refused, Cut, Stop, Crash, Opened, OpenFailed}
+use Rattle.lz_judge.specs.Limits.{most_calls, most_bytes}
 use Rattle.lz_judge.specs.declared.line.Line.{Line}
 use Rattle.lz_judge.specs.declared.line.Line.TheVariants.{Seen, Placed, Other}
 use Rattle.lz_judge.specs.Records.{MayFollow, Record}
 use Rattle.lz_judge.specs.LinesRead.{line_read}
-
--- the most calls of a history
-abbrev pub most_calls : ℕ
-most_calls = 100_000
-
--- the most bytes of a history's text
-abbrev pub most_bytes : ℕ
-most_bytes = 4_194_304
 
 -- how many calls a mark makes
 abbrev pub calls_in : Mark → ℕ

@@ -4,9 +4,6 @@ ghost use Rattle.std.specs.Prelude.{◌≡◌, reverse};
 use lz_slot::Mark;
 use std::marker::Model;
 
-/// The largest place of a point.
-pub const MAX_PLACE: u64 = 999_999_999_999;
-
 /// A call's place in the order of calls.
 #[derive(Clone, Copy, Debug, PartialEq, Eq)]
 pub struct Point {

@@ -12,6 +12,7 @@ mod history;
 mod judging;
 pub mod laws;
 mod ledger;
+mod limits;
 mod line;
 mod listing;
 mod ordering;
@@ -21,7 +22,7 @@ mod surveying;
 
 pub use finding::{Finding, Survey};
 pub use flaw::Flaw;
-pub use history::{History, MAX_PLACE, Point};
+pub use history::{History, Point};
 pub use judging::judge;
-pub use reading::{MOST_BYTES, MOST_CALLS};
+pub use limits::{MAX_PLACE, MOST_BYTES, MOST_CALLS};
 pub use surveying::survey;

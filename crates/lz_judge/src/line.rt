@@ -1,10 +1,12 @@
 //! One line of a history.
 ghost use Rattle.std.specs.Prelude.{◌≡◌, ◌≤◌, ◌∷◌, ℕ, IfOk, IfSome, option_map};
 ghost use Rattle.lz_slot.specs.Numerals.{largest_read, number_in};
+ghost use Rattle.lz_judge.specs.Limits.{most_actors};
 ghost use Rattle.lz_judge.specs.Lines.{IsLow};
 ghost use Rattle.lz_judge.specs.LinesRead.{answer_read, answered_read, at_end, busy_read, call_read, command_named, cut_read, fault_read, key_from, key_named, keys_from, line_read, open_read, point_read, refusal_read, refused_read, show_read, take_word, words_behind, words_of};
 
-use crate::history::{MAX_PLACE, Point};
+use crate::history::Point;
+use crate::limits::{MAX_PLACE, MOST_ACTORS, MOST_FAULTS};
 use lz_slot::{Command, Cut, Found, Key, Mark, Refusal, read_key};
 use memchr::memchr;
 use std::alloc::{AllocError, Global};
@@ -17,12 +19,6 @@ pub enum Line {
     /// A line that doesn't count.
     Other,
 }
-
-/// Actors count from 1 up to this one.
-const MOST_ACTORS: u64 = 64;
-
-/// The faults of an open count from 1 up to this one.
-const MOST_FAULTS: u64 = 8;
 
 // A kind of line is known by its first word. Each kind is one line.
 macro_rules! kinds {
@@ -228,7 +224,7 @@ fn read_call_number(text: Option<&[u8]>) -> Option<(u64, Option<&[u8]>)>
 }
 
 fn read_actor(text: Option<&[u8]>) -> Option<(usize, Option<&[u8]>)>
-    ensures { option_map (λ r. (r.0, words_behind r.1)) result ≡ take_word (number_in 1 64) (words_behind text.entry) }
+    ensures { option_map (λ r. (r.0, words_behind r.1)) result ≡ take_word (number_in 1 most_actors) (words_behind text.entry) }
 {
     let (actor, rest) = read_number(text, 1, MOST_ACTORS)?;
     Some((actor as usize, rest))

@@ -4,7 +4,8 @@ ghost use Rattle.std.specs.BTreeMap as tree;
 ghost use Rattle.std.specs.Ordering.{nat_cmp};
 ghost use Rattle.lz_slot.specs.declared.command.Command.{Command as ACommand};
 ghost use Rattle.lz_slot.specs.declared.history.Mark.{Mark as AMark};
-ghost use Rattle.lz_judge.specs.Records.{IsLawful, largest_place};
+ghost use Rattle.lz_judge.specs.Limits.{largest_place};
+ghost use Rattle.lz_judge.specs.Records.{IsLawful};
 ghost use Rattle.lz_judge.specs.Passes.{AreLow, Floored, IsAt, Ordered};
 
 use crate::listing::lesser;

@@ -7,16 +7,11 @@ ghost use Rattle.lz_judge.specs.TextsRead.{IsFirstUnread, MayCome, MaySee, Reads
 
 use crate::history::{History, Point};
 use crate::ledger::Ledger;
+use crate::limits::{MOST_BYTES, MOST_CALLS};
 use crate::line::{Line, read_line};
 use lz_slot::Mark;
 use memchr::memchr;
 use std::alloc::{AllocError, Global};
-
-/// The most calls of a history.
-pub const MOST_CALLS: usize = 100_000;
-
-/// The most bytes of a history's text.
-pub const MOST_BYTES: usize = 4_194_304;
 
 impl History {
     /// Reads the text of a history, or tells the number, from 1, of the first line that doesn't read: one that is no line of a
