@@ -2,7 +2,7 @@
 use Rattle.std.proofs.Common.{◌≡◌, inl, inr, ⊎_elim, ℕ, ◌≤◌, Bool, true, false, length, IsTrue, refl, sym, ap, ◌∙◌, subst, arith, Ok, Err, Result}
 use Rattle.std.specs.Prelude.{◌<◌, nat_lt, IfOk, IfErr, IsErrOf}
 use Rattle.std.proofs.lemmas.Bool.Decides.{nat_tests}
-use Rattle.lz_slot.specs.Sets.{Keys, key_of, after, reply}
+use Rattle.lz_slot.specs.Sets.{Keys, key_of, after, reply, HasMembers}
 use Rattle.lz_slot.specs.declared.command.Command.{Command}
 use Rattle.lz_slot.specs.declared.command.Command.TheVariants.{Add, Remove, Has}
 use Rattle.lz_slot.specs.declared.format.Format.{Format}
@@ -14,7 +14,7 @@ use Rattle.lz_disk.proofs.Moments.{quiet}
 use Rattle.lz_vault.specs.Opens.{keys_of}
 use Rattle.lz_vault.specs.Vaults.{Vaulted}
 use Rattle.lazyset_commands.specs.Asks.{Asked, IsPlainReply, Lives, reply_of, set_after_reply}
-use Rattle.lazyset_commands.specs.Plains.{Adds, EachHolds, HasMembers, HoldsBeforeOrAfter, IsAddFault, IsRemoveFault, Removes}
+use Rattle.lazyset_commands.specs.Plains.{Adds, EachHolds, HoldsBeforeOrAfter, IsAddFault, IsRemoveFault, Removes}
 use Rattle.lazyset_commands.specs.declared.plain.Fault.{Fault}
 use Rattle.lazyset_commands.specs.declared.plain.Fault.TheVariants.{OldFile, Full, Halted, Device as Failed}
 

@@ -11,7 +11,7 @@ use Rattle.std.specs.Prelude.{slice_get, slice_set, map, nat_eq, ◌==◌, ◌||
 use Rattle.std.proofs.lemmas.Option.{slice_get_within, same_Some, slice_get-get_or}
 use Rattle.std.proofs.lemmas.Bool.Decides.{nat_tests}
 use Rattle.std.proofs.lemmas.Bool.{cases_eq}
-use Rattle.lz_slot.specs.Sets.{Keys, Same, members, after}
+use Rattle.lz_slot.specs.Sets.{Keys, Same, members, after, HasMembers}
 use Rattle.lz_slot.specs.declared.format.Format.{Format}
 use Rattle.lz_slot.specs.Rooms.{largest_of}
 use Rattle.lz_slot.specs.Bytes.{slot_at}
@@ -19,6 +19,7 @@ use Rattle.lz_slot.specs.declared.command.Command.TheVariants.{Add, Remove}
 use Rattle.lz_slot.specs.declared.slot.SlotRead.{SlotRead}
 use Rattle.lz_slot.specs.declared.slot.SlotRead.TheVariants as read
 use Rattle.lz_slot.proofs.Holding.{holds_same_set}
+use Rattle.lz_slot.proofs.Sets.{members_among}
 use Rattle.lz_disk.specs.Images.{Medium}
 use Rattle.lz_vault.specs.Stages.{Cell, IsAt, IsFree, Keeps, MayRead, IsSteady, AreSteady}
 use Rattle.lz_vault.specs.Opens.{is_open, keys_of}
@@ -28,7 +29,7 @@ use Rattle.lz_disk.specs.Devices.{Device}
 use Rattle.lz_vault.specs.Vaults.{Vaulted}
 use Rattle.lz_vault.proofs.Changes.{set_cases}
 use Rattle.lz_vault.proofs.Reading.{image_reads}
-use Rattle.lazyset_commands.specs.Plains.{IsPlain, EachHolds, HasMembers, HasNoFree, HasNoMember, IsLowestFree}
+use Rattle.lazyset_commands.specs.Plains.{IsPlain, EachHolds, HasNoFree, HasNoMember, IsLowestFree}
 use Rattle.lazyset_commands.proofs.Changing.{set_there, set_elsewhere}
 use Rattle.lazyset_commands.proofs.Slots.{cell_there}
 
@@ -195,10 +196,6 @@ key_among : (cells : List Cell) (i : ℕ) (cell : Cell) → slice_get cells i �
 key_among [] i cell there = absurd (grind arith)
 key_among (c ∷ cells) zero cell there = let same : c.key ≡ cell.key = ap (λ (x : Cell). x.key) (same_Some _ _ there) in grind (arith, nat_tests)
 key_among (c ∷ cells) (suc i) cell there = let rest = key_among cells i cell there in grind (arith, nat_tests)
-
-members_among : (ks : List ℕ) (q : ℕ) → members ks q ≡ list_any (nat_eq q) ks
-members_among [] q = refl
-members_among (k ∷ ks) q = let rest = members_among ks q in grind (arith, nat_tests)
 
 -- as many members as slots leave no room for another
 no_more : (S : Keys) (N k : ℕ) (ys : List ℕ) → HasMembers S N → S k ≡ false → length ys ≡ N

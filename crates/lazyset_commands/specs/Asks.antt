@@ -1,6 +1,6 @@
 -- What a set for one caller replies to a request.
 use Rattle.std.specs.Prelude.{◌≡◌, ◌⊎◌, ℕ, ◌≤◌, ◌<◌, Bool, true, false, IsTrue, Result, Ok, Err, length}
-use Rattle.lz_slot.specs.Sets.{Keys, key_of, after, reply}
+use Rattle.lz_slot.specs.Sets.{Keys, key_of, after, reply, HasMembers}
 use Rattle.lz_slot.specs.declared.command.Command.{Command}
 use Rattle.lz_slot.specs.declared.command.Command.TheVariants as command
 use Rattle.lz_slot.specs.declared.format.Format.{Format}
@@ -13,7 +13,7 @@ use Rattle.lz_proto.specs.declared.reply.Reply.{Reply}
 use Rattle.lz_proto.specs.declared.reply.Reply.TheVariants.{Yes, No, Full, Halted, Worn, OldFile}
 use Rattle.lazyset_commands.specs.declared.plain.Fault.{Fault}
 use Rattle.lazyset_commands.specs.declared.plain.Fault.TheVariants as fault
-use Rattle.lazyset_commands.specs.Plains.{EachHolds, HasMembers, HoldsBeforeOrAfter}
+use Rattle.lazyset_commands.specs.Plains.{EachHolds, HoldsBeforeOrAfter}
 
 -- the reply to a command that was answered so
 abbrev pub reply_of : Result Bool Fault → Reply

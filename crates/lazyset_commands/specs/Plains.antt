@@ -53,13 +53,6 @@ HoldsBeforeOrAfter N S command t = Holds t N S ⊎ Holds t N (after command S)
 abbrev pub HasNoFree : List Cell → ℕ → Type 0
 HasNoFree cells n = (i : ℕ) (cell : Cell) → i < n → slice_get cells i ≡ Some cell → IsFree cell.stage → ⊥
 
--- the set has n members
-pub record HasMembers (S : Keys) (n : ℕ) : Type 0 where
-  pub keys : List ℕ
-  pub count : length keys ≡ n
-  pub distinct : IsDistinct nat_eq keys
-  pub all : Same S (members keys)
-
 -- none of the first n slots holds the key
 abbrev pub HasNoMember : List Cell → ℕ → ℕ → Type 0
 HasNoMember cells key n = (i : ℕ) (cell : Cell) → i < n → slice_get cells i ≡ Some cell → cell.stage ≡ Open → cell.key ≡ key → ⊥

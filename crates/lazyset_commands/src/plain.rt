@@ -1,6 +1,6 @@
 //! A set for one caller, over the stages of a vault.
 ghost use Rattle.std.specs.Prelude.{◌≡◌, ◌⊎◌, ◌↔◌, ◌<◌, ◌≤◌, ℕ, Bool, true, false, length, slice_get, slice_set, Some, IsErrOf, IsTrue, is_some, IfOk, IfErr, IfSome, OnErr, OnOk};
-ghost use Rattle.lz_slot.specs.Sets.{Keys, after, reply};
+ghost use Rattle.lz_slot.specs.Sets.{Keys, after, reply, HasMembers};
 ghost use Rattle.lz_slot.specs.Bytes.{Holds};
 ghost use Rattle.lz_slot.specs.Rooms.{largest_of};
 ghost use Rattle.lz_disk.specs.Devices.{LeavesOnly};
@@ -8,7 +8,7 @@ ghost use Rattle.lz_vault.specs.Stages.{AreSteady, Cell, IsAt, IsFree};
 ghost use Rattle.lz_vault.specs.Vaults.{IsKept, last_sync};
 ghost use Rattle.lz_vault.specs.Opens.{IsRefusedFor, Opens, keys_of};
 ghost use Rattle.lazyset_commands.specs.Asks.{reply_of};
-ghost use Rattle.lazyset_commands.specs.Plains.{Adds, IsAddFault, fault_of, EachHolds, Ends, HasCome, HasMembers, HoldsBeforeOrAfter, IsRemoveFault, MayChange, Removes, uses_of};
+ghost use Rattle.lazyset_commands.specs.Plains.{Adds, IsAddFault, fault_of, EachHolds, Ends, HasCome, HoldsBeforeOrAfter, IsRemoveFault, MayChange, Removes, uses_of};
 
 use lz_allot::Allot;
 use lz_disk::Disk;

@@ -18,7 +18,7 @@ use Rattle.lz_board.specs.declared.answer.Glance.TheVariants.{Yes, No, Unsettled
 use Rattle.lz_board.specs.declared.answer.GlanceFault.{GlanceFault}
 use Rattle.lz_board.specs.declared.answer.GlanceFault.TheVariants.{Halted, Worn, BusyPass}
 use Rattle.lz_board.specs.Notes.{IsShared}
-use Rattle.lz_board.specs.Kept.{IsInside}
+use Rattle.lz_machine.specs.Yards.{IsInside}
 use Rattle.lz_board.specs.Noting.{Writes}
 use Rattle.lz_board.specs.Opened.{shown_in, opened_by, IsOpened}
 use Rattle.lz_board.specs.Glances.{Turns}

@@ -10,7 +10,7 @@ use Rattle.lz_board.specs.declared.answer.GlanceFault.{GlanceFault}
 use Rattle.lz_board.specs.declared.answer.GlanceFault.TheVariants.{Halted, Worn, BusyPass}
 use Rattle.lz_board.specs.declared.view.Part.{Part}
 use Rattle.lz_board.specs.Notes.{own}
-use Rattle.lz_board.specs.Kept.{IsInside}
+use Rattle.lz_machine.specs.Yards.{IsInside}
 
 -- Q goes on from P, and this is all that was published for pass p since
 pub record Changes (p : ℕ) (P Q changes : Trace) : Type 0 where

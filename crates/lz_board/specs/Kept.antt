@@ -12,6 +12,7 @@ use Rattle.lz_machine.specs.declared.event.Event.TheVariants.{Pin, Answer}
 use Rattle.lz_machine.specs.declared.event.Outcome.{Outcome}
 use Rattle.lz_machine.specs.declared.event.Outcome.TheVariants.{Done}
 use Rattle.lz_machine.specs.Table.{last_pin}
+use Rattle.lz_machine.specs.Yards.{IsInside}
 use Rattle.lz_board.specs.declared.view.Sizes.{Sizes}
 use Rattle.lz_board.specs.declared.view.What.{What}
 use Rattle.lz_board.specs.declared.view.What.TheVariants.{Called, Played, Found}
@@ -24,10 +25,6 @@ use Rattle.lz_board.specs.Addresses.{index, words_count}
 -- by these steps of a pass it has a call open: they lead to a place of one
 abbrev pub is_calling : Sizes → List Note → Bool
 is_calling z steps = is_some (place (shape_of z) steps)
-
--- a pass with this pin word is inside
-abbrev pub IsInside : ℕ → Type 0
-IsInside pin = pin % 2 ≡ 1
 
 -- an event with this outcome shows the pin word of the pass that played it
 abbrev pub shows_played : Event → Outcome → Bool

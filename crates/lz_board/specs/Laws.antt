@@ -15,7 +15,8 @@ use Rattle.lz_board.specs.declared.view.View.{View}
 use Rattle.lz_board.specs.declared.view.Opening.{Opening}
 use Rattle.lz_board.specs.Notes.{trace_of, Since, IsShared}
 use Rattle.lz_board.specs.Addresses.{index}
-use Rattle.lz_board.specs.Kept.{IsInside, IsPart}
+use Rattle.lz_machine.specs.Yards.{IsInside}
+use Rattle.lz_board.specs.Kept.{IsPart}
 use Rattle.lz_board.specs.Opened.{opened_by}
 use Rattle.lz_board.specs.Handles.{holds_of}
 

@@ -12,7 +12,8 @@ impl Board {
     ghost use Rattle.lz_machine.specs.Table.{last_pin};
     ghost use Rattle.lz_board.specs.Notes.{IsShared};
     ghost use Rattle.lz_board.specs.Addresses.{index};
-    ghost use Rattle.lz_board.specs.Kept.{is_calling, IsInside};
+    ghost use Rattle.lz_machine.specs.Yards.{IsInside};
+    ghost use Rattle.lz_board.specs.Kept.{is_calling};
     ghost use Rattle.lz_board.specs.Plays.{knowing, loading, entering, IsShownTo};
     ghost use Rattle.lz_board.specs.Seats.{id_of, part, IsOf};
 

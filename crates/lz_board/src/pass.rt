@@ -15,7 +15,7 @@ impl Pass {
     ghost use Rattle.std.specs.Prelude.{◌≡◌, ◌∷◌, [], ◌%◌, ◌↔◌, IsTrue};
     ghost use Rattle.lz_board.specs.Plays.{alone};
     ghost use Rattle.lz_board.specs.Seats.{part};
-    ghost use Rattle.lz_board.specs.Kept.{IsInside};
+    ghost use Rattle.lz_machine.specs.Yards.{IsInside};
 
     // The pass's seat. Until it sits again, the pass has none.
     pub(crate) fn rise(&mut self) -> Seat<Note, View>

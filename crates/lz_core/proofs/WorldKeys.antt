@@ -22,7 +22,8 @@ use Rattle.lz_list.proofs.Openings.{opening_members}
 use Rattle.lz_list.proofs.Sorted.{node_on, node_slot}
 use Rattle.lz_list.proofs.Traced.{members_after}
 use Rattle.lz_vault.specs.Opens.{keys_of as cell_keys}
-use Rattle.lz_machine.specs.Yards.{Shape, Yard, no_cell, cell_read, slots_read, first_trace, opened_yard}
+use Rattle.lz_vault.specs.Members.{no_cell}
+use Rattle.lz_machine.specs.Yards.{Shape, Yard, cell_read, slots_read, first_trace, opened_yard}
 use Rattle.lz_yard.specs.Filling.{OpensYard}
 use Rattle.lz_disk.specs.Records.{Past, after}
 use Rattle.lz_core.specs.declared.open_calls.OpenCall.{OpenCall}

@@ -1,8 +1,6 @@
 -- A judge's yes leaves no flaw.
-use Rattle.std.proofs.Common.{◌≡◌, ◌⊎◌, inl, inr, ⊎_elim, ◌↔◌, ℕ, ◌<◌, ◌≤◌, Bool, true, List, [], ◌∷◌, ◌++◌, sym, refl, ◌∙◌, ap, subst, arith, Some, None}
-use Rattle.std.specs.BTreeMap as tree
+use Rattle.std.proofs.Common.{◌≡◌, inl, inr, ⊎_elim, ◌↔◌, ℕ, ◌<◌, Bool, true, List, [], ◌∷◌, ◌++◌, sym, refl, ◌∙◌, ap, subst, arith, Some, None}
 use Rattle.std.specs.BTreeMap.{BTreeMap}
-use Rattle.std.specs.Ordering.{nat_cmp}
 use Rattle.std.proofs.lemmas.Bool.Decides.{eqb_tells}
 use Rattle.std.proofs.lemmas.Option.{same_Some}
 use Rattle.lz_slot.specs.Sets.{Keys, Same, key_of, members, reply}
@@ -18,7 +16,7 @@ use Rattle.lz_judge.specs.Passes.{IsAt, is_made}
 use Rattle.lz_judge.specs.Plays.{IsKnown, lives_before, this_start}
 use Rattle.lz_judge.specs.Verdicts.{AreCalled, AreListed}
 use Rattle.lz_judge.proofs.LawfulRuns.{made_more}
-use Rattle.lz_judge.proofs.Pasts.{listed_append, listed_left, listed_right}
+use Rattle.lz_slot.proofs.Listings.{listed_append, listed_left, listed_right}
 use Rattle.lz_judge.proofs.Runs.{AreApart, RunIs, chain_before, chain_run, run_leads, run_replies}
 
 -- a call that is counted was made

@@ -17,6 +17,7 @@ use Rattle.lz_slot.specs.declared.command.Command.{Command}
 use Rattle.lz_slot.specs.declared.command.Command.TheVariants.{Add, Remove, Has}
 use Rattle.lz_slot.specs.declared.history.Mark.{Mark}
 use Rattle.lz_slot.specs.Histories.{IsAnswered, IsCalled, IsEarlier, IsListed, Runs, count_of}
+use Rattle.lz_slot.proofs.Sets.{after_same}
 use Rattle.lz_judge.specs.Records.{IsMade}
 use Rattle.lz_judge.specs.Passes.{IsAt}
 use Rattle.lz_judge.specs.Plays.{IsLife, Plays}
@@ -159,11 +160,6 @@ module _ (places : BTreeMap ℕ ℕ) where
       is')
       is
 
-pub same_after : (c : Command) (S T : Keys) → Same S T → Same (after c S) (after c T)
-same_after (Add k) S T same j = ap (λ (b : Bool). (k == j) || b) (same j)
-same_after (Remove k) S T same j = ap (λ (b : Bool). not (k == j) && b) (same j)
-same_after (Has k) S T same j = same j
-
 pub runs : (H : List Mark) (answers : BTreeMap ℕ Bool) (calls : List Listed) (S T S' T' : Keys) → ((i : ℕ) (b : Bool) → IsAnswered H i b → tree.get nat_cmp answers i ≡ Some b)
     → ((l : Listed) → Among l calls → IsCalled H l.call l.command) → Same S S' → Same T T' → Plays answers calls S T → Runs H S' (calls_of calls) T'
 runs H answers [] S T S' T' told called start end plays = λ k. sym (start k) ∙ plays k ∙ end k
@@ -171,7 +167,7 @@ runs H answers (l ∷ calls) S T S' T' told called start end plays = (
   l.command,
   called l (inl refl),
   λ b answered. ap (reply l.command) (sym (start (key_of l.command))) ∙ plays.0 b (told l.call b answered),
-  runs H answers calls (after l.command S) T (after l.command S') T' told (λ m at. called m (inr at)) (same_after l.command S S' start) end plays.1,
+  runs H answers calls (after l.command S) T (after l.command S') T' told (λ m at. called m (inr at)) (after_same l.command S S' start) end plays.1,
 )
 
 -- what is known of the calls that a life's list has

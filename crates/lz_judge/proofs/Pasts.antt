@@ -10,7 +10,8 @@ use Rattle.lz_judge.specs.Flaws.{IsLifeBefore, IsPast, Leads}
 use Rattle.lz_judge.specs.Plays.{Follows, past_of, this_life}
 use Rattle.lz_judge.specs.declared.playing.Listed.{Listed}
 use Rattle.lz_judge.proofs.LawfulRuns.{made_less, made_more}
-use Rattle.lz_judge.proofs.Orders.{Among, calls_of, same_after}
+use Rattle.lz_slot.proofs.Sets.{after_same}
+use Rattle.lz_judge.proofs.Orders.{Among, calls_of}
 
 -- what was seen in the past was seen
 pub past_mark : (M : List Mark) (m : Mark) → HasMark m (past_of M) → HasMark m M
@@ -72,36 +73,16 @@ past_before (Answer k b ∷ M) i j past made = later_one (Answer k b) M i j (pas
 past_before (Refused k why ∷ M) i j past made = later_one (Refused k why) M i j (past_is M i past) (past_before M i j past) made
 past_before (Cut k why ∷ M) i j past made = later_one (Cut k why) M i j (past_is M i past) (past_before M i j past) made
 
--- lists one after another
-pub listed_append : (i : ℕ) (L R : List ℕ) → IsListed i (L ++ R) → IsListed i L ⊎ IsListed i R
-listed_append i [] R is = inr is
-listed_append i (j ∷ L) R is = ⊎_elim (λ here. inl (inl here)) (λ there. ⊎_elim (λ left. inl (inr left)) (λ right. inr right) (listed_append i L R there)) is
-
-pub listed_left : (i : ℕ) (L R : List ℕ) → IsListed i L → IsListed i (L ++ R)
-listed_left i [] R is = absurd is
-listed_left i (j ∷ L) R is = ⊎_elim (λ here. inl here) (λ there. inr (listed_left i L R there)) is
-
-pub listed_right : (i : ℕ) (L R : List ℕ) → IsListed i R → IsListed i (L ++ R)
-listed_right i [] R is = is
-listed_right i (j ∷ L) R is = inr (listed_right i L R is)
-
-pub earlier_append : (i j : ℕ) (L R : List ℕ) → IsEarlier i j (L ++ R) → IsEarlier i j L ⊎ (IsListed i L × IsListed j R) ⊎ IsEarlier i j R
-earlier_append i j [] R is = inr (inr is)
-earlier_append i j (k ∷ L) R is = ⊎_elim
-    (λ (here, behind). ⊎_elim (λ left. inl (inl (here, left))) (λ right. inr (inl (inl here, right))) (listed_append j L R behind))
-    (λ there. ⊎_elim (λ left. inl (inr left)) (λ rest. inr (⊎_elim (λ (l, r). inl (inr l, r)) (λ right. inr right) rest)) (earlier_append i j L R there))
-    is
-
 pub leads_more : (M : List Mark) (S S' : Keys) (L : List ℕ) (T : Keys) → Leads (past_of M) S L T → Same S S' → Leads M S' L T
 leads_more M S S' [] T leads same = λ k. sym (same k) ∙ leads k
-leads_more M S S' (i ∷ L) T (c, (actor, has), rest) same = (c, (actor, past_mark M (Call i actor c) has), leads_more M (after c S) (after c S') L T rest (same_after c S S' same))
+leads_more M S S' (i ∷ L) T (c, (actor, has), rest) same = (c, (actor, past_mark M (Call i actor c) has), leads_more M (after c S) (after c S') L T rest (after_same c S S' same))
 
 pub leads_then : (M : List Mark) (L R : List ℕ) (S T U : Keys) → Leads M S L T → Leads M T R U → Leads M S (L ++ R) U
 leads_then M [] R S T U first second = leads_from M R T S U (λ k. sym (first k)) second
   where
     leads_from : (M : List Mark) (R : List ℕ) (T S U : Keys) → Same T S → Leads M T R U → Leads M S R U
     leads_from M [] T S U same leads = λ k. sym (same k) ∙ leads k
-    leads_from M (i ∷ R) T S U same (c, called, rest) = (c, called, leads_from M R (after c T) (after c S) U (same_after c T S same) rest)
+    leads_from M (i ∷ R) T S U same (c, called, rest) = (c, called, leads_from M R (after c T) (after c S) U (after_same c T S same) rest)
 leads_then M (i ∷ L) R S T U (c, called, rest) second = (c, called, leads_then M L R (after c S) T U rest second)
 
 pub follows_leads : (M : List Mark) (calls : List Listed) (S T : Keys) → ((l : Listed) → Among l calls → IsCalled M l.call l.command) → Follows calls S T → Leads M S (calls_of calls) T

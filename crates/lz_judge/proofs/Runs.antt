@@ -4,13 +4,14 @@ use Rattle.lz_slot.specs.Sets.{Keys, Same, after, key_of, members, reply}
 use Rattle.lz_slot.specs.declared.command.Command.{Command}
 use Rattle.lz_slot.specs.declared.history.Mark.{Mark}
 use Rattle.lz_slot.specs.declared.history.Mark.TheVariants.{Call, Answer, Refused, Cut, Stop, Crash, Opened, OpenFailed}
-use Rattle.lz_slot.specs.Histories.{Fits, IsAnswered, IsCalled, IsEarlier, IsListed, Runs, lives}
+use Rattle.lz_slot.specs.Histories.{IsAnswered, IsCalled, IsListed, Runs, lives}
 use Rattle.lz_judge.specs.Records.{IsLawful, IsMade, MayFollow}
 use Rattle.lz_judge.specs.Flaws.{IsInOrder, IsLifeBefore, Leads, OrderedChain}
 use Rattle.lz_judge.specs.Plays.{lives_before, past_of, this_life, this_start}
 use Rattle.lz_judge.proofs.Lives.{answered_life, life_made, life_mark, lives_parts, now}
-use Rattle.lz_judge.proofs.Orders.{same_after}
-use Rattle.lz_judge.proofs.Pasts.{earlier_append, listed_append, listed_left, listed_right, made_split, past_before, past_made_all, past_mark}
+use Rattle.lz_slot.proofs.Sets.{after_same}
+use Rattle.lz_slot.proofs.Listings.{earlier_append, listed_append, listed_left, listed_right}
+use Rattle.lz_judge.proofs.Pasts.{made_split, past_before, past_made_all, past_mark}
 use Rattle.lz_judge.proofs.Readings.{told_made}
 
 -- a call has one command
@@ -27,7 +28,7 @@ module _ (M : List Mark) (lawful : IsLawful M) where
   run_leads [] S T S' U same runs leads = λ k. sym (runs k) ∙ same k ∙ leads k
   run_leads (i ∷ L) S T S' U same (c, called, right, rest) (d, called', rest') =
       let one : c ≡ d = one_command M i c d lawful called called' in
-      run_leads L (after c S) T (after d S') U (λ k. same_after c S S' same k ∙ ap (λ (x : Command). after x S' k) one) rest rest'
+      run_leads L (after c S) T (after d S') U (λ k. after_same c S S' same k ∙ ap (λ (x : Command). after x S' k) one) rest rest'
 
   -- and each answered call of it gets its answer from the set to which the calls before it lead
   pub run_replies : (L R : List ℕ) (i : ℕ) (S T S' U : Keys) (c : Command) (b : Bool) → Same S S' → Runs M S (L ++ i ∷ R) T → Leads M S' L U → IsCalled M i c → IsAnswered M i b → reply c (U (key_of c)) ≡ b
@@ -36,7 +37,7 @@ module _ (M : List Mark) (lawful : IsLawful M) where
       subst (λ (x : Command). reply x (U (key_of x)) ≡ b) one (ap (reply d) (sym (leads (key_of d)) ∙ sym (same (key_of d))) ∙ right b told)
   run_replies (j ∷ L) R i S T S' U c b same (d, called, right, rest) (e, called', rest') at told =
       let one : d ≡ e = one_command M j d e lawful called called' in
-      run_replies L R i (after d S) T (after e S') U c b (λ k. same_after d S S' same k ∙ ap (λ (x : Command). after x S' k) one) rest rest' at told
+      run_replies L R i (after d S) T (after e S') U c b (λ k. after_same d S S' same k ∙ ap (λ (x : Command). after x S' k) one) rest rest' at told
 
 -- runs one after another
 runs_then : (M : List Mark) (L R : List ℕ) (S T U : Keys) → Runs M S L T → Runs M T R U → Runs M S (L ++ R) U
@@ -45,7 +46,7 @@ runs_then M [] R S T U first second = runs_from M R T S U (λ k. sym (first k)) 
     runs_from : (M : List Mark) (R : List ℕ) (T S U : Keys) → Same T S → Runs M T R U → Runs M S R U
     runs_from M [] T S U same runs = λ k. sym (same k) ∙ runs k
     runs_from M (i ∷ R) T S U same (c, called, right, rest) =
-        (c, called, λ b told. ap (reply c) (sym (same (key_of c))) ∙ right b told, runs_from M R (after c T) (after c S) U (same_after c T S same) rest)
+        (c, called, λ b told. ap (reply c) (sym (same (key_of c))) ∙ right b told, runs_from M R (after c T) (after c S) U (after_same c T S same) rest)
 runs_then M (i ∷ L) R S T U (c, called, right, rest) second = (c, called, right, runs_then M L R (after c S) T U rest second)
 
 lawful_past : (M : List Mark) → IsLawful M → IsLawful (past_of M)

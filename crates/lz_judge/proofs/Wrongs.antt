@@ -17,7 +17,8 @@ use Rattle.lz_judge.specs.Plays.{Compared, Finds, Follows, IsKnown, IsLife, IsSe
 use Rattle.lz_judge.specs.declared.playing.Listed.{Listed}
 use Rattle.lz_judge.proofs.Lives.{life_made, life_mark}
 use Rattle.lz_judge.proofs.Orders.{Among, Rises, among_listed, ascending, calls_of, listed_among, OfLife, of_life}
-use Rattle.lz_judge.proofs.Pasts.{earlier_append, follows_leads, leads_more, leads_then, listed_append, listed_left, listed_right, made_split, past_before, past_made_all, past_mark}
+use Rattle.lz_slot.proofs.Listings.{earlier_append, listed_append, listed_left, listed_right}
+use Rattle.lz_judge.proofs.Pasts.{follows_leads, leads_more, leads_then, made_split, past_before, past_made_all, past_mark}
 
 -- the place in a list of calls at which one is answered otherwise
 record Wrong (answers : BTreeMap ℕ Bool) (calls : List Listed) (S : Keys) (i : ℕ) : Type 0 where

@@ -4,6 +4,10 @@ use Rattle.std.proofs.lemmas.Bool.Decides.{nat_tests}
 use Rattle.lz_list.specs.declared.flags.Flags.{Flags}
 use Rattle.lz_list.specs.Words.{link_with, next_of, flags_of}
 
+-- a link word without flags is its number
+pub small_next : (x : ℕ) → x < 2 ^ 32 → next_of x ≡ x
+small_next x lt = omega arith
+
 module _ (n : ℕ) (small : n < 2 ^ 32) where
   next_of_bits : (mark added removed : Bool) → next_of (link_with n (record { mark = mark; add_settled = added; remove_settled = removed })) ≡ n
   next_of_bits true true true = omega arith

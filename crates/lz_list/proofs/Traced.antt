@@ -40,12 +40,12 @@ module _ (buckets slots b : ℕ) where
   chain_slots (halted ∷ P) law = chain_slots P law.1
 
 -- a key of a chain has a node there
-has_node : (next keys : ℕ → ℕ) (k x : ℕ) (c : Chain) → Shows next keys x c → has_key k c ≡ true → (s : ℕ) × (on x c (suc s) ≡ true) × (keys s ≡ k)
-has_node next keys k x [] h has = absurd (false≢true has)
-has_node next keys k x (n ∷ c) h has = elim (cases_eq n.0 k) [
+pub node_of_key : (next keys : ℕ → ℕ) (k x : ℕ) (c : Chain) → Shows next keys x c → has_key k c ≡ true → (s : ℕ) × (on x c (suc s) ≡ true) × (keys s ≡ k)
+node_of_key next keys k x [] h has = absurd (false≢true has)
+node_of_key next keys k x (n ∷ c) h has = elim (cases_eq n.0 k) [
   | inl same ↦ (n.1, grind (arith, nat_tests, on_start (suc n.1) c), h.1 ∙ same)
   | inr other ↦
-      let rest = has_node next keys k (suc n.1) c h.3 (grind (arith, nat_tests)) in
+      let rest = node_of_key next keys k (suc n.1) c h.3 (grind (arith, nat_tests)) in
       (rest.0, grind (arith, nat_tests, rest.1), rest.2)
 ]
 
@@ -138,7 +138,7 @@ module _ (slots buckets : ℕ) (P : Trace) (few : slots ≤ most_slots) (law : L
     then_is : member k P ≡ true → IsMember words k
     then_is is = elim (cases_Bool (has_key k (chain buckets bucket P))) [
       | inl has ↦
-          let found = has_node (next_link buckets bucket P) keys k 0 (chain buckets bucket P) (words_show_chain buckets slots P law bucket).shows has in
+          let found = node_of_key (next_link buckets bucket P) keys k 0 (chain buckets bucket P) (words_show_chain buckets slots P law bucket).shows has in
           let tells = node buckets slots k found.0 P law found.1 found.2 in
           let bare : is_marked found.0 P ≡ false = grind (arith, nat_tests, tells.is_member, is) in (
             found.0,

@@ -1,3 +1,4 @@
+pub mod CallMark
 pub mod Answers
 pub mod Order
 pub mod Membership

@@ -5,7 +5,7 @@ use Rattle.lz_slot.specs.declared.command.Command.{Command}
 use Rattle.lz_slot.specs.declared.command.Command.TheVariants.{Add}
 use Rattle.lz_slot.specs.declared.history.Refusal.TheVariants.{Full, Worn, OldFile}
 use Rattle.lz_slot.specs.declared.history.Mark.TheVariants.{Call, Answer, Refused, Cut}
-use Rattle.lz_slot.specs.Sets.{Keys, Same, members, key_of, after, reply}
+use Rattle.lz_slot.specs.Sets.{Keys, Same, members, key_of, after, reply, HasMembers}
 use Rattle.lz_slot.specs.declared.format.Format.{Format}
 use Rattle.lz_slot.specs.Bytes.{Holds, format_of}
 use Rattle.lz_slot.specs.Histories.{History, Life, lives}
@@ -63,13 +63,6 @@ AloneIsPlain =
     → IsStart start → IsRun (first_point start) steps → IsAlone a steps
     → MayLeave (run (first_point start) steps).state t
     → (T : Keys) × Holds t start.shape.slots T × ArePlain (lives (start_keys start) (run (first_point start) steps).marks) T
-
--- the set has n members
-pub record HasMembers (S : Keys) (n : ℕ) : Type 0 where
-  pub keys : List ℕ
-  pub count : length keys ≡ n
-  pub distinct : IsDistinct nat_eq keys
-  pub all : Same S (members keys)
 
 -- an adding finds no room: its key is no member, and the set has N members
 abbrev pub IsFull : ℕ → Command → Keys → Type 0

@@ -1,5 +1,5 @@
 -- A run may begin where another one ended, with other buckets and passes.
-use Rattle.std.specs.Prelude.{◌≡◌, ◌≤◌, ℕ, List, ◌++◌}
+use Rattle.std.specs.Prelude.{◌≤◌, ℕ, List, ◌++◌}
 use Rattle.lz_slot.specs.Bytes.{Holds}
 use Rattle.lz_slot.specs.Histories.{History, ChainTo, lives}
 use Rattle.lz_slot.specs.Sets.{Keys}

@@ -8,6 +8,7 @@ use Rattle.lz_vault.specs.declared.vault.Stage.{Stage}
 use Rattle.lz_vault.specs.declared.vault.Stage.TheVariants.{Closed, Open}
 use Rattle.lz_vault.specs.Stages.{Cell}
 use Rattle.lz_vault.specs.Vaults.{Vaulted}
+use Rattle.lz_vault.specs.Members.{no_cell}
 use Rattle.lz_allot.specs.Uses.{Use, Free, Taken}
 use Rattle.lz_list.specs.declared.place.Place.TheVariants.{Bucket}
 use Rattle.lz_list.specs.Words.{Words}
@@ -35,10 +36,6 @@ pub record Yard : Type 0 where
 -- actors count from 1, as their passes do
 abbrev pub actor_at : Yard → ℕ → Actor
 actor_at y a = of_pass y.actors a idle_actor
-
--- the cell of a slot that no vault has
-abbrev pub no_cell : Cell
-no_cell = record { stage = Closed; key = 0 }
 
 abbrev pub cell_at : Yard → ℕ → Cell
 cell_at y s = slice_index_or y.vault.cells s no_cell

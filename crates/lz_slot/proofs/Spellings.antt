@@ -1,5 +1,5 @@
 -- Keys and the texts that spell them.
-use Rattle.std.proofs.Common.{◌≡◌, ◌≢◌, ℕ, ◌+◌, ◌-◌, ◌≤◌, ◌==◌, length-append, List, [], ◌∷◌, ◌++◌, length, take, drop, decimal, true, false, nat_eq, Option, Some, None, Result, Ok, Err, inl, inr, arith, refl, sym, ap, ◌∙◌}
+use Rattle.std.proofs.Common.{◌≡◌, ℕ, ◌+◌, ◌-◌, ◌≤◌, ◌==◌, length-append, List, [], ◌∷◌, ◌++◌, length, take, drop, decimal, true, false, nat_eq, Option, Some, None, Result, Ok, Err, inl, inr, arith, refl, sym, ap, ◌∙◌}
 use Rattle.std.specs.List.{list_all}
 use Rattle.std.proofs.lemmas.Bool.{cond_both, false_from_ne_true, false≢true}
 use Rattle.std.proofs.lemmas.Bool.Decides.{nat_tests}
@@ -9,7 +9,7 @@ use Rattle.memchr.specs.Find.{IsFirstByte, is_byte}
 use Rattle.lz_slot.specs.Limits.{largest_key, largest_number, last_room}
 use Rattle.lz_slot.specs.Rooms.{rank, room_of, number_of}
 use Rattle.lz_slot.specs.Numerals.{is_digit, is_number, largest_read, number_in}
-use Rattle.lz_slot.specs.Texts.{colon, fault_behind, fault_in, fault_of_parts, key_behind, key_in, key_of_number, key_of_parts, key_read, key_text, parted, text_with_room, Spells, KeysReadBack, KeysAreRefused, WrittenKeysAreSpelled}
+use Rattle.lz_slot.specs.Texts.{fault_behind, fault_in, fault_of_parts, key_behind, key_in, key_of_number, key_of_parts, key_read, key_text, parted, text_with_room, Spells, KeysReadBack, KeysAreRefused, WrittenKeysAreSpelled}
 use Rattle.lz_slot.specs.declared.spelling.KeyFault.{KeyFault}
 use Rattle.lz_slot.specs.declared.spelling.KeyFault.TheVariants.{NoNumber, TooLarge}
 use Rattle.lz_slot.proofs.Cuts.{AreParts, Lacks, lacks_all, lacks_more, parted_at, parted_clear, parted_none, parted_whole}

@@ -1,5 +1,5 @@
 -- Worked texts of keys and marks.
-use Rattle.std.specs.Prelude.{◌≡◌, [], ◌∷◌, ◌++◌, refl, codes, Ok, Err, None, Some}
+use Rattle.std.specs.Prelude.{◌≡◌, [], ◌∷◌, refl, codes, Ok, Err, None, Some}
 use Rattle.std.specs.Fmt.{digits}
 use Rattle.lz_slot.specs.Numerals.{number_in}
 use Rattle.lz_slot.specs.Texts.{key_read, key_text}

@@ -7,7 +7,8 @@ use Rattle.std.specs.Ordering.{nat_cmp}
 use Rattle.std.proofs.lemmas.List.{map-append, length-map}
 use Rattle.lz_vault.specs.Stages.{Cell}
 use Rattle.lz_vault.specs.Vaults.{cell_at, cells_at}
-use Rattle.lz_vault.specs.Members.{Nodes, member_in, AreMembers}
+use Rattle.lz_slot.specs.Nodes.{Nodes}
+use Rattle.lz_vault.specs.Members.{member_in, AreMembers}
 use Rattle.lz_vault.specs.declared.vault.Entry.{Entry}
 use Rattle.lz_vault.specs.declared.vault.Stage.{Stage}
 use Rattle.lz_vault.specs.declared.vault.Stage.TheVariants.{Closed, Open}

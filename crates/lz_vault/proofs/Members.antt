@@ -10,7 +10,8 @@ use Rattle.std.proofs.lemmas.List.{get_or_append_left, get_or_push}
 use Rattle.std.proofs.lemmas.Bool.{cases_eq, cases_Bool, cases_lt}
 use Rattle.std.proofs.lemmas.Bool.Decides.{nat_tests, eqb_tells}
 use Rattle.lz_vault.specs.Stages.{Cell}
-use Rattle.lz_vault.specs.Members.{Nodes, no_cell, member_in, member_at, has_node, Ascends, AreDistinct, AreMembers}
+use Rattle.lz_slot.specs.Nodes.{Nodes, has_node}
+use Rattle.lz_vault.specs.Members.{no_cell, member_in, member_at, Ascends, AreDistinct, AreMembers}
 
 -- a node is one of the first, or of the others
 pub node_cases : (k s : ℕ) (f : ℕ × ℕ) (es : Nodes) → has_node k s (f ∷ es) ≡ true → ((f.0 ≡ k) × (f.1 ≡ s)) ⊎ (has_node k s es ≡ true)

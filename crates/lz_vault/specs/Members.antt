@@ -1,12 +1,10 @@
 -- The members that slots hold, by key.
 use Rattle.std.specs.Prelude.{◌≡◌, ℕ, ◌<◌, Bool, true, false, ◌&&◌, ◌||◌, ◌==◌, List, [], ◌∷◌, length, slice_index_or, Option, Some, None}
+use Rattle.lz_slot.specs.Nodes.{Nodes, has_node}
 use Rattle.lz_vault.specs.declared.vault.Stage.TheVariants.{Closed, Open}
 use Rattle.lz_vault.specs.Stages.{Cell}
 
--- keys with their slots
-abbrev pub Nodes : Type 0
-Nodes = List (ℕ × ℕ)
-
+-- the cell of a slot that no vault has
 abbrev pub no_cell : Cell
 no_cell = record { stage = Closed; key = 0 }
 
@@ -16,11 +14,6 @@ member_in cell = elim cell.stage [ Open ↦ Some cell.key | _ ↦ None ]
 
 abbrev pub member_at : List Cell → ℕ → Option ℕ
 member_at cells s = member_in (slice_index_or cells s no_cell)
-
--- a node of key k in slot s is among these
-abbrev pub has_node : ℕ → ℕ → Nodes → Bool
-has_node k s [] = false
-has_node k s (f ∷ found) = ((f.0 == k) && (f.1 == s)) || has_node k s found
 
 -- the keys ascend
 abbrev pub Ascends : Nodes → Type 0

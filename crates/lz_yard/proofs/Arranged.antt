@@ -9,10 +9,12 @@ use Rattle.lz_list.proofs.Chains.{before_on, on_start}
 use Rattle.lz_list.proofs.Openings.{opening_lawful}
 use Rattle.lz_list.proofs.Sorted.{same_pair}
 use Rattle.lz_list.proofs.Shown.{words_show_chain}
-use Rattle.lz_vault.specs.Members.{has_node, Ascends}
+use Rattle.lz_slot.specs.Nodes.{has_node}
+use Rattle.lz_vault.specs.Members.{Ascends}
 use Rattle.lz_machine.proofs.Open.FirstNodes.{off_chains, none_marked}
 use Rattle.lz_vault.proofs.Members.{node_cases, node_first, node_later}
-use Rattle.lz_yard.proofs.Members.{node_slot, slot_node}
+use Rattle.lz_list.proofs.ChainNodes.{node_slot}
+use Rattle.lz_yard.proofs.Members.{slot_node}
 use Rattle.lz_machine.proofs.Frames.Store.{table_same}
 
 -- the nodes of the first are nodes of the second

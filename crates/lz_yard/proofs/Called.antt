@@ -20,7 +20,8 @@ use Rattle.lz_machine.specs.declared.event.Event.TheVariants.{Sync, WriteKey}
 use Rattle.lz_machine.specs.declared.event.Outcome.TheVariants.{Dead, Done}
 use Rattle.lz_machine.specs.declared.course.Course.TheVariants.{Refused, Dies, Plays}
 use Rattle.lz_machine.specs.declared.actor.Actor.{Actor}
-use Rattle.lz_machine.specs.Yards.{Yard, actor_at, cell_at, no_cell}
+use Rattle.lz_vault.specs.Members.{no_cell}
+use Rattle.lz_machine.specs.Yards.{Yard, actor_at, cell_at}
 use Rattle.lz_machine.specs.Table.{course, call_of, cells_after, vault_after, with_vault, is_unused, is_sure, is_spent, slot_of}
 use Rattle.lz_machine.specs.Ready.{HasSlot, HasCurr}
 use Rattle.lz_yard.specs.Parts.{Does, Known}

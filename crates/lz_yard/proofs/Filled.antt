@@ -14,7 +14,9 @@ use Rattle.lz_list.specs.Traces.{Trace, Chain, Lawful, Shows, IsFound, insert, p
 use Rattle.lz_list.proofs.Openings.{opening_lawful}
 use Rattle.lz_list.proofs.Shown.{words_show_chain}
 use Rattle.lz_list.proofs.Tables.{table_at, table_set, length-table}
-use Rattle.lz_vault.specs.Members.{has_node, Ascends}
+use Rattle.lz_list.proofs.ChainNodes.{bucket_low}
+use Rattle.lz_slot.specs.Nodes.{has_node}
+use Rattle.lz_vault.specs.Members.{Ascends}
 use Rattle.lz_yard.specs.Filling.{with_first, with_members}
 use Rattle.lz_machine.proofs.Frames.Ranges.{head_range}
 use Rattle.lz_vault.proofs.Members.{node_first, node_later}
@@ -54,10 +56,6 @@ added = record { mark = false; add_settled = true; remove_settled = false }
 same_words : (h h' l l' q q' pins : List ℕ) (halt : ℕ) → h ≡ h' → l ≡ l' → q ≡ q'
     → ◌≡◌ {A = Words} (record { heads = h; links = l; keys = q; pins = pins; halt = halt }) (record { heads = h'; links = l'; keys = q'; pins = pins; halt = halt })
 same_words h h' l l' q q' pins halt a b c = cc (a, b, c)
-
-bucket_low : (B k : ℕ) → 1 ≤ B → bucket_of B k < B
-unfolding bucket_of
-bucket_low B k some = mod_below k B some
 
 -- one node more, whose key is below all others
 module _ (N B S : ℕ) (few : N ≤ most_slots) (some : 1 ≤ B) (es : Chain) (k s : ℕ) (found : IsFound N ((k, s) ∷ es)) (below : (j t : ℕ) → has_node j t es ≡ true → k < j) where

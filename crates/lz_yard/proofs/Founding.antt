@@ -22,7 +22,8 @@ use Rattle.lz_list.proofs.Traced.{sorted_after}
 use Rattle.lz_machine.specs.declared.actor.Actor.{Actor}
 use Rattle.lz_machine.specs.Yards.{Yard, idle_actor}
 use Rattle.lz_yard.specs.Parts.{Fits, HasInRange}
-use Rattle.lz_vault.specs.Members.{has_node, AreMembers}
+use Rattle.lz_slot.specs.Nodes.{has_node}
+use Rattle.lz_vault.specs.Members.{AreMembers}
 use Rattle.lz_yard.specs.Filling.{AreTables, with_members}
 use Rattle.lz_vault.proofs.Members.{node_first, node_later}
 use Rattle.lz_yard.proofs.Members.{are_found}

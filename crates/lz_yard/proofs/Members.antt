@@ -5,7 +5,8 @@ use Rattle.std.specs.Prelude.{Some}
 use Rattle.std.proofs.lemmas.Option.{same_Some}
 use Rattle.std.proofs.lemmas.Bool.Decides.{nat_tests, eqb_tells}
 use Rattle.lz_vault.specs.Stages.{Cell}
-use Rattle.lz_vault.specs.Members.{member_at, has_node, Ascends}
+use Rattle.lz_slot.specs.Nodes.{has_node}
+use Rattle.lz_vault.specs.Members.{member_at, Ascends}
 use Rattle.lz_vault.proofs.Members.{node_first, node_later}
 use Rattle.lz_list.specs.Traces.{Chain, has_key, has_slot, IsFound}
 
@@ -23,11 +24,6 @@ slot_node s (f ∷ es) has = elim (eqb_tells f.1 s) [
   | inl same ↦ (f.0, grind (arith, nat_tests, same.1))
   | inr other ↦ let rest = slot_node s es (grind (arith, nat_tests, other.0)) in (rest.0, node_later rest.0 s f es rest.1)
 ]
-
--- the slot of a chain's node is one of the chain's
-pub node_slot : (k s : ℕ) (es : Chain) → has_node k s es ≡ true → has_slot s es ≡ true
-node_slot k s [] there = absurd (false≢true there)
-node_slot k s (f ∷ es) there = grind (arith, nat_tests, node_slot k s es)
 
 -- what they are is what an open may find
 pub are_found : (cells : List Cell) (N : ℕ) (es : Chain) → Ascends es → ((k s : ℕ) → has_node k s es ≡ true → (s < N) × (member_at cells s ≡ Some k)) → IsFound N es

@@ -30,22 +30,20 @@ use Rattle.lz_list.specs.declared.word.Word.TheVariants.{Head, Link}
 use Rattle.lz_list.specs.Traces.{Chain, IsFound, has_key, has_slot, word_after, words_after, opening}
 use Rattle.lz_list.proofs.Tables.{length-table}
 use Rattle.lz_machine.specs.declared.actor.Actor.{Actor}
-use Rattle.lz_machine.specs.Yards.{Yard, Shape, no_cell, cell_read, use_read, slots_read, opened_yard}
-use Rattle.lz_vault.specs.Members.{member_in, member_at, has_node}
+use Rattle.lz_machine.specs.Yards.{Yard, Shape, cell_read, use_read, slots_read, opened_yard}
+use Rattle.lz_slot.specs.Nodes.{has_node}
+use Rattle.lz_vault.specs.Members.{member_in, member_at, no_cell}
 use Rattle.lz_yard.specs.Filling.{AreTables}
 use Rattle.lz_machine.specs.Runs.{IsStart, by_key, keys_found}
 use Rattle.lz_machine.proofs.Open.Texts.{text_of, text_size, text_head, text_format, text_says, text_bytes}
-use Rattle.lz_machine.proofs.Open.FirstNodes.{has_node as node_in, node_has_key, node_held, held_found, key_held}
+use Rattle.lz_list.proofs.ChainNodes.{node_has_key, node_slot}
+use Rattle.lz_machine.proofs.Open.FirstNodes.{node_held, held_found, key_held}
 use Rattle.lz_machine.proofs.Open.ListedKeys.{holds_listed}
-use Rattle.lz_yard.proofs.Members.{node_slot, slot_node, are_found}
+use Rattle.lz_yard.proofs.Members.{slot_node, are_found}
 use Rattle.lz_vault.proofs.Members.{node_cases, are_distinct}
 use Rattle.lz_yard.proofs.Arranged.{Within, same_words_after}
 use Rattle.lz_yard.proofs.Founding.{opened}
 use Rattle.lz_yard.proofs.FoundSlots.{read_length}
-
-same_node : (k s : ℕ) (c : Chain) → node_in k s c ≡ has_node k s c
-same_node k s [] = refl
-same_node k s (f ∷ c) = ap (λ (b : Bool). ((f.0 == k) && (f.1 == s)) || b) (same_node k s c)
 
 append_cases : (k s : ℕ) (c d : Chain) → has_node k s (c ++ d) ≡ true → (has_node k s c ≡ true) ⊎ (has_node k s d ≡ true)
 append_cases k s [] d there = inr there
@@ -130,7 +128,7 @@ module _ (t : List ℕ) where
     without : Within es (held t N)
     without k s there =
         let node = are.found.each k s there in
-        sym (same_node k s (held t N)) ∙ node_held t N k s node.0 (member_is s k node.0 node.1)
+        node_held t N k s node.0 (member_is s k node.0 node.1)
 
     found : IsFound N es
     found = are_found cells N es are.found.ascend are.found.each

@@ -13,8 +13,10 @@ use Rattle.lz_list.specs.Words.{Words, bit_of, link_with}
 use Rattle.lz_list.specs.Traces.{Trace, Chain, has_slot, on, place_before, bucket_of, chain_of, node_next, is_marked, has_added, has_removed, word_after, words_after, opening, IsFound}
 use Rattle.lz_list.proofs.Chains.{before_on}
 use Rattle.lz_list.proofs.Tables.{table_at, length-table}
+use Rattle.lz_list.proofs.ChainNodes.{has_slot_append, has_node_append, node_slot}
 use Rattle.lz_machine.specs.Yards.{Shape, first_trace}
-use Rattle.lz_machine.proofs.Open.FirstNodes.{has_node, off_chains, node_key, none_marked, held_found}
+use Rattle.lz_slot.specs.Nodes.{has_node}
+use Rattle.lz_machine.proofs.Open.FirstNodes.{off_chains, node_key, none_marked, held_found}
 use Rattle.lz_board.specs.Opened.{node_if, shown_in, opened_by, IsOpened}
 
 -- the members by slots, the lowest first
@@ -25,18 +27,6 @@ node_of None s = []
 abbrev pub members_by : (ℕ → Option ℕ) → ℕ → Chain
 members_by m zero = []
 members_by m (suc n) = members_by m n ++ node_of (m n) n
-
-has_slot_append : (s : ℕ) (c d : Chain) → has_slot s (c ++ d) ≡ (has_slot s c || has_slot s d)
-has_slot_append s [] d = refl
-has_slot_append s (f ∷ c) d = grind (arith, has_slot_append s c d)
-
-has_node_append : (k s : ℕ) (c d : Chain) → has_node k s (c ++ d) ≡ (has_node k s c || has_node k s d)
-has_node_append k s [] d = refl
-has_node_append k s (f ∷ c) d = grind (arith, has_node_append k s c d)
-
-node_slot : (k s : ℕ) (c : Chain) → has_node k s c ≡ true → has_slot s c ≡ true
-node_slot k s [] has = has
-node_slot k s (f ∷ c) has = grind (arith, nat_tests, node_slot k s c)
 
 module _ (m : ℕ → Option ℕ) where
   other_slot : (n s : ℕ) → n ≢ s → (o : Option ℕ) → has_slot s (members_by m n) ≡ false → (has_slot s (members_by m n) || has_slot s (node_of o n)) ≡ false

@@ -13,7 +13,8 @@ use Rattle.lz_board.specs.declared.view.Note.{Note}
 use Rattle.lz_board.specs.declared.view.Load.{Load}
 use Rattle.lz_board.specs.declared.view.Part.{Part}
 use Rattle.lz_board.specs.Notes.{listed, trace_of, own, is_for, Extends, Since, load_note, insert, splice, AllShown, pin_after, pin_after_what}
-use Rattle.lz_board.specs.Kept.{IsInside, shows, FoundSince, Knows}
+use Rattle.lz_machine.specs.Yards.{IsInside}
+use Rattle.lz_board.specs.Kept.{shows, FoundSince, Knows}
 use Rattle.lz_board.specs.Noting.{HasLeft, AllLeft, MayPrepare}
 use Rattle.lz_board.proofs.Upkeep.Splice.{at_place, trace_insert, pin_insert}
 

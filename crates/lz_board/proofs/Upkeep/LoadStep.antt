@@ -16,7 +16,8 @@ use Rattle.lz_board.specs.declared.view.Part.{Part}
 use Rattle.lz_board.specs.declared.view.View.{View}
 use Rattle.lz_board.specs.Notes.{trace_of, steps_of, IsShared, pin_after}
 use Rattle.lz_board.specs.Addresses.{index, word_at}
-use Rattle.lz_board.specs.Kept.{is_calling, IsInside, Knows, PartFits, IsPart, Fits, PinTold, Keeps}
+use Rattle.lz_machine.specs.Yards.{IsInside}
+use Rattle.lz_board.specs.Kept.{is_calling, Knows, PartFits, IsPart, Fits, PinTold, Keeps}
 use Rattle.lz_board.specs.Plays as plays
 use Rattle.lz_board.specs.Plays.{pen_view, with_parts, knowing, loading, found_note, found_view, IsShownTo}
 use Rattle.lz_board.proofs.Upkeep.Address.{shared_boards, decode}

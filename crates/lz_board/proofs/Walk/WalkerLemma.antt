@@ -22,7 +22,8 @@ use Rattle.lz_list.proofs.Absent.{begins_itself}
 use Rattle.lz_list.proofs.Hindsight.{once_from, lawful_begins, hindsight, next_stood, key_since}
 use Rattle.lz_list.proofs.Shown.{words_show_chain}
 use Rattle.lz_list.proofs.Finding.{next_rank}
-use Rattle.lz_list.proofs.Packed.{next_of_link, mark_of_link, added_of_link, removed_of_link}
+use Rattle.lz_list.proofs.Packed.{next_of_link, mark_of_link, added_of_link, removed_of_link, small_next}
+use Rattle.lz_list.proofs.ChainNodes.{bucket_low}
 use Rattle.lz_machine.specs.Stands.{WasBetween}
 use Rattle.lz_machine.specs.CallersSound.{IsLooking}
 use Rattle.lz_machine.proofs.Frames.Ranges.{stood_range, head_range}
@@ -31,7 +32,7 @@ use Rattle.lz_machine.proofs.Frames.Publishing.{rank_stays, pred_stood, looking_
 use Rattle.lz_board.specs.declared.view.Sizes.{Sizes}
 use Rattle.lz_board.specs.declared.view.Part.{Part}
 use Rattle.lz_board.specs.Notes.{own, Extends, is_for, Since, IsShared}
-use Rattle.lz_board.specs.Kept.{IsInside}
+use Rattle.lz_machine.specs.Yards.{IsInside}
 use Rattle.lz_board.specs.Plays.{knowing, IsShownTo}
 use Rattle.lz_board.specs.Addresses.{IsWalkable}
 use Rattle.lz_board.specs.Walkers.{Ended, IsOnWalk, Walked, keys_left, hops_left, IsNearer, AtWalk, IsHop}
@@ -41,10 +42,6 @@ use Rattle.lz_board.proofs.Upkeep.Growth.{begins_of}
 abbrev pub GoneOn : ℕ → ℕ → Trace → Trace → Hopped → Type 0
 GoneOn buckets k P0 P (More look) = IsLooking buckets k P0 P look
 GoneOn buckets k P0 P (End pred curr met) = Ended buckets k P0 P pred curr met
-
-pub in_bucket : (buckets k : ℕ) → 1 ≤ buckets → bucket_of buckets k < buckets
-unfolding bucket_of
-in_bucket buckets k some = omega (arith, some)
 
 -- What a walker knows, and how far it is from its key, stays as the trace goes on.
 module _ (buckets slots : ℕ) (P0 : Trace) (k : ℕ) where
@@ -65,9 +62,6 @@ module _ (buckets slots : ℕ) (P0 : Trace) (k : ℕ) where
   pub left_on : (more P : Trace) → Lawful buckets slots (more ++ P) → IsQuiet buckets P0 (more ++ P) → (look : Look) → IsLooking buckets k P0 P look → hops_left k (more ++ P) look ≡ hops_left k P look
   left_on [] P law quiet look h = refl
   left_on (e ∷ more) P law quiet look h = left_stays e (more ++ P) law quiet look (looking_on more P law.1 quiet.1 look h) ∙ left_on more P law.1 quiet.1 look h
-
-small_next : (x : ℕ) → x < 2 ^ 32 → next_of x ≡ x
-small_next x lt = omega arith
 
 -- One load of a walk, at the trace P.
 module _ (z : Sizes) (walkable : IsWalkable z) (P0 P : Trace) (law : Lawful z.buckets z.slots P) (quiet : IsQuiet z.buckets P0 P) (begins : Begins P0 P) (k : ℕ) where
@@ -93,7 +87,7 @@ module _ (z : Sizes) (walkable : IsWalkable z) (P0 P : Trace) (law : Lawful z.bu
 
   -- the words that a walk wants are the table's
   pub wants_shared : (look : Look) → IsLooking buckets k P0 P look → IsShared z (wants buckets k look)
-  wants_shared AtHead h = in_bucket buckets k walkable.some
+  wants_shared AtHead h = bucket_low buckets k walkable.some
   wants_shared (AtKey pred s) h = stood_range buckets slots P0 P b s law (there_since pred s h)
   wants_shared (AtMet pred s) h = stood_range buckets slots P0 P b s law (there_since pred s h.0)
   wants_shared (AtBelow s) h = stood_range buckets slots P0 P b s law h.stood
@@ -195,7 +189,7 @@ module _ (z : Sizes) (walkable : IsWalkable z) (P0 P : Trace) (law : Lawful z.bu
 
 -- the first look of a walk
 pub first_look : (z : Sizes) → IsWalkable z → (k : ℕ) (P0 P : Trace) → IsOnWalk z k P0 P AtHead
-first_look z walkable k P0 P = record { looking = tt; shared = in_bucket z.buckets k walkable.some }
+first_look z walkable k P0 P = record { looking = tt; shared = bucket_low z.buckets k walkable.some }
 
 own_append : (p : ℕ) (a b : Trace) → own p a ≡ [] → own p b ≡ [] → own p (a ++ b) ≡ []
 own_append p [] b none rest = rest

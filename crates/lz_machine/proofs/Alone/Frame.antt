@@ -19,7 +19,8 @@ use Rattle.lz_machine.specs.declared.actor.Hold.TheVariants.{Nothing, Locks}
 use Rattle.lz_machine.specs.declared.event.Event.{Event}
 use Rattle.lz_machine.specs.declared.event.Event.TheVariants.{Invoke, Pin, Hop, Reserve, WriteKey, Claim, Check, WriteOpen, Link, WriteClose, Mark, Release, Sync, Settle, Unlink, Retire, SeePin, Answer, Halt}
 use Rattle.lz_machine.specs.declared.event.Outcome.TheVariants.{NotNow, Dead}
-use Rattle.lz_machine.specs.Yards.{Yard, idle_actor, actor_at, cell_at, no_cell, cell_in, stage_in}
+use Rattle.lz_vault.specs.Members.{no_cell}
+use Rattle.lz_machine.specs.Yards.{Yard, idle_actor, actor_at, cell_at, cell_in, stage_in}
 use Rattle.lz_machine.specs.Table.{course, course_alive, line, line_on, needs, pin_of, is_played_dead, actors_after, words_after, cells_after, uses_after, reserved, is_sure, set_actor}
 use Rattle.lz_allot.specs.Uses.{Use, Taken, collect, lowest_free}
 use Rattle.lz_machine.proofs.Alone.Sights.{HasLeft, left_set, left_collect, left_seen}

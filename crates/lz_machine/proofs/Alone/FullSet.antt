@@ -1,6 +1,6 @@
 -- In a set of one pass an adding that finds no slot, once it has seen all pins, finds as many members as there are slots.
 use Rattle.std.proofs.Common.{◌≡◌, inl, inr, ℕ, zero, suc, ◌<◌, ◌≤◌, not, Bool, true, false, List, [], ◌∷◌, ◌++◌, length, Option, Some, None, refl, sym, ap, ◌∙◌, subst, arith}
-use Rattle.std.specs.Prelude.{◌||◌, ◌==◌, nat_eq}
+use Rattle.std.specs.Prelude.{nat_eq}
 use Rattle.std.specs.List.{list_any, IsDistinct}
 use Rattle.std.specs.Cmp.{nat_eq_equiv}
 use mathlib.Core.Bool.{false≢true}
@@ -8,10 +8,9 @@ use Rattle.std.proofs.lemmas.Map.Keys.{IsDistinct-push}
 use Rattle.std.proofs.lemmas.Bool.{cases_Bool, cases_eq, or_left, or_right}
 use Rattle.std.proofs.lemmas.Bool.Decides.{nat_tests}
 use Rattle.std.proofs.lemmas.List.{length-append}
-use Rattle.std.proofs.lemmas.Option.{none-some}
 use Rattle.lz_slot.specs.declared.command.Command.{Command}
 use Rattle.lz_slot.specs.declared.command.Command.TheVariants.{Add, Remove, Has}
-use Rattle.lz_slot.specs.Sets.{members}
+use Rattle.lz_slot.specs.Sets.{members, HasMembers}
 use Rattle.lz_slot.specs.Histories.{History, Life, lives}
 use Rattle.lz_disk.specs.Images.{Medium}
 use Rattle.lz_allot.specs.Uses.{collect, lowest_free}
@@ -21,8 +20,8 @@ use Rattle.lz_machine.specs.declared.actor.Hold.TheVariants.{Nothing}
 use Rattle.lz_machine.specs.declared.caller.Progress.{Progress}
 use Rattle.lz_machine.specs.declared.caller.Progress.TheVariants.{Reserving}
 use Rattle.lz_machine.specs.Yards.{Yard, actor_in}
-use Rattle.lz_machine.specs.Alone.{IsOwn, IsAlone, HasMembers, FullOfOnePass}
-use Rattle.lz_machine.specs.Runs.{Start, IsStart, Caller, Service, State, Up, Down, Transition, Calls, Turn, Fails, Looks, Trips, Stops, Crashes, CrashesIn, Opens, OpenFails, Point, MayStep, HasTurn, HasFault, LeftInside, IsRun, run, first_point, caller_at, start_keys, shape_of}
+use Rattle.lz_machine.specs.Alone.{IsOwn, IsAlone, FullOfOnePass}
+use Rattle.lz_machine.specs.Runs.{Start, IsStart, Caller, Service, State, Up, Down, Transition, Calls, Turn, Fails, Looks, Trips, Stops, Crashes, CrashesIn, Opens, OpenFails, MayStep, HasTurn, HasFault, LeftInside, IsRun, run, first_point, caller_at, start_keys, shape_of}
 use Rattle.lz_machine.specs.Notes.{Notes}
 use Rattle.lz_machine.specs.CallersSound.{IsAdder, view_of, Relies}
 use Rattle.lz_machine.specs.Sound.{Sound, PointSound}
@@ -34,7 +33,8 @@ use Rattle.lz_machine.proofs.Theorem.WornPass.{up_at}
 use Rattle.lz_machine.proofs.Runs.Shape.{run_keeps_shape}
 use Rattle.lz_machine.proofs.Alone.Full.{AloneFull, LeftBelow, WalkStands, all_nodes}
 use Rattle.lz_machine.proofs.Alone.Room.{FullAt, reached_full}
-use Rattle.lz_machine.proofs.Alone.Size.{members_append, members_among, none_distinct}
+use Rattle.lz_slot.proofs.Sets.{members_among}
+use Rattle.lz_machine.proofs.Alone.Size.{members_append, none_distinct}
 
 -- an actor of a service of one pass is the first
 module _ (service : Service) (count : length service.callers ≡ 1) (b : ℕ) where

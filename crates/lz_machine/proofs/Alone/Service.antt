@@ -11,7 +11,9 @@ use Rattle.lz_slot.specs.declared.history.Mark.{Mark}
 use Rattle.lz_slot.specs.declared.history.Mark.TheVariants.{Call, Answer, Refused, Cut as CutOff, Stop, Crash, Opened, OpenFailed}
 use Rattle.lz_slot.specs.Sets.{Keys, Same, key_of, after, reply}
 use Rattle.lz_slot.specs.Histories.{History, IsCalled, IsAnswered, IsRefused, IsBefore, IsListed, count_of, IsEarlier, Runs, Fits}
+use Rattle.lz_slot.proofs.Listings.{listed_left}
 use Rattle.lz_machine.specs.Alone.{has_cut, IsPlain}
+use Rattle.lz_machine.proofs.Ledger.CallMark.{number_of, is_call}
 
 -- the mark ends call j
 abbrev pub IsEnd : Mark → ℕ → Type 0
@@ -26,17 +28,9 @@ Ended n [] = Unit {0}
 Ended n (e ∷ Call j a c ∷ M) = IsEnd e j × (j < n) × Ended j M
 Ended n _ = ⊥
 
-abbrev number_of : Mark → ℕ
-number_of (Call i a c) = i
-number_of _ = 0
-
 abbrev command_of : Mark → Command
 command_of (Call i a c) = c
 command_of _ = Has 0
-
-abbrev is_call : Mark → Bool
-is_call (Call i a c) = true
-is_call _ = false
 
 end_no_call : (e : Mark) (j i a : ℕ) (c : Command) → IsEnd e j → e ≡ Call i a c → ⊥
 end_no_call (Answer k answer) j i a c ends e = absurd (false≢true (ap is_call e))
@@ -117,11 +111,6 @@ earlier_listed : (j i : ℕ) (L : List ℕ) → IsEarlier j i L → IsListed i L
 earlier_listed j i [] at = absurd at
 earlier_listed j i (l ∷ L) (inl (is, at)) = inr at
 earlier_listed j i (l ∷ L) (inr at) = inr (earlier_listed j i L at)
-
-listed_left : (j : ℕ) (L R : List ℕ) → IsListed j L → IsListed j (L ++ R)
-listed_left j [] R at = absurd at
-listed_left j (l ∷ L) R (inl is) = inl is
-listed_left j (l ∷ L) R (inr at) = inr (listed_left j L R at)
 
 listed_before : (j i : ℕ) (L : List ℕ) → j ≢ i → IsListed j (L ++ i ∷ []) → IsListed j L
 listed_before j i [] other (inl is) = absurd (other (sym is))

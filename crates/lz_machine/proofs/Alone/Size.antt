@@ -14,13 +14,13 @@ use Rattle.lz_slot.specs.declared.history.Refusal.TheVariants.{Full, Worn, OldFi
 use Rattle.lz_slot.specs.declared.history.Mark.TheVariants.{Call, Answer, Refused, Cut, Stop, Crash, Opened, OpenFailed}
 use Rattle.lz_slot.specs.declared.slot.SlotRead.{SlotRead}
 use Rattle.lz_slot.specs.declared.slot.SlotRead.TheVariants.{Closed as Shut, Member, BadKey}
-use Rattle.lz_slot.specs.Sets.{Keys, Same, members}
+use Rattle.lz_slot.specs.Sets.{Keys, Same, members, HasMembers}
 use Rattle.lz_slot.specs.Bytes.{Holds, slot_at}
 use Rattle.lz_slot.specs.Histories.{History}
-use Rattle.lz_machine.specs.Alone.{has_cut, IsPlain, HasMembers, HasRoom, IsFull}
+use Rattle.lz_slot.proofs.Sets.{members_among, after_same}
+use Rattle.lz_machine.specs.Alone.{has_cut, IsPlain, HasRoom, IsFull}
 use Rattle.lz_machine.proofs.Crash.ImageSlots.{found, found_in, in_found, reads_key}
 use Rattle.lz_machine.proofs.Alone.Service.{Ended}
-use Rattle.lz_machine.proofs.Ledger.Answers.{after_same}
 
 -- the keys that the first n slots hold, but k
 abbrev key_but : ℕ → SlotRead → List ℕ
@@ -85,10 +85,6 @@ keys_members k t zero q = grind (arith, nat_tests)
 keys_members k t (suc n) q =
     members_append (keys_but k t n) (key_but k (slot_at t n)) q ∙ ap (λ (b : Bool). b || members (key_but k (slot_at t n)) q) (keys_members k t n q)
     ∙ ap (λ (b : Bool). (not (k == q) && found t n q) || b) (key_members k q (slot_at t n)) ∙ distribute (not (k == q)) (found t n q) (reads_key q (slot_at t n))
-
-pub members_among : (ks : List ℕ) (q : ℕ) → members ks q ≡ list_any (nat_eq q) ks
-members_among [] q = refl
-members_among (k ∷ ks) q = let rest = members_among ks q in grind (arith, nat_tests)
 
 and_right : (x y : Bool) → (x && y) ≡ true → y ≡ true
 and_right true y is = is

@@ -6,7 +6,7 @@ use Rattle.lz_slot.specs.declared.command.Command.TheVariants.{Has}
 use Rattle.lz_list.specs.declared.walk.Look.{Look}
 use Rattle.lz_list.specs.declared.walk.Met.TheVariants.{Absent, Unmarked, Marked}
 use Rattle.lz_list.specs.declared.publishing.Publishing.{Publishing}
-use Rattle.lz_list.specs.declared.publishing.Publishing.TheVariants.{Linked as linked, Settled as settled, Marked as marked, Unlinked as unlinked, KeyPrepared as key_prepared, LinkPrepared as link_prepared, Halted as halted}
+use Rattle.lz_list.specs.declared.publishing.Publishing.TheVariants.{KeyPrepared as key_prepared, LinkPrepared as link_prepared}
 use Rattle.lz_list.specs.Words.{Words, get}
 use Rattle.lz_list.specs.Walks.{Hopped, More, End, wants, hopped}
 use Rattle.lz_list.specs.Traces.{Trace, Begins, on, chain, chain_of, bucket_of, key_word, is_marked, member}
@@ -26,25 +26,13 @@ use Rattle.lz_machine.specs.CallersSound.{View, IsLooking, HasMet, RestsNo}
 use Rattle.lz_machine.specs.Sound.{TraceSound}
 use Rattle.lz_machine.proofs.Steps.Walk.{GoesOn, once_some, hop_after}
 use Rattle.lz_machine.proofs.Frames.Limbo.{shorter}
+use Rattle.lz_machine.proofs.Steps.Pin.{quiet_new}
 
 -- two traces that begin each other are one
 begins_same : (P R : Trace) → Begins P R → Begins R P → R ≡ P
 begins_same [] R one other = other
 begins_same (e ∷ P) R one (inl is) = is
 begins_same (e ∷ P) R one (inr before) = absurd (omega (arith, shorter (e ∷ P) R one, shorter R P before))
-
--- nothing was prepared since now
-no_past : (P0 P : Trace) (A : Trace → Type 0) → length P < length P0 → Once P0 P A → ⊥
-no_past P0 P A lt once = let r = once_some P0 P A once in omega (arith, lt, shorter P0 r.0 r.1, shorter r.0 P r.2)
-
-not_prepared : (buckets : ℕ) (P0 : Trace) (e : Publishing) (P : Trace) → length P < length P0 → IsKept buckets P0 e P
-not_prepared buckets P0 (key_prepared s v) P lt = λ b stood. no_past P0 P (λ R. on 0 (chain buckets b R) (suc s) ≡ true) lt stood
-not_prepared buckets P0 (link_prepared s v) P lt = λ b stood. no_past P0 P (λ R. on 0 (chain buckets b R) (suc s) ≡ true) lt stood
-not_prepared buckets _ _ _ lt = tt
-
-quiet_before : (buckets : ℕ) (P0 P : Trace) → length P ≤ length P0 → IsQuiet buckets P0 P
-quiet_before buckets P0 [] le = tt
-quiet_before buckets P0 (e ∷ P) le = (not_prepared buckets P0 e P (omega (arith, le)), quiet_before buckets P0 P (omega (arith, le)))
 
 -- what such a walk finds
 module _ (shape : Shape) (words : Words) (P : Trace) (trace : TraceSound shape words P) (few : shape.slots ≤ most_slots) where
@@ -84,4 +72,4 @@ module _ (shape : Shape) (words : Words) (P : Trace) (trace : TraceSound shape w
 
     pub walk_finds : (k : ℕ) (look : Look) → IsLooking shape.buckets k P P look → Finds k (hopped shape.buckets k look (get words (wants shape.buckets k look)))
     walk_finds k look looking = finds k (hopped shape.buckets k look (get words (wants shape.buckets k look)))
-        (hop_after shape words P trace few P (quiet_before shape.buckets P P (omega arith)) (begins_itself P) passes format cells dead actor None (Has k) None look (record { hold = idle; none = refl }) no_slot tt looking)
+        (hop_after shape words P trace few P (quiet_new shape.buckets P P (omega arith)) (begins_itself P) passes format cells dead actor None (Has k) None look (record { hold = idle; none = refl }) no_slot tt looking)

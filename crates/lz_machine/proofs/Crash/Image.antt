@@ -14,7 +14,7 @@ use Rattle.lz_slot.specs.Histories.{History, Life, Fits, Runs, IsUnderWay}
 use Rattle.lz_disk.specs.Images.{Medium, IsImage}
 use Rattle.lz_vault.proofs.Reading.{image_format}
 use Rattle.lz_vault.specs.declared.vault.Stage.{Stage}
-use Rattle.lz_vault.specs.declared.vault.Stage.TheVariants.{Closed, KeyLoose, Keyed, Opening, Open, Closing}
+use Rattle.lz_vault.specs.declared.vault.Stage.TheVariants.{Opening}
 use Rattle.lz_list.specs.Traces.{Trace, on, chain_of, key_word, member, linking, is_settled, is_removed, is_marked, SettledYes, SettledNo, IsNode}
 use Rattle.lz_list.specs.declared.publishing.Publishing.TheVariants.{Linked as linked, Marked as marked}
 use Rattle.lz_list.proofs.Nodes.{node}
@@ -32,7 +32,7 @@ use Rattle.lz_machine.proofs.Ledger.KeptRows.{kept_ledger, kept_fits}
 use Rattle.lz_machine.proofs.Crash.ImageSlots.{found, found_in, in_found, not_both, shut_read, one_or_other, IsOpened, IsNodeOf, node_stands, member_node, opened_or_node, reads, read_once}
 use Rattle.lz_machine.proofs.Crash.Tail.{is_opening, asks, asks_adding, asks_removal, asks_waits}
 use Rattle.lz_machine.proofs.Crash.TailRows.{names, names_of, HasRows, rows_to, rows_lead, rows_ledger}
-use Rattle.lz_machine.proofs.Ledger.Answers.{after_same}
+use Rattle.lz_slot.proofs.Sets.{after_same}
 
 -- a key that was never linked is no member
 never_linked : (k : ℕ) (P : Trace) → linking k P ≡ 0 → member k P ≡ false

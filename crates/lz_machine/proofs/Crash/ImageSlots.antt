@@ -23,9 +23,11 @@ use Rattle.lz_list.proofs.Chains.{has_on, on_start}
 use Rattle.lz_list.proofs.Shown.{words_show_chain}
 use Rattle.lz_list.proofs.Absent.{unlinked_is_settled}
 use Rattle.lz_list.proofs.Nodes.{one_node}
+use Rattle.lz_list.proofs.Traced.{node_of_key}
 use Rattle.lz_machine.specs.declared.actor.Hold.{Hold}
 use Rattle.lz_machine.specs.declared.actor.Hold.TheVariants.{Nothing, Locks, Checked, GateOpened, Linked, GateClosed, Marked, Unlinked, Released}
-use Rattle.lz_machine.specs.Yards.{Yard, no_cell, actor_in, cell_in, stage_in}
+use Rattle.lz_vault.specs.Members.{no_cell}
+use Rattle.lz_machine.specs.Yards.{Yard, actor_in, cell_in, stage_in}
 use Rattle.lz_machine.specs.Runs.{Caller}
 use Rattle.lz_machine.specs.Notes.{Notes}
 use Rattle.lz_machine.specs.SlotsSound.{opens, IsGateClosed, IsGateOpened, IsOnChain, IsNodeStage, SlotStands, is_node, is_held, is_out, is_free, is_limbo}
@@ -102,16 +104,6 @@ one_or_other Open k r may = inr may
 one_or_other Closing k r may = may
 one_or_other _ k r may = inl may
 
--- a key that is on a chain has a node there
-has_node : (next keys : ℕ → ℕ) (k x : ℕ) (c : Chain) → Shows next keys x c → has_key k c ≡ true → (s : ℕ) × (on x c (suc s) ≡ true) × (keys s ≡ k)
-has_node next keys k x [] h is = absurd (false≢true is)
-has_node next keys k x (n ∷ c) h is = elim (cases_eq n.0 k) [
-  | inl same ↦ (n.1, grind (arith, nat_tests, on_start (suc n.1) c), h.1 ∙ same)
-  | inr other ↦
-      let rest = has_node next keys k (suc n.1) c h.3 (grind (arith, nat_tests, is)) in
-      (rest.0, grind (arith, nat_tests, rest.1), rest.2)
-]
-
 -- An actor has opened the gate of the slot, and rests on the place of its key.
 pub record IsOpened (y : Yard) (P : Trace) (s k : ℕ) : Type 0 where
   pub actor : ℕ
@@ -180,7 +172,7 @@ module _ (n calls : ℕ) (y : Yard) (callers : List (Option Caller)) (disk : Med
   pub member_node : (k : ℕ) → member k P ≡ true → (s : ℕ) × (s < y.shape.slots) × IsNodeOf y P s k
   member_node k is = elim (cases_Bool (has_key k (chain_of y.shape.buckets k P))) [
     | inl has ↦
-        let at = has_node (next_link y.shape.buckets (bucket_of y.shape.buckets k) P) (λ q. key_word q P) k 0 (chain_of y.shape.buckets k P) (shown k) has in
+        let at = node_of_key (next_link y.shape.buckets (bucket_of y.shape.buckets k) P) (λ q. key_word q P) k 0 (chain_of y.shape.buckets k P) (shown k) has in
         (at.0, on_range y.shape.buckets y.shape.slots P (bucket_of y.shape.buckets k) at.0 sound.trace.lawful at.1, (at.1, at.2))
     | inr none ↦ absurd (false≢true (sym (unlinked_is_settled y.shape.buckets k y.shape.slots P sound.trace.lawful none).0 ∙ is))
   ]

@@ -1,5 +1,5 @@
 -- An actor that has opened its slot's gate stands beside its key's place.
-use Rattle.std.proofs.Common.{◌≡◌, ◌≢◌, inl, inr, ℕ, Bool, true, Some, refl, sym, ◌∙◌, subst}
+use Rattle.std.proofs.Common.{◌≡◌, inl, inr, ℕ, Bool, true, Some, refl, sym, ◌∙◌, subst}
 use mathlib.Core.Bool.{false≢true}
 use Rattle.std.proofs.lemmas.Option.{same_Some}
 use Rattle.lz_vault.specs.declared.vault.Stage.{Stage}
@@ -11,7 +11,6 @@ use Rattle.lz_machine.specs.declared.actor.Hold.TheVariants.{Checked, GateOpened
 use Rattle.lz_machine.specs.SlotsSound.{opens, IsGateClosed, IsGateOpened, IsGateWritten}
 use Rattle.lz_machine.specs.LocksSound.{IsBeside, RestsOn}
 use Rattle.lz_machine.proofs.Frames.HeldLocks.{rests_on_pair}
-use Rattle.lz_machine.proofs.Frames.OtherLink as links
 
 -- a gate that is surely closed is neither opened nor written open
 pub opened_shut : (stage : Stage) → IsGateOpened stage → IsGateClosed stage → ⊥

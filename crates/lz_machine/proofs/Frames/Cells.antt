@@ -2,17 +2,16 @@
 use Rattle.std.proofs.Common.{◌≡◌, ℕ, zero, suc, Bool, true, List, Option, Some, None, ◌∙◌}
 use Rattle.lz_slot.specs.declared.format.Format.{Format}
 use Rattle.lz_slot.specs.declared.command.Command.{Command}
-use Rattle.lz_slot.specs.declared.command.Command.TheVariants.{Add, Remove, Has}
+use Rattle.lz_slot.specs.declared.command.Command.TheVariants.{Add, Remove}
 use Rattle.lz_slot.specs.Sets.{key_of}
 use Rattle.lz_vault.specs.declared.vault.Stage.TheVariants.{Keyed}
 use Rattle.lz_vault.specs.Stages.{Cell}
 use Rattle.lz_list.specs.Traces.{Trace}
-use Rattle.lz_machine.specs.declared.event.Reply.TheVariants.{Yes, No, Full, Worn as SaysWorn, OldFile as SaysOldFile, Halted, Device}
 use Rattle.lz_machine.specs.declared.actor.Actor.{Actor}
 use Rattle.lz_machine.specs.declared.caller.Sequence.{Sequence}
 use Rattle.lz_machine.specs.declared.caller.Sequence.TheVariants.{Pinning, Resting, Writing, Adding, Removing, Releasing, Halting}
 use Rattle.lz_machine.specs.declared.caller.Progress.{Progress}
-use Rattle.lz_machine.specs.declared.caller.Progress.TheVariants.{Playing, LoadsHalt, Walking, Reserving, SeeingPins, Claiming, Checking, Answering}
+use Rattle.lz_machine.specs.declared.caller.Progress.TheVariants.{Playing, Walking, Reserving, SeeingPins, Claiming, Checking}
 use Rattle.lz_machine.specs.Runs.{Caller}
 use Rattle.lz_machine.specs.CallersSound.{View, IsWritten, IsAimed, IsKeyed, ReliesWriting, ReliesAdding, ReliesRemoving, ReliesOn, Relies, IsCaller, CallerSound}
 use Rattle.lz_machine.specs.Yards.{cell_in}

@@ -11,7 +11,8 @@ use Rattle.lz_vault.specs.Vaults.{Vaulted}
 use Rattle.lz_vault.proofs.Calls.{written_keeps, failed_keeps}
 use Rattle.lz_vault.proofs.Changes.{set_cases}
 use Rattle.lz_vault.proofs.Gates.{HasBody, body_stays, gate_reads}
-use Rattle.lz_machine.specs.Yards.{Shape, no_cell, cell_in, stage_in}
+use Rattle.lz_vault.specs.Members.{no_cell}
+use Rattle.lz_machine.specs.Yards.{Shape, cell_in, stage_in}
 use Rattle.lz_machine.specs.Sound.{DiskSound}
 
 one_byte : (gate : ℕ) → gate < 256 → AreBytes (gate ∷ [])

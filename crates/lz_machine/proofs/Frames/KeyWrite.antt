@@ -22,13 +22,13 @@ use Rattle.lz_list.proofs.Hindsight.{stands}
 use Rattle.lz_machine.specs.declared.actor.Actor.{Actor}
 use Rattle.lz_machine.specs.declared.actor.Hold.{Hold}
 use Rattle.lz_machine.specs.declared.actor.Hold.TheVariants.{Checked, GateOpened, GateClosed, Marked}
-use Rattle.lz_machine.specs.Yards.{Shape, no_cell, cell_in, stage_in}
+use Rattle.lz_vault.specs.Members.{no_cell}
+use Rattle.lz_machine.specs.Yards.{Shape, cell_in, stage_in}
 use Rattle.lz_machine.specs.Stands.{Faces}
 use Rattle.lz_machine.specs.SlotsSound.{IsGateClosed}
 use Rattle.lz_machine.specs.LocksSound.{IsBefore, RestsOn}
 use Rattle.lz_machine.specs.Sound.{DiskSound}
 use Rattle.lz_machine.proofs.Frames.HeldLocks.{LeavesPair, pair_stays}
-use Rattle.lz_machine.proofs.Steps.Hop.{own}
 use Rattle.lz_machine.proofs.Open.Texts.{key_small}
 
 -- a key may be put where the gate is surely closed

@@ -28,7 +28,8 @@ use Rattle.lz_machine.specs.declared.actor.Hold.TheVariants.{Checked}
 use Rattle.lz_machine.specs.declared.caller.Sequence.TheVariants.{Adding}
 use Rattle.lz_machine.specs.declared.caller.Progress.{Progress}
 use Rattle.lz_machine.specs.declared.caller.Progress.TheVariants.{Playing}
-use Rattle.lz_machine.specs.Yards.{Yard, no_cell, actor_in, pin_in, cell_in, stage_in}
+use Rattle.lz_vault.specs.Members.{no_cell}
+use Rattle.lz_machine.specs.Yards.{Yard, actor_in, pin_in, cell_in, stage_in}
 use Rattle.lz_machine.specs.Table.{with_vault}
 use Rattle.lz_machine.specs.Calls.{halts}
 use Rattle.lz_machine.specs.Runs.{Caller, caller_at}

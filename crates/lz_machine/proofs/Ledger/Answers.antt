@@ -4,12 +4,8 @@ use Rattle.std.proofs.lemmas.Bool.{cases_Bool, cases_eq}
 use Rattle.std.proofs.lemmas.Bool.Decides.{nat_tests}
 use Rattle.lz_slot.specs.declared.command.Command.{Command}
 use Rattle.lz_slot.specs.Sets.{key_of, Keys, after, reply, moved, Same}
-use Rattle.lz_slot.proofs.Sets.{after_at, moved_other}
+use Rattle.lz_slot.proofs.Sets.{after_at, moved_other, after_same}
 use Rattle.lz_machine.specs.Ledgers.{Row, quiet_at, change_at, listed, Gives, ends, Each, IsRight, Moves, Leads}
-
--- a call leads to the same keys from the same keys
-pub after_same : (c : Command) (S T : Keys) → Same S T → Same (after c S) (after c T)
-after_same c S T same k = after_at c S k ∙ ap (moved k c) (same k) ∙ sym (after_at c T k)
 
 gives_same : (L : List Row) (S T : Keys) → Same S T → Gives T L → Gives S L
 gives_same [] S T same gives = tt

@@ -12,7 +12,7 @@ use Rattle.lz_slot.specs.declared.history.Refusal.{Refusal}
 use Rattle.lz_slot.specs.Histories.{History, IsCalled, IsAnswered, IsBefore, IsUnderWay}
 use Rattle.lz_list.specs.Traces.{Trace}
 use Rattle.lz_list.specs.declared.publishing.Publishing.{Publishing}
-use Rattle.lz_list.specs.declared.publishing.Publishing.TheVariants.{Linked as linked, Marked as marked, Settled as settled}
+use Rattle.lz_list.specs.declared.publishing.Publishing.TheVariants.{Linked as linked, Marked as marked}
 use Rattle.lz_machine.specs.Runs.{Caller, caller_at}
 use Rattle.lz_machine.specs.Ledgers.{Row, HasRow, Stands, Each, change_at, times}
 use Rattle.lz_machine.specs.Kept.{publishing, IsRowOf}
@@ -24,7 +24,7 @@ use Rattle.lz_machine.specs.Sound.{IsAfter}
 use Rattle.lz_machine.proofs.Ledger.Fit.{each_has, each_all, has_append, was_answered}
 use Rattle.lz_machine.proofs.Ledger.Order.{has_left, has_right, times_append}
 use Rattle.lz_machine.proofs.Ledger.Change.{pending_open, no_entry}
-use Rattle.lz_machine.proofs.Ledger.Parts.{IsParted, change_append, ending, ends_now, gone, is_nil, last_new, length_app, new_rest, none_of, number_rest, old, old_rest, parted, pend, rest_new, rest_old, short, stands_last, stands_new, stays_open, times_new, times_old}
+use Rattle.lz_machine.proofs.Ledger.Parts.{IsParted, change_append, ending, ends_now, gone, is_nil, last_new, length_app, new_rest, none_of, number_rest, old_rest, parted, rest_new, rest_old, short, stands_last, stands_new, stays_open, times_new, times_old}
 
 module _ (p r : Row) (same : p.command ≡ r.command) where
   first_same : {x z : Row} → x ∷ [] ≡ z ∷ [] → x ≡ z

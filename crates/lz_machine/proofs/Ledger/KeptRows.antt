@@ -7,7 +7,7 @@ use Rattle.lz_slot.specs.declared.command.Command.TheVariants.{Add, Remove}
 use Rattle.lz_slot.specs.Sets.{key_of, Keys}
 use Rattle.lz_slot.specs.Histories.{History, IsAnswered}
 use Rattle.lz_list.specs.declared.publishing.Publishing.{Publishing}
-use Rattle.lz_list.specs.declared.publishing.Publishing.TheVariants.{Linked as linked, Marked as marked, Unlinked as unlinked, Settled as settled, KeyPrepared as key_prepared, LinkPrepared as link_prepared, Halted as halted}
+use Rattle.lz_list.specs.declared.publishing.Publishing.TheVariants.{Linked as linked, Marked as marked}
 use Rattle.lz_list.specs.Traces.{Trace}
 use Rattle.lz_machine.specs.Ledgers.{Row, change_at, Each, HasRow}
 use Rattle.lz_machine.specs.Kept.{upto, last_change, MayDrop, IsChange, RowsFit, IsRowOf}

@@ -6,7 +6,7 @@ use Rattle.std.specs.Prelude.{Option}
 use Rattle.lz_slot.specs.Histories.{History}
 use Rattle.lz_slot.specs.Sets.{key_of}
 use Rattle.lz_list.specs.declared.publishing.Publishing.{Publishing}
-use Rattle.lz_list.specs.declared.publishing.Publishing.TheVariants.{Linked as linked, Marked as marked, Unlinked as unlinked, Settled as settled, KeyPrepared as key_prepared, LinkPrepared as link_prepared, Halted as halted}
+use Rattle.lz_list.specs.declared.publishing.Publishing.TheVariants.{Linked as linked, Marked as marked}
 use Rattle.lz_list.specs.Traces.{Trace}
 use Rattle.lz_machine.specs.Runs.{Caller}
 use Rattle.lz_machine.specs.Ledgers.{Row, Each, change_at}

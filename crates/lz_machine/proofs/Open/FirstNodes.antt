@@ -7,36 +7,12 @@ use Rattle.std.proofs.lemmas.Bool.Decides.{nat_tests, eqb_tells}
 use Rattle.lz_slot.specs.declared.slot.SlotRead.{SlotRead}
 use Rattle.lz_slot.specs.declared.slot.SlotRead.TheVariants.{Closed, Member, BadKey}
 use Rattle.lz_slot.specs.Bytes.{slot_at, held, held_key}
+use Rattle.lz_slot.specs.Nodes.{has_node}
 use Rattle.lz_list.specs.Traces.{Chain, has_key, has_slot, on, chain, chain_of, bucket_of, key_word, linking, is_marked, is_removed, opening, IsFound, IsLoose}
 use Rattle.lz_list.proofs.Nodes.{on_insert_other}
 use Rattle.lz_list.proofs.Resting.{on_insert}
 use Rattle.lz_list.proofs.Linking.{inserted_on}
-
--- the node of key k in slot s is one of the chain's
-abbrev pub has_node : ℕ → ℕ → Chain → Bool
-has_node k s [] = false
-has_node k s (f ∷ c) = ((f.0 == k) && (f.1 == s)) || has_node k s c
-
--- the slot of a chain's node is one of the chain's
-node_slot : (k s : ℕ) (es : Chain) → has_node k s es ≡ true → has_slot s es ≡ true
-node_slot k s [] there = absurd (false≢true there)
-node_slot k s (f ∷ es) there = grind (arith, nat_tests, node_slot k s es)
-
-has_key_append : (k : ℕ) (c d : Chain) → has_key k (c ++ d) ≡ (has_key k c || has_key k d)
-has_key_append k [] d = refl
-has_key_append k (f ∷ c) d = grind (arith, has_key_append k c d)
-
-has_slot_append : (s : ℕ) (c d : Chain) → has_slot s (c ++ d) ≡ (has_slot s c || has_slot s d)
-has_slot_append s [] d = refl
-has_slot_append s (f ∷ c) d = grind (arith, has_slot_append s c d)
-
-has_node_append : (k s : ℕ) (c d : Chain) → has_node k s (c ++ d) ≡ (has_node k s c || has_node k s d)
-has_node_append k s [] d = refl
-has_node_append k s (f ∷ c) d = grind (arith, has_node_append k s c d)
-
-pub node_has_key : (k s : ℕ) (c : Chain) → has_node k s c ≡ true → has_key k c ≡ true
-node_has_key k s [] has = has
-node_has_key k s (f ∷ c) has = grind (arith, nat_tests, node_has_key k s c)
+use Rattle.lz_list.proofs.ChainNodes.{node_slot, has_key_append, has_slot_append, has_node_append}
 
 -- the trace of what was found
 module _ (buckets : ℕ) where

@@ -9,7 +9,7 @@ use Rattle.lz_slot.specs.Counted.{of_pass}
 use Rattle.lz_slot.specs.Bytes.{open_byte, slot_bytes, slot_read}
 use Rattle.lz_slot.specs.declared.slot.SlotRead.{SlotRead}
 use Rattle.lz_slot.specs.declared.slot.SlotRead.TheVariants as read
-use Rattle.lz_slot.proofs.Exact.{read_fits, slot_is_of_its_key, zero_fits}
+use Rattle.lz_slot.proofs.Exact.{read_fits, slot_is_of_its_key, zero_fits, closed_says, fits_taken}
 use Rattle.lz_disk.specs.Images.{AreBytes}
 use Rattle.lz_vault.specs.declared.vault.Stage.TheVariants.{Closed, Open}
 use Rattle.lz_vault.specs.Stages.{Says, Reads}
@@ -33,9 +33,6 @@ pub read_cases : (r : SlotRead) → r ≢ read.BadKey → ((k : ℕ) × (r ≡ r
 read_cases (read.Member k) fine = inl (k, refl)
 read_cases read.Closed fine = inr refl
 read_cases read.BadKey fine = absurd (fine refl)
-
-closed_says : (F : Format) (bytes : List ℕ) → slot_read F bytes ≡ read.Closed → get_or bytes 0 0 ≢ open_byte
-closed_says F bytes is = grind (arith, nat_tests)
 
 -- what is read of a slot is what its cell says
 pub read_says : (F : Format) (r : SlotRead) (bytes : List ℕ) → slot_read F bytes ≡ r → r ≢ read.BadKey → length bytes ≡ 16 → AreBytes bytes → Says (cell_read r).stage (cell_read r).key bytes
@@ -66,11 +63,5 @@ read_limbo read.Closed sights e = absurd cc
 read_limbo (read.Member k) sights e = absurd cc
 read_limbo read.BadKey sights e = absurd cc
 
-bytes_taken : (n : ℕ) (t : List ℕ) → AreBytes t → AreBytes (take n t)
-bytes_taken n t bytes i = ⊎_elim
-    (λ lt. rw (get_or-take n t i 0 lt) (bytes i))
-    (λ le. rw (get_or_past (take n t) i 0 (omega (arith, length-take n t))) (omega arith))
-    (cases_lt i n)
-
 pub slot_fits : (t : List ℕ) (i : ℕ) → AreBytes t → AreBytes (slot_bytes t i)
-slot_fits t i bytes = bytes_taken (32 + 16 * i - (16 + 16 * i)) (drop (16 + 16 * i) t) (λ k. rw (get_or-drop (16 + 16 * i) t k 0) (bytes (16 + 16 * i + k)))
+slot_fits t i bytes = fits_taken (32 + 16 * i - (16 + 16 * i)) (drop (16 + 16 * i) t) (λ k. rw (get_or-drop (16 + 16 * i) t k 0) (bytes (16 + 16 * i + k)))

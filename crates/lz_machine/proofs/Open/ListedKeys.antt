@@ -7,7 +7,8 @@ use Rattle.lz_slot.specs.Bytes.{Holds, open_byte, format_of, header_body, slot_a
 use Rattle.lz_list.specs.Traces.{Chain, has_key}
 use Rattle.lz_list.proofs.Absent.{has_insert}
 use Rattle.lz_machine.specs.Runs.{by_key, keys_found}
-use Rattle.lz_machine.proofs.Open.FirstNodes.{node_has_key, node_held, key_held}
+use Rattle.lz_list.proofs.ChainNodes.{node_has_key}
+use Rattle.lz_machine.proofs.Open.FirstNodes.{node_held, key_held}
 
 -- the keys of a chain are the first parts of its nodes
 pub any_key : (k : ℕ) (c : Chain) → members (map (λ (f : ℕ × ℕ). f.0) c) k ≡ has_key k c

@@ -15,10 +15,10 @@ use Rattle.lz_slot.specs.declared.format.Format.TheVariants.{One, Two}
 use Rattle.lz_slot.specs.Bytes.{open_byte, magic, format_byte, format_of, header_body, slot_body, slot_bytes, slot_read, slot_at}
 use Rattle.lz_slot.proofs.Exact.{key_of_format, slot_reads_back}
 use Rattle.lz_vault.specs.declared.vault.Stage.{Stage}
-use Rattle.lz_vault.specs.declared.vault.Stage.TheVariants.{Closed, KeyLoose, Keyed, Opening, Open, Closing}
+use Rattle.lz_vault.specs.declared.vault.Stage.TheVariants.{Closed, Open}
 use Rattle.lz_vault.specs.Stages.{Cell, IsSteady, AreSteady}
 use Rattle.lz_vault.specs.Opens.{IsCellOf}
-use Rattle.lz_machine.specs.Yards.{no_cell}
+use Rattle.lz_vault.specs.Members.{no_cell}
 
 abbrev slot_text : Cell → List ℕ
 slot_text cell = elim cell.stage [ Open ↦ open_byte ∷ slot_body cell.key | _ ↦ replicate 16 0 ]

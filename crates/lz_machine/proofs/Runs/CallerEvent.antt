@@ -1,14 +1,14 @@
 -- The next event of a call is its actor's next event.
-use Rattle.std.proofs.Common.{◌≡◌, ℕ, zero, suc, Bool, false, slice_index_or, List, [], ◌∷◌, Option, Some, IsSomeAnd, refl, sym, subst, arith}
+use Rattle.std.proofs.Common.{◌≡◌, ℕ, zero, suc, false, slice_index_or, List, [], ◌∷◌, Option, Some, IsSomeAnd, refl, sym, subst, arith}
 use Rattle.std.proofs.lemmas.Bool.{false≢true}
 use Rattle.lz_slot.specs.declared.command.Command.{Command}
 use Rattle.lz_list.specs.Words.{Words}
 use Rattle.lz_machine.specs.declared.event.Event.{Event}
 use Rattle.lz_machine.specs.declared.event.Event.TheVariants.{Invoke, Check, SeePin}
 use Rattle.lz_machine.specs.declared.caller.Sequence.{Sequence}
-use Rattle.lz_machine.specs.declared.caller.Sequence.TheVariants.{Pinning, Resting, Writing, Adding, Removing, Releasing, Halting}
+use Rattle.lz_machine.specs.declared.caller.Sequence.TheVariants.{Resting, Writing, Adding, Removing}
 use Rattle.lz_machine.specs.declared.caller.Progress.{Progress}
-use Rattle.lz_machine.specs.declared.caller.Progress.TheVariants.{Playing, LoadsHalt, Walking, Reserving, SeeingPins, Claiming, Checking, Answering}
+use Rattle.lz_machine.specs.declared.caller.Progress.TheVariants.{Playing}
 use Rattle.lz_machine.specs.Yards.{Shape}
 use Rattle.lz_machine.specs.Calls.{event_at, events_of, loaded}
 use Rattle.lz_machine.specs.Runs.{IsNext, Caller, Service, caller_at, next_event, run, first_point}

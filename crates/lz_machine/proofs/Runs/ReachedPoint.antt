@@ -1,8 +1,7 @@
 -- Points that a run reaches.
 use Rattle.std.proofs.Common.{◌≡◌, ◌∷◌, ap, ◌∙◌, sym, subst}
-use Rattle.lz_machine.specs.Yards.{Shape}
 use Rattle.lz_machine.specs.Points.{IsReached}
-use Rattle.lz_machine.specs.Runs.{Start, State, Transition, MayStep, shape_of, Point, point_after, run, first_point, Reached}
+use Rattle.lz_machine.specs.Runs.{Start, State, Transition, MayStep, shape_of, Point, point_after, first_point, Reached}
 use Rattle.lz_machine.proofs.Runs.Shape.{run_keeps_shape}
 
 -- a point that is reached leads to another by a step that may be taken

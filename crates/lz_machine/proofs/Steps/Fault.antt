@@ -3,7 +3,7 @@ use Rattle.std.proofs.Common.{◌≡◌, ◌⊎◌, inl, inr, ℕ, zero, suc, �
 use Rattle.std.specs.Prelude.{unwrap_or, slice_set}
 use Rattle.std.proofs.lemmas.Bool.{cases_Bool}
 use Rattle.lz_slot.specs.declared.command.Command.{Command}
-use Rattle.lz_slot.specs.declared.command.Command.TheVariants.{Add, Remove, Has}
+use Rattle.lz_slot.specs.declared.command.Command.TheVariants.{Add, Remove}
 use Rattle.lz_slot.specs.Sets.{Keys, key_of}
 use Rattle.lz_slot.specs.Histories.{History}
 use Rattle.lz_disk.specs.Images.{Medium, WriteFailed}

@@ -17,7 +17,7 @@ use Rattle.lz_machine.specs.declared.event.Reply.{Reply}
 use Rattle.lz_machine.specs.declared.event.Reply.TheVariants.{Yes, No, Full, Worn, OldFile, Halted, Device}
 use Rattle.lz_machine.specs.declared.actor.Actor.{Actor}
 use Rattle.lz_machine.specs.declared.actor.Hold.{Hold}
-use Rattle.lz_machine.specs.declared.actor.Hold.TheVariants.{Nothing, Locks, Checked, GateOpened, Linked, GateClosed, Marked, Unlinked, Released}
+use Rattle.lz_machine.specs.declared.actor.Hold.TheVariants.{Checked, GateClosed, Marked}
 use Rattle.lz_machine.specs.declared.caller.Sequence.TheVariants.{Halting}
 use Rattle.lz_machine.specs.declared.caller.Progress.TheVariants.{Playing, Answering}
 use Rattle.lz_machine.specs.Yards.{Yard, Shape, actor_at, actor_in, pin_in}

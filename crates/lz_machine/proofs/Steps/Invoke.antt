@@ -1,5 +1,5 @@
 -- A new call keeps the invariant.
-use Rattle.std.proofs.Common.{◌≡◌, ◌≢◌, ⊎_elim, inl, inr, ℕ, zero, suc, ◌≤◌, ◌%◌, ◌==◌, Bool, true, false, List, [], ◌∷◌, ◌++◌, length, Option, Some, None, refl, sym, ap, ◌∙◌, subst, arith}
+use Rattle.std.proofs.Common.{◌≡◌, ◌≢◌, ⊎_elim, inl, inr, ℕ, zero, suc, ◌≤◌, ◌%◌, Bool, true, false, List, [], ◌∷◌, ◌++◌, length, Option, Some, None, refl, sym, ap, ◌∙◌, subst, arith}
 use mathlib.Core.Bool.{false≢true}
 use Rattle.std.proofs.lemmas.Bool.{cases_eq}
 use Rattle.std.proofs.lemmas.Bool.Decides.{nat_tests}
@@ -34,14 +34,7 @@ use Rattle.lz_machine.proofs.Ledger.Answers.{each_weaker}
 use Rattle.lz_machine.proofs.Ledger.Order.{has_left}
 use Rattle.lz_machine.proofs.Steps.Trip.{point}
 use Rattle.lz_machine.proofs.Runs.CallerTable.{none_of}
-
-abbrev is_call : Mark → Bool
-is_call (Call i a c) = true
-is_call _ = false
-
-abbrev number_of : Mark → ℕ
-number_of (Call i a c) = i
-number_of _ = 0
+use Rattle.lz_machine.proofs.Ledger.CallMark.{number_of, is_call}
 
 -- the mark of a call is no other mark
 clash : {i a : ℕ} {c : Command} (m : Mark) → is_call m ≡ false → Call i a c ≡ m → ⊥

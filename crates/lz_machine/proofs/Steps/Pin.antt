@@ -13,7 +13,7 @@ use Rattle.lz_allot.specs.declared.sight.Sight.{Sight}
 use Rattle.lz_allot.specs.declared.sight.Sight.TheVariants.{Left}
 use Rattle.lz_allot.specs.Uses.{Use, Free, Taken, Limbo, use_of}
 use Rattle.lz_list.specs.declared.publishing.Publishing.{Publishing}
-use Rattle.lz_list.specs.declared.publishing.Publishing.TheVariants.{Linked as linked, Marked as marked, Unlinked as unlinked, Settled as settled, KeyPrepared as key_prepared, LinkPrepared as link_prepared, Halted as halted}
+use Rattle.lz_list.specs.declared.publishing.Publishing.TheVariants.{KeyPrepared as key_prepared, LinkPrepared as link_prepared}
 use Rattle.lz_list.specs.declared.word.Word.TheVariants.{Pin as pin_at}
 use Rattle.lz_list.specs.Words.{Words, get, set}
 use Rattle.lz_list.specs.Traces.{Trace, IsLoose, on, chain}
@@ -22,7 +22,7 @@ use Rattle.lz_list.proofs.Absent.{begins_itself}
 use Rattle.lz_list.proofs.Hindsight.{once_begins}
 use Rattle.lz_machine.specs.declared.event.Event.TheVariants.{Pin}
 use Rattle.lz_machine.specs.declared.event.Outcome.TheVariants.{Done, Worn}
-use Rattle.lz_machine.specs.declared.event.Reply.TheVariants.{Worn as SaysWorn, OldFile as SaysOldFile}
+use Rattle.lz_machine.specs.declared.event.Reply.TheVariants.{Worn as SaysWorn}
 use Rattle.lz_machine.specs.declared.actor.Actor.{Actor}
 use Rattle.lz_machine.specs.declared.caller.Sequence.TheVariants.{Pinning}
 use Rattle.lz_machine.specs.declared.caller.Progress.TheVariants.{Playing, LoadsHalt, Answering}

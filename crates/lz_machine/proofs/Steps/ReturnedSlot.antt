@@ -6,14 +6,14 @@ use Rattle.std.proofs.lemmas.Option.{same_Some, none-some}
 use Rattle.lz_slot.specs.Counted.{set_of_pass}
 use Rattle.lz_slot.proofs.Counted.{of_pass_same, of_pass_other}
 use Rattle.lz_vault.specs.declared.vault.Stage.{Stage}
-use Rattle.lz_vault.specs.declared.vault.Stage.TheVariants.{Closed, KeyLoose, Keyed, Opening, Open, Closing}
+use Rattle.lz_vault.specs.declared.vault.Stage.TheVariants.{Closed, KeyLoose, Keyed}
 use Rattle.lz_vault.specs.Stages.{Cell}
 use Rattle.lz_allot.specs.Uses.{Use, Free, Taken, use_of, give_back}
 use Rattle.lz_list.specs.Locks.{NodeLocks}
 use Rattle.lz_list.specs.Traces.{Trace}
 use Rattle.lz_machine.specs.declared.actor.Actor.{Actor}
 use Rattle.lz_machine.specs.declared.actor.Hold.{Hold}
-use Rattle.lz_machine.specs.declared.actor.Hold.TheVariants.{Nothing, Locks, Checked, GateOpened, Linked, GateClosed, Marked, Unlinked, Released}
+use Rattle.lz_machine.specs.declared.actor.Hold.TheVariants.{Checked, GateOpened, GateClosed, Marked}
 use Rattle.lz_machine.specs.Yards.{Shape, idle_actor, actor_in, stage_in}
 use Rattle.lz_machine.specs.Table.{with_slot, is_unused}
 use Rattle.lz_machine.specs.SlotsSound.{IsGateClosed, IsGateOpened, closes, opens, shuts, unlocks, has_removed_node, IsOut, IsNodeStage, IsHandStage, SlotStands, is_node, is_held, is_out, is_free, is_limbo, SlotsSound}

@@ -23,7 +23,7 @@ use Rattle.lz_list.specs.Locks.{claimed_places}
 use Rattle.lz_machine.specs.declared.event.Event.TheVariants.{WriteClose}
 use Rattle.lz_machine.specs.declared.actor.Actor.{Actor}
 use Rattle.lz_machine.specs.declared.actor.Hold.{Hold}
-use Rattle.lz_machine.specs.declared.actor.Hold.TheVariants.{Nothing, Locks, Checked, GateOpened, Linked, GateClosed, Marked, Unlinked, Released}
+use Rattle.lz_machine.specs.declared.actor.Hold.TheVariants.{Nothing, Checked, GateClosed, Released}
 use Rattle.lz_machine.specs.declared.caller.Sequence.TheVariants.{Removing}
 use Rattle.lz_machine.specs.declared.caller.Progress.{Progress}
 use Rattle.lz_machine.specs.declared.caller.Progress.TheVariants.{Playing}
@@ -52,7 +52,7 @@ use Rattle.lz_vault.specs.declared.vault.Stage.{Stage}
 use Rattle.lz_vault.specs.declared.vault.Stage.TheVariants.{Closed, Keyed, Opening, Closing}
 use Rattle.lz_vault.specs.Stages.{Cell}
 use Rattle.lz_vault.specs.Vaults.{Vaulted, medium_after}
-use Rattle.lz_machine.specs.Yards.{no_cell}
+use Rattle.lz_vault.specs.Members.{no_cell}
 use Rattle.lz_machine.specs.Table.{call_of}
 use Rattle.lz_machine.specs.Sound.{DiskSound}
 use Rattle.lz_vault.proofs.Gates.{HasBody}

@@ -21,14 +21,14 @@ use Rattle.lz_list.specs.declared.publishing.Publishing.TheVariants.{KeyPrepared
 use Rattle.lz_list.specs.declared.word.Word.TheVariants.{Key as key_at}
 use Rattle.lz_list.specs.Words.{set}
 use Rattle.lz_list.specs.Traces.{Trace, Lawful, IsLoose, on, chain_of, bucket_of, key_word}
-use Rattle.lz_list.proofs.Hindsight.{stands}
 use Rattle.lz_machine.specs.declared.event.Event.TheVariants.{WriteKey}
 use Rattle.lz_machine.specs.declared.event.Reply.TheVariants.{Device}
 use Rattle.lz_machine.specs.declared.actor.Hold.{Hold}
 use Rattle.lz_machine.specs.declared.caller.Sequence.TheVariants.{Writing}
 use Rattle.lz_machine.specs.declared.caller.Progress.{Progress}
 use Rattle.lz_machine.specs.declared.caller.Progress.TheVariants.{Playing}
-use Rattle.lz_machine.specs.Yards.{Yard, actor_at, no_cell, actor_in, pin_in, cell_in, stage_in}
+use Rattle.lz_vault.specs.Members.{no_cell}
+use Rattle.lz_machine.specs.Yards.{Yard, actor_at, actor_in, pin_in, cell_in, stage_in}
 use Rattle.lz_machine.specs.Table.{with_vault, call_of, slot_of, yard_done, publishes}
 use Rattle.lz_machine.specs.Calls.{halts}
 use Rattle.lz_machine.specs.Runs.{Caller, caller_at}
@@ -51,7 +51,7 @@ use Rattle.lz_machine.proofs.Frames.HeldLocks.{key_leaves}
 use Rattle.lz_machine.proofs.Steps.Hop.{call_at, own, goes_on_keeps}
 use Rattle.lz_machine.proofs.Frames.FittingKeys.{adds_fitting}
 use Rattle.lz_machine.proofs.Frames.Cells.{KeepsCell, caller_vaulted}
-use Rattle.lz_machine.proofs.Frames.KeyWrite.{key_failed, key_written, rests_prepared, within}
+use Rattle.lz_machine.proofs.Frames.KeyWrite.{key_failed, key_written, rests_prepared}
 
 module _ (n calls : ℕ) (y : Yard) (callers : List (Option Caller)) (disk : Medium) (M : History) (P : Trace) (notes : Notes) (sound : Sound n calls y callers disk M P notes) (a i : ℕ) (c : Command) (s : ℕ) (is : caller_at callers a ≡ Some (call_at i c (Playing (Writing s) 0))) where
   abbrev at : Progress

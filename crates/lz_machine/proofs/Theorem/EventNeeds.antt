@@ -36,7 +36,7 @@ use Rattle.lz_machine.specs.declared.caller.Progress.{Progress}
 use Rattle.lz_machine.specs.declared.caller.Progress.TheVariants.{Playing, LoadsHalt, Walking, Reserving, SeeingPins, Claiming, Checking, Answering}
 use Rattle.lz_machine.specs.Yards.{Yard, actor_at, actor_in, stage_in}
 use Rattle.lz_machine.specs.Table.{last_pin, pin_of, needs, is_played_dead, is_sure, is_spent, has_stage, may_claim, may_check, has_checked, has_opened, has_closed, has_marked, may_release, may_retire, slot_found, outcome_of, course_alive, line_on, line, is_old, stays_out}
-use Rattle.lz_machine.specs.Calls.{event_at, loaded, rests, begun}
+use Rattle.lz_machine.specs.Calls.{event_at, loaded}
 use Rattle.lz_machine.specs.Orders.{MayTake}
 use Rattle.lz_machine.specs.Runs.{Caller}
 use Rattle.lz_machine.specs.Notes.{Notes}

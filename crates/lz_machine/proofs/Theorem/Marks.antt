@@ -6,14 +6,14 @@ use Rattle.std.proofs.lemmas.List.{length-replicate}
 use Rattle.std.proofs.lemmas.Option.{same_Some, none-some}
 use Rattle.lz_slot.specs.declared.command.Command.{Command}
 use Rattle.lz_slot.specs.declared.history.Mark.{Mark}
-use Rattle.lz_slot.specs.declared.history.Mark.TheVariants.{Call, Answer, Refused, Cut, Stop, Crash, Opened, OpenFailed}
+use Rattle.lz_slot.specs.declared.history.Mark.TheVariants.{Call, Answer, Refused, Cut, Stop, Crash, OpenFailed}
 use Rattle.lz_slot.specs.Counted.{set_of_pass}
 use Rattle.lz_slot.specs.Histories.{History, IsCalled}
 use Rattle.lz_slot.proofs.Counted.{of_pass_same, of_pass_other, length-set_of_pass}
 use Rattle.lz_disk.specs.Images.{Medium}
 use Rattle.lz_machine.specs.declared.event.Outcome.{Outcome}
 use Rattle.lz_machine.specs.declared.event.Reply.{Reply}
-use Rattle.lz_machine.specs.declared.event.Reply.TheVariants.{Yes, No, Full, Worn, OldFile, Halted, Device}
+use Rattle.lz_machine.specs.declared.event.Reply.TheVariants.{Yes}
 use Rattle.lz_machine.specs.Yards.{Yard, Shape, actor_at}
 use Rattle.lz_machine.specs.Table.{course, line, line_failed}
 use Rattle.lz_machine.specs.Calls.{progress_after}
@@ -23,14 +23,7 @@ use Rattle.lz_machine.proofs.Frames.OneActor.{caller_range}
 use Rattle.lz_machine.proofs.Runs.Shape.{line_keeps_shape}
 use Rattle.lz_machine.proofs.Open.FoundSlots.{pass_of}
 use Rattle.lz_machine.proofs.Runs.CallerTable.{none_of, fault_no_reply}
-
-abbrev is_call : Mark → Bool
-is_call (Call i a c) = true
-is_call _ = false
-
-abbrev number_of : Mark → ℕ
-number_of (Call i a c) = i
-number_of _ = 0
+use Rattle.lz_machine.proofs.Ledger.CallMark.{number_of, is_call}
 
 called_before : (m : Mark) (M : History) (i : ℕ) (c : Command) → is_call m ≡ false → IsCalled (m ∷ M) i c → IsCalled M i c
 called_before m M i c other (a, inl e) = absurd (false≢true (sym other ∙ ap is_call e))

@@ -25,7 +25,7 @@ use Rattle.lz_machine.specs.declared.event.Reply.{Reply}
 use Rattle.lz_machine.specs.declared.caller.Sequence.{Sequence}
 use Rattle.lz_machine.specs.declared.caller.Sequence.TheVariants.{Pinning, Resting, Writing, Adding, Removing, Releasing, Halting}
 use Rattle.lz_machine.specs.declared.caller.Progress.{Progress}
-use Rattle.lz_machine.specs.declared.caller.Progress.TheVariants.{Playing, LoadsHalt, Walking, Reserving, SeeingPins, Claiming, Checking, Answering}
+use Rattle.lz_machine.specs.declared.caller.Progress.TheVariants.{Playing, LoadsHalt, Walking}
 use Rattle.lz_machine.specs.Yards.{Yard, Shape, actor_at}
 use Rattle.lz_machine.specs.Table.{pin_of, course, line, line_on, line_call, call_on, published_on, line_publishes}
 use Rattle.lz_machine.specs.Calls.{event_of, event_at, loaded, progress_after}

@@ -1,5 +1,5 @@
 -- One adding to a freshly made set of one slot is a run; and each state that is reached may leave a text.
-use Rattle.std.proofs.Common.{◌≡◌, ◌≢◌, inl, ℕ, zero, suc, ◌<◌, true, false, ◌≤◌, List, [], ◌∷◌, slice_get, Option, Some, is_some, refl, sym, ap, subst, arith}
+use Rattle.std.proofs.Common.{◌≡◌, ◌≢◌, inl, ℕ, zero, suc, ◌<◌, ◌≤◌, List, [], ◌∷◌, slice_get, Option, Some, is_some, refl, ap, subst, arith}
 use Rattle.std.specs.Prelude.{unwrap_or}
 use mathlib.Core.Bool.{false≢true}
 use Rattle.lz_slot.specs.declared.format.Format.TheVariants.{Two}
@@ -13,7 +13,7 @@ use Rattle.lz_machine.specs.declared.event.Outcome.TheVariants.{Done, Value, Slo
 use Rattle.lz_machine.specs.OneAdd.{one_slot, one_add, OneAddRuns, LeavesText}
 use Rattle.lz_machine.specs.Runs.{Start, IsStart, State, Up, Down, Point, IsRun, MayLeave, run, first_point, made_text, start_keys}
 use Rattle.lz_machine.specs.Sound.{StateSound, PointSound}
-use Rattle.lz_machine.specs.Yards.{no_cell}
+use Rattle.lz_vault.specs.Members.{no_cell}
 use Rattle.lz_machine.proofs.Open.Texts.{text_bytes}
 use Rattle.lz_machine.proofs.Theorem.Reached.{reached_sound}
 

@@ -34,7 +34,8 @@ use Rattle.lz_machine.specs.declared.event.Event.{Event}
 use Rattle.lz_machine.specs.declared.event.Event.TheVariants.{Invoke, Pin, WriteKey, Check, WriteOpen, Link, WriteClose, Mark, Release, Unlink, Retire, Answer}
 use Rattle.lz_machine.specs.declared.event.Outcome.TheVariants.{Dead, Done, NotNow, Worn}
 use Rattle.lz_slot.proofs.Exact.{key_of_format}
-use Rattle.lz_machine.specs.Yards.{Shape, Yard, actor_at, cell_at, no_cell, actor_in, stage_in, cell_in}
+use Rattle.lz_vault.specs.Members.{no_cell}
+use Rattle.lz_machine.specs.Yards.{Shape, Yard, actor_at, cell_at, actor_in, stage_in, cell_in}
 use Rattle.lz_machine.specs.Table.{last_pin, pin_of, needs, is_played_dead, course_alive, course, is_unused, has_stage, has_checked, has_opened, has_marked, is_old, stays_out}
 use Rattle.lz_machine.specs.Calls.{event_at, loaded}
 use Rattle.lz_machine.specs.Runs.{Start, State, Up, Point, Service, Caller, caller_at, next_event, with_words, first_point, run, start_keys, IsNext, MayPlay}

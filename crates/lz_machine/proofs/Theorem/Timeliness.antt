@@ -9,7 +9,6 @@ use Rattle.lz_machine.specs.declared.event.Outcome.TheVariants.{NotNow}
 use Rattle.lz_machine.specs.declared.event.Reply.TheVariants.{Worn as SaysWorn}
 use Rattle.lz_machine.specs.declared.caller.Progress.TheVariants.{Answering}
 use Rattle.lz_machine.specs.Table.{last_pin, pin_of, line}
-use Rattle.lz_machine.specs.Calls.{begun}
 use Rattle.lz_machine.specs.Orders.{MayTake}
 use Rattle.lz_machine.specs.Runs.{Start, Up, Transition, Point, Service, Caller, caller_at, next_event, first_point, run, IsRun, IsStart}
 use Rattle.lz_machine.specs.InTime.{NeverLate}

@@ -50,7 +50,7 @@ use Rattle.lz_machine.proofs.Open.FoundSlots.{pass_of}
 use Rattle.lz_machine.proofs.Theorem.Reached.{reached_sound}
 use Rattle.lz_machine.proofs.Runs.CallerTable.{none_of, fault_no_reply}
 use Rattle.lz_machine.proofs.Frames.Outside.{out_even}
-use Rattle.lz_machine.proofs.Theorem.EventNeeds.{IsWornAt, is_worn, last_of, odd_of, plain, v}
+use Rattle.lz_machine.proofs.Theorem.EventNeeds.{IsWornAt, is_worn, last_of, odd_of, plain}
 
 -- After its Answer an actor's pin word is even.
 module _ (y : Yard) (a : ℕ) (low : 1 ≤ a) (high : a ≤ length y.words.pins) where

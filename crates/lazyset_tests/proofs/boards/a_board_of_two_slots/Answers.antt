@@ -7,7 +7,8 @@ use Rattle.lz_list.specs.declared.publishing.Publishing.TheVariants.{Linked as l
 use Rattle.lz_list.specs.Words.{set}
 use Rattle.lz_board.specs.declared.view.Part.{Part}
 use Rattle.lz_board.specs.Notes.{trace_of}
-use Rattle.lz_board.specs.Kept.{is_calling, IsInside}
+use Rattle.lz_machine.specs.Yards.{IsInside}
+use Rattle.lz_board.specs.Kept.{is_calling}
 use Rattle.lz_board.specs.Opened.{sizes_in, opened_by, IsOpened}
 use Rattle.lz_board.specs.Seats.{id_of, part, IsNew}
 use Rattle.lazyset_tests.proofs.TwoSlots.{nine_words, nine_opened, writes_key, lawful_key, leaves_key, writes_link, lawful_link, leaves_link, writes_linked, lawful_linked, writes_settled, lawful_settled, writes_halt, lawful_halt, inside_after}
