@@ -37,11 +37,11 @@ use Rattle.lz_machine.specs.Runs.{IsStart, by_key, keys_found}
 use Rattle.lz_machine.proofs.Open.Texts.{text_of, text_size, text_head, text_format, text_says, text_bytes}
 use Rattle.lz_machine.proofs.Open.FirstNodes.{has_node as node_in, node_has_key, node_held, held_found, key_held}
 use Rattle.lz_machine.proofs.Open.ListedKeys.{holds_listed}
-use Rattle.lz_yard.proofs.Members.{node_slot, slot_node, are_found}
+use Rattle.lz_yard.proofs.Opening.MemberNodes.{node_slot, slot_node, are_found}
 use Rattle.lz_vault.proofs.Members.{node_cases, are_distinct}
-use Rattle.lz_yard.proofs.Arranged.{Within, same_words_after}
-use Rattle.lz_yard.proofs.Founding.{opened}
-use Rattle.lz_yard.proofs.FoundSlots.{read_length}
+use Rattle.lz_yard.proofs.Opening.MemberOrder.{Within, same_words_after}
+use Rattle.lz_yard.proofs.Opening.FilledTables.{opened}
+use Rattle.lz_yard.proofs.Opening.SlotReads.{read_length}
 
 same_node : (k s : ℕ) (c : Chain) → node_in k s c ≡ has_node k s c
 same_node k s [] = refl
