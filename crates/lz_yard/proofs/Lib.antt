@@ -1,11 +1,2 @@
-pub mod FoundSlots
-pub mod Lines
-pub mod Members
-pub mod Filled
-pub mod Arranged
-pub mod Founding
-pub mod Opened
-pub mod Fitting
-pub mod Called
-pub mod Keeping
-pub mod Onward
+pub mod Opening
+pub mod Events

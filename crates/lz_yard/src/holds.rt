@@ -46,7 +46,7 @@ impl<D: Disk> Parts<D> {
     }
 
     // Plays one event of an actor: the guard, the event, the path of a device failure, and what is told.
-    #[tactic(auto, using(crate::proofs::Lines::line_rules))]
+    #[tactic(auto, using(crate::proofs::Events::PlayedLine::line_rules))]
     pub(crate) fn step(&mut self, actor: usize, event: Event) -> Outcome
         requires low { 1 ≤ actor }
         requires high { actor ≤ length self.old.yard.actors }

@@ -1,4 +1,4 @@
-use Rattle.lz_yard.proofs.Filled.{links_go}
+use Rattle.lz_yard.proofs.Opening.LinkedMembers.{links_go}
 use Rattle.lz_yard.proofs.filling.link_members.Goals as goal
 
 pub loop-key-preserved : goal.loop-key-preserved

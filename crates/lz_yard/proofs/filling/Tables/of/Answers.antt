@@ -1,6 +1,6 @@
 use Rattle.std.proofs.Common.{◌≡◌, ◌∙◌, replicate, arith, rules}
 use Rattle.lz_machine.specs.Yards.{idle_actor}
-use Rattle.lz_yard.proofs.Founding.{slots_ranged, words_sorted, taken_low, tables_are}
+use Rattle.lz_yard.proofs.Opening.FilledTables.{slots_ranged, words_sorted, taken_low, tables_are}
 use Rattle.lz_yard.proofs.filling.Tables.of.Goals as goal
 
 pub link_members-requires : goal.link_members-requires

@@ -1,4 +1,4 @@
-use Rattle.lz_yard.proofs.Called.{write_key_does}
+use Rattle.lz_yard.proofs.Events.VaultCalls.{write_key_does}
 use Rattle.lz_yard.proofs.parts.Parts.play_write_key.Goals as goal
 
 pub returns-clause-done : goal.returns-clause-done

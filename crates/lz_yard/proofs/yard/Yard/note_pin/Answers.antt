@@ -1,5 +1,5 @@
 use Rattle.lz_list.specs.declared.word.Word.TheVariants.{Pin as pin_at}
-use Rattle.lz_yard.proofs.Keeping.{set_fits}
+use Rattle.lz_yard.proofs.Events.KeptFit.{set_fits}
 use Rattle.lz_yard.proofs.yard.Yard.note_pin.Goals as goal
 
 pub invariant_of-self : goal.invariant_of-self

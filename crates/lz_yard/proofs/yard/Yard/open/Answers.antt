@@ -3,8 +3,8 @@ use Rattle.std.specs.Prelude.{IfSome}
 use Rattle.lz_disk.specs.Images.{Medium, AreBytes}
 use Rattle.lz_list.specs.Lists.{IsWord}
 use Rattle.lz_yard.specs.declared.told.Told.{Told}
-use Rattle.lz_yard.proofs.Founding.{opened_fits}
-use Rattle.lz_yard.proofs.Opened.{first_yard}
+use Rattle.lz_yard.proofs.Opening.FilledTables.{opened_fits}
+use Rattle.lz_yard.proofs.Opening.FirstYard.{first_yard}
 use Rattle.lz_yard.proofs.yard.Yard.open.Goals as goal
 
 pub invariant_of-result : goal.invariant_of-result

@@ -1,5 +1,5 @@
 use Rattle.std.proofs.Common.{arith}
-use Rattle.lz_yard.proofs.Keeping.{played_fits}
+use Rattle.lz_yard.proofs.Events.KeptFit.{played_fits}
 use Rattle.lz_machine.proofs.Theorem.Readiness.{plays_needs, ready_to_play}
 use Rattle.lz_yard.proofs.yard.Yard.step.Goals as goal
 

@@ -26,8 +26,8 @@ use Rattle.lz_slot.specs.Nodes.{has_node}
 use Rattle.lz_vault.specs.Members.{AreMembers}
 use Rattle.lz_yard.specs.Filling.{AreTables, with_members}
 use Rattle.lz_vault.proofs.Members.{node_first, node_later}
-use Rattle.lz_yard.proofs.Members.{are_found}
-use Rattle.lz_yard.proofs.Filled.{filled_words}
+use Rattle.lz_yard.proofs.Opening.MemberNodes.{are_found}
+use Rattle.lz_yard.proofs.Opening.LinkedMembers.{filled_words}
 
 -- each entry of a list is a node of it
 node_at : (es : Chain) (i : ℕ) (d : ℕ × ℕ) → i < length es → has_node (slice_index_or es i d).0 (slice_index_or es i d).1 es ≡ true

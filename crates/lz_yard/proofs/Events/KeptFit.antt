@@ -34,8 +34,8 @@ use Rattle.lz_yard.specs.declared.told.Told.{Told}
 use Rattle.lz_machine.specs.Ready.{IsEventOf}
 use Rattle.lz_machine.specs.Runs.{with_words}
 use Rattle.lz_yard.specs.Parts.{Fits, HasInRange}
-use Rattle.lz_yard.proofs.Fitting.{hand_fits}
-use Rattle.lz_yard.proofs.Called.{sync_left, sync_more}
+use Rattle.lz_yard.proofs.Events.HandRange.{hand_fits}
+use Rattle.lz_yard.proofs.Events.VaultCalls.{sync_left, sync_more}
 use Rattle.lz_machine.proofs.Runs.Shape.{line_keeps_shape}
 
 -- tables of words of the same lengths

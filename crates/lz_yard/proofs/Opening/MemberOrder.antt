@@ -14,7 +14,7 @@ use Rattle.lz_vault.specs.Members.{Ascends}
 use Rattle.lz_machine.proofs.Open.FirstNodes.{off_chains, none_marked}
 use Rattle.lz_vault.proofs.Members.{node_cases, node_first, node_later}
 use Rattle.lz_list.proofs.ChainNodes.{node_slot}
-use Rattle.lz_yard.proofs.Members.{slot_node}
+use Rattle.lz_yard.proofs.Opening.MemberNodes.{slot_node}
 use Rattle.lz_machine.proofs.Frames.Store.{table_same}
 
 -- the nodes of the first are nodes of the second

@@ -39,11 +39,11 @@ use Rattle.lz_machine.proofs.Open.Texts.{text_of, text_size, text_head, text_for
 use Rattle.lz_list.proofs.ChainNodes.{node_has_key, node_slot}
 use Rattle.lz_machine.proofs.Open.FirstNodes.{node_held, held_found, key_held}
 use Rattle.lz_machine.proofs.Open.ListedKeys.{holds_listed}
-use Rattle.lz_yard.proofs.Members.{slot_node, are_found}
+use Rattle.lz_yard.proofs.Opening.MemberNodes.{slot_node, are_found}
 use Rattle.lz_vault.proofs.Members.{node_cases, are_distinct}
-use Rattle.lz_yard.proofs.Arranged.{Within, same_words_after}
-use Rattle.lz_yard.proofs.Founding.{opened}
-use Rattle.lz_yard.proofs.FoundSlots.{read_length}
+use Rattle.lz_yard.proofs.Opening.MemberOrder.{Within, same_words_after}
+use Rattle.lz_yard.proofs.Opening.FilledTables.{opened}
+use Rattle.lz_yard.proofs.Opening.SlotReads.{read_length}
 
 append_cases : (k s : ℕ) (c d : Chain) → has_node k s (c ++ d) ≡ true → (has_node k s c ≡ true) ⊎ (has_node k s d ≡ true)
 append_cases k s [] d there = inr there

@@ -20,7 +20,7 @@ use Rattle.lz_machine.proofs.Runs.ReachedPoint.{as_reached}
 use Rattle.lz_machine.proofs.Theorem.Timing.{in_time}
 use Rattle.lz_machine.proofs.Theorem.WornPass.{is_look}
 use Rattle.lz_yard.specs.Steps.{Played}
-use Rattle.lz_yard.proofs.Keeping.{fault_or_not}
+use Rattle.lz_yard.proofs.Events.KeptFit.{fault_or_not}
 
 -- the call after its next event had this outcome
 abbrev pub moved : Shape → Caller → Outcome → Option Caller
@@ -30,10 +30,8 @@ moved shape caller o = moved_on (reply_at caller.progress) caller (progress_afte
 abbrev pub after_it : Service → ℕ → Caller → Yard → Outcome → Service
 after_it service a caller yard o = record { yard = yard; callers = set_of_pass service.callers a (moved yard.shape caller o) }
 
--- A step of a run leads to this service; its disk is the device's, where that is honest.
-pub record Steps (w : State) (next : Service) (after : Device) : Type 0 where
-  pub step : Transition
-  pub other : is_look step ≡ false
+-- This step of a run leads to this service; its disk is the device's, where that is honest.
+pub record Steps (w : State) (step : Transition) (next : Service) (after : Device) : Type 0 where
   pub may : MayStep w step
   pub medium : Medium
   pub to : (n : ℕ) → state_after n w step ≡ Up next medium
@@ -66,14 +64,12 @@ module _ (start : Start) (p : Point) (reached : IsReached start p) (service : Se
   pub in_range : (1 ≤ a) × (a ≤ length service.callers)
   in_range = caller_range service.callers a caller at
 
-  done : (before after : Device) (new : Yard) (outcome : Outcome) (changed : _) → (IsTrue before.honest → before.medium ≡ medium) → outcome ≢ Fault
-      → Played service.yard a (next_event service.yard caller) outcome new changed before after → Steps (Up service medium) (after_it service a caller new outcome) after
+  pub done : (before after : Device) (new : Yard) (outcome : Outcome) (changed : _) → (IsTrue before.honest → before.medium ≡ medium) → outcome ≢ Fault
+      → Played service.yard a (next_event service.yard caller) outcome new changed before after → Steps (Up service medium) (Turn a) (after_it service a caller new outcome) after
   done before after new outcome changed same other event =
       let e = next_event service.yard caller in
       let h = event.done other in
       record {
-        step = Turn a;
-        other = refl;
         may = subst (HasTurn service a) (sym at) (in_time start p reached service medium up a caller at);
         medium = medium_after (line_call service.yard a e) medium;
         to = λ n.
@@ -86,12 +82,10 @@ module _ (start : Start) (p : Point) (reached : IsReached start p) (service : Se
 
   failed_to : (before after : Device) (new : Yard) (outcome : Outcome) (changed : _) (left : Medium) → outcome ≡ Fault → MayFail (line_call service.yard a (next_event service.yard caller)) medium left
       → (IsTrue after.honest → after.medium ≡ left)
-      → Played service.yard a (next_event service.yard caller) outcome new changed before after → Steps (Up service medium) (after_it service a caller new outcome) after
+      → Played service.yard a (next_event service.yard caller) outcome new changed before after → Steps (Up service medium) (Fails a left) (after_it service a caller new outcome) after
   failed_to before after new outcome changed left fault fails there event =
       let e = next_event service.yard caller in
       record {
-        step = Fails a left;
-        other = refl;
         may = subst (λ (o : Option Caller). HasFault service medium a o left) (sym at) fails;
         medium = left;
         to = λ n.
@@ -101,21 +95,23 @@ module _ (start : Start) (p : Point) (reached : IsReached start p) (service : Se
       }
 
   -- a device that isn't honest may do what it likes: in the run it changed nothing
-  failed : (before after : Device) (new : Yard) (outcome : Outcome) (changed : _) → (IsTrue before.honest → before.medium ≡ medium) → outcome ≡ Fault
+  pub failed : (before after : Device) (new : Yard) (outcome : Outcome) (changed : _) → (IsTrue before.honest → before.medium ≡ medium) → outcome ≡ Fault
       → Played service.yard a (next_event service.yard caller) outcome new changed before after → (honest : Bool) → before.honest ≡ honest
-      → Steps (Up service medium) (after_it service a caller new outcome) after
+      → (left : Medium) × Steps (Up service medium) (Fails a left) (after_it service a caller new outcome) after
   failed before after new outcome changed same fault event true is =
       let h = event.failed fault in
-      failed_to before after new outcome changed after.medium fault
-      (subst (λ (m : Medium). MayFail (line_call service.yard a (next_event service.yard caller)) m after.medium) (same is) (h.call.medium is)) (λ honest. refl) event
+      (after.medium, failed_to before after new outcome changed after.medium fault
+      (subst (λ (m : Medium). MayFail (line_call service.yard a (next_event service.yard caller)) m after.medium) (same is) (h.call.medium is)) (λ honest. refl) event)
   failed before after new outcome changed same fault event false is =
       let h = event.failed fault in
-      failed_to before after new outcome changed medium fault (may_fail (line_call service.yard a (next_event service.yard caller)) medium h.asked)
-      (λ honest. absurd (false≢true (sym is ∙ sym h.call.honest ∙ honest))) event
+      (medium, failed_to before after new outcome changed medium fault (may_fail (line_call service.yard a (next_event service.yard caller)) medium h.asked)
+      (λ honest. absurd (false≢true (sym is ∙ sym h.call.honest ∙ honest))) event)
 
+  -- one step, which is no look
   pub steps_on : (before after : Device) (new : Yard) (outcome : Outcome) (changed : _) → (IsTrue before.honest → before.medium ≡ medium)
-      → Played service.yard a (next_event service.yard caller) outcome new changed before after → Steps (Up service medium) (after_it service a caller new outcome) after
+      → Played service.yard a (next_event service.yard caller) outcome new changed before after
+      → (step : Transition) × (is_look step ≡ false) × Steps (Up service medium) step (after_it service a caller new outcome) after
   steps_on before after new outcome changed same event = elim (fault_or_not outcome) [
-    | inl fault ↦ failed before after new outcome changed same fault event before.honest refl
-    | inr other ↦ done before after new outcome changed same other event
+    | inl fault ↦ let fails = failed before after new outcome changed same fault event before.honest refl in (Fails a fails.0, refl, fails.1)
+    | inr other ↦ (Turn a, refl, done before after new outcome changed same other event)
   ]

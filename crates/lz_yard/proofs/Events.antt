@@ -1,0 +1,6 @@
+pub mod HandRange
+pub mod VaultCalls
+pub mod PlayedLine
+pub mod KeptFit
+pub mod RunTransition
+pub mod PassPlaces

@@ -1,0 +1,6 @@
+pub mod SlotReads
+pub mod MemberNodes
+pub mod LinkedMembers
+pub mod MemberOrder
+pub mod FilledTables
+pub mod FirstYard
