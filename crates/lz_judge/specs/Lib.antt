@@ -1,5 +1,6 @@
 pub mod Surveys
 pub mod Scans
+pub mod Renewals
 pub mod Records
 pub mod Flaws
 pub mod Passes

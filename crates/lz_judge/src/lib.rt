@@ -17,6 +17,7 @@ mod listing;
 mod ordering;
 mod playing;
 mod reading;
+mod renewing;
 mod surveying;
 
 pub use finding::{Finding, Survey};
@@ -24,4 +25,5 @@ pub use flaw::Flaw;
 pub use history::{History, MAX_PLACE, Point};
 pub use judging::judge;
 pub use reading::{MOST_BYTES, MOST_CALLS};
+pub use renewing::{RenewFlaw, renewed};
 pub use surveying::survey;
