@@ -1,5 +1,6 @@
 -- Two files hold one set exactly where no flaw of a renewal is true of them.
-use Rattle.std.proofs.Common.{◌≡◌, ◌↔◌, ℕ, ◌+◌, ◌*◌, ◌<◌, Bool, true, false, List, length, refl, sym, ◌∙◌, subst, arith, IsTrue, Ok}
+use Rattle.std.proofs.Common.{◌≡◌, ◌↔◌, ⊎_elim, ℕ, ◌+◌, ◌*◌, ◌<◌, Bool, true, false, List, length, refl, sym, ◌∙◌, ap, subst, arith, IsTrue, Ok, Err}
+use Rattle.std.proofs.lemmas.Bool.{cases_lt}
 use Rattle.lz_slot.specs.Bytes.{Holds, header_read, slot_at}
 use Rattle.lz_slot.specs.Sets.{Keys}
 use Rattle.lz_slot.specs.declared.slot.SlotRead.TheVariants.{Member}
@@ -9,7 +10,7 @@ use Rattle.lz_judge.specs.declared.renewing.RenewFlaw.TheVariants.{NotHeld, Miss
 use Rattle.std.specs.Prelude.{All}
 use Rattle.lz_judge.specs.declared.finding.Finding.{Finding}
 use Rattle.lz_judge.specs.Surveys.{AreFindings, found_keys}
-use Rattle.lz_judge.specs.Renewals.{AreHeld, HoldOneSet, IsFirstOutside, IsLowestOutside, IsRenewFlaw, IsWithin}
+use Rattle.lz_judge.specs.Renewals.{AreHeld, HoldOneSet, IsFirstOutside, IsLowestOutside, IsRenewFlaw, IsWithin, OneVerdict}
 use Rattle.lz_judge.proofs.Files.{held_head}
 use Rattle.lz_judge.proofs.KeysOutside.{all_within, lowest_outside}
 use Rattle.lz_judge.proofs.Slots.{set_found, sound_where}
@@ -101,3 +102,39 @@ module _ (old new : List ℕ) (before after : List Finding) (kept : AreHeld old 
     pub none_extra : ((k : ℕ) → IsTrue (found_keys before k) → IsTrue (found_keys after k)) → All (IsWithin (found_keys before')) after' → HoldOneSet old new
     none_extra inside each = one_set old new kept.slots given.slots (found_keys before) (found_keys after) kept.held given.held inside
         (within new after given (found_keys before) after' same_after (subst (λ (l : List Finding). All (IsWithin (found_keys l)) after') same_before each))
+
+-- One verdict alone
+lowest_alone : (t : List ℕ) (N M : ℕ) (T U : Keys) (i j : ℕ) → ((k : ℕ) → IsTrue (T k) → IsTrue (U k)) → ((k : ℕ) → IsTrue (U k) → IsTrue (T k)) → IsLowestOutside t N T i → IsLowestOutside t M U j → i ≡ j
+lowest_alone t N M T U i j to from one other = ⊎_elim
+    (λ less. absurd (let e : true ≡ false = sym (from one.outside.0 (other.lowest i one.outside.0 less one.outside.1)) ∙ one.outside.2 in cc))
+    (λ le. ⊎_elim
+    (λ less. absurd (let e : true ≡ false = sym (to other.outside.0 (one.lowest j other.outside.0 less other.outside.1)) ∙ other.outside.2 in cc))
+    (λ ge. omega (arith, le, ge))
+    (cases_lt j i))
+    (cases_lt i j)
+
+-- a key of the old file that is missing, where the new one has each of its keys
+not_both : (old new : List ℕ) (N M n m : ℕ) (S T R U : Keys) (i : ℕ) → Holds old N S → Holds new M T → Holds old n R → Holds new m U → ((k : ℕ) → IsTrue (R k) → IsTrue (U k)) → IsLowestOutside old N T i → ⊥
+not_both old new N M n m S T R U i kept given kept' given' inside low =
+    let has : IsTrue (R low.outside.0) = held_member old N n R i low.outside.0 kept.size kept' low.below low.outside.1 in
+    let there : IsTrue (T low.outside.0) = held_alike new m M U T given' given low.outside.0 (inside low.outside.0 has) in
+    let e : true ≡ false = sym there ∙ low.outside.2 in cc
+
+flaw_alone : (old new : List ℕ) (one other : RenewFlaw) → IsRenewFlaw old new one → IsRenewFlaw old new other → one ≡ other
+flaw_alone old new NotHeld NotHeld none also = refl
+flaw_alone old new NotHeld (Missing j) none (N, M, S, T, kept, given, low) = absurd (none (N, S, kept) (M, T, given))
+flaw_alone old new NotHeld (Extra j) none (N, M, S, T, kept, given, inside, low) = absurd (none (N, S, kept) (M, T, given))
+flaw_alone old new (Missing i) NotHeld (N, M, S, T, kept, given, low) none = absurd (none (N, S, kept) (M, T, given))
+flaw_alone old new (Extra i) NotHeld (N, M, S, T, kept, given, inside, low) none = absurd (none (N, S, kept) (M, T, given))
+flaw_alone old new (Missing i) (Missing j) (N, M, S, T, kept, given, low) (n, m, R, U, kept', given', low') =
+    ap Missing (lowest_alone old N n T U i j (held_alike new M m T U given given') (held_alike new m M U T given' given) low low')
+flaw_alone old new (Extra i) (Extra j) (N, M, S, T, kept, given, inside, low) (n, m, R, U, kept', given', inside', low') =
+    ap Extra (lowest_alone new M m S R i j (held_alike old N n S R kept kept') (held_alike old n N R S kept' kept) low low')
+flaw_alone old new (Missing i) (Extra j) (N, M, S, T, kept, given, low) (n, m, R, U, kept', given', inside, low') = absurd (not_both old new N M n m S T R U i kept given kept' given' inside low)
+flaw_alone old new (Extra i) (Missing j) (n, m, R, U, kept', given', inside, low') (N, M, S, T, kept, given, low) = absurd (not_both old new N M n m S T R U j kept given kept' given' inside low)
+
+pub one_verdict : OneVerdict
+one_verdict old new (Ok one) (Ok other) is also = refl
+one_verdict old new (Ok one) (Err flaw) is also = absurd (flaw_parts old new flaw also is)
+one_verdict old new (Err flaw) (Ok other) is also = absurd (flaw_parts old new flaw is also)
+one_verdict old new (Err one) (Err other) is also = ap Err (flaw_alone old new one other is also)

@@ -1,5 +1,5 @@
 -- What is told of two files, the second of which is to hold the set of the first.
-use Rattle.std.specs.Prelude.{◌≡◌, ℕ, ◌<◌, List, length, take, slice_index_or, All, IsTrue, false}
+use Rattle.std.specs.Prelude.{◌≡◌, ℕ, ◌<◌, List, length, take, slice_index_or, All, IsTrue, false, Result, Ok, Err}
 use Rattle.lz_slot.specs.Bytes.{Holds, slot_at}
 use Rattle.lz_slot.specs.Sets.{Keys}
 use Rattle.lz_slot.specs.declared.slot.SlotRead.TheVariants.{Member}
@@ -28,6 +28,15 @@ abbrev pub IsRenewFlaw : List ℕ → List ℕ → RenewFlaw → Type 0
 IsRenewFlaw old new NotHeld = HoldsASet old → HoldsASet new → ⊥
 IsRenewFlaw old new (Missing i) = (N : ℕ) × (M : ℕ) × (S : Keys) × (T : Keys) × Holds old N S × Holds new M T × IsLowestOutside old N T i
 IsRenewFlaw old new (Extra j) = (N : ℕ) × (M : ℕ) × (S : Keys) × (T : Keys) × Holds old N S × Holds new M T × ((k : ℕ) → IsTrue (S k) → IsTrue (T k)) × IsLowestOutside new M S j
+
+-- the verdict on two files is true
+abbrev pub IsVerdictOn : List ℕ → List ℕ → Result (Unit {0}) RenewFlaw → Type 0
+IsVerdictOn old new (Ok same) = HoldOneSet old new
+IsVerdictOn old new (Err flaw) = IsRenewFlaw old new flaw
+
+-- On two files one verdict alone is true.
+abbrev pub OneVerdict : Type 0
+OneVerdict = (old new : List ℕ) (one other : Result (Unit {0}) RenewFlaw) → IsVerdictOn old new one → IsVerdictOn old new other → one ≡ other
 
 -- the number by which a program tells a flaw
 abbrev pub renew_flaw_number : RenewFlaw → ℕ
