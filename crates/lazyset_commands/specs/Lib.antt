@@ -4,5 +4,6 @@ pub mod Makings
 pub mod Asks
 pub mod Runs
 pub mod Checks
+pub mod Comparisons
 pub mod Judgements
 pub mod Rehearsals

@@ -2,6 +2,7 @@
 #![tactic(auto)]
 
 mod checking;
+mod comparing;
 mod judging;
 mod making;
 mod network;
@@ -13,6 +14,7 @@ mod status;
 mod telling;
 
 pub use checking::{MOST_SURVEYED, check_on};
+pub use comparing::check_of_on;
 pub use judging::{MOST_JUDGED, judge_on};
 pub use making::make_on;
 pub use network::{ServeOptions, serve_on};

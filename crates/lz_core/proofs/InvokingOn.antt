@@ -26,7 +26,7 @@ use Rattle.lz_yard.specs.Parts.{YardOver}
 use Rattle.lz_yard.specs.Steps.{Played}
 use Rattle.lz_core.specs.Worlds.{WorldOver, HasRun, HasOne, IsCallOn, IsWorld, MayCall, MayStepOn, StepsOn, begun_after, call_shown, state_shown}
 use Rattle.lz_machine.proofs.Runs.Course.{invoke_plays}
-use Rattle.lz_yard.proofs.Keeping.{fault_or_not}
+use Rattle.lz_yard.proofs.Events.KeptFit.{fault_or_not}
 use Rattle.lz_core.proofs.Worlding.{Goes, runs_on, shape_is, shown_caller, shown_set, set_at, no_call, on_set, same_count}
 use Rattle.lz_core.proofs.TurningOn.{quiet_goes}
 

@@ -37,7 +37,7 @@ use Rattle.std.proofs.lemmas.List.{length-map, get_or-set_same}
 use Rattle.lz_list.specs.Words.{Words}
 use Rattle.lz_machine.proofs.Frames.OneActor.{caller_range}
 use Rattle.lz_machine.proofs.Runs.CallerEvent.{Next, is_next}
-use Rattle.lz_yard.proofs.Keeping.{played_shape, fault_or_not}
+use Rattle.lz_yard.proofs.Events.KeptFit.{played_shape, fault_or_not}
 use Rattle.lz_machine.proofs.Runs.CallerTable.{fault_no_reply}
 use Rattle.lz_machine.proofs.Theorem.Timing.{is_event, in_time, may_take, quiet_step}
 use Rattle.lz_machine.proofs.Theorem.EventNeeds.{may_take_fault}

@@ -42,7 +42,7 @@ use Rattle.lz_machine.proofs.Frames.LoadedWord.{bucket_range}
 use Rattle.lz_core.proofs.Ascending.{eq_of, first_of, later_of}
 use Rattle.lz_machine.proofs.Theorem.WornPass.{up_at}
 use Rattle.lz_machine.proofs.Theorem.Reached.{reached_sound}
-use Rattle.lz_yard.proofs.FoundSlots.{read_length}
+use Rattle.lz_yard.proofs.Opening.SlotReads.{read_length}
 use Rattle.lz_machine.proofs.Open.ListedKeys.{any_key, key_by}
 
 -- in a sound open service

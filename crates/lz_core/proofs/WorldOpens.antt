@@ -28,7 +28,7 @@ use Rattle.lz_machine.proofs.Open.ListedKeys.{listed}
 use Rattle.lz_machine.proofs.Open.FirstPoint.{one_set}
 use Rattle.lz_core.proofs.Worlding.{Goes, leads, runs_on}
 use Rattle.lz_core.proofs.WorldKeys.{yard_read}
-use Rattle.lz_yard.proofs.FoundSlots.{read_length}
+use Rattle.lz_yard.proofs.Opening.SlotReads.{read_length}
 
 -- a text that holds a set has one number of slots
 one_count : (t : List ℕ) (N n : ℕ) (S T : Keys) → Holds t N S → Holds t n T → N ≡ n

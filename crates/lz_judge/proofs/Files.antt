@@ -10,8 +10,8 @@ use Rattle.lz_slot.specs.Bytes.{Holds, format_of, header_read, header_body, open
 use Rattle.lz_slot.proofs.Heads.{head_alone}
 use Rattle.lz_slot.proofs.Exact.{header_counts, header_is_of_its_count, header_reads_back}
 use Rattle.lz_judge.specs.declared.finding.Finding.{Finding}
-use Rattle.lz_judge.specs.Surveys.{AreFindings, is_sound}
-use Rattle.lz_judge.proofs.Slots.{keys_found, no_bad_key, no_key_twice, set_found, sound_where}
+use Rattle.lz_judge.specs.Surveys.{AreFindings, found_keys, is_sound}
+use Rattle.lz_judge.proofs.Slots.{no_bad_key, no_key_twice, set_found, sound_where}
 
 -- a file that holds a set has no fault of the head
 pub held_head : (t : List ℕ) (N : ℕ) (S : Keys) → Holds t N S → header_read t (length t) ≡ Ok N
@@ -43,7 +43,7 @@ sound_holds t N found bytes head findings = (holds, sound)
     holds : IsTrue (list_all is_sound found) → (n : ℕ) × (S : Keys) × Holds t n S
     holds all = let sound = pass all in (
       N,
-      keys_found (slot_at t) N found findings,
+      found_keys found,
       record {
         count = (range.0, range.1);
         size = range.2;

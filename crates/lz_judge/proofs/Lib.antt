@@ -16,3 +16,5 @@ mod Runs
 mod Flawless
 pub mod MarkLines
 pub mod Rows
+pub mod KeysOutside
+pub mod OneSet

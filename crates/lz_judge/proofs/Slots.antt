@@ -1,5 +1,5 @@
 -- One slot more in a survey, and what a survey without damage says.
-use Rattle.std.proofs.Common.{◌≡◌, ◌≢◌, ⊎_elim, ◌↔◌, ℕ, zero, suc, ◌+◌, ◌<◌, Bool, true, false, List, [], ◌∷◌, ◌++◌, get_or, sym, refl, ◌∙◌, ap, subst, arith, Some, None, IsTrue, add-one, rules}
+use Rattle.std.proofs.Common.{◌≡◌, ◌≢◌, ⊎_elim, ◌↔◌, ℕ, zero, suc, ◌+◌, ◌<◌, Bool, true, List, [], ◌∷◌, ◌++◌, get_or, sym, refl, ◌∙◌, ap, subst, arith, Some, None, IsTrue, add-one, rules}
 use Rattle.std.specs.Prelude.{All, map, ◌==◌, ◌||◌, Contains}
 use Rattle.std.specs.List.{list_any}
 use Rattle.std.specs.BTreeMap as tree
@@ -12,12 +12,11 @@ use Rattle.std.proofs.lemmas.List.Folds.{list_any_at}
 use Rattle.std.proofs.lemmas.Option.{same_Some}
 use Rattle.std.proofs.lemmas.Bool.{cases_eq, cases_lt, eqb-true, eq-eqb, or_cases}
 use Rattle.std.proofs.lemmas.Bool.Decides.{nat_tests}
-use Rattle.lz_slot.specs.Sets.{Keys}
 use Rattle.lz_slot.specs.declared.slot.SlotRead.{SlotRead}
 use Rattle.lz_slot.specs.declared.slot.SlotRead.TheVariants as read
 use Rattle.lz_judge.specs.declared.finding.Finding.{Finding}
 use Rattle.lz_judge.specs.declared.finding.Finding.TheVariants.{Key, BadKey, Twice}
-use Rattle.lz_judge.specs.Surveys.{AreFindings, IsFinding, IsFirst, is_sound, open_slot, open_slots, slot_of}
+use Rattle.lz_judge.specs.Surveys.{AreFindings, IsFinding, IsFirst, found_keys, is_key, is_sound, open_slot, open_slots, slot_of}
 use Rattle.lz_judge.specs.Scans.{KnowsFirsts, Places, Scanned}
 
 pub same_member : (j k : ℕ) → read.Member j ≡ read.Member k → j ≡ k
@@ -173,24 +172,15 @@ at_found found finding at = any_map (slot_of finding) found ∙ found_any (λ ot
 
 -- what a survey without damage says of each slot
 module _ (says : ℕ → SlotRead) (n : ℕ) (found : List Finding) (findings : AreFindings says n found) where
-  finding_of : (i : ℕ) → i < n → says i ≢ read.Closed → (finding : Finding) × Contains found finding × (slot_of finding ≡ i)
+  pub finding_of : (i : ℕ) → i < n → says i ≢ read.Closed → (finding : Finding) × Contains found finding × (slot_of finding ≡ i)
   finding_of i lt is = found_at i found (ap (list_any (λ j. j == i)) findings.slots ∙ opened says n i lt is)
 
-  found_below : (finding : Finding) → Contains found finding → slot_of finding < n
+  pub found_below : (finding : Finding) → Contains found finding → slot_of finding < n
   found_below finding at = open_below says n (slot_of finding) (ap (list_any (λ j. j == slot_of finding)) (sym findings.slots) ∙ at_found found finding at)
-
-  -- the keys that were found
-  abbrev is_key : ℕ → Finding → Bool
-  is_key k (Key i q) = q == k
-  is_key k (BadKey i) = false
-  is_key k (Twice i first) = false
-
-  abbrev pub keys_found : Keys
-  keys_found k = list_any (is_key k) found
 
   module _ (sound : All (λ f. IsTrue (is_sound f)) found) where
     -- each slot that isn't closed holds a key of its own
-    first_of : (i : ℕ) → i < n → says i ≢ read.Closed → (k : ℕ) × Contains found (Key i k) × IsFirst says i k
+    pub first_of : (i : ℕ) → i < n → says i ≢ read.Closed → (k : ℕ) × Contains found (Key i k) × IsFirst says i k
     first_of i lt is =
         let (finding, at, here) = finding_of i lt is in
         sound_first finding at (All-contains (λ f. IsTrue (is_sound f)) found finding sound at) (All-contains (IsFinding says) found finding findings.each at) here
@@ -216,7 +206,7 @@ module _ (says : ℕ → SlotRead) (n : ℕ) (found : List Finding) (findings : 
             let f = first_of i lt (λ shut. let e : read.Member k ≡ read.Closed = sym is ∙ shut in cc) in
             subst (λ (q : ℕ). IsFirst says i q) (same_member f.0 k (sym f.2.holds ∙ is)) f.2
 
-    pub set_found : (k : ℕ) → IsTrue (keys_found k) ↔ ((i : ℕ) × (i < n) × (says i ≡ read.Member k))
+    pub set_found : (k : ℕ) → IsTrue (found_keys found k) ↔ ((i : ℕ) × (i < n) × (says i ≡ read.Member k))
     set_found k = (holds, has)
       where
         key_at : (finding : Finding) → Contains found finding → IsFinding says finding → is_key k finding ≡ true → (i : ℕ) × (i < n) × (says i ≡ read.Member k)
@@ -224,10 +214,10 @@ module _ (says : ℕ → SlotRead) (n : ℕ) (found : List Finding) (findings : 
         key_at (BadKey i) at is here = absurd (cc)
         key_at (Twice i first) at is here = absurd (cc)
 
-        holds : IsTrue (keys_found k) → (i : ℕ) × (i < n) × (says i ≡ read.Member k)
+        holds : IsTrue (found_keys found k) → (i : ℕ) × (i < n) × (says i ≡ read.Member k)
         holds is = let (finding, at, here) = any_found (is_key k) found is in key_at finding at (All-contains (IsFinding says) found finding findings.each at) here
 
-        has : (i : ℕ) × (i < n) × (says i ≡ read.Member k) → IsTrue (keys_found k)
+        has : (i : ℕ) × (i < n) × (says i ≡ read.Member k) → IsTrue (found_keys found k)
         has (i, lt, is) =
             let (q, at, first) = first_of i lt (λ shut. let e : read.Member k ≡ read.Closed = sym is ∙ shut in cc) in
             found_any (is_key k) found (Key i q) at (eq-eqb q k (same_member q k (sym first.holds ∙ is)))

@@ -1,6 +1,7 @@
 pub mod Surveys
 pub mod Scans
 pub mod Limits
+pub mod Renewals
 pub mod Records
 pub mod Flaws
 pub mod Passes

@@ -1,7 +1,8 @@
 -- What a survey says of a file. Slot i says `says i`.
-use Rattle.std.specs.Prelude.{◌≡◌, ◌≢◌, ℕ, zero, suc, ◌<◌, List, [], ◌∷◌, ◌++◌, map, length, All, Ok, Err, Bool, true, false}
-use Rattle.std.specs.List.{list_all}
+use Rattle.std.specs.Prelude.{◌≡◌, ◌≢◌, ℕ, zero, suc, ◌<◌, ◌==◌, List, [], ◌∷◌, ◌++◌, map, length, All, Ok, Err, Bool, true, false}
+use Rattle.std.specs.List.{list_all, list_any}
 use Rattle.lz_slot.specs.Bytes.{header_read, slot_at}
+use Rattle.lz_slot.specs.Sets.{Keys}
 use Rattle.lz_slot.specs.declared.slot.SlotRead.{SlotRead}
 use Rattle.lz_slot.specs.declared.slot.SlotRead.TheVariants as read
 use Rattle.lz_judge.specs.declared.finding.Finding.{Finding}
@@ -57,3 +58,13 @@ is_sound (Twice i first) = false
 abbrev pub is_good : Survey → Bool
 is_good (Refused fault) = false
 is_good (Found findings) = list_all is_sound findings.items
+
+-- the finding tells that a slot holds k
+abbrev pub is_key : ℕ → Finding → Bool
+is_key k (Key i q) = q == k
+is_key k (BadKey i) = false
+is_key k (Twice i first) = false
+
+-- the keys that were found
+abbrev pub found_keys : List Finding → Keys
+found_keys found k = list_any (is_key k) found

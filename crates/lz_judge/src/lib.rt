@@ -18,6 +18,7 @@ mod listing;
 mod ordering;
 mod playing;
 mod reading;
+mod renewing;
 mod surveying;
 
 pub use finding::{Finding, Survey};
@@ -25,4 +26,5 @@ pub use flaw::Flaw;
 pub use history::{History, Point};
 pub use judging::judge;
 pub use limits::{MAX_PLACE, MOST_BYTES, MOST_CALLS};
+pub use renewing::{RenewFlaw, renewed};
 pub use surveying::survey;

@@ -36,8 +36,8 @@ use Rattle.lz_machine.proofs.Theorem.EventNeeds.{may_take_fault}
 use Rattle.lz_machine.proofs.Theorem.WornPass.{is_look}
 use Rattle.lz_machine.proofs.Theorem.Timing.{is_event, may_take, quiet_step}
 use Rattle.lz_yard.specs.Steps.{Played}
-use Rattle.lz_yard.proofs.Keeping.{fault_or_not, played_shape}
-use Rattle.lz_yard.proofs.Onward.{may_play, moved, steps_on}
+use Rattle.lz_yard.proofs.Events.KeptFit.{fault_or_not, played_shape}
+use Rattle.lz_yard.proofs.Events.RunTransition.{may_play, moved, steps_on}
 use Rattle.lz_set.specs.Locks.{Begins, HasHistory, IsCallOf, IsHeld, IsHold, IsLeft, IsOfRun, IsReplied, IsTurn, ServiceOver, begun_after, first_call, goes_on, kept_call, next_of}
 
 -- lists of what passes have, one for one

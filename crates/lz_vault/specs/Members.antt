@@ -1,5 +1,5 @@
 -- The members that slots hold, by key.
-use Rattle.std.specs.Prelude.{◌≡◌, ℕ, ◌<◌, Bool, true, false, ◌&&◌, ◌||◌, ◌==◌, List, [], ◌∷◌, length, slice_index_or, Option, Some, None}
+use Rattle.std.specs.Prelude.{◌≡◌, ℕ, ◌<◌, Bool, true, false, ◌&&◌, ◌||◌, ◌==◌, List, [], ◌∷◌, length, filter_map, slice_index_or, Option, Some, None}
 use Rattle.lz_slot.specs.Nodes.{Nodes, has_node}
 use Rattle.lz_vault.specs.declared.vault.Stage.TheVariants.{Closed, Open}
 use Rattle.lz_vault.specs.Stages.{Cell}
@@ -14,6 +14,10 @@ member_in cell = elim cell.stage [ Open ↦ Some cell.key | _ ↦ None ]
 
 abbrev pub member_at : List Cell → ℕ → Option ℕ
 member_at cells s = member_in (slice_index_or cells s no_cell)
+
+-- the keys that slots hold, in the order of the slots
+abbrev pub keys_in : List Cell → List ℕ
+keys_in cells = filter_map member_in cells
 
 -- the keys ascend
 abbrev pub Ascends : Nodes → Type 0

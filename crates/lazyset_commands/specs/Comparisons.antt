@@ -1,0 +1,40 @@
+-- What a check of a file against another tells.
+use Rattle.std.specs.Prelude.{◌≡◌, ◌≢◌, ◌⊎◌, ℕ, Option, List, [], ◌∷◌, ◌++◌, codes, Result, Ok, Err}
+use Rattle.std.specs.Io.KnownBytes.{Appends}
+use Rattle.lz_judge.specs.Renewals.{HoldOneSet, IsRenewFlaw}
+use Rattle.lz_judge.specs.declared.renewing.RenewFlaw.{RenewFlaw}
+use Rattle.lz_judge.specs.declared.renewing.RenewFlaw.TheVariants.{NotHeld, Missing, Extra}
+use Rattle.lazyset_commands.specs.Checks.{IsChecked}
+use Rattle.lazyset_commands.specs.Judgements.{numbers_text}
+use Rattle.lazyset_commands.specs.declared.status.Status.{Status}
+use Rattle.lazyset_commands.specs.declared.status.Status.TheVariants.{Done, Damaged}
+
+-- the verdict on two files is true
+abbrev pub IsVerdictOn : List ℕ → List ℕ → Result (Unit {0}) RenewFlaw → Type 0
+IsVerdictOn old new (Ok same) = HoldOneSet old new
+IsVerdictOn old new (Err flaw) = IsRenewFlaw old new flaw
+
+-- the line of a verdict: each flaw has its number, and its slot if it names one
+abbrev pub verdict_text : Result (Unit {0}) RenewFlaw → List ℕ
+verdict_text (Ok same) = codes "same" ++ 10 ∷ []
+verdict_text (Err NotHeld) = codes "flaw 8" ++ 10 ∷ []
+verdict_text (Err (Missing i)) = numbers_text 9 i
+verdict_text (Err (Extra j)) = numbers_text 10 j
+
+-- how a check ends with this verdict
+abbrev pub verdict_status : Result (Unit {0}) RenewFlaw → Status
+verdict_status (Ok same) = Done
+verdict_status (Err flaw) = Damaged
+
+-- a comparison of two files ended with this status, and wrote its verdict
+pub record IsCompared (old new : List ℕ) (status : Status) (before after : Option (List ℕ)) : Type 0 where
+  pub verdict : Result (Unit {0}) RenewFlaw
+  pub of_files : IsVerdictOn old new verdict
+  pub ends : status ≡ verdict_status verdict
+  pub written : Appends before after (verdict_text verdict)
+
+-- The file was checked, and behind `good`, and only there, compared with the older one.
+abbrev pub IsCheckedOf : List ℕ → List ℕ → Status → Option (List ℕ) → Option (List ℕ) → Type 0
+IsCheckedOf old new status before after =
+    ((status ≢ Done) × IsChecked new status before after)
+    ⊎ ((middle : Option (List ℕ)) × IsChecked new Done before middle × IsCompared old new status middle after)

@@ -1,0 +1,56 @@
+use Rattle.std.proofs.Common.{◌≡◌, ◌⊎◌, inl, inr, ⊎_elim, ℕ, Bool, true, false, List, IsTrue, refl, sym, subst, arith}
+use Rattle.lz_slot.specs.Sets.{Keys, Same, members}
+use Rattle.lz_slot.specs.Bytes.{Holds}
+use Rattle.lz_slot.proofs.Holding.{holds_same_set}
+use Rattle.lz_disk.specs.Images.{IsImage}
+use Rattle.lz_disk.specs.Devices.{Device, IsTimely, LeavesOnly}
+use Rattle.lz_disk.proofs.Moments.{leaves_more, quiet}
+use Rattle.lz_vault.specs.Makes.{IsUnmadeOrHolds}
+use Rattle.lz_vault.specs.Renewals.{AreHeldBy}
+use Rattle.lz_vault.proofs.renewing.renew.Goals as goal
+
+both_ways : (a b : Bool) → (a ≡ true → b ≡ true) → (b ≡ true → a ≡ true) → a ≡ b
+both_ways true true to from = refl
+both_ways true false to from = absurd (let e : false ≡ true = to refl in cc)
+both_ways false true to from = absurd (let e : false ≡ true = from refl in cc)
+both_ways false false to from = refl
+
+-- a text holds one set
+one_set : (t : List ℕ) (N M : ℕ) (S T : Keys) → Holds t N S → Holds t M T → Same S T
+one_set t N M S T one other k =
+    let same : N ≡ M = omega (arith, one.size, other.size) in
+    both_ways (S k) (T k)
+    (λ has. let at = (one.set k).0 has in (other.set k).1 (at.0, omega (arith, at.1, same), at.2))
+    (λ has. let at = (other.set k).0 has in (one.set k).1 (at.0, omega (arith, at.1, same), at.2))
+
+-- where no call is made, each moment leaves what might have been left before
+uncalled : (old : Device) (n : ℕ) (S : Keys) → (IsTrue old.honest → IsTimely old) → IsTrue old.honest → ((t : List ℕ) → IsImage old.medium t → IsUnmadeOrHolds n S t) → LeavesOnly old old (IsUnmadeOrHolds n S)
+uncalled old n S timely honest here = quiet old (IsUnmadeOrHolds n S) (timely honest) here
+
+-- a making of a file of these keys leaves a file of the set of which they are the members
+called : (old new : Device) (n N : ℕ) (t ks : List ℕ) (S : Keys) → AreHeldBy t ks → Holds t N S → ((c : List ℕ) → IsImage old.medium c → IsUnmadeOrHolds n S c)
+    → LeavesOnly old new (λ c. IsImage old.medium c ⊎ IsUnmadeOrHolds n (members ks) c) → LeavesOnly old new (IsUnmadeOrHolds n S)
+called old new n N t ks S held holds here leaves =
+    let same = one_set t held.0 N (members ks) S held.1 holds in
+    leaves_more old new _ (IsUnmadeOrHolds n S) (λ c. ⊎_elim (here c) (⊎_elim inl (λ is. inr (holds_same_set c n (members ks) S same is)))) leaves
+
+pub returns-then-n-eq0-clause-any_moment : goal.returns-then-n-eq0-clause-any_moment
+returns-then-n-eq0-clause-any_moment g c = λ old_honest honest slots S holds here. uncalled (g.N.Disk.device c.args.new.now) c.args.n S (g.met.N.Disk.timely c.args.new.now) honest here
+
+pub returns-in-Err-clause-any_moment : goal.returns-in-Err-clause-any_moment
+returns-in-Err-clause-any_moment g c = λ old_honest honest slots S holds here. uncalled (g.N.Disk.device c.args.new.now) c.args.n S (g.met.N.Disk.timely c.args.new.now) honest here
+
+pub returns-then-n-members-clause-any_moment : goal.returns-then-n-members-clause-any_moment
+returns-then-n-members-clause-any_moment g c = λ old_honest honest slots S holds here. uncalled (g.N.Disk.device c.args.new.now) c.args.n S (g.met.N.Disk.timely c.args.new.now) honest here
+
+pub returns-in-Ok-make_with-clause-any_moment : goal.returns-in-Ok-make_with-clause-any_moment
+returns-in-Ok-make_with-clause-any_moment g c = λ old_honest honest slots S holds here.
+    let t = (g.O.Disk.device c.args.old.now).medium.seen in
+    called (g.N.Disk.device c.args.new.now) (g.N.Disk.device c.make_with.new.disk) c.args.n slots t c.deref.result.now S
+    (subst (AreHeldBy t) (sym c.deref.ensures.value) (c.in-Ok.ensures.held old_honest)) holds here (c.make_with.ensures.any_moment honest)
+
+pub returns-clause-any_moment : goal.returns-clause-any_moment
+returns-clause-any_moment g c = λ old_honest honest slots S holds here.
+    let t = (g.O.Disk.device c.args.old.now).medium.seen in
+    called (g.N.Disk.device c.args.new.now) (g.N.Disk.device c.make_with.new.disk) c.args.n slots t c.deref.result.now S
+    (subst (AreHeldBy t) (sym c.deref.ensures.value) (c.in-Ok.ensures.held old_honest)) holds here (c.make_with.ensures.any_moment honest)
