@@ -6,7 +6,7 @@ import os
 import re
 import shutil
 import subprocess
-from typing import Dict, List, Tuple
+from typing import Dict, List, Sequence, Tuple
 
 from lazyset import Reply, Verb
 from real import kills, load
@@ -55,11 +55,11 @@ def session_lines() -> str:
     return "".join(f"{verb.value} {number}\n" for verb, number in SESSION)
 
 
-def counted(program: Program, file: str, log: str) -> Dict[str, int]:
-    """How often a session without failures calls each of the system's calls on the file."""
+def count_calls(program: Program, words: Sequence[str], lines: str, log: str) -> Dict[str, int]:
+    """How often a command without failures, whose second word is the file, calls each of the system's calls on it."""
     calls = ",".join(FAILURES)
-    before = ["strace", "-f", "-qq", "-o", log, "-P", file, "-e", f"trace={calls}"]
-    expect(program.run("run", file, lines=session_lines(), before=before).status, 0, "a session")
+    before = ["strace", "-f", "-qq", "-o", log, "-P", words[1], "-e", f"trace={calls}"]
+    expect(program.run(*words, lines=lines, before=before).status, 0, words[0])
     with open(log, encoding="ascii", errors="replace") as traced:
         text = traced.read()
     return {call: len(re.findall(rf"\b{call}\(", text)) for call in FAILURES}
@@ -98,7 +98,7 @@ def try_session(program: Program, folder: str) -> None:
     needs_strace()
     file = os.path.join(folder, "counted")
     program.make(file, SLOTS)
-    counts = counted(program, file, os.path.join(folder, "log"))
+    counts = count_calls(program, ["run", file], session_lines(), os.path.join(folder, "log"))
     if min(counts.values()) < 5:
         raise Wrong(f"too few calls to fail: {counts}")
     for call, count in counts.items():
