@@ -1,0 +1,133 @@
+"""A device that fails: each write and sync of the slot file is made to fail by strace, one after the other."""
+
+from __future__ import annotations
+
+import os
+import re
+import shutil
+import subprocess
+from typing import Dict, List, Sequence, Tuple
+
+from lazyset import Reply, Verb
+from real import kills, load
+from real.history import Call, History, Life, ticket
+from real.program import Ended, Key, Program, Service
+from real.report import Skip, Wrong, expect
+
+SLOTS = 3
+
+# A session that uses slots again and has each kind of answer.
+SESSION = (
+    (Verb.ADD, 1),
+    (Verb.ADD, 2),
+    (Verb.HAS, 1),
+    (Verb.REMOVE, 1),
+    (Verb.ADD, 3),
+    (Verb.REMOVE, 9),
+    (Verb.ADD, 2),
+    (Verb.REMOVE, 2),
+    (Verb.ADD, 1),
+    (Verb.HAS, 3),
+)
+
+# The calls of the system by which the program writes and syncs a file, and what they fail with.
+FAILURES = {"pwrite64": "ENOSPC", "fsync": "EIO"}
+
+# A sync of the open comes first; one that fails is a refused open.
+REFUSED_DEVICE = Ended("refused 7\n", 1)
+
+
+def needs_strace() -> None:
+    """Skips the trial where strace isn't installed, or may not trace."""
+    if shutil.which("strace") is None:
+        raise Skip("strace isn't installed")
+    if subprocess.run(["strace", "-qq", "-o", os.devnull, "true"], stderr=subprocess.DEVNULL).returncode:
+        raise Skip("strace may not trace here")
+
+
+def failing(file: str, call: str, number: int) -> List[str]:
+    """The words behind which a program's call of that number on the file fails."""
+    inject = f"{call}:error={FAILURES[call]}:when={number}"
+    return ["strace", "-f", "-qq", "-o", os.devnull, "-P", file, "-e", f"trace={call}", "-e", f"inject={inject}"]
+
+
+def session_lines() -> str:
+    return "".join(f"{verb.value} {number}\n" for verb, number in SESSION)
+
+
+def count_calls(program: Program, words: Sequence[str], lines: str, log: str) -> Dict[str, int]:
+    """How often a command without failures, whose second word is the file, calls each of the system's calls on it."""
+    calls = ",".join(FAILURES)
+    before = ["strace", "-f", "-qq", "-o", log, "-P", words[1], "-e", f"trace={calls}"]
+    expect(program.run(*words, lines=lines, before=before).status, 0, words[0])
+    with open(log, encoding="ascii", errors="replace") as traced:
+        text = traced.read()
+    return {call: len(re.findall(rf"\b{call}\(", text)) for call in FAILURES}
+
+
+def calls_of(text: str) -> List[Call]:
+    """The calls of a session that was told these replies. After the first `halted` no line was read."""
+    calls: List[Call] = []
+    for (verb, number), word in zip(SESSION, text.splitlines()):
+        call = Call(1, verb, Key(0, number), ticket())
+        call.reply, call.ended = Reply(word), ticket()
+        calls.append(call)
+    return calls
+
+
+def try_one(program: Program, folder: str, call: str, number: int) -> None:
+    """A session whose call of that number fails: it is told halted, and what is found then is judged."""
+    file = os.path.join(folder, f"{call}-{number}")
+    program.make(file, SLOTS)
+    ended = program.run("run", file, lines=session_lines(), before=failing(file, call, number))
+    if call == "fsync" and number == 1:
+        expect(ended, REFUSED_DEVICE, "an open whose sync fails")
+        expect(program.members(file), [], "a file whose open was refused")
+        return
+    replies = ended.text.splitlines()
+    if ended.status != 1 or replies[-1:] != ["halted"] or replies.count("halted") != 1:
+        raise Wrong(f"{call} {number} failed: status {ended.status}, {ended.text!r}")
+    history = History([Life(calls_of(ended.text), "stop", program.members(file))])
+    kills.judge(program, folder, history)
+    with Service(program, file, 1) as service:
+        expect(service.told.split()[:1], ["listening"], "a service after a failed device")
+
+
+def try_session(program: Program, folder: str) -> None:
+    """Each write and each sync of a session fails once."""
+    needs_strace()
+    file = os.path.join(folder, "counted")
+    program.make(file, SLOTS)
+    counts = count_calls(program, ["run", file], session_lines(), os.path.join(folder, "log"))
+    if min(counts.values()) < 5:
+        raise Wrong(f"too few calls to fail: {counts}")
+    for call, count in counts.items():
+        for number in range(1, count + 1):
+            try_one(program, folder, call, number)
+    told = ", ".join(f"{count} of {call}" for call, count in counts.items())
+    print(f"         failed in turn: {told}", flush=True)
+
+
+def failed_life(program: Program, file: str, call: str, number: int, seed: int) -> Tuple[List[Call], int]:
+    """Serves eight clients until the device fails, and gives what they saw and how the service ended."""
+    before = failing(file, call, number)
+    with Service(program, file, kills.CLIENTS, before=before) as service:
+        clients = load.start(kills.CLIENTS, service.port, seed)
+        calls = load.finish(clients)
+        return calls, service.wait() or 0
+
+
+def try_service(program: Program, folder: str, seed: int) -> None:
+    """A service of eight clients whose device fails: each is told halted, and it ends with status 1; then it is served
+    again, over the same file, and the whole is judged."""
+    needs_strace()
+    file = os.path.join(folder, "served")
+    program.make(file, kills.SLOTS)
+    history = History()
+    for call, number in (("fsync", 5), ("pwrite64", 3), ("fsync", 12), ("pwrite64", 17)):
+        calls, status = failed_life(program, file, call, number, seed + number)
+        expect(status, 1, "the status of a service whose device failed")
+        halted = sum(call.reply is Reply.HALTED for call in calls)
+        expect(halted, kills.CLIENTS, "clients that were told halted")
+        history.lives.append(Life(calls, "stop", program.members(file)))
+    kills.judge(program, folder, history)

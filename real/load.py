@@ -1,0 +1,80 @@
+"""Clients that call a service at once, and note what they saw."""
+
+from __future__ import annotations
+
+import random
+import threading
+from typing import List, Sequence, Tuple
+
+import lazyset
+from lazyset import Lazyset, Reply, Verb
+from real.history import Call, ticket
+from real.program import Key
+
+# What the clients ask for, and how often: mostly changes, since these are what a crash may lose.
+VERBS = (Verb.ADD, Verb.ADD, Verb.REMOVE, Verb.REMOVE, Verb.HAS)
+
+# Few keys, so that clients meet on them, in two rooms.
+KEYS = [Key(room, number) for room in (0, 7) for number in range(12)]
+
+
+class Client(threading.Thread):
+    """One client, which asks on a connection of its own until that is lost, the service halts, or it is told to stop."""
+
+    def __init__(self, actor: int, port: int, seed: int) -> None:
+        super().__init__(daemon=True)
+        self.actor = actor
+        self.port = port
+        self.random = random.Random(seed)
+        self.calls: List[Call] = []
+        self.enough = threading.Event()
+
+    def run(self) -> None:
+        try:
+            with Lazyset(self.port, timeout=30) as keys:
+                while not self.enough.is_set():
+                    self._ask(keys)
+        except (lazyset.LostConnection, lazyset.Halted):
+            pass
+
+    def _ask(self, keys: Lazyset) -> None:
+        verb, key = self.random.choice(VERBS), self.random.choice(KEYS)
+        call = Call(self.actor, verb, key, ticket())
+        self.calls.append(call)
+        reply = _reply(keys, verb, key)
+        call.ended, call.reply = ticket(), reply
+        if reply is Reply.HALTED:
+            raise lazyset.Halted("noted")
+
+
+def _reply(keys: Lazyset, verb: Verb, key: Key) -> Reply:
+    ask = {Verb.ADD: keys.add, Verb.REMOVE: keys.remove, Verb.HAS: keys.has}[verb]
+    try:
+        return Reply.YES if ask(key.number, key.room) else Reply.NO
+    except lazyset.Full:
+        return Reply.FULL
+    except lazyset.Halted:
+        return Reply.HALTED
+
+
+def start(count: int, port: int, seed: int) -> List[Client]:
+    """Starts so many clients."""
+    clients = [Client(actor, port, seed * 64 + actor) for actor in range(1, count + 1)]
+    for client in clients:
+        client.start()
+    return clients
+
+
+def finish(clients: Sequence[Client]) -> List[Call]:
+    """Waits until each client has ended, and gives the calls of all."""
+    for client in clients:
+        client.join(60)
+        if client.is_alive():
+            raise lazyset.LazysetError(f"client {client.actor} still waits for a reply")
+    return [call for client in clients for call in client.calls]
+
+
+def count_replies(calls: Sequence[Call]) -> Tuple[int, int]:
+    """How many calls were answered or refused, and how many were under way at the end."""
+    answered = sum(call.reply is not None and call.reply is not Reply.HALTED for call in calls)
+    return answered, len(calls) - answered

@@ -1,0 +1,105 @@
+"""The program's commands, and its service as a process."""
+
+from __future__ import annotations
+
+import os
+import signal
+import subprocess
+from dataclasses import dataclass
+from typing import List, NamedTuple, Optional, Sequence
+
+from real.report import Wrong, expect
+
+# How long any command may take that has an end.
+PATIENCE = 60.0
+
+
+class Key(NamedTuple):
+    """A key, in the order of keys."""
+
+    room: int
+    number: int
+
+    @classmethod
+    def read(cls, text: str) -> Key:
+        room, colon, number = text.rpartition(":")
+        return cls(int(room) if colon else 0, int(number))
+
+    def __str__(self) -> str:
+        return f"{self.room}:{self.number}" if self.room else f"{self.number}"
+
+
+class Ended(NamedTuple):
+    """What a command printed, and its status."""
+
+    text: str
+    status: int
+
+
+@dataclass(frozen=True)
+class Program:
+    """The built program."""
+
+    path: str
+
+    def run(self, *words: str, lines: str = "", before: Sequence[str] = ()) -> Ended:
+        """Runs a command to its end, behind the words of another program where some are given."""
+        ended = subprocess.run(
+            [*before, self.path, *words],
+            input=lines.encode("ascii"),
+            stdout=subprocess.PIPE,
+            stderr=subprocess.PIPE,
+            timeout=PATIENCE,
+        )
+        return Ended(ended.stdout.decode("ascii"), ended.returncode)
+
+    def make(self, file: str, slots: int) -> None:
+        expect(self.run("make", file, str(slots)), Ended(f"made {slots}\n", 0), "make")
+
+    def members(self, file: str) -> List[Key]:
+        """The keys that a file holds, ascending."""
+        text, status = self.run("check", file)
+        lines = text.splitlines()
+        if status != 0 or lines[-1:] != ["good"]:
+            raise Wrong(f"check: status {status}, {text[-200:]!r}")
+        return sorted(Key.read(line.split(" key ")[1]) for line in lines[:-1])
+
+    def judge(self, file: str) -> Ended:
+        return self.run("judge", file)
+
+
+class Service:
+    """The program serving a file, as a process of its own."""
+
+    def __init__(
+        self, program: Program, file: str, passes: int, *options: str, before: Sequence[str] = ()
+    ) -> None:
+        self.process = subprocess.Popen(
+            [*before, program.path, "serve", file, "0", str(passes), *options],
+            stdout=subprocess.PIPE,
+            stderr=subprocess.DEVNULL,
+            text=True,
+            start_new_session=True,
+        )
+        assert self.process.stdout is not None
+        self.told = self.process.stdout.readline()
+        self.port = int(self.told.split()[1]) if self.told.startswith("listening ") else 0
+
+    def __enter__(self) -> Service:
+        return self
+
+    def __exit__(self, *_: object) -> None:
+        self.kill()
+
+    def kill(self) -> None:
+        """Kills it, with whatever it was started behind, where it goes on yet."""
+        if self.process.poll() is None:
+            os.killpg(self.process.pid, signal.SIGKILL)
+        self.wait()
+
+    def wait(self) -> Optional[int]:
+        """Waits for its end, and gives its status."""
+        status = self.process.wait(PATIENCE)
+        if self.process.stdout is not None:
+            self.process.stdout.close()
+        return status
