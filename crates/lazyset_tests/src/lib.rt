@@ -8,6 +8,8 @@ mod commands;
 #[cfg(test)]
 mod crashes;
 #[cfg(test)]
+mod held;
+#[cfg(test)]
 mod interleaving;
 #[cfg(test)]
 mod judging;
@@ -29,6 +31,10 @@ mod rehearsing;
 mod rooms;
 #[cfg(test)]
 mod scripts;
+#[cfg(test)]
+mod seats;
+#[cfg(test)]
+mod serving;
 #[cfg(test)]
 mod sessions;
 #[cfg(test)]

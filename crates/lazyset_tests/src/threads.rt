@@ -1,43 +1,120 @@
 //! Threads that share a set.
-ghost use Rattle.std.specs.Prelude.{◌≡◌, ◌≤◌};
+ghost use Rattle.std.specs.Prelude.{◌≡◌, ◌≤◌, All};
 ghost use Rattle.lz_set.specs.Names.{MayCall};
 
-use lz_disk::MemoryDisk;
+use lz_disk::{MemoryDisk, Pick};
 use lz_set::{Blank, Fault, Named, NoGate, Pass, Set};
-use lz_slot::{Format, Key, Slot};
+use lz_slot::{Command, Format, Key, Slot};
 use lz_vault::{Vault, make};
-use std::alloc::Global;
+use std::alloc::{AllocError, Global};
 use std::marker::Brand;
 use std::sync::Wait;
 use std::test::Fail;
 use std::thread;
 use std::thread::Threads;
 
-// How often a thread's calls were answered yes, and how often with a fault.
-#[derive(Clone, Copy)]
+/// A disk in memory with a new file of so many slots.
+pub fn made(alloc: Global, slots: u64) -> Option<MemoryDisk> {
+    let Ok(mut disk) = MemoryDisk::new(alloc, Vec::new(alloc)) else {
+        return None;
+    };
+    match make(&mut disk, Format::Two, slots) {
+        Ok(()) => Some(disk),
+        Err(_) => None,
+    }
+}
+
+/// The keys of the members that a disk's file holds, ascending.
+pub fn keys_in(alloc: Global, disk: MemoryDisk) -> Option<Vec<u64>> {
+    let Ok(vault) = Vault::open(alloc, disk) else {
+        return None;
+    };
+    let mut keys = Vec::new(alloc);
+    for index in 0..vault.slots() {
+        if let Some(key) = vault.key_at(Slot::new(index as u16)) {
+            keys.push(key.get()).ok()?;
+        }
+    }
+    keys.sort().ok()?;
+    Some(keys)
+}
+
+/// What a thread was answered.
+#[derive(Drop)]
 struct Tally {
-    added: u64,
-    removed: u64,
+    // How often each key was added, less how often it was removed.
+    gains: [i64; 5],
+    // The first call that a fault cut off.
+    cut_off: Option<Command>,
     devices: u64,
     halts: u64,
     others: u64,
 }
 
 impl Tally {
-    fn note(&mut self, adds: bool, answer: Result<bool, Fault>) {
-        let count = match answer {
-            Ok(false) => return,
-            Ok(true) if adds => &mut self.added,
-            Ok(true) => &mut self.removed,
-            Err(Fault::Device) => &mut self.devices,
-            Err(Fault::Halted) => &mut self.halts,
-            Err(_) => &mut self.others,
+    fn new() -> Tally {
+        Tally {
+            gains: [0; 5],
+            cut_off: None,
+            devices: 0,
+            halts: 0,
+            others: 0,
+        }
+    }
+
+    fn note(&mut self, command: Command, answer: Result<bool, Fault>) {
+        match (answer, command) {
+            (Ok(true), Command::Add(key)) => self.gain(key, 1),
+            (Ok(true), Command::Remove(key)) => self.gain(key, -1),
+            (Ok(_), _) => {}
+            // Such a call counts as not made: slots of removed keys wait for the other threads to go on.
+            (Err(Fault::Full(_)), _) => {}
+            (Err(fault), _) => {
+                self.note_fault(fault);
+                if self.cut_off.is_none() {
+                    self.cut_off = Some(command);
+                }
+            }
+        }
+    }
+
+    fn note_fault(&mut self, fault: Fault) {
+        let count = match fault {
+            Fault::Device => &mut self.devices,
+            Fault::Halted => &mut self.halts,
+            Fault::Full(_) | Fault::Worn | Fault::OldFile => &mut self.others,
         };
-        *count = count.saturating_add(1);
+        *count = count.wrapping_add(1);
+    }
+
+    fn gain(&mut self, key: Key, more: i64) {
+        if let Some(gain) = self.gains.get_mut(key.get() as usize) {
+            *gain = gain.wrapping_add(more);
+        }
     }
 }
 
-// Adds and removes a few keys, over and over.
+// Whether what all threads were answered leads to these keys: each key as often added as removed, and once more where it is
+// a member, but for the call that each thread may have had cut off.
+fn leads_to(tallies: &[Tally], keys: &[u64]) -> bool {
+    (0..5).all(|key| {
+        let mut low = if keys.contains(&key) { -1i64 } else { 0 };
+        let mut high = low;
+        for tally in tallies {
+            let gain = tally.gains.get(key as usize).copied().unwrap_or(0);
+            low = low.wrapping_add(gain);
+            high = high.wrapping_add(gain);
+            match tally.cut_off {
+                Some(Command::Add(cut)) if cut.get() == key => high = high.wrapping_add(1),
+                Some(Command::Remove(cut)) if cut.get() == key => low = low.wrapping_sub(1),
+                _ => {}
+            }
+        }
+        low <= 0 && 0 <= high
+    })
+}
+
+// Adds and removes the same few keys as every other thread does, over and over.
 fn churn<N: Named, R: Wait>(
     rt: &R,
     set: &Set<MemoryDisk, NoGate, N>,
@@ -47,140 +124,171 @@ fn churn<N: Named, R: Wait>(
     requires { MayCall N.name pass }
 {
     let mut pass = pass;
-    let mut tally = Tally {
-        added: 0,
-        removed: 0,
-        devices: 0,
-        halts: 0,
-        others: 0,
-    };
+    let mut tally = Tally::new();
     for round in 0..rounds {
         if let Some(key) = Key::new(round % 5) {
             let added = set.add(rt, &mut pass, key);
-            tally.note(true, added);
+            tally.note(Command::Add(key), added);
         }
-        if let Some(key) = Key::new(round % 3) {
+        if let Some(key) = Key::new(round % 7 % 5) {
             let removed = set.remove(rt, &mut pass, key);
-            tally.note(false, removed);
+            tally.note(Command::Remove(key), removed);
         }
     }
     tally
 }
 
-fn both<N: Named + Send + Sync, R: Threads + Wait + Sync>(
+// A thread for each pass, and what each was answered.
+fn churn_all<N: Named + Send + Sync, R: Threads + Wait + Sync>(
     rt: &R,
+    alloc: Global,
     set: &Set<MemoryDisk, NoGate, N>,
-    one: Pass,
-    other: Pass,
+    passes: Vec<Pass>,
     rounds: u64,
-) -> Option<(Tally, Tally)>
-    requires one { MayCall N.name one }
-    requires other { MayCall N.name other }
+) -> Vec<Tally>
+    requires { All (MayCall N.name) passes.items }
 {
     thread::scope(
         thread::scope_env(),
         rt,
-        move |scope| -> Option<(Tally, Tally)>
-            requires { MayCall N.name one × MayCall N.name other }
+        move |scope| -> Vec<Tally>
+            requires { All (MayCall N.name) passes.items }
         {
-            let child = scope.spawn(
-                move || -> Tally
-                    requires { MayCall N.name one }
-                { churn(rt, set, one, rounds) },
-            );
-            let here = churn(rt, set, other, rounds);
-            match child {
-                Ok(child) => Some((child.join(rt), here)),
-                Err(_) => None,
+            let mut threads = Vec::new(alloc);
+            for pass in passes {
+                let thread = scope.spawn(
+                    move || -> Tally
+                        requires { MayCall N.name pass }
+                    { churn(rt, set, pass, rounds) },
+                );
+                if let Ok(thread) = thread {
+                    let _ = threads.push(thread);
+                }
             }
+            let mut tallies = Vec::new(alloc);
+            for thread in threads {
+                let _ = tallies.push(thread.join(rt));
+            }
+            tallies
         },
     )
 }
 
-fn shared<N: Named + Send + Sync, R: Threads + Wait + Sync>(
+// What threads were answered that shared a set, and the disk that they left.
+#[derive(Drop)]
+struct Shared {
+    tallies: Vec<Tally>,
+    disk: MemoryDisk,
+}
+
+fn share<N: Named + Send + Sync, R: Threads + Wait + Sync>(
     rt: &R,
+    alloc: Global,
     blank: Blank<MemoryDisk, NoGate>,
     rounds: u64,
-) -> Option<(Tally, Tally, MemoryDisk)>
+) -> Shared
     requires { blank.name ≡ N.name }
 {
-    let (set, mut passes) = blank.start::<N>();
-    let (Some(one), Some(other)) = (passes.pop(), passes.pop()) else {
-        return None;
-    };
-    let (one, other) = both(rt, &set, one, other, rounds)?;
-    Some((one, other, set.close()))
-}
-
-// How many members a file has.
-fn members(alloc: Global, disk: MemoryDisk) -> Option<u64> {
-    let Ok(vault) = Vault::open(alloc, disk) else {
-        return None;
-    };
-    let mut count = 0u64;
-    for index in 0..vault.slots() {
-        if vault.key_at(Slot::new(index as u16)).is_some() {
-            count = count.saturating_add(1);
-        }
+    let (set, passes) = blank.start::<N>();
+    let tallies = churn_all(rt, alloc, &set, passes, rounds);
+    Shared {
+        tallies,
+        disk: set.close(),
     }
-    Some(count)
 }
 
-// What two threads were answered over a new set, and how many members its file has afterwards. Its device fails after so many
-// calls, if any.
+// Opens the set of a disk for so many threads, which share it.
 fn run<R: Threads + Wait + Sync>(
     rt: &R,
     alloc: Global,
+    disk: MemoryDisk,
     buckets: usize,
+    threads: usize,
     rounds: u64,
-    fuse: Option<u64>,
-) -> Option<(Tally, Tally, u64)>
-    requires { (1 ≤ buckets) × (buckets ≤ 4096) }
+) -> Option<Shared>
+    requires buckets { (1 ≤ buckets) × (buckets ≤ 4096) }
+    requires threads { (1 ≤ threads) × (threads ≤ 64) }
 {
-    let Ok(mut disk) = MemoryDisk::new(alloc, Vec::new(alloc)) else {
-        return None;
-    };
-    if make(&mut disk, Format::Two, 1000).is_err() {
-        return None;
+    match Set::open(alloc, disk, NoGate, buckets, threads) {
+        Ok(blank) => Some(share::<Brand, _>(rt, alloc, blank, rounds)),
+        Err(_) => None,
     }
-    if let Some(calls) = fuse {
-        disk.fuse(calls);
-    }
-    let Ok(blank) = Set::open(alloc, disk, NoGate, buckets, 2) else {
-        return None;
-    };
-    let (one, other, mut disk) = shared::<Brand, _>(rt, blank, rounds)?;
-    disk.stop();
-    let left = members(alloc, disk)?;
-    Some((one, other, left))
 }
 
 #[test]
 fn two_threads_add_up_to_a_set(rt: HostRuntime) -> Result<(), Fail> {
     for buckets in [1, 7] {
-        let Some((one, other, left)) = run(&rt, rt.alloc(), buckets, 3000, None) else {
+        let Some(disk) = made(rt.alloc(), 64) else {
+            panic!(rt; "no disk")
+        };
+        let Some(shared) = run(&rt, rt.alloc(), disk, buckets, 2, 10_000) else {
             panic!(rt; "no set")
         };
-        assert!(rt; one.devices == 0 && one.halts == 0 && one.others == 0);
-        assert!(rt; other.devices == 0 && other.halts == 0 && other.others == 0);
-        let added = one.added.saturating_add(other.added);
-        let removed = one.removed.saturating_add(other.removed);
-        assert!(rt; added == removed.saturating_add(left));
+        let Shared { tallies, mut disk } = shared;
+        assert!(rt; tallies.len() == 2 && tallies.iter().all(|tally| tally.cut_off.is_none()));
+        disk.stop();
+        let Some(keys) = keys_in(rt.alloc(), disk) else {
+            panic!(rt; "no file")
+        };
+        assert!(rt; leads_to(&tallies, &keys), "{buckets} buckets: {keys:?}");
     }
     Ok(())
 }
 
-// The call whose device call failed is told, and all others that come then are halted. Its own key may be there or not.
+/// Whether a device fails at one call or from then on.
+#[derive(Clone, Copy, Debug)]
+enum Failing {
+    Once,
+    ForGood,
+}
+
+// A disk of 64 slots that fails after so many calls.
+fn failing_disk(alloc: Global, failing: Failing, calls: u64) -> Option<MemoryDisk> {
+    let mut disk = made(alloc, 64)?;
+    match failing {
+        Failing::Once => disk.trip_after(calls),
+        Failing::ForGood => disk.fuse(calls),
+    }
+    Some(disk)
+}
+
+// The call whose device call failed is told, and all others that come then are halted. What was answered is there, whatever the
+// crash behind it leaves.
 #[test]
-fn a_device_fails_under_two_threads(rt: HostRuntime) -> Result<(), Fail> {
-    let Some((one, other, left)) = run(&rt, rt.alloc(), 1, 300, Some(400)) else {
-        panic!(rt; "no set")
-    };
-    assert!(rt; one.devices.saturating_add(other.devices) == 1);
-    assert!(rt; one.halts > 0 && other.halts > 0 && one.others == 0 && other.others == 0);
-    let added = one.added.saturating_add(other.added);
-    let removed = one.removed.saturating_add(other.removed);
-    assert!(rt; added <= removed.saturating_add(left).saturating_add(2));
-    assert!(rt; removed.saturating_add(left) <= added.saturating_add(2));
+fn a_device_fails_under_four_threads(rt: HostRuntime) -> Result<(), Fail> {
+    for failing in [Failing::Once, Failing::ForGood] {
+        for pick in [
+            Pick::Old,
+            Pick::New,
+            Pick::Byte(0xa5),
+            Pick::Byte(0),
+            Pick::Part(1),
+        ] {
+            let Some(disk) = failing_disk(rt.alloc(), failing, 400) else {
+                panic!(rt; "no disk")
+            };
+            let Some(shared) = run(&rt, rt.alloc(), disk, 1, 4, 300) else {
+                panic!(rt; "no set")
+            };
+            let Shared { tallies, mut disk } = shared;
+            let devices = tallies
+                .iter()
+                .fold(0u64, |sum, tally| sum.wrapping_add(tally.devices));
+            assert_eq!(rt; devices, 1);
+            assert!(rt;
+                tallies
+                    .iter()
+                    .all(|tally| tally.halts > 0 && tally.others == 0)
+            );
+            disk.crash(pick)?;
+            let Some(keys) = keys_in(rt.alloc(), disk) else {
+                panic!(rt; "no file")
+            };
+            assert!(rt;
+                tallies.len() == 4 && leads_to(&tallies, &keys),
+                "{failing:?} {pick:?}: {keys:?}"
+            );
+        }
+    }
     Ok(())
 }
