@@ -181,7 +181,7 @@ step_tied start (Down shape disk) p (OpenFails why true) B at may out h sound = 
 step_tied start (Down shape disk) p (OpenFails why false) B at may out h sound = tt
 
 -- where a pass is outside its trace is that of now
-out_now : (p : Point) (steps : List Transition) (b : ℕ) → is_out (run p steps).state b ≡ true → trace_outside p steps b ≡ (run p steps).trace
+pub out_now : (p : Point) (steps : List Transition) (b : ℕ) → is_out (run p steps).state b ≡ true → trace_outside p steps b ≡ (run p steps).trace
 out_now p [] b out = refl
 out_now p (step ∷ steps) b out = ap (λ (q : Bool). if q then (run p (step ∷ steps)).trace else trace_outside p steps b) out
 
