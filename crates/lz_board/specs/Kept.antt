@@ -37,7 +37,7 @@ shows_played e o = false
 
 -- the note of pass `by` shows the pin word of pass q
 abbrev pub shows : ℕ → ℕ → What → Bool
-shows q by (Called c) = false
+shows q by (Called c format) = false
 shows q by (Played e o) = if by == q then shows_played e o else false
 shows q by (Found r v) = r == q
 

@@ -46,7 +46,7 @@ pub record Writes (z : Sizes) (P : Trace) (w : Word) (old «new» : ℕ) (x : Op
 
 -- a step of a pass, and no pin word that was found
 abbrev pub IsStep : What → Type 0
-IsStep (Called c) = Unit {0}
+IsStep (Called c format) = Unit {0}
 IsStep (Played e o) = Unit {0}
 IsStep (Found q v) = ⊥
 

@@ -23,12 +23,12 @@ use Rattle.lz_board.proofs.Upkeep.Growth.{extends_more, extends_refl, extends_tr
 
 -- a step of another pass shows no pin word of this one and leaves it
 pin_other : (q p : ℕ) (what : What) (pin : ℕ) → IsStep what → p ≢ q → pin_after_what q p what pin ≡ pin
-pin_other q p (Called c) pin step away = refl
+pin_other q p (Called c format) pin step away = refl
 pin_other q p (Played e o) pin step away = ap (λ b. if b then pin_after_played e o pin else pin) (ne_eqb p q away)
 pin_other q p (Found r v) pin step away = absurd step
 
 shows_other : (q p : ℕ) (what : What) → IsStep what → p ≢ q → shows q p what ≡ false
-shows_other q p (Called c) step away = refl
+shows_other q p (Called c format) step away = refl
 shows_other q p (Played e o) step away = ap (λ b. if b then shows_played e o else false) (ne_eqb p q away)
 shows_other q p (Found r v) step away = absurd step
 
