@@ -12,7 +12,7 @@ use Rattle.lz_board.specs.declared.view.What.TheVariants.{Called, Played, Found}
 use Rattle.lz_board.specs.declared.view.Note.{Note}
 use Rattle.lz_board.specs.declared.view.Part.{Part}
 use Rattle.lz_board.specs.Notes.{listed, trace_of, own, IsShared, pin_after, pin_after_what}
-use Rattle.lz_board.specs.Kept.{shows}
+use Rattle.lz_board.specs.Kept.{is_calling, shows, IsInside}
 
 -- a note that shows the pin word of pass q, and the notes before it
 pub record Sighting (opened : Trace) (ns : List Note) (q : ℕ) : Type 0 where
@@ -56,6 +56,8 @@ pub record MayNote (z : Sizes) (opened : Trace) (ns : List Note) (h : Part) (n :
   pub step : IsStep n.what
   -- the notes have the pass's pin word: no look of it is left out
   pub pin : pin_after h.number ns ≡ h.pin
+  -- a pass that is inside without a call makes none
+  pub inside : IsInside h.pin → is_calling z h.steps ≡ true
   -- the trace stays lawful
   pub lawful : Lawful z.buckets z.slots (listed n.published ++ trace_of opened ns)
   -- what is published is made for no other pass
