@@ -19,7 +19,7 @@ use Rattle.lz_board.specs.declared.view.What.TheVariants.{Called, Played, Found}
 use Rattle.lz_board.specs.declared.view.Note.{Note}
 use Rattle.lz_board.specs.declared.view.Part.{Part}
 use Rattle.lz_board.specs.declared.view.View.{View}
-use Rattle.lz_board.specs.Notes.{trace_of, steps_of, Extends, Since, Quiet, InOrder, IsShared, AllShown, place, shape_of, pin_after}
+use Rattle.lz_board.specs.Notes.{trace_of, steps_of, Extends, Since, Quiet, InOrder, IsShared, AllShown, place, shape_of, pin_after, turned_at}
 use Rattle.lz_board.specs.Addresses.{index, words_count}
 
 -- by these steps of a pass it has a call open: they lead to a place of one
@@ -34,7 +34,7 @@ shows_played e o = false
 
 -- the note of pass `by` shows the pin word of pass q
 abbrev pub shows : ℕ → ℕ → What → Bool
-shows q by (Called c) = false
+shows q by (Called c format) = false
 shows q by (Played e o) = if by == q then shows_played e o else false
 shows q by (Found r v) = r == q
 
@@ -62,6 +62,8 @@ pub record Knows (z : Sizes) (opened : Trace) (ns : List Note) (h : Part) : Type
   pub from : Extends (trace_of opened ns) h.begun
   -- since its last pin no slot that stood on a chain was prepared anew
   pub kept : IsInside h.pin → IsQuiet z.buckets h.begun (trace_of opened ns)
+  -- a call that is inside went in with a note
+  pub turned : IsInside h.pin → is_calling z h.steps ≡ true → h.begun ≡ turned_at h.number opened ns
 
 -- A part at seat i belongs there, its pin word is the board's, and what it knows is so.
 pub record PartFits (z : Sizes) (opened : Trace) (ns : List Note) (owner : ℕ → ℕ) (words : List ℕ) (i : ℕ) (h : Part) : Type 0 where

@@ -1,6 +1,6 @@
 -- Notes: the steps of the machine as the pen keeps them. Notes, steps and traces stand newest first, so that P begins Q
 -- where Q is some publishings and then P.
-use Rattle.std.specs.Prelude.{◌≡◌, ℕ, suc, ◌<◌, ◌≤◌, ◌==◌, Bool, false, nat_lt, if◌then◌else◌, List, [], ◌∷◌, ◌++◌, filter, length, Option, Some, None}
+use Rattle.std.specs.Prelude.{◌≡◌, ℕ, suc, ◌%◌, ◌<◌, ◌≤◌, ◌==◌, Bool, false, nat_lt, if◌then◌else◌, List, [], ◌∷◌, ◌++◌, filter, length, Option, Some, None}
 use Rattle.lz_slot.specs.declared.command.Command.{Command}
 use Rattle.lz_list.specs.declared.word.Word.{Word}
 use Rattle.lz_list.specs.declared.word.Word.TheVariants.{Head, Link, Key, Pin as PinOf, Halt}
@@ -14,8 +14,7 @@ use Rattle.lz_machine.specs.declared.event.Outcome.TheVariants.{Done, Value}
 use Rattle.lz_machine.specs.declared.event.Reply.{Reply}
 use Rattle.lz_machine.specs.declared.caller.Progress.{Progress}
 use Rattle.lz_machine.specs.Yards.{Shape}
-use Rattle.lz_machine.specs.Table.{last_pin}
-use Rattle.lz_machine.specs.Calls.{first_progress, progress_after}
+use Rattle.lz_machine.specs.Calls.{begun, progress_after}
 use Rattle.lz_machine.specs.Runs.{reply_at}
 use Rattle.lz_board.specs.declared.view.Sizes.{Sizes}
 use Rattle.lz_board.specs.declared.view.What.{What}
@@ -117,7 +116,7 @@ goes_on None c at = Some (c, at)
 
 -- the place after one more step
 abbrev pub placed : Shape → What → Option (Command × Progress) → Option (Command × Progress)
-placed shape (Called c) at = Some (c, first_progress)
+placed shape (Called c format) at = Some (c, begun format c)
 placed shape (Played e o) None = None
 placed shape (Played e o) (Some call) = goes_on (reply_at call.1) call.0 (progress_after shape call.0 call.1 o)
 placed shape (Found q v) at = at
@@ -128,15 +127,15 @@ place shape [] = None
 place shape (n ∷ ns) = placed shape n.what (place shape ns)
 
 -- The pin word of pass q after the notes, as the list of steps has it: what it was found to be, and one more for each Pin
--- that was done and each Answer of a pass that isn't worn.
+-- that was done and each Answer of a pass that is inside.
 abbrev pub pin_after_played : Event → Outcome → ℕ → ℕ
 pin_after_played Pin Done pin = suc pin
-pin_after_played Answer Done pin = if pin == last_pin then pin else suc pin
+pin_after_played Answer Done pin = if pin % 2 == 0 then pin else suc pin
 pin_after_played e o pin = pin
 
 -- the pin word of pass q after a note of pass p
 abbrev pub pin_after_what : ℕ → ℕ → What → ℕ → ℕ
-pin_after_what q p (Called c) pin = pin
+pin_after_what q p (Called c format) pin = pin
 pin_after_what q p (Played e o) pin = if p == q then pin_after_played e o pin else pin
 pin_after_what q p (Found r v) pin = if r == q then v else pin
 
@@ -144,3 +143,8 @@ pin_after_what q p (Found r v) pin = if r == q then v else pin
 abbrev pub pin_after : ℕ → List Note → ℕ
 pin_after q [] = 0
 pin_after q (n ∷ ns) = pin_after_what q n.by n.what (pin_after q ns)
+
+-- the trace at the last change of pass q's pin word, as the notes have it
+abbrev pub turned_at : ℕ → Trace → List Note → Trace
+turned_at q opened [] = opened
+turned_at q opened (n ∷ ns) = if pin_after q (n ∷ ns) == pin_after q ns then turned_at q opened ns else trace_of opened (n ∷ ns)

@@ -12,7 +12,7 @@ use Rattle.lz_board.specs.declared.view.What.TheVariants.{Called, Played, Found}
 use Rattle.lz_board.specs.declared.view.Note.{Note}
 use Rattle.lz_board.specs.declared.view.Part.{Part}
 use Rattle.lz_board.specs.Notes.{listed, trace_of, own, IsShared, pin_after, pin_after_what}
-use Rattle.lz_board.specs.Kept.{shows}
+use Rattle.lz_board.specs.Kept.{is_calling, shows, IsInside}
 
 -- a note that shows the pin word of pass q, and the notes before it
 pub record Sighting (opened : Trace) (ns : List Note) (q : ℕ) : Type 0 where
@@ -46,7 +46,7 @@ pub record Writes (z : Sizes) (P : Trace) (w : Word) (old «new» : ℕ) (x : Op
 
 -- a step of a pass, and no pin word that was found
 abbrev pub IsStep : What → Type 0
-IsStep (Called c) = Unit {0}
+IsStep (Called c format) = Unit {0}
 IsStep (Played e o) = Unit {0}
 IsStep (Found q v) = ⊥
 
@@ -56,6 +56,8 @@ pub record MayNote (z : Sizes) (opened : Trace) (ns : List Note) (h : Part) (n :
   pub step : IsStep n.what
   -- the notes have the pass's pin word: no look of it is left out
   pub pin : pin_after h.number ns ≡ h.pin
+  -- a pass that is inside without a call makes none
+  pub inside : IsInside h.pin → is_calling z h.steps ≡ true
   -- the trace stays lawful
   pub lawful : Lawful z.buckets z.slots (listed n.published ++ trace_of opened ns)
   -- what is published is made for no other pass

@@ -1,7 +1,7 @@
 //! What a seat knows. Of these types only notes are made.
 use lz_list::{Publishing, Word, Words};
 use lz_machine::{Event, Outcome};
-use lz_slot::Command;
+use lz_slot::{Command, Format};
 use std::collections::LinkedList;
 use std::snapshot::Snapshot;
 
@@ -16,8 +16,8 @@ pub struct Sizes {
 /// What was noted.
 #[derive(Clone, Copy)]
 pub enum What {
-    /// A call was made.
-    Called(Command),
+    /// A call was made, on a file of this format.
+    Called(Command, Format),
     /// An event was played, with this outcome.
     Played(Event, Outcome),
     /// The pin word of this pass was found with this value.

@@ -125,10 +125,12 @@ module _ (z : Sizes) (opened : Trace) where
       let v = found_view q found was in
       let now : List Note = found_note q found ∷ k.notes in
       let pin_is : (j : ℕ) (h : Part) → PartFits z opened k.notes k.owner s.words j h → h.number ≡ q → h.pin ≡ found = λ j h g e. sym g.pinned ∙ ap (λ p. slice_index s.words (index z (PinOf p))) e in
+      let told_pin : (j : ℕ) (h : Part) → PartFits z opened k.notes k.owner s.words j h → is_calling z h.steps ≡ true → pin_after h.number k.notes ≡ h.pin = λ j h g calling.
+      (k.pins h.number g.knows.numbered.0 g.knows.numbered.1).calling (subst (λ l. is_calling z l ≡ true) (sym g.knows.noted) calling) ∙ g.pinned in
       let more : (j : ℕ) (h : Part) → PartFits z opened k.notes k.owner s.words j h → PartFits z opened now k.owner s.words j h = λ j h g. record {
         owned = g.owned;
         pinned = g.pinned;
-        knows = knows_found z opened k.notes q found h g.knows (pin_is j h g);
+        knows = knows_found z opened k.notes q found h g.knows (pin_is j h g) (told_pin j h g);
       } in
       let F = Fits z opened now k.pen k.owner s.words in
       let fits : F id v = record {

@@ -1,5 +1,5 @@
 -- A pass's part through each step on the board.
-use Rattle.std.proofs.Common.{◌≡◌, ◌≢◌, ◌⊎◌, inl, ⊎_elim, ℕ, ◌≤◌, ◌==◌, true, false, List, [], ◌∷◌, ◌++◌, map, length, refl, sym, ap, ◌∙◌, subst, arith, length-append, ne_eqb, true≢false, le_refl}
+use Rattle.std.proofs.Common.{◌≡◌, ◌≢◌, ◌⊎◌, inl, ⊎_elim, ℕ, suc, ◌≤◌, ◌==◌, true, false, List, [], ◌∷◌, ◌++◌, map, length, refl, sym, ap, ◌∙◌, subst, arith, length-append, eq-eqb, ne_eqb, true≢false, le_refl}
 use mathlib.Core.Bool.{false≢true}
 use Rattle.std.specs.Prelude.{if◌then◌else◌}
 use Rattle.std.proofs.lemmas.Bool.{cases_eq}
@@ -13,22 +13,22 @@ use Rattle.lz_board.specs.declared.view.What.TheVariants.{Called, Played, Found}
 use Rattle.lz_board.specs.declared.view.Note.{Note}
 use Rattle.lz_board.specs.declared.view.Load.{Load}
 use Rattle.lz_board.specs.declared.view.Part.{Part}
-use Rattle.lz_board.specs.Notes.{listed, trace_of, steps_of, Extends, Since, load_note, splice, Quiet, InOrder, IsShared, AllShown, pin_after_played, pin_after, pin_after_what}
+use Rattle.lz_board.specs.Notes.{listed, trace_of, steps_of, Extends, Since, load_note, splice, Quiet, InOrder, IsShared, AllShown, pin_after_played, pin_after, pin_after_what, turned_at}
 use Rattle.lz_board.specs.Addresses.{word_at}
-use Rattle.lz_board.specs.Kept.{is_calling, shows_played, shows, Knows, PinTold}
-use Rattle.lz_board.specs.Noting.{IsStep, MayNote, KeepsPin}
+use Rattle.lz_board.specs.Kept.{is_calling, shows_played, shows, IsInside, Knows, PinTold}
+use Rattle.lz_board.specs.Noting.{IsStep, MayNote, KeepsPin, MovesPin}
 use Rattle.lz_board.specs.Plays.{noted, noted_part, moved_part, knowing, loading, entering, found_note}
-use Rattle.lz_board.proofs.Upkeep.Splice.{trace_splice, own_step, other_step, steps_splice, steps_splice_other, quiet_more, quiet_splice, quiet_splice_other, pin_splice}
+use Rattle.lz_board.proofs.Upkeep.Splice.{trace_splice, own_step, other_step, steps_splice, steps_splice_other, quiet_more, quiet_splice, quiet_splice_other, pin_splice, turned_splice}
 use Rattle.lz_board.proofs.Upkeep.Growth.{extends_more, extends_refl, extends_trans, extends_length, since_more, shown_more, found_splice, found_all, found_same, quiet_more_by}
 
 -- a step of another pass shows no pin word of this one and leaves it
 pin_other : (q p : ℕ) (what : What) (pin : ℕ) → IsStep what → p ≢ q → pin_after_what q p what pin ≡ pin
-pin_other q p (Called c) pin step away = refl
+pin_other q p (Called c format) pin step away = refl
 pin_other q p (Played e o) pin step away = ap (λ b. if b then pin_after_played e o pin else pin) (ne_eqb p q away)
 pin_other q p (Found r v) pin step away = absurd step
 
 shows_other : (q p : ℕ) (what : What) → IsStep what → p ≢ q → shows q p what ≡ false
-shows_other q p (Called c) step away = refl
+shows_other q p (Called c format) step away = refl
 shows_other q p (Played e o) step away = ap (λ b. if b then shows_played e o else false) (ne_eqb p q away)
 shows_other q p (Found r v) step away = absurd step
 
@@ -58,6 +58,7 @@ module _ (z : Sizes) (opened : Trace) (ns : List Note) where
     began = k.began;
     from = k.from;
     kept = k.kept;
+    turned = k.turned;
   }
 
   pub knows_loading : (i found : ℕ) (h : Part) → Knows z opened ns h → IsShared z (word_at z i) → found ≡ word_after z.buckets t (word_at z i) → Knows z opened ns (loading t i found h)
@@ -74,10 +75,11 @@ module _ (z : Sizes) (opened : Trace) (ns : List Note) where
     began = k.began;
     from = k.from;
     kept = k.kept;
+    turned = k.turned;
   }
 
-  pub knows_entering : (pin : ℕ) (h : Part) → Knows z opened ns h → Knows z opened ns (entering t pin h)
-  knows_entering pin h k = record {
+  pub knows_entering : (pin : ℕ) (h : Part) → is_calling z h.steps ≡ false → Knows z opened ns h → Knows z opened ns (entering t pin h)
+  knows_entering pin h idle k = record {
     sized = k.sized;
     numbered = k.numbered;
     since = ([], refl, refl);
@@ -90,11 +92,12 @@ module _ (z : Sizes) (opened : Trace) (ns : List Note) where
     began = extends_trans opened h.begun t k.began k.from;
     from = extends_refl t;
     kept = λ inside. quiet_new z.buckets t t (le_refl (length t));
+    turned = λ inside calling. absurd (true≢false (sym calling ∙ idle));
   }
 
-  -- a pin word was found
-  pub knows_found : (q v : ℕ) (h : Part) → Knows z opened ns h → (h.number ≡ q → h.pin ≡ v) → Knows z opened (found_note q v ∷ ns) h
-  knows_found q v h k same = record {
+  -- a pin word was found; that of a call is the one which the notes have
+  pub knows_found : (q v : ℕ) (h : Part) → Knows z opened ns h → (h.number ≡ q → h.pin ≡ v) → (is_calling z h.steps ≡ true → pin_after h.number ns ≡ h.pin) → Knows z opened (found_note q v ∷ ns) h
+  knows_found q v h k same noted_pin = record {
     sized = k.sized;
     numbered = k.numbered;
     since = k.since;
@@ -107,12 +110,19 @@ module _ (z : Sizes) (opened : Trace) (ns : List Note) where
     began = k.began;
     from = k.from;
     kept = k.kept;
+    turned = λ inside calling. k.turned inside calling ∙ sym (ap (λ b. if b then turned_at h.number opened ns else trace_of opened ns) (eq-eqb (pin_after h.number (found_note q v ∷ ns)) (pin_after h.number ns) (stays calling)));
   }
     where
       seen : (q == h.number) ≡ true → (h.pin ≡ (if q == h.number then v else pin_after h.number ns)) ⊎ (length (trace_of opened ns) ≤ length h.begun)
       seen is = ⊎_elim
           (λ here. inl (same (sym here) ∙ ap (λ b. if b then v else pin_after h.number ns) (sym is)))
           (λ away. absurd (true≢false (sym is ∙ ne_eqb q h.number away)))
+          (cases_eq q h.number)
+
+      stays : is_calling z h.steps ≡ true → pin_after h.number (found_note q v ∷ ns) ≡ pin_after h.number ns
+      stays calling = ⊎_elim
+          (λ (here : q ≡ h.number). ap (λ b. if b then v else pin_after h.number ns) (eq-eqb q h.number here) ∙ sym (same (sym here)) ∙ sym (noted_pin calling))
+          (λ (away : q ≢ h.number). ap (λ b. if b then v else pin_after h.number ns) (ne_eqb q h.number away))
           (cases_eq q h.number)
 
   -- a step of the pass h is noted
@@ -147,6 +157,14 @@ module _ (z : Sizes) (opened : Trace) (ns : List Note) where
     pub pin_now : (pin : ℕ) → pin_after_what h.number h.number n.what h.pin ≡ pin → pin_after h.number now ≡ pin
     pin_now pin is = ap (λ b. pin_after_what h.number b n.what (pin_after h.number (splice opened h.number h.loads ns))) may.by ∙ ap (pin_after_what h.number h.number n.what) pin_noted ∙ is
 
+    -- a step that keeps the pin word keeps where it was changed last
+    turned_noted : (q : ℕ) → pin_after q now ≡ pin_after q (splice opened h.number h.loads ns) → turned_at q opened now ≡ turned_at q opened ns
+    turned_noted q same = ap (λ b. if b then turned_at q opened (splice opened h.number h.loads ns) else t') (eq-eqb (pin_after q now) (pin_after q (splice opened h.number h.loads ns)) same) ∙ turned_splice opened q h.number h.loads ns
+
+    -- one that counts it up is the last change
+    turned_moved : pin_after_what h.number h.number n.what h.pin ≡ suc h.pin → turned_at h.number opened now ≡ t'
+    turned_moved moves = ap (λ b. if b then turned_at h.number opened (splice opened h.number h.loads ns) else t') (ne_eqb (pin_after h.number now) (pin_after h.number (splice opened h.number h.loads ns)) (λ same. let now_is = pin_now (suc h.pin) moves in let was_is = pin_noted in absurd (omega (arith, same, now_is, was_is))))
+
     pub knows_noted : KeepsPin h n → Knows z opened now (noted_part opened ns n h)
     knows_noted keeps = record {
       sized = k.sized;
@@ -161,10 +179,11 @@ module _ (z : Sizes) (opened : Trace) (ns : List Note) where
       began = k.began;
       from = subst (λ l. Extends l h.begun) (sym trace_noted) (extends_more (listed n.published) h.begun t k.from);
       kept = λ inside. subst (IsQuiet z.buckets h.begun) (sym trace_noted) (quiet_more_by z opened ns h n.published k may.prepares inside);
+      turned = λ inside calling. k.turned inside (may.inside inside) ∙ sym (turned_noted h.number (pin_now h.pin keeps ∙ sym pin_noted));
     }
 
-    pub knows_moved : Knows z opened now (moved_part opened ns n h)
-    knows_moved = record {
+    pub knows_moved : MovesPin h n → Knows z opened now (moved_part opened ns n h)
+    knows_moved moves = record {
       sized = k.sized;
       numbered = k.numbered;
       since = ([], refl, refl);
@@ -177,6 +196,7 @@ module _ (z : Sizes) (opened : Trace) (ns : List Note) where
       began = subst (λ l. Extends l opened) (sym trace_noted) (extends_more (listed n.published) opened t (extends_trans opened h.begun t k.began k.from));
       from = extends_refl t';
       kept = λ inside. quiet_new z.buckets t' t' (le_refl (length t'));
+      turned = λ inside calling. sym (turned_moved moves.0);
     }
 
     pub knows_other : (g : Part) → h.number ≢ g.number → Knows z opened ns g → Knows z opened now g
@@ -195,6 +215,7 @@ module _ (z : Sizes) (opened : Trace) (ns : List Note) where
           began = f.began;
           from = subst (λ l. Extends l g.begun) (sym trace_noted) (extends_more (listed n.published) g.begun t f.from);
           kept = λ inside. subst (IsQuiet z.buckets g.begun) (sym trace_noted) (quiet_more_by z opened ns g n.published f may.prepares inside);
+          turned = λ inside calling. f.turned inside calling ∙ sym (turned_noted g.number (pin_other g.number n.by n.what (pin_after g.number (splice opened h.number h.loads ns)) may.step other));
         }
 
     -- what the notes have of pin words

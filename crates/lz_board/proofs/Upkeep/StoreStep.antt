@@ -147,7 +147,7 @@ module _ (z : Sizes) (opened : Trace) where
         parts = λ g is'. subst (PartFits z opened now k.owner ws id) (one_part (moved_part opened ns n h) g is') record {
           owned = own_part.owned;
           pinned = pin_set s.words k.long p m low high ∙ is;
-          knows = knows_moved z opened ns h n own_knows may;
+          knows = knows_moved z opened ns h n own_knows may moves;
         };
         apart = ((λ g is'. absurd (some-ne-none g (sym is'.1))), tt);
       } in
@@ -194,7 +194,7 @@ module _ (z : Sizes) (opened : Trace) where
         parts = λ g is. subst (PartFits z opened k.notes k.owner ws id) (one_part (entering t m h) g is) record {
           owned = top.owned;
           pinned = pin_set s.words k.long p m low high;
-          knows = knows_entering z opened k.notes m h top.knows;
+          knows = knows_entering z opened k.notes m h idle top.knows;
         };
         apart = ((λ g is. absurd (some-ne-none g (sym is.1))), tt);
       } in

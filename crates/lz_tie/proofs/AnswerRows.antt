@@ -1,0 +1,91 @@
+-- Worked rows: the definitions computed on small cases.
+use Rattle.std.proofs.Common.{◌≡◌, true, false, inl, inr, List, [], ◌∷◌, Some, None, refl, arith}
+use Rattle.lz_slot.specs.declared.command.Command.TheVariants.{Has}
+use Rattle.lz_slot.specs.declared.format.Format.TheVariants.{Two}
+use Rattle.lz_list.specs.declared.word.Word.TheVariants.{Head, Link, Key, Halt}
+use Rattle.lz_list.specs.declared.publishing.Change.TheVariants.{Added as as_added, Removed as as_removed}
+use Rattle.lz_list.specs.declared.publishing.Publishing.TheVariants.{Linked as linked, Marked as marked, Unlinked as unlinked, Settled as settled, KeyPrepared as key_prepared, LinkPrepared as link_prepared}
+use Rattle.lz_list.specs.Traces.{Trace, opening}
+use Rattle.lz_machine.specs.declared.event.Event.TheVariants.{Pin, Reserve, Answer}
+use Rattle.lz_machine.specs.declared.event.Outcome.TheVariants.{Done}
+use Rattle.lz_machine.specs.declared.event.Reply.TheVariants.{Yes}
+use Rattle.lz_machine.specs.Yards.{Shape}
+use Rattle.lz_board.specs.declared.view.What.TheVariants.{Called, Played, Found}
+use Rattle.lz_board.specs.declared.view.Note.{Note}
+use Rattle.lz_board.specs.declared.view.Load.{Load}
+use Rattle.lz_board.specs.declared.view.Sizes.{Sizes}
+use Rattle.lz_board.specs.Notes.{note_by, load_note, splice, pin_after}
+use Rattle.lz_board.specs.Addresses.{index, word_at}
+use Rattle.lz_board.specs.Glances.{Glanced, GlancedUnsettled}
+use Rattle.lz_tie.specs.Answers.{Added, Removed, IsOneCall}
+
+-- key 9 was found in slot 0
+abbrev P0 : Trace
+P0 = opening 1 ((9, 0) ∷ [])
+
+-- pass 1 has linked 12 in slot 1, without a flag; then with it
+abbrev P1 : Trace
+P1 = linked 12 1 1 ∷ link_prepared 1 0 ∷ key_prepared 1 12 ∷ P0
+
+abbrev P2 : Trace
+P2 = settled 1 as_added ∷ P1
+
+yes_of_found : Glanced 9 P0 P0 true
+yes_of_found = record { then = P0; between = record { from = inl refl; upto = inl refl }; settled = record { begins = inl refl; member = refl; settled = refl } }
+
+no_of_others : Glanced 8 P0 P0 false
+no_of_others = record { then = P0; between = record { from = inl refl; upto = inl refl }; settled = record { begins = inl refl; no_member = refl; settled = inl refl } }
+
+unsettled : GlancedUnsettled 12 1 P0 P1
+unsettled = record { then = P1; between = record { from = inr (inr (inr (inl refl))); upto = inl refl }; some = omega arith; in_slot = refl; asks = refl }
+
+yes_once_settled : Glanced 12 P0 P2 true
+yes_once_settled = record { then = P2; between = record { from = inr (inr (inr (inr (inl refl)))); upto = inl refl }; settled = record { begins = inl refl; member = refl; settled = refl } }
+
+-- the pass's own adding
+added : Added 1 12 P0 P2
+added = record { slot = 1; changes = record { since = settled 1 as_added ∷ linked 12 1 1 ∷ link_prepared 1 0 ∷ key_prepared 1 12 ∷ []; goes_on = refl; own = refl }; earlier = link_prepared 1 0 ∷ key_prepared 1 12 ∷ P0; from = inr (inr (inl refl)); upto = inr (inl refl); settled = refl }
+
+-- and its removing
+abbrev P3 : Trace
+P3 = unlinked 12 1 1 ∷ settled 1 as_removed ∷ marked 12 1 1 ∷ P2
+
+removed : Removed 1 12 P2 P3
+removed = record { slot = 1; changes = record { since = unlinked 12 1 1 ∷ settled 1 as_removed ∷ marked 12 1 1 ∷ []; goes_on = refl; own = refl }; earlier = P2; from = inl refl; upto = inr (inr (inl refl)); settled = refl }
+
+-- a `has` that answers yes: its steps are one call
+abbrev shape : Shape
+shape = record { slots = 2; buckets = 1; passes = 1 }
+
+abbrev loads : List Load
+loads =
+    record { word = Link 0; value = 8589934592; at = 4 } ∷ record { word = Key 0; value = 9; at = 4 } ∷ record { word = Head 0; value = 1; at = 4 }
+    ∷ record { word = Halt; value = 0; at = 4 } ∷ []
+
+abbrev pinned : List Note
+pinned = note_by 1 (Played Pin Done) None ∷ note_by 1 (Called (Has 9) Two) None ∷ note_by 0 (Found 1 2) None ∷ []
+
+one_call : IsOneCall shape 1 Two (Has 9) Yes (note_by 1 (Played Answer Done) None ∷ load_note 1 (record { word = Link 0; value = 8589934592; at = 4 }) ∷ load_note 1 (record { word = Key 0; value = 9; at = 4 }) ∷ load_note 1 (record { word = Head 0; value = 1; at = 4 }) ∷ load_note 1 (record { word = Halt; value = 0; at = 4 }) ∷ note_by 1 (Played Pin Done) None ∷ note_by 1 (Called (Has 9) Two) None ∷ [])
+one_call = record {
+  within = load_note 1 (record { word = Link 0; value = 8589934592; at = 4 }) ∷ load_note 1 (record { word = Key 0; value = 9; at = 4 }) ∷ load_note 1 (record { word = Head 0; value = 1; at = 4 }) ∷ load_note 1 (record { word = Halt; value = 0; at = 4 }) ∷ note_by 1 (Played Pin Done) None ∷ [];
+  steps = refl;
+  only = (tt, (tt, (tt, (tt, (tt, tt)))));
+  answers = refl;
+}
+
+-- the loads of that call go behind its Pin, before what another pass has published since
+abbrev later : List Note
+later = note_by 2 (Played Reserve Done) (Some (key_prepared 1 12)) ∷ note_by 2 (Played Reserve Done) None ∷ pinned
+
+spliced : splice P0 1 loads later ≡ (note_by 2 (Played Reserve Done) (Some (key_prepared 1 12)) ∷ load_note 1 (record { word = Link 0; value = 8589934592; at = 4 }) ∷ load_note 1 (record { word = Key 0; value = 9; at = 4 }) ∷ load_note 1 (record { word = Head 0; value = 1; at = 4 }) ∷ load_note 1 (record { word = Halt; value = 0; at = 4 }) ∷ note_by 2 (Played Reserve Done) None ∷ pinned)
+spliced = refl
+
+pin_counts : pin_after 1 later ≡ 3
+pin_counts = refl
+
+-- where the words of a board of 2 slots, 3 buckets and 2 passes lie
+abbrev sizes : Sizes
+sizes = record { slots = 2; buckets = 3; passes = 2 }
+
+lies : word_at sizes (index sizes (Key 1)) ≡ Key 1
+lies = refl

@@ -1,0 +1,268 @@
+-- One hold: what it plays may be played, and its notes are read as a run whose last state is the yard's again.
+use Rattle.std.proofs.Common.{◌≡◌, ◌≢◌, ◌⊎◌, inl, inr, ⊎_elim, ℕ, zero, suc, ◌≤◌, Bool, true, false, List, [], ◌∷◌, ◌++◌, map, length, refl, sym, ap, ◌∙◌, subst, arith}
+use mathlib.Core.Bool.{false≢true}
+use Rattle.std.specs.Prelude.{Option, Some, None, IsSomeAnd, IsTrue, slice_index_or, is_some}
+use Rattle.lz_slot.specs.declared.command.Command.{Command}
+use Rattle.lz_slot.specs.Counted.{of_pass}
+use Rattle.lz_disk.specs.Images.{Medium}
+use Rattle.lz_disk.specs.Devices.{Device}
+use Rattle.lz_vault.specs.Vaults.{DeviceCall, NoCall, WriteAt, SyncAll, MayFail, medium_after}
+use Rattle.lz_list.specs.declared.word.Word.{Word}
+use Rattle.lz_list.specs.Words.{Words}
+use Rattle.lz_list.specs.Traces.{Trace}
+use Rattle.lz_machine.specs.declared.event.Event.{Event}
+use Rattle.lz_machine.specs.declared.event.Event.TheVariants.{Invoke, Pin, Hop, Reserve, WriteKey, Claim, Check, WriteOpen, Link, WriteClose, Mark, Release, Sync, Settle, Unlink, Retire, SeePin, Answer, Halt}
+use Rattle.lz_machine.specs.declared.event.Outcome.{Outcome}
+use Rattle.lz_machine.specs.declared.event.Outcome.TheVariants.{Fault}
+use Rattle.lz_machine.specs.declared.caller.Sequence.{Sequence}
+use Rattle.lz_machine.specs.declared.caller.Sequence.TheVariants.{Pinning, Resting, Writing, Adding, Removing, Releasing, Halting}
+use Rattle.lz_machine.specs.declared.caller.Progress.{Progress}
+use Rattle.lz_machine.specs.declared.caller.Progress.TheVariants.{Playing, LoadsHalt, Walking, Reserving, SeeingPins, Claiming, Checking, Answering}
+use Rattle.lz_machine.specs.Yards.{Shape, Yard}
+use Rattle.lz_machine.specs.Table.{line, line_failed, line_call, line_publishes, pin_of}
+use Rattle.lz_machine.specs.Calls.{events_of, event_at, loaded}
+use Rattle.lz_machine.specs.Orders.{HasPass}
+use Rattle.lz_machine.specs.Runs.{State, Up, Service, Caller, Turn, Fails as FailsStep, Point, run, MayStep, HasTurn, HasFault, Reached, first_point, caller_at, next_event, state_after, after_turn, after_fault, IsNext, SameButPins, MayPlay, shape_of as shape_in}
+use Rattle.lz_machine.specs.Laws.{SameBut, hop_of}
+use Rattle.lz_yard.specs.Steps.{Played as PlayedOver}
+use Rattle.lz_machine.proofs.Runs.Shape.{run_keeps_shape}
+use Rattle.lz_machine.proofs.Frames.OneActor.{caller_range}
+use Rattle.lz_machine.proofs.Theorem.Timeliness.{never_late}
+use Rattle.lz_machine.proofs.Runs.CallerEvent.{is_next}
+use Rattle.lz_yard.specs.declared.told.Told.{Told}
+use Rattle.lz_yard.proofs.Keeping.{fault_or_not}
+use Rattle.lz_board.specs.declared.view.What.TheVariants.{Played}
+use Rattle.lz_board.specs.declared.view.Note.{Note}
+use Rattle.lz_board.specs.declared.view.Load.{Load}
+use Rattle.lz_board.specs.Notes.{listed, trace_of, steps_of, load_note, splice, Quiet, InOrder, AllShown, place, pin_after}
+use Rattle.lz_board.proofs.Upkeep.Splice.{steps_splice, pin_splice}
+use Rattle.lz_tie.specs.NotedRuns.{TellsTurn, TellsFault, TellsStep, TellsOf, ReadsAs, viewed, AreNext, SameButAllPins, IsTied, seen_event}
+use Rattle.lz_tie.proofs.Reading.CallPlaces.{Placed, place_reads}
+use Rattle.lz_tie.proofs.Reading.PinWords.{pin_in_state, pin_reads}
+use Rattle.lz_tie.proofs.Hold.OtherPins.{with_pins, SameLine, line_same}
+use Rattle.lz_tie.proofs.Splicing.LoadSplice.{Spliced, splice_reads}
+
+-- a caller's next event, by what its pass has seen of pin words
+seen_is : (words : Words) (pins : ℕ → ℕ) (passes : ℕ) (e : Event) → HasPass passes e → ((q : ℕ) → 1 ≤ q → q ≤ passes → of_pass words.pins q 0 ≡ pins q) → loaded words e ≡ seen_event pins e
+seen_is words pins passes (SeePin q v) has same = ap (SeePin q) (same q has.0 has.1)
+seen_is words pins passes (Invoke c) has same = refl
+seen_is words pins passes Pin has same = refl
+seen_is words pins passes (Hop w) has same = refl
+seen_is words pins passes Reserve has same = refl
+seen_is words pins passes (WriteKey k) has same = refl
+seen_is words pins passes (Claim pred curr) has same = refl
+seen_is words pins passes Check has same = refl
+seen_is words pins passes WriteOpen has same = refl
+seen_is words pins passes Link has same = refl
+seen_is words pins passes WriteClose has same = refl
+seen_is words pins passes Mark has same = refl
+seen_is words pins passes Release has same = refl
+seen_is words pins passes (Sync s) has same = refl
+seen_is words pins passes (Settle s) has same = refl
+seen_is words pins passes Unlink has same = refl
+seen_is words pins passes Retire has same = refl
+seen_is words pins passes Answer has same = refl
+seen_is words pins passes Halt has same = refl
+
+record IsViewed (q : Option Caller) (c : Command) (at : Progress) : Type 0 where
+  caller : Caller
+  is : q ≡ Some caller
+  command : caller.command ≡ c
+  progress : caller.progress ≡ at
+
+abbrev first_or : Command → Option (Command × Progress) → Command
+first_or d None = d
+first_or d (Some x) = x.0
+
+abbrev second_or : Progress → Option (Command × Progress) → Progress
+second_or d None = d
+second_or d (Some x) = x.1
+
+unview : (q : Option Caller) (c : Command) (at : Progress) → viewed q ≡ Some (c, at) → IsViewed q c at
+unview None c at is = absurd (false≢true (ap is_some is))
+unview (Some caller) c at is = record { caller = caller; is = refl; command = ap (first_or c) is; progress = ap (second_or at) is }
+
+-- two yards that are the same but for other actors' pin words play an event alike
+record PlaysAlike (z s : Yard) (a : ℕ) (e : Event) : Type 0 where
+  yard : SameButAllPins (line z a e).0 (line s a e).0
+  outcome : (line z a e).1 ≡ (line s a e).1
+  call : line_call z a e ≡ line_call s a e
+  published : line_publishes z a e ≡ line_publishes s a e
+  failed : SameButAllPins (line_failed z a e).0 (line_failed s a e).0
+
+plays_alike : (z s : Yard) (a : ℕ) (e : Event) → SameButPins a z s → hop_of e ≡ None → PlaysAlike z s a e
+plays_alike z s a e same none = subst (λ (z : Yard). PlaysAlike z s a e) (sym is) record { yard = r.yard; outcome = r.outcome; call = r.call; published = r.published; failed = r.failed }
+  where
+    r : SameLine s z.words.pins a same.pin e
+    r = line_same s z.words.pins a same.pin e none
+
+    is : z ≡ with_pins s z.words.pins
+    is = λ i. record {
+      shape = same.shape i;
+      words = record { heads = same.heads i; links = same.links i; keys = same.keys i; pins = z.words.pins; halt = same.halt i };
+      locks = same.locks i;
+      vault = same.vault i;
+      uses = same.uses i;
+      actors = same.actors i;
+    }
+
+-- a device that may do anything has some disk after a call that failed
+some_fail : (call : DeviceCall) (disk : Medium) → call ≢ NoCall → MayFail call disk disk
+some_fail NoCall disk asked = absurd (asked refl)
+some_fail (WriteAt at bytes) disk asked = inl refl
+some_fail SyncAll disk asked = refl
+
+-- what a failed call may have left, of an honest device and of another
+failed_medium : (honest : Bool) (call : DeviceCall) (old new disk : Medium) → call ≢ NoCall → (IsTrue honest → MayFail call old new) → (IsTrue honest → old ≡ disk) → (left : Medium) × MayFail call disk left × (IsTrue honest → new ≡ left)
+failed_medium true call old new disk asked fails same = (new, subst (λ (d : Medium). MayFail call d new) (same refl) (fails refl), λ h. refl)
+failed_medium false call old new disk asked fails same = (disk, some_fail call disk asked, λ h. absurd (false≢true h))
+
+module _ (opened : Trace) (ns : List Note) (y : Yard) (dev : Device) (t : IsTied opened ns y dev.honest dev.medium) (a : ℕ) (low : 1 ≤ a) (base top : ℕ) (hs : List Load)
+    (quiet : Quiet opened a base ns) (least : length opened ≤ base) (order : InOrder base hs top)
+    (shown : AllShown (record { slots = y.shape.slots; buckets = y.shape.buckets; passes = y.shape.passes }) (trace_of opened ns) hs)
+    (next : AreNext y.shape a hs (steps_of a ns)) where
+  abbrev p : Point
+  p = first_point t.start
+
+  -- all parts speak of one shape
+  shape_is : y.shape ≡ t.start.shape
+  shape_is = t.yard.shape ∙ subst (λ (w : State). shape_in w ≡ t.start.shape) t.state (run_keeps_shape p t.steps)
+
+  spl : Spliced t.start t.starts a low t.steps (splice p.trace a hs ns)
+  spl = splice_reads t.start t.starts a low base top hs ns t.steps t.runs t.reads
+      (subst (λ P. Quiet P a base ns) t.begins quiet) (subst (λ P. length P ≤ base) t.begins least) order
+      (subst (λ (x : Shape × Trace). AllShown (record { slots = x.0.slots; buckets = x.0.buckets; passes = x.0.passes }) (trace_of x.1 ns) hs) (λ i. (shape_is i, t.begins i)) shown)
+      (subst (λ s. AreNext s a hs (steps_of a ns)) shape_is next)
+
+  abbrev notes : List Note
+  notes = splice p.trace a hs ns
+
+  pl : Placed t.start (run p spl.all) notes
+  pl = place_reads t.start notes spl.all spl.runs spl.reads
+
+  abbrev s : Yard
+  s = pl.service.yard
+
+  both : SameBut a (Up t.service t.medium) (Up pl.service pl.disk)
+  both = subst (λ (x : State × State). SameBut a x.0 x.1) (λ i. (t.state i, pl.state i)) spl.state
+
+  steps_are : steps_of a notes ≡ map (load_note a) hs ++ steps_of a ns
+  steps_are = steps_splice p.trace a base top hs ns (subst (λ P. Quiet P a base ns) t.begins quiet) (subst (λ P. length P ≤ base) t.begins least) order
+
+  pins_are : (q : ℕ) → 1 ≤ q → q ≤ t.start.shape.passes → pin_of s q ≡ pin_after q ns
+  pins_are q one most = ap (λ w. pin_in_state t.start t.starts w q) (sym pl.state) ∙ pin_reads t.start t.starts notes spl.all spl.runs spl.reads q one most ∙ pin_splice p.trace q a hs ns
+
+  reached : Reached t.start (Up pl.service pl.disk) (run p spl.all).marks (run p spl.all).trace
+  reached = record { steps = spl.all; starts = t.starts; runs = spl.runs; state = pl.state; marks = refl; trace = refl }
+
+  -- The event that the call of the pass plays next, on a yard that has the pass's pin word.
+  module _ (command : Command) (at : Progress) (place_is : place y.shape (map (load_note a) hs ++ steps_of a ns) ≡ Some (command, at)) (z : Yard) (alike : SameButAllPins z y) (pin : pin_of z a ≡ pin_after a ns)
+      (e : Event) (is : e ≡ seen_event (λ q. pin_after q ns) (event_at y.shape command at)) (pass : HasPass y.shape.passes (event_at y.shape command at)) where
+    call : IsViewed (caller_at pl.service.callers a) command at
+    call = unview (caller_at pl.service.callers a) command at (pl.places a low ∙ ap (place t.start.shape) steps_are ∙ ap (λ k. place k (map (load_note a) hs ++ steps_of a ns)) (sym shape_is) ∙ place_is)
+
+    in_range : a ≤ t.start.shape.passes
+    in_range = let r = caller_range pl.service.callers a call.caller call.is in omega (arith, r.1, pl.count)
+
+    event_is : next_event s call.caller ≡ e
+    event_is =
+        ap (λ (x : Shape × Command × Progress). loaded s.words (event_at x.0 x.1 x.2)) (λ i. ((pl.shape ∙ sym shape_is) i, call.command i, call.progress i))
+        ∙ seen_is s.words (λ q. pin_after q ns) y.shape.passes (event_at y.shape command at) pass (λ q one most. pins_are q one (subst (λ (k : Shape). q ≤ k.passes) shape_is most))
+        ∙ sym is
+
+    same : SameButPins a z s
+    same = record {
+      shape = alike.shape ∙ t.yard.shape ∙ ap (λ (y : Yard). y.shape) both.0;
+      heads = alike.heads ∙ t.yard.heads ∙ ap (λ (y : Yard). y.words.heads) both.0;
+      links = alike.links ∙ t.yard.links ∙ ap (λ (y : Yard). y.words.links) both.0;
+      keys = alike.keys ∙ t.yard.keys ∙ ap (λ (y : Yard). y.words.keys) both.0;
+      halt = alike.halt ∙ t.yard.halt ∙ ap (λ (y : Yard). y.words.halt) both.0;
+      pin = pin ∙ sym (pins_are a low in_range);
+      locks = alike.locks ∙ t.yard.locks ∙ ap (λ (y : Yard). y.locks) both.0;
+      vault = alike.vault ∙ t.yard.vault ∙ ap (λ (y : Yard). y.vault) both.0;
+      uses = alike.uses ∙ t.yard.uses ∙ ap (λ (y : Yard). y.uses) both.0;
+      actors = alike.actors ∙ t.yard.actors ∙ ap (λ (y : Yard). y.actors) both.0;
+    }
+
+    device_is : IsTrue dev.honest → dev.medium ≡ pl.disk
+    device_is h = t.device h ∙ both.1
+
+    -- so the yard plays it
+    pub may_play : MayPlay z dev.honest dev.medium a e
+    may_play = record {
+      start = t.start;
+      service = pl.service;
+      medium = pl.disk;
+      history = (run p spl.all).marks;
+      trace = (run p spl.all).trace;
+      reached = reached;
+      next = is_next pl.service a e (record { caller = call.caller; at = call.is; event = event_is });
+      yard = same;
+      device = device_is;
+    }
+
+    -- and what it plays is a step of the run
+    module _ (none : hop_of e ≡ None) (o : Outcome) (z' : Yard) (told : Told) (dev' : Device) (played : PlayedOver z a e o z' told dev dev')
+        (n : Note) (by : n.by ≡ a) (what : n.what ≡ Played e o) (done : o ≢ Fault → listed n.published ≡ line_publishes z a e) (failed : o ≡ Fault → n.published ≡ None) where
+      pa : PlaysAlike z s a e
+      pa = plays_alike z s a e same none
+
+      trace_is : opened ≡ p.trace
+      trace_is = t.begins
+
+      abbrev noted : List Note
+      noted = n ∷ splice opened a hs ns
+
+      notes_are : notes ≡ splice opened a hs ns
+      notes_are = ap (λ P. splice P a hs ns) (sym trace_is)
+
+      turn_state : state_after (suc (run p spl.all).calls) (run p spl.all).state (Turn a) ≡ after_turn pl.service pl.disk a (Some call.caller)
+      turn_state = ap (λ (w : State). state_after (suc (run p spl.all).calls) w (Turn a)) pl.state ∙ ap (after_turn pl.service pl.disk a) call.is
+
+      goes_on : o ≢ Fault → IsTied opened noted z' dev'.honest dev'.medium
+      goes_on ok =
+          let d = played.done ok in
+          let tells : TellsTurn pl.service a (Some call.caller) n = subst (λ q. (n.what ≡ Played q (line s a q).1) × (listed n.published ≡ line_publishes s a q)) (sym event_is)
+          (what ∙ ap (Played e) (d.answer ∙ pa.outcome), done ok ∙ pa.published) in
+          let told : TellsStep (Up pl.service pl.disk) n (Turn a) = (by, subst (λ q. TellsTurn pl.service a q n) (sym call.is) tells) in
+          let may : MayStep (Up pl.service pl.disk) (Turn a) = subst (HasTurn pl.service a) (sym call.is) (never_late t.start pl.service pl.disk (run p spl.all).marks (run p spl.all).trace a call.caller reached call.is) in
+          record {
+            start = t.start;
+            steps = Turn a ∷ spl.all;
+            service = _;
+            medium = _;
+            starts = t.starts;
+            runs = (subst (λ (w : State). MayStep w (Turn a)) (sym pl.state) may, spl.runs);
+            reads = (Turn a ∷ [], spl.all, refl, subst (λ w. TellsOf (run p spl.all).state n w (Turn a ∷ [])) (sym what) (record { step = Turn a; steps = refl; tells = subst (λ (w : State). TellsStep w n (Turn a)) (sym pl.state) told }), subst (λ l. ReadsAs p l spl.all) notes_are spl.reads);
+            begins = t.begins;
+            state = turn_state;
+            yard = subst (λ (x : Yard). SameButAllPins x (line s a (next_event s call.caller)).0) (sym d.yard) (subst (λ q. SameButAllPins (line z a e).0 (line s a q).0) (sym event_is) pa.yard);
+            device = λ h.
+                let h0 = subst IsTrue d.call.honest h in
+                d.call.medium h0 ∙ ap (λ m. medium_after (line_call z a e) m) (device_is h0) ∙ ap (λ c. medium_after c pl.disk) (pa.call ∙ ap (line_call s a) (sym event_is));
+          }
+
+      gives_up : o ≡ Fault → IsTied opened noted z' dev'.honest dev'.medium
+      gives_up bad =
+          let d = played.failed bad in
+          let f = failed_medium dev.honest (line_call z a e) dev.medium dev'.medium pl.disk d.asked d.call.medium device_is in
+          let new = f.0 in
+          let tells : TellsFault pl.service (Some call.caller) n = subst (λ q. (n.what ≡ Played q Fault) × (n.published ≡ None)) (sym event_is) (what ∙ ap (Played e) bad, failed bad) in
+          let told : TellsStep (Up pl.service pl.disk) n (FailsStep a new) = (by, subst (λ q. TellsFault pl.service q n) (sym call.is) tells) in
+          let may : MayStep (Up pl.service pl.disk) (FailsStep a new) = subst (λ q. HasFault pl.service pl.disk a q new) (sym call.is) (subst (λ c. MayFail c pl.disk new) (pa.call ∙ ap (line_call s a) (sym event_is)) f.1) in
+          record {
+            start = t.start;
+            steps = FailsStep a new ∷ spl.all;
+            service = _;
+            medium = _;
+            starts = t.starts;
+            runs = (subst (λ (w : State). MayStep w (FailsStep a new)) (sym pl.state) may, spl.runs);
+            reads = (FailsStep a new ∷ [], spl.all, refl, subst (λ w. TellsOf (run p spl.all).state n w (FailsStep a new ∷ [])) (sym what) (record { step = FailsStep a new; steps = refl; tells = subst (λ (w : State). TellsStep w n (FailsStep a new)) (sym pl.state) told }), subst (λ l. ReadsAs p l spl.all) notes_are spl.reads);
+            begins = t.begins;
+            state = ap (λ (w : State). state_after (suc (run p spl.all).calls) w (FailsStep a new)) pl.state ∙ ap (after_fault pl.service new a) call.is;
+            yard = subst (λ (x : Yard). SameButAllPins x (line_failed s a (next_event s call.caller)).0) (sym d.yard) (subst (λ q. SameButAllPins (line_failed z a e).0 (line_failed s a q).0) (sym event_is) pa.failed);
+            device = λ h. f.2 (subst IsTrue d.call.honest h);
+          }
+
+      pub holds_on : IsTied opened noted z' dev'.honest dev'.medium
+      holds_on = ⊎_elim gives_up goes_on (fault_or_not o)

@@ -1,0 +1,78 @@
+-- What the tie before a hold and after it say of the board: the words, and that the store of a hold publishes what its note
+-- says.
+use Rattle.std.proofs.Common.{◌≡◌, ◌≢◌, ℕ, List, ◌∷◌, ◌++◌, sym, ap, ◌∙◌, subst}
+use Rattle.std.specs.Prelude.{Bool, if◌then◌else◌}
+use Rattle.std.proofs.lemmas.Bool.{eq-eqb}
+use Rattle.lz_disk.specs.Images.{Medium}
+use Rattle.lz_list.specs.declared.word.Word.{Word}
+use Rattle.lz_list.specs.declared.word.Word.TheVariants.{Head, Link, Key, Pin as PinOf, Halt}
+use Rattle.lz_list.specs.Words.{get}
+use Rattle.lz_list.specs.Traces.{Trace, Lawful, word_after}
+use Rattle.lz_machine.specs.Yards.{Shape, Yard}
+use Rattle.lz_machine.specs.Runs.{run, first_point}
+use Rattle.lz_machine.specs.Sound.{TraceSound}
+use Rattle.lz_machine.proofs.Theorem.Reached.{reached_sound}
+use Rattle.lz_machine.proofs.Theorem.WornPass.{up_at}
+use Rattle.lz_board.specs.declared.view.Sizes.{Sizes}
+use Rattle.lz_board.specs.declared.view.Note.{Note}
+use Rattle.lz_board.specs.declared.view.Load.{Load}
+use Rattle.lz_board.specs.Notes.{listed, trace_of, splice, IsShared}
+use Rattle.lz_board.specs.Noting.{Writes}
+use Rattle.lz_board.proofs.Upkeep.Splice.{trace_splice}
+use Rattle.lz_tie.specs.NotedRuns.{SameButAllPins, IsTied}
+use Rattle.lz_tie.specs.Holds.{sizes_of}
+use Rattle.lz_tie.proofs.Reading.TraceNotes.{trace_reads}
+use Rattle.lz_tie.proofs.Splicing.LoadInsertion.{words_shown}
+
+same_words : (y s : Yard) → SameButAllPins y s → (z : Sizes) (w : Word) → IsShared z w → get y.words w ≡ get s.words w
+same_words y s h z (Head b) shared = ap (λ l. get (record s.words { heads = l }) (Head b)) h.heads
+same_words y s h z (Link b) shared = ap (λ l. get (record s.words { links = l }) (Link b)) h.links
+same_words y s h z (Key b) shared = ap (λ l. get (record s.words { keys = l }) (Key b)) h.keys
+same_words y s h z (PinOf p) shared = absurd shared
+same_words y s h z Halt shared = h.halt
+
+module _ (opened : Trace) (ns : List Note) (y : Yard) (honest : Bool) (disk : Medium) (t : IsTied opened ns y honest disk) where
+  same_trace : (run (first_point t.start) t.steps).trace ≡ trace_of opened ns
+  same_trace = trace_reads (first_point t.start) ns t.steps t.reads ∙ ap (λ P. trace_of P ns) (sym t.begins)
+
+  sound : TraceSound y.shape t.service.yard.words (trace_of opened ns)
+  sound =
+      let up = up_at t.start (run (first_point t.start) t.steps) t.service t.medium (reached_sound t.start t.steps t.starts t.runs) t.state in
+      subst (λ (x : Shape × Trace). TraceSound x.0 t.service.yard.words x.1) (λ i. (sym t.yard.shape i, same_trace i)) up.up.sound.trace
+
+  -- the yard's words are those after the notes' trace, which is lawful
+  pub tied_words : (w : Word) → IsShared (sizes_of y.shape) w → get y.words w ≡ word_after y.shape.buckets (trace_of opened ns) w
+  tied_words w shared = same_words y t.service.yard t.yard (sizes_of y.shape) w shared ∙ words_shown y.shape t.service.yard.words (trace_of opened ns) sound w shared
+
+  pub tied_lawful : Lawful y.shape.buckets y.shape.slots (trace_of opened ns)
+  tied_lawful = sound.lawful
+
+-- Where the notes are tied before a hold and after it, an exchange of the one word that differs publishes what was noted.
+pub noting_writes : (opened : Trace) (ns : List Note) (y y' : Yard) (honest honest' : Bool) (disk disk' : Medium) (a : ℕ) (hs : List Load) (n : Note)
+    → IsTied opened ns y honest disk → IsTied opened (n ∷ splice opened a hs ns) y' honest' disk' → y'.shape ≡ y.shape
+    → (w : Word) → IsShared (sizes_of y.shape) w → ((v : Word) → v ≢ w → IsShared (sizes_of y.shape) v → get y'.words v ≡ get y.words v)
+    → Writes (sizes_of y.shape) (trace_of opened ns) w (get y.words w) (get y'.words w) n.published
+noting_writes opened ns y y' honest honest' disk disk' a hs n t t' shape w shared others = record {
+  shared = shared;
+  word = ap (λ b. if b then get y'.words w else word_after y.shape.buckets P w) (eq-eqb (word_after y.shape.buckets P w) (get y.words w) (sym (before w shared))) ∙ after w shared;
+  others = λ v in_range away. sym (after v in_range) ∙ others v away in_range ∙ before v in_range;
+}
+  where
+    P : Trace
+    P = trace_of opened ns
+
+    before : (v : Word) → IsShared (sizes_of y.shape) v → get y.words v ≡ word_after y.shape.buckets P v
+    before v h = tied_words opened ns y honest disk t v h
+
+    grown : trace_of opened (n ∷ splice opened a hs ns) ≡ listed n.published ++ P
+    grown = ap (λ l. listed n.published ++ l) (trace_splice opened a hs ns)
+
+    after : (v : Word) → IsShared (sizes_of y.shape) v → get y'.words v ≡ word_after y.shape.buckets (listed n.published ++ P) v
+    after v h = tied_words opened (n ∷ splice opened a hs ns) y' honest' disk' t' v (subst (λ s. IsShared (sizes_of s) v) (sym shape) h)
+        ∙ ap (λ (x : Shape × Trace). word_after x.0.buckets x.1 v) (λ i. (shape i, grown i))
+
+-- and what was noted could be published
+pub noting_lawful : (opened : Trace) (ns : List Note) (y' : Yard) (honest : Bool) (disk : Medium) (a : ℕ) (hs : List Load) (n : Note)
+    → IsTied opened (n ∷ splice opened a hs ns) y' honest disk → Lawful y'.shape.buckets y'.shape.slots (listed n.published ++ trace_of opened ns)
+noting_lawful opened ns y' honest disk a hs n t =
+    subst (Lawful y'.shape.buckets y'.shape.slots) (ap (λ l. listed n.published ++ l) (trace_splice opened a hs ns)) (tied_lawful opened (n ∷ splice opened a hs ns) y' honest disk t)

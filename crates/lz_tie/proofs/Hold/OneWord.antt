@@ -1,0 +1,161 @@
+-- What a hold stores on the board is what its event publishes.
+use Rattle.std.proofs.Common.{◌≡◌, ◌≢◌, ⊎_elim, ℕ, Bool, true, false, [], ◌∷◌, ◌++◌, refl, sym, ap, ◌∙◌, get_or-set_other, eq-eqb, ne_eqb}
+use Rattle.std.specs.Prelude.{if◌then◌else◌, Option, Some, None}
+use Rattle.std.proofs.lemmas.Bool.{cases_eq}
+use Rattle.lz_slot.proofs.Counted.{of_pass_other}
+use Rattle.lz_vault.specs.declared.vault.Stage.{Stage}
+use Rattle.lz_vault.specs.declared.vault.Stage.TheVariants.{Closed, KeyLoose, Keyed, Opening, Open, Closing}
+use Rattle.lz_list.specs.declared.place.Place.{Place}
+use Rattle.lz_list.specs.declared.place.Place.TheVariants.{Bucket, Node}
+use Rattle.lz_list.specs.declared.word.Word.{Word}
+use Rattle.lz_list.specs.declared.word.Word.TheVariants.{Head, Link as link_at, Key as key_at, Pin as pin_at, Halt as halt_word}
+use Rattle.lz_list.specs.declared.publishing.Publishing.{Publishing}
+use Rattle.lz_list.specs.declared.publishing.Publishing.TheVariants.{Linked as linked, Marked as marked, Unlinked as unlinked}
+use Rattle.lz_list.specs.Words.{Words, get, set, redirect, word_of, change_flags}
+use Rattle.lz_flush.specs.Settling.{settle}
+use Rattle.lz_list.specs.Traces.{Trace, word_after}
+use Rattle.lz_machine.specs.declared.course.Course.{Course}
+use Rattle.lz_machine.specs.declared.course.Course.TheVariants.{Refused, Dies, Plays}
+use Rattle.lz_machine.specs.declared.actor.Actor.{Actor}
+use Rattle.lz_machine.specs.declared.event.Event.{Event}
+use Rattle.lz_machine.specs.declared.event.Event.TheVariants.{Invoke, Pin, Hop, Reserve, WriteKey, Claim, Check, WriteOpen, Link, WriteClose, Mark, Release, Sync, Settle, Unlink, Retire, SeePin, Answer, Halt}
+use Rattle.lz_machine.specs.Yards.{Shape, Yard, actor_at, cell_at}
+use Rattle.lz_machine.specs.Table.{course, line, line_on, line_publishes, published_on, publishes, settling, line_changes, changed_on, word_changed, words_after, is_sure, slot_of, node_of}
+use Rattle.lz_machine.specs.Sound.{TraceSound}
+use Rattle.lz_board.specs.declared.view.Sizes.{Sizes}
+use Rattle.lz_board.specs.Notes.{listed, own, is_for, IsShared}
+use Rattle.lz_board.specs.Noting.{Writes}
+use Rattle.lz_tie.proofs.Splicing.LoadInsertion.{words_shown}
+
+-- a word that is no pin word
+abbrev pub IsWalked : Word → Type 0
+IsWalked (pin_at p) = ⊥
+IsWalked w = Unit {0}
+
+get_other : (w : Words) (u v : Word) (x : ℕ) → v ≢ u → get (set w u x) v ≡ get w v
+get_other w (Head b) (Head c) x away = get_or-set_other w.heads b c x 0 (λ e. away (ap Head e))
+get_other w (Head b) (link_at c) x away = refl
+get_other w (Head b) (key_at c) x away = refl
+get_other w (Head b) (pin_at c) x away = refl
+get_other w (Head b) halt_word x away = refl
+get_other w (link_at b) (Head c) x away = refl
+get_other w (link_at b) (link_at c) x away = get_or-set_other w.links b c x 0 (λ e. away (ap link_at e))
+get_other w (link_at b) (key_at c) x away = refl
+get_other w (link_at b) (pin_at c) x away = refl
+get_other w (link_at b) halt_word x away = refl
+get_other w (key_at b) (Head c) x away = refl
+get_other w (key_at b) (link_at c) x away = refl
+get_other w (key_at b) (key_at c) x away = get_or-set_other w.keys b c x 0 (λ e. away (ap key_at e))
+get_other w (key_at b) (pin_at c) x away = refl
+get_other w (key_at b) halt_word x away = refl
+get_other w (pin_at b) (Head c) x away = refl
+get_other w (pin_at b) (link_at c) x away = refl
+get_other w (pin_at b) (key_at c) x away = refl
+get_other w (pin_at b) (pin_at c) x away = of_pass_other w.pins b c x 0 (λ e. away (ap pin_at e))
+get_other w (pin_at b) halt_word x away = refl
+get_other w halt_word (Head c) x away = refl
+get_other w halt_word (link_at c) x away = refl
+get_other w halt_word (key_at c) x away = refl
+get_other w halt_word (pin_at c) x away = refl
+get_other w halt_word halt_word x away = absurd (away refl)
+
+redirect_other : (w : Words) (place : Place) (next : ℕ) (v : Word) → v ≢ word_of place → get (redirect w place next) v ≡ get w v
+redirect_other w (Bucket b) next v away = get_other w (Head b) v next away
+redirect_other w (Node s) next v away = get_other w (link_at s) v _ away
+
+-- an event that is played changes one word at most: the one that its line names
+pub others_stay : (y : Yard) (actor : Actor) (a : ℕ) (e : Event) (v : Word) → word_changed y actor a e ≢ Some v → get (words_after y actor a e) v ≡ get y.words v
+others_stay y actor a (Invoke c) v away = refl
+others_stay y actor a Pin v away = get_other y.words (pin_at a) v _ (λ is. away (ap (λ w. Some w) (sym is)))
+others_stay y actor a (Hop w) v away = refl
+others_stay y actor a Reserve v away = refl
+others_stay y actor a (WriteKey k) v away = get_other y.words (key_at _) v _ (λ is. away (ap (λ w. Some w) (sym is)))
+others_stay y actor a (Claim pred curr) v away = refl
+others_stay y actor a Check v away = refl
+others_stay y actor a WriteOpen v away = get_other y.words (link_at _) v _ (λ is. away (ap (λ w. Some w) (sym is)))
+others_stay y actor a Link v away = redirect_other y.words actor.pred _ v (λ is. away (ap (λ w. Some w) (sym is)))
+others_stay y actor a WriteClose v away = refl
+others_stay y actor a Mark v away = get_other y.words (link_at _) v _ (λ is. away (ap (λ w. Some w) (sym is)))
+others_stay y actor a Release v away = refl
+others_stay y actor a (Sync s) v away = refl
+others_stay y actor a (Settle s) v away = go (is_sure y s) away
+  where
+    go : (b : Bool) → (if b then Some (link_at s) else None) ≢ Some v → get (if b then change_flags (settle (cell_at y s).stage) y.words s else y.words) v ≡ get y.words v
+    go true away = get_other y.words (link_at s) v _ (λ is. away (ap (λ w. Some w) (sym is)))
+    go false away = refl
+others_stay y actor a Unlink v away = redirect_other y.words actor.pred _ v (λ is. away (ap (λ w. Some w) (sym is)))
+others_stay y actor a Retire v away = refl
+others_stay y actor a (SeePin p x) v away = refl
+others_stay y actor a Answer v away = get_other y.words (pin_at a) v _ (λ is. away (ap (λ w. Some w) (sym is)))
+others_stay y actor a Halt v away = get_other y.words halt_word v _ (λ is. away (ap (λ w. Some w) (sym is)))
+
+on_others : (y : Yard) (a : ℕ) (e : Event) (v : Word) (c : Course) → changed_on c y (actor_at y a) a e ≢ Some v → get (line_on c y (actor_at y a) a e).0.words v ≡ get y.words v
+on_others y a e v (Refused o) away = refl
+on_others y a e v Dies away = refl
+on_others y a e v Plays away = others_stay y (actor_at y a) a e v away
+
+pub line_others : (y : Yard) (a : ℕ) (e : Event) (v : Word) → line_changes y a e ≢ Some v → get (line y a e).0.words v ≡ get y.words v
+line_others y a e v away = on_others y a e v (course y a e) away
+
+-- what an event publishes is published for its actor, or for no pass
+settling_own : (q : ℕ) (stage : Stage) (s : ℕ) → own q (settling stage s) ≡ []
+settling_own q Closed s = refl
+settling_own q KeyLoose s = refl
+settling_own q Keyed s = refl
+settling_own q Opening s = refl
+settling_own q Open s = refl
+settling_own q Closing s = refl
+
+none_of : (q : ℕ) (x : Publishing) → is_for q x ≡ false → own q (x ∷ []) ≡ []
+none_of q x is = ap (λ b. if b then x ∷ [] else []) is
+
+pub made_own : (y : Yard) (actor : Actor) (a q : ℕ) (e : Event) → q ≢ a → own q (publishes y actor a e) ≡ []
+made_own y actor a q (Invoke c) away = refl
+made_own y actor a q Pin away = refl
+made_own y actor a q (Hop w) away = refl
+made_own y actor a q Reserve away = refl
+made_own y actor a q (WriteKey k) away = refl
+made_own y actor a q (Claim pred curr) away = refl
+made_own y actor a q Check away = refl
+made_own y actor a q WriteOpen away = refl
+made_own y actor a q Link away = none_of q (linked (get y.words (key_at (slot_of actor))) (slot_of actor) a) (ne_eqb a q (λ is. away (sym is)))
+made_own y actor a q WriteClose away = refl
+made_own y actor a q Mark away = none_of q (marked (get y.words (key_at (node_of actor))) (node_of actor) a) (ne_eqb a q (λ is. away (sym is)))
+made_own y actor a q Release away = refl
+made_own y actor a q (Sync s) away = refl
+made_own y actor a q (Settle s) away = settling_own q (cell_at y s).stage s
+made_own y actor a q Unlink away = none_of q (unlinked (get y.words (key_at (node_of actor))) (node_of actor) a) (ne_eqb a q (λ is. away (sym is)))
+made_own y actor a q Retire away = refl
+made_own y actor a q (SeePin p x) away = refl
+made_own y actor a q Answer away = refl
+made_own y actor a q Halt away = refl
+
+on_own : (y : Yard) (a q : ℕ) (e : Event) (c : Course) → q ≢ a → own q (published_on c y (actor_at y a) a e) ≡ []
+on_own y a q e (Refused o) away = refl
+on_own y a q e Dies away = refl
+on_own y a q e Plays away = made_own y (actor_at y a) a q e away
+
+pub line_own : (y : Yard) (a q : ℕ) (e : Event) → q ≢ a → own q (line_publishes y a e) ≡ []
+line_own y a q e away = on_own y a q e (course y a e) away
+
+-- Where the words before and after are those after the traces, a store of the one word that differs publishes the difference.
+pub writes_from : (shape : Shape) (words words' : Words) (P P' : Trace) (x : Option Publishing) (w : Word) → TraceSound shape words P → TraceSound shape words' P' → P' ≡ listed x ++ P
+    → IsShared (record { slots = shape.slots; buckets = shape.buckets; passes = shape.passes }) w → ((v : Word) → v ≢ w → IsShared (record { slots = shape.slots; buckets = shape.buckets; passes = shape.passes }) v → get words' v ≡ get words v)
+    → Writes (record { slots = shape.slots; buckets = shape.buckets; passes = shape.passes }) P w (get words w) (get words' w) x
+writes_from shape words words' P P' x w before after is shared others = record {
+  shared = shared;
+  word = ap (λ b. if b then get words' w else word_after shape.buckets P w) (eq-eqb (word_after shape.buckets P w) (get words w) (sym (words_shown shape words P before w shared)))
+      ∙ words_shown shape words' P' after w shared ∙ ap (λ Q. word_after shape.buckets Q w) is;
+  others = λ v in_range away. ap (λ Q. word_after shape.buckets Q v) (sym is) ∙ sym (words_shown shape words' P' after v in_range) ∙ others v away in_range ∙ words_shown shape words P before v in_range;
+}
+
+-- and where no word differs, an exchange that changes nothing publishes nothing
+pub writes_nothing : (z : Sizes) (P : Trace) (n : ℕ) → Writes z P halt_word n n None
+writes_nothing z P n = record {
+  shared = tt;
+  word = ⊎_elim
+      (λ (is : word_after z.buckets P halt_word ≡ n). ap (λ b. if b then n else word_after z.buckets P halt_word) (eq-eqb (word_after z.buckets P halt_word) n is) ∙ sym is)
+      (λ away. ap (λ b. if b then n else word_after z.buckets P halt_word) (ne_eqb (word_after z.buckets P halt_word) n away))
+      (cases_eq (word_after z.buckets P halt_word) n);
+  others = λ v in_range away. refl;
+}

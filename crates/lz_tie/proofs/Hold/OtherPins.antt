@@ -1,0 +1,267 @@
+-- Of a yard's copies of pin words an event reads its own actor's alone, but for a load.
+use Rattle.std.proofs.Common.{◌≡◌, ℕ, ◌+◌, Bool, true, false, List, refl, sym, ap, ◌∙◌, subst}
+use Rattle.std.specs.Prelude.{not, ◌&&◌, if◌then◌else◌, Option, Some, None}
+use Rattle.lz_slot.specs.Counted.{of_pass}
+use Rattle.lz_allot.specs.Uses.{see_pin}
+use Rattle.lz_list.specs.declared.place.Place.{Place}
+use Rattle.lz_list.specs.declared.place.Place.TheVariants.{Bucket, Node}
+use Rattle.lz_list.specs.Words.{Words, redirect}
+use Rattle.lz_list.specs.Locks.{check}
+use Rattle.lz_machine.specs.declared.course.Course.{Course}
+use Rattle.lz_machine.specs.declared.course.Course.TheVariants.{Refused, Dies, Plays}
+use Rattle.lz_machine.specs.declared.actor.Actor.{Actor}
+use Rattle.lz_machine.specs.declared.actor.Hold.TheVariants.{Checked, Locks}
+use Rattle.lz_machine.specs.declared.event.Event.{Event}
+use Rattle.lz_machine.specs.declared.event.Event.TheVariants.{Invoke, Pin, Hop, Reserve, WriteKey, Claim, Check, WriteOpen, Link, WriteClose, Mark, Release, Sync, Settle, Unlink, Retire, SeePin, Answer, Halt}
+use Rattle.lz_machine.specs.declared.event.Outcome.TheVariants.{Dead, NotNow, True, False}
+use Rattle.lz_machine.specs.Yards.{Yard, actor_at}
+use Rattle.lz_machine.specs.Table.{course, course_alive, needs_of, is_played_dead, line, line_on, line_failed, line_call, call_on, call_of, line_publishes, published_on, publishes, yard_done, outcome_of, words_after, given_back, kept_slot, vault_failed, is_sure, set_actor, with_hold, with_slot}
+use Rattle.lz_machine.specs.Laws.{hop_of}
+use Rattle.lz_tie.specs.NotedRuns.{SameButAllPins}
+
+abbrev pub with_pins : Yard → List ℕ → Yard
+with_pins y ps = record {
+  shape = y.shape;
+  words = record { heads = y.words.heads; links = y.words.links; keys = y.words.keys; pins = ps; halt = y.words.halt };
+  locks = y.locks;
+  vault = y.vault;
+  uses = y.uses;
+  actors = y.actors;
+}
+
+abbrev pins_of : Words → List ℕ → Words
+pins_of w ps = record { heads = w.heads; links = w.links; keys = w.keys; pins = ps; halt = w.halt }
+
+-- words that are the same but for pin words
+record SameWords (one other : Words) : Type 0 where
+  heads : one.heads ≡ other.heads
+  links : one.links ≡ other.links
+  keys : one.keys ≡ other.keys
+  halt : one.halt ≡ other.halt
+
+redirect_same : (w : Words) (ps : List ℕ) (place : Place) (next : ℕ) → SameWords (redirect (pins_of w ps) place next) (redirect w place next)
+redirect_same w ps (Bucket b) next = record { heads = refl; links = refl; keys = refl; halt = refl }
+redirect_same w ps (Node s) next = record { heads = refl; links = refl; keys = refl; halt = refl }
+
+check_same : (w : Words) (ps : List ℕ) (place : Place) (curr : Option ℕ) → check (pins_of w ps) place curr ≡ check w place curr
+check_same w ps (Bucket b) None = refl
+check_same w ps (Bucket b) (Some s) = refl
+check_same w ps (Node t) None = refl
+check_same w ps (Node t) (Some s) = refl
+
+if_same : (b : Bool) (x y x' y' : Words) → SameWords x y → SameWords x' y' → SameWords (if b then x else x') (if b then y else y')
+if_same true x y x' y' one other = one
+if_same false x y x' y' one other = other
+
+module _ (y : Yard) (ps : List ℕ) (a : ℕ) (pin : of_pass ps a 0 ≡ of_pass y.words.pins a 0) where
+  abbrev z : Yard
+  z = with_pins y ps
+
+  abbrev actor : Actor
+  actor = actor_at y a
+
+  abbrev course_at : Event → ℕ → Course
+  course_at e v =
+      if y.vault.dead && not (is_played_dead e) then Refused Dead
+      else if needs_of y actor v e then course_alive y a v e
+      else Refused NotNow
+
+  course_same : (e : Event) → course z a e ≡ course y a e
+  course_same (Invoke c) = ap (course_at (Invoke c)) pin
+  course_same Pin = ap (course_at Pin) pin
+  course_same (Hop w) = ap (course_at (Hop w)) pin
+  course_same Reserve = ap (course_at Reserve) pin
+  course_same (WriteKey k) = ap (course_at (WriteKey k)) pin
+  course_same (Claim pred curr) = ap (course_at (Claim pred curr)) pin
+  course_same Check = ap (course_at Check) pin
+  course_same WriteOpen = ap (course_at WriteOpen) pin
+  course_same Link = ap (course_at Link) pin
+  course_same WriteClose = ap (course_at WriteClose) pin
+  course_same Mark = ap (course_at Mark) pin
+  course_same Release = ap (course_at Release) pin
+  course_same (Sync s) = ap (course_at (Sync s)) pin
+  course_same (Settle s) = ap (course_at (Settle s)) pin
+  course_same Unlink = ap (course_at Unlink) pin
+  course_same Retire = ap (course_at Retire) pin
+  course_same (SeePin p v) = ap (course_at (SeePin p v)) pin
+  course_same Answer = ap (course_at Answer) pin
+  course_same Halt = ap (course_at Halt) pin
+
+  given_same : (slot : Option ℕ) → given_back z slot ≡ given_back y slot
+  given_same None = refl
+  given_same (Some s) = refl
+
+  kept_same : (slot : Option ℕ) → kept_slot z slot ≡ kept_slot y slot
+  kept_same None = refl
+  kept_same (Some s) = refl
+
+  -- events that don't touch words in a way that depends on a place
+  whole : SameButAllPins z y
+  whole = record { shape = refl; heads = refl; links = refl; keys = refl; halt = refl; locks = refl; vault = refl; uses = refl; actors = refl }
+
+  with_same : (w w' : Words) → SameWords w w' → (x x' : Yard) → x.words ≡ w → x'.words ≡ w' → x.shape ≡ x'.shape → x.locks ≡ x'.locks → x.vault ≡ x'.vault → x.uses ≡ x'.uses → x.actors ≡ x'.actors → SameButAllPins x x'
+  with_same w w' same x x' is is' shape locks vault uses actors = record {
+    shape = shape;
+    heads = ap (λ (w : Words). w.heads) is ∙ same.heads ∙ sym (ap (λ (w : Words). w.heads) is');
+    links = ap (λ (w : Words). w.links) is ∙ same.links ∙ sym (ap (λ (w : Words). w.links) is');
+    keys = ap (λ (w : Words). w.keys) is ∙ same.keys ∙ sym (ap (λ (w : Words). w.keys) is');
+    halt = ap (λ (w : Words). w.halt) is ∙ same.halt ∙ sym (ap (λ (w : Words). w.halt) is');
+    locks = locks;
+    vault = vault;
+    uses = uses;
+    actors = actors;
+  }
+
+  words_same : (e : Event) → SameWords (words_after z actor a e) (words_after y actor a e)
+  words_same (Invoke c) = record { heads = refl; links = refl; keys = refl; halt = refl }
+  words_same Pin = record { heads = refl; links = refl; keys = refl; halt = refl }
+  words_same (Hop w) = record { heads = refl; links = refl; keys = refl; halt = refl }
+  words_same Reserve = record { heads = refl; links = refl; keys = refl; halt = refl }
+  words_same (WriteKey k) = record { heads = refl; links = refl; keys = refl; halt = refl }
+  words_same (Claim pred curr) = record { heads = refl; links = refl; keys = refl; halt = refl }
+  words_same Check = record { heads = refl; links = refl; keys = refl; halt = refl }
+  words_same WriteOpen = record { heads = refl; links = refl; keys = refl; halt = refl }
+  words_same Link = redirect_same y.words ps actor.pred _
+  words_same WriteClose = record { heads = refl; links = refl; keys = refl; halt = refl }
+  words_same Mark = record { heads = refl; links = refl; keys = refl; halt = refl }
+  words_same Release = record { heads = refl; links = refl; keys = refl; halt = refl }
+  words_same (Sync s) = record { heads = refl; links = refl; keys = refl; halt = refl }
+  words_same (Settle s) = if_same (is_sure y s) _ _ _ _ record { heads = refl; links = refl; keys = refl; halt = refl } record { heads = refl; links = refl; keys = refl; halt = refl }
+  words_same Unlink = redirect_same y.words ps actor.pred _
+  words_same Retire = record { heads = refl; links = refl; keys = refl; halt = refl }
+  words_same (SeePin p v) = record { heads = refl; links = refl; keys = refl; halt = refl }
+  words_same Answer = record { heads = refl; links = refl; keys = refl; halt = refl }
+  words_same Halt = record { heads = refl; links = refl; keys = refl; halt = refl }
+
+  yard_same : (e : Event) → SameButAllPins (yard_done z actor a e) (yard_done y actor a e)
+  yard_same (Invoke c) = with_same _ _ (words_same (Invoke c)) _ _ refl refl refl refl refl refl refl
+  yard_same Pin = with_same _ _ (words_same Pin) _ _ refl refl refl refl refl refl refl
+  yard_same (Hop w) = with_same _ _ (words_same (Hop w)) _ _ refl refl refl refl refl refl refl
+  yard_same Reserve = with_same _ _ (words_same Reserve) _ _ refl refl refl refl refl refl refl
+  yard_same (WriteKey k) = with_same _ _ (words_same (WriteKey k)) _ _ refl refl refl refl refl refl refl
+  yard_same (Claim pred curr) = with_same _ _ (words_same (Claim pred curr)) _ _ refl refl refl refl refl refl refl
+  yard_same Check = with_same _ _ (words_same Check) _ _ refl refl refl refl refl refl (ap (λ b. set_actor y a (with_hold actor (if b then Checked else Locks))) (check_same y.words ps actor.pred actor.curr))
+  yard_same WriteOpen = with_same _ _ (words_same WriteOpen) _ _ refl refl refl refl refl refl refl
+  yard_same Link = with_same _ _ (words_same Link) _ _ refl refl refl refl refl refl refl
+  yard_same WriteClose = with_same _ _ (words_same WriteClose) _ _ refl refl refl refl refl refl refl
+  yard_same Mark = with_same _ _ (words_same Mark) _ _ refl refl refl refl refl refl refl
+  yard_same Release = with_same _ _ (words_same Release) _ _ refl refl refl refl refl refl refl
+  yard_same (Sync s) = with_same _ _ (words_same (Sync s)) _ _ refl refl refl refl refl refl refl
+  yard_same (Settle s) = with_same _ _ (words_same (Settle s)) _ _ refl refl refl refl refl refl refl
+  yard_same Unlink = with_same _ _ (words_same Unlink) _ _ refl refl refl refl refl refl refl
+  yard_same Retire = with_same _ _ (words_same Retire) _ _ refl refl refl refl refl refl refl
+  yard_same (SeePin p v) = with_same _ _ (words_same (SeePin p v)) _ _ refl refl refl refl refl refl refl
+  yard_same Answer = with_same _ _ (words_same Answer) _ _ refl refl refl refl refl
+      (ap (λ v. see_pin a (v + 1) (given_back z actor.slot)) pin ∙ ap (λ l. see_pin a (of_pass y.words.pins a 0 + 1) l) (given_same actor.slot))
+      (ap (λ s. set_actor y a (with_slot actor s)) (kept_same actor.slot))
+  yard_same Halt = with_same _ _ (words_same Halt) _ _ refl refl refl refl refl refl refl
+
+  outcome_same : (e : Event) → hop_of e ≡ None → outcome_of z actor e ≡ outcome_of y actor e
+  outcome_same (Invoke c) none = refl
+  outcome_same Pin none = refl
+  outcome_same (Hop w) none = absurd cc
+  outcome_same Reserve none = refl
+  outcome_same (WriteKey k) none = refl
+  outcome_same (Claim pred curr) none = refl
+  outcome_same Check none = ap (λ b. if b then True else False) (check_same y.words ps actor.pred actor.curr)
+  outcome_same WriteOpen none = refl
+  outcome_same Link none = refl
+  outcome_same WriteClose none = refl
+  outcome_same Mark none = refl
+  outcome_same Release none = refl
+  outcome_same (Sync s) none = refl
+  outcome_same (Settle s) none = refl
+  outcome_same Unlink none = refl
+  outcome_same Retire none = refl
+  outcome_same (SeePin p v) none = refl
+  outcome_same Answer none = refl
+  outcome_same Halt none = refl
+
+  call_same : (e : Event) → call_of z actor e ≡ call_of y actor e
+  call_same (Invoke c) = refl
+  call_same Pin = refl
+  call_same (Hop w) = refl
+  call_same Reserve = refl
+  call_same (WriteKey k) = refl
+  call_same (Claim pred curr) = refl
+  call_same Check = refl
+  call_same WriteOpen = refl
+  call_same Link = refl
+  call_same WriteClose = refl
+  call_same Mark = refl
+  call_same Release = refl
+  call_same (Sync s) = refl
+  call_same (Settle s) = refl
+  call_same Unlink = refl
+  call_same Retire = refl
+  call_same (SeePin p v) = refl
+  call_same Answer = refl
+  call_same Halt = refl
+
+  failed_same : (e : Event) → vault_failed z actor e ≡ vault_failed y actor e
+  failed_same (Invoke c) = refl
+  failed_same Pin = refl
+  failed_same (Hop w) = refl
+  failed_same Reserve = refl
+  failed_same (WriteKey k) = refl
+  failed_same (Claim pred curr) = refl
+  failed_same Check = refl
+  failed_same WriteOpen = refl
+  failed_same Link = refl
+  failed_same WriteClose = refl
+  failed_same Mark = refl
+  failed_same Release = refl
+  failed_same (Sync s) = refl
+  failed_same (Settle s) = refl
+  failed_same Unlink = refl
+  failed_same Retire = refl
+  failed_same (SeePin p v) = refl
+  failed_same Answer = refl
+  failed_same Halt = refl
+
+  publishes_same : (e : Event) → publishes z actor a e ≡ publishes y actor a e
+  publishes_same (Invoke c) = refl
+  publishes_same Pin = refl
+  publishes_same (Hop w) = refl
+  publishes_same Reserve = refl
+  publishes_same (WriteKey k) = refl
+  publishes_same (Claim pred curr) = refl
+  publishes_same Check = refl
+  publishes_same WriteOpen = refl
+  publishes_same Link = refl
+  publishes_same WriteClose = refl
+  publishes_same Mark = refl
+  publishes_same Release = refl
+  publishes_same (Sync s) = refl
+  publishes_same (Settle s) = refl
+  publishes_same Unlink = refl
+  publishes_same Retire = refl
+  publishes_same (SeePin p v) = refl
+  publishes_same Answer = refl
+  publishes_same Halt = refl
+
+  -- the whole line
+  pub record SameLine (e : Event) : Type 0 where
+    pub yard : SameButAllPins (line z a e).0 (line y a e).0
+    pub outcome : (line z a e).1 ≡ (line y a e).1
+    pub call : line_call z a e ≡ line_call y a e
+    pub published : line_publishes z a e ≡ line_publishes y a e
+    pub failed : SameButAllPins (line_failed z a e).0 (line_failed y a e).0
+
+  on_same : (e : Event) → hop_of e ≡ None → (c : Course) → SameButAllPins (line_on c z actor a e).0 (line_on c y actor a e).0 × ((line_on c z actor a e).1 ≡ (line_on c y actor a e).1) × (call_on c z actor e ≡ call_on c y actor e) × (published_on c z actor a e ≡ published_on c y actor a e)
+  on_same e none (Refused o) = (whole, refl, refl, refl)
+  on_same e none Dies = (record { shape = refl; heads = refl; links = refl; keys = refl; halt = refl; locks = refl; vault = refl; uses = refl; actors = refl }, refl, refl, refl)
+  on_same e none Plays = (yard_same e, outcome_same e none, call_same e, publishes_same e)
+
+  pub line_same : (e : Event) → hop_of e ≡ None → SameLine e
+  line_same e none =
+      let c = course y a e in
+      let s = course_same e in
+      let r = on_same e none c in
+      record {
+        yard = subst (λ (c : Course). SameButAllPins (line_on c z actor a e).0 (line y a e).0) (sym s) r.0;
+        outcome = ap (λ (c : Course). (line_on c z actor a e).1) s ∙ r.1;
+        call = ap (λ (c : Course). call_on c z actor e) s ∙ r.2;
+        published = ap (λ (c : Course). published_on c z actor a e) s ∙ r.3;
+        failed = record { shape = refl; heads = refl; links = refl; keys = refl; halt = refl; locks = refl; vault = failed_same e; uses = refl; actors = refl };
+      }

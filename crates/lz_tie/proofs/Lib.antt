@@ -1,0 +1,6 @@
+pub mod Reading
+pub mod Splicing
+pub mod Hold
+pub mod Reuse
+pub mod Start
+pub mod AnswerRows

@@ -1,0 +1,3 @@
+pub mod TraceNotes
+pub mod CallPlaces
+pub mod PinWords

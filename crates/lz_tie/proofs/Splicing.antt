@@ -1,0 +1,2 @@
+pub mod LoadInsertion
+pub mod LoadSplice

@@ -1,0 +1,4 @@
+pub mod NotedRuns
+pub mod Answers
+pub mod Holds
+pub mod Reuse

@@ -1,0 +1,31 @@
+-- Why a slot may be prepared anew: what the notes show of pin words since the slot stood on a chain last.
+use Rattle.std.specs.Prelude.{◌≡◌, ℕ, ◌<◌, ◌≤◌, List, ◌∷◌, Some}
+use Rattle.lz_slot.specs.Counted.{of_pass}
+use Rattle.lz_allot.specs.declared.sight.Sight.{Sight}
+use Rattle.lz_allot.specs.declared.sight.Sight.TheVariants.{Unseen, Inside, Left}
+use Rattle.lz_allot.specs.Uses.{Use, Free, Taken, Limbo, use_of}
+use Rattle.lz_list.specs.Traces.{Trace}
+use Rattle.lz_machine.specs.declared.actor.Actor.{Actor}
+use Rattle.lz_machine.specs.Yards.{idle_actor}
+use Rattle.lz_machine.specs.Limbo.{IsAway}
+use Rattle.lz_board.specs.declared.view.Sizes.{Sizes}
+use Rattle.lz_board.specs.declared.view.Note.{Note}
+use Rattle.lz_board.specs.Notes.{trace_of, pin_after}
+use Rattle.lz_board.specs.Noting.{Sighting, HasLeft, AllLeft}
+
+-- a sight of a pass is one that the notes show: it was seen inside with this value since, or it has left
+abbrev pub SightTold : Sizes → Trace → List Note → ℕ → ℕ → Sight → Type 0
+SightTold z opened ns q s Unseen = Unit {0}
+SightTold z opened ns q s (Inside u) =
+    (x : Sighting opened ns q) × (pin_after q (x.note ∷ x.rest) ≡ u) × IsAway z.buckets (trace_of opened x.rest) (trace_of opened ns) s
+SightTold z opened ns q s Left = HasLeft z opened ns q s
+
+abbrev pub UseTold : Sizes → Trace → List Note → ℕ → Use → Type 0
+UseTold z opened ns s Free = AllLeft z opened ns s
+UseTold z opened ns s Taken = Unit {0}
+UseTold z opened ns s (Limbo sights) = (q : ℕ) → 1 ≤ q → q ≤ z.passes → SightTold z opened ns q s (of_pass sights q Left)
+
+-- The part of the lock's invariant by which a hold may prepare the slot in its actor's hand.
+pub record ReuseTold (z : Sizes) (opened : Trace) (ns : List Note) (uses : List Use) (actors : List Actor) : Type 0 where
+  pub each : (s : ℕ) → s < z.slots → UseTold z opened ns s (use_of uses s)
+  pub hands : (a s : ℕ) → (of_pass actors a idle_actor).slot ≡ Some s → AllLeft z opened ns s

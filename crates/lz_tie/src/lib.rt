@@ -1,0 +1,10 @@
+//! What lies under the lock of a set: the yard, and the pen of its board.
+//!
+//! Each hold of the lock plays one event of a pass's call and notes it. Proved: the pen's notes are read as a run of the machine
+//! whose last state the yard has, so the laws of lz_machine hold of it; a pass's own loads, made without the lock, stand in that
+//! run where the pass saw their words.
+#![tactic(auto)]
+
+mod locked;
+
+pub use locked::{Locked, Named};
