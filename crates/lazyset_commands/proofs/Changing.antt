@@ -15,7 +15,7 @@ use Rattle.lz_slot.specs.Bytes.{Holds, slot_at, open_byte, header_body}
 use Rattle.lz_slot.specs.declared.command.Command.TheVariants.{Add, Remove}
 use Rattle.lz_slot.specs.declared.slot.SlotRead.{SlotRead}
 use Rattle.lz_slot.specs.declared.slot.SlotRead.TheVariants as read
-use Rattle.lz_slot.proofs.Holding.{AreAlike, holds_same, holds_added, holds_removed}
+use Rattle.lz_slot.proofs.Files.HeldSets.{AreAlike, holds_same, holds_added, holds_removed}
 use Rattle.lz_disk.specs.Images.{Medium, IsImage}
 use Rattle.lz_disk.specs.Devices.{Device, IsTimely, LeavesOnly}
 use Rattle.lz_disk.proofs.Moments.{leaves_then, leaves_more, quiet}

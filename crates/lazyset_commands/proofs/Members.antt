@@ -18,7 +18,7 @@ use Rattle.lz_slot.specs.Bytes.{slot_at}
 use Rattle.lz_slot.specs.declared.command.Command.TheVariants.{Add, Remove}
 use Rattle.lz_slot.specs.declared.slot.SlotRead.{SlotRead}
 use Rattle.lz_slot.specs.declared.slot.SlotRead.TheVariants as read
-use Rattle.lz_slot.proofs.Holding.{holds_same_set}
+use Rattle.lz_slot.proofs.Files.HeldSets.{holds_same_set}
 use Rattle.lz_slot.proofs.Sets.{members_among}
 use Rattle.lz_disk.specs.Images.{Medium}
 use Rattle.lz_vault.specs.Stages.{Cell, IsAt, IsFree, Keeps, MayRead, IsSteady, AreSteady}

@@ -9,7 +9,7 @@ use Rattle.lz_list.specs.Words.{Words, set}
 use Rattle.lz_list.specs.Lists.{new_words}
 use Rattle.lz_list.specs.Traces.{Trace, insert, on, chain, bucket_of, word_after, IsLoose, MayLink, Lawful}
 use Rattle.lz_list.specs.Pinned.{Stood}
-use Rattle.lz_list.proofs.Openings.{opening_lawful}
+use Rattle.lz_list.proofs.Traces.OpeningTrace.{opening_lawful}
 use Rattle.lz_machine.specs.Limbo.{IsAway}
 use Rattle.lz_board.specs.declared.view.Sizes.{Sizes}
 use Rattle.lz_board.specs.declared.view.Part.{Part}

@@ -1,7 +1,7 @@
 pub mod Trees
-pub mod Setting
-pub mod Telling
-pub mod Seeing
-pub mod Collecting
-pub mod Counting
-pub mod Steps
+pub mod FilledPlaces
+pub mod ToldUses
+pub mod SightChanges
+pub mod LeftSlots
+pub mod UseCounts
+pub mod CallEffects

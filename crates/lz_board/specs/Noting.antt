@@ -12,7 +12,8 @@ use Rattle.lz_board.specs.declared.view.What.TheVariants.{Called, Played, Found}
 use Rattle.lz_board.specs.declared.view.Note.{Note}
 use Rattle.lz_board.specs.declared.view.Part.{Part}
 use Rattle.lz_board.specs.Notes.{listed, trace_of, own, IsShared, pin_after, pin_after_what}
-use Rattle.lz_board.specs.Kept.{is_calling, shows, IsInside}
+use Rattle.lz_board.specs.Kept.{is_calling, shows}
+use Rattle.lz_machine.specs.Yards.{IsInside}
 
 -- a note that shows the pin word of pass q, and the notes before it
 pub record Sighting (opened : Trace) (ns : List Note) (q : ℕ) : Type 0 where

@@ -11,16 +11,16 @@ use Rattle.lz_slot.specs.Limits.{most_slots}
 use Rattle.lz_slot.specs.Sets.{Keys, members}
 use Rattle.lz_slot.specs.Histories.{Life}
 use Rattle.lz_slot.specs.Bytes.{Holds, held}
-use Rattle.lz_slot.proofs.Exact.{key_of_format}
+use Rattle.lz_slot.proofs.Files.ExactBytes.{key_of_format}
 use Rattle.lz_disk.specs.Images.{Medium, IsImage, AreBytes, at_rest}
 use Rattle.lz_disk.specs.Devices.{Device}
 use Rattle.lz_list.specs.Words.{Words}
 use Rattle.lz_list.specs.Lists.{home, IsMember}
 use Rattle.lz_list.specs.Traces.{Trace, Chain, IsFound, has_key, insert, on, chain, chain_of, bucket_of, key_word, member}
-use Rattle.lz_list.proofs.Absent.{has_insert}
-use Rattle.lz_list.proofs.Openings.{opening_members}
-use Rattle.lz_list.proofs.Sorted.{node_on, node_slot}
-use Rattle.lz_list.proofs.Traced.{members_after}
+use Rattle.lz_list.proofs.Traces.Absence.{has_insert}
+use Rattle.lz_list.proofs.Traces.OpeningTrace.{opening_members}
+use Rattle.lz_list.proofs.Chains.SortedChain.{node_on, node_slot}
+use Rattle.lz_list.proofs.Traces.TraceWords.{members_after}
 use Rattle.lz_vault.specs.Opens.{keys_of as cell_keys}
 use Rattle.lz_vault.specs.Members.{no_cell}
 use Rattle.lz_machine.specs.Yards.{Shape, Yard, cell_read, slots_read, first_trace, opened_yard}

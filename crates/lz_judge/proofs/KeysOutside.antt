@@ -14,7 +14,7 @@ use Rattle.lz_judge.specs.declared.finding.Finding.{Finding}
 use Rattle.lz_judge.specs.declared.finding.Finding.TheVariants.{Key}
 use Rattle.lz_judge.specs.Surveys.{IsFinding, IsFirst, found_keys, is_sound, open_slot, open_slots, slot_of}
 use Rattle.lz_judge.specs.Renewals.{AreHeld, IsFirstOutside, IsLowestOutside, IsWithin}
-use Rattle.lz_judge.proofs.Slots.{first_of, found_below, same_member, sound_where}
+use Rattle.lz_judge.proofs.Surveys.SlotFinding.{first_of, found_below, same_member, sound_where}
 
 -- numbers below n, each above those before it
 record Ascend (xs : List ℕ) (n : ℕ) : Type 0 where

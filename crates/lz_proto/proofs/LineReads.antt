@@ -14,7 +14,7 @@ use Rattle.lz_slot.specs.Limits.{largest_key}
 use Rattle.lz_slot.specs.Texts as texts
 use Rattle.lz_slot.specs.Texts.{key_fault, Spells}
 use Rattle.lz_slot.specs.declared.spelling.KeyFault.{KeyFault}
-use Rattle.lz_slot.proofs.Spellings.{keys_are_refused, read_spelled, spelled_read, spelled_short}
+use Rattle.lz_slot.proofs.Texts.Spellings.{keys_are_refused, read_spelled, spelled_read, spelled_short}
 use Rattle.lz_proto.specs.Lines.{bad_of, IsRequestText, fault_of_body, without_return, IsItem, item_of}
 use Rattle.lz_proto.specs.declared.item.Item.{Item}
 use Rattle.lz_proto.specs.declared.item.Item.TheVariants.{Asks, Faulty}

@@ -6,7 +6,7 @@ use Rattle.std.proofs.KnownBytes.{Appends-trans}
 use Rattle.lz_slot.specs.declared.history.Mark.{Mark}
 use Rattle.lz_slot.specs.Texts.{key_text}
 use Rattle.lz_slot.specs.MarkTexts.{keys_text, marks_text}
-use Rattle.lz_slot.proofs.MarkTexts.{marks_join}
+use Rattle.lz_slot.proofs.Texts.MarkTexts.{marks_join}
 use Rattle.lz_rehearsal.specs.Tellings.{mark_line}
 
 keys_join : (ks js : List ℕ) → keys_text (ks ++ js) ≡ keys_text ks ++ keys_text js

@@ -9,7 +9,7 @@ use Rattle.lz_rehearsal.specs.declared.script.ScriptFault.{ScriptFault}
 use Rattle.lz_rehearsal.specs.declared.script.ScriptFault.TheVariants.{Line as BadLine, Read, Memory}
 use Rattle.lz_rehearsal.specs.Scripts.{FailsAt, HasNoLine, IsScript, Reads, nothing, more, line_read, most_bytes, most_lines}
 use Rattle.lz_rehearsal.specs.Scripting.{AddsLine, IsFaultOf, IsLineFault}
-use Rattle.lz_slot.proofs.Cuts.{cut_at, first_cut, lacks_all, lacks_first, stands}
+use Rattle.lz_slot.proofs.Texts.Cuts.{cut_at, first_cut, lacks_all, lacks_first, stands}
 
 -- one line more
 reads_snoc : (front : List ℕ) (lines : List Line) (t : List ℕ) (line : Line) → Reads front lines → has_line_feed t ≡ false → line_read t ≡ Some line

@@ -15,7 +15,7 @@ use Rattle.lz_machine.specs.declared.event.Reply.TheVariants.{Yes, No, Full, Wor
 use Rattle.lz_machine.specs.declared.caller.Progress.TheVariants.{Answering}
 use Rattle.lz_machine.specs.Yards.{Shape}
 use Rattle.lz_machine.specs.Table.{last_pin, is_old}
-use Rattle.lz_machine.specs.Alone.{HasMembers}
+use Rattle.lz_slot.specs.Sets.{HasMembers}
 use Rattle.lz_board.specs.declared.view.What.{What}
 use Rattle.lz_board.specs.declared.view.What.TheVariants.{Called, Played, Found}
 use Rattle.lz_board.specs.declared.view.Note.{Note}

@@ -12,7 +12,7 @@ use Rattle.lz_slot.specs.Sets.{Same, members}
 use Rattle.lz_slot.specs.Bytes.{Holds, held, held_key, slot_at}
 use Rattle.lz_slot.specs.declared.slot.SlotRead.{SlotRead}
 use Rattle.lz_slot.specs.declared.slot.SlotRead.TheVariants as read
-use Rattle.lz_slot.proofs.Holding.{holds_same_set}
+use Rattle.lz_slot.proofs.Files.HeldSets.{holds_same_set}
 use Rattle.lz_disk.specs.Devices.{Device}
 use Rattle.lz_vault.specs.Stages.{Cell}
 use Rattle.lz_vault.specs.Vaults.{cell_at, cells_at}

@@ -11,9 +11,9 @@ use Rattle.lz_slot.specs.Bytes.{slot_at, held, held_key}
 use Rattle.lz_list.specs.declared.word.Word.TheVariants.{Head, Link, Key}
 use Rattle.lz_list.specs.Words.{Words, bit_of, link_with}
 use Rattle.lz_list.specs.Traces.{Trace, Chain, has_slot, on, place_before, bucket_of, chain_of, node_next, is_marked, has_added, has_removed, word_after, words_after, opening, IsFound}
-use Rattle.lz_list.proofs.Chains.{before_on}
-use Rattle.lz_list.proofs.Tables.{table_at, length-table}
-use Rattle.lz_list.proofs.ChainNodes.{has_slot_append, has_node_append, node_slot}
+use Rattle.lz_list.proofs.Chains.PlaceRank.{before_on}
+use Rattle.lz_list.proofs.Tables.WordTable.{table_at, length-table}
+use Rattle.lz_list.proofs.Chains.ChainNode.{has_slot_append, has_node_append, node_slot}
 use Rattle.lz_machine.specs.Yards.{Shape, first_trace}
 use Rattle.lz_slot.specs.Nodes.{has_node}
 use Rattle.lz_machine.proofs.Open.FirstNodes.{off_chains, node_key, none_marked, held_found}

@@ -5,7 +5,7 @@ use Rattle.lz_list.specs.declared.publishing.Publishing.{Publishing}
 use Rattle.lz_list.specs.declared.publishing.Publishing.TheVariants.{Linked as linked, Marked as marked, Unlinked as unlinked, Settled as settled, KeyPrepared as key_prepared, LinkPrepared as link_prepared, Halted as halted}
 use Rattle.lz_list.specs.Traces.{Trace, Begins}
 use Rattle.lz_list.specs.Pinned.{Stood, IsQuiet}
-use Rattle.lz_list.proofs.Hindsight.{once_from}
+use Rattle.lz_list.proofs.Traces.Hindsight.{once_from}
 use Rattle.lz_machine.specs.Limbo.{IsAway}
 use Rattle.lz_machine.proofs.Steps.Walk.{once_some}
 use Rattle.lz_board.specs.declared.view.Sizes.{Sizes}

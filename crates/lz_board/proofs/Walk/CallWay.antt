@@ -16,10 +16,10 @@ use Rattle.lz_list.specs.Walks.{Hopped, More, End}
 use Rattle.lz_list.specs.Traces.{Trace, Begins, Lawful, SettledNo, linking_in, is_removed}
 use Rattle.lz_list.specs.Pinned.{IsQuiet}
 use Rattle.lz_list.specs.Laws.{IsHigh}
-use Rattle.lz_list.proofs.Absent.{begins_itself}
-use Rattle.lz_list.proofs.Hindsight.{once_begins, absent_since}
-use Rattle.lz_list.proofs.Nodes.{node}
-use Rattle.lz_list.proofs.Resting.{begins_before, left_surely, marked_was_sure, unmarked_surely}
+use Rattle.lz_list.proofs.Traces.Absence.{begins_itself}
+use Rattle.lz_list.proofs.Traces.Hindsight.{once_begins, absent_since}
+use Rattle.lz_list.proofs.Traces.NodeBits.{node}
+use Rattle.lz_list.proofs.Traces.WalkEnd.{begins_before, left_surely, marked_was_sure, unmarked_surely}
 use Rattle.lz_flush.specs.declared.need.Need.{Need}
 use Rattle.lz_flush.specs.declared.need.Need.TheVariants.{Now, Sync as asks_sync}
 use Rattle.lz_flush.specs.Settling.{may_answer}

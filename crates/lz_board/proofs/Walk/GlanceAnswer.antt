@@ -7,9 +7,9 @@ use Rattle.lz_list.specs.declared.walk.Met.TheVariants.{Absent, Unmarked, Marked
 use Rattle.lz_list.specs.Words.{link_to, place_number}
 use Rattle.lz_list.specs.Traces.{Trace, Begins, Lawful, is_marked, halt_word, IsNode, SettledNo}
 use Rattle.lz_list.specs.Pinned.{Once, IsQuiet}
-use Rattle.lz_list.proofs.Absent.{begins_itself}
-use Rattle.lz_list.proofs.Hindsight.{once_begins, absent_since}
-use Rattle.lz_list.proofs.Resting.{begins_before, marked_was_sure, unsure_node, unmarked_surely}
+use Rattle.lz_list.proofs.Traces.Absence.{begins_itself}
+use Rattle.lz_list.proofs.Traces.Hindsight.{once_begins, absent_since}
+use Rattle.lz_list.proofs.Traces.WalkEnd.{begins_before, marked_was_sure, unsure_node, unmarked_surely}
 use Rattle.lz_flush.specs.declared.need.Need.{Need}
 use Rattle.lz_flush.specs.declared.need.Need.TheVariants.{Now, Sync as asks_sync}
 use Rattle.lz_flush.specs.Settling.{may_answer}

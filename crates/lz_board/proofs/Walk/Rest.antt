@@ -7,8 +7,8 @@ use Rattle.lz_list.specs.declared.publishing.Change.TheVariants.{Removed}
 use Rattle.lz_list.specs.declared.publishing.Publishing.TheVariants.{Settled as settled}
 use Rattle.lz_list.specs.Traces.{Trace, Begins, Lawful, linking, linking_in, is_settled, is_removed, IsSettled, SettledYes, SettledNo}
 use Rattle.lz_list.specs.Pinned.{Once, IsQuiet}
-use Rattle.lz_list.proofs.Hindsight.{lawful_begins, quiet_begins}
-use Rattle.lz_list.proofs.Resting.{begins_before, settled_later, removed_later, linking_since, unmarked_rests, marked_rests}
+use Rattle.lz_list.proofs.Traces.Hindsight.{lawful_begins, quiet_begins}
+use Rattle.lz_list.proofs.Traces.WalkEnd.{begins_before, settled_later, removed_later, linking_since, unmarked_rests, marked_rests}
 use Rattle.lz_board.specs.Walkers.{MetNode}
 
 -- what was settled stays so

@@ -17,13 +17,13 @@ use Rattle.lz_list.specs.Walks.{Hopped, More, End, wants, hopped, reaches, met}
 use Rattle.lz_list.specs.Hops.{LeadsOn}
 use Rattle.lz_list.specs.Traces.{Trace, Begins, Lawful, Adjacent, on, chain, chain_of, bucket_of, key_word, head_word, node_next, next_link, rank, flags_after, word_after}
 use Rattle.lz_list.specs.Pinned.{Stood, IsQuiet}
-use Rattle.lz_list.proofs.Chains.{on_start, adjacent_on, adjacent_next}
-use Rattle.lz_list.proofs.Absent.{begins_itself}
-use Rattle.lz_list.proofs.Hindsight.{once_from, lawful_begins, hindsight, next_stood, key_since}
-use Rattle.lz_list.proofs.Shown.{words_show_chain}
-use Rattle.lz_list.proofs.Finding.{next_rank}
-use Rattle.lz_list.proofs.Packed.{next_of_link, mark_of_link, added_of_link, removed_of_link, small_next}
-use Rattle.lz_list.proofs.ChainNodes.{bucket_low}
+use Rattle.lz_list.proofs.Chains.PlaceRank.{on_start, adjacent_on, adjacent_next}
+use Rattle.lz_list.proofs.Traces.Absence.{begins_itself}
+use Rattle.lz_list.proofs.Traces.Hindsight.{once_from, lawful_begins, hindsight, next_stood, key_since}
+use Rattle.lz_list.proofs.Chains.TraceChain.{words_show_chain}
+use Rattle.lz_list.proofs.Searches.KeySearch.{next_rank}
+use Rattle.lz_list.proofs.Tables.PackedLink.{next_of_link, mark_of_link, added_of_link, removed_of_link, small_next}
+use Rattle.lz_list.proofs.Chains.ChainNode.{bucket_low}
 use Rattle.lz_machine.specs.Stands.{WasBetween}
 use Rattle.lz_machine.specs.CallersSound.{IsLooking}
 use Rattle.lz_machine.proofs.Frames.Ranges.{stood_range, head_range}

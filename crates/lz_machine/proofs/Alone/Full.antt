@@ -20,7 +20,7 @@ use Rattle.lz_list.specs.declared.place.Place.{Place}
 use Rattle.lz_list.specs.Words.{Words}
 use Rattle.lz_list.specs.Walks.{Hopped, More, End}
 use Rattle.lz_list.specs.Traces.{Trace, on, chain_of, key_word, is_marked, member}
-use Rattle.lz_list.proofs.Nodes.{node}
+use Rattle.lz_list.proofs.Traces.NodeBits.{node}
 use Rattle.lz_flush.specs.declared.need.Need.{Need}
 use Rattle.lz_flush.specs.declared.need.Need.TheVariants.{Now, Sync as needs_sync}
 use Rattle.lz_flush.specs.Settling.{may_answer}

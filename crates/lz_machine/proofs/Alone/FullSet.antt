@@ -15,7 +15,7 @@ use Rattle.lz_slot.specs.Histories.{History, Life, lives}
 use Rattle.lz_disk.specs.Images.{Medium}
 use Rattle.lz_allot.specs.Uses.{collect, lowest_free}
 use Rattle.lz_list.specs.Traces.{Trace, on, chain_of, key_word, member, is_marked}
-use Rattle.lz_list.proofs.Nodes.{node}
+use Rattle.lz_list.proofs.Traces.NodeBits.{node}
 use Rattle.lz_machine.specs.declared.actor.Hold.TheVariants.{Nothing}
 use Rattle.lz_machine.specs.declared.caller.Progress.{Progress}
 use Rattle.lz_machine.specs.declared.caller.Progress.TheVariants.{Reserving}

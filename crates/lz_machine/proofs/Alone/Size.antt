@@ -6,7 +6,8 @@ use Rattle.std.specs.Cmp.{nat_eq_equiv, both_ways}
 use Rattle.std.proofs.lemmas.Map.Keys.{IsDistinct-push}
 use Rattle.std.proofs.lemmas.List.Folds.{list_any-append}
 use mathlib.Core.Bool.{false≢true}
-use Rattle.std.proofs.lemmas.Bool.{cases_eq, cases_Bool, not-true}
+use Rattle.std.proofs.lemmas.Bool.{cases_eq, cases_Bool, and_parts, not-true}
+use Rattle.std.proofs.lemmas.List.{append-nil}
 use Rattle.std.proofs.lemmas.Bool.Decides.{nat_tests}
 use Rattle.lz_slot.specs.declared.command.Command.{Command}
 use Rattle.lz_slot.specs.declared.command.Command.TheVariants.{Add, Remove, Has}
@@ -86,14 +87,6 @@ keys_members k t (suc n) q =
     members_append (keys_but k t n) (key_but k (slot_at t n)) q ∙ ap (λ (b : Bool). b || members (key_but k (slot_at t n)) q) (keys_members k t n q)
     ∙ ap (λ (b : Bool). (not (k == q) && found t n q) || b) (key_members k q (slot_at t n)) ∙ distribute (not (k == q)) (found t n q) (reads_key q (slot_at t n))
 
-and_right : (x y : Bool) → (x && y) ≡ true → y ≡ true
-and_right true y is = is
-and_right false y is = absurd (false≢true is)
-
-append_none : (xs : List ℕ) → xs ++ [] ≡ xs
-append_none [] = refl
-append_none (x ∷ xs) = ap (λ (q : List ℕ). x ∷ q) (append_none xs)
-
 -- no key stands twice
 next_distinct : (k : ℕ) (t : List ℕ) (N n : ℕ) (S : Keys) → Holds t N S → suc n ≤ N → IsDistinct nat_eq (keys_but k t n) → IsDistinct nat_eq (keys_but k t (suc n))
 next_distinct k t N n S holds le before = go (slot_at t n) refl
@@ -101,7 +94,7 @@ next_distinct k t N n S holds le before = go (slot_at t n) refl
     new : (j : ℕ) → slot_at t n ≡ Member j → list_any (nat_eq j) (keys_but k t n) ≡ false
     new j is = elim (cases_Bool (list_any (nat_eq j) (keys_but k t n))) [
       | inl there ↦
-          let has : found t n j ≡ true = and_right (not (k == j)) (found t n j) (sym (keys_members k t n j) ∙ members_among (keys_but k t n) j ∙ there) in
+          let has : found t n j ≡ true = (and_parts (not (k == j)) (found t n j) (sym (keys_members k t n j) ∙ members_among (keys_but k t n) j ∙ there)).1 in
           let at = found_in t n j has in
           absurd (omega (arith, at.1, holds.no_key_twice at.0 n j (omega (arith, at.1, le)) (omega (arith, le)) at.2 is))
       | inr none ↦ none
@@ -109,11 +102,11 @@ next_distinct k t N n S holds le before = go (slot_at t n) refl
 
     of_key : (j : ℕ) (b : Bool) → slot_at t n ≡ Member j → IsDistinct nat_eq (keys_but k t n ++ (if b then [] else j ∷ []))
     of_key j false is = IsDistinct-push nat_eq_equiv (keys_but k t n) j before (new j is)
-    of_key j true is = subst (IsDistinct nat_eq) (sym (append_none (keys_but k t n))) before
+    of_key j true is = subst (IsDistinct nat_eq) (sym (append-nil (keys_but k t n))) before
 
     go : (r : SlotRead) → slot_at t n ≡ r → IsDistinct nat_eq (keys_but k t n ++ key_but k r)
-    go Shut is = subst (IsDistinct nat_eq) (sym (append_none (keys_but k t n))) before
-    go BadKey is = subst (IsDistinct nat_eq) (sym (append_none (keys_but k t n))) before
+    go Shut is = subst (IsDistinct nat_eq) (sym (append-nil (keys_but k t n))) before
+    go BadKey is = subst (IsDistinct nat_eq) (sym (append-nil (keys_but k t n))) before
     go (Member j) is = of_key j (j == k) is
 
 pub none_distinct : IsDistinct nat_eq []

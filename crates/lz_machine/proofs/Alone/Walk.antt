@@ -11,8 +11,8 @@ use Rattle.lz_list.specs.Words.{Words, get}
 use Rattle.lz_list.specs.Walks.{Hopped, More, End, wants, hopped}
 use Rattle.lz_list.specs.Traces.{Trace, Begins, on, chain, chain_of, bucket_of, key_word, is_marked, member}
 use Rattle.lz_list.specs.Pinned.{Once, IsQuiet, IsKept}
-use Rattle.lz_list.proofs.Absent.{begins_itself}
-use Rattle.lz_list.proofs.Nodes.{node}
+use Rattle.lz_list.proofs.Traces.Absence.{begins_itself}
+use Rattle.lz_list.proofs.Traces.NodeBits.{node}
 use Rattle.lz_flush.specs.declared.need.Need.{Need}
 use Rattle.lz_flush.specs.declared.need.Need.TheVariants.{Now, Sync as needs_sync}
 use Rattle.lz_flush.specs.Settling.{may_answer}

@@ -17,8 +17,8 @@ use Rattle.lz_vault.specs.declared.vault.Stage.{Stage}
 use Rattle.lz_vault.specs.declared.vault.Stage.TheVariants.{Opening}
 use Rattle.lz_list.specs.Traces.{Trace, on, chain_of, key_word, member, linking, is_settled, is_removed, is_marked, SettledYes, SettledNo, IsNode}
 use Rattle.lz_list.specs.declared.publishing.Publishing.TheVariants.{Linked as linked, Marked as marked}
-use Rattle.lz_list.proofs.Nodes.{node}
-use Rattle.lz_list.proofs.Resting.{settled_later}
+use Rattle.lz_list.proofs.Traces.NodeBits.{node}
+use Rattle.lz_list.proofs.Traces.WalkEnd.{settled_later}
 use Rattle.lz_machine.specs.Runs.{Service}
 use Rattle.lz_machine.specs.Kept.{upto, last_change, IsOpen, MayDrop, kept_keys, publishing}
 use Rattle.lz_machine.specs.Entries.{kept_rows, numbers}

@@ -19,11 +19,11 @@ use Rattle.lz_vault.proofs.Reading.{image_reads}
 use Rattle.lz_list.specs.Words.{place_number, link_to}
 use Rattle.lz_list.specs.Locks.{owner}
 use Rattle.lz_list.specs.Traces.{Trace, Chain, Shows, has_key, on, chain_of, bucket_of, key_word, next_link, member, IsLoose}
-use Rattle.lz_list.proofs.Chains.{has_on, on_start}
-use Rattle.lz_list.proofs.Shown.{words_show_chain}
-use Rattle.lz_list.proofs.Absent.{unlinked_is_settled}
-use Rattle.lz_list.proofs.Nodes.{one_node}
-use Rattle.lz_list.proofs.Traced.{node_of_key}
+use Rattle.lz_list.proofs.Chains.PlaceRank.{has_on, on_start}
+use Rattle.lz_list.proofs.Chains.TraceChain.{words_show_chain}
+use Rattle.lz_list.proofs.Traces.Absence.{unlinked_is_settled}
+use Rattle.lz_list.proofs.Traces.NodeBits.{one_node}
+use Rattle.lz_list.proofs.Traces.TraceWords.{node_of_key}
 use Rattle.lz_machine.specs.declared.actor.Hold.{Hold}
 use Rattle.lz_machine.specs.declared.actor.Hold.TheVariants.{Nothing, Locks, Checked, GateOpened, Linked, GateClosed, Marked, Unlinked, Released}
 use Rattle.lz_vault.specs.Members.{no_cell}

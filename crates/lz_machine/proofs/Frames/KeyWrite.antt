@@ -4,7 +4,7 @@ use mathlib.Core.Bool.{false≢true}
 use Rattle.std.specs.Prelude.{slice_get, slice_set}
 use Rattle.std.proofs.lemmas.Option.{slice_get-get_or, none-some}
 use Rattle.lz_slot.specs.Rooms.{largest_of}
-use Rattle.lz_slot.proofs.Exact.{key_of_format}
+use Rattle.lz_slot.proofs.Files.ExactBytes.{key_of_format}
 use Rattle.lz_slot.specs.Bytes.{slot_body}
 use Rattle.lz_disk.specs.Images.{Medium, WriteFailed, written}
 use Rattle.lz_vault.specs.declared.vault.Stage.{Stage}
@@ -17,8 +17,8 @@ use Rattle.lz_vault.proofs.Gates.{shut_stays, body_reads}
 use Rattle.lz_list.specs.declared.publishing.Publishing.{Publishing}
 use Rattle.lz_list.specs.Words.{place_number, link_to}
 use Rattle.lz_list.specs.Traces.{Trace, Lawful, Adjacent, IsLoose, on, chain, chain_of, bucket_of, key_word}
-use Rattle.lz_list.proofs.Chains.{adjacent_next}
-use Rattle.lz_list.proofs.Hindsight.{stands}
+use Rattle.lz_list.proofs.Chains.PlaceRank.{adjacent_next}
+use Rattle.lz_list.proofs.Traces.Hindsight.{stands}
 use Rattle.lz_machine.specs.declared.actor.Actor.{Actor}
 use Rattle.lz_machine.specs.declared.actor.Hold.{Hold}
 use Rattle.lz_machine.specs.declared.actor.Hold.TheVariants.{Checked, GateOpened, GateClosed, Marked}

@@ -7,7 +7,7 @@ use Rattle.lz_allot.specs.declared.sight.Sight.TheVariants.{Unseen, Inside, Left
 use Rattle.lz_allot.specs.Uses.{sight_after}
 use Rattle.lz_list.specs.declared.publishing.Publishing.{Publishing}
 use Rattle.lz_list.specs.Traces.{Trace, Begins, on, chain, IsLoose}
-use Rattle.lz_list.proofs.Hindsight.{once_begins}
+use Rattle.lz_list.proofs.Traces.Hindsight.{once_begins}
 use Rattle.lz_machine.specs.Limbo.{IsAway, IsSeen}
 
 -- a trace is as long as each that it goes on from, or longer

@@ -5,13 +5,13 @@ use Rattle.std.proofs.lemmas.Bool.{cases_eq, cases_Bool}
 use Rattle.std.proofs.lemmas.Bool.Decides.{nat_tests}
 use Rattle.lz_list.specs.declared.publishing.Publishing.TheVariants.{Linked as linked}
 use Rattle.lz_list.specs.Traces.{Trace, on, has_key, chain, chain_of, place_of, bucket_of, key_word, next_link, IsLoose, link_above, MayLink, Lawful, Adjacent}
-use Rattle.lz_list.proofs.Chains.{before_on, adjacent_none, adjacent_next, has_on}
-use Rattle.lz_list.proofs.Shown.{words_show_chain, linked_off, apart_bucket}
-use Rattle.lz_list.proofs.Absent.{unlinked_is_settled}
-use Rattle.lz_list.proofs.Hindsight.{stands}
-use Rattle.lz_list.proofs.Nodes.{on_insert_other}
-use Rattle.lz_list.proofs.Resting.{on_insert}
-use Rattle.lz_list.proofs.Checked.{place_between}
+use Rattle.lz_list.proofs.Chains.PlaceRank.{before_on, adjacent_none, adjacent_next, has_on}
+use Rattle.lz_list.proofs.Chains.TraceChain.{words_show_chain, linked_off, apart_bucket}
+use Rattle.lz_list.proofs.Traces.Absence.{unlinked_is_settled}
+use Rattle.lz_list.proofs.Traces.Hindsight.{stands}
+use Rattle.lz_list.proofs.Traces.NodeBits.{on_insert_other}
+use Rattle.lz_list.proofs.Traces.WalkEnd.{on_insert}
+use Rattle.lz_list.proofs.Changes.CheckedPlace.{place_between}
 use Rattle.lz_machine.specs.Stands.{IsReady, IsRound, Faces}
 
 module _ (buckets slots : ℕ) (P : Trace) (law : Lawful buckets slots P) where

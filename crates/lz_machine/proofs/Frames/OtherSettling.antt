@@ -16,8 +16,8 @@ use Rattle.lz_list.specs.declared.word.Word.TheVariants.{Link as link_at}
 use Rattle.lz_list.specs.Words.{Words, get, set, link_with, next_of, flags_of}
 use Rattle.lz_list.specs.Traces.{Trace, on, chain_of, key_word, linking, linking_in, is_settled, is_removed, is_removal, word_after}
 use Rattle.lz_list.specs.Pinned.{Stood}
-use Rattle.lz_list.proofs.Nodes.{node, linking_apart}
-use Rattle.lz_list.proofs.Tables.{table_set}
+use Rattle.lz_list.proofs.Traces.NodeBits.{node, linking_apart}
+use Rattle.lz_list.proofs.Tables.WordTable.{table_set}
 use Rattle.lz_machine.specs.Yards.{Yard, Shape, IsInside, actor_in, pin_in, stage_in}
 use Rattle.std.specs.Prelude.{slice_set}
 use Rattle.lz_machine.specs.Runs.{Caller, caller_at, with_words}

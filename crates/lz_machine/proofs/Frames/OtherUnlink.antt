@@ -5,12 +5,12 @@ use Rattle.std.proofs.lemmas.Bool.{cases_eq, cases_Bool}
 use Rattle.std.proofs.lemmas.Bool.Decides.{nat_tests}
 use Rattle.lz_list.specs.declared.publishing.Publishing.TheVariants.{Unlinked as unlinked}
 use Rattle.lz_list.specs.Traces.{Trace, without, on, chain, chain_of, place_of, bucket_of, key_word, next_link, IsLoose, MayUnlink, Lawful, Adjacent}
-use Rattle.lz_list.proofs.Chains.{before_on, on_start, adjacent_next, has_on}
-use Rattle.lz_list.proofs.Shown.{words_show_chain, unlinked_off, apart_bucket, bucket_on}
-use Rattle.lz_list.proofs.Hindsight.{stands}
-use Rattle.lz_list.proofs.Nodes.{on_without, one_node, none_without}
-use Rattle.lz_list.proofs.Resting.{on_without_other}
-use Rattle.lz_list.proofs.Checked.{place_to}
+use Rattle.lz_list.proofs.Chains.PlaceRank.{before_on, on_start, adjacent_next, has_on}
+use Rattle.lz_list.proofs.Chains.TraceChain.{words_show_chain, unlinked_off, apart_bucket, bucket_on}
+use Rattle.lz_list.proofs.Traces.Hindsight.{stands}
+use Rattle.lz_list.proofs.Traces.NodeBits.{on_without, one_node, none_without}
+use Rattle.lz_list.proofs.Traces.WalkEnd.{on_without_other}
+use Rattle.lz_list.proofs.Changes.CheckedPlace.{place_to}
 use Rattle.lz_machine.specs.Stands.{Faces, IsLeaving}
 
 module _ (buckets slots k x s p : ℕ) (P : Trace) (law : Lawful buckets slots P) (mine : IsLeaving buckets k x s P) where

@@ -17,11 +17,11 @@ use Rattle.lz_list.specs.Words.{place_number, link_to}
 use Rattle.lz_list.specs.Traces.{Trace, May, has_key, Lawful, Adjacent, on, chain, chain_of, bucket_of, key_word, linking, linking_in, is_removed, halt_word, member, rank, next_link}
 use Rattle.lz_list.specs.Pinned.{Stood, IsKept, IsQuiet}
 use Rattle.lz_list.specs.Laws.{IsHigh}
-use Rattle.lz_list.proofs.Chains.{adjacent_on, has_on}
-use Rattle.lz_list.proofs.Shown.{words_show_chain}
-use Rattle.lz_list.proofs.Absent.{begins_itself}
-use Rattle.lz_list.proofs.Hindsight.{key_stays, once_weaker, next_stood}
-use Rattle.lz_list.proofs.Resting.{mark_stays, linking_stays, removed_later}
+use Rattle.lz_list.proofs.Chains.PlaceRank.{adjacent_on, has_on}
+use Rattle.lz_list.proofs.Chains.TraceChain.{words_show_chain}
+use Rattle.lz_list.proofs.Traces.Absence.{begins_itself}
+use Rattle.lz_list.proofs.Traces.Hindsight.{key_stays, once_weaker, next_stood}
+use Rattle.lz_list.proofs.Traces.WalkEnd.{mark_stays, linking_stays, removed_later}
 use Rattle.lz_machine.specs.declared.event.Reply.{Reply}
 use Rattle.lz_machine.specs.declared.event.Reply.TheVariants.{Yes, No, Full, Worn as SaysWorn, OldFile as SaysOldFile, Halted, Device}
 use Rattle.lz_machine.specs.declared.actor.Actor.{Actor}

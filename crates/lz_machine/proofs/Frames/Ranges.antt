@@ -5,12 +5,12 @@ use Rattle.std.proofs.lemmas.Bool.{cases_eq}
 use Rattle.std.proofs.lemmas.Bool.Decides.{nat_tests, eqb_tells}
 use Rattle.lz_list.specs.declared.publishing.Publishing.{Publishing}
 use Rattle.lz_list.specs.declared.publishing.Publishing.TheVariants.{Linked as linked, Marked as marked, Unlinked as unlinked, Settled as settled, KeyPrepared as key_prepared, LinkPrepared as link_prepared, Halted as halted}
-use Rattle.lz_list.proofs.Openings.{opening_lawful}
+use Rattle.lz_list.proofs.Traces.OpeningTrace.{opening_lawful}
 use Rattle.lz_list.specs.Traces.{IsFound, opening, Trace, Chain, Lawful, on, chain, chain_of, bucket_of, link_above, node_next, head_word, linking_in, is_settled, is_removed, has_added, has_removed}
 use Rattle.lz_list.specs.Pinned.{Stood}
-use Rattle.lz_list.proofs.Chains.{adjacent_next, on_start}
-use Rattle.lz_list.proofs.Nodes.{on_insert_other, on_without}
-use Rattle.lz_list.proofs.Hindsight.{stands}
+use Rattle.lz_list.proofs.Chains.PlaceRank.{adjacent_next, on_start}
+use Rattle.lz_list.proofs.Traces.NodeBits.{on_insert_other, on_without}
+use Rattle.lz_list.proofs.Traces.Hindsight.{stands}
 
 -- a node on a chain lies in the table
 pub on_range : (buckets slots : ℕ) (P : Trace) (b s : ℕ) → Lawful buckets slots P → on 0 (chain buckets b P) (suc s) ≡ true → s < slots

@@ -10,8 +10,8 @@ use Rattle.lz_list.specs.declared.publishing.Publishing.TheVariants.{Linked as l
 use Rattle.lz_list.specs.declared.word.Word.TheVariants.{Head as head_at, Link as link_at, Key as key_at}
 use Rattle.lz_list.specs.Words.{Words, get, set, redirect, place_number, link_with, next_of, flags_of, marked_flags, change_flags}
 use Rattle.lz_list.specs.Traces.{Trace, Lawful, May, IsLoose, place_of, bucket_of, key_word, node_next, next_link, head_word, halt_word, flags_after, word_after, table}
-use Rattle.lz_list.proofs.Tables.{table_set}
-use Rattle.lz_list.proofs.Shown.{linked_at, linked_off, unlinked_at, unlinked_off}
+use Rattle.lz_list.proofs.Tables.WordTable.{table_set}
+use Rattle.lz_list.proofs.Chains.TraceChain.{linked_at, linked_off, unlinked_at, unlinked_off}
 use Rattle.lz_machine.specs.Yards.{Shape}
 use Rattle.lz_machine.specs.Stands.{InBucket}
 use Rattle.lz_machine.specs.Sound.{TraceSound}

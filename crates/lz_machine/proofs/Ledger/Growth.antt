@@ -4,8 +4,8 @@ use Rattle.std.proofs.lemmas.Bool.Decides.{nat_tests}
 use Rattle.lz_slot.specs.Sets.{key_of, reply}
 use Rattle.lz_list.specs.declared.publishing.Publishing.{Publishing}
 use Rattle.lz_list.specs.Traces.{Trace, member, SettledYes, SettledNo}
-use Rattle.lz_list.proofs.Absent.{begins_itself}
-use Rattle.lz_list.proofs.Resting.{settled_later, removed_later}
+use Rattle.lz_list.proofs.Traces.Absence.{begins_itself}
+use Rattle.lz_list.proofs.Traces.WalkEnd.{settled_later, removed_later}
 use Rattle.lz_machine.specs.Ledgers.{Row}
 use Rattle.lz_machine.specs.Kept.{upto, changes_key, publishing, IsRowOf}
 

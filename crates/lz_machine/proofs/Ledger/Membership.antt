@@ -10,7 +10,7 @@ use Rattle.lz_slot.proofs.Sets.{after_at}
 use Rattle.lz_list.specs.declared.publishing.Publishing.{Publishing}
 use Rattle.lz_list.specs.declared.publishing.Publishing.TheVariants.{Linked as linked, Marked as marked, Unlinked as unlinked, Settled as settled, KeyPrepared as key_prepared, LinkPrepared as link_prepared, Halted as halted}
 use Rattle.lz_list.specs.Traces.{Trace, Begins, member, linking, is_settled, is_removed, Lawful, SettledYes, SettledNo}
-use Rattle.lz_list.proofs.Hindsight.{lawful_begins}
+use Rattle.lz_list.proofs.Traces.Hindsight.{lawful_begins}
 use Rattle.lz_machine.specs.Ledgers.{Row, IsRight, Moves}
 use Rattle.lz_machine.specs.Kept.{upto, changes_key, last_change, IsOpen, MayDrop, kept_keys, publishing, IsChange, RowsFit, IsRowOf}
 use Rattle.lz_machine.proofs.Frames.Limbo.{shorter}

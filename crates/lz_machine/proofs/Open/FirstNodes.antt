@@ -9,10 +9,10 @@ use Rattle.lz_slot.specs.declared.slot.SlotRead.TheVariants.{Closed, Member, Bad
 use Rattle.lz_slot.specs.Bytes.{slot_at, held, held_key}
 use Rattle.lz_slot.specs.Nodes.{has_node}
 use Rattle.lz_list.specs.Traces.{Chain, has_key, has_slot, on, chain, chain_of, bucket_of, key_word, linking, is_marked, is_removed, opening, IsFound, IsLoose}
-use Rattle.lz_list.proofs.Nodes.{on_insert_other}
-use Rattle.lz_list.proofs.Resting.{on_insert}
-use Rattle.lz_list.proofs.Linking.{inserted_on}
-use Rattle.lz_list.proofs.ChainNodes.{node_slot, has_key_append, has_slot_append, has_node_append}
+use Rattle.lz_list.proofs.Traces.NodeBits.{on_insert_other}
+use Rattle.lz_list.proofs.Traces.WalkEnd.{on_insert}
+use Rattle.lz_list.proofs.Changes.NodeLink.{inserted_on}
+use Rattle.lz_list.proofs.Chains.ChainNode.{node_slot, has_key_append, has_slot_append, has_node_append}
 
 -- the trace of what was found
 module _ (buckets : ℕ) where

@@ -19,7 +19,7 @@ use Rattle.lz_vault.specs.Stages.{Cell, Says, Reads, Keeps}
 use Rattle.lz_allot.specs.declared.sight.Sight.{Sight}
 use Rattle.lz_allot.specs.Uses.{Use, Taken, Limbo, use_of}
 use Rattle.lz_list.specs.Traces.{Trace, Chain, has_key, on, chain_of, key_word, member, linking, is_settled, IsFound, IsLoose}
-use Rattle.lz_list.proofs.Openings.{opening_lawful, opening_members, opening_settled}
+use Rattle.lz_list.proofs.Traces.OpeningTrace.{opening_lawful, opening_members, opening_settled}
 use Rattle.lz_machine.specs.declared.actor.Actor.{Actor}
 use Rattle.lz_vault.specs.Members.{no_cell}
 use Rattle.lz_machine.specs.Yards.{Shape, idle_actor, cell_read, use_read, slots_read, first_trace, opened_yard, actor_in, cell_in, stage_in, pin_in, IsInside}
@@ -35,7 +35,7 @@ use Rattle.lz_machine.specs.LedgerSound.{LedgerSound, TailsSound}
 use Rattle.lz_machine.specs.Sound.{TraceSound, DiskSound, ReuseSound, HasBegun, UpSound}
 use Rattle.lz_machine.proofs.Ledger.Membership.{upto_all}
 use Rattle.lz_machine.proofs.Frames.Ranges.{on_range, opening_small}
-use Rattle.lz_list.proofs.ChainNodes.{node_has_key}
+use Rattle.lz_list.proofs.Chains.ChainNode.{node_has_key}
 use Rattle.lz_machine.proofs.Open.FirstNodes.{off_chains, node_key, node_on, none_marked, none_removed, never_linked, slot_closed, node_held, key_held, held_found}
 use Rattle.lz_machine.proofs.Steps.Invoke.{pending_none}
 use Rattle.lz_machine.proofs.Open.FoundSlots.{first_notes, pass_of, read_cases, read_key, read_limbo, read_reads, read_says, read_steady, slot_fits}

@@ -9,7 +9,7 @@ use Rattle.lz_slot.specs.Counted.{of_pass}
 use Rattle.lz_slot.specs.Bytes.{open_byte, slot_bytes, slot_read}
 use Rattle.lz_slot.specs.declared.slot.SlotRead.{SlotRead}
 use Rattle.lz_slot.specs.declared.slot.SlotRead.TheVariants as read
-use Rattle.lz_slot.proofs.Exact.{read_fits, slot_is_of_its_key, zero_fits, closed_says, fits_taken}
+use Rattle.lz_slot.proofs.Files.ExactBytes.{read_fits, slot_is_of_its_key, zero_fits, closed_says, fits_taken}
 use Rattle.lz_disk.specs.Images.{AreBytes}
 use Rattle.lz_vault.specs.declared.vault.Stage.TheVariants.{Closed, Open}
 use Rattle.lz_vault.specs.Stages.{Says, Reads}

@@ -5,9 +5,9 @@ use Rattle.lz_slot.specs.Limits.{most_slots}
 use Rattle.lz_slot.specs.Sets.{Keys, members}
 use Rattle.lz_slot.specs.Bytes.{Holds, open_byte, format_of, header_body, slot_at, held}
 use Rattle.lz_list.specs.Traces.{Chain, has_key}
-use Rattle.lz_list.proofs.Absent.{has_insert}
+use Rattle.lz_list.proofs.Traces.Absence.{has_insert}
 use Rattle.lz_machine.specs.Runs.{by_key, keys_found}
-use Rattle.lz_list.proofs.ChainNodes.{node_has_key}
+use Rattle.lz_list.proofs.Chains.ChainNode.{node_has_key}
 use Rattle.lz_machine.proofs.Open.FirstNodes.{node_held, key_held}
 
 -- the keys of a chain are the first parts of its nodes

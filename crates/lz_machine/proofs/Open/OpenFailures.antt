@@ -3,7 +3,7 @@ use Rattle.std.proofs.Common.{◌≡◌, inl, inr, ℕ, ◌<◌, List, ◌∷◌
 use Rattle.lz_slot.specs.Bytes.{Holds, header_read, format_of, header_body, open_byte}
 use Rattle.lz_slot.specs.Sets.{Keys}
 use Rattle.lz_slot.specs.declared.header.HeaderFault.{HeaderFault}
-use Rattle.lz_slot.proofs.Exact.{header_reads_back}
+use Rattle.lz_slot.proofs.Files.ExactBytes.{header_reads_back}
 use Rattle.lz_vault.specs.declared.opening.OpenFault.TheVariants.{NotMade, WrongMagic, WrongLength, BadCount, BadKey, Twice, Device, Memory}
 use Rattle.lz_machine.specs.OpenFailures.{HeldIsOpened}
 

@@ -13,7 +13,7 @@ use Rattle.lz_slot.specs.Rooms.{largest_of, number_of}
 use Rattle.lz_slot.specs.declared.format.Format.{Format}
 use Rattle.lz_slot.specs.declared.format.Format.TheVariants.{One, Two}
 use Rattle.lz_slot.specs.Bytes.{open_byte, magic, format_byte, format_of, header_body, slot_body, slot_bytes, slot_read, slot_at}
-use Rattle.lz_slot.proofs.Exact.{key_of_format, slot_reads_back}
+use Rattle.lz_slot.proofs.Files.ExactBytes.{key_of_format, slot_reads_back}
 use Rattle.lz_vault.specs.declared.vault.Stage.{Stage}
 use Rattle.lz_vault.specs.declared.vault.Stage.TheVariants.{Closed, Open}
 use Rattle.lz_vault.specs.Stages.{Cell, IsSteady, AreSteady}

@@ -14,7 +14,7 @@ use Rattle.lz_list.specs.Walks.{wants}
 use Rattle.lz_list.specs.Lists.{IsWord, IsPlace}
 use Rattle.lz_list.specs.Traces.{Trace, bucket_of, key_word}
 use Rattle.lz_list.specs.Pinned.{Stood}
-use Rattle.lz_list.proofs.Hindsight.{lawful_begins}
+use Rattle.lz_list.proofs.Traces.Hindsight.{lawful_begins}
 use Rattle.lz_machine.specs.declared.actor.Hold.{Hold}
 use Rattle.lz_machine.specs.declared.actor.Hold.TheVariants.{Marked}
 use Rattle.lz_machine.specs.declared.event.Event.{Event}

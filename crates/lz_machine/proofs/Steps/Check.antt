@@ -16,9 +16,9 @@ use Rattle.lz_list.specs.Words.{Words, place_number, link_to, next_at, is_marked
 use Rattle.lz_list.specs.Traces.{Trace, on, chain, chain_of, bucket_of, key_word, next_link, is_marked}
 use Rattle.lz_list.specs.Pinned.{Stood, IsQuiet}
 use Rattle.lz_list.specs.Laws.{IsHigh}
-use Rattle.lz_list.proofs.Chains.{on_start}
-use Rattle.lz_list.proofs.Hindsight.{stood_bucket}
-use Rattle.lz_list.proofs.Resting.{left_surely}
+use Rattle.lz_list.proofs.Chains.PlaceRank.{on_start}
+use Rattle.lz_list.proofs.Traces.Hindsight.{stood_bucket}
+use Rattle.lz_list.proofs.Traces.WalkEnd.{left_surely}
 use Rattle.lz_list.specs.Locks.{check, is_marked_node}
 use Rattle.lz_machine.specs.declared.event.Event.TheVariants.{Check}
 use Rattle.lz_machine.specs.declared.actor.Actor.{Actor}

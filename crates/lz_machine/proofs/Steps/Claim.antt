@@ -33,8 +33,8 @@ use Rattle.lz_machine.proofs.Frames.Grip.{fresh_grip}
 use Rattle.lz_machine.proofs.Frames.NodeLocks.{IsPlaceIn, claimed_locks}
 use Rattle.lz_machine.proofs.Frames.Ranges.{stood_range}
 use Rattle.lz_machine.proofs.Frames.LoadedWord.{bucket_range}
-use Rattle.lz_list.proofs.Chains.{adjacent_on}
-use Rattle.lz_list.proofs.Hindsight.{once_weaker, next_stood}
+use Rattle.lz_list.proofs.Chains.PlaceRank.{adjacent_on}
+use Rattle.lz_list.proofs.Traces.Hindsight.{once_weaker, next_stood}
 use Rattle.lz_list.specs.Locks.{is_pair_free, pair_owned}
 use Rattle.lz_machine.proofs.Steps.Hop.{call_at, own, goes_on_keeps}
 use Rattle.lz_machine.proofs.Frames.Hand.{in_hands, same_hand, other_hand, hands_keep}

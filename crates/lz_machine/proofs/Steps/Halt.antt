@@ -9,8 +9,8 @@ use Rattle.lz_disk.specs.Images.{Medium}
 use Rattle.lz_list.specs.declared.publishing.Publishing.TheVariants.{Halted as halted}
 use Rattle.lz_list.specs.Words.{Words}
 use Rattle.lz_list.specs.Traces.{Trace, Lawful, Adjacent, on, chain_of, bucket_of, key_word}
-use Rattle.lz_list.proofs.Chains.{adjacent_next}
-use Rattle.lz_list.proofs.Hindsight.{stands}
+use Rattle.lz_list.proofs.Chains.PlaceRank.{adjacent_next}
+use Rattle.lz_list.proofs.Traces.Hindsight.{stands}
 use Rattle.lz_machine.specs.declared.event.Event.TheVariants.{Halt}
 use Rattle.lz_machine.specs.declared.event.Outcome.TheVariants.{Done}
 use Rattle.lz_machine.specs.declared.event.Reply.{Reply}

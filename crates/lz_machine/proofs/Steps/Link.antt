@@ -19,9 +19,9 @@ use Rattle.lz_list.specs.declared.publishing.Publishing.TheVariants.{Linked as l
 use Rattle.lz_list.specs.declared.word.Word.TheVariants.{Key as key_at}
 use Rattle.lz_list.specs.Words.{Words, get, redirect, place_number, link_to}
 use Rattle.lz_list.specs.Traces.{Trace, Lawful, IsLoose, on, chain_of, bucket_of, place_of, key_word, linking, is_settled, is_removed, member}
-use Rattle.lz_list.proofs.Nodes.{on_insert_other, not_yet}
-use Rattle.lz_list.proofs.Resting.{on_insert}
-use Rattle.lz_list.proofs.Linking.{inserted_on}
+use Rattle.lz_list.proofs.Traces.NodeBits.{on_insert_other, not_yet}
+use Rattle.lz_list.proofs.Traces.WalkEnd.{on_insert}
+use Rattle.lz_list.proofs.Changes.NodeLink.{inserted_on}
 use Rattle.lz_list.specs.Locks.{claimed_places, owner}
 use Rattle.lz_machine.specs.declared.event.Event.TheVariants.{Link}
 use Rattle.lz_machine.specs.declared.actor.Actor.{Actor}

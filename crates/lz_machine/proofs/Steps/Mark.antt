@@ -17,8 +17,8 @@ use Rattle.lz_list.specs.declared.publishing.Publishing.TheVariants.{Marked as m
 use Rattle.lz_list.specs.declared.word.Word.TheVariants.{Key as key_at}
 use Rattle.lz_list.specs.Words.{get, change_flags, marked_flags, place_number}
 use Rattle.lz_list.specs.Traces.{Trace, Lawful, IsLoose, on, chain, chain_of, bucket_of, key_word, IsNode, linking, is_marked, member, next_link}
-use Rattle.lz_list.proofs.Shown.{words_show_chain}
-use Rattle.lz_list.proofs.Nodes.{node, one_node}
+use Rattle.lz_list.proofs.Chains.TraceChain.{words_show_chain}
+use Rattle.lz_list.proofs.Traces.NodeBits.{node, one_node}
 use Rattle.lz_machine.specs.declared.event.Event.TheVariants.{Mark}
 use Rattle.lz_list.specs.Laws.{IsLow}
 use Rattle.lz_list.specs.Locks.{claimed_places, owner}

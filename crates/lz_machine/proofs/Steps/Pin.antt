@@ -18,8 +18,8 @@ use Rattle.lz_list.specs.declared.word.Word.TheVariants.{Pin as pin_at}
 use Rattle.lz_list.specs.Words.{Words, get, set}
 use Rattle.lz_list.specs.Traces.{Trace, IsLoose, on, chain}
 use Rattle.lz_list.specs.Pinned.{Stood, IsKept, IsQuiet}
-use Rattle.lz_list.proofs.Absent.{begins_itself}
-use Rattle.lz_list.proofs.Hindsight.{once_begins}
+use Rattle.lz_list.proofs.Traces.Absence.{begins_itself}
+use Rattle.lz_list.proofs.Traces.Hindsight.{once_begins}
 use Rattle.lz_machine.specs.declared.event.Event.TheVariants.{Pin}
 use Rattle.lz_machine.specs.declared.event.Outcome.TheVariants.{Done, Worn}
 use Rattle.lz_machine.specs.declared.event.Reply.TheVariants.{Worn as SaysWorn}

@@ -17,9 +17,9 @@ use Rattle.lz_list.specs.declared.publishing.Publishing.{Publishing}
 use Rattle.lz_list.specs.declared.publishing.Publishing.TheVariants.{Settled as settled}
 use Rattle.lz_list.specs.Traces.{Trace, Begins, IsLoose, on, chain_of, bucket_of, key_word, linking, linking_in, is_settled, is_removed, is_marked, member, SettledNo}
 use Rattle.lz_list.specs.Pinned.{Stood, IsQuiet}
-use Rattle.lz_list.proofs.Nodes.{node}
-use Rattle.lz_list.proofs.Hindsight.{lawful_begins, quiet_begins}
-use Rattle.lz_list.proofs.Resting.{linking_since, marked_rests, unmarked_rests, mark_stays, begins_before}
+use Rattle.lz_list.proofs.Traces.NodeBits.{node}
+use Rattle.lz_list.proofs.Traces.Hindsight.{lawful_begins, quiet_begins}
+use Rattle.lz_list.proofs.Traces.WalkEnd.{linking_since, marked_rests, unmarked_rests, mark_stays, begins_before}
 use Rattle.lz_machine.specs.declared.event.Event.TheVariants.{Settle}
 use Rattle.lz_machine.specs.declared.event.Outcome.{Outcome}
 use Rattle.lz_machine.specs.declared.event.Outcome.TheVariants.{Done, Early}

@@ -18,9 +18,9 @@ use Rattle.lz_list.specs.declared.publishing.Publishing.TheVariants.{Unlinked as
 use Rattle.lz_list.specs.declared.word.Word.TheVariants.{Key as key_at}
 use Rattle.lz_list.specs.Words.{Words, get, redirect, next_at, place_number}
 use Rattle.lz_list.specs.Traces.{Trace, Lawful, IsLoose, on, chain, chain_of, bucket_of, key_word, is_marked, next_link, node_next}
-use Rattle.lz_list.proofs.Shown.{words_show_chain}
-use Rattle.lz_list.proofs.Nodes.{node, one_node, on_without}
-use Rattle.lz_list.proofs.Resting.{on_without_other}
+use Rattle.lz_list.proofs.Chains.TraceChain.{words_show_chain}
+use Rattle.lz_list.proofs.Traces.NodeBits.{node, one_node, on_without}
+use Rattle.lz_list.proofs.Traces.WalkEnd.{on_without_other}
 use Rattle.lz_list.specs.Locks.{claimed_places, owner}
 use Rattle.lz_machine.specs.declared.event.Event.TheVariants.{Unlink}
 use Rattle.lz_machine.specs.declared.actor.Actor.{Actor}

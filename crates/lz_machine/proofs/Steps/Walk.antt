@@ -19,11 +19,11 @@ use Rattle.lz_list.specs.Walks.{More, End, wants, hopped, reaches, met}
 use Rattle.lz_list.specs.Traces.{Trace, Begins, on, chain, bucket_of, key_word, head_word, node_next, is_marked, has_added, has_removed, is_removed, linking, SettledNo}
 use Rattle.lz_list.specs.Pinned.{Once, Stood, IsQuiet}
 use Rattle.lz_list.specs.Laws.{IsHigh}
-use Rattle.lz_list.proofs.Chains.{on_start}
-use Rattle.lz_list.proofs.Absent.{begins_itself}
-use Rattle.lz_list.proofs.Hindsight.{once_from, hindsight, next_stood, absent_since}
-use Rattle.lz_list.proofs.Nodes.{node}
-use Rattle.lz_list.proofs.Resting.{left_surely, marked_rests, unmarked_rests, removed_later}
+use Rattle.lz_list.proofs.Chains.PlaceRank.{on_start}
+use Rattle.lz_list.proofs.Traces.Absence.{begins_itself}
+use Rattle.lz_list.proofs.Traces.Hindsight.{once_from, hindsight, next_stood, absent_since}
+use Rattle.lz_list.proofs.Traces.NodeBits.{node}
+use Rattle.lz_list.proofs.Traces.WalkEnd.{left_surely, marked_rests, unmarked_rests, removed_later}
 use Rattle.lz_flush.specs.declared.need.Need.{Need}
 use Rattle.lz_flush.specs.declared.need.Need.TheVariants.{Now, Sync as needs_sync}
 use Rattle.lz_flush.specs.Settling.{may_answer}

@@ -1,7 +1,7 @@
 -- What was seen of passes since a slot was unlinked: one that becomes free was left by each.
 use Rattle.std.proofs.Common.{◌≡◌, ◌≢◌, ◌⊎◌, inl, inr, ⊎_elim, ℕ, zero, suc, ◌+◌, ◌<◌, ◌≤◌, ◌%◌, Bool, true, false, List, [], ◌∷◌, ◌++◌, replicate, Option, Some, None, refl, sym, ap, ◌∙◌, subst, arith}
 use Rattle.std.specs.Prelude.{◌&&◌, if◌then◌else◌, is_some, unwrap_or, slice_set}
-use Rattle.std.proofs.lemmas.Bool.{cases_eq, cases_lt, or_left, or_right}
+use Rattle.std.proofs.lemmas.Bool.{cases_eq, cases_lt, or_left, or_right, and_parts}
 use Rattle.std.proofs.lemmas.Bool.Decides.{eqb_tells, nat_tests}
 use Rattle.std.proofs.lemmas.List.{get_or-replicate}
 use Rattle.lz_slot.specs.Counted.{of_pass, set_of_pass}
@@ -42,7 +42,7 @@ use Rattle.lz_machine.proofs.Alone.Sights.{set_cases, sight_cases, saw, collecte
 use Rattle.lz_machine.proofs.Alone.Room.{no_limbo_read}
 use Rattle.lz_machine.proofs.Crash.ImageSlots.{node_stands}
 use Rattle.lz_machine.proofs.Runs.Shape.{line_keeps_shape}
-use Rattle.lz_machine.proofs.Theorem.Needs.{both, is_marking}
+use Rattle.lz_machine.proofs.Theorem.Needs.{is_marking}
 use Rattle.lz_machine.proofs.Theorem.Readiness.{plays_needs}
 use Rattle.lz_machine.proofs.Theorem.Reached.{reached_sound}
 
@@ -156,8 +156,8 @@ module _ (n calls : ℕ) (y : Yard) (callers : List (Option Caller)) (disk : Med
   -- what is unlinked isn't in limbo
   linked_taken : needs y a Unlink ≡ true → use_of y.uses (node_of actor) ≡ Taken
   linked_taken has =
-      let two = both (has_marked actor.hold && is_some actor.curr) _ has in
-      let first = both (has_marked actor.hold) (is_some actor.curr) two.0 in
+      let two = and_parts (has_marked actor.hold && is_some actor.curr) _ has in
+      let first = and_parts (has_marked actor.hold) (is_some actor.curr) two.0 in
       let rests : HasClosed y.shape.buckets true actor P = subst (λ (q : Hold). RestsOn y.shape.buckets q actor P) (is_marking actor.hold first.0) (sound.locks.rests a) in
       let there = held_node y.shape P Marked actor sound.trace.lawful rests rests.node rests.curr refl in
       let lt = on_range y.shape.buckets y.shape.slots P (bucket_of y.shape.buckets (key_word rests.node P)) rests.node sound.trace.lawful there in

@@ -25,11 +25,6 @@ Knows format actor (WriteKey k) = k ≤ largest_of format
 Knows format actor _ = Unit {0}
 
 -- what the needs say
-pub both : (p q : Bool) → (p && q) ≡ true → (p ≡ true) × (q ≡ true)
-both true true is = (refl, refl)
-both true false is = absurd (false≢true is)
-both false q is = absurd (false≢true is)
-
 pub some_of : (slot : Option ℕ) → is_some slot ≡ true → (s : ℕ) × (slot ≡ Some s)
 some_of None is = absurd (false≢true is)
 some_of (Some s) is = (s, refl)

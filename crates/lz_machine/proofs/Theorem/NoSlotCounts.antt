@@ -4,7 +4,7 @@ use Rattle.std.proofs.lemmas.Bool.Decides.{nat_tests}
 use Rattle.std.proofs.lemmas.List.{length-map}
 use Rattle.lz_allot.specs.declared.counts.Counts.{Counts}
 use Rattle.lz_allot.specs.Uses.{Use, Free, Taken, Limbo, collect, collect_at, counts, lowest_free}
-use Rattle.lz_allot.proofs.Counting.{counts_sum}
+use Rattle.lz_allot.proofs.UseCounts.{counts_sum}
 use Rattle.lz_machine.specs.declared.course.Course.TheVariants.{Refused, Plays}
 use Rattle.lz_machine.specs.declared.event.Event.TheVariants.{Reserve}
 use Rattle.lz_machine.specs.declared.event.Outcome.TheVariants.{NoSlot, Dead, NotNow}

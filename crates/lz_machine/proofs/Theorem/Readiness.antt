@@ -2,7 +2,7 @@
 use Rattle.std.proofs.Common.{◌≡◌, ◌≢◌, ◌⊎◌, inl, inr, ℕ, zero, suc, ◌<◌, ◌≤◌, if◌then◌else◌, not, ◌&&◌, Bool, true, false, List, [], ◌∷◌, length, Option, Some, None, is_some, refl, sym, ap, ◌∙◌, subst, arith}
 use mathlib.Core.Bool.{false≢true}
 use Rattle.std.specs.Prelude.{unwrap_or, IsSomeAnd, IfSome}
-use Rattle.std.proofs.lemmas.Bool.{cases_Bool, not-true}
+use Rattle.std.proofs.lemmas.Bool.{cases_Bool, not-true, and_parts}
 use Rattle.lz_slot.specs.Rooms.{largest_of}
 use Rattle.std.proofs.lemmas.Option.{slice_get-get_or}
 use Rattle.lz_slot.specs.Limits.{largest_key}
@@ -33,7 +33,7 @@ use Rattle.lz_machine.specs.declared.course.Course.TheVariants.{Refused, Plays}
 use Rattle.lz_machine.specs.declared.event.Event.{Event}
 use Rattle.lz_machine.specs.declared.event.Event.TheVariants.{Invoke, Pin, WriteKey, Check, WriteOpen, Link, WriteClose, Mark, Release, Unlink, Retire, Answer}
 use Rattle.lz_machine.specs.declared.event.Outcome.TheVariants.{Dead, Done, NotNow, Worn}
-use Rattle.lz_slot.proofs.Exact.{key_of_format}
+use Rattle.lz_slot.proofs.Files.ExactBytes.{key_of_format}
 use Rattle.lz_vault.specs.Members.{no_cell}
 use Rattle.lz_machine.specs.Yards.{Shape, Yard, actor_at, cell_at, actor_in, stage_in, cell_in}
 use Rattle.lz_machine.specs.Table.{last_pin, pin_of, needs, is_played_dead, course_alive, course, is_unused, has_stage, has_checked, has_opened, has_marked, is_old, stays_out}
@@ -57,7 +57,7 @@ use Rattle.lz_machine.proofs.Steps.ReturnedSlot.{closed_unused}
 use Rattle.lz_machine.proofs.Frames.Grip.{closer_locks}
 use Rattle.lz_machine.proofs.Crash.ImageSlots.{node_stands}
 use Rattle.lz_machine.proofs.Frames.Outside.{worn_out}
-use Rattle.lz_machine.proofs.Theorem.Needs.{Knows, both, check_locks, is_checked, is_closed, is_keyed, is_marking, is_opened, is_released, not_last, not_refused, opens_alive, release_locks, some_of}
+use Rattle.lz_machine.proofs.Theorem.Needs.{Knows, check_locks, is_checked, is_closed, is_keyed, is_marking, is_opened, is_released, not_last, not_refused, opens_alive, release_locks, some_of}
 
 -- the yard of a sound service, with words of which only pins differ, and not the actor's own
 module _ (n calls : ℕ) (y : Yard) (callers : List (Option Caller)) (disk : Medium) (M : History) (P : Trace) (notes : Notes) (sound : Sound n calls y callers disk M P notes)
@@ -112,7 +112,7 @@ module _ (n calls : ℕ) (y : Yard) (callers : List (Option Caller)) (disk : Med
 
   ready_key : (k : ℕ) → k ≤ largest_of y.vault.format → Follows (WriteKey k)
   ready_key k fits has plays =
-      let two = both (is_some actor.slot) (not (has_opened actor.hold)) has in
+      let two = and_parts (is_some actor.slot) (not (has_opened actor.hold)) has in
       let slot = some_of actor.slot two.0 in
       let hand = sound.slots.hand a slot.0 slot.1 in
       ((slot.0, slot.1, (hand.in_range, unused slot.0 hand.stage (not-true (has_opened actor.hold) two.1), keeps_key y.shape y.words P sound.trace sound.images.slots.1 w heads links keys slot.0 k hand.loose)), fits)
@@ -126,8 +126,8 @@ module _ (n calls : ℕ) (y : Yard) (callers : List (Option Caller)) (disk : Med
 
   ready_open : Follows WriteOpen
   ready_open has plays =
-      let two = both (has_checked actor.hold && is_some actor.slot) (has_stage Keyed (cell_at z (unwrap_or actor.slot 0)).stage) has in
-      let first = both (has_checked actor.hold) (is_some actor.slot) two.0 in
+      let two = and_parts (has_checked actor.hold && is_some actor.slot) (has_stage Keyed (cell_at z (unwrap_or actor.slot 0)).stage) has in
+      let first = and_parts (has_checked actor.hold) (is_some actor.slot) two.0 in
       let slot = some_of actor.slot first.1 in
       let hand = sound.slots.hand a slot.0 slot.1 in (
         slot.0,
@@ -180,8 +180,8 @@ module _ (n calls : ℕ) (y : Yard) (callers : List (Option Caller)) (disk : Med
 
   ready_close : Follows WriteClose
   ready_close has plays =
-      let two = both (has_checked actor.hold && is_some actor.curr) _ has in
-      let first = both (has_checked actor.hold) (is_some actor.curr) two.0 in
+      let two = and_parts (has_checked actor.hold && is_some actor.curr) _ has in
+      let first = and_parts (has_checked actor.hold) (is_some actor.curr) two.0 in
       let node = some_of actor.curr first.1 in
       let hold = is_checked actor.hold first.0 in
       let lt = slot_lt (ap has_locks hold) node.0 node.1 in
@@ -199,8 +199,8 @@ module _ (n calls : ℕ) (y : Yard) (callers : List (Option Caller)) (disk : Med
 
   ready_unlink : Follows Unlink
   ready_unlink has plays =
-      let two = both (has_marked actor.hold && is_some actor.curr) _ has in
-      let first = both (has_marked actor.hold) (is_some actor.curr) two.0 in
+      let two = and_parts (has_marked actor.hold && is_some actor.curr) _ has in
+      let first = and_parts (has_marked actor.hold) (is_some actor.curr) two.0 in
       let hold = is_marking actor.hold first.0 in
       let rests : HasClosed y.shape.buckets true actor P = subst (λ (q : Hold). RestsOn y.shape.buckets q actor P) hold (sound.locks.rests a) in
       let lt = slot_lt (ap has_locks hold) rests.node rests.curr in

@@ -13,12 +13,12 @@ use Rattle.lz_list.specs.Lists.{next_in, home, AreSlots, ShowsChain, IsSorted, I
 use Rattle.lz_list.specs.Locks.{NodeLocks, owner}
 use Rattle.lz_list.specs.Traces.{Trace, Adjacent, IsLoose, IsWithin, on, rank, chain, chain_of, bucket_of, key_word, node_next, head_word, next_link, is_marked, word_after}
 use Rattle.lz_list.specs.Laws.{IsLow, IsHigh}
-use Rattle.lz_list.proofs.Chains.{adjacent_next, shows_frame, shows_keys}
-use Rattle.lz_list.proofs.Hindsight.{stands}
-use Rattle.lz_list.proofs.Shown.{words_show_chain}
-use Rattle.lz_list.proofs.Sorted.{node_on}
-use Rattle.lz_list.proofs.Tables.{length-table}
-use Rattle.lz_list.proofs.Traced.{chain_slots}
+use Rattle.lz_list.proofs.Chains.PlaceRank.{adjacent_next, shows_frame, shows_keys}
+use Rattle.lz_list.proofs.Traces.Hindsight.{stands}
+use Rattle.lz_list.proofs.Chains.TraceChain.{words_show_chain}
+use Rattle.lz_list.proofs.Chains.SortedChain.{node_on}
+use Rattle.lz_list.proofs.Tables.WordTable.{length-table}
+use Rattle.lz_list.proofs.Traces.TraceWords.{chain_slots}
 use Rattle.lz_machine.specs.Yards.{Shape}
 use Rattle.lz_machine.specs.Stands.{IsReady, InBucket}
 use Rattle.lz_machine.specs.LocksSound.{IsBeside, IsBefore as StandsBefore}

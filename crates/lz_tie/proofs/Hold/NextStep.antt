@@ -30,7 +30,7 @@ use Rattle.lz_machine.proofs.Frames.OneActor.{caller_range}
 use Rattle.lz_machine.proofs.Theorem.Timeliness.{never_late}
 use Rattle.lz_machine.proofs.Runs.CallerEvent.{is_next}
 use Rattle.lz_yard.specs.declared.told.Told.{Told}
-use Rattle.lz_yard.proofs.Keeping.{fault_or_not}
+use Rattle.lz_yard.proofs.Events.KeptFit.{fault_or_not}
 use Rattle.lz_board.specs.declared.view.What.TheVariants.{Played}
 use Rattle.lz_board.specs.declared.view.Note.{Note}
 use Rattle.lz_board.specs.declared.view.Load.{Load}

@@ -26,7 +26,7 @@ use Rattle.lz_machine.specs.Runs.{run, first_point, with_words, MayPlay}
 use Rattle.lz_machine.specs.Laws.{hop_of}
 use Rattle.lz_yard.specs.Steps.{Played as PlayedOver}
 use Rattle.lz_yard.specs.declared.told.Told.{Told}
-use Rattle.lz_yard.proofs.Keeping.{fault_or_not}
+use Rattle.lz_yard.proofs.Events.KeptFit.{fault_or_not}
 use Rattle.lz_machine.proofs.Runs.EventRange.{is_event}
 use Rattle.lz_machine.proofs.Theorem.WornPass.{up_at}
 use Rattle.lz_machine.proofs.Theorem.Reached.{reached_sound}

@@ -11,7 +11,7 @@ use Rattle.lz_list.specs.declared.word.Word.TheVariants.{Head, Link, Key, Pin as
 use Rattle.lz_list.specs.declared.publishing.Publishing.{Publishing}
 use Rattle.lz_list.specs.Words.{Words, get}
 use Rattle.lz_list.specs.Traces.{Trace, word_after}
-use Rattle.lz_list.proofs.Tables.{table_at}
+use Rattle.lz_list.proofs.Tables.WordTable.{table_at}
 use Rattle.lz_machine.specs.declared.course.Course.{Course}
 use Rattle.lz_machine.specs.declared.course.Course.TheVariants.{Refused, Plays}
 use Rattle.lz_machine.specs.declared.event.Event.TheVariants.{Hop}

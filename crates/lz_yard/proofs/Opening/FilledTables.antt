@@ -16,9 +16,9 @@ use Rattle.lz_list.specs.Words.{Words}
 use Rattle.lz_list.specs.Lists.{Listed, IsSorted, new_words, free_locks}
 use Rattle.lz_list.specs.declared.word.Word.TheVariants.{Head, Link, Key}
 use Rattle.lz_list.specs.Traces.{Chain, IsFound, has_slot, word_after, words_after, opening}
-use Rattle.lz_list.proofs.Openings.{opening_lawful}
-use Rattle.lz_list.proofs.Tables.{length-table}
-use Rattle.lz_list.proofs.Traced.{sorted_after}
+use Rattle.lz_list.proofs.Traces.OpeningTrace.{opening_lawful}
+use Rattle.lz_list.proofs.Tables.WordTable.{length-table}
+use Rattle.lz_list.proofs.Traces.TraceWords.{sorted_after}
 use Rattle.lz_machine.specs.declared.actor.Actor.{Actor}
 use Rattle.lz_machine.specs.Yards.{Yard, idle_actor}
 use Rattle.lz_yard.specs.Parts.{Fits, HasInRange}

@@ -11,10 +11,10 @@ use Rattle.lz_list.specs.declared.flags.Flags.{Flags}
 use Rattle.lz_list.specs.Words.{Words, set, link_with, next_at, next_of}
 use Rattle.lz_list.specs.Lists.{new_words}
 use Rattle.lz_list.specs.Traces.{Trace, Chain, Lawful, Shows, IsFound, insert, place_before, link_above, bucket_of, chain, chain_of, place_of, head_word, node_next, next_link, key_word, flags_after, words_after, halt_word, table, opening}
-use Rattle.lz_list.proofs.Openings.{opening_lawful}
-use Rattle.lz_list.proofs.Shown.{words_show_chain}
-use Rattle.lz_list.proofs.Tables.{table_at, table_set, length-table}
-use Rattle.lz_list.proofs.ChainNodes.{bucket_low}
+use Rattle.lz_list.proofs.Traces.OpeningTrace.{opening_lawful}
+use Rattle.lz_list.proofs.Chains.TraceChain.{words_show_chain}
+use Rattle.lz_list.proofs.Tables.WordTable.{table_at, table_set, length-table}
+use Rattle.lz_list.proofs.Chains.ChainNode.{bucket_low}
 use Rattle.lz_slot.specs.Nodes.{has_node}
 use Rattle.lz_vault.specs.Members.{Ascends}
 use Rattle.lz_yard.specs.Filling.{with_first, with_members}

@@ -5,15 +5,15 @@ use Rattle.std.proofs.lemmas.Bool.{cases_eq, cases_Bool}
 use Rattle.std.proofs.lemmas.Bool.Decides.{nat_tests, leb_tells, eqb_tells}
 use Rattle.lz_list.specs.Words.{link_with}
 use Rattle.lz_list.specs.Traces.{Trace, Chain, Shows, rank, on, IsFound, insert, bucket_of, chain, chain_of, place_of, has_slot, head_word, node_next, next_link, key_word, has_added, has_removed, flags_after, words_after, halt_word, opening}
-use Rattle.lz_list.proofs.Chains.{before_on, on_start}
-use Rattle.lz_list.proofs.Openings.{opening_lawful}
-use Rattle.lz_list.proofs.Sorted.{same_pair}
-use Rattle.lz_list.proofs.Shown.{words_show_chain}
+use Rattle.lz_list.proofs.Chains.PlaceRank.{before_on, on_start}
+use Rattle.lz_list.proofs.Traces.OpeningTrace.{opening_lawful}
+use Rattle.lz_list.proofs.Chains.SortedChain.{same_pair}
+use Rattle.lz_list.proofs.Chains.TraceChain.{words_show_chain}
 use Rattle.lz_slot.specs.Nodes.{has_node}
 use Rattle.lz_vault.specs.Members.{Ascends}
 use Rattle.lz_machine.proofs.Open.FirstNodes.{off_chains, none_marked}
 use Rattle.lz_vault.proofs.Members.{node_cases, node_first, node_later}
-use Rattle.lz_list.proofs.ChainNodes.{node_slot}
+use Rattle.lz_list.proofs.Chains.ChainNode.{node_slot}
 use Rattle.lz_yard.proofs.Opening.MemberNodes.{slot_node}
 use Rattle.lz_machine.proofs.Frames.Store.{table_same}
 

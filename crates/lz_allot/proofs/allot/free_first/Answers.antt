@@ -1,7 +1,7 @@
 use Rattle.std.proofs.Common.{◌≡◌, ◌+◌, ◌∙◌, sym, ℕ, List, ap, get_or, length, take, true, arith}
 use Rattle.lz_allot.specs.declared.kind.Kind.TheVariants as kind
 use Rattle.std.proofs.lemmas.List.{get_or-drop}
-use Rattle.lz_allot.proofs.Setting.{length-set_each}
+use Rattle.lz_allot.proofs.FilledPlaces.{length-set_each}
 use Rattle.lz_allot.proofs.allot.free_first.Goals as goal
 
 pub set-requires : goal.set-requires

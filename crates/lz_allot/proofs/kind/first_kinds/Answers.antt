@@ -1,7 +1,7 @@
 use Rattle.std.proofs.Common.{◌≡◌, ◌<◌, ◌∙◌, sym, ℕ, List, ap, length, replicate, take, arith, rules}
 use Rattle.std.proofs.lemmas.List.{length-replicate, take_all, get_or_read}
 use Rattle.lz_allot.specs.declared.kind.Kind.TheVariants as kind
-use Rattle.lz_allot.proofs.Setting.{length-set_each, set_each_more}
+use Rattle.lz_allot.proofs.FilledPlaces.{length-set_each, set_each_more}
 use Rattle.lz_allot.specs.declared.kind.Kind.{Kind}
 use Rattle.lz_allot.specs.Allots.{set_each}
 use Rattle.lz_allot.proofs.kind.first_kinds.Goals as goal

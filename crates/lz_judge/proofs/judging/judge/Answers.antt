@@ -8,8 +8,8 @@ use Rattle.lz_judge.specs.Records.{ArePlaces, IsLawful, IsPoint, Record}
 use Rattle.lz_judge.specs.Flaws.{IsFlaw, IsMisplaced, OrderedChain}
 use Rattle.lz_judge.specs.declared.flaw.Flaw.TheVariants.{WrongReply, WrongSet}
 use Rattle.lz_judge.specs.Passes.{IsAt, Ordered}
-use Rattle.lz_judge.proofs.Readings.{chain_same, known_all, ordered_chain, place_point, places_low, wrong_flaw, wrong_set_flaw}
-use Rattle.lz_judge.proofs.Flawless.{flawless}
+use Rattle.lz_judge.proofs.Passes.PassTable.{chain_same, known_all, ordered_chain, place_point, places_low, wrong_flaw, wrong_set_flaw}
+use Rattle.lz_judge.proofs.Lives.GoodVerdict.{flawless}
 use Rattle.lz_judge.specs.declared.flaw.Flaw.{Flaw}
 use Rattle.lz_judge.proofs.judging.judge.Goals as goal
 

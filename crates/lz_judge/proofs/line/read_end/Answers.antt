@@ -1,4 +1,4 @@
-use Rattle.lz_judge.proofs.LineWords.{some_words}
+use Rattle.lz_judge.proofs.Texts.LineWord.{some_words}
 use Rattle.lz_judge.proofs.line.read_end.Goals as goal
 
 pub returns-in-Some-clause-says : goal.returns-in-Some-clause-says

@@ -1,4 +1,4 @@
-use Rattle.lz_judge.proofs.LineWords.{word_and_rest, one_word}
+use Rattle.lz_judge.proofs.Texts.LineWord.{word_and_rest, one_word}
 use Rattle.lz_judge.proofs.line.split_word.Goals as goal
 
 pub returns-in-Some : goal.returns-in-Some

@@ -4,7 +4,7 @@ use Rattle.std.specs.Ordering.{nat_cmp}
 use Rattle.lz_slot.specs.Sets.{key_of, reply}
 use Rattle.std.proofs.Common.{◌≡◌, sym, ◌∙◌, Some, None}
 use Rattle.std.proofs.lemmas.Option.{same_Some}
-use Rattle.lz_judge.proofs.Passing.{apart_bool, lesser_one, lesser_some, same_bool}
+use Rattle.lz_judge.proofs.Passes.NextMark.{apart_bool, lesser_one, lesser_some, same_bool}
 use Rattle.lz_judge.proofs.playing.answer.Goals as goal
 
 pub returns-then-told-reply-clause-plays : goal.returns-then-told-reply-clause-plays

@@ -1,7 +1,7 @@
 use Rattle.std.proofs.Common.{ℕ, sym, ◌∙◌, ◌≡◌, ap, subst, refl, Some, None}
 use Rattle.std.specs.BTreeMap as tree
 use Rattle.std.specs.Ordering.{nat_cmp}
-use Rattle.lz_judge.proofs.Slots.{firsts_kept, firsts_more, same_member}
+use Rattle.lz_judge.proofs.Surveys.SlotFinding.{firsts_kept, firsts_more, same_member}
 use Rattle.lz_judge.proofs.surveying.place_key.Goals as goal
 
 pub returns-in-Some : goal.returns-in-Some

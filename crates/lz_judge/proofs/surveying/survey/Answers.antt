@@ -1,5 +1,5 @@
 use Rattle.std.proofs.Common.{sym, ◌∙◌}
-use Rattle.lz_judge.proofs.Files.{sound_holds, held_head}
+use Rattle.lz_judge.proofs.Surveys.SoundFile.{sound_holds, held_head}
 use Rattle.lz_judge.proofs.surveying.survey.Goals as goal
 
 pub returns-in_ok-find_all-in-Ok-clause-good : goal.returns-in_ok-find_all-in-Ok-clause-good

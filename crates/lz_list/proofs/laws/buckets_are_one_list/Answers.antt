@@ -1,4 +1,4 @@
-use Rattle.lz_list.proofs.Traced.{one_list}
+use Rattle.lz_list.proofs.Traces.TraceWords.{one_list}
 use Rattle.lz_list.proofs.laws.buckets_are_one_list.Goals as goal
 
 pub returns : goal.returns

@@ -1,4 +1,4 @@
-use Rattle.lz_list.proofs.Resting.{marked_was_sure}
+use Rattle.lz_list.proofs.Traces.WalkEnd.{marked_was_sure}
 use Rattle.lz_list.proofs.laws.marked_was_sure.Goals as goal
 
 pub returns : goal.returns

@@ -1,4 +1,4 @@
-use Rattle.lz_list.proofs.Traced.{union}
+use Rattle.lz_list.proofs.Traces.TraceWords.{union}
 use Rattle.lz_list.proofs.laws.members_are_the_union.Goals as goal
 
 pub returns : goal.returns

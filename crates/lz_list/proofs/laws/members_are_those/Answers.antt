@@ -1,6 +1,6 @@
 use Rattle.std.proofs.Common.{refl}
 use Rattle.lz_list.specs.Traces.{words_after}
-use Rattle.lz_list.proofs.Traced.{members_after}
+use Rattle.lz_list.proofs.Traces.TraceWords.{members_after}
 use Rattle.lz_list.proofs.laws.members_are_those.Goals as goal
 
 pub returns : goal.returns

@@ -1,4 +1,4 @@
-use Rattle.lz_list.proofs.Resting.{unmarked_surely}
+use Rattle.lz_list.proofs.Traces.WalkEnd.{unmarked_surely}
 use Rattle.lz_list.proofs.laws.unmarked_surely.Goals as goal
 
 pub returns : goal.returns

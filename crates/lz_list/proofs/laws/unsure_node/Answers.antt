@@ -1,4 +1,4 @@
-use Rattle.lz_list.proofs.Resting.{unsure_node}
+use Rattle.lz_list.proofs.Traces.WalkEnd.{unsure_node}
 use Rattle.lz_list.proofs.laws.unsure_node.Goals as goal
 
 pub returns : goal.returns

@@ -1,6 +1,6 @@
 use Rattle.std.proofs.Common.{refl}
 use Rattle.lz_list.specs.Traces.{words_after}
-use Rattle.lz_list.proofs.Traced.{sorted_after}
+use Rattle.lz_list.proofs.Traces.TraceWords.{sorted_after}
 use Rattle.lz_list.proofs.laws.words_are_sorted.Goals as goal
 
 pub returns : goal.returns

@@ -1,5 +1,5 @@
 use Rattle.std.proofs.Common.{rules}
-use Rattle.lz_slot.proofs.Cuts.{lacks_all, parted_none}
+use Rattle.lz_slot.proofs.Texts.Cuts.{lacks_all, parted_none}
 use Rattle.lz_rehearsal.proofs.Cuts.{word_parted}
 use Rattle.lz_rehearsal.proofs.line.split_word.Goals as goal
 

@@ -1,4 +1,4 @@
-use Rattle.lz_slot.proofs.Spellings as proved
+use Rattle.lz_slot.proofs.Texts.Spellings as proved
 use Rattle.lz_slot.proofs.laws.keys_read_back.Goals as goal
 
 pub returns : goal.returns

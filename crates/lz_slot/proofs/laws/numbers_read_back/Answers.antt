@@ -1,4 +1,4 @@
-use Rattle.lz_slot.proofs.Numerals as proved
+use Rattle.lz_slot.proofs.Texts.Numerals as proved
 use Rattle.lz_slot.proofs.laws.numbers_read_back.Goals as goal
 
 pub returns : goal.returns

@@ -4,8 +4,8 @@ use Rattle.lz_allot.specs.declared.kind.Kind.{Kind}
 use Rattle.lz_allot.specs.declared.kind.Kind.TheVariants as kind
 use Rattle.lz_allot.specs.Rows.{least_left, row_freed, rows_freed, first_row}
 use Rattle.lz_allot.specs.Allots.{set_each}
-use Rattle.lz_allot.proofs.Setting.{length-set_each, written_whole}
-use Rattle.lz_allot.proofs.Steps.{least, least_few, total, in_limbo, told_freed, limbo_freed, allot_freed}
+use Rattle.lz_allot.proofs.FilledPlaces.{length-set_each, written_whole}
+use Rattle.lz_allot.proofs.CallEffects.{least, least_few, total, in_limbo, told_freed, limbo_freed, allot_freed}
 use Rattle.lz_allot.proofs.allot.Allot.collect.Goals as goal
 
 pub free_first-requires-clause-count : goal.free_first-requires-clause-count

@@ -1,6 +1,6 @@
 use Rattle.std.proofs.Common.{◌∙◌, sym}
-use Rattle.lz_allot.proofs.Telling.{length_told}
-use Rattle.lz_allot.proofs.Steps.{total}
+use Rattle.lz_allot.proofs.ToldUses.{length_told}
+use Rattle.lz_allot.proofs.CallEffects.{total}
 use Rattle.lz_allot.proofs.allot.Allot.counts.Goals as goal
 
 pub returns-clause-sum : goal.returns-clause-sum

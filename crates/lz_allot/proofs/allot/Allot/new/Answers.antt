@@ -5,7 +5,7 @@ use Rattle.std.proofs.lemmas.List.Sums.{count_by-le-length}
 use Rattle.lz_allot.specs.declared.kind.Kind.TheVariants as kind
 use Rattle.lz_allot.specs.Rows.{first_row}
 use Rattle.lz_allot.specs.Allots.{first_uses, is_free_kind, set_each, uses_told}
-use Rattle.lz_allot.proofs.Steps.{first_length, told_first, allot_first}
+use Rattle.lz_allot.proofs.CallEffects.{first_length, told_first, allot_first}
 use Rattle.lz_allot.proofs.allot.Allot.new.Goals as goal
 
 pub free_of-requires : goal.free_of-requires

@@ -1,5 +1,5 @@
 use Rattle.std.proofs.Common.{◌∙◌, sym, arith}
-use Rattle.lz_allot.proofs.Steps.{lowest_is, some_free, total, told_reserved, allot_reserved}
+use Rattle.lz_allot.proofs.CallEffects.{lowest_is, some_free, total, told_reserved, allot_reserved}
 use Rattle.lz_allot.proofs.allot.Allot.reserve.Goals as goal
 
 pub returns-in_default-clause-slot : goal.returns-in_default-clause-slot

@@ -4,8 +4,8 @@ use Rattle.std.specs.VecDeque.{deque_capacity}
 use Rattle.lz_allot.specs.declared.row.Row.{Row}
 use Rattle.lz_allot.specs.Rows.{first_row, rows_seen}
 use Rattle.lz_allot.specs.Allots.{IsAllot, uses_told}
-use Rattle.lz_allot.proofs.Seeing.{rows_seen_is}
-use Rattle.lz_allot.proofs.Steps.{allot_seen, told_pin, limbo_is}
+use Rattle.lz_allot.proofs.SightChanges.{rows_seen_is}
+use Rattle.lz_allot.proofs.CallEffects.{allot_seen, told_pin, limbo_is}
 use Rattle.lz_allot.proofs.allot.Allot.see_pin.Goals as goal
 
 rows_are : (c : goal.After-self-1) → set c.self.inside.rows.items (c.args.pass - 1) c.see.new.self ≡ rows_seen c.args.pass c.args.pin (length c.self.inside.limbo.items) c.self.inside.rows.items

@@ -1,5 +1,5 @@
 use Rattle.std.proofs.Common.{◌≡◌, length, rules, arith}
-use Rattle.lz_allot.proofs.Telling.{length_told}
+use Rattle.lz_allot.proofs.ToldUses.{length_told}
 use Rattle.lz_allot.proofs.allot.Allot.slots.Goals as goal
 
 pub returns-clause-count : goal.returns-clause-count

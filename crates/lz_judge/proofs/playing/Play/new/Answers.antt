@@ -1,6 +1,6 @@
 use Rattle.std.proofs.Common.{refl}
-use Rattle.lz_judge.proofs.Turns.{played_none}
-use Rattle.lz_judge.proofs.Wrongs.{compared_none, ran_none}
+use Rattle.lz_judge.proofs.Passes.CallTurn.{played_none}
+use Rattle.lz_judge.proofs.Lives.WrongAnswer.{compared_none, ran_none}
 use Rattle.lz_judge.proofs.playing.Play.new.Goals as goal
 
 pub returns-clause-played : goal.returns-clause-played

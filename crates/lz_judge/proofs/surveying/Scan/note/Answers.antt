@@ -1,7 +1,7 @@
 use Rattle.std.proofs.Common.{◌∙◌, ◌+◌, sym, subst, List}
 use Rattle.lz_judge.specs.declared.finding.Finding.{Finding}
 use Rattle.lz_judge.specs.Scans.{Scanned}
-use Rattle.lz_judge.proofs.Slots.{scanned_closed, scanned_bad, scanned_placed}
+use Rattle.lz_judge.proofs.Surveys.SlotFinding.{scanned_closed, scanned_bad, scanned_placed}
 use Rattle.lz_judge.proofs.surveying.Scan.note.Goals as goal
 
 pub returns-in-Closed : goal.returns-in-Closed

@@ -2,8 +2,8 @@ use Rattle.std.proofs.Common.{◌≡◌, ◌≢◌, ◌<◌, inl, length, subst,
 use Rattle.lz_list.specs.declared.word.Word.TheVariants.{Key}
 use Rattle.lz_list.specs.Words.{get}
 use Rattle.lz_list.specs.Lists.{Listed, IsTable}
-use Rattle.lz_list.proofs.Linking.{place_in}
-use Rattle.lz_list.proofs.Finding.{next_slot, next_in_range, found, passed, none_there}
+use Rattle.lz_list.proofs.Changes.NodeLink.{place_in}
+use Rattle.lz_list.proofs.Searches.KeySearch.{next_slot, next_in_range, found, passed, none_there}
 use Rattle.lz_list.proofs.list.List.find.Goals as goal
 
 pub behind-requires-clause-place : goal.behind-requires-clause-place

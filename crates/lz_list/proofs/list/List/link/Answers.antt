@@ -1,6 +1,6 @@
 use Rattle.std.proofs.Common.{sym, ◌∙◌, suc}
-use Rattle.lz_list.proofs.Redirects.{heads_redirect, links_redirect, table_redirect}
-use Rattle.lz_list.proofs.Linking.{link_place, link_sorted, link_member, link_others}
+use Rattle.lz_list.proofs.Tables.Redirect.{heads_redirect, links_redirect, table_redirect}
+use Rattle.lz_list.proofs.Changes.NodeLink.{link_place, link_sorted, link_member, link_others}
 use Rattle.lz_list.proofs.list.List.link.Goals as goal
 
 pub redirect-requires : goal.redirect-requires

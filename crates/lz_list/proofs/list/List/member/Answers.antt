@@ -1,8 +1,8 @@
 use Rattle.std.proofs.Common.{◌<◌, length, subst, sym}
 use mathlib.Core.Bool.{false≢true}
 use Rattle.lz_list.specs.Lists.{Listed, home}
-use Rattle.lz_list.proofs.Sorted.{node_slot}
-use Rattle.lz_list.proofs.Finding.{node_tells}
+use Rattle.lz_list.proofs.Chains.SortedChain.{node_slot}
+use Rattle.lz_list.proofs.Searches.KeySearch.{node_tells}
 use Rattle.lz_list.proofs.list.List.member.Goals as goal
 
 pub is_marked-requires : goal.is_marked-requires

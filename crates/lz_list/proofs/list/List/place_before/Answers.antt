@@ -1,4 +1,4 @@
-use Rattle.lz_list.proofs.Finding.{head_before}
+use Rattle.lz_list.proofs.Searches.KeySearch.{head_before}
 use Rattle.lz_list.proofs.list.List.place_before.Goals as goal
 
 pub loop-slot-init : goal.loop-slot-init

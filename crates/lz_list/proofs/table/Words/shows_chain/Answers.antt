@@ -1,4 +1,4 @@
-use Rattle.lz_list.proofs.Following.{reached_head, reached_next, chain_tells}
+use Rattle.lz_list.proofs.Searches.ChainSearch.{reached_head, reached_next, chain_tells}
 use Rattle.lz_list.proofs.table.Words.shows_chain.Goals as goal
 
 pub loop-slot-init : goal.loop-slot-init

@@ -2,7 +2,7 @@ use Rattle.std.proofs.Common.{◌-◌, ◌^◌}
 use Rattle.lz_list.specs.declared.word.Word.TheVariants.{Key}
 use Rattle.lz_list.specs.Words.{get, place_number}
 use Rattle.lz_list.specs.Traces.{rank}
-use Rattle.lz_list.proofs.Following.{Reached}
+use Rattle.lz_list.proofs.Searches.ChainSearch.{Reached}
 use Rattle.lz_list.proofs.table.Words.shows_chain.Given as goal
 
 abbrev pub invariant-loop-slot : goal.invariant-loop-slot

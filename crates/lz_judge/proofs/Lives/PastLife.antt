@@ -1,0 +1,90 @@
+-- The lives that have ended, and the life that goes on after them.
+use Rattle.std.proofs.Common.{◌≢◌, ◌⊎◌, inl, inr, ⊎_elim, ℕ, List, [], ◌∷◌, ◌++◌, sym, refl, ◌∙◌}
+use Rattle.lz_slot.specs.Sets.{Keys, Same, after}
+use Rattle.lz_slot.specs.declared.command.Command.{Command}
+use Rattle.lz_slot.specs.declared.history.Mark.{Mark}
+use Rattle.lz_slot.specs.declared.history.Mark.TheVariants.{Call, Answer, Refused, Cut, Stop, Crash, Opened, OpenFailed}
+use Rattle.lz_slot.specs.Histories.{HasMark, IsCalled, IsEarlier, IsListed}
+use Rattle.lz_judge.specs.Records.{IsMade}
+use Rattle.lz_judge.specs.Flaws.{IsLifeBefore, IsPast, Leads}
+use Rattle.lz_judge.specs.Plays.{Follows, past_of, this_life}
+use Rattle.lz_judge.specs.declared.playing.Listed.{Listed}
+use Rattle.lz_judge.proofs.Lives.LawfulHistory.{made_less, made_more}
+use Rattle.lz_slot.proofs.Sets.{after_same}
+use Rattle.lz_judge.proofs.Lives.PlaceOrder.{Among, calls_of}
+
+-- what was seen in the past was seen
+pub past_mark : (M : List Mark) (m : Mark) → HasMark m (past_of M) → HasMark m M
+past_mark [] m has = has
+past_mark (Opened keys ∷ M) m has = inr has
+past_mark (Stop ∷ M) m has = inr (past_mark M m has)
+past_mark (Crash ∷ M) m has = inr (past_mark M m has)
+past_mark (OpenFailed why ∷ M) m has = inr (past_mark M m has)
+past_mark (Call j a c ∷ M) m has = inr (past_mark M m has)
+past_mark (Answer j b ∷ M) m has = inr (past_mark M m has)
+past_mark (Refused j why ∷ M) m has = inr (past_mark M m has)
+past_mark (Cut j why ∷ M) m has = inr (past_mark M m has)
+
+pub past_made_all : (M : List Mark) (i : ℕ) → IsMade (past_of M) i → IsMade M i
+past_made_all M i (c, (actor, has)) = (c, (actor, past_mark M (Call i actor c) has))
+
+-- a call of the past is one of an earlier life
+pub past_is : (M : List Mark) (i : ℕ) → IsMade (past_of M) i → IsPast M i
+past_is [] i made = absurd made.1.1
+past_is (Opened keys ∷ M) i made = made
+past_is (Stop ∷ M) i made = past_is M i made
+past_is (Crash ∷ M) i made = past_is M i made
+past_is (OpenFailed why ∷ M) i made = past_is M i made
+past_is (Call j a c ∷ M) i made = past_is M i made
+past_is (Answer j b ∷ M) i made = past_is M i made
+past_is (Refused j why ∷ M) i made = past_is M i made
+past_is (Cut j why ∷ M) i made = past_is M i made
+
+-- each call was made in the past or in the life that goes on
+split_one : (m : Mark) (M : List Mark) (i : ℕ) → ((j a : ℕ) (c : Command) → m ≢ Call j a c) → (IsMade M i → IsMade (past_of M) i ⊎ IsMade (this_life M) i) → IsMade (m ∷ M) i → IsMade (past_of M) i ⊎ IsMade (this_life M) i
+split_one m M i no_call rest made = rest (made_less m M i no_call made)
+
+pub made_split : (M : List Mark) (i : ℕ) → IsMade M i → IsMade (past_of M) i ⊎ IsMade (this_life M) i
+made_split [] i made = absurd made.1.1
+made_split (Opened keys ∷ M) i made = inl (made_less (Opened keys) M i (λ j a c e. cc) made)
+made_split (Stop ∷ M) i made = split_one Stop M i (λ j a c e. cc) (made_split M i) made
+made_split (Crash ∷ M) i made = split_one Crash M i (λ j a c e. cc) (made_split M i) made
+made_split (OpenFailed why ∷ M) i made = split_one (OpenFailed why) M i (λ j a c e. cc) (made_split M i) made
+made_split (Answer j b ∷ M) i made = ⊎_elim (λ past. inl past) (λ here. inr (made_more (Answer j b) (this_life M) i here)) (split_one (Answer j b) M i (λ j' a c e. cc) (made_split M i) made)
+made_split (Refused j why ∷ M) i made = ⊎_elim (λ past. inl past) (λ here. inr (made_more (Refused j why) (this_life M) i here)) (split_one (Refused j why) M i (λ j' a c e. cc) (made_split M i) made)
+made_split (Cut j why ∷ M) i made = ⊎_elim (λ past. inl past) (λ here. inr (made_more (Cut j why) (this_life M) i here)) (split_one (Cut j why) M i (λ j' a c e. cc) (made_split M i) made)
+made_split (Call j a c ∷ M) i (d, (actor, has)) = ⊎_elim
+    (λ here. inr (d, (actor, inl here)))
+    (λ there. ⊎_elim (λ past. inl past) (λ this. inr (made_more (Call j a c) (this_life M) i this)) (made_split M i (d, (actor, there))))
+    has
+
+-- a call of the past was made in a life before that of a call of the life that goes on
+later_one : (m : Mark) (M : List Mark) (i j : ℕ) → IsPast M i → (IsMade (this_life M) j → IsLifeBefore M i j) → IsMade (m ∷ this_life M) j → IsLifeBefore (m ∷ M) i j
+later_one m M i j past rest (c, (actor, has)) = ⊎_elim (λ here. inl (actor, c, here, past)) (λ there. inr (rest (c, (actor, there)))) has
+
+pub past_before : (M : List Mark) (i j : ℕ) → IsMade (past_of M) i → IsMade (this_life M) j → IsLifeBefore M i j
+past_before [] i j past made = absurd made.1.1
+past_before (Opened keys ∷ M) i j past made = absurd made.1.1
+past_before (Stop ∷ M) i j past made = inr (past_before M i j past made)
+past_before (Crash ∷ M) i j past made = inr (past_before M i j past made)
+past_before (OpenFailed why ∷ M) i j past made = inr (past_before M i j past made)
+past_before (Call k a c ∷ M) i j past made = later_one (Call k a c) M i j (past_is M i past) (past_before M i j past) made
+past_before (Answer k b ∷ M) i j past made = later_one (Answer k b) M i j (past_is M i past) (past_before M i j past) made
+past_before (Refused k why ∷ M) i j past made = later_one (Refused k why) M i j (past_is M i past) (past_before M i j past) made
+past_before (Cut k why ∷ M) i j past made = later_one (Cut k why) M i j (past_is M i past) (past_before M i j past) made
+
+pub leads_more : (M : List Mark) (S S' : Keys) (L : List ℕ) (T : Keys) → Leads (past_of M) S L T → Same S S' → Leads M S' L T
+leads_more M S S' [] T leads same = λ k. sym (same k) ∙ leads k
+leads_more M S S' (i ∷ L) T (c, (actor, has), rest) same = (c, (actor, past_mark M (Call i actor c) has), leads_more M (after c S) (after c S') L T rest (after_same c S S' same))
+
+pub leads_then : (M : List Mark) (L R : List ℕ) (S T U : Keys) → Leads M S L T → Leads M T R U → Leads M S (L ++ R) U
+leads_then M [] R S T U first second = leads_from M R T S U (λ k. sym (first k)) second
+  where
+    leads_from : (M : List Mark) (R : List ℕ) (T S U : Keys) → Same T S → Leads M T R U → Leads M S R U
+    leads_from M [] T S U same leads = λ k. sym (same k) ∙ leads k
+    leads_from M (i ∷ R) T S U same (c, called, rest) = (c, called, leads_from M R (after c T) (after c S) U (after_same c T S same) rest)
+leads_then M (i ∷ L) R S T U (c, called, rest) second = (c, called, leads_then M L R (after c S) T U rest second)
+
+pub follows_leads : (M : List Mark) (calls : List Listed) (S T : Keys) → ((l : Listed) → Among l calls → IsCalled M l.call l.command) → Follows calls S T → Leads M S (calls_of calls) T
+follows_leads M [] S T called follows = follows
+follows_leads M (l ∷ calls) S T called follows = (l.command, called l (inl refl), follows_leads M calls (after l.command S) T (λ m at. called m (inr at)) follows)

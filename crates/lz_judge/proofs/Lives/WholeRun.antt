@@ -1,0 +1,181 @@
+-- The calls of all lives, one list after another: where the lives are a chain, it is one run from the empty set.
+use Rattle.std.proofs.Common.{◌≡◌, ◌⊎◌, inl, inr, ⊎_elim, ℕ, ◌<◌, Bool, List, [], ◌∷◌, ◌++◌, sym, refl, ◌∙◌, ap, subst, arith}
+use Rattle.lz_slot.specs.Sets.{Keys, Same, after, key_of, members, reply}
+use Rattle.lz_slot.specs.declared.command.Command.{Command}
+use Rattle.lz_slot.specs.declared.history.Mark.{Mark}
+use Rattle.lz_slot.specs.declared.history.Mark.TheVariants.{Call, Answer, Refused, Cut, Stop, Crash, Opened, OpenFailed}
+use Rattle.lz_slot.specs.Histories.{IsAnswered, IsCalled, IsListed, Runs, lives}
+use Rattle.lz_judge.specs.Records.{IsLawful, IsMade, MayFollow}
+use Rattle.lz_judge.specs.Flaws.{IsInOrder, IsLifeBefore, Leads, OrderedChain}
+use Rattle.lz_judge.specs.Plays.{lives_before, past_of, this_life, this_start}
+use Rattle.lz_judge.proofs.Lives.CurrentLife.{answered_life, life_made, life_mark, lives_parts, now}
+use Rattle.lz_slot.proofs.Sets.{after_same}
+use Rattle.lz_slot.proofs.Listings.{earlier_append, listed_append, listed_left, listed_right}
+use Rattle.lz_judge.proofs.Lives.PastLife.{made_split, past_before, past_made_all, past_mark}
+use Rattle.lz_judge.proofs.Passes.PassTable.{told_made}
+
+-- a call has one command
+one_command : (M : List Mark) (i : ℕ) (c d : Command) → IsLawful M → IsCalled M i c → IsCalled M i d → c ≡ d
+one_command [] i c d lawful (a, has) (b, has') = absurd has
+one_command (m ∷ M) i c d lawful (a, inl here) (b, inl here') = let same : Call i a c ≡ Call i b d = sym here ∙ here' in cc
+one_command (m ∷ M) i c d lawful (a, inl here) (b, inr there') = let may : MayFollow (Call i a c) M = subst (λ (x : Mark). MayFollow x M) here lawful.0 in absurd (may.1 (d, (b, there')))
+one_command (m ∷ M) i c d lawful (a, inr there) (b, inl here') = let may : MayFollow (Call i b d) M = subst (λ (x : Mark). MayFollow x M) here' lawful.0 in absurd (may.1 (c, (a, there)))
+one_command (m ∷ M) i c d lawful (a, inr there) (b, inr there') = one_command M i c d lawful.1 (a, there) (b, there')
+
+module _ (M : List Mark) (lawful : IsLawful M) where
+  -- a run leads to the set to which its calls lead
+  pub run_leads : (L : List ℕ) (S T S' U : Keys) → Same S S' → Runs M S L T → Leads M S' L U → Same T U
+  run_leads [] S T S' U same runs leads = λ k. sym (runs k) ∙ same k ∙ leads k
+  run_leads (i ∷ L) S T S' U same (c, called, right, rest) (d, called', rest') =
+      let one : c ≡ d = one_command M i c d lawful called called' in
+      run_leads L (after c S) T (after d S') U (λ k. after_same c S S' same k ∙ ap (λ (x : Command). after x S' k) one) rest rest'
+
+  -- and each answered call of it gets its answer from the set to which the calls before it lead
+  pub run_replies : (L R : List ℕ) (i : ℕ) (S T S' U : Keys) (c : Command) (b : Bool) → Same S S' → Runs M S (L ++ i ∷ R) T → Leads M S' L U → IsCalled M i c → IsAnswered M i b → reply c (U (key_of c)) ≡ b
+  run_replies [] R i S T S' U c b same (d, called', right, rest) leads called told =
+      let one : d ≡ c = one_command M i d c lawful called' called in
+      subst (λ (x : Command). reply x (U (key_of x)) ≡ b) one (ap (reply d) (sym (leads (key_of d)) ∙ sym (same (key_of d))) ∙ right b told)
+  run_replies (j ∷ L) R i S T S' U c b same (d, called, right, rest) (e, called', rest') at told =
+      let one : d ≡ e = one_command M j d e lawful called called' in
+      run_replies L R i (after d S) T (after e S') U c b (λ k. after_same d S S' same k ∙ ap (λ (x : Command). after x S' k) one) rest rest' at told
+
+-- runs one after another
+runs_then : (M : List Mark) (L R : List ℕ) (S T U : Keys) → Runs M S L T → Runs M T R U → Runs M S (L ++ R) U
+runs_then M [] R S T U first second = runs_from M R T S U (λ k. sym (first k)) second
+  where
+    runs_from : (M : List Mark) (R : List ℕ) (T S U : Keys) → Same T S → Runs M T R U → Runs M S R U
+    runs_from M [] T S U same runs = λ k. sym (same k) ∙ runs k
+    runs_from M (i ∷ R) T S U same (c, called, right, rest) =
+        (c, called, λ b told. ap (reply c) (sym (same (key_of c))) ∙ right b told, runs_from M R (after c T) (after c S) U (after_same c T S same) rest)
+runs_then M (i ∷ L) R S T U (c, called, right, rest) second = (c, called, right, runs_then M L R (after c S) T U rest second)
+
+lawful_past : (M : List Mark) → IsLawful M → IsLawful (past_of M)
+lawful_past [] lawful = lawful
+lawful_past (Opened keys ∷ M) lawful = lawful.1
+lawful_past (Stop ∷ M) lawful = lawful_past M lawful.1
+lawful_past (Crash ∷ M) lawful = lawful_past M lawful.1
+lawful_past (OpenFailed why ∷ M) lawful = lawful_past M lawful.1
+lawful_past (Call j a c ∷ M) lawful = lawful_past M lawful.1
+lawful_past (Answer j b ∷ M) lawful = lawful_past M lawful.1
+lawful_past (Refused j why ∷ M) lawful = lawful_past M lawful.1
+lawful_past (Cut j why ∷ M) lawful = lawful_past M lawful.1
+
+-- an answer was given in the past or in the life that goes on
+answer_later : (m : Mark) (M : List Mark) (i : ℕ) (b : Bool) → IsAnswered (past_of M) i b ⊎ IsAnswered (this_life M) i b → IsAnswered (past_of M) i b ⊎ IsAnswered (m ∷ this_life M) i b
+answer_later m M i b (inl past) = inl past
+answer_later m M i b (inr here) = inr (inr here)
+
+answer_split : (M : List Mark) (i : ℕ) (b : Bool) → IsAnswered M i b → IsAnswered (past_of M) i b ⊎ IsAnswered (this_life M) i b
+answer_split [] i b has = absurd has
+answer_split (Opened keys ∷ M) i b has = inl (⊎_elim (λ here. absurd (cc)) (λ there. there) has)
+answer_split (Stop ∷ M) i b has = answer_split M i b (⊎_elim (λ here. absurd (cc)) (λ there. there) has)
+answer_split (Crash ∷ M) i b has = answer_split M i b (⊎_elim (λ here. absurd (cc)) (λ there. there) has)
+answer_split (OpenFailed why ∷ M) i b has = answer_split M i b (⊎_elim (λ here. absurd (cc)) (λ there. there) has)
+answer_split (Call j a c ∷ M) i b has = answer_later (Call j a c) M i b (answer_split M i b (⊎_elim (λ here. absurd (cc)) (λ there. there) has))
+answer_split (Refused j why ∷ M) i b has = answer_later (Refused j why) M i b (answer_split M i b (⊎_elim (λ here. absurd (cc)) (λ there. there) has))
+answer_split (Cut j why ∷ M) i b has = answer_later (Cut j why) M i b (answer_split M i b (⊎_elim (λ here. absurd (cc)) (λ there. there) has))
+answer_split (Answer j d ∷ M) i b has = ⊎_elim (λ here. inr (inl here)) (λ there. answer_later (Answer j d) M i b (answer_split M i b there)) has
+
+-- the calls with a place, in order, are a run from the empty set to T
+pub record RunIs (at : ℕ → ℕ → Type 0) (M : List Mark) (T : Keys) : Type 0 where
+  pub list : List ℕ
+  pub in_order : IsInOrder at M list
+  pub runs : Runs M (members []) list T
+
+module _ (at : ℕ → ℕ → Type 0) where
+  -- the calls of later lives lie above those of earlier ones
+  abbrev pub AreApart : List Mark → Type 0
+  AreApart M = (i j p q : ℕ) → at i p → at j q → IsLifeBefore M i j → p < q
+
+  module _ (M : List Mark) (lawful : IsLawful M) (apart : AreApart M) where
+    past_below : (i j p q : ℕ) → IsMade (past_of M) i → IsMade (this_life M) j → at i p → at j q → p < q
+    past_below i j p q past here is is' = apart i j p q is is' (past_before M i j past here)
+
+    -- an answer is given in the life of its call
+    answer_past : (i p : ℕ) (b : Bool) → IsMade (past_of M) i → at i p → IsAnswered M i b → IsAnswered (past_of M) i b
+    answer_past i p b made is told = ⊎_elim
+        (λ past. past)
+        (λ here. absurd (let lt = past_below i i p p made (answered_life M i b lawful here) is is in omega (arith, lt)))
+        (answer_split M i b told)
+
+    answer_now : (i p : ℕ) (b : Bool) → IsMade (this_life M) i → at i p → IsAnswered M i b → IsAnswered (this_life M) i b
+    answer_now i p b made is told = ⊎_elim
+        (λ past. absurd (let lt = past_below i i p p (told_made (past_of M) i b (lawful_past M lawful) past) made is is in omega (arith, lt)))
+        (λ here. here)
+        (answer_split M i b told)
+
+    past_runs : (L : List ℕ) (S T : Keys) → ((i : ℕ) → IsListed i L → IsMade (past_of M) i × ((p : ℕ) × at i p)) → Runs (past_of M) S L T → Runs M S L T
+    past_runs [] S T made runs = runs
+    past_runs (i ∷ L) S T made (c, (actor, has), right, rest) =
+        let (past, (p, is)) = made i (inl refl) in
+        (c, (actor, past_mark M (Call i actor c) has), λ b told. right b (answer_past i p b past is told), past_runs L (after c S) T (λ j there. made j (inr there)) rest)
+
+    now_runs : (L : List ℕ) (S T : Keys) → ((i : ℕ) → IsListed i L → IsMade (this_life M) i × ((p : ℕ) × at i p)) → Runs (this_life M) S L T → Runs M S L T
+    now_runs [] S T made runs = runs
+    now_runs (i ∷ L) S T made (c, (actor, has), right, rest) =
+        let (here, (p, is)) = made i (inl refl) in
+        (c, (actor, life_mark M (Call i actor c) has), λ b told. right b (answer_now i p b here is told), now_runs L (after c S) T (λ j there. made j (inr there)) rest)
+
+    module _ (L R : List ℕ) (past : IsInOrder at (past_of M) L) (life : IsInOrder at (this_life M) R) where
+      join_to : (j : ℕ) → IsListed j (L ++ R) → IsMade M j × ((p : ℕ) × at j p)
+      join_to j is = ⊎_elim
+          (λ left. let (made, place) = (past.each j).0 left in (past_made_all M j made, place))
+          (λ right. let (made, place) = (life.each j).0 right in (life_made M j made, place))
+          (listed_append j L R is)
+
+      join_from : (j : ℕ) → IsMade M j × ((p : ℕ) × at j p) → IsListed j (L ++ R)
+      join_from j (made, place) = ⊎_elim
+          (λ before. listed_left j L R ((past.each j).1 (before, place)))
+          (λ here. listed_right j L R ((life.each j).1 (here, place)))
+          (made_split M j made)
+
+      join_order : IsInOrder at M (L ++ R)
+      join_order = record {
+        each = λ j. (join_to j, join_from j);
+        ascending = λ i j p q is here there. ⊎_elim
+            (λ left. past.ascending i j p q left here there)
+            (λ rest. ⊎_elim
+            (λ (left, right). past_below i j p q ((past.each i).0 left).0 ((life.each j).0 right).0 here there)
+            (λ right. life.ascending i j p q right here there)
+            rest)
+            (earlier_append i j L R is);
+      }
+
+    -- the past, and the life that goes on
+    run_of : (T : Keys) → OrderedChain at (lives (members []) M) T → RunIs at (past_of M) (this_start M) → RunIs at M T
+    run_of T chain past =
+        let parts : OrderedChain at (now M ∷ lives_before M) T = subst (λ ls. OrderedChain at ls T) (lives_parts M) chain in
+        let (R, life, fits, rest) = parts in record {
+          list = past.list ++ R;
+          in_order = join_order past.list R past.in_order life;
+          runs = runs_then M past.list R (members []) (this_start M) T
+              (past_runs past.list (members []) (this_start M) (λ i is. (past.in_order.each i).0 is) past.runs)
+              (now_runs R (this_start M) T (λ i is. (life.each i).0 is) fits.runs);
+        }
+
+  pub chain_before : (M : List Mark) (T : Keys) → OrderedChain at (lives (members []) M) T → OrderedChain at (lives_before M) (this_start M)
+  chain_before M T chain =
+      let parts : OrderedChain at (now M ∷ lives_before M) T = subst (λ ls. OrderedChain at ls T) (lives_parts M) chain in
+      parts.3
+
+  -- the past as one run
+  past_run : (M : List Mark) → IsLawful M → AreApart M → OrderedChain at (lives_before M) (this_start M) → RunIs at (past_of M) (this_start M)
+  past_run [] lawful apart chain = record {
+    list = [];
+    in_order = record { each = λ j. (λ is. absurd is, λ (made, place). absurd made.1.1); ascending = λ i j p q is here there. absurd is };
+    runs = λ k. refl;
+  }
+  past_run (Opened keys ∷ M) lawful apart chain =
+      let earlier = λ (i j p q : ℕ) (is : at i p) (is' : at j q) (before : IsLifeBefore M i j). apart i j p q is is' (inr before) in
+      run_of M lawful.1 earlier (members keys) chain (past_run M lawful.1 earlier (chain_before M (members keys) chain))
+  past_run (Stop ∷ M) lawful apart chain = past_run M lawful.1 (λ i j p q is is' before. apart i j p q is is' (inr before)) chain
+  past_run (Crash ∷ M) lawful apart chain = past_run M lawful.1 (λ i j p q is is' before. apart i j p q is is' (inr before)) chain
+  past_run (OpenFailed why ∷ M) lawful apart chain = past_run M lawful.1 (λ i j p q is is' before. apart i j p q is is' (inr before)) chain
+  past_run (Call k a c ∷ M) lawful apart chain = past_run M lawful.1 (λ i j p q is is' before. apart i j p q is is' (inr before)) chain
+  past_run (Answer k b ∷ M) lawful apart chain = past_run M lawful.1 (λ i j p q is is' before. apart i j p q is is' (inr before)) chain
+  past_run (Refused k why ∷ M) lawful apart chain = past_run M lawful.1 (λ i j p q is is' before. apart i j p q is is' (inr before)) chain
+  past_run (Cut k why ∷ M) lawful apart chain = past_run M lawful.1 (λ i j p q is is' before. apart i j p q is is' (inr before)) chain
+
+  -- a chain is one run of all its calls
+  pub chain_run : (M : List Mark) (T : Keys) → IsLawful M → AreApart M → OrderedChain at (lives (members []) M) T → RunIs at M T
+  chain_run M T lawful apart chain = run_of M lawful apart T chain (past_run M lawful apart (chain_before M T chain))

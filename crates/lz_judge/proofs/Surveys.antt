@@ -1,0 +1,2 @@
+pub mod SlotFinding
+pub mod SoundFile

@@ -1,0 +1,61 @@
+-- A survey without damage is one of a file that holds a set.
+use Rattle.std.proofs.Common.{◌≡◌, ◌↔◌, ℕ, ◌+◌, ◌*◌, ◌<◌, ◌≤◌, List, [], ◌∷◌, length, get_or, refl, ◌∙◌, ap, subst, arith, Ok, true}
+use Rattle.std.specs.List.{list_all}
+use Rattle.std.specs.Prelude.{All, IsTrue}
+use Rattle.std.proofs.lemmas.List.Elements.{All-nil, All-cons, All-head, All-tail}
+use Rattle.std.proofs.lemmas.Bool.{and_parts, and_from}
+use Rattle.lz_slot.specs.Limits.{most_slots}
+use Rattle.lz_slot.specs.Sets.{Keys}
+use Rattle.lz_slot.specs.Bytes.{Holds, format_of, header_read, header_body, open_byte, slot_at}
+use Rattle.lz_slot.proofs.Files.HeadBytes.{head_alone}
+use Rattle.lz_slot.proofs.Files.ExactBytes.{header_counts, header_is_of_its_count, header_reads_back}
+use Rattle.lz_judge.specs.declared.finding.Finding.{Finding}
+use Rattle.lz_judge.specs.Surveys.{AreFindings, found_keys, is_sound}
+use Rattle.lz_judge.proofs.Surveys.SlotFinding.{no_bad_key, no_key_twice, set_found, sound_where}
+
+-- a file that holds a set has no fault of the head
+pub held_head : (t : List ℕ) (N : ℕ) (S : Keys) → Holds t N S → header_read t (length t) ≡ Ok N
+held_head t N S holds =
+    head_alone t (length t) ∙ ap (λ (l : List ℕ). header_read l (length t)) holds.head ∙ ap (header_read (open_byte ∷ header_body (format_of t) N)) holds.size
+    ∙ (header_reads_back (format_of t) N holds.count.0 holds.count.1).0
+
+pub sound_holds : (t : List ℕ) (N : ℕ) (found : List Finding) → ((i : ℕ) → get_or t i 0 < 256) → header_read t (length t) ≡ Ok N → AreFindings (slot_at t) N found
+    → IsTrue (list_all is_sound found) ↔ ((n : ℕ) × (S : Keys) × Holds t n S)
+sound_holds t N found bytes head findings = (holds, sound)
+  where
+    range : (1 ≤ N) × (N ≤ most_slots) × (length t ≡ 16 + 16 * N)
+    range = header_counts t (length t) N head
+
+    pass : IsTrue (list_all is_sound found) → All (λ f. IsTrue (is_sound f)) found
+    pass all = passes found all
+      where
+        passes : (xs : List Finding) → list_all is_sound xs ≡ true → All (λ f. IsTrue (is_sound f)) xs
+        passes [] all = All-nil (λ f. IsTrue (is_sound f))
+        passes (x ∷ xs) all = let both = and_parts (is_sound x) (list_all is_sound xs) all in All-cons (λ f. IsTrue (is_sound f)) x xs both.0 (passes xs both.1)
+
+    every : All (λ f. IsTrue (is_sound f)) found → list_all is_sound found ≡ true
+    every = all_of found
+      where
+        all_of : (xs : List Finding) → All (λ f. IsTrue (is_sound f)) xs → list_all is_sound xs ≡ true
+        all_of [] each = refl
+        all_of (x ∷ xs) each = and_from (is_sound x) (list_all is_sound xs) (All-head (λ f. IsTrue (is_sound f)) x xs each) (all_of xs (All-tail (λ f. IsTrue (is_sound f)) x xs each))
+
+    holds : IsTrue (list_all is_sound found) → (n : ℕ) × (S : Keys) × Holds t n S
+    holds all = let sound = pass all in (
+      N,
+      found_keys found,
+      record {
+        count = (range.0, range.1);
+        size = range.2;
+        head = (header_is_of_its_count t (length t) N (omega (arith, range.2)) bytes head).3;
+        no_bad_key = no_bad_key (slot_at t) N found findings sound;
+        no_key_twice = no_key_twice (slot_at t) N found findings sound;
+        set = set_found (slot_at t) N found findings sound;
+      },
+    )
+
+    sound : (n : ℕ) × (S : Keys) × Holds t n S → IsTrue (list_all is_sound found)
+    sound (n, S, held) =
+        let same : n ≡ N = omega (arith, held.size, range.2) in
+        let held' = subst (λ (m : ℕ). Holds t m S) same held in
+        every (sound_where (slot_at t) N found findings held'.no_bad_key held'.no_key_twice)

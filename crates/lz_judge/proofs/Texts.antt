@@ -1,0 +1,4 @@
+pub mod LineWord
+pub mod TextLine
+pub mod MarkLine
+pub mod LineRows

@@ -1,0 +1,5 @@
+pub mod CheckedPlace
+pub mod ChainMove
+pub mod NodeLink
+pub mod NodeUnlink
+pub mod WordStore

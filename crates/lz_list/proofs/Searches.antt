@@ -1,0 +1,2 @@
+pub mod KeySearch
+pub mod ChainSearch

@@ -1,0 +1,223 @@
+-- After a lawful trace the table of words is sorted, and has the trace's members.
+use Rattle.std.proofs.Common.{◌≡◌, ◌⊎◌, ◌↔◌, inl, inr, ℕ, zero, suc, ◌<◌, ◌≤◌, ◌^◌, Bool, true, false, not, List, [], ◌∷◌, length, refl, sym, ap, ◌∙◌, subst, arith}
+use mathlib.Core.Bool.{false≢true}
+use Rattle.std.proofs.lemmas.Bool.{cases_eq, cases_Bool}
+use Rattle.std.proofs.lemmas.Bool.Decides.{nat_tests, eqb_tells}
+use Rattle.std.specs.Prelude.{◌==◌, if◌then◌else◌}
+use Rattle.lz_slot.specs.Limits.{most_slots}
+use Rattle.std.specs.Prelude.{slice_index}
+use Rattle.lz_list.specs.declared.place.Place.{Place}
+use Rattle.lz_list.specs.declared.place.Place.TheVariants.{Node}
+use Rattle.lz_list.specs.declared.word.Word.TheVariants.{Head, Link, Key}
+use Rattle.lz_list.specs.declared.publishing.Publishing.TheVariants.{Linked as linked, Marked as marked, Unlinked as unlinked, Settled as settled, KeyPrepared as key_prepared, LinkPrepared as link_prepared, Halted as halted}
+use Rattle.lz_list.specs.Words.{Words, get, is_marked_at, link_with, next_of, flags_of, next_at, place_number}
+use Rattle.lz_list.specs.Traces.{Trace, Chain, on, rank, Shows, has_key, IsWithin, Lawful, chain, bucket_of, next_link, node_next, key_word, is_marked, member, flags_after, word_after, words_after, table}
+use Rattle.lz_list.specs.Lists.{next_in, home, AreSlots, ShowsChain, IsSorted, IsMember, IsMemberIn, IsNodeIn, IsTable, IsOfBucket, IsBefore, MayLinkAt, MayUnlinkAt}
+use Rattle.lz_list.specs.Members.{changes}
+use Rattle.lz_list.proofs.Chains.PlaceRank.{adjacent, adjacent_next, shows_frame, shows_keys, on_start}
+use Rattle.lz_list.proofs.Chains.TraceChain.{words_show_chain}
+use Rattle.lz_list.proofs.Traces.NodeBits.{node}
+use Rattle.lz_list.proofs.Traces.Absence.{unlinked_is_settled}
+use Rattle.lz_list.proofs.Tables.WordTable.{table_at, length-table}
+use Rattle.lz_list.proofs.Tables.PackedLink.{next_of_link, mark_of_link}
+use Rattle.lz_list.proofs.Chains.SortedChain.{slot_on, slots_insert, slots_without, bucket_below, node_on, node_home, next_of_place}
+
+module _ (buckets slots b : ℕ) where
+  pub chain_slots : (P : Trace) → Lawful buckets slots P → AreSlots slots (chain buckets b P)
+  chain_slots [] law = tt
+  chain_slots (linked k s p ∷ P) law = elim (eqb_tells (bucket_of buckets k) b) [
+    | inl t ↦ rw t.0 (slots_insert slots k s (chain buckets b P) law.0.in_range (chain_slots P law.1))
+    | inr f ↦ rw f.0 (chain_slots P law.1)
+  ]
+  chain_slots (unlinked k s p ∷ P) law = elim (eqb_tells (bucket_of buckets k) b) [
+    | inl t ↦ rw t.0 (slots_without slots k (chain buckets b P) (chain_slots P law.1))
+    | inr f ↦ rw f.0 (chain_slots P law.1)
+  ]
+  chain_slots (marked k s p ∷ P) law = chain_slots P law.1
+  chain_slots (settled s r ∷ P) law = chain_slots P law.1
+  chain_slots (key_prepared s v ∷ P) law = chain_slots P law.1
+  chain_slots (link_prepared s v ∷ P) law = chain_slots P law.1
+  chain_slots (halted ∷ P) law = chain_slots P law.1
+
+-- a key of a chain has a node there
+pub node_of_key : (next keys : ℕ → ℕ) (k x : ℕ) (c : Chain) → Shows next keys x c → has_key k c ≡ true → (s : ℕ) × (on x c (suc s) ≡ true) × (keys s ≡ k)
+node_of_key next keys k x [] h has = absurd (false≢true has)
+node_of_key next keys k x (n ∷ c) h has = elim (cases_eq n.0 k) [
+  | inl same ↦ (n.1, grind (arith, nat_tests, on_start (suc n.1) c), h.1 ∙ same)
+  | inr other ↦
+      let rest = node_of_key next keys k (suc n.1) c h.3 (grind (arith, nat_tests)) in
+      (rest.0, grind (arith, nat_tests, rest.1), rest.2)
+]
+
+-- words whose heads, links and keys are those after a trace
+module _ (slots buckets : ℕ) (P : Trace) (few : slots ≤ most_slots) (law : Lawful buckets slots P) (words : Words)
+    (heads : words.heads ≡ table buckets (λ b. word_after buckets P (Head b)))
+    (links : words.links ≡ table slots (λ s. word_after buckets P (Link s)))
+    (key_words : words.keys ≡ table slots (λ s. word_after buckets P (Key s))) where
+  abbrev keys : ℕ → ℕ
+  keys t = key_word t P
+
+  heads_are : length words.heads ≡ buckets
+  heads_are = ap length heads ∙ length-table buckets (λ b. word_after buckets P (Head b))
+
+  links_are : length words.links ≡ slots
+  links_are = ap length links ∙ length-table slots (λ s. word_after buckets P (Link s))
+
+  keys_are : length words.keys ≡ slots
+  keys_are = ap length key_words ∙ length-table slots (λ s. word_after buckets P (Key s))
+
+  head_is : (b : ℕ) → b < buckets → get words (Head b) ≡ word_after buckets P (Head b)
+  head_is b lt = ap (λ (xs : List ℕ). slice_index xs b) heads ∙ table_at buckets (λ c. word_after buckets P (Head c)) b 0 lt
+
+  link_is : (s : ℕ) → s < slots → get words (Link s) ≡ link_with (node_next buckets s P) (flags_after s P)
+  link_is s lt = ap (λ (xs : List ℕ). slice_index xs s) links ∙ table_at slots (λ t. word_after buckets P (Link t)) s 0 lt
+
+  key_is : (s : ℕ) → s < slots → get words (Key s) ≡ key_word s P
+  key_is s lt = ap (λ (xs : List ℕ). slice_index xs s) key_words ∙ table_at slots (λ t. word_after buckets P (Key t)) s 0 lt
+
+  pub table_after : 0 < buckets → IsTable words
+  table_after some = record { buckets = omega (arith, heads_are); slots = omega (arith, links_are); keys = keys_are ∙ sym links_are }
+
+  module _ (b : ℕ) where
+    -- what stands on the chain is a slot, and leads to one or to the end
+    slot_there : (s : ℕ) → on 0 (chain buckets b P) (suc s) ≡ true → s < slots
+    slot_there s there = slot_on slots 0 (chain buckets b P) (chain_slots buckets slots b P law) s there (λ e. grind arith)
+
+    small_next : (y : ℕ) → on 0 (chain buckets b P) y ≡ true → next_link buckets b P y < 2 ^ 32
+    small_next y there = small (next_link buckets b P y) refl
+      where
+        small : (n : ℕ) → n ≡ next_link buckets b P y → next_link buckets b P y < 2 ^ 32
+        small zero is = omega arith
+        small (suc s) is =
+            let adj = adjacent (next_link buckets b P) keys 0 (chain buckets b P) (words_show_chain buckets slots P law b).shows y there in
+            let on_it = adjacent_next 0 (chain buckets b P) y (next_link buckets b P y) adj (λ e. omega arith) in
+            let lt = slot_there s (ap (on 0 (chain buckets b P)) is ∙ on_it) in
+            omega arith
+
+    next_is : b < buckets → (y : ℕ) → on 0 (chain buckets b P) y ≡ true → next_in words b y ≡ next_link buckets b P y
+    next_is lt zero there = let e = small_next 0 there in ap next_of (head_is b lt) ∙ omega arith
+    next_is lt (suc t) there = ap next_of (link_is t (slot_there t there)) ∙ next_of_link (node_next buckets t P) (small_next (suc t) there) (flags_after t P)
+
+    mark_is : (t : ℕ) → on 0 (chain buckets b P) (suc t) ≡ true → is_marked_at words (Node t) ≡ is_marked t P
+    mark_is t there = ap (λ (v : ℕ). (flags_of v).mark) (link_is t (slot_there t there)) ∙ mark_of_link (node_next buckets t P) (small_next (suc t) there) (flags_after t P)
+
+    rank_is : (y : ℕ) → on 0 (chain buckets b P) y ≡ true → rank (λ t. get words (Key t)) y ≡ rank keys y
+    rank_is zero there = refl
+    rank_is (suc t) there = ap suc (key_is t (slot_there t there))
+
+    pub shown_after : b < buckets → ShowsChain words b (chain buckets b P)
+    shown_after lt = record {
+      shows = shows_keys (next_in words b) (next_in words b) keys (λ t. get words (Key t)) 0 (chain buckets b P)
+          (shows_frame (next_link buckets b P) (next_in words b) keys 0 (chain buckets b P) (words_show_chain buckets slots P law b).shows (next_is lt)) rank_is;
+      within = subst (λ (n : ℕ). IsWithin n b (chain buckets b P)) (sym heads_are) (words_show_chain buckets slots P law b).within;
+      in_range = subst (λ (n : ℕ). AreSlots n (chain buckets b P)) (sym links_are) (chain_slots buckets slots b P law);
+    }
+
+  pub sorted_after : IsSorted words
+  sorted_after b lt = (chain buckets b P, shown_after b (omega (arith, heads_are)))
+
+  module _ (some : 0 < buckets) (k : ℕ) where
+    abbrev bucket : ℕ
+    bucket = bucket_of buckets k
+
+    in_table : bucket < buckets
+    in_table = omega (arith, bucket_below words k (table_after some), home_is, heads_are)
+      where
+        home_is : home words k ≡ bucket
+        home_is = ap (λ (n : ℕ). bucket_of n k) heads_are
+
+    at_home : home words k ≡ bucket
+    at_home = ap (λ (n : ℕ). bucket_of n k) heads_are
+
+    is_then : IsMember words k → member k P ≡ true
+    is_then is =
+        let there = node_on words bucket k is.0 (chain buckets bucket P) (shown_after bucket in_table) (subst (λ (b : ℕ). IsNodeIn words b k is.0) at_home is.1) in
+        let tells = node buckets slots k is.0 P law there (sym (key_is is.0 (slot_there bucket is.0 there)) ∙ is.1.key) in
+        tells.is_member ∙ ap not (sym (mark_is bucket is.0 there) ∙ is.2)
+
+    then_is : member k P ≡ true → IsMember words k
+    then_is is = elim (cases_Bool (has_key k (chain buckets bucket P))) [
+      | inl has ↦
+          let found = node_of_key (next_link buckets bucket P) keys k 0 (chain buckets bucket P) (words_show_chain buckets slots P law bucket).shows has in
+          let tells = node buckets slots k found.0 P law found.1 found.2 in
+          let bare : is_marked found.0 P ≡ false = grind (arith, nat_tests, tells.is_member, is) in (
+            found.0,
+            subst (λ (b : ℕ). IsNodeIn words b k found.0) (sym at_home) (record { chain = chain buckets bucket P; shown = shown_after bucket in_table; stands = found.1; key = key_is found.0 (slot_there bucket found.0 found.1) ∙ found.2 }),
+            mark_is bucket found.0 found.1 ∙ bare,
+          )
+      | inr none ↦ absurd (false≢true (sym (unlinked_is_settled buckets k slots P law none).0 ∙ is))
+    ]
+
+    pub members_after : IsMember words k ↔ (member k P ≡ true)
+    members_after = (is_then, then_is)
+
+    -- a place of the key's bucket from there on to the key
+    module _ (pred : Place) (bucket_is : IsOfBucket bucket pred) (there : on 0 (chain buckets bucket P) (place_number pred) ≡ true) (low : rank keys (place_number pred) ≤ k) where
+      pub before_after : IsBefore words pred k
+      before_after = record {
+        bucket = subst (λ (b : ℕ). IsOfBucket b pred) (sym at_home) bucket_is;
+        chain = chain buckets bucket P;
+        shown = subst (λ (b : ℕ). ShowsChain words b (chain buckets bucket P)) (sym at_home) (shown_after bucket in_table);
+        stands = there;
+        below = omega (arith, rank_is bucket (place_number pred) there);
+      }
+
+      leads_to : next_at words pred ≡ next_link buckets bucket P (place_number pred)
+      leads_to = next_of_place words bucket pred bucket_is ∙ next_is bucket in_table (place_number pred) there
+
+      module _ (n : ℕ) (next : next_link buckets bucket P (place_number pred) ≡ n) where
+        pub above_after : (m : ℕ) → m ≡ n → (n ≡ 0) ⊎ (suc k < rank keys n) → (next_at words pred ≡ 0) ⊎ (suc k < rank (λ t. get words (Key t)) (next_at words pred))
+        above_after m is (inl none) = inl (leads_to ∙ next ∙ none)
+        above_after zero is (inr high) = inl (leads_to ∙ next ∙ sym is)
+        above_after (suc t) is (inr high) =
+            let adj = adjacent (next_link buckets bucket P) keys 0 (chain buckets bucket P) (words_show_chain buckets slots P law bucket).shows (place_number pred) there in
+            let on_it : on 0 (chain buckets bucket P) n ≡ true = ap (on 0 (chain buckets bucket P)) (sym next) ∙ adjacent_next 0 (chain buckets bucket P) (place_number pred) (next_link buckets bucket P (place_number pred)) adj (λ e. omega arith) in
+            inr (subst (λ (q : ℕ). suc k < rank (λ r. get words (Key r)) q) (sym (leads_to ∙ next)) (omega (arith, rank_is bucket n on_it)))
+
+        -- what the conditions of linking and unlinking come to after a trace
+        pub may_link_after : (s : ℕ) → s < slots → key_word s P ≡ k → node_next buckets s P ≡ n → (n ≡ 0) ⊎ (suc k < rank keys n) → MayLinkAt words pred s
+        may_link_after s lt key link high =
+            let key_here : k ≡ get words (Key s) = sym key ∙ sym (key_is s lt) in
+            let small : node_next buckets s P < 2 ^ 32 = omega (arith, small_next bucket (place_number pred) there) in
+            record {
+              slot = omega (arith, links_are);
+              before = subst (IsBefore words pred) key_here before_after;
+              above = subst (λ (j : ℕ). (next_at words pred ≡ 0) ⊎ (suc j < rank (λ t. get words (Key t)) (next_at words pred))) key_here (above_after n refl high);
+              next = ap next_of (link_is s lt) ∙ next_of_link (node_next buckets s P) small (flags_after s P) ∙ link ∙ sym next ∙ sym leads_to;
+            }
+
+      pub may_unlink_after : (s : ℕ) → s < slots → key_word s P ≡ k → next_link buckets bucket P (place_number pred) ≡ suc s → MayUnlinkAt words pred s
+      may_unlink_after s lt key next = record {
+        before = subst (IsBefore words pred) (sym key ∙ sym (key_is s lt)) before_after;
+        next = leads_to ∙ next;
+      }
+
+-- the members hang on the keys linked and marked alone
+member_of : ℕ → List (ℕ × Bool) → Bool
+member_of k [] = false
+member_of k (c ∷ cs) = if c.0 == k then c.1 else member_of k cs
+
+member_is : (k : ℕ) (P : Trace) → member k P ≡ member_of k (changes P)
+unfolding member_of
+member_is k [] = refl
+member_is k (linked j s p ∷ P) = ap (λ (m : Bool). if j == k then true else m) (member_is k P)
+member_is k (marked j s p ∷ P) = ap (λ (m : Bool). if j == k then false else m) (member_is k P)
+member_is k (unlinked j s p ∷ P) = member_is k P
+member_is k (settled s r ∷ P) = member_is k P
+member_is k (key_prepared s v ∷ P) = member_is k P
+member_is k (link_prepared s v ∷ P) = member_is k P
+member_is k (halted ∷ P) = member_is k P
+
+pub one_list : (slots buckets passes : ℕ) (P Q : Trace) → slots ≤ most_slots → 0 < buckets → Lawful buckets slots P → Lawful 1 slots Q → changes P ≡ changes Q
+    → (k : ℕ) → IsMember (words_after slots buckets passes P) k ↔ IsMember (words_after slots 1 passes Q) k
+one_list slots buckets passes P Q few some law law1 same k =
+    let many = members_after slots buckets P few law (words_after slots buckets passes P) refl refl refl some k in
+    let one = members_after slots 1 Q few law1 (words_after slots 1 passes Q) refl refl refl (omega arith) k in
+    let agree : member k P ≡ member k Q = member_is k P ∙ ap (member_of k) same ∙ sym (member_is k Q) in
+    ((λ is. one.1 (sym agree ∙ many.0 is)), (λ is. many.1 (agree ∙ one.0 is)))
+
+pub union : (w : Words) → IsTable w → (k : ℕ) → IsMember w k ↔ (b : ℕ) × (b < length w.heads) × IsMemberIn w b k
+union w table k = (
+  (λ is. (home w k, bucket_below w k table, is)),
+  (λ is. subst (λ (b : ℕ). IsMemberIn w b k) (sym (node_home w is.0 k is.2.0 is.2.1)) is.2),
+)

@@ -1,0 +1,3 @@
+pub mod ExactBytes
+pub mod HeldSets
+pub mod HeadBytes
