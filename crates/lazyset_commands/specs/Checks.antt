@@ -3,6 +3,7 @@ use Rattle.std.specs.Prelude.{◌≡◌, ℕ, Option, List, [], ◌∷◌, ◌++
 use Rattle.std.specs.List.{flat_map}
 use Rattle.std.specs.Io.KnownBytes.{Appends}
 use Rattle.lz_slot.specs.Bytes.{header_fault_number}
+use Rattle.lz_slot.specs.Texts.{key_text}
 use Rattle.lz_judge.specs.Surveys.{IsSurveyOf, is_good}
 use Rattle.lz_judge.specs.declared.finding.Finding.{Finding}
 use Rattle.lz_judge.specs.declared.finding.Finding.TheVariants.{Key, BadKey, Twice}
@@ -14,7 +15,7 @@ use Rattle.lazyset_commands.specs.declared.status.Status.TheVariants.{Done, Refu
 
 -- the line of a finding
 abbrev pub finding_text : Finding → List ℕ
-finding_text (Key i k) = codes "slot " ++ decimal i ++ codes " key " ++ decimal k ++ 10 ∷ []
+finding_text (Key i k) = codes "slot " ++ decimal i ++ codes " key " ++ key_text k ++ 10 ∷ []
 finding_text (BadKey i) = codes "slot " ++ decimal i ++ codes " badkey" ++ 10 ∷ []
 finding_text (Twice i first) = codes "slot " ++ decimal i ++ codes " twice " ++ decimal first ++ 10 ∷ []
 

@@ -108,7 +108,6 @@ fn add_key(text: &mut String, slot: Slot, key: Key) -> Result<(), AllocError>
     ensures { OnOk result (string_bytes text.new ≡ string_bytes text.old ++ finding_text (Finding.Key slot key)) }
 {
     let index = slot.index();
-    let key = key.rank();
     write!(text, "slot {index} key {key}\n")
 }
 
