@@ -1,7 +1,7 @@
 -- What a check of a file against another tells.
-use Rattle.std.specs.Prelude.{◌≡◌, ◌≢◌, ◌⊎◌, ℕ, Option, List, [], ◌∷◌, ◌++◌, codes, Result, Ok, Err}
+use Rattle.std.specs.Prelude.{◌≡◌, ◌≢◌, ◌⊎◌, ℕ, Option, List, [], ◌∷◌, ◌++◌, codes, decimal, Result, Ok, Err}
 use Rattle.std.specs.Io.KnownBytes.{Appends}
-use Rattle.lz_judge.specs.Renewals.{HoldOneSet, IsRenewFlaw}
+use Rattle.lz_judge.specs.Renewals.{IsVerdictOn}
 use Rattle.lz_judge.specs.declared.renewing.RenewFlaw.{RenewFlaw}
 use Rattle.lz_judge.specs.declared.renewing.RenewFlaw.TheVariants.{NotHeld, Missing, Extra}
 use Rattle.lazyset_commands.specs.Checks.{IsChecked}
@@ -9,15 +9,14 @@ use Rattle.lazyset_commands.specs.Judgements.{numbers_text}
 use Rattle.lazyset_commands.specs.declared.status.Status.{Status}
 use Rattle.lazyset_commands.specs.declared.status.Status.TheVariants.{Done, Damaged}
 
--- the verdict on two files is true
-abbrev pub IsVerdictOn : List ℕ → List ℕ → Result (Unit {0}) RenewFlaw → Type 0
-IsVerdictOn old new (Ok same) = HoldOneSet old new
-IsVerdictOn old new (Err flaw) = IsRenewFlaw old new flaw
+-- the line of a flaw that names no slot
+abbrev pub alone_text : ℕ → List ℕ
+alone_text number = codes "flaw " ++ decimal number ++ 10 ∷ []
 
 -- the line of a verdict: each flaw has its number, and its slot if it names one
 abbrev pub verdict_text : Result (Unit {0}) RenewFlaw → List ℕ
 verdict_text (Ok same) = codes "same" ++ 10 ∷ []
-verdict_text (Err NotHeld) = codes "flaw 8" ++ 10 ∷ []
+verdict_text (Err NotHeld) = alone_text 8
 verdict_text (Err (Missing i)) = numbers_text 9 i
 verdict_text (Err (Extra j)) = numbers_text 10 j
 

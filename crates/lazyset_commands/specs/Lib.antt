@@ -7,3 +7,4 @@ pub mod Checks
 pub mod Comparisons
 pub mod Judgements
 pub mod Rehearsals
+pub mod Renewals

@@ -2,7 +2,7 @@
 ghost use Rattle.std.specs.Prelude.{◌≡◌, ◌⊎◌, Err, OnOk};
 ghost use Rattle.std.specs.Io.KnownBytes.{Appends};
 ghost use Rattle.lz_judge.specs.Renewals.{HoldOneSet};
-ghost use Rattle.lazyset_commands.specs.Comparisons.{IsCheckedOf, IsCompared, verdict_status, verdict_text};
+ghost use Rattle.lazyset_commands.specs.Comparisons.{IsCheckedOf, IsCompared, alone_text, verdict_status, verdict_text};
 ghost use Rattle.lazyset_commands.specs.Judgements.{numbers_text};
 
 use crate::checking::check_on;
@@ -65,9 +65,15 @@ fn write_flaw<W: Write + Drop>(writer: &mut W, flaw: RenewFlaw) -> io::Result<()
     let numbered = flaw;
     let number = numbered.number();
     match flaw {
-        RenewFlaw::NotHeld => writeln!(writer, "flaw {number}"),
+        RenewFlaw::NotHeld => write_alone(writer, number),
         RenewFlaw::Missing(slot) | RenewFlaw::Extra(slot) => write_slot(writer, number, slot),
     }
+}
+
+fn write_alone<W: Write + Drop>(writer: &mut W, number: u8) -> io::Result<()>
+    ensures { OnOk result (Appends (W.contents writer.old) (W.contents writer.new) (alone_text number)) }
+{
+    writeln!(writer, "flaw {number}")
 }
 
 fn write_slot<W: Write + Drop>(writer: &mut W, number: u8, slot: Slot) -> io::Result<()>

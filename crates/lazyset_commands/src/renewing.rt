@@ -1,16 +1,15 @@
 //! The command that renews a file into another capacity.
-ghost use Rattle.std.specs.Prelude.{◌≡◌, ◌⊎◌, ◌≤◌, ℕ, List, Result as Answer, Ok, Err, IsTrue, OnOk};
+ghost use Rattle.std.specs.Prelude.{◌≡◌, ◌⊎◌, ◌≤◌, ℕ, List, Result as Answer, Ok, Err, IfErr, IsTrue, OnOk};
 ghost use Rattle.std.specs.Io.KnownBytes.{Appends};
 ghost use Rattle.lz_slot.specs.Bytes.{Holds};
 ghost use Rattle.lz_slot.specs.Sets.{Keys};
 ghost use Rattle.lz_disk.specs.Images.{IsImage};
 ghost use Rattle.lz_disk.specs.Devices.{LeavesOnly};
-ghost use Rattle.lz_vault.specs.Makes.{IsUnmadeOrHolds, MayBeMade, WritesNothing};
-ghost use Rattle.lz_vault.specs.Renewals.{OnlySyncs};
+ghost use Rattle.lz_vault.specs.Makes.{IsBadCount, IsUnmadeOrHolds, MayBeMade, WritesNothing};
+ghost use Rattle.lz_vault.specs.Renewals.{IsToldFirst, OnlySyncs};
 ghost use Rattle.lazyset_commands.specs.Ends.{make_status, open_status};
-ghost use Rattle.lazyset_commands.specs.Renewals.{IsRenewal, old_text, renewal_status, renewal_text};
+ghost use Rattle.lazyset_commands.specs.Renewals.{IsRenewal, new_number_text, old_number_text, old_text, renewal_status, renewal_text};
 
-use crate::running::status_of;
 use crate::status::Status;
 use lz_disk::Disk;
 use lz_slot::Slot;
@@ -31,7 +30,9 @@ pub fn renew_on<W: Write + Drop, O: Disk, N: Disk>(
     slots: u64,
 ) -> Status
     ensures told { (answer : Answer ℕ RenewFault) × IsRenewal (O.device old.old) (O.device old.new) (N.device new.old) (N.device new.new) slots answer
+        × IfErr answer (λ fault. IsToldFirst fault → new.new ≡ new.old)
         × ((result ≡ Status.Failed) ⊎ ((result ≡ renewal_status answer) × Appends (W.contents writer.old) (W.contents writer.new) (renewal_text answer))) }
+    ensures uncalled { IsBadCount slots → (old.new ≡ old.old) × (new.new ≡ new.old) }
     ensures reads { OnlySyncs (O.device old.old) (O.device old.new) }
     ensures safe { IsTrue (N.device new.old).honest → (MayBeMade (N.device new.old).medium.seen slots → ⊥) → WritesNothing (N.device new.old) (N.device new.new) }
 
@@ -44,21 +45,106 @@ pub fn renew_on<W: Write + Drop, O: Disk, N: Disk>(
     ensures honest { (N.device new.new).honest ≡ (N.device new.old).honest }
 {
     let answer = renew(alloc, old, new, slots);
-    tell_answer(writer, answer)
+    tell_answer(writer, &answer)
 }
 
 // Says how a renewal went.
-fn tell_answer<W: Write + Drop>(writer: &mut W, answer: Result<u64, RenewFault>) -> Status
-    ensures { (result ≡ Status.Failed) ⊎ ((result ≡ renewal_status answer) × Appends (W.contents writer.old) (W.contents writer.new) (renewal_text answer)) }
+fn tell_answer<W: Write + Drop>(writer: &mut W, answer: &Result<u64, RenewFault>) -> Status
+    ensures { (result ≡ Status.Failed) ⊎ ((result ≡ renewal_status answer.now) × Appends (W.contents writer.old) (W.contents writer.new) (renewal_text answer.now)) }
+{
+    match write_answer(writer, answer) {
+        Ok(()) => status_of(answer),
+        Err(_) => Status::Failed,
+    }
+}
+
+// The status of a renewal whose line was written.
+fn status_of(answer: &Result<u64, RenewFault>) -> Status
+    ensures { result ≡ renewal_status answer.now }
 {
     match answer {
-        Ok(members) => end_with(write_renewed(writer, members), Status::Done),
-        Err(RenewFault::Old(fault)) => tell_old(writer, fault),
-        Err(RenewFault::New(fault)) => {
-            end_with(write_new(writer, fault), status_of_making(fault))
-        }
-        Err(RenewFault::TooSmall(members, slots)) => {
-            end_with(write_too_small(writer, members, slots), Status::Refused)
-        }
+        Ok(_) => Status::Done,
+        Err(RenewFault::Old(fault)) => status_of_old(*fault),
+        Err(RenewFault::New(fault)) => status_of_new(*fault),
+        Err(RenewFault::TooSmall(_, _)) => Status::Refused,
     }
+}
+
+fn status_of_old(fault: OpenFault) -> Status
+    ensures { result ≡ open_status fault }
+{
+    match fault {
+        OpenFault::Device | OpenFault::Memory => Status::Failed,
+        _ => Status::Refused,
+    }
+}
+
+fn status_of_new(fault: MakeFault) -> Status
+    ensures { result ≡ make_status fault }
+{
+    match fault {
+        MakeFault::Device => Status::Failed,
+        _ => Status::Refused,
+    }
+}
+
+fn write_answer<W: Write + Drop>(writer: &mut W, answer: &Result<u64, RenewFault>) -> io::Result<()>
+    ensures { OnOk result (Appends (W.contents writer.old) (W.contents writer.new) (renewal_text answer.now)) }
+{
+    match answer {
+        Ok(members) => write_renewed(writer, *members),
+        Err(RenewFault::Old(fault)) => write_old(writer, *fault),
+        Err(RenewFault::New(fault)) => write_new(writer, fault.number()),
+        Err(RenewFault::TooSmall(members, slots)) => write_too_small(writer, *members, *slots),
+    }
+}
+
+fn write_renewed<W: Write + Drop>(writer: &mut W, members: u64) -> io::Result<()>
+    ensures { OnOk result (Appends (W.contents writer.old) (W.contents writer.new) (renewal_text (Ok members))) }
+{
+    writeln!(writer, "renewed {members}")
+}
+
+fn write_old<W: Write + Drop>(writer: &mut W, fault: OpenFault) -> io::Result<()>
+    ensures { OnOk result (Appends (W.contents writer.old) (W.contents writer.new) (old_text fault)) }
+{
+    let numbered = fault;
+    match fault {
+        OpenFault::BadKey(slot) => write_bad_key(writer, slot),
+        OpenFault::Twice(first, second) => write_twice(writer, first, second),
+        _ => write_old_number(writer, numbered.number()),
+    }
+}
+
+fn write_bad_key<W: Write + Drop>(writer: &mut W, slot: Slot) -> io::Result<()>
+    ensures { OnOk result (Appends (W.contents writer.old) (W.contents writer.new) (old_text (OpenFault.BadKey slot))) }
+{
+    let index = slot.index();
+    writeln!(writer, "refused old 5 {index}")
+}
+
+fn write_twice<W: Write + Drop>(writer: &mut W, first: Slot, second: Slot) -> io::Result<()>
+    ensures { OnOk result (Appends (W.contents writer.old) (W.contents writer.new) (old_text (OpenFault.Twice first second))) }
+{
+    let low = first.index();
+    let high = second.index();
+    writeln!(writer, "refused old 6 {low} {high}")
+}
+
+fn write_old_number<W: Write + Drop>(writer: &mut W, number: u8) -> io::Result<()>
+    ensures { OnOk result (Appends (W.contents writer.old) (W.contents writer.new) (old_number_text number)) }
+{
+    writeln!(writer, "refused old {number}")
+}
+
+fn write_new<W: Write + Drop>(writer: &mut W, number: u8) -> io::Result<()>
+    ensures { OnOk result (Appends (W.contents writer.old) (W.contents writer.new) (new_number_text number)) }
+{
+    writeln!(writer, "refused new {number}")
+}
+
+fn write_too_small<W: Write + Drop>(writer: &mut W, members: u64, slots: u64) -> io::Result<()>
+    ensures { OnOk result (Appends (W.contents writer.old) (W.contents writer.new) (renewal_text (Err (RenewFault.TooSmall members slots)))) }
+{
+    writeln!(writer, "refused 9 {members} {slots}")
 }
