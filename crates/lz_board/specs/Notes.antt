@@ -144,7 +144,7 @@ abbrev pub pin_after : ℕ → List Note → ℕ
 pin_after q [] = 0
 pin_after q (n ∷ ns) = pin_after_what q n.by n.what (pin_after q ns)
 
--- the trace at the last change of pass q's pin word, as the notes have it
+-- the trace before the last change of pass q's pin word, as the notes have it
 abbrev pub turned_at : ℕ → Trace → List Note → Trace
 turned_at q opened [] = opened
-turned_at q opened (n ∷ ns) = if pin_after q (n ∷ ns) == pin_after q ns then turned_at q opened ns else trace_of opened (n ∷ ns)
+turned_at q opened (n ∷ ns) = if pin_after q (n ∷ ns) == pin_after q ns then turned_at q opened ns else trace_of opened ns

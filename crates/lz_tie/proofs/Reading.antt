@@ -1,3 +1,4 @@
 pub mod TraceNotes
 pub mod CallPlaces
 pub mod PinWords
+pub mod TurnedTrace

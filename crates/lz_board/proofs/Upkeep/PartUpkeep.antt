@@ -160,11 +160,12 @@ module _ (z : Sizes) (opened : Trace) (ns : List Note) where
 
     -- a step that keeps the pin word keeps where it was changed last
     turned_noted : (q : ℕ) → pin_after q now ≡ pin_after q (splice opened h.number h.loads ns) → turned_at q opened now ≡ turned_at q opened ns
-    turned_noted q same = ap (λ b. if b then turned_at q opened (splice opened h.number h.loads ns) else t') (eq-eqb (pin_after q now) (pin_after q (splice opened h.number h.loads ns)) same) ∙ turned_splice opened q h.number h.loads ns
+    turned_noted q same = ap (λ b. if b then turned_at q opened (splice opened h.number h.loads ns) else trace_of opened (splice opened h.number h.loads ns)) (eq-eqb (pin_after q now) (pin_after q (splice opened h.number h.loads ns)) same) ∙ turned_splice opened q h.number h.loads ns
 
     -- one that counts it up is the last change
-    turned_moved : pin_after_what h.number h.number n.what h.pin ≡ suc h.pin → turned_at h.number opened now ≡ t'
-    turned_moved moves = ap (λ b. if b then turned_at h.number opened (splice opened h.number h.loads ns) else t') (ne_eqb (pin_after h.number now) (pin_after h.number (splice opened h.number h.loads ns)) (λ same. let now_is = pin_now (suc h.pin) moves in let was_is = pin_noted in absurd (omega (arith, same, now_is, was_is))))
+    turned_moved : MovesPin h n → turned_at h.number opened now ≡ t'
+    turned_moved moves = ap (λ b. if b then turned_at h.number opened (splice opened h.number h.loads ns) else trace_of opened (splice opened h.number h.loads ns)) (ne_eqb (pin_after h.number now) (pin_after h.number (splice opened h.number h.loads ns)) (λ same. let now_is = pin_now (suc h.pin) moves.0 in let was_is = pin_noted in absurd (omega (arith, same, now_is, was_is))))
+        ∙ ap (λ x. listed x ++ trace_of opened (splice opened h.number h.loads ns)) (sym moves.2)
 
     pub knows_noted : KeepsPin h n → Knows z opened now (noted_part opened ns n h)
     knows_noted keeps = record {
@@ -197,7 +198,7 @@ module _ (z : Sizes) (opened : Trace) (ns : List Note) where
       began = subst (λ l. Extends l opened) (sym trace_noted) (extends_more (listed n.published) opened t (extends_trans opened h.begun t k.began k.from));
       from = extends_refl t';
       kept = λ inside. quiet_new z.buckets t' t' (le_refl (length t'));
-      turned = λ inside calling. sym (turned_moved moves.0);
+      turned = λ inside calling. sym (turned_moved moves);
     }
 
     pub knows_other : (g : Part) → h.number ≢ g.number → Knows z opened ns g → Knows z opened now g

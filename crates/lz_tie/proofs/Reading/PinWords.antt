@@ -93,7 +93,7 @@ fault_pin (SeePin p v) pin = refl
 fault_pin Answer pin = refl
 fault_pin Halt pin = refl
 
-still_pin : (e : Event) (o : Outcome) (pin : ℕ) → is_pinning e ≡ false → pin_after_played e o pin ≡ pin
+pub still_pin : (e : Event) (o : Outcome) (pin : ℕ) → is_pinning e ≡ false → pin_after_played e o pin ≡ pin
 still_pin (Invoke c) o pin not_one = refl
 still_pin Pin o pin not_one = absurd (false≢true (sym not_one))
 still_pin (Hop w) o pin not_one = refl
@@ -225,14 +225,14 @@ module _ (start : Start) (starts : IsStart start) where
   first_pins (suc n) (suc (suc i)) = first_pins n (suc i)
 
   -- looks of one pass
-  record Looked (k r : ℕ) (service : Service) (w : State) : Type 0 where
-    after : Service
-    disk : Medium
-    at : w ≡ Up after disk
-    own : pin_of after.yard r ≡ pin_of service.yard r + k
-    others : (q : ℕ) → q ≢ r → pin_of after.yard q ≡ pin_of service.yard q
+  pub record Looked (k r : ℕ) (service : Service) (w : State) : Type 0 where
+    pub after : Service
+    pub disk : Medium
+    pub at : w ≡ Up after disk
+    pub own : pin_of after.yard r ≡ pin_of service.yard r + k
+    pub others : (q : ℕ) → q ≢ r → pin_of after.yard q ≡ pin_of service.yard q
 
-  looks_pins : (k r : ℕ) (before : List Transition) (service : Service) (disk : Medium) → IsRun p (replicate k (Looks r) ++ before) → (run p before).state ≡ Up service disk → Looked k r service (run p (replicate k (Looks r) ++ before)).state
+  pub looks_pins : (k r : ℕ) (before : List Transition) (service : Service) (disk : Medium) → IsRun p (replicate k (Looks r) ++ before) → (run p before).state ≡ Up service disk → Looked k r service (run p (replicate k (Looks r) ++ before)).state
   looks_pins zero r before service disk runs at = record { after = service; disk = disk; at = at; own = omega arith; others = λ q away. refl }
   looks_pins (suc k) r before service disk runs at =
       let l = looks_pins k r before service disk runs.1 at in

@@ -10,7 +10,7 @@ use Rattle.lz_board.specs.Notes.{listed, trace_of}
 use Rattle.lz_tie.specs.NotedRuns.{TellsTurn, TellsFault, TellsStep, TellsOne, TellsOf, Tells, ReadsAs}
 
 -- looks publish nothing
-looks_trace : (p : Point) (k q : ℕ) (before : List Transition) → (run p (replicate k (Looks q) ++ before)).trace ≡ (run p before).trace
+pub looks_trace : (p : Point) (k q : ℕ) (before : List Transition) → (run p (replicate k (Looks q) ++ before)).trace ≡ (run p before).trace
 looks_trace p zero q before = refl
 looks_trace p (suc k) q before = one (run p (replicate k (Looks q) ++ before)).state (run p (replicate k (Looks q) ++ before)).trace ∙ looks_trace p k q before
   where
