@@ -79,12 +79,32 @@ fn serve<'a>(alloc: Global) -> Result<Command<'a>, AllocError> {
         .arg(buckets(alloc))
 }
 
+fn renew<'a>(alloc: Global) -> Result<Command<'a>, AllocError> {
+    let old = Arg::new(alloc, "OLD")
+        .required(true)
+        .help("The slot file whose keys are read; it is left as it is");
+    let new = Arg::new(alloc, "NEW")
+        .required(true)
+        .help("The slot file that is made, of format 2");
+    Command::new(alloc, "renew")
+        .about(
+            "Makes a slot file that holds the keys of another, with room for more or for fewer, creating it where it is absent",
+        )
+        .arg(old)?
+        .arg(new)?
+        .arg(slots(alloc))
+}
+
 fn check<'a>(alloc: Global) -> Result<Command<'a>, AllocError> {
+    let of = Arg::new(alloc, "of").long("of").value_name("OLD").help(
+        "A slot file from which this one was renewed: says behind `good` whether both hold the same keys, `same`, or what is wrong, `flaw 8`, `flaw 9 I` or `flaw 10 I`",
+    );
     Command::new(alloc, "check")
         .about(
             "Says what the file holds: a line for each slot that isn't closed, and `good` or `damaged`",
         )
-        .arg(file(alloc))
+        .arg(file(alloc))?
+        .arg(of)
 }
 
 fn judge<'a>(alloc: Global) -> Result<Command<'a>, AllocError> {
@@ -119,6 +139,7 @@ pub fn command_line<'a>(alloc: Global) -> Result<Command<'a>, AllocError> {
         )
         .subcommand_required(true)
         .subcommand(make(alloc)?)?
+        .subcommand(renew(alloc)?)?
         .subcommand(run(alloc)?)?
         .subcommand(serve(alloc)?)?
         .subcommand(check(alloc)?)?

@@ -5,8 +5,8 @@ use crate::command_line::{command_line, fault_of};
 use crate::fault::Fault;
 use clap::ArgMatches;
 use lazyset_commands::{
-    MOST_JUDGED, MOST_SURVEYED, ServeOptions, Status, check_on, judge_on, make_on, rehearse_on,
-    run_on, serve_on,
+    MOST_JUDGED, MOST_SURVEYED, ServeOptions, Status, check_of_on, check_on, judge_on, make_on,
+    rehearse_on, renew_on, run_on, serve_on,
 };
 use lz_disk::FileDisk;
 use lz_slot::Format;
@@ -39,6 +39,7 @@ where
 {
     match matches.subcommand() {
         Some(("make", matches)) => make(rt, matches),
+        Some(("renew", matches)) => renew(rt, matches),
         Some(("check", matches)) => check(rt, matches),
         Some(("judge", matches)) => judge(rt, matches),
         Some(("rehearse", matches)) => Ok(rehearse(rt, matches)),
@@ -53,7 +54,17 @@ fn open<R: Files<File = File>>(
     matches: &ArgMatches<'_>,
     create: bool,
 ) -> Result<FileDisk, Fault> {
-    let path = matches.get_str("FILE").unwrap_or("");
+    open_named(rt, matches, "FILE", create)
+}
+
+// The file that this word of the command line names, as a disk.
+fn open_named<R: Files<File = File>>(
+    rt: &R,
+    matches: &ArgMatches<'_>,
+    name: &str,
+    create: bool,
+) -> Result<FileDisk, Fault> {
+    let path = matches.get_str(name).unwrap_or("");
     match FileDisk::open(rt, path, create) {
         Ok(disk) => Ok(disk),
         Err(_) => Err(Fault::NoFile),
@@ -67,6 +78,16 @@ fn make<R: Files<File = File> + Print>(rt: &R, matches: &ArgMatches<'_>) -> Resu
     };
     let mut disk = open(rt, matches, true)?;
     Ok(make_on(&mut io::writer(rt), &mut disk, slots, format))
+}
+
+fn renew<R>(rt: &R, matches: &ArgMatches<'_>) -> Result<Status, Fault>
+where
+    R: Files<File = File> + Print + AllocGlobal,
+{
+    let slots = matches.get_one::<u64>("SLOTS").unwrap_or(0);
+    let mut old = open_named(rt, matches, "OLD", false)?;
+    let mut new = open_named(rt, matches, "NEW", true)?;
+    Ok(renew_on(rt.alloc(), &mut io::writer(rt), &mut old, &mut new, slots))
 }
 
 fn run_file<R>(rt: &R, matches: &ArgMatches<'_>) -> Result<Status, Fault>
@@ -115,15 +136,24 @@ fn check<R>(rt: &R, matches: &ArgMatches<'_>) -> Result<Status, Fault>
 where
     R: Files<File = File> + Print + AllocGlobal,
 {
-    let bytes = read_front(rt, matches, MOST_SURVEYED)?;
-    Ok(check_on(rt.alloc(), bytes.as_slice(), &mut io::writer(rt)))
+    let bytes = read_front(rt, matches, "FILE", MOST_SURVEYED)?;
+    if matches.get_str("of").is_none() {
+        return Ok(check_on(rt.alloc(), bytes.as_slice(), &mut io::writer(rt)));
+    }
+    let old = read_front(rt, matches, "of", MOST_SURVEYED)?;
+    Ok(check_of_on(
+        rt.alloc(),
+        bytes.as_slice(),
+        old.as_slice(),
+        &mut io::writer(rt),
+    ))
 }
 
 fn judge<R>(rt: &R, matches: &ArgMatches<'_>) -> Result<Status, Fault>
 where
     R: Files<File = File> + Print + AllocGlobal,
 {
-    let bytes = read_front(rt, matches, MOST_JUDGED)?;
+    let bytes = read_front(rt, matches, "FILE", MOST_JUDGED)?;
     Ok(judge_on(rt.alloc(), bytes.as_slice(), &mut io::writer(rt)))
 }
 
@@ -172,8 +202,12 @@ fn number_within(matches: &ArgMatches<'_>, name: &str, most: u64) -> Option<usiz
 }
 
 // The file, for reading. A directory is none.
-fn open_readable<R: Files<File = File>>(rt: &R, matches: &ArgMatches<'_>) -> Result<File, Fault> {
-    let path = matches.get_str("FILE").unwrap_or("");
+fn open_readable<R: Files<File = File>>(
+    rt: &R,
+    matches: &ArgMatches<'_>,
+    name: &str,
+) -> Result<File, Fault> {
+    let path = matches.get_str(name).unwrap_or("");
     let Ok(file) = File::open(rt, path) else {
         return Err(Fault::NoFile);
     };
@@ -184,11 +218,16 @@ fn open_readable<R: Files<File = File>>(rt: &R, matches: &ArgMatches<'_>) -> Res
 }
 
 // The file's bytes, up to so many.
-fn read_front<R>(rt: &R, matches: &ArgMatches<'_>, most: usize) -> Result<Vec<u8>, Fault>
+fn read_front<R>(
+    rt: &R,
+    matches: &ArgMatches<'_>,
+    name: &str,
+    most: usize,
+) -> Result<Vec<u8>, Fault>
 where
     R: Files<File = File> + AllocGlobal,
 {
-    let mut file = open_readable(rt, matches)?;
+    let mut file = open_readable(rt, matches, name)?;
     let mut bytes: Vec<u8> = Vec::new(rt.alloc());
     let mut piece = [0; 4096];
     for _ in 0..u64::MAX {
