@@ -1,5 +1,6 @@
 //! One function for each command: it opens what the command works on.
 ghost use Rattle.std.specs.Prelude.{◌≤◌, IfSome};
+ghost use Rattle.lz_slot.specs.Limits.{most_buckets, most_passes};
 
 use crate::command_line::{command_line, fault_of};
 use crate::fault::Fault;
@@ -9,7 +10,7 @@ use lazyset_commands::{
     rehearse_on, renew_on, run_on, serve_on,
 };
 use lz_disk::FileDisk;
-use lz_slot::Format;
+use lz_slot::{Format, MOST_BUCKETS, MOST_PASSES, MOST_REHEARSED};
 use std::fs::File;
 use std::io::{ErrorKind, Read};
 use std::net::{Net, TcpListener, TcpStream};
@@ -19,13 +20,19 @@ use std::thread::Threads;
 use std::time::Clock;
 use std::{env, io};
 
+// The most bytes that one read of a file takes.
+const MOST_PIECE: usize = 4_096;
+
 /// Runs the command that the process's arguments name.
 pub fn run<R>(rt: &R) -> Result<Status, Fault>
 where
     R: Env + Files<File = File> + Input + Print + AllocGlobal,
     R: Net<Listener = TcpListener, Stream = TcpStream> + Threads + Wait + Clock + Sync,
 {
-    let words: Vec<String> = env::args(rt)?.collect(rt.alloc())?;
+    let words: Vec<String> = match env::args(rt) {
+        Ok(words) => words.collect(rt.alloc())?,
+        Err(error) => return Err(Fault::of_arguments(error)),
+    };
     match command_line(rt.alloc())?.try_get_matches_from(words.as_slice()) {
         Ok(matches) => dispatch(rt, &matches),
         Err(error) => Err(fault_of(rt.alloc(), error)),
@@ -95,7 +102,7 @@ where
     R: Files<File = File> + Input + Print + AllocGlobal,
 {
     // A session of one caller looks through the slots: in how many lists they stand makes no difference to it yet.
-    if number_within(matches, "buckets", 4096).is_none() {
+    if number_within(matches, "buckets", MOST_BUCKETS).is_none() {
         return Ok(Status::CommandLine);
     }
     let disk = open(rt, matches, false)?;
@@ -118,12 +125,12 @@ where
 
 // How the command line asks to serve.
 fn serve_options(matches: &ArgMatches<'_>) -> Option<ServeOptions>
-    ensures passes { IfSome result (λ options. (1 ≤ options.passes) × (options.passes ≤ 64)) }
-    ensures buckets { IfSome result (λ options. (1 ≤ options.buckets) × (options.buckets ≤ 4096)) }
+    ensures passes { IfSome result (λ options. (1 ≤ options.passes) × (options.passes ≤ most_passes)) }
+    ensures buckets { IfSome result (λ options. (1 ≤ options.buckets) × (options.buckets ≤ most_buckets)) }
 {
     let port = u16::try_from(matches.get_one::<u64>("PORT")?).ok()?;
-    let passes = number_within(matches, "PASSES", 64)?;
-    let buckets = number_within(matches, "buckets", 4096)?;
+    let passes = number_within(matches, "PASSES", MOST_PASSES)?;
+    let buckets = number_within(matches, "buckets", MOST_BUCKETS)?;
     Some(ServeOptions {
         port,
         passes,
@@ -161,10 +168,10 @@ fn rehearse<R>(rt: &R, matches: &ArgMatches<'_>) -> Status
 where
     R: Input + Print + AllocGlobal,
 {
-    let Some(slots) = number_within(matches, "SLOTS", 64) else {
+    let Some(slots) = number_within(matches, "SLOTS", MOST_REHEARSED) else {
         return Status::CommandLine;
     };
-    let Some(buckets) = number_within(matches, "buckets", 4096) else {
+    let Some(buckets) = number_within(matches, "buckets", MOST_BUCKETS) else {
         return Status::CommandLine;
     };
     let Some(format) = format_of(matches) else {
@@ -190,15 +197,14 @@ fn format_of(matches: &ArgMatches<'_>) -> Option<Format> {
 }
 
 // A number of the command line, from 1 to the most.
-fn number_within(matches: &ArgMatches<'_>, name: &str, most: u64) -> Option<usize>
-    requires { most ≤ 4096 }
+fn number_within(matches: &ArgMatches<'_>, name: &str, most: usize) -> Option<usize>
     ensures { IfSome result (λ n. (1 ≤ n) × (n ≤ most)) }
 {
-    let number = matches.get_one::<u64>(name)?;
+    let number = usize::try_from(matches.get_one::<u64>(name)?).ok()?;
     if number < 1 || number > most {
         return None;
     }
-    Some(number as usize)
+    Some(number)
 }
 
 // The file, for reading. A directory is none.
@@ -229,7 +235,7 @@ where
 {
     let mut file = open_readable(rt, matches, name)?;
     let mut bytes: Vec<u8> = Vec::new(rt.alloc());
-    let mut piece = [0; 4096];
+    let mut piece = [0; MOST_PIECE];
     for _ in 0..u64::MAX {
         match file.read(&mut piece) {
             Ok(0) => break,

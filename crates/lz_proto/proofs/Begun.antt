@@ -72,7 +72,7 @@ begun_fails answers input mid after a b d kept left old now new piece Write p c 
       (
         begun.taken ++ piece,
         Consumes-trans input mid after begun.taken piece begun.gone c,
-        broken_within answers old now new p.0 q.0 begun.taken piece kept left begun.items items begun.its feeds begun.answered cut,
+        broken_within answers after old now new p.0 q.0 begun.taken piece kept left begun.items items begun.its feeds begun.answered cut,
       ),
     )
 begun_fails answers input mid after a b d kept left old now new piece Memory p c q =
@@ -111,6 +111,6 @@ begun_end answers input mid after a b d kept old now new fault (Err Write) p c a
     let gone : Consumes input after begun.taken = subst (Consumes input after) (append-nil begun.taken) (Consumes-trans input mid after begun.taken [] begun.gone c) in (
       p.0 ++ q.0,
       Appends-trans a b d p.0 q.0 p.1 q.1,
-      (begun.taken, gone, broken_end answers old now new p.0 q.0 begun.taken kept fault begun.items begun.its e begun.answered q.2),
+      (begun.taken, gone, broken_end answers after old now new p.0 q.0 begun.taken kept fault begun.items at begun.its e begun.answered q.2),
     )
 begun_end answers input mid after a b d kept old now new fault (Err Memory) p c at e q = absurd q.2

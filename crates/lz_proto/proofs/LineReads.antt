@@ -1,5 +1,5 @@
 -- What the tests of a line find is what the line is.
-use Rattle.std.proofs.Common.{◌≡◌, ℕ, zero, suc, ◌++◌, ◌-◌, ◌≤◌, ◌<◌, List, length, take, drop, get_or, decimal, codes, Result, Ok, Err, true, false, nat_eq, nat_lt, arith, refl, sym, ap, ◌∙◌}
+use Rattle.std.proofs.Common.{◌≡◌, ℕ, ◌++◌, ◌-◌, ◌≤◌, List, length, take, drop, codes, Result, Ok, Err, true, false, nat_eq, nat_lt, arith, refl, sym, ap, ◌∙◌}
 use Rattle.std.specs.List.{starts_with}
 use Rattle.std.specs.Cmp.Lexicographic.{pointwise}
 use Rattle.std.proofs.lemmas.List.{take_rest}

@@ -21,7 +21,7 @@ use Rattle.lz_proto.specs.Steps.{SendTells, FaultTells, AnswersTell, end_after}
 use Rattle.lz_proto.proofs.Texts.{items_end, reads_more, some_items}
 
 -- what goes on after items that didn't end the session
-serves_more : {S : Type 0} (answers : S → Request → Reply → S → Type 0) (old mid new : S) (a b : List Item) (ra rb : List Reply)
+pub serves_more : {S : Type 0} (answers : S → Request → Reply → S → Type 0) (old mid new : S) (a b : List Item) (ra rb : List Reply)
     → Serves answers old a ra mid → end_of a ra ≡ ends.Done → Serves answers mid b rb new → Serves answers old (a ++ b) (ra ++ rb) new
 serves_more answers old mid new [] b [] rb s e t = subst (λ x. Serves answers x b rb new) s t
 serves_more answers old mid new [] b (r ∷ ra) rb s e t = absurd s
@@ -122,12 +122,12 @@ abbrev pub known_rest : Option (List ℕ) → List ℕ
 known_rest None = []
 known_rest (Some bytes) = bytes
 
-input_is : (input after : Option (List ℕ)) (taken : List ℕ) → Consumes input after taken → IsInput input (taken ++ known_rest after)
+pub input_is : (input after : Option (List ℕ)) (taken : List ℕ) → Consumes input after taken → IsInput input (taken ++ known_rest after)
 input_is None after taken c = tt
 input_is (Some bytes) None taken c = absurd c
 input_is (Some bytes) (Some rest) taken c = sym c
 
-no_rest : (after : Option (List ℕ)) → IsAtEnd after → known_rest after ≡ []
+pub no_rest : (after : Option (List ℕ)) → IsAtEnd after → known_rest after ≡ []
 no_rest None e = refl
 no_rest (Some bytes) e = e
 
@@ -166,17 +166,17 @@ whole_end answers input after old mid new first second taken left fault ended it
       answered = answered_more answers old mid new items (faults_of fault) first second ended p q;
     }
 
-pub broken_end : {S : Type 0} (answers : S → Request → Reply → S → Type 0) (old mid new : S) (first second taken : List ℕ) (left : Option (List ℕ)) (fault : Option Bad) (items : List Item)
-    → Reads taken items left → Ends left fault → Answered answers old items mid first ends.Done
-    → CutOff answers mid (faults_of fault) new second → Broken answers taken old new (first ++ second)
-broken_end answers old mid new first second taken left fault items r e p q =
+pub broken_end : {S : Type 0} (answers : S → Request → Reply → S → Type 0) (after : Option (List ℕ)) (old mid new : S) (first second taken : List ℕ) (left : Option (List ℕ)) (fault : Option Bad) (items : List Item)
+    → IsAtEnd after → Reads taken items left → Ends left fault → Answered answers old items mid first ends.Done
+    → CutOff answers mid (faults_of fault) new second → Broken answers after taken old new (first ++ second)
+broken_end answers after old mid new first second taken left fault items at r e p q =
     let its : Items taken (items ++ faults_of fault) = rw (append-nil taken) at (items_end taken items left fault r e) in
-    record { items = items ++ faults_of fault; its = inl its; cut = cut_more answers old mid new items (faults_of fault) first second p q }
+    record { items = items ++ faults_of fault; its = inl (at, its); cut = cut_more answers old mid new items (faults_of fault) first second p q }
 
-pub broken_within : {S : Type 0} (answers : S → Request → Reply → S → Type 0) (old mid new : S) (first second taken piece : List ℕ) (kept left : Option (List ℕ)) (items more : List Item)
+pub broken_within : {S : Type 0} (answers : S → Request → Reply → S → Type 0) (after : Option (List ℕ)) (old mid new : S) (first second taken piece : List ℕ) (kept left : Option (List ℕ)) (items more : List Item)
     → Reads taken items kept → Feeds kept piece more left → Answered answers old items mid first ends.Done
-    → CutOff answers mid more new second → Broken answers (taken ++ piece) old new (first ++ second)
-broken_within answers old mid new first second taken piece kept left items more r f p q =
+    → CutOff answers mid more new second → Broken answers after (taken ++ piece) old new (first ++ second)
+broken_within answers after old mid new first second taken piece kept left items more r f p q =
     record { items = items ++ more; its = inr (left, reads_more taken piece items more kept left r f); cut = cut_more answers old mid new items more first second p q }
 
 -- one request and its reply

@@ -12,7 +12,8 @@ use Rattle.lz_proto.specs.declared.fault.Bad.TheVariants.{TooLong, NoEnd}
 use Rattle.lz_proto.specs.declared.item.Item.{Item}
 use Rattle.lz_proto.specs.declared.item.Item.TheVariants.{Asks, Faulty}
 use Rattle.lz_proto.specs.Lines.{IsItem, Items, nothing, no_end, line, quits, has_line_feed, line_feed, without_return, item_of}
-use Rattle.lz_proto.specs.Pieces.{AnyPieces, Ends, FeedsAll, OneListOfItems, most_kept, Reads, Feeds, Adds, faults_of, KeepsOf}
+use Rattle.lz_proto.specs.Limits.{most_kept}
+use Rattle.lz_proto.specs.Pieces.{AnyPieces, Ends, FeedsAll, OneListOfItems, Reads, Feeds, Adds, faults_of, KeepsOf}
 use Rattle.lz_proto.specs.Reading.{request_read}
 use Rattle.lz_proto.proofs.LineReads.{item_read, item_only}
 

@@ -3,6 +3,7 @@ use Rattle.std.specs.Prelude.{◌≡◌, ◌≢◌, ℕ, ◌≤◌, Bool, false,
 use Rattle.std.specs.List.{list_any, starts_with}
 use Rattle.lz_slot.specs.Limits.{largest_key}
 use Rattle.lz_slot.specs.Texts.{key_fault, Spells}
+use Rattle.lz_proto.specs.Limits.{most_line}
 use Rattle.lz_slot.specs.declared.spelling.KeyFault.{KeyFault}
 use Rattle.lz_slot.specs.declared.spelling.KeyFault.TheVariants as key
 use Rattle.lz_proto.specs.declared.request.Request.{Request}
@@ -56,7 +57,7 @@ bad_of key.TooLarge = KeyTooLarge
 -- the fault of a line that is no request, by the first test that it fails
 abbrev pub fault_of_body : List ℕ → Bad
 fault_of_body line =
-    if nat_lt 64 (length line) then TooLong
+    if nat_lt most_line (length line) then TooLong
     else if word_end line == 0 then NoCommand
     else bad_of (key_fault (drop (word_end line) line))
 

@@ -5,6 +5,7 @@ use Rattle.lz_proto.specs.declared.request.Request.TheVariants.{Quit}
 use Rattle.lz_proto.specs.declared.fault.Bad.{Bad}
 use Rattle.lz_proto.specs.declared.item.Item.{Item}
 use Rattle.lz_proto.specs.declared.item.Item.TheVariants.{Asks, Faulty}
+use Rattle.lz_proto.specs.Limits.{most_kept}
 use Rattle.lz_proto.specs.Lines.{IsItem, Items, has_line_feed}
 
 -- The items are the text's first ones: up to `quit` where nothing is left, else all but those of what is left.
@@ -26,10 +27,6 @@ faults_of (Some bad) = Faulty bad ∷ []
 abbrev pub Ends : Option (List ℕ) → Option Bad → Type 0
 Ends None fault = fault ≡ None
 Ends (Some kept) fault = Items kept (faults_of fault)
-
--- the most bytes of an unfinished line that are kept: 64, a carriage return, and one that makes it too long
-abbrev pub most_kept : ℕ
-most_kept = 66
 
 abbrev pub IsShort : Option (List ℕ) → Type 0
 IsShort kept = IfSome kept (λ text. length text ≤ most_kept)

@@ -8,6 +8,7 @@ use Rattle.lz_proto.specs.declared.request.Request.{Request}
 use Rattle.lz_proto.specs.declared.request.Request.TheVariants.{Add, Remove, Has, Quit}
 use Rattle.lz_proto.specs.declared.fault.Bad.{Bad}
 use Rattle.lz_proto.specs.declared.fault.Bad.TheVariants.{TooLong, NoCommand}
+use Rattle.lz_proto.specs.Limits.{most_line}
 use Rattle.lz_proto.specs.Lines.{bad_of}
 
 abbrev pub key_told : Result ℕ KeyFault → Result ℕ Bad
@@ -25,7 +26,7 @@ with_key command (Err bad) = Err bad
 -- what a line less its carriage return asks for
 abbrev pub request_read : List ℕ → Result Request Bad
 request_read line =
-    if nat_lt 64 (length line) then Err TooLong
+    if nat_lt most_line (length line) then Err TooLong
     else (if pointwise nat_eq line (codes "quit") then Ok Quit
     else (if starts_with nat_eq line (codes "add ") then with_key (λ k. Add k) (key_read (drop 4 line))
     else (if starts_with nat_eq line (codes "remove ") then with_key (λ k. Remove k) (key_read (drop 7 line))

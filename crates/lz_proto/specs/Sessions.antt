@@ -1,6 +1,6 @@
 -- What a session writes.
 use Rattle.std.specs.Prelude.{◌≡◌, ℕ, List, [], ◌∷◌, ◌++◌, ◌⊎◌, ◌<◌, length, take, codes, Option, None, Some, Result, Ok, Err}
-use Rattle.std.specs.Io.KnownBytes.{Appends, Consumes}
+use Rattle.std.specs.Io.KnownBytes.{Appends, Consumes, IsAtEnd}
 use Rattle.lz_proto.specs.declared.request.Request.{Request}
 use Rattle.lz_proto.specs.declared.request.Request.TheVariants.{Quit}
 use Rattle.lz_proto.specs.declared.fault.Bad.{Bad}
@@ -111,17 +111,18 @@ pub record Stopped {S : Type 0} (answers : S → Request → Reply → S → Typ
   pub its : Reads text items left
   pub answered : Answered answers old items new written ends.Done
 
--- The items of the text were answered up to one whose reply wasn't written whole.
-pub record Broken {S : Type 0} (answers : S → Request → Reply → S → Type 0) (text : List ℕ) (old new : S) (written : List ℕ) : Type 0 where
+-- The items of the text were answered up to one whose reply wasn't written whole. What stands after the last line counts
+-- where the input ends there.
+pub record Broken {S : Type 0} (answers : S → Request → Reply → S → Type 0) (after : Option (List ℕ)) (text : List ℕ) (old new : S) (written : List ℕ) : Type 0 where
   pub items : List Item
-  pub its : Items text items ⊎ ((left : Option (List ℕ)) × Reads text items left)
+  pub its : (IsAtEnd after × Items text items) ⊎ ((left : Option (List ℕ)) × Reads text items left)
   pub cut : CutOff answers old items new written
 
 -- What a session read, did and wrote, as its result tells: `input` is what the reader had left, and `after` what it has.
 abbrev pub SessionTells : {S : Type 0} → (S → Request → Reply → S → Type 0) → Option (List ℕ) → Option (List ℕ) → S → S → List ℕ → Result End SessionFault → Type 0
 SessionTells answers input after old new written (Ok ended) = Whole answers input old new written ended
 SessionTells answers input after old new written (Err Read) = (text : List ℕ) × Consumes input after text × Stopped answers text old new written
-SessionTells answers input after old new written (Err Write) = (text : List ℕ) × Consumes input after text × Broken answers text old new written
+SessionTells answers input after old new written (Err Write) = (text : List ℕ) × Consumes input after text × Broken answers after text old new written
 SessionTells answers input after old new written (Err Memory) =
     (text : List ℕ) × (piece : List ℕ) × Consumes input after (text ++ piece) × Stopped answers text old new written
 

@@ -9,15 +9,13 @@ ghost use Rattle.lz_proto.specs.Steps.{AnswersTell, FaultTells, PieceTells, Send
 use crate::end::End;
 use crate::fault::{Bad, SessionFault};
 use crate::item::Item;
+use crate::limits::MOST_PIECE;
 use crate::lines::Lines;
 use crate::reply::{Reply, bad_text, reply_text};
 use crate::request::Request;
 use crate::service::Service;
 use std::alloc::Global;
 use std::io::{ErrorKind, Read, Write};
-
-/// The most bytes that one read takes.
-const PIECE: usize = 4096;
 
 /// Answers the lines that the reader gives, each before the service is asked the next, up to `quit`, a reply that the
 /// service halted, or the input's end. What one read gave is answered before the next read.
@@ -30,7 +28,7 @@ pub fn session<R: Read, W: Write, S: Service>(
     ensures { Writes (W.contents writer.old) (W.contents writer.new) (λ written. SessionTells S.answers (R.remaining reader.old) (R.remaining reader.new) service.old service.new written result) }
 {
     let mut lines = Lines::new(alloc);
-    let mut buffer = [0; PIECE];
+    let mut buffer = [0; MOST_PIECE];
     // A loop is proved to end, so this one counts its pieces.
     'pieces: for _ in 0..u64::MAX {
         let count = match receive(reader, &mut buffer) {
@@ -51,8 +49,9 @@ pub fn session<R: Read, W: Write, S: Service>(
     Err(SessionFault::Read)
 }
 
-// Writes the text whole, or fails after a part of it. (A `write_all` that fails doesn't tell what was written.)
-fn send<W: Write>(writer: &mut W, text: &[u8]) -> Result<(), SessionFault>
+/// Writes the text whole, or fails after a part of it. (A `write_all` that fails doesn't tell what was written.) A write that
+/// was interrupted is tried again.
+pub fn send<W: Write>(writer: &mut W, text: &[u8]) -> Result<(), SessionFault>
     ensures { SendTells (W.contents writer.old) (W.contents writer.new) text.now result }
 {
     let mut rest = text;

@@ -6,7 +6,7 @@ ghost use Rattle.lz_proto.specs.Sessions.{session_fault_number};
 /// Why a line is no request, by the first test that it fails.
 #[derive(Clone, Copy, Debug, PartialEq, Eq)]
 pub enum Bad {
-    /// It has more than `LONGEST_LINE` bytes.
+    /// It has more than `MOST_LINE` bytes.
     TooLong,
     /// It doesn't begin with a command's word and one space.
     NoCommand,

@@ -4,11 +4,9 @@ ghost use Rattle.lz_proto.specs.Lines.{IsItem, bad_of, item_of, without_return};
 ghost use Rattle.lz_proto.specs.Reading.{key_read, request_read};
 
 use crate::fault::Bad;
+use crate::limits::MOST_LINE;
 use crate::request::Request;
 use lz_slot::{Key, KeyFault};
-
-/// A longer line is no request.
-pub const LONGEST_LINE: usize = 64;
 
 /// Reads a line, given without the line feed that ended it. One carriage return at its end is no part of it.
 pub fn parse(line: &[u8]) -> Result<Request, Bad>
@@ -31,7 +29,7 @@ fn without_return(line: &[u8]) -> &[u8]
 fn read_request(line: &[u8]) -> Result<Request, Bad>
     ensures { result ≡ request_read line.now }
 {
-    if line.len() > LONGEST_LINE {
+    if line.len() > MOST_LINE {
         return Err(Bad::TooLong);
     }
     if line == b"quit".as_slice() {

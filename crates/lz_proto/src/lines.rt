@@ -2,18 +2,17 @@
 ghost use Rattle.std.specs.Prelude.{◌≡◌, ◌↔◌, IsTrue, IfOk, OnOk, OnErr, Some, [], option_map, take, false};
 ghost use Rattle.lz_proto.specs.declared.item.Item.{Item};
 ghost use Rattle.lz_proto.specs.Lines.{Items, has_line_feed};
-ghost use Rattle.lz_proto.specs.Pieces.{Adds, Ends, Feeds, IsShort, KeepsOf, Reads, faults_of, most_kept};
+ghost use Rattle.lz_proto.specs.Limits.{most_kept};
+ghost use Rattle.lz_proto.specs.Pieces.{Adds, Ends, Feeds, IsShort, KeepsOf, Reads, faults_of};
 
 use crate::fault::Bad;
 use crate::item::Item;
+use crate::limits::MOST_KEPT;
 use crate::line::parse;
 use crate::request::Request;
 use memchr::memchr;
 use std::alloc::{AllocError, Global};
 use std::marker::Model;
-
-/// The most bytes of an unfinished line that are kept: further ones can't change what it comes to.
-pub const MOST_KEPT: usize = 66;
 
 /// Cuts a text that comes in pieces into lines. Contracts see it as the unfinished line, or none once `quit` has come.
 #[derive(Drop)]
@@ -25,7 +24,7 @@ pub struct Lines {
 impl Model for Lines {
     ghost use Rattle.std.specs.Prelude.{◌≡◌, ℕ, ◌≤◌, List, Option, option_map, IfSome, length, false};
     ghost use Rattle.lz_proto.specs.Lines.{has_line_feed};
-    ghost use Rattle.lz_proto.specs.Pieces.{most_kept};
+    ghost use Rattle.lz_proto.specs.Limits.{most_kept};
 
     ghost Value = { Option (List ℕ) };
 
