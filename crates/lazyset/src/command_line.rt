@@ -3,7 +3,14 @@ use crate::fault::Fault;
 use clap::error::ErrorKind;
 use clap::{Arg, Command, Error, value_parser};
 use lazyset_commands::Status;
+use lz_slot::{MOST_BUCKETS, MOST_PASSES, MOST_REHEARSED};
 use std::alloc::{AllocError, Global};
+
+// The largest port.
+const MOST_PORT: u64 = 65_535;
+
+// The most sessions that a pass may be told to serve.
+const MOST_SESSIONS: u64 = 65_535;
 
 fn file<'a>(alloc: Global) -> Arg<'a> {
     Arg::new(alloc, "FILE").required(true).help("The slot file")
@@ -39,7 +46,7 @@ fn buckets<'a>(alloc: Global) -> Arg<'a> {
     Arg::new(alloc, "buckets")
         .long("buckets")
         .value_name("B")
-        .value_parser(value_parser!(u64).range(1..=4096))
+        .value_parser(value_parser!(u64).range(1..=MOST_BUCKETS as u64))
         .default_value("1")
         .help("How many lists the keys are spread over, 1 to 4096")
 }
@@ -56,16 +63,16 @@ fn run<'a>(alloc: Global) -> Result<Command<'a>, AllocError> {
 fn serve<'a>(alloc: Global) -> Result<Command<'a>, AllocError> {
     let port = Arg::new(alloc, "PORT")
         .required(true)
-        .value_parser(value_parser!(u64).range(0..=65535))
+        .value_parser(value_parser!(u64).range(0..=MOST_PORT))
         .help("The port of 127.0.0.1; 0 takes a free one, which is printed");
     let passes = Arg::new(alloc, "PASSES")
         .required(true)
-        .value_parser(value_parser!(u64).range(1..=64))
+        .value_parser(value_parser!(u64).range(1..=MOST_PASSES as u64))
         .help("How many connections are served at once, 1 to 64; further ones wait");
     let sessions = Arg::new(alloc, "sessions")
         .long("sessions")
         .value_name("N")
-        .value_parser(value_parser!(u64).range(0..=65535))
+        .value_parser(value_parser!(u64).range(0..=MOST_SESSIONS))
         .default_value("0")
         .help("After how many connections each pass ends; 0 for no end");
     Command::new(alloc, "serve")
@@ -79,12 +86,32 @@ fn serve<'a>(alloc: Global) -> Result<Command<'a>, AllocError> {
         .arg(buckets(alloc))
 }
 
+fn renew<'a>(alloc: Global) -> Result<Command<'a>, AllocError> {
+    let old = Arg::new(alloc, "OLD")
+        .required(true)
+        .help("The slot file whose keys are read; it is left as it is");
+    let new = Arg::new(alloc, "NEW")
+        .required(true)
+        .help("The slot file that is made, of format 2");
+    Command::new(alloc, "renew")
+        .about(
+            "Makes a slot file that holds the keys of another, with room for more or for fewer, creating it where it is absent",
+        )
+        .arg(old)?
+        .arg(new)?
+        .arg(slots(alloc))
+}
+
 fn check<'a>(alloc: Global) -> Result<Command<'a>, AllocError> {
+    let of = Arg::new(alloc, "of").long("of").value_name("OLD").help(
+        "A slot file from which this one was renewed: says behind `good` whether both hold the same keys, `same`, or what is wrong, `flaw 8`, `flaw 9 I` or `flaw 10 I`",
+    );
     Command::new(alloc, "check")
         .about(
             "Says what the file holds: a line for each slot that isn't closed, and `good` or `damaged`",
         )
-        .arg(file(alloc))
+        .arg(file(alloc))?
+        .arg(of)
 }
 
 fn judge<'a>(alloc: Global) -> Result<Command<'a>, AllocError> {
@@ -100,7 +127,7 @@ fn judge<'a>(alloc: Global) -> Result<Command<'a>, AllocError> {
 fn rehearse<'a>(alloc: Global) -> Result<Command<'a>, AllocError> {
     let slots = Arg::new(alloc, "SLOTS")
         .required(true)
-        .value_parser(value_parser!(u64).range(1..=64))
+        .value_parser(value_parser!(u64).range(1..=MOST_REHEARSED as u64))
         .help("How many keys the set has room for, 1 to 64");
     Command::new(alloc, "rehearse")
         .about(
@@ -119,6 +146,7 @@ pub fn command_line<'a>(alloc: Global) -> Result<Command<'a>, AllocError> {
         )
         .subcommand_required(true)
         .subcommand(make(alloc)?)?
+        .subcommand(renew(alloc)?)?
         .subcommand(run(alloc)?)?
         .subcommand(serve(alloc)?)?
         .subcommand(check(alloc)?)?

@@ -2,6 +2,7 @@
 use lazyset_commands::Status;
 use std::alloc::AllocError;
 use std::io;
+use std::io::ErrorKind;
 use thiserror::Error;
 
 #[derive(Debug, Drop, Error)]
@@ -13,17 +14,29 @@ pub enum Fault {
     #[error("nomemory\n")]
     Memory(#[from(alloc)] AllocError),
     #[error("noarguments\n")]
-    NoArguments(#[from] io::Error),
+    NoArguments(io::Error),
+    #[error("an argument isn't UTF-8\n")]
+    NotText,
     /// The command line was not understood, or asked for help: the text says which.
     #[error("{text}")]
     CommandLine { text: String, status: Status },
 }
 
 impl Fault {
+    /// Why the process's arguments couldn't be had.
+    pub fn of_arguments(error: io::Error) -> Fault {
+        match error.kind() {
+            ErrorKind::InvalidData => Fault::NotText,
+            ErrorKind::OutOfMemory => Fault::Memory(AllocError),
+            _ => Fault::NoArguments(error),
+        }
+    }
+
     /// How the command ended.
     pub fn status(&self) -> Status {
         match self {
             Fault::NoFile => Status::Refused,
+            Fault::NotText => Status::CommandLine,
             Fault::NoRead | Fault::Memory(_) | Fault::NoArguments(_) => Status::Failed,
             Fault::CommandLine { status, .. } => *status,
         }

@@ -13,7 +13,8 @@ use Rattle.lz_disk.specs.Devices.{Device, IsTimely, LeavesOnly}
 use Rattle.lz_disk.proofs.Moments.{quiet}
 use Rattle.lz_vault.specs.Opens.{keys_of}
 use Rattle.lz_vault.specs.Vaults.{Vaulted}
-use Rattle.lazyset_commands.specs.Asks.{Asked, IsPlainReply, Lives, reply_of, set_after_reply}
+use Rattle.lz_slot.specs.Sets.{HasMembers}
+use Rattle.lazyset_commands.specs.Asks.{Asked, IsPlainReply, Lives, StaysOver, reply_of, set_after_reply}
 use Rattle.lazyset_commands.specs.Plains.{Adds, EachHolds, HoldsBeforeOrAfter, IsAddFault, IsRemoveFault, Removes}
 use Rattle.lazyset_commands.specs.declared.plain.Fault.{Fault}
 use Rattle.lazyset_commands.specs.declared.plain.Fault.TheVariants.{OldFile, Full, Halted, Device as Failed}
@@ -62,7 +63,14 @@ module _ (was now : Vaulted) (old new : Device) (key : ℕ) where
   add_acknowledges (Err Halted) S fault fits same old_same full room answers each alive = absurd (let never : true ≡ false = sym fault.0 ∙ alive in cc)
   add_acknowledges (Err Failed) S fault fits same old_same full room answers each alive = absurd (let never : true ≡ false = sym fault.1 ∙ alive in cc)
 
-  pub asked_add : (r : Result Bool Fault) → IfOk r (λ answer. (now.dead ≡ false) × Adds was.cells key answer now.cells) → IfErr r (λ fault. IsAddFault fault key was now old new)
+  -- a life that is over stays so
+  abbrev Over : Result Bool Fault → Type 0
+  Over r = was.dead ≡ true → (r ≡ Err Halted) × (now ≡ was) × (new.medium ≡ old.medium) × (new.calls ≡ old.calls)
+
+  stays_over : (r : Result Bool Fault) → Over r → was.dead ≡ true → StaysOver (reply_of r) was now old new
+  stays_over r over dead = let stays = over dead in record { replied = ap reply_of stays.0; memory = stays.1; medium = stays.2; calls = stays.3 }
+
+  pub asked_add : (r : Result Bool Fault) → Over r → IfOk r (λ answer. (now.dead ≡ false) × Adds was.cells key answer now.cells) → IfErr r (λ fault. IsAddFault fault key was now old new)
       → IfOk r (λ answer. key ≤ largest_of was.format) → (IsErrOf r Full → now ≡ was) → (IsErrOf r Full → new.medium ≡ old.medium) → (IsErrOf r OldFile → now ≡ was) → (IsErrOf r OldFile → new.medium ≡ old.medium)
       → now.format ≡ was.format → length now.cells ≡ length was.cells → new.honest ≡ old.honest → old.faults ≤ new.faults
       → ((S : Keys) → IsTrue old.honest → Each S → IsErrOf r Full → (S key ≡ false) × HasMembers S (length was.cells))
@@ -70,12 +78,13 @@ module _ (was now : Vaulted) (old new : Device) (key : ℕ) where
       → ((S : Keys) → IsTrue old.honest → Each S → LeavesOnly old new (HoldsBeforeOrAfter (length was.cells) S (Add key)))
       → ((S : Keys) → IsTrue old.honest → Each S → Answers (Add key) r S)
       → Asked (Add key) (reply_of r) was now old new
-  asked_add r adds fault fits full same old_file old_same format slots honest faults full_set room any_moment acknowledged = record {
+  asked_add r over adds fault fits full same old_file old_same format slots honest faults full_set room any_moment acknowledged = record {
     slots = slots;
     format = format;
     honest = honest;
     faults = faults;
     lives = add_lives r adds fault full old_file;
+    over = stays_over r over;
     any_moment = any_moment;
     acknowledged = λ S true_to each alive. add_acknowledges r S fault fits same old_same (full_set S true_to each) (room S true_to each) (acknowledged S true_to each) each alive;
   }
@@ -96,17 +105,18 @@ module _ (was now : Vaulted) (old new : Device) (key : ℕ) where
   remove_acknowledges (Err Halted) S fault answers alive = absurd (let never : true ≡ false = sym fault.0 ∙ alive in cc)
   remove_acknowledges (Err Failed) S fault answers alive = absurd (let never : true ≡ false = sym fault.1 ∙ alive in cc)
 
-  pub asked_remove : (r : Result Bool Fault) → IfOk r (λ answer. (now.dead ≡ false) × Removes was.cells key answer now.cells) → IfErr r (λ fault. IsRemoveFault fault was now old new)
+  pub asked_remove : (r : Result Bool Fault) → Over r → IfOk r (λ answer. (now.dead ≡ false) × Removes was.cells key answer now.cells) → IfErr r (λ fault. IsRemoveFault fault was now old new)
       → now.format ≡ was.format → length now.cells ≡ length was.cells → new.honest ≡ old.honest → old.faults ≤ new.faults
       → ((S : Keys) → IsTrue old.honest → Each S → LeavesOnly old new (HoldsBeforeOrAfter (length was.cells) S (Remove key)))
       → ((S : Keys) → IsTrue old.honest → Each S → Answers (Remove key) r S)
       → Asked (Remove key) (reply_of r) was now old new
-  asked_remove r removes fault format slots honest faults any_moment acknowledged = record {
+  asked_remove r over removes fault format slots honest faults any_moment acknowledged = record {
     slots = slots;
     format = format;
     honest = honest;
     faults = faults;
     lives = remove_lives r removes fault;
+    over = stays_over r over;
     any_moment = any_moment;
     acknowledged = λ S true_to each alive. remove_acknowledges r S fault (acknowledged S true_to each) alive;
   }
@@ -120,6 +130,11 @@ module _ (vault : Vaulted) (disk : Device) (key : ℕ) where
   has_lives (Err Full) answer fault = absurd (let is = fault.0 in cc)
   has_lives (Err Halted) answer fault = (fault.1, inl fault.1)
   has_lives (Err Failed) answer fault = (fault.1, inl fault.1)
+
+  has_over : (r : Result Bool Fault) → IfOk r (λ answer. (vault.dead ≡ false) × (answer ≡ keys_of vault.cells key)) → IfErr r (λ fault. (fault ≡ Halted) × (vault.dead ≡ true))
+      → vault.dead ≡ true → StaysOver (reply_of r) vault vault disk disk
+  has_over (Ok answer) told fault dead = absurd (let never : true ≡ false = sym dead ∙ told.0 in cc)
+  has_over (Err why) told fault dead = record { replied = ap (λ (f : Fault). reply_of (Err f)) fault.0; memory = refl; medium = refl; calls = refl }
 
   has_acknowledges : (r : Result Bool Fault) (S : Keys) → IfErr r (λ fault. (fault ≡ Halted) × (vault.dead ≡ true)) → IfOk r (λ answer. answer ≡ reply (Has key) (S key))
       → EachHolds disk.medium (length vault.cells) S → vault.dead ≡ false
@@ -140,6 +155,7 @@ module _ (vault : Vaulted) (disk : Device) (key : ℕ) where
     honest = refl;
     faults = omega arith;
     lives = has_lives r answer fault;
+    over = has_over r answer fault;
     any_moment = λ S honest each. quiet disk _ (timely honest) (λ t image. inl (each t image));
     acknowledged = λ S honest each alive. has_acknowledges r S fault (plain S honest each) each alive;
   }

@@ -2,6 +2,9 @@ pub mod Slots
 pub mod Adding
 pub mod Members
 pub mod Serving
+pub mod SessionSets
+pub mod SentTexts
+pub mod MakeFaults
 pub mod Changing
 pub mod Removing
 pub mod Asking

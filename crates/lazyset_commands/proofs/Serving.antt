@@ -1,67 +1,128 @@
--- How a run of commands goes on.
-use Rattle.std.proofs.Common.{◌≡◌, ◌≢◌, ◌⊎◌, inl, inr, ⊎_elim, ℕ, false, List, [], ◌∷◌, length, Option, IsTrue, refl, sym, ap, ◌∙◌, subst, arith, Ok, Err, Result}
-use Rattle.std.specs.Io.KnownBytes.{Appends}
-use Rattle.lz_slot.specs.Sets.{Keys}
+-- What a session over a set for one caller does to its disk, item by item.
+use Rattle.std.proofs.Common.{◌≡◌, ◌≢◌, ◌⊎◌, inl, inr, ⊎_elim, ℕ, ◌≤◌, ◌<◌, true, false, List, [], ◌∷◌, ◌++◌, length, IsTrue, refl, sym, ap, ◌∙◌, subst, arith, append_assoc}
+use Rattle.lz_slot.specs.Sets.{Keys, after}
+use Rattle.lz_slot.specs.Bytes.{Holds}
 use Rattle.lz_slot.specs.declared.command.Command.{Command}
 use Rattle.lz_slot.specs.declared.command.Command.TheVariants as command
-use Rattle.lz_disk.specs.Images.{Medium, AreBytes, IsImage, synced}
+use Rattle.lz_slot.specs.declared.format.Format.{Format}
+use Rattle.lz_disk.specs.Images.{Medium, IsImage}
 use Rattle.lz_disk.specs.Devices.{Device, IsTimely, LeavesOnly}
 use Rattle.lz_disk.proofs.Moments.{leaves_then, leaves_more, quiet}
-use Rattle.lz_disk.proofs.Writes.{synced_image}
-use Rattle.lz_vault.specs.Opens.{Opens}
-use Rattle.lz_slot.specs.declared.format.Format.{Format}
-use Rattle.lz_vault.specs.Vaults.{Vaulted, VaultOver, LeavesEither}
+use Rattle.lz_vault.specs.Vaults.{Vaulted, VaultOver, last_sync}
 use Rattle.lz_proto.specs.declared.request.Request.{Request}
 use Rattle.lz_proto.specs.declared.request.Request.TheVariants.{Add, Remove, Has, Quit}
 use Rattle.lz_proto.specs.declared.reply.Reply.{Reply}
 use Rattle.lz_proto.specs.declared.reply.Reply.TheVariants.{Halted}
+use Rattle.lz_proto.specs.declared.fault.Bad.{Bad}
 use Rattle.lz_proto.specs.declared.item.Item.{Item}
 use Rattle.lz_proto.specs.declared.item.Item.TheVariants.{Asks, Faulty}
-use Rattle.lz_proto.specs.declared.fault.SessionFault.{SessionFault}
-use Rattle.lz_proto.specs.declared.fault.SessionFault.TheVariants.{Read, Write, Memory}
-use Rattle.lz_proto.specs.declared.end.End.{End}
 use Rattle.lz_proto.specs.declared.end.End.TheVariants as ends
-use Rattle.lz_proto.specs.Sessions.{Serves, SessionTells, Answered, end_of}
-use Rattle.lazyset_commands.specs.Plains.{EachHolds}
-use Rattle.lazyset_commands.specs.Asks.{Asked, IsPlainReply, PlainAnswers, SetAnswers, set_after_reply}
-use Rattle.lazyset_commands.specs.Runs.{HoldsSome, HoldsOne, CarriedOut, RepliesOfSet, ServedWhole}
+use Rattle.lz_proto.specs.Sessions.{Serves, end_of}
+use Rattle.lazyset_commands.specs.Plains.{EachHolds, HoldsBeforeOrAfter}
+use Rattle.lazyset_commands.specs.Asks.{Asked, IsPlainReply, MayAnswer, PlainAnswers, SetAnswers, set_after_reply}
+use Rattle.lazyset_commands.specs.Runs.{FoundAfter}
 
--- nothing was done
-pub nothing_done : (old : Device) (vault : Vaulted) → (IsTrue old.honest → IsTimely old) → CarriedOut old old vault vault
-nothing_done old vault timely = record {
-  slots = refl;
-  format = refl;
-  honest = refl;
-  faults = omega arith;
-  leaves = λ honest one. quiet old _ (timely honest) (λ t image. (one.0, one.1 t image));
-  held = λ honest one alive. one;
+-- commands were carried out: what stays, and the count of failures doesn't fall
+pub record CarriedOut (old new : Device) (was now : Vaulted) : Type 0 where
+  pub slots : length now.cells ≡ length was.cells
+  pub format : now.format ≡ was.format
+  pub honest : new.honest ≡ old.honest
+  pub faults : old.faults ≤ new.faults
+
+nothing_done : (old : Device) (vault : Vaulted) → CarriedOut old old vault vault
+nothing_done old vault = record { slots = refl; format = refl; honest = refl; faults = omega arith }
+
+done_then : (old mid new : Device) (was between now : Vaulted) → CarriedOut old mid was between → CarriedOut mid new between now → CarriedOut old new was now
+done_then old mid new was between now first second = record {
+  slots = second.slots ∙ first.slots;
+  format = second.format ∙ first.format;
+  honest = second.honest ∙ first.honest;
+  faults = let a = first.faults in let b = second.faults in omega arith;
 }
 
--- one run after another, where the life goes on between them
-pub done_then : (old mid new : Device) (was between now : Vaulted) → between.dead ≡ false → CarriedOut old mid was between → CarriedOut mid new between now → CarriedOut old new was now
-done_then old mid new was between now alive first second =
-    let still = λ (honest : IsTrue old.honest). subst IsTrue (sym first.honest) honest in
-    record {
-      slots = second.slots ∙ first.slots;
-      format = second.format ∙ first.format;
-      honest = second.honest ∙ first.honest;
-      faults = let a = first.faults in let b = second.faults in omega arith;
-      leaves = λ honest one. leaves_then old mid new _ (first.leaves honest one)
-          (let P : ℕ → Type 0 = λ N. LeavesOnly mid new (HoldsSome N) in subst P first.slots (second.leaves (still honest) (first.held honest one alive)));
-      held = λ honest one live. second.held (still honest) (first.held honest one alive) live;
+command_done : (command : Command) (reply : Reply) (was now : Vaulted) (old new : Device) → Asked command reply was now old new → CarriedOut old new was now
+command_done command reply was now old new asked = record { slots = asked.slots; format = asked.format; honest = asked.honest; faults = asked.faults }
+
+-- why a life was over that was going on before
+abbrev pub IsHalt : Device → Device → Vaulted → Type 0
+IsHalt old new now = (now.dead ≡ true) × ((last_sync ≤ now.syncs) ⊎ (old.faults < new.faults))
+
+halted_by : (command : Command) (was now : Vaulted) (old new : Device) → Asked command Halted was now old new → was.dead ≡ false → IsHalt old new now
+halted_by command was now old new asked alive = (asked.lives.0, ⊎_elim (λ over. absurd (let never : true ≡ false = sym over ∙ alive in cc)) (λ why. why) asked.lives.1)
+
+-- an answer of the plain set is one of a set that may halt
+may_be : (F : Format) (N : ℕ) (S T : Keys) (request : Request) (reply : Reply) → SetAnswers F N S request reply T → MayAnswer F N S request reply T
+may_be F N S T (Add k) Halted answers = absurd answers.0
+may_be F N S T (Remove k) Halted answers = absurd answers.0
+may_be F N S T (Has k) Halted answers = absurd answers.0
+may_be F N S T Quit reply answers = absurd answers
+may_be F N S T request reply answers = answers
+
+-- and so is a list of them
+pub may_serve : (F : Format) (N : ℕ) (items : List Item) (replies : List Reply) (S T : Keys) → Serves (SetAnswers F N) S items replies T → Serves (MayAnswer F N) S items replies T
+may_serve F N [] [] S T served = served
+may_serve F N [] (reply ∷ replies) S T served = absurd served
+may_serve F N (Faulty bad ∷ items) replies S T served = may_serve F N items replies S T served
+may_serve F N (Asks Quit ∷ items) [] S T served = served
+may_serve F N (Asks Quit ∷ items) (reply ∷ replies) S T served = absurd served
+may_serve F N (Asks request ∷ items) [] S T served = absurd served
+may_serve F N (Asks request ∷ items) (Halted ∷ replies) S T served = (may_be F N S T request Halted served.0, served.1)
+may_serve F N (Asks request ∷ items) (reply ∷ replies) S T served = (served.0, may_be F N S served.0 request reply served.1, may_serve F N items replies served.0 T served.2)
+
+-- nothing was asked yet
+found_here : (F : Format) (N : ℕ) (S : Keys) (items : List Item) (t : List ℕ) → Holds t N S → FoundAfter F N S items t
+found_here F N S items t holds = record { done = []; rest = items; first = refl; replies = []; found = S; served = refl; held = holds }
+
+-- more items follow those asked
+pub found_of_more : (F : Format) (N : ℕ) (S : Keys) (all items more : List Item) (t : List ℕ) → all ≡ items ++ more → FoundAfter F N S items t → FoundAfter F N S all t
+found_of_more F N S all items more t whole found = record {
+  done = found.done;
+  rest = found.rest ++ more;
+  first = whole ∙ ap (λ (x : List Item). x ++ more) found.first ∙ append_assoc found.done found.rest more;
+  replies = found.replies;
+  found = found.found;
+  served = found.served;
+  held = found.held;
+}
+
+-- a line's fault was told before them
+found_past_fault : (F : Format) (N : ℕ) (S : Keys) (bad : Bad) (items : List Item) (t : List ℕ) → FoundAfter F N S items t → FoundAfter F N S (Faulty bad ∷ items) t
+found_past_fault F N S bad items t found = record {
+  done = Faulty bad ∷ found.done;
+  rest = found.rest;
+  first = ap (λ (x : List Item). Faulty bad ∷ x) found.first;
+  replies = found.replies;
+  found = found.found;
+  served = found.served;
+  held = found.held;
+}
+
+-- the first item is under way, done or not
+found_amid : (F : Format) (N : ℕ) (S T : Keys) (request : Request) (items : List Item) (t : List ℕ) → Serves (MayAnswer F N) S (Asks request ∷ []) (Halted ∷ []) T → Holds t N T → FoundAfter F N S (Asks request ∷ items) t
+found_amid F N S T request items t served holds = record { done = Asks request ∷ []; rest = items; first = refl; replies = Halted ∷ []; found = T; served = served; held = holds }
+
+-- it was answered, and others after it
+found_past : (F : Format) (N : ℕ) (S T : Keys) (request : Request) (reply : Reply) (items : List Item) (t : List ℕ) → SetAnswers F N S request reply T → FoundAfter F N T items t
+    → FoundAfter F N S (Asks request ∷ items) t
+found_past F N S T request reply items t answers found = cases request reply answers
+  where
+    past : (request : Request) (reply : Reply) → Serves (MayAnswer F N) S (Asks request ∷ found.done) (reply ∷ found.replies) found.found → FoundAfter F N S (Asks request ∷ items) t
+    past request reply served = record {
+      done = Asks request ∷ found.done;
+      rest = found.rest;
+      first = ap (λ (x : List Item). Asks request ∷ x) found.first;
+      replies = reply ∷ found.replies;
+      found = found.found;
+      served = served;
+      held = found.held;
     }
 
--- one command
-command_done : (command : Command) (reply : Reply) (was now : Vaulted) (old new : Device) → Asked command reply was now old new → CarriedOut old new was now
-command_done command reply was now old new asked = record {
-  slots = asked.slots;
-  format = asked.format;
-  honest = asked.honest;
-  faults = asked.faults;
-  leaves = λ honest one. leaves_more old new _ _ (λ t either. ⊎_elim (λ before. (one.0, before)) (λ done. (_, done)) either) (asked.any_moment one.0 honest one.1);
-  held = λ honest one alive. subst (λ (N : ℕ). HoldsOne new.medium N) (sym asked.slots)
-      (set_after_reply command reply one.0, (asked.acknowledged one.0 honest one.1 alive).1);
-}
+    cases : (request : Request) (reply : Reply) → SetAnswers F N S request reply T → FoundAfter F N S (Asks request ∷ items) t
+    cases Quit reply answers = absurd answers
+    cases (Add k) Halted answers = absurd answers.0
+    cases (Remove k) Halted answers = absurd answers.0
+    cases (Has k) Halted answers = absurd answers.0
+    cases request reply answers = past request reply (T, may_be F N S T request reply answers, found.served)
 
 module _ {D : Type 0} (device : D → Device) (timely : (disk : D) → IsTrue (device disk).honest → IsTimely (device disk)) where
   abbrev Done : VaultOver D → VaultOver D → Type 0
@@ -85,22 +146,39 @@ module _ {D : Type 0} (device : D → Device) (timely : (disk : D) → IsTrue (d
   request_lives (Has k) reply old new asked goes = asked.lives
 
   -- what the items ask
-  items_done : (items : List Item) (replies : List Reply) (old new : VaultOver D) → Serves (PlainAnswers device) old items replies new → old.memory.dead ≡ false
-      → Done old new × (end_of items replies ≢ ends.Halted → new.memory.dead ≡ false)
-  items_done [] [] old new served alive =
-      subst (λ (x : VaultOver D). Done old x × (ends.Done ≢ ends.Halted → x.memory.dead ≡ false)) (sym served) (nothing_done _ _ (timely old.disk), λ goes. alive)
-  items_done [] (reply ∷ replies) old new served alive = absurd served
-  items_done (Faulty bad ∷ items) replies old new served alive = items_done items replies old new served alive
-  items_done (Asks Quit ∷ items) [] old new served alive =
-      subst (λ (x : VaultOver D). Done old x × (ends.Quit ≢ ends.Halted → x.memory.dead ≡ false)) (sym served) (nothing_done _ _ (timely old.disk), λ goes. alive)
-  items_done (Asks Quit ∷ items) (reply ∷ replies) old new served alive = absurd served
-  items_done (Asks request ∷ items) [] old new served alive = absurd served
-  items_done (Asks request ∷ items) (Halted ∷ replies) old new served alive = (request_done request Halted old new served.0, λ goes. absurd (goes refl))
-  items_done (Asks request ∷ items) (reply ∷ replies) old new served alive =
+  pub items_done : (items : List Item) (replies : List Reply) (old new : VaultOver D) → Serves (PlainAnswers device) old items replies new → Done old new
+  items_done [] [] old new served = subst (λ (x : VaultOver D). Done old x) (sym served) (nothing_done _ _)
+  items_done [] (reply ∷ replies) old new served = absurd served
+  items_done (Faulty bad ∷ items) replies old new served = items_done items replies old new served
+  items_done (Asks Quit ∷ items) [] old new served = subst (λ (x : VaultOver D). Done old x) (sym served) (nothing_done _ _)
+  items_done (Asks Quit ∷ items) (reply ∷ replies) old new served = absurd served
+  items_done (Asks request ∷ items) [] old new served = absurd served
+  items_done (Asks request ∷ items) (Halted ∷ replies) old new served = request_done request Halted old new served.0
+  items_done (Asks request ∷ items) (reply ∷ replies) old new served =
       let (mid, asked, rest) = served in
-      let live : mid.memory.dead ≡ false = request_lives request reply old mid asked (λ is. cc) in
-      let then = items_done items replies mid new rest live in
-      (done_then _ _ _ _ _ _ live (request_done request reply old mid asked) then.0, then.1)
+      done_then _ _ _ _ _ _ (request_done request reply old mid asked) (items_done items replies mid new rest)
+
+  request_halts : (request : Request) (old new : VaultOver D) → PlainAnswers device old request Halted new → old.memory.dead ≡ false → IsHalt (device old.disk) (device new.disk) new.memory
+  request_halts (Add k) old new asked alive = halted_by (command.Add k) _ _ _ _ asked alive
+  request_halts (Remove k) old new asked alive = halted_by (command.Remove k) _ _ _ _ asked alive
+  request_halts (Has k) old new asked alive = halted_by (command.Has k) _ _ _ _ asked alive
+  request_halts Quit old new asked alive = absurd asked
+
+  -- items that end in `halted`
+  pub items_halt : (items : List Item) (replies : List Reply) (old new : VaultOver D) → Serves (PlainAnswers device) old items replies new → end_of items replies ≡ ends.Halted
+      → old.memory.dead ≡ false → IsHalt (device old.disk) (device new.disk) new.memory
+  items_halt [] [] old new served halts alive = absurd (cc)
+  items_halt [] (reply ∷ replies) old new served halts alive = absurd served
+  items_halt (Faulty bad ∷ items) replies old new served halts alive = items_halt items replies old new served halts alive
+  items_halt (Asks Quit ∷ items) [] old new served halts alive = absurd (cc)
+  items_halt (Asks Quit ∷ items) (reply ∷ replies) old new served halts alive = absurd served
+  items_halt (Asks request ∷ items) [] old new served halts alive = absurd served
+  items_halt (Asks request ∷ items) (Halted ∷ replies) old new served halts alive = request_halts request old new served.0 alive
+  items_halt (Asks request ∷ items) (reply ∷ replies) old new served halts alive =
+      let (mid, asked, rest) = served in
+      let later = items_halt items replies mid new rest halts (request_lives request reply old mid asked (λ is. cc)) in
+      let before = (request_done request reply old mid asked).faults in
+      (later.0, ⊎_elim inl (λ rose. inr (omega (arith, before, rose))) later.1)
 
   -- one request, of the plain set
   request_plain : (request : Request) (reply : Reply) (old new : VaultOver D) (F : Format) (N : ℕ) (S : Keys) → PlainAnswers device old request reply new → reply ≢ Halted
@@ -123,7 +201,7 @@ module _ {D : Type 0} (device : D → Device) (timely : (disk : D) → IsTrue (d
       cases Quit asked alive = absurd asked
 
   -- what the items ask, of the plain set
-  items_plain : (items : List Item) (replies : List Reply) (old new : VaultOver D) (F : Format) (N : ℕ) (S : Keys) → Serves (PlainAnswers device) old items replies new → end_of items replies ≢ ends.Halted
+  pub items_plain : (items : List Item) (replies : List Reply) (old new : VaultOver D) (F : Format) (N : ℕ) (S : Keys) → Serves (PlainAnswers device) old items replies new → end_of items replies ≢ ends.Halted
       → IsTrue (device old.disk).honest → old.memory.format ≡ F → length old.memory.cells ≡ N → EachHolds (device old.disk).medium N S
       → (T : Keys) × Serves (SetAnswers F N) S items replies T × EachHolds (device new.disk).medium N T
   items_plain [] [] old new F N S served goes honest named count each = (S, refl, subst (λ (x : VaultOver D). EachHolds (device x.disk).medium N S) (sym served) each)
@@ -136,84 +214,83 @@ module _ {D : Type 0} (device : D → Device) (timely : (disk : D) → IsTrue (d
   items_plain (Asks request ∷ items) (reply ∷ replies) old new F N S served goes honest named count each =
       let (mid, asked, rest) = served in
       let (T, answers, held, count') = request_plain request reply old mid F N S asked (λ is. cc) honest named count each in
-      let still : IsTrue (device mid.disk).honest = subst IsTrue (sym (request_done request reply old mid asked).honest) honest in
-      let then = items_plain items replies mid new F N T rest goes still ((request_done request reply old mid asked).format ∙ named) count' held in
+      let did = request_done request reply old mid asked in
+      let then = items_plain items replies mid new F N T rest goes (subst IsTrue (sym did.honest) honest) (did.format ∙ named) count' held in
       (then.0, (T, answers, then.1), then.2)
 
-  -- a whole session, of the plain set
-  pub session_plain : (input rest before after : Option (List ℕ)) (old new : VaultOver D) (F : Format) (N : ℕ) (S : Keys) → ServedWhole device input rest before after old new
-      → IsTrue (device old.disk).honest → old.memory.format ≡ F → length old.memory.cells ≡ N → EachHolds (device old.disk).medium N S → RepliesOfSet F N S input before after (device new.disk).medium
-  session_plain input rest before after old new F N S served honest named count each =
-      let (written, appends, whole) = served.tells in
-      let answered = whole.answered in
-      let plain = items_plain whole.items answered.replies old new F N S answered.served (λ is. served.unhalted (sym answered.ends ∙ is)) honest named count each in
-      record {
-        text = whole.text;
-        known = whole.known;
-        items = whole.items;
-        its = whole.its;
-        replies = answered.replies;
-        last = plain.0;
-        served = plain.1;
-        written = subst (λ (t : List ℕ). Appends before after t) answered.text appends;
-        held = plain.2;
-      }
+  -- at each moment of a request the set is that of before it, or what the request makes of it
+  request_leaves : (request : Request) (reply : Reply) (old new : VaultOver D) (F : Format) (N : ℕ) (S : Keys) (items : List Item) → PlainAnswers device old request reply new
+      → IsTrue (device old.disk).honest → length old.memory.cells ≡ N → EachHolds (device old.disk).medium N S
+      → LeavesOnly (device old.disk) (device new.disk) (FoundAfter F N S (Asks request ∷ items))
+  request_leaves request reply old new F N S items asked honest count each = cases request asked
+    where
+      moments : (c : Command) → Asked c reply old.memory new.memory (device old.disk) (device new.disk) → LeavesOnly (device old.disk) (device new.disk) (HoldsBeforeOrAfter N S c)
+      moments c asked = subst (λ (n : ℕ). LeavesOnly (device old.disk) (device new.disk) (HoldsBeforeOrAfter n S c)) count
+          (asked.any_moment S honest (subst (λ (n : ℕ). EachHolds (device old.disk).medium n S) (sym count) each))
 
-  answered_done : (items : List Item) (old new : VaultOver D) (written : List ℕ) (ended : End) → Answered (PlainAnswers device) old items new written ended → old.memory.dead ≡ false
-      → Done old new × (ended ≢ ends.Halted → new.memory.dead ≡ false)
-  answered_done items old new written ended answered alive =
-      let done = items_done items answered.replies old new answered.served alive in
-      (done.0, λ goes. done.1 (λ is. goes (sym answered.ends ∙ is)))
+      cases : (request : Request) → PlainAnswers device old request reply new → LeavesOnly (device old.disk) (device new.disk) (FoundAfter F N S (Asks request ∷ items))
+      cases (Add k) asked = leaves_more _ _ _ _ (λ t either. ⊎_elim (found_here F N S (Asks (Add k) ∷ items) t) (found_amid F N S (after (command.Add k) S) (Add k) items t (inr refl, refl)) either) (moments (command.Add k) asked)
+      cases (Remove k) asked = leaves_more _ _ _ _ (λ t either. ⊎_elim (found_here F N S (Asks (Remove k) ∷ items) t) (found_amid F N S (after (command.Remove k) S) (Remove k) items t (inr refl, refl)) either) (moments (command.Remove k) asked)
+      cases (Has k) asked = leaves_more _ _ _ _ (λ t either. ⊎_elim (found_here F N S (Asks (Has k) ∷ items) t) (found_here F N S (Asks (Has k) ∷ items) t) either) (moments (command.Has k) asked)
+      cases Quit asked = absurd asked
 
-  -- a session
-  pub session_done : (r : Result End SessionFault) (input after : Option (List ℕ)) (old new : VaultOver D) (written : List ℕ)
-      → SessionTells (PlainAnswers device) input after old new written r → old.memory.dead ≡ false → Done old new
-  session_done (Ok ended) input after old new written tells alive = (answered_done tells.items old new written ended tells.answered alive).0
-  session_done (Err Read) input after old new written tells alive = (answered_done tells.2.items old new written ends.Done tells.2.answered alive).0
-  session_done (Err Memory) input after old new written tells alive = (answered_done tells.3.items old new written ends.Done tells.3.answered alive).0
-  session_done (Err Write) input after old new written tells alive =
-      let cut = tells.2.cut in
-      let first = answered_done cut.done old cut.mid cut.before ends.Done cut.answered alive in
-      let live : cut.mid.memory.dead ≡ false = first.1 (λ is. cc) in
-      done_then _ _ _ _ _ _ live first.0 (items_done (cut.item ∷ []) cut.reply cut.mid new cut.served live).0
+  -- at each moment the set is that after some first ones of the items
+  pub items_leave : (items : List Item) (replies : List Reply) (old new : VaultOver D) (F : Format) (N : ℕ) (S : Keys) → Serves (PlainAnswers device) old items replies new
+      → IsTrue (device old.disk).honest → old.memory.format ≡ F → length old.memory.cells ≡ N → EachHolds (device old.disk).medium N S
+      → LeavesOnly (device old.disk) (device new.disk) (FoundAfter F N S items)
+  items_leave [] [] old new F N S served honest named count each =
+      subst (λ (x : VaultOver D). LeavesOnly (device old.disk) (device x.disk) (FoundAfter F N S [])) (sym served) (quiet _ _ (timely old.disk honest) (λ t image. found_here F N S [] t (each t image)))
+  items_leave [] (reply ∷ replies) old new F N S served honest named count each = absurd served
+  items_leave (Faulty bad ∷ items) replies old new F N S served honest named count each =
+      leaves_more _ _ _ _ (found_past_fault F N S bad items) (items_leave items replies old new F N S served honest named count each)
+  items_leave (Asks Quit ∷ items) [] old new F N S served honest named count each =
+      subst (λ (x : VaultOver D). LeavesOnly (device old.disk) (device x.disk) (FoundAfter F N S (Asks Quit ∷ items))) (sym served)
+      (quiet _ _ (timely old.disk honest) (λ t image. found_here F N S (Asks Quit ∷ items) t (each t image)))
+  items_leave (Asks Quit ∷ items) (reply ∷ replies) old new F N S served honest named count each = absurd served
+  items_leave (Asks request ∷ items) [] old new F N S served honest named count each = absurd served
+  items_leave (Asks request ∷ items) (Halted ∷ replies) old new F N S served honest named count each = request_leaves request Halted old new F N S items served.0 honest count each
+  items_leave (Asks request ∷ items) (reply ∷ replies) old new F N S served honest named count each =
+      let (mid, asked, rest) = served in
+      let (T, answers, held, count') = request_plain request reply old mid F N S asked (λ is. cc) honest named count each in
+      let did = request_done request reply old mid asked in
+      leaves_then _ _ _ _ (request_leaves request reply old mid F N S items asked honest count each)
+      (leaves_more _ _ _ _ (λ t found. found_past F N S T request reply items t answers found) (items_leave items replies mid new F N T rest (subst IsTrue (sym did.honest) honest) (did.format ∙ named) count' held))
 
--- what a sync makes sure was an image before
-synced_was : (old : Device) → IsTimely old → (t : List ℕ) → IsImage (synced old.medium) t → IsImage old.medium t
-synced_was old timely t image =
-    let is = synced_image old.medium t image in
-    let seen : IsImage old.medium old.medium.seen = record {
-      bytes = subst AreBytes is image.bytes;
-      no_shorter = timely.consistent.no_shorter;
-      no_longer = omega arith;
-      sure = timely.consistent.same;
-    } in
-    subst (IsImage old.medium) (sym is) seen
+  -- what was left by a request that halted
+  request_may : (request : Request) (old new : VaultOver D) (F : Format) (N : ℕ) (S : Keys) → PlainAnswers device old request Halted new
+      → IsTrue (device old.disk).honest → length old.memory.cells ≡ N → EachHolds (device old.disk).medium N S
+      → (t : List ℕ) → IsImage (device new.disk).medium t → (T : Keys) × MayAnswer F N S request Halted T × Holds t N T
+  request_may request old new F N S asked honest count each t image = cases request asked
+    where
+      still : IsTrue (device new.disk).honest
+      still = subst IsTrue (sym (request_done request Halted old new asked).honest) honest
 
--- after a sync, or none
-unwritten : (old new : Device) → IsTimely old → (new.medium ≡ old.medium) ⊎ (new.medium ≡ synced old.medium) → (t : List ℕ) → IsImage new.medium t → IsImage old.medium t
-unwritten old new timely (inl same) t image = subst (λ (m : Medium). IsImage m t) same image
-unwritten old new timely (inr after_sync) t image = synced_was old timely t (subst (λ (m : Medium). IsImage m t) after_sync image)
+      either : (c : Command) → Asked c Halted old.memory new.memory (device old.disk) (device new.disk) → HoldsBeforeOrAfter N S c t
+      either c asked =
+          let leaves = asked.any_moment S honest (subst (λ (n : ℕ). EachHolds (device old.disk).medium n S) (sym count) each) in
+          subst (λ (n : ℕ). HoldsBeforeOrAfter n S c t) count (leaves.each t ((timely new.disk still).counts_now (device old.disk).moment t leaves.later image))
 
--- an open that wrote nothing leaves what could be left before
-pub opening_leaves : (old new : Device) (N : ℕ) → IsTimely old → (new.medium ≡ old.medium) ⊎ (new.medium ≡ synced old.medium) → LeavesEither old new → HoldsOne old.medium N → LeavesOnly old new (HoldsSome N)
-opening_leaves old new N timely same time one =
-    leaves_more old new _ _ (λ t either. ⊎_elim (λ image. (one.0, one.1 t image)) (λ image. (one.0, one.1 t (unwritten old new timely same t image))) either) time
+      cases : (request : Request) → PlainAnswers device old request Halted new → (T : Keys) × MayAnswer F N S request Halted T × Holds t N T
+      cases (Add k) asked = ⊎_elim (λ holds. (S, inl refl, holds)) (λ holds. (after (command.Add k) S, inr refl, holds)) (either (command.Add k) asked)
+      cases (Remove k) asked = ⊎_elim (λ holds. (S, inl refl, holds)) (λ holds. (after (command.Remove k) S, inr refl, holds)) (either (command.Remove k) asked)
+      cases (Has k) asked = ⊎_elim (λ holds. (S, refl, holds)) (λ holds. (S, refl, holds)) (either (command.Has k) asked)
+      cases Quit asked = absurd asked
 
--- a set that was opened is that of each image
-pub opened_holds : (old mid : Device) (was : Vaulted) (N : ℕ) (S : Keys) → IsTimely old → IsTrue old.honest → Opens old mid was → EachHolds old.medium N S
-    → (length was.cells ≡ N) × EachHolds mid.medium N S
-opened_holds old mid was N S timely honest opens each =
-    let after_sync = opens.medium honest in
-    let seen : IsImage old.medium old.medium.seen = synced_was old timely old.medium.seen
-    (subst (λ (m : Medium). IsImage m old.medium.seen) after_sync (subst (IsImage mid.medium) (ap (λ (m : Medium). m.seen) after_sync) (opens.kept honest).sound.seen)) in (
-      let a = (each old.medium.seen seen).size in let b = (opens.found honest).held.size in omega arith,
-      λ t image. each t (unwritten old mid timely (inr after_sync) t image),
-    )
-
--- a run after an open that succeeded
-pub opened_leaves : (old mid new : Device) (was now : Vaulted) (N : ℕ) → IsTimely old → IsTrue old.honest → Opens old mid was → CarriedOut mid new was now → HoldsOne old.medium N → LeavesOnly old new (HoldsSome N)
-opened_leaves old mid new was now N timely honest opens carried one =
-    let (count, each) = opened_holds old mid was N one.0 timely honest opens one.1 in
-    let still : IsTrue mid.honest = subst IsTrue (sym opens.honest) honest in
-    leaves_then old mid new (HoldsSome N) (opening_leaves old mid N timely (inr (opens.medium honest)) (opens.time honest) one)
-    (subst (λ (n : ℕ). LeavesOnly mid new (HoldsSome n)) count (carried.leaves still (subst (λ (n : ℕ). HoldsOne mid.medium n) (sym count) (one.0, each))))
+  -- what was left by the items
+  pub items_may : (items : List Item) (replies : List Reply) (old new : VaultOver D) (F : Format) (N : ℕ) (S : Keys) → Serves (PlainAnswers device) old items replies new
+      → IsTrue (device old.disk).honest → old.memory.format ≡ F → length old.memory.cells ≡ N → EachHolds (device old.disk).medium N S
+      → (t : List ℕ) → IsImage (device new.disk).medium t → (T : Keys) × Serves (MayAnswer F N) S items replies T × Holds t N T
+  items_may [] [] old new F N S served honest named count each t image = (S, refl, each t (subst (λ (x : VaultOver D). IsImage (device x.disk).medium t) served image))
+  items_may [] (reply ∷ replies) old new F N S served honest named count each t image = absurd served
+  items_may (Faulty bad ∷ items) replies old new F N S served honest named count each t image = items_may items replies old new F N S served honest named count each t image
+  items_may (Asks Quit ∷ items) [] old new F N S served honest named count each t image = (S, refl, each t (subst (λ (x : VaultOver D). IsImage (device x.disk).medium t) served image))
+  items_may (Asks Quit ∷ items) (reply ∷ replies) old new F N S served honest named count each t image = absurd served
+  items_may (Asks request ∷ items) [] old new F N S served honest named count each t image = absurd served
+  items_may (Asks request ∷ items) (Halted ∷ replies) old new F N S served honest named count each t image =
+      let (T, answers, holds) = request_may request old new F N S served.0 honest count each t image in (T, (answers, served.1), holds)
+  items_may (Asks request ∷ items) (reply ∷ replies) old new F N S served honest named count each t image =
+      let (mid, asked, rest) = served in
+      let (T, answers, held, count') = request_plain request reply old mid F N S asked (λ is. cc) honest named count each in
+      let did = request_done request reply old mid asked in
+      let (U, then, holds) = items_may items replies mid new F N T rest (subst IsTrue (sym did.honest) honest) (did.format ∙ named) count' held t image in
+      (U, (T, may_be F N S T request reply answers, then), holds)

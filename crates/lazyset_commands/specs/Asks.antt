@@ -55,11 +55,26 @@ SetAnswers F N S (Remove k) reply T = IsPlainReply F (command.Remove k) reply S 
 SetAnswers F N S (Has k) reply T = IsPlainReply F (command.Has k) reply S N × (T ≡ set_after_reply (command.Has k) reply S)
 SetAnswers F N S Quit reply T = ⊥
 
+-- what the plain set replies whose device may fail: `halted` leaves open whether the command was done
+abbrev pub MayAnswer : Format → ℕ → Keys → Request → Reply → Keys → Type 0
+MayAnswer F N S (Add k) Halted T = (T ≡ S) ⊎ (T ≡ after (command.Add k) S)
+MayAnswer F N S (Remove k) Halted T = (T ≡ S) ⊎ (T ≡ after (command.Remove k) S)
+MayAnswer F N S (Has k) Halted T = T ≡ S
+MayAnswer F N S Quit reply T = ⊥
+MayAnswer F N S request reply T = SetAnswers F N S request reply T
+
 -- The life is over after `halted`, and only then; it ends in a command only where the device fails in it, or has made its
 -- last sync.
 abbrev pub Lives : Reply → Vaulted → Vaulted → Device → Device → Type 0
 Lives Halted old new before after = (new.dead ≡ true) × ((old.dead ≡ true) ⊎ (last_sync ≤ new.syncs) ⊎ (before.faults < after.faults))
 Lives reply old new before after = new.dead ≡ false
+
+-- A life that is over stays so: `halted`, and nothing is changed.
+pub record StaysOver (reply : Reply) (old new : Vaulted) (before after : Device) : Type 0 where
+  pub replied : reply ≡ Halted
+  pub memory : new ≡ old
+  pub medium : after.medium ≡ before.medium
+  pub calls : after.calls ≡ before.calls
 
 -- A command was asked and replied to. Where each image held S, a crash at any moment of it leaves S or what the command
 -- makes of S; and but for `halted`, the reply is the plain set's, and each image holds the set after it.
@@ -69,6 +84,7 @@ pub record Asked (command : Command) (reply : Reply) (old new : Vaulted) (before
   pub honest : after.honest ≡ before.honest
   pub faults : before.faults ≤ after.faults
   pub lives : Lives reply old new before after
+  pub over : old.dead ≡ true → StaysOver reply old new before after
   pub any_moment : (S : Keys) → IsTrue before.honest → EachHolds before.medium (length old.cells) S
       → LeavesOnly before after (HoldsBeforeOrAfter (length old.cells) S command)
   pub acknowledged : (S : Keys) → IsTrue before.honest → EachHolds before.medium (length old.cells) S → new.dead ≡ false

@@ -1,8 +1,10 @@
--- How a command of the program ends.
+-- How a command of the program ends: the status of each end and of each fault.
 use Rattle.std.specs.Prelude.{ℕ, Result, Ok, Err}
 use Rattle.lz_proto.specs.declared.end.End.{End}
 use Rattle.lz_proto.specs.declared.end.End.TheVariants as ends
 use Rattle.lz_proto.specs.declared.fault.SessionFault.{SessionFault}
+use Rattle.lz_rehearsal.specs.declared.rehearsal.RehearsalFault.{RehearsalFault}
+use Rattle.lz_rehearsal.specs.declared.rehearsal.RehearsalFault.TheVariants as rehearsal
 use Rattle.lz_vault.specs.declared.making.MakeFault.{MakeFault}
 use Rattle.lz_vault.specs.declared.making.MakeFault.TheVariants as making
 use Rattle.lz_vault.specs.declared.opening.OpenFault.{OpenFault}
@@ -35,3 +37,10 @@ open_status fault = Refused
 abbrev pub make_status : MakeFault → Status
 make_status making.Device = Failed
 make_status fault = Refused
+
+-- how a rehearsal ends after its lines, where that could be told
+abbrev pub rehearsal_status : Result (Unit {0}) RehearsalFault → Status
+rehearsal_status (Ok done) = Done
+rehearsal_status (Err (rehearsal.Line number)) = Refused
+rehearsal_status (Err rehearsal.Write) = Failed
+rehearsal_status (Err rehearsal.Memory) = Failed

@@ -1,5 +1,6 @@
 pub mod Plains
 pub mod Ends
+pub mod Tellings
 pub mod Makings
 pub mod Asks
 pub mod Runs

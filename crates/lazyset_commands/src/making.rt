@@ -1,19 +1,19 @@
 //! The command that makes a file.
-ghost use Rattle.std.specs.Prelude.{◌≡◌, ◌⊎◌, ◌+◌, ◌*◌, ◌<◌, ◌≤◌, ℕ, List, length, IsTrue, OnOk, Ok, Err};
-ghost use Rattle.std.specs.Io.KnownBytes.{Appends};
+ghost use Rattle.std.specs.Prelude.{◌≡◌, ◌⊎◌, ◌≤◌, ℕ, List, IsTrue};
 ghost use Rattle.lz_slot.specs.Bytes.{IsUnmadeOrEmpty};
 ghost use Rattle.lz_disk.specs.Images.{IsImage};
 ghost use Rattle.lz_disk.specs.Devices.{LeavesOnly};
-ghost use Rattle.lz_vault.specs.Makes.{IsFresh, MayBeMade, WritesNothing, make_fault_number};
+ghost use Rattle.lz_vault.specs.Makes.{MayBeMade, WritesNothing, make_fault_number};
 ghost use Rattle.lazyset_commands.specs.Ends.{make_status};
-ghost use Rattle.lazyset_commands.specs.Makings.{IsRefusal, made_text, refused_text};
+ghost use Rattle.lazyset_commands.specs.Makings.{MadeFile, RefusedMaking, made_text, refused_text};
+ghost use Rattle.lazyset_commands.specs.Tellings.{Tells};
 
-use crate::refusal::write_number;
+use crate::refusal::send_line;
 use crate::status::Status;
+use crate::telling::status_sent;
 use lz_disk::Disk;
 use lz_slot::Format;
 use lz_vault::{MakeFault, make};
-use std::io;
 use std::io::Write;
 
 /// Makes a file of this format with so many slots, and says so: `made N`, or `refused N` with the fault's number. Failed also where the
@@ -24,12 +24,12 @@ pub fn make_on<W: Write + Drop, D: Disk>(
     slots: u64,
     format: Format,
 ) -> Status
-    ensures done { result ≡ Status.Done → Appends (W.contents writer.old) (W.contents writer.new) (made_text slots)
-        × (IsTrue (D.device disk.old).honest → IsFresh (D.device disk.new).medium format slots) }
-    ensures refused { result ≡ Status.Refused → (fault : MakeFault) × Appends (W.contents writer.old) (W.contents writer.new) (refused_text (make_fault_number fault))
-        × (make_status fault ≡ Status.Refused) × (IsTrue (D.device disk.old).honest → IsRefusal fault (D.device disk.old).medium.seen slots) }
+    // Either the file was made, or there was a fault; which of the two, and the status by it, is what was told.
+    ensures made { MadeFile format slots result (W.contents writer.old) (W.contents writer.new) (D.device disk.old) (D.device disk.new)
+        ⊎ RefusedMaking slots result (W.contents writer.old) (W.contents writer.new) (D.device disk.old) (D.device disk.new) }
+
+    // Where no file can be made, as over a made one, nothing is written at any moment.
     ensures safe { IsTrue (D.device disk.old).honest → (MayBeMade (D.device disk.old).medium.seen slots → ⊥) → WritesNothing (D.device disk.old) (D.device disk.new) }
-    ensures other { (result ≡ Status.Done) ⊎ (result ≡ Status.Refused) ⊎ (result ≡ Status.Failed) }
     ensures faults { (D.device disk.old).faults ≤ (D.device disk.new).faults }
     ensures honest { (D.device disk.new).honest ≡ (D.device disk.old).honest }
 
@@ -38,23 +38,31 @@ pub fn make_on<W: Write + Drop, D: Disk>(
         → LeavesOnly (D.device disk.old) (D.device disk.new) IsUnmadeOrEmpty }
 {
     match make(disk, format, slots) {
-        Ok(()) => {
-            if write_made(writer, slots).is_err() {
-                return Status::Failed;
-            }
-            Status::Done
-        }
-        Err(fault) => {
-            if write_number(writer, fault.number()).is_err() || fault == MakeFault::Device {
-                return Status::Failed;
-            }
-            Status::Refused
-        }
+        Ok(()) => tell_made(writer, slots),
+        Err(fault) => tell_fault(writer, fault),
     }
 }
 
-fn write_made<W: Write + Drop>(writer: &mut W, slots: u64) -> io::Result<()>
-    ensures { OnOk result (Appends (W.contents writer.old) (W.contents writer.new) (made_text slots)) }
+fn tell_made<W: Write + Drop>(writer: &mut W, slots: u64) -> Status
+    ensures { Tells (W.contents writer.old) (W.contents writer.new) (made_text slots) Status.Done result }
 {
-    writeln!(writer, "made {slots}")
+    status_sent(send_line(writer, b"made ", slots), Status::Done)
+}
+
+fn tell_fault<W: Write + Drop>(writer: &mut W, fault: MakeFault) -> Status
+    ensures { Tells (W.contents writer.old) (W.contents writer.new) (refused_text (make_fault_number fault)) (make_status fault) result }
+{
+    let told = fault;
+    let number = u64::from(told.number());
+    status_sent(send_line(writer, b"refused ", number), status_of(fault))
+}
+
+// The status after a making that made no file.
+fn status_of(fault: MakeFault) -> Status
+    ensures { result ≡ make_status fault }
+{
+    match fault {
+        MakeFault::Device => Status::Failed,
+        _ => Status::Refused,
+    }
 }

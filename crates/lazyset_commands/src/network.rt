@@ -1,6 +1,7 @@
 //! The command that serves a set over the network.
 ghost use Rattle.std.specs.Prelude.{◌≡◌, ◌⊎◌, ◌≤◌, IsTrue};
 ghost use Rattle.std.specs.Io.KnownBytes.{Appends};
+ghost use Rattle.lz_slot.specs.Limits.{most_buckets, most_passes};
 ghost use Rattle.lz_vault.specs.Opens.{IsFaultOf};
 ghost use Rattle.lazyset_commands.specs.Runs.{refusal_text};
 
@@ -41,8 +42,8 @@ where
     R: Threads + Wait + Clock + AllocGlobal + Sync,
     W: Write + Drop,
     D: Disk + Send,
-    requires passes { (1 ≤ options.passes) × (options.passes ≤ 64) }
-    requires buckets { (1 ≤ options.buckets) × (options.buckets ≤ 4096) }
+    requires passes { (1 ≤ options.passes) × (options.passes ≤ most_passes) }
+    requires buckets { (1 ≤ options.buckets) × (options.buckets ≤ most_buckets) }
     ensures refused { result.0 ≡ Status.Refused → (fault : OpenFault) × Appends (W.contents writer.old) (W.contents writer.new) (refusal_text fault)
         × (IsTrue (D.device disk).honest → IsFaultOf (D.device disk).medium.seen fault) }
     ensures other { (result.0 ≡ Status.Done) ⊎ (result.0 ≡ Status.Refused) ⊎ (result.0 ≡ Status.Failed) }

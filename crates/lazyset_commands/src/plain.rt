@@ -25,7 +25,7 @@ pub enum Fault {
     OldFile,
     /// No slot is free, and the key is no member. Nothing was changed.
     Full,
-    /// The life is over: the device failed in an earlier command.
+    /// The life is over: the device failed in an earlier command. It stays so, and nothing was changed.
     Halted,
     /// The device failed in this command, which may have been done or not.
     Device,
@@ -99,6 +99,7 @@ impl<D: Disk> Plain<D> {
         ensures fault { IfErr result (λ fault. IsAddFault fault key self.old.memory self.new.memory (D.device self.old.disk) (D.device self.new.disk)) }
         ensures fits { IfOk result (λ answer. key ≤ largest_of self.old.memory.format) }
         ensures full { IsErrOf result Fault.Full → self.new ≡ self.old }
+        ensures over { self.old.memory.dead ≡ true → IsErrOf result Fault.Halted × (self.new ≡ self.old) }
         ensures old_file { IsErrOf result Fault.OldFile → self.new ≡ self.old }
         ensures format { self.new.memory.format ≡ self.old.memory.format }
         ensures slots { length self.new.memory.cells ≡ length self.old.memory.cells }
@@ -141,6 +142,7 @@ impl<D: Disk> Plain<D> {
     pub fn remove(&mut self, key: Key) -> Result<bool, Fault>
         ensures removes { IfOk result (λ answer. (self.new.memory.dead ≡ false) × Removes self.old.memory.cells key answer self.new.memory.cells) }
         ensures fault { IfErr result (λ fault. IsRemoveFault fault self.old.memory self.new.memory (D.device self.old.disk) (D.device self.new.disk)) }
+        ensures over { self.old.memory.dead ≡ true → IsErrOf result Fault.Halted × (self.new ≡ self.old) }
         ensures format { self.new.memory.format ≡ self.old.memory.format }
         ensures slots { length self.new.memory.cells ≡ length self.old.memory.cells }
         ensures honest { (D.device self.new.disk).honest ≡ (D.device self.old.disk).honest }

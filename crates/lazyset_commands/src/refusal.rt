@@ -1,44 +1,53 @@
-//! The lines that tell refusals.
-ghost use Rattle.std.specs.Prelude.{OnOk};
-ghost use Rattle.std.specs.Io.KnownBytes.{Appends};
-ghost use Rattle.lazyset_commands.specs.Makings.{refused_text};
+//! The lines that have numbers: what was made, and why not.
+ghost use Rattle.std.specs.Prelude.{◌++◌, ◌∷◌, [], codes, decimal};
+ghost use Rattle.lz_proto.specs.Steps.{SendTells};
 ghost use Rattle.lazyset_commands.specs.Runs.{refusal_text};
 
+use itoa::Buffer;
+use lz_proto::{SessionFault, send};
 use lz_slot::Slot;
 use lz_vault::OpenFault;
-use std::io;
 use std::io::Write;
 
-/// The line of a refused open.
-pub fn write_refusal<W: Write + Drop>(writer: &mut W, fault: OpenFault) -> io::Result<()>
-    ensures { OnOk result (Appends (W.contents writer.old) (W.contents writer.new) (refusal_text fault)) }
+/// Sends the line of a refused open.
+pub fn send_refusal<W: Write>(writer: &mut W, fault: OpenFault) -> Result<(), SessionFault>
+    ensures { SendTells (W.contents writer.old) (W.contents writer.new) (refusal_text fault) result }
 {
     let numbered = fault;
     match fault {
-        OpenFault::BadKey(slot) => write_bad_key(writer, slot),
-        OpenFault::Twice(first, second) => write_twice(writer, first, second),
-        _ => write_number(writer, numbered.number()),
+        OpenFault::BadKey(slot) => send_line(writer, b"refused 5 ", u64::from(slot.index())),
+        OpenFault::Twice(first, second) => send_twice(writer, first, second),
+        _ => send_line(writer, b"refused ", u64::from(numbered.number())),
     }
 }
 
-fn write_bad_key<W: Write + Drop>(writer: &mut W, slot: Slot) -> io::Result<()>
-    ensures { OnOk result (Appends (W.contents writer.old) (W.contents writer.new) (refusal_text (OpenFault.BadKey slot))) }
+// Sends the line of two slots that hold one key.
+fn send_twice<W: Write>(writer: &mut W, first: Slot, second: Slot) -> Result<(), SessionFault>
+    ensures { SendTells (W.contents writer.old) (W.contents writer.new) (refusal_text (OpenFault.Twice first second)) result }
 {
-    let index = slot.index();
-    writeln!(writer, "refused 5 {index}")
+    if let Err(fault) = send_number(writer, b"refused 6 ", u64::from(first.index())) {
+        return Err(fault);
+    }
+    send_line(writer, b" ", u64::from(second.index()))
 }
 
-fn write_twice<W: Write + Drop>(writer: &mut W, first: Slot, second: Slot) -> io::Result<()>
-    ensures { OnOk result (Appends (W.contents writer.old) (W.contents writer.new) (refusal_text (OpenFault.Twice first second))) }
+/// Sends a line of these words and a number.
+pub fn send_line<W: Write>(writer: &mut W, words: &[u8], number: u64) -> Result<(), SessionFault>
+    ensures { SendTells (W.contents writer.old) (W.contents writer.new) (words.now ++ decimal number ++ 10 ∷ []) result }
 {
-    let low = first.index();
-    let high = second.index();
-    writeln!(writer, "refused 6 {low} {high}")
+    if let Err(fault) = send_number(writer, words, number) {
+        return Err(fault);
+    }
+    send(writer, b"\n")
 }
 
-/// The line of a refusal with this number.
-pub fn write_number<W: Write + Drop>(writer: &mut W, number: u8) -> io::Result<()>
-    ensures { OnOk result (Appends (W.contents writer.old) (W.contents writer.new) (refused_text number)) }
+// Sends words and a number.
+fn send_number<W: Write>(writer: &mut W, words: &[u8], number: u64) -> Result<(), SessionFault>
+    ensures { SendTells (W.contents writer.old) (W.contents writer.new) (words.now ++ decimal number) result }
 {
-    writeln!(writer, "refused {number}")
+    if let Err(fault) = send(writer, words) {
+        return Err(fault);
+    }
+    let mut digits = Buffer::new();
+    send(writer, digits.format(number).as_bytes())
 }

@@ -1,7 +1,9 @@
 //! The command that rehearses a script.
 ghost use Rattle.std.specs.Prelude.{◌≡◌, ◌⊎◌, ◌≤◌, ℕ, IfSome, Ok, Err};
 ghost use Rattle.std.specs.Io.KnownBytes.{Appends};
+ghost use Rattle.lz_slot.specs.Limits.{most_buckets, most_passes, most_rehearsed};
 ghost use Rattle.lz_rehearsal.specs.Tellings.{line_text};
+ghost use Rattle.lazyset_commands.specs.Ends.{rehearsal_status};
 ghost use Rattle.lazyset_commands.specs.Rehearsals.{IsUnread, OfScript, RehearsedAll, RehearsedTo};
 
 use crate::status::Status;
@@ -23,12 +25,12 @@ pub fn rehearse_on<R: Read, W: Write + Drop>(
     buckets: usize,
     format: Format,
 ) -> Status
-    requires slots { (1 ≤ slots) × (slots ≤ 64) }
-    requires buckets { (1 ≤ buckets) × (buckets ≤ 4096) }
+    requires slots { (1 ≤ slots) × (slots ≤ most_rehearsed) }
+    requires buckets { (1 ≤ buckets) × (buckets ≤ most_buckets) }
     ensures done { result ≡ Status.Done → IfSome (R.remaining reader.old) (OfScript (λ lines.
-        RehearsedAll (record { slots = slots; buckets = buckets; passes = 64 }) format lines (W.contents writer.old) (W.contents writer.new))) }
+        RehearsedAll (record { slots = slots; buckets = buckets; passes = most_passes }) format lines (W.contents writer.old) (W.contents writer.new))) }
     ensures refused { result ≡ Status.Refused → IfSome (R.remaining reader.old) (λ input. IsUnread input (W.contents writer.old) (W.contents writer.new) ⊎ OfScript (λ lines.
-        RehearsedTo (record { slots = slots; buckets = buckets; passes = 64 }) format lines (W.contents writer.old) (W.contents writer.new)) input) }
+        RehearsedTo (record { slots = slots; buckets = buckets; passes = most_passes }) format lines (W.contents writer.old) (W.contents writer.new)) input) }
     ensures other { (result ≡ Status.Done) ⊎ (result ≡ Status.Refused) ⊎ (result ≡ Status.Failed) }
 {
     match Script::read(alloc, reader) {
@@ -48,10 +50,10 @@ fn rehearse_lines<W: Write + Drop>(
     buckets: usize,
     format: Format,
 ) -> Status
-    requires slots { (1 ≤ slots) × (slots ≤ 64) }
-    requires buckets { (1 ≤ buckets) × (buckets ≤ 4096) }
-    ensures done { result ≡ Status.Done → RehearsedAll (record { slots = slots; buckets = buckets; passes = 64 }) format lines.now (W.contents writer.old) (W.contents writer.new) }
-    ensures refused { result ≡ Status.Refused → RehearsedTo (record { slots = slots; buckets = buckets; passes = 64 }) format lines.now (W.contents writer.old) (W.contents writer.new) }
+    requires slots { (1 ≤ slots) × (slots ≤ most_rehearsed) }
+    requires buckets { (1 ≤ buckets) × (buckets ≤ most_buckets) }
+    ensures done { result ≡ Status.Done → RehearsedAll (record { slots = slots; buckets = buckets; passes = most_passes }) format lines.now (W.contents writer.old) (W.contents writer.new) }
+    ensures refused { result ≡ Status.Refused → RehearsedTo (record { slots = slots; buckets = buckets; passes = most_passes }) format lines.now (W.contents writer.old) (W.contents writer.new) }
     ensures other { (result ≡ Status.Done) ⊎ (result ≡ Status.Refused) ⊎ (result ≡ Status.Failed) }
 {
     let Ok(world) = World::new(alloc, slots, buckets, format) else {
@@ -66,6 +68,7 @@ fn rehearse_lines<W: Write + Drop>(
 fn tell_end<W: Write + Drop>(writer: &mut W, ended: Result<(), RehearsalFault>) -> Status
     ensures done { result ≡ Status.Done → (ended ≡ Ok tt) × (W.contents writer.new ≡ W.contents writer.old) }
     ensures refused { result ≡ Status.Refused → (number : ℕ) × (ended ≡ Err (RehearsalFault.Line number)) × Appends (W.contents writer.old) (W.contents writer.new) (line_text number) }
+    ensures table { (result ≡ rehearsal_status ended) ⊎ (result ≡ Status.Failed) }
     ensures other { (result ≡ Status.Done) ⊎ (result ≡ Status.Refused) ⊎ (result ≡ Status.Failed) }
 {
     match ended {

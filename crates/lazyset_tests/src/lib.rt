@@ -28,6 +28,8 @@ mod rehearsal;
 #[cfg(test)]
 mod rehearsing;
 #[cfg(test)]
+mod renewals;
+#[cfg(test)]
 mod rooms;
 #[cfg(test)]
 mod scripts;

@@ -271,3 +271,113 @@ fn a_failed_write_ends_the_run(rt: HostRuntime) -> Result<(), Fail> {
     }
     Ok(())
 }
+
+/// Is interrupted before each read, and gives its text a byte at a time. At its end a read fails so, if it fails.
+#[derive(Drop)]
+struct Interrupted<'a> {
+    text: &'a [u8],
+    rested: bool,
+    fault: ErrorKind,
+}
+
+impl<'a> Read for Interrupted<'a> {
+    fn read(&mut self, buffer: &mut [u8]) -> io::Result<usize> {
+        self.rested = !self.rested;
+        if self.rested {
+            return Err(io::Error::from(ErrorKind::Interrupted));
+        }
+        if self.text.is_empty() && self.fault != ErrorKind::Interrupted {
+            return Err(io::Error::from(self.fault));
+        }
+        if buffer.is_empty() || self.text.is_empty() {
+            return Ok(0);
+        }
+        buffer[0] = self.text[0];
+        self.text = &self.text[1..];
+        Ok(1)
+    }
+}
+
+/// Is interrupted before each write, and takes a byte at a time, so many, and then fails so.
+#[derive(Drop)]
+struct Hesitant {
+    taken: Vec<u8>,
+    room: usize,
+    rested: bool,
+    fault: ErrorKind,
+}
+
+impl Write for Hesitant {
+    fn write(&mut self, bytes: &[u8]) -> io::Result<usize> {
+        self.rested = !self.rested;
+        if self.rested {
+            return Err(io::Error::from(ErrorKind::Interrupted));
+        }
+        if bytes.is_empty() {
+            return Ok(0);
+        }
+        if self.room == 0 {
+            return Err(io::Error::from(self.fault));
+        }
+        if self.taken.push(bytes[0]).is_err() {
+            return Err(io::Error::from(ErrorKind::OutOfMemory));
+        }
+        self.room -= 1;
+        Ok(1)
+    }
+
+    fn flush(&mut self) -> io::Result<()> {
+        Ok(())
+    }
+}
+
+// What a run over two slots ends with and writes, whose reads and writes are interrupted, where reads then fail so at the
+// lines' end, or writes after so many bytes.
+fn interrupted(
+    alloc: Global,
+    lines: &[u8],
+    read_fault: ErrorKind,
+    room: usize,
+    write_fault: ErrorKind,
+) -> Result<(u8, Vec<u8>), AllocError> {
+    let mut reader = Interrupted {
+        text: lines,
+        rested: false,
+        fault: read_fault,
+    };
+    let mut writer = Hesitant {
+        taken: Vec::new(alloc),
+        room,
+        rested: false,
+        fault: write_fault,
+    };
+    let disk = disk_with(alloc, &TWO_SLOTS)?;
+    let (status, _disk) = run_on(alloc, &mut reader, &mut writer, disk);
+    Ok((status.code(), writer.taken))
+}
+
+// An interrupted read or write is tried again; any other fault of one ends the run.
+#[test]
+fn only_an_interruption_is_tried_again(rt: HostRuntime) -> Result<(), Fail> {
+    let lines: &[u8] = b"add 17\nhas 17\nadd 17\n";
+    let replies: &[u8] = b"yes\nyes\nno\n";
+    let kind = ErrorKind::Interrupted;
+    let (code, written) = interrupted(rt.alloc(), lines, kind, 100, ErrorKind::Other)?;
+    assert_eq!(rt; code, 0);
+    assert_eq!(rt; written.as_slice(), replies);
+    for fault in [
+        ErrorKind::Other,
+        ErrorKind::WouldBlock,
+        ErrorKind::TimedOut,
+        ErrorKind::BrokenPipe,
+        ErrorKind::UnexpectedEof,
+    ] {
+        let (code, written) = interrupted(rt.alloc(), lines, fault, 100, ErrorKind::Other)?;
+        assert_eq!(rt; code, 1);
+        assert_eq!(rt; written.as_slice(), replies);
+        let (code, written) = interrupted(rt.alloc(), lines, kind, 5, fault)?;
+        assert_eq!(rt; code, 1);
+        assert_eq!(rt; written.as_slice(), b"yes\ny");
+    }
+    Ok(())
+}

@@ -1,5 +1,5 @@
 -- The trace at which a pass of a run went in is that before the last change of its pin word in the notes.
-use Rattle.std.proofs.Common.{◌≡◌, ◌≢◌, ◌⊎◌, inl, inr, ⊎_elim, ℕ, zero, suc, ◌%◌, ◌≤◌, ◌==◌, Bool, true, false, List, [], ◌∷◌, ◌++◌, refl, sym, ap, ◌∙◌, subst, arith, eq-eqb, ne_eqb}
+use Rattle.std.proofs.Common.{◌≡◌, ◌≢◌, ◌⊎◌, inl, inr, ⊎_elim, ℕ, zero, suc, ◌+◌, ◌%◌, ◌≤◌, ◌==◌, Bool, true, false, List, [], ◌∷◌, ◌++◌, refl, sym, ap, ◌∙◌, subst, arith, eq-eqb, ne_eqb}
 use Rattle.std.specs.Prelude.{replicate, if◌then◌else◌}
 use Rattle.std.proofs.lemmas.Bool.{cases_eq}
 use Rattle.lz_disk.specs.Images.{Medium}
@@ -108,37 +108,37 @@ module _ (start : Start) (starts : IsStart start) where
       let was = pin_reads start starts ns before past reads q low high in
       let now = pin_reads start starts (n ∷ ns) (new ++ before) runs' (new, before, refl, tells, reads) q low high in
       let pl = place_reads start ns before past reads in
-      ap (λ l. trace_outside p l q) is ∙ go past pl.service pl.disk pl.state (ap (λ w. pin_at w q) (sym pl.state) ∙ was) runs' now n.what refl tells
+      ap (λ l. trace_outside p l q) is ∙ go (turned_outside ns before past reads q low high) pl.service pl.disk pl.state (ap (λ w. pin_at w q) (sym pl.state) ∙ was) runs' now n.what refl tells
     where
       Goal : Type 0
       Goal = trace_outside p (new ++ before) q ≡ turned_at q p.trace (n ∷ ns)
 
-      earlier : IsRun p before → pin_after q ns % 2 ≡ 1 → trace_outside p before q ≡ turned_at q p.trace ns
-      earlier past odd' = turned_outside ns before past reads q low high odd'
+      Earlier : Type 0
+      Earlier = pin_after q ns % 2 ≡ 1 → trace_outside p before q ≡ turned_at q p.trace ns
 
       -- the pin word was even before, and so another one
       moved : pin_after q ns % 2 ≡ 0 → pin_after q (n ∷ ns) ≢ pin_after q ns
       moved even same = let e = sym odd ∙ ap (λ v. v % 2) same ∙ even in absurd (omega (arith, e))
 
-      one : IsRun p before → pin_at (run p before).state q ≡ pin_after q ns → pin_at (run p (new ++ before)).state q ≡ pin_after q (n ∷ ns) → IsStep n.what → TellsOne (run p before).state n new → Goal
-      one past was now step t =
+      one : Earlier → pin_at (run p before).state q ≡ pin_after q ns → pin_at (run p (new ++ before)).state q ≡ pin_after q (n ∷ ns) → IsStep n.what → TellsOne (run p before).state n new → Goal
+      one earlier was now step t =
           ap (λ l. trace_outside p (l ++ before) q) t.steps
           ∙ inside_still t.step before q (odd_in (run p (t.step ∷ before)).state q (ap (λ v. v % 2) (ap (λ l. pin_at (run p (l ++ before)).state q) (sym t.steps) ∙ now) ∙ odd))
           ∙ ⊎_elim
-          (λ (same : pin_after q (n ∷ ns) ≡ pin_after q ns). earlier past (ap (λ v. v % 2) (sym same) ∙ odd) ∙ sym (turned_same q p.trace n ns same))
+          (λ (same : pin_after q (n ∷ ns) ≡ pin_after q ns). earlier (ap (λ v. v % 2) (sym same) ∙ odd) ∙ sym (turned_same q p.trace n ns same))
           (λ more. let even : pin_after q ns % 2 ≡ 0 = omega (arith, odd, more) in
           out_now p before q (even_in (run p before).state q (ap (λ v. v % 2) was ∙ even)) ∙ trace_reads p ns before reads ∙ sym (turned_now q p.trace n ns (moved even)))
           (step_pin q n.by n.what (pin_after q ns) step)
 
-      found : IsRun p before → (service : Service) (disk : Medium) → (run p before).state ≡ Up service disk → pin_at (Up service disk) q ≡ pin_after q ns → IsRun p (new ++ before) → (r v : ℕ) → n.what ≡ Found r v → TellsLooks (run p before).state r v new → Goal
-      found past service disk at was runs r v what t =
+      found : Earlier → (service : Service) (disk : Medium) → (run p before).state ≡ Up service disk → pin_at (Up service disk) q ≡ pin_after q ns → IsRun p (new ++ before) → (r v : ℕ) → n.what ≡ Found r v → TellsLooks (run p before).state r v new → Goal
+      found earlier service disk at was runs r v what t =
           ap (λ l. trace_outside p (l ++ before) q) t.steps
           ∙ ⊎_elim
           (λ (here : r ≡ q). own here t.looks (subst (λ l. IsRun p (l ++ before)) t.steps runs) (t.found service disk at))
           (λ (away : r ≢ q).
           let same : pin_after q (n ∷ ns) ≡ pin_after q ns = ap (λ w. pin_after_what q n.by w (pin_after q ns)) what ∙ ap (λ b. if b then v else pin_after q ns) (ne_eqb r q away) in
           let odd' : pin_after q ns % 2 ≡ 1 = ap (λ w. w % 2) (sym same) ∙ odd in
-          looks_still t.looks r q before service disk away (subst (λ l. IsRun p (l ++ before)) t.steps runs) at (ap (λ w. w % 2) was ∙ odd') ∙ earlier past odd' ∙ sym (turned_same q p.trace n ns same))
+          looks_still t.looks r q before service disk away (subst (λ l. IsRun p (l ++ before)) t.steps runs) at (ap (λ w. w % 2) was ∙ odd') ∙ earlier odd' ∙ sym (turned_same q p.trace n ns same))
           (cases_eq r q)
         where
           value : r ≡ q → pin_after q (n ∷ ns) ≡ v
@@ -147,7 +147,7 @@ module _ (start : Start) (starts : IsStart start) where
           own : r ≡ q → (k : ℕ) → IsRun p (replicate k (Looks r) ++ before) → pin_at (Up service disk) r + k ≡ v → trace_outside p (replicate k (Looks r) ++ before) q ≡ turned_at q p.trace (n ∷ ns)
           own here zero runs is =
               let same : pin_after q (n ∷ ns) ≡ pin_after q ns = value here ∙ sym is ∙ omega arith ∙ ap (λ r. pin_at (Up service disk) r) here ∙ was in
-              earlier past (ap (λ w. w % 2) (sym same) ∙ odd) ∙ sym (turned_same q p.trace n ns same)
+              earlier (ap (λ w. w % 2) (sym same) ∙ odd) ∙ sym (turned_same q p.trace n ns same)
           own here (suc k) runs is =
               let count : pin_at (Up service disk) q + suc k ≡ pin_after q (n ∷ ns) = ap (λ r. pin_at (Up service disk) r + suc k) (sym here) ∙ is ∙ sym (value here) in
               ap (λ r. trace_outside p (replicate (suc k) (Looks r) ++ before) q) here
@@ -155,7 +155,7 @@ module _ (start : Start) (starts : IsStart start) where
               ∙ trace_reads p ns before reads
               ∙ sym (turned_now q p.trace n ns (λ same. let b = was in absurd (omega (arith, count, same, b))))
 
-      go : IsRun p before → (service : Service) (disk : Medium) → (run p before).state ≡ Up service disk → pin_at (Up service disk) q ≡ pin_after q ns → IsRun p (new ++ before) → pin_at (run p (new ++ before)).state q ≡ pin_after q (n ∷ ns) → (what : What) → n.what ≡ what → TellsOf (run p before).state n what new → Goal
-      go past service disk at was runs now (Called c format) same t = one past (ap (λ w. pin_at w q) at ∙ was) now (subst IsStep (sym same) tt) t
-      go past service disk at was runs now (Played e o) same t = one past (ap (λ w. pin_at w q) at ∙ was) now (subst IsStep (sym same) tt) t
-      go past service disk at was runs now (Found r v) same t = found past service disk at was runs r v same t.2
+      go : Earlier → (service : Service) (disk : Medium) → (run p before).state ≡ Up service disk → pin_at (Up service disk) q ≡ pin_after q ns → IsRun p (new ++ before) → pin_at (run p (new ++ before)).state q ≡ pin_after q (n ∷ ns) → (what : What) → n.what ≡ what → TellsOf (run p before).state n what new → Goal
+      go earlier service disk at was runs now (Called c format) same t = one earlier (ap (λ w. pin_at w q) at ∙ was) now (subst IsStep (sym same) tt) t
+      go earlier service disk at was runs now (Played e o) same t = one earlier (ap (λ w. pin_at w q) at ∙ was) now (subst IsStep (sym same) tt) t
+      go earlier service disk at was runs now (Found r v) same t = found earlier service disk at was runs r v same t.2

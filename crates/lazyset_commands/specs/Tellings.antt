@@ -1,0 +1,19 @@
+-- What is written with which a command ends.
+use Rattle.std.specs.Prelude.{◌≡◌, ◌⊎◌, ℕ, ◌<◌, List, length, take, Option, Result, Ok, Err}
+use Rattle.std.specs.Io.KnownBytes.{Appends}
+use Rattle.lz_proto.specs.declared.fault.SessionFault.{SessionFault}
+use Rattle.lazyset_commands.specs.declared.status.Status.{Status}
+use Rattle.lazyset_commands.specs.declared.status.Status.TheVariants.{Failed}
+
+-- of the text a part was written that isn't all
+abbrev pub IsCutShort : Option (List ℕ) → Option (List ℕ) → List ℕ → Type 0
+IsCutShort before after text = (sent : ℕ) × (sent < length text) × Appends before after (take sent text)
+
+-- the text was written, and the command ends with its status; or not all of it was, and the command failed
+abbrev pub Tells : Option (List ℕ) → Option (List ℕ) → List ℕ → Status → Status → Type 0
+Tells before after text told status = (Appends before after text × (status ≡ told)) ⊎ (IsCutShort before after text × (status ≡ Failed))
+
+-- the status of a command that sent its text so
+abbrev pub status_sent : Result (Unit {0}) SessionFault → Status → Status
+status_sent (Ok done) told = told
+status_sent (Err fault) told = Failed
