@@ -10,7 +10,7 @@ from typing import Dict, List, Sequence, Tuple
 
 from lazyset import Reply, Verb
 from real import kills, load
-from real.history import Call, History, Life, ticket
+from real.history import Call, History, Life, stamp
 from real.program import Ended, Key, Program, Service
 from real.report import Skip, Wrong, expect
 
@@ -69,8 +69,8 @@ def calls_of(text: str) -> List[Call]:
     """The calls of a session that was told these replies. After the first `halted` no line was read."""
     calls: List[Call] = []
     for (verb, number), word in zip(SESSION, text.splitlines()):
-        call = Call(1, verb, Key(0, number), ticket())
-        call.reply, call.ended = Reply(word), ticket()
+        call = Call(1, verb, Key(0, number), stamp())
+        call.reply, call.ended = Reply(word), stamp()
         calls.append(call)
     return calls
 

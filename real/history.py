@@ -1,7 +1,7 @@
 """What clients saw of a service, and a place for each call in an order that explains it.
 
 Nothing here is trusted: the order that is found is written into the history, and the program's judge decides. A call's
-interval lies between two tickets: one that its client took before it sent the line, and one after it had the reply."""
+interval lies between two stamps: one that its client took before it sent the line, and one after it had the reply."""
 
 from __future__ import annotations
 
@@ -13,15 +13,15 @@ from typing import Dict, FrozenSet, Iterator, List, Optional, Sequence, Set, Tup
 from lazyset import Reply, Verb
 from real.program import Key
 
-# Later than any ticket.
+# Later than any stamp.
 NEVER = 1 << 62
 
-# Tickets are drawn in one order for all clients. (A draw is one step of the interpreter, so no two are equal.)
-_tickets = itertools.count(1)
+# Stamps are drawn in one order for all clients. (A draw is one step of the interpreter, so no two are equal.)
+_stamps = itertools.count(1)
 
 
-def ticket() -> int:
-    return next(_tickets)
+def stamp() -> int:
+    return next(_stamps)
 
 
 @dataclass(eq=False)
@@ -41,8 +41,8 @@ class Call:
     def is_refused(self) -> bool:
         return self.reply in (Reply.FULL, Reply.OLD_FILE, Reply.WORN)
 
-    def last_ticket(self) -> int:
-        """Before which ticket it took place, where it did."""
+    def last_stamp(self) -> int:
+        """Before which stamp it took place, where it did."""
         return self.ended if self.is_answered() else NEVER
 
 
@@ -98,8 +98,8 @@ def _marks(calls: Sequence[Call], names: Dict[Call, int]) -> Iterator[str]:
 def _placed(life: Life, held: Set[Key]) -> List[Call]:
     """The calls that were done, in an order for all keys that is made of one for each key.
 
-    Within its key's order each call takes place as early as it can: behind its own first ticket, and behind the calls
-    before it. That is before its last ticket, as the order of a key keeps the order in time."""
+    Within its key's order each call takes place as early as it can: behind its own first stamp, and behind the calls
+    before it. That is before its last stamp, as the order of a key keeps the order in time."""
     of_key: Dict[Key, List[Call]] = defaultdict(list)
     for call in _by_call(life.calls):
         if not call.is_refused():
@@ -180,7 +180,7 @@ def _next_points(
             return
         if index in point.beyond:
             continue
-        limit = min(limit, call.last_ticket())
+        limit = min(limit, call.last_stamp())
         reply, is_member = _after(call, point.is_member)
         if not call.is_answered() or reply is call.reply:
             yield index, _moved(point, index, is_member)

@@ -8,7 +8,7 @@ from typing import List, Sequence, Tuple
 
 import lazyset
 from lazyset import Lazyset, Reply, Verb
-from real.history import Call, ticket
+from real.history import Call, stamp
 from real.program import Key
 
 # What the clients ask for, and how often: mostly changes, since these are what a crash may lose.
@@ -39,10 +39,10 @@ class Client(threading.Thread):
 
     def _ask(self, keys: Lazyset) -> None:
         verb, key = self.random.choice(VERBS), self.random.choice(KEYS)
-        call = Call(self.actor, verb, key, ticket())
+        call = Call(self.actor, verb, key, stamp())
         self.calls.append(call)
         reply = _reply(keys, verb, key)
-        call.ended, call.reply = ticket(), reply
+        call.ended, call.reply = stamp(), reply
         if reply is Reply.HALTED:
             raise lazyset.Halted("noted")
 
