@@ -13,7 +13,6 @@ use Rattle.lz_disk.specs.Devices.{Device, IsTimely, LeavesOnly}
 use Rattle.lz_disk.proofs.Moments.{quiet}
 use Rattle.lz_vault.specs.Opens.{keys_of}
 use Rattle.lz_vault.specs.Vaults.{Vaulted}
-use Rattle.lz_slot.specs.Sets.{HasMembers}
 use Rattle.lazyset_commands.specs.Asks.{Asked, IsPlainReply, Lives, StaysOver, reply_of, set_after_reply}
 use Rattle.lazyset_commands.specs.Plains.{Adds, EachHolds, HoldsBeforeOrAfter, IsAddFault, IsRemoveFault, Removes}
 use Rattle.lazyset_commands.specs.declared.plain.Fault.{Fault}
