@@ -2,3 +2,4 @@ pub mod TraceNotes
 pub mod CallPlaces
 pub mod PinWords
 pub mod TurnedTrace
+pub mod StandingCall

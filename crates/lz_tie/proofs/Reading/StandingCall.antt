@@ -1,0 +1,47 @@
+-- What the open call of a pass that is inside may rely on, by the notes: with the trace at which the pass went in, and the
+-- trace as it is.
+use Rattle.std.proofs.Common.{◌≡◌, ℕ, ◌%◌, ◌≤◌, Bool, true, List, [], ◌∷◌, ◌++◌, map, refl, sym, ap, ◌∙◌, subst}
+use Rattle.std.specs.Prelude.{Option, Some, None, is_some}
+use Rattle.lz_slot.specs.declared.command.Command.{Command}
+use Rattle.lz_disk.specs.Images.{Medium}
+use Rattle.lz_list.specs.Traces.{Trace}
+use Rattle.lz_machine.specs.declared.event.Event.TheVariants.{Hop}
+use Rattle.lz_machine.specs.declared.event.Outcome.TheVariants.{Value}
+use Rattle.lz_machine.specs.declared.caller.Progress.{Progress}
+use Rattle.lz_machine.specs.Yards.{Shape}
+use Rattle.lz_machine.specs.Table.{pin_of}
+use Rattle.lz_machine.specs.CallersSound.{CallerSound, view_of}
+use Rattle.lz_machine.specs.Runs.{Start, IsStart, State, Up, Service, Transition, run, IsRun, first_point, caller_at}
+use Rattle.lz_machine.proofs.Theorem.TraceOutside.{calls_stand}
+use Rattle.lz_board.specs.declared.view.What.TheVariants.{Played}
+use Rattle.lz_board.specs.declared.view.Note.{Note}
+use Rattle.lz_board.specs.declared.view.Load.{Load}
+use Rattle.lz_board.specs.Notes.{trace_of, load_note, place, placed, pin_after, turned_at}
+use Rattle.lz_tie.specs.NotedRuns.{ReadsAs}
+use Rattle.lz_tie.proofs.Reading.TraceNotes.{trace_reads}
+use Rattle.lz_tie.proofs.Reading.PinWords.{pin_in_state, pin_reads}
+use Rattle.lz_tie.proofs.Reading.TurnedTrace.{turned_outside}
+
+-- a call that is open after some loads was open before them
+pub still_calling : (shape : Shape) (p : ℕ) (hs : List Load) (steps : List Note) → is_some (place shape (map (load_note p) hs ++ steps)) ≡ true → is_some (place shape steps) ≡ true
+still_calling shape p [] steps is = is
+still_calling shape p (h ∷ hs) steps is = still_calling shape p hs steps (before (place shape (map (load_note p) hs ++ steps)) is)
+  where
+    before : (at : Option (Command × Progress)) → is_some (placed shape (Played (Hop h.word) (Value h.value)) at) ≡ true → is_some at ≡ true
+    before None is = is
+    before (Some call) is = refl
+
+pub call_relies : (start : Start) (starts : IsStart start) (ns : List Note) (steps : List Transition) (service : Service) (disk : Medium)
+    → IsRun (first_point start) steps → ReadsAs (first_point start) ns steps → (run (first_point start) steps).state ≡ Up service disk
+    → (q : ℕ) → 1 ≤ q → q ≤ start.shape.passes → pin_after q ns % 2 ≡ 1
+    → (changed : Option ℕ)
+    × CallerSound (view_of service.yard.shape service.yard.vault service.yard.actors q) (pin_of service.yard q) (caller_at service.callers q)
+    (turned_at q (first_point start).trace ns) (trace_of (first_point start).trace ns) changed
+call_relies start starts ns steps service disk runs reads at q low high inside =
+    let pin : pin_of service.yard q ≡ pin_after q ns = ap (λ w. pin_in_state start starts w q) (sym at) ∙ pin_reads start starts ns steps runs reads q low high in
+    let law = calls_stand start steps service disk q starts runs at (ap (λ v. v % 2) pin ∙ inside) in (
+      law.0,
+      subst (λ (x : Trace × Trace). CallerSound (view_of service.yard.shape service.yard.vault service.yard.actors q) (pin_of service.yard q) (caller_at service.callers q) x.0 x.1 law.0)
+      (λ i. (turned_outside start starts ns steps runs reads q low high inside i, trace_reads (first_point start) ns steps reads i))
+      law.1,
+    )
