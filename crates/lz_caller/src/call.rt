@@ -7,6 +7,7 @@ ghost use Rattle.lz_list.specs.Walks.{hopped};
 ghost use Rattle.lz_machine.specs.Calls.{after_event, event_at, events_of, first_progress, follows, hops_on, progress_after};
 ghost use Rattle.lz_machine.specs.Orders.{ComesAt, HasPass, IsAnswering, IsChecking, IsClaiming, IsEverywhere, IsLoading, IsPlaying, IsProgress, IsReserving, IsSeeingPins, MayTake, shape_with};
 ghost use Rattle.lz_machine.specs.Runs.{reply_at};
+ghost use Rattle.lz_caller.specs.Begun.{begun_after};
 
 use crate::order::{changes, count_of, event_of, follower_of, halt_loaded, hopped};
 use lz_list::{Look, Walk, Word};
@@ -63,6 +64,19 @@ impl Caller {
             passes,
             progress: Progress::Playing(Sequence::Pinning, 0),
         }
+    }
+
+    /// A call whose Invoke answered so. One that the file's format refuses is about to tell it.
+    pub fn begun(command: Command, buckets: usize, passes: usize, outcome: Outcome) -> Caller
+        requires buckets { (1 ≤ buckets) × (buckets ≤ most_buckets) }
+        requires passes { (1 ≤ passes) × (passes ≤ most_passes) }
+        ensures { result ≡ record { command = command; buckets = buckets; passes = passes; progress = begun_after outcome } }
+    {
+        let mut caller = Caller::new(command, buckets, passes);
+        if let Outcome::OldFile = outcome {
+            caller.take(Outcome::OldFile);
+        }
+        caller
     }
 
     pub fn command(&self) -> Command

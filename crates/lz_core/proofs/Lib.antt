@@ -1,7 +1,4 @@
-pub mod Ascending
-pub mod Worlding
-pub mod TurningOn
-pub mod InvokingOn
-pub mod WorldKeys
-pub mod WorldOpens
-pub mod WorldPlays
+pub mod Runs
+pub mod Callers
+pub mod Members
+pub mod Opens

@@ -5,7 +5,7 @@ use Rattle.lz_disk.specs.Images.{Medium}
 use Rattle.lz_disk.specs.Picks.{left_by}
 use Rattle.lz_core.specs.declared.play.Step.{Step as PlayStep}
 use Rattle.lz_core.specs.declared.play.Step.TheVariants.{Call, Turn as TurnOf, Trip, Stop, Crash, Open}
-use Rattle.lz_machine.specs.Runs.{Start, IsStart, first_point, State, disk_of, Transition, Calls, Turn, Fails, Trips, Stops, Crashes, Opens, OpenFails, Point, run, IsRun}
+use Rattle.lz_machine.specs.Runs.{State, disk_of, Transition, Calls, Turn, Fails, Trips, Stops, Crashes, Opens, OpenFails, Point, run, IsRun}
 
 -- in this state a step of a play is this step of a run; what the device does is the run's
 abbrev pub IsPlayOf : State → PlayStep → Transition → Type 0

@@ -1,5 +1,5 @@
 -- What contracts see of a world, and what a play does to it.
-use Rattle.std.specs.Prelude.{◌≡◌, ◌⊎◌, ◌↔◌, ℕ, true, ◌-◌, ◌<◌, ◌≤◌, IsTrue, IsNone, IsSome, IsSomeAnd, List, [], ◌∷◌, ◌++◌, length, map, reverse, take, slice_get, slice_index_or, Option, Some, None}
+use Rattle.std.specs.Prelude.{◌≡◌, ◌≢◌, ◌⊎◌, ◌↔◌, ℕ, suc, Bool, true, false, if◌then◌else◌, ◌-◌, ◌<◌, ◌≤◌, IsTrue, IsNone, IsSome, IsSomeAnd, List, [], ◌∷◌, ◌++◌, length, map, reverse, take, slice_get, slice_index_or, Option, Some, None}
 use Rattle.lz_slot.specs.declared.history.Mark.{Mark}
 use Rattle.lz_slot.specs.Sets.{Keys, Same, members}
 use Rattle.lz_slot.specs.Histories.{ChainTo, lives}
@@ -9,35 +9,38 @@ use Rattle.lz_disk.specs.Images.{Medium, at_rest}
 use Rattle.lz_disk.specs.Records.{Past, after, device_of}
 use Rattle.lz_machine.specs.declared.event.Event.{Event}
 use Rattle.lz_machine.specs.declared.event.Outcome.{Outcome}
-use Rattle.lz_machine.specs.declared.event.Outcome.TheVariants.{Fault, OldFile}
+use Rattle.lz_machine.specs.declared.event.Outcome.TheVariants.{Fault}
 use Rattle.lz_machine.specs.declared.kind.Kind.{Kind}
 use Rattle.lz_machine.specs.Kinds.{kind_of}
-use Rattle.lz_machine.specs.declared.event.Reply.TheVariants.{OldFile as SaysOldFile}
-use Rattle.lz_machine.specs.declared.caller.Progress.{Progress}
-use Rattle.lz_machine.specs.declared.caller.Progress.TheVariants.{Answering}
 use Rattle.lz_core.specs.declared.play.Step.{Step as PlayStep}
 use Rattle.lz_core.specs.declared.play.Step.TheVariants.{Call, Turn as TurnOf, Open}
 use Rattle.lz_core.specs.declared.open_calls.OpenCall.{OpenCall}
+use Rattle.lz_vault.specs.Opens.{open_fault_number}
+use Rattle.lz_vault.specs.declared.opening.OpenFault.{OpenFault}
+use Rattle.lz_vault.specs.declared.opening.OpenFault.TheVariants.{Device, Memory}
 use Rattle.lz_machine.specs.Yards.{Shape}
 use Rattle.lz_yard.specs.Parts.{YardOver}
-use Rattle.lz_machine.specs.Table.{line, line_failed, needs, pin_of}
+use Rattle.lz_machine.specs.Table.{line, line_failed, needs}
 use Rattle.lz_machine.specs.Orders.{shape_with}
-use Rattle.lz_machine.specs.Calls.{event_at, first_progress, loaded, progress_after}
+use Rattle.lz_machine.specs.Calls.{event_at, loaded, progress_after}
 use Rattle.lz_machine.specs.Ready.{IsEventOf}
 use Rattle.lz_yard.specs.Steps.{Played}
-use Rattle.lz_machine.specs.Runs.{Start, IsStart, start_keys, first_point, Service, Caller, State, Up, Down, caller_at, next_event, reply_at, moved_on, MayPlay, IsActor, MayLeave, Point, run}
+use Rattle.lz_machine.specs.Runs.{Start, IsStart, start_keys, first_point, Service, Caller, State, Up, Down, Transition, Turn, Fails, MayStep, state_after, calls_after, marks_of, caller_at, next_event, reply_at, moved_on, MayPlay, IsActor, MayLeave, Point, run}
 use Rattle.std.specs.List.{All}
 use Rattle.lz_list.specs.declared.word.Word.TheVariants.{Key}
 use Rattle.lz_list.specs.Words.{Words, get}
 use Rattle.lz_list.specs.Lists.{IsMember}
 use Rattle.lz_slot.specs.Limits.{largest_key}
 use Rattle.lz_machine.specs.Points.{IsQuiet, IsReached}
-use Rattle.lz_core.specs.Plays.{PlaysTo}
+use Rattle.lz_judge.specs.MarkLines.{AreMarksOfRun, IsCallNumber}
+use Rattle.lz_core.specs.Plays.{IsPlayOf, PlaysTo}
+use Rattle.lz_core.specs.Trips.{CallsDevice, GoAsTripped, IsFailure, tripped_by}
 
--- A world as contracts see it: its state in a run, and how many calls were made.
+-- A world as contracts see it: its state in a run, how many calls were made, and whether its device's next call fails.
 pub record WorldOver : Type 0 where
   pub state : State
   pub calls : ℕ
+  pub tripped : Bool
 
 -- an open call, as a run has it
 abbrev pub call_shown : Option OpenCall → Option Caller
@@ -49,6 +52,10 @@ abbrev pub state_shown : Shape → Option (YardOver Past) → Option Past → Li
 state_shown shape (Some over) disk callers = Up (record { yard = over.yard; callers = map call_shown callers }) (after over.disk.start over.disk.records)
 state_shown shape None (Some disk) callers = Down shape (after disk.start disk.records)
 state_shown shape None None callers = Down shape (at_rest [])
+
+-- a world of these parts
+abbrev pub world_shown : Shape → Option (YardOver Past) → Option Past → List (Option OpenCall) → ℕ → Bool → WorldOver
+world_shown shape yard disk callers calls tripped = record { state = state_shown shape yard disk callers; calls = calls; tripped = tripped }
 
 -- a service is open
 abbrev pub IsUp : State → Type 0
@@ -67,37 +74,39 @@ HasOne (Some over) None = Unit {0}
 HasOne None (Some disk) = Unit {0}
 HasOne _ _ = ⊥
 
--- the next call of its device fails
-abbrev pub IsTripped : Option (YardOver Past) → Option Past → Type 0
-IsTripped (Some over) disk = over.disk.trip ≡ Some 0
-IsTripped None (Some disk) = disk.trip ≡ Some 0
-IsTripped None None = Unit {0}
+-- a disk whose next call fails, if so, and of an open yard
+abbrev pub armed : Bool → Past → Past
+armed tripped disk = record disk { trip = if tripped then Some 0 else disk.trip }
 
--- the world is at this point of a run
-pub record IsAt (w : WorldOver) (p : Point) : Type 0 where
-  pub state : p.state ≡ w.state
-  pub calls : p.calls ≡ w.calls
+abbrev pub armed_yard : Bool → Option (YardOver Past) → Option (YardOver Past)
+armed_yard tripped None = None
+armed_yard tripped (Some over) = Some (record over { disk = armed tripped over.disk })
 
--- some run of a yard of this shape leads to where the world is
-pub record HasRun (its_shape : Shape) (w : WorldOver) : Type 0 where
+-- this state, after so many calls, is at this point of a run
+pub record IsAt (w : State) (made : ℕ) (p : Point) : Type 0 where
+  pub state : p.state ≡ w
+  pub calls : p.calls ≡ made
+
+-- some run of a yard of this shape leads to this state
+pub record HasRun (its_shape : Shape) (w : State) (calls : ℕ) : Type 0 where
   pub start : Start
   pub shape : start.shape ≡ its_shape
   pub point : Point
   pub reached : IsReached start point
-  pub at : IsAt w point
-  pub quiet : IsQuiet w.state
+  pub at : IsAt w calls point
+  pub quiet : IsQuiet w
 
--- an open call is one on a yard of this shape
+-- an open call is one on a yard of this shape, with a number
 abbrev pub IsCallOn : Shape → Option OpenCall → Type 0
 IsCallOn shape None = Unit {0}
-IsCallOn shape (Some call) = (call.caller.buckets ≡ shape.buckets) × (call.caller.passes ≡ shape.passes)
+IsCallOn shape (Some call) = (call.caller.buckets ≡ shape.buckets) × (call.caller.passes ≡ shape.passes) × IsCallNumber call.number
 
 -- A world has a yard or a disk, a place for the call of each actor, and has come by a run to where it is.
 pub record IsWorld (shape : Shape) (over : Option (YardOver Past)) (disk : Option Past) (callers : List (Option OpenCall)) (calls : ℕ) : Type 0 where
   pub one : HasOne over disk
   pub count : length callers ≡ shape.passes
   pub on_it : (i : ℕ) (call : Option OpenCall) → slice_get callers i ≡ Some call → IsCallOn shape call
-  pub ran : HasRun shape (record { state = state_shown shape over disk callers; calls = calls })
+  pub ran : HasRun shape (state_shown shape over disk callers) calls
 
 -- a world that was just made: its run begins with a file of the format that holds the empty set
 pub record IsNew (its_shape : Shape) (format : Format) (w : WorldOver) : Type 0 where
@@ -106,23 +115,27 @@ pub record IsNew (its_shape : Shape) (format : Format) (w : WorldOver) : Type 0 
   pub shape : start.shape ≡ its_shape
   pub empty : Same (start_keys start) (members [])
   pub named : format_of start.text ≡ format
-  pub at : IsAt w (first_point start)
+  pub at : IsAt w.state w.calls (first_point start)
+  pub untripped : w.tripped ≡ false
 
--- From a point at which a world was, the steps of a play lead, one for one, to where it is now, and answer these marks; what
--- leads to the one point leads to the other.
-pub record LeadsTo (p : Point) (plays : List PlayStep) (marks : List Mark) (new : WorldOver) : Type 0 where
+-- From a point at which a world was, tripped or not, the steps of a play lead, one for one, to where it is now, and answer these
+-- marks, which are those of a run; what leads to the one point leads to the other; and the device fails where it was tripped.
+pub record LeadsTo (p : Point) (was_tripped : Bool) (plays : List PlayStep) (marks : List Mark) (new : WorldOver) : Type 0 where
   pub played : PlaysTo p plays marks new.state
   pub calls : (run p played.steps).calls ≡ new.calls
   pub reached : (start : Start) → IsReached start p → IsReached start (run p played.steps)
+  pub of_run : AreMarksOfRun marks
+  pub as_tripped : GoAsTripped p was_tripped played.steps
+  pub tripped : tripped_by was_tripped played.steps ≡ new.tripped
 
 abbrev pub PlaysOn : WorldOver → List PlayStep → List Mark → WorldOver → Type 0
-PlaysOn old plays marks new = (p : Point) → IsAt old p → LeadsTo p plays marks new
+PlaysOn old plays marks new = (p : Point) → IsAt old.state old.calls p → LeadsTo p old.tripped plays marks new
 
 -- What was seen before and now is a chain of lives: each text that a crash may leave now holds the set to which it leads.
 abbrev pub IsChain : WorldOver → List Mark → WorldOver → Type 0
 IsChain old marks new =
     (start : Start) (p : Point) (t : List ℕ)
-    → IsReached start p → IsAt old p → MayLeave new.state t
+    → IsReached start p → IsAt old.state old.calls p → MayLeave new.state t
     → (S : Keys) × Holds t start.shape.slots S × ChainTo (lives (start_keys start) (reverse marks ++ p.marks)) S
 
 -- A step is lawful in a state.
@@ -143,12 +156,41 @@ pub record StopsAt (old : WorldOver) (plays : List PlayStep) (i : ℕ) (new : Wo
   pub there : (1 ≤ i) × (slice_get plays (i - 1) ≡ Some step)
   pub unlawful : ¬ IsLawful new.state step
 
--- the world stands as after some of the first steps
+-- One step of a play, as a step of a run; whether the device was tripped isn't looked at.
+pub record Goes (old : WorldOver) (play : PlayStep) (step : Transition) (marks : List Mark) (new : WorldOver) : Type 0 where
+  pub is : IsPlayOf old.state play step
+  pub may : MayStep old.state step
+  pub to : state_after (suc old.calls) old.state step ≡ new.state
+  pub counts : calls_after old.calls step ≡ new.calls
+  pub told : marks_of (suc old.calls) old.state step ≡ reverse marks
+
+-- A turn was taken: it was done, with no device call where the device was tripped, or its device call failed.
+pub record TakesTurn (old : WorldOver) (a : ℕ) (outcome : Outcome) (marks : List Mark) (new : WorldOver) : Type 0 where
+  pub done : outcome ≢ Fault → Goes old (TurnOf a) (Turn a) marks new × (IsTrue old.tripped → ¬ CallsDevice old.state a)
+  pub failed : outcome ≡ Fault → (left : Medium) × Goes old (TurnOf a) (Fails a left) marks new
+  pub of_run : AreMarksOfRun marks
+  pub tripped : new.tripped ≡ old.tripped
+
+-- A device call of this step found no memory: the world stands as after one that failed, though the device wasn't tripped.
+pub record LacksMemory (old : WorldOver) (play : PlayStep) (new : WorldOver) : Type 0 where
+  pub step : Transition
+  pub failure : IsFailure step
+  pub marks : List Mark
+  pub goes : Goes old play step marks new
+  pub untripped : (old.tripped ≡ false) × (new.tripped ≡ false)
+
+-- the next step of a play behind the first so many is one that lacked memory
+abbrev pub LacksNext : WorldOver → List PlayStep → ℕ → WorldOver → Type 0
+LacksNext old plays count new = IsSomeAnd (slice_get plays count) (λ play. LacksMemory old play new)
+
+-- The world stands as after some of the first steps, or as after one more of them, which lacked memory.
 pub record StopsEarly (old : WorldOver) (plays : List PlayStep) (new : WorldOver) : Type 0 where
   pub count : ℕ
   pub few : count ≤ length plays
   pub marks : List Mark
-  pub before : PlaysOn old (take count plays) marks new
+  pub mid : WorldOver
+  pub before : PlaysOn old (take count plays) marks mid
+  pub last : (new ≡ mid) ⊎ LacksNext mid plays count new
 
 -- an actor's next event, if it has a call
 abbrev pub next_of_caller : Service → Option Caller → Option Event
@@ -220,10 +262,11 @@ pub record MayStepOn (over : YardOver Past) (a : ℕ) (e : Event) : Type 0 where
 abbrev pub MayCall : Option (YardOver Past) → List (Option OpenCall) → ℕ → Type 0
 MayCall yard callers a = IsSome yard × (1 ≤ a) × (a ≤ 64) × IsNone (slice_index_or callers (a - 1) None)
 
--- where a call begins, whose Invoke answered so
-abbrev pub begun_after : Outcome → Progress
-begun_after OldFile = Answering SaysOldFile
-begun_after _ = first_progress
+-- The number with which a refused open is told. Want of memory isn't told, which a device tells as a failure too.
+abbrev pub fault_told : OpenFault → Bool → Option ℕ
+fault_told Memory tripped = None
+fault_told Device false = None
+fault_told fault tripped = Some (open_fault_number fault)
 
 -- an event was played on an open yard
 abbrev pub StepsOn : Option (YardOver Past) → ℕ → Event → Outcome → Option (YardOver Past) → Type 0

@@ -3,27 +3,32 @@ ghost use Rattle.std.specs.Prelude.{◌≡◌, OnOk, OnErr};
 ghost use Rattle.lz_disk.specs.Images.{IsImage, at_rest};
 ghost use Rattle.lz_disk.specs.Picks.{left_by};
 ghost use Rattle.lz_machine.specs.Runs.{Down};
-ghost use Rattle.lz_core.specs.Worlds.{HasOne, IsTripped, disk_shown, state_shown};
+ghost use Rattle.lz_core.specs.Worlds.{HasOne, armed, armed_yard, disk_shown, state_shown};
 
 use lz_disk::{MemoryDisk, Pick};
 use lz_yard::Yard;
 use std::alloc::AllocError;
 
-// Trips the disk, wherever it is.
-pub(crate) fn trip_disk(yard: &mut Option<Yard<MemoryDisk>>, disk: &mut Option<MemoryDisk>)
-    requires { HasOne yard.old disk.old }
-    ensures one { HasOne yard.new disk.new }
-    ensures same { (shape : _) (callers : _) → state_shown shape yard.new disk.new callers ≡ state_shown shape yard.old disk.old callers }
-    ensures tripped { IsTripped yard.new disk.new }
+// Where the disk of an open yard was tripped, its next call is to fail.
+pub(crate) fn arm_yard(yard: &mut Option<Yard<MemoryDisk>>, tripped: bool)
+    ensures { yard.new ≡ armed_yard tripped yard.old }
 {
-    match yard {
-        Some(yard) => yard.trip(),
-        None => {
-            if let Some(disk) = disk {
-                disk.trip();
-            }
+    if let Some(yard) = yard {
+        if tripped {
+            yard.trip();
         }
     }
+}
+
+// The same of a disk by itself.
+pub(crate) fn armed(disk: MemoryDisk, tripped: bool) -> MemoryDisk
+    ensures { result ≡ armed tripped disk }
+{
+    let mut disk = disk;
+    if tripped {
+        disk.trip();
+    }
+    disk
 }
 
 // Ends the service, if there is one, and keeps its disk.

@@ -5,6 +5,8 @@ ghost use Rattle.lz_slot.specs.Limits.{most_buckets};
 ghost use Rattle.lz_vault.specs.Opens.{IsRefusedFor};
 ghost use Rattle.lz_yard.specs.Filling.{OpensYard};
 ghost use Rattle.lz_machine.specs.Runs.{keys_found};
+ghost use Rattle.lz_judge.specs.MarkLines.{AscendFrom};
+ghost use Rattle.lz_core.specs.Worlds.{fault_told};
 
 use crate::shown::members_of;
 use crate::world::ACTORS;
@@ -30,6 +32,7 @@ pub(crate) fn open_anew(
     requires { (1 ≤ buckets) × (buckets ≤ most_buckets) }
     ensures ok { IfOk result (λ opened. OpensYard (device_of disk) (device_of opened.yard.disk) buckets 64 opened.yard.yard) }
     ensures keys { IfOk result (λ opened. opened.keys.items ≡ keys_found (device_of disk).medium.seen opened.yard.yard.shape.slots) }
+    ensures ascending { IfOk result (λ opened. AscendFrom 0 opened.keys.items) }
     ensures err { IfErr result (λ refused. IsRefusedFor (device_of disk) (device_of refused.disk) refused.fault) }
 {
     let yard = Yard::open(alloc, disk, buckets, ACTORS)?;
@@ -39,5 +42,16 @@ pub(crate) fn open_anew(
             disk: yard.close(),
             fault: OpenFault::Memory,
         }),
+    }
+}
+
+// The number with which a refused open is told. Want of memory isn't, and a device that wasn't tripped fails for nothing else.
+pub(crate) fn fault_told(fault: OpenFault, tripped: bool) -> Option<u8>
+    ensures { result ≡ fault_told fault tripped }
+{
+    match fault {
+        OpenFault::Memory => None,
+        OpenFault::Device if !tripped => None,
+        fault => Some(fault.number()),
     }
 }

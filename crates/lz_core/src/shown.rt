@@ -33,7 +33,7 @@ fn member_at(yard: &Yard<MemoryDisk>, slot: Slot) -> Option<Key>
 }
 
 // Puts a key at its place among ascending ones, where it isn't there.
-#[tactic(auto, using(crate::proofs::Ascending::there))]
+#[tactic(auto, using(crate::proofs::Members::AscendingKeys::there))]
 fn insert_key(keys: &mut Vec<Key>, key: Key) -> Result<(), AllocError>
     requires { Ascend keys.old.items }
     ensures ascending { OnOk result (Ascend keys.new.items) }

@@ -1,21 +1,21 @@
 //! A rehearsal: a service over a disk in memory, and what its callers do to it, step by step.
-ghost use Rattle.std.specs.Prelude.{◌≡◌, ◌≤◌, ◌↔◌, ◌==◌, ◌||◌, IfOk, IfErr, OnErr, IsErrOf, IsTrue, IfSome, Some, None, [], ◌∷◌, length};
+ghost use Rattle.std.specs.Prelude.{◌≡◌, ◌≤◌, ◌↔◌, ◌==◌, ◌||◌, IfOk, IfErr, IfNone, OnErr, IsErrOf, IsTrue, IfSome, Some, None, [], ◌∷◌, length};
 ghost use Rattle.lz_slot.specs.Limits.{most_buckets, most_rehearsed};
 ghost use Rattle.lz_slot.specs.Sets.{members};
 ghost use Rattle.lz_slot.specs.Counted.{of_pass};
-ghost use Rattle.lz_core.specs.Worlds.{Ascend, IsChain, IsLawful, IsNew, IsOutcome, IsTold, IsUp, MayCall, MayStepOn, PlaysOn, Shows, StepsOn, StopsAt, StopsEarly, event_asked, event_loaded, mark_list, next_of, state_shown, begun_after};
+ghost use Rattle.lz_core.specs.Worlds.{Ascend, IsChain, IsLawful, IsNew, IsOutcome, IsTold, IsUp, MayCall, LacksMemory, MayStepOn, PlaysOn, Shows, StepsOn, StopsAt, StopsEarly, TakesTurn, event_asked, event_loaded, mark_list, next_of};
 ghost use Rattle.lz_machine.specs.Kinds.{kind_of};
 
-use crate::disks::{crash_disk, stop_disk, trip_disk};
+use crate::disks::{arm_yard, armed, crash_disk, stop_disk};
 use crate::open_calls::{OpenCall, next_of_call, no_calls, take_outcome};
 use crate::play::Step;
-use crate::reopening::open_anew;
+use crate::reopening::{fault_told, open_anew};
 use crate::shown::members_of;
 use lz_caller::Caller;
 use lz_disk::{MemoryDisk, Pick};
 use lz_machine::{Event, Kind, Outcome};
 use lz_slot::{Command, Format, Found, Key, MOST_PASSES, Mark};
-use lz_vault::{OpenFault, make};
+use lz_vault::make;
 use lz_yard::Yard;
 use std::alloc::{AllocError, Global};
 use std::marker::Model;
@@ -53,14 +53,16 @@ pub struct World {
     disk: Option<MemoryDisk>,
     callers: Vec<Option<OpenCall>>,
     calls: u64,
+    // The next device call is to fail.
+    tripped: bool,
 }
 
 impl Model for World {
-    ghost use Rattle.lz_core.specs.Worlds.{IsWorld, WorldOver, state_shown};
+    ghost use Rattle.lz_core.specs.Worlds.{IsWorld, WorldOver, world_shown};
 
     ghost Value = { WorldOver };
 
-    ghost view = { λ w. record { state = state_shown (record { slots = w.slots; buckets = w.buckets; passes = 64 }) w.yard w.disk w.callers.items; calls = w.calls } };
+    ghost view = { λ w. world_shown (record { slots = w.slots; buckets = w.buckets; passes = 64 }) w.yard w.disk w.callers.items w.calls w.tripped };
 
     ghost invariant = { λ w. IsWorld (record { slots = w.slots; buckets = w.buckets; passes = 64 }) w.yard w.disk w.callers.items w.calls };
 }
@@ -90,24 +92,28 @@ impl World {
                 disk: None,
                 callers,
                 calls: 0,
+                tripped: false,
             }),
             Err(_) => Err(AllocError),
         }
     }
 
     /// Plays the next event of an actor's call. A Claim that found a lock taken is played too: the actor's next turn claims
-    /// again.
+    /// again. The device call of a turn fails where the device was tripped; where it finds no memory the turn is told as Memory.
     pub fn turn(&mut self, actor: usize) -> Result<Turned, PlayFault>
         ensures ok { IfOk result (λ turned. PlaysOn self.old (Step.Turn actor ∷ []) (mark_list turned.mark) self.new) }
         ensures told { IfOk result (λ turned. IsTold self.old.state actor turned.kind turned.outcome self.new.state) }
         ensures goes_on { IfOk result (λ turned. turned.mark ≡ None → IsLawful self.new.state (Step.Turn actor)) }
-        ensures fault { IfErr result (λ fault. (fault ≡ PlayFault.NotNow 1) × ¬ IsLawful self.old.state (Step.Turn actor)) }
-        ensures err { OnErr result (self.new ≡ self.old) }
+        ensures not_now { (i : _) → IsErrOf result (PlayFault.NotNow i) → (i ≡ 1) × (self.new ≡ self.old) × ¬ IsLawful self.old.state (Step.Turn actor) }
+        ensures memory { IsErrOf result PlayFault.Memory → LacksMemory self.old (Step.Turn actor) self.new }
     {
         let Some(event) = self.next_event(actor) else {
             return Err(PlayFault::NotNow(1));
         };
-        Ok(self.play_event(actor, event))
+        match self.play_event(actor, event) {
+            Some(turned) => Ok(turned),
+            None => Err(PlayFault::Memory),
+        }
     }
 
     /// The members now, ascending: the keys that are linked and not marked. There are none without an open service.
@@ -129,7 +135,7 @@ impl World {
     }
 
     /// Plays the steps in their order, and answers their marks. After Memory the world is as after some of the first steps,
-    /// the last of which may be an open that was refused for want of memory.
+    /// the last of which may be an open that was refused for want of memory, or a turn or an open whose device call found none.
     pub fn play(&mut self, alloc: Global, steps: &[Step]) -> Result<Vec<Mark>, PlayFault>
         ensures ok { IfOk result (λ marks. PlaysOn self.old steps.now marks.items self.new) }
         ensures chain { IfOk result (λ marks. IsChain self.old marks.items self.new) }
@@ -151,7 +157,7 @@ impl World {
     }
 
     // Plays the step with this number.
-    #[tactic(auto, using(crate::proofs::Worlding::early))]
+    #[tactic(auto, using(crate::proofs::Runs::PlayedStep::early, crate::proofs::Runs::JoinedPlays::early_lack))]
     fn play_step(
         &mut self,
         alloc: Global,
@@ -166,7 +172,8 @@ impl World {
             Step::Call(actor, command) => self.call(actor, command, number),
             Step::Turn(actor) => match self.turn(actor) {
                 Ok(turned) => Ok(turned.mark),
-                Err(_) => Err(PlayFault::NotNow(number)),
+                Err(PlayFault::NotNow(_)) => Err(PlayFault::NotNow(number)),
+                Err(PlayFault::Memory) => Err(PlayFault::Memory),
             },
             Step::Trip => {
                 self.trip();
@@ -182,7 +189,7 @@ impl World {
     }
 
     // Makes the call of the step with this place. Where no number is left for it there is no room.
-    #[tactic(auto, using(crate::proofs::Worlding::early))]
+    #[tactic(auto, using(crate::proofs::Runs::PlayedStep::early))]
     fn call(
         &mut self,
         actor: usize,
@@ -207,7 +214,7 @@ impl World {
         self.calls += 1;
         self.callers[actor - 1] = Some(OpenCall {
             number: self.calls,
-            caller: call_begun(command, self.buckets, outcome),
+            caller: Caller::begun(command, self.buckets, ACTORS, outcome),
         });
         Ok(Some(Mark::Call(self.calls, actor, told)))
     }
@@ -222,15 +229,36 @@ impl World {
         }
     }
 
-    // Plays an actor's next event.
-    fn play_event(&mut self, actor: usize, event: Event) -> Turned
+    // Plays an actor's next event. None where its device call found no memory.
+    fn play_event(&mut self, actor: usize, event: Event) -> Option<Turned>
+        requires { next_of self.old.state actor ≡ Some event }
+        ensures kind { IfSome result (λ turned. turned.kind ≡ kind_of event) }
+        ensures outcome { IfSome result (λ turned. IsOutcome self.old.state actor event turned.outcome self.new.state) }
+        ensures plays { IfSome result (λ turned. PlaysOn self.old (Step.Turn actor ∷ []) (mark_list turned.mark) self.new) }
+        ensures goes_on { IfSome result (λ turned. turned.mark ≡ None → IsLawful self.new.state (Step.Turn actor)) }
+        ensures lacks { IfNone result (LacksMemory self.old (Step.Turn actor) self.new) }
+    {
+        let turned = self.take_turn(actor, event);
+        if !is_fault(&turned.outcome) {
+            return Some(turned);
+        }
+        if !self.tripped {
+            return None;
+        }
+        self.tripped = false;
+        Some(turned)
+    }
+
+    // Plays an actor's next event. Its device call fails where the device was tripped.
+    fn take_turn(&mut self, actor: usize, event: Event) -> Turned
         requires { next_of self.old.state actor ≡ Some event }
         ensures kind { result.kind ≡ kind_of event }
         ensures outcome { IsOutcome self.old.state actor event result.outcome self.new.state }
-        ensures plays { PlaysOn self.old (Step.Turn actor ∷ []) (mark_list result.mark) self.new }
+        ensures takes { TakesTurn self.old actor result.outcome (mark_list result.mark) self.new }
         ensures goes_on { result.mark ≡ None → IsLawful self.new.state (Step.Turn actor) }
     {
         let played = event;
+        arm_yard(&mut self.yard, self.tripped);
         let outcome = step_on(&mut self.yard, actor, event);
         let told = outcome;
         let mark = take_outcome(&mut self.callers[actor - 1], outcome);
@@ -244,13 +272,14 @@ impl World {
     fn trip(&mut self)
         ensures { PlaysOn self.old (Step.Trip ∷ []) [] self.new }
     {
-        trip_disk(&mut self.yard, &mut self.disk);
+        self.tripped = true;
     }
 
     fn stop(&mut self)
         ensures { PlaysOn self.old (Step.Stop ∷ []) (Mark.Stop ∷ []) self.new }
     {
         stop_disk(&mut self.yard, &mut self.disk);
+        self.tripped = false;
     }
 
     fn crash(&mut self, pick: Pick) -> Result<Option<Mark>, PlayFault>
@@ -259,13 +288,17 @@ impl World {
         ensures err { OnErr result (self.new ≡ self.old) }
     {
         match crash_disk(&mut self.yard, &mut self.disk, pick) {
-            Ok(()) => Ok(Some(Mark::Crash)),
+            Ok(()) => {
+                self.tripped = false;
+                Ok(Some(Mark::Crash))
+            }
             Err(_) => Err(PlayFault::Memory),
         }
     }
 
-    // Opens the disk anew. Where there is no room for the keys that were found, the open is refused.
-    #[tactic(auto, using(crate::proofs::Worlding::early))]
+    // Opens the disk anew, whose next call fails where it was tripped. Where there is no room for the keys that were found, the
+    // open is refused.
+    #[tactic(auto, using(crate::proofs::Runs::PlayedStep::early))]
     fn reopen(&mut self, alloc: Global, number: usize) -> Result<Option<Mark>, PlayFault>
         ensures ok { IfOk result (λ mark. PlaysOn self.old (Step.Open ∷ []) (mark_list mark) self.new) }
         ensures not_now { (i : _) → IsErrOf result (PlayFault.NotNow i) → (i ≡ number) × (self.new ≡ self.old) × ¬ IsLawful self.old.state Step.Open }
@@ -280,7 +313,9 @@ impl World {
         let Some(disk) = self.disk.take() else {
             return Err(PlayFault::NotNow(number));
         };
-        match open_anew(alloc, disk, self.buckets) {
+        let tripped = self.tripped;
+        self.tripped = false;
+        match open_anew(alloc, armed(disk, tripped), self.buckets) {
             Ok(opened) => {
                 self.callers = callers;
                 self.yard = Some(opened.yard);
@@ -288,13 +323,20 @@ impl World {
             }
             Err(refused) => {
                 self.disk = Some(refused.disk);
-                match refused.fault {
-                    OpenFault::Memory => Err(PlayFault::Memory),
-                    fault => Ok(Some(Mark::OpenFailed(fault.number()))),
+                match fault_told(refused.fault, tripped) {
+                    None => Err(PlayFault::Memory),
+                    Some(number) => Ok(Some(Mark::OpenFailed(number))),
                 }
             }
         }
     }
+}
+
+// Whether the device call of an event failed.
+fn is_fault(outcome: &Outcome) -> bool
+    ensures { IsTrue result ↔ (outcome.now ≡ Outcome.Fault) }
+{
+    matches!(outcome, Outcome::Fault)
 }
 
 // Whether the service is open, and the actor is one of the world's and has no call.
@@ -303,18 +345,6 @@ fn may_call(yard: &Option<Yard<MemoryDisk>>, callers: &[Option<OpenCall>], actor
     ensures { IsTrue result ↔ MayCall yard.now callers.now actor }
 {
     yard.is_some() && 1 <= actor && actor <= ACTORS && callers[actor - 1].is_none()
-}
-
-// A call whose Invoke answered so. One that the file's format refuses is about to tell it.
-fn call_begun(command: Command, buckets: usize, outcome: Outcome) -> Caller
-    requires { (1 ≤ buckets) × (buckets ≤ 4096) }
-    ensures { result ≡ record { command = command; buckets = buckets; passes = 64; progress = begun_after outcome } }
-{
-    let mut caller = Caller::new(command, buckets, ACTORS);
-    if let Outcome::OldFile = outcome {
-        caller.take(Outcome::OldFile);
-    }
-    caller
 }
 
 // The next event of an actor's call on this yard, if it has one.

@@ -12,11 +12,11 @@ use Rattle.lz_core.specs.declared.play.Step.{Step as PlayStep}
 use Rattle.lz_core.specs.declared.play.Step.TheVariants as step
 use Rattle.lz_core.specs.declared.world.Turned.{Turned}
 use Rattle.lz_core.specs.Worlds.{IsLawful, IsTold, PlaysOn, StopsAt, WorldOver, mark_list}
-use Rattle.lz_core.proofs.Worlding.{stays}
-use Rattle.lz_core.proofs.WorldPlays.{chains, joins}
+use Rattle.lz_core.proofs.Runs.PlayedStep.{stays}
+use Rattle.lz_core.proofs.Runs.JoinedPlays.{chains, joins}
 use Rattle.lz_rehearsal.specs.declared.line.Line.{Line}
 use Rattle.lz_rehearsal.specs.declared.line.Line.TheVariants.{Call, Turn, Until, Finish, Trip, Stop, Crash, Open, Show}
-use Rattle.lz_rehearsal.specs.Scripts.{most_turns}
+use Rattle.lz_rehearsal.specs.Limits.{most_turns}
 use Rattle.lz_rehearsal.specs.Rehearsals.{Adds, Does, EndsAt, EndsWithin, IsLawfulLine, Rehearsed, Rehearses, Turns, enough, ended, busy, met, again, nothing, more}
 use Rattle.lz_slot.specs.MarkTexts.{marks_text}
 use Rattle.lz_rehearsal.specs.Rehearsing.{PlaysStep, ShowsMembers, TakesTurns, Tells}
@@ -59,7 +59,7 @@ Text = Option (List ℕ)
 rehearses : (old new : WorldOver) (lines : List Line) (marks : List Mark) (text : List ℕ) (b a : Text) → Rehearsed old lines marks text new → Appends b a text → Rehearses old lines new b a
 rehearses old new lines marks text b a h written =
     let play = play_of old new lines marks text h in
-    record { marks = marks; text = text; rehearsed = h; written = written; chain = chains old new play.0 marks play.1 }
+    record { marks = marks; text = text; rehearsed = h; written = written; chain = chains old new play.0 marks play.1; of_run = (play.1 (record { state = old.state; marks = []; trace = []; calls = old.calls }) (record { state = refl; calls = refl })).of_run }
 
 pub appends_none : (b : Text) → Appends b b []
 appends_none None = tt
@@ -85,7 +85,7 @@ cut_here : (lines : List Line) (i : ℕ) (line : Line) → i < length lines → 
 cut_here lines i line within at = split_at lines i line within ∙ ap (λ (x : Line). take i lines ++ x ∷ drop (suc i) lines) at
 
 written_more : (old new : WorldOver) (lines : List Line) (b m a : Text) → Rehearses old lines new b m → Appends m a [] → Rehearses old lines new b a
-written_more old new lines b m a h none = record { marks = h.marks; text = h.text; rehearsed = h.rehearsed; written = appends_more b m a h.text h.written none; chain = h.chain }
+written_more old new lines b m a h none = record { marks = h.marks; text = h.text; rehearsed = h.rehearsed; written = appends_more b m a h.text h.written none; chain = h.chain; of_run = h.of_run }
 
 -- a line that isn't lawful
 pub ends_at : (old mid new : WorldOver) (lines : List Line) (i number : ℕ) (line : Line) (b m a : Text) → i < length lines → get_or lines i line ≡ line

@@ -7,7 +7,8 @@ use Rattle.lz_proto.specs.Lines.{has_line_feed, line_feed}
 use Rattle.lz_rehearsal.specs.declared.line.Line.{Line}
 use Rattle.lz_rehearsal.specs.declared.script.ScriptFault.{ScriptFault}
 use Rattle.lz_rehearsal.specs.declared.script.ScriptFault.TheVariants.{Line as BadLine, Read, Memory}
-use Rattle.lz_rehearsal.specs.Scripts.{FailsAt, HasNoLine, IsScript, Reads, nothing, more, line_read, most_bytes, most_lines}
+use Rattle.lz_rehearsal.specs.Scripts.{FailsAt, HasNoLine, IsScript, Reads, nothing, more, line_read}
+use Rattle.lz_rehearsal.specs.Limits.{most_bytes, most_length, most_lines}
 use Rattle.lz_rehearsal.specs.Scripting.{AddsLine, IsFaultOf, IsLineFault}
 use Rattle.lz_slot.proofs.Texts.Cuts.{cut_at, first_cut, lacks_all, lacks_first, stands}
 
@@ -98,13 +99,13 @@ pub whole_script : (text rest : List ℕ) (lines : List Line) → Leaves text re
 whole_script text [] lines h empty = record { reads = subst (λ (x : List ℕ). Reads x lines) (sym (h.whole ∙ append-nil h.front)) h.reads; few = h.few }
 whole_script text (b ∷ rest) lines h empty = absurd (omega arith)
 
-by_length : (t : List ℕ) (line : Line) (far : Bool) → nat_lt 64 (length t) ≡ far → line_read t ≡ Some line → length t ≤ 64
+by_length : (t : List ℕ) (line : Line) (far : Bool) → nat_lt most_length (length t) ≡ far → line_read t ≡ Some line → length t ≤ most_length
 by_length t line true e is = absurd (let none : line_read t ≡ None = rw e refl in cc)
 by_length t line false e is = grind (arith, nat_tests)
 
 -- a line that reads is short
-line_short : (t : List ℕ) (line : Line) → line_read t ≡ Some line → length t ≤ 64
-line_short t line is = by_length t line (nat_lt 64 (length t)) refl is
+line_short : (t : List ℕ) (line : Line) → line_read t ≡ Some line → length t ≤ most_length
+line_short t line is = by_length t line (nat_lt most_length (length t)) refl is
 
 reads_short : (text : List ℕ) (lines : List Line) → Reads text lines → length text ≤ 65 * length lines
 reads_short _ _ nothing = omega arith
@@ -125,8 +126,8 @@ script_whole input text lines is h =
     let all : text ≡ input = is ∙ take_all most_bytes input (omega (arith, length-take most_bytes input)) in
     record { reads = subst (λ (x : List ℕ). Reads x lines) all h.reads; few = h.few }
 
-long_none : (t : List ℕ) → 64 < length t → line_read t ≡ None
-long_none t far = let e : nat_lt 64 (length t) ≡ true = grind (arith, nat_tests) in rw e refl
+long_none : (t : List ℕ) → most_length < length t → line_read t ≡ None
+long_none t far = let e : nat_lt most_length (length t) ≡ true = grind (arith, nat_tests) in rw e refl
 
 inside_front : (rest tail t others : List ℕ) → length t < length rest → rest ++ tail ≡ t ++ line_feed ∷ others → (left : List ℕ) × (rest ≡ t ++ line_feed ∷ left)
 inside_front [] tail t others low all = absurd (omega arith)
@@ -136,14 +137,14 @@ inside_front (b ∷ rest) tail (c ∷ t) others low all =
     let same : b ≡ c = cc in
     (more.0, ap (λ (x : ℕ). x ∷ rest) same ∙ ap (λ (x : List ℕ). c ∷ x) more.1)
 
-by_end : (rest tail t others : List ℕ) (inside : Bool) → nat_lt (length t) (length rest) ≡ inside → 64 < length rest → HasNoLine rest → has_line_feed t ≡ false
+by_end : (rest tail t others : List ℕ) (inside : Bool) → nat_lt (length t) (length rest) ≡ inside → most_length < length rest → HasNoLine rest → has_line_feed t ≡ false
     → rest ++ tail ≡ t ++ line_feed ∷ others → line_read t ≡ None
 by_end rest tail t others false e far h clear all = long_none t (grind (arith, nat_tests))
 by_end rest tail t others true e far h clear all =
     let low : length t < length rest = grind (arith, nat_tests) in
     let parts = inside_front rest tail t others low all in h t parts.0 clear parts.1
 
-no_line_longer : (rest tail : List ℕ) → 64 < length rest → HasNoLine rest → HasNoLine (rest ++ tail)
+no_line_longer : (rest tail : List ℕ) → most_length < length rest → HasNoLine rest → HasNoLine (rest ++ tail)
 no_line_longer rest tail far h t others clear all = by_end rest tail t others (nat_lt (length t) (length rest)) refl far h clear all
 
 fails_by : (input text : List ℕ) (number : ℕ) (far : Bool) → nat_lt most_bytes (length input) ≡ far → text ≡ take most_bytes input → FailsAt text number → FailsAt input number
@@ -153,7 +154,7 @@ fails_by input text number false e is h =
 fails_by input text number true e is h =
     let beyond : most_bytes < length input = grind (arith, nat_tests) in
     let size : length text ≡ most_bytes = ap (λ (x : List ℕ). length x) is ∙ omega (arith, length-take most_bytes input) in
-    let far : 64 < length h.rest = omega (arith, size, reads_short h.front h.lines h.reads, h.few, ap (λ (x : List ℕ). length x) h.whole, length-append h.front h.rest) in
+    let far : most_length < length h.rest = omega (arith, size, reads_short h.front h.lines h.reads, h.few, ap (λ (x : List ℕ). length x) h.whole, length-append h.front h.rest) in
     let tail = drop most_bytes input in
     record {
       lines = h.lines;

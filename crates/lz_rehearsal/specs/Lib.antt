@@ -1,3 +1,4 @@
+pub mod Limits
 pub mod Scripts
 pub mod Tellings
 pub mod Scripting

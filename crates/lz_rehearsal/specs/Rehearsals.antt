@@ -11,8 +11,9 @@ use Rattle.lz_machine.specs.Runs.{State}
 use Rattle.lz_core.specs.Worlds.{Ascend, IsChain, IsLawful, IsTold, IsUp, PlaysOn, Shows, WorldOver, mark_list}
 use Rattle.lz_rehearsal.specs.declared.line.Line.{Line}
 use Rattle.lz_rehearsal.specs.declared.line.Line.TheVariants.{Call, Turn, Until, Finish, Trip, Stop, Crash, Open, Show}
-use Rattle.lz_rehearsal.specs.Scripts.{most_turns}
+use Rattle.lz_rehearsal.specs.Limits.{most_turns}
 use Rattle.lz_slot.specs.MarkTexts.{marks_text}
+use Rattle.lz_judge.specs.MarkLines.{AreMarksOfRun}
 use Rattle.lz_rehearsal.specs.Tellings.{busy_text, mark_line, show_text}
 
 -- a step was played: these marks were seen, and their lines written
@@ -85,13 +86,15 @@ pub record Adds (old : WorldOver) (line : Line) (new : WorldOver) (before after 
   pub does : Does old line seen text new
   pub written : Appends before after text
 
--- The lines were rehearsed, and their text written. What was seen is a chain of lives.
+-- The lines were rehearsed, and their text written. What was seen is a chain of lives, and its marks are those of a run, so that
+-- the line of each reads as that mark.
 pub record Rehearses (old : WorldOver) (lines : List Line) (new : WorldOver) (before after : Option (List ℕ)) : Type 0 where
   pub marks : List Mark
   pub text : List ℕ
   pub rehearsed : Rehearsed old lines marks text new
   pub written : Appends before after text
   pub chain : IsChain old marks new
+  pub of_run : AreMarksOfRun marks
 
 -- The lines before the one with this number were rehearsed, and it isn't lawful there.
 pub record EndsAt (old : WorldOver) (lines : List Line) (number : ℕ) (new : WorldOver) (before after : Option (List ℕ)) : Type 0 where

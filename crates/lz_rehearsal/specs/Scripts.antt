@@ -12,30 +12,9 @@ use Rattle.lz_machine.specs.declared.kind.Kind.TheVariants as kind
 use Rattle.lz_slot.specs.Numerals.{number_in}
 use Rattle.lz_slot.specs.Texts.{key_read, parted}
 use Rattle.lz_slot.specs.declared.spelling.KeyFault.{KeyFault}
+use Rattle.lz_rehearsal.specs.Limits.{most_actors, most_kept, most_length, most_lines, most_turns}
 use Rattle.lz_rehearsal.specs.declared.line.Line.{Line}
 use Rattle.lz_rehearsal.specs.declared.line.Line.TheVariants.{Call, Turn, Until, Finish, Trip, Stop, Crash, Open, Show}
-
-abbrev pub most_actors : ℕ
-most_actors = 64
-
--- the most turns that one line plays
-abbrev pub most_turns : ℕ
-most_turns = 1000000
-
--- the most bytes that a crash in part keeps by its line
-abbrev pub most_kept : ℕ
-most_kept = 9999
-
-abbrev pub most_lines : ℕ
-most_lines = 100000
-
--- the most bytes of an input that are read: one line more than the most, each of the longest, with its line feed
-abbrev pub most_bytes : ℕ
-most_bytes = 6500065
-
--- a longer line is no line of a script
-abbrev pub longest_line : ℕ
-longest_line = 64
 
 abbrev pub space : ℕ
 space = 32
@@ -149,7 +128,7 @@ bare line (b ∷ t) = None
 -- what a line without its line feed asks for, if it is one
 abbrev pub line_read : List ℕ → Option Line
 line_read text =
-    if nat_lt longest_line (length text) then None
+    if nat_lt most_length (length text) then None
     else if starts_with nat_eq text (codes "call ") then call_read (drop 5 text)
     else if starts_with nat_eq text (codes "turn ") then turn_read (drop 5 text)
     else if starts_with nat_eq text (codes "until ") then until_read (drop 6 text)

@@ -4,12 +4,14 @@
 //! where it stands, and writes one line for each mark, for the members, and for an actor that found a lock taken.
 #![tactic(auto)]
 
+mod limits;
 mod line;
 mod rehearsal;
 mod script;
 mod telling;
 
-pub use line::{ACTORS, LONGEST_LINE, Line, MOST_KEPT, MOST_TURNS, read_line};
+pub use limits::{MOST_ACTORS, MOST_KEPT, MOST_LENGTH, MOST_LINES, MOST_TURNS};
+pub use line::{Line, read_line};
 pub use rehearsal::{RehearsalFault, rehearse};
-pub use script::{MOST_LINES, Script, ScriptFault};
+pub use script::{Script, ScriptFault};
 pub use telling::{write_line, write_marks};

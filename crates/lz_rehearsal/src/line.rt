@@ -3,22 +3,11 @@ ghost use Rattle.std.specs.Prelude.{◌≡◌, ◌≤◌, IfSome, option_map};
 ghost use Rattle.lz_slot.specs.Texts.{parted};
 ghost use Rattle.lz_rehearsal.specs.Scripts.{actor_read, bare, byte_read, call_read, command_read, crash_read, finish_read, hex_digit, kind_read, line_read, pick_read, space, turn_read, until_read};
 
+use crate::limits::{MOST_ACTORS, MOST_KEPT, MOST_LENGTH, MOST_TURNS};
 use lz_core::Kind;
 use lz_disk::Pick;
 use lz_slot::{Command, read_key, read_number};
 use memchr::memchr;
-
-/// The most callers that a rehearsal has at once.
-pub const ACTORS: u64 = 64;
-
-/// The most turns that one line plays.
-pub const MOST_TURNS: u64 = 1_000_000;
-
-/// The most bytes that a crash in part keeps by its line.
-pub const MOST_KEPT: u64 = 9_999;
-
-/// A longer line is no line of a script.
-pub const LONGEST_LINE: usize = 64;
 
 /// What one line of a script asks for. Actors count from 1.
 #[derive(Clone, Copy, Debug, PartialEq, Eq)]
@@ -53,7 +42,7 @@ macro_rules! line_kinds {
 pub fn read_line(text: &[u8]) -> Option<Line>
     ensures { result ≡ line_read text.now }
 {
-    if text.len() > LONGEST_LINE {
+    if text.len() > MOST_LENGTH {
         return None;
     }
     line_kinds!(text, rest;
@@ -103,7 +92,7 @@ fn read_until(text: &[u8]) -> Option<Line>
 fn read_finish(text: &[u8]) -> Option<Line>
     ensures { result ≡ finish_read text.now }
 {
-    let actor = read_number(text, 1, ACTORS)?;
+    let actor = read_number(text, 1, MOST_ACTORS)?;
     Some(Line::Finish(actor as usize))
 }
 
@@ -119,7 +108,7 @@ fn read_actor(text: &[u8]) -> Option<(usize, &[u8])>
     ensures { option_map (λ p. (p.0, p.1.now)) result ≡ actor_read text.now }
 {
     let (word, rest) = split_word(text)?;
-    let actor = read_number(word, 1, ACTORS)?;
+    let actor = read_number(word, 1, MOST_ACTORS)?;
     Some((actor as usize, rest))
 }
 

@@ -5,7 +5,8 @@ ghost use Rattle.lz_core.specs.Worlds.{IsLawful, IsUp};
 ghost use Rattle.lz_rehearsal.specs.Rehearsals.{Adds, EndsAt, EndsWithin, IsLawfulLine, IsShow, IsStep, Rehearses};
 ghost use Rattle.lz_rehearsal.specs.Rehearsing.{ShowsMembers, PlaysStep, TakesTurns, Tells};
 
-use crate::line::{Line, MOST_TURNS};
+use crate::limits::MOST_TURNS;
+use crate::line::Line;
 use crate::telling::{write_busy, write_mark, write_marks, write_members};
 use lz_core::{Kind, Outcome, PlayFault, Step, Turned, World};
 use std::alloc::Global;
@@ -97,11 +98,13 @@ fn play_turns<W: Write + Drop>(
 ) -> Result<(), RehearsalFault>
     ensures done { OnOk result (TakesTurns actor awaited most world.old world.new (W.contents writer.old) (W.contents writer.new)) }
     ensures line { (n : ℕ) → IsErrOf result (RehearsalFault.Line n) → (n ≡ number) × (world.new ≡ world.old) × Appends (W.contents writer.old) (W.contents writer.new) [] × ¬ IsLawful world.old.state (Step.Turn actor) }
-    ensures memory { ¬ IsErrOf result RehearsalFault.Memory }
+    ensures memory { IsErrOf result RehearsalFault.Memory → Appends (W.contents writer.old) (W.contents writer.new) [] }
 {
     for _ in 0..most {
-        let Ok(turned) = world.turn(actor) else {
-            return Err(RehearsalFault::Line(number));
+        let turned = match world.turn(actor) {
+            Ok(turned) => turned,
+            Err(PlayFault::NotNow(_)) => return Err(RehearsalFault::Line(number)),
+            Err(PlayFault::Memory) => return Err(RehearsalFault::Memory),
         };
         if tell_turn(writer, actor, awaited, &turned)? {
             return Ok(());

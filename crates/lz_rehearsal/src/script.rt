@@ -1,19 +1,15 @@
 //! A whole script.
 ghost use Rattle.std.specs.Prelude.{◌≡◌, ◌≤◌, ℕ, IfOk, IfErr, IfSome, OnOk, Err, length, take};
-ghost use Rattle.lz_rehearsal.specs.Scripts.{FailsAt, IsScript, most_bytes};
+ghost use Rattle.lz_rehearsal.specs.Scripts.{FailsAt, IsScript};
+ghost use Rattle.lz_rehearsal.specs.Limits.{most_bytes, most_lines};
 ghost use Rattle.lz_rehearsal.specs.Scripting.{AddsLine, IsFaultOf, IsLineFault};
 
+use crate::limits::{MOST_BYTES, MOST_LINES};
 use crate::line::{Line, read_line};
 use memchr::memchr;
 use std::alloc::Global;
 use std::io::{ErrorKind, Read};
 use std::marker::Model;
-
-/// A script of more lines doesn't read.
-pub const MOST_LINES: usize = 100_000;
-
-// No more of the input is read: a longer text has more lines, or a longer line, than a script has.
-const MOST_BYTES: u64 = 6_500_065;
 
 /// Why there is no script.
 #[derive(Clone, Copy, Debug, PartialEq, Eq)]
@@ -103,7 +99,7 @@ fn read_lines(alloc: Global, text: &[u8]) -> Result<Vec<Line>, ScriptFault>
 
 // Adds a line, given without its line feed.
 fn add_line(lines: &mut Vec<Line>, text: &[u8]) -> Result<(), ScriptFault>
-    requires { length lines.old.items ≤ 100000 }
+    requires { length lines.old.items ≤ most_lines }
     ensures ok { OnOk result (AddsLine text.now lines.old.items lines.new.items) }
     ensures err { IfErr result (λ fault. IsLineFault text.now lines.old.items fault) }
 {

@@ -13,15 +13,13 @@ use Rattle.lz_disk.specs.Images.{IsImage, Medium}
 use Rattle.lz_vault.specs.Vaults.{DeviceCall, NoCall, Succeeds}
 use Rattle.lz_machine.specs.declared.course.Course.{Course}
 use Rattle.lz_machine.specs.declared.caller.Progress.{Progress}
-use Rattle.lz_machine.specs.declared.caller.Progress.TheVariants.{Answering}
 use Rattle.lz_machine.specs.declared.event.Event.{Event}
 use Rattle.lz_machine.specs.declared.event.Event.TheVariants.{Invoke}
 use Rattle.lz_machine.specs.declared.event.Outcome.{Outcome}
 use Rattle.lz_machine.specs.declared.event.Outcome.TheVariants.{Done, Fault, OldFile}
 use Rattle.lz_machine.specs.declared.event.Reply.{Reply}
-use Rattle.lz_machine.specs.declared.event.Reply.TheVariants.{OldFile as SaysOldFile}
 use Rattle.lz_machine.specs.declared.kind.Kind.{Kind}
-use Rattle.lz_machine.specs.Calls.{begun, first_progress, loaded, progress_after}
+use Rattle.lz_machine.specs.Calls.{begun, loaded, progress_after}
 use Rattle.lz_machine.specs.Orders.{Calling, MayTake}
 use Rattle.lz_machine.specs.Points.{IsQuiet}
 use Rattle.lz_machine.specs.Ready.{IsEventOf}
@@ -36,9 +34,12 @@ use Rattle.lz_machine.proofs.Theorem.EventNeeds.{may_take_fault}
 use Rattle.lz_machine.proofs.Theorem.WornPass.{is_look}
 use Rattle.lz_machine.proofs.Theorem.Timing.{is_event, may_take, quiet_step}
 use Rattle.lz_yard.specs.Steps.{Played}
+use Rattle.lz_yard.proofs.Events.PassPlaces.{set_at}
 use Rattle.lz_yard.proofs.Events.KeptFit.{fault_or_not, played_shape}
 use Rattle.lz_yard.proofs.Events.RunTransition.{may_play, moved, steps_on}
-use Rattle.lz_set.specs.Locks.{Begins, HasHistory, IsCallOf, IsHeld, IsHold, IsLeft, IsOfRun, IsReplied, IsTurn, ServiceOver, begun_after, first_call, goes_on, kept_call, next_of}
+use Rattle.lz_caller.specs.Begun.{begun_after}
+use Rattle.lz_caller.proofs.BegunCall.{begins}
+use Rattle.lz_set.specs.Locks.{Begins, HasHistory, IsCallOf, IsHeld, IsHold, IsLeft, IsOfRun, IsReplied, IsTurn, ServiceOver, first_call, goes_on, kept_call, next_of}
 
 -- lists of what passes have, one for one
 index_map : (s : Shape) (xs : List (Option Caller)) (i : ℕ) → slice_index_or (map (kept_call s) xs) i None ≡ kept_call s (slice_index_or xs i None)
@@ -67,12 +68,6 @@ count_set_at (y ∷ xs) (suc i) x = ap suc (count_set_at xs i x)
 count_set : {X : Type 0} (xs : List X) (a : ℕ) (x : X) → length (set_of_pass xs a x) ≡ length xs
 count_set xs zero x = refl
 count_set xs (suc i) x = count_set_at xs i x
-
-pub set_at : {X : Type 0} (xs : List X) (a : ℕ) (x : X) → 1 ≤ a → set_of_pass xs a x ≡ slice_set xs (a - 1) x
-set_at xs zero x low = elim low [ ]
-set_at xs (suc a) x low =
-    let same : suc a - 1 ≡ a = omega arith in
-    rw same refl
 
 -- what stands at a pass's place
 pub stands_at : (xs : List (Option Calling)) (a : ℕ) (x : Option Calling) (call : Calling) → 1 ≤ a → of_pass xs a None ≡ Some call → x ≡ slice_index_or xs (a - 1) x → x ≡ Some call
@@ -136,11 +131,6 @@ moves_so s caller o None =
 no_call : (s : Shape) (o : Option Caller) → kept_call s o ≡ None → IsNone o
 no_call s None none = refl
 no_call s (Some caller) none = absurd (false≢true (sym (ap is_some none)))
-
--- a call begins as the file's format says
-begins : (refused : Bool) → begun_after (if refused then OldFile else Done) ≡ (if refused then Answering SaysOldFile else first_progress)
-begins true = refl
-begins false = refl
 
 module _ (y : Yard) (calls : List (Option Calling)) (honest : Bool) (disk : Medium) (h : IsOfRun y calls honest disk) where
   abbrev served : Service
@@ -246,7 +236,7 @@ module _ (y : Yard) (calls : List (Option Calling)) (honest : Bool) (disk : Medi
           is
           ∙ ap (λ (b : ℕ). record { command = c; buckets = b; passes = passes; progress = begun_after outcome }) own
           ∙ ap (λ (p : ℕ). record { command = c; buckets = y.shape.buckets; passes = p; progress = begun_after outcome }) (room ∙ count)
-          ∙ ap (λ (at : Progress). record { command = c; buckets = y.shape.buckets; passes = y.shape.passes; progress = at }) (ap begun_after outcome_is ∙ begins (is_old y.vault.format c))
+          ∙ ap (λ (at : Progress). record { command = c; buckets = y.shape.buckets; passes = y.shape.passes; progress = at }) (ap begun_after outcome_is ∙ sym (begins (is_old y.vault.format c)))
 
       pub invokes : key_of c ≤ largest_key → before.honest ≡ honest → before.medium ≡ disk
           → IsOfRun new (set_of_pass calls a (Some (first_call y c))) after.honest after.medium
@@ -338,10 +328,10 @@ module _ (y : Yard) (calls : List (Option Calling)) (honest : Bool) (disk : Medi
           (λ is. same_disk ∙ h.device (subst IsTrue same_honest is)) event_there in
           let shape : new.shape ≡ y.shape = played_shape y a (next_of y call) outcome new told before after event in
           let callers : List (Option Caller) = set_of_pass h.callers a (moved new.shape own.caller outcome) in
-          go new (set_of_pass calls a (goes_on (reply_at call.progress) call outcome)) after.honest after.medium callers steps.step steps.medium steps.may steps.other steps.to
+          go new (set_of_pass calls a (goes_on (reply_at call.progress) call outcome)) after.honest after.medium callers steps.0 steps.2.medium steps.2.may steps.1 steps.2.to
           (subst (λ (s : Shape). set_of_pass calls a (goes_on (reply_at call.progress) call outcome) ≡ map (kept_call s) (set_of_pass h.callers a (moved s own.caller outcome))) (sym shape)
           (ap (λ (k : Calling). set_of_pass calls a (goes_on (reply_at k.progress) k outcome)) own.is
           ∙ ap (λ (cs : List (Option Calling)). set_of_pass cs a (goes_on (reply_at own.caller.progress) (kept_one y.shape own.caller) outcome)) h.kept
           ∙ ap (set_of_pass (map (kept_call y.shape) h.callers) a) (sym (moves_so y.shape own.caller outcome (reply_at own.caller.progress)))
           ∙ sym (map_set y.shape h.callers a (moved y.shape own.caller outcome))))
-          (count_set h.callers a (moved new.shape own.caller outcome) ∙ h.count ∙ ap (λ (s : Shape). s.passes) (sym shape)) steps.device
+          (count_set h.callers a (moved new.shape own.caller outcome) ∙ h.count ∙ ap (λ (s : Shape). s.passes) (sym shape)) steps.2.device

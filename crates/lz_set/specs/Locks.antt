@@ -11,14 +11,10 @@ use Rattle.lz_disk.specs.Images.{Medium, IsImage}
 use Rattle.lz_vault.specs.Vaults.{NoCall, Succeeds}
 use Rattle.lz_list.specs.Traces.{Trace}
 use Rattle.lz_machine.specs.declared.event.Event.{Event}
-use Rattle.lz_machine.specs.declared.caller.Progress.{Progress}
-use Rattle.lz_machine.specs.declared.caller.Progress.TheVariants.{Answering}
 use Rattle.lz_machine.specs.declared.event.Outcome.{Outcome}
-use Rattle.lz_machine.specs.declared.event.Outcome.TheVariants.{OldFile}
 use Rattle.lz_machine.specs.declared.event.Reply.{Reply}
-use Rattle.lz_machine.specs.declared.event.Reply.TheVariants.{OldFile as SaysOldFile}
 use Rattle.lz_machine.specs.declared.kind.Kind.{Kind}
-use Rattle.lz_machine.specs.Calls.{begun, event_at, first_progress, loaded, progress_after}
+use Rattle.lz_machine.specs.Calls.{begun, event_at, loaded, progress_after}
 use Rattle.lz_machine.specs.Kinds.{kind_of}
 use Rattle.lz_machine.specs.Orders.{Calling, shape_with}
 use Rattle.lz_machine.specs.Points.{IsReached, IsQuiet}
@@ -101,11 +97,6 @@ next_of y call = loaded y.words (event_at (shape_with call) call.command call.pr
 abbrev pub goes_on : Option Reply → Calling → Outcome → Option Calling
 goes_on (Some reply) call outcome = None
 goes_on None call outcome = Some (record { command = call.command; buckets = call.buckets; passes = call.passes; progress = progress_after (shape_with call) call.command call.progress outcome })
-
--- where a call begins, whose Invoke answered so
-abbrev pub begun_after : Outcome → Progress
-begun_after OldFile = Answering SaysOldFile
-begun_after _ = first_progress
 
 -- a call of a command that was just made on a yard: it begins as the format of the file says
 abbrev pub first_call : Yard → Command → Calling

@@ -7,7 +7,7 @@ ghost use Rattle.lz_machine.specs.Calls.{event_at};
 ghost use Rattle.lz_machine.specs.Orders.{HasPass, MayTake, shape_with};
 ghost use Rattle.lz_machine.specs.Runs.{reply_at};
 ghost use Rattle.lz_yard.specs.Filling.{OpensYard};
-ghost use Rattle.lz_set.specs.Locks.{Begins, HasCallOf, HasHistory, IsCallOf, IsLeft, IsOfRun, IsReplied, IsTurn, begun_after, call_of, goes_on, next_of};
+ghost use Rattle.lz_set.specs.Locks.{Begins, HasCallOf, HasHistory, IsCallOf, IsLeft, IsOfRun, IsReplied, IsTurn, call_of, goes_on, next_of};
 
 use lz_caller::Caller;
 use lz_disk::Disk;
@@ -87,7 +87,7 @@ impl<D: Disk> Service<D> {
         let _key = asked.key().rank();
         let outcome = self.yard.step(pass, Event::Invoke(played));
         let passes = self.calls.len();
-        self.calls[pass - 1] = Some(call_begun(command, self.buckets, passes, outcome));
+        self.calls[pass - 1] = Some(Caller::begun(command, self.buckets, passes, outcome));
         true
     }
 
@@ -148,19 +148,6 @@ fn no_calls(alloc: Global, passes: usize) -> Result<Vec<Option<Caller>>, AllocEr
         calls.push(None)?;
     }
     Ok(calls)
-}
-
-// A call whose Invoke answered so. One that the file's format refuses is about to tell it.
-fn call_begun(command: Command, buckets: usize, passes: usize, outcome: Outcome) -> Caller
-    requires buckets { (1 ≤ buckets) × (buckets ≤ most_buckets) }
-    requires passes { (1 ≤ passes) × (passes ≤ most_passes) }
-    ensures { result ≡ record { command = command; buckets = buckets; passes = passes; progress = begun_after outcome } }
-{
-    let mut caller = Caller::new(command, buckets, passes);
-    if let Outcome::OldFile = outcome {
-        caller.take(Outcome::OldFile);
-    }
-    caller
 }
 
 // Whether the commands are the same.

@@ -19,7 +19,7 @@ use Rattle.lz_list.specs.Lists.{IsCurr, IsWord}
 use Rattle.lz_list.specs.Locks.{is_pair_free}
 use Rattle.lz_flush.specs.Settling.{settle}
 use Rattle.lz_machine.specs.declared.event.Event.{Event}
-use Rattle.lz_machine.specs.declared.event.Event.TheVariants.{Invoke, Pin, Hop, Reserve, WriteKey, Claim, Check, WriteOpen, Link, WriteClose, Mark, Release, Sync, Settle, Unlink, Retire, SeePin, Answer, Halt}
+use Rattle.lz_machine.specs.declared.event.Event.TheVariants.{Invoke, Pin, Reserve, WriteKey, Claim, Check, WriteOpen, Link, WriteClose, Mark, Release, Sync, Settle, Unlink, Retire, SeePin, Answer, Halt}
 use Rattle.lz_machine.specs.declared.event.Outcome.{Outcome}
 use Rattle.lz_machine.specs.declared.event.Outcome.TheVariants.{Done, Value, Slot, NoSlot, Taken as WasTaken, Busy, True, False, Early, Worn, OldFile, NotNow, Fault, Dead}
 use Rattle.lz_machine.specs.declared.course.Course.{Course}

@@ -15,7 +15,7 @@ use Rattle.lz_machine.specs.declared.event.Outcome.TheVariants.{Done, Taken, Bus
 use Rattle.lz_machine.specs.declared.course.Course.TheVariants.{Refused, Dies, Plays}
 use Rattle.lz_machine.specs.declared.actor.Actor.{Actor}
 use Rattle.lz_machine.specs.Yards.{Yard, actor_at}
-use Rattle.lz_machine.specs.Table.{course, call_of, call_on, line, line_call, line_changes, line_on, line_publishes, changed_on, published_on, outcome_of, slot_found, is_sure, with_vault, word_changed, is_old}
+use Rattle.lz_machine.specs.Table.{course, call_of, call_on, line, line_call, line_changes, line_on, line_publishes, changed_on, published_on, outcome_of, slot_found, is_sure, with_vault, is_old}
 use Rattle.lz_yard.specs.Steps.{IsDone, Played, Tells, nothing_told, value_of}
 use Rattle.lz_yard.specs.declared.told.Told.{Told}
 use Rattle.lz_yard.specs.Parts.{Known, Does}

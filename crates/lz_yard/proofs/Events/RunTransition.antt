@@ -1,14 +1,12 @@
 -- A call's next event, played on a yard over any device, as a step of a run.
-use Rattle.std.proofs.Common.{◌≡◌, ◌≢◌, inl, inr, ◌≤◌, length, IsTrue, ℕ, Bool, true, false, List, Option, Some, None, refl, sym, ap, ◌∙◌, subst}
+use Rattle.std.proofs.Common.{◌≡◌, ◌≢◌, inl, inr, ◌≤◌, length, IsTrue, ℕ, Bool, true, false, Option, Some, refl, sym, ap, ◌∙◌, subst}
 use Rattle.std.proofs.lemmas.Bool.{false≢true}
 use Rattle.lz_slot.specs.Counted.{set_of_pass}
 use Rattle.lz_disk.specs.Images.{Medium}
 use Rattle.lz_disk.specs.Devices.{Device}
 use Rattle.lz_vault.specs.Vaults.{DeviceCall, NoCall, WriteAt, SyncAll, MayFail, medium_after}
-use Rattle.lz_machine.specs.declared.event.Event.{Event}
 use Rattle.lz_machine.specs.declared.event.Outcome.{Outcome}
 use Rattle.lz_machine.specs.declared.event.Outcome.TheVariants.{Fault}
-use Rattle.lz_machine.specs.declared.event.Reply.{Reply}
 use Rattle.lz_machine.specs.Yards.{Shape, Yard}
 use Rattle.lz_machine.specs.Table.{line, line_failed, line_call}
 use Rattle.lz_machine.specs.Calls.{progress_after}
@@ -99,13 +97,17 @@ module _ (start : Start) (p : Point) (reached : IsReached start p) (service : Se
       → Played service.yard a (next_event service.yard caller) outcome new changed before after → (honest : Bool) → before.honest ≡ honest
       → (left : Medium) × Steps (Up service medium) (Fails a left) (after_it service a caller new outcome) after
   failed before after new outcome changed same fault event true is =
-      let h = event.failed fault in
-      (after.medium, failed_to before after new outcome changed after.medium fault
-      (subst (λ (m : Medium). MayFail (line_call service.yard a (next_event service.yard caller)) m after.medium) (same is) (h.call.medium is)) (λ honest. refl) event)
+      let h = event.failed fault in (
+        after.medium,
+        failed_to before after new outcome changed after.medium fault
+            (subst (λ (m : Medium). MayFail (line_call service.yard a (next_event service.yard caller)) m after.medium) (same is) (h.call.medium is)) (λ honest. refl) event,
+      )
   failed before after new outcome changed same fault event false is =
-      let h = event.failed fault in
-      (medium, failed_to before after new outcome changed medium fault (may_fail (line_call service.yard a (next_event service.yard caller)) medium h.asked)
-      (λ honest. absurd (false≢true (sym is ∙ sym h.call.honest ∙ honest))) event)
+      let h = event.failed fault in (
+        medium,
+        failed_to before after new outcome changed medium fault (may_fail (line_call service.yard a (next_event service.yard caller)) medium h.asked)
+            (λ honest. absurd (false≢true (sym is ∙ sym h.call.honest ∙ honest))) event,
+      )
 
   -- one step, which is no look
   pub steps_on : (before after : Device) (new : Yard) (outcome : Outcome) (changed : _) → (IsTrue before.honest → before.medium ≡ medium)

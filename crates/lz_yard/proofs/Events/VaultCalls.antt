@@ -6,7 +6,7 @@ use mathlib.Core.Bool.{false≢true}
 use Rattle.std.proofs.lemmas.Bool.Decides.{nat_tests}
 use Rattle.lz_disk.specs.Devices.{Device}
 use Rattle.lz_vault.specs.declared.vault.Stage.{Stage}
-use Rattle.lz_vault.specs.declared.vault.Stage.TheVariants.{Closed, KeyLoose, Keyed, Opening, Open, Closing}
+use Rattle.lz_vault.specs.declared.vault.Stage.TheVariants.{KeyLoose, Keyed, Opening, Open, Closing}
 use Rattle.lz_vault.specs.declared.vault.VaultFault.{VaultFault}
 use Rattle.lz_vault.specs.declared.vault.VaultFault.TheVariants as fault
 use Rattle.lz_vault.specs.Stages.{Cell, cell_synced, IsAt, IsFree, IsOpened}

@@ -1,7 +1,10 @@
 use Rattle.std.proofs.Common.{refl}
-use Rattle.lz_core.proofs.WorldKeys.{opened_keys}
+use Rattle.lz_core.proofs.Members.ShownKeys.{ascend_from, opened_keys}
 use Rattle.lz_core.proofs.reopening.open_anew.Goals as goal
 
 pub returns-in-Ok-clause-keys : goal.returns-in-Ok-clause-keys
 returns-in-Ok-clause-keys c =
     opened_keys _ _ _ _ _ c.in_ok-yard.ensures.ok refl c.requires.0 c.in-Ok.keys.items c.in-Ok.ensures.members c.in-Ok.ensures.ascending
+
+pub returns-in-Ok-clause-ascending : goal.returns-in-Ok-clause-ascending
+returns-in-Ok-clause-ascending c = ascend_from _ _ c.in-Ok.keys.items c.in-Ok.ensures.members c.in-Ok.ensures.ascending

@@ -1,6 +1,6 @@
 use Rattle.std.proofs.Common.{◌≡◌, ◌↔◌, ℕ, Some, refl, subst}
 use Rattle.lz_core.specs.Worlds.{IsListed}
-use Rattle.lz_core.proofs.Ascending.{put, left}
+use Rattle.lz_core.proofs.Members.AscendingKeys.{put, left}
 use Rattle.lz_core.proofs.shown.members_of.Goals.{in-Some+in_ok-insert_key, in_default}
 use Rattle.lz_core.proofs.shown.members_of.Goals as goal
 

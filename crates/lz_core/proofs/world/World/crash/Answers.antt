@@ -1,5 +1,4 @@
-use Rattle.std.proofs.Common.{◌≡◌, ◌∙◌, ℕ, List, [], ◌∷◌, Option, Result, Ok, Err, OnOk, OnErr, sym, ap, subst, refl}
-use Rattle.std.specs.declared.alloc.AllocError.{AllocError}
+use Rattle.std.proofs.Common.{◌≡◌, ◌∙◌, ℕ, Bool, List, [], ◌∷◌, Option, false, sym, ap, subst, refl}
 use Rattle.lz_slot.specs.declared.history.Mark.TheVariants.{Crash as crashed}
 use Rattle.lz_disk.specs.declared.memory.Pick.{Pick}
 use Rattle.lz_disk.specs.Images.{Medium, IsImage, at_rest}
@@ -11,12 +10,12 @@ use Rattle.lz_machine.specs.Yards.{Shape}
 use Rattle.lz_yard.specs.Parts.{YardOver}
 use Rattle.lz_machine.specs.Runs.{Down, Crashes, disk_of}
 use Rattle.lz_machine.specs.Points.{IsQuiet}
-use Rattle.lz_core.specs.Worlds.{WorldOver, IsWorld, HasOne, state_shown, disk_shown}
-use Rattle.lz_core.proofs.Worlding.{Goes, leads, crashes, now_at, disk_is}
+use Rattle.lz_core.specs.Worlds.{Goes, WorldOver, IsWorld, HasOne, state_shown, world_shown, disk_shown}
+use Rattle.lz_core.proofs.Runs.PlayedStep.{leads}
+use Rattle.lz_core.proofs.Runs.Endings.{crashes, now_at, disk_is}
 use Rattle.lz_core.proofs.world.World.crash.Goals as goal
-use Rattle.lz_core.proofs.world.World.crash.Goals.{in-Ok, in-Err}
 
-module _ (shape : Shape) (yard yard' : Option (YardOver Past)) (disk disk' : Option Past) (callers : List (Option OpenCall)) (calls : ℕ) (pick : Pick) where
+module _ (shape : Shape) (yard yard' : Option (YardOver Past)) (disk disk' : Option Past) (callers : List (Option OpenCall)) (calls : ℕ) (tripped now : Bool) (pick : Pick) where
   abbrev IsDown : Type 0
   IsDown = (s : Shape) (cs : List (Option OpenCall)) → state_shown s yard' disk' cs ≡ Down s (at_rest (left_by pick (disk_shown yard disk)))
 
@@ -24,10 +23,10 @@ module _ (shape : Shape) (yard yard' : Option (YardOver Past)) (disk disk' : Opt
   HasImage = IsImage (disk_shown yard disk) (left_by pick (disk_shown yard disk))
 
   abbrev old : WorldOver
-  old = record { state = state_shown shape yard disk callers; calls = calls }
+  old = world_shown shape yard disk callers calls tripped
 
   abbrev new : WorldOver
-  new = record { state = state_shown shape yard' disk' callers; calls = calls }
+  new = world_shown shape yard' disk' callers calls now
 
   goes : IsWorld shape yard disk callers calls → IsDown → HasImage → Goes old (Crash pick) (Crashes (left_by pick (disk_of old.state))) (crashed ∷ []) new
   goes world down image =
@@ -37,22 +36,23 @@ module _ (shape : Shape) (yard yard' : Option (YardOver Past)) (disk disk' : Opt
       (down shape callers ∙ ap (λ (m : Medium). Down shape (at_rest (left_by pick m))) same)
       refl
 
-  kept : (r : Result (Unit {0}) AllocError) → IsWorld shape yard disk callers calls → HasOne yard' disk' → OnOk r IsDown → OnOk r HasImage → OnErr r ((yard' ≡ yard) × (disk' ≡ disk)) → IsWorld shape yard' disk' callers calls
-  kept (Ok done) world one down image same = now_at shape yard disk callers calls world _ _ _ yard' disk' one (goes world down image) (subst IsQuiet (sym (down shape callers)) tt)
-  kept (Err fault) world one down image same =
+  pub crashed_world : IsWorld shape yard disk callers calls → HasOne yard' disk' → IsDown → HasImage → IsWorld shape yard' disk' callers calls
+  crashed_world world one down image = now_at shape yard disk callers calls tripped world _ _ _ yard' disk' now one (goes world down image) (subst IsQuiet (sym (down shape callers)) tt)
+
+  same_world : IsWorld shape yard disk callers calls → (yard' ≡ yard) × (disk' ≡ disk) → IsWorld shape yard' disk' callers calls
+  same_world world same =
       subst (λ (y : Option (YardOver Past)). IsWorld shape y disk' callers calls) (sym same.0)
       (subst (λ (d : Option Past). IsWorld shape yard d callers calls) (sym same.1) world)
 
 pub invariant_of-self : goal.invariant_of-self
 invariant_of-self c =
-    kept _ c.self.inside.yard _ c.self.inside.disk _ _ _ c.args.pick c.crash_disk.result c.self.invariant c.crash_disk.ensures.one c.crash_disk.ensures.down c.crash_disk.ensures.image c.crash_disk.ensures.err
+    crashed_world _ c.self.inside.yard _ c.self.inside.disk _ _ _ c.self.inside.tripped false c.args.pick c.self.invariant c.crash_disk.ensures.one c.in-Ok.ensures.down c.in-Ok.ensures.image
 
-pub returns-clause-ok : goal.returns-clause-ok
-returns-clause-ok c = elim c.match-crash_disk.branch [
-  | in-Ok w ↦
-      let down = (rw w.in-Ok.is at c.crash_disk.ensures.down) in
-      let image = (rw w.in-Ok.is at c.crash_disk.ensures.image) in
-      rw (w.result-is, ← c.self.view_is)
-      (leads _ _ _ _ _ (goes _ c.self.inside.yard _ c.self.inside.disk _ _ _ c.args.pick c.self.invariant down image))
-  | in-Err w ↦ rw w.result-is tt
-]
+pub invariant_of-self-in-Err : goal.invariant_of-self-in-Err
+invariant_of-self-in-Err c =
+    same_world _ c.self.inside.yard _ c.self.inside.disk _ _ _ c.self.inside.tripped false c.args.pick c.self.invariant c.in-Err.ensures.err
+
+pub returns-in-Ok-clause-ok : goal.returns-in-Ok-clause-ok
+returns-in-Ok-clause-ok c =
+    rw (← c.self.view_is)
+    (leads _ _ _ _ _ (goes _ c.self.inside.yard _ c.self.inside.disk _ _ _ c.self.inside.tripped false c.args.pick c.self.invariant c.in-Ok.ensures.down c.in-Ok.ensures.image) (tt, tt) tt refl)

@@ -1,4 +1,4 @@
-use Rattle.lz_core.proofs.WorldKeys.{world_members, if_ok}
+use Rattle.lz_core.proofs.Members.ShownKeys.{world_members, if_ok}
 use Rattle.lz_core.proofs.world.World.members.Goals as goal
 
 pub returns-in-Some-clause-members : goal.returns-in-Some-clause-members

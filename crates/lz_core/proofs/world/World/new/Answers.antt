@@ -1,6 +1,6 @@
 use Rattle.std.proofs.Common.{◌≡◌, false, Result, Ok, Err, OnOk, refl, sym, ◌∙◌, arith}
 use Rattle.std.specs.Result.{is_err}
-use Rattle.lz_core.proofs.WorldOpens.{new_is, new_world}
+use Rattle.lz_core.proofs.Opens.OpenedWorld.{new_is, new_world}
 use Rattle.lz_core.proofs.world.World.new.Goals as goal
 
 -- what holds of a result that is no fault

@@ -6,8 +6,8 @@ use Rattle.std.proofs.lemmas.List.{take_all, append-nil}
 use Rattle.lz_slot.specs.declared.history.Mark.{Mark}
 use Rattle.lz_core.specs.declared.play.Step.{Step as PlayStep}
 use Rattle.lz_core.specs.Worlds.{PlaysOn, mark_list}
-use Rattle.lz_core.proofs.Worlding.{stays}
-use Rattle.lz_core.proofs.WorldPlays.{chains, goes_on, early_on, stops_at, same_fault, no_mark}
+use Rattle.lz_core.proofs.Runs.PlayedStep.{stays}
+use Rattle.lz_core.proofs.Runs.JoinedPlays.{chains, goes_on, early_on, stops_at, same_fault, no_mark}
 use Rattle.lz_core.proofs.world.World.play.Goals as goal
 use Rattle.lz_core.proofs.world.World.play.Goals.{in-Some, in_default}
 

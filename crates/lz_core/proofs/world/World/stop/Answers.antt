@@ -7,7 +7,8 @@ use Rattle.lz_yard.specs.Parts.{YardOver}
 use Rattle.lz_machine.specs.Runs.{Down, disk_of}
 use Rattle.lz_machine.specs.Points.{IsQuiet}
 use Rattle.lz_core.specs.Worlds.{state_shown, disk_shown}
-use Rattle.lz_core.proofs.Worlding.{leads, stops, now_at, disk_is}
+use Rattle.lz_core.proofs.Runs.PlayedStep.{leads}
+use Rattle.lz_core.proofs.Runs.Endings.{stops, now_at, disk_is}
 use Rattle.lz_core.proofs.world.World.stop.Goals as goal
 
 -- a world whose service ended shows what its disk was
@@ -19,11 +20,11 @@ down_by shape yard yard' disk disk' callers down = down ∙ ap (λ (m : Medium).
 pub invariant_of-self : goal.invariant_of-self
 invariant_of-self c =
     let down = c.stop_disk.ensures.down (record { slots = c.self.inside.slots; buckets = c.self.inside.buckets; passes = 64 }) c.self.inside.callers.items in
-    now_at _ _ _ _ _ c.self.invariant _ _ _ _ _ c.stop_disk.ensures.one
+    now_at _ _ _ _ _ c.self.inside.tripped c.self.invariant _ _ _ _ _ c.self.inside.tripped c.stop_disk.ensures.one
     (stops _ _ _ c.self.invariant.ran (down_by _ c.self.inside.yard _ c.self.inside.disk _ _ down) refl)
     (subst IsQuiet (sym down) tt)
 
 pub returns : goal.returns
 returns c =
     let down = c.stop_disk.ensures.down (record { slots = c.self.inside.slots; buckets = c.self.inside.buckets; passes = 64 }) c.self.inside.callers.items in
-    rw (← c.self.view_is) (leads _ _ _ _ _ (stops _ _ _ c.self.invariant.ran (down_by _ c.self.inside.yard _ c.self.inside.disk _ _ down) refl))
+    rw (← c.self.view_is) (leads _ _ _ _ _ (stops _ _ _ c.self.invariant.ran (down_by _ c.self.inside.yard _ c.self.inside.disk _ _ down) refl) (tt, tt) tt refl)

@@ -6,7 +6,8 @@ use Rattle.lz_machine.specs.Ready.{IsEventOf}
 use Rattle.lz_machine.specs.Runs.{MayPlay, reply_at}
 use Rattle.lz_yard.specs.Steps.{Played}
 use Rattle.lz_set.specs.Locks.{IsOfRun, goes_on}
-use Rattle.lz_set.proofs.Serving.{goes, is_own, plays, replied_if, set_at, stands_at, takes}
+use Rattle.lz_yard.proofs.Events.PassPlaces.{set_at}
+use Rattle.lz_set.proofs.Serving.{goes, is_own, plays, replied_if, stands_at, takes}
 use Rattle.lz_set.proofs.service.Service.turn.Goals as goal
 
 pub step-outcome-requires-clause-event : goal.step-outcome-requires-clause-event

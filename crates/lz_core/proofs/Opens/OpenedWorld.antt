@@ -1,33 +1,30 @@
--- A world whose disk is opened, or whose open is refused.
-use Rattle.std.proofs.Common.{◌≡◌, inl, inr, ⊎_elim, ℕ, zero, suc, ◌≤◌, true, false, List, [], ◌∷◌, length, map, slice_get, ◌%◌, ◌==◌, Option, Some, None, refl, sym, ap, ◌∙◌, subst, arith, replicate}
+-- A world whose disk is opened.
+use Rattle.std.proofs.Common.{◌≡◌, inl, inr, ℕ, Bool, IsTrue, if◌then◌else◌, zero, suc, ◌≤◌, false, List, [], ◌∷◌, length, map, slice_get, ◌%◌, ◌==◌, Option, Some, None, refl, sym, ap, ◌∙◌, subst, arith, replicate}
 use Rattle.std.proofs.lemmas.List.{length-map, length-replicate}
-use Rattle.lz_slot.specs.declared.history.Mark.TheVariants.{Opened as opened, OpenFailed as refused}
+use Rattle.lz_slot.specs.declared.history.Mark.TheVariants.{Opened as opened}
 use Rattle.lz_slot.specs.declared.format.Format.{Format}
 use Rattle.lz_slot.specs.Bytes.{Holds}
 use Rattle.lz_slot.specs.Sets.{Keys, members}
 use Rattle.lz_slot.specs.Histories.{Life, lives}
 use Rattle.lz_disk.specs.Images.{Medium, AreBytes, at_rest, synced}
-use Rattle.lz_disk.specs.Records.{Past, after, device_of}
-use Rattle.lz_vault.specs.declared.opening.OpenFault.{OpenFault}
-use Rattle.lz_vault.specs.Opens.{IsRefusedFor, open_fault_number}
-use Rattle.lz_machine.specs.OpenFailures.{IsOpenFailure}
-use Rattle.lz_machine.proofs.Open.OpenFailures.{held_is_opened}
+use Rattle.lz_disk.specs.Records.{MustFail, Past, after, device_of}
 use Rattle.lz_vault.specs.Makes.{IsFresh}
 use Rattle.lz_core.specs.declared.play.Step.TheVariants.{Open}
 use Rattle.lz_core.specs.declared.open_calls.OpenCall.{OpenCall}
 use Rattle.lz_machine.specs.Yards.{Shape, Yard, cell_read, slots_read, opened_yard}
 use Rattle.lz_yard.specs.Filling.{OpensYard}
 use Rattle.lz_yard.specs.Parts.{YardOver}
-use Rattle.lz_machine.specs.Runs.{Caller, Start, IsStart, start_keys, State, Up, Down, Opens, OpenFails, Point, first_point, opened_service, keys_found}
+use Rattle.lz_machine.specs.Runs.{Caller, Start, IsStart, start_keys, State, Up, Down, Opens, Point, first_point, opened_service, keys_found}
 use Rattle.lz_machine.specs.Sound.{StateSound, PointSound, IsSound}
 use Rattle.lz_machine.specs.Points.{IsQuiet}
-use Rattle.lz_core.specs.Worlds.{WorldOver, IsNew, IsWorld, HasOne, HasRun, IsCallOn, PlaysOn, StopsEarly, call_shown, state_shown}
+use Rattle.lz_judge.specs.MarkLines.{AscendFrom}
+use Rattle.lz_core.specs.Worlds.{WorldOver, Goes, IsNew, IsWorld, HasOne, HasRun, IsCallOn, PlaysOn, armed, call_shown, state_shown, world_shown}
 use Rattle.lz_machine.proofs.Theorem.Reached.{reached_sound}
 use Rattle.lz_machine.proofs.Open.FoundSlots.{pass_of}
 use Rattle.lz_machine.proofs.Open.ListedKeys.{listed}
 use Rattle.lz_machine.proofs.Open.FirstPoint.{one_set}
-use Rattle.lz_core.proofs.Worlding.{Goes, leads, runs_on}
-use Rattle.lz_core.proofs.WorldKeys.{yard_read}
+use Rattle.lz_core.proofs.Runs.PlayedStep.{leads, runs_on}
+use Rattle.lz_core.proofs.Members.ShownKeys.{yard_read}
 use Rattle.lz_yard.proofs.Opening.SlotReads.{read_length}
 
 -- a text that holds a set has one number of slots
@@ -56,7 +53,7 @@ down_holds start p (life ∷ earlier) shape disk h is =
     let list = sound.each disk.seen sound.sound.seen in
     (list.found, list.holds)
 
-run_holds : (shape : Shape) (disk : Medium) (calls : ℕ) → HasRun shape (record { state = Down shape disk; calls = calls }) → (S : Keys) × Holds disk.seen shape.slots S
+pub run_holds : (shape : Shape) (disk : Medium) (calls : ℕ) → HasRun shape (Down shape disk) calls → (S : Keys) × Holds disk.seen shape.slots S
 run_holds shape disk calls ran =
     let sound : IsSound ran.start ran.point = subst (IsSound ran.start) ran.reached.point (reached_sound ran.start ran.reached.steps ran.reached.starts ran.reached.runs) in
     down_holds ran.start ran.point (lives (start_keys ran.start) ran.point.marks) shape disk sound ran.at.state
@@ -90,14 +87,14 @@ module _ (shape : Shape) (before : Past) (over : YardOver Past) (opens : OpensYa
       cc (yard, calls, medium)
 
   -- a world without a service opens
-  module _ (calls : ℕ) (left : Option Past) (callers : List (Option OpenCall)) (none : callers ≡ replicate shape.passes None) where
+  module _ (calls : ℕ) (tripped : Bool) (left : Option Past) (callers : List (Option OpenCall)) (none : callers ≡ replicate shape.passes None) where
     abbrev old : WorldOver
-    old = record { state = Down shape disk; calls = calls }
+    old = record { state = Down shape disk; calls = calls; tripped = tripped }
 
     abbrev new : WorldOver
-    new = record { state = state_shown shape (Some over) left callers; calls = calls }
+    new = world_shown shape (Some over) left callers calls false
 
-    pub open_goes : (keys : List ℕ) → keys ≡ keys_found disk.seen over.yard.shape.slots → HasRun shape old → Goes old Open Opens (opened keys ∷ []) new
+    pub open_goes : (keys : List ℕ) → keys ≡ keys_found disk.seen over.yard.shape.slots → HasRun shape (Down shape disk) calls → Goes old Open Opens (opened keys ∷ []) new
     open_goes keys found ran =
         let holds = run_holds shape disk calls ran in
         let slots = slots_is holds.0 holds.1 in
@@ -109,12 +106,12 @@ module _ (shape : Shape) (before : Past) (over : YardOver Past) (opens : OpensYa
           told = ap (λ (ks : List ℕ). opened ks ∷ []) (ap (keys_found disk.seen) (sym slots) ∙ sym found);
         }
 
-    open_quiet : HasRun shape old → IsQuiet new.state
+    open_quiet : HasRun shape (Down shape disk) calls → IsQuiet new.state
     open_quiet ran =
         let holds = run_holds shape disk calls ran in
         subst IsQuiet (sym (state_opened holds.0 left callers holds.1 none)) (quiet_at_first shape disk.seen (synced disk))
 
-    pub open_world : (keys : List ℕ) → keys ≡ keys_found disk.seen over.yard.shape.slots → HasOne (Some over) left → HasRun shape old → IsWorld shape (Some over) left callers calls
+    pub open_world : (keys : List ℕ) → keys ≡ keys_found disk.seen over.yard.shape.slots → HasOne (Some over) left → HasRun shape (Down shape disk) calls → IsWorld shape (Some over) left callers calls
     open_world keys found one ran = record {
       one = one;
       count = ap length none ∙ length-replicate shape.passes None;
@@ -134,7 +131,7 @@ module _ (shape : Shape) (before : Past) (over : YardOver Past) (opens : OpensYa
     first_state : state_shown shape (Some over) None callers ≡ Up (opened_service shape disk.seen) (at_rest disk.seen)
     first_state = state_opened (members []) None callers made.empty none
 
-    pub new_is : IsNew shape format (record { state = state_shown shape (Some over) None callers; calls = 0 })
+    pub new_is : IsNew shape format (world_shown shape (Some over) None callers 0 false)
     new_is = record {
       start = first;
       starts = starts;
@@ -142,6 +139,7 @@ module _ (shape : Shape) (before : Past) (over : YardOver Past) (opens : OpensYa
       empty = one_set disk.seen shape.slots (start_keys first) (members []) (listed disk.seen shape.slots (members []) made.empty) made.empty;
       named = made.named;
       at = record { state = sym first_state; calls = refl };
+      untripped = refl;
     }
 
     pub new_world : IsWorld shape (Some over) None callers 0
@@ -159,32 +157,9 @@ module _ (shape : Shape) (before : Past) (over : YardOver Past) (opens : OpensYa
       };
     }
 
--- an open that is refused leaves the disk as it was, or synced it; it is the device's failure, or for want of memory
-module _ (shape : Shape) (before left : Past) (fault : OpenFault) (is : IsRefusedFor (device_of before) (device_of left) fault) (calls why : ℕ) (number : IsOpenFailure why) where
-  abbrev was : Medium
-  was = after before.start before.records
-
-  abbrev from : WorldOver
-  from = record { state = Down shape was; calls = calls }
-
-  abbrev to : WorldOver
-  to = record { state = Down shape (after left.start left.records); calls = calls }
-
-  pub refused_on : PlaysOn from (Open ∷ []) (refused why ∷ []) to
-  refused_on = ⊎_elim
-      (λ (same : after left.start left.records ≡ was). leads from to Open (OpenFails why false) (refused why ∷ [])
-      (record { is = inr (why, false, refl); may = number; to = ap (Down shape) (sym same); counts = refl; told = refl }))
-      (λ (same : after left.start left.records ≡ synced was). leads from to Open (OpenFails why true) (refused why ∷ [])
-      (record { is = inr (why, true, refl); may = number; to = ap (Down shape) (sym same); counts = refl; told = refl }))
-      (is.medium refl)
-
-  pub refused_runs : HasRun shape from → HasRun shape to
-  refused_runs ran = ⊎_elim
-      (λ (same : after left.start left.records ≡ was). runs_on shape from to Open (OpenFails why false) (refused why ∷ []) ran
-      (record { is = inr (why, false, refl); may = number; to = ap (Down shape) (sym same); counts = refl; told = refl }) tt)
-      (λ (same : after left.start left.records ≡ synced was). runs_on shape from to Open (OpenFails why true) (refused why ∷ []) ran
-      (record { is = inr (why, true, refl); may = number; to = ap (Down shape) (sym same); counts = refl; told = refl }) tt)
-      (is.medium refl)
+-- a disk that was tripped fails its next call
+pub must_fail : (tripped : Bool) (disk : Past) → IsTrue tripped → MustFail (armed tripped disk)
+must_fail tripped disk is = inr (ap (λ (b : Bool). if b then Some 0 else disk.trip) is)
 
 -- a world with a disk has no service
 no_yard : (yard : Option (YardOver Past)) (disk : Option Past) (taken : Past) → HasOne yard disk → disk ≡ Some taken → yard ≡ None
@@ -193,56 +168,24 @@ no_yard (Some over) None taken one is = absurd cc
 no_yard None d taken one is = refl
 
 module _ (shape : Shape) (yard : Option (YardOver Past)) (disk : Option Past) (callers : List (Option OpenCall)) (calls : ℕ) (taken : Past) (is : disk ≡ Some taken) (world : IsWorld shape yard disk callers calls) where
-  abbrev before_it : WorldOver
-  before_it = record { state = state_shown shape yard disk callers; calls = calls }
-
-  no_service : yard ≡ None
+  pub no_service : yard ≡ None
   no_service = no_yard yard disk taken world.one is
 
-  state_was : state_shown shape yard disk callers ≡ Down shape (after taken.start taken.records)
+  pub state_was : state_shown shape yard disk callers ≡ Down shape (after taken.start taken.records)
   state_was = ap (λ (y : Option (YardOver Past)). state_shown shape y disk callers) no_service ∙ ap (λ (d : Option Past). state_shown shape None d callers) is
 
-  ran_down : HasRun shape (record { state = Down shape (after taken.start taken.records); calls = calls })
-  ran_down = subst (λ (s : State). HasRun shape (record { state = s; calls = calls })) state_was world.ran
+  pub ran_down : HasRun shape (Down shape (after taken.start taken.records)) calls
+  ran_down = subst (λ (s : State). HasRun shape s calls) state_was world.ran
 
-  module _ (over : YardOver Past) (opens : OpensYard (device_of taken) (device_of over.disk) shape.buckets shape.passes over.yard) (left : Option Past) (gone : left ≡ None)
-      (fresh : List (Option OpenCall)) (none : fresh ≡ replicate shape.passes None) (keys : List ℕ) (found : keys ≡ keys_found (after taken.start taken.records).seen over.yard.shape.slots) where
+  -- where the disk was tripped, none opens
+  module _ (tripped : Bool) (over : YardOver Past) (opens : OpensYard (device_of (armed tripped taken)) (device_of over.disk) shape.buckets shape.passes over.yard) (left : Option Past) (gone : left ≡ None)
+      (fresh : List (Option OpenCall)) (none : fresh ≡ replicate shape.passes None) (keys : List ℕ) (found : keys ≡ keys_found (after taken.start taken.records).seen over.yard.shape.slots) (ascend : AscendFrom 0 keys) where
     pub reopened_world : IsWorld shape (Some over) left fresh calls
-    reopened_world = open_world shape taken over opens calls left fresh none keys found (subst (HasOne (Some over)) (sym gone) tt) ran_down
+    reopened_world = open_world shape (armed tripped taken) over opens calls tripped left fresh none keys found (subst (HasOne (Some over)) (sym gone) tt) ran_down
 
-    pub reopened_on : PlaysOn before_it (Open ∷ []) (opened keys ∷ []) (record { state = state_shown shape (Some over) left fresh; calls = calls })
-    reopened_on = subst (λ (s : State). PlaysOn (record { state = s; calls = calls }) (Open ∷ []) (opened keys ∷ []) (record { state = state_shown shape (Some over) left fresh; calls = calls })) (sym state_was)
-        (leads _ _ Open Opens (opened keys ∷ []) (open_goes shape taken over opens calls left fresh none keys found ran_down))
+    untripped : ¬ IsTrue tripped
+    untripped is = opens.vault.free (must_fail tripped taken is)
 
-  module _ (left : Past) (fault : OpenFault) (for : IsRefusedFor (device_of taken) (device_of left) fault) where
-    abbrev after_it : WorldOver
-    after_it = record { state = state_shown shape yard (Some left) callers; calls = calls }
-
-    failure : IsOpenFailure (open_fault_number fault)
-    failure =
-        let held = run_holds shape (after taken.start taken.records) calls ran_down in
-        ⊎_elim (λ device. inl (ap open_fault_number device)) (λ memory. inr (ap open_fault_number memory))
-        (held_is_opened (after taken.start taken.records).seen shape.slots held.0 fault held.1 (for.why refl))
-
-    state_left : state_shown shape yard (Some left) callers ≡ Down shape (after left.start left.records)
-    state_left = ap (λ (y : Option (YardOver Past)). state_shown shape y (Some left) callers) no_service
-
-    pub refused_world : IsWorld shape yard (Some left) callers calls
-    refused_world = record {
-      one = subst (λ (y : Option (YardOver Past)). HasOne y (Some left)) (sym no_service) tt;
-      count = world.count;
-      on_it = world.on_it;
-      ran = subst (λ (s : State). HasRun shape (record { state = s; calls = calls })) (sym state_left) (refused_runs shape taken left fault for calls (open_fault_number fault) failure ran_down);
-    }
-
-    down_still : (why : ℕ) → IsOpenFailure why → PlaysOn before_it (Open ∷ []) (refused why ∷ []) after_it
-    down_still why number =
-        subst (λ (s : State). PlaysOn before_it (Open ∷ []) (refused why ∷ []) (record { state = s; calls = calls })) (sym state_left)
-        (subst (λ (s : State). PlaysOn (record { state = s; calls = calls }) (Open ∷ []) (refused why ∷ []) (record { state = Down shape (after left.start left.records); calls = calls })) (sym state_was)
-        (refused_on shape taken left fault for calls why number))
-
-    pub still_down : (why : ℕ) → why ≡ open_fault_number fault → PlaysOn before_it (Open ∷ []) (refused why ∷ []) after_it
-    still_down why same = down_still why (subst IsOpenFailure (sym same) failure)
-
-    pub refused_memory : StopsEarly before_it (Open ∷ []) after_it
-    refused_memory = record { count = 1; few = omega arith; marks = refused 8 ∷ []; before = down_still 8 (inr refl) }
+    pub reopened_on : PlaysOn (world_shown shape yard disk callers calls tripped) (Open ∷ []) (opened keys ∷ []) (world_shown shape (Some over) left fresh calls false)
+    reopened_on = subst (λ (s : State). PlaysOn (record { state = s; calls = calls; tripped = tripped }) (Open ∷ []) (opened keys ∷ []) (world_shown shape (Some over) left fresh calls false)) (sym state_was)
+        (leads _ _ Open Opens (opened keys ∷ []) (open_goes shape (armed tripped taken) over opens calls tripped left fresh none keys found ran_down) (ascend, tt) untripped refl)

@@ -1,5 +1,5 @@
 -- The keys that a yard shows: those of its slots that are members. Of a yard that was just opened they are the keys found.
-use Rattle.std.proofs.Common.{◌≡◌, inl, inr, ◌↔◌, ℕ, suc, ◌<◌, ◌≤◌, ◌==◌, ◌||◌, Bool, true, false, IsTrue, List, [], ◌∷◌, length, map, Option, Some, Result, Ok, Err, IfOk, refl, sym, ap, ◌∙◌, subst, arith}
+use Rattle.std.proofs.Common.{◌≡◌, inl, inr, ◌↔◌, ℕ, suc, ◌+◌, ◌<◌, ◌≤◌, ◌==◌, ◌||◌, Bool, true, false, IsTrue, List, [], ◌∷◌, length, map, Option, Some, Result, Ok, Err, IfOk, refl, sym, ap, ◌∙◌, subst, arith}
 use mathlib.Core.Bool.{false≢true}
 use Rattle.std.specs.List.{All}
 use Rattle.std.proofs.lemmas.List.{length-map}
@@ -7,7 +7,7 @@ use Rattle.std.proofs.lemmas.List.Elements.{All-cons}
 use Rattle.std.proofs.lemmas.Bool.{cases_eq, or_cases}
 use Rattle.std.proofs.lemmas.Bool.Decides.{leb_tells}
 use Rattle.std.proofs.lemmas.Option.{slice_get-get_or}
-use Rattle.lz_slot.specs.Limits.{most_slots}
+use Rattle.lz_slot.specs.Limits.{largest_key, most_slots}
 use Rattle.lz_slot.specs.Sets.{Keys, members}
 use Rattle.lz_slot.specs.Histories.{Life}
 use Rattle.lz_slot.specs.Bytes.{Holds, held}
@@ -32,6 +32,7 @@ use Rattle.lz_machine.specs.Runs.{Service, Up, Point, Start, by_key, keys_found,
 use Rattle.lz_machine.specs.Points.{IsReached}
 use Rattle.lz_machine.specs.Notes.{Notes}
 use Rattle.lz_machine.specs.Sound.{IsSound, UpSound}
+use Rattle.lz_judge.specs.MarkLines.{AscendFrom}
 use Rattle.lz_core.specs.Worlds.{Ascend, IsAmong, IsWorld, Shows, call_shown, state_shown}
 use Rattle.lz_machine.proofs.Theorem.ShownChains as showing
 use Rattle.lz_machine.proofs.Crash.ImageSlots.{node_stands}
@@ -39,7 +40,7 @@ use Rattle.lz_machine.proofs.Open.FoundSlots.{first_notes}
 use Rattle.lz_machine.proofs.Open.FirstState.{opened_up}
 use Rattle.lz_machine.proofs.Open.FirstNodes.{held_found}
 use Rattle.lz_machine.proofs.Frames.LoadedWord.{bucket_range}
-use Rattle.lz_core.proofs.Ascending.{eq_of, first_of, later_of}
+use Rattle.lz_core.proofs.Members.AscendingKeys.{eq_of, first_of, later_of}
 use Rattle.lz_machine.proofs.Theorem.WornPass.{up_at}
 use Rattle.lz_machine.proofs.Theorem.Reached.{reached_sound}
 use Rattle.lz_yard.proofs.Opening.SlotReads.{read_length}
@@ -106,6 +107,19 @@ from_all x (y ∷ ys) all k is = elim (or_cases (y == k) (members ys k) is) [
 to_all : (x : ℕ) (ys : List ℕ) → ((k : ℕ) → members ys k ≡ true → x < k) → All (λ j. x < j) ys
 to_all x [] above = λ i d within. omega arith
 to_all x (y ∷ ys) above = All-cons (λ j. x < j) y ys (above y (first_of y ys)) (to_all x ys (λ k is. above k (later_of y k ys is)))
+
+-- the keys of a yard's slots ascend as those of a history do
+from_least : (least : ℕ) (ks : List ℕ) → Ascend ks → ((k : ℕ) → members ks k ≡ true → (least ≤ k) × (k ≤ largest_key)) → AscendFrom least ks
+from_least least [] up within = tt
+from_least least (k ∷ ks) up within =
+    let here = within k (first_of k ks) in
+    (here.0, here.1, from_least (k + 1) ks up.1 (λ j is. let above = from_all k ks up.0 j is in (omega (arith, above), (within j (later_of k j ks is)).1)))
+
+pub ascend_from : (w : Words) (n : ℕ) (ks : List ℕ) → ((k : ℕ) → (members ks k ≡ true) ↔ IsAmong w n k) → Ascend ks → AscendFrom 0 ks
+ascend_from w n ks same up = from_least 0 ks up (λ k is. (omega arith, highest k ((same k).0 is)))
+  where
+    highest : (k : ℕ) → IsAmong w n k → k ≤ largest_key
+    highest k (s, low, listed) = listed.2
 
 -- ascending lists with the same members are one
 pub same_keys : (xs ys : List ℕ) → Ascend xs → Ascend ys → ((k : ℕ) → members xs k ≡ true → members ys k ≡ true) → ((k : ℕ) → members ys k ≡ true → members xs k ≡ true) → xs ≡ ys

@@ -1,5 +1,5 @@
 -- A play goes on by another play.
-use Rattle.std.proofs.Common.{◌≡◌, ◌≢◌, Result, Ok, Err, IsErrOf, Option, None, ◌≤◌, ◌+◌, ◌-◌, arith, slice_get, ℕ, zero, suc, take, List, [], ◌∷◌, ◌++◌, Some, reverse, refl, sym, ◌∙◌, ap, subst}
+use Rattle.std.proofs.Common.{◌≡◌, ◌≢◌, ◌⊎◌, inl, inr, ⊎_elim, IsSomeAnd, Bool, Result, Ok, Err, IsErrOf, Option, None, ◌≤◌, ◌+◌, ◌-◌, arith, slice_get, ℕ, zero, suc, take, List, [], ◌∷◌, ◌++◌, Some, reverse, refl, sym, ◌∙◌, ap, subst}
 use Rattle.std.proofs.lemmas.List.{reverse-append, append-nil, append_assoc}
 use Rattle.std.proofs.lemmas.Option.{slice_get_within, get_or_from_slice_get}
 use Rattle.std.proofs.Math.Seq.{take-suc}
@@ -8,7 +8,10 @@ use Rattle.lz_core.specs.declared.play.Step.{Step as PlayStep}
 use Rattle.lz_machine.specs.Runs.{Transition, MayStep, Point, run, IsRun}
 use Rattle.lz_machine.specs.Points.{IsReached}
 use Rattle.lz_core.specs.Plays.{IsPlayOf, ArePlaysOf}
-use Rattle.lz_core.specs.Worlds.{WorldOver, StopsAt, StopsEarly, IsLawful, PlaysOn, IsChain, mark_list}
+use Rattle.lz_judge.specs.MarkLines.{AreMarksOfRun}
+use Rattle.lz_core.specs.Trips.{GoAsTripped, GoesAsTripped, tripped_after, tripped_by}
+use Rattle.lz_core.specs.Worlds.{WorldOver, LacksMemory, LacksNext, StopsAt, StopsEarly, IsLawful, PlaysOn, IsChain, mark_list}
+use Rattle.lz_core.proofs.Runs.PlayedStep.{stays}
 use Rattle.lz_machine.proofs.Theorem.Reached.{every_history}
 use Rattle.lz_machine.proofs.Runs.Composition.{run_append}
 
@@ -21,6 +24,22 @@ plays_on p [] xs [] before first are = first
 plays_on p [] xs (step ∷ later) before first are = absurd cc
 plays_on p (y ∷ ys) xs [] before first are = absurd are
 plays_on p (y ∷ ys) xs (step ∷ later) before first are = (subst (λ (q : Point). IsPlayOf q.state y step) (run_append p later before) are.0, plays_on p ys xs later before first are.1)
+
+marks_join : (ms ns : List Mark) → AreMarksOfRun ms → AreMarksOfRun ns → AreMarksOfRun (ms ++ ns)
+marks_join [] ns first then_ = then_
+marks_join (m ∷ ms) ns first then_ = (first.0, marks_join ms ns first.1 then_)
+
+trips_join : (tripped : Bool) (later before : List Transition) → tripped_by tripped (later ++ before) ≡ tripped_by (tripped_by tripped before) later
+trips_join tripped [] before = refl
+trips_join tripped (step ∷ later) before = ap (λ (t : Bool). tripped_after t step) (trips_join tripped later before)
+
+go_on : (p : Point) (later before : List Transition) (tripped : Bool) → GoAsTripped p tripped before → GoAsTripped (run p before) (tripped_by tripped before) later → GoAsTripped p tripped (later ++ before)
+go_on p [] before tripped first then_on = first
+go_on p (step ∷ later) before tripped first then_on = (
+  subst (λ (q : Point). GoesAsTripped q.state (tripped_by tripped (later ++ before)) step) (run_append p later before)
+      (subst (λ (t : Bool). GoesAsTripped (run (run p before) later).state t step) (sym (trips_join tripped later before)) then_on.0),
+  go_on p later before tripped first then_on.1,
+)
 
 -- two plays, one after the other, are one
 pub joins : (a b c : WorldOver) (xs ys : List PlayStep) (ms ns : List Mark) → PlaysOn a xs ms b → PlaysOn b ys ns c → PlaysOn a (xs ++ ys) (ms ++ ns) c
@@ -45,6 +64,9 @@ joins a b c xs ys ms ns one other p at =
       };
       calls = subst (λ (r : Point). r.calls ≡ c.calls) there second.calls;
       reached = λ start h. subst (λ (r : Point). IsReached start r) there (second.reached start (first.reached start h));
+      of_run = marks_join ms ns first.of_run second.of_run;
+      as_tripped = go_on p second.played.steps first.played.steps a.tripped first.as_tripped (subst (λ (t : Bool). GoAsTripped q t second.played.steps) (sym first.tripped) second.as_tripped);
+      tripped = trips_join a.tripped second.played.steps first.played.steps ∙ ap (λ (t : Bool). tripped_by t second.played.steps) first.tripped ∙ second.tripped;
     }
 
 -- what was seen by a play is a chain of lives
@@ -77,26 +99,36 @@ goes_on a b c plays i step ms ns at before now =
     subst (λ (zs : List PlayStep). PlaysOn a zs (ms ++ ns) c) (sym (take_one plays i step at)) (joins a b c (take i plays) (step ∷ []) ms ns before now)
 
 -- a play that stops early in its next step
-by_count : (a b c : WorldOver) (plays : List PlayStep) (i : ℕ) (step : PlayStep) (ms ns : List Mark) (count : ℕ) → slice_get plays i ≡ Some step
-    → PlaysOn a (take i plays) ms b → count ≤ 1 → PlaysOn b (take count (step ∷ [])) ns c → StopsEarly a plays c
-by_count a b c plays i step ms ns zero at before few now =
+last_of : (plays : List PlayStep) (i : ℕ) (step : PlayStep) (mid new : WorldOver) → slice_get plays i ≡ Some step → (new ≡ mid) ⊎ LacksNext mid (step ∷ []) 0 new → (new ≡ mid) ⊎ LacksNext mid plays i new
+last_of plays i _ mid new at (inl same) = inl same
+last_of plays i _ mid new at (inr lacks) = inr (subst (λ (o : Option PlayStep). IsSomeAnd o (λ play. LacksMemory mid play new)) (sym at) lacks)
+
+by_count : (a b c mid : WorldOver) (plays : List PlayStep) (i : ℕ) (step : PlayStep) (ms ns : List Mark) (count : ℕ) → slice_get plays i ≡ Some step
+    → PlaysOn a (take i plays) ms b → count ≤ 1 → PlaysOn b (take count (step ∷ [])) ns mid → (c ≡ mid) ⊎ LacksNext mid (step ∷ []) count c → StopsEarly a plays c
+by_count a b c mid plays i step ms ns zero at before few now last =
     let within = slice_get_within plays i step at in
     record {
       count = i;
       few = omega (arith, within);
       marks = ms ++ ns;
-      before = subst (λ (zs : List PlayStep). PlaysOn a zs (ms ++ ns) c) (append-nil (take i plays)) (joins a b c (take i plays) [] ms ns before now);
+      mid = mid;
+      before = subst (λ (zs : List PlayStep). PlaysOn a zs (ms ++ ns) mid) (append-nil (take i plays)) (joins a b mid (take i plays) [] ms ns before now);
+      last = last_of plays i step mid c at last;
     }
-by_count a b c plays i step ms ns (suc zero) at before few now =
+by_count a b c mid plays i step ms ns (suc zero) at before few now last =
     let within = slice_get_within plays i step at in
-    record { count = i + 1; few = omega (arith, within); marks = ms ++ ns; before = goes_on a b c plays i step ms ns at before now }
-by_count a b c plays i _ ms ns (suc (suc count)) at before few now =
+    record { count = i + 1; few = omega (arith, within); marks = ms ++ ns; mid = mid; before = goes_on a b mid plays i step ms ns at before now; last = ⊎_elim inl (λ lacks. absurd lacks) last }
+by_count a b c mid plays i _ ms ns (suc (suc count)) at before few now last =
     let never : 1 ≤ 0 = omega (arith, few) in
     elim never [ ]
 
 pub early_on : (a b c : WorldOver) (plays : List PlayStep) (i : ℕ) (step : PlayStep) (ms : List Mark) → slice_get plays i ≡ Some step
     → PlaysOn a (take i plays) ms b → StopsEarly b (step ∷ []) c → StopsEarly a plays c
-early_on a b c plays i step ms at before h = by_count a b c plays i step ms h.marks h.count at before h.few h.before
+early_on a b c plays i step ms at before h = by_count a b c h.mid plays i step ms h.marks h.count at before h.few h.before h.last
+
+-- a step that lacked memory is a play that stops early
+pub early_lack : (old new : WorldOver) (play : PlayStep) → LacksMemory old play new → StopsEarly old (play ∷ []) new
+early_lack old new play lacks = record { count = 0; few = omega arith; marks = []; mid = old; before = stays old; last = inr lacks }
 
 -- a play that comes to a step that isn't lawful
 pub stops_at : (a b c : WorldOver) (plays : List PlayStep) (i n : ℕ) (step : PlayStep) (ms : List Mark) → slice_get plays i ≡ Some step

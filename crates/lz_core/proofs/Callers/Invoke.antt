@@ -1,47 +1,44 @@
 -- A world goes on by a call that is made: its Invoke is played.
-use Rattle.std.proofs.Common.{◌≡◌, ◌≢◌, ◌≤◌, ◌+◌, ◌-◌, arith, length, if◌then◌else◌, IsNone, IsSome, IfSome, ℕ, suc, Bool, true, false, map, slice_index_or, slice_set, List, [], ◌∷◌, Option, Some, None, refl, sym, ◌∙◌, ap, subst}
+use Rattle.std.proofs.Common.{◌≡◌, ◌≢◌, ◌≤◌, ◌+◌, ◌-◌, arith, if◌then◌else◌, IsNone, IsSome, IfSome, ℕ, suc, Bool, map, slice_index_or, slice_set, List, [], ◌∷◌, Option, Some, None, refl, sym, ◌∙◌, ap, subst}
 use Rattle.std.proofs.lemmas.Bool.{false≢true}
 use Rattle.lz_slot.specs.declared.command.Command.{Command}
 use Rattle.lz_slot.specs.declared.history.Mark.TheVariants.{Call as called}
 use Rattle.lz_slot.specs.Limits.{largest_key}
+use Rattle.lz_slot.specs.Numerals.{largest_read}
 use Rattle.lz_slot.specs.Sets.{key_of}
 use Rattle.lz_slot.specs.Counted.{set_of_pass}
 use Rattle.lz_disk.specs.Images.{Medium}
 use Rattle.lz_disk.specs.Records.{Past, after, device_of}
-use Rattle.lz_vault.specs.Vaults.{DeviceCall, MayFail, medium_after}
+use Rattle.lz_vault.specs.Vaults.{MayFail, medium_after}
 use Rattle.lz_machine.specs.declared.event.Event.TheVariants.{Invoke}
 use Rattle.lz_machine.specs.declared.event.Outcome.{Outcome}
 use Rattle.lz_machine.specs.declared.event.Outcome.TheVariants.{Done, OldFile, Fault}
-use Rattle.lz_machine.specs.declared.event.Reply.TheVariants.{OldFile as SaysOldFile}
 use Rattle.lz_machine.specs.declared.caller.Progress.{Progress}
-use Rattle.lz_machine.specs.declared.caller.Progress.TheVariants.{Answering}
 use Rattle.lz_machine.specs.declared.course.Course.{Course}
 use Rattle.lz_core.specs.declared.play.Step.TheVariants.{Call as CallOf}
 use Rattle.lz_core.specs.declared.open_calls.OpenCall.{OpenCall}
 use Rattle.lz_machine.specs.Yards.{Shape, Yard, actor_at}
-use Rattle.lz_machine.specs.Table.{is_old, call_on, line_on, line_call}
-use Rattle.lz_machine.specs.Calls.{first_progress, begun}
-use Rattle.lz_machine.specs.Runs.{Caller, Service, Up, Calls, MayPlay, Point, Reached, caller_at, invoked, state_after}
+use Rattle.lz_machine.specs.Table.{is_old, call_on, line_on}
+use Rattle.lz_machine.specs.Calls.{begun}
+use Rattle.lz_machine.specs.Runs.{Caller, Service, Up, Calls, Point, Reached, caller_at, invoked, state_after}
 use Rattle.lz_yard.specs.Parts.{YardOver}
 use Rattle.lz_yard.specs.Steps.{Played}
-use Rattle.lz_core.specs.Worlds.{WorldOver, HasRun, HasOne, IsCallOn, IsWorld, MayCall, MayStepOn, StepsOn, begun_after, call_shown, state_shown}
+use Rattle.lz_caller.specs.Begun.{begun_after}
+use Rattle.lz_caller.proofs.BegunCall.{begins}
+use Rattle.lz_core.specs.Worlds.{Goes, HasRun, HasOne, IsWorld, MayStepOn, StepsOn, call_shown, state_shown, world_shown}
 use Rattle.lz_machine.proofs.Runs.Course.{invoke_plays}
-use Rattle.lz_yard.proofs.Events.KeptFit.{fault_or_not}
-use Rattle.lz_core.proofs.Worlding.{Goes, runs_on, shape_is, shown_caller, shown_set, set_at, no_call, on_set, same_count}
-use Rattle.lz_core.proofs.TurningOn.{quiet_goes}
+use Rattle.lz_yard.proofs.Events.PassPlaces.{set_at}
+use Rattle.lz_core.proofs.Runs.PlayedStep.{runs_on, shape_is}
+use Rattle.lz_core.proofs.Callers.ShownCallers.{shown_caller, shown_set, no_call, on_set, same_count}
+use Rattle.lz_core.proofs.Callers.NextEvent.{quiet_goes}
 
 -- a call that was just made, and its Invoke's outcome
 abbrev pub made : Shape → ℕ → Command → Outcome → OpenCall
 made shape number c outcome = record { number = number; caller = record { command = c; buckets = shape.buckets; passes = shape.passes; progress = begun_after outcome } }
 
--- it begins as the file's format says
-begins : (refused : Bool) → (if refused then Answering SaysOldFile else first_progress) ≡ begun_after (if refused then OldFile else Done)
-begins true = refl
-begins false = refl
-
 -- an actor of an open service makes a call
 module _ (shape : Shape) (over : YardOver Past) (disk : Option Past) (callers : List (Option OpenCall)) (calls a : ℕ) (c : Command) (low : 1 ≤ a) (high : a ≤ shape.passes) (key : key_of c ≤ largest_key) (free : IsNone (slice_index_or callers (a - 1) None))
-    (ran : HasRun shape (record { state = state_shown shape (Some over) disk callers; calls = calls })) where
+    (ran : HasRun shape (state_shown shape (Some over) disk callers) calls) (tripped : Bool) where
   abbrev served : Service
   served = record { yard = over.yard; callers = map call_shown callers }
 
@@ -52,7 +49,7 @@ module _ (shape : Shape) (over : YardOver Past) (disk : Option Past) (callers : 
   none = subst IsNone (sym (shown_caller callers a low)) (no_call (slice_index_or callers (a - 1) None) free)
 
   in_range : (1 ≤ a) × (a ≤ over.yard.shape.passes)
-  in_range = (low, subst (λ (s : Shape). a ≤ s.passes) (sym (shape_is shape (record { state = state_shown shape (Some over) disk callers; calls = calls }) ran)) high)
+  in_range = (low, subst (λ (s : Shape). a ≤ s.passes) (sym (shape_is shape (state_shown shape (Some over) disk callers) calls ran)) high)
 
   reached : Reached ran.start (Up served disk_then) ran.point.marks ran.point.trace
   reached = record {
@@ -106,8 +103,8 @@ module _ (shape : Shape) (over : YardOver Past) (disk : Option Past) (callers : 
     abbrev calling : Progress → List (Option Caller)
     calling first = set_of_pass (map call_shown callers) a (Some (record { number = calls + 1; command = c; progress = first }))
 
-    call_goes : Goes (record { state = state_shown shape (Some over) disk callers; calls = calls }) (CallOf a c) (Calls a c) (called (calls + 1) a c ∷ [])
-        (record { state = state_shown shape (Some over') disk (slice_set callers (a - 1) (Some (made shape (calls + 1) c outcome))); calls = calls + 1 })
+    call_goes : Goes (world_shown shape (Some over) disk callers calls tripped) (CallOf a c) (Calls a c) (called (calls + 1) a c ∷ [])
+        (world_shown shape (Some over') disk (slice_set callers (a - 1) (Some (made shape (calls + 1) c outcome))) (calls + 1) tripped)
     call_goes =
         let next : suc calls ≡ calls + 1 = omega arith in
         record {
@@ -124,17 +121,17 @@ module _ (shape : Shape) (over : YardOver Past) (disk : Option Past) (callers : 
         }
 
 -- of a world
-module _ (shape : Shape) (disk : Option Past) (callers : List (Option OpenCall)) (calls a : ℕ) (c : Command) (low : 1 ≤ a) (high : a ≤ shape.passes) (key : key_of c ≤ largest_key) (free : IsNone (slice_index_or callers (a - 1) None)) where
+module _ (shape : Shape) (disk : Option Past) (callers : List (Option OpenCall)) (calls a : ℕ) (c : Command) (low : 1 ≤ a) (high : a ≤ shape.passes) (key : key_of c ≤ largest_key) (free : IsNone (slice_index_or callers (a - 1) None)) (tripped : Bool) (room : calls + 1 ≤ largest_read) where
   pub may_invoke : (yard : Option (YardOver Past)) → IsWorld shape yard disk callers calls → IfSome yard (λ over. MayStepOn over a (Invoke c))
   may_invoke None world = tt
-  may_invoke (Some over) world = may_invoke_on shape over disk callers calls a c low high key free world.ran
+  may_invoke (Some over) world = may_invoke_on shape over disk callers calls a c low high key free world.ran tripped
 
-  pub call_runs : (yard yard' : Option (YardOver Past)) (outcome : Outcome) → IsSome yard → HasRun shape (record { state = state_shown shape yard disk callers; calls = calls }) → StepsOn yard a (Invoke c) outcome yard'
-      → Goes (record { state = state_shown shape yard disk callers; calls = calls }) (CallOf a c) (Calls a c) (called (calls + 1) a c ∷ [])
-      (record { state = state_shown shape yard' disk (slice_set callers (a - 1) (Some (made shape (calls + 1) c outcome))); calls = calls + 1 })
+  pub call_runs : (yard yard' : Option (YardOver Past)) (outcome : Outcome) → IsSome yard → HasRun shape (state_shown shape yard disk callers) calls → StepsOn yard a (Invoke c) outcome yard'
+      → Goes (world_shown shape yard disk callers calls tripped) (CallOf a c) (Calls a c) (called (calls + 1) a c ∷ [])
+      (world_shown shape yard' disk (slice_set callers (a - 1) (Some (made shape (calls + 1) c outcome))) (calls + 1) tripped)
   call_runs None yard' outcome is ran steps = absurd (false≢true is)
   call_runs (Some over) None outcome is ran steps = absurd steps
-  call_runs (Some over) (Some over') outcome is ran steps = call_goes shape over disk callers calls a c low high key free ran over' outcome steps
+  call_runs (Some over) (Some over') outcome is ran steps = call_goes shape over disk callers calls a c low high key free ran tripped over' outcome steps
 
   pub call_world : (yard yard' : Option (YardOver Past)) (outcome : Outcome) → IsSome yard → IsWorld shape yard disk callers calls → StepsOn yard a (Invoke c) outcome yard'
       → IsWorld shape yard' disk (slice_set callers (a - 1) (Some (made shape (calls + 1) c outcome))) (calls + 1)
@@ -145,8 +142,8 @@ module _ (shape : Shape) (disk : Option Past) (callers : List (Option OpenCall))
       record {
         one = has_one disk world.one;
         count = same_count callers (a - 1) (Some (made shape (calls + 1) c outcome)) ∙ world.count;
-        on_it = on_set shape callers (a - 1) (Some (made shape (calls + 1) c outcome)) (refl, refl) world.on_it;
-        ran = runs_on shape _ _ _ _ _ world.ran goes (quiet_goes shape _ _ _ _ _ world.ran goes refl);
+        on_it = on_set shape callers (a - 1) (Some (made shape (calls + 1) c outcome)) (refl, refl, (omega arith, room)) world.on_it;
+        ran = runs_on shape (world_shown shape (Some over) disk callers calls tripped) (world_shown shape (Some over') disk (slice_set callers (a - 1) (Some (made shape (calls + 1) c outcome))) (calls + 1) tripped) (CallOf a c) (Calls a c) (called (calls + 1) a c ∷ []) world.ran goes (quiet_goes shape (world_shown shape (Some over) disk callers calls tripped) (world_shown shape (Some over') disk (slice_set callers (a - 1) (Some (made shape (calls + 1) c outcome))) (calls + 1) tripped) (CallOf a c) (Calls a c) (called (calls + 1) a c ∷ []) world.ran goes refl);
       }
     where
       has_one : (d : Option Past) → HasOne (Some over) d → HasOne (Some over') d

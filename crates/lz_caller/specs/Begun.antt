@@ -1,0 +1,12 @@
+-- A call that was just made.
+use Rattle.lz_machine.specs.declared.event.Outcome.{Outcome}
+use Rattle.lz_machine.specs.declared.event.Outcome.TheVariants.{OldFile}
+use Rattle.lz_machine.specs.declared.event.Reply.TheVariants.{OldFile as SaysOldFile}
+use Rattle.lz_machine.specs.declared.caller.Progress.{Progress}
+use Rattle.lz_machine.specs.declared.caller.Progress.TheVariants.{Answering}
+use Rattle.lz_machine.specs.Calls.{first_progress}
+
+-- where a call begins, whose Invoke answered so
+abbrev pub begun_after : Outcome → Progress
+begun_after OldFile = Answering SaysOldFile
+begun_after _ = first_progress

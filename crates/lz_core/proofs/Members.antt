@@ -1,0 +1,2 @@
+pub mod AscendingKeys
+pub mod ShownKeys

@@ -1,0 +1,2 @@
+pub mod OpenedWorld
+pub mod RefusedOpen

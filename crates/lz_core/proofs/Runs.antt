@@ -1,0 +1,3 @@
+pub mod PlayedStep
+pub mod Endings
+pub mod JoinedPlays
