@@ -1,16 +1,13 @@
 -- A walk of one actor alone: nothing changes under it, so that it finds the set as it is.
-use Rattle.std.proofs.Common.{◌≡◌, inl, inr, ℕ, suc, ◌≤◌, ◌<◌, not, Bool, true, false, List, [], ◌∷◌, length, None, refl, ap, ◌∙◌, subst, arith}
+use Rattle.std.proofs.Common.{◌≡◌, inl, inr, ℕ, suc, ◌≤◌, not, Bool, true, false, List, [], ◌∷◌, None, refl, ap, ◌∙◌, subst, arith}
 use Rattle.lz_slot.specs.declared.format.Format.{Format}
 use Rattle.lz_slot.specs.Limits.{most_slots}
 use Rattle.lz_slot.specs.declared.command.Command.TheVariants.{Has}
 use Rattle.lz_list.specs.declared.walk.Look.{Look}
 use Rattle.lz_list.specs.declared.walk.Met.TheVariants.{Absent, Unmarked, Marked}
-use Rattle.lz_list.specs.declared.publishing.Publishing.{Publishing}
-use Rattle.lz_list.specs.declared.publishing.Publishing.TheVariants.{KeyPrepared as key_prepared, LinkPrepared as link_prepared}
 use Rattle.lz_list.specs.Words.{Words, get}
 use Rattle.lz_list.specs.Walks.{Hopped, More, End, wants, hopped}
 use Rattle.lz_list.specs.Traces.{Trace, Begins, on, chain, chain_of, bucket_of, key_word, is_marked, member}
-use Rattle.lz_list.specs.Pinned.{Once, IsQuiet, IsKept}
 use Rattle.lz_list.proofs.Traces.Absence.{begins_itself}
 use Rattle.lz_list.proofs.Traces.NodeBits.{node}
 use Rattle.lz_flush.specs.declared.need.Need.{Need}

@@ -1,6 +1,6 @@
 -- What the slots of an image are read as, by where they stand: each open one is a node's or that of an actor that has opened it,
 -- and no two are of one key.
-use Rattle.std.proofs.Common.{◌≡◌, ◌⊎◌, ⊎_elim, inl, inr, ℕ, zero, suc, ◌<◌, ◌==◌, ◌||◌, Bool, true, false, List, [], ◌∷◌, Option, Some, refl, sym, ap, ◌∙◌, subst, arith}
+use Rattle.std.proofs.Common.{◌≡◌, ◌⊎◌, ⊎_elim, inl, inr, ℕ, zero, suc, ◌<◌, ◌==◌, ◌||◌, Bool, true, false, List, Option, Some, refl, sym, ap, ◌∙◌, subst, arith}
 use Rattle.std.specs.Prelude.{slice_get}
 use mathlib.Core.Bool.{false≢true}
 use Rattle.std.proofs.lemmas.Bool.{cases_eq, cases_Bool, or_cases, or_left, or_right, eq-eqb}
@@ -18,8 +18,8 @@ use Rattle.lz_vault.specs.Stages.{MayRead}
 use Rattle.lz_vault.proofs.Reading.{image_reads}
 use Rattle.lz_list.specs.Words.{place_number, link_to}
 use Rattle.lz_list.specs.Locks.{owner}
-use Rattle.lz_list.specs.Traces.{Trace, Chain, Shows, has_key, on, chain_of, bucket_of, key_word, next_link, member, IsLoose}
-use Rattle.lz_list.proofs.Chains.PlaceRank.{has_on, on_start}
+use Rattle.lz_list.specs.Traces.{Trace, Shows, has_key, on, chain_of, bucket_of, key_word, next_link, member, IsLoose}
+use Rattle.lz_list.proofs.Chains.PlaceRank.{has_on}
 use Rattle.lz_list.proofs.Chains.TraceChain.{words_show_chain}
 use Rattle.lz_list.proofs.Traces.Absence.{unlinked_is_settled}
 use Rattle.lz_list.proofs.Traces.NodeBits.{one_node}

@@ -2,7 +2,6 @@
 use Rattle.std.proofs.Common.{◌≡◌, ℕ, zero, suc, ◌<◌, Bool, true, false, not, ◌==◌, ◌&&◌, List, [], ◌∷◌, ◌++◌, MatchOption, refl, sym, ap, ◌∙◌, subst, inl, inr, arith, filter}
 use Rattle.std.proofs.lemmas.Bool.{cases_Bool, cases_eq}
 use Rattle.std.proofs.lemmas.Bool.Decides.{nat_tests}
-use Rattle.lz_slot.specs.declared.command.Command.{Command}
 use Rattle.lz_slot.specs.Sets.{key_of, Keys, after, reply, moved, Same}
 use Rattle.lz_slot.proofs.Sets.{after_at, moved_other, after_same}
 use Rattle.lz_machine.specs.Ledgers.{Row, quiet_at, change_at, listed, Gives, ends, Each, IsRight, Moves, Leads}

@@ -1,12 +1,11 @@
 -- What an open reads of a slot, and the cell that it makes of it.
-use Rattle.std.proofs.Common.{◌≡◌, ◌≢◌, ◌⊎◌, inl, inr, ⊎_elim, ℕ, zero, suc, ◌+◌, ◌*◌, ◌-◌, ◌≤◌, List, [], length, get_or, take, drop, replicate, None, refl, ap, arith}
+use Rattle.std.proofs.Common.{◌≡◌, ◌≢◌, ◌⊎◌, inl, inr, ⊎_elim, ℕ, zero, suc, ◌+◌, ◌*◌, ◌-◌, ◌≤◌, List, [], length, get_or, drop, replicate, None, refl, ap, arith}
 use Rattle.std.proofs.lemmas.Bool.{cases_lt}
-use Rattle.std.proofs.lemmas.Bool.Decides.{nat_tests}
-use Rattle.std.proofs.lemmas.List.{length-replicate, length-take, get_or-replicate, get_or-take, get_or-drop, get_or_past}
+use Rattle.std.proofs.lemmas.List.{length-replicate, get_or-replicate, get_or-drop, get_or_past}
 use Rattle.lz_slot.specs.Rooms.{largest_of}
 use Rattle.lz_slot.specs.declared.format.Format.{Format}
 use Rattle.lz_slot.specs.Counted.{of_pass}
-use Rattle.lz_slot.specs.Bytes.{open_byte, slot_bytes, slot_read}
+use Rattle.lz_slot.specs.Bytes.{slot_bytes, slot_read}
 use Rattle.lz_slot.specs.declared.slot.SlotRead.{SlotRead}
 use Rattle.lz_slot.specs.declared.slot.SlotRead.TheVariants as read
 use Rattle.lz_slot.proofs.Files.ExactBytes.{read_fits, slot_is_of_its_key, zero_fits, closed_says, fits_taken}

@@ -15,7 +15,7 @@ use Rattle.lz_slot.proofs.Counted.{of_pass_same, of_pass_other, length-set_of_pa
 use Rattle.lz_disk.specs.Images.{Medium}
 use Rattle.lz_list.specs.Traces.{Trace}
 use Rattle.lz_machine.specs.declared.caller.Progress.{Progress}
-use Rattle.lz_machine.specs.Calls.{begun as progress_begun}
+use Rattle.lz_machine.specs.Calls.{begun}
 use Rattle.lz_machine.specs.Kept.{publishing}
 use Rattle.lz_machine.specs.Ledgers.{Row, HasRow, Each, change_at, times}
 use Rattle.lz_machine.specs.Entries.{IsRowIn, IsLedger, IsSettledEntry, IsChangeOf}
@@ -43,12 +43,12 @@ clash m other e = false≢true (sym other ∙ sym (ap is_call e))
 called_same : {i j a b : ℕ} {c d : Command} → Call i a c ≡ Call j b d → c ≡ d
 called_same e = cc
 
-abbrev pub begun : ℕ → Command → Progress → Caller
-begun i c first = record { number = i; command = c; progress = first }
+abbrev started : ℕ → Command → Progress → Caller
+started i c first = record { number = i; command = c; progress = first }
 
 -- the callers where actor a has begun call i
 abbrev pub calling : List (Option Caller) → ℕ → ℕ → Command → Progress → List (Option Caller)
-calling callers a i c first = set_of_pass callers a (Some (begun i c first))
+calling callers a i c first = set_of_pass callers a (Some (started i c first))
 
 -- a caller that has changed nothing has no pending row
 pub pending_none : (caller : Option Caller) → pending_row caller None ≡ []
@@ -64,13 +64,13 @@ none_above i calls (r ∷ L) below is =
 
 module _ (callers : List (Option Caller)) (a i : ℕ) (c : Command) (first : Progress) where
   pub is_old : (b : ℕ) → b ≢ a → caller_at (calling callers a i c first) b ≡ caller_at callers b
-  is_old b other = of_pass_other callers a b (Some (begun i c first)) None other
+  is_old b other = of_pass_other callers a b (Some (started i c first)) None other
 
-  is_new : (b : ℕ) → b ≡ a → 1 ≤ a → a ≤ length callers → caller_at (calling callers a i c first) b ≡ Some (begun i c first)
-  is_new b same low high = subst (λ (q : ℕ). caller_at (calling callers a i c first) q ≡ Some (begun i c first)) (sym same) (of_pass_same callers a (Some (begun i c first)) None low high)
+  is_new : (b : ℕ) → b ≡ a → 1 ≤ a → a ≤ length callers → caller_at (calling callers a i c first) b ≡ Some (started i c first)
+  is_new b same low high = subst (λ (q : ℕ). caller_at (calling callers a i c first) q ≡ Some (started i c first)) (sym same) (of_pass_same callers a (Some (started i c first)) None low high)
 
   -- the callers are those of before, and the new one
-  is_begun : (b : ℕ) (caller : Caller) → b ≡ a → 1 ≤ a → a ≤ length callers → caller_at (calling callers a i c first) b ≡ Some caller → begun i c first ≡ caller
+  is_begun : (b : ℕ) (caller : Caller) → b ≡ a → 1 ≤ a → a ≤ length callers → caller_at (calling callers a i c first) b ≡ Some caller → started i c first ≡ caller
   is_begun b caller same low high at = same_Some _ _ (sym (is_new b same low high) ∙ at)
 
   module _ (changed : ℕ → Option ℕ) (free : changed a ≡ None) where
@@ -176,7 +176,7 @@ module _ (n calls passes a : ℕ) (c : Command) (first : Progress) (callers : Li
     ];
   }
     where
-      new : (b : ℕ) (caller : Caller) → b ≡ a → caller_at (calling callers a (suc calls) c first) b ≡ Some caller → begun (suc calls) c first ≡ caller
+      new : (b : ℕ) (caller : Caller) → b ≡ a → caller_at (calling callers a (suc calls) c first) b ≡ Some caller → started (suc calls) c first ≡ caller
       new b caller same at = is_begun callers a (suc calls) c first b caller same low high at
 
       old : (b : ℕ) (caller : Caller) → b ≢ a → caller_at (calling callers a (suc calls) c first) b ≡ Some caller → caller_at callers b ≡ Some caller
@@ -197,17 +197,17 @@ tail_still M calls a c d first callers rows rows' same low high below h = record
 
 module _ (n calls a : ℕ) (c : Command) (y : Yard) (callers : List (Option Caller)) (disk : Medium) (P : Trace) (M : History) (notes : Notes) (low : 1 ≤ a) (high : a ≤ length callers) (none : caller_at callers a ≡ None) (even : pin_in y.words.pins a % 2 ≡ 0) (first : Progress) (outside : is_before_pin first ≡ true)
     (relies : IsIdle (actor_in y.actors a) P → notes.changed a ≡ None → Relies (view_of y.shape y.vault y.actors a) c first (notes.begun a) P (notes.changed a)) where
-  new_caller : CallersSound y.shape y.vault y.words.pins y.actors callers P notes → CallerSound (view_of y.shape y.vault y.actors a) (pin_in y.words.pins a) (Some (begun (suc calls) c first)) (notes.begun a) P (notes.changed a)
+  new_caller : CallersSound y.shape y.vault y.words.pins y.actors callers P notes → CallerSound (view_of y.shape y.vault y.actors a) (pin_in y.words.pins a) (Some (started (suc calls) c first)) (notes.begun a) P (notes.changed a)
   new_caller h =
       let old = subst (λ (q : Option Caller). CallerSound (view_of y.shape y.vault y.actors a) (pin_in y.words.pins a) q (notes.begun a) P (notes.changed a)) none (h.each a) in
       record { quiet = old.quiet; begins = old.begins; stands = (even ∙ ap side_of (sym outside), λ inside. absurd (omega (arith, inside, even)), relies old.stands.0 old.stands.1) }
 
   calling_callers : CallersSound y.shape y.vault y.words.pins y.actors callers P notes → CallersSound y.shape y.vault y.words.pins y.actors (calling callers a (suc calls) c first) P notes
   calling_callers h = record {
-    count = length-set_of_pass callers a (Some (begun (suc calls) c first)) ∙ h.count;
+    count = length-set_of_pass callers a (Some (started (suc calls) c first)) ∙ h.count;
     hands = h.hands;
     each = by_actor (λ b. CallerSound (view_of y.shape y.vault y.actors b) (pin_in y.words.pins b) (caller_at (calling callers a (suc calls) c first) b) (notes.begun b) P (notes.changed b)) a
-        (subst (λ (q : Option Caller). CallerSound (view_of y.shape y.vault y.actors a) (pin_in y.words.pins a) q (notes.begun a) P (notes.changed a)) (sym (of_pass_same callers a (Some (begun (suc calls) c first)) None low high)) (new_caller h))
+        (subst (λ (q : Option Caller). CallerSound (view_of y.shape y.vault y.actors a) (pin_in y.words.pins a) q (notes.begun a) P (notes.changed a)) (sym (of_pass_same callers a (Some (started (suc calls) c first)) None low high)) (new_caller h))
         (λ b other. subst (λ (q : Option Caller). CallerSound (view_of y.shape y.vault y.actors b) (pin_in y.words.pins b) q (notes.begun b) P (notes.changed b)) (sym (is_old callers a (suc calls) c first b other)) (h.each b));
   }
 
@@ -271,9 +271,9 @@ module _ (n calls : ℕ) (service : Service) (disk : Medium) (life : Life) (P : 
   in_actors : a ≤ length service.yard.actors
   in_actors = omega (arith, may.0.1, up.sound.callers.hands)
 
-  pub call_up : UpSound n (suc calls) (record { yard = invoked service.yard a c; callers = calling service.callers a (suc calls) c (progress_begun service.yard.vault.format c) }) disk
+  pub call_up : UpSound n (suc calls) (record { yard = invoked service.yard a c; callers = calling service.callers a (suc calls) c (begun service.yard.vault.format c) }) disk
       (record { start = life.start; history = Call (suc calls) a c ∷ life.history }) P notes
-  call_up = calling_up n calls a c (invoked service.yard a c) service.callers disk P life.history notes may.0.0 in_callers none (even_of (pin_of service.yard a) may.2) (progress_begun service.yard.vault.format c) (begun_outside (is_old_file service.yard.vault.format c))
+  call_up = calling_up n calls a c (invoked service.yard a c) service.callers disk P life.history notes may.0.0 in_callers none (even_of (pin_of service.yard a) may.2) (begun service.yard.vault.format c) (begun_outside (is_old_file service.yard.vault.format c))
       (λ idle unchanged. begun_relies (view_of service.yard.shape service.yard.vault (invoked service.yard a c).actors a) c (notes.begun a) P (notes.changed a)
       (noted_refusal n calls service.yard service.callers disk life.history P notes a c may.0.0 in_actors none up.sound) idle unchanged)
       life.start (invoked_up n calls service.yard service.callers disk life P notes a c may.0.0 in_actors none up)

@@ -1,7 +1,6 @@
 -- The words that an open fills are those after the trace of its members.
 use Rattle.std.proofs.Common.{◌≡◌, ◌≢◌, inl, inr, ℕ, zero, suc, ◌+◌, ◌<◌, ◌≤◌, true, false, ◌==◌, List, [], ◌∷◌, ◌++◌, length, map, refl, sym, ap, ◌∙◌, arith, length-set, append_assoc, length-append}
 use Rattle.std.specs.Prelude.{All, reverse, replicate, slice_set, slice_index_or}
-use Rattle.std.proofs.lemmas.Nat.{mod_below}
 use Rattle.std.proofs.lemmas.Bool.Decides.{nat_tests, leb_tells, eqb_tells}
 use Rattle.std.proofs.lemmas.List.{get_or_append_left, reverse-append}
 use Rattle.lz_slot.specs.Limits.{most_slots}
