@@ -17,7 +17,7 @@ use Rattle.lz_disk.specs.Devices.{Device}
 use Rattle.lz_vault.specs.Stages.{Cell}
 use Rattle.lz_vault.specs.Vaults.{cell_at, cells_at}
 use Rattle.lz_vault.specs.Members.{AreDistinct, keys_in, member_at, member_in, no_cell}
-use Rattle.lz_vault.specs.Makes.{AreMembers}
+use Rattle.lz_vault.specs.Makes.{MayBeMembers}
 use Rattle.lz_vault.specs.Opens.{IsCellOf, is_open, keys_of}
 use Rattle.lz_vault.specs.Scans.{Finds}
 use Rattle.lz_vault.specs.Renewals.{AreHeldBy}
@@ -144,7 +144,7 @@ module _ (before after : Device) (format : Format) (entries : List Entry) (finds
       )
 
   -- and they can be the members of a file of format 2
-  pub are_members : AreMembers Two (length (keys_in (cells_at 0 entries))) (keys_in (cells_at 0 entries))
+  pub are_members : MayBeMembers Two (length (keys_in (cells_at 0 entries))) (keys_in (cells_at 0 entries))
   are_members = record { few = omega arith; fit = fit; apart = apart (cells_at 0 entries) finds.distinct }
     where
       fit : (i : ℕ) → i < length (keys_in (cells_at 0 entries)) → get_or (keys_in (cells_at 0 entries)) i 0 ≤ largest_of Two

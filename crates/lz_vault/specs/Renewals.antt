@@ -39,8 +39,7 @@ IsToldFirst (Old fault) = Unit {0}
 IsToldFirst (New fault) = fault ≡ BadCount
 IsToldFirst (TooSmall m n) = Unit {0}
 
--- Why a file isn't renewed with n slots: it isn't opened, it has more members, or no new file is made. Each is told only where
--- none before it is so.
+-- why a file isn't renewed: it isn't opened, or has more members than n, or else no new file of n slots is made
 abbrev pub IsRenewFaultOf : Device → Device → Device → Device → ℕ → RenewFault → Type 0
 IsRenewFaultOf old old_after new new_after n (Old fault) = IsRefusedFor old old_after fault
 IsRenewFaultOf old old_after new new_after n (TooSmall m slots) = (slots ≡ n) × (n < m) × HasMembers old m

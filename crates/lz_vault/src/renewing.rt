@@ -5,7 +5,7 @@ ghost use Rattle.lz_slot.specs.Bytes.{Holds};
 ghost use Rattle.lz_disk.specs.Images.{IsImage, synced};
 ghost use Rattle.lz_disk.specs.Devices.{LeavesOnly};
 ghost use Rattle.lz_vault.specs.Opens.{IsRefusedFor};
-ghost use Rattle.lz_vault.specs.Makes.{AreMembers, IsBadCount, IsUnmadeOrHolds, MayBeMade, WritesNothing, calls_of_making};
+ghost use Rattle.lz_vault.specs.Makes.{IsBadCount, IsUnmadeOrHolds, MayBeMade, MayBeMembers, WritesNothing, calls_of_making};
 ghost use Rattle.lz_vault.specs.Renewals.{AreHeldBy, IsRenewFaultOf, IsToldFirst, OnlySyncs, Renews, renew_fault_number};
 
 use crate::making::{MakeFault, make_with};
@@ -93,7 +93,7 @@ fn read_members<D: Disk>(alloc: Global, disk: &mut D) -> Result<Vec<Key>, OpenFa
     ensures reads { OnlySyncs (D.device disk.old) (D.device disk.new) }
     ensures sure { IsTrue (D.device disk.old).honest → OnOk result ((D.device disk.new).medium ≡ synced (D.device disk.old).medium) }
     ensures held { IsTrue (D.device disk.old).honest → IfOk result (λ keys. AreHeldBy (D.device disk.old).medium.seen keys.items) }
-    ensures members { IfOk result (λ keys. AreMembers Format.Two (length keys.items) keys.items) }
+    ensures members { IfOk result (λ keys. MayBeMembers Format.Two (length keys.items) keys.items) }
     ensures err { IfErr result (IsRefusedFor (D.device disk.old) (D.device disk.new)) }
 {
     let scan = scan_file(alloc, disk)?;
