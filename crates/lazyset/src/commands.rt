@@ -8,8 +8,9 @@ use lazyset_commands::{
     MOST_JUDGED, MOST_SURVEYED, ServeOptions, Status, check_on, judge_on, make_on, rehearse_on,
     run_on, serve_on,
 };
-use lz_disk::FileDisk;
+use lz_disk::{Disk, FileDisk};
 use lz_slot::Format;
+use std::alloc::AllocError;
 use std::fs::File;
 use std::io::{ErrorKind, Read};
 use std::net::{Net, TcpListener, TcpStream};
@@ -19,10 +20,15 @@ use std::thread::Threads;
 use std::time::Clock;
 use std::{env, io};
 
+// How many bytes the head of a file has, and each of its slots.
+const HEAD: u64 = 16;
+
+const SLOT: u64 = 16;
+
 /// Runs the command that the process's arguments name.
 pub fn run<R>(rt: &R) -> Result<Status, Fault>
 where
-    R: Env + Files<File = File> + Input + Print + AllocGlobal,
+    R: Env + Files<File = File> + Input + Print + Eprint + AllocGlobal,
     R: Net<Listener = TcpListener, Stream = TcpStream> + Threads + Wait + Clock + Sync,
 {
     let words: Vec<String> = env::args(rt)?.collect(rt.alloc())?;
@@ -34,7 +40,7 @@ where
 
 fn dispatch<R>(rt: &R, matches: &ArgMatches<'_>) -> Result<Status, Fault>
 where
-    R: Files<File = File> + Input + Print + AllocGlobal,
+    R: Files<File = File> + Input + Print + Eprint + AllocGlobal,
     R: Net<Listener = TcpListener, Stream = TcpStream> + Threads + Wait + Clock + Sync,
 {
     match matches.subcommand() {
@@ -84,15 +90,40 @@ where
 
 fn serve<R>(rt: &R, matches: &ArgMatches<'_>) -> Result<Status, Fault>
 where
-    R: Files<File = File> + Print + AllocGlobal,
+    R: Files<File = File> + Print + Eprint + AllocGlobal,
     R: Net<Listener = TcpListener, Stream = TcpStream> + Threads + Wait + Clock + Sync,
 {
     let Some(options) = serve_options(matches) else {
         return Ok(Status::CommandLine);
     };
-    let disk = open(rt, matches, false)?;
+    let mut disk = open(rt, matches, false)?;
+    let greeting = greeting_of(rt, matches, &mut disk, &options)?;
+    // A service goes on where nobody reads what it says.
+    let _ = rt.eprintln(greeting.as_str());
     let (status, _disk) = serve_on(rt, &mut io::writer(rt), disk, options);
     Ok(status)
+}
+
+// What is said on standard error at the start of a service.
+fn greeting_of<R>(
+    rt: &R,
+    matches: &ArgMatches<'_>,
+    disk: &mut FileDisk,
+    options: &ServeOptions,
+) -> Result<String, AllocError>
+where
+    R: AllocGlobal,
+{
+    let file = matches.get_str("FILE").unwrap_or("");
+    let size = match disk.size() {
+        Ok(size) => size,
+        Err(_) => 0,
+    };
+    let slots = size.saturating_sub(HEAD) / SLOT;
+    let buckets = options.buckets;
+    let passes = options.passes;
+    let alloc = rt.alloc();
+    Ok(format!(in alloc; "opening {file}: {slots} slots, {buckets} buckets, {passes} passes")?)
 }
 
 // How the command line asks to serve.
@@ -108,6 +139,7 @@ fn serve_options(matches: &ArgMatches<'_>) -> Option<ServeOptions>
         passes,
         sessions: matches.get_one::<u64>("sessions")?,
         buckets,
+        idle: matches.get_one::<u64>("idle")?,
     })
 }
 
