@@ -21,7 +21,7 @@ END = "end-of-example"
 PATIENCE = 20.0
 
 # What the examples call beside the program and the shell's own words.
-HELPERS = ("nc", "strace", "python3", "xxd", "od")
+TOOLS = ("nc", "strace", "python3", "xxd", "od")
 
 
 @dataclass
@@ -105,9 +105,9 @@ class Shell:
 
 
 def missing(examples: Sequence[Example]) -> List[str]:
-    """The helpers that the examples call and this machine hasn't."""
+    """The tools that the examples call and this machine hasn't."""
     called = {word for example in examples for word in re.findall(r"[a-z0-9]+", example.command)}
-    return [helper for helper in HELPERS if helper in called and shutil.which(helper) is None]
+    return [tool for tool in TOOLS if tool in called and shutil.which(tool) is None]
 
 
 def taken_ports(examples: Sequence[Example]) -> List[str]:

@@ -60,6 +60,18 @@ def try_sessions(program: Program, folder: str) -> None:
     expect(program.members(file), [Key(0, 5), Key(0, 6)], "the keys of the file")
 
 
+def try_idle(program: Program, folder: str) -> None:
+    """A service of one pass ends a session in which nothing was sent, or no reply is taken, and goes on with the next one."""
+    file = os.path.join(folder, "idle")
+    program.make(file, 2)
+    with Service(program, file, 1, "--idle", "1") as service, connect(service.port) as silent:
+        silent.sendall(b"add 5\nadd 6")
+        expect(received(silent), b"yes\n", "a silent client's replies")
+        with Lazyset(service.port, timeout=PATIENCE) as keys:
+            expect((keys.has(5), keys.has(6)), (True, False), "lookups by the next client")
+        never_reads(service.port)
+
+
 def connect(port: int) -> socket.socket:
     return socket.create_connection(("127.0.0.1", port), PATIENCE)
 

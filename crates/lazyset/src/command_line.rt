@@ -12,6 +12,9 @@ const MOST_PORT: u64 = 65_535;
 // The most sessions that a pass may be told to serve.
 const MOST_SESSIONS: u64 = 65_535;
 
+// The program's version, and the kit that proved and built it, as `rt version` names it.
+const VERSION: &str = "1.0, rattle-kit-13b logic dac8208d650f15bf";
+
 fn file<'a>(alloc: Global) -> Arg<'a> {
     Arg::new(alloc, "FILE").required(true).help("The slot file")
 }
@@ -37,6 +40,7 @@ fn format<'a>(alloc: Global) -> Arg<'a> {
 fn make<'a>(alloc: Global) -> Result<Command<'a>, AllocError> {
     Command::new(alloc, "make")
         .about("Makes a slot file that holds the empty set, creating the file where it is absent")
+        .after_help("Example: lazyset make f 1000")
         .arg(file(alloc))?
         .arg(slots(alloc))?
         .arg(format(alloc))
@@ -56,6 +60,7 @@ fn run<'a>(alloc: Global) -> Result<Command<'a>, AllocError> {
         .about(
             "Answers the lines `add K`, `remove K` and `has K` of standard input, each with one line: yes, no, full, oldfile or halted. K is a number, as in `add 17`, or a room from 0 to 15 and a number, as in `add 3:17`: rooms keep several tenants or classes of keys apart. A file of format 1 answers oldfile to an `add` in another room than 0",
         )
+        .after_help("Example: echo 'add 5' | lazyset run f")
         .arg(file(alloc))?
         .arg(buckets(alloc))
 }
@@ -75,14 +80,22 @@ fn serve<'a>(alloc: Global) -> Result<Command<'a>, AllocError> {
         .value_parser(value_parser!(u64).range(0..=MOST_SESSIONS))
         .default_value("0")
         .help("After how many connections each pass ends; 0 for no end");
+    let idle = Arg::new(alloc, "idle")
+        .long("idle")
+        .value_name("SECONDS")
+        .value_parser(value_parser!(u64).range(0..=86400))
+        .default_value("0")
+        .help("After how many seconds a connection ends on which nothing was sent; 0 for no end");
     Command::new(alloc, "serve")
         .about(
             "Answers the lines `add K`, `remove K` and `has K` of many connections at once, each with one line",
         )
+        .after_help("Example: lazyset serve f 7000 8 --buckets 1024 --idle 600")
         .arg(file(alloc))?
         .arg(port)?
         .arg(passes)?
         .arg(sessions)?
+        .arg(idle)?
         .arg(buckets(alloc))
 }
 
@@ -97,6 +110,7 @@ fn renew<'a>(alloc: Global) -> Result<Command<'a>, AllocError> {
         .about(
             "Makes a slot file that holds the keys of another, with room for more or for fewer, creating it where it is absent",
         )
+        .after_help("Example: lazyset renew f g 2000")
         .arg(old)?
         .arg(new)?
         .arg(slots(alloc))
@@ -110,6 +124,7 @@ fn check<'a>(alloc: Global) -> Result<Command<'a>, AllocError> {
         .about(
             "Says what the file holds: a line for each slot that isn't closed, and `good` or `damaged`",
         )
+        .after_help("Example: lazyset check f")
         .arg(file(alloc))?
         .arg(of)
 }
@@ -117,6 +132,9 @@ fn check<'a>(alloc: Global) -> Result<Command<'a>, AllocError> {
 fn judge<'a>(alloc: Global) -> Result<Command<'a>, AllocError> {
     Command::new(alloc, "judge")
         .about("Judges a history by the points of its calls: `good`, or the first flaw")
+        .after_help(
+            "Example: lazyset judge h, where h has the lines call 1 1 add 9, answer 1 yes, stop, open 9, point 1 5",
+        )
         .arg(
             Arg::new(alloc, "FILE").required(true).help(
                 "The history: the lines of a rehearsal, and `point I P` for call I",
@@ -133,6 +151,9 @@ fn rehearse<'a>(alloc: Global) -> Result<Command<'a>, AllocError> {
         .about(
             "Plays the script of standard input on a new set in memory: calls, turns, failures, stops, crashes and opens",
         )
+        .after_help(
+            "Example: printf 'call 1 add 9\\nuntil 1 WriteOpen\\ncrash a5\\nopen\\n' | lazyset rehearse 2",
+        )
         .arg(slots)?
         .arg(buckets(alloc))?
         .arg(format(alloc))
@@ -141,6 +162,7 @@ fn rehearse<'a>(alloc: Global) -> Result<Command<'a>, AllocError> {
 /// The command line that the program understands.
 pub fn command_line<'a>(alloc: Global) -> Result<Command<'a>, AllocError> {
     Command::new(alloc, "lazyset")
+        .version(VERSION)
         .about(
             "A set of keys, 0 to 999999999999999999 in each of 16 rooms, that survives crashes: every answer that was given lasts",
         )

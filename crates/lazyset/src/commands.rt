@@ -9,8 +9,9 @@ use lazyset_commands::{
     MOST_JUDGED, MOST_SURVEYED, ServeOptions, Status, check_of_on, check_on, judge_on, make_on,
     rehearse_on, renew_on, run_on, serve_on,
 };
-use lz_disk::FileDisk;
+use lz_disk::{Disk, FileDisk};
 use lz_slot::{Format, MOST_BUCKETS, MOST_PASSES, MOST_REHEARSED};
+use std::alloc::AllocError;
 use std::fs::File;
 use std::io::{ErrorKind, Read};
 use std::net::{Net, TcpListener, TcpStream};
@@ -23,10 +24,15 @@ use std::{env, io};
 // The most bytes that one read of a file takes.
 const MOST_PIECE: usize = 4_096;
 
+// How many bytes the head of a file has, and each of its slots.
+const HEAD: u64 = 16;
+
+const SLOT: u64 = 16;
+
 /// Runs the command that the process's arguments name.
 pub fn run<R>(rt: &R) -> Result<Status, Fault>
 where
-    R: Env + Files<File = File> + Input + Print + AllocGlobal,
+    R: Env + Files<File = File> + Input + Print + Eprint + AllocGlobal,
     R: Net<Listener = TcpListener, Stream = TcpStream> + Threads + Wait + Clock + Sync,
 {
     let words: Vec<String> = match env::args(rt) {
@@ -41,7 +47,7 @@ where
 
 fn dispatch<R>(rt: &R, matches: &ArgMatches<'_>) -> Result<Status, Fault>
 where
-    R: Files<File = File> + Input + Print + AllocGlobal,
+    R: Files<File = File> + Input + Print + Eprint + AllocGlobal,
     R: Net<Listener = TcpListener, Stream = TcpStream> + Threads + Wait + Clock + Sync,
 {
     match matches.subcommand() {
@@ -112,15 +118,40 @@ where
 
 fn serve<R>(rt: &R, matches: &ArgMatches<'_>) -> Result<Status, Fault>
 where
-    R: Files<File = File> + Print + AllocGlobal,
+    R: Files<File = File> + Print + Eprint + AllocGlobal,
     R: Net<Listener = TcpListener, Stream = TcpStream> + Threads + Wait + Clock + Sync,
 {
     let Some(options) = serve_options(matches) else {
         return Ok(Status::CommandLine);
     };
-    let disk = open(rt, matches, false)?;
+    let mut disk = open(rt, matches, false)?;
+    let greeting = greeting_of(rt, matches, &mut disk, &options)?;
+    // A service goes on where nobody reads what it says.
+    let _ = rt.eprintln(greeting.as_str());
     let (status, _disk) = serve_on(rt, &mut io::writer(rt), disk, options);
     Ok(status)
+}
+
+// What is said on standard error at the start of a service.
+fn greeting_of<R>(
+    rt: &R,
+    matches: &ArgMatches<'_>,
+    disk: &mut FileDisk,
+    options: &ServeOptions,
+) -> Result<String, AllocError>
+where
+    R: AllocGlobal,
+{
+    let file = matches.get_str("FILE").unwrap_or("");
+    let size = match disk.size() {
+        Ok(size) => size,
+        Err(_) => 0,
+    };
+    let slots = size.saturating_sub(HEAD) / SLOT;
+    let buckets = options.buckets;
+    let passes = options.passes;
+    let alloc = rt.alloc();
+    Ok(format!(in alloc; "opening {file}: {slots} slots, {buckets} buckets, {passes} passes")?)
 }
 
 // How the command line asks to serve.
@@ -136,6 +167,7 @@ fn serve_options(matches: &ArgMatches<'_>) -> Option<ServeOptions>
         passes,
         sessions: matches.get_one::<u64>("sessions")?,
         buckets,
+        idle: matches.get_one::<u64>("idle")?,
     })
 }
 

@@ -8,7 +8,7 @@ ghost use Rattle.lazyset_commands.specs.Runs.{refusal_text};
 use crate::running::refuse;
 use crate::status::Status;
 use lz_disk::Disk;
-use lz_serve::serve;
+use lz_serve::{Bounds, serve};
 use lz_set::{Blank, Named, NoGate, Set};
 use lz_vault::{OpenFault, Refused};
 use std::io;
@@ -17,7 +17,7 @@ use std::marker::Brand;
 use std::net::{Net, TcpListener, TcpStream};
 use std::sync::Wait;
 use std::thread::Threads;
-use std::time::Clock;
+use std::time::{Clock, Duration};
 
 /// How a set is served.
 #[derive(Clone, Copy, Debug, PartialEq, Eq)]
@@ -30,6 +30,23 @@ pub struct ServeOptions {
     pub sessions: u64,
     /// How many lists the keys are spread over, 1 to 4096.
     pub buckets: usize,
+    /// After how many seconds a client's session ends, in which it sent nothing or took none of its replies; 0 for no end.
+    pub idle: u64,
+}
+
+impl ServeOptions {
+    // When its sessions and passes end.
+    fn bounds(&self) -> Bounds {
+        let idle = if self.idle == 0 {
+            None
+        } else {
+            Some(Duration::from_secs(self.idle))
+        };
+        Bounds {
+            sessions: self.sessions,
+            idle,
+        }
+    }
 }
 
 /// Opens the set that the disk holds and serves it on a port of 127.0.0.1, with a thread for each pass, each of which serves
@@ -81,7 +98,7 @@ where
     };
     // A service goes on where nobody reads what it says.
     let _ = tell_port(writer, port);
-    let served = serve(rt, &listener, &set, passes, options.sessions);
+    let served = serve(rt, &listener, &set, passes, options.bounds());
     let status = if served.halted || served.threadless > 0 {
         Status::Failed
     } else {

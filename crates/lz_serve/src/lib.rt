@@ -8,4 +8,4 @@ mod seated;
 mod server;
 
 pub use seated::Seated;
-pub use server::{Served, serve};
+pub use server::{Bounds, Served, serve};

@@ -24,6 +24,15 @@ const FAREWELL: u64 = 100;
 
 const FAREWELLS: usize = 16;
 
+/// When sessions and passes end.
+#[derive(Clone, Copy, Debug, PartialEq, Eq)]
+pub struct Bounds {
+    /// After how many sessions each pass ends; 0 for no end.
+    pub sessions: u64,
+    /// For how long a client may send nothing, or take nothing of its replies, before its session ends.
+    pub idle: Option<Duration>,
+}
+
 /// How a service ended.
 #[derive(Clone, Copy, Debug, PartialEq, Eq)]
 pub struct Served {
@@ -34,7 +43,12 @@ pub struct Served {
 }
 
 // Serves one connection, and says whether its session found the set halted.
-fn serve_stream<D, G, N, R>(rt: &R, stream: &TcpStream, seated: &mut Seated<'_, D, G, N, R>) -> bool
+fn serve_stream<D, G, N, R>(
+    rt: &R,
+    stream: &TcpStream,
+    seated: &mut Seated<'_, D, G, N, R>,
+    idle: Option<Duration>,
+) -> bool
 where
     D: Disk,
     G: StepGate,
@@ -43,6 +57,9 @@ where
 {
     // A reply goes out at once; where that can't be asked for it may go out later.
     let _ = stream.set_nodelay(true);
+    // Where no time can be set the session waits without an end.
+    let _ = stream.set_read_timeout(idle);
+    let _ = stream.set_write_timeout(idle);
     let ended = session(rt.alloc(), &mut &*stream, &mut &*stream, seated);
     take_leave(stream);
     matches!(ended, Ok(End::Halted))
@@ -71,7 +88,7 @@ fn serve_pass<D, G, N, R>(
     listener: &TcpListener,
     set: &Set<D, G, N>,
     pass: Pass,
-    sessions: u64,
+    bounds: Bounds,
 ) -> bool
 where
     D: Disk,
@@ -87,11 +104,11 @@ where
             thread::sleep(rt, Duration::from_millis(PAUSE));
             continue;
         };
-        if serve_stream(rt, &stream, &mut seated) {
+        if serve_stream(rt, &stream, &mut seated, bounds.idle) {
             return true;
         }
         served = served.wrapping_add(1);
-        if served == sessions {
+        if served == bounds.sessions {
             return false;
         }
     }
@@ -99,14 +116,14 @@ where
 }
 
 /// Serves connections with a thread for each pass, which serves one connection after the other: so many of them, or
-/// without an end where `sessions` is 0. A session that ended with a fault counts too. A thread ends as well behind a session that
+/// without an end where `bounds.sessions` is 0. A session that ended with a fault, or because its client was idle, counts too. A thread ends as well behind a session that
 /// found the set halted. A connection for which no thread is free waits in the listener's queue.
 pub fn serve<D, G, N, R>(
     rt: &R,
     listener: &TcpListener,
     set: &Set<D, G, N>,
     passes: Vec<Pass>,
-    sessions: u64,
+    bounds: Bounds,
 ) -> Served
 where
     D: Disk + Send,
@@ -129,7 +146,7 @@ where
                     move || -> ()
                         requires { MayCall N.name pass }
                     {
-                        if serve_pass(rt, listener, set, pass, sessions) {
+                        if serve_pass(rt, listener, set, pass, bounds) {
                             told.store(true, Ordering::SeqCst);
                         }
                     },
