@@ -47,7 +47,7 @@ pub fn run_on<R: Read + Drop, W: Write + Drop, D: Disk>(
     // input's items, with one of them under way.
     ensures any_moment { (N : ℕ) (S : Keys) → IsTrue (D.device disk).honest → Holds (D.device disk).medium.seen N S
         → OfInput (R.remaining reader.old) (λ items. LeavesOnly (D.device disk) (D.device result.1)
-            (λ t. IsImage (D.device disk).medium t ⊎ FoundAfter (format_of (D.device disk).medium.seen) N S items t)) }
+        (λ t. IsImage (D.device disk).medium t ⊎ FoundAfter (format_of (D.device disk).medium.seen) N S items t)) }
 {
     match Plain::open(alloc, disk) {
         Ok(plain) => {
@@ -83,7 +83,7 @@ pub(crate) fn refuse<W: Write + Drop>(writer: &mut W, fault: OpenFault) -> Statu
 }
 
 // The status after a refused open.
-fn status_of(fault: OpenFault) -> Status
+pub(crate) fn status_of(fault: OpenFault) -> Status
     ensures { result ≡ open_status fault }
 {
     match fault {
