@@ -10,3 +10,5 @@ pub mod Removing
 pub mod Asking
 pub mod Allotting
 pub mod RehearsalEnds
+pub mod TwoNumbers
+pub mod LineTexts

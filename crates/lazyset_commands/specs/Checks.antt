@@ -1,7 +1,6 @@
 -- What a check of a file tells.
 use Rattle.std.specs.Prelude.{◌≡◌, ℕ, Option, List, [], ◌∷◌, ◌++◌, codes, decimal, if◌then◌else◌}
 use Rattle.std.specs.List.{flat_map}
-use Rattle.std.specs.Io.KnownBytes.{Appends}
 use Rattle.lz_slot.specs.Bytes.{header_fault_number}
 use Rattle.lz_slot.specs.Texts.{key_text}
 use Rattle.lz_judge.specs.Surveys.{IsSurveyOf, is_good}
@@ -10,6 +9,7 @@ use Rattle.lz_judge.specs.declared.finding.Finding.TheVariants.{Key, BadKey, Twi
 use Rattle.lz_judge.specs.declared.finding.Survey.{Survey}
 use Rattle.lz_judge.specs.declared.finding.Survey.TheVariants as survey
 use Rattle.lazyset_commands.specs.Makings.{refused_text}
+use Rattle.lazyset_commands.specs.Tellings.{Tells}
 use Rattle.lazyset_commands.specs.declared.status.Status.{Status}
 use Rattle.lazyset_commands.specs.declared.status.Status.TheVariants.{Done, Refused, Damaged}
 
@@ -30,9 +30,8 @@ abbrev pub survey_status : Survey → Status
 survey_status (survey.Refused fault) = Refused
 survey_status (survey.Found findings) = if is_good (survey.Found findings) then Done else Damaged
 
--- a check ended with this status, and wrote the text of a survey of the file
+-- a check ended with this status, and told a survey of the file
 pub record IsChecked (t : List ℕ) (status : Status) (before after : Option (List ℕ)) : Type 0 where
   pub survey : Survey
   pub of_file : IsSurveyOf t survey
-  pub ends : status ≡ survey_status survey
-  pub written : Appends before after (survey_text survey)
+  pub told : Tells before after (survey_text survey) (survey_status survey) status

@@ -1,11 +1,11 @@
 -- What a check of a file against another tells.
-use Rattle.std.specs.Prelude.{◌≡◌, ◌≢◌, ◌⊎◌, ℕ, Option, List, [], ◌∷◌, ◌++◌, codes, decimal, Result, Ok, Err}
-use Rattle.std.specs.Io.KnownBytes.{Appends}
+use Rattle.std.specs.Prelude.{◌≢◌, ◌⊎◌, ℕ, Option, List, [], ◌∷◌, ◌++◌, codes, decimal, Result, Ok, Err}
 use Rattle.lz_judge.specs.Renewals.{IsVerdictOn}
 use Rattle.lz_judge.specs.declared.renewing.RenewFlaw.{RenewFlaw}
 use Rattle.lz_judge.specs.declared.renewing.RenewFlaw.TheVariants.{NotHeld, Missing, Extra}
 use Rattle.lazyset_commands.specs.Checks.{IsChecked}
 use Rattle.lazyset_commands.specs.Judgements.{numbers_text}
+use Rattle.lazyset_commands.specs.Tellings.{LacksMemory, Tells}
 use Rattle.lazyset_commands.specs.declared.status.Status.{Status}
 use Rattle.lazyset_commands.specs.declared.status.Status.TheVariants.{Done, Damaged}
 
@@ -25,15 +25,14 @@ abbrev pub verdict_status : Result (Unit {0}) RenewFlaw → Status
 verdict_status (Ok same) = Done
 verdict_status (Err flaw) = Damaged
 
--- a comparison of two files ended with this status, and wrote its verdict
+-- a comparison of two files ended with this status, and told its verdict
 pub record IsCompared (old new : List ℕ) (status : Status) (before after : Option (List ℕ)) : Type 0 where
   pub verdict : Result (Unit {0}) RenewFlaw
   pub of_files : IsVerdictOn old new verdict
-  pub ends : status ≡ verdict_status verdict
-  pub written : Appends before after (verdict_text verdict)
+  pub told : Tells before after (verdict_text verdict) (verdict_status verdict) status
 
 -- The file was checked, and behind `good`, and only there, compared with the older one.
 abbrev pub IsCheckedOf : List ℕ → List ℕ → Status → Option (List ℕ) → Option (List ℕ) → Type 0
 IsCheckedOf old new status before after =
-    ((status ≢ Done) × IsChecked new status before after)
-    ⊎ ((middle : Option (List ℕ)) × IsChecked new Done before middle × IsCompared old new status middle after)
+    ((status ≢ Done) × (IsChecked new status before after ⊎ LacksMemory before after status))
+    ⊎ ((middle : Option (List ℕ)) × IsChecked new Done before middle × (IsCompared old new status middle after ⊎ LacksMemory middle after status))

@@ -1,5 +1,5 @@
 -- What is written with which a command ends.
-use Rattle.std.specs.Prelude.{◌≡◌, ◌⊎◌, ℕ, ◌<◌, List, length, take, Option, Result, Ok, Err}
+use Rattle.std.specs.Prelude.{◌≡◌, ◌⊎◌, ℕ, ◌<◌, List, [], ◌∷◌, ◌++◌, codes, length, take, Option, Result, Ok, Err}
 use Rattle.std.specs.Io.KnownBytes.{Appends}
 use Rattle.lz_proto.specs.declared.fault.SessionFault.{SessionFault}
 use Rattle.lazyset_commands.specs.declared.status.Status.{Status}
@@ -17,3 +17,7 @@ Tells before after text told status = (Appends before after text × (status ≡ 
 abbrev pub status_sent : Result (Unit {0}) SessionFault → Status → Status
 status_sent (Ok done) told = told
 status_sent (Err fault) told = Failed
+
+-- there was no memory, which was told
+abbrev pub LacksMemory : Option (List ℕ) → Option (List ℕ) → Status → Type 0
+LacksMemory before after status = Tells before after (codes "nomemory" ++ 10 ∷ []) Failed status

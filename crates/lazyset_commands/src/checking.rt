@@ -2,12 +2,12 @@
 ghost use Rattle.std.specs.Prelude.{◌≡◌, ◌⊎◌, ◌++◌, ℕ, IfOk, OnOk};
 ghost use Rattle.std.specs.List.{flat_map};
 ghost use Rattle.std.specs.String.{string_bytes};
-ghost use Rattle.std.specs.Io.KnownBytes.{Appends};
 ghost use Rattle.lz_slot.specs.Sets.{Keys};
 ghost use Rattle.lz_slot.specs.Bytes.{Holds};
 ghost use Rattle.lz_judge.specs.Surveys.{IsSurveyOf};
 ghost use Rattle.lazyset_commands.specs.Makings.{refused_text};
 ghost use Rattle.lazyset_commands.specs.Checks.{IsChecked, finding_text, survey_status, survey_text};
+ghost use Rattle.lazyset_commands.specs.Tellings.{LacksMemory, Tells};
 
 use crate::status::Status;
 use crate::telling::{NO_MEMORY, tell};
@@ -28,7 +28,7 @@ const _: () = prove!(MOST_SURVEYED > LONGEST_FILE);
 /// closed and then `good` or `damaged`. Failed where a line could not be written, and for want of memory, which says
 /// `nomemory`.
 pub fn check_on<W: Write + Drop>(alloc: Global, bytes: &[u8], writer: &mut W) -> Status
-    ensures told { (result ≡ Status.Failed) ⊎ IsChecked bytes.now result (W.contents writer.old) (W.contents writer.new) }
+    ensures told { IsChecked bytes.now result (W.contents writer.old) (W.contents writer.new) ⊎ LacksMemory (W.contents writer.old) (W.contents writer.new) result }
 
     // It is done exactly where the file holds a set.
     ensures done { result ≡ Status.Done → (N : ℕ) × (S : Keys) × Holds bytes.now N S }
@@ -42,7 +42,8 @@ pub fn check_on<W: Write + Drop>(alloc: Global, bytes: &[u8], writer: &mut W) ->
 
 // Writes the survey's text.
 fn tell_survey<W: Write + Drop>(alloc: Global, survey: &Survey, writer: &mut W) -> Status
-    ensures { (result ≡ Status.Failed) ⊎ ((result ≡ survey_status survey.now) × Appends (W.contents writer.old) (W.contents writer.new) (survey_text survey.now)) }
+    ensures told { Tells (W.contents writer.old) (W.contents writer.new) (survey_text survey.now) (survey_status survey.now) result ⊎ LacksMemory (W.contents writer.old) (W.contents writer.new) result }
+    ensures status { (result ≡ Status.Failed) ⊎ (result ≡ survey_status survey.now) }
 {
     match text_of(alloc, survey) {
         Ok(text) => tell(writer, status_of(survey), text.as_bytes()),

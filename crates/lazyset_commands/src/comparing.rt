@@ -1,17 +1,19 @@
 //! The command that says what a file holds, and whether it is the set of another.
-ghost use Rattle.std.specs.Prelude.{◌≡◌, ◌⊎◌, Err, OnOk};
-ghost use Rattle.std.specs.Io.KnownBytes.{Appends};
+ghost use Rattle.std.specs.Prelude.{◌≡◌, ◌⊎◌, Err};
+ghost use Rattle.lz_proto.specs.Steps.{SendTells};
 ghost use Rattle.lz_judge.specs.Renewals.{HoldOneSet};
-ghost use Rattle.lazyset_commands.specs.Comparisons.{IsCheckedOf, IsCompared, alone_text, verdict_status, verdict_text};
+ghost use Rattle.lazyset_commands.specs.Comparisons.{IsCheckedOf, IsCompared, verdict_status, verdict_text};
 ghost use Rattle.lazyset_commands.specs.Judgements.{numbers_text};
+ghost use Rattle.lazyset_commands.specs.Tellings.{LacksMemory, Tells};
 
 use crate::checking::check_on;
+use crate::refusal::{send_line, send_two};
 use crate::status::Status;
-use crate::telling::{NO_MEMORY, tell};
+use crate::telling::{NO_MEMORY, status_sent, tell};
 use lz_judge::{RenewFlaw, renewed};
+use lz_proto::SessionFault;
 use lz_slot::Slot;
 use std::alloc::{AllocError, Global};
-use std::io;
 use std::io::Write;
 
 /// Says what the file with these bytes holds, as `check_on` does, and behind `good` whether the older file held the same set:
@@ -23,7 +25,7 @@ pub fn check_of_on<W: Write + Drop>(
     old: &[u8],
     writer: &mut W,
 ) -> Status
-    ensures told { (result ≡ Status.Failed) ⊎ IsCheckedOf old.now bytes.now result (W.contents writer.old) (W.contents writer.new) }
+    ensures told { IsCheckedOf old.now bytes.now result (W.contents writer.old) (W.contents writer.new) }
 
     // It is done exactly where both files hold one set.
     ensures done { result ≡ Status.Done → HoldOneSet old.now bytes.now }
@@ -37,7 +39,7 @@ pub fn check_of_on<W: Write + Drop>(
 
 // Says whether the new file holds the old one's set.
 fn compare_on<W: Write + Drop>(alloc: Global, old: &[u8], new: &[u8], writer: &mut W) -> Status
-    ensures told { (result ≡ Status.Failed) ⊎ IsCompared old.now new.now result (W.contents writer.old) (W.contents writer.new) }
+    ensures told { IsCompared old.now new.now result (W.contents writer.old) (W.contents writer.new) ⊎ LacksMemory (W.contents writer.old) (W.contents writer.new) result }
     ensures done { result ≡ Status.Done → HoldOneSet old.now new.now }
     ensures apart { (result ≡ Status.Refused) ⊎ (result ≡ Status.Damaged) → ¬ HoldOneSet old.now new.now }
 {
@@ -48,37 +50,27 @@ fn compare_on<W: Write + Drop>(alloc: Global, old: &[u8], new: &[u8], writer: &m
 }
 
 fn tell_verdict<W: Write + Drop>(writer: &mut W, verdict: Result<(), RenewFlaw>) -> Status
-    ensures { (result ≡ Status.Failed) ⊎ ((result ≡ verdict_status verdict) × Appends (W.contents writer.old) (W.contents writer.new) (verdict_text verdict)) }
+    ensures told { Tells (W.contents writer.old) (W.contents writer.new) (verdict_text verdict) (verdict_status verdict) result }
+    ensures status { (result ≡ Status.Failed) ⊎ (result ≡ verdict_status verdict) }
 {
     match verdict {
         Ok(()) => tell(writer, Status::Done, b"same\n"),
-        Err(flaw) => match write_flaw(writer, flaw) {
-            Ok(()) => Status::Damaged,
-            Err(_) => Status::Failed,
-        },
+        Err(flaw) => status_sent(send_flaw(writer, flaw), Status::Damaged),
     }
 }
 
-fn write_flaw<W: Write + Drop>(writer: &mut W, flaw: RenewFlaw) -> io::Result<()>
-    ensures { OnOk result (Appends (W.contents writer.old) (W.contents writer.new) (verdict_text (Err flaw))) }
+fn send_flaw<W: Write>(writer: &mut W, flaw: RenewFlaw) -> Result<(), SessionFault>
+    ensures { SendTells (W.contents writer.old) (W.contents writer.new) (verdict_text (Err flaw)) result }
 {
-    let numbered = flaw;
-    let number = numbered.number();
     match flaw {
-        RenewFlaw::NotHeld => write_alone(writer, number),
-        RenewFlaw::Missing(slot) | RenewFlaw::Extra(slot) => write_slot(writer, number, slot),
+        RenewFlaw::NotHeld => send_line(writer, b"flaw ", 8),
+        RenewFlaw::Missing(slot) => send_numbers(writer, 9, slot),
+        RenewFlaw::Extra(slot) => send_numbers(writer, 10, slot),
     }
 }
 
-fn write_alone<W: Write + Drop>(writer: &mut W, number: u8) -> io::Result<()>
-    ensures { OnOk result (Appends (W.contents writer.old) (W.contents writer.new) (alone_text number)) }
+fn send_numbers<W: Write>(writer: &mut W, number: u64, slot: Slot) -> Result<(), SessionFault>
+    ensures { SendTells (W.contents writer.old) (W.contents writer.new) (numbers_text number slot) result }
 {
-    writeln!(writer, "flaw {number}")
-}
-
-fn write_slot<W: Write + Drop>(writer: &mut W, number: u8, slot: Slot) -> io::Result<()>
-    ensures { OnOk result (Appends (W.contents writer.old) (W.contents writer.new) (numbers_text number slot)) }
-{
-    let index = slot.index();
-    writeln!(writer, "flaw {number} {index}")
+    send_two(writer, b"flaw ", number, u64::from(slot.index()))
 }

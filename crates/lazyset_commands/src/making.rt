@@ -58,7 +58,7 @@ fn tell_fault<W: Write + Drop>(writer: &mut W, fault: MakeFault) -> Status
 }
 
 // The status after a making that made no file.
-fn status_of(fault: MakeFault) -> Status
+pub(crate) fn status_of(fault: MakeFault) -> Status
     ensures { result ≡ make_status fault }
 {
     match fault {

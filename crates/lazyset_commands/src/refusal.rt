@@ -31,6 +31,21 @@ fn send_twice<W: Write>(writer: &mut W, first: Slot, second: Slot) -> Result<(),
     send_line(writer, b" ", u64::from(second.index()))
 }
 
+/// Sends a line of these words and two numbers.
+pub fn send_two<W: Write>(
+    writer: &mut W,
+    words: &[u8],
+    first: u64,
+    second: u64,
+) -> Result<(), SessionFault>
+    ensures { SendTells (W.contents writer.old) (W.contents writer.new) (words.now ++ decimal first ++ codes " " ++ decimal second ++ 10 ∷ []) result }
+{
+    if let Err(fault) = send_number(writer, words, first) {
+        return Err(fault);
+    }
+    send_line(writer, b" ", second)
+}
+
 /// Sends a line of these words and a number.
 pub fn send_line<W: Write>(writer: &mut W, words: &[u8], number: u64) -> Result<(), SessionFault>
     ensures { SendTells (W.contents writer.old) (W.contents writer.new) (words.now ++ decimal number ++ 10 ∷ []) result }

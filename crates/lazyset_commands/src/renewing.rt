@@ -1,21 +1,24 @@
 //! The command that renews a file into another capacity.
-ghost use Rattle.std.specs.Prelude.{◌≡◌, ◌⊎◌, ◌≤◌, ℕ, List, Result as Answer, Ok, Err, IfErr, IsTrue, OnOk};
-ghost use Rattle.std.specs.Io.KnownBytes.{Appends};
+ghost use Rattle.std.specs.Prelude.{◌≡◌, ◌≤◌, ℕ, List, Result as Answer, Ok, Err, IfErr, IsTrue};
+ghost use Rattle.lz_proto.specs.Steps.{SendTells};
 ghost use Rattle.lz_slot.specs.Bytes.{Holds};
 ghost use Rattle.lz_slot.specs.Sets.{Keys};
 ghost use Rattle.lz_disk.specs.Images.{IsImage};
 ghost use Rattle.lz_disk.specs.Devices.{LeavesOnly};
-ghost use Rattle.lz_vault.specs.Makes.{IsBadCount, IsUnmadeOrHolds, MayBeMade, WritesNothing};
+ghost use Rattle.lz_vault.specs.Makes.{IsBadCount, IsUnmadeOrHolds, MayBeMade, WritesNothing, make_fault_number};
 ghost use Rattle.lz_vault.specs.Renewals.{IsToldFirst, OnlySyncs};
-ghost use Rattle.lazyset_commands.specs.Ends.{make_status, open_status};
-ghost use Rattle.lazyset_commands.specs.Renewals.{IsRenewal, new_number_text, old_number_text, old_text, renewal_status, renewal_text};
+ghost use Rattle.lazyset_commands.specs.Renewals.{IsRenewal, new_number_text, old_text, renewal_status, renewal_text};
+ghost use Rattle.lazyset_commands.specs.Tellings.{Tells};
 
+use crate::refusal::{send_line, send_two};
 use crate::status::Status;
+use crate::telling::status_sent;
+use crate::{making, running};
 use lz_disk::Disk;
+use lz_proto::SessionFault;
 use lz_slot::Slot;
 use lz_vault::{MakeFault, OpenFault, RenewFault, renew};
 use std::alloc::Global;
-use std::io;
 use std::io::Write;
 
 /// Makes a file of format 2 with so many slots that holds the members of the old one, and says so: `renewed M`, `refused old N`
@@ -31,7 +34,7 @@ pub fn renew_on<W: Write + Drop, O: Disk, N: Disk>(
 ) -> Status
     ensures told { (answer : Answer ℕ RenewFault) × IsRenewal (O.device old.old) (O.device old.new) (N.device new.old) (N.device new.new) slots answer
         × IfErr answer (λ fault. IsToldFirst fault → new.new ≡ new.old)
-        × ((result ≡ Status.Failed) ⊎ ((result ≡ renewal_status answer) × Appends (W.contents writer.old) (W.contents writer.new) (renewal_text answer))) }
+        × Tells (W.contents writer.old) (W.contents writer.new) (renewal_text answer) (renewal_status answer) result }
     ensures uncalled { IsBadCount slots → (old.new ≡ old.old) × (new.new ≡ new.old) }
     ensures reads { OnlySyncs (O.device old.old) (O.device old.new) }
     ensures safe { IsTrue (N.device new.old).honest → (MayBeMade (N.device new.old).medium.seen slots → ⊥) → WritesNothing (N.device new.old) (N.device new.new) }
@@ -50,12 +53,9 @@ pub fn renew_on<W: Write + Drop, O: Disk, N: Disk>(
 
 // Says how a renewal went.
 fn tell_answer<W: Write + Drop>(writer: &mut W, answer: &Result<u64, RenewFault>) -> Status
-    ensures { (result ≡ Status.Failed) ⊎ ((result ≡ renewal_status answer.now) × Appends (W.contents writer.old) (W.contents writer.new) (renewal_text answer.now)) }
+    ensures { Tells (W.contents writer.old) (W.contents writer.new) (renewal_text answer.now) (renewal_status answer.now) result }
 {
-    match write_answer(writer, answer) {
-        Ok(()) => status_of(answer),
-        Err(_) => Status::Failed,
-    }
+    status_sent(send_answer(writer, answer), status_of(answer))
 }
 
 // The status of a renewal whose line was written.
@@ -64,87 +64,58 @@ fn status_of(answer: &Result<u64, RenewFault>) -> Status
 {
     match answer {
         Ok(_) => Status::Done,
-        Err(RenewFault::Old(fault)) => status_of_old(*fault),
-        Err(RenewFault::New(fault)) => status_of_new(*fault),
+        Err(RenewFault::Old(fault)) => running::status_of(*fault),
+        Err(RenewFault::New(fault)) => making::status_of(*fault),
         Err(RenewFault::TooSmall(_, _)) => Status::Refused,
     }
 }
 
-fn status_of_old(fault: OpenFault) -> Status
-    ensures { result ≡ open_status fault }
-{
-    match fault {
-        OpenFault::Device | OpenFault::Memory => Status::Failed,
-        _ => Status::Refused,
-    }
-}
-
-fn status_of_new(fault: MakeFault) -> Status
-    ensures { result ≡ make_status fault }
-{
-    match fault {
-        MakeFault::Device => Status::Failed,
-        _ => Status::Refused,
-    }
-}
-
-fn write_answer<W: Write + Drop>(writer: &mut W, answer: &Result<u64, RenewFault>) -> io::Result<()>
-    ensures { OnOk result (Appends (W.contents writer.old) (W.contents writer.new) (renewal_text answer.now)) }
+fn send_answer<W: Write>(
+    writer: &mut W,
+    answer: &Result<u64, RenewFault>,
+) -> Result<(), SessionFault>
+    ensures { SendTells (W.contents writer.old) (W.contents writer.new) (renewal_text answer.now) result }
 {
     match answer {
-        Ok(members) => write_renewed(writer, *members),
-        Err(RenewFault::Old(fault)) => write_old(writer, *fault),
-        Err(RenewFault::New(fault)) => write_new(writer, fault.number()),
-        Err(RenewFault::TooSmall(members, slots)) => write_too_small(writer, *members, *slots),
+        Ok(members) => send_line(writer, b"renewed ", *members),
+        Err(fault) => send_fault(writer, *fault),
     }
 }
 
-fn write_renewed<W: Write + Drop>(writer: &mut W, members: u64) -> io::Result<()>
-    ensures { OnOk result (Appends (W.contents writer.old) (W.contents writer.new) (renewal_text (Ok members))) }
+fn send_fault<W: Write>(writer: &mut W, fault: RenewFault) -> Result<(), SessionFault>
+    ensures { SendTells (W.contents writer.old) (W.contents writer.new) (renewal_text (Err fault)) result }
 {
-    writeln!(writer, "renewed {members}")
+    match fault {
+        RenewFault::Old(fault) => send_old(writer, fault),
+        RenewFault::New(fault) => send_new(writer, fault),
+        RenewFault::TooSmall(members, slots) => send_two(writer, b"refused 9 ", members, slots),
+    }
 }
 
-fn write_old<W: Write + Drop>(writer: &mut W, fault: OpenFault) -> io::Result<()>
-    ensures { OnOk result (Appends (W.contents writer.old) (W.contents writer.new) (old_text fault)) }
+fn send_old<W: Write>(writer: &mut W, fault: OpenFault) -> Result<(), SessionFault>
+    ensures { SendTells (W.contents writer.old) (W.contents writer.new) (old_text fault) result }
 {
     let numbered = fault;
     match fault {
-        OpenFault::BadKey(slot) => write_bad_key(writer, slot),
-        OpenFault::Twice(first, second) => write_twice(writer, first, second),
-        _ => write_old_number(writer, numbered.number()),
+        OpenFault::BadKey(slot) => send_line(writer, b"refused old 5 ", u64::from(slot.index())),
+        OpenFault::Twice(first, second) => send_twice(writer, first, second),
+        _ => send_line(writer, b"refused old ", u64::from(numbered.number())),
     }
 }
 
-fn write_bad_key<W: Write + Drop>(writer: &mut W, slot: Slot) -> io::Result<()>
-    ensures { OnOk result (Appends (W.contents writer.old) (W.contents writer.new) (old_text (OpenFault.BadKey slot))) }
+fn send_twice<W: Write>(writer: &mut W, first: Slot, second: Slot) -> Result<(), SessionFault>
+    ensures { SendTells (W.contents writer.old) (W.contents writer.new) (old_text (OpenFault.Twice first second)) result }
 {
-    let index = slot.index();
-    writeln!(writer, "refused old 5 {index}")
+    send_two(
+        writer,
+        b"refused old 6 ",
+        u64::from(first.index()),
+        u64::from(second.index()),
+    )
 }
 
-fn write_twice<W: Write + Drop>(writer: &mut W, first: Slot, second: Slot) -> io::Result<()>
-    ensures { OnOk result (Appends (W.contents writer.old) (W.contents writer.new) (old_text (OpenFault.Twice first second))) }
+fn send_new<W: Write>(writer: &mut W, fault: MakeFault) -> Result<(), SessionFault>
+    ensures { SendTells (W.contents writer.old) (W.contents writer.new) (new_number_text (make_fault_number fault)) result }
 {
-    let low = first.index();
-    let high = second.index();
-    writeln!(writer, "refused old 6 {low} {high}")
-}
-
-fn write_old_number<W: Write + Drop>(writer: &mut W, number: u8) -> io::Result<()>
-    ensures { OnOk result (Appends (W.contents writer.old) (W.contents writer.new) (old_number_text number)) }
-{
-    writeln!(writer, "refused old {number}")
-}
-
-fn write_new<W: Write + Drop>(writer: &mut W, number: u8) -> io::Result<()>
-    ensures { OnOk result (Appends (W.contents writer.old) (W.contents writer.new) (new_number_text number)) }
-{
-    writeln!(writer, "refused new {number}")
-}
-
-fn write_too_small<W: Write + Drop>(writer: &mut W, members: u64, slots: u64) -> io::Result<()>
-    ensures { OnOk result (Appends (W.contents writer.old) (W.contents writer.new) (renewal_text (Err (RenewFault.TooSmall members slots)))) }
-{
-    writeln!(writer, "refused 9 {members} {slots}")
+    send_line(writer, b"refused new ", u64::from(fault.number()))
 }

@@ -83,7 +83,7 @@ pub(crate) fn refuse<W: Write + Drop>(writer: &mut W, fault: OpenFault) -> Statu
 }
 
 // The status after a refused open.
-fn status_of(fault: OpenFault) -> Status
+pub(crate) fn status_of(fault: OpenFault) -> Status
     ensures { result ≡ open_status fault }
 {
     match fault {
