@@ -2,6 +2,9 @@ pub mod OtherPins
 pub mod NextStep
 pub mod OneWord
 pub mod NoteCondition
+pub mod PlayedTurn
+pub mod JoinedTurn
+pub mod Joining
 pub mod CallStart
-pub mod SilentHold
+pub mod JoinedCall
 pub mod PinSight

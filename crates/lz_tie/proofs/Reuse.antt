@@ -1,1 +1,3 @@
 pub mod SightUpkeep
+pub mod UseUpkeep
+pub mod EventUpkeep

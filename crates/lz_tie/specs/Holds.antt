@@ -1,19 +1,38 @@
 -- The value under the lock, and what one hold promises.
-use Rattle.std.specs.Prelude.{◌≡◌, Bool, true, false, List, [], ◌∷◌, ◌++◌, map, length, Some}
+use Rattle.std.specs.Prelude.{◌≡◌, ◌≢◌, ℕ, ◌%◌, ◌==◌, Bool, true, false, if◌then◌else◌, List, [], ◌∷◌, ◌++◌, map, length, Option, Some, None}
+use Rattle.lz_slot.specs.declared.command.Command.{Command}
+use Rattle.lz_slot.specs.declared.format.Format.{Format}
+use Rattle.lz_slot.specs.Histories.{History}
 use Rattle.lz_disk.specs.Devices.{Device}
-use Rattle.lz_list.specs.Traces.{Trace}
+use Rattle.lz_disk.specs.Images.{Medium}
+use Rattle.lz_vault.specs.Vaults.{NoCall}
+use Rattle.lz_list.specs.declared.publishing.Publishing.{Publishing}
+use Rattle.lz_list.specs.declared.word.Word.{Word}
+use Rattle.lz_list.specs.declared.word.Word.TheVariants.{Pin as pin_at, Halt as halt_word}
+use Rattle.lz_list.specs.Words.{Words, get}
+use Rattle.lz_list.specs.Traces.{Trace, Lawful}
+use Rattle.lz_list.specs.Pinned.{IsQuiet}
+use Rattle.lz_machine.specs.declared.caller.Progress.{Progress}
 use Rattle.lz_machine.specs.declared.event.Event.{Event}
-use Rattle.lz_machine.specs.declared.event.Event.TheVariants.{Reserve, Claim, Check, WriteClose, Release, Sync, Retire}
+use Rattle.lz_machine.specs.declared.event.Event.TheVariants.{WriteKey, WriteOpen}
+use Rattle.lz_machine.specs.declared.event.Outcome.{Outcome}
+use Rattle.lz_machine.specs.declared.event.Outcome.TheVariants.{Done, OldFile, Fault}
 use Rattle.lz_machine.specs.Yards.{Shape, Yard}
+use Rattle.lz_machine.specs.Table.{is_old, line, line_call, line_publishes}
 use Rattle.lz_machine.specs.Calls.{event_at}
 use Rattle.lz_machine.specs.Orders.{Calling, HasPass}
+use Rattle.lz_machine.specs.Runs.{Start, Service, Caller, Up, Reached, caller_at, next_event}
+use Rattle.lz_machine.specs.Laws.{hop_of}
 use Rattle.lz_board.specs.declared.view.Sizes.{Sizes}
 use Rattle.lz_board.specs.declared.view.Note.{Note}
 use Rattle.lz_board.specs.declared.view.Part.{Part}
-use Rattle.lz_board.specs.Notes.{trace_of, Since, load_note, place, shape_of}
+use Rattle.lz_board.specs.Notes.{listed, trace_of, Since, load_note, place, shape_of, pin_after, pin_after_what}
+use Rattle.lz_board.specs.Kept.{is_calling, Knows, PinTold}
+use Rattle.lz_machine.specs.Yards.{IsInside}
 use Rattle.lz_board.specs.Plays.{no_sizes, noted}
 use Rattle.lz_board.specs.Seats.{BoardId}
-use Rattle.lz_tie.specs.NotedRuns.{AreNext, IsTied}
+use Rattle.lz_tie.specs.declared.playing.Exchange.{Exchange}
+use Rattle.lz_tie.specs.NotedRuns.{AreNext, IsTied, seen_event}
 
 -- What the lock keeps, as contracts see it: the pen's notes, the yard, and the disk.
 pub record LockedOver (D : Type 0) : Type 0 where
@@ -40,23 +59,73 @@ pub record HasCall (h : Part) (c : Calling) : Type 0 where
   pub at : place (shape_of h.sizes) (map (load_note h.number) h.loads ++ h.steps) ≡ Some (c.command, c.progress)
   pub pass : HasPass h.sizes.passes (event_at (shape_of h.sizes) c.command c.progress)
 
--- events that publish nothing and move no pin word
-abbrev pub is_silent : Event → Bool
-is_silent Reserve = true
-is_silent (Claim pred curr) = true
-is_silent Check = true
-is_silent WriteClose = true
-is_silent Release = true
-is_silent (Sync s) = true
-is_silent Retire = true
-is_silent e = false
+-- events that prepare a slot for another node
+abbrev pub is_preparing : Event → Bool
+is_preparing (WriteKey k) = true
+is_preparing WriteOpen = true
+is_preparing e = false
+
+-- In a hold, while the pass with this part has joined the pen: the notes, the yard and the disk are as the lock keeps them.
+pub record InHold (b : BoardId) (ns : List Note) (y : Yard) (disk : Device) (h : Part) : Type 0 where
+  pub locked : IsLocked b ns y disk
+  pub knows : Knows b.sizes b.opened ns h
+  pub told : PinTold b.sizes ns h.number h.pin
+
+-- the pass has no call open and is outside, and so may make a call
+pub record IsIdle (z : Sizes) (h : Part) : Type 0 where
+  pub idle : is_calling z h.steps ≡ false
+  pub no_loads : h.loads ≡ []
+  pub outside : h.pin % 2 ≡ 0
+
+-- what a call's Invoke answers on a file of this format
+abbrev pub begins_with : Format → Command → Outcome
+begins_with format c = if is_old format c then OldFile else Done
+
+-- This is the next event of the pass's call, and no load: a pin word that it looks at has the value that the notes give it.
+pub record IsTurn (ns : List Note) (h : Part) (c : Calling) (e : Event) : Type 0 where
+  pub call : HasCall h c
+  pub event : e ≡ seen_event (λ q. pin_after q ns) (event_at (shape_of h.sizes) c.command c.progress)
+  pub load : hop_of e ≡ None
+
+-- The turn was played in a state that a run of the machine reaches, with the trace of these notes: it gave what the event's
+-- line says there, or its device call failed.
+pub record Turned (opened : Trace) (ns : List Note) (p : ℕ) (c : Command) (at : Progress) (e : Event) (o : Outcome) (x : Option Publishing) : Type 0 where
+  pub start : Start
+  pub service : Service
+  pub medium : Medium
+  pub history : History
+  pub reached : Reached start (Up service medium) history (trace_of opened ns)
+  pub caller : Caller
+  pub call : caller_at service.callers p ≡ Some caller
+  pub command : caller.command ≡ c
+  pub progress : caller.progress ≡ at
+  pub next : next_event service.yard caller ≡ e
+  pub done : o ≢ Fault → (o ≡ (line service.yard p e).1) × (listed x ≡ line_publishes service.yard p e)
+  pub failed : o ≡ Fault → (x ≡ None) × (line_call service.yard p e ≢ NoCall)
+
+-- The exchange on the board that goes with a turn's note: of the word that the turn changed, or of the halt word from 2 to 2
+-- where it changed none. There is none where the pass's own pin word was changed.
+abbrev pub IsExchange : Words → Option Word → ℕ → Option Exchange → Type 0
+IsExchange words None before None = ⊥
+IsExchange words None before (Some x) = (x.word ≡ halt_word) × (x.before ≡ 2) × (x.after ≡ 2)
+IsExchange words (Some (pin_at q)) before None = Unit {0}
+IsExchange words (Some (pin_at q)) before (Some x) = ⊥
+IsExchange words (Some w) before None = ⊥
+IsExchange words (Some w) before (Some x) = (x.word ≡ w) × (x.before ≡ before) × (x.after ≡ get words w)
 
 -- One hold of the lock, for a pass: the notes got its loads and then its event, the pass's own steps the same, and it has
 -- seen all that was published until then. What came since it last looked was not published for it.
 pub record Holds (opened : Trace) (was is : List Note) (n : Note) (before after : Part) : Type 0 where
   pub notes : is ≡ noted opened was before n
+  pub sizes : after.sizes ≡ before.sizes
   pub number : after.number ≡ before.number
   pub steps : after.steps ≡ n ∷ (map (load_note before.number) before.loads ++ before.steps)
   pub no_loads : after.loads ≡ []
   pub known : after.known ≡ trace_of opened is
   pub since : Since before.number (trace_of opened was) before.known
+  -- its pin word, and the trace at its last change
+  pub pin : after.pin ≡ pin_after_what before.number before.number n.what before.pin
+  pub begun : after.begun ≡ (if after.pin == before.pin then before.begun else after.known)
+  -- what a walker may rely on
+  pub lawful : Lawful after.sizes.buckets after.sizes.slots after.known
+  pub kept : IsInside after.pin → IsQuiet after.sizes.buckets after.begun after.known

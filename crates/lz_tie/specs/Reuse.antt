@@ -1,5 +1,5 @@
 -- Why a slot may be prepared anew: what the notes show of pin words since the slot stood on a chain last.
-use Rattle.std.specs.Prelude.{◌≡◌, ℕ, ◌<◌, ◌≤◌, List, ◌∷◌, Some}
+use Rattle.std.specs.Prelude.{◌≡◌, ℕ, ◌≤◌, List, ◌∷◌, length, Some}
 use Rattle.lz_slot.specs.Counted.{of_pass}
 use Rattle.lz_allot.specs.declared.sight.Sight.{Sight}
 use Rattle.lz_allot.specs.declared.sight.Sight.TheVariants.{Unseen, Inside, Left}
@@ -23,9 +23,9 @@ SightTold z opened ns q s Left = HasLeft z opened ns q s
 abbrev pub UseTold : Sizes → Trace → List Note → ℕ → Use → Type 0
 UseTold z opened ns s Free = AllLeft z opened ns s
 UseTold z opened ns s Taken = Unit {0}
-UseTold z opened ns s (Limbo sights) = (q : ℕ) → 1 ≤ q → q ≤ z.passes → SightTold z opened ns q s (of_pass sights q Left)
+UseTold z opened ns s (Limbo sights) = (length sights ≡ z.passes) × ((q : ℕ) → 1 ≤ q → q ≤ z.passes → SightTold z opened ns q s (of_pass sights q Left))
 
 -- The part of the lock's invariant by which a hold may prepare the slot in its actor's hand.
 pub record ReuseTold (z : Sizes) (opened : Trace) (ns : List Note) (uses : List Use) (actors : List Actor) : Type 0 where
-  pub each : (s : ℕ) → s < z.slots → UseTold z opened ns s (use_of uses s)
+  pub each : (s : ℕ) → UseTold z opened ns s (use_of uses s)
   pub hands : (a s : ℕ) → (of_pass actors a idle_actor).slot ≡ Some s → AllLeft z opened ns s

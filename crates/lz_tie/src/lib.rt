@@ -5,6 +5,11 @@
 //! run where the pass saw their words.
 #![tactic(auto)]
 
+mod calling;
 mod locked;
+mod named;
+mod playing;
 
-pub use locked::{Locked, Named};
+pub use locked::Locked;
+pub use named::Named;
+pub use playing::Turn;

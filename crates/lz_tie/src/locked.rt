@@ -1,33 +1,24 @@
 //! What lies under the lock.
-ghost use Rattle.std.specs.Prelude.{◌≡◌, ◌≤◌, ◌∷◌, true, None};
+ghost use Rattle.std.specs.Prelude.{◌≡◌, ◌≤◌, ◌∷◌, None, false};
 ghost use Rattle.lz_machine.specs.declared.event.Event.TheVariants.{SeePin};
-ghost use Rattle.lz_board.specs.Plays.{found_note};
 ghost use Rattle.lz_machine.specs.Calls.{event_at};
-ghost use Rattle.lz_board.specs.declared.view.What.TheVariants.{Played};
+ghost use Rattle.lz_machine.specs.Laws.{hop_of};
+ghost use Rattle.lz_board.specs.declared.view.What.TheVariants.{Called, Played};
 ghost use Rattle.lz_board.specs.Notes.{note_by, shape_of};
-ghost use Rattle.lz_board.specs.Seats.{id_of, part, IsOf};
-ghost use Rattle.lz_tie.specs.Holds.{HasCall, Holds, is_silent};
+ghost use Rattle.lz_board.specs.Plays.{found_note};
+ghost use Rattle.lz_board.specs.Seats.{IsOf, id_of, part};
+ghost use Rattle.lz_tie.specs.Holds.{HasCall, Holds, IsIdle, IsTurn, Turned, begins_with, is_preparing};
 
-use lz_board::{Board, Note, Pass, Pen, What};
+use crate::calling::call_joined;
+use crate::named::Named;
+use crate::playing::{Turn, play_joined};
+use lz_board::{Board, Pass, Pen};
 use lz_caller::Caller;
 use lz_disk::Disk;
-use lz_list::Word;
 use lz_machine::{Event, Outcome};
+use lz_slot::Command;
 use lz_yard::Yard;
-use std::marker::{Brand, Model, PhantomData};
-
-/// Names one board, by a value that contracts alone see.
-pub trait Named {
-    ghost use Rattle.lz_board.specs.Seats.{BoardId};
-
-    ghost board: { BoardId };
-}
-
-impl Named for Brand {
-    ghost use Rattle.lz_tie.specs.Holds.{no_board};
-
-    ghost board = { no_board };
-}
+use std::marker::{Model, PhantomData};
 
 /// The yard, with the pen of the board that N names.
 #[derive(Drop)]
@@ -49,64 +40,61 @@ impl<N: Named, D: Disk> Model for Locked<N, D> {
 }
 
 impl<N: Named, D: Disk> Locked<N, D> {
-    /// One hold, for an event that publishes nothing.
-    pub fn play(&mut self, board: &Board, pass: &mut Pass, caller: &Caller, event: Event) -> Outcome
+    /// One hold: plays the next event of the pass's call, which is no load and no look at a pin word.
+    pub fn play(&mut self, board: &Board, pass: &mut Pass, caller: &Caller, event: Event) -> Turn
         requires board { id_of board.now ≡ N.board }
         requires pass { IsOf N.board pass.old }
-        requires call { HasCall (part pass.old) caller.now }
-        requires event { event ≡ event_at (shape_of (part pass.old).sizes) caller.now.command caller.now.progress }
-        requires silent { is_silent event ≡ true }
+        requires turn { IsTurn self.old.notes (part pass.old) caller.now event }
+        requires prepares { is_preparing event ≡ false }
         ensures pass { IsOf N.board pass.new }
-        ensures holds { Holds N.board.opened self.old.notes self.new.notes (note_by (part pass.old).number (Played event result) None) (part pass.old) (part pass.new) }
+        ensures holds { Holds N.board.opened self.old.notes self.new.notes (note_by (part pass.old).number (Played event result.outcome) result.published) (part pass.old) (part pass.new) }
+        ensures turned { Turned N.board.opened self.old.notes (part pass.old).number caller.now.command caller.now.progress event result.outcome result.published }
     {
-        let number = pass.number();
-        let pin = pass.pin();
         board.join(&mut self.pen, pass);
-        self.yard.note_pin(number, pin);
-        let noted = event;
-        let outcome = self.yard.step(number, event);
-        let told = outcome;
-        let note = Note {
-            by: number,
-            what: What::Played(noted, told),
-            published: None,
-        };
-        board.note(&mut self.pen, Word::Halt, 2, 2, &note);
+        let turn = play_joined(board, &mut self.pen, &mut self.yard, pass, caller, event);
         board.cut(&mut self.pen, pass);
-        outcome
+        turn
     }
 
-    /// The hold of a look at the pin word of a pass: the pen loads it first, and tells the yard.
+    /// The hold of a look at the pin word of a pass: the pen finds it, and notes what it found.
     pub fn see(
         &mut self,
         board: &Board,
         pass: &mut Pass,
         caller: &Caller,
         seen: usize,
-    ) -> (u64, Outcome)
+    ) -> (u64, Turn)
         requires board { id_of board.now ≡ N.board }
         requires pass { IsOf N.board pass.old }
         requires call { HasCall (part pass.old) caller.now }
         requires event { event_at (shape_of (part pass.old).sizes) caller.now.command caller.now.progress ≡ SeePin seen 0 }
-        requires seen { (1 ≤ seen) × (seen ≤ N.board.sizes.passes) × (seen ≤ self.old.yard.shape.passes) }
         ensures pass { IsOf N.board pass.new }
-        ensures holds { Holds N.board.opened (found_note seen result.0 ∷ self.old.notes) self.new.notes (note_by (part pass.old).number (Played (SeePin seen result.0) result.1) None) (part pass.old) (part pass.new) }
+        ensures holds { Holds N.board.opened (found_note seen result.0 ∷ self.old.notes) self.new.notes (note_by (part pass.old).number (Played (SeePin seen result.0) result.1.outcome) result.1.published) (part pass.old) (part pass.new) }
+        ensures turned { Turned N.board.opened (found_note seen result.0 ∷ self.old.notes) (part pass.old).number caller.now.command caller.now.progress (SeePin seen result.0) result.1.outcome result.1.published }
     {
-        let number = pass.number();
-        let pin = pass.pin();
         board.join(&mut self.pen, pass);
         let value = board.load_pin(&mut self.pen, seen);
-        self.yard.note_pin(seen, value);
-        self.yard.note_pin(number, pin);
-        let outcome = self.yard.step(number, Event::SeePin(seen, value));
-        let told = outcome;
-        let note = Note {
-            by: number,
-            what: What::Played(Event::SeePin(seen, value), told),
-            published: None,
-        };
-        board.note(&mut self.pen, Word::Halt, 2, 2, &note);
+        let event = Event::SeePin(seen, value);
+        let turn = play_joined(board, &mut self.pen, &mut self.yard, pass, caller, event);
         board.cut(&mut self.pen, pass);
-        (value, outcome)
+        (value, turn)
+    }
+
+    /// The first hold of a call: the pen finds the pass's own pin word, and the call's Invoke is played and noted. The answer
+    /// is that of the Invoke: OldFile for an Add of a key that the file's format can't hold, which is answered next.
+    pub fn call(&mut self, board: &Board, pass: &mut Pass, command: Command) -> Outcome
+        requires board { id_of board.now ≡ N.board }
+        requires pass { IsOf N.board pass.old }
+        requires idle { IsIdle N.board.sizes (part pass.old) }
+        ensures pass { IsOf N.board pass.new }
+        ensures holds { Holds N.board.opened (found_note (part pass.old).number (part pass.old).pin ∷ self.old.notes) self.new.notes (note_by (part pass.old).number (Called command self.old.yard.vault.format) None) (part pass.old) (part pass.new) }
+        ensures outcome { result ≡ begins_with self.old.yard.vault.format command }
+    {
+        board.join(&mut self.pen, pass);
+        let number = pass.number();
+        board.load_pin(&mut self.pen, number);
+        let outcome = call_joined(board, &mut self.pen, &mut self.yard, pass, command);
+        board.cut(&mut self.pen, pass);
+        outcome
     }
 }

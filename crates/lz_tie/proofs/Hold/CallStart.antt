@@ -13,7 +13,8 @@ use Rattle.lz_list.specs.Traces.{Trace}
 use Rattle.lz_machine.specs.declared.caller.Progress.{Progress}
 use Rattle.lz_machine.specs.Yards.{Shape, Yard, idle_actor}
 use Rattle.lz_machine.specs.Table.{pin_of, last_pin, is_old}
-use Rattle.lz_machine.specs.Runs.{State, Up, Down, Service, Caller, Calls, Looks, Point, run, IsRun, MayStep, first_point, caller_at, state_after, looked, invoked, shape_of as shape_in}
+use Rattle.lz_machine.specs.declared.event.Event.TheVariants.{Invoke}
+use Rattle.lz_machine.specs.Runs.{MayPlay, State, Up, Down, Service, Caller, Calls, Looks, Point, run, IsRun, MayStep, first_point, caller_at, state_after, looked, invoked, shape_of as shape_in}
 use Rattle.lz_machine.proofs.Runs.Shape.{run_keeps_shape}
 use Rattle.lz_board.specs.declared.view.What.TheVariants.{Called}
 use Rattle.lz_board.specs.declared.view.Note.{Note}
@@ -141,6 +142,31 @@ module _ (opened : Trace) (ns : List Note) (y : Yard) (honest : Bool) (disk : Me
       either_way : (b : Bool) → is_calling (sizes_of y.shape) (steps_of q ns) ≡ b → (v - pin_after q ns ≡ 0) ⊎ IsNone (caller_at pl.service.callers q)
       either_way true is = let same = told.calling is in inl (omega (arith, same))
       either_way false is = inr (idle_is q low is)
+
+  -- the Invoke of a pass without a call may be played
+  pub may_invoke : (a : ℕ) (c : Command) → 1 ≤ a → a ≤ y.shape.passes → is_calling (sizes_of y.shape) (steps_of a ns) ≡ false → pin_of y a ≡ pin_after a ns → MayPlay y honest disk a (Invoke c)
+  may_invoke a c low high idle pin = record {
+    start = t.start;
+    service = pl.service;
+    medium = pl.disk;
+    history = (run p t.steps).marks;
+    trace = (run p t.steps).trace;
+    reached = record { steps = t.steps; starts = t.starts; runs = t.runs; state = pl.state; marks = refl; trace = refl };
+    next = idle_is a low idle;
+    yard = record {
+      shape = same_yard.shape;
+      heads = same_yard.heads;
+      links = same_yard.links;
+      keys = same_yard.keys;
+      halt = same_yard.halt;
+      pin = pin ∙ sym (pin_is a low high);
+      locks = same_yard.locks;
+      vault = same_yard.vault;
+      uses = same_yard.uses;
+      actors = same_yard.actors;
+    };
+    device = λ h. t.device h ∙ sym medium_is;
+  }
 
   -- A pass without a call, outside, makes one: the notes with it are tied to the yard on which its Invoke was played.
   pub called_tied : (a : ℕ) (c : Command) → 1 ≤ a → a ≤ y.shape.passes → is_calling (sizes_of y.shape) (steps_of a ns) ≡ false → IsTrue (is_outside (pin_after a ns)) → key_of c ≤ largest_key

@@ -35,8 +35,10 @@ use Rattle.lz_board.specs.declared.view.What.TheVariants.{Played}
 use Rattle.lz_board.specs.declared.view.Note.{Note}
 use Rattle.lz_board.specs.declared.view.Load.{Load}
 use Rattle.lz_board.specs.Notes.{listed, trace_of, steps_of, load_note, splice, Quiet, InOrder, AllShown, place, pin_after}
-use Rattle.lz_board.proofs.Upkeep.Splice.{steps_splice, pin_splice}
+use Rattle.lz_board.proofs.Upkeep.Splice.{steps_splice, pin_splice, trace_splice}
 use Rattle.lz_tie.specs.NotedRuns.{TellsTurn, TellsFault, TellsStep, TellsOf, ReadsAs, viewed, AreNext, SameButAllPins, IsTied, seen_event}
+use Rattle.lz_tie.specs.Holds.{Turned}
+use Rattle.lz_tie.proofs.Reading.TraceNotes.{trace_reads}
 use Rattle.lz_tie.proofs.Reading.CallPlaces.{Placed, place_reads}
 use Rattle.lz_tie.proofs.Reading.PinWords.{pin_in_state, pin_reads}
 use Rattle.lz_tie.proofs.Hold.OtherPins.{with_pins, SameLine, line_same}
@@ -212,6 +214,26 @@ module _ (opened : Trace) (ns : List Note) (y : Yard) (dev : Device) (t : IsTied
 
       abbrev noted : List Note
       noted = n ∷ splice opened a hs ns
+
+      trace_all : (run p spl.all).trace ≡ trace_of opened ns
+      trace_all = trace_reads p notes spl.all spl.reads ∙ trace_splice p.trace a hs ns ∙ ap (λ P. trace_of P ns) (sym trace_is)
+
+      -- what it gave, in a state that is reached
+      pub turned : Turned opened ns a command at e o n.published
+      turned = record {
+        start = t.start;
+        service = pl.service;
+        medium = pl.disk;
+        history = (run p spl.all).marks;
+        reached = record { steps = spl.all; starts = t.starts; runs = spl.runs; state = pl.state; marks = refl; trace = trace_all };
+        caller = call.caller;
+        call = call.is;
+        command = call.command;
+        progress = call.progress;
+        next = event_is;
+        done = λ ok. ((played.done ok).answer ∙ pa.outcome, done ok ∙ pa.published);
+        failed = λ bad. (failed bad, λ none. (played.failed bad).asked (pa.call ∙ none));
+      }
 
       notes_are : notes ≡ splice opened a hs ns
       notes_are = ap (λ P. splice P a hs ns) (sym trace_is)

@@ -1,12 +1,14 @@
 -- What the tie before a hold and after it say of the board: the words, and that the store of a hold publishes what its note
 -- says.
-use Rattle.std.proofs.Common.{◌≡◌, ◌≢◌, ℕ, List, ◌∷◌, ◌++◌, sym, ap, ◌∙◌, subst}
-use Rattle.std.specs.Prelude.{Bool, if◌then◌else◌}
-use Rattle.std.proofs.lemmas.Bool.{eq-eqb}
+use Rattle.std.proofs.Common.{◌≡◌, ◌≢◌, ⊎_elim, ℕ, List, ◌∷◌, ◌++◌, sym, ap, ◌∙◌, subst, arith, ne_eqb}
+use Rattle.std.specs.Prelude.{Bool, ◌==◌, length, if◌then◌else◌}
+use Rattle.std.proofs.lemmas.Bool.{eq-eqb, cases_eq}
 use Rattle.lz_disk.specs.Images.{Medium}
 use Rattle.lz_list.specs.declared.word.Word.{Word}
 use Rattle.lz_list.specs.declared.word.Word.TheVariants.{Head, Link, Key, Pin as PinOf, Halt}
 use Rattle.lz_list.specs.Words.{get}
+use Rattle.lz_list.specs.Lists.{IsWord}
+use Rattle.lz_list.proofs.Tables.WordTable.{length-table}
 use Rattle.lz_list.specs.Traces.{Trace, Lawful, word_after}
 use Rattle.lz_machine.specs.Yards.{Shape, Yard}
 use Rattle.lz_machine.specs.Runs.{run, first_point}
@@ -23,6 +25,7 @@ use Rattle.lz_tie.specs.NotedRuns.{SameButAllPins, IsTied}
 use Rattle.lz_tie.specs.Holds.{sizes_of}
 use Rattle.lz_tie.proofs.Reading.TraceNotes.{trace_reads}
 use Rattle.lz_tie.proofs.Splicing.LoadInsertion.{words_shown}
+use Rattle.lz_tie.proofs.Hold.OneWord.{IsWalked}
 
 same_words : (y s : Yard) → SameButAllPins y s → (z : Sizes) (w : Word) → IsShared z w → get y.words w ≡ get s.words w
 same_words y s h z (Head b) shared = ap (λ l. get (record s.words { heads = l }) (Head b)) h.heads
@@ -35,7 +38,7 @@ module _ (opened : Trace) (ns : List Note) (y : Yard) (honest : Bool) (disk : Me
   same_trace : (run (first_point t.start) t.steps).trace ≡ trace_of opened ns
   same_trace = trace_reads (first_point t.start) ns t.steps t.reads ∙ ap (λ P. trace_of P ns) (sym t.begins)
 
-  sound : TraceSound y.shape t.service.yard.words (trace_of opened ns)
+  pub sound : TraceSound y.shape t.service.yard.words (trace_of opened ns)
   sound =
       let up = up_at t.start (run (first_point t.start) t.steps) t.service t.medium (reached_sound t.start t.steps t.starts t.runs) t.state in
       subst (λ (x : Shape × Trace). TraceSound x.0 t.service.yard.words x.1) (λ i. (sym t.yard.shape i, same_trace i)) up.up.sound.trace
@@ -43,6 +46,14 @@ module _ (opened : Trace) (ns : List Note) (y : Yard) (honest : Bool) (disk : Me
   -- the yard's words are those after the notes' trace, which is lawful
   pub tied_words : (w : Word) → IsShared (sizes_of y.shape) w → get y.words w ≡ word_after y.shape.buckets (trace_of opened ns) w
   tied_words w shared = same_words y t.service.yard t.yard (sizes_of y.shape) w shared ∙ words_shown y.shape t.service.yard.words (trace_of opened ns) sound w shared
+
+  -- a word that walkers load is one of the board's
+  pub tied_shared : (w : Word) → IsWalked w → IsWord y.words w → IsShared (sizes_of y.shape) w
+  tied_shared (Head b) walked is = let heads = ap (λ (l : List ℕ). length l) (t.yard.heads ∙ sound.heads) ∙ length-table y.shape.buckets _ in omega (arith, is, heads)
+  tied_shared (Link s) walked is = let links = ap (λ (l : List ℕ). length l) (t.yard.links ∙ sound.links) ∙ length-table y.shape.slots _ in omega (arith, is, links)
+  tied_shared (Key s) walked is = let keys = ap (λ (l : List ℕ). length l) (t.yard.keys ∙ sound.keys) ∙ length-table y.shape.slots _ in omega (arith, is, keys)
+  tied_shared (PinOf p) walked is = absurd walked
+  tied_shared Halt walked is = tt
 
   pub tied_lawful : Lawful y.shape.buckets y.shape.slots (trace_of opened ns)
   tied_lawful = sound.lawful
@@ -70,6 +81,35 @@ noting_writes opened ns y y' honest honest' disk disk' a hs n t t' shape w share
     after : (v : Word) → IsShared (sizes_of y.shape) v → get y'.words v ≡ word_after y.shape.buckets (listed n.published ++ P) v
     after v h = tied_words opened (n ∷ splice opened a hs ns) y' honest' disk' t' v (subst (λ s. IsShared (sizes_of s) v) (sym shape) h)
         ∙ ap (λ (x : Shape × Trace). word_after x.0.buckets x.1 v) (λ i. (shape i, grown i))
+
+-- and where no word differs, an exchange that changes nothing
+pub noting_nothing : (opened : Trace) (ns : List Note) (y y' : Yard) (honest honest' : Bool) (disk disk' : Medium) (a : ℕ) (hs : List Load) (n : Note) (m : ℕ)
+    → IsTied opened ns y honest disk → IsTied opened (n ∷ splice opened a hs ns) y' honest' disk' → y'.shape ≡ y.shape
+    → ((v : Word) → IsShared (sizes_of y.shape) v → get y'.words v ≡ get y.words v)
+    → Writes (sizes_of y.shape) (trace_of opened ns) Halt m m n.published
+noting_nothing opened ns y y' honest honest' disk disk' a hs n m t t' shape others = record {
+  shared = tt;
+  word = either (word_after y.shape.buckets P Halt) ∙ sym (same Halt tt);
+  others = λ v in_range away. same v in_range;
+}
+  where
+    P : Trace
+    P = trace_of opened ns
+
+    grown : trace_of opened (n ∷ splice opened a hs ns) ≡ listed n.published ++ P
+    grown = ap (λ l. listed n.published ++ l) (trace_splice opened a hs ns)
+
+    same : (v : Word) → IsShared (sizes_of y.shape) v → word_after y.shape.buckets (listed n.published ++ P) v ≡ word_after y.shape.buckets P v
+    same v h =
+        ap (λ (x : Shape × Trace). word_after x.0.buckets x.1 v) (λ i. (sym shape i, sym grown i))
+        ∙ sym (tied_words opened (n ∷ splice opened a hs ns) y' honest' disk' t' v (subst (λ s. IsShared (sizes_of s) v) (sym shape) h))
+        ∙ others v h ∙ tied_words opened ns y honest disk t v h
+
+    either : (x : ℕ) → (if x == m then m else x) ≡ x
+    either x = ⊎_elim
+        (λ (is : x ≡ m). ap (λ b. if b then m else x) (eq-eqb x m is) ∙ sym is)
+        (λ away. ap (λ b. if b then m else x) (ne_eqb x m away))
+        (cases_eq x m)
 
 -- and what was noted could be published
 pub noting_lawful : (opened : Trace) (ns : List Note) (y' : Yard) (honest : Bool) (disk : Medium) (a : ℕ) (hs : List Load) (n : Note)

@@ -1,6 +1,7 @@
 -- What a hold stores on the board is what its event publishes.
-use Rattle.std.proofs.Common.{◌≡◌, ◌≢◌, ⊎_elim, ℕ, Bool, true, false, [], ◌∷◌, ◌++◌, refl, sym, ap, ◌∙◌, get_or-set_other, eq-eqb, ne_eqb}
-use Rattle.std.specs.Prelude.{if◌then◌else◌, Option, Some, None}
+use Rattle.std.proofs.Common.{◌≡◌, ◌≢◌, ⊎_elim, ℕ, Bool, true, false, [], ◌∷◌, ◌++◌, refl, sym, ap, ◌∙◌, subst, get_or-set_other, eq-eqb, ne_eqb}
+use mathlib.Core.Bool.{false≢true}
+use Rattle.std.specs.Prelude.{if◌then◌else◌, Option, Some, None, IfSome, is_some}
 use Rattle.std.proofs.lemmas.Bool.{cases_eq}
 use Rattle.lz_slot.proofs.Counted.{of_pass_other}
 use Rattle.lz_vault.specs.declared.vault.Stage.{Stage}
@@ -21,11 +22,8 @@ use Rattle.lz_machine.specs.declared.event.Event.{Event}
 use Rattle.lz_machine.specs.declared.event.Event.TheVariants.{Invoke, Pin, Hop, Reserve, WriteKey, Claim, Check, WriteOpen, Link, WriteClose, Mark, Release, Sync, Settle, Unlink, Retire, SeePin, Answer, Halt}
 use Rattle.lz_machine.specs.Yards.{Shape, Yard, actor_at, cell_at}
 use Rattle.lz_machine.specs.Table.{course, line, line_on, line_publishes, published_on, publishes, settling, line_changes, changed_on, word_changed, words_after, is_sure, slot_of, node_of}
-use Rattle.lz_machine.specs.Sound.{TraceSound}
-use Rattle.lz_board.specs.declared.view.Sizes.{Sizes}
 use Rattle.lz_board.specs.Notes.{listed, own, is_for, IsShared}
-use Rattle.lz_board.specs.Noting.{Writes}
-use Rattle.lz_tie.proofs.Splicing.LoadInsertion.{words_shown}
+use Rattle.lz_tie.proofs.Reading.PinWords.{is_pinning}
 
 -- a word that is no pin word
 abbrev pub IsWalked : Word → Type 0
@@ -63,6 +61,10 @@ redirect_other : (w : Words) (place : Place) (next : ℕ) (v : Word) → v ≢ w
 redirect_other w (Bucket b) next v away = get_other w (Head b) v next away
 redirect_other w (Node s) next v away = get_other w (link_at s) v _ away
 
+place_walked : (place : Place) → IfSome (Some (word_of place)) IsWalked
+place_walked (Bucket b) = tt
+place_walked (Node s) = tt
+
 -- an event that is played changes one word at most: the one that its line names
 pub others_stay : (y : Yard) (actor : Actor) (a : ℕ) (e : Event) (v : Word) → word_changed y actor a e ≢ Some v → get (words_after y actor a e) v ≡ get y.words v
 others_stay y actor a (Invoke c) v away = refl
@@ -88,6 +90,19 @@ others_stay y actor a Retire v away = refl
 others_stay y actor a (SeePin p x) v away = refl
 others_stay y actor a Answer v away = get_other y.words (pin_at a) v _ (λ is. away (ap (λ w. Some w) (sym is)))
 others_stay y actor a Halt v away = get_other y.words halt_word v _ (λ is. away (ap (λ w. Some w) (sym is)))
+
+-- the word of an event that moves no pin word is one that walkers load
+changed_walked : (y : Yard) (actor : Actor) (a : ℕ) (e : Event) → is_pinning e ≡ false → IfSome (word_changed y actor a e) IsWalked
+changed_walked y actor a Pin not_one = absurd (false≢true (sym not_one))
+changed_walked y actor a Link not_one = place_walked actor.pred
+changed_walked y actor a (Settle s) not_one = go (is_sure y s)
+  where
+    go : (b : Bool) → IfSome (if b then Some (link_at s) else None) IsWalked
+    go true = tt
+    go false = tt
+changed_walked y actor a Unlink not_one = place_walked actor.pred
+changed_walked y actor a Answer not_one = absurd (false≢true (sym not_one))
+changed_walked y actor a e not_one = tt
 
 on_others : (y : Yard) (a : ℕ) (e : Event) (v : Word) (c : Course) → changed_on c y (actor_at y a) a e ≢ Some v → get (line_on c y (actor_at y a) a e).0.words v ≡ get y.words v
 on_others y a e v (Refused o) away = refl
@@ -138,24 +153,29 @@ on_own y a q e Plays away = made_own y (actor_at y a) a q e away
 pub line_own : (y : Yard) (a q : ℕ) (e : Event) → q ≢ a → own q (line_publishes y a e) ≡ []
 line_own y a q e away = on_own y a q e (course y a e) away
 
--- Where the words before and after are those after the traces, a store of the one word that differs publishes the difference.
-pub writes_from : (shape : Shape) (words words' : Words) (P P' : Trace) (x : Option Publishing) (w : Word) → TraceSound shape words P → TraceSound shape words' P' → P' ≡ listed x ++ P
-    → IsShared (record { slots = shape.slots; buckets = shape.buckets; passes = shape.passes }) w → ((v : Word) → v ≢ w → IsShared (record { slots = shape.slots; buckets = shape.buckets; passes = shape.passes }) v → get words' v ≡ get words v)
-    → Writes (record { slots = shape.slots; buckets = shape.buckets; passes = shape.passes }) P w (get words w) (get words' w) x
-writes_from shape words words' P P' x w before after is shared others = record {
-  shared = shared;
-  word = ap (λ b. if b then get words' w else word_after shape.buckets P w) (eq-eqb (word_after shape.buckets P w) (get words w) (sym (words_shown shape words P before w shared)))
-      ∙ words_shown shape words' P' after w shared ∙ ap (λ Q. word_after shape.buckets Q w) is;
-  others = λ v in_range away. ap (λ Q. word_after shape.buckets Q v) (sym is) ∙ sym (words_shown shape words' P' after v in_range) ∙ others v away in_range ∙ words_shown shape words P before v in_range;
-}
+on_pin : (y : Yard) (a q : ℕ) (e : Event) (c : Course) → changed_on c y (actor_at y a) a e ≡ Some (pin_at q) → (c ≡ Plays) × (word_changed y (actor_at y a) a e ≡ Some (pin_at q))
+on_pin y a q e (Refused o) is = absurd (false≢true (ap is_some is))
+on_pin y a q e Dies is = absurd (false≢true (ap is_some is))
+on_pin y a q e Plays is = (refl, is)
 
--- and where no word differs, an exchange that changes nothing publishes nothing
-pub writes_nothing : (z : Sizes) (P : Trace) (n : ℕ) → Writes z P halt_word n n None
-writes_nothing z P n = record {
-  shared = tt;
-  word = ⊎_elim
-      (λ (is : word_after z.buckets P halt_word ≡ n). ap (λ b. if b then n else word_after z.buckets P halt_word) (eq-eqb (word_after z.buckets P halt_word) n is) ∙ sym is)
-      (λ away. ap (λ b. if b then n else word_after z.buckets P halt_word) (ne_eqb (word_after z.buckets P halt_word) n away))
-      (cases_eq (word_after z.buckets P halt_word) n);
-  others = λ v in_range away. refl;
-}
+-- an event whose line names a pin word is a Pin or an Answer that is played
+pub pin_changed : (y : Yard) (a q : ℕ) (e : Event) → line_changes y a e ≡ Some (pin_at q) → (is_pinning e ≡ true) × (course y a e ≡ Plays)
+pin_changed y a q e is = let h = on_pin y a q e (course y a e) is in (go (is_pinning e) refl h.1, h.0)
+  where
+    go : (b : Bool) → is_pinning e ≡ b → word_changed y (actor_at y a) a e ≡ Some (pin_at q) → is_pinning e ≡ true
+    go true one is = one
+    go false not_one is = absurd (subst (λ o. IfSome o IsWalked) is (changed_walked y (actor_at y a) a e not_one))
+
+-- and publishes nothing
+pub pinning_silent : (y : Yard) (a : ℕ) (e : Event) → is_pinning e ≡ true → line_publishes y a e ≡ []
+pinning_silent y a e is = on (course y a e)
+  where
+    none : (e : Event) → is_pinning e ≡ true → publishes y (actor_at y a) a e ≡ []
+    none Pin is = refl
+    none Answer is = refl
+    none e is = absurd (false≢true is)
+
+    on : (c : Course) → published_on c y (actor_at y a) a e ≡ []
+    on (Refused o) = refl
+    on Dies = refl
+    on Plays = none e is

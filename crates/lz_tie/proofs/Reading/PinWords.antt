@@ -4,7 +4,7 @@ use Rattle.std.specs.Prelude.{replicate, Option, Some, None, if◌then◌else◌
 use Rattle.std.proofs.lemmas.Bool.{cases_eq}
 use mathlib.Core.Bool.{false≢true}
 use Rattle.lz_slot.specs.Counted.{of_pass, set_of_pass}
-use Rattle.lz_slot.proofs.Counted.{of_pass_same, of_pass_other}
+use Rattle.lz_slot.proofs.Counted.{of_pass_same, of_pass_other, length-set_of_pass}
 use Rattle.lz_disk.specs.Images.{Medium}
 use Rattle.lz_allot.specs.Uses.{is_outside}
 use Rattle.lz_list.specs.declared.place.Place.{Place}
@@ -67,12 +67,20 @@ words_pins y actor a (SeePin p v) not_one = refl
 words_pins y actor a Answer not_one = absurd (false≢true (sym not_one))
 words_pins y actor a Halt not_one = refl
 
+-- there are as many pin words as before
+pub line_count : (y : Yard) (a : ℕ) (e : Event) (c : Course) → length (line_on c y (actor_at y a) a e).0.words.pins ≡ length y.words.pins
+line_count y a e (Refused o) = refl
+line_count y a e Dies = refl
+line_count y a Pin Plays = length-set_of_pass y.words.pins a (get y.words (pin_word a) + 1)
+line_count y a Answer Plays = length-set_of_pass y.words.pins a (get y.words (pin_word a) + 1)
+line_count y a e Plays = ap length (words_pins y (actor_at y a) a e refl)
+
 pub line_pins : (y : Yard) (a : ℕ) (e : Event) → is_pinning e ≡ false → (c : Course) → (line_on c y (actor_at y a) a e).0.words.pins ≡ y.words.pins
 line_pins y a e not_one (Refused o) = refl
 line_pins y a e not_one Dies = refl
 line_pins y a e not_one Plays = words_pins y (actor_at y a) a e not_one
 
-fault_pin : (e : Event) (pin : ℕ) → pin_after_played e Fault pin ≡ pin
+pub fault_pin : (e : Event) (pin : ℕ) → pin_after_played e Fault pin ≡ pin
 fault_pin (Invoke c) pin = refl
 fault_pin Pin pin = refl
 fault_pin (Hop w) pin = refl
@@ -116,9 +124,9 @@ still_pin Halt o pin not_one = refl
 
 module _ (y : Yard) (a : ℕ) (low : 1 ≤ a) (high : a ≤ length y.words.pins) where
   -- what the actor's pin word becomes, and the other words stay
-  record OwnPin (e : Event) : Type 0 where
-    own : pin_of (line y a e).0 a ≡ pin_after_played e (line y a e).1 (pin_of y a)
-    others : (q : ℕ) → q ≢ a → pin_of (line y a e).0 q ≡ pin_of y q
+  pub record OwnPin (e : Event) : Type 0 where
+    pub own : pin_of (line y a e).0 a ≡ pin_after_played e (line y a e).1 (pin_of y a)
+    pub others : (q : ℕ) → q ≢ a → pin_of (line y a e).0 q ≡ pin_of y q
 
   by_course : (e : Event) (c : Course) → course y a e ≡ c → pin_of (line_on c y (actor_at y a) a e).0 a ≡ pin_after_played e (line_on c y (actor_at y a) a e).1 (pin_of y a) → ((q : ℕ) → q ≢ a → pin_of (line_on c y (actor_at y a) a e).0 q ≡ pin_of y q) → OwnPin e
   by_course e c is own others = record {
@@ -175,7 +183,7 @@ module _ (y : Yard) (a : ℕ) (low : 1 ≤ a) (high : a ≤ length y.words.pins)
     others = λ q away. ap (λ ps. of_pass ps q 0) same;
   }
 
-  own_pin : (e : Event) → OwnPin e
+  pub own_pin : (e : Event) → OwnPin e
   own_pin e = go e (is_pinning e) refl
     where
       pinning : (e : Event) → is_pinning e ≡ true → OwnPin e
@@ -202,6 +210,15 @@ module _ (y : Yard) (a : ℕ) (low : 1 ≤ a) (high : a ≤ length y.words.pins)
       go : (e : Event) (b : Bool) → is_pinning e ≡ b → OwnPin e
       go e true is = pinning e is
       go e false is = other_own e is
+
+  -- an event that is played and changes its actor's pin word counts it up
+  pub moved_pin : (e : Event) → is_pinning e ≡ true → course y a e ≡ Plays → pin_after_played e (line y a e).1 (pin_of y a) ≡ suc (pin_of y a)
+  moved_pin e is plays = sym (own_pin e).own ∙ ap (λ (c : Course). pin_of (line_on c y (actor_at y a) a e).0 a) plays ∙ go e is
+    where
+      go : (e : Event) → is_pinning e ≡ true → pin_of (line_on Plays y (actor_at y a) a e).0 a ≡ suc (pin_of y a)
+      go Pin is = more
+      go Answer is = more
+      go e is = absurd (false≢true is)
 
 -- the pin words are as many as the passes, in each state of a run
 module _ (start : Start) (starts : IsStart start) where

@@ -1,6 +1,8 @@
 -- What the notes show of pin words stays shown, and a slot that passes have left stays left while it stands on no chain.
 use Rattle.std.proofs.Common.{◌≡◌, inl, inr, ⊎_elim, ℕ, ◌%◌, ◌≤◌, true, List, [], ◌∷◌, ◌++◌, length, refl, sym, ap, ◌∙◌, subst, true≢false}
 use Rattle.std.specs.Prelude.{Option, Some, None}
+use Rattle.lz_slot.specs.Counted.{of_pass}
+use Rattle.lz_allot.specs.Uses.{Use, Free, Taken, Limbo}
 use Rattle.lz_allot.specs.declared.sight.Sight.{Sight}
 use Rattle.lz_allot.specs.declared.sight.Sight.TheVariants.{Unseen, Inside, Left}
 use Rattle.lz_list.specs.declared.publishing.Publishing.{Publishing}
@@ -13,7 +15,7 @@ use Rattle.lz_board.specs.Notes.{listed, trace_of, load_note, insert, splice, pi
 use Rattle.lz_board.specs.Kept.{shows}
 use Rattle.lz_board.specs.Noting.{Sighting, HasLeft, AllLeft}
 use Rattle.lz_board.proofs.Upkeep.Splice.{at_place, trace_insert, trace_splice, pin_insert}
-use Rattle.lz_tie.specs.Reuse.{SightTold}
+use Rattle.lz_tie.specs.Reuse.{SightTold, UseTold}
 
 -- the sighting x, seen in other notes: as long a trace before it, and the same pin word
 pub record Same (opened : Trace) (ns ms : List Note) (q : ℕ) (x : Sighting opened ns q) : Type 0 where
@@ -67,11 +69,21 @@ noted_same opened p hs ns n q x =
     record { seen = s.seen; trace = s.trace ∙ r.trace; value = s.value ∙ r.value }
 
 -- a slot that stays loose stays away
-pub away_more : (buckets : ℕ) (P0 P : Trace) (x : Option Publishing) (s : ℕ) → IsLoose buckets s (listed x ++ P) → IsAway buckets P0 P s → IsAway buckets P0 (listed x ++ P) s
+away_more : (buckets : ℕ) (P0 P : Trace) (x : Option Publishing) (s : ℕ) → IsLoose buckets s (listed x ++ P) → IsAway buckets P0 P s → IsAway buckets P0 (listed x ++ P) s
 away_more buckets P0 P None s loose away = away
 away_more buckets P0 P (Some e) s loose away = λ b stood. ⊎_elim (λ now. absurd (true≢false (sym now.1 ∙ loose b))) (λ before. away b before) stood
 
-module _ (z : Sizes) (opened : Trace) (p : ℕ) (hs : List Load) (ns : List Note) (n : Note) (s : ℕ) (loose : IsLoose z.buckets s (listed n.published ++ trace_of opened ns)) where
+-- a slot that was on no chain since some trace is on none after what was published now
+abbrev pub StaysAway : ℕ → Trace → Option Publishing → ℕ → Type 0
+StaysAway buckets P x s = (P0 : Trace) → IsAway buckets P0 P s → IsAway buckets P0 (listed x ++ P) s
+
+pub silent_stays : (buckets : ℕ) (P : Trace) (x : Option Publishing) (s : ℕ) → x ≡ None → StaysAway buckets P x s
+silent_stays buckets P x s none P0 away = subst (λ y. IsAway buckets P0 (listed y ++ P) s) (sym none) away
+
+pub loose_stays : (buckets : ℕ) (P : Trace) (x : Option Publishing) (s : ℕ) → IsLoose buckets s (listed x ++ P) → StaysAway buckets P x s
+loose_stays buckets P x s loose P0 away = away_more buckets P0 P x s loose away
+
+module _ (z : Sizes) (opened : Trace) (p : ℕ) (hs : List Load) (ns : List Note) (n : Note) (s : ℕ) (stays : StaysAway z.buckets (trace_of opened ns) n.published s) where
   abbrev now : List Note
   now = n ∷ splice opened p hs ns
 
@@ -79,7 +91,7 @@ module _ (z : Sizes) (opened : Trace) (p : ℕ) (hs : List Load) (ns : List Note
   trace_now = ap (λ l. listed n.published ++ l) (trace_splice opened p hs ns)
 
   away_now : (P0 P0' : Trace) → P0' ≡ P0 → IsAway z.buckets P0 (trace_of opened ns) s → IsAway z.buckets P0' (trace_of opened now) s
-  away_now P0 P0' same away = subst (λ (x : Trace × Trace). IsAway z.buckets x.0 x.1 s) (λ i. (sym same i, sym trace_now i)) (away_more z.buckets P0 (trace_of opened ns) n.published s loose away)
+  away_now P0 P0' same away = subst (λ (x : Trace × Trace). IsAway z.buckets x.0 x.1 s) (λ i. (sym same i, sym trace_now i)) (stays P0 away)
 
   pub left_more : (q : ℕ) → HasLeft z opened ns q s → HasLeft z opened now q s
   left_more q l =
@@ -103,3 +115,9 @@ module _ (z : Sizes) (opened : Trace) (p : ℕ) (hs : List Load) (ns : List Note
       let x = noted_same opened p hs ns n q told.0 in
       (x.seen, x.value ∙ told.1, away_now (trace_of opened told.0.rest) (trace_of opened x.seen.rest) x.trace told.2)
   sight_more q Left told = left_more q told
+
+  -- a use that the notes tell is told by the longer notes
+  pub use_more : (u : Use) → UseTold z opened ns s u → UseTold z opened now s u
+  use_more Free told = all_left_more told
+  use_more Taken told = tt
+  use_more (Limbo sights) told = (told.0, λ q one most. sight_more q (of_pass sights q Left) (told.1 q one most))

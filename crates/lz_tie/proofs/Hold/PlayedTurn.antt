@@ -1,0 +1,353 @@
+-- One turn of a pass that has joined the pen: what it asks of the yard, what its note tells, and what it leaves.
+use Rattle.std.proofs.Common.{◌≡◌, ◌≢◌, ◌⊎◌, inl, inr, ⊎_elim, ℕ, suc, ◌≤◌, ◌<◌, Bool, true, false, List, [], ◌∷◌, ◌++◌, map, length, refl, sym, ap, ◌∙◌, subst, arith, eq-eqb, ne_eqb}
+use mathlib.Core.Bool.{false≢true}
+use Rattle.std.specs.Prelude.{is_some, if◌then◌else◌, Option, Some, None, IfSome, IsTrue, option_to_list}
+use Rattle.lz_slot.specs.declared.command.Command.{Command}
+use Rattle.lz_slot.specs.Counted.{of_pass}
+use Rattle.lz_slot.proofs.Counted.{of_pass_same, length-set_of_pass}
+use Rattle.lz_disk.specs.Devices.{Device}
+use Rattle.lz_list.specs.declared.publishing.Publishing.{Publishing}
+use Rattle.lz_list.specs.declared.word.Word.{Word}
+use Rattle.lz_list.specs.declared.word.Word.TheVariants.{Head as head_at, Link as link_at, Key as key_at, Pin as pin_at, Halt as halt_word}
+use Rattle.lz_list.specs.Words.{get, set}
+use Rattle.lz_list.specs.Lists.{IsWord}
+use Rattle.lz_list.specs.Traces.{Trace, Lawful}
+use Rattle.lz_list.specs.Pinned.{IsQuiet}
+use Rattle.lz_machine.specs.declared.event.Event.{Event}
+use Rattle.lz_machine.specs.declared.event.Event.TheVariants.{Pin, Answer}
+use Rattle.lz_machine.specs.declared.event.Outcome.{Outcome}
+use Rattle.lz_machine.specs.declared.event.Outcome.TheVariants.{Fault}
+use Rattle.lz_machine.specs.declared.course.Course.TheVariants.{Plays}
+use Rattle.lz_machine.specs.declared.caller.Progress.{Progress}
+use Rattle.lz_machine.specs.Yards.{Shape, Yard, actor_at}
+use Rattle.lz_machine.specs.Table.{course, line, line_changes, line_publishes, pin_of, last_pin}
+use Rattle.lz_machine.specs.Calls.{event_at}
+use Rattle.lz_machine.specs.Orders.{Calling, HasPass}
+use Rattle.lz_machine.specs.Ready.{IsEventOf, IsReadyFor}
+use Rattle.lz_machine.specs.Runs.{MayPlay, with_words}
+use Rattle.lz_machine.proofs.Runs.EventRange.{is_event}
+use Rattle.lz_machine.proofs.Theorem.Readiness.{is_invoke, ready, plays_needs}
+use Rattle.lz_yard.specs.declared.told.Told.{Told}
+use Rattle.lz_yard.specs.Steps.{Played as PlayedOver, value_of, nothing_told}
+use Rattle.lz_yard.proofs.Events.KeptFit.{fault_or_not}
+use Rattle.lz_board.specs.declared.view.Sizes.{Sizes}
+use Rattle.lz_board.specs.declared.view.What.TheVariants.{Played}
+use Rattle.lz_board.specs.declared.view.Note.{Note}
+use Rattle.lz_board.specs.declared.view.Load.{Load}
+use Rattle.lz_board.specs.declared.view.Part.{Part}
+use Rattle.lz_board.specs.Notes.{note_by, listed, own, trace_of, steps_of, load_note, AllShown, place, pin_after, pin_after_what, pin_after_played, shape_of}
+use Rattle.lz_board.specs.Kept.{is_calling}
+use Rattle.lz_machine.specs.Yards.{IsInside}
+use Rattle.lz_board.specs.Noting.{MayNote, MayPrepare, KeepsPin, MovesPin, Writes}
+use Rattle.lz_board.specs.Plays.{noted, noted_part, moved_part}
+use Rattle.lz_board.specs.Seats.{BoardId}
+use Rattle.lz_board.proofs.Upkeep.PartUpkeep.{trace_noted, knows_noted, knows_moved, told_own}
+use Rattle.lz_tie.specs.declared.playing.Exchange.{Exchange}
+use Rattle.lz_tie.specs.NotedRuns.{IsHopAt, AreNext, SameButAllPins, IsTied, seen_event}
+use Rattle.lz_tie.specs.Holds.{sizes_of, IsLocked, HasCall, InHold, IsTurn, Turned, IsExchange, Holds}
+use Rattle.lz_tie.proofs.Reading.PinWords.{is_pinning, line_count, own_pin, moved_pin, fault_pin}
+use Rattle.lz_tie.proofs.Hold.OneWord.{IsWalked, line_others, line_own, pin_changed, pinning_silent}
+use Rattle.lz_tie.proofs.Hold.NoteCondition.{tied_shared, noting_writes, noting_nothing, noting_lawful}
+use Rattle.lz_tie.proofs.Hold.NextStep as holding
+
+-- what was told of a publishing, as a list
+listed_is : (x : Option Publishing) → listed x ≡ option_to_list x
+listed_is None = refl
+listed_is (Some x) = refl
+
+listed_none : (x : Option Publishing) → listed x ≡ [] → x ≡ None
+listed_none None is = refl
+listed_none (Some x) is = absurd (false≢true (sym (ap is_cons is)))
+  where
+    is_cons : List Publishing → Bool
+    is_cons [] = false
+    is_cons (x ∷ xs) = true
+
+-- a yard that is the same but for pin words is tied too
+pub alike_tied : (opened : Trace) (ns : List Note) (y z : Yard) (dev : Device) → IsTied opened ns y dev.honest dev.medium → SameButAllPins z y → IsTied opened ns z dev.honest dev.medium
+alike_tied opened ns y z dev t same = record {
+  start = t.start;
+  steps = t.steps;
+  service = t.service;
+  medium = t.medium;
+  starts = t.starts;
+  runs = t.runs;
+  reads = t.reads;
+  begins = t.begins;
+  state = t.state;
+  yard = record {
+    shape = same.shape ∙ t.yard.shape;
+    heads = same.heads ∙ t.yard.heads;
+    links = same.links ∙ t.yard.links;
+    keys = same.keys ∙ t.yard.keys;
+    halt = same.halt ∙ t.yard.halt;
+    locks = same.locks ∙ t.yard.locks;
+    vault = same.vault ∙ t.yard.vault;
+    uses = same.uses ∙ t.yard.uses;
+    actors = same.actors ∙ t.yard.actors;
+  };
+  device = t.device;
+}
+
+module _ (b : BoardId) (ns : List Note) (y : Yard) (dev : Device) (h : Part) (hold : InHold b ns y dev h) (c : Calling) (e : Event) (turn : IsTurn ns h c e) where
+  abbrev a : ℕ
+  a = h.number
+
+  -- the yard that was told of the pass's pin word
+  abbrev z : Yard
+  z = with_words y (set y.words (pin_at a) h.pin)
+
+  shape_is : shape_of h.sizes ≡ y.shape
+  shape_is = ap shape_of (hold.knows.sized ∙ hold.locked.sizes)
+
+  -- where a call's loads are next, it was open before them
+  open_before : (hs : List Load) (steps : List Note) → AreNext (shape_of h.sizes) a hs steps → place (shape_of h.sizes) (map (load_note a) hs ++ steps) ≡ Some (c.command, c.progress) → is_some (place (shape_of h.sizes) steps) ≡ true
+  open_before [] steps next at = ap is_some at
+  open_before (g ∷ hs) steps next at = deeper g hs next
+    where
+      hop_is : (g : Load) (q : Option (Command × Progress)) → IsHopAt (shape_of h.sizes) g q → is_some q ≡ true
+      hop_is g None hop = absurd hop
+      hop_is g (Some call) hop = refl
+
+      deeper : (g : Load) (hs : List Load) → AreNext (shape_of h.sizes) a (g ∷ hs) steps → is_some (place (shape_of h.sizes) steps) ≡ true
+      deeper g [] next = hop_is g (place (shape_of h.sizes) steps) next.0
+      deeper g (f ∷ hs) next = deeper f hs next.1
+
+  pin_now : pin_after a ns ≡ h.pin
+  pin_now = hold.told.calling (subst (λ (x : Sizes × List Note). is_calling x.0 x.1 ≡ true) (λ i. (hold.knows.sized i, sym hold.knows.noted i)) (open_before h.loads h.steps turn.call.next turn.call.at))
+
+  alike : SameButAllPins z y
+  alike = record { shape = refl; heads = refl; links = refl; keys = refl; halt = refl; locks = refl; vault = refl; uses = refl; actors = refl }
+
+  -- the pass is one of the yard's
+  pub in_range : (1 ≤ a) × (a ≤ y.shape.passes)
+  in_range = let high = hold.knows.numbered.1 in let passes = ap (λ (s : Sizes). s.passes) hold.locked.sizes in (hold.knows.numbered.0, omega (arith, high, passes))
+
+  pin_same : pin_of z a ≡ h.pin
+  pin_same = let high = in_range.1 in let pins = hold.locked.pins in of_pass_same y.words.pins a h.pin 0 in_range.0 (omega (arith, high, pins))
+
+  counted : length z.words.pins ≡ y.shape.passes
+  counted = length-set_of_pass y.words.pins a h.pin ∙ hold.locked.pins
+
+  shown : AllShown (sizes_of y.shape) (trace_of b.opened ns) h.loads
+  shown = subst (λ s. AllShown s (trace_of b.opened ns) h.loads) hold.locked.sizes hold.knows.shown
+
+  next : AreNext y.shape a h.loads (steps_of a ns)
+  next = subst (λ (x : Shape × List Note). AreNext x.0 a h.loads x.1) (λ i. (shape_is i, sym hold.knows.noted i)) turn.call.next
+
+  place_is : place y.shape (map (load_note a) h.loads ++ steps_of a ns) ≡ Some (c.command, c.progress)
+  place_is = subst (λ (x : Shape × List Note). place x.0 (map (load_note a) h.loads ++ x.1) ≡ Some (c.command, c.progress)) (λ i. (shape_is i, sym hold.knows.noted i)) turn.call.at
+
+  event_is : e ≡ seen_event (λ q. pin_after q ns) (event_at y.shape c.command c.progress)
+  event_is = turn.event ∙ ap (λ s. seen_event (λ q. pin_after q ns) (event_at s c.command c.progress)) shape_is
+
+  pass_is : HasPass y.shape.passes (event_at y.shape c.command c.progress)
+  pass_is = subst (λ s. HasPass s.passes (event_at s c.command c.progress)) shape_is turn.call.pass
+
+  -- so the yard plays the event
+  pub plays : MayPlay z dev.honest dev.medium a e
+  plays = holding.may_play b.opened ns y dev hold.locked.tied a in_range.0 h.base (length h.known) h.loads hold.knows.quiet hold.knows.least hold.knows.order shown next c.command c.progress place_is z alike (pin_same ∙ sym pin_now) e event_is pass_is
+
+  pub asks : IsEventOf z e
+  asks = is_event z dev.honest dev.medium a e plays
+
+  z_tied : IsTied b.opened ns z dev.honest dev.medium
+  z_tied = alike_tied b.opened ns y z dev hold.locked.tied alike
+
+  -- What it gave.
+  module _ (o : Outcome) (z' : Yard) (told : Told) (dev' : Device) (played : PlayedOver z a e o z' told dev dev') (shape : z'.shape ≡ z.shape) where
+    abbrev n : Note
+    n = note_by a (Played e o) told.published
+
+    pub done : o ≢ Fault → listed told.published ≡ line_publishes z a e
+    done ok = listed_is told.published ∙ (played.done ok).published
+
+    pub failed : o ≡ Fault → told.published ≡ None
+    failed bad = ap (λ (t : Told). t.published) (played.failed bad).nothing
+
+    tied : IsTied b.opened (noted b.opened ns h n) z' dev'.honest dev'.medium
+    tied = holding.holds_on b.opened ns y dev hold.locked.tied a in_range.0 h.base (length h.known) h.loads hold.knows.quiet hold.knows.least hold.knows.order shown next c.command c.progress place_is z alike (pin_same ∙ sym pin_now) e event_is pass_is
+        turn.load o z' told dev' played n refl refl done failed
+
+    pub turned : Turned b.opened ns a c.command c.progress e o told.published
+    turned = holding.turned b.opened ns y dev hold.locked.tied a in_range.0 h.base (length h.known) h.loads hold.knows.quiet hold.knows.least hold.knows.order shown next c.command c.progress place_is z alike (pin_same ∙ sym pin_now) e event_is pass_is
+        turn.load o z' told dev' played n refl refl done failed
+
+    -- a word that wasn't told of is as it was
+    stays : (v : Word) → told.changed ≢ Some v → get z'.words v ≡ get z.words v
+    stays v away = ⊎_elim
+        (λ bad. ap (λ (q : Yard). get q.words v) (played.failed bad).yard)
+        (λ ok. ap (λ (q : Yard). get q.words v) (played.done ok).yard ∙ line_others z a e v (λ is. away ((played.done ok).word ∙ is)))
+        (fault_or_not o)
+
+    -- where a word was told of, the event was done
+    was_done : (v : Word) → told.changed ≡ Some v → o ≢ Fault
+    was_done v is bad = absurd (false≢true (sym (ap (λ (t : Told). is_some t.changed) (played.failed bad).nothing) ∙ ap is_some is))
+
+    pins_counted : length z'.words.pins ≡ y.shape.passes
+    pins_counted = ⊎_elim
+        (λ bad. ap (λ (q : Yard). length q.words.pins) (played.failed bad).yard ∙ counted)
+        (λ ok. ap (λ (q : Yard). length q.words.pins) (played.done ok).yard ∙ line_count z a e (course z a e) ∙ counted)
+        (fault_or_not o)
+
+    locked : IsLocked b (noted b.opened ns h n) z' dev'
+    locked = record { sizes = hold.locked.sizes ∙ ap sizes_of (sym shape); pins = pins_counted ∙ ap (λ (s : Shape). s.passes) (sym shape); tied = tied }
+
+    lawful : Lawful b.sizes.buckets b.sizes.slots (listed told.published ++ trace_of b.opened ns)
+    lawful = subst (λ (s : Sizes). Lawful s.buckets s.slots (listed told.published ++ trace_of b.opened ns)) (ap sizes_of shape ∙ sym hold.locked.sizes) (noting_lawful b.opened ns z' dev'.honest dev'.medium a h.loads n tied)
+
+    made : (q : ℕ) → q ≢ a → own q (listed told.published) ≡ []
+    made q away = ⊎_elim
+        (λ bad. ap (λ x. own q (listed x)) (failed bad))
+        (λ ok. ap (own q) (done ok) ∙ line_own z a q e away)
+        (fault_or_not o)
+
+    pub may_note : MayPrepare b.sizes b.opened ns told.published → MayNote b.sizes b.opened ns h n
+    may_note prepares = record { by = refl; step = tt; pin = pin_now; lawful = lawful; made = made; prepares = prepares }
+
+    -- what the own pin word becomes, as the note tells
+    own_is : o ≢ Fault → pin_of z' a ≡ pin_after_played e o h.pin
+    own_is ok =
+        let high = in_range.1 in
+        ap (λ (q : Yard). pin_of q a) (played.done ok).yard ∙ (own_pin z a in_range.0 (omega (arith, high, counted)) e).own ∙ (λ i. pin_after_played e (sym (played.done ok).answer i) (pin_same i))
+
+    by_itself : (m : ℕ) → pin_after_played e o h.pin ≡ m → pin_after_what a a n.what h.pin ≡ m
+    by_itself m is = ap (λ t. if t then pin_after_played e o h.pin else h.pin) (eq-eqb a a refl) ∙ is
+
+    -- The exchange is of a word that walkers load.
+    module _ (x : Exchange) (is : IsExchange z'.words told.changed told.before (Some x)) where
+      no_pin : told.changed ≢ Some (pin_at a)
+      no_pin at = subst (λ w. IsExchange z'.words w told.before (Some x)) at is
+
+      pub keeps : KeepsPin h n
+      keeps = by_itself h.pin (⊎_elim
+          (λ bad. ap (λ r. pin_after_played e r h.pin) bad ∙ fault_pin e h.pin)
+          (λ ok. sym (own_is ok) ∙ stays (pin_at a) no_pin ∙ pin_same)
+          (fault_or_not o))
+
+      as_sizes : Writes (sizes_of z.shape) (trace_of b.opened ns) x.word x.before x.after told.published → Writes b.sizes (trace_of b.opened ns) x.word x.before x.after told.published
+      as_sizes w = subst (λ (s : Sizes). Writes s (trace_of b.opened ns) x.word x.before x.after told.published) (sym hold.locked.sizes) w
+
+      of_word : (w : Word) → IsWalked w → told.changed ≡ Some w → (x.word ≡ w) × (x.before ≡ told.before) × (x.after ≡ get z'.words w) → Writes (sizes_of z.shape) (trace_of b.opened ns) x.word x.before x.after told.published
+      of_word w walked at fields =
+          let d = played.done (was_done w at) in
+          let before : told.before ≡ get z.words w = d.was ∙ ap (value_of z.words) (sym d.word ∙ at) in
+          let there = subst (λ q. IfSome q (IsWord z.words)) at d.there in
+          subst (λ (q : Word × ℕ × ℕ). Writes (sizes_of z.shape) (trace_of b.opened ns) q.0 q.1 q.2 told.published) (λ i. (sym fields.0 i, sym (fields.1 ∙ before) i, sym fields.2 i))
+          (noting_writes b.opened ns z z' dev.honest dev'.honest dev.medium dev'.medium a h.loads n z_tied tied shape w (tied_shared b.opened ns z dev.honest dev.medium z_tied w walked there)
+          (λ v away shared. stays v (λ here. away (some_same v w (sym here ∙ at)))))
+        where
+          or_else : Word → Option Word → Word
+          or_else v None = v
+          or_else v (Some w) = w
+
+          some_same : (v w : Word) → Some v ≡ Some w → v ≡ w
+          some_same v w same = ap (λ (q : Option Word). or_else v q) same
+
+      of_none : told.changed ≡ None → (x.word ≡ halt_word) × (x.before ≡ 2) × (x.after ≡ 2) → Writes (sizes_of z.shape) (trace_of b.opened ns) x.word x.before x.after told.published
+      of_none at fields =
+          subst (λ (q : Word × ℕ × ℕ). Writes (sizes_of z.shape) (trace_of b.opened ns) q.0 q.1 q.2 told.published) (λ i. (sym fields.0 i, sym fields.1 i, sym fields.2 i))
+          (noting_nothing b.opened ns z z' dev.honest dev'.honest dev.medium dev'.medium a h.loads n 2 z_tied tied shape (λ v shared. stays v (λ here. absurd (false≢true (ap is_some (sym at ∙ here))))))
+
+      pub writes : Writes b.sizes (trace_of b.opened ns) x.word x.before x.after told.published
+      writes = as_sizes (go told.changed refl is)
+        where
+          go : (w : Option Word) → told.changed ≡ w → IsExchange z'.words w told.before (Some x) → Writes (sizes_of z.shape) (trace_of b.opened ns) x.word x.before x.after told.published
+          go None at f = of_none at f
+          go (Some (pin_at q)) at f = absurd f
+          go (Some (head_at i)) at f = of_word (head_at i) tt at f
+          go (Some (link_at i)) at f = of_word (link_at i) tt at f
+          go (Some (key_at i)) at f = of_word (key_at i) tt at f
+          go (Some halt_word) at f = of_word halt_word tt at f
+
+      module _ (prepares : MayPrepare b.sizes b.opened ns told.published) where
+        pub hold_noted : InHold b (noted b.opened ns h n) z' dev' (noted_part b.opened ns n h)
+        hold_noted = record {
+          locked = locked;
+          knows = knows_noted b.sizes b.opened ns h n hold.knows (may_note prepares) keeps;
+          told = told_own b.sizes b.opened ns h n hold.knows (may_note prepares) h.pin keeps hold.told.worn;
+        }
+
+        pub holds_noted : Holds b.opened ns (noted b.opened ns h n) n h (noted_part b.opened ns n h)
+        holds_noted = record {
+          notes = refl;
+          sizes = refl;
+          number = refl;
+          steps = refl;
+          no_loads = refl;
+          known = refl;
+          since = hold.knows.since;
+          pin = sym keeps;
+          begun = ap (λ t. if t then h.begun else trace_of b.opened (noted b.opened ns h n)) (sym (eq-eqb h.pin h.pin refl));
+          lawful = subst (λ (q : Sizes × Trace). Lawful q.0.buckets q.0.slots q.1) (λ i. (sym hold.knows.sized i, sym (trace_noted b.sizes b.opened ns h n hold.knows (may_note prepares)) i)) lawful;
+          kept = λ inside. subst (λ (s : Sizes). IsQuiet s.buckets h.begun (trace_of b.opened (noted b.opened ns h n))) (sym hold.knows.sized) (hold_noted.knows.kept inside);
+        }
+
+    -- The pass's own pin word was changed.
+    module _ (is : IsExchange z'.words told.changed told.before None) where
+      own_word : (w : Option Word) → IsExchange z'.words w told.before None → (q : ℕ) × (w ≡ Some (pin_at q))
+      own_word None f = absurd f
+      own_word (Some (pin_at q)) f = (q, refl)
+      own_word (Some (head_at i)) f = absurd f
+      own_word (Some (link_at i)) f = absurd f
+      own_word (Some (key_at i)) f = absurd f
+      own_word (Some halt_word) f = absurd f
+
+      its_word : (q : ℕ) × (told.changed ≡ Some (pin_at q))
+      its_word = own_word told.changed is
+
+      ok : o ≢ Fault
+      ok = was_done (pin_at its_word.0) its_word.1
+
+      pins : (is_pinning e ≡ true) × (course z a e ≡ Plays)
+      pins = pin_changed z a its_word.0 e (sym (played.done ok).word ∙ its_word.1)
+
+      none : told.published ≡ None
+      none = listed_none told.published (done ok ∙ pinning_silent z a e pins.0)
+
+      below : h.pin < last_pin
+      below = subst (λ m. m < last_pin) pin_same (go e pins.0 (ready z dev.honest dev.medium a e plays (λ invokes. absurd (not_both e pins.0 invokes)) asks (plays_needs z a e pins.1) pins.1).calls)
+        where
+          go : (e : Event) → is_pinning e ≡ true → IsReadyFor z (actor_at z a) a e → pin_of z a < last_pin
+          go Pin pinning calls = calls
+          go Answer pinning calls = calls.0
+          go e pinning calls = absurd (false≢true pinning)
+
+          not_both : (e : Event) → is_pinning e ≡ true → is_invoke e ≡ true → ⊥
+          not_both Pin pinning invokes = false≢true invokes
+          not_both Answer pinning invokes = false≢true invokes
+          not_both e pinning invokes = false≢true pinning
+
+      pub moves : MovesPin h n
+      moves =
+          let high = in_range.1 in
+          let more = moved_pin z a in_range.0 (omega (arith, high, counted)) e pins.0 pins.1 in
+          (by_itself (suc h.pin) ((λ i. pin_after_played e ((played.done ok).answer i) (sym pin_same i)) ∙ more ∙ ap suc pin_same), below, none)
+
+      prepares : MayPrepare b.sizes b.opened ns told.published
+      prepares = subst (MayPrepare b.sizes b.opened ns) (sym none) tt
+
+      pub may_shift : MayNote b.sizes b.opened ns h n
+      may_shift = may_note prepares
+
+      pub hold_moved : InHold b (noted b.opened ns h n) z' dev' (moved_part b.opened ns n h)
+      hold_moved = let worn = below in record {
+        locked = locked;
+        knows = knows_moved b.sizes b.opened ns h n hold.knows may_shift;
+        told = told_own b.sizes b.opened ns h n hold.knows may_shift (suc h.pin) moves.0 worn;
+      }
+
+      pub holds_moved : Holds b.opened ns (noted b.opened ns h n) n h (moved_part b.opened ns n h)
+      holds_moved = record {
+        notes = refl;
+        sizes = refl;
+        number = refl;
+        steps = refl;
+        no_loads = refl;
+        known = refl;
+        since = hold.knows.since;
+        pin = sym moves.0;
+        begun = ap (λ t. if t then h.begun else trace_of b.opened (noted b.opened ns h n)) (sym (ne_eqb (suc h.pin) h.pin (λ same. absurd (omega (arith, same)))));
+        lawful = subst (λ (q : Sizes × Trace). Lawful q.0.buckets q.0.slots q.1) (λ i. (sym hold.knows.sized i, sym (trace_noted b.sizes b.opened ns h n hold.knows may_shift) i)) lawful;
+        kept = λ inside. subst (λ (s : Sizes). IsQuiet s.buckets (trace_of b.opened (noted b.opened ns h n)) (trace_of b.opened (noted b.opened ns h n))) (sym hold.knows.sized) (hold_moved.knows.kept inside);
+      }

@@ -1,0 +1,30 @@
+use Rattle.std.proofs.Common.{◌≡◌, ℕ, ◌≤◌, ◌∷◌, sym, ap, ◌∙◌, subst}
+use Rattle.lz_board.specs.declared.view.Part.{Part}
+use Rattle.lz_board.specs.declared.view.Sizes.{Sizes}
+use Rattle.lz_board.specs.Notes.{trace_of}
+use Rattle.lz_board.specs.Plays.{knowing, found_note}
+use Rattle.lz_board.specs.Seats.{BoardId, carried, id_of, notes, part}
+use Rattle.lz_tie.specs.Holds.{IsIdle}
+use Rattle.lz_tie.proofs.Hold.Joining.{joined}
+use Rattle.lz_tie.proofs.Hold.PinSight.{found, own_found}
+use Rattle.lz_tie.proofs.locked.Locked.call.Goals as goal
+
+pub call_joined-outcome-requires-clause-hold : goal.call_joined-outcome-requires-clause-hold
+call_joined-outcome-requires-clause-hold g c =
+    let board = id_of c.args.board.now in
+    let hold = joined g.N.Named.board board c.requires.board (notes c.self.inside.pen) (notes c.join.new.pen) c.self.inside.yard.yard (g.D.Disk.device c.self.inside.yard.disk) (part c.args.pass.now) (carried c.join.new.pen)
+    c.self.invariant.1 c.join.ensures.knows c.join.ensures.told c.join.ensures.notes c.join.ensures.carried in
+    let range = subst (λ (n : ℕ). (1 ≤ n) × (n ≤ board.sizes.passes)) (ap (λ (h : Part). h.number) c.join.ensures.carried ∙ sym c.requires.pass.2.number ∙ sym c.join.ensures.same.0 ∙ sym c.number-number.ensures) hold.knows.numbered in
+    found board (notes c.join.new.pen) (notes c.load_pin.new.pen) c.self.inside.yard.yard (g.D.Disk.device c.self.inside.yard.disk) (carried c.join.new.pen) (carried c.load_pin.new.pen) hold c.number-number.result c.load_pin.result range
+    c.load_pin.ensures.told c.load_pin.ensures.own c.load_pin.ensures.notes c.load_pin.ensures.carried
+
+pub call_joined-outcome-requires-clause-idle : goal.call_joined-outcome-requires-clause-idle
+call_joined-outcome-requires-clause-idle g c =
+    subst (λ (x : BoardId × Part). IsIdle x.0.sizes x.1) (λ i. (sym c.requires.board i, sym (c.load_pin.ensures.carried ∙ c.join.ensures.carried) i))
+    (record { idle = c.requires.idle.idle; no_loads = c.requires.idle.no_loads; outside = c.requires.idle.outside })
+
+pub call_joined-outcome-requires-clause-found : goal.call_joined-outcome-requires-clause-found
+call_joined-outcome-requires-clause-found g c =
+    let number = ap (λ (h : Part). h.number) c.join.ensures.carried ∙ sym c.requires.pass.2.number ∙ sym c.join.ensures.same.0 ∙ sym c.number-number.ensures in
+    own_found (notes c.join.new.pen) (notes c.load_pin.new.pen) (carried c.join.new.pen) (carried c.load_pin.new.pen) c.load_pin.result (c.load_pin.ensures.own number)
+    (c.load_pin.ensures.notes ∙ ap (λ n. found_note n c.load_pin.result ∷ notes c.join.new.pen) (sym number)) c.load_pin.ensures.carried

@@ -1,0 +1,101 @@
+//! One turn of a pass that has joined the pen.
+ghost use Rattle.std.specs.Prelude.{◌≡◌, false};
+ghost use Rattle.lz_list.specs.Words.{get};
+ghost use Rattle.lz_board.specs.declared.view.What.TheVariants.{Played};
+ghost use Rattle.lz_board.specs.Notes.{note_by};
+ghost use Rattle.lz_board.specs.Noting.{MayPrepare};
+ghost use Rattle.lz_board.specs.Seats.{Carries, IsAtHand, carried, id_of, notes};
+ghost use Rattle.lz_tie.specs.Holds.{Holds, InHold, IsExchange, IsTurn, Turned, is_preparing};
+
+use lz_board::{Board, Note, Pass, Pen, What};
+use lz_caller::Caller;
+use lz_disk::Disk;
+use lz_list::{Publishing, Word};
+use lz_machine::{Event, Outcome};
+use lz_yard::Yard;
+
+/// What a turn gave: its outcome, and what it published.
+#[derive(Clone, Copy)]
+pub struct Turn {
+    pub outcome: Outcome,
+    pub published: Option<Publishing>,
+}
+
+// An exchange on the board: the word, what it was, and what it becomes.
+#[derive(Drop)]
+pub(crate) struct Exchange {
+    pub(crate) word: Word,
+    pub(crate) before: u64,
+    pub(crate) after: u64,
+}
+
+// The exchange that goes with the note of the yard's last step. A pass's own pin word is counted up otherwise.
+fn exchange_of<D: Disk>(yard: &Yard<D>) -> Option<Exchange>
+    ensures { IsExchange yard.now.yard.words yard.now.told.changed yard.now.told.before result }
+{
+    match yard.changed() {
+        Some(Word::Pin(_)) => None,
+        Some(word) => {
+            let changed = word;
+            let before = yard.before();
+            let after = yard.words().get(word);
+            Some(Exchange {
+                word: changed,
+                before,
+                after,
+            })
+        }
+        None => Some(Exchange {
+            word: Word::Halt,
+            before: 2,
+            after: 2,
+        }),
+    }
+}
+
+// Plays the next event of the pass's call, notes it, and stores the word that it changes.
+pub(crate) fn play_joined<D: Disk>(
+    board: &Board,
+    pen: &mut Pen,
+    yard: &mut Yard<D>,
+    pass: &mut Pass,
+    _caller: &Caller,
+    event: Event,
+) -> Turn
+    requires carries { Carries (id_of board.now) pen.old }
+    requires hold { InHold (id_of board.now) (notes pen.old) yard.old.yard (D.device yard.old.disk) (carried pen.old) }
+    requires turn { IsTurn (notes pen.old) (carried pen.old) _caller.now event }
+    requires hand { IsAtHand (id_of board.now) pass.old (carried pen.old) }
+    requires prepares { is_preparing event ≡ false }
+    ensures carries { Carries (id_of board.now) pen.new }
+    ensures hold { InHold (id_of board.now) (notes pen.new) yard.new.yard (D.device yard.new.disk) (carried pen.new) }
+    ensures hand { IsAtHand (id_of board.now) pass.new (carried pen.new) }
+    ensures holds { Holds (id_of board.now).opened (notes pen.old) (notes pen.new) (note_by (carried pen.old).number (Played event result.outcome) result.published) (carried pen.old) (carried pen.new) }
+    ensures turned { Turned (id_of board.now).opened (notes pen.old) (carried pen.old).number _caller.now.command _caller.now.progress event result.outcome result.published }
+{
+    let number = pass.number();
+    yard.note_pin(number, pass.pin());
+    let noted = event;
+    let outcome = yard.step(number, event);
+    let told = outcome;
+    let published = yard.published();
+    let shown = published;
+    let what = What::Played(noted, told);
+    let note = Note {
+        by: number,
+        what,
+        published: shown,
+    };
+    match exchange_of(yard) {
+        Some(exchange) => {
+            let Exchange {
+                word,
+                before,
+                after,
+            } = exchange;
+            board.note(pen, word, before, after, &note);
+        }
+        None => board.shift(pen, pass, &note),
+    }
+    Turn { outcome, published }
+}
