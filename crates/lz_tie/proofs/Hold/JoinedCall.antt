@@ -143,7 +143,7 @@ module _ (b : BoardId) (ns : List Note) (y : Yard) (dev : Device) (h : Part) (ho
     lawful = subst (λ (s : Sizes). Lawful s.buckets s.slots (trace_of b.opened ns)) (sym hold.locked.sizes) (tied_lawful b.opened ns y dev.honest dev.medium hold.locked.tied)
 
     may : MayNote b.sizes b.opened ns h n
-    may = record { by = refl; step = tt; pin = found; lawful = lawful; made = λ q away. refl; prepares = tt }
+    may = record { by = refl; step = tt; pin = found; inside = λ inside. let even = idle.outside in absurd (omega (arith, even, inside)); lawful = lawful; made = λ q away. refl; prepares = tt }
 
     pub may_note : MayNote b.sizes b.opened ns h n1
     may_note = subst (MayNote b.sizes b.opened ns h) note_is may

@@ -45,7 +45,7 @@ found_told z ns p pin q v low same told = ⊎_elim
 found_hold : (b : BoardId) (ns : List Note) (y : Yard) (dev : Device) (h : Part) → InHold b ns y dev h → (q v : ℕ) → 1 ≤ q → q ≤ b.sizes.passes → PinTold b.sizes ns q v → (h.number ≡ q → h.pin ≡ v) → InHold b (found_note q v ∷ ns) y dev h
 found_hold b ns y dev h hold q v low high told own = record {
   locked = found_locked b ns y dev hold.locked q v low high told;
-  knows = knows_found b.sizes b.opened ns q v h hold.knows own;
+  knows = knows_found b.sizes b.opened ns q v h hold.knows own (λ calling. hold.told.calling (subst (λ l. is_calling b.sizes l ≡ true) (sym hold.knows.noted) calling));
   told = found_told b.sizes ns h.number h.pin q v hold.knows.numbered.0 own hold.told;
 }
 

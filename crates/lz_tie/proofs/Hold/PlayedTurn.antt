@@ -46,6 +46,7 @@ use Rattle.lz_tie.specs.declared.playing.Exchange.{Exchange}
 use Rattle.lz_tie.specs.NotedRuns.{IsHopAt, AreNext, SameButAllPins, IsTied, seen_event}
 use Rattle.lz_tie.specs.Holds.{sizes_of, IsLocked, HasCall, InHold, IsTurn, Turned, IsExchange, Holds}
 use Rattle.lz_tie.proofs.Reading.PinWords.{is_pinning, line_count, own_pin, moved_pin, fault_pin}
+use Rattle.lz_tie.proofs.Reading.StandingCall.{still_calling}
 use Rattle.lz_tie.proofs.Hold.OneWord.{IsWalked, line_others, line_own, pin_changed, pinning_silent}
 use Rattle.lz_tie.proofs.Hold.NoteCondition.{tied_shared, noting_writes, noting_nothing, noting_lawful}
 use Rattle.lz_tie.proofs.Hold.NextStep as holding
@@ -202,8 +203,11 @@ module _ (b : BoardId) (ns : List Note) (y : Yard) (dev : Device) (h : Part) (ho
         (λ ok. ap (own q) (done ok) ∙ line_own z a q e away)
         (fault_or_not o)
 
+    calling : is_calling b.sizes h.steps ≡ true
+    calling = subst (λ (s : Sizes). is_calling s h.steps ≡ true) hold.knows.sized (still_calling (shape_of h.sizes) h.number h.loads h.steps (ap is_some turn.call.at))
+
     pub may_note : MayPrepare b.sizes b.opened ns told.published → MayNote b.sizes b.opened ns h n
-    may_note prepares = record { by = refl; step = tt; pin = pin_now; lawful = lawful; made = made; prepares = prepares }
+    may_note prepares = record { by = refl; step = tt; pin = pin_now; inside = λ _. calling; lawful = lawful; made = made; prepares = prepares }
 
     -- what the own pin word becomes, as the note tells
     own_is : o ≢ Fault → pin_of z' a ≡ pin_after_played e o h.pin
@@ -333,7 +337,7 @@ module _ (b : BoardId) (ns : List Note) (y : Yard) (dev : Device) (h : Part) (ho
       pub hold_moved : InHold b (noted b.opened ns h n) z' dev' (moved_part b.opened ns n h)
       hold_moved = let worn = below in record {
         locked = locked;
-        knows = knows_moved b.sizes b.opened ns h n hold.knows may_shift;
+        knows = knows_moved b.sizes b.opened ns h n hold.knows may_shift moves;
         told = told_own b.sizes b.opened ns h n hold.knows may_shift (suc h.pin) moves.0 worn;
       }
 
