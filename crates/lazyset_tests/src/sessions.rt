@@ -377,7 +377,7 @@ fn only_an_interruption_is_tried_again(rt: HostRuntime) -> Result<(), Fail> {
         assert_eq!(rt; written.as_slice(), replies);
         let (code, written) = interrupted(rt.alloc(), lines, kind, 5, fault)?;
         assert_eq!(rt; code, 1);
-        assert_eq!(rt; written.as_slice(), b"yes\ny");
+        assert_eq!(rt; written.as_slice(), b"yes\ny".as_slice());
     }
     Ok(())
 }
