@@ -57,6 +57,7 @@ fn tell<R: Files<File = File> + Print>(rt: &R, path: &str, status: Status) -> Re
     let count = file.read(&mut bytes)?;
     for row in bytes[..count].chunks(16) {
         for byte in row {
+            let byte = *byte;
             print!(rt; "{byte:02x}")?;
         }
         print!(rt; "\n")?;

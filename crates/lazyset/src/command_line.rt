@@ -7,10 +7,10 @@ use lz_slot::{MOST_BUCKETS, MOST_PASSES, MOST_REHEARSED};
 use std::alloc::{AllocError, Global};
 
 // The largest port.
-const MOST_PORT: u64 = 65_535;
+const MOST_PORT: i64 = 65_535;
 
 // The most sessions that a pass may be told to serve.
-const MOST_SESSIONS: u64 = 65_535;
+const MOST_SESSIONS: i64 = 65_535;
 
 fn file<'a>(alloc: Global) -> Arg<'a> {
     Arg::new(alloc, "FILE").required(true).help("The slot file")
@@ -46,7 +46,7 @@ fn buckets<'a>(alloc: Global) -> Arg<'a> {
     Arg::new(alloc, "buckets")
         .long("buckets")
         .value_name("B")
-        .value_parser(value_parser!(u64).range(1..=MOST_BUCKETS as u64))
+        .value_parser(value_parser!(u64).range(1..=MOST_BUCKETS as i64))
         .default_value("1")
         .help("How many lists the keys are spread over, 1 to 4096")
 }
@@ -67,7 +67,7 @@ fn serve<'a>(alloc: Global) -> Result<Command<'a>, AllocError> {
         .help("The port of 127.0.0.1; 0 takes a free one, which is printed");
     let passes = Arg::new(alloc, "PASSES")
         .required(true)
-        .value_parser(value_parser!(u64).range(1..=MOST_PASSES as u64))
+        .value_parser(value_parser!(u64).range(1..=MOST_PASSES as i64))
         .help("How many connections are served at once, 1 to 64; further ones wait");
     let sessions = Arg::new(alloc, "sessions")
         .long("sessions")
@@ -127,7 +127,7 @@ fn judge<'a>(alloc: Global) -> Result<Command<'a>, AllocError> {
 fn rehearse<'a>(alloc: Global) -> Result<Command<'a>, AllocError> {
     let slots = Arg::new(alloc, "SLOTS")
         .required(true)
-        .value_parser(value_parser!(u64).range(1..=MOST_REHEARSED as u64))
+        .value_parser(value_parser!(u64).range(1..=MOST_REHEARSED as i64))
         .help("How many keys the set has room for, 1 to 64");
     Command::new(alloc, "rehearse")
         .about(

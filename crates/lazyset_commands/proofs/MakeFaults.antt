@@ -1,7 +1,7 @@
 -- Why a making made no file.
-use Rattle.std.proofs.Common.{◌≡◌, ℕ, ◌+◌, ◌*◌, ◌<◌, ◌↔◌, List, length, IsTrue, Result, Err, ap}
+use Rattle.std.proofs.Common.{◌≡◌, ℕ, ◌+◌, ◌*◌, ◌<◌, ◌↔◌, length, IsTrue, Result, Err, ap}
 use Rattle.lz_slot.specs.Bytes.{IsMade}
-use Rattle.lz_disk.specs.Images.{Medium, synced}
+use Rattle.lz_disk.specs.Images.{synced}
 use Rattle.lz_disk.specs.Devices.{Device as Disk}
 use Rattle.lz_vault.specs.Makes.{IsBadCount}
 use Rattle.lz_vault.specs.declared.making.MakeFault.{MakeFault}

@@ -5,7 +5,7 @@ use Rattle.lz_slot.specs.Bytes.{Holds}
 use Rattle.lz_slot.specs.declared.command.Command.{Command}
 use Rattle.lz_slot.specs.declared.command.Command.TheVariants as command
 use Rattle.lz_slot.specs.declared.format.Format.{Format}
-use Rattle.lz_disk.specs.Images.{Medium, IsImage}
+use Rattle.lz_disk.specs.Images.{IsImage}
 use Rattle.lz_disk.specs.Devices.{Device, IsTimely, LeavesOnly}
 use Rattle.lz_disk.proofs.Moments.{leaves_then, leaves_more, quiet}
 use Rattle.lz_vault.specs.Vaults.{Vaulted, VaultOver, last_sync}

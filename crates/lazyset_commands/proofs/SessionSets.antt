@@ -1,5 +1,5 @@
 -- What a whole session over a set for one caller, and a run, leave of the disk.
-use Rattle.std.proofs.Common.{◌≡◌, ◌≢◌, ◌⊎◌, inl, inr, ⊎_elim, ℕ, ◌≤◌, ◌<◌, false, List, [], ◌∷◌, ◌++◌, length, Option, Some, None, IsTrue, refl, sym, ap, ◌∙◌, subst, arith, Ok, Err, Result}
+use Rattle.std.proofs.Common.{◌≡◌, ◌≢◌, ◌⊎◌, inl, inr, ⊎_elim, ℕ, ◌≤◌, false, List, [], ◌∷◌, length, Option, Some, None, IsTrue, refl, sym, ap, ◌∙◌, subst, arith, Ok, Err, Result}
 use Rattle.std.specs.Io.KnownBytes.{Appends}
 use Rattle.lz_slot.specs.Sets.{Keys}
 use Rattle.lz_slot.specs.Bytes.{Holds, format_of}
@@ -18,15 +18,14 @@ use Rattle.lz_proto.specs.declared.fault.SessionFault.{SessionFault}
 use Rattle.lz_proto.specs.declared.fault.SessionFault.TheVariants.{Read, Write, Memory}
 use Rattle.lz_proto.specs.declared.end.End.{End}
 use Rattle.lz_proto.specs.declared.end.End.TheVariants as ends
-use Rattle.lz_proto.specs.Lines.{Items}
-use Rattle.lz_proto.specs.Sessions.{Answered, CutOff, IsInput, SessionTells, Whole, Writes, end_of}
+use Rattle.lz_proto.specs.Sessions.{Answered, CutOff, IsInput, SessionTells, Whole, Writes}
 use Rattle.lz_proto.proofs.FirstItems.{FirstAsked, session_asked}
 use Rattle.lz_proto.proofs.Serving.{known_rest}
 use Rattle.lz_proto.proofs.Texts.{some_items}
 use Rattle.lazyset_commands.specs.Plains.{EachHolds}
 use Rattle.lazyset_commands.specs.Asks.{MayAnswer, PlainAnswers}
 use Rattle.lazyset_commands.specs.Ends.{open_status, session_status}
-use Rattle.lazyset_commands.specs.Runs.{FailedOpen, FoundAfter, OfInput, RanSession, RefusedOpen, RepliesOfSet, SessionOfSet, refusal_text}
+use Rattle.lazyset_commands.specs.Runs.{FailedOpen, FoundAfter, OfInput, RanSession, RepliesOfSet, SessionOfSet, refusal_text}
 use Rattle.lazyset_commands.specs.Tellings.{Tells}
 use Rattle.lazyset_commands.specs.declared.status.Status.{Status}
 use Rattle.lazyset_commands.specs.declared.status.Status.TheVariants as status
@@ -93,8 +92,7 @@ module _ {D : Type 0} (device : D → Device) (timely : (disk : D) → IsTrue (d
         let first = cut.answered in
         let did = items_done device timely cut.done first.replies old cut.mid first.served in
         let (M, before, held) = items_plain device timely cut.done first.replies old cut.mid F N S first.served (λ is. let never = sym first.ends ∙ is in cc) honest named count each in
-        let (T, last, holds) = items_may device timely (cut.item ∷ []) cut.reply cut.mid new F N M cut.served (subst IsTrue (sym did.honest) honest) (did.format ∙ named) (did.slots ∙ count) held t image in
-        (
+        let (T, last, holds) = items_may device timely (cut.item ∷ []) cut.reply cut.mid new F N M cut.served (subst IsTrue (sym did.honest) honest) (did.format ∙ named) (did.slots ∙ count) held t image in (
           T,
           record {
             done = cut.done;
@@ -216,8 +214,7 @@ module _ {D : Type 0} (device : D → Device) (timely : (disk : D) → IsTrue (d
       ran_leaves =
           let (count, each) = opened_set (device old) (device opened.disk) opened.memory N S honest opens held in
           let (text, known, of_items) = session_leaves input after opened left (format_of (device old).medium.seen) N S opens.fresh.1 still (opens.format honest) count each first in
-          let (items, its, leaves) = of_items in
-          (
+          let (items, its, leaves) = of_items in (
             text,
             known,
             (

@@ -333,7 +333,7 @@ impl Write for Hesitant {
 
 // What a run over two slots ends with and writes, whose reads and writes are interrupted, where reads then fail so at the
 // lines' end, or writes after so many bytes.
-fn interrupted(
+fn ends_when_interrupted(
     alloc: Global,
     lines: &[u8],
     read_fault: ErrorKind,
@@ -362,7 +362,7 @@ fn only_an_interruption_is_tried_again(rt: HostRuntime) -> Result<(), Fail> {
     let lines: &[u8] = b"add 17\nhas 17\nadd 17\n";
     let replies: &[u8] = b"yes\nyes\nno\n";
     let kind = ErrorKind::Interrupted;
-    let (code, written) = interrupted(rt.alloc(), lines, kind, 100, ErrorKind::Other)?;
+    let (code, written) = ends_when_interrupted(rt.alloc(), lines, kind, 100, ErrorKind::Other)?;
     assert_eq!(rt; code, 0);
     assert_eq!(rt; written.as_slice(), replies);
     for fault in [
@@ -372,10 +372,10 @@ fn only_an_interruption_is_tried_again(rt: HostRuntime) -> Result<(), Fail> {
         ErrorKind::BrokenPipe,
         ErrorKind::UnexpectedEof,
     ] {
-        let (code, written) = interrupted(rt.alloc(), lines, fault, 100, ErrorKind::Other)?;
+        let (code, written) = ends_when_interrupted(rt.alloc(), lines, fault, 100, ErrorKind::Other)?;
         assert_eq!(rt; code, 1);
         assert_eq!(rt; written.as_slice(), replies);
-        let (code, written) = interrupted(rt.alloc(), lines, kind, 5, fault)?;
+        let (code, written) = ends_when_interrupted(rt.alloc(), lines, kind, 5, fault)?;
         assert_eq!(rt; code, 1);
         assert_eq!(rt; written.as_slice(), b"yes\ny".as_slice());
     }
