@@ -42,6 +42,6 @@ call_relies start starts ns steps service disk runs reads at q low high inside =
     let law = calls_stand start steps service disk q starts runs at (ap (λ v. v % 2) pin ∙ inside) in (
       law.0,
       subst (λ (x : Trace × Trace). CallerSound (view_of service.yard.shape service.yard.vault service.yard.actors q) (pin_of service.yard q) (caller_at service.callers q) x.0 x.1 law.0)
-      (λ i. (turned_outside start starts ns steps runs reads q low high inside i, trace_reads (first_point start) ns steps reads i))
-      law.1,
+          (λ i. (turned_outside start starts ns steps runs reads q low high inside i, trace_reads (first_point start) ns steps reads i))
+          law.1,
     )
