@@ -22,6 +22,7 @@ pub mod Limbo
 pub mod Outside
 pub mod Refusal
 pub mod PinNotes
+pub mod ChangeNotes
 pub mod KeyWrite
 pub mod OpenedGate
 pub mod BesideKey

@@ -27,15 +27,18 @@ use Rattle.lz_machine.proofs.Frames.OneActor.{moving, same_entries}
 use Rattle.lz_machine.proofs.Steps.Hop.{call_at, dead_keeps}
 use Rattle.lz_machine.proofs.Steps.Death.{dies_keeps}
 use Rattle.lz_machine.proofs.Frames.PinNotes.{IsNoted, noted_same}
+use Rattle.lz_machine.proofs.Frames.ChangeNotes.{IsTold, is_change, told_same, told_quiet}
 use Rattle.lz_machine.proofs.Frames.PinOrder.{turn_after, adds_none, begun_grown}
 use Rattle.lz_machine.proofs.Runs.Course.{course_dead}
 
--- the service after an event that took this course is sound, with some notes, by which a pass that went in has the trace of then
-abbrev pub Goes : ℕ → ℕ → Yard → List (Option Caller) → Medium → History → Trace → Keys → (ℕ → Trace) → ℕ → Caller → Event → Course → Type 0
-Goes n calls y callers disk M P start begun a caller e taken =
+-- the service after an event that took this course is sound, with some notes, by which a pass that went in has the trace of then,
+-- and each the change that was published for it
+abbrev pub Goes : ℕ → ℕ → Yard → List (Option Caller) → Medium → History → Trace → Keys → Notes → ℕ → Caller → Event → Course → Type 0
+Goes n calls y callers disk M P start before a caller e taken =
     (notes : Notes) × UpSound n calls (played (record { yard = y; callers = callers }) a caller (line_on taken y (actor_at y a) a e)) (medium_after (call_on taken y (actor_at y a) e) disk)
     (record { start = start; history = M }) (published_on taken y (actor_at y a) a e ++ P) notes
-    × IsNoted y.words.pins (line_on taken y (actor_at y a) a e).0.words.pins P begun notes.begun
+    × IsNoted y.words.pins (line_on taken y (actor_at y a) a e).0.words.pins P before.begun notes.begun
+    × IsTold (line_on taken y (actor_at y a) a e).0.words.pins P before.changed (published_on taken y (actor_at y a) a e ++ P) notes.changed
 
 -- the course, by whether the vault is dead, the event is played then too, and it has what it needs
 abbrev taken_of : Yard → ℕ → Event → Bool → Bool → Bool → Course
@@ -81,15 +84,15 @@ module _ (n calls : ℕ) (y : Yard) (callers : List (Option Caller)) (disk : Med
       (since_same pins)
 
   abbrev pub After : Event → Course → Type 0
-  After e taken = Goes n calls y callers disk M P start notes.begun a (call_at i c at) e taken
+  After e taken = Goes n calls y callers disk M P start notes a (call_at i c at) e taken
 
   -- the vault is dead
   dead_goes : (e : Event) → is_before_pin at ≡ false → y.vault.dead ≡ true → After e (Refused Dead)
-  dead_goes e inside dead = (notes, turned_same y Dead disk [] refl refl (dead_keeps n calls y callers disk M P notes a i c at is up.sound inside dead), noted_same y.words.pins y.words.pins P notes.begun refl)
+  dead_goes e inside dead = (notes, turned_same y Dead disk [] refl refl (dead_keeps n calls y callers disk M P notes a i c at is up.sound inside dead), noted_same y.words.pins y.words.pins P notes.begun refl, told_same y.words.pins P notes.changed)
 
   -- no sync is left
   dies_goes : (e : Event) → is_before_pin at ≡ false → After e Dies
-  dies_goes e inside = (notes, turned_same (with_vault y (died y.vault)) Dead disk [] refl refl (dies_keeps n calls y callers disk M P notes a i c at is up.sound inside), noted_same y.words.pins y.words.pins P notes.begun refl)
+  dies_goes e inside = (notes, turned_same (with_vault y (died y.vault)) Dead disk [] refl refl (dies_keeps n calls y callers disk M P notes a i c at is up.sound inside), noted_same y.words.pins y.words.pins P notes.begun refl, told_same y.words.pins P notes.changed)
 
   -- an event that is played has what it needs
   needed : (e : Event) (taken : Course) → course y a e ≡ taken → (line_on taken y (actor_at y a) a e).1 ≡ NotNow → (line y a e).1 ≢ NotNow → ⊥
@@ -136,23 +139,23 @@ module _ (n calls : ℕ) (y : Yard) (callers : List (Option Caller)) (disk : Med
       Sound n calls (yard_done y (actor_at y a) a e) (moving callers a (call_at i c at) (progress_after y.shape c at (outcome_of y (actor_at y a) e))) (medium_after (call_of y (actor_at y a) e) disk) M
       (publishes y (actor_at y a) a e ++ P) notes
 
-  plays_goes : (e : Event) → (words_after y (actor_at y a) a e).pins ≡ y.words.pins → SoundAfter e → After e Plays
-  plays_goes e pins sound = (notes, turned_same (yard_done y (actor_at y a) a e) (outcome_of y (actor_at y a) e) (medium_after (call_of y (actor_at y a) e) disk) (publishes y (actor_at y a) a e) pins refl sound, noted_same y.words.pins (words_after y (actor_at y a) a e).pins P notes.begun pins)
+  plays_goes : (e : Event) → (words_after y (actor_at y a) a e).pins ≡ y.words.pins → is_change e ≡ false → SoundAfter e → After e Plays
+  plays_goes e pins quiet sound = (notes, turned_same (yard_done y (actor_at y a) a e) (outcome_of y (actor_at y a) e) (medium_after (call_of y (actor_at y a) e) disk) (publishes y (actor_at y a) a e) pins refl sound, noted_same y.words.pins (words_after y (actor_at y a) a e).pins P notes.begun pins, told_quiet (words_after y (actor_at y a) a e).pins y a e P notes.changed quiet)
 
   -- turns that leave the pins and the notes
-  pub plays_turn : (e : Event) → is_played_dead e ≡ false → is_before_pin at ≡ false → course_alive y a (pin_of y a) e ≡ Plays → (words_after y (actor_at y a) a e).pins ≡ y.words.pins
+  pub plays_turn : (e : Event) → is_played_dead e ≡ false → is_before_pin at ≡ false → course_alive y a (pin_of y a) e ≡ Plays → (words_after y (actor_at y a) a e).pins ≡ y.words.pins → is_change e ≡ false
       → (line y a e).1 ≢ NotNow → (y.vault.dead ≡ false → SoundAfter e) → After e (course y a e)
-  plays_turn e stops inside alive pins now sound = by_course e stops inside now (λ lives. subst (After e) (sym alive) (plays_goes e pins (sound lives)))
+  plays_turn e stops inside alive pins quiet now sound = by_course e stops inside now (λ lives. subst (After e) (sym alive) (plays_goes e pins quiet (sound lives)))
 
-  pub plays_turn_too : (e : Event) → is_played_dead e ≡ true → course_alive y a (pin_of y a) e ≡ Plays → (words_after y (actor_at y a) a e).pins ≡ y.words.pins
+  pub plays_turn_too : (e : Event) → is_played_dead e ≡ true → course_alive y a (pin_of y a) e ≡ Plays → (words_after y (actor_at y a) a e).pins ≡ y.words.pins → is_change e ≡ false
       → (line y a e).1 ≢ NotNow → SoundAfter e → After e (course y a e)
-  plays_turn_too e too alive pins now sound = by_course_too e too now (subst (After e) (sym alive) (plays_goes e pins sound))
+  plays_turn_too e too alive pins quiet now sound = by_course_too e too now (subst (After e) (sym alive) (plays_goes e pins quiet sound))
 
   -- a sync, also where none is left
   pub sync_turn : (s : ℕ) → is_before_pin at ≡ false → (line y a (Sync s)).1 ≢ NotNow → (y.vault.dead ≡ false → SoundAfter (Sync s)) → After (Sync s) (course y a (Sync s))
   sync_turn s inside now sound = by_course (Sync s) refl inside now (λ lives. elim (cases_Bool (not (is_sure y s) && is_spent y)) [
     | inl spent ↦ subst (After (Sync s)) (sym (dies spent)) (dies_goes (Sync s) inside)
-    | inr more ↦ subst (After (Sync s)) (sym (plays more)) (plays_goes (Sync s) refl (sound lives))
+    | inr more ↦ subst (After (Sync s)) (sym (plays more)) (plays_goes (Sync s) refl refl (sound lives))
   ])
     where
       dies : (not (is_sure y s) && is_spent y) ≡ true → course_alive y a (pin_of y a) (Sync s) ≡ Dies

@@ -47,6 +47,7 @@ use Rattle.lz_machine.proofs.Ledger.Reply.{EndsSo, ends}
 use Rattle.lz_machine.proofs.Steps.ReturnedSlot.{closed_unused, given_slots, given_locks, given_reuse, given_none, given_hold, held_then, hand_b}
 use Rattle.lz_machine.proofs.Steps.Point.{AnswerUp}
 use Rattle.lz_machine.proofs.Frames.PinNotes.{IsNoted, noted_same, noted_out}
+use Rattle.lz_machine.proofs.Frames.ChangeNotes.{IsTold, told_ended, told_out}
 use Rattle.lz_machine.proofs.Frames.PinOrder.{since_out}
 
 module _ (n calls : ℕ) (y : Yard) (callers : List (Option Caller)) (disk : Medium) (M : History) (P : Trace) (notes : Notes) (sound : Sound n calls y callers disk M P notes) (after : IsAfter y.words.pins callers (entries y.shape.passes callers notes) M notes.begun)
@@ -227,6 +228,7 @@ module _ (n calls : ℕ) (y : Yard) (callers : List (Option Caller)) (disk : Med
   Answered taken =
       (noted : Notes) × UpSound n calls (played (record { yard = y; callers = callers }) a (call_at i c (Answering says)) (line_on taken y (actor_at y a) a Answer)) (medium_after (call_on taken y (actor_at y a) Answer) disk)
       (record { start = start; history = mark_of i says ∷ M }) P noted × IsNoted y.words.pins (line_on taken y (actor_at y a) a Answer).0.words.pins P notes.begun noted.begun
+      × IsTold (line_on taken y (actor_at y a) a Answer).0.words.pins P notes.changed P noted.changed
 
   range : (1 ≤ a) × (a ≤ y.shape.passes)
   range = let r = caller_range callers a (call_at i c (Answering says)) is in (r.0, omega (arith, r.1, up.sound.callers.count))
@@ -248,6 +250,7 @@ module _ (n calls : ℕ) (y : Yard) (callers : List (Option Caller)) (disk : Med
           after = worn_after n calls y callers disk M P notes up.sound up.after a i c says is range.1 how;
         },
         noted_same y.words.pins y.words.pins P notes.begun refl,
+        told_ended y.words.pins a P notes how.last even,
       )
 
   -- its pass goes out
@@ -263,6 +266,7 @@ module _ (n calls : ℕ) (y : Yard) (callers : List (Option Caller)) (disk : Med
           after = left_after n calls y callers disk M P notes up.sound up.after a i c says is range.1 how inside fresh;
         },
         noted_out y.words.pins a P notes.begun inside range.0 (omega (arith, range.1, up.sound.trace.pins)),
+        told_out y.words.pins a P notes how.last inside range.0 (omega (arith, range.1, up.sound.trace.pins)),
       )
 
   -- the course of an answer, by whether the vault is dead and the answer has what it needs

@@ -25,6 +25,7 @@ use Rattle.lz_machine.specs.Sound.{UpSound, StateSound, PointSound, IsSound}
 use Rattle.lz_machine.proofs.Steps.Hop.{call_at}
 use Rattle.lz_machine.proofs.Steps.Pin.{begins_now, look_in_keeps, look_out_keeps}
 use Rattle.lz_machine.proofs.Frames.PinNotes.{IsNoted, noted_in, noted_out}
+use Rattle.lz_machine.proofs.Frames.ChangeNotes.{IsTold, told_same}
 use Rattle.lz_machine.proofs.Frames.PinOrder.{pin_after, since_pin, since_out, out_after}
 use Rattle.lz_machine.proofs.Steps.Turn.{turn_up}
 use Rattle.lz_machine.proofs.Steps.Fault.{fault_up}
@@ -39,6 +40,7 @@ AnswerUp =
     → (line y a Answer).1 ≢ NotNow
     → (notes' : Notes) × UpSound n calls (played (record { yard = y; callers = callers }) a (call_at i c (Answering reply)) (line y a Answer)) (medium_after (line_call y a Answer) disk)
     (record { start = start; history = mark_of i reply ∷ M }) P notes' × IsNoted y.words.pins (line y a Answer).0.words.pins P notes.begun notes'.begun
+    × IsTold (line y a Answer).0.words.pins P notes.changed P notes'.changed
 
 -- no event changes the shape, and an answer publishes nothing
 line_shape : (y : Yard) (a : ℕ) (e : Event) → (line y a e).0.shape ≡ y.shape
@@ -136,7 +138,7 @@ fails_keeps start a new service disk M P calls sound may = fault_of start a serv
 pub look_up : (n calls : ℕ) (y : Yard) (callers : List (Option Caller)) (disk : Medium) (M : History) (P : Trace) (start : Keys) (notes : Notes) (a : ℕ) → 1 ≤ a → a ≤ y.shape.passes → caller_at callers a ≡ None → pin_in y.words.pins a ≢ last_pin
     → UpSound n calls (record { yard = y; callers = callers }) disk (record { start = start; history = M }) P notes
     → (notes' : Notes) × UpSound n calls (record { yard = looked y a; callers = callers }) disk (record { start = start; history = M }) P notes'
-    × IsNoted y.words.pins (looked y a).words.pins P notes.begun notes'.begun
+    × IsNoted y.words.pins (looked y a).words.pins P notes.begun notes'.begun × IsTold (looked y a).words.pins P notes.changed P notes'.changed
 look_up n calls y callers disk M P start notes a low high none fresh up = elim (cases_eq (pin_in y.words.pins a % 2) 0) [
   | inl even ↦ (
     begins_now notes a P,
@@ -147,6 +149,7 @@ look_up n calls y callers disk M P start notes a low high none fresh up = elim (
       since = since_pin n y.words.pins P notes a _ up.sound.ledger.opened up.since;
     },
     noted_in y.words.pins a P notes.begun even,
+    told_same (looked y a).words.pins P notes.changed,
   )
   | inr odd ↦ (
     notes,
@@ -157,6 +160,7 @@ look_up n calls y callers disk M P start notes a low high none fresh up = elim (
       since = since_out n y.words.pins notes.begun a _ (inl (omega (arith, odd))) low (omega (arith, high, up.sound.trace.pins)) up.since;
     },
     noted_out y.words.pins a P notes.begun (omega (arith, odd)) low (omega (arith, high, up.sound.trace.pins)),
+    told_same (looked y a).words.pins P notes.changed,
   )
 ]
 

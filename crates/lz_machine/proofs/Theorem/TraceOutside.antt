@@ -1,5 +1,5 @@
 -- The notes of a pass that is inside are those of the trace at which it went in.
-use Rattle.std.proofs.Common.{◌≡◌, ◌⊎◌, inl, inr, ℕ, suc, ◌%◌, if◌then◌else◌, Bool, true, false, List, [], ◌∷◌, ◌++◌, Option, Some, None, refl, sym, ap, ◌∙◌, subst, arith}
+use Rattle.std.proofs.Common.{◌≡◌, ◌⊎◌, inl, inr, ℕ, suc, ◌≤◌, ◌%◌, if◌then◌else◌, Bool, true, false, List, [], ◌∷◌, ◌++◌, length, Option, Some, None, refl, sym, ap, ◌∙◌, subst, arith}
 use mathlib.Core.Bool.{false≢true}
 use Rattle.std.proofs.lemmas.Bool.{cases_eq}
 use Rattle.std.proofs.lemmas.Bool.Decides.{nat_tests}
@@ -17,7 +17,7 @@ use Rattle.lz_machine.specs.declared.event.Reply.{Reply}
 use Rattle.lz_machine.specs.declared.caller.Progress.{Progress}
 use Rattle.lz_machine.specs.declared.caller.Progress.TheVariants.{Playing, LoadsHalt, Walking, Reserving, SeeingPins, Claiming, Checking, Answering}
 use Rattle.lz_machine.specs.Yards.{Shape, IsInside, pin_in, stage_in}
-use Rattle.lz_machine.specs.CallsStand.{is_out, trace_outside, CallsStand, MarkedIsClosed}
+use Rattle.lz_machine.specs.CallsStand.{is_out, trace_outside, own_change, CallsStand, MarkedIsClosed}
 use Rattle.lz_machine.specs.Runs.{Start, IsStart, Caller, Service, State, Up, Down, Transition, Calls, Turn, Fails, Looks, Trips, Stops, Crashes, CrashesIn, Opens, OpenFails, Point, MayStep, HasTurn, HasFault, IsRun, run, first_point, point_after, caller_at, state_after, trace_after, calls_after, after_turn, after_fault, turn_publishes, reply_at, opened_service, marks_of, mark_of}
 use Rattle.lz_machine.specs.Notes.{Notes}
 use Rattle.lz_machine.specs.CallersSound.{CallerSound, view_of}
@@ -32,6 +32,8 @@ use Rattle.lz_machine.proofs.Steps.Invoke.{call_up}
 use Rattle.lz_machine.proofs.Steps.Point.{look_up, answer_publishes}
 use Rattle.lz_machine.proofs.Steps.Turn.{turn_up}
 use Rattle.lz_machine.proofs.Frames.PinNotes.{IsNoted, noted_same}
+use Rattle.lz_machine.proofs.Frames.ChangeNotes.{IsTold, told_same, none_beyond, none_outside}
+use Rattle.lz_machine.proofs.Frames.Limbo.{shorter}
 use Rattle.lz_machine.proofs.Frames.Ranges.{stood_range}
 use Rattle.lz_machine.proofs.Open.FoundSlots.{pass_of}
 use Rattle.lz_machine.proofs.Runs.CallerTable.{none_of}
@@ -45,49 +47,52 @@ record IsTied (calls : ℕ) (service : Service) (disk : Medium) (P : Trace) (B :
   notes : Notes
   up : UpSound n calls service disk life P notes
   tied : (a : ℕ) → IsInside (pin_in service.yard.words.pins a) → notes.begun a ≡ B a
+  told : (a : ℕ) → IsInside (pin_in service.yard.words.pins a) → notes.changed a ≡ own_change a (length (B a)) P
 
 abbrev TiedAt : ℕ → Trace → State → (ℕ → Trace) → Type 0
 TiedAt calls P (Up service disk) B = IsTied calls service disk P B
 TiedAt calls P (Down shape disk) B = Unit {0}
 
 -- the service after a step is sound, with notes that go on from those before
-record GoesOn (calls : ℕ) (pins : List ℕ) (P : Trace) (begun : ℕ → Trace) (service : Service) (disk : Medium) (Q : Trace) : Type 0 where
+record GoesOn (calls : ℕ) (pins : List ℕ) (P : Trace) (before : Notes) (service : Service) (disk : Medium) (Q : Trace) : Type 0 where
   n : ℕ
   life : Life
   notes : Notes
   up : UpSound n calls service disk life Q notes
-  noted : IsNoted pins service.yard.words.pins P begun notes.begun
+  noted : IsNoted pins service.yard.words.pins P before.begun notes.begun
+  told : IsTold service.yard.words.pins P before.changed Q notes.changed
 
-abbrev NextAt : ℕ → List ℕ → Trace → (ℕ → Trace) → State → Trace → Type 0
-NextAt calls pins P begun (Up service disk) Q = GoesOn calls pins P begun service disk Q
-NextAt calls pins P begun (Down shape disk) Q = Unit {0}
+abbrev NextAt : ℕ → List ℕ → Trace → Notes → State → Trace → Type 0
+NextAt calls pins P before (Up service disk) Q = GoesOn calls pins P before service disk Q
+NextAt calls pins P before (Down shape disk) Q = Unit {0}
 
 module _ (calls : ℕ) (service : Service) (disk : Medium) (P : Trace) (B : ℕ → Trace) (h : IsTied calls service disk P B) (a : ℕ) where
   abbrev pins : List ℕ
   pins = service.yard.words.pins
 
-  call_next : (c : Command) → MayStep (Up service disk) (Calls a c) → NextAt (suc calls) pins P h.notes.begun (state_after (suc calls) (Up service disk) (Calls a c)) P
+  call_next : (c : Command) → MayStep (Up service disk) (Calls a c) → NextAt (suc calls) pins P h.notes (state_after (suc calls) (Up service disk) (Calls a c)) P
   call_next c may = record {
     n = h.n;
     life = record { start = h.life.start; history = Call (suc calls) a c ∷ h.life.history };
     notes = h.notes;
     up = call_up h.n calls service disk h.life P h.notes a c may h.up;
     noted = noted_same pins pins P h.notes.begun refl;
+    told = told_same pins P h.notes.changed;
   }
 
   abbrev TurnNext : Option Caller → Type 0
-  TurnNext who = NextAt calls pins P h.notes.begun (after_turn service disk a who) (turn_publishes service a who ++ P)
+  TurnNext who = NextAt calls pins P h.notes (after_turn service disk a who) (turn_publishes service a who ++ P)
 
   going_next : (i : ℕ) (c : Command) (at : Progress) → caller_at service.callers a ≡ Some (call_at i c at) → reply_at at ≡ None → HasTurn service a (Some (call_at i c at)) → TurnNext (Some (call_at i c at))
   going_next i c at is goes_on may =
       let done = turn_up h.n calls service.yard service.callers disk h.life.history P h.life.start h.notes h.up a i c at is goes_on may in
-      record { n = h.n; life = h.life; notes = done.0; up = done.1; noted = done.2 }
+      record { n = h.n; life = h.life; notes = done.0; up = done.1; noted = done.2; told = done.3 }
 
   answer_next : (i : ℕ) (c : Command) (reply : Reply) → caller_at service.callers a ≡ Some (call_at i c (Answering reply)) → HasTurn service a (Some (call_at i c (Answering reply))) → TurnNext (Some (call_at i c (Answering reply)))
   answer_next i c reply is may =
       let done = answer_up h.n calls service.yard service.callers disk h.life.history P h.life.start h.notes a i c reply is h.up may in
-      subst (λ (Q : Trace). NextAt calls pins P h.notes.begun (after_turn service disk a (Some (call_at i c (Answering reply)))) Q) (ap (λ (q : Trace). q ++ P) (sym (answer_publishes service.yard a)))
-      (record { n = h.n; life = record { start = h.life.start; history = mark_of i reply ∷ h.life.history }; notes = done.0; up = done.1; noted = done.2 })
+      subst (λ (Q : Trace). NextAt calls pins P h.notes (after_turn service disk a (Some (call_at i c (Answering reply)))) Q) (ap (λ (q : Trace). q ++ P) (sym (answer_publishes service.yard a)))
+      (record { n = h.n; life = record { start = h.life.start; history = mark_of i reply ∷ h.life.history }; notes = done.0; up = done.1; noted = done.2; told = done.3 })
 
   caller_next : (i : ℕ) (c : Command) (at : Progress) → caller_at service.callers a ≡ Some (call_at i c at) → HasTurn service a (Some (call_at i c at)) → TurnNext (Some (call_at i c at))
   caller_next i c (Playing sequence j) is may = going_next i c (Playing sequence j) is refl may
@@ -103,7 +108,7 @@ module _ (calls : ℕ) (service : Service) (disk : Medium) (P : Trace) (B : ℕ 
   turn_next None is may = absurd may
   turn_next (Some caller) is may = caller_next caller.number caller.command caller.progress is may
 
-  fault_next : (new : Medium) (who : Option Caller) → caller_at service.callers a ≡ who → HasFault service disk a who new → NextAt calls pins P h.notes.begun (after_fault service new a who) P
+  fault_next : (new : Medium) (who : Option Caller) → caller_at service.callers a ≡ who → HasFault service disk a who new → NextAt calls pins P h.notes (after_fault service new a who) P
   fault_next new None is may = absurd may
   fault_next new (Some caller) is may = record {
     n = h.n;
@@ -111,54 +116,83 @@ module _ (calls : ℕ) (service : Service) (disk : Medium) (P : Trace) (B : ℕ 
     notes = h.notes;
     up = fault_up h.n calls service.yard service.callers disk h.life.history P h.life.start h.notes h.up a caller.number caller.command caller.progress is new may;
     noted = noted_same pins pins P h.notes.begun refl;
+    told = told_same pins P h.notes.changed;
   }
 
-  look_next : MayStep (Up service disk) (Looks a) → NextAt calls pins P h.notes.begun (state_after (suc calls) (Up service disk) (Looks a)) P
+  look_next : MayStep (Up service disk) (Looks a) → NextAt calls pins P h.notes (state_after (suc calls) (Up service disk) (Looks a)) P
   look_next may =
       let done = look_up h.n calls service.yard service.callers disk h.life.history P h.life.start h.notes a may.0.0 may.0.1 (none_of (caller_at service.callers a) may.1) may.2 h.up in
-      record { n = h.n; life = h.life; notes = done.0; up = done.1; noted = done.2 }
+      record { n = h.n; life = h.life; notes = done.0; up = done.1; noted = done.2; told = done.3 }
 
 -- a step of an open service
 up_next : (calls : ℕ) (service : Service) (disk : Medium) (P : Trace) (B : ℕ → Trace) (h : IsTied calls service disk P B) (step : Transition) → MayStep (Up service disk) step
-    → NextAt (calls_after calls step) service.yard.words.pins P h.notes.begun (state_after (suc calls) (Up service disk) step) (trace_after (Up service disk) P step)
+    → NextAt (calls_after calls step) service.yard.words.pins P h.notes (state_after (suc calls) (Up service disk) step) (trace_after (Up service disk) P step)
 up_next calls service disk P B h (Calls a c) may = call_next calls service disk P B h a c may
 up_next calls service disk P B h (Turn a) may = turn_next calls service disk P B h a (caller_at service.callers a) refl may
 up_next calls service disk P B h (Fails a new) may = fault_next calls service disk P B h a new (caller_at service.callers a) refl may
 up_next calls service disk P B h (Looks a) may = look_next calls service disk P B h a may
-up_next calls service disk P B h Trips may = record { n = h.n; life = h.life; notes = h.notes; up = h.up; noted = noted_same service.yard.words.pins service.yard.words.pins P h.notes.begun refl }
+up_next calls service disk P B h Trips may = record { n = h.n; life = h.life; notes = h.notes; up = h.up; noted = noted_same service.yard.words.pins service.yard.words.pins P h.notes.begun refl; told = told_same service.yard.words.pins P h.notes.changed }
 up_next calls service disk P B h Stops may = tt
 up_next calls service disk P B h (Crashes t) may = tt
 up_next calls service disk P B h (CrashesIn a t) may = tt
 up_next calls service disk P B h Opens may = absurd may
 up_next calls service disk P B h (OpenFails why done) may = absurd may
 
--- notes that go on from tied ones are tied to the trace at which each pass went in
-tie : (pins : List ℕ) (P Q : Trace) (begun B : ℕ → Trace) (calls : ℕ) (w : State)
-    → ((b : ℕ) → is_outside (pin_in pins b) ≡ true → B b ≡ P) → ((b : ℕ) → IsInside (pin_in pins b) → begun b ≡ B b)
-    → NextAt calls pins P begun w Q → TiedAt calls Q w (λ b. if is_out w b then Q else B b)
-tie pins P Q begun B calls (Down shape disk) out held next = tt
-tie pins P Q begun B calls (Up service disk) out held next = record { n = next.n; life = next.life; notes = next.notes; up = next.up; tied = tied }
-  where
-    tied : (b : ℕ) → IsInside (pin_in service.yard.words.pins b) → next.notes.begun b ≡ (if is_outside (pin_in service.yard.words.pins b) then Q else B b)
-    tied b inside =
-        let within : is_outside (pin_in service.yard.words.pins b) ≡ false = grind (arith, nat_tests, inside) in
-        let same : (if is_outside (pin_in service.yard.words.pins b) then Q else B b) ≡ B b = ap (λ (q : Bool). if q then Q else B b) within in
-        elim (cases_eq (pin_in pins b % 2) 0) [
-          | inl even ↦ (next.noted b inside).1 even ∙ sym (out b (grind (arith, nat_tests, even))) ∙ sym same
-          | inr odd ↦ (next.noted b inside).0 (omega (arith, odd)) ∙ held b (omega (arith, odd)) ∙ sym same
-        ]
+module _ (calls : ℕ) (service : Service) (disk : Medium) (P Q : Trace) (B : ℕ → Trace) (h : IsTied calls service disk P B) (out : (b : ℕ) → is_outside (pin_in service.yard.words.pins b) ≡ true → B b ≡ P) where
+  went_in : (b : ℕ) → pin_in service.yard.words.pins b % 2 ≡ 0 → B b ≡ P
+  went_in b even = out b (grind (arith, nat_tests, even))
+
+  -- each pass went in at a time up to now
+  within : (b : ℕ) → length (B b) ≤ length P
+  within b = elim (cases_eq (pin_in service.yard.words.pins b % 2) 0) [
+    | inl even ↦ omega (arith, ap (λ (q : Trace). length q) (went_in b even))
+    | inr odd ↦
+        let inside : IsInside (pin_in service.yard.words.pins b) = omega (arith, odd) in
+        subst (λ (q : Trace). length q ≤ length P) (h.tied b inside) (shorter (h.notes.begun b) P ((h.up.sound.callers.each b).begins inside))
+  ]
+
+  -- also that of a pass that is outside, which has changed nothing
+  change_told : (b : ℕ) → h.notes.changed b ≡ own_change b (length (B b)) P
+  change_told b = elim (cases_eq (pin_in service.yard.words.pins b % 2) 0) [
+    | inl even ↦
+        none_outside (view_of service.yard.shape service.yard.vault service.yard.actors b) (pin_in service.yard.words.pins b) (caller_at service.callers b) (h.notes.begun b) P (h.notes.changed b) even (h.up.sound.callers.each b).stands
+        ∙ sym (none_beyond b (length (B b)) P (omega (arith, ap (λ (q : Trace). length q) (went_in b even))))
+    | inr odd ↦ h.told b (omega (arith, odd))
+  ]
+
+  -- notes that go on from tied ones are tied to the trace at which each pass went in, and to its own change since
+  tie : (later : ℕ) (w : State) → NextAt later service.yard.words.pins P h.notes w Q → TiedAt later Q w (λ b. if is_out w b then Q else B b)
+  tie later (Down shape left) next = tt
+  tie later (Up after left) next = record { n = next.n; life = next.life; notes = next.notes; up = next.up; tied = tied; told = told }
+    where
+      same : (b : ℕ) → IsInside (pin_in after.yard.words.pins b) → (if is_outside (pin_in after.yard.words.pins b) then Q else B b) ≡ B b
+      same b inside =
+          let inward : is_outside (pin_in after.yard.words.pins b) ≡ false = grind (arith, nat_tests, inside) in
+          ap (λ (q : Bool). if q then Q else B b) inward
+
+      tied : (b : ℕ) → IsInside (pin_in after.yard.words.pins b) → next.notes.begun b ≡ (if is_outside (pin_in after.yard.words.pins b) then Q else B b)
+      tied b inside = elim (cases_eq (pin_in service.yard.words.pins b % 2) 0) [
+        | inl even ↦ (next.noted b inside).1 even ∙ sym (went_in b even) ∙ sym (same b inside)
+        | inr odd ↦ (next.noted b inside).0 (omega (arith, odd)) ∙ h.tied b (omega (arith, odd)) ∙ sym (same b inside)
+      ]
+
+      told : (b : ℕ) → IsInside (pin_in after.yard.words.pins b) → next.notes.changed b ≡ own_change b (length (if is_outside (pin_in after.yard.words.pins b) then Q else B b)) Q
+      told b inside = next.told b (length (B b)) inside (within b) (change_told b) ∙ ap (λ (R : Trace). own_change b (length R) Q) (sym (same b inside))
 
 -- an open begins with all passes outside
 opened_tied : (start : Start) (p : Point) (shape : Shape) (t : List ℕ) (disk : Medium) (B : ℕ → Trace) → IsSound start p → p.state ≡ Up (opened_service shape t) disk → TiedAt p.calls p.trace (Up (opened_service shape t) disk) B
 opened_tied start p shape t disk B sound is =
     let here = up_at start p (opened_service shape t) disk sound is in
-    record { n = here.n; life = here.life; notes = here.notes; up = here.up; tied = λ a inside. absurd (omega (arith, inside, pass_of {X = ℕ} shape.passes a 0)) }
+    record { n = here.n; life = here.life; notes = here.notes; up = here.up; tied = λ a inside. absurd (even a inside); told = λ a inside. absurd (even a inside) }
+  where
+    even : (a : ℕ) → IsInside (pin_in (opened_service shape t).yard.words.pins a) → ⊥
+    even a inside = omega (arith, inside, pass_of {X = ℕ} shape.passes a 0)
 
 step_tied : (start : Start) (w : State) (p : Point) (step : Transition) (B : ℕ → Trace) → p.state ≡ w → MayStep w step → ((b : ℕ) → is_out w b ≡ true → B b ≡ p.trace) → TiedAt p.calls p.trace w B
     → IsSound start (point_after p step)
     → TiedAt (calls_after p.calls step) (trace_after w p.trace step) (state_after (suc p.calls) w step) (λ b. if is_out (state_after (suc p.calls) w step) b then trace_after w p.trace step else B b)
 step_tied start (Up service disk) p step B at may out h sound =
-    tie service.yard.words.pins p.trace (trace_after (Up service disk) p.trace step) h.notes.begun B (calls_after p.calls step) (state_after (suc p.calls) (Up service disk) step) out h.tied
+    tie p.calls service disk p.trace (trace_after (Up service disk) p.trace step) B h out (calls_after p.calls step) (state_after (suc p.calls) (Up service disk) step)
     (up_next p.calls service disk p.trace B h step may)
 step_tied start (Down shape disk) p Opens B at may out h sound =
     opened_here (subst (λ (w : State). IsSound start (point (state_after (suc p.calls) w Opens) (marks_of (suc p.calls) w Opens ++ p.marks) (trace_after w p.trace Opens) p.calls)) at sound)
@@ -204,12 +238,11 @@ module _ (start : Start) (steps : List Transition) (service : Service) (disk : M
   tied = subst (λ (w : State). TiedAt p.calls p.trace w B) state (reached_tied start steps is runs)
 
   module _ (a : ℕ) (inside : IsInside (pin_in service.yard.words.pins a)) where
-    stands : (changed : Option ℕ) × CallerSound (view_of service.yard.shape service.yard.vault service.yard.actors a) (pin_in service.yard.words.pins a) (caller_at service.callers a) (B a) p.trace changed
-    stands = (
-      tied.notes.changed a,
-      subst (λ (Q : Trace). CallerSound (view_of service.yard.shape service.yard.vault service.yard.actors a) (pin_in service.yard.words.pins a) (caller_at service.callers a) Q p.trace (tied.notes.changed a)) (tied.tied a inside)
-          (tied.up.sound.callers.each a),
-    )
+    stands : CallerSound (view_of service.yard.shape service.yard.vault service.yard.actors a) (pin_in service.yard.words.pins a) (caller_at service.callers a) (B a) p.trace (own_change a (length (B a)) p.trace)
+    stands =
+        subst (λ (q : Option ℕ). CallerSound (view_of service.yard.shape service.yard.vault service.yard.actors a) (pin_in service.yard.words.pins a) (caller_at service.callers a) (B a) p.trace q) (tied.told a inside)
+        (subst (λ (Q : Trace). CallerSound (view_of service.yard.shape service.yard.vault service.yard.actors a) (pin_in service.yard.words.pins a) (caller_at service.callers a) Q p.trace (tied.notes.changed a)) (tied.tied a inside)
+        (tied.up.sound.callers.each a))
 
     -- a slot that stood on a chain since is no slot that may be prepared
     module _ (b s : ℕ) (stood : Stood service.yard.shape.buckets b (B a) p.trace (suc s)) (marked : is_marked s p.trace ≡ true) (sure : is_covered (stage_in service.yard.vault.cells s) ≡ true) where

@@ -1,0 +1,125 @@
+-- The change that is noted of a pass that is inside is that which was published for it since it went in.
+use Rattle.std.proofs.Common.{◌≡◌, inl, inr, ℕ, zero, suc, ◌+◌, ◌≤◌, ◌%◌, ◌==◌, ◌&&◌, if◌then◌else◌, Bool, true, false, List, [], ◌∷◌, ◌++◌, length, Option, Some, None, refl, sym, ap, ◌∙◌, arith}
+use mathlib.Core.Bool.{false≢true}
+use Rattle.std.specs.Prelude.{nat_le}
+use Rattle.std.proofs.lemmas.Bool.{cases_eq}
+use Rattle.std.proofs.lemmas.Bool.Decides.{nat_tests}
+use Rattle.lz_slot.specs.Counted.{set_of_pass}
+use Rattle.lz_slot.specs.declared.command.Command.{Command}
+use Rattle.lz_slot.proofs.Counted.{of_pass_same}
+use Rattle.lz_vault.specs.declared.vault.Stage.{Stage}
+use Rattle.lz_vault.specs.declared.vault.Stage.TheVariants.{Open, Closed}
+use Rattle.lz_list.specs.declared.publishing.Publishing.TheVariants.{Linked as linked, Marked as marked}
+use Rattle.lz_list.specs.Traces.{Trace}
+use Rattle.lz_machine.specs.declared.event.Event.{Event}
+use Rattle.lz_machine.specs.declared.event.Event.TheVariants.{Link, Mark, Settle}
+use Rattle.lz_machine.specs.declared.event.Reply.TheVariants.{Worn as SaysWorn, OldFile as SaysOldFile}
+use Rattle.lz_machine.specs.declared.caller.Sequence.TheVariants.{Pinning}
+use Rattle.lz_machine.specs.declared.caller.Progress.{Progress}
+use Rattle.lz_machine.specs.declared.caller.Progress.TheVariants.{Playing, Answering}
+use Rattle.lz_machine.specs.Yards.{Yard, IsInside, actor_at, cell_at, pin_in}
+use Rattle.lz_machine.specs.Table.{publishes, settling}
+use Rattle.lz_machine.specs.Runs.{Caller}
+use Rattle.lz_machine.specs.Notes.{Notes}
+use Rattle.lz_machine.specs.Ledgers.{Row}
+use Rattle.lz_machine.specs.CallersSound.{View, Relies, IsCaller, is_before_pin, side_of}
+use Rattle.lz_machine.specs.CallsStand.{own_change}
+use Rattle.lz_machine.proofs.Ledger.Change.{changes_at, changed_same, changed_other}
+use Rattle.lz_machine.proofs.Ledger.Parts.{ends_now}
+
+-- Of a pass that is inside now the note tells its own change still, where it did before.
+abbrev pub IsTold : List ℕ → Trace → (ℕ → Option ℕ) → Trace → (ℕ → Option ℕ) → Type 0
+IsTold new P changed Q later = (b n : ℕ) → IsInside (pin_in new b) → n ≤ length P → changed b ≡ own_change b n P → later b ≡ own_change b n Q
+
+-- nothing is published
+pub told_same : (new : List ℕ) (P : Trace) (changed : ℕ → Option ℕ) → IsTold new P changed P changed
+told_same new P changed b n inside low told = told
+
+-- events that publish a change of their actor's
+abbrev pub is_change : Event → Bool
+is_change Link = true
+is_change Mark = true
+is_change _ = false
+
+settling_none : (stage : Stage) (s : ℕ) (P : Trace) (b n : ℕ) → own_change b n (settling stage s ++ P) ≡ own_change b n P
+settling_none Open s P b n = refl
+settling_none Closed s P b n = refl
+settling_none _ s P b n = refl
+
+event_none : (y : Yard) (a : ℕ) (e : Event) (P : Trace) (b n : ℕ) → is_change e ≡ false → own_change b n (publishes y (actor_at y a) a e ++ P) ≡ own_change b n P
+event_none y a Link P b n quiet = absurd (false≢true (sym quiet))
+event_none y a Mark P b n quiet = absurd (false≢true (sym quiet))
+event_none y a (Settle s) P b n quiet = settling_none (cell_at y s).stage s P b n
+event_none y a _ P b n quiet = refl
+
+-- no change is published
+pub told_quiet : (new : List ℕ) (y : Yard) (a : ℕ) (e : Event) (P : Trace) (changed : ℕ → Option ℕ) → is_change e ≡ false → IsTold new P changed (publishes y (actor_at y a) a e ++ P) changed
+told_quiet new y a e P changed quiet b n inside low told = told ∙ sym (event_none y a e P b n quiet)
+
+module _ (new : List ℕ) (a : ℕ) (P Q : Trace) (notes : Notes) where
+  -- Q is P with a change of a
+  abbrev HasChange : Type 0
+  HasChange = (b n : ℕ) → own_change b n Q ≡ (if nat_le n (length P) && (a == b) then Some (length P) else own_change b n P)
+
+  told_changed : HasChange → IsTold new P notes.changed Q (changes_at notes a (length P)).changed
+  told_changed has b n inside low told = elim (cases_eq b a) [
+    | inl same ↦
+        let late : nat_le n (length P) ≡ true = grind (arith, nat_tests, low) in
+        let own : (a == b) ≡ true = grind (arith, nat_tests, same) in
+        ap (changes_at notes a (length P)).changed same ∙ changed_same notes a (length P)
+        ∙ sym (has b n ∙ ap (λ (q : Bool). if q && (a == b) then Some (length P) else own_change b n P) late ∙ ap (λ (q : Bool). if q then Some (length P) else own_change b n P) own)
+    | inr other ↦
+        let late : nat_le n (length P) ≡ true = grind (arith, nat_tests, low) in
+        let away : (a == b) ≡ false = grind (arith, nat_tests, other) in
+        changed_other notes a (length P) b other ∙ told
+        ∙ sym (has b n ∙ ap (λ (q : Bool). if q && (a == b) then Some (length P) else own_change b n P) late ∙ ap (λ (q : Bool). if q then Some (length P) else own_change b n P) away)
+  ]
+
+-- a key is linked, and a node is marked
+pub told_link : (new : List ℕ) (y : Yard) (a : ℕ) (P : Trace) (notes : Notes) → IsTold new P notes.changed (publishes y (actor_at y a) a Link ++ P) (changes_at notes a (length P)).changed
+told_link new y a P notes = told_changed new a P (publishes y (actor_at y a) a Link ++ P) notes (λ b n. refl)
+
+pub told_mark : (new : List ℕ) (y : Yard) (a : ℕ) (P : Trace) (notes : Notes) → IsTold new P notes.changed (publishes y (actor_at y a) a Mark ++ P) (changes_at notes a (length P)).changed
+told_mark new y a P notes = told_changed new a P (publishes y (actor_at y a) a Mark ++ P) notes (λ b n. refl)
+
+-- a call ends, and its pass is outside
+pub told_ended : (new : List ℕ) (a : ℕ) (P : Trace) (notes : Notes) (last : List Row) → pin_in new a % 2 ≡ 0 → IsTold new P notes.changed P (ends_now notes a last).changed
+told_ended new a P notes last even b n inside low told = elim (cases_eq b a) [
+  | inl same ↦ absurd (omega (arith, inside, even, ap (pin_in new) same))
+  | inr other ↦
+      let away : (b == a) ≡ false = grind (arith, nat_tests, other) in
+      ap (λ (q : Bool). if q then None else notes.changed b) away ∙ told
+]
+
+-- it ends as its pass goes out
+pub told_out : (pins : List ℕ) (a : ℕ) (P : Trace) (notes : Notes) (last : List Row) → pin_in pins a % 2 ≡ 1 → 1 ≤ a → a ≤ length pins → IsTold (set_of_pass pins a (pin_in pins a + 1)) P notes.changed P (ends_now notes a last).changed
+told_out pins a P notes last odd low high =
+    let now : pin_in (set_of_pass pins a (pin_in pins a + 1)) a ≡ pin_in pins a + 1 = of_pass_same pins a (pin_in pins a + 1) 0 low high in
+    told_ended (set_of_pass pins a (pin_in pins a + 1)) a P notes last (omega (arith, now, odd))
+
+-- a trace has no change beyond its end
+pub none_beyond : (b n : ℕ) (P : Trace) → length P ≤ n → own_change b n P ≡ None
+none_beyond b n [] le = refl
+none_beyond b n (linked k s p ∷ P) le =
+    let early : nat_le n (length P) ≡ false = grind (arith, nat_tests, le) in
+    ap (λ (q : Bool). if q && (p == b) then Some (length P) else own_change b n P) early ∙ none_beyond b n P (omega (arith, le))
+none_beyond b n (marked k s p ∷ P) le =
+    let early : nat_le n (length P) ≡ false = grind (arith, nat_tests, le) in
+    ap (λ (q : Bool). if q && (p == b) then Some (length P) else own_change b n P) early ∙ none_beyond b n P (omega (arith, le))
+none_beyond b n (_ ∷ P) le = none_beyond b n P (omega (arith, le))
+
+-- a pass that is outside has changed nothing
+side_out : (b : Bool) → side_of b ≡ 0 → b ≡ true
+side_out true side = refl
+side_out false side = absurd (omega (arith, side))
+
+before_pin : (v : View) (c : Command) (at : Progress) (P0 P : Trace) (changed : Option ℕ) → is_before_pin at ≡ true → Relies v c at P0 P changed → changed ≡ None
+before_pin v c (Playing Pinning zero) P0 P changed outside h = h.1
+before_pin v c (Playing Pinning (suc i)) P0 P changed outside h = absurd h
+before_pin v c (Answering SaysWorn) P0 P changed outside h = h.1
+before_pin v c (Answering SaysOldFile) P0 P changed outside h = h.1
+before_pin v c _ P0 P changed outside h = absurd (false≢true outside)
+
+pub none_outside : (v : View) (pin : ℕ) (caller : Option Caller) (P0 P : Trace) (changed : Option ℕ) → pin % 2 ≡ 0 → IsCaller v pin caller P0 P changed → changed ≡ None
+none_outside v pin None P0 P changed even h = h.1
+none_outside v pin (Some caller) P0 P changed even h = before_pin v caller.command caller.progress P0 P changed (side_out (is_before_pin caller.progress) (sym h.0 ∙ even)) h.2
