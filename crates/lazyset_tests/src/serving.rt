@@ -19,6 +19,7 @@ const OPTIONS: ServeOptions = ServeOptions {
     passes: 4,
     sessions: 2,
     buckets: 1,
+    idle: 0,
 };
 
 /// Takes what a service says, and tells its port to those who look for it, who find 0 until then.
