@@ -1,6 +1,6 @@
 -- What the open call of a pass that is inside may rely on, by the notes: with the trace at which the pass went in, and the
 -- trace as it is.
-use Rattle.std.proofs.Common.{◌≡◌, ℕ, ◌%◌, ◌≤◌, Bool, true, List, [], ◌∷◌, ◌++◌, map, refl, sym, ap, ◌∙◌, subst}
+use Rattle.std.proofs.Common.{◌≡◌, ℕ, ◌%◌, ◌≤◌, Bool, true, List, [], ◌∷◌, ◌++◌, map, length, refl, sym, ap, ◌∙◌, subst}
 use Rattle.std.specs.Prelude.{Option, Some, None, is_some}
 use Rattle.lz_slot.specs.declared.command.Command.{Command}
 use Rattle.lz_disk.specs.Images.{Medium}
@@ -11,6 +11,7 @@ use Rattle.lz_machine.specs.declared.caller.Progress.{Progress}
 use Rattle.lz_machine.specs.Yards.{Shape}
 use Rattle.lz_machine.specs.Table.{pin_of}
 use Rattle.lz_machine.specs.CallersSound.{CallerSound, view_of}
+use Rattle.lz_machine.specs.CallsStand.{own_change}
 use Rattle.lz_machine.specs.Runs.{Start, IsStart, State, Up, Service, Transition, run, IsRun, first_point, caller_at}
 use Rattle.lz_machine.proofs.Theorem.TraceOutside.{calls_stand}
 use Rattle.lz_board.specs.declared.view.What.TheVariants.{Played}
@@ -34,14 +35,11 @@ still_calling shape p (h ∷ hs) steps is = still_calling shape p hs steps (befo
 pub call_relies : (start : Start) (starts : IsStart start) (ns : List Note) (steps : List Transition) (service : Service) (disk : Medium)
     → IsRun (first_point start) steps → ReadsAs (first_point start) ns steps → (run (first_point start) steps).state ≡ Up service disk
     → (q : ℕ) → 1 ≤ q → q ≤ start.shape.passes → pin_after q ns % 2 ≡ 1
-    → (changed : Option ℕ)
-    × CallerSound (view_of service.yard.shape service.yard.vault service.yard.actors q) (pin_of service.yard q) (caller_at service.callers q)
-    (turned_at q (first_point start).trace ns) (trace_of (first_point start).trace ns) changed
+    → CallerSound (view_of service.yard.shape service.yard.vault service.yard.actors q) (pin_of service.yard q) (caller_at service.callers q)
+    (turned_at q (first_point start).trace ns) (trace_of (first_point start).trace ns)
+    (own_change q (length (turned_at q (first_point start).trace ns)) (trace_of (first_point start).trace ns))
 call_relies start starts ns steps service disk runs reads at q low high inside =
     let pin : pin_of service.yard q ≡ pin_after q ns = ap (λ w. pin_in_state start starts w q) (sym at) ∙ pin_reads start starts ns steps runs reads q low high in
-    let law = calls_stand start steps service disk q starts runs at (ap (λ v. v % 2) pin ∙ inside) in (
-      law.0,
-      subst (λ (x : Trace × Trace). CallerSound (view_of service.yard.shape service.yard.vault service.yard.actors q) (pin_of service.yard q) (caller_at service.callers q) x.0 x.1 law.0)
-          (λ i. (turned_outside start starts ns steps runs reads q low high inside i, trace_reads (first_point start) ns steps reads i))
-          law.1,
-    )
+    subst (λ (x : Trace × Trace). CallerSound (view_of service.yard.shape service.yard.vault service.yard.actors q) (pin_of service.yard q) (caller_at service.callers q) x.0 x.1 (own_change q (length x.0) x.1))
+    (λ i. (turned_outside start starts ns steps runs reads q low high inside i, trace_reads (first_point start) ns steps reads i))
+    (calls_stand start steps service disk q starts runs at (ap (λ v. v % 2) pin ∙ inside))
