@@ -1,36 +1,11 @@
 //! Each device call of a short run fails in turn, and each kind of crash follows.
 use crate::commands::{Ran, TWO_SLOTS, disk_with, make, run};
+use crate::faults::{FAILINGS, Failing, PICKS, set_failing};
 use lz_disk::{Disk, MemoryDisk, Pick};
 use lz_slot::Format;
 use std::alloc::Global;
 use std::process::Abort;
 use std::test::Fail;
-
-const PICKS: [Pick; 6] = [
-    Pick::Old,
-    Pick::New,
-    Pick::Byte(0xa5),
-    Pick::Byte(0x37),
-    Pick::Byte(0),
-    Pick::Part(1),
-];
-
-/// Whether a device fails at one call or from then on.
-#[derive(Clone, Copy)]
-enum Failing {
-    Once,
-    ForGood,
-}
-
-const FAILINGS: [Failing; 2] = [Failing::Once, Failing::ForGood];
-
-// Lets so many calls pass before the one that fails.
-fn set_failing(disk: &mut MemoryDisk, failing: Failing, passes: u64) {
-    match failing {
-        Failing::Once => disk.trip_after(passes),
-        Failing::ForGood => disk.fuse(passes),
-    }
-}
 
 // What a fresh run answers to whether 17 and 18 are members, once the disk has crashed so.
 fn found(alloc: Global, ran: Ran, pick: Pick) -> Result<Vec<u8>, Fail> {

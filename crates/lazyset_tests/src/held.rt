@@ -2,7 +2,7 @@
 ghost use Rattle.std.specs.Prelude.{◌≡◌};
 ghost use Rattle.lz_set.specs.Names.{MayCall};
 
-use crate::threads::{keys_in, made};
+use crate::threads::{ask, keys_in, made};
 use lz_disk::MemoryDisk;
 use lz_machine::Kind;
 use lz_set::{Blank, Fault, Named, Pass, Set, StepGate};
@@ -110,22 +110,6 @@ impl StepGate for Gate {
         if pass == 1 {
             self.turnstile.pass_by(rt, kind);
         }
-    }
-}
-
-fn ask<N: Named, R: Wait>(
-    rt: &R,
-    set: &Set<MemoryDisk, Gate, N>,
-    pass: &mut Pass,
-    command: Command,
-) -> Result<bool, Fault>
-    requires { MayCall N.name pass.old }
-    ensures { MayCall N.name pass.new }
-{
-    match command {
-        Command::Add(key) => set.add(rt, pass, key),
-        Command::Remove(key) => set.remove(rt, pass, key),
-        Command::Has(key) => set.has(rt, pass, key),
     }
 }
 

@@ -8,6 +8,10 @@ mod commands;
 #[cfg(test)]
 mod crashes;
 #[cfg(test)]
+mod drills;
+#[cfg(test)]
+mod faults;
+#[cfg(test)]
 mod held;
 #[cfg(test)]
 mod interleaving;
