@@ -1,5 +1,5 @@
 -- The value under the lock, and what one hold promises.
-use Rattle.std.specs.Prelude.{◌≡◌, ◌≢◌, ℕ, ◌%◌, ◌==◌, Bool, true, false, if◌then◌else◌, List, [], ◌∷◌, ◌++◌, map, length, Option, Some, None}
+use Rattle.std.specs.Prelude.{◌≡◌, ◌≢◌, ℕ, ◌%◌, ◌==◌, false, if◌then◌else◌, List, [], ◌∷◌, ◌++◌, map, length, Option, Some, None}
 use Rattle.lz_slot.specs.declared.command.Command.{Command}
 use Rattle.lz_slot.specs.declared.format.Format.{Format}
 use Rattle.lz_slot.specs.Histories.{History}
@@ -14,7 +14,7 @@ use Rattle.lz_list.specs.Traces.{Trace, Lawful}
 use Rattle.lz_list.specs.Pinned.{IsQuiet}
 use Rattle.lz_machine.specs.declared.caller.Progress.{Progress}
 use Rattle.lz_machine.specs.declared.event.Event.{Event}
-use Rattle.lz_machine.specs.declared.event.Event.TheVariants.{WriteKey, WriteOpen}
+use Rattle.lz_machine.specs.declared.event.Event.TheVariants.{SeePin}
 use Rattle.lz_machine.specs.declared.event.Outcome.{Outcome}
 use Rattle.lz_machine.specs.declared.event.Outcome.TheVariants.{Done, OldFile, Fault}
 use Rattle.lz_machine.specs.Yards.{Shape, Yard}
@@ -29,10 +29,11 @@ use Rattle.lz_board.specs.declared.view.Part.{Part}
 use Rattle.lz_board.specs.Notes.{listed, trace_of, Since, load_note, place, shape_of, pin_after, pin_after_what}
 use Rattle.lz_board.specs.Kept.{is_calling, Knows, PinTold}
 use Rattle.lz_machine.specs.Yards.{IsInside}
-use Rattle.lz_board.specs.Plays.{no_sizes, noted}
+use Rattle.lz_board.specs.Plays.{no_sizes, noted, found_note}
 use Rattle.lz_board.specs.Seats.{BoardId}
 use Rattle.lz_tie.specs.declared.playing.Exchange.{Exchange}
 use Rattle.lz_tie.specs.NotedRuns.{AreNext, IsTied, seen_event}
+use Rattle.lz_tie.specs.Reuse.{ReuseTold}
 
 -- What the lock keeps, as contracts see it: the pen's notes, the yard, and the disk.
 pub record LockedOver (D : Type 0) : Type 0 where
@@ -52,18 +53,14 @@ pub record IsLocked (b : BoardId) (ns : List Note) (y : Yard) (disk : Device) : 
   pub sizes : b.sizes ≡ sizes_of y.shape
   pub pins : length y.words.pins ≡ y.shape.passes
   pub tied : IsTied b.opened ns y disk.honest disk.medium
+  -- and why a hold may prepare the slot in its actor's hand
+  pub reuse : ReuseTold b.sizes b.opened ns y.uses y.actors
 
 -- The pass has this call open: it is the place to which its own steps lead, and its loads since are the call's.
 pub record HasCall (h : Part) (c : Calling) : Type 0 where
   pub next : AreNext (shape_of h.sizes) h.number h.loads h.steps
   pub at : place (shape_of h.sizes) (map (load_note h.number) h.loads ++ h.steps) ≡ Some (c.command, c.progress)
   pub pass : HasPass h.sizes.passes (event_at (shape_of h.sizes) c.command c.progress)
-
--- events that prepare a slot for another node
-abbrev pub is_preparing : Event → Bool
-is_preparing (WriteKey k) = true
-is_preparing WriteOpen = true
-is_preparing e = false
 
 -- In a hold, while the pass with this part has joined the pen: the notes, the yard and the disk are as the lock keeps them.
 pub record InHold (b : BoardId) (ns : List Note) (y : Yard) (disk : Device) (h : Part) : Type 0 where
@@ -81,11 +78,17 @@ pub record IsIdle (z : Sizes) (h : Part) : Type 0 where
 abbrev pub begins_with : Format → Command → Outcome
 begins_with format c = if is_old format c then OldFile else Done
 
+-- a pin word that the event looks at was just found
+abbrev pub SeesPin : List Note → Event → Type 0
+SeesPin ns (SeePin q v) = (rest : List Note) × (ns ≡ found_note q v ∷ rest)
+SeesPin ns e = Unit {0}
+
 -- This is the next event of the pass's call, and no load: a pin word that it looks at has the value that the notes give it.
 pub record IsTurn (ns : List Note) (h : Part) (c : Calling) (e : Event) : Type 0 where
   pub call : HasCall h c
   pub event : e ≡ seen_event (λ q. pin_after q ns) (event_at (shape_of h.sizes) c.command c.progress)
   pub load : hop_of e ≡ None
+  pub found : SeesPin ns e
 
 -- The turn was played in a state that a run of the machine reaches, with the trace of these notes: it gave what the event's
 -- line says there, or its device call failed.

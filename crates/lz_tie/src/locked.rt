@@ -1,13 +1,12 @@
 //! What lies under the lock.
-ghost use Rattle.std.specs.Prelude.{◌≡◌, ◌≤◌, ◌∷◌, None, false};
+ghost use Rattle.std.specs.Prelude.{◌≡◌, ◌∷◌, None};
 ghost use Rattle.lz_machine.specs.declared.event.Event.TheVariants.{SeePin};
 ghost use Rattle.lz_machine.specs.Calls.{event_at};
-ghost use Rattle.lz_machine.specs.Laws.{hop_of};
 ghost use Rattle.lz_board.specs.declared.view.What.TheVariants.{Called, Played};
 ghost use Rattle.lz_board.specs.Notes.{note_by, shape_of};
 ghost use Rattle.lz_board.specs.Plays.{found_note};
-ghost use Rattle.lz_board.specs.Seats.{IsOf, id_of, part};
-ghost use Rattle.lz_tie.specs.Holds.{HasCall, Holds, IsIdle, IsTurn, Turned, begins_with, is_preparing};
+ghost use Rattle.lz_board.specs.Seats.{IsOf, IsPenOf, id_of, notes, part};
+ghost use Rattle.lz_tie.specs.Holds.{HasCall, Holds, IsIdle, IsLocked, IsTurn, Turned, begins_with};
 
 use crate::calling::call_joined;
 use crate::named::Named;
@@ -40,12 +39,24 @@ impl<N: Named, D: Disk> Model for Locked<N, D> {
 }
 
 impl<N: Named, D: Disk> Locked<N, D> {
+    /// The value under the lock of a set that was just opened: its board has the yard's words.
+    pub fn new(yard: Yard<D>, pen: Pen) -> Locked<N, D>
+        requires pen { IsPenOf N.board pen }
+        requires yard { IsLocked N.board (notes pen) yard.yard (D.device yard.disk) }
+        ensures { result ≡ record { notes = notes pen; yard = yard.yard; disk = yard.disk } }
+    {
+        Locked {
+            yard,
+            pen,
+            of: PhantomData,
+        }
+    }
+
     /// One hold: plays the next event of the pass's call, which is no load and no look at a pin word.
     pub fn play(&mut self, board: &Board, pass: &mut Pass, caller: &Caller, event: Event) -> Turn
         requires board { id_of board.now ≡ N.board }
         requires pass { IsOf N.board pass.old }
         requires turn { IsTurn self.old.notes (part pass.old) caller.now event }
-        requires prepares { is_preparing event ≡ false }
         ensures pass { IsOf N.board pass.new }
         ensures holds { Holds N.board.opened self.old.notes self.new.notes (note_by (part pass.old).number (Played event result.outcome) result.published) (part pass.old) (part pass.new) }
         ensures turned { Turned N.board.opened self.old.notes (part pass.old).number caller.now.command caller.now.progress event result.outcome result.published }
@@ -96,5 +107,12 @@ impl<N: Named, D: Disk> Locked<N, D> {
         let outcome = call_joined(board, &mut self.pen, &mut self.yard, pass, command);
         board.cut(&mut self.pen, pass);
         outcome
+    }
+
+    /// Ends the life, and hands the disk back as it is.
+    pub fn close(self) -> D
+        ensures { result ≡ self.disk }
+    {
+        self.yard.close()
     }
 }

@@ -1,11 +1,8 @@
 //! One turn of a pass that has joined the pen.
-ghost use Rattle.std.specs.Prelude.{◌≡◌, false};
-ghost use Rattle.lz_list.specs.Words.{get};
 ghost use Rattle.lz_board.specs.declared.view.What.TheVariants.{Played};
 ghost use Rattle.lz_board.specs.Notes.{note_by};
-ghost use Rattle.lz_board.specs.Noting.{MayPrepare};
 ghost use Rattle.lz_board.specs.Seats.{Carries, IsAtHand, carried, id_of, notes};
-ghost use Rattle.lz_tie.specs.Holds.{Holds, InHold, IsExchange, IsTurn, Turned, is_preparing};
+ghost use Rattle.lz_tie.specs.Holds.{Holds, InHold, IsExchange, IsTurn, Turned};
 
 use lz_board::{Board, Note, Pass, Pen, What};
 use lz_caller::Caller;
@@ -66,7 +63,6 @@ pub(crate) fn play_joined<D: Disk>(
     requires hold { InHold (id_of board.now) (notes pen.old) yard.old.yard (D.device yard.old.disk) (carried pen.old) }
     requires turn { IsTurn (notes pen.old) (carried pen.old) _caller.now event }
     requires hand { IsAtHand (id_of board.now) pass.old (carried pen.old) }
-    requires prepares { is_preparing event ≡ false }
     ensures carries { Carries (id_of board.now) pen.new }
     ensures hold { InHold (id_of board.now) (notes pen.new) yard.new.yard (D.device yard.new.disk) (carried pen.new) }
     ensures hand { IsAtHand (id_of board.now) pass.new (carried pen.new) }

@@ -37,8 +37,9 @@ use Rattle.lz_board.specs.Seats.{BoardId}
 use Rattle.lz_board.proofs.Upkeep.PartUpkeep.{trace_noted, knows_noted, told_own}
 use Rattle.lz_tie.specs.NotedRuns.{SameButAllPins, IsTied}
 use Rattle.lz_tie.specs.Holds.{sizes_of, IsLocked, InHold, IsIdle, Holds, begins_with}
-use Rattle.lz_tie.proofs.Hold.NoteCondition.{tied_lawful, noting_nothing}
-use Rattle.lz_tie.proofs.Hold.PlayedTurn.{alike_tied}
+use Rattle.lz_tie.specs.Reuse.{ReuseTold}
+use Rattle.lz_tie.proofs.Reuse.EventUpkeep.{silent_told, hands_after}
+use Rattle.lz_tie.proofs.Hold.NoteCondition.{alike_tied, tied_lawful, noting_nothing}
 use Rattle.lz_tie.proofs.Hold.CallStart as starting
 
 invoke_course : (y : Yard) (a : ℕ) (c : Command) → course y a (Invoke c) ≡ Plays
@@ -129,6 +130,10 @@ module _ (b : BoardId) (ns : List Note) (y : Yard) (dev : Device) (h : Part) (ho
           device = λ honest. let before = subst IsTrue d.honest honest in d.medium before ∙ ap (λ k. medium_after k dev.medium) call ∙ t.device before;
         }
 
+    -- no use changes, and no hand
+    reuse : ReuseTold b.sizes b.opened (n ∷ ns) (invoked z a c).uses (invoked z a c).actors
+    reuse = let silent = silent_told b.sizes b.opened a [] ns n z hold.locked.reuse refl in record { each = silent.each; hands = λ d s is. silent.hands d s (hands_after z a (Invoke c) (λ same. absurd cc) d s is) }
+
     shape : z'.shape ≡ y.shape
     shape = ap (λ (q : Yard). q.shape) yard_is
 
@@ -137,6 +142,7 @@ module _ (b : BoardId) (ns : List Note) (y : Yard) (dev : Device) (h : Part) (ho
       sizes = hold.locked.sizes ∙ ap sizes_of (sym shape);
       pins = ap (λ (q : Yard). length q.words.pins) yard_is ∙ length-set_of_pass y.words.pins a h.pin ∙ hold.locked.pins ∙ ap (λ (s : Shape). s.passes) (sym shape);
       tied = tied;
+      reuse = subst (λ (q : Yard). ReuseTold b.sizes b.opened (n ∷ ns) q.uses q.actors) (sym yard_is) reuse;
     }
 
     lawful : Lawful b.sizes.buckets b.sizes.slots (trace_of b.opened ns)

@@ -1,7 +1,7 @@
 -- The same turn in the words of the code that plays it: its number and its pin word are read at run time.
 use Rattle.std.proofs.Common.{◌≡◌, ◌≢◌, ⊎_elim, ℕ, Bool, true, false, List, [], ◌∷◌, refl, sym, ap, ◌∙◌, subst}
 use mathlib.Core.Bool.{false≢true}
-use Rattle.std.specs.Prelude.{Option, Some, None}
+use Rattle.std.specs.Prelude.{◌&&◌, Option, Some, None, is_some, unwrap_or}
 use Rattle.lz_disk.specs.Devices.{Device}
 use Rattle.lz_vault.specs.declared.vault.Stage.{Stage}
 use Rattle.lz_vault.specs.declared.vault.Stage.TheVariants.{Closed, KeyLoose, Keyed, Opening, Open, Closing}
@@ -17,10 +17,11 @@ use Rattle.lz_machine.specs.declared.event.Event.TheVariants.{WriteKey, WriteOpe
 use Rattle.lz_machine.specs.declared.event.Outcome.{Outcome}
 use Rattle.lz_machine.specs.declared.event.Outcome.TheVariants.{Fault}
 use Rattle.lz_machine.specs.Yards.{Yard, actor_at, cell_at}
-use Rattle.lz_machine.specs.Table.{course, published_on, publishes, settling, line_publishes}
+use Rattle.lz_machine.specs.Table.{course, needs, published_on, publishes, settling, line_publishes}
 use Rattle.lz_machine.specs.Orders.{Calling}
 use Rattle.lz_machine.specs.Ready.{IsEventOf}
 use Rattle.lz_machine.specs.Runs.{MayPlay, with_words}
+use Rattle.lz_machine.proofs.Theorem.Readiness.{plays_needs}
 use Rattle.lz_yard.specs.declared.told.Told.{Told}
 use Rattle.lz_yard.specs.Steps.{Played as PlayedOver}
 use Rattle.lz_yard.proofs.Events.KeptFit.{fault_or_not}
@@ -29,11 +30,11 @@ use Rattle.lz_board.specs.declared.view.What.TheVariants.{Played}
 use Rattle.lz_board.specs.declared.view.Note.{Note}
 use Rattle.lz_board.specs.declared.view.Part.{Part}
 use Rattle.lz_board.specs.Notes.{note_by, listed, trace_of}
-use Rattle.lz_board.specs.Noting.{MayNote, MayPrepare, KeepsPin, MovesPin, Writes}
+use Rattle.lz_board.specs.Noting.{AllLeft, MayNote, MayPrepare, KeepsPin, MovesPin, Writes}
 use Rattle.lz_board.specs.Plays.{noted, noted_part, moved_part}
 use Rattle.lz_board.specs.Seats.{BoardId}
 use Rattle.lz_tie.specs.declared.playing.Exchange.{Exchange}
-use Rattle.lz_tie.specs.Holds.{InHold, IsTurn, Turned, IsExchange, Holds, is_preparing}
+use Rattle.lz_tie.specs.Holds.{InHold, IsTurn, Turned, IsExchange, Holds}
 use Rattle.lz_tie.proofs.Hold.PlayedTurn as turn_of
 
 -- the slot that is prepared
@@ -42,46 +43,51 @@ prepared (key_prepared s v ∷ rest) = Some s
 prepared (link_prepared s v ∷ rest) = Some s
 prepared _ = None
 
-prepared_none : (y : Yard) (a : ℕ) (e : Event) → is_preparing e ≡ false → prepared (line_publishes y a e) ≡ None
-prepared_none y a e other = on (course y a e)
-  where
-    settles : (stage : Stage) (s : ℕ) → prepared (settling stage s) ≡ None
-    settles Open s = refl
-    settles Closed s = refl
-    settles KeyLoose s = refl
-    settles Keyed s = refl
-    settles Opening s = refl
-    settles Closing s = refl
+none_some : (s : ℕ) → None ≡ Some s → ⊥
+none_some s is = false≢true (ap is_some is)
 
-    none : (e : Event) → is_preparing e ≡ false → prepared (publishes y (actor_at y a) a e) ≡ None
-    none (WriteKey k) other = absurd (false≢true (sym other))
-    none WriteOpen other = absurd (false≢true (sym other))
-    none (Settle s) other = settles (cell_at y s).stage s
-    none e other = refl
-
-    on : (c : Course) → prepared (published_on c y (actor_at y a) a e) ≡ None
-    on (Refused o) = refl
-    on Dies = refl
-    on Plays = none e other
-
--- what prepares no slot may be noted
-prepares_none : (z : Sizes) (opened : Trace) (ns : List Note) (x : Option Publishing) → prepared (listed x) ≡ None → MayPrepare z opened ns x
-prepares_none z opened ns None none = tt
-prepares_none z opened ns (Some (key_prepared s v)) none = absurd (false≢true (sym (ap is_slot none)))
+-- it is the one in the actor's hand
+prepared_hand : (y : Yard) (a : ℕ) (e : Event) (s : ℕ) → prepared (line_publishes y a e) ≡ Some s → (actor_at y a).slot ≡ Some s
+prepared_hand y a e s is = on (course y a e) refl is
   where
-    is_slot : Option ℕ → Bool
-    is_slot None = false
-    is_slot (Some s) = true
-prepares_none z opened ns (Some (link_prepared s v)) none = absurd (false≢true (sym (ap is_slot none)))
-  where
-    is_slot : Option ℕ → Bool
-    is_slot None = false
-    is_slot (Some s) = true
-prepares_none z opened ns (Some (linked k s p)) none = tt
-prepares_none z opened ns (Some (marked k s p)) none = tt
-prepares_none z opened ns (Some (unlinked k s p)) none = tt
-prepares_none z opened ns (Some (settled s c)) none = tt
-prepares_none z opened ns (Some halted) none = tt
+    settles : (stage : Stage) (t : ℕ) → prepared (settling stage t) ≡ Some s → ⊥
+    settles Open t is = none_some s is
+    settles Closed t is = none_some s is
+    settles KeyLoose t is = none_some s is
+    settles Keyed t is = none_some s is
+    settles Opening t is = none_some s is
+    settles Closing t is = none_some s is
+
+    keyed : (slot : Option ℕ) (c : Bool) → (is_some slot && c) ≡ true → Some (unwrap_or slot 0) ≡ Some s → slot ≡ Some s
+    keyed None c needs is = absurd (false≢true needs)
+    keyed (Some t) c needs is = is
+
+    opens : (checked : Bool) (slot : Option ℕ) (c : Bool) → (checked && is_some slot && c) ≡ true → Some (unwrap_or slot 0) ≡ Some s → slot ≡ Some s
+    opens true None c needs is = absurd (false≢true needs)
+    opens false None c needs is = absurd (false≢true needs)
+    opens checked (Some t) c needs is = is
+
+    go : (e : Event) → needs y a e ≡ true → prepared (publishes y (actor_at y a) a e) ≡ Some s → (actor_at y a).slot ≡ Some s
+    go (WriteKey k) has is = keyed (actor_at y a).slot _ has is
+    go WriteOpen has is = opens _ (actor_at y a).slot _ has is
+    go (Settle t) has is = absurd (settles (cell_at y t).stage t is)
+    go e has is = absurd (none_some s is)
+
+    on : (c : Course) → course y a e ≡ c → prepared (published_on c y (actor_at y a) a e) ≡ Some s → (actor_at y a).slot ≡ Some s
+    on (Refused o) at is = absurd (none_some s is)
+    on Dies at is = absurd (none_some s is)
+    on Plays at is = go e (plays_needs y a e at) is
+
+-- a slot that each pass has left may be prepared
+prepares_left : (z : Sizes) (opened : Trace) (ns : List Note) (x : Option Publishing) → ((s : ℕ) → prepared (listed x) ≡ Some s → AllLeft z opened ns s) → MayPrepare z opened ns x
+prepares_left z opened ns None left = tt
+prepares_left z opened ns (Some (key_prepared s v)) left = left s refl
+prepares_left z opened ns (Some (link_prepared s v)) left = left s refl
+prepares_left z opened ns (Some (linked k s p)) left = tt
+prepares_left z opened ns (Some (marked k s p)) left = tt
+prepares_left z opened ns (Some (unlinked k s p)) left = tt
+prepares_left z opened ns (Some (settled s c)) left = tt
+prepares_left z opened ns (Some halted) left = tt
 
 module _ (b : BoardId) (ns : List Note) (y : Yard) (dev : Device) (h : Part) (hold : InHold b ns y dev h) (c : Calling) (e : Event) (turn : IsTurn ns h c e)
     (p pin : ℕ) (number : p ≡ h.number) (pin_is : pin ≡ h.pin) (y1 : Yard) (told_of : y1 ≡ with_words y (set y.words (pin_at p) pin)) (dev1 : Device) (same : dev1 ≡ dev) where
@@ -97,8 +103,7 @@ module _ (b : BoardId) (ns : List Note) (y : Yard) (dev : Device) (h : Part) (ho
   pub may_play : MayPlay y1 dev1.honest dev1.medium p e
   may_play = subst (λ (q : Yard × Device × ℕ). MayPlay q.0 q.1.honest q.1.medium q.2 e) (λ i. (sym there i, sym same i, sym number i)) (turn_of.plays b ns y dev h hold c e turn)
 
-  module _ (o : Outcome) (z' : Yard) (told : Told) (dev' : Device) (played : PlayedOver y1 p e o z' told dev1 dev') (shape : z'.shape ≡ y1.shape) (x : Option Publishing) (shown : x ≡ told.published)
-      (other : is_preparing e ≡ false) where
+  module _ (o : Outcome) (z' : Yard) (told : Told) (dev' : Device) (played : PlayedOver y1 p e o z' told dev1 dev') (shape : z'.shape ≡ y1.shape) (x : Option Publishing) (shown : x ≡ told.published) where
     gave : PlayedOver z h.number e o z' told dev dev'
     gave = subst (λ (q : Yard × ℕ × Device). PlayedOver q.0 q.1 e o z' told q.2 dev') (λ i. (there i, number i, same i)) played
 
@@ -117,7 +122,7 @@ module _ (b : BoardId) (ns : List Note) (y : Yard) (dev : Device) (h : Part) (ho
     prepares : MayPrepare b.sizes b.opened ns told.published
     prepares = ⊎_elim
         (λ bad. subst (MayPrepare b.sizes b.opened ns) (sym (turn_of.failed b ns y dev h hold c e turn o z' told dev' gave same_shape bad)) tt)
-        (λ ok. prepares_none b.sizes b.opened ns told.published (ap prepared (turn_of.done b ns y dev h hold c e turn o z' told dev' gave same_shape ok) ∙ prepared_none z h.number e other))
+        (λ ok. prepares_left b.sizes b.opened ns told.published (λ s is. hold.locked.reuse.hands h.number s (prepared_hand z h.number e s (sym (ap prepared (turn_of.done b ns y dev h hold c e turn o z' told dev' gave same_shape ok)) ∙ is))))
         (fault_or_not o)
 
     pub may_note : MayNote b.sizes b.opened ns h n1

@@ -29,6 +29,7 @@ joined_turn ns ns' h h' seen c e turn notes part = subst (λ (q : List Note × P
   call = record { next = turn.call.next; at = turn.call.at; pass = turn.call.pass };
   event = turn.event;
   load = turn.load;
+  found = turn.found;
 }
 
 -- the pass has its number and its pin word at hand after a note of it too

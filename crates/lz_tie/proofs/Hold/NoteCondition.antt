@@ -1,18 +1,27 @@
 -- What the tie before a hold and after it say of the board: the words, and that the store of a hold publishes what its note
 -- says.
-use Rattle.std.proofs.Common.{◌≡◌, ◌≢◌, ⊎_elim, ℕ, List, ◌∷◌, ◌++◌, sym, ap, ◌∙◌, subst, arith, ne_eqb}
-use Rattle.std.specs.Prelude.{Bool, ◌==◌, length, if◌then◌else◌}
-use Rattle.std.proofs.lemmas.Bool.{eq-eqb, cases_eq}
+use Rattle.std.proofs.Common.{◌≡◌, ◌≢◌, ⊎_elim, ℕ, List, ◌∷◌, ◌++◌, refl, sym, ap, ◌∙◌, subst, arith, ne_eqb}
+use mathlib.Core.Bool.{false≢true}
+use Rattle.std.specs.Prelude.{Bool, true, false, ◌<◌, ◌==◌, length, if◌then◌else◌, [], Option, Some, None, option_to_list}
+use Rattle.std.proofs.lemmas.Bool.{eq-eqb, cases_eq, cases_lt}
+use Rattle.std.proofs.lemmas.List.{get_or_past}
+use Rattle.lz_slot.specs.Counted.{of_pass}
+use Rattle.lz_disk.specs.Devices.{Device}
 use Rattle.lz_disk.specs.Images.{Medium}
+use Rattle.lz_vault.specs.Vaults.{Vaulted}
+use Rattle.lz_allot.specs.Uses.{Use, Taken, use_of}
+use Rattle.lz_list.specs.declared.publishing.Publishing.{Publishing}
 use Rattle.lz_list.specs.declared.word.Word.{Word}
 use Rattle.lz_list.specs.declared.word.Word.TheVariants.{Head, Link, Key, Pin as PinOf, Halt}
 use Rattle.lz_list.specs.Words.{get}
 use Rattle.lz_list.specs.Lists.{IsWord}
 use Rattle.lz_list.proofs.Tables.WordTable.{length-table}
-use Rattle.lz_list.specs.Traces.{Trace, Lawful, word_after}
-use Rattle.lz_machine.specs.Yards.{Shape, Yard}
+use Rattle.lz_list.specs.Traces.{Trace, Lawful, IsLoose, word_after}
+use Rattle.lz_machine.specs.declared.actor.Actor.{Actor}
+use Rattle.lz_machine.specs.Yards.{Shape, Yard, idle_actor}
 use Rattle.lz_machine.specs.Runs.{run, first_point}
 use Rattle.lz_machine.specs.Sound.{TraceSound}
+use Rattle.lz_machine.specs.SlotsSound.{SlotStands, is_node, is_held, is_free, is_limbo, SlotsSound, is_out}
 use Rattle.lz_machine.proofs.Theorem.Reached.{reached_sound}
 use Rattle.lz_machine.proofs.Theorem.WornPass.{up_at}
 use Rattle.lz_board.specs.declared.view.Sizes.{Sizes}
@@ -26,6 +35,45 @@ use Rattle.lz_tie.specs.Holds.{sizes_of}
 use Rattle.lz_tie.proofs.Reading.TraceNotes.{trace_reads}
 use Rattle.lz_tie.proofs.Splicing.LoadInsertion.{words_shown}
 use Rattle.lz_tie.proofs.Hold.OneWord.{IsWalked}
+
+-- what was told of a publishing, as a list
+pub listed_is : (x : Option Publishing) → listed x ≡ option_to_list x
+listed_is None = refl
+listed_is (Some x) = refl
+
+pub listed_none : (x : Option Publishing) → listed x ≡ [] → x ≡ None
+listed_none None is = refl
+listed_none (Some x) is = absurd (false≢true (sym (ap is_cons is)))
+  where
+    is_cons : List Publishing → Bool
+    is_cons [] = false
+    is_cons (x ∷ xs) = true
+
+-- a yard that is the same but for pin words is tied too
+pub alike_tied : (opened : Trace) (ns : List Note) (y z : Yard) (dev : Device) → IsTied opened ns y dev.honest dev.medium → SameButAllPins z y → IsTied opened ns z dev.honest dev.medium
+alike_tied opened ns y z dev t same = record {
+  start = t.start;
+  steps = t.steps;
+  service = t.service;
+  medium = t.medium;
+  starts = t.starts;
+  runs = t.runs;
+  reads = t.reads;
+  begins = t.begins;
+  state = t.state;
+  yard = record {
+    shape = same.shape ∙ t.yard.shape;
+    heads = same.heads ∙ t.yard.heads;
+    links = same.links ∙ t.yard.links;
+    keys = same.keys ∙ t.yard.keys;
+    halt = same.halt ∙ t.yard.halt;
+    locks = same.locks ∙ t.yard.locks;
+    vault = same.vault ∙ t.yard.vault;
+    uses = same.uses ∙ t.yard.uses;
+    actors = same.actors ∙ t.yard.actors;
+  };
+  device = t.device;
+}
 
 same_words : (y s : Yard) → SameButAllPins y s → (z : Sizes) (w : Word) → IsShared z w → get y.words w ≡ get s.words w
 same_words y s h z (Head b) shared = ap (λ l. get (record s.words { heads = l }) (Head b)) h.heads
@@ -46,6 +94,30 @@ module _ (opened : Trace) (ns : List Note) (y : Yard) (honest : Bool) (disk : Me
   -- the yard's words are those after the notes' trace, which is lawful
   pub tied_words : (w : Word) → IsShared (sizes_of y.shape) w → get y.words w ≡ word_after y.shape.buckets (trace_of opened ns) w
   tied_words w shared = same_words y t.service.yard t.yard (sizes_of y.shape) w shared ∙ words_shown y.shape t.service.yard.words (trace_of opened ns) sound w shared
+
+  slots : SlotsSound y.shape y.vault.cells y.vault.dead y.uses y.actors (trace_of opened ns)
+  slots =
+      let up = up_at t.start (run (first_point t.start) t.steps) t.service t.medium (reached_sound t.start t.steps t.starts t.runs) t.state in
+      subst (λ (x : Shape × Vaulted × List Use × List Actor × Trace). SlotsSound x.0 x.1.cells x.1.dead x.2 x.3 x.4)
+      (λ i. (sym t.yard.shape i, sym t.yard.vault i, sym t.yard.uses i, sym t.yard.actors i, same_trace i)) up.up.sound.slots
+
+  -- a slot that isn't taken stands on no chain
+  pub tied_loose : (s : ℕ) → use_of y.uses s ≢ Taken → IsLoose y.shape.buckets s (trace_of opened ns)
+  tied_loose s other = ⊎_elim
+      (λ within. let count = slots.count in stands (slots.each s (omega (arith, within, count))))
+      (λ past. absurd (other (get_or_past y.uses s Taken past)))
+      (cases_lt s (length y.uses))
+    where
+      stands : SlotStands y.shape y.vault.cells y.vault.dead y.uses y.actors (trace_of opened ns) s → IsLoose y.shape.buckets s (trace_of opened ns)
+      stands (is_node chain stage) = absurd (other chain.taken)
+      stands (is_held a slot) = (slots.hand a s slot).loose
+      stands (is_out a out) = (slots.out a s out).loose
+      stands (is_free loose free stage) = loose
+      stands (is_limbo sights loose limbo stage) = loose
+
+  -- and neither does one in a hand
+  pub tied_held : (a s : ℕ) → (of_pass y.actors a idle_actor).slot ≡ Some s → IsLoose y.shape.buckets s (trace_of opened ns)
+  tied_held a s held = (slots.hand a s held).loose
 
   -- a word that walkers load is one of the board's
   pub tied_shared : (w : Word) → IsWalked w → IsWord y.words w → IsShared (sizes_of y.shape) w

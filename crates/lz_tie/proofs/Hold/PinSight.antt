@@ -20,6 +20,7 @@ use Rattle.lz_board.proofs.Upkeep.Splice.{other_step}
 use Rattle.lz_board.proofs.Upkeep.PartUpkeep.{knows_found}
 use Rattle.lz_tie.specs.NotedRuns.{seen_event}
 use Rattle.lz_tie.specs.Holds.{IsLocked, HasCall, InHold, IsTurn}
+use Rattle.lz_tie.proofs.Reuse.EventUpkeep.{silent_told}
 use Rattle.lz_tie.proofs.Hold.CallStart.{found_tied}
 
 found_locked : (b : BoardId) (ns : List Note) (y : Yard) (dev : Device) → IsLocked b ns y dev → (q v : ℕ) → 1 ≤ q → q ≤ b.sizes.passes → PinTold b.sizes ns q v → IsLocked b (found_note q v ∷ ns) y dev
@@ -29,6 +30,7 @@ found_locked b ns y dev l q v low high told =
       sizes = l.sizes;
       pins = l.pins;
       tied = found_tied b.opened ns y dev.honest dev.medium l.tied q v low (omega (arith, high, passes)) (subst (λ (s : Sizes). PinTold s ns q v) l.sizes told);
+      reuse = silent_told b.sizes b.opened 0 [] ns (found_note q v) y l.reuse refl;
     }
 
 found_told : (z : Sizes) (ns : List Note) (p pin q v : ℕ) → 1 ≤ p → (p ≡ q → pin ≡ v) → PinTold z ns p pin → PinTold z (found_note q v ∷ ns) p pin
@@ -53,6 +55,15 @@ found_hold b ns y dev h hold q v low high told own = record {
 pub found : (b : BoardId) (ns ns' : List Note) (y : Yard) (dev : Device) (h h' : Part) → InHold b ns y dev h → (q v : ℕ) → (1 ≤ q) × (q ≤ b.sizes.passes) → PinTold b.sizes ns q v → (h.number ≡ q → h.pin ≡ v)
     → ns' ≡ found_note q v ∷ ns → h' ≡ h → InHold b ns' y dev h'
 found b ns ns' y dev h h' hold q v range told own notes part = subst (λ (x : List Note × Part). InHold b x.0 y dev x.1) (λ i. (sym notes i, sym part i)) (found_hold b ns y dev h hold q v range.0 range.1 told own)
+
+-- and a look at that word is the next event of a call that looks at it
+pub found_turn : (ns ns' : List Note) (h h' : Part) (seen : Trace) (c : Calling) (q v : ℕ) → HasCall h c → event_at (shape_of h.sizes) c.command c.progress ≡ SeePin q 0 → ns' ≡ found_note q v ∷ ns → h' ≡ knowing seen h → IsTurn ns' h' c (SeePin q v)
+found_turn ns ns' h h' seen c q v call asked notes part = subst (λ (x : List Note × Part). IsTurn x.0 x.1 c (SeePin q v)) (λ i. (sym notes i, sym part i)) record {
+  call = record { next = call.next; at = call.at; pass = call.pass };
+  event = ap (SeePin q) (sym (ap (λ b. if b then v else pin_after q ns) (eq-eqb q q refl))) ∙ ap (seen_event (λ r. pin_after r (found_note q v ∷ ns))) (sym asked);
+  load = refl;
+  found = (ns, refl);
+}
 
 -- the pass that is looked at is one of the board's
 pub seen_range : (n : ℕ) (e : Event) (q v : ℕ) → HasPass n e → e ≡ SeePin q v → (1 ≤ q) × (q ≤ n)

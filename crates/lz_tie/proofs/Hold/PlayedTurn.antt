@@ -1,26 +1,27 @@
 -- One turn of a pass that has joined the pen: what it asks of the yard, what its note tells, and what it leaves.
 use Rattle.std.proofs.Common.{◌≡◌, ◌≢◌, ◌⊎◌, inl, inr, ⊎_elim, ℕ, suc, ◌≤◌, ◌<◌, Bool, true, false, List, [], ◌∷◌, ◌++◌, map, length, refl, sym, ap, ◌∙◌, subst, arith, eq-eqb, ne_eqb}
 use mathlib.Core.Bool.{false≢true}
-use Rattle.std.specs.Prelude.{is_some, if◌then◌else◌, Option, Some, None, IfSome, IsTrue, option_to_list}
+use Rattle.std.specs.Prelude.{is_some, if◌then◌else◌, Option, Some, None, IfSome}
 use Rattle.lz_slot.specs.declared.command.Command.{Command}
 use Rattle.lz_slot.specs.Counted.{of_pass}
 use Rattle.lz_slot.proofs.Counted.{of_pass_same, length-set_of_pass}
 use Rattle.lz_disk.specs.Devices.{Device}
-use Rattle.lz_list.specs.declared.publishing.Publishing.{Publishing}
+use Rattle.lz_allot.specs.Uses.{Taken, use_of}
 use Rattle.lz_list.specs.declared.word.Word.{Word}
 use Rattle.lz_list.specs.declared.word.Word.TheVariants.{Head as head_at, Link as link_at, Key as key_at, Pin as pin_at, Halt as halt_word}
 use Rattle.lz_list.specs.Words.{get, set}
 use Rattle.lz_list.specs.Lists.{IsWord}
-use Rattle.lz_list.specs.Traces.{Trace, Lawful}
+use Rattle.lz_list.specs.Traces.{Trace, Lawful, IsLoose}
 use Rattle.lz_list.specs.Pinned.{IsQuiet}
 use Rattle.lz_machine.specs.declared.event.Event.{Event}
-use Rattle.lz_machine.specs.declared.event.Event.TheVariants.{Pin, Answer}
+use Rattle.lz_machine.specs.declared.event.Event.TheVariants.{Pin, Answer, Reserve, Retire, SeePin}
 use Rattle.lz_machine.specs.declared.event.Outcome.{Outcome}
-use Rattle.lz_machine.specs.declared.event.Outcome.TheVariants.{Fault}
-use Rattle.lz_machine.specs.declared.course.Course.TheVariants.{Plays}
+use Rattle.lz_machine.specs.declared.event.Outcome.TheVariants.{Done, Fault}
+use Rattle.lz_machine.specs.declared.course.Course.{Course}
+use Rattle.lz_machine.specs.declared.course.Course.TheVariants.{Refused, Dies, Plays}
 use Rattle.lz_machine.specs.declared.caller.Progress.{Progress}
 use Rattle.lz_machine.specs.Yards.{Shape, Yard, actor_at}
-use Rattle.lz_machine.specs.Table.{course, line, line_changes, line_publishes, pin_of, last_pin}
+use Rattle.lz_machine.specs.Table.{course, line, line_on, line_failed, line_changes, line_publishes, published_on, outcome_of, yard_done, uses_after, actors_after, pin_of, last_pin}
 use Rattle.lz_machine.specs.Calls.{event_at}
 use Rattle.lz_machine.specs.Orders.{Calling, HasPass}
 use Rattle.lz_machine.specs.Ready.{IsEventOf, IsReadyFor}
@@ -35,60 +36,25 @@ use Rattle.lz_board.specs.declared.view.What.TheVariants.{Played}
 use Rattle.lz_board.specs.declared.view.Note.{Note}
 use Rattle.lz_board.specs.declared.view.Load.{Load}
 use Rattle.lz_board.specs.declared.view.Part.{Part}
-use Rattle.lz_board.specs.Notes.{note_by, listed, own, trace_of, steps_of, load_note, AllShown, place, pin_after, pin_after_what, pin_after_played, shape_of}
-use Rattle.lz_board.specs.Kept.{is_calling}
+use Rattle.lz_board.specs.Notes.{note_by, listed, own, trace_of, steps_of, load_note, splice, AllShown, place, pin_after, pin_after_what, pin_after_played, shape_of}
+use Rattle.lz_board.specs.Kept.{is_calling, shows_played}
 use Rattle.lz_machine.specs.Yards.{IsInside}
-use Rattle.lz_board.specs.Noting.{MayNote, MayPrepare, KeepsPin, MovesPin, Writes}
-use Rattle.lz_board.specs.Plays.{noted, noted_part, moved_part}
+use Rattle.lz_board.specs.Noting.{Sighting, MayNote, MayPrepare, KeepsPin, MovesPin, Writes}
+use Rattle.lz_board.specs.Plays.{noted, noted_part, moved_part, found_note}
 use Rattle.lz_board.specs.Seats.{BoardId}
+use Rattle.lz_board.proofs.Upkeep.Splice.{trace_splice, pin_splice}
 use Rattle.lz_board.proofs.Upkeep.PartUpkeep.{trace_noted, knows_noted, knows_moved, told_own}
 use Rattle.lz_tie.specs.declared.playing.Exchange.{Exchange}
 use Rattle.lz_tie.specs.NotedRuns.{IsHopAt, AreNext, SameButAllPins, IsTied, seen_event}
-use Rattle.lz_tie.specs.Holds.{sizes_of, IsLocked, HasCall, InHold, IsTurn, Turned, IsExchange, Holds}
+use Rattle.lz_tie.specs.Holds.{sizes_of, IsLocked, HasCall, InHold, IsTurn, SeesPin, Turned, IsExchange, Holds}
+use Rattle.lz_tie.specs.Reuse.{ReuseTold}
+use Rattle.lz_tie.proofs.Reuse.SightUpkeep.{noted_same}
+use Rattle.lz_tie.proofs.Reuse.EventUpkeep.{is_reusing, reusing_silent, leaves, slot_in, silent_told, plain_told, reserve_told, retired_told, seen_told, answered_told}
 use Rattle.lz_tie.proofs.Reading.PinWords.{is_pinning, line_count, own_pin, moved_pin, fault_pin}
 use Rattle.lz_tie.proofs.Reading.StandingCall.{still_calling}
 use Rattle.lz_tie.proofs.Hold.OneWord.{IsWalked, line_others, line_own, pin_changed, pinning_silent}
-use Rattle.lz_tie.proofs.Hold.NoteCondition.{tied_shared, noting_writes, noting_nothing, noting_lawful}
+use Rattle.lz_tie.proofs.Hold.NoteCondition.{listed_is, listed_none, alike_tied, tied_loose, tied_held, tied_shared, noting_writes, noting_nothing, noting_lawful}
 use Rattle.lz_tie.proofs.Hold.NextStep as holding
-
--- what was told of a publishing, as a list
-listed_is : (x : Option Publishing) → listed x ≡ option_to_list x
-listed_is None = refl
-listed_is (Some x) = refl
-
-listed_none : (x : Option Publishing) → listed x ≡ [] → x ≡ None
-listed_none None is = refl
-listed_none (Some x) is = absurd (false≢true (sym (ap is_cons is)))
-  where
-    is_cons : List Publishing → Bool
-    is_cons [] = false
-    is_cons (x ∷ xs) = true
-
--- a yard that is the same but for pin words is tied too
-pub alike_tied : (opened : Trace) (ns : List Note) (y z : Yard) (dev : Device) → IsTied opened ns y dev.honest dev.medium → SameButAllPins z y → IsTied opened ns z dev.honest dev.medium
-alike_tied opened ns y z dev t same = record {
-  start = t.start;
-  steps = t.steps;
-  service = t.service;
-  medium = t.medium;
-  starts = t.starts;
-  runs = t.runs;
-  reads = t.reads;
-  begins = t.begins;
-  state = t.state;
-  yard = record {
-    shape = same.shape ∙ t.yard.shape;
-    heads = same.heads ∙ t.yard.heads;
-    links = same.links ∙ t.yard.links;
-    keys = same.keys ∙ t.yard.keys;
-    halt = same.halt ∙ t.yard.halt;
-    locks = same.locks ∙ t.yard.locks;
-    vault = same.vault ∙ t.yard.vault;
-    uses = same.uses ∙ t.yard.uses;
-    actors = same.actors ∙ t.yard.actors;
-  };
-  device = t.device;
-}
 
 module _ (b : BoardId) (ns : List Note) (y : Yard) (dev : Device) (h : Part) (hold : InHold b ns y dev h) (c : Calling) (e : Event) (turn : IsTurn ns h c e) where
   abbrev a : ℕ
@@ -191,8 +157,82 @@ module _ (b : BoardId) (ns : List Note) (y : Yard) (dev : Device) (h : Part) (ho
         (λ ok. ap (λ (q : Yard). length q.words.pins) (played.done ok).yard ∙ line_count z a e (course z a e) ∙ counted)
         (fault_or_not o)
 
+    no_publishing : line_publishes z a e ≡ [] → told.published ≡ None
+    no_publishing silent = ⊎_elim (λ bad. failed bad) (λ ok. listed_none told.published (done ok ∙ silent)) (fault_or_not o)
+
+    -- a slot that isn't taken stood on no chain before
+    was_loose : (s : ℕ) → use_of y.uses s ≢ Taken → IsLoose b.sizes.buckets s (trace_of b.opened ns)
+    was_loose s other = subst (λ (k : Sizes). IsLoose k.buckets s (trace_of b.opened ns)) (sym hold.locked.sizes) (tied_loose b.opened ns y dev.honest dev.medium hold.locked.tied s other)
+
+    -- an event that changes what slots are used for
+    module _ (ok : o ≢ Fault) (plays_it : course z a e ≡ Plays) where
+      by_reuse : (e' : Event) → e ≡ e' → is_reusing e' ≡ true → told.published ≡ None → ReuseTold b.sizes b.opened (noted b.opened ns h n) (uses_after z (actor_at z a) a e') (actors_after z (actor_at z a) a e')
+      by_reuse Reserve same reuses none = reserve_told b.sizes b.opened a h.loads ns n z hold.locked.reuse none
+      by_reuse Retire same reuses none = retired_told b.sizes b.opened a h.loads ns n z hold.locked.reuse none (ap (λ (s : Sizes). s.passes) (sym hold.locked.sizes))
+      by_reuse (SeePin q v) same reuses none =
+          let f = subst (SeesPin ns) same turn.found in
+          let x : Sighting b.opened ns q = record { note = found_note q v; rest = f.0; within = ([], f.1); shown = eq-eqb q q refl } in
+          let there = noted_same b.opened a h.loads ns n q x in
+          let range = subst (IsEventOf z) same asks in
+          let high = range.1 in
+          let passes = ap (λ (s : Sizes). s.passes) hold.locked.sizes in
+          seen_told b.sizes b.opened a h.loads ns n z hold.locked.reuse none was_loose q v range.0 (omega (arith, high, passes)) there.seen
+          (there.value ∙ ap (λ t. if t then v else pin_after q f.0) (eq-eqb q q refl))
+          (there.trace ∙ sym (ap (trace_of b.opened) f.1) ∙ sym (same_trace none))
+        where
+          same_trace : told.published ≡ None → trace_of b.opened (noted b.opened ns h n) ≡ trace_of b.opened ns
+          same_trace none = ap (λ l. listed l ++ trace_of b.opened (splice b.opened a h.loads ns)) none ∙ trace_splice b.opened a h.loads ns
+      by_reuse Answer same reuses none =
+          let high = in_range.1 in
+          let passes = ap (λ (s : Sizes). s.passes) hold.locked.sizes in
+          let done_is : o ≡ Done = (played.done ok).answer ∙ ap (λ (k : Course). (line_on k z (actor_at z a) a e).1) plays_it ∙ ap (outcome_of z (actor_at z a)) same in
+          let rest = splice b.opened a h.loads ns in
+          let x : Sighting b.opened (noted b.opened ns h n) a = record {
+            note = n;
+            rest = rest;
+            within = ([], refl);
+            shown = ap (λ t. if t then shows_played e o else false) (eq-eqb a a refl) ∙ (λ i. shows_played (same i) (done_is i));
+          } in
+          let value = ap (λ t. if t then pin_after_played e o (pin_after a rest) else pin_after a rest) (eq-eqb a a refl)
+          ∙ (λ i. pin_after_played e ((played.done ok).answer i) ((pin_splice b.opened a a h.loads ns ∙ pin_now ∙ sym pin_same) i))
+          ∙ moved_pin z a in_range.0 (omega (arith, high, counted)) e (ap is_pinning same) plays_it in
+          answered_told b.sizes b.opened a h.loads ns n z hold.locked.reuse none was_loose a (suc (pin_of z a)) in_range.0 (omega (arith, high, passes)) x value (sym (ap (λ l. listed l ++ trace_of b.opened rest) none)) refl (omega arith)
+      by_reuse e' same reuses none = absurd (false≢true reuses)
+
+      now_is : z' ≡ yard_done z (actor_at z a) a e
+      now_is = (played.done ok).yard ∙ ap (λ (k : Course). (line_on k z (actor_at z a) a e).0) plays_it
+
+      as_board : (s : ℕ) → IsLoose z'.shape.buckets s (trace_of b.opened (noted b.opened ns h n)) → IsLoose b.sizes.buckets s (listed told.published ++ trace_of b.opened ns)
+      as_board s loose = subst (λ (q : Sizes × Trace). IsLoose q.0.buckets s q.1) (λ i. ((ap sizes_of shape ∙ sym hold.locked.sizes) i, ap (λ l. listed told.published ++ l) (trace_splice b.opened a h.loads ns) i)) loose
+
+      played_reuse : ReuseTold b.sizes b.opened (noted b.opened ns h n) (uses_after z (actor_at z a) a e) (actors_after z (actor_at z a) a e)
+      played_reuse = go (is_reusing e) refl
+        where
+          go : (reuses : Bool) → is_reusing e ≡ reuses → ReuseTold b.sizes b.opened (noted b.opened ns h n) (uses_after z (actor_at z a) a e) (actors_after z (actor_at z a) a e)
+          go true reuses = by_reuse e refl reuses (no_publishing (reusing_silent z a e reuses))
+          go false plain = plain_told b.sizes b.opened a h.loads ns n z hold.locked.reuse e plain
+              (λ s other. as_board s (tied_loose b.opened (noted b.opened ns h n) z' dev'.honest dev'.medium tied s (λ taken. other (ap (λ us. use_of us s) (sym (leaves z a e plain) ∙ sym (ap (λ (q : Yard). q.uses) now_is)) ∙ taken))))
+              (λ d s held. as_board s (tied_held b.opened (noted b.opened ns h n) z' dev'.honest dev'.medium tied d s (ap (λ (q : Yard). slot_in q.actors d) now_is ∙ held)))
+
+    reuse : ReuseTold b.sizes b.opened (noted b.opened ns h n) z'.uses z'.actors
+    reuse = ⊎_elim
+        (λ bad. at_yard (line_failed z a e).0 (played.failed bad).yard (silent (failed bad)))
+        (λ ok. at_yard (line z a e).0 (played.done ok).yard (by_course ok (course z a e) refl))
+        (fault_or_not o)
+      where
+        at_yard : (q : Yard) → z' ≡ q → ReuseTold b.sizes b.opened (noted b.opened ns h n) q.uses q.actors → ReuseTold b.sizes b.opened (noted b.opened ns h n) z'.uses z'.actors
+        at_yard q is told = subst (λ (r : Yard). ReuseTold b.sizes b.opened (noted b.opened ns h n) r.uses r.actors) (sym is) told
+
+        silent : told.published ≡ None → ReuseTold b.sizes b.opened (noted b.opened ns h n) z.uses z.actors
+        silent none = silent_told b.sizes b.opened a h.loads ns n z hold.locked.reuse none
+
+        by_course : o ≢ Fault → (k : Course) → course z a e ≡ k → ReuseTold b.sizes b.opened (noted b.opened ns h n) (line_on k z (actor_at z a) a e).0.uses (line_on k z (actor_at z a) a e).0.actors
+        by_course ok (Refused r) is = silent (no_publishing (ap (λ (k : Course). published_on k z (actor_at z a) a e) is))
+        by_course ok Dies is = silent (no_publishing (ap (λ (k : Course). published_on k z (actor_at z a) a e) is))
+        by_course ok Plays is = played_reuse ok is
+
     locked : IsLocked b (noted b.opened ns h n) z' dev'
-    locked = record { sizes = hold.locked.sizes ∙ ap sizes_of (sym shape); pins = pins_counted ∙ ap (λ (s : Shape). s.passes) (sym shape); tied = tied }
+    locked = record { sizes = hold.locked.sizes ∙ ap sizes_of (sym shape); pins = pins_counted ∙ ap (λ (s : Shape). s.passes) (sym shape); tied = tied; reuse = reuse }
 
     lawful : Lawful b.sizes.buckets b.sizes.slots (listed told.published ++ trace_of b.opened ns)
     lawful = subst (λ (s : Sizes). Lawful s.buckets s.slots (listed told.published ++ trace_of b.opened ns)) (ap sizes_of shape ∙ sym hold.locked.sizes) (noting_lawful b.opened ns z' dev'.honest dev'.medium a h.loads n tied)

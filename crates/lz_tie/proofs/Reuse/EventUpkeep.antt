@@ -1,20 +1,24 @@
 -- What the notes show of slots and hands stays right through each event.
 use Rattle.std.proofs.Common.{◌≡◌, ◌≢◌, ◌⊎◌, inl, inr, ⊎_elim, ℕ, zero, suc, ◌+◌, ◌≤◌, ◌==◌, Bool, true, false, List, [], ◌∷◌, ◌++◌, length, refl, sym, ap, ◌∙◌, subst, eq-eqb}
 use mathlib.Core.Bool.{false≢true}
-use Rattle.std.specs.Prelude.{if◌then◌else◌, slice_set, slice_index_or, Option, Some, None, is_some}
+use Rattle.std.specs.Prelude.{if◌then◌else◌, replicate, slice_set, slice_index_or, Option, Some, None, is_some}
 use Rattle.std.proofs.lemmas.List.Quantifiers.{position-Some}
 use Rattle.lz_slot.specs.Counted.{of_pass, set_of_pass}
+use Rattle.lz_allot.specs.declared.sight.Sight.{Sight}
+use Rattle.lz_allot.specs.declared.sight.Sight.TheVariants.{Unseen}
 use Rattle.lz_allot.specs.Uses.{Use, Free, Taken, Limbo, use_of, is_free, collect_at, collect, lowest_free, take_slot, give_back, see_pin_at, see_pin, retire}
 use Rattle.lz_list.specs.declared.word.Word.TheVariants.{Pin as pin_at}
 use Rattle.lz_list.specs.Words.{get}
 use Rattle.lz_list.specs.Locks.{check, is_pair_free}
 use Rattle.lz_list.specs.Traces.{Trace, IsLoose}
 use Rattle.lz_machine.specs.declared.actor.Actor.{Actor}
-use Rattle.lz_machine.specs.declared.actor.Hold.TheVariants.{Locks, Checked}
+use Rattle.lz_machine.specs.declared.actor.Hold.TheVariants.{Nothing, Locks, Checked, GateOpened, Linked, GateClosed, Marked, Unlinked}
+use Rattle.lz_machine.specs.declared.course.Course.{Course}
+use Rattle.lz_machine.specs.declared.course.Course.TheVariants.{Refused, Dies, Plays}
 use Rattle.lz_machine.specs.declared.event.Event.{Event}
 use Rattle.lz_machine.specs.declared.event.Event.TheVariants.{Invoke, Pin, Hop, Reserve, WriteKey, Claim, Check, WriteOpen, Link, WriteClose, Mark, Release, Sync, Settle, Unlink, Retire, SeePin, Answer, Halt}
 use Rattle.lz_machine.specs.Yards.{Shape, Yard, actor_at, cell_at, idle_actor}
-use Rattle.lz_machine.specs.Table.{uses_after, actors_after, given_back, kept_slot, is_unused, node_of, set_actor, reserved}
+use Rattle.lz_machine.specs.Table.{course, line_publishes, published_on, publishes, uses_after, actors_after, given_back, kept_slot, is_unused, is_old, node_of, set_actor, with_hold, with_slot, released, reserved}
 use Rattle.lz_machine.proofs.Frames.Uses.{use_map}
 use Rattle.lz_board.specs.declared.view.Sizes.{Sizes}
 use Rattle.lz_board.specs.declared.view.Note.{Note}
@@ -33,6 +37,30 @@ is_reusing Retire = true
 is_reusing (SeePin q v) = true
 is_reusing Answer = true
 is_reusing e = false
+
+-- they publish nothing
+pub reusing_silent : (y : Yard) (a : ℕ) (e : Event) → is_reusing e ≡ true → line_publishes y a e ≡ []
+reusing_silent y a e is = on (course y a e)
+  where
+    none : (e : Event) → is_reusing e ≡ true → publishes y (actor_at y a) a e ≡ []
+    none Reserve is = refl
+    none Retire is = refl
+    none (SeePin q v) is = refl
+    none Answer is = refl
+    none e is = absurd (false≢true is)
+
+    on : (c : Course) → published_on c y (actor_at y a) a e ≡ []
+    on (Refused o) = refl
+    on Dies = refl
+    on Plays = none e is
+
+-- and no other event changes a use
+pub leaves : (y : Yard) (a : ℕ) (e : Event) → is_reusing e ≡ false → uses_after y (actor_at y a) a e ≡ y.uses
+leaves y a Reserve plain = absurd (false≢true (sym plain))
+leaves y a Retire plain = absurd (false≢true (sym plain))
+leaves y a (SeePin q v) plain = absurd (false≢true (sym plain))
+leaves y a Answer plain = absurd (false≢true (sym plain))
+leaves y a e plain = refl
 
 -- what a pass has after one was set
 set_pass : {X : Type 0} (xs : List X) (a : ℕ) (x : X) (b : ℕ) (d : X) → ((b ≡ a) × (of_pass (set_of_pass xs a x) b d ≡ x)) ⊎ (of_pass (set_of_pass xs a x) b d ≡ of_pass xs b d)
@@ -73,21 +101,21 @@ module _ (y : Yard) (a : ℕ) where
   -- no event but a Reserve puts a slot in a hand
   pub hands_after : (e : Event) → (e ≢ Reserve) → (b s : ℕ) → slot_in (actors_after y (actor_at y a) a e) b ≡ Some s → slot_in y.actors b ≡ Some s
   hands_after Reserve other b s is = absurd (other refl)
-  hands_after (Invoke c) other b s is = set_slot y.actors a _ (λ t held. held) b s is
+  hands_after (Invoke c) other b s is = set_slot y.actors a (record (actor_at y a) { refused = is_old y.vault.format c }) (λ t held. held) b s is
   hands_after (Claim pred curr) other b s is = go (is_pair_free y.locks pred curr) is
     where
       go : (free : Bool) → slot_in (if free then set_actor y a (record (actor_at y a) { hold = Locks; pred = pred; curr = curr }) else y.actors) b ≡ Some s → slot_in y.actors b ≡ Some s
-      go true is = set_slot y.actors a _ (λ t held. held) b s is
+      go true is = set_slot y.actors a (record (actor_at y a) { hold = Locks; pred = pred; curr = curr }) (λ t held. held) b s is
       go false is = is
-  hands_after Check other b s is = set_slot y.actors a _ (λ t held. held) b s is
-  hands_after WriteOpen other b s is = set_slot y.actors a _ (λ t held. held) b s is
-  hands_after Link other b s is = set_slot y.actors a _ (λ t held. absurd (none_some t held)) b s is
-  hands_after WriteClose other b s is = set_slot y.actors a _ (λ t held. held) b s is
-  hands_after Mark other b s is = set_slot y.actors a _ (λ t held. held) b s is
-  hands_after Release other b s is = set_slot y.actors a _ (λ t held. held) b s is
-  hands_after Unlink other b s is = set_slot y.actors a _ (λ t held. held) b s is
-  hands_after Retire other b s is = set_slot y.actors a _ (λ t held. held) b s is
-  hands_after Answer other b s is = set_slot y.actors a _ (λ t held. kept (actor_at y a).slot t held) b s is
+  hands_after Check other b s is = set_slot y.actors a (with_hold (actor_at y a) (if check y.words (actor_at y a).pred (actor_at y a).curr then Checked else Locks)) (λ t held. held) b s is
+  hands_after WriteOpen other b s is = set_slot y.actors a (with_hold (actor_at y a) GateOpened) (λ t held. held) b s is
+  hands_after Link other b s is = set_slot y.actors a (record (actor_at y a) { slot = None; hold = Linked }) (λ t held. absurd (none_some t held)) b s is
+  hands_after WriteClose other b s is = set_slot y.actors a (with_hold (actor_at y a) GateClosed) (λ t held. held) b s is
+  hands_after Mark other b s is = set_slot y.actors a (with_hold (actor_at y a) Marked) (λ t held. held) b s is
+  hands_after Release other b s is = set_slot y.actors a (with_hold (actor_at y a) (released (actor_at y a).hold)) (λ t held. held) b s is
+  hands_after Unlink other b s is = set_slot y.actors a (with_hold (actor_at y a) Unlinked) (λ t held. held) b s is
+  hands_after Retire other b s is = set_slot y.actors a (with_hold (actor_at y a) Nothing) (λ t held. held) b s is
+  hands_after Answer other b s is = set_slot y.actors a (with_slot (actor_at y a) (kept_slot y (actor_at y a).slot)) (λ t held. kept (actor_at y a).slot t held) b s is
   hands_after Pin other b s is = is
   hands_after (Hop w) other b s is = is
   hands_after (WriteKey k) other b s is = is
@@ -103,7 +131,7 @@ not_taken u free taken = absurd (clash (sym free ∙ taken))
     clash : Free ≡ Taken → ⊥
     clash e = absurd cc
 
-limbo_taken : (u : Use) (sights : List _) → u ≡ Limbo sights → u ≢ Taken
+limbo_taken : (u : Use) (sights : List Sight) → u ≡ Limbo sights → u ≢ Taken
 limbo_taken u sights limbo taken = absurd (clash (sym limbo ∙ taken))
   where
     clash : Limbo sights ≡ Taken → ⊥
@@ -129,17 +157,10 @@ module _ (z : Sizes) (opened : Trace) (a : ℕ) (hs : List Load) (ns : List Note
       → ((b s : ℕ) → slot_in (actors_after y actor a e) b ≡ Some s → IsLoose z.buckets s (listed n.published ++ trace_of opened ns))
       → ReuseTold z opened now (uses_after y actor a e) (actors_after y actor a e)
   plain_told e plain loose held = record {
-    each = λ s. subst (λ us. UseTold z opened now s (use_of us s)) (sym (leaves e plain)) (by_use s (use_of y.uses s) refl (told.each s));
+    each = λ s. subst (λ us. UseTold z opened now s (use_of us s)) (sym (leaves y a e plain)) (by_use s (use_of y.uses s) refl (told.each s));
     hands = λ b s is. all_left_more z opened a hs ns n s (loose_stays z.buckets (trace_of opened ns) n.published s (held b s is)) (told.hands b s (hands_after y a e (λ same. false≢true (sym plain ∙ ap is_reusing same)) b s is));
   }
     where
-      leaves : (e : Event) → is_reusing e ≡ false → uses_after y actor a e ≡ y.uses
-      leaves Reserve plain = absurd (false≢true (sym plain))
-      leaves Retire plain = absurd (false≢true (sym plain))
-      leaves (SeePin q v) plain = absurd (false≢true (sym plain))
-      leaves Answer plain = absurd (false≢true (sym plain))
-      leaves e plain = refl
-
       by_use : (s : ℕ) (u : Use) → use_of y.uses s ≡ u → UseTold z opened ns s u → UseTold z opened now s u
       by_use s Taken is told = tt
       by_use s Free is told = use_more z opened a hs ns n s (loose_stays z.buckets (trace_of opened ns) n.published s (loose s (not_taken (use_of y.uses s) is))) Free told
@@ -158,7 +179,7 @@ module _ (z : Sizes) (opened : Trace) (a : ℕ) (hs : List Load) (ns : List Note
       hands = λ b s is. ⊎_elim
           (λ here. free s (sym (ap (λ (q : Actor). q.slot) here.1) ∙ is))
           (λ away. t.hands b s (sym (ap (λ (q : Actor). q.slot) away) ∙ is))
-          (set_pass y.actors a _ b idle_actor);
+          (set_pass y.actors a (with_slot actor (lowest_free (collect y.uses))) b idle_actor);
     }
       where
         taken : (low : Option ℕ) (s : ℕ) → UseTold z opened now s (use_of (reserved (collect y.uses) low) s)
@@ -181,7 +202,7 @@ module _ (z : Sizes) (opened : Trace) (a : ℕ) (hs : List Load) (ns : List Note
       each = λ s. ⊎_elim
           (λ here. subst (UseTold z opened now s) (sym here.1) (retire_told z opened now s y.shape.passes passes))
           (λ away. subst (UseTold z opened now s) (sym away) (t.each s))
-          (set_use y.uses (node_of actor) _ s);
+          (set_use y.uses (node_of actor) (Limbo (replicate y.shape.passes Unseen)) s);
       hands = λ b s is. t.hands b s (hands_after y a Retire (λ same. absurd cc) b s is);
     }
 
@@ -191,7 +212,7 @@ module _ (z : Sizes) (opened : Trace) (a : ℕ) (hs : List Load) (ns : List Note
       same_trace : trace_of opened now ≡ trace_of opened ns
       same_trace = ap (λ l. listed l ++ trace_of opened (splice opened a hs ns)) none ∙ trace_splice opened a hs ns
 
-      seen : (us : List Use) → ((s : ℕ) (sights : List _) → use_of us s ≡ Limbo sights → use_of y.uses s ≡ Limbo sights) → ((s : ℕ) → UseTold z opened now s (use_of us s)) → (s : ℕ) → UseTold z opened now s (use_of (see_pin q v us) s)
+      seen : (us : List Use) → ((s : ℕ) (sights : List Sight) → use_of us s ≡ Limbo sights → use_of y.uses s ≡ Limbo sights) → ((s : ℕ) → UseTold z opened now s (use_of us s)) → (s : ℕ) → UseTold z opened now s (use_of (see_pin q v us) s)
       seen us limbo each s = subst (UseTold z opened now s) (sym (use_map (see_pin_at q v) us s refl))
           (see_told z opened now s q v low high x value at (use_of us s) (λ sights is. subst (IsLoose z.buckets s) (sym same_trace) (loose s (limbo_taken (use_of y.uses s) sights (limbo s sights is)))) (each s))
 
@@ -204,10 +225,10 @@ module _ (z : Sizes) (opened : Trace) (a : ℕ) (hs : List Load) (ns : List Note
         hands = λ b s is. t.hands b s (hands_after y a Answer (λ same. absurd cc) b s is);
       }
         where
-          free_limbo : (sights : List _) → Free ≡ Limbo sights → ⊥
+          free_limbo : (sights : List Sight) → Free ≡ Limbo sights → ⊥
           free_limbo sights e = absurd cc
 
-          still : (slot : Option ℕ) (s : ℕ) (sights : List _) → use_of (given_back y slot) s ≡ Limbo sights → use_of y.uses s ≡ Limbo sights
+          still : (slot : Option ℕ) (s : ℕ) (sights : List Sight) → use_of (given_back y slot) s ≡ Limbo sights → use_of y.uses s ≡ Limbo sights
           still None s sights is = is
           still (Some r) s sights is = go (is_unused (cell_at y r).stage) is
             where

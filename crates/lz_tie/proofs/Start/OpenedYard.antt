@@ -1,12 +1,26 @@
--- A yard that was just opened is tied to a board of its words that has no notes.
-use Rattle.std.proofs.Common.{◌≡◌, Bool, List, [], refl, ap}
-use Rattle.std.specs.Prelude.{ℕ, IsTrue}
+-- A yard that was just opened is tied to a board of its words that has no notes, as the lock's invariant asks.
+use Rattle.std.proofs.Common.{◌≡◌, ◌≢◌, inl, Bool, false, List, [], ◌∷◌, map, length, zero, suc, refl, sym, ap, ◌∙◌, subst}
+use mathlib.Core.Bool.{false≢true}
+use Rattle.std.specs.Prelude.{ℕ, Option, Some, None, is_some, IsTrue, replicate}
+use Rattle.lz_slot.specs.declared.slot.SlotRead.{SlotRead}
+use Rattle.lz_slot.specs.declared.slot.SlotRead.TheVariants.{Member}
+use Rattle.lz_slot.specs.Counted.{of_pass}
+use Rattle.lz_disk.specs.Devices.{Device}
 use Rattle.lz_disk.specs.Images.{Medium, at_rest}
-use Rattle.lz_machine.specs.Yards.{Yard, opened_yard, first_trace}
+use Rattle.lz_allot.specs.declared.sight.Sight.{Sight}
+use Rattle.lz_allot.specs.Uses.{Use, Free, Taken, Limbo, use_of}
+use Rattle.lz_list.specs.Traces.{Trace}
+use Rattle.lz_machine.specs.Yards.{Yard, opened_yard, first_trace, idle_actor, slots_read, use_read}
 use Rattle.lz_machine.specs.Runs.{IsStart, opened_service}
+use Rattle.lz_machine.proofs.Frames.Limbo.{away_new}
+use Rattle.lz_board.specs.declared.view.Sizes.{Sizes}
 use Rattle.lz_board.specs.Opened.{opened_by, IsOpened}
+use Rattle.lz_board.specs.Seats.{BoardId}
 use Rattle.lz_board.proofs.Start.FirstWords.{opens_text}
 use Rattle.lz_tie.specs.NotedRuns.{IsTied}
+use Rattle.lz_tie.specs.Holds.{sizes_of, IsLocked}
+use Rattle.lz_tie.specs.Reuse.{UseTold, ReuseTold}
+use Rattle.lz_tie.proofs.Hold.NoteCondition.{sound, tied_loose}
 
 module _ (y : Yard) (t : List ℕ) (starts : IsStart (record { shape = y.shape; text = t })) (is : y ≡ opened_yard y.shape t) where
   opens : IsOpened y.words × (opened_by y.words ≡ first_trace y.shape t)
@@ -39,4 +53,50 @@ module _ (y : Yard) (t : List ℕ) (starts : IsStart (record { shape = y.shape; 
       actors = ap (λ (x : Yard). x.actors) is;
     };
     device = device;
+  }
+
+  tied : IsTied (opened_by y.words) [] y false (at_rest t)
+  tied = first_tied false (at_rest t) (λ h. refl)
+
+  -- a slot that the open found closed stood on no chain in this life
+  first_reuse : ReuseTold (sizes_of y.shape) (opened_by y.words) [] y.uses y.actors
+  first_reuse = record {
+    each = λ s. by_use s (use_of y.uses s) refl;
+    hands = λ a s held. absurd (none_some s (sym (idle y.shape.passes a) ∙ ap (λ (x : Yard). (of_pass x.actors a idle_actor).slot) (sym is) ∙ held));
+  }
+    where
+      none_some : (s : ℕ) → None ≡ Some s → ⊥
+      none_some s same = false≢true (ap is_some same)
+
+      idle : (n a : ℕ) → (of_pass (replicate n idle_actor) a idle_actor).slot ≡ None
+      idle n zero = refl
+      idle zero (suc i) = refl
+      idle (suc n) (suc zero) = refl
+      idle (suc n) (suc (suc i)) = idle n (suc i)
+
+      no_limbo : (reads : List SlotRead) (s : ℕ) (sights : List Sight) → use_of (map use_read reads) s ≡ Limbo sights → ⊥
+      no_limbo [] s sights same = absurd cc
+      no_limbo (Member k ∷ reads) zero sights same = absurd cc
+      no_limbo (r ∷ reads) zero sights same = absurd cc
+      no_limbo (r ∷ reads) (suc s) sights same = no_limbo reads s sights same
+
+      free : (s : ℕ) → use_of y.uses s ≡ Free → use_of y.uses s ≢ Taken
+      free s same taken = absurd (clash (sym same ∙ taken))
+        where
+          clash : Free ≡ Taken → ⊥
+          clash e = absurd cc
+
+      by_use : (s : ℕ) (u : Use) → use_of y.uses s ≡ u → UseTold (sizes_of y.shape) (opened_by y.words) [] s u
+      by_use s Taken same = tt
+      by_use s Free same = inl (away_new y.shape.buckets s (opened_by y.words) (tied_loose (opened_by y.words) [] y false (at_rest t) tied s (free s same)))
+      by_use s (Limbo sights) same = absurd (no_limbo (slots_read t y.shape.slots) s sights (ap (λ (x : Yard). use_of x.uses s) (sym is) ∙ same))
+
+  -- so the lock's invariant holds of a yard that was just opened, on a board that began with its words
+  pub first_locked : (b : BoardId) (dev : Device) → b.sizes ≡ sizes_of y.shape → b.opened ≡ opened_by y.words → (IsTrue dev.honest → dev.medium ≡ at_rest t) → IsLocked b [] y dev
+  unfolding tied first_tied
+  first_locked b dev sizes opened device = record {
+    sizes = sizes;
+    pins = ap (λ (x : Yard). length x.words.pins) is ∙ (sound (opened_by y.words) [] y false (at_rest t) tied).pins;
+    tied = subst (λ (o : Trace). IsTied o [] y dev.honest dev.medium) (sym opened) (first_tied dev.honest dev.medium device);
+    reuse = subst (λ (x : Sizes × Trace). ReuseTold x.0 x.1 [] y.uses y.actors) (λ i. (sym sizes i, sym opened i)) first_reuse;
   }

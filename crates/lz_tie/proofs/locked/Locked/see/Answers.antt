@@ -1,10 +1,10 @@
 use Rattle.std.proofs.Common.{◌≤◌, sym, ap, ◌∙◌, subst}
 use Rattle.lz_machine.specs.Calls.{event_at}
 use Rattle.lz_board.specs.declared.view.Sizes.{Sizes}
-use Rattle.lz_board.specs.Notes.{shape_of}
+use Rattle.lz_board.specs.Notes.{trace_of, shape_of}
 use Rattle.lz_board.specs.Seats.{BoardId, carried, id_of, notes, part}
 use Rattle.lz_tie.proofs.Hold.Joining.{joined}
-use Rattle.lz_tie.proofs.Hold.PinSight.{found, seen_range}
+use Rattle.lz_tie.proofs.Hold.PinSight.{found, found_turn, seen_range}
 use Rattle.lz_tie.proofs.locked.Locked.see.Goals as goal
 
 pub play_joined-turn-requires-clause-hold : goal.play_joined-turn-requires-clause-hold
@@ -15,3 +15,8 @@ play_joined-turn-requires-clause-hold g c =
     (seen_range (part c.args.pass.now).sizes.passes (event_at (shape_of (part c.args.pass.now).sizes) c.args.caller.now.command c.args.caller.now.progress) c.args.seen 0 c.requires.call.pass c.requires.event) in
     found (id_of c.args.board.now) (notes c.join.new.pen) (notes c.load_pin-value.new.pen) c.self.inside.yard.yard (g.D.Disk.device c.self.inside.yard.disk) (carried c.join.new.pen) (carried c.load_pin-value.new.pen) hold c.args.seen c.load_pin-value.result range
     c.load_pin-value.ensures.told c.load_pin-value.ensures.own c.load_pin-value.ensures.notes c.load_pin-value.ensures.carried
+
+pub play_joined-turn-requires-clause-turn : goal.play_joined-turn-requires-clause-turn
+play_joined-turn-requires-clause-turn g c =
+    found_turn (notes c.join.new.pen) (notes c.load_pin-value.new.pen) (part c.args.pass.now) (carried c.load_pin-value.new.pen) (trace_of (id_of c.args.board.now).opened (notes c.self.inside.pen)) c.args.caller.now c.args.seen c.load_pin-value.result c.requires.call c.requires.event
+    c.load_pin-value.ensures.notes (c.load_pin-value.ensures.carried ∙ c.join.ensures.carried)
