@@ -120,7 +120,8 @@ pub fn formats_stay()
 {}
 
 /// Hindsight, for the machine: in each state that a run reaches, an open call may rely on what is said of how far it has come,
-/// with the trace at which its pass went in. So an answer rests on a set that was there, and settled, since then.
+/// with the trace at which its pass went in, and the change that was published for the pass since. So an answer rests on a set
+/// that was there, and settled, since then.
 pub fn calls_stand()
     ensures { CallsStand }
 {}
