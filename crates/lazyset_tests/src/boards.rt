@@ -1,5 +1,5 @@
 //! Boards: what passes see while the pen links, settles and halts.
-ghost use Rattle.std.specs.Prelude.{◌≡◌, ◌≢◌, ◌∷◌, ℕ, false, Some};
+ghost use Rattle.std.specs.Prelude.{◌≡◌, ◌≢◌, ◌%◌, ◌∷◌, ℕ, false, Some};
 ghost use Rattle.lz_list.specs.Traces.{Lawful};
 ghost use Rattle.lz_machine.specs.Limbo.{IsAway};
 ghost use Rattle.lz_board.specs.Kept.{is_calling};
@@ -30,6 +30,7 @@ struct Store {
 fn publish(board: &Board, pen: &mut Pen, pass: &mut Pass, store: Store)
     requires pen { IsPenOf (id_of board.now) pen.old }
     requires pass { IsOf (id_of board.now) pass.old }
+    requires outside { (part pass.old).pin % 2 ≡ 0 }
     requires writes { Writes (id_of board.now).sizes (trace_of (id_of board.now).opened (notes pen.old)) store.word store.old store.new (Some store.publishing) }
     requires lawful { Lawful (id_of board.now).sizes.buckets (id_of board.now).sizes.slots (store.publishing ∷ trace_of (id_of board.now).opened (notes pen.old)) }
     requires made { (q : ℕ) → q ≢ pass.old.number → is_for q store.publishing ≡ false }
@@ -38,6 +39,7 @@ fn publish(board: &Board, pen: &mut Pen, pass: &mut Pass, store: Store)
     ensures pen { IsPenOf (id_of board.now) pen.new }
     ensures pass { IsOf (id_of board.now) pass.new }
     ensures number { pass.new.number ≡ pass.old.number }
+    ensures outside { (part pass.new).pin % 2 ≡ 0 }
     ensures trace { trace_of (id_of board.now).opened (notes pen.new) ≡ store.publishing ∷ trace_of (id_of board.now).opened (notes pen.old) }
 {
     board.join(pen, pass);

@@ -372,7 +372,13 @@ fn only_an_interruption_is_tried_again(rt: HostRuntime) -> Result<(), Fail> {
         ErrorKind::BrokenPipe,
         ErrorKind::UnexpectedEof,
     ] {
-        let (code, written) = ends_when_interrupted(rt.alloc(), lines, fault, 100, ErrorKind::Other)?;
+        let (code, written) = ends_when_interrupted(
+            rt.alloc(),
+            lines,
+            fault,
+            100,
+            ErrorKind::Other,
+        )?;
         assert_eq!(rt; code, 1);
         assert_eq!(rt; written.as_slice(), replies);
         let (code, written) = ends_when_interrupted(rt.alloc(), lines, kind, 5, fault)?;

@@ -1,4 +1,4 @@
-use Rattle.std.proofs.Common.{◌≡◌, ◌^◌, ◌∷◌, sym, ap, ◌∙◌, subst, arith}
+use Rattle.std.proofs.Common.{◌≡◌, ◌^◌, ◌%◌, ◌∷◌, sym, ap, ◌∙◌, subst, arith}
 use Rattle.std.specs.Prelude.{IfSome}
 use Rattle.std.proofs.lemmas.List.Elements.{All-pop}
 use Rattle.lz_list.specs.declared.word.Word.TheVariants.{Head, Link, Key}
@@ -106,6 +106,13 @@ publish-requires-clause-pass g c =
     let two = subst (λ r. IfSome r (IsNew b)) c.in-Some-Some.is-0 rest.1 in
     let one = subst (λ r. IfSome r (IsNew b)) c.in-Some-Some.is-1 (All-pop (IsNew b) c.pop.new.self.items c.pop-2.new.self.items c.pop-2.result c.pop-2.ensures.items rest.0).1 in
     one.0
+
+pub publish-requires-clause-outside : goal.publish-requires-clause-outside
+publish-requires-clause-outside g c =
+    let b = id_of c.in-Some.board in
+    let rest = All-pop (IsNew b) c.in-Some.passes.items c.pop.new.self.items c.pop.result c.pop.ensures.items c.in-Some.ensures.passes.1 in
+    let one = subst (λ r. IfSome r (IsNew b)) c.in-Some-Some.is-1 (All-pop (IsNew b) c.pop.new.self.items c.pop-2.new.self.items c.pop-2.result c.pop-2.ensures.items rest.0).1 in
+    ap (λ (h : Part). h.pin % 2) one.1
 
 pub publish-requires-clause-writes : goal.publish-requires-clause-writes
 publish-requires-clause-writes g c =
