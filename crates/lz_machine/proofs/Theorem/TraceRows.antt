@@ -15,7 +15,7 @@ use Rattle.lz_list.specs.declared.publishing.Publishing.TheVariants.{Linked as l
 use Rattle.lz_list.specs.declared.publishing.Change.TheVariants.{Added, Removed}
 use Rattle.lz_list.specs.Words.{Words}
 use Rattle.lz_list.specs.Traces.{is_removed, linking, Trace, SettledYes, SettledNo, words_after, bucket_of}
-use Rattle.lz_machine.specs.Runs.{Start, State, Up, Down, Transition, Calls, Turn, Fails, Trips, Stops, Crashes, Opens, Point, first_point, point_after, run, made_text, caller_at, next_event, disk_of}
+use Rattle.lz_machine.specs.Runs.{Start, State, Up, Down, Transition, Calls, Turn, Fails, Trips, Stops, Crashes, CrashesIn, Opens, Point, first_point, point_after, run, made_text, caller_at, next_event, disk_of}
 
 abbrev pub fresh : ℕ → ℕ → Start
 fresh slots passes = record { shape = record { slots = slots; buckets = 1; passes = passes }; text = made_text One slots }
@@ -82,6 +82,17 @@ row_gate_other : marks_after (fresh 2 64) (Calls 1 (Add 9) ∷ turns 1 10 ++ Cra
     ≡ Call 1 1 (Add 9) ∷ Crash ∷ Opened [] ∷ []
 unfolding bucket_of
 row_gate_other = refl
+
+-- a crash within the write of the gate: of a call that was never answered either all is found or nothing
+row_gate_within : marks_after (fresh 2 64) (Calls 1 (Add 9) ∷ turns 1 9 ++ CrashesIn 1 (head_2 ++ (0xa5 ∷ slot_body 9) ++ replicate 16 0) ∷ Opens ∷ [])
+    ≡ Call 1 1 (Add 9) ∷ Crash ∷ Opened (9 ∷ []) ∷ []
+unfolding bucket_of
+row_gate_within = refl
+
+row_no_gate_within : marks_after (fresh 2 64) (Calls 1 (Add 9) ∷ turns 1 9 ++ CrashesIn 1 (head_2 ++ (0 ∷ slot_body 9) ++ replicate 16 0) ∷ Opens ∷ [])
+    ≡ Call 1 1 (Add 9) ∷ Crash ∷ Opened [] ∷ []
+unfolding bucket_of
+row_no_gate_within = refl
 
 -- actor 3 meets a node whose removal isn't sure, and its sync makes it so
 abbrev pub removal_steps : List Transition
