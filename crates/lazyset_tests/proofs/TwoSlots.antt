@@ -1,13 +1,12 @@
--- The traces of a board of two slots: key 9 found in slot 0, then 12 linked in slot 1, settled, and the halt.
+-- The traces of a board of two slots: key 9 found in slot 0, then 12 linked in slot 1, settled, and either the halt, or 12
+-- marked, settled as removed, and unlinked.
 use Rattle.std.proofs.Common.{◌≡◌, ◌≢◌, inl, inr, ℕ, zero, suc, ◌+◌, ◌^◌, ◌<◌, ◌==◌, if◌then◌else◌, Bool, true, false, [], ◌∷◌, Option, Some, Result, Ok, Err, IfOk, IfErr, refl, sym, ap, ◌∙◌, subst, arith}
 use mathlib.Core.Bool.{false≢true}
 use Rattle.lz_list.specs.declared.word.Word.{Word}
 use Rattle.lz_list.specs.declared.word.Word.TheVariants.{Head, Link, Key, Pin as PinOf, Halt}
-use Rattle.lz_list.specs.declared.publishing.Change.TheVariants.{Added}
-use Rattle.lz_list.specs.declared.publishing.Publishing.TheVariants.{Linked as linked, Settled as settled, KeyPrepared as key_prepared, LinkPrepared as link_prepared, Halted as halted}
-use Rattle.lz_list.specs.Words.{Words, set}
-use Rattle.lz_list.specs.Lists.{new_words}
-use Rattle.lz_list.specs.Traces.{Trace, insert, on, chain, bucket_of, word_after, IsLoose, MayLink, Lawful}
+use Rattle.lz_list.specs.declared.publishing.Change.TheVariants.{Added, Removed}
+use Rattle.lz_list.specs.declared.publishing.Publishing.TheVariants.{Linked as linked, Marked as marked, Unlinked as unlinked, Settled as settled, KeyPrepared as key_prepared, LinkPrepared as link_prepared, Halted as halted}
+use Rattle.lz_list.specs.Traces.{Trace, insert, on, chain, bucket_of, word_after, IsLoose, MayLink, MayUnlink, Lawful}
 use Rattle.lz_list.specs.Pinned.{Stood}
 use Rattle.lz_list.proofs.Traces.OpeningTrace.{opening_lawful}
 use Rattle.lz_machine.specs.Limbo.{IsAway}
@@ -23,12 +22,7 @@ use Rattle.lz_board.specs.Noting.{Writes}
 use Rattle.lz_board.specs.Opened.{shown_in, opened_by, IsOpened}
 use Rattle.lz_board.specs.Glances.{Turns}
 use Rattle.lz_board.specs.Laws.{Prepares}
-
-abbrev pub sizes : Sizes
-sizes = record { slots = 2; buckets = 1; passes = 2 }
-
-abbrev pub nine_words : Words
-nine_words = set (set (set (new_words 2 1 2) (Key 0) 9) (Link 0) (2 ^ 33)) (Head 0) 1
+use Rattle.lazyset_tests.specs.NineFound.{sizes, nine_words}
 
 pub nine_opened : IsOpened nine_words
 unfolding bucket_of
@@ -48,6 +42,12 @@ T3 p = linked 12 1 p ∷ T2
 
 abbrev pub T4 : ℕ → Trace
 T4 p = settled 1 Added ∷ T3 p
+
+abbrev pub T5 : ℕ → Trace
+T5 p = marked 12 1 p ∷ T4 p
+
+abbrev pub T6 : ℕ → Trace
+T6 p = settled 1 Removed ∷ T5 p
 
 -- slot 1 stands on no chain before 12 is linked
 off : (t : Bool) → on 0 (if t then insert 9 0 [] else []) 2 ≡ false
@@ -84,6 +84,17 @@ may_link = record { in_range = omega arith; loose = loose; no_member = refl; no_
 
 law4 : (p : ℕ) → Lawful 1 2 (T4 p)
 law4 p = (tt, (may_link, law2))
+
+law5 : (p : ℕ) → Lawful 1 2 (T5 p)
+unfolding bucket_of
+law5 p = ((refl, refl, refl), law4 p)
+
+law6 : (p : ℕ) → Lawful 1 2 (T6 p)
+law6 p = (tt, law5 p)
+
+may_unlink : (p : ℕ) → MayUnlink 1 12 1 (T6 p)
+unfolding bucket_of
+may_unlink p = record { stands = refl; key = refl; no_member = refl; removed = refl }
 
 -- each word is stored as the trace has it
 key_written : Writes sizes T0 (Key 1) 0 12 (Some (key_prepared 1 12))
@@ -137,6 +148,46 @@ settled_written : (p : ℕ) → Writes sizes (T3 p) (Link 1) 0 8589934592 (Some 
 unfolding bucket_of
 settled_written p = record { shared = omega arith; word = refl; others = others_settled p }
 
+others_marked : (p : ℕ) (v : Word) → IsShared sizes v → v ≢ Link 1 → word_after 1 (T5 p) v ≡ word_after 1 (T4 p) v
+others_marked p (Head b) h ne = refl
+others_marked p (Link zero) h ne = refl
+others_marked p (Link (suc zero)) h ne = absurd (ne refl)
+others_marked p (Link (suc (suc s))) h ne = let l : suc (suc s) < 2 = h in absurd (omega (arith, l))
+others_marked p (Key s) h ne = refl
+others_marked p (PinOf q) h ne = absurd h
+others_marked p Halt h ne = refl
+
+marked_written : (p : ℕ) → Writes sizes (T4 p) (Link 1) 8589934592 12884901888 (Some (marked 12 1 p))
+unfolding bucket_of
+marked_written p = record { shared = omega arith; word = refl; others = others_marked p }
+
+others_removed : (p : ℕ) (v : Word) → IsShared sizes v → v ≢ Link 1 → word_after 1 (T6 p) v ≡ word_after 1 (T5 p) v
+others_removed p (Head b) h ne = refl
+others_removed p (Link zero) h ne = refl
+others_removed p (Link (suc zero)) h ne = absurd (ne refl)
+others_removed p (Link (suc (suc s))) h ne = let l : suc (suc s) < 2 = h in absurd (omega (arith, l))
+others_removed p (Key s) h ne = refl
+others_removed p (PinOf q) h ne = absurd h
+others_removed p Halt h ne = refl
+
+removed_written : (p : ℕ) → Writes sizes (T5 p) (Link 1) 12884901888 30064771072 (Some (settled 1 Removed))
+unfolding bucket_of
+removed_written p = record { shared = omega arith; word = refl; others = others_removed p }
+
+others_unlinked : (p : ℕ) (v : Word) → IsShared sizes v → v ≢ Link 0 → word_after 1 (unlinked 12 1 p ∷ T6 p) v ≡ word_after 1 (T6 p) v
+unfolding bucket_of
+others_unlinked p (Head b) h ne = refl
+others_unlinked p (Link zero) h ne = absurd (ne refl)
+others_unlinked p (Link (suc zero)) h ne = refl
+others_unlinked p (Link (suc (suc s))) h ne = let l : suc (suc s) < 2 = h in absurd (omega (arith, l))
+others_unlinked p (Key s) h ne = refl
+others_unlinked p (PinOf q) h ne = absurd h
+others_unlinked p Halt h ne = refl
+
+unlinked_written : (p : ℕ) → Writes sizes (T6 p) (Link 0) 8589934594 8589934592 (Some (unlinked 12 1 p))
+unfolding bucket_of
+unlinked_written p = record { shared = omega arith; word = refl; others = others_unlinked p }
+
 halt_written : (p : ℕ) → Writes sizes (T4 p) Halt 0 1 (Some halted)
 halt_written p = record { shared = tt; word = refl; others = others }
   where
@@ -184,6 +235,24 @@ module _ (y : Sizes) (opened P : Trace) (s k : ℕ) (sized : y ≡ sizes) (slot 
 
   pub lawful_halt : (p : ℕ) → P ≡ T4 p → Lawful y.buckets y.slots (halted ∷ P)
   lawful_halt p is = subst (λ (x : Sizes × Trace). Lawful x.0.buckets x.0.slots (halted ∷ x.1)) (λ i. (sym sized i, sym is i)) (tt, law4 p)
+
+  pub writes_marked : (p : ℕ) → P ≡ T4 p → Writes y P (Link s) 8589934592 12884901888 (Some (marked k s p))
+  writes_marked p is = subst (λ (x : Sizes × Trace × ℕ × ℕ). Writes x.0 x.1 (Link x.2) 8589934592 12884901888 (Some (marked x.3 x.2 p))) (λ i. (sym sized i, sym is i, sym slot i, sym key i)) (marked_written p)
+
+  pub lawful_marked : (p : ℕ) → P ≡ T4 p → Lawful y.buckets y.slots (marked k s p ∷ P)
+  lawful_marked p is = subst (λ (x : Sizes × Trace × ℕ × ℕ). Lawful x.0.buckets x.0.slots (marked x.3 x.2 p ∷ x.1)) (λ i. (sym sized i, sym is i, sym slot i, sym key i)) (law5 p)
+
+  pub writes_removed : (p : ℕ) → P ≡ T5 p → Writes y P (Link s) 12884901888 30064771072 (Some (settled s Removed))
+  writes_removed p is = subst (λ (x : Sizes × Trace × ℕ). Writes x.0 x.1 (Link x.2) 12884901888 30064771072 (Some (settled x.2 Removed))) (λ i. (sym sized i, sym is i, sym slot i)) (removed_written p)
+
+  pub lawful_removed : (p : ℕ) → P ≡ T5 p → Lawful y.buckets y.slots (settled s Removed ∷ P)
+  lawful_removed p is = subst (λ (x : Sizes × Trace × ℕ). Lawful x.0.buckets x.0.slots (settled x.2 Removed ∷ x.1)) (λ i. (sym sized i, sym is i, sym slot i)) (law6 p)
+
+  pub writes_unlinked : (p zero_slot : ℕ) → zero_slot ≡ 0 → P ≡ T6 p → Writes y P (Link zero_slot) 8589934594 8589934592 (Some (unlinked k s p))
+  writes_unlinked p zero_slot none is = subst (λ (x : Sizes × Trace × ℕ × ℕ × ℕ). Writes x.0 x.1 (Link x.4) 8589934594 8589934592 (Some (unlinked x.3 x.2 p))) (λ i. (sym sized i, sym is i, sym slot i, sym key i, sym none i)) (unlinked_written p)
+
+  pub lawful_unlinked : (p : ℕ) → P ≡ T6 p → Lawful y.buckets y.slots (unlinked k s p ∷ P)
+  lawful_unlinked p is = subst (λ (x : Sizes × Trace × ℕ × ℕ). Lawful x.0.buckets x.0.slots (unlinked x.3 x.2 p ∷ x.1)) (λ i. (sym sized i, sym is i, sym slot i, sym key i)) (may_unlink p, law6 p)
 
 -- a pass that was inside before a glance is inside after it
 pub inside_after : (r : Result Glance GlanceFault) (before after : Part) → Turns r before after → IsInside before.pin → IsInside after.pin

@@ -15,19 +15,19 @@ use lz_slot::{Key, Slot};
 use std::process::Abort;
 use std::test::Fail;
 
-// A word that becomes `new` where it was `old`, by an event that publishes this.
+/// A word that becomes `new` where it was `old`, by an event that publishes this.
 #[derive(Drop)]
-struct Store {
-    word: Word,
-    old: u64,
-    new: u64,
-    event: Event,
-    publishing: Publishing,
+pub struct Store {
+    pub word: Word,
+    pub old: u64,
+    pub new: u64,
+    pub event: Event,
+    pub publishing: Publishing,
 }
 
-// The pen stores a word for a pass: the pass joins it, the pen finds the pin word of the pass and notes the event, and the
-// pass is cut off again.
-fn publish(board: &Board, pen: &mut Pen, pass: &mut Pass, store: Store)
+/// The pen stores a word for a pass: the pass joins it, the pen finds the pin word of the pass and notes the event, and the
+/// pass is cut off again.
+pub fn publish(board: &Board, pen: &mut Pen, pass: &mut Pass, store: Store)
     requires pen { IsPenOf (id_of board.now) pen.old }
     requires pass { IsOf (id_of board.now) pass.old }
     requires outside { (part pass.old).pin % 2 ≡ 0 }
@@ -53,8 +53,8 @@ fn publish(board: &Board, pen: &mut Pen, pass: &mut Pass, store: Store)
     board.cut(pen, pass);
 }
 
-// The key of this number, which has to be one.
-fn key(rt: &impl Abort, number: u64) -> Key
+/// The key of this number, which has to be one.
+pub fn key(rt: &impl Abort, number: u64) -> Key
     ensures { result ≡ number }
 {
     let Some(key) = Key::new(number) else {
@@ -67,7 +67,7 @@ fn key(rt: &impl Abort, number: u64) -> Key
 #[test]
 fn a_board_of_two_slots(rt: HostRuntime) -> Result<(), Fail> {
     let (slot, nine, twelve) = (Slot::new(1), key(&rt, 9), key(&rt, 12));
-    let mut words = Words::new(rt.alloc(), 2, 1, 2)?;
+    let mut words = Words::new(rt.alloc(), 2, 1, 5)?;
     words.set(Word::Key(Slot::new(0)), 9);
     words.set(Word::Link(Slot::new(0)), 1 << 33);
     words.set(Word::Head(0), 1);
@@ -77,7 +77,7 @@ fn a_board_of_two_slots(rt: HostRuntime) -> Result<(), Fail> {
     let (Some(mut two), Some(mut one)) = (passes.pop(), passes.pop()) else {
         panic!(rt; "two passes")
     };
-    assert!(rt; one.number() == 1 && two.number() == 2);
+    assert!(rt; one.number() == 4 && two.number() == 5);
     assert!(rt; board.glance(&mut two, nine) == Ok(Glance::Yes));
     assert!(rt; board.glance(&mut two, key(&rt, 8)) == Ok(Glance::No));
 

@@ -12,6 +12,8 @@ mod drills;
 #[cfg(test)]
 mod faults;
 #[cfg(test)]
+mod glancing;
+#[cfg(test)]
 mod held;
 #[cfg(test)]
 mod interleaving;

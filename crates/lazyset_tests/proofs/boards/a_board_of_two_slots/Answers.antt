@@ -11,7 +11,8 @@ use Rattle.lz_machine.specs.Yards.{IsInside}
 use Rattle.lz_board.specs.Kept.{is_calling}
 use Rattle.lz_board.specs.Opened.{sizes_in, opened_by, IsOpened}
 use Rattle.lz_board.specs.Seats.{id_of, part, IsNew}
-use Rattle.lazyset_tests.proofs.TwoSlots.{nine_words, nine_opened, writes_key, lawful_key, leaves_key, writes_link, lawful_link, leaves_link, writes_linked, lawful_linked, writes_settled, lawful_settled, writes_halt, lawful_halt, inside_after}
+use Rattle.lazyset_tests.specs.NineFound.{nine_words}
+use Rattle.lazyset_tests.proofs.TwoSlots.{nine_opened, writes_key, lawful_key, leaves_key, writes_link, lawful_link, leaves_link, writes_linked, lawful_linked, writes_settled, lawful_settled, writes_halt, lawful_halt, inside_after}
 use Rattle.lazyset_tests.proofs.boards.a_board_of_two_slots.Goals as goal
 
 pub new-requires-4-clause-opened : goal.new-requires-4-clause-opened

@@ -1,0 +1,32 @@
+-- A board of two slots and five passes, where an open found key 9 in slot 0.
+use Rattle.std.specs.Prelude.{◌≡◌, ◌^◌, ◌%◌, false}
+use Rattle.lz_list.specs.declared.word.Word.TheVariants.{Head, Link, Key}
+use Rattle.lz_list.specs.Words.{Words, set}
+use Rattle.lz_list.specs.Lists.{new_words}
+use Rattle.lz_list.specs.Traces.{Trace}
+use Rattle.lz_board.specs.declared.view.Sizes.{Sizes}
+use Rattle.lz_board.specs.declared.board.Pen.{Pen}
+use Rattle.lz_board.specs.declared.pass.Pass.{Pass}
+use Rattle.lz_board.specs.Kept.{is_calling}
+use Rattle.lz_board.specs.Notes.{trace_of}
+use Rattle.lz_board.specs.Opened.{opened_by}
+use Rattle.lz_board.specs.Seats.{BoardId, notes, part, IsOf, IsPenOf}
+
+abbrev pub sizes : Sizes
+sizes = record { slots = 2; buckets = 1; passes = 5 }
+
+abbrev pub nine_words : Words
+nine_words = set (set (set (new_words 2 1 5) (Key 0) 9) (Link 0) (2 ^ 33)) (Head 0) 1
+
+-- The pen of such a board, with a pass that is outside, where this trace was published.
+pub record HasPublished (b : BoardId) (its_pen : Pen) (its_pass : Pass) (P : Trace) : Type 0 where
+  pub sized : b.sizes ≡ sizes
+  pub opened : b.opened ≡ opened_by nine_words
+  pub pen : IsPenOf b its_pen
+  pub pass : IsOf b its_pass
+  pub outside : (part its_pass).pin % 2 ≡ 0
+  pub trace : trace_of b.opened (notes its_pen) ≡ P
+
+-- the pass has a seat at this board, and no call open
+abbrev pub MayLook : BoardId → Pass → Type 0
+MayLook b pass = IsOf b pass × (is_calling b.sizes (part pass).steps ≡ false)
