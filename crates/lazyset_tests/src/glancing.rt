@@ -1,5 +1,5 @@
 //! Threads that glance at a board while its pen links, settles, marks and unlinks a key.
-ghost use Rattle.std.specs.Prelude.{◌≡◌, ◌∷◌, All};
+ghost use Rattle.std.specs.Prelude.{◌≡◌, ◌≤◌, ◌∷◌, All};
 ghost use Rattle.lz_list.specs.declared.publishing.Change.TheVariants as change;
 ghost use Rattle.lz_list.specs.declared.publishing.Publishing.TheVariants as publishing;
 ghost use Rattle.lz_board.specs.Opened.{opened_by};
@@ -25,6 +25,32 @@ const SETTLED: u64 = 8_589_934_592;
 const MARKED: u64 = 12_884_901_888;
 
 const REMOVED: u64 = 30_064_771_072;
+
+/// What the pen and the four watchers tell one another.
+#[derive(Drop)]
+struct Signals {
+    // How many stores the pen has told of.
+    stores: AtomicU64,
+    // How often a watcher has looked since it was told of a store, or of none yet.
+    looks: AtomicU64,
+    // Nobody waits for a watcher any more.
+    is_given_up: AtomicBool,
+}
+
+// The pen tells how much it has stored, and waits until each watcher has looked since.
+fn tell(signals: &Signals, stores: u64)
+    requires { stores ≤ 5 }
+{
+    signals.stores.store(stores, Ordering::SeqCst);
+    let wanted = 4 * (stores + 1);
+    for _ in 0..u64::MAX {
+        let looks = signals.looks.load(Ordering::SeqCst);
+        if looks >= wanted || signals.is_given_up.load(Ordering::SeqCst) {
+            break;
+        }
+        thread::yield_now();
+    }
+}
 
 // The pen prepares key 12 in slot 1.
 fn prepare(board: &Board, pen: &mut Pen, pass: &mut Pass, slot: Slot, twelve: Key)
@@ -53,7 +79,7 @@ fn prepare(board: &Board, pen: &mut Pen, pass: &mut Pass, slot: Slot, twelve: Ke
 }
 
 // It links the key behind key 9, and settles that.
-fn link(board: &Board, pen: &mut Pen, pass: &mut Pass, slot: Slot, twelve: Key)
+fn link(board: &Board, pen: &mut Pen, pass: &mut Pass, slot: Slot, twelve: Key, signals: &Signals)
     requires here { HasPublished (id_of board.now) pen.old pass.old (publishing.LinkPrepared 1 0 ∷ publishing.KeyPrepared 1 12 ∷ opened_by nine_words) }
     requires slot { slot ≡ 1 }
     requires twelve { twelve ≡ 12 }
@@ -69,7 +95,7 @@ fn link(board: &Board, pen: &mut Pen, pass: &mut Pass, slot: Slot, twelve: Key)
         publishing: Publishing::Linked(twelve, slot, owner),
     };
     publish(board, pen, pass, linked);
-    thread::yield_now();
+    tell(signals, 1);
     let settled = Store {
         word: Word::Link(slot),
         old: 0,
@@ -78,11 +104,11 @@ fn link(board: &Board, pen: &mut Pen, pass: &mut Pass, slot: Slot, twelve: Key)
         publishing: Publishing::Settled(slot, Change::Added),
     };
     publish(board, pen, pass, settled);
-    thread::yield_now();
+    tell(signals, 2);
 }
 
 // It marks the key, settles that, and unlinks the key.
-fn unlink(board: &Board, pen: &mut Pen, pass: &mut Pass, slot: Slot, twelve: Key)
+fn unlink(board: &Board, pen: &mut Pen, pass: &mut Pass, slot: Slot, twelve: Key, signals: &Signals)
     requires here { HasPublished (id_of board.now) pen.old pass.old (publishing.Settled 1 change.Added ∷ publishing.Linked 12 1 pass.old.number ∷ publishing.LinkPrepared 1 0 ∷ publishing.KeyPrepared 1 12 ∷ opened_by nine_words) }
     requires slot { slot ≡ 1 }
     requires twelve { twelve ≡ 12 }
@@ -96,7 +122,7 @@ fn unlink(board: &Board, pen: &mut Pen, pass: &mut Pass, slot: Slot, twelve: Key
         publishing: Publishing::Marked(twelve, slot, owner),
     };
     publish(board, pen, pass, marked);
-    thread::yield_now();
+    tell(signals, 3);
     let settled = Store {
         word: Word::Link(slot),
         old: MARKED,
@@ -105,7 +131,7 @@ fn unlink(board: &Board, pen: &mut Pen, pass: &mut Pass, slot: Slot, twelve: Key
         publishing: Publishing::Settled(slot, Change::Removed),
     };
     publish(board, pen, pass, settled);
-    thread::yield_now();
+    tell(signals, 4);
     let unlinked = Store {
         word: Word::Link(Slot::new(0)),
         old: SETTLED + 2,
@@ -114,6 +140,7 @@ fn unlink(board: &Board, pen: &mut Pen, pass: &mut Pass, slot: Slot, twelve: Key
         publishing: Publishing::Unlinked(twelve, slot, owner),
     };
     publish(board, pen, pass, unlinked);
+    tell(signals, 5);
 }
 
 /// The keys that are looked for: one that is never a member, one that always is, and one that comes and goes, in this slot.
@@ -123,13 +150,6 @@ struct Keys {
     nine: Key,
     twelve: Key,
     slot: Slot,
-}
-
-/// What the pen and the watchers tell one another.
-#[derive(Drop)]
-struct Signals {
-    watching: AtomicU64,
-    is_over: AtomicBool,
 }
 
 // Where this stands, from there on, among what may be seen of the key that comes and goes, in the order of time. None where it
@@ -170,43 +190,60 @@ fn look(board: &Board, pass: &mut Pass, keys: &Keys, from: usize) -> Option<usiz
     sight_from(from, keys.slot, twelve.ok()?)
 }
 
-// Looks until the pen is done, and then finds the key gone. Says whether all that was seen is so.
+// Looks until the pen has told of so many stores, and once more since.
+fn look_until(
+    board: &Board,
+    pass: &mut Pass,
+    keys: &Keys,
+    signals: &Signals,
+    stores: usize,
+    from: usize,
+) -> Option<usize>
+    requires { MayLook (id_of board.now) pass.old }
+    ensures { MayLook (id_of board.now) pass.new }
+{
+    let mut from = from;
+    for _ in 0..u64::MAX {
+        let is_told = signals.stores.load(Ordering::SeqCst) >= stores as u64;
+        from = look(board, pass, keys, from)?;
+        if is_told {
+            return Some(from);
+        }
+        thread::yield_now();
+    }
+    None
+}
+
+// Looks all the while, and once it is told of a store finds it made; an unlinking isn't to be seen. Says whether all that
+// was seen is so.
 fn watch(board: &Board, pass: Pass, keys: &Keys, signals: &Signals) -> bool
     requires { MayLook (id_of board.now) pass }
 {
-    signals.watching.fetch_add(1, Ordering::SeqCst);
     let mut pass = pass;
     let mut from = 0;
-    for _ in 0..u64::MAX {
-        let is_over = signals.is_over.load(Ordering::SeqCst);
-        if is_over {
-            return sees(board, &mut pass, keys.twelve, Glance::No);
+    for stores in 0..6 {
+        let seen = look_until(board, &mut pass, keys, signals, stores, from);
+        from = stores.min(4);
+        if seen != Some(from) {
+            signals.is_given_up.store(true, Ordering::SeqCst);
+            return false;
         }
-        match look(board, &mut pass, keys, from) {
-            Some(at) => from = at,
-            None => return false,
-        }
+        signals.looks.fetch_add(1, Ordering::SeqCst);
     }
-    false
+    true
 }
 
-// Once all watch, the key comes and goes.
-fn work(board: &Board, pen: Pen, pass: Pass, keys: &Keys, signals: &Signals, watchers: usize)
+// Once all have looked, the key comes and goes.
+fn work(board: &Board, pen: Pen, pass: Pass, keys: &Keys, signals: &Signals)
     requires here { HasPublished (id_of board.now) pen pass (opened_by nine_words) }
     requires slot { keys.now.slot ≡ 1 }
     requires twelve { keys.now.twelve ≡ 12 }
 {
-    for _ in 0..u64::MAX {
-        if signals.watching.load(Ordering::SeqCst) >= watchers as u64 {
-            break;
-        }
-        thread::yield_now();
-    }
+    tell(signals, 0);
     let (mut pen, mut pass) = (pen, pass);
     prepare(board, &mut pen, &mut pass, keys.slot, keys.twelve);
-    link(board, &mut pen, &mut pass, keys.slot, keys.twelve);
-    unlink(board, &mut pen, &mut pass, keys.slot, keys.twelve);
-    signals.is_over.store(true, Ordering::SeqCst);
+    link(board, &mut pen, &mut pass, keys.slot, keys.twelve, signals);
+    unlink(board, &mut pen, &mut pass, keys.slot, keys.twelve, signals);
 }
 
 // A thread for each of the watchers, and the pen beside them. Says whether all four saw only what is so.
@@ -245,8 +282,11 @@ fn meet<R: Threads + Wait + Sync>(
                     let _ = threads.push(thread);
                 }
             }
-            work(board, pen, pass, keys, signals, threads.len());
             let mut is_lawful = threads.len() == 4;
+            if !is_lawful {
+                signals.is_given_up.store(true, Ordering::SeqCst);
+            }
+            work(board, pen, pass, keys, signals);
             for thread in threads {
                 is_lawful = thread.join(rt) && is_lawful;
             }
@@ -273,8 +313,9 @@ fn round<R: Threads + Wait + Sync>(rt: &R, alloc: Global, keys: &Keys) -> Option
         return None;
     };
     let signals = Signals {
-        watching: AtomicU64::new(0),
-        is_over: AtomicBool::new(false),
+        stores: AtomicU64::new(0),
+        looks: AtomicU64::new(0),
+        is_given_up: AtomicBool::new(false),
     };
     Some(meet(rt, alloc, &board, pen, pass, passes, keys, &signals))
 }
