@@ -59,7 +59,7 @@ impl<N: Named, D: Disk> Locked<N, D> {
         requires turn { IsTurn self.old.notes (part pass.old) caller.now event }
         ensures pass { IsOf N.board pass.new }
         ensures holds { Holds N.board.opened self.old.notes self.new.notes (note_by (part pass.old).number (Played event result.outcome) result.published) (part pass.old) (part pass.new) }
-        ensures turned { Turned N.board.opened self.old.notes (part pass.old).number caller.now.command caller.now.progress event result.outcome result.published }
+        ensures turned { Turned N.board.opened self.old.notes (part pass.old) caller.now.command caller.now.progress event result.outcome result.published }
     {
         board.join(&mut self.pen, pass);
         let turn = play_joined(board, &mut self.pen, &mut self.yard, pass, caller, event);
@@ -81,7 +81,7 @@ impl<N: Named, D: Disk> Locked<N, D> {
         requires event { event_at (shape_of (part pass.old).sizes) caller.now.command caller.now.progress ≡ SeePin seen 0 }
         ensures pass { IsOf N.board pass.new }
         ensures holds { Holds N.board.opened (found_note seen result.0 ∷ self.old.notes) self.new.notes (note_by (part pass.old).number (Played (SeePin seen result.0) result.1.outcome) result.1.published) (part pass.old) (part pass.new) }
-        ensures turned { Turned N.board.opened (found_note seen result.0 ∷ self.old.notes) (part pass.old).number caller.now.command caller.now.progress (SeePin seen result.0) result.1.outcome result.1.published }
+        ensures turned { Turned N.board.opened (found_note seen result.0 ∷ self.old.notes) (part pass.old) caller.now.command caller.now.progress (SeePin seen result.0) result.1.outcome result.1.published }
     {
         board.join(&mut self.pen, pass);
         let value = board.load_pin(&mut self.pen, seen);
