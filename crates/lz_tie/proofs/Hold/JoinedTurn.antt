@@ -128,8 +128,8 @@ module _ (b : BoardId) (ns : List Note) (y : Yard) (dev : Device) (h : Part) (ho
     pub may_note : MayNote b.sizes b.opened ns h n1
     may_note = subst (MayNote b.sizes b.opened ns h) note_is (turn_of.may_note b ns y dev h hold c e turn o z' told dev' gave same_shape prepares)
 
-    pub turned : Turned b.opened ns h.number c.command c.progress e o x
-    turned = subst (Turned b.opened ns h.number c.command c.progress e o) (sym shown) (turn_of.turned b ns y dev h hold c e turn o z' told dev' gave same_shape)
+    pub turned : Turned b.opened ns h c.command c.progress e o x
+    turned = subst (Turned b.opened ns h c.command c.progress e o) (sym shown) (turn_of.turned b ns y dev h hold c e turn o z' told dev' gave same_shape)
 
     module _ (ex : Exchange) (is : IsExchange z'.words told.changed told.before (Some ex)) where
       pub keeps : KeepsPin h n1
