@@ -1,5 +1,5 @@
 -- The same turn in the words of the code that plays it: its number and its pin word are read at run time.
-use Rattle.std.proofs.Common.{◌≡◌, ◌≢◌, ⊎_elim, ℕ, Bool, true, false, List, [], ◌∷◌, refl, sym, ap, ◌∙◌, subst}
+use Rattle.std.proofs.Common.{◌≡◌, ⊎_elim, ℕ, Bool, true, false, List, ◌∷◌, refl, sym, ap, ◌∙◌, subst}
 use mathlib.Core.Bool.{false≢true}
 use Rattle.std.specs.Prelude.{◌&&◌, Option, Some, None, is_some, unwrap_or}
 use Rattle.lz_disk.specs.Devices.{Device}
@@ -15,7 +15,6 @@ use Rattle.lz_machine.specs.declared.course.Course.TheVariants.{Refused, Dies, P
 use Rattle.lz_machine.specs.declared.event.Event.{Event}
 use Rattle.lz_machine.specs.declared.event.Event.TheVariants.{WriteKey, WriteOpen, Settle}
 use Rattle.lz_machine.specs.declared.event.Outcome.{Outcome}
-use Rattle.lz_machine.specs.declared.event.Outcome.TheVariants.{Fault}
 use Rattle.lz_machine.specs.Yards.{Yard, actor_at, cell_at}
 use Rattle.lz_machine.specs.Table.{course, needs, published_on, publishes, settling, line_publishes}
 use Rattle.lz_machine.specs.Orders.{Calling}

@@ -1,6 +1,6 @@
 -- What a pass that joins the pen brings into a hold.
 use Rattle.std.specs.Prelude.{Option}
-use Rattle.std.proofs.Common.{◌≡◌, ◌+◌, ◌<◌, suc, List, sym, ap, ◌∙◌, subst, arith}
+use Rattle.std.proofs.Common.{◌≡◌, ◌+◌, ◌<◌, List, sym, ◌∙◌, subst, arith}
 use Rattle.lz_disk.specs.Devices.{Device}
 use Rattle.lz_slot.specs.declared.command.Command.{Command}
 use Rattle.lz_list.specs.declared.publishing.Publishing.{Publishing}
@@ -19,7 +19,7 @@ use Rattle.lz_board.specs.Plays.{knowing, noted_part, moved_part}
 use Rattle.lz_board.specs.declared.pass.Pass.{Pass}
 use Rattle.lz_board.specs.Seats.{BoardId, IsAtHand}
 use Rattle.lz_board.proofs.Upkeep.PartUpkeep.{knows_knowing}
-use Rattle.lz_tie.specs.Holds.{IsLocked, HasCall, InHold, IsTurn, Turned}
+use Rattle.lz_tie.specs.Holds.{IsLocked, InHold, IsTurn, Turned}
 
 pub joined : (b board : BoardId) → board ≡ b → (ns ns' : List Note) (y : Yard) (dev : Device) (h h' : Part)
     → IsLocked b ns y dev → Knows board.sizes board.opened ns h → PinTold board.sizes ns h.number h.pin → ns' ≡ ns → h' ≡ knowing (trace_of board.opened ns) h → InHold board ns' y dev h'

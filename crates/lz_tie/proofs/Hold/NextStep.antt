@@ -1,28 +1,24 @@
 -- One hold: what it plays may be played, and its notes are read as a run whose last state is the yard's again.
-use Rattle.std.proofs.Common.{◌≡◌, ◌≢◌, ◌⊎◌, inl, inr, ⊎_elim, ℕ, zero, suc, ◌≤◌, ◌%◌, Bool, true, false, List, [], ◌∷◌, ◌++◌, map, length, refl, sym, ap, ◌∙◌, subst, arith}
+use Rattle.std.proofs.Common.{◌≡◌, ◌≢◌, inl, ⊎_elim, ℕ, suc, ◌≤◌, ◌%◌, Bool, true, false, List, [], ◌∷◌, ◌++◌, map, length, refl, sym, ap, ◌∙◌, subst, arith}
 use mathlib.Core.Bool.{false≢true}
-use Rattle.std.specs.Prelude.{Option, Some, None, IsSomeAnd, IsTrue, slice_index_or, is_some}
+use Rattle.std.specs.Prelude.{Option, Some, None, IsTrue, is_some}
 use Rattle.lz_slot.specs.declared.command.Command.{Command}
 use Rattle.lz_slot.specs.Counted.{of_pass}
 use Rattle.lz_disk.specs.Images.{Medium}
 use Rattle.lz_disk.specs.Devices.{Device}
 use Rattle.lz_vault.specs.Vaults.{DeviceCall, NoCall, WriteAt, SyncAll, MayFail, medium_after}
-use Rattle.lz_list.specs.declared.word.Word.{Word}
 use Rattle.lz_list.specs.Words.{Words}
 use Rattle.lz_list.specs.Traces.{Trace}
 use Rattle.lz_machine.specs.declared.event.Event.{Event}
 use Rattle.lz_machine.specs.declared.event.Event.TheVariants.{Invoke, Pin, Hop, Reserve, WriteKey, Claim, Check, WriteOpen, Link, WriteClose, Mark, Release, Sync, Settle, Unlink, Retire, SeePin, Answer, Halt}
 use Rattle.lz_machine.specs.declared.event.Outcome.{Outcome}
 use Rattle.lz_machine.specs.declared.event.Outcome.TheVariants.{Fault}
-use Rattle.lz_machine.specs.declared.caller.Sequence.{Sequence}
-use Rattle.lz_machine.specs.declared.caller.Sequence.TheVariants.{Pinning, Resting, Writing, Adding, Removing, Releasing, Halting}
 use Rattle.lz_machine.specs.declared.caller.Progress.{Progress}
-use Rattle.lz_machine.specs.declared.caller.Progress.TheVariants.{Playing, LoadsHalt, Walking, Reserving, SeeingPins, Claiming, Checking, Answering}
 use Rattle.lz_machine.specs.Yards.{Shape, Yard, IsInside}
 use Rattle.lz_machine.specs.Table.{line, line_failed, line_call, line_publishes, pin_of}
-use Rattle.lz_machine.specs.Calls.{events_of, event_at, loaded}
+use Rattle.lz_machine.specs.Calls.{event_at, loaded}
 use Rattle.lz_machine.specs.Orders.{HasPass}
-use Rattle.lz_machine.specs.Runs.{State, Up, Service, Caller, Turn, Fails as FailsStep, Point, run, MayStep, HasTurn, HasFault, Reached, first_point, caller_at, next_event, state_after, after_turn, after_fault, IsNext, SameButPins, MayPlay, shape_of as shape_in}
+use Rattle.lz_machine.specs.Runs.{State, Up, Caller, Turn, Fails as FailsStep, Point, run, MayStep, HasTurn, HasFault, Reached, first_point, caller_at, next_event, state_after, after_turn, after_fault, SameButPins, MayPlay, shape_of as shape_in}
 use Rattle.lz_machine.specs.Laws.{SameBut, hop_of}
 use Rattle.lz_machine.specs.CallersSound.{CallerSound, view_of}
 use Rattle.lz_machine.specs.CallsStand.{own_change}

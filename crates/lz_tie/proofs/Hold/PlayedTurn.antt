@@ -1,9 +1,7 @@
 -- One turn of a pass that has joined the pen: what it asks of the yard, what its note tells, and what it leaves.
-use Rattle.std.proofs.Common.{◌≡◌, ◌≢◌, ◌⊎◌, inl, inr, ⊎_elim, ℕ, suc, ◌≤◌, ◌<◌, Bool, true, false, List, [], ◌∷◌, ◌++◌, map, length, refl, sym, ap, ◌∙◌, subst, arith, eq-eqb, ne_eqb}
+use Rattle.std.proofs.Common.{◌≡◌, ◌≢◌, ⊎_elim, ℕ, suc, ◌≤◌, ◌<◌, Bool, true, false, List, [], ◌++◌, map, length, refl, sym, ap, ◌∙◌, subst, arith, eq-eqb, ne_eqb}
 use mathlib.Core.Bool.{false≢true}
 use Rattle.std.specs.Prelude.{is_some, if◌then◌else◌, Option, Some, None, IfSome}
-use Rattle.lz_slot.specs.declared.command.Command.{Command}
-use Rattle.lz_slot.specs.Counted.{of_pass}
 use Rattle.lz_slot.proofs.Counted.{of_pass_same, length-set_of_pass}
 use Rattle.lz_disk.specs.Devices.{Device}
 use Rattle.lz_allot.specs.Uses.{Taken, use_of}
@@ -19,9 +17,8 @@ use Rattle.lz_machine.specs.declared.event.Outcome.{Outcome}
 use Rattle.lz_machine.specs.declared.event.Outcome.TheVariants.{Done, Fault}
 use Rattle.lz_machine.specs.declared.course.Course.{Course}
 use Rattle.lz_machine.specs.declared.course.Course.TheVariants.{Refused, Dies, Plays}
-use Rattle.lz_machine.specs.declared.caller.Progress.{Progress}
 use Rattle.lz_machine.specs.Yards.{Shape, Yard, actor_at}
-use Rattle.lz_machine.specs.Table.{course, line, line_on, line_failed, line_changes, line_publishes, published_on, outcome_of, yard_done, uses_after, actors_after, pin_of, last_pin}
+use Rattle.lz_machine.specs.Table.{course, line, line_on, line_failed, line_publishes, published_on, outcome_of, yard_done, uses_after, actors_after, pin_of, last_pin}
 use Rattle.lz_machine.specs.Calls.{event_at}
 use Rattle.lz_machine.specs.Orders.{Calling, HasPass}
 use Rattle.lz_machine.specs.Ready.{IsEventOf, IsReadyFor}
@@ -29,16 +26,14 @@ use Rattle.lz_machine.specs.Runs.{MayPlay, with_words}
 use Rattle.lz_machine.proofs.Runs.EventRange.{is_event}
 use Rattle.lz_machine.proofs.Theorem.Readiness.{is_invoke, ready, plays_needs}
 use Rattle.lz_yard.specs.declared.told.Told.{Told}
-use Rattle.lz_yard.specs.Steps.{Played as PlayedOver, value_of, nothing_told}
+use Rattle.lz_yard.specs.Steps.{Played as PlayedOver, value_of}
 use Rattle.lz_yard.proofs.Events.KeptFit.{fault_or_not}
 use Rattle.lz_board.specs.declared.view.Sizes.{Sizes}
 use Rattle.lz_board.specs.declared.view.What.TheVariants.{Played}
 use Rattle.lz_board.specs.declared.view.Note.{Note}
-use Rattle.lz_board.specs.declared.view.Load.{Load}
 use Rattle.lz_board.specs.declared.view.Part.{Part}
 use Rattle.lz_board.specs.Notes.{note_by, listed, own, trace_of, steps_of, load_note, splice, AllShown, place, pin_after, pin_after_what, pin_after_played, shape_of}
 use Rattle.lz_board.specs.Kept.{is_calling, shows_played}
-use Rattle.lz_machine.specs.Yards.{IsInside}
 use Rattle.lz_board.specs.Noting.{Sighting, MayNote, MayPrepare, KeepsPin, MovesPin, Writes}
 use Rattle.lz_board.specs.Plays.{noted, noted_part, moved_part, found_note}
 use Rattle.lz_board.specs.Seats.{BoardId}
@@ -46,7 +41,7 @@ use Rattle.lz_board.proofs.Upkeep.Splice.{trace_splice, pin_splice}
 use Rattle.lz_board.proofs.Upkeep.PartUpkeep.{trace_noted, knows_noted, knows_moved, told_own}
 use Rattle.lz_tie.specs.declared.playing.Exchange.{Exchange}
 use Rattle.lz_tie.specs.NotedRuns.{AreNext, SameButAllPins, IsTied, seen_event}
-use Rattle.lz_tie.specs.Holds.{sizes_of, IsLocked, HasCall, InHold, IsTurn, SeesPin, Turned, IsExchange, Holds}
+use Rattle.lz_tie.specs.Holds.{sizes_of, IsLocked, InHold, IsTurn, SeesPin, Turned, IsExchange, Holds}
 use Rattle.lz_tie.specs.Reuse.{ReuseTold}
 use Rattle.lz_tie.proofs.Reuse.SightUpkeep.{noted_same}
 use Rattle.lz_tie.proofs.Reuse.EventUpkeep.{is_reusing, reusing_silent, leaves, slot_in, silent_told, plain_told, reserve_told, retired_told, seen_told, answered_told}
