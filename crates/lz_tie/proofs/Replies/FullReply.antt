@@ -1,5 +1,5 @@
 -- Only an adding asks for a slot, and so only an adding is told that there is none.
-use Rattle.std.proofs.Common.{◌≡◌, ℕ, ◌+◌, ◌-◌, ◌==◌, nat_lt, if◌then◌else◌, Bool, true, false, List, [], ◌∷◌, ◌++◌, length, refl, sym, subst, true≢false}
+use Rattle.std.proofs.Common.{◌≡◌, ℕ, ◌+◌, ◌==◌, nat_lt, if◌then◌else◌, Bool, true, false, List, [], ◌∷◌, ◌++◌, length, refl, sym, subst, true≢false}
 use Rattle.std.specs.Prelude.{Option, Some, None}
 use Rattle.lz_slot.specs.declared.command.Command.{Command}
 use Rattle.lz_slot.specs.declared.command.Command.TheVariants.{Add, Remove, Has}
@@ -25,7 +25,7 @@ use Rattle.lz_machine.specs.declared.caller.Progress.{Progress}
 use Rattle.lz_machine.specs.declared.caller.Progress.TheVariants.{Playing, LoadsHalt, Walking, Reserving, SeeingPins, Claiming, Checking, Answering}
 use Rattle.lz_machine.specs.Yards.{Shape}
 use Rattle.lz_machine.specs.Table.{is_old}
-use Rattle.lz_machine.specs.Calls.{events_of, goes_on, after_event, first_progress, begun, progress_after, follows, walked, rests, hops_on, changes, after_playing, after_halt, after_hop, after_claim, after_check}
+use Rattle.lz_machine.specs.Calls.{events_of, goes_on, after_event, first_progress, progress_after, follows, walked, rests, hops_on, changes, after_playing, after_halt, after_hop, after_claim, after_check}
 use Rattle.lz_machine.specs.CallersSound.{IsAdder}
 use Rattle.lz_machine.specs.Runs.{reply_at}
 use Rattle.lz_board.specs.declared.view.What.{What}

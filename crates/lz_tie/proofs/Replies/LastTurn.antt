@@ -1,5 +1,5 @@
 -- The turn of an Answer: it is done, publishes nothing, and leaves the pass outside.
-use Rattle.std.proofs.Common.{◌≡◌, ◌≢◌, ⊎_elim, inl, inr, ℕ, suc, ◌%◌, ◌==◌, ◌&&◌, not, if◌then◌else◌, Bool, true, false, List, [], ◌∷◌, length, refl, sym, ap, ◌∙◌, subst, arith, eq-eqb}
+use Rattle.std.proofs.Common.{◌≡◌, ◌≢◌, ℕ, suc, ◌%◌, ◌==◌, ◌&&◌, not, if◌then◌else◌, Bool, true, false, List, [], length, refl, sym, ap, ◌∙◌, subst, arith, eq-eqb}
 use Rattle.std.specs.Prelude.{Option, Some, None}
 use Rattle.std.proofs.lemmas.Bool.Decides.{nat_tests}
 use Rattle.lz_slot.specs.declared.command.Command.{Command}
@@ -16,8 +16,8 @@ use Rattle.lz_machine.specs.declared.event.Reply.TheVariants.{Worn}
 use Rattle.lz_machine.specs.declared.caller.Progress.{Progress}
 use Rattle.lz_machine.specs.declared.caller.Progress.TheVariants.{Answering}
 use Rattle.lz_machine.specs.Yards.{Yard, actor_at, IsInside}
-use Rattle.lz_machine.specs.Table.{course, line, line_on, line_call, call_on, line_publishes, published_on, needs, stays_out, pin_of, last_pin}
-use Rattle.lz_machine.specs.Runs.{next_event, reply_at, HasTurn}
+use Rattle.lz_machine.specs.Table.{course, line, line_on, call_on, published_on, needs, stays_out, pin_of, last_pin}
+use Rattle.lz_machine.specs.Runs.{reply_at, HasTurn}
 use Rattle.lz_machine.specs.CallersSound.{Relies, View, view_of}
 use Rattle.lz_machine.specs.CallsStand.{own_change}
 use Rattle.lz_machine.proofs.Alone.Halt.{refusals_are_right}

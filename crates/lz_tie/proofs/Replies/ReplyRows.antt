@@ -1,6 +1,6 @@
 -- What a reply promises, row by row, from what its call may rely on since the pass went in: P is what the pass had seen before
 -- the call, P0 the trace at which it went in, Q the trace now.
-use Rattle.std.proofs.Common.{◌≡◌, ⊎_elim, inl, inr, ℕ, suc, true, false, [], ◌∷◌, ◌++◌, length, sym, ap, ◌∙◌, subst, arith, ◌⊎◌}
+use Rattle.std.proofs.Common.{◌≡◌, ⊎_elim, inl, inr, ℕ, suc, true, false, ◌∷◌, length, sym, ap, ◌∙◌, subst, arith, ◌⊎◌}
 use mathlib.Core.Bool.{false≢true}
 use Rattle.std.proofs.lemmas.Bool.Decides.{nat_tests}
 use Rattle.lz_list.specs.declared.publishing.Publishing.{Publishing}
