@@ -47,7 +47,7 @@ own_first p (linked k s q) P is = let same : (q == p) ≡ true = grind (arith, n
 own_first p (marked k s q) P is = let same : (q == p) ≡ true = grind (arith, nat_tests, is) in ap (λ b. if b then marked k s q ∷ own p P else own p P) same
 own_first p _ P is = absurd is
 
--- The newest change that was made for the pass since it went in, at P0: it is one of those that were made for it since P.
+-- The linking or marking for the pass at this position of Q: it is one of the changes that were made for it since P.
 pub record OwnChange (p at : ℕ) (P Q changes : Trace) : Type 0 where
   pub change : Publishing
   pub earlier : Trace
