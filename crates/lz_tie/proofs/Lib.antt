@@ -4,3 +4,4 @@ pub mod Hold
 pub mod Reuse
 pub mod Start
 pub mod AnswerRows
+pub mod Calls
