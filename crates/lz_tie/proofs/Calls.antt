@@ -3,3 +3,5 @@ pub mod TurnResult
 pub mod NextPlace
 pub mod PartAfter
 pub mod CallTurn
+pub mod CallLoad
+pub mod CallOpening

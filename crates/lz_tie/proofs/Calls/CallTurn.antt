@@ -1,5 +1,5 @@
 -- A call that is under way goes on by a turn of its pass.
-use Rattle.std.proofs.Common.{◌≡◌, ◌≢◌, ◌⊎◌, inl, inr, ⊎_elim, ℕ, zero, suc, ◌+◌, ◌%◌, ◌==◌, ◌≤◌, Bool, true, false, List, [], ◌∷◌, ◌++◌, map, length, refl, sym, ap, ◌∙◌, subst, arith, eq-eqb}
+use Rattle.std.proofs.Common.{◌≡◌, ◌≢◌, ◌⊎◌, inl, inr, ⊎_elim, ℕ, zero, suc, ◌+◌, ◌%◌, ◌≤◌, Bool, true, false, List, [], ◌∷◌, ◌++◌, map, refl, sym, ap, ◌∙◌, subst, arith, eq-eqb}
 use mathlib.Core.Bool.{false≢true}
 use Rattle.std.specs.Prelude.{if◌then◌else◌, is_some, slice_index_or, Option, Some, None}
 use Rattle.lz_slot.specs.declared.command.Command.{Command}
@@ -14,21 +14,20 @@ use Rattle.lz_list.specs.Words.{Words}
 use Rattle.lz_machine.specs.declared.course.Course.{Course}
 use Rattle.lz_machine.specs.declared.course.Course.TheVariants.{Plays}
 use Rattle.lz_machine.specs.declared.event.Event.{Event}
-use Rattle.lz_machine.specs.declared.event.Event.TheVariants.{Pin, Hop, Reserve, Check, Answer, SeePin}
+use Rattle.lz_machine.specs.declared.event.Event.TheVariants.{Pin, Reserve, Check, Answer, SeePin}
 use Rattle.lz_machine.specs.declared.event.Outcome.{Outcome}
 use Rattle.lz_machine.specs.declared.event.Outcome.TheVariants.{Done, Slot, NoSlot, Worn, NotNow, Fault, Dead}
 use Rattle.lz_machine.specs.declared.event.Reply.TheVariants.{Full, Worn as SaysWorn, OldFile, Halted, Device}
-use Rattle.lz_machine.specs.declared.caller.Sequence.{Sequence}
 use Rattle.lz_machine.specs.declared.caller.Sequence.TheVariants.{Pinning, Resting, Writing, Adding, Removing, Releasing, Halting}
 use Rattle.lz_machine.specs.declared.caller.Progress.{Progress}
 use Rattle.lz_machine.specs.declared.caller.Progress.TheVariants.{Playing, LoadsHalt, Walking, Reserving, SeeingPins, Claiming, Checking, Answering}
-use Rattle.lz_machine.specs.Yards.{Shape, Yard, actor_at, IsInside, pin_in}
+use Rattle.lz_machine.specs.Yards.{Shape, Yard, actor_at, pin_in}
 use Rattle.lz_machine.specs.Table.{course, line, line_on, line_call, line_publishes, published_on, publishes, outcome_of, slot_found}
 use Rattle.lz_machine.specs.Calls.{event_at, events_of, loaded, progress_after}
 use Rattle.lz_machine.specs.CallersSound.{View, view_of, Relies, IsCaller, is_before_pin, side_of}
 use Rattle.lz_machine.specs.Laws.{hop_of}
 use Rattle.lz_machine.specs.Orders.{HasPass}
-use Rattle.lz_machine.specs.Runs.{Caller, Up, run, first_point, caller_at, next_event, reply_at}
+use Rattle.lz_machine.specs.Runs.{Caller, run, first_point, reply_at}
 use Rattle.lz_machine.proofs.Alone.FullSet.{full_of_one_pass}
 use Rattle.lz_machine.proofs.Frames.OneActor.{caller_range}
 use Rattle.lz_machine.proofs.Theorem.NoSlotCounts.{counts_are_right}
@@ -42,7 +41,7 @@ use Rattle.lz_board.specs.declared.view.Part.{Part}
 use Rattle.lz_board.specs.Notes.{note_by, listed, own, trace_of, load_note, shape_of, pin_after_played}
 use Rattle.lz_board.specs.Seats.{BoardId}
 use Rattle.lz_tie.specs.Answers.{IsWithin, last_reserve, reserved_by}
-use Rattle.lz_tie.specs.Holds.{Holds, Turned, sizes_of}
+use Rattle.lz_tie.specs.Holds.{Holds, Turned}
 use Rattle.lz_tie.specs.UnderWay.{OwnAt, FoundFull, UnderWay}
 use Rattle.lz_tie.proofs.Reading.PinWords.{is_pinning}
 use Rattle.lz_tie.proofs.Calls.OwnChanges.{calm, calm_none, worn_none, full_none}
@@ -107,7 +106,7 @@ fault_or_not : (o : Outcome) → (o ≡ Fault) ⊎ (o ≢ Fault)
 fault_or_not Fault = inl refl
 fault_or_not o = inr (λ is. absurd cc)
 
-abbrev says_old : Progress → Bool
+abbrev pub says_old : Progress → Bool
 says_old (Answering OldFile) = true
 says_old at = false
 
@@ -116,10 +115,10 @@ abbrev told_in : Counts → Progress → Counts
 told_in other (Answering (Full counts)) = counts
 told_in other at = other
 
-not_old : (at : Progress) → is_before_pin at ≡ false → at ≢ Answering OldFile
+pub not_old : (at : Progress) → is_before_pin at ≡ false → at ≢ Answering OldFile
 not_old at inside is = absurd (false≢true (sym inside ∙ ap is_before_pin is))
 
-not_full : (at : Progress) (counts : Counts) → is_full at ≡ false → at ≢ Answering (Full counts)
+pub not_full : (at : Progress) (counts : Counts) → is_full at ≡ false → at ≢ Answering (Full counts)
 not_full at counts room is = absurd (false≢true (sym room ∙ ap is_full is))
 
 module _ (b : BoardId) (c : Command) (format : Format) (before : Part) (at : Progress) (h : Part) (U : UnderWay b c format before at h) (opened : Trace) (was is : List Note) (e : Event) (o : Outcome) (x : Option Publishing) (h' : Part)
