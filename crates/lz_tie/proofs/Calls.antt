@@ -5,3 +5,4 @@ pub mod PartAfter
 pub mod CallTurn
 pub mod CallLoad
 pub mod CallOpening
+pub mod CallerStep

@@ -22,6 +22,7 @@ use Rattle.lz_machine.specs.CallersSound.{is_before_pin, side_of}
 use Rattle.lz_machine.specs.Laws.{hop_of}
 use Rattle.lz_machine.specs.Orders.{IsLoading}
 use Rattle.lz_machine.specs.Runs.{reply_at}
+use Rattle.lz_board.specs.declared.view.Sizes.{Sizes}
 use Rattle.lz_board.specs.declared.view.What.TheVariants.{Played}
 use Rattle.lz_board.specs.declared.view.Load.{Load}
 use Rattle.lz_board.specs.declared.view.Part.{Part}
@@ -83,7 +84,7 @@ load_place shape c (Claiming aim pred curr) w is = absurd (false≢true (ap is_s
 load_place shape c (Checking aim curr) w is = absurd (false≢true (ap is_some (ap hop_of is)))
 load_place shape c (Answering reply) w is = absurd (false≢true (ap is_some (ap hop_of is)))
 
-module _ (b : BoardId) (c : Command) (format : Format) (before : Part) (at : Progress) (h : Part) (U : UnderWay b c format before at h) (w : Word) (event : event_at (shape_of h.sizes) c at ≡ Hop w) (shared : IsShared h.sizes w)
+module _ (b : BoardId) (c : Command) (format : Format) (before : Part) (at : Progress) (h : Part) (U : UnderWay b c format before at h) (w : Word) (event : event_at (shape_of h.sizes) c at ≡ Hop w) (shared : IsShared b.sizes w)
     (seen : Trace) (value : ℕ) (shown : IsShownTo seen h) where
   abbrev h1 : Part
   h1 = loading seen (index h.sizes w) value h
@@ -115,7 +116,7 @@ module _ (b : BoardId) (c : Command) (format : Format) (before : Part) (at : Pro
     steps = U.steps;
     only = U.only;
     call = record {
-      next = (subst (IsHopAt (shape_of h.sizes) x) (sym U.call.at) (event ∙ ap Hop (sym (decode h.sizes w (shared_boards h.sizes w shared)))), U.call.next);
+      next = (subst (IsHopAt (shape_of h.sizes) x) (sym U.call.at) (event ∙ ap Hop (sym (decode h.sizes w (shared_boards h.sizes w (subst (λ (z : Sizes). IsShared z w) (sym U.sizes) shared))))), U.call.next);
       at = ap (placed (shape_of h.sizes) (Played (Hop x.word) (Value value))) U.call.at ∙ ap (λ (r : Option Reply). goes_on r c next) (loading_going at loads);
       pass = there.pass;
     };
@@ -128,5 +129,5 @@ module _ (b : BoardId) (c : Command) (format : Format) (before : Part) (at : Pro
     full = λ counts full. absurd (not_full next counts there.room full);
   }
 
-  pub loaded : (h' : Part) → h' ≡ loading seen (index h.sizes w) value h → UnderWay b c format before next h'
-  loaded h' is = subst (UnderWay b c format before next) (sym is) loaded_now
+  pub loaded : (h' : Part) → h' ≡ loading seen (index b.sizes w) value h → UnderWay b c format before next h'
+  loaded h' is = subst (UnderWay b c format before next) (sym (is ∙ ap (λ (z : Sizes). loading seen (index z w) value h) (sym U.sizes))) loaded_now
