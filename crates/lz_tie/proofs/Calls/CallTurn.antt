@@ -1,7 +1,7 @@
 -- A call that is under way goes on by a turn of its pass.
-use Rattle.std.proofs.Common.{◌≡◌, ◌≢◌, ◌⊎◌, inl, inr, ⊎_elim, ℕ, zero, suc, ◌+◌, ◌%◌, ◌≤◌, Bool, true, false, List, [], ◌∷◌, ◌++◌, map, refl, sym, ap, ◌∙◌, subst, arith, eq-eqb}
+use Rattle.std.proofs.Common.{◌≡◌, ◌≢◌, ◌⊎◌, inl, inr, ⊎_elim, ℕ, zero, suc, ◌+◌, ◌%◌, ◌≤◌, Bool, true, false, List, [], ◌++◌, map, refl, sym, ap, ◌∙◌, subst, arith, eq-eqb}
 use mathlib.Core.Bool.{false≢true}
-use Rattle.std.specs.Prelude.{if◌then◌else◌, is_some, slice_index_or, Option, Some, None}
+use Rattle.std.specs.Prelude.{if◌then◌else◌, is_some, Option, Some, None}
 use Rattle.lz_slot.specs.declared.command.Command.{Command}
 use Rattle.lz_slot.specs.declared.format.Format.{Format}
 use Rattle.lz_slot.specs.Sets.{HasMembers}
@@ -10,20 +10,19 @@ use Rattle.lz_allot.specs.Uses.{collect, lowest_free, counts}
 use Rattle.lz_vault.specs.Vaults.{NoCall}
 use Rattle.lz_list.specs.declared.publishing.Publishing.{Publishing}
 use Rattle.lz_list.specs.Traces.{Trace, member}
-use Rattle.lz_list.specs.Words.{Words}
 use Rattle.lz_machine.specs.declared.course.Course.{Course}
 use Rattle.lz_machine.specs.declared.course.Course.TheVariants.{Plays}
 use Rattle.lz_machine.specs.declared.event.Event.{Event}
-use Rattle.lz_machine.specs.declared.event.Event.TheVariants.{Pin, Reserve, Check, Answer, SeePin}
+use Rattle.lz_machine.specs.declared.event.Event.TheVariants.{Pin, Reserve}
 use Rattle.lz_machine.specs.declared.event.Outcome.{Outcome}
 use Rattle.lz_machine.specs.declared.event.Outcome.TheVariants.{Done, Slot, NoSlot, Worn, NotNow, Fault, Dead}
 use Rattle.lz_machine.specs.declared.event.Reply.TheVariants.{Full, Worn as SaysWorn, OldFile, Halted, Device}
-use Rattle.lz_machine.specs.declared.caller.Sequence.TheVariants.{Pinning, Resting, Writing, Adding, Removing, Releasing, Halting}
+use Rattle.lz_machine.specs.declared.caller.Sequence.TheVariants.{Pinning, Writing}
 use Rattle.lz_machine.specs.declared.caller.Progress.{Progress}
-use Rattle.lz_machine.specs.declared.caller.Progress.TheVariants.{Playing, LoadsHalt, Walking, Reserving, SeeingPins, Claiming, Checking, Answering}
+use Rattle.lz_machine.specs.declared.caller.Progress.TheVariants.{Playing, LoadsHalt, Walking, Reserving, Answering}
 use Rattle.lz_machine.specs.Yards.{Shape, Yard, actor_at, pin_in}
 use Rattle.lz_machine.specs.Table.{course, line, line_on, line_call, line_publishes, published_on, publishes, outcome_of, slot_found}
-use Rattle.lz_machine.specs.Calls.{event_at, events_of, loaded, progress_after}
+use Rattle.lz_machine.specs.Calls.{event_at, loaded, progress_after}
 use Rattle.lz_machine.specs.CallersSound.{View, view_of, Relies, IsCaller, is_before_pin, side_of}
 use Rattle.lz_machine.specs.Laws.{hop_of}
 use Rattle.lz_machine.specs.Orders.{HasPass}
@@ -48,64 +47,10 @@ use Rattle.lz_tie.proofs.Calls.OwnChanges.{calm, calm_none, worn_none, full_none
 use Rattle.lz_tie.proofs.Calls.TurnResult.{IsRefused, played_or_refused, pin_gives}
 use Rattle.lz_tie.proofs.Calls.NextPlace.{Onward, is_full, IsPlain, halting_onward, plays_onward}
 use Rattle.lz_tie.proofs.Calls.PartAfter.{known_after, steps_since, goes}
+use Rattle.lz_tie.proofs.Calls.InnerEvents.{plain_pin, plain_within, plain_loaded, plain_event, plain_going, plain_inside}
+use Rattle.lz_yard.proofs.Events.KeptFit.{fault_or_not}
 
--- an event that moves no pin word
-plain_pin : (e : Event) (o : Outcome) (pin : ℕ) → is_pinning e ≡ false → pin_after_played e o pin ≡ pin
-plain_pin Pin o pin plain = absurd (false≢true (sym plain))
-plain_pin Answer o pin plain = absurd (false≢true (sym plain))
-plain_pin e o pin plain = refl
-
-plain_within : (e : Event) (o : Outcome) → is_pinning e ≡ false → IsWithin (Played e o)
-plain_within Answer o plain = absurd (false≢true (sym plain))
-plain_within e o plain = tt
-
--- the events of a call inside move none, its Answer aside
-abbrev ArePlain : List Event → Type 0
-ArePlain [] = Unit {0}
-ArePlain (e ∷ es) = (is_pinning e ≡ false) × ArePlain es
-
-plain_in : (es : List Event) (i : ℕ) → ArePlain es → is_pinning (slice_index_or es i Check) ≡ false
-plain_in [] i are = refl
-plain_in (e ∷ es) zero are = are.0
-plain_in (e ∷ es) (suc i) are = plain_in es i are.1
-
-plain_loaded : (w : Words) (e : Event) → is_pinning e ≡ false → is_pinning (loaded w e) ≡ false
-plain_loaded w (SeePin p value) plain = refl
-plain_loaded w e plain = plain
-
-plain_event : (shape : Shape) (c : Command) (at : Progress) → IsPlain at → is_pinning (event_at shape c at) ≡ false
-plain_event shape c (Playing Pinning i) plain = absurd plain
-plain_event shape c (Playing (Resting s reply) i) plain = plain_in (events_of c (Resting s reply)) i (refl, (refl, tt))
-plain_event shape c (Playing (Writing s) i) plain = plain_in (events_of c (Writing s)) i (refl, (refl, tt))
-plain_event shape c (Playing (Adding s) i) plain = plain_in (events_of c (Adding s)) i (refl, (refl, (refl, (refl, (refl, tt)))))
-plain_event shape c (Playing (Removing s) i) plain = plain_in (events_of c (Removing s)) i (refl, (refl, (refl, (refl, (refl, (refl, (refl, tt)))))))
-plain_event shape c (Playing (Releasing aim) i) plain = plain_in (events_of c (Releasing aim)) i (refl, tt)
-plain_event shape c (Playing (Halting reply) i) plain = plain_in (events_of c (Halting reply)) i (refl, tt)
-plain_event shape c (Reserving again) plain = refl
-plain_event shape c (SeeingPins p) plain = refl
-plain_event shape c (Claiming aim pred curr) plain = refl
-plain_event shape c (Checking aim curr) plain = refl
-plain_event shape c LoadsHalt plain = absurd plain
-plain_event shape c (Walking aim look) plain = absurd plain
-plain_event shape c (Answering reply) plain = absurd plain
-
-plain_going : (at : Progress) → IsPlain at → reply_at at ≡ None
-plain_going (Answering reply) plain = absurd plain
-plain_going at plain = refl
-
-plain_inside : (at : Progress) → IsPlain at → is_before_pin at ≡ false
-plain_inside (Playing Pinning i) plain = absurd plain
-plain_inside (Answering reply) plain = absurd plain
-plain_inside at plain = refl
-
--- A turn was played or cut off, or its pass was found worn.
-abbrev IsCutOff : Outcome → Type 0
-IsCutOff o = (o ≡ Fault) ⊎ (o ≡ Dead)
-
-fault_or_not : (o : Outcome) → (o ≡ Fault) ⊎ (o ≢ Fault)
-fault_or_not Fault = inl refl
-fault_or_not o = inr (λ is. absurd cc)
-
+-- which answer a place gives
 abbrev pub says_old : Progress → Bool
 says_old (Answering OldFile) = true
 says_old at = false
@@ -120,6 +65,10 @@ not_old at inside is = absurd (false≢true (sym inside ∙ ap is_before_pin is)
 
 pub not_full : (at : Progress) (counts : Counts) → is_full at ≡ false → at ≢ Answering (Full counts)
 not_full at counts room is = absurd (false≢true (sym room ∙ ap is_full is))
+
+-- the turn was cut off
+abbrev IsCutOff : Outcome → Type 0
+IsCutOff o = (o ≡ Fault) ⊎ (o ≡ Dead)
 
 module _ (b : BoardId) (c : Command) (format : Format) (before : Part) (at : Progress) (h : Part) (U : UnderWay b c format before at h) (opened : Trace) (was is : List Note) (e : Event) (o : Outcome) (x : Option Publishing) (h' : Part)
     (H : Holds opened was is (note_by h.number (Played e o) x) h h') (T : Turned opened was h c at e o x) where
