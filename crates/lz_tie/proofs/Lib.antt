@@ -5,3 +5,4 @@ pub mod Reuse
 pub mod Replies
 pub mod Start
 pub mod AnswerRows
+pub mod Calls
