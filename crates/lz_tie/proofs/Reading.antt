@@ -3,3 +3,4 @@ pub mod CallPlaces
 pub mod PinWords
 pub mod TurnedTrace
 pub mod StandingCall
+pub mod OnePass

@@ -18,11 +18,13 @@ use Rattle.lz_machine.specs.declared.event.Event.TheVariants.{SeePin}
 use Rattle.lz_machine.specs.declared.event.Outcome.{Outcome}
 use Rattle.lz_machine.specs.declared.event.Outcome.TheVariants.{Done, OldFile, Fault}
 use Rattle.lz_machine.specs.Yards.{Shape, Yard}
-use Rattle.lz_machine.specs.Table.{is_old, line, line_call, line_publishes}
+use Rattle.lz_machine.specs.Table.{is_old, line, line_call, line_publishes, pin_of}
 use Rattle.lz_machine.specs.Calls.{event_at}
 use Rattle.lz_machine.specs.Orders.{Calling, HasPass}
 use Rattle.lz_machine.specs.Runs.{Start, Service, Caller, Up, Reached, caller_at, next_event}
 use Rattle.lz_machine.specs.Laws.{hop_of}
+use Rattle.lz_machine.specs.CallersSound.{CallerSound, view_of}
+use Rattle.lz_machine.specs.CallsStand.{own_change}
 use Rattle.lz_board.specs.declared.view.Sizes.{Sizes}
 use Rattle.lz_board.specs.declared.view.Note.{Note}
 use Rattle.lz_board.specs.declared.view.Part.{Part}
@@ -90,21 +92,26 @@ pub record IsTurn (ns : List Note) (h : Part) (c : Calling) (e : Event) : Type 0
   pub load : hop_of e ≡ None
   pub found : SeesPin ns e
 
--- The turn was played in a state that a run of the machine reaches, with the trace of these notes: it gave what the event's
--- line says there, or its device call failed.
-pub record Turned (opened : Trace) (ns : List Note) (p : ℕ) (c : Command) (at : Progress) (e : Event) (o : Outcome) (x : Option Publishing) : Type 0 where
+-- The turn of this pass was played in a state that a run of the machine reaches, with the trace of these notes: it gave what
+-- the event's line says there, or its device call failed.
+pub record Turned (opened : Trace) (ns : List Note) (h : Part) (c : Command) (at : Progress) (e : Event) (o : Outcome) (x : Option Publishing) : Type 0 where
   pub start : Start
   pub service : Service
   pub medium : Medium
   pub history : History
   pub reached : Reached start (Up service medium) history (trace_of opened ns)
+  pub shape : shape_of h.sizes ≡ service.yard.shape
   pub caller : Caller
-  pub call : caller_at service.callers p ≡ Some caller
+  pub call : caller_at service.callers h.number ≡ Some caller
   pub command : caller.command ≡ c
   pub progress : caller.progress ≡ at
   pub next : next_event service.yard caller ≡ e
-  pub done : o ≢ Fault → (o ≡ (line service.yard p e).1) × (listed x ≡ line_publishes service.yard p e)
-  pub failed : o ≡ Fault → (x ≡ None) × (line_call service.yard p e ≢ NoCall)
+  pub done : o ≢ Fault → (o ≡ (line service.yard h.number e).1) × (listed x ≡ line_publishes service.yard h.number e)
+  pub failed : o ≡ Fault → (x ≡ None) × (line_call service.yard h.number e ≢ NoCall)
+  pub pin : pin_of service.yard h.number ≡ h.pin
+  -- where the pass is inside, what its call may rely on since it went in, with the change that was made for it since
+  pub stands : IsInside h.pin
+      → CallerSound (view_of service.yard.shape service.yard.vault service.yard.actors h.number) h.pin (Some caller) h.begun (trace_of opened ns) (own_change h.number (length h.begun) (trace_of opened ns))
 
 -- The exchange on the board that goes with a turn's note: of the word that the turn changed, or of the halt word from 2 to 2
 -- where it changed none. There is none where the pass's own pin word was changed.

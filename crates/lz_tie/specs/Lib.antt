@@ -2,3 +2,4 @@ pub mod NotedRuns
 pub mod Answers
 pub mod Holds
 pub mod Reuse
+pub mod UnderWay

@@ -3,7 +3,7 @@ ghost use Rattle.std.specs.Prelude.{◌≡◌, ◌∷◌, None};
 ghost use Rattle.lz_machine.specs.declared.event.Event.TheVariants.{SeePin};
 ghost use Rattle.lz_machine.specs.Calls.{event_at};
 ghost use Rattle.lz_board.specs.declared.view.What.TheVariants.{Called, Played};
-ghost use Rattle.lz_board.specs.Notes.{note_by, shape_of};
+ghost use Rattle.lz_board.specs.Notes.{note_by, shape_of, trace_of};
 ghost use Rattle.lz_board.specs.Plays.{found_note};
 ghost use Rattle.lz_board.specs.Seats.{IsOf, IsPenOf, id_of, notes, part};
 ghost use Rattle.lz_tie.specs.Holds.{HasCall, Holds, IsIdle, IsLocked, IsTurn, Turned, begins_with};
@@ -52,14 +52,16 @@ impl<N: Named, D: Disk> Locked<N, D> {
         }
     }
 
-    /// One hold: plays the next event of the pass's call, which is no load and no look at a pin word.
+    /// One hold: plays the next event of the pass's call, which is no load and no look at a pin word. In a set of
+    /// one pass nothing was published that the pass hasn't seen.
     pub fn play(&mut self, board: &Board, pass: &mut Pass, caller: &Caller, event: Event) -> Turn
         requires board { id_of board.now ≡ N.board }
         requires pass { IsOf N.board pass.old }
         requires turn { IsTurn self.old.notes (part pass.old) caller.now event }
         ensures pass { IsOf N.board pass.new }
         ensures holds { Holds N.board.opened self.old.notes self.new.notes (note_by (part pass.old).number (Played event result.outcome) result.published) (part pass.old) (part pass.new) }
-        ensures turned { Turned N.board.opened self.old.notes (part pass.old).number caller.now.command caller.now.progress event result.outcome result.published }
+        ensures turned { Turned N.board.opened self.old.notes (part pass.old) caller.now.command caller.now.progress event result.outcome result.published }
+        ensures alone { N.board.sizes.passes ≡ 1 → trace_of N.board.opened self.old.notes ≡ (part pass.old).known }
     {
         board.join(&mut self.pen, pass);
         let turn = play_joined(board, &mut self.pen, &mut self.yard, pass, caller, event);
@@ -81,7 +83,7 @@ impl<N: Named, D: Disk> Locked<N, D> {
         requires event { event_at (shape_of (part pass.old).sizes) caller.now.command caller.now.progress ≡ SeePin seen 0 }
         ensures pass { IsOf N.board pass.new }
         ensures holds { Holds N.board.opened (found_note seen result.0 ∷ self.old.notes) self.new.notes (note_by (part pass.old).number (Played (SeePin seen result.0) result.1.outcome) result.1.published) (part pass.old) (part pass.new) }
-        ensures turned { Turned N.board.opened (found_note seen result.0 ∷ self.old.notes) (part pass.old).number caller.now.command caller.now.progress (SeePin seen result.0) result.1.outcome result.1.published }
+        ensures turned { Turned N.board.opened (found_note seen result.0 ∷ self.old.notes) (part pass.old) caller.now.command caller.now.progress (SeePin seen result.0) result.1.outcome result.1.published }
     {
         board.join(&mut self.pen, pass);
         let value = board.load_pin(&mut self.pen, seen);

@@ -67,7 +67,7 @@ pub(crate) fn play_joined<D: Disk>(
     ensures hold { InHold (id_of board.now) (notes pen.new) yard.new.yard (D.device yard.new.disk) (carried pen.new) }
     ensures hand { IsAtHand (id_of board.now) pass.new (carried pen.new) }
     ensures holds { Holds (id_of board.now).opened (notes pen.old) (notes pen.new) (note_by (carried pen.old).number (Played event result.outcome) result.published) (carried pen.old) (carried pen.new) }
-    ensures turned { Turned (id_of board.now).opened (notes pen.old) (carried pen.old).number _caller.now.command _caller.now.progress event result.outcome result.published }
+    ensures turned { Turned (id_of board.now).opened (notes pen.old) (carried pen.old) _caller.now.command _caller.now.progress event result.outcome result.published }
 {
     let number = pass.number();
     yard.note_pin(number, pass.pin());

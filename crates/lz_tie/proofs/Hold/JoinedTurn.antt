@@ -1,5 +1,5 @@
 -- The same turn in the words of the code that plays it: its number and its pin word are read at run time.
-use Rattle.std.proofs.Common.{◌≡◌, ◌≢◌, ⊎_elim, ℕ, Bool, true, false, List, [], ◌∷◌, refl, sym, ap, ◌∙◌, subst}
+use Rattle.std.proofs.Common.{◌≡◌, ⊎_elim, ℕ, Bool, true, false, List, ◌∷◌, refl, sym, ap, ◌∙◌, subst}
 use mathlib.Core.Bool.{false≢true}
 use Rattle.std.specs.Prelude.{◌&&◌, Option, Some, None, is_some, unwrap_or}
 use Rattle.lz_disk.specs.Devices.{Device}
@@ -15,7 +15,6 @@ use Rattle.lz_machine.specs.declared.course.Course.TheVariants.{Refused, Dies, P
 use Rattle.lz_machine.specs.declared.event.Event.{Event}
 use Rattle.lz_machine.specs.declared.event.Event.TheVariants.{WriteKey, WriteOpen, Settle}
 use Rattle.lz_machine.specs.declared.event.Outcome.{Outcome}
-use Rattle.lz_machine.specs.declared.event.Outcome.TheVariants.{Fault}
 use Rattle.lz_machine.specs.Yards.{Yard, actor_at, cell_at}
 use Rattle.lz_machine.specs.Table.{course, needs, published_on, publishes, settling, line_publishes}
 use Rattle.lz_machine.specs.Orders.{Calling}
@@ -128,8 +127,8 @@ module _ (b : BoardId) (ns : List Note) (y : Yard) (dev : Device) (h : Part) (ho
     pub may_note : MayNote b.sizes b.opened ns h n1
     may_note = subst (MayNote b.sizes b.opened ns h) note_is (turn_of.may_note b ns y dev h hold c e turn o z' told dev' gave same_shape prepares)
 
-    pub turned : Turned b.opened ns h.number c.command c.progress e o x
-    turned = subst (Turned b.opened ns h.number c.command c.progress e o) (sym shown) (turn_of.turned b ns y dev h hold c e turn o z' told dev' gave same_shape)
+    pub turned : Turned b.opened ns h c.command c.progress e o x
+    turned = subst (Turned b.opened ns h c.command c.progress e o) (sym shown) (turn_of.turned b ns y dev h hold c e turn o z' told dev' gave same_shape)
 
     module _ (ex : Exchange) (is : IsExchange z'.words told.changed told.before (Some ex)) where
       pub keeps : KeepsPin h n1

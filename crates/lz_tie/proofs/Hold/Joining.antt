@@ -1,8 +1,13 @@
 -- What a pass that joins the pen brings into a hold.
-use Rattle.std.proofs.Common.{◌≡◌, ◌+◌, ◌<◌, suc, List, sym, ap, ◌∙◌, subst, arith}
+use Rattle.std.specs.Prelude.{Option}
+use Rattle.std.proofs.Common.{◌≡◌, ◌+◌, ◌<◌, List, sym, ◌∙◌, subst, arith}
 use Rattle.lz_disk.specs.Devices.{Device}
+use Rattle.lz_slot.specs.declared.command.Command.{Command}
+use Rattle.lz_list.specs.declared.publishing.Publishing.{Publishing}
 use Rattle.lz_list.specs.Traces.{Trace}
 use Rattle.lz_machine.specs.declared.event.Event.{Event}
+use Rattle.lz_machine.specs.declared.event.Outcome.{Outcome}
+use Rattle.lz_machine.specs.declared.caller.Progress.{Progress}
 use Rattle.lz_machine.specs.Orders.{Calling}
 use Rattle.lz_machine.specs.Yards.{Yard}
 use Rattle.lz_machine.specs.Table.{last_pin}
@@ -14,7 +19,7 @@ use Rattle.lz_board.specs.Plays.{knowing, noted_part, moved_part}
 use Rattle.lz_board.specs.declared.pass.Pass.{Pass}
 use Rattle.lz_board.specs.Seats.{BoardId, IsAtHand}
 use Rattle.lz_board.proofs.Upkeep.PartUpkeep.{knows_knowing}
-use Rattle.lz_tie.specs.Holds.{IsLocked, HasCall, InHold, IsTurn}
+use Rattle.lz_tie.specs.Holds.{IsLocked, InHold, IsTurn, Turned}
 
 pub joined : (b board : BoardId) → board ≡ b → (ns ns' : List Note) (y : Yard) (dev : Device) (h h' : Part)
     → IsLocked b ns y dev → Knows board.sizes board.opened ns h → PinTold board.sizes ns h.number h.pin → ns' ≡ ns → h' ≡ knowing (trace_of board.opened ns) h → InHold board ns' y dev h'
@@ -31,6 +36,29 @@ joined_turn ns ns' h h' seen c e turn notes part = subst (λ (q : List Note × P
   load = turn.load;
   found = turn.found;
 }
+
+-- of what a turn gave nothing rests on what the pass has seen
+pub seen_turned : (opened : Trace) (ns ns' : List Note) (h h' : Part) (seen : Trace) (c : Command) (at : Progress) (e : Event) (o : Outcome) (x : Option Publishing) → ns' ≡ ns → h' ≡ knowing seen h → Turned opened ns' h' c at e o x → Turned opened ns h c at e o x
+seen_turned opened ns ns' h h' seen c at e o x notes part gave = unseen (subst (λ (q : List Note × Part). Turned opened q.0 q.1 c at e o x) (λ i. (notes i, part i)) gave)
+  where
+    unseen : Turned opened ns (knowing seen h) c at e o x → Turned opened ns h c at e o x
+    unseen t = record {
+      start = t.start;
+      service = t.service;
+      medium = t.medium;
+      history = t.history;
+      reached = t.reached;
+      shape = t.shape;
+      caller = t.caller;
+      call = t.call;
+      command = t.command;
+      progress = t.progress;
+      next = t.next;
+      done = t.done;
+      failed = t.failed;
+      pin = t.pin;
+      stands = t.stands;
+    }
 
 -- the pass has its number and its pin word at hand after a note of it too
 pub hand_noted : (b : BoardId) (p p' : Pass) (h h' : Part) (opened : Trace) (ns : List Note) (n : Note) → IsAtHand b p h → p' ≡ p → h' ≡ noted_part opened ns n h → IsAtHand b p' h'

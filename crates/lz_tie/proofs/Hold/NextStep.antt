@@ -1,29 +1,27 @@
 -- One hold: what it plays may be played, and its notes are read as a run whose last state is the yard's again.
-use Rattle.std.proofs.Common.{◌≡◌, ◌≢◌, ◌⊎◌, inl, inr, ⊎_elim, ℕ, zero, suc, ◌≤◌, Bool, true, false, List, [], ◌∷◌, ◌++◌, map, length, refl, sym, ap, ◌∙◌, subst, arith}
+use Rattle.std.proofs.Common.{◌≡◌, ◌≢◌, inl, ⊎_elim, ℕ, suc, ◌≤◌, ◌%◌, Bool, true, false, List, [], ◌∷◌, ◌++◌, map, length, refl, sym, ap, ◌∙◌, subst, arith}
 use mathlib.Core.Bool.{false≢true}
-use Rattle.std.specs.Prelude.{Option, Some, None, IsSomeAnd, IsTrue, slice_index_or, is_some}
+use Rattle.std.specs.Prelude.{Option, Some, None, IsTrue, is_some}
 use Rattle.lz_slot.specs.declared.command.Command.{Command}
 use Rattle.lz_slot.specs.Counted.{of_pass}
 use Rattle.lz_disk.specs.Images.{Medium}
 use Rattle.lz_disk.specs.Devices.{Device}
 use Rattle.lz_vault.specs.Vaults.{DeviceCall, NoCall, WriteAt, SyncAll, MayFail, medium_after}
-use Rattle.lz_list.specs.declared.word.Word.{Word}
 use Rattle.lz_list.specs.Words.{Words}
 use Rattle.lz_list.specs.Traces.{Trace}
 use Rattle.lz_machine.specs.declared.event.Event.{Event}
 use Rattle.lz_machine.specs.declared.event.Event.TheVariants.{Invoke, Pin, Hop, Reserve, WriteKey, Claim, Check, WriteOpen, Link, WriteClose, Mark, Release, Sync, Settle, Unlink, Retire, SeePin, Answer, Halt}
 use Rattle.lz_machine.specs.declared.event.Outcome.{Outcome}
 use Rattle.lz_machine.specs.declared.event.Outcome.TheVariants.{Fault}
-use Rattle.lz_machine.specs.declared.caller.Sequence.{Sequence}
-use Rattle.lz_machine.specs.declared.caller.Sequence.TheVariants.{Pinning, Resting, Writing, Adding, Removing, Releasing, Halting}
 use Rattle.lz_machine.specs.declared.caller.Progress.{Progress}
-use Rattle.lz_machine.specs.declared.caller.Progress.TheVariants.{Playing, LoadsHalt, Walking, Reserving, SeeingPins, Claiming, Checking, Answering}
-use Rattle.lz_machine.specs.Yards.{Shape, Yard}
+use Rattle.lz_machine.specs.Yards.{Shape, Yard, IsInside}
 use Rattle.lz_machine.specs.Table.{line, line_failed, line_call, line_publishes, pin_of}
-use Rattle.lz_machine.specs.Calls.{events_of, event_at, loaded}
+use Rattle.lz_machine.specs.Calls.{event_at, loaded}
 use Rattle.lz_machine.specs.Orders.{HasPass}
-use Rattle.lz_machine.specs.Runs.{State, Up, Service, Caller, Turn, Fails as FailsStep, Point, run, MayStep, HasTurn, HasFault, Reached, first_point, caller_at, next_event, state_after, after_turn, after_fault, IsNext, SameButPins, MayPlay, shape_of as shape_in}
+use Rattle.lz_machine.specs.Runs.{State, Up, Caller, Turn, Fails as FailsStep, Point, run, MayStep, HasTurn, HasFault, Reached, first_point, caller_at, next_event, state_after, after_turn, after_fault, SameButPins, MayPlay, shape_of as shape_in}
 use Rattle.lz_machine.specs.Laws.{SameBut, hop_of}
+use Rattle.lz_machine.specs.CallersSound.{CallerSound, view_of}
+use Rattle.lz_machine.specs.CallsStand.{own_change}
 use Rattle.lz_yard.specs.Steps.{Played as PlayedOver}
 use Rattle.lz_machine.proofs.Runs.Shape.{run_keeps_shape}
 use Rattle.lz_machine.proofs.Frames.OneActor.{caller_range}
@@ -34,13 +32,15 @@ use Rattle.lz_yard.proofs.Events.KeptFit.{fault_or_not}
 use Rattle.lz_board.specs.declared.view.What.TheVariants.{Played}
 use Rattle.lz_board.specs.declared.view.Note.{Note}
 use Rattle.lz_board.specs.declared.view.Load.{Load}
-use Rattle.lz_board.specs.Notes.{listed, trace_of, steps_of, load_note, splice, Quiet, InOrder, AllShown, place, pin_after}
-use Rattle.lz_board.proofs.Upkeep.Splice.{steps_splice, pin_splice, trace_splice}
+use Rattle.lz_board.specs.declared.view.Part.{Part}
+use Rattle.lz_board.specs.Notes.{listed, trace_of, steps_of, load_note, splice, Quiet, InOrder, AllShown, place, pin_after, shape_of, turned_at}
+use Rattle.lz_board.proofs.Upkeep.Splice.{steps_splice, pin_splice, trace_splice, turned_splice}
 use Rattle.lz_tie.specs.NotedRuns.{TellsTurn, TellsFault, TellsStep, TellsOf, ReadsAs, viewed, AreNext, SameButAllPins, IsTied, seen_event}
 use Rattle.lz_tie.specs.Holds.{Turned}
 use Rattle.lz_tie.proofs.Reading.TraceNotes.{trace_reads}
 use Rattle.lz_tie.proofs.Reading.CallPlaces.{Placed, place_reads}
 use Rattle.lz_tie.proofs.Reading.PinWords.{pin_in_state, pin_reads}
+use Rattle.lz_tie.proofs.Reading.StandingCall.{call_relies}
 use Rattle.lz_tie.proofs.Hold.OtherPins.{with_pins, SameLine, line_same}
 use Rattle.lz_tie.proofs.Splicing.LoadSplice.{Spliced, splice_reads}
 
@@ -119,10 +119,22 @@ failed_medium : (honest : Bool) (call : DeviceCall) (old new disk : Medium) → 
 failed_medium true call old new disk asked fails same = (new, subst (λ (d : Medium). MayFail call d new) (same refl) (fails refl), λ h. refl)
 failed_medium false call old new disk asked fails same = (disk, some_fail call disk asked, λ h. absurd (false≢true h))
 
-module _ (opened : Trace) (ns : List Note) (y : Yard) (dev : Device) (t : IsTied opened ns y dev.honest dev.medium) (a : ℕ) (low : 1 ≤ a) (base top : ℕ) (hs : List Load)
-    (quiet : Quiet opened a base ns) (least : length opened ≤ base) (order : InOrder base hs top)
-    (shown : AllShown (record { slots = y.shape.slots; buckets = y.shape.buckets; passes = y.shape.passes }) (trace_of opened ns) hs)
-    (next : AreNext y.shape a hs (steps_of a ns)) where
+module _ (opened : Trace) (ns : List Note) (y : Yard) (dev : Device) (t : IsTied opened ns y dev.honest dev.medium) (h : Part) (low : 1 ≤ h.number)
+    (quiet : Quiet opened h.number h.base ns) (least : length opened ≤ h.base) (order : InOrder h.base h.loads (length h.known))
+    (shown : AllShown (record { slots = y.shape.slots; buckets = y.shape.buckets; passes = y.shape.passes }) (trace_of opened ns) h.loads)
+    (next : AreNext y.shape h.number h.loads (steps_of h.number ns)) where
+  abbrev a : ℕ
+  a = h.number
+
+  abbrev base : ℕ
+  base = h.base
+
+  abbrev top : ℕ
+  top = length h.known
+
+  abbrev hs : List Load
+  hs = h.loads
+
   abbrev p : Point
   p = first_point t.start
 
@@ -203,6 +215,20 @@ module _ (opened : Trace) (ns : List Note) (y : Yard) (dev : Device) (t : IsTied
       device = device_is;
     }
 
+    trace_all : (run p spl.all).trace ≡ trace_of opened ns
+    trace_all = trace_reads p notes spl.all spl.reads ∙ trace_splice p.trace a hs ns ∙ ap (λ P. trace_of P ns) (sym t.begins)
+
+    turned_all : turned_at a p.trace notes ≡ turned_at a opened ns
+    turned_all = turned_splice p.trace a a hs ns ∙ ap (λ P. turned_at a P ns) (sym t.begins)
+
+    -- what the call may rely on there, where the pass is inside
+    stands : (pin : ℕ) (begun : Trace) → pin_after a ns ≡ pin → begun ≡ turned_at a opened ns → IsInside pin
+        → CallerSound (view_of s.shape s.vault s.actors a) pin (Some call.caller) begun (trace_of opened ns) (own_change a (length begun) (trace_of opened ns))
+    stands pin begun pinned began inside =
+        subst (λ (x : ℕ × Option Caller × Trace × Trace). CallerSound (view_of s.shape s.vault s.actors a) x.0 x.1 x.2 x.3 (own_change a (length x.2) x.3))
+        (λ i. ((pins_are a low in_range ∙ pinned) i, call.is i, (turned_all ∙ sym began) i, (trace_splice p.trace a hs ns ∙ ap (λ P. trace_of P ns) (sym t.begins)) i))
+        (call_relies t.start t.starts notes spl.all pl.service pl.disk spl.runs spl.reads pl.state a low in_range (ap (λ v. v % 2) (pin_splice p.trace a a hs ns ∙ pinned) ∙ inside))
+
     -- and what it plays is a step of the run
     module _ (none : hop_of e ≡ None) (o : Outcome) (z' : Yard) (told : Told) (dev' : Device) (played : PlayedOver z a e o z' told dev dev')
         (n : Note) (by : n.by ≡ a) (what : n.what ≡ Played e o) (done : o ≢ Fault → listed n.published ≡ line_publishes z a e) (failed : o ≡ Fault → n.published ≡ None) where
@@ -215,17 +241,15 @@ module _ (opened : Trace) (ns : List Note) (y : Yard) (dev : Device) (t : IsTied
       abbrev noted : List Note
       noted = n ∷ splice opened a hs ns
 
-      trace_all : (run p spl.all).trace ≡ trace_of opened ns
-      trace_all = trace_reads p notes spl.all spl.reads ∙ trace_splice p.trace a hs ns ∙ ap (λ P. trace_of P ns) (sym trace_is)
-
       -- what it gave, in a state that is reached
-      pub turned : Turned opened ns a command at e o n.published
-      turned = record {
+      pub turned : shape_of h.sizes ≡ y.shape → pin_after a ns ≡ h.pin → (IsInside h.pin → h.begun ≡ turned_at a opened ns) → Turned opened ns h command at e o n.published
+      turned sized pinned began = record {
         start = t.start;
         service = pl.service;
         medium = pl.disk;
         history = (run p spl.all).marks;
         reached = record { steps = spl.all; starts = t.starts; runs = spl.runs; state = pl.state; marks = refl; trace = trace_all };
+        shape = sized ∙ shape_is ∙ sym pl.shape;
         caller = call.caller;
         call = call.is;
         command = call.command;
@@ -233,6 +257,8 @@ module _ (opened : Trace) (ns : List Note) (y : Yard) (dev : Device) (t : IsTied
         next = event_is;
         done = λ ok. ((played.done ok).answer ∙ pa.outcome, done ok ∙ pa.published);
         failed = λ bad. (failed bad, λ none. (played.failed bad).asked (pa.call ∙ none));
+        pin = pins_are a low in_range ∙ pinned;
+        stands = λ inside. stands h.pin h.begun pinned (began inside) inside;
       }
 
       notes_are : notes ≡ splice opened a hs ns

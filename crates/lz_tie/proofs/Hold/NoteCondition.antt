@@ -2,7 +2,7 @@
 -- says.
 use Rattle.std.proofs.Common.{◌≡◌, ◌≢◌, ⊎_elim, ℕ, List, ◌∷◌, ◌++◌, refl, sym, ap, ◌∙◌, subst, arith, ne_eqb}
 use mathlib.Core.Bool.{false≢true}
-use Rattle.std.specs.Prelude.{Bool, true, false, ◌<◌, ◌==◌, length, if◌then◌else◌, [], Option, Some, None, option_to_list}
+use Rattle.std.specs.Prelude.{Bool, true, false, ◌==◌, length, if◌then◌else◌, [], Option, Some, None, option_to_list}
 use Rattle.std.proofs.lemmas.Bool.{eq-eqb, cases_eq, cases_lt}
 use Rattle.std.proofs.lemmas.List.{get_or_past}
 use Rattle.lz_slot.specs.Counted.{of_pass}

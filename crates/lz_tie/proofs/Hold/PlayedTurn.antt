@@ -1,9 +1,7 @@
 -- One turn of a pass that has joined the pen: what it asks of the yard, what its note tells, and what it leaves.
-use Rattle.std.proofs.Common.{◌≡◌, ◌≢◌, ◌⊎◌, inl, inr, ⊎_elim, ℕ, suc, ◌≤◌, ◌<◌, Bool, true, false, List, [], ◌∷◌, ◌++◌, map, length, refl, sym, ap, ◌∙◌, subst, arith, eq-eqb, ne_eqb}
+use Rattle.std.proofs.Common.{◌≡◌, ◌≢◌, ⊎_elim, ℕ, suc, ◌≤◌, ◌<◌, Bool, true, false, List, [], ◌++◌, map, length, refl, sym, ap, ◌∙◌, subst, arith, eq-eqb, ne_eqb}
 use mathlib.Core.Bool.{false≢true}
 use Rattle.std.specs.Prelude.{is_some, if◌then◌else◌, Option, Some, None, IfSome}
-use Rattle.lz_slot.specs.declared.command.Command.{Command}
-use Rattle.lz_slot.specs.Counted.{of_pass}
 use Rattle.lz_slot.proofs.Counted.{of_pass_same, length-set_of_pass}
 use Rattle.lz_disk.specs.Devices.{Device}
 use Rattle.lz_allot.specs.Uses.{Taken, use_of}
@@ -19,9 +17,8 @@ use Rattle.lz_machine.specs.declared.event.Outcome.{Outcome}
 use Rattle.lz_machine.specs.declared.event.Outcome.TheVariants.{Done, Fault}
 use Rattle.lz_machine.specs.declared.course.Course.{Course}
 use Rattle.lz_machine.specs.declared.course.Course.TheVariants.{Refused, Dies, Plays}
-use Rattle.lz_machine.specs.declared.caller.Progress.{Progress}
 use Rattle.lz_machine.specs.Yards.{Shape, Yard, actor_at}
-use Rattle.lz_machine.specs.Table.{course, line, line_on, line_failed, line_changes, line_publishes, published_on, outcome_of, yard_done, uses_after, actors_after, pin_of, last_pin}
+use Rattle.lz_machine.specs.Table.{course, line, line_on, line_failed, line_publishes, published_on, outcome_of, yard_done, uses_after, actors_after, pin_of, last_pin}
 use Rattle.lz_machine.specs.Calls.{event_at}
 use Rattle.lz_machine.specs.Orders.{Calling, HasPass}
 use Rattle.lz_machine.specs.Ready.{IsEventOf, IsReadyFor}
@@ -29,24 +26,22 @@ use Rattle.lz_machine.specs.Runs.{MayPlay, with_words}
 use Rattle.lz_machine.proofs.Runs.EventRange.{is_event}
 use Rattle.lz_machine.proofs.Theorem.Readiness.{is_invoke, ready, plays_needs}
 use Rattle.lz_yard.specs.declared.told.Told.{Told}
-use Rattle.lz_yard.specs.Steps.{Played as PlayedOver, value_of, nothing_told}
+use Rattle.lz_yard.specs.Steps.{Played as PlayedOver, value_of}
 use Rattle.lz_yard.proofs.Events.KeptFit.{fault_or_not}
 use Rattle.lz_board.specs.declared.view.Sizes.{Sizes}
 use Rattle.lz_board.specs.declared.view.What.TheVariants.{Played}
 use Rattle.lz_board.specs.declared.view.Note.{Note}
-use Rattle.lz_board.specs.declared.view.Load.{Load}
 use Rattle.lz_board.specs.declared.view.Part.{Part}
 use Rattle.lz_board.specs.Notes.{note_by, listed, own, trace_of, steps_of, load_note, splice, AllShown, place, pin_after, pin_after_what, pin_after_played, shape_of}
 use Rattle.lz_board.specs.Kept.{is_calling, shows_played}
-use Rattle.lz_machine.specs.Yards.{IsInside}
 use Rattle.lz_board.specs.Noting.{Sighting, MayNote, MayPrepare, KeepsPin, MovesPin, Writes}
 use Rattle.lz_board.specs.Plays.{noted, noted_part, moved_part, found_note}
 use Rattle.lz_board.specs.Seats.{BoardId}
 use Rattle.lz_board.proofs.Upkeep.Splice.{trace_splice, pin_splice}
 use Rattle.lz_board.proofs.Upkeep.PartUpkeep.{trace_noted, knows_noted, knows_moved, told_own}
 use Rattle.lz_tie.specs.declared.playing.Exchange.{Exchange}
-use Rattle.lz_tie.specs.NotedRuns.{IsHopAt, AreNext, SameButAllPins, IsTied, seen_event}
-use Rattle.lz_tie.specs.Holds.{sizes_of, IsLocked, HasCall, InHold, IsTurn, SeesPin, Turned, IsExchange, Holds}
+use Rattle.lz_tie.specs.NotedRuns.{AreNext, SameButAllPins, IsTied, seen_event}
+use Rattle.lz_tie.specs.Holds.{sizes_of, IsLocked, InHold, IsTurn, SeesPin, Turned, IsExchange, Holds}
 use Rattle.lz_tie.specs.Reuse.{ReuseTold}
 use Rattle.lz_tie.proofs.Reuse.SightUpkeep.{noted_same}
 use Rattle.lz_tie.proofs.Reuse.EventUpkeep.{is_reusing, reusing_silent, leaves, slot_in, silent_told, plain_told, reserve_told, retired_told, seen_told, answered_told}
@@ -67,21 +62,11 @@ module _ (b : BoardId) (ns : List Note) (y : Yard) (dev : Device) (h : Part) (ho
   shape_is : shape_of h.sizes ≡ y.shape
   shape_is = ap shape_of (hold.knows.sized ∙ hold.locked.sizes)
 
-  -- where a call's loads are next, it was open before them
-  open_before : (hs : List Load) (steps : List Note) → AreNext (shape_of h.sizes) a hs steps → place (shape_of h.sizes) (map (load_note a) hs ++ steps) ≡ Some (c.command, c.progress) → is_some (place (shape_of h.sizes) steps) ≡ true
-  open_before [] steps next at = ap is_some at
-  open_before (g ∷ hs) steps next at = deeper g hs next
-    where
-      hop_is : (g : Load) (q : Option (Command × Progress)) → IsHopAt (shape_of h.sizes) g q → is_some q ≡ true
-      hop_is g None hop = absurd hop
-      hop_is g (Some call) hop = refl
-
-      deeper : (g : Load) (hs : List Load) → AreNext (shape_of h.sizes) a (g ∷ hs) steps → is_some (place (shape_of h.sizes) steps) ≡ true
-      deeper g [] next = hop_is g (place (shape_of h.sizes) steps) next.0
-      deeper g (f ∷ hs) next = deeper f hs next.1
+  calling : is_calling b.sizes h.steps ≡ true
+  calling = subst (λ (s : Sizes). is_calling s h.steps ≡ true) hold.knows.sized (still_calling (shape_of h.sizes) h.number h.loads h.steps (ap is_some turn.call.at))
 
   pin_now : pin_after a ns ≡ h.pin
-  pin_now = hold.told.calling (subst (λ (x : Sizes × List Note). is_calling x.0 x.1 ≡ true) (λ i. (hold.knows.sized i, sym hold.knows.noted i)) (open_before h.loads h.steps turn.call.next turn.call.at))
+  pin_now = hold.told.calling (subst (λ l. is_calling b.sizes l ≡ true) (sym hold.knows.noted) calling)
 
   alike : SameButAllPins z y
   alike = record { shape = refl; heads = refl; links = refl; keys = refl; halt = refl; locks = refl; vault = refl; uses = refl; actors = refl }
@@ -113,7 +98,7 @@ module _ (b : BoardId) (ns : List Note) (y : Yard) (dev : Device) (h : Part) (ho
 
   -- so the yard plays the event
   pub plays : MayPlay z dev.honest dev.medium a e
-  plays = holding.may_play b.opened ns y dev hold.locked.tied a in_range.0 h.base (length h.known) h.loads hold.knows.quiet hold.knows.least hold.knows.order shown next c.command c.progress place_is z alike (pin_same ∙ sym pin_now) e event_is pass_is
+  plays = holding.may_play b.opened ns y dev hold.locked.tied h in_range.0 hold.knows.quiet hold.knows.least hold.knows.order shown next c.command c.progress place_is z alike (pin_same ∙ sym pin_now) e event_is pass_is
 
   pub asks : IsEventOf z e
   asks = is_event z dev.honest dev.medium a e plays
@@ -133,12 +118,12 @@ module _ (b : BoardId) (ns : List Note) (y : Yard) (dev : Device) (h : Part) (ho
     failed bad = ap (λ (t : Told). t.published) (played.failed bad).nothing
 
     tied : IsTied b.opened (noted b.opened ns h n) z' dev'.honest dev'.medium
-    tied = holding.holds_on b.opened ns y dev hold.locked.tied a in_range.0 h.base (length h.known) h.loads hold.knows.quiet hold.knows.least hold.knows.order shown next c.command c.progress place_is z alike (pin_same ∙ sym pin_now) e event_is pass_is
+    tied = holding.holds_on b.opened ns y dev hold.locked.tied h in_range.0 hold.knows.quiet hold.knows.least hold.knows.order shown next c.command c.progress place_is z alike (pin_same ∙ sym pin_now) e event_is pass_is
         turn.load o z' told dev' played n refl refl done failed
 
-    pub turned : Turned b.opened ns a c.command c.progress e o told.published
-    turned = holding.turned b.opened ns y dev hold.locked.tied a in_range.0 h.base (length h.known) h.loads hold.knows.quiet hold.knows.least hold.knows.order shown next c.command c.progress place_is z alike (pin_same ∙ sym pin_now) e event_is pass_is
-        turn.load o z' told dev' played n refl refl done failed
+    pub turned : Turned b.opened ns h c.command c.progress e o told.published
+    turned = holding.turned b.opened ns y dev hold.locked.tied h in_range.0 hold.knows.quiet hold.knows.least hold.knows.order shown next c.command c.progress place_is z alike (pin_same ∙ sym pin_now) e event_is pass_is
+        turn.load o z' told dev' played n refl refl done failed shape_is pin_now (λ inside. hold.knows.turned inside calling)
 
     -- a word that wasn't told of is as it was
     stays : (v : Word) → told.changed ≢ Some v → get z'.words v ≡ get z.words v
@@ -242,9 +227,6 @@ module _ (b : BoardId) (ns : List Note) (y : Yard) (dev : Device) (h : Part) (ho
         (λ bad. ap (λ x. own q (listed x)) (failed bad))
         (λ ok. ap (own q) (done ok) ∙ line_own z a q e away)
         (fault_or_not o)
-
-    calling : is_calling b.sizes h.steps ≡ true
-    calling = subst (λ (s : Sizes). is_calling s h.steps ≡ true) hold.knows.sized (still_calling (shape_of h.sizes) h.number h.loads h.steps (ap is_some turn.call.at))
 
     pub may_note : MayPrepare b.sizes b.opened ns told.published → MayNote b.sizes b.opened ns h n
     may_note prepares = record { by = refl; step = tt; pin = pin_now; inside = λ _. calling; lawful = lawful; made = made; prepares = prepares }

@@ -1,6 +1,6 @@
 -- What the open call of a pass that is inside may rely on, by the notes: with the trace at which the pass went in, and the
 -- trace as it is.
-use Rattle.std.proofs.Common.{◌≡◌, ℕ, ◌%◌, ◌≤◌, Bool, true, List, [], ◌∷◌, ◌++◌, map, length, refl, sym, ap, ◌∙◌, subst}
+use Rattle.std.proofs.Common.{◌≡◌, ℕ, ◌%◌, ◌≤◌, true, List, [], ◌∷◌, ◌++◌, map, length, refl, sym, ap, ◌∙◌, subst}
 use Rattle.std.specs.Prelude.{Option, Some, None, is_some}
 use Rattle.lz_slot.specs.declared.command.Command.{Command}
 use Rattle.lz_disk.specs.Images.{Medium}
@@ -12,7 +12,7 @@ use Rattle.lz_machine.specs.Yards.{Shape}
 use Rattle.lz_machine.specs.Table.{pin_of}
 use Rattle.lz_machine.specs.CallersSound.{CallerSound, view_of}
 use Rattle.lz_machine.specs.CallsStand.{own_change}
-use Rattle.lz_machine.specs.Runs.{Start, IsStart, State, Up, Service, Transition, run, IsRun, first_point, caller_at}
+use Rattle.lz_machine.specs.Runs.{Start, IsStart, Up, Service, Transition, run, IsRun, first_point, caller_at}
 use Rattle.lz_machine.proofs.Theorem.TraceOutside.{calls_stand}
 use Rattle.lz_board.specs.declared.view.What.TheVariants.{Played}
 use Rattle.lz_board.specs.declared.view.Note.{Note}

@@ -16,7 +16,7 @@ use Rattle.lz_board.specs.declared.view.What.TheVariants.{Called, Played, Found}
 use Rattle.lz_board.specs.declared.view.Note.{Note}
 use Rattle.lz_board.specs.Notes.{trace_of, pin_after_played, pin_after_what, pin_after, turned_at}
 use Rattle.lz_board.specs.Noting.{IsStep}
-use Rattle.lz_tie.specs.NotedRuns.{TellsOf, TellsOne, TellsLooks, Tells, ReadsAs}
+use Rattle.lz_tie.specs.NotedRuns.{TellsOf, TellsOne, TellsLooks, ReadsAs}
 use Rattle.lz_tie.proofs.Reading.CallPlaces.{place_reads, run_before}
 use Rattle.lz_tie.proofs.Reading.TraceNotes.{looks_trace, trace_reads}
 use Rattle.lz_tie.proofs.Reading.PinWords.{still_pin, pin_in_state, looks_pins, pin_reads}

@@ -1,7 +1,8 @@
 -- A yard that was just opened is tied to a board of its words that has no notes, as the lock's invariant asks.
 use Rattle.std.proofs.Common.{◌≡◌, ◌≢◌, inl, Bool, false, List, [], ◌∷◌, map, length, zero, suc, refl, sym, ap, ◌∙◌, subst}
+use Rattle.std.proofs.lemmas.List.{length-replicate}
 use mathlib.Core.Bool.{false≢true}
-use Rattle.std.specs.Prelude.{ℕ, Option, Some, None, is_some, IsTrue, replicate}
+use Rattle.std.specs.Prelude.{ℕ, Some, None, is_some, IsTrue, replicate}
 use Rattle.lz_slot.specs.declared.slot.SlotRead.{SlotRead}
 use Rattle.lz_slot.specs.declared.slot.SlotRead.TheVariants.{Member}
 use Rattle.lz_slot.specs.Counted.{of_pass}
@@ -10,11 +11,14 @@ use Rattle.lz_disk.specs.Images.{Medium, at_rest}
 use Rattle.lz_allot.specs.declared.sight.Sight.{Sight}
 use Rattle.lz_allot.specs.Uses.{Use, Free, Taken, Limbo, use_of}
 use Rattle.lz_list.specs.Traces.{Trace}
+use Rattle.lz_list.proofs.Tables.WordTable.{length-table}
 use Rattle.lz_machine.specs.Yards.{Yard, opened_yard, first_trace, idle_actor, slots_read, use_read}
 use Rattle.lz_machine.specs.Runs.{IsStart, opened_service}
 use Rattle.lz_machine.proofs.Frames.Limbo.{away_new}
+use Rattle.lz_yard.specs.Filling.{OpensYard}
 use Rattle.lz_board.specs.declared.view.Sizes.{Sizes}
-use Rattle.lz_board.specs.Opened.{opened_by, IsOpened}
+use Rattle.lz_board.specs.declared.view.Note.{Note}
+use Rattle.lz_board.specs.Opened.{sizes_in, opened_by, IsOpened}
 use Rattle.lz_board.specs.Seats.{BoardId}
 use Rattle.lz_board.proofs.Start.FirstWords.{opens_text}
 use Rattle.lz_tie.specs.NotedRuns.{IsTied}
@@ -91,6 +95,14 @@ module _ (y : Yard) (t : List ℕ) (starts : IsStart (record { shape = y.shape; 
       by_use s Free same = inl (away_new y.shape.buckets s (opened_by y.words) (tied_loose (opened_by y.words) [] y false (at_rest t) tied s (free s same)))
       by_use s (Limbo sights) same = absurd (no_limbo (slots_read t y.shape.slots) s sights (ap (λ (x : Yard). use_of x.uses s) (sym is) ∙ same))
 
+  -- its tables are as large as its shape says
+  pub opened_sizes : sizes_in y.words ≡ sizes_of y.shape
+  opened_sizes = λ i. record {
+    slots = (ap (λ (x : Yard). length x.words.links) is ∙ length-table y.shape.slots _) i;
+    buckets = (ap (λ (x : Yard). length x.words.heads) is ∙ length-table y.shape.buckets _) i;
+    passes = (ap (λ (x : Yard). length x.words.pins) is ∙ length-replicate {A = ℕ} y.shape.passes zero) i;
+  }
+
   -- so the lock's invariant holds of a yard that was just opened, on a board that began with its words
   pub first_locked : (b : BoardId) (dev : Device) → b.sizes ≡ sizes_of y.shape → b.opened ≡ opened_by y.words → (IsTrue dev.honest → dev.medium ≡ at_rest t) → IsLocked b [] y dev
   unfolding tied first_tied
@@ -100,3 +112,13 @@ module _ (y : Yard) (t : List ℕ) (starts : IsStart (record { shape = y.shape; 
     tied = subst (λ (o : Trace). IsTied o [] y dev.honest dev.medium) (sym opened) (first_tied dev.honest dev.medium device);
     reuse = subst (λ (x : Sizes × Trace). ReuseTold x.0 x.1 [] y.uses y.actors) (λ i. (sym sizes i, sym opened i)) first_reuse;
   }
+
+-- so an open of a yard gives what the lock's value begins with
+pub opened_locked : (b : BoardId) (ns : List Note) (before after : Device) (buckets passes : ℕ) (y : Yard) → OpensYard before after buckets passes y
+    → b.sizes ≡ sizes_in y.words → b.opened ≡ opened_by y.words → ns ≡ [] → IsLocked b ns y after
+opened_locked b ns before after buckets passes y opens sizes opened none =
+    let first = opens.first in
+    let words : sizes_in y.words ≡ sizes_of y.shape = opened_sizes y first.0 first.2 first.3 in
+    subst (λ (l : List Note). IsLocked b l y after) (sym none)
+    (first_locked y first.0 first.2 first.3 b after (sizes ∙ words) opened
+    (λ honest. let was = subst IsTrue opens.vault.honest honest in opens.vault.medium was ∙ ap (λ (t : List ℕ). at_rest t) (sym (first.1 was))))

@@ -1,11 +1,9 @@
-use Rattle.std.proofs.Common.{◌≡◌, ℕ, sym, ap, ◌∙◌, subst}
-use Rattle.std.specs.Prelude.{Option, Some, None}
+use Rattle.std.proofs.Common.{sym, ap, ◌∙◌, subst}
 use Rattle.lz_board.specs.declared.board.Pen.{Pen}
 use Rattle.lz_board.specs.declared.pass.Pass.{Pass}
 use Rattle.lz_board.specs.declared.view.What.TheVariants.{Played}
 use Rattle.lz_board.specs.Notes.{note_by}
 use Rattle.lz_board.specs.Seats.{IsAtHand, carried, id_of, notes}
-use Rattle.lz_tie.specs.declared.playing.Exchange.{Exchange}
 use Rattle.lz_tie.specs.Holds.{InHold, IsExchange, Holds}
 use Rattle.lz_tie.proofs.Hold.Joining.{hand_noted, hand_moved}
 use Rattle.lz_tie.proofs.Hold.JoinedTurn as joined

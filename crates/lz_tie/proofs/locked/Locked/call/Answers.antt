@@ -1,8 +1,6 @@
-use Rattle.std.proofs.Common.{◌≡◌, ℕ, ◌≤◌, ◌∷◌, sym, ap, ◌∙◌, subst}
+use Rattle.std.proofs.Common.{ℕ, ◌≤◌, ◌∷◌, sym, ap, ◌∙◌, subst}
 use Rattle.lz_board.specs.declared.view.Part.{Part}
-use Rattle.lz_board.specs.declared.view.Sizes.{Sizes}
-use Rattle.lz_board.specs.Notes.{trace_of}
-use Rattle.lz_board.specs.Plays.{knowing, found_note}
+use Rattle.lz_board.specs.Plays.{found_note}
 use Rattle.lz_board.specs.Seats.{BoardId, carried, id_of, notes, part}
 use Rattle.lz_tie.specs.Holds.{IsIdle}
 use Rattle.lz_tie.proofs.Hold.Joining.{joined}

@@ -1,8 +1,10 @@
 use Rattle.std.proofs.Common.{◌≡◌, sym, subst}
 use Rattle.lz_board.specs.Notes.{trace_of}
-use Rattle.lz_board.specs.Seats.{carried, id_of, notes, part}
-use Rattle.lz_tie.specs.Holds.{IsTurn}
-use Rattle.lz_tie.proofs.Hold.Joining.{joined, joined_turn}
+use Rattle.lz_board.specs.Kept.{Knows}
+use Rattle.lz_board.specs.Seats.{BoardId, carried, id_of, notes, part}
+use Rattle.lz_tie.specs.Holds.{IsTurn, Turned}
+use Rattle.lz_tie.proofs.Reading.OnePass.{alone_trace}
+use Rattle.lz_tie.proofs.Hold.Joining.{joined, joined_turn, seen_turned}
 use Rattle.lz_tie.proofs.locked.Locked.play.Goals as goal
 
 pub play_joined-turn-requires-clause-hold : goal.play_joined-turn-requires-clause-hold
@@ -14,3 +16,16 @@ pub play_joined-turn-requires-clause-turn : goal.play_joined-turn-requires-claus
 play_joined-turn-requires-clause-turn g c =
     joined_turn (notes c.self.inside.pen) (notes c.join.new.pen) (part c.args.pass.now) (carried c.join.new.pen) (trace_of (id_of c.args.board.now).opened (notes c.self.inside.pen)) c.args.caller.now c.args.event
     (subst (λ v. IsTurn v.notes (part c.args.pass.now) c.args.caller.now c.args.event) (sym c.self.view_is) c.requires.turn) c.join.ensures.notes c.join.ensures.carried
+
+pub returns-clause-turned : goal.returns-clause-turned
+returns-clause-turned g c =
+    let gave = seen_turned (id_of c.args.board.now).opened (notes c.self.inside.pen) (notes c.join.new.pen) (part c.args.pass.now) (carried c.join.new.pen) (trace_of (id_of c.args.board.now).opened (notes c.self.inside.pen)) c.args.caller.now.command c.args.caller.now.progress c.args.event c.play_joined-turn.result.outcome c.play_joined-turn.result.published
+    c.join.ensures.notes c.join.ensures.carried c.play_joined-turn.ensures.turned in
+    let with_board = subst (λ (b : BoardId). Turned b.opened (notes c.self.inside.pen) (part c.args.pass.now) c.args.caller.now.command c.args.caller.now.progress c.args.event c.play_joined-turn.result.outcome c.play_joined-turn.result.published) c.requires.board gave in
+    subst (λ v. Turned g.N.Named.board.opened v.notes (part c.args.pass.now) c.args.caller.now.command c.args.caller.now.progress c.args.event c.play_joined-turn.result.outcome c.play_joined-turn.result.published) c.self.view_is with_board
+
+pub returns-clause-alone : goal.returns-clause-alone
+returns-clause-alone g c =
+    let knows = subst (λ (b : BoardId). Knows b.sizes b.opened (notes c.self.inside.pen) (part c.args.pass.now)) c.requires.board c.join.ensures.knows in
+    λ one. subst (λ v. trace_of g.N.Named.board.opened v.notes ≡ (part c.args.pass.now).known) c.self.view_is
+    (alone_trace g.N.Named.board (notes c.self.inside.pen) c.self.inside.yard.yard (g.D.Disk.device c.self.inside.yard.disk) (part c.args.pass.now) c.self.invariant.1 knows one)

@@ -1,9 +1,12 @@
-use Rattle.std.proofs.Common.{◌≤◌, sym, ap, ◌∙◌, subst}
+use Rattle.std.proofs.Common.{◌∷◌, ◌≤◌, sym, ap, ◌∙◌, subst}
+use Rattle.lz_machine.specs.declared.event.Event.TheVariants.{SeePin}
 use Rattle.lz_machine.specs.Calls.{event_at}
 use Rattle.lz_board.specs.declared.view.Sizes.{Sizes}
 use Rattle.lz_board.specs.Notes.{trace_of, shape_of}
+use Rattle.lz_board.specs.Plays.{found_note}
 use Rattle.lz_board.specs.Seats.{BoardId, carried, id_of, notes, part}
-use Rattle.lz_tie.proofs.Hold.Joining.{joined}
+use Rattle.lz_tie.specs.Holds.{Turned}
+use Rattle.lz_tie.proofs.Hold.Joining.{joined, seen_turned}
 use Rattle.lz_tie.proofs.Hold.PinSight.{found, found_turn, seen_range}
 use Rattle.lz_tie.proofs.locked.Locked.see.Goals as goal
 
@@ -20,3 +23,11 @@ pub play_joined-turn-requires-clause-turn : goal.play_joined-turn-requires-claus
 play_joined-turn-requires-clause-turn g c =
     found_turn (notes c.join.new.pen) (notes c.load_pin-value.new.pen) (part c.args.pass.now) (carried c.load_pin-value.new.pen) (trace_of (id_of c.args.board.now).opened (notes c.self.inside.pen)) c.args.caller.now c.args.seen c.load_pin-value.result c.requires.call c.requires.event
     c.load_pin-value.ensures.notes (c.load_pin-value.ensures.carried ∙ c.join.ensures.carried)
+
+pub returns-clause-turned : goal.returns-clause-turned
+returns-clause-turned g c =
+    let event = SeePin c.args.seen c.load_pin-value.result in
+    let gave = seen_turned (id_of c.args.board.now).opened (found_note c.args.seen c.load_pin-value.result ∷ notes c.self.inside.pen) (notes c.load_pin-value.new.pen) (part c.args.pass.now) (carried c.load_pin-value.new.pen) (trace_of (id_of c.args.board.now).opened (notes c.self.inside.pen)) c.args.caller.now.command c.args.caller.now.progress event c.play_joined-turn.result.outcome c.play_joined-turn.result.published
+    (c.load_pin-value.ensures.notes ∙ ap (λ ns. found_note c.args.seen c.load_pin-value.result ∷ ns) c.join.ensures.notes) (c.load_pin-value.ensures.carried ∙ c.join.ensures.carried) c.play_joined-turn.ensures.turned in
+    let with_board = subst (λ (b : BoardId). Turned b.opened (found_note c.args.seen c.load_pin-value.result ∷ notes c.self.inside.pen) (part c.args.pass.now) c.args.caller.now.command c.args.caller.now.progress event c.play_joined-turn.result.outcome c.play_joined-turn.result.published) c.requires.board gave in
+    subst (λ v. Turned g.N.Named.board.opened (found_note c.args.seen c.load_pin-value.result ∷ v.notes) (part c.args.pass.now) c.args.caller.now.command c.args.caller.now.progress event c.play_joined-turn.result.outcome c.play_joined-turn.result.published) c.self.view_is with_board

@@ -1,0 +1,133 @@
+-- A call that is under way goes on by a load of its pass.
+use Rattle.std.proofs.Common.{◌≡◌, ℕ, zero, suc, true, false, List, [], ◌∷◌, ◌++◌, length, refl, sym, ap, ◌∙◌, subst, append_assoc}
+use mathlib.Core.Bool.{false≢true}
+use Rattle.std.specs.Prelude.{is_some, slice_index_or, Option, None}
+use Rattle.lz_slot.specs.declared.command.Command.{Command}
+use Rattle.lz_slot.specs.declared.format.Format.{Format}
+use Rattle.lz_slot.specs.Sets.{key_of}
+use Rattle.lz_list.specs.declared.word.Word.{Word}
+use Rattle.lz_list.specs.Walks.{hopped}
+use Rattle.lz_list.specs.Traces.{Trace}
+use Rattle.lz_machine.specs.declared.event.Event.{Event}
+use Rattle.lz_machine.specs.declared.event.Event.TheVariants.{Hop, Check}
+use Rattle.lz_machine.specs.declared.event.Outcome.TheVariants.{Value}
+use Rattle.lz_machine.specs.declared.event.Reply.{Reply}
+use Rattle.lz_machine.specs.declared.caller.Sequence.{Sequence}
+use Rattle.lz_machine.specs.declared.caller.Sequence.TheVariants.{Pinning, Resting, Writing, Adding, Removing, Releasing, Halting}
+use Rattle.lz_machine.specs.declared.caller.Progress.{Progress}
+use Rattle.lz_machine.specs.declared.caller.Progress.TheVariants.{Playing, LoadsHalt, Walking, Reserving, SeeingPins, Claiming, Checking, Answering}
+use Rattle.lz_machine.specs.Yards.{Shape}
+use Rattle.lz_machine.specs.Calls.{event_at, events_of, progress_after}
+use Rattle.lz_machine.specs.CallersSound.{is_before_pin, side_of}
+use Rattle.lz_machine.specs.Laws.{hop_of}
+use Rattle.lz_machine.specs.Orders.{IsLoading}
+use Rattle.lz_machine.specs.Runs.{reply_at}
+use Rattle.lz_board.specs.declared.view.Sizes.{Sizes}
+use Rattle.lz_board.specs.declared.view.What.TheVariants.{Played}
+use Rattle.lz_board.specs.declared.view.Load.{Load}
+use Rattle.lz_board.specs.declared.view.Part.{Part}
+use Rattle.lz_board.specs.Notes.{own, is_for, IsShared, placed, goes_on, shape_of}
+use Rattle.lz_board.specs.Addresses.{index, word_at}
+use Rattle.lz_board.specs.Glances.{Changes}
+use Rattle.lz_board.specs.Plays.{loading, IsShownTo}
+use Rattle.lz_board.specs.Seats.{BoardId}
+use Rattle.lz_board.proofs.Upkeep.Address.{shared_boards, decode}
+use Rattle.std.proofs.lemmas.List.Elements.{filter-append}
+use Rattle.lz_tie.specs.NotedRuns.{IsHopAt}
+use Rattle.lz_tie.specs.UnderWay.{OwnAt, UnderWay}
+use Rattle.lz_tie.proofs.Calls.OwnChanges.{calm_none}
+use Rattle.lz_tie.proofs.Calls.NextPlace.{Onward, hop_onward, halt_onward}
+use Rattle.lz_tie.proofs.Calls.CallTurn.{not_old, not_full}
+
+loading_going : (at : Progress) → IsLoading at → reply_at at ≡ None
+loading_going LoadsHalt is = refl
+loading_going (Walking aim look) is = refl
+loading_going at is = absurd is
+
+loading_inside : (at : Progress) → IsLoading at → is_before_pin at ≡ false
+loading_inside LoadsHalt is = refl
+loading_inside (Walking aim look) is = refl
+loading_inside at is = absurd is
+
+-- where a load leads
+load_onward : (shape : Shape) (p : ℕ) (c : Command) (at : Progress) (value : ℕ) (P : Trace) → IsLoading at → OwnAt p c at P → Onward shape p c (progress_after shape c at (Value value)) P
+load_onward shape p c LoadsHalt value P is h = halt_onward shape p P (calm_none p c LoadsHalt P refl h) c value
+load_onward shape p c (Walking aim look) value P is h = hop_onward shape p P (calm_none p c (Walking aim look) P refl h) c aim (hopped shape.buckets (key_of c) look value)
+load_onward shape p c at value P is h = absurd is
+
+-- no event of a sequence is a load, so only a place of a load has one
+abbrev NoLoads : List Event → Type 0
+NoLoads [] = Unit {0}
+NoLoads (e ∷ es) = (hop_of e ≡ None) × NoLoads es
+
+no_load_in : (es : List Event) (i : ℕ) → NoLoads es → hop_of (slice_index_or es i Check) ≡ None
+no_load_in [] i none = refl
+no_load_in (e ∷ es) zero none = none.0
+no_load_in (e ∷ es) (suc i) none = no_load_in es i none.1
+
+no_loads : (c : Command) (sequence : Sequence) → NoLoads (events_of c sequence)
+no_loads c Pinning = (refl, tt)
+no_loads c (Resting s reply) = (refl, (refl, tt))
+no_loads c (Writing s) = (refl, (refl, tt))
+no_loads c (Adding s) = (refl, (refl, (refl, (refl, (refl, tt)))))
+no_loads c (Removing s) = (refl, (refl, (refl, (refl, (refl, (refl, (refl, tt)))))))
+no_loads c (Releasing aim) = (refl, tt)
+no_loads c (Halting reply) = (refl, tt)
+
+pub load_place : (shape : Shape) (c : Command) (at : Progress) (w : Word) → event_at shape c at ≡ Hop w → IsLoading at
+load_place shape c (Playing sequence i) w is = absurd (false≢true (ap is_some (sym (no_load_in (events_of c sequence) i (no_loads c sequence)) ∙ ap hop_of is)))
+load_place shape c LoadsHalt w is = tt
+load_place shape c (Walking aim look) w is = tt
+load_place shape c (Reserving again) w is = absurd (false≢true (ap is_some (ap hop_of is)))
+load_place shape c (SeeingPins p) w is = absurd (false≢true (ap is_some (ap hop_of is)))
+load_place shape c (Claiming aim pred curr) w is = absurd (false≢true (ap is_some (ap hop_of is)))
+load_place shape c (Checking aim curr) w is = absurd (false≢true (ap is_some (ap hop_of is)))
+load_place shape c (Answering reply) w is = absurd (false≢true (ap is_some (ap hop_of is)))
+
+module _ (b : BoardId) (c : Command) (format : Format) (before : Part) (at : Progress) (h : Part) (U : UnderWay b c format before at h) (w : Word) (event : event_at (shape_of h.sizes) c at ≡ Hop w) (shared : IsShared b.sizes w)
+    (seen : Trace) (value : ℕ) (shown : IsShownTo seen h) where
+  abbrev h1 : Part
+  h1 = loading seen (index h.sizes w) value h
+
+  abbrev next : Progress
+  next = progress_after (shape_of h.sizes) c at (Value value)
+
+  abbrev x : Load
+  x = record { word = word_at h.sizes (index h.sizes w); value = value; at = length seen }
+
+  loads : IsLoading at
+  loads = load_place (shape_of h.sizes) c at w event
+
+  there : Onward (shape_of h.sizes) h.number c next U.own
+  there = load_onward (shape_of h.sizes) h.number c at value U.own loads U.is_own
+
+  changes_now : Changes h.number before.known seen U.own
+  changes_now = record {
+    since = shown.since.0 ++ U.changes.since;
+    goes_on = shown.since.1 ∙ ap (λ (l : Trace). shown.since.0 ++ l) U.changes.goes_on ∙ sym (append_assoc shown.since.0 U.changes.since before.known);
+    own = filter-append (is_for h.number) shown.since.0 U.changes.since ∙ (λ i. shown.since.2 i ++ U.changes.own i);
+  }
+
+  loaded_now : UnderWay b c format before next h1
+  loaded_now = record {
+    sizes = U.sizes;
+    number = U.number;
+    within = U.within;
+    steps = U.steps;
+    only = U.only;
+    call = record {
+      next = (subst (IsHopAt (shape_of h.sizes) x) (sym U.call.at) (event ∙ ap Hop (sym (decode h.sizes w (shared_boards h.sizes w (subst (λ (z : Sizes). IsShared z w) (sym U.sizes) shared))))), U.call.next);
+      at = ap (placed (shape_of h.sizes) (Played (Hop x.word) (Value value))) U.call.at ∙ ap (λ (r : Option Reply). goes_on r c next) (loading_going at loads);
+      pass = there.pass;
+    };
+    side = U.side ∙ ap side_of (loading_inside at loads ∙ sym there.inside);
+    own = U.own;
+    changes = changes_now;
+    is_own = there.is_own;
+    since = U.since;
+    old = λ old. absurd (not_old next there.inside old);
+    full = λ counts full. absurd (not_full next counts there.room full);
+  }
+
+  pub loaded : (h' : Part) → h' ≡ loading seen (index b.sizes w) value h → UnderWay b c format before next h'
+  loaded h' is = subst (UnderWay b c format before next) (sym (is ∙ ap (λ (z : Sizes). loading seen (index z w) value h) (sym U.sizes))) loaded_now

@@ -1,0 +1,65 @@
+-- The steps of a call under way, in the words of the caller that counts them.
+use Rattle.std.proofs.Common.{◌≡◌, ℕ, List, sym, ap, ◌∙◌, subst}
+use Rattle.std.specs.Prelude.{Option, Some, None}
+use Rattle.lz_slot.specs.declared.command.Command.{Command}
+use Rattle.lz_slot.specs.declared.format.Format.{Format}
+use Rattle.lz_list.specs.declared.publishing.Publishing.{Publishing}
+use Rattle.lz_list.specs.declared.word.Word.{Word}
+use Rattle.lz_list.specs.Traces.{Trace}
+use Rattle.lz_machine.specs.declared.event.Event.{Event}
+use Rattle.lz_machine.specs.declared.event.Event.TheVariants.{Hop}
+use Rattle.lz_machine.specs.declared.event.Outcome.{Outcome}
+use Rattle.lz_machine.specs.declared.event.Outcome.TheVariants.{Value}
+use Rattle.lz_machine.specs.declared.caller.Progress.{Progress}
+use Rattle.lz_machine.specs.Calls.{event_at, progress_after}
+use Rattle.lz_machine.specs.Laws.{hop_of}
+use Rattle.lz_machine.specs.Orders.{Calling, HasPass, shape_with}
+use Rattle.lz_machine.specs.Runs.{reply_at}
+use Rattle.lz_machine.proofs.Runs.EventOrder.{shaped, same_event, same_follows}
+use Rattle.lz_board.specs.declared.view.What.TheVariants.{Played}
+use Rattle.lz_board.specs.declared.view.Sizes.{Sizes}
+use Rattle.lz_board.specs.declared.view.Note.{Note}
+use Rattle.lz_board.specs.declared.view.Part.{Part}
+use Rattle.lz_board.specs.Notes.{note_by, shape_of, IsShared}
+use Rattle.lz_board.specs.Addresses.{index}
+use Rattle.lz_board.specs.Plays.{loading, IsShownTo}
+use Rattle.lz_board.specs.Seats.{BoardId}
+use Rattle.lz_tie.specs.Holds.{HasCall, Holds, Turned}
+use Rattle.lz_tie.specs.UnderWay.{UnderWay}
+use Rattle.lz_tie.proofs.Calls.CallLoad.{loaded}
+use Rattle.lz_tie.proofs.Calls.CallTurn.{turned}
+
+-- the caller of a call of command c on this board
+abbrev pub IsCallerOn : BoardId → Command → Calling → Type 0
+IsCallerOn b c k = (k.command ≡ c) × (k.buckets ≡ b.sizes.buckets) × (k.passes ≡ b.sizes.passes)
+
+module _ (b : BoardId) (c : Command) (format : Format) (before : Part) (k : Calling) (on : IsCallerOn b c k) (h : Part) (U : UnderWay b c format before k.progress h) where
+  -- the pass has its call open
+  pub has_call : HasCall h k
+  has_call = record {
+    next = U.call.next;
+    at = U.call.at ∙ ap (λ (q : Command). Some (q, k.progress)) (sym on.0);
+    pass = subst (λ (q : Command). HasPass h.sizes.passes (event_at (shape_of h.sizes) q k.progress)) (sym on.0) U.call.pass;
+  }
+
+  -- how many slots there are plays no part in it
+  same_shape : shaped 0 h.sizes.buckets h.sizes.passes ≡ shape_with k
+  same_shape = λ i. shaped 0 ((ap (λ (z : Sizes). z.buckets) U.sizes ∙ sym on.1) i) ((ap (λ (z : Sizes). z.passes) U.sizes ∙ sym on.2) i)
+
+  next_is : (o : Outcome) → progress_after (shape_of h.sizes) c k.progress o ≡ progress_after (shape_with k) k.command k.progress o
+  next_is o = same_follows h.sizes.slots 0 h.sizes.buckets h.sizes.passes c k.progress o ∙ (λ i. progress_after (same_shape i) (sym on.0 i) k.progress o)
+
+  event_is : event_at (shape_of h.sizes) c k.progress ≡ event_at (shape_with k) k.command k.progress
+  event_is = same_event h.sizes.slots 0 h.sizes.buckets h.sizes.passes c k.progress ∙ (λ i. event_at (same_shape i) (sym on.0 i) k.progress)
+
+  -- after it has taken the outcome of a turn, or the value of a load
+  pub caller_turned : (opened : Trace) (was is : List Note) (e : Event) (o : Outcome) (x : Option Publishing) (h' : Part) → Holds opened was is (note_by h.number (Played e o) x) h h' → Turned opened was h k.command k.progress e o x → hop_of e ≡ None → reply_at k.progress ≡ None
+      → UnderWay b c format before (progress_after (shape_with k) k.command k.progress o) h'
+  caller_turned opened was is e o x h' H T no_load going =
+      subst (λ (at : Progress). UnderWay b c format before at h') (next_is o)
+      (turned b c format before k.progress h U opened was is e o x h' H (subst (λ (q : Command). Turned opened was h q k.progress e o x) on.0 T) no_load going)
+
+  pub caller_loaded : (w : Word) → event_at (shape_with k) k.command k.progress ≡ Hop w → IsShared b.sizes w → (seen : Trace) (value : ℕ) → IsShownTo seen h → (h' : Part) → h' ≡ loading seen (index b.sizes w) value h
+      → UnderWay b c format before (progress_after (shape_with k) k.command k.progress (Value value)) h'
+  caller_loaded w event shared seen value shown h' is =
+      subst (λ (at : Progress). UnderWay b c format before at h') (next_is (Value value)) (loaded b c format before k.progress h U w (event_is ∙ event) shared seen value shown h' is)

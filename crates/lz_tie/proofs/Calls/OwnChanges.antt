@@ -1,0 +1,122 @@
+-- What was published for a pass since its call was made, by how far the call has come.
+use Rattle.std.proofs.Common.{◌≡◌, inl, inr, ℕ, zero, suc, Bool, true, false, [], ◌∷◌, refl, eq-eqb}
+use mathlib.Core.Bool.{false≢true}
+use Rattle.lz_slot.specs.declared.command.Command.{Command}
+use Rattle.lz_slot.specs.declared.command.Command.TheVariants.{Add, Remove, Has}
+use Rattle.lz_allot.specs.declared.counts.Counts.{Counts}
+use Rattle.lz_vault.specs.declared.vault.Stage.{Stage}
+use Rattle.lz_vault.specs.declared.vault.Stage.TheVariants.{Closed, Open}
+use Rattle.lz_list.specs.declared.publishing.Publishing.TheVariants.{Linked as linked, Marked as marked, Unlinked as unlinked}
+use Rattle.lz_list.specs.Traces.{Trace}
+use Rattle.lz_machine.specs.declared.event.Reply.{Reply}
+use Rattle.lz_machine.specs.declared.event.Reply.TheVariants.{Yes, Full, Worn, OldFile, Halted, Device}
+use Rattle.lz_machine.specs.declared.caller.Sequence.TheVariants.{Adding, Removing, Halting}
+use Rattle.lz_machine.specs.declared.caller.Progress.{Progress}
+use Rattle.lz_machine.specs.declared.caller.Progress.TheVariants.{Playing, Answering}
+use Rattle.lz_machine.specs.Table.{settling}
+use Rattle.lz_board.specs.Notes.{own}
+use Rattle.lz_tie.specs.Answers.{MayHaveChanged}
+use Rattle.lz_tie.specs.UnderWay.{OwnAt}
+
+-- places of a call that has changed nothing yet
+abbrev pub is_calm : Progress → Bool
+is_calm (Playing (Adding s) i) = false
+is_calm (Playing (Removing s) i) = false
+is_calm (Playing (Halting reply) i) = false
+is_calm (Answering reply) = false
+is_calm at = true
+
+pub calm : (p : ℕ) (c : Command) (at : Progress) (P : Trace) → is_calm at ≡ true → P ≡ [] → OwnAt p c at P
+calm p c (Playing (Adding s) i) P is h = absurd (false≢true is)
+calm p c (Playing (Removing s) i) P is h = absurd (false≢true is)
+calm p c (Playing (Halting reply) i) P is h = absurd (false≢true is)
+calm p c (Answering reply) P is h = absurd (false≢true is)
+calm p (Has k) at P is h = h
+calm p (Add k) at P is h = h
+calm p (Remove k) at P is h = h
+
+pub calm_none : (p : ℕ) (c : Command) (at : Progress) (P : Trace) → is_calm at ≡ true → OwnAt p c at P → P ≡ []
+calm_none p c (Playing (Adding s) i) P is h = absurd (false≢true is)
+calm_none p c (Playing (Removing s) i) P is h = absurd (false≢true is)
+calm_none p c (Playing (Halting reply) i) P is h = absurd (false≢true is)
+calm_none p c (Answering reply) P is h = absurd (false≢true is)
+calm_none p (Has k) at P is h = h
+calm_none p (Add k) at P is h = h
+calm_none p (Remove k) at P is h = h
+
+-- a call that was cut off may have changed what it had
+pub none_cut : (p : ℕ) (c : Command) (P : Trace) → P ≡ [] → MayHaveChanged p c P
+none_cut p (Has k) P h = h
+none_cut p (Add k) P h = inl h
+none_cut p (Remove k) P h = inl h
+
+pub own_cut : (p : ℕ) (c : Command) (at : Progress) (P : Trace) → OwnAt p c at P → MayHaveChanged p c P
+own_cut p (Has k) (Playing (Halting reply) i) P h = h
+own_cut p (Has k) (Answering Halted) P h = h
+own_cut p (Has k) (Answering Device) P h = h
+own_cut p (Has k) at P h = h
+own_cut p (Add k) (Playing (Adding s) zero) P h = inl h
+own_cut p (Add k) (Playing (Adding s) (suc zero)) P h = inl h
+own_cut p (Add k) (Playing (Adding s) (suc (suc i))) P h = inr (s, h)
+own_cut p (Add k) (Playing (Halting reply) i) P h = h
+own_cut p (Add k) (Answering Yes) P h = inr h
+own_cut p (Add k) (Answering Halted) P h = h
+own_cut p (Add k) (Answering Device) P h = h
+own_cut p (Add k) at P h = inl h
+own_cut p (Remove k) (Playing (Removing s) zero) P h = inl h
+own_cut p (Remove k) (Playing (Removing s) (suc zero)) P h = inl h
+own_cut p (Remove k) (Playing (Removing s) (suc (suc zero))) P h = inr (s, inl h)
+own_cut p (Remove k) (Playing (Removing s) (suc (suc (suc zero)))) P h = inr (s, inl h)
+own_cut p (Remove k) (Playing (Removing s) (suc (suc (suc (suc zero))))) P h = inr (s, inl h)
+own_cut p (Remove k) (Playing (Removing s) (suc (suc (suc (suc (suc i)))))) P h = inr (s, inr h)
+own_cut p (Remove k) (Playing (Halting reply) i) P h = h
+own_cut p (Remove k) (Answering Yes) P h = inr (h.0, inr h.1)
+own_cut p (Remove k) (Answering Halted) P h = h
+own_cut p (Remove k) (Answering Device) P h = h
+own_cut p (Remove k) at P h = inl h
+
+pub cut_halting : (p : ℕ) (c : Command) (reply : Reply) (i : ℕ) (P : Trace) → MayHaveChanged p c P → OwnAt p c (Playing (Halting reply) i) P
+cut_halting p (Has k) reply i P h = h
+cut_halting p (Add k) reply i P h = h
+cut_halting p (Remove k) reply i P h = h
+
+pub cut_halted : (p : ℕ) (c : Command) (P : Trace) → MayHaveChanged p c P → OwnAt p c (Answering Halted) P
+cut_halted p (Has k) P h = h
+cut_halted p (Add k) P h = h
+cut_halted p (Remove k) P h = h
+
+pub cut_device : (p : ℕ) (c : Command) (P : Trace) → MayHaveChanged p c P → OwnAt p c (Answering Device) P
+cut_device p (Has k) P h = h
+cut_device p (Add k) P h = h
+cut_device p (Remove k) P h = h
+
+pub worn_none : (p : ℕ) (c : Command) (P : Trace) → P ≡ [] → OwnAt p c (Answering Worn) P
+worn_none p (Has k) P h = h
+worn_none p (Add k) P h = h
+worn_none p (Remove k) P h = h
+
+pub full_none : (p : ℕ) (c : Command) (counts : Counts) (P : Trace) → P ≡ [] → OwnAt p c (Answering (Full counts)) P
+full_none p (Has k) counts P h = h
+full_none p (Add k) counts P h = h
+full_none p (Remove k) counts P h = h
+
+pub old_none : (p : ℕ) (c : Command) (P : Trace) → P ≡ [] → OwnAt p c (Answering OldFile) P
+old_none p (Has k) P h = h
+old_none p (Add k) P h = h
+old_none p (Remove k) P h = h
+
+-- a settling is made for no pass
+pub settling_none : (p : ℕ) (stage : Stage) (s : ℕ) → own p (settling stage s) ≡ []
+settling_none p Open s = refl
+settling_none p Closed s = refl
+settling_none p stage s = refl
+
+-- a linking, a marking and an unlinking are
+pub own_linked : (p k s : ℕ) → own p (linked k s p ∷ []) ≡ linked k s p ∷ []
+own_linked p k s = rw (eq-eqb p p refl) refl
+
+pub own_marked : (p k s : ℕ) → own p (marked k s p ∷ []) ≡ marked k s p ∷ []
+own_marked p k s = rw (eq-eqb p p refl) refl
+
+pub own_unlinked : (p k s : ℕ) → own p (unlinked k s p ∷ []) ≡ unlinked k s p ∷ []
+own_unlinked p k s = rw (eq-eqb p p refl) refl

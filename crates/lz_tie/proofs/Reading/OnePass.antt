@@ -1,0 +1,98 @@
+-- In a set of one pass nothing is published but for it, and so it has seen the whole trace.
+use Rattle.std.proofs.Common.{◌≡◌, ◌⊎◌, inl, inr, ⊎_elim, ℕ, ◌≤◌, List, [], ◌∷◌, ◌++◌, length, length-append, refl, sym, ap, ◌∙◌, subst, arith}
+use Rattle.std.specs.Prelude.{Option, Some, None}
+use Rattle.lz_disk.specs.Images.{Medium}
+use Rattle.lz_disk.specs.Devices.{Device}
+use Rattle.lz_list.specs.declared.publishing.Publishing.{Publishing}
+use Rattle.lz_list.specs.Traces.{Trace}
+use Rattle.lz_machine.specs.Yards.{Shape, Yard}
+use Rattle.lz_machine.specs.Runs.{Start, State, Up, Service, Caller, Transition, Calls, Turn, Fails, Looks, Trips, Stops, Crashes, CrashesIn, Opens, OpenFails, run, IsRun, first_point, caller_at, shape_of as shape_in}
+use Rattle.lz_machine.proofs.Frames.OneActor.{caller_range}
+use Rattle.lz_machine.proofs.Runs.Shape.{run_keeps_shape}
+use Rattle.lz_board.specs.declared.view.Sizes.{Sizes}
+use Rattle.lz_board.specs.declared.view.What.{What}
+use Rattle.lz_board.specs.declared.view.What.TheVariants.{Called, Played, Found}
+use Rattle.lz_board.specs.declared.view.Note.{Note}
+use Rattle.lz_board.specs.declared.view.Part.{Part}
+use Rattle.lz_board.specs.Notes.{listed, trace_of, Quiet}
+use Rattle.lz_board.specs.Kept.{Knows}
+use Rattle.lz_board.specs.Seats.{BoardId}
+use Rattle.lz_board.proofs.Upkeep.Splice.{low_or_not, least_load}
+use Rattle.lz_tie.specs.NotedRuns.{TellsTurn, TellsFault, TellsStep, TellsOf, ReadsAs}
+use Rattle.lz_tie.specs.Holds.{IsLocked}
+use Rattle.lz_tie.proofs.Reading.CallPlaces.{place_reads, run_before}
+
+-- the note publishes nothing, or is by one of these passes
+abbrev IsByPass : ℕ → Note → Type 0
+IsByPass passes n = (n.published ≡ None) ⊎ ((1 ≤ n.by) × (n.by ≤ passes))
+
+abbrev AreByPasses : ℕ → List Note → Type 0
+AreByPasses passes [] = Unit {0}
+AreByPasses passes (n ∷ ns) = IsByPass passes n × AreByPasses passes ns
+
+-- a step publishes where it is a call's turn
+step_by : (service : Service) (disk : Medium) (n : Note) (step : Transition) → TellsStep (Up service disk) n step → IsByPass (length service.callers) n
+step_by service disk n (Calls a c) t = inl t.2
+step_by service disk n (Turn a) t = go (caller_at service.callers a) refl t.1
+  where
+    go : (q : Option Caller) → caller_at service.callers a ≡ q → TellsTurn service a q n → IsByPass (length service.callers) n
+    go None is t = absurd t
+    go (Some caller) is u = inr (subst (λ (p : ℕ). (1 ≤ p) × (p ≤ length service.callers)) (sym t.0) (caller_range service.callers a caller is))
+step_by service disk n (Fails a new) t = go (caller_at service.callers a) t.1
+  where
+    go : (q : Option Caller) → TellsFault service q n → IsByPass (length service.callers) n
+    go None t = absurd t
+    go (Some caller) t = inl t.1
+step_by service disk n (Looks a) t = absurd t
+step_by service disk n Trips t = absurd t
+step_by service disk n Stops t = absurd t
+step_by service disk n (Crashes x) t = absurd t
+step_by service disk n (CrashesIn a x) t = absurd t
+step_by service disk n Opens t = absurd t
+step_by service disk n (OpenFails why done) t = absurd t
+
+passes_read : (start : Start) (ns : List Note) (steps : List Transition) → IsRun (first_point start) steps → ReadsAs (first_point start) ns steps → AreByPasses start.shape.passes ns
+passes_read start [] steps runs reads = tt
+passes_read start (n ∷ ns) steps runs (new, before, is, tells, rest) = (one n.what tells, passes_read start ns before past rest)
+  where
+    past : IsRun (first_point start) before
+    past = run_before (first_point start) new before (subst (IsRun (first_point start)) is runs)
+
+    one : (what : What) → TellsOf (run (first_point start) before).state n what new → IsByPass start.shape.passes n
+    one (Called c format) t =
+        let h = place_reads start ns before past rest in
+        subst (λ (k : ℕ). IsByPass k n) h.count (step_by h.service h.disk n t.step (subst (λ (w : State). TellsStep w n t.step) h.state t.tells))
+    one (Played e o) t =
+        let h = place_reads start ns before past rest in
+        subst (λ (k : ℕ). IsByPass k n) h.count (step_by h.service h.disk n t.step (subst (λ (w : State). TellsStep w n t.step) h.state t.tells))
+    one (Found q v) t = inl t.1
+
+-- where all steps of the one pass come before the trace is longer than n, it isn't
+one_long : (opened : Trace) (n : ℕ) (ns : List Note) → AreByPasses 1 ns → Quiet opened 1 n ns → length opened ≤ n → length (trace_of opened ns) ≤ n
+one_long opened n [] are quiet least = least
+one_long opened n (x ∷ xs) are quiet least = ⊎_elim
+    (λ (none : x.published ≡ None). subst (λ (p : Option Publishing). length (listed p ++ trace_of opened xs) ≤ n) (sym none) (one_long opened n xs are.1 quiet.1 least))
+    (λ (range : (1 ≤ x.by) × (x.by ≤ 1)). let low = range.0 in let high = range.1 in ⊎_elim
+    (λ over. absurd (quiet.0 over.1 (omega (arith, low, high))))
+    (λ within. within.1)
+    (low_or_not n (length (trace_of opened (x ∷ xs)))))
+    are.0
+
+-- nothing is more where there is no more of it
+no_more : (more P : Trace) → length (more ++ P) ≤ length P → more ++ P ≡ P
+no_more [] P le = refl
+no_more (x ∷ xs) P le = let l = length-append xs P in absurd (omega (arith, le, l))
+
+pub alone_trace : (b : BoardId) (ns : List Note) (y : Yard) (dev : Device) (h : Part) → IsLocked b ns y dev → Knows b.sizes b.opened ns h → b.sizes.passes ≡ 1 → trace_of b.opened ns ≡ h.known
+alone_trace b ns y dev h locked knows one =
+    let t = locked.tied in
+    let shape : y.shape ≡ t.start.shape = t.yard.shape ∙ subst (λ (w : State). shape_in w ≡ t.start.shape) t.state (run_keeps_shape (first_point t.start) t.steps) in
+    let passes : t.start.shape.passes ≡ 1 = ap (λ (s : Shape). s.passes) (sym shape) ∙ ap (λ (z : Sizes). z.passes) (sym locked.sizes) ∙ one in
+    let low = knows.numbered.0 in
+    let high = knows.numbered.1 in
+    let number : h.number ≡ 1 = omega (arith, low, high, one) in
+    let long = one_long b.opened h.base ns (subst (λ (n : ℕ). AreByPasses n ns) passes (passes_read t.start ns t.steps t.runs t.reads)) (subst (λ (q : ℕ). Quiet b.opened q h.base ns) number knows.quiet) knows.least in
+    let seen = least_load h.base (length h.known) h.loads knows.order in
+    let since = knows.since in
+    let within : length (since.0 ++ h.known) ≤ length h.known = subst (λ (P : Trace). length P ≤ length h.known) since.1 (omega (arith, long, seen)) in
+    since.1 ∙ no_more since.0 h.known within

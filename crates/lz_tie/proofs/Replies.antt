@@ -1,0 +1,6 @@
+pub mod CallSteps
+pub mod FullReply
+pub mod OwnChange
+pub mod LastTurn
+pub mod ReplyRows
+pub mod AnsweredCall

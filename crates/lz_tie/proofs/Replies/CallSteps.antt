@@ -1,0 +1,58 @@
+-- The steps of a call, from its beginning to its Answer.
+use Rattle.std.proofs.Common.{◌≡◌, ℕ, List, [], ◌∷◌, ◌++◌, map, refl, sym, ap, ◌∙◌, append_assoc}
+use Rattle.std.specs.Prelude.{Some, None}
+use Rattle.lz_slot.specs.declared.command.Command.{Command}
+use Rattle.lz_slot.specs.declared.format.Format.{Format}
+use Rattle.lz_machine.specs.declared.event.Event.TheVariants.{Answer}
+use Rattle.lz_machine.specs.declared.event.Outcome.TheVariants.{Done}
+use Rattle.lz_machine.specs.declared.event.Reply.{Reply}
+use Rattle.lz_machine.specs.declared.caller.Progress.TheVariants.{Answering}
+use Rattle.lz_machine.specs.Yards.{Shape}
+use Rattle.lz_board.specs.declared.view.What.TheVariants.{Called, Played}
+use Rattle.lz_board.specs.declared.view.Note.{Note}
+use Rattle.lz_board.specs.declared.view.Load.{Load}
+use Rattle.lz_board.specs.Notes.{note_by, load_note, place, placed}
+use Rattle.lz_tie.specs.Answers.{reserved_by, last_reserve, AreWithin, IsOneCall}
+
+module _ (p : ℕ) (format : Format) (c : Command) where
+  abbrev call_note : Note
+  call_note = note_by p (Called c format) None
+
+  -- the steps of a call that has answered, by its last loads and the steps before them
+  abbrev pub call_steps : List Load → List Note → List Note
+  call_steps loads within = note_by p (Played Answer Done) None ∷ ((map (load_note p) loads ++ within) ++ call_note ∷ [])
+
+  -- the place of a call rests on no step before its beginning
+  pub place_since : (shape : Shape) (within rest : List Note) → place shape (within ++ call_note ∷ rest) ≡ place shape (within ++ call_note ∷ [])
+  place_since shape [] rest = refl
+  place_since shape (n ∷ ns) rest = ap (placed shape n.what) (place_since shape ns rest)
+
+  pub loads_within : (loads : List Load) (within : List Note) → AreWithin within → AreWithin (map (load_note p) loads ++ within)
+  loads_within [] within only = only
+  loads_within (h ∷ hs) within only = (tt, loads_within hs within only)
+
+  pub one_call : (shape : Shape) (reply : Reply) (loads : List Load) (within rest : List Note) → AreWithin within → place shape (map (load_note p) loads ++ (within ++ call_note ∷ rest)) ≡ Some (c, Answering reply) → IsOneCall shape p format c reply (call_steps loads within)
+  one_call shape reply loads within rest only at = record {
+    within = map (load_note p) loads ++ within;
+    steps = refl;
+    only = loads_within loads within only;
+    answers = sym (place_since shape (map (load_note p) loads ++ within) rest) ∙ ap (place shape) (append_assoc (map (load_note p) loads) within (call_note ∷ rest)) ∙ at;
+  }
+
+  -- they stand before the steps that the pass had
+  pub steps_since : (loads : List Load) (within rest : List Note) → note_by p (Played Answer Done) None ∷ (map (load_note p) loads ++ (within ++ call_note ∷ rest)) ≡ call_steps loads within ++ rest
+  steps_since loads within rest =
+      ap (λ l. note_by p (Played Answer Done) None ∷ l)
+      (sym (append_assoc (map (load_note p) loads) within (call_note ∷ rest)) ∙ sym (append_assoc (map (load_note p) loads ++ within) (call_note ∷ []) rest))
+
+  -- the last slot that was asked for
+  reserve_called : (within : List Note) → last_reserve (within ++ call_note ∷ []) ≡ last_reserve within
+  reserve_called [] = refl
+  reserve_called (n ∷ ns) = ap (reserved_by n.what) (reserve_called ns)
+
+  reserve_loaded : (loads : List Load) (within : List Note) → last_reserve (map (load_note p) loads ++ within) ≡ last_reserve within
+  reserve_loaded [] within = refl
+  reserve_loaded (h ∷ hs) within = reserve_loaded hs within
+
+  pub same_reserve : (loads : List Load) (within : List Note) → last_reserve (call_steps loads within) ≡ last_reserve within
+  same_reserve loads within = reserve_called (map (load_note p) loads ++ within) ∙ reserve_loaded loads within
