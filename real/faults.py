@@ -31,7 +31,7 @@ SESSION = (
 )
 
 # The calls of the system by which the program writes and syncs a file, and what they fail with.
-FAILURES = {"pwrite64": "ENOSPC", "fsync": "EIO"}
+FAILURES = {"pwrite64": "ENOSPC", "fdatasync": "EIO"}
 
 # A sync of the open comes first; one that fails is a refused open.
 REFUSED_DEVICE = Ended("refused 7\n", 1)
@@ -80,7 +80,7 @@ def try_one(program: Program, folder: str, call: str, number: int) -> None:
     file = os.path.join(folder, f"{call}-{number}")
     program.make(file, SLOTS)
     ended = program.run("run", file, lines=session_lines(), before=failing(file, call, number))
-    if call == "fsync" and number == 1:
+    if call == "fdatasync" and number == 1:
         expect(ended, REFUSED_DEVICE, "an open whose sync fails")
         expect(program.members(file), [], "a file whose open was refused")
         return
@@ -124,7 +124,7 @@ def try_service(program: Program, folder: str, seed: int) -> None:
     file = os.path.join(folder, "served")
     program.make(file, kills.SLOTS)
     history = History()
-    for call, number in (("fsync", 5), ("pwrite64", 3), ("fsync", 12), ("pwrite64", 17)):
+    for call, number in (("fdatasync", 5), ("pwrite64", 3), ("fdatasync", 12), ("pwrite64", 17)):
         calls, status = failed_life(program, file, call, number, seed + number)
         expect(status, 1, "the status of a service whose device failed")
         halted = sum(call.reply is Reply.HALTED for call in calls)
