@@ -232,12 +232,12 @@ module _ (b : BoardId) (c : Command) (format : Format) (before : Part) (k : Call
       → (k' : Calling) → k' ≡ record k { progress = progress_after (shape_with k) k.command k.progress t.outcome } → Counts b c format before k' h'
   counted_on walkable is t h' A no_load going k' is_k = subst (λ (q : Calling). Counts b c format before q h') (sym is_k)
       (record {
-      command = C.command;
-      buckets = C.buckets;
-      passes = C.passes;
-      under = caller_turned b c format before k on_board h C.under b.opened A.was is A.event t.outcome t.published h' A.holds A.turned A.no_load going;
-      walk = next_walk b.sizes walkable (shape_with k) k.command h'.begun h'.known k.progress t.outcome no_load;
-    })
+        command = C.command;
+        buckets = C.buckets;
+        passes = C.passes;
+        under = caller_turned b c format before k on_board h C.under b.opened A.was is A.event t.outcome t.published h' A.holds A.turned A.no_load going;
+        walk = next_walk b.sizes walkable (shape_with k) k.command h'.begun h'.known k.progress t.outcome no_load;
+      })
 
   -- its last hold
   module _ (reply : Reply) (answering : k.progress ≡ Answering reply) where
@@ -284,7 +284,7 @@ load_takes z walkable shape same c LoadsHalt h sized inside walk w event seen sh
 load_takes z walkable shape same c (Walking aim look) h sized inside walk w event seen shown value is =
     let hop = hop_shown z walkable h sized inside (key_of c) look seen walk shown in
     let found : word_after z.buckets seen (wants z.buckets (key_of c) look) ≡ value =
-        ap (λ (n : ℕ). word_after z.buckets seen (wants n (key_of c) look)) (sym same) ∙ ap (value_in z.buckets seen) (ap hop_of event) ∙ sym is in
+    ap (λ (n : ℕ). word_after z.buckets seen (wants n (key_of c) look)) (sym same) ∙ ap (value_in z.buckets seen) (ap hop_of event) ∙ sym is in
     record {
       takes = subst (LeadsOn look) found hop.leads;
       walk = hop_walk z walkable shape c h.begun seen aim (hopped shape.buckets (key_of c) look value)
@@ -314,9 +314,9 @@ module _ (b : BoardId) (c : Command) (format : Format) (before : Part) (k : Call
     pub counted_load : (h' : Part) → h' ≡ loading seen (index b.sizes w) value h → (k' : Calling) → k' ≡ record k { progress = progress_after (shape_with k) k.command k.progress (Value value) } → Counts b c format before k' h'
     counted_load h' is_h k' is_k = subst (λ (q : Calling). Counts b c format before q h') (sym is_k)
         (record {
-        command = C.command;
-        buckets = C.buckets;
-        passes = C.passes;
-        under = caller_loaded b c format before k (C.command, C.buckets, C.passes) h C.under w event shared_word seen value shown h' is_h;
-        walk = subst (λ (q : Part). OnWalk b.sizes k.command (progress_after (shape_with k) k.command k.progress (Value value)) q.begun q.known) (sym is_h) there.walk;
-      })
+          command = C.command;
+          buckets = C.buckets;
+          passes = C.passes;
+          under = caller_loaded b c format before k (C.command, C.buckets, C.passes) h C.under w event shared_word seen value shown h' is_h;
+          walk = subst (λ (q : Part). OnWalk b.sizes k.command (progress_after (shape_with k) k.command k.progress (Value value)) q.begun q.known) (sym is_h) there.walk;
+        })
