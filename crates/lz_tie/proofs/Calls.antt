@@ -7,3 +7,4 @@ pub mod CallTurn
 pub mod CallLoad
 pub mod CallOpening
 pub mod CallerStep
+pub mod CountedMoves

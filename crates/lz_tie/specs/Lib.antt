@@ -3,3 +3,4 @@ pub mod Answers
 pub mod Holds
 pub mod Reuse
 pub mod UnderWay
+pub mod Counting

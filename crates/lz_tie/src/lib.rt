@@ -7,9 +7,11 @@
 
 mod calling;
 mod locked;
+mod moves;
 mod named;
 mod playing;
 
 pub use locked::Locked;
+pub use moves::load_next;
 pub use named::Named;
 pub use playing::Turn;

@@ -49,7 +49,7 @@ module _ (b : BoardId) (c : Command) (format : Format) (before : Part) (k : Call
   next_is : (o : Outcome) → progress_after (shape_of h.sizes) c k.progress o ≡ progress_after (shape_with k) k.command k.progress o
   next_is o = same_follows h.sizes.slots 0 h.sizes.buckets h.sizes.passes c k.progress o ∙ (λ i. progress_after (same_shape i) (sym on.0 i) k.progress o)
 
-  event_is : event_at (shape_of h.sizes) c k.progress ≡ event_at (shape_with k) k.command k.progress
+  pub event_is : event_at (shape_of h.sizes) c k.progress ≡ event_at (shape_with k) k.command k.progress
   event_is = same_event h.sizes.slots 0 h.sizes.buckets h.sizes.passes c k.progress ∙ (λ i. event_at (same_shape i) (sym on.0 i) k.progress)
 
   -- after it has taken the outcome of a turn, or the value of a load

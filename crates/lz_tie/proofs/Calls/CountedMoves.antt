@@ -1,0 +1,322 @@
+-- A call that a caller counts goes on by each of its moves.
+use Rattle.std.proofs.Common.{◌≡◌, ◌⊎◌, ℕ, zero, suc, ◌==◌, ◌+◌, nat_lt, Bool, true, false, List, [], ◌∷◌, length, refl, sym, ap, ◌∙◌, subst}
+use mathlib.Core.Bool.{false≢true}
+use Rattle.std.specs.Prelude.{if◌then◌else◌, is_some, slice_index_or, unwrap_or, Option, Some, None}
+use Rattle.lz_slot.specs.declared.command.Command.{Command}
+use Rattle.lz_slot.specs.declared.command.Command.TheVariants.{Add, Remove, Has}
+use Rattle.lz_slot.specs.declared.format.Format.{Format}
+use Rattle.lz_slot.specs.Sets.{key_of}
+use Rattle.lz_list.specs.declared.place.Place.{Place}
+use Rattle.lz_list.specs.declared.walk.Look.{Look}
+use Rattle.lz_list.specs.declared.walk.Look.TheVariants.{AtHead}
+use Rattle.lz_list.specs.declared.walk.Met.{Met}
+use Rattle.lz_list.specs.declared.walk.Met.TheVariants.{Absent, Unmarked, Marked as met_marked}
+use Rattle.lz_list.specs.declared.word.Word.{Word}
+use Rattle.lz_list.specs.declared.word.Word.TheVariants.{Halt as halt_at}
+use Rattle.lz_list.specs.Hops.{LeadsOn}
+use Rattle.lz_list.specs.Traces.{Trace, word_after}
+use Rattle.lz_list.specs.Walks.{Hopped, More, End, wants, hopped}
+use Rattle.lz_flush.specs.declared.need.Need.{Need}
+use Rattle.lz_flush.specs.declared.need.Need.TheVariants.{Now, Sync as asks_sync}
+use Rattle.lz_flush.specs.Settling.{may_answer}
+use Rattle.lz_machine.specs.declared.event.Event.{Event}
+use Rattle.lz_machine.specs.declared.event.Event.TheVariants.{Hop, Check, SeePin, Answer}
+use Rattle.lz_machine.specs.declared.event.Outcome.{Outcome}
+use Rattle.lz_machine.specs.declared.event.Outcome.TheVariants.{Done, Value, Slot, NoSlot, Taken, True, False, Early, Worn, OldFile, Fault, Dead}
+use Rattle.lz_machine.specs.declared.event.Reply.{Reply}
+use Rattle.lz_machine.specs.declared.event.Reply.TheVariants.{Yes, No, Halted, OldFile as SaysOldFile}
+use Rattle.lz_machine.specs.declared.caller.Sequence.{Sequence}
+use Rattle.lz_machine.specs.declared.caller.Sequence.TheVariants.{Pinning, Resting, Writing, Adding, Removing, Releasing, Halting}
+use Rattle.lz_machine.specs.declared.caller.Progress.{Progress}
+use Rattle.lz_machine.specs.declared.caller.Progress.TheVariants.{Playing, LoadsHalt, Walking, Reserving, SeeingPins, Claiming, Checking, Answering}
+use Rattle.lz_machine.specs.Yards.{Shape, IsInside}
+use Rattle.lz_machine.specs.Calls.{begun, event_at, events_of, first_progress, goes_on, after_event, follows, after_see_pin, changes, hops_on, walked, rests, halt_loaded, progress_after}
+use Rattle.lz_machine.specs.CallersSound.{is_before_pin, side_of}
+use Rattle.lz_machine.specs.Laws.{hop_of}
+use Rattle.lz_machine.specs.Orders.{Calling, MayTake, shape_with}
+use Rattle.lz_machine.specs.Runs.{reply_at}
+use Rattle.lz_machine.specs.Table.{is_old}
+use Rattle.lz_caller.specs.Begun.{begun_after}
+use Rattle.lz_caller.proofs.BegunCall.{begins}
+use Rattle.lz_board.specs.declared.view.What.TheVariants.{Called, Played}
+use Rattle.lz_board.specs.declared.view.Sizes.{Sizes}
+use Rattle.lz_board.specs.declared.view.Note.{Note}
+use Rattle.lz_board.specs.declared.view.Part.{Part}
+use Rattle.lz_board.specs.Addresses.{index, IsWalkable}
+use Rattle.lz_board.specs.Notes.{note_by, pin_after, shape_of, trace_of, IsShared}
+use Rattle.lz_board.specs.Plays.{loading, IsShownTo}
+use Rattle.lz_board.specs.Seats.{BoardId}
+use Rattle.lz_board.specs.Walkers.{IsOnWalk, IsHop, Walked}
+use Rattle.lz_board.proofs.Walk.WalkerLemma.{first_look, hop_shown}
+use Rattle.lz_tie.specs.declared.playing.Turn.{Turn}
+use Rattle.lz_tie.specs.Answers.{Answers}
+use Rattle.lz_tie.specs.NotedRuns.{seen_event}
+use Rattle.lz_tie.specs.Holds.{HasCall, Holds, Turned, IsIdle, IsTurn, SeesPin, begins_with}
+use Rattle.lz_tie.specs.UnderWay.{UnderWay}
+use Rattle.lz_tie.specs.Counting.{seen_pass, OnWalk, Counts, IsCounted, Advanced}
+use Rattle.lz_tie.proofs.Calls.CallOpening.{called}
+use Rattle.lz_tie.proofs.Calls.CallLoad.{load_place}
+use Rattle.lz_tie.proofs.Calls.CallerStep.{IsCallerOn, has_call, event_is, caller_turned, caller_loaded}
+use Rattle.lz_tie.proofs.Replies.AnsweredCall.{answered, idle_again}
+
+-- a call that was just made stands on no walk
+begun_walk : (z : Sizes) (c : Command) (P0 Q : Trace) (old : Bool) → OnWalk z c (if old then Answering SaysOldFile else first_progress) P0 Q
+begun_walk z c P0 Q true = tt
+begun_walk z c P0 Q false = tt
+
+pub counted_new : (b : BoardId) (c : Command) (format : Format) (before : Part) (opened : Trace) (was is : List Note) (after : Part) → before.sizes ≡ b.sizes → IsIdle b.sizes before
+    → Holds opened was is (note_by before.number (Called c format) None) before after → (o : Outcome) → o ≡ begins_with format c
+    → (buckets passes : ℕ) → buckets ≡ b.sizes.buckets → passes ≡ b.sizes.passes → (k : Calling) → k ≡ record { command = c; buckets = buckets; passes = passes; progress = begun_after o } → Counts b c format before k after
+counted_new b c format before opened was is after sized idle H o is_o buckets passes same_buckets same_passes k is_k =
+    let at : begun format c ≡ k.progress = begins (is_old format c) ∙ ap begun_after (sym is_o) ∙ ap (λ (q : Calling). q.progress) (sym is_k) in
+    let command : k.command ≡ c = ap (λ (q : Calling). q.command) is_k in
+    record {
+      command = command;
+      buckets = ap (λ (q : Calling). q.buckets) is_k ∙ same_buckets;
+      passes = ap (λ (q : Calling). q.passes) is_k ∙ same_passes;
+      under = subst (λ (q : Progress). UnderWay b c format before q after) at (called b c format before opened was is after sized idle H);
+      walk = subst (λ (q : Command × Progress). OnWalk b.sizes q.0 q.1 after.begun after.known) (λ i. (sym command i, at i)) (begun_walk b.sizes c after.begun after.known (is_old format c));
+    }
+
+-- no event of a sequence looks at a pin word, so only the place of such a look has one
+abbrev NoLooks : List Event → Type 0
+NoLooks [] = Unit {0}
+NoLooks (e ∷ es) = (seen_pass e ≡ None) × NoLooks es
+
+no_look_in : (es : List Event) (i : ℕ) → NoLooks es → seen_pass (slice_index_or es i Check) ≡ None
+no_look_in [] i none = refl
+no_look_in (e ∷ es) zero none = none.0
+no_look_in (e ∷ es) (suc i) none = no_look_in es i none.1
+
+no_looks : (c : Command) (sequence : Sequence) → NoLooks (events_of c sequence)
+no_looks c Pinning = (refl, tt)
+no_looks c (Resting s reply) = (refl, (refl, tt))
+no_looks c (Writing s) = (refl, (refl, tt))
+no_looks c (Adding s) = (refl, (refl, (refl, (refl, (refl, tt)))))
+no_looks c (Removing s) = (refl, (refl, (refl, (refl, (refl, (refl, (refl, tt)))))))
+no_looks c (Releasing aim) = (refl, tt)
+no_looks c (Halting reply) = (refl, tt)
+
+look_at : (shape : Shape) (c : Command) (at : Progress) (q : ℕ) → seen_pass (event_at shape c at) ≡ Some q → event_at shape c at ≡ SeePin q 0
+look_at shape c (Playing sequence i) q is = absurd (false≢true (ap is_some (sym (no_look_in (events_of c sequence) i (no_looks c sequence)) ∙ is)))
+look_at shape c (SeeingPins p) q is = ap (λ (x : Option ℕ). SeePin (unwrap_or x 0) 0) is
+look_at shape c LoadsHalt q is = absurd (false≢true (ap is_some is))
+look_at shape c (Walking aim look) q is = absurd (false≢true (ap is_some is))
+look_at shape c (Reserving again) q is = absurd (false≢true (ap is_some is))
+look_at shape c (Claiming aim pred curr) q is = absurd (false≢true (ap is_some is))
+look_at shape c (Checking aim curr) q is = absurd (false≢true (ap is_some is))
+look_at shape c (Answering reply) q is = absurd (false≢true (ap is_some is))
+
+no_sight : (ns : List Note) (e : Event) → seen_pass e ≡ None → SeesPin ns e
+no_sight ns (SeePin q v) none = absurd (false≢true (sym (ap is_some none)))
+no_sight ns e none = tt
+
+as_it_is : (pins : ℕ → ℕ) (e : Event) → seen_pass e ≡ None → e ≡ seen_event pins e
+as_it_is pins (SeePin q v) none = absurd (false≢true (sym (ap is_some none)))
+as_it_is pins e none = refl
+
+-- what an event that is no load gave may be taken
+pub may_take : (shape : Shape) (c : Command) (at : Progress) (o : Outcome) → hop_of (event_at shape c at) ≡ None → MayTake at o
+may_take shape c (Walking aim look) o none = absurd (false≢true (sym (ap is_some none)))
+may_take shape c at o none = tt
+
+-- A walk begins with its first look.
+module _ (z : Sizes) (walkable : IsWalkable z) (shape : Shape) (c : Command) (P0 Q : Trace) where
+  changes_walk : (d : Command) (aim curr : Option ℕ) → OnWalk z c (changes d aim curr) P0 Q
+  changes_walk (Has k) aim curr = tt
+  changes_walk (Add k) None curr = tt
+  changes_walk (Add k) (Some s) curr = tt
+  changes_walk (Remove k) aim None = tt
+  changes_walk (Remove k) aim (Some s) = tt
+
+  on_walk : (sequence : Sequence) → OnWalk z c (goes_on sequence) P0 Q
+  on_walk (Writing s) = first_look z walkable (key_of c) P0 Q
+  on_walk (Releasing aim) = first_look z walkable (key_of c) P0 Q
+  on_walk Pinning = tt
+  on_walk (Resting s reply) = tt
+  on_walk (Adding s) = tt
+  on_walk (Removing s) = tt
+  on_walk (Halting reply) = tt
+
+  sequence_walk : (sequence : Sequence) (i : ℕ) → OnWalk z c (after_event c sequence i) P0 Q
+  sequence_walk sequence i = go (nat_lt (i + 1) (length (events_of c sequence)))
+    where
+      go : (more : Bool) → OnWalk z c (if more then Playing sequence (i + 1) else goes_on sequence) P0 Q
+      go true = tt
+      go false = on_walk sequence
+
+  pin_walk : (p : ℕ) → OnWalk z c (after_see_pin shape p) P0 Q
+  pin_walk p = go (nat_lt p shape.passes)
+    where
+      go : (more : Bool) → OnWalk z c (if more then SeeingPins (p + 1) else Reserving true) P0 Q
+      go true = tt
+      go false = tt
+
+  follows_walk : (at : Progress) (o : Outcome) → hop_of (event_at shape c at) ≡ None → OnWalk z c (follows shape c at o) P0 Q
+  follows_walk (Playing sequence i) Early none = tt
+  follows_walk (Playing sequence i) o none = sequence_walk sequence i
+  follows_walk LoadsHalt o none = absurd (false≢true (sym (ap is_some none)))
+  follows_walk (Walking aim look) o none = absurd (false≢true (sym (ap is_some none)))
+  follows_walk (Reserving false) (Slot s) none = tt
+  follows_walk (Reserving true) (Slot s) none = tt
+  follows_walk (Reserving false) (NoSlot counts) none = tt
+  follows_walk (Reserving true) (NoSlot counts) none = tt
+  follows_walk (Reserving false) o none = tt
+  follows_walk (Reserving true) o none = tt
+  follows_walk (SeeingPins p) o none = pin_walk p
+  follows_walk (Claiming aim pred curr) Taken none = tt
+  follows_walk (Claiming aim pred curr) o none = tt
+  follows_walk (Checking aim curr) True none = changes_walk c aim curr
+  follows_walk (Checking aim curr) False none = tt
+  follows_walk (Checking aim curr) o none = tt
+  follows_walk (Answering reply) o none = tt
+
+  next_walk : (at : Progress) (o : Outcome) → hop_of (event_at shape c at) ≡ None → OnWalk z c (progress_after shape c at o) P0 Q
+  next_walk at Fault none = tt
+  next_walk at Dead none = tt
+  next_walk at Worn none = tt
+  next_walk at OldFile none = tt
+  next_walk at o none = follows_walk at o none
+
+  rests_walk : (s : ℕ) (need : Need) (reply : Reply) → OnWalk z c (rests s need reply) P0 Q
+  rests_walk s Now reply = tt
+  rests_walk s asks_sync reply = tt
+
+  walked_walk : (d : Command) (aim : Option ℕ) (pred : Place) (curr : Option ℕ) (met : Met) → OnWalk z c (walked d aim pred curr met) P0 Q
+  walked_walk (Has k) aim pred curr Absent = tt
+  walked_walk (Has k) aim pred curr (Unmarked s flags) = rests_walk s (may_answer flags) Yes
+  walked_walk (Has k) aim pred curr (met_marked s flags) = rests_walk s (may_answer flags) No
+  walked_walk (Add k) aim pred curr (Unmarked s flags) = rests_walk s (may_answer flags) No
+  walked_walk (Add k) None pred curr Absent = tt
+  walked_walk (Add k) None pred curr (met_marked s flags) = tt
+  walked_walk (Add k) (Some t) pred curr Absent = tt
+  walked_walk (Add k) (Some t) pred curr (met_marked s flags) = tt
+  walked_walk (Remove k) aim pred curr Absent = tt
+  walked_walk (Remove k) aim pred curr (met_marked s flags) = rests_walk s (may_answer flags) No
+  walked_walk (Remove k) aim pred curr (Unmarked s flags) = tt
+
+  hop_walk : (aim : Option ℕ) (x : Hopped) → Walked z (key_of c) P0 Q x → OnWalk z c (hops_on c aim x) P0 Q
+  hop_walk aim (More look) h = h
+  hop_walk aim (End pred curr met) h = walked_walk c aim pred curr met
+
+  halt_walk : (value : ℕ) → OnWalk z c (halt_loaded value) P0 Q
+  halt_walk value = go (value == 1)
+    where
+      go : (halted : Bool) → OnWalk z c (if halted then Answering Halted else Walking None AtHead) P0 Q
+      go true = tt
+      go false = first_look z walkable (key_of c) P0 Q
+
+-- The hold of its next event.
+module _ (b : BoardId) (c : Command) (format : Format) (before : Part) (k : Calling) (h : Part) (C : Counts b c format before k h) where
+  on_board : IsCallerOn b c k
+  on_board = (C.command, C.buckets, C.passes)
+
+  pub open_call : HasCall h k
+  open_call = has_call b c format before k on_board h C.under
+
+  event_here : event_at (shape_of h.sizes) k.command k.progress ≡ event_at (shape_with k) k.command k.progress
+  event_here = (λ i. event_at (shape_of h.sizes) (C.command i) k.progress) ∙ event_is b c format before k on_board h C.under
+
+  pub sees_pin : (q : ℕ) (e : Event) → e ≡ event_at (shape_with k) k.command k.progress → seen_pass e ≡ Some q → event_at (shape_of h.sizes) k.command k.progress ≡ SeePin q 0
+  sees_pin q e is seen = event_here ∙ look_at (shape_with k) k.command k.progress q (ap seen_pass (sym is) ∙ seen)
+
+  pub is_turn : (ns : List Note) (e : Event) → e ≡ event_at (shape_with k) k.command k.progress → hop_of (event_at (shape_with k) k.command k.progress) ≡ None → seen_pass e ≡ None → IsTurn ns h k e
+  is_turn ns e is no_load none = record {
+    call = open_call;
+    event = as_it_is (λ q. pin_after q ns) e none ∙ ap (seen_event (λ q. pin_after q ns)) (is ∙ sym event_here);
+    load = ap hop_of is ∙ no_load;
+    found = no_sight ns e none;
+  }
+
+  pub counted_on : IsWalkable b.sizes → (is : List Note) (t : Turn) (h' : Part) → Advanced b is k t h h' → hop_of (event_at (shape_with k) k.command k.progress) ≡ None → reply_at k.progress ≡ None
+      → (k' : Calling) → k' ≡ record k { progress = progress_after (shape_with k) k.command k.progress t.outcome } → Counts b c format before k' h'
+  counted_on walkable is t h' A no_load going k' is_k = subst (λ (q : Calling). Counts b c format before q h') (sym is_k)
+      (record {
+        command = C.command;
+        buckets = C.buckets;
+        passes = C.passes;
+        under = caller_turned b c format before k on_board h C.under b.opened A.was is A.event t.outcome t.published h' A.holds A.turned A.no_load going;
+        walk = next_walk b.sizes walkable (shape_with k) k.command h'.begun h'.known k.progress t.outcome no_load;
+      })
+
+  -- its last hold
+  module _ (reply : Reply) (answering : k.progress ≡ Answering reply) where
+    pub answers_next : Answer ≡ event_at (shape_with k) k.command k.progress
+    answers_next = ap (event_at (shape_with k) k.command) (sym answering)
+
+    pub is_answer : (ns : List Note) → IsTurn ns h k Answer
+    is_answer ns = is_turn ns Answer answers_next (ap hop_of (sym answers_next)) refl
+
+    under_now : UnderWay b c format before (Answering reply) h
+    under_now = subst (λ (at : Progress). UnderWay b c format before at h) answering C.under
+
+    module _ (was is : List Note) (t : Turn) (h' : Part) (H : Holds b.opened was is (note_by h.number (Played Answer t.outcome) t.published) h h') (T : Turned b.opened was h k.command k.progress Answer t.outcome t.published) where
+      turned_now : Turned b.opened was h c (Answering reply) Answer t.outcome t.published
+      turned_now = subst (λ (q : Command × Progress). Turned b.opened was h q.0 q.1 Answer t.outcome t.published) (λ i. (C.command i, answering i)) T
+
+      pub answers_so : before.sizes ≡ b.sizes → (b.sizes.passes ≡ 1 → trace_of b.opened was ≡ h.known) → Answers c reply before h'
+      answers_so same alone = answered b c format before reply h was is t.outcome t.published h' under_now H turned_now same alone
+
+      pub then_idle : IsIdle b.sizes h'
+      then_idle = idle_again b c format before reply h was is t.outcome t.published h' under_now H turned_now
+
+-- A load.
+abbrev SharedIn : Sizes → Option Word → Type 0
+SharedIn z None = ⊥
+SharedIn z (Some w) = IsShared z w
+
+shared_at : (z : Sizes) (shape : Shape) → shape.buckets ≡ z.buckets → (c : Command) (at : Progress) (P0 Q : Trace) → OnWalk z c at P0 Q → (w : Word) → event_at shape c at ≡ Hop w → IsShared z w
+shared_at z shape same c LoadsHalt P0 Q walk w event = subst (SharedIn z) (ap hop_of event) tt
+shared_at z shape same c (Walking aim look) P0 Q walk w event = subst (SharedIn z) (ap (λ (n : ℕ). Some (wants n (key_of c) look)) (sym same) ∙ ap hop_of event) walk.shared
+shared_at z shape same c at P0 Q walk w event = absurd (load_place shape c at w event)
+
+record Takes (z : Sizes) (shape : Shape) (c : Command) (at : Progress) (P0 Q : Trace) (value : ℕ) : Type 0 where
+  takes : MayTake at (Value value)
+  walk : OnWalk z c (progress_after shape c at (Value value)) P0 Q
+
+abbrev value_in : ℕ → Trace → Option Word → ℕ
+value_in buckets P None = 0
+value_in buckets P (Some w) = word_after buckets P w
+
+load_takes : (z : Sizes) (walkable : IsWalkable z) (shape : Shape) → shape.buckets ≡ z.buckets → (c : Command) (at : Progress) (h : Part) → h.sizes ≡ z → IsInside h.pin → OnWalk z c at h.begun h.known → (w : Word) → event_at shape c at ≡ Hop w
+    → (seen : Trace) → IsShownTo seen h → (value : ℕ) → value ≡ word_after z.buckets seen w → Takes z shape c at h.begun seen value
+load_takes z walkable shape same c LoadsHalt h sized inside walk w event seen shown value is = record { takes = tt; walk = halt_walk z walkable shape c h.begun seen value }
+load_takes z walkable shape same c (Walking aim look) h sized inside walk w event seen shown value is =
+    let hop = hop_shown z walkable h sized inside (key_of c) look seen walk shown in
+    let found : word_after z.buckets seen (wants z.buckets (key_of c) look) ≡ value =
+    ap (λ (n : ℕ). word_after z.buckets seen (wants n (key_of c) look)) (sym same) ∙ ap (value_in z.buckets seen) (ap hop_of event) ∙ sym is in
+    record {
+      takes = subst (LeadsOn look) found hop.leads;
+      walk = hop_walk z walkable shape c h.begun seen aim (hopped shape.buckets (key_of c) look value)
+          (subst (λ (q : ℕ × ℕ). Walked z (key_of c) h.begun seen (hopped q.0 (key_of c) look q.1)) (λ i. (sym same i, found i)) hop.walked);
+    }
+load_takes z walkable shape same c at h sized inside walk w event seen shown value is = absurd (load_place shape c at w event)
+
+loads_inside : (shape : Shape) (c : Command) (at : Progress) (w : Word) → event_at shape c at ≡ Hop w → is_before_pin at ≡ false
+loads_inside shape c LoadsHalt w event = refl
+loads_inside shape c (Walking aim look) w event = refl
+loads_inside shape c at w event = absurd (load_place shape c at w event)
+
+module _ (b : BoardId) (c : Command) (format : Format) (before : Part) (k : Calling) (h : Part) (C : Counts b c format before k h) (w : Word) (event : event_at (shape_with k) k.command k.progress ≡ Hop w) where
+  pub shared_word : IsShared b.sizes w
+  shared_word = shared_at b.sizes (shape_with k) C.buckets k.command k.progress h.begun h.known C.walk w event
+
+  inside_now : IsInside h.pin
+  inside_now = C.under.side ∙ ap side_of (loads_inside (shape_with k) k.command k.progress w event)
+
+  module _ (walkable : IsWalkable b.sizes) (seen : Trace) (shown : IsShownTo seen h) (value : ℕ) (is : value ≡ word_after b.sizes.buckets seen w) where
+    there : Takes b.sizes (shape_with k) k.command k.progress h.begun seen value
+    there = load_takes b.sizes walkable (shape_with k) C.buckets k.command k.progress h C.under.sizes inside_now C.walk w event seen shown value is
+
+    pub takes_value : MayTake k.progress (Value value)
+    takes_value = there.takes
+
+    pub counted_load : (h' : Part) → h' ≡ loading seen (index b.sizes w) value h → (k' : Calling) → k' ≡ record k { progress = progress_after (shape_with k) k.command k.progress (Value value) } → Counts b c format before k' h'
+    counted_load h' is_h k' is_k = subst (λ (q : Calling). Counts b c format before q h') (sym is_k)
+        (record {
+          command = C.command;
+          buckets = C.buckets;
+          passes = C.passes;
+          under = caller_loaded b c format before k (C.command, C.buckets, C.passes) h C.under w event shared_word seen value shown h' is_h;
+          walk = subst (λ (q : Part). OnWalk b.sizes k.command (progress_after (shape_with k) k.command k.progress (Value value)) q.begun q.known) (sym is_h) there.walk;
+        })

@@ -1,0 +1,52 @@
+-- A call under way with the caller that counts its events, and one hold of it.
+use Rattle.std.specs.Prelude.{◌≡◌, ℕ, List, Option, Some, None}
+use Rattle.lz_slot.specs.declared.command.Command.{Command}
+use Rattle.lz_slot.specs.declared.format.Format.{Format}
+use Rattle.lz_slot.specs.Sets.{key_of}
+use Rattle.lz_list.specs.Traces.{Trace}
+use Rattle.lz_machine.specs.declared.caller.Progress.{Progress}
+use Rattle.lz_machine.specs.declared.caller.Progress.TheVariants.{Walking}
+use Rattle.lz_machine.specs.declared.event.Event.{Event}
+use Rattle.lz_machine.specs.declared.event.Event.TheVariants.{SeePin}
+use Rattle.lz_machine.specs.Laws.{hop_of}
+use Rattle.lz_machine.specs.Orders.{Calling}
+use Rattle.lz_board.specs.declared.view.Sizes.{Sizes}
+use Rattle.lz_board.specs.declared.view.What.TheVariants.{Played}
+use Rattle.lz_board.specs.declared.view.Note.{Note}
+use Rattle.lz_board.specs.declared.view.Part.{Part}
+use Rattle.lz_board.specs.Notes.{note_by}
+use Rattle.lz_board.specs.Seats.{BoardId}
+use Rattle.lz_board.specs.Walkers.{IsOnWalk}
+use Rattle.lz_tie.specs.declared.playing.Turn.{Turn}
+use Rattle.lz_tie.specs.Holds.{Holds, Turned}
+use Rattle.lz_tie.specs.UnderWay.{UnderWay}
+
+-- the pass whose pin word the event looks at
+abbrev pub seen_pass : Event → Option ℕ
+seen_pass (SeePin q v) = Some q
+seen_pass _ = None
+
+-- Where the call walks, the pass knows where its walk stands: P0 is the trace at its pin, Q what it has seen.
+abbrev pub OnWalk : Sizes → Command → Progress → Trace → Trace → Type 0
+OnWalk z c (Walking aim look) P0 Q = IsOnWalk z (key_of c) P0 Q look
+OnWalk z c _ P0 Q = Unit {0}
+
+-- The caller counts the call of command c that is under way for the pass with part h, which had part `before` when it was made.
+pub record Counts (b : BoardId) (c : Command) (format : Format) (before : Part) (k : Calling) (h : Part) : Type 0 where
+  pub command : k.command ≡ c
+  pub buckets : k.buckets ≡ b.sizes.buckets
+  pub passes : k.passes ≡ b.sizes.passes
+  pub under : UnderWay b c format before k.progress h
+  pub walk : OnWalk b.sizes k.command k.progress h.begun h.known
+
+-- it counts some call of that pass
+abbrev pub IsCounted : BoardId → Calling → Part → Type 0
+IsCounted b k h = (c : Command) × (format : Format) × (before : Part) × Counts b c format before k h
+
+-- A hold has played the next event of the call that k counts, which is no load, and this is what it gave.
+pub record Advanced (b : BoardId) (is : List Note) (k : Calling) (t : Turn) (before after : Part) : Type 0 where
+  pub was : List Note
+  pub event : Event
+  pub no_load : hop_of event ≡ None
+  pub holds : Holds b.opened was is (note_by before.number (Played event t.outcome) t.published) before after
+  pub turned : Turned b.opened was before k.command k.progress event t.outcome t.published

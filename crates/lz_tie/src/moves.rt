@@ -1,0 +1,129 @@
+//! The moves of a thread's call: its beginning, a load without the lock, and a hold of each other event.
+ghost use Rattle.std.specs.Prelude.{◌≡◌, ◌≤◌, None};
+ghost use Rattle.lz_slot.specs.declared.command.Command.{Command as Asked};
+ghost use Rattle.lz_slot.specs.declared.format.Format.{Format};
+ghost use Rattle.lz_slot.specs.Limits.{most_buckets, most_passes};
+ghost use Rattle.lz_machine.specs.declared.caller.Progress.TheVariants.{Answering};
+ghost use Rattle.lz_machine.specs.declared.event.Event.TheVariants.{Hop};
+ghost use Rattle.lz_machine.specs.declared.event.Outcome.TheVariants.{Value};
+ghost use Rattle.lz_machine.specs.Calls.{event_at, progress_after};
+ghost use Rattle.lz_machine.specs.Laws.{hop_of};
+ghost use Rattle.lz_machine.specs.Orders.{shape_with};
+ghost use Rattle.lz_machine.specs.Runs.{reply_at};
+ghost use Rattle.lz_board.specs.declared.view.Part.{Part};
+ghost use Rattle.lz_board.specs.Addresses.{index};
+ghost use Rattle.lz_board.specs.Plays.{loading};
+ghost use Rattle.lz_board.specs.Seats.{IsOf, id_of, part};
+ghost use Rattle.lz_tie.specs.Answers.{Answers};
+ghost use Rattle.lz_tie.specs.Counting.{Advanced, Counts, IsCounted, seen_pass};
+ghost use Rattle.lz_tie.specs.Holds.{IsIdle};
+
+use crate::locked::Locked;
+use crate::named::Named;
+use crate::playing::Turn;
+use lz_board::{Board, Pass};
+use lz_caller::Caller;
+use lz_disk::Disk;
+use lz_list::Word;
+use lz_machine::{Event, Outcome, Reply};
+use lz_slot::Command;
+
+// The pass whose pin word the event looks at.
+fn seen_by(event: Event) -> Option<usize>
+    ensures { result ≡ seen_pass event }
+{
+    match event {
+        Event::SeePin(seen, _) => Some(seen),
+        _ => None,
+    }
+}
+
+/// A load of the call's next word, without the lock: its caller takes the value.
+pub fn load_next(board: &Board, pass: &mut Pass, caller: &mut Caller, word: Word) -> u64
+    requires pass { IsOf (id_of board.now) pass.old }
+    requires counted { IsCounted (id_of board.now) caller.old (part pass.old) }
+    requires event { event_at (shape_with caller.old) caller.old.command caller.old.progress ≡ Hop word }
+    ensures pass { IsOf (id_of board.now) pass.new }
+    ensures part { part pass.new ≡ loading (part pass.new).known (index (id_of board.now).sizes word) result (part pass.old) }
+    ensures caller { caller.new ≡ record caller.old { progress = progress_after (shape_with caller.old) caller.old.command caller.old.progress (Value result) } }
+    ensures goes { (c : Asked) (format : Format) (before : Part) → Counts (id_of board.now) c format before caller.old (part pass.old) → Counts (id_of board.now) c format before caller.new (part pass.new) }
+{
+    let value = board.load(pass, word);
+    caller.take(Outcome::Value(value));
+    value
+}
+
+impl<N: Named, D: Disk> Locked<N, D> {
+    /// Makes a call: the first hold of a pass that has none. The buckets and passes are those of the board.
+    pub fn begin(
+        &mut self,
+        board: &Board,
+        pass: &mut Pass,
+        command: Command,
+        buckets: usize,
+        passes: usize,
+    ) -> Caller
+        requires board { id_of board.now ≡ N.board }
+        requires pass { IsOf N.board pass.old }
+        requires idle { IsIdle N.board.sizes (part pass.old) }
+        requires buckets { (buckets ≡ N.board.sizes.buckets) × (1 ≤ buckets) × (buckets ≤ most_buckets) }
+        requires passes { (passes ≡ N.board.sizes.passes) × (1 ≤ passes) × (passes ≤ most_passes) }
+        ensures pass { IsOf N.board pass.new }
+        ensures counts { Counts N.board command self.old.yard.vault.format (part pass.old) result (part pass.new) }
+    {
+        let asked = command;
+        let outcome = self.call(board, pass, command);
+        Caller::begun(asked, buckets, passes, outcome)
+    }
+
+    // The hold of the call's next event.
+    fn hold_next(&mut self, board: &Board, pass: &mut Pass, caller: &Caller) -> Turn
+        requires board { id_of board.now ≡ N.board }
+        requires pass { IsOf N.board pass.old }
+        requires counted { IsCounted N.board caller.now (part pass.old) }
+        requires load { hop_of (event_at (shape_with caller.now) caller.now.command caller.now.progress) ≡ None }
+        ensures pass { IsOf N.board pass.new }
+        ensures advanced { Advanced N.board self.new.notes caller.now result (part pass.old) (part pass.new) }
+    {
+        let event = caller.next();
+        let looked = event;
+        match seen_by(looked) {
+            Some(seen) => {
+                let (_, turn) = self.see(board, pass, caller, seen);
+                turn
+            }
+            None => self.play(board, pass, caller, event),
+        }
+    }
+
+    /// One more hold of a call that isn't about to answer: plays its next event, which is no load, and its caller takes the
+    /// outcome.
+    pub fn turn_on(&mut self, board: &Board, pass: &mut Pass, caller: &mut Caller) -> Turn
+        requires board { id_of board.now ≡ N.board }
+        requires pass { IsOf N.board pass.old }
+        requires counted { IsCounted N.board caller.old (part pass.old) }
+        requires load { hop_of (event_at (shape_with caller.old) caller.old.command caller.old.progress) ≡ None }
+        requires going { reply_at caller.old.progress ≡ None }
+        ensures pass { IsOf N.board pass.new }
+        ensures advanced { Advanced N.board self.new.notes caller.old result (part pass.old) (part pass.new) }
+        ensures caller { caller.new ≡ record caller.old { progress = progress_after (shape_with caller.old) caller.old.command caller.old.progress result.outcome } }
+        ensures goes { (c : Asked) (format : Format) (before : Part) → Counts N.board c format before caller.old (part pass.old) → Counts N.board c format before caller.new (part pass.new) }
+    {
+        let turn = self.hold_next(board, pass, caller);
+        caller.take(turn.outcome);
+        turn
+    }
+
+    /// The last hold of a call, whose reply is this one. The pass may make the next call.
+    pub fn answer(&mut self, board: &Board, pass: &mut Pass, caller: &Caller, _reply: Reply) -> Turn
+        requires board { id_of board.now ≡ N.board }
+        requires pass { IsOf N.board pass.old }
+        requires counted { IsCounted N.board caller.now (part pass.old) }
+        requires reply { caller.now.progress ≡ Answering _reply }
+        ensures pass { IsOf N.board pass.new }
+        ensures idle { IsIdle N.board.sizes (part pass.new) }
+        ensures answers { (c : Asked) (format : Format) (before : Part) → before.sizes ≡ N.board.sizes → Counts N.board c format before caller.now (part pass.old) → Answers c _reply before (part pass.new) }
+    {
+        self.play(board, pass, caller, Event::Answer)
+    }
+}
