@@ -10,13 +10,14 @@ ghost use Rattle.lz_machine.specs.Calls.{event_at, progress_after};
 ghost use Rattle.lz_machine.specs.Laws.{hop_of};
 ghost use Rattle.lz_machine.specs.Orders.{shape_with};
 ghost use Rattle.lz_machine.specs.Runs.{reply_at};
+ghost use Rattle.lz_caller.specs.Begun.{begun_after};
 ghost use Rattle.lz_board.specs.declared.view.Part.{Part};
 ghost use Rattle.lz_board.specs.Addresses.{index};
 ghost use Rattle.lz_board.specs.Plays.{loading};
 ghost use Rattle.lz_board.specs.Seats.{IsOf, id_of, part};
 ghost use Rattle.lz_tie.specs.Answers.{Answers};
 ghost use Rattle.lz_tie.specs.Counting.{Advanced, Counts, IsCounted, seen_pass};
-ghost use Rattle.lz_tie.specs.Holds.{IsIdle};
+ghost use Rattle.lz_tie.specs.Holds.{IsIdle, begins_with};
 
 use crate::locked::Locked;
 use crate::named::Named;
@@ -70,6 +71,7 @@ impl<N: Named, D: Disk> Locked<N, D> {
         requires passes { (passes ≡ N.board.sizes.passes) × (1 ≤ passes) × (passes ≤ most_passes) }
         ensures pass { IsOf N.board pass.new }
         ensures counts { Counts N.board command self.old.yard.vault.format (part pass.old) result (part pass.new) }
+        ensures caller { result ≡ record { command = command; buckets = buckets; passes = passes; progress = begun_after (begins_with self.old.yard.vault.format command) } }
     {
         let asked = command;
         let outcome = self.call(board, pass, command);
