@@ -1,6 +1,5 @@
 -- A set that was opened and has no name yet.
-use Rattle.std.specs.Prelude.{◌≡◌, ◌≤◌, ℕ, List, length, map}
-use Rattle.std.specs.List.{All}
+use Rattle.std.specs.Prelude.{◌≡◌, ◌≤◌, ℕ, All, List, length, map}
 use Rattle.lz_slot.specs.Limits.{most_buckets, most_passes}
 use Rattle.lz_disk.specs.Devices.{Device}
 use Rattle.lz_machine.specs.Yards.{Yard}
@@ -17,18 +16,18 @@ pub record BlankOver (D : Type 0) : Type 0 where
   pub disk : D
 
 -- How many buckets and passes a board has, as a call is told.
-pub record IsSized (b : BoardId) (buckets passes : ℕ) : Type 0 where
-  pub buckets : (buckets ≡ b.sizes.buckets) × (1 ≤ buckets) × (buckets ≤ most_buckets)
-  pub passes : (passes ≡ b.sizes.passes) × (1 ≤ passes) × (passes ≤ most_passes)
+pub record IsSized (b : BoardId) (B S : ℕ) : Type 0 where
+  pub buckets : (B ≡ b.sizes.buckets) × (1 ≤ B) × (B ≤ most_buckets)
+  pub passes : (S ≡ b.sizes.passes) × (1 ≤ S) × (S ≤ most_passes)
 
 -- The passes of a board, in the order of their numbers, of which none has done anything yet.
-pub record AreNew (b : BoardId) (passes : List Pass) : Type 0 where
-  pub new : All (IsNew b) passes
-  pub parts : map (λ p. part p) passes ≡ parts_from b.sizes b.opened b.sizes.passes 1
+pub record AreNew (b : BoardId) (ps : List Pass) : Type 0 where
+  pub new : All (IsNew b) ps
+  pub parts : map (λ p. part p) ps ≡ parts_from b.sizes b.opened b.sizes.passes 1
 
 -- The yard may go under the lock with the board's pen, and the passes are the board's.
-pub record IsBlank (b : BoardId) (pen : Pen) (yard : Yard) (disk : Device) (passes : List Pass) (buckets : ℕ) : Type 0 where
-  pub pen : IsPenOf b pen
-  pub locked : IsLocked b (notes pen) yard disk
-  pub passes : AreNew b passes
-  pub sized : IsSized b buckets (length passes)
+pub record IsBlank (b : BoardId) (p : Pen) (y : Yard) (disk : Device) (ps : List Pass) (B : ℕ) : Type 0 where
+  pub pen : IsPenOf b p
+  pub locked : IsLocked b (notes p) y disk
+  pub passes : AreNew b ps
+  pub sized : IsSized b B (length ps)

@@ -1,7 +1,4 @@
 -- Which passes may call a set. A set is named by its board.
-use Rattle.std.specs.Prelude.{◌≡◌, ◌+◌, ℕ, Option, Some, None}
-use Rattle.lz_list.specs.declared.word.Word.{Word}
-use Rattle.lz_machine.specs.declared.event.Event.{Event}
 use Rattle.lz_board.specs.declared.pass.Pass.{Pass}
 use Rattle.lz_board.specs.Seats.{BoardId, IsOf, part}
 use Rattle.lz_tie.specs.Holds.{IsIdle}

@@ -159,7 +159,6 @@ impl<D: Disk, G: StepGate, N: Named> Set<D, G, N> {
         ensures pass { MayCall N.board pass.new }
         ensures answers { Answers command (reply_of result) (part pass.old) (part pass.new) }
     {
-        let asked = command;
         let mut caller = self.begin(rt, pass, command);
         for _ in rt.forever() {
             if let Some(reply) = caller.reply() {
@@ -168,18 +167,24 @@ impl<D: Disk, G: StepGate, N: Named> Set<D, G, N> {
             }
             self.go_on(rt, pass, &mut caller);
         }
-        let _ = asked;
         unreachable!()
     }
 
-    // The first hold of a call: it is made, and goes inside.
+    // The first hold of a call: it is made, and goes inside. One that the file's format refuses goes nowhere.
     fn begin<R: Wait>(&self, rt: &R, pass: &mut Pass, command: Command) -> Caller
         requires pass { MayCall N.board pass.old }
         ensures pass { IsOf N.board pass.new }
         ensures counts { (format : Format) × Counts N.board command format (part pass.old) result (part pass.new) }
     {
         let mut locked = self.locked.lock(rt);
-        locked.begin(&self.board, pass, command, self.buckets, self.passes)
+        let mut caller = locked.begin(&self.board, pass, command, self.buckets, self.passes);
+        if caller.reply().is_some() {
+            return caller;
+        }
+        locked.turn_on(&self.board, pass, &mut caller);
+        drop(locked);
+        self.tell(rt, pass.number(), Kind::Pin);
+        caller
     }
 
     // One more event of a call that isn't about to answer.
