@@ -1,4 +1,5 @@
 pub mod NotedRuns
+pub mod OnePass
 pub mod Answers
 pub mod Holds
 pub mod Reuse

@@ -9,4 +9,4 @@ returns-clause-idle g c =
 
 pub returns-clause-answers : goal.returns-clause-answers
 returns-clause-answers g c = λ asked format before same C.
-    answers_so g.N.Named.board asked format before c.args.caller.now (part c.args.pass.now) C c.args._reply c.requires.reply _ _ c.play.result (part c.play.new.pass) c.play.ensures.holds c.play.ensures.turned same c.play.ensures.alone
+    answers_so g.N.Named.board asked format before c.args.caller.now (part c.args.pass.now) C c.args._reply c.requires.reply _ _ c.play.result (part c.play.new.pass) c.play.ensures.holds c.play.ensures.turned same c.play.ensures.alone c.play.ensures.own
