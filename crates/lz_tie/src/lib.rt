@@ -6,6 +6,7 @@
 #![tactic(auto)]
 
 mod calling;
+pub mod laws;
 mod locked;
 mod moves;
 mod named;

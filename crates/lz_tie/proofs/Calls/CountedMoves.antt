@@ -49,6 +49,7 @@ use Rattle.lz_board.proofs.Walk.WalkerLemma.{first_look, hop_shown}
 use Rattle.lz_tie.specs.declared.playing.Turn.{Turn}
 use Rattle.lz_tie.specs.OnePass.{OnlyOwn}
 use Rattle.lz_tie.specs.Answers.{Answers}
+use Rattle.lz_tie.specs.OneCaller.{keys_in, IsPlainAnswer}
 use Rattle.lz_tie.specs.NotedRuns.{seen_event}
 use Rattle.lz_tie.specs.Holds.{HasCall, Holds, Turned, IsIdle, IsTurn, SeesPin, begins_with}
 use Rattle.lz_tie.specs.UnderWay.{UnderWay}
@@ -57,6 +58,7 @@ use Rattle.lz_tie.proofs.Calls.CallOpening.{called}
 use Rattle.lz_tie.proofs.Calls.CallLoad.{load_place}
 use Rattle.lz_tie.proofs.Calls.CallerStep.{IsCallerOn, has_call, event_is, caller_turned, caller_loaded}
 use Rattle.lz_tie.proofs.Replies.AnsweredCall.{answered, idle_again}
+use Rattle.lz_tie.proofs.Replies.OneCaller.{one_caller}
 
 -- a call that was just made stands on no walk
 begun_walk : (z : Sizes) (c : Command) (P0 Q : Trace) (old : Bool) → OnWalk z c (if old then Answering SaysOldFile else first_progress) P0 Q
@@ -253,8 +255,17 @@ module _ (b : BoardId) (c : Command) (format : Format) (before : Part) (k : Call
       turned_now : Turned b.opened was h c (Answering reply) Answer t.outcome t.published
       turned_now = subst (λ (q : Command × Progress). Turned b.opened was h q.0 q.1 Answer t.outcome t.published) (λ i. (C.command i, answering i)) T
 
-      pub answers_so : before.sizes ≡ b.sizes → (b.sizes.passes ≡ 1 → trace_of b.opened was ≡ h.known) → (b.sizes.passes ≡ 1 → OnlyOwn h.number b.opened (trace_of b.opened was)) → Answers c reply before h'
-      answers_so same alone own = answered b c format before reply h was is t.outcome t.published h' under_now H turned_now same alone own
+      module _ (same : before.sizes ≡ b.sizes) (alone : b.sizes.passes ≡ 1 → trace_of b.opened was ≡ h.known) (own : b.sizes.passes ≡ 1 → OnlyOwn h.number b.opened (trace_of b.opened was)) where
+        given : (answers : Answers c reply before h') × (answers.format ≡ format)
+        given = answered b c format before reply h was is t.outcome t.published h' under_now H turned_now same alone own
+
+        pub answers_so : Answers c reply before h'
+        answers_so = given.0
+
+        -- in a set of one pass that of the plain set
+        pub plain_so : b.sizes.passes ≡ 1 → IsPlainAnswer format b.sizes.slots c reply (keys_in before.known) (keys_in h'.known)
+        plain_so one = subst (λ (q : Format × Sizes). IsPlainAnswer q.0 q.1.slots c reply (keys_in before.known) (keys_in h'.known)) (λ i. (given.1 i, same i))
+            (one_caller c reply before h' given.0 (ap (λ (z : Sizes). z.passes) same ∙ one))
 
       pub then_idle : IsIdle b.sizes h'
       then_idle = idle_again b c format before reply h was is t.outcome t.published h' under_now H turned_now

@@ -18,25 +18,25 @@ own_append p (key_prepared s v ∷ P) Q here there = own_append p P Q here there
 own_append p (link_prepared s v ∷ P) Q here there = own_append p P Q here there
 own_append p (halted ∷ P) Q here there = own_append p P Q here there
 
-pub own_first : (p : ℕ) (P Q : Trace) → AreOwn p (P ++ Q) → AreOwn p P
-own_first p [] Q are = tt
-own_first p (linked k s q ∷ P) Q are = (are.0, own_first p P Q are.1)
-own_first p (marked k s q ∷ P) Q are = (are.0, own_first p P Q are.1)
-own_first p (unlinked k s q ∷ P) Q are = (are.0, own_first p P Q are.1)
-own_first p (settled s r ∷ P) Q are = own_first p P Q are
-own_first p (key_prepared s v ∷ P) Q are = own_first p P Q are
-own_first p (link_prepared s v ∷ P) Q are = own_first p P Q are
-own_first p (halted ∷ P) Q are = own_first p P Q are
+pub own_newer : (p : ℕ) (P Q : Trace) → AreOwn p (P ++ Q) → AreOwn p P
+own_newer p [] Q are = tt
+own_newer p (linked k s q ∷ P) Q are = (are.0, own_newer p P Q are.1)
+own_newer p (marked k s q ∷ P) Q are = (are.0, own_newer p P Q are.1)
+own_newer p (unlinked k s q ∷ P) Q are = (are.0, own_newer p P Q are.1)
+own_newer p (settled s r ∷ P) Q are = own_newer p P Q are
+own_newer p (key_prepared s v ∷ P) Q are = own_newer p P Q are
+own_newer p (link_prepared s v ∷ P) Q are = own_newer p P Q are
+own_newer p (halted ∷ P) Q are = own_newer p P Q are
 
-pub own_last : (p : ℕ) (P Q : Trace) → AreOwn p (P ++ Q) → AreOwn p Q
-own_last p [] Q are = are
-own_last p (linked k s q ∷ P) Q are = own_last p P Q are.1
-own_last p (marked k s q ∷ P) Q are = own_last p P Q are.1
-own_last p (unlinked k s q ∷ P) Q are = own_last p P Q are.1
-own_last p (settled s r ∷ P) Q are = own_last p P Q are
-own_last p (key_prepared s v ∷ P) Q are = own_last p P Q are
-own_last p (link_prepared s v ∷ P) Q are = own_last p P Q are
-own_last p (halted ∷ P) Q are = own_last p P Q are
+pub own_older : (p : ℕ) (P Q : Trace) → AreOwn p (P ++ Q) → AreOwn p Q
+own_older p [] Q are = are
+own_older p (linked k s q ∷ P) Q are = own_older p P Q are.1
+own_older p (marked k s q ∷ P) Q are = own_older p P Q are.1
+own_older p (unlinked k s q ∷ P) Q are = own_older p P Q are.1
+own_older p (settled s r ∷ P) Q are = own_older p P Q are
+own_older p (key_prepared s v ∷ P) Q are = own_older p P Q are
+own_older p (link_prepared s v ∷ P) Q are = own_older p P Q are
+own_older p (halted ∷ P) Q are = own_older p P Q are
 
 -- what is its own since an earlier trace is so since a later one
 pub own_since : (p : ℕ) (R P Q : Trace) → OnlyOwn p R Q → Extends P R → Extends Q P → OnlyOwn p P Q
@@ -45,7 +45,7 @@ own_since p R P Q only (middle, from) (since, goes_on) =
     record {
       since = since;
       goes_on = goes_on;
-      own = own_first p since middle (subst (AreOwn p) (append_cancel_right only.since (since ++ middle) R all) only.own);
+      own = own_newer p since middle (subst (AreOwn p) (append_cancel_right only.since (since ++ middle) R all) only.own);
     }
 
 -- the members after it are those that the pass's own changes make
