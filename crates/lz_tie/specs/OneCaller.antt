@@ -17,7 +17,7 @@ keys_in P = λ k. member k P
 
 -- the set has fewer than N members
 abbrev pub HasRoom : ℕ → Keys → Type 0
-HasRoom N S = (n : ℕ) → HasMembers S n → n < N
+HasRoom N S = (n : ℕ) × HasMembers S n × (n < N)
 
 -- the reply says that the file is too old for the key
 abbrev pub tells_old : Reply → Bool
@@ -28,7 +28,7 @@ tells_old _ = false
 -- adding that is told yes had room. Full: the key is no member, and the set has N members. The last two leave open whether the
 -- command was done.
 abbrev pub PlainRow : ℕ → Command → Reply → Keys → Keys → Type 0
-PlainRow N (Add k) Yes S T = (S k ≡ false) × HasRoom N S × Same T (after (Add k) S)
+PlainRow N (Add k) Yes S T = (reply (Add k) (S k) ≡ true) × HasRoom N S × Same T (after (Add k) S)
 PlainRow N c Yes S T = (reply c (S (key_of c)) ≡ true) × Same T (after c S)
 PlainRow N c No S T = (reply c (S (key_of c)) ≡ false) × Same T (after c S)
 PlainRow N (Add k) (Full counts) S T = (S k ≡ false) × HasMembers S N × Same T S

@@ -144,7 +144,7 @@ module _ (p : ℕ) (P Q : Trace) (only : OnlyOwn p P Q) where
       go (Remove k) changes made (inr (s, inr is)) = inr (unlinked_after k s (subst (Changes p P Q) is made))
 
   -- an adding found its key absent, and room
-  added_to : (buckets slots k : ℕ) → Lawful buckets slots Q → Added p k P Q → (S k ≡ false) × HasRoom slots S × Same T (after (Add k) S)
+  added_to : (buckets slots k : ℕ) → Lawful buckets slots Q → Added p k P Q → (not (S k) ≡ true) × HasRoom slots S × Same T (after (Add k) S)
   added_to buckets slots k law h =
       let end = extends_of (linked k h.slot p ∷ h.earlier) Q h.upto in
       let before = lawful_begins buckets slots (linked k h.slot p ∷ h.earlier) Q h.upto law in
@@ -153,7 +153,7 @@ module _ (p : ℕ) (P Q : Trace) (only : OnlyOwn p P Q) where
       let newer : own p later ≡ own p end.0 ++ linked k h.slot p ∷ [] = filter-append (is_for p) end.0 (linked k h.slot p ∷ []) ∙ ap (λ (l : Trace). own p end.0 ++ l) (own_linked p k h.slot) in
       let none = none_but_one (own p end.0) (own p u.first) (linked k h.slot p) (linked k h.slot p) (ap (λ (l : Trace). l ++ own p u.first) (sym newer) ∙ u.all) in
       let same = as_before h.earlier later (linked k h.slot p ∷ []) u none in
-      (sym (same k) ∙ before.0.no_member, room buckets slots k h.slot p h.earlier before S (λ q. sym (same q)), linked_after k h.slot h.changes)
+      (ap not (sym (same k) ∙ before.0.no_member), room buckets slots k h.slot p h.earlier before S (λ q. sym (same q)), linked_after k h.slot h.changes)
 
   -- a removing found its key
   removed_from : (buckets slots k : ℕ) → Lawful buckets slots Q → Removed p k P Q → (S k ≡ true) × Same T (after (Remove k) S)
