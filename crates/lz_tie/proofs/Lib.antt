@@ -5,4 +5,5 @@ pub mod Reuse
 pub mod Replies
 pub mod Start
 pub mod AnswerRows
+pub mod OneCallerRows
 pub mod Calls

@@ -18,6 +18,7 @@ ghost use Rattle.lz_board.specs.Seats.{IsOf, id_of, part};
 ghost use Rattle.lz_tie.specs.Answers.{Answers};
 ghost use Rattle.lz_tie.specs.Counting.{Advanced, Counts, IsCounted, seen_pass};
 ghost use Rattle.lz_tie.specs.Holds.{IsIdle, begins_with};
+ghost use Rattle.lz_tie.specs.OneCaller.{IsPlainAnswer, keys_in};
 
 use crate::locked::Locked;
 use crate::named::Named;
@@ -116,7 +117,8 @@ impl<N: Named, D: Disk> Locked<N, D> {
         turn
     }
 
-    /// The last hold of a call, whose reply is this one. The pass may make the next call.
+    /// The last hold of a call, whose reply is this one. The pass may make the next call. In a set of one pass the reply is
+    /// that of the plain set, of the members that the pass had seen before the call, and it has seen those that are left.
     pub fn answer(&mut self, board: &Board, pass: &mut Pass, caller: &Caller, _reply: Reply) -> Turn
         requires board { id_of board.now ≡ N.board }
         requires pass { IsOf N.board pass.old }
@@ -125,6 +127,7 @@ impl<N: Named, D: Disk> Locked<N, D> {
         ensures pass { IsOf N.board pass.new }
         ensures idle { IsIdle N.board.sizes (part pass.new) }
         ensures answers { (c : Asked) (format : Format) (before : Part) → before.sizes ≡ N.board.sizes → Counts N.board c format before caller.now (part pass.old) → Answers c _reply before (part pass.new) }
+        ensures plain { N.board.sizes.passes ≡ 1 → (c : Asked) (format : Format) (before : Part) → before.sizes ≡ N.board.sizes → Counts N.board c format before caller.now (part pass.old) → IsPlainAnswer format N.board.sizes.slots c _reply (keys_in before.known) (keys_in (part pass.new).known) }
     {
         self.play(board, pass, caller, Event::Answer)
     }
