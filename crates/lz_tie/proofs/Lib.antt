@@ -6,3 +6,4 @@ pub mod Replies
 pub mod Start
 pub mod AnswerRows
 pub mod Calls
+pub mod Marks

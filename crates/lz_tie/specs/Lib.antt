@@ -4,3 +4,5 @@ pub mod Holds
 pub mod Reuse
 pub mod UnderWay
 pub mod Counting
+pub mod Marks
+pub mod RunningSets
