@@ -2,3 +2,5 @@ pub mod RunMarks
 pub mod OneLife
 pub mod RunningSet
 pub mod MarkRows
+pub mod OwnCalls
+pub mod ToldCalls

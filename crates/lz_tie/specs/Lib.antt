@@ -6,3 +6,4 @@ pub mod UnderWay
 pub mod Counting
 pub mod Marks
 pub mod RunningSets
+pub mod OwnCalls

@@ -12,6 +12,7 @@ mod moves;
 mod named;
 mod playing;
 
+pub use history::answers_are_told;
 pub use locked::Locked;
 pub use moves::load_next;
 pub use named::Named;
