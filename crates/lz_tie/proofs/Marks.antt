@@ -4,3 +4,4 @@ pub mod RunningSet
 pub mod MarkRows
 pub mod OwnCalls
 pub mod ToldCalls
+pub mod GrownMarks
