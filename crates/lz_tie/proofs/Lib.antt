@@ -7,3 +7,4 @@ pub mod Start
 pub mod AnswerRows
 pub mod OneCallerRows
 pub mod Calls
+pub mod Marks

@@ -6,3 +6,6 @@ pub mod Holds
 pub mod Reuse
 pub mod UnderWay
 pub mod Counting
+pub mod Marks
+pub mod RunningSets
+pub mod OwnCalls

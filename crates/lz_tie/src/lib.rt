@@ -6,12 +6,14 @@
 #![tactic(auto)]
 
 mod calling;
+mod history;
 pub mod laws;
 mod locked;
 mod moves;
 mod named;
 mod playing;
 
+pub use history::answers_are_told;
 pub use locked::Locked;
 pub use moves::load_next;
 pub use named::Named;

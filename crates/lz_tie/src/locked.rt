@@ -23,8 +23,8 @@ use std::marker::{Model, PhantomData};
 /// The yard, with the pen of the board that N names.
 #[derive(Drop)]
 pub struct Locked<N: Named, D: Disk> {
-    yard: Yard<D>,
-    pen: Pen,
+    pub(crate) yard: Yard<D>,
+    pub(crate) pen: Pen,
     of: PhantomData<N>,
 }
 
