@@ -4,5 +4,6 @@ pub mod Hold
 pub mod Reuse
 pub mod Replies
 pub mod Start
+pub mod Moments
 pub mod AnswerRows
 pub mod Calls

@@ -1,1 +1,2 @@
 pub mod OpenedYard
+pub mod OpenedMoments

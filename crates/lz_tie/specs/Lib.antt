@@ -4,3 +4,4 @@ pub mod Holds
 pub mod Reuse
 pub mod UnderWay
 pub mod Counting
+pub mod Moments

@@ -5,6 +5,7 @@ use Rattle.lz_board.specs.Seats.{BoardId, carried, id_of, notes, part}
 use Rattle.lz_tie.specs.Holds.{IsIdle}
 use Rattle.lz_tie.proofs.Hold.Joining.{joined}
 use Rattle.lz_tie.proofs.Hold.PinSight.{found, own_found}
+use Rattle.lz_tie.proofs.Moments.HeldMoments.{same_left, found_left, held_again}
 use Rattle.lz_tie.proofs.locked.Locked.call.Goals as goal
 
 pub call_joined-outcome-requires-clause-hold : goal.call_joined-outcome-requires-clause-hold
@@ -26,3 +27,11 @@ call_joined-outcome-requires-clause-found g c =
     let number = ap (λ (h : Part). h.number) c.join.ensures.carried ∙ sym c.requires.pass.2.number ∙ sym c.join.ensures.same.0 ∙ sym c.number-number.ensures in
     own_found (notes c.join.new.pen) (notes c.load_pin.new.pen) (carried c.join.new.pen) (carried c.load_pin.new.pen) c.load_pin.result (c.load_pin.ensures.own number)
     (c.load_pin.ensures.notes ∙ ap (λ n. found_note n c.load_pin.result ∷ notes c.join.new.pen) (sym number)) c.load_pin.ensures.carried
+
+pub invariant_of-self : goal.invariant_of-self
+invariant_of-self g c =
+    let board = id_of c.args.board.now in
+    let left = same_left g.N.Named.board board c.requires.board (notes c.self.inside.pen) (notes c.join.new.pen) c.join.ensures.notes g.N.Named.since (g.D.Disk.device c.self.inside.yard.disk) c.self.invariant.2 in
+    let seen = found_left board (found_note c.number-number.result c.load_pin.result) (notes c.join.new.pen) (notes c.load_pin.new.pen) c.load_pin.ensures.notes g.N.Named.since (g.D.Disk.device c.self.inside.yard.disk) left in
+    held_again g.N.Named.board board c.requires.board c.cut.new.pen c.cut.ensures.pen (notes c.call_joined-outcome.new.pen) c.cut.ensures.notes c.call_joined-outcome.new.yard.yard (g.D.Disk.device c.call_joined-outcome.new.yard.disk) c.call_joined-outcome.ensures.hold.locked g.N.Named.since
+    (c.call_joined-outcome.ensures.left g.N.Named.since seen)

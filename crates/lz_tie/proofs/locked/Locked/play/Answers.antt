@@ -5,6 +5,7 @@ use Rattle.lz_board.specs.Seats.{BoardId, carried, id_of, notes, part}
 use Rattle.lz_tie.specs.Holds.{IsTurn, Turned}
 use Rattle.lz_tie.proofs.Reading.OnePass.{alone_trace}
 use Rattle.lz_tie.proofs.Hold.Joining.{joined, joined_turn, seen_turned}
+use Rattle.lz_tie.proofs.Moments.HeldMoments.{same_left, held_again}
 use Rattle.lz_tie.proofs.locked.Locked.play.Goals as goal
 
 pub play_joined-turn-requires-clause-hold : goal.play_joined-turn-requires-clause-hold
@@ -29,3 +30,10 @@ returns-clause-alone g c =
     let knows = subst (λ (b : BoardId). Knows b.sizes b.opened (notes c.self.inside.pen) (part c.args.pass.now)) c.requires.board c.join.ensures.knows in
     λ one. subst (λ v. trace_of g.N.Named.board.opened v.notes ≡ (part c.args.pass.now).known) c.self.view_is
     (alone_trace g.N.Named.board (notes c.self.inside.pen) c.self.inside.yard.yard (g.D.Disk.device c.self.inside.yard.disk) (part c.args.pass.now) c.self.invariant.1 knows one)
+
+pub invariant_of-self : goal.invariant_of-self
+invariant_of-self g c =
+    let board = id_of c.args.board.now in
+    let left = same_left g.N.Named.board board c.requires.board (notes c.self.inside.pen) (notes c.join.new.pen) c.join.ensures.notes g.N.Named.since (g.D.Disk.device c.self.inside.yard.disk) c.self.invariant.2 in
+    held_again g.N.Named.board board c.requires.board c.cut.new.pen c.cut.ensures.pen (notes c.play_joined-turn.new.pen) c.cut.ensures.notes c.play_joined-turn.new.yard.yard (g.D.Disk.device c.play_joined-turn.new.yard.disk) c.play_joined-turn.ensures.hold.locked g.N.Named.since
+    (c.play_joined-turn.ensures.left g.N.Named.since left)

@@ -8,6 +8,7 @@ use Rattle.lz_board.specs.Seats.{BoardId, carried, id_of, notes, part}
 use Rattle.lz_tie.specs.Holds.{Turned}
 use Rattle.lz_tie.proofs.Hold.Joining.{joined, seen_turned}
 use Rattle.lz_tie.proofs.Hold.PinSight.{found, found_turn, seen_range}
+use Rattle.lz_tie.proofs.Moments.HeldMoments.{same_left, found_left, held_again}
 use Rattle.lz_tie.proofs.locked.Locked.see.Goals as goal
 
 pub play_joined-turn-requires-clause-hold : goal.play_joined-turn-requires-clause-hold
@@ -31,3 +32,11 @@ returns-clause-turned g c =
     (c.load_pin-value.ensures.notes ∙ ap (λ ns. found_note c.args.seen c.load_pin-value.result ∷ ns) c.join.ensures.notes) (c.load_pin-value.ensures.carried ∙ c.join.ensures.carried) c.play_joined-turn.ensures.turned in
     let with_board = subst (λ (b : BoardId). Turned b.opened (found_note c.args.seen c.load_pin-value.result ∷ notes c.self.inside.pen) (part c.args.pass.now) c.args.caller.now.command c.args.caller.now.progress event c.play_joined-turn.result.outcome c.play_joined-turn.result.published) c.requires.board gave in
     subst (λ v. Turned g.N.Named.board.opened (found_note c.args.seen c.load_pin-value.result ∷ v.notes) (part c.args.pass.now) c.args.caller.now.command c.args.caller.now.progress event c.play_joined-turn.result.outcome c.play_joined-turn.result.published) c.self.view_is with_board
+
+pub invariant_of-self : goal.invariant_of-self
+invariant_of-self g c =
+    let board = id_of c.args.board.now in
+    let left = same_left g.N.Named.board board c.requires.board (notes c.self.inside.pen) (notes c.join.new.pen) c.join.ensures.notes g.N.Named.since (g.D.Disk.device c.self.inside.yard.disk) c.self.invariant.2 in
+    let seen = found_left board (found_note c.args.seen c.load_pin-value.result) (notes c.join.new.pen) (notes c.load_pin-value.new.pen) c.load_pin-value.ensures.notes g.N.Named.since (g.D.Disk.device c.self.inside.yard.disk) left in
+    held_again g.N.Named.board board c.requires.board c.cut.new.pen c.cut.ensures.pen (notes c.play_joined-turn.new.pen) c.cut.ensures.notes c.play_joined-turn.new.yard.yard (g.D.Disk.device c.play_joined-turn.new.yard.disk) c.play_joined-turn.ensures.hold.locked g.N.Named.since
+    (c.play_joined-turn.ensures.left g.N.Named.since seen)
