@@ -7,3 +7,4 @@ pub mod Start
 pub mod Moments
 pub mod AnswerRows
 pub mod Calls
+pub mod Marks

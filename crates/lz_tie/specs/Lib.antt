@@ -4,4 +4,6 @@ pub mod Holds
 pub mod Reuse
 pub mod UnderWay
 pub mod Counting
+pub mod Marks
+pub mod RunningSets
 pub mod Moments

@@ -1,17 +1,15 @@
 -- What a crash might have left at any moment of a life, by the notes of its calls. Notes and steps stand newest first.
 use Rattle.std.specs.Prelude.{◌≡◌, ◌≤◌, ℕ, IsTrue, List, ◌++◌}
-use Rattle.lz_slot.specs.Sets.{Keys}
-use Rattle.lz_slot.specs.Histories.{ChainTo, lives}
-use Rattle.lz_slot.specs.Bytes.{Holds}
 use Rattle.lz_disk.specs.Images.{Medium, IsImage}
 use Rattle.lz_disk.specs.Devices.{Device}
 use Rattle.lz_list.specs.Traces.{Trace}
-use Rattle.lz_machine.specs.Runs.{Start, IsStart, Up, Service, Transition, run, IsRun, first_point, start_keys}
+use Rattle.lz_machine.specs.Runs.{Start, IsStart, Up, Service, Transition, run, IsRun, first_point}
 use Rattle.lz_board.specs.declared.view.Sizes.{Sizes}
 use Rattle.lz_board.specs.declared.view.Note.{Note}
 use Rattle.lz_board.specs.Seats.{BoardId}
 use Rattle.lz_tie.specs.NotedRuns.{ReadsAs}
 use Rattle.lz_tie.specs.Holds.{sizes_of}
+use Rattle.lz_tie.specs.RunningSets.{Explains}
 
 -- Some beginning of the notes is read as a run of the machine, on a board of these sizes whose life began with this trace.
 pub record Begun (z : Sizes) (opened : Trace) (ns : List Note) : Type 0 where
@@ -43,13 +41,13 @@ pub record LeavesBegun (z : Sizes) (opened : Trace) (ns : List Note) (since : �
 abbrev pub LeftSince : BoardId → List Note → ℕ → Device → Type 0
 LeftSince b ns since disk = IsTrue disk.honest → LeavesBegun b.sizes b.opened ns since disk
 
--- The text holds a set to which the calls that were noted by then lead: those of some beginning of the notes.
-pub record IsExplained (z : Sizes) (opened : Trace) (ns : List Note) (t : List ℕ) : Type 0 where
-  pub begun : Begun z opened ns
-  pub keys : Keys
-  pub held : Holds t begun.start.shape.slots keys
-  pub leads : ChainTo (lives (start_keys begun.start) (run (first_point begun.start) begun.steps).marks) keys
+-- The text explains the calls and answers of some beginning of the notes.
+pub record ExplainsBegun (b : BoardId) (ns : List Note) (t : List ℕ) : Type 0 where
+  pub later : List Note
+  pub before : List Note
+  pub splits : ns ≡ later ++ before
+  pub explains : Explains b before t
 
--- So each text that a crash might have left since this moment is explained, where the device is honest.
+-- So each text that a crash might have left since this moment explains what was seen of the calls by then.
 abbrev pub ExplainedSince : BoardId → List Note → ℕ → Device → Type 0
-ExplainedSince b ns since disk = IsTrue disk.honest → (t : List ℕ) → disk.left_since since t → IsExplained b.sizes b.opened ns t
+ExplainedSince b ns since disk = IsTrue disk.honest → (t : List ℕ) → disk.left_since since t → ExplainsBegun b ns t

@@ -6,6 +6,7 @@
 #![tactic(auto)]
 
 mod calling;
+mod history;
 mod locked;
 mod moves;
 mod named;

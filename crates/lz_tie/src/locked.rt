@@ -23,8 +23,8 @@ use std::marker::{Model, PhantomData};
 /// The yard, with the pen of the board that N names.
 #[derive(Drop)]
 pub struct Locked<N: Named, D: Disk> {
-    yard: Yard<D>,
-    pen: Pen,
+    pub(crate) yard: Yard<D>,
+    pub(crate) pen: Pen,
     of: PhantomData<N>,
 }
 
@@ -115,8 +115,8 @@ impl<N: Named, D: Disk> Locked<N, D> {
         outcome
     }
 
-    /// Each text that a crash at some moment of the life might have left is one that a crash may leave in a state to which
-    /// some beginning of the notes leads, so it holds a set to which the calls noted by then lead. Does nothing.
+    /// What a crash at any moment of the life might have left: each such text is one that may be left in the state to which
+    /// some beginning of the notes leads, so it explains what was seen of the calls by then. Does nothing.
     pub fn moments(&self)
         ensures left { LeftSince N.board self.now.notes N.since (D.device self.now.disk) }
         ensures explained { ExplainedSince N.board self.now.notes N.since (D.device self.now.disk) }

@@ -8,9 +8,6 @@ use Rattle.lz_machine.specs.declared.event.Event.{Event}
 use Rattle.lz_machine.specs.declared.event.Outcome.{Outcome}
 use Rattle.lz_machine.specs.Yards.{Yard}
 use Rattle.lz_machine.specs.Orders.{Calling}
-use Rattle.lz_machine.specs.Runs.{State, Up, run, first_point, shape_of as shape_in}
-use Rattle.lz_machine.proofs.Runs.Shape.{run_keeps_shape}
-use Rattle.lz_machine.proofs.Theorem.Reached.{every_history}
 use Rattle.lz_yard.specs.declared.told.Told.{Told}
 use Rattle.lz_yard.specs.Steps.{Played as PlayedOver}
 use Rattle.lz_yard.proofs.Events.KeptFit.{fault_or_not}
@@ -23,17 +20,17 @@ use Rattle.lz_board.specs.Plays.{noted}
 use Rattle.lz_board.specs.declared.board.Pen.{Pen}
 use Rattle.lz_board.specs.Seats.{BoardId, IsPenOf, notes}
 use Rattle.lz_tie.specs.NotedRuns.{AreNext}
-use Rattle.lz_tie.specs.Holds.{sizes_of, IsLocked, InHold, IsTurn, IsIdle}
+use Rattle.lz_tie.specs.Holds.{IsLocked, InHold, IsTurn, IsIdle}
 use Rattle.lz_tie.specs.Moments.{IsLeftBy, LeftSince, ExplainedSince}
+use Rattle.lz_tie.proofs.Marks.RunningSet.{explained, locked_sizes}
 use Rattle.lz_tie.proofs.Moments.LeftBeginnings.{more_left, splice_left}
 
 -- what may be left of the lock's disk is left by all its notes
 pub now_left : (b : BoardId) (ns : List Note) (y : Yard) (dev : Device) → IsLocked b ns y dev → IsTrue dev.honest → (t : List ℕ) → IsImage dev.medium t → IsLeftBy b.sizes b.opened ns t
 now_left b ns y dev l honest t image =
     let tie = l.tied in
-    let shape : y.shape ≡ tie.start.shape = tie.yard.shape ∙ subst (λ (w : State). shape_in w ≡ tie.start.shape) tie.state (run_keeps_shape (first_point tie.start) tie.steps) in
     record {
-      begun = record { later = []; before = ns; splits = refl; start = tie.start; steps = tie.steps; sizes = l.sizes ∙ ap sizes_of shape; starts = tie.starts; runs = tie.runs; reads = tie.reads; begins = tie.begins };
+      begun = record { later = []; before = ns; splits = refl; start = tie.start; steps = tie.steps; sizes = locked_sizes b ns y dev l; starts = tie.starts; runs = tie.runs; reads = tie.reads; begins = tie.begins };
       service = tie.service;
       medium = tie.medium;
       state = tie.state;
@@ -96,14 +93,17 @@ same_left b board same ns ns' notes since dev left = subst (λ (x : BoardId × L
 pub found_left : (b : BoardId) (n : Note) (ns ns' : List Note) → ns' ≡ n ∷ ns → (since : ℕ) (dev : Device) → LeftSince b ns since dev → LeftSince b ns' since dev
 found_left b n ns ns' notes since dev left = subst (λ r. LeftSince b r since dev) (sym notes) (λ honest. let known = left honest in record { past = known.past; each = λ t is. more_left b.sizes b.opened n ns t (known.each t is) })
 
--- what is left is explained, by the main theorem of the machine
-pub explained : (b : BoardId) (ns : List Note) (since : ℕ) (dev : Device) → LeftSince b ns since dev → ExplainedSince b ns since dev
-explained b ns since dev left = λ honest t is.
+-- each text that might have been left explains a beginning of the notes
+pub since_explained : (b : BoardId) (ns : List Note) (since : ℕ) (dev : Device) → LeftSince b ns since dev → ExplainedSince b ns since dev
+since_explained b ns since dev left = λ honest t is.
     let l = (left honest).each t is in
     let g = l.begun in
-    let found = every_history g.start (Up l.service l.medium) (run (first_point g.start) g.steps).marks (run (first_point g.start) g.steps).trace t
-    (record { steps = g.steps; starts = g.starts; runs = g.runs; state = l.state; marks = refl; trace = refl }) (inl l.leaves) in
-    record { begun = g; keys = found.0; held = found.1; leads = found.2 }
+    record {
+      later = g.later;
+      before = g.before;
+      splits = g.splits;
+      explains = explained b g.before g.start g.steps g.sizes g.starts g.runs g.reads g.begins l.service l.medium l.state t l.leaves;
+    }
 
 -- the lock's invariant of what it keeps after a hold
 pub held_again : (b board : BoardId) → board ≡ b → (pen : Pen) → IsPenOf board pen → (ns : List Note) → notes pen ≡ ns → (y : Yard) (dev : Device) → IsLocked board ns y dev → (since : ℕ) → LeftSince board ns since dev

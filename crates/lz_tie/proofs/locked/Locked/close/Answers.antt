@@ -1,11 +1,11 @@
 use Rattle.std.proofs.Common.{sym, subst}
 use Rattle.lz_board.specs.Seats.{notes}
 use Rattle.lz_tie.specs.Moments.{ExplainedSince}
-use Rattle.lz_tie.proofs.Moments.HeldMoments.{explained}
+use Rattle.lz_tie.proofs.Moments.HeldMoments.{since_explained}
 use Rattle.lz_tie.proofs.locked.Locked.close.Goals as goal
 
 pub returns-clause-explained : goal.returns-clause-explained
 returns-clause-explained g c =
     subst (λ d. ExplainedSince g.N.Named.board c.args.self.notes g.N.Named.since (g.D.Disk.device d)) (sym c.close.ensures)
     (subst (λ v. ExplainedSince g.N.Named.board v.notes g.N.Named.since (g.D.Disk.device c.self.inside.yard.disk)) c.self.view_is
-    (explained g.N.Named.board (notes c.self.inside.pen) g.N.Named.since (g.D.Disk.device c.self.inside.yard.disk) c.self.invariant.2))
+    (since_explained g.N.Named.board (notes c.self.inside.pen) g.N.Named.since (g.D.Disk.device c.self.inside.yard.disk) c.self.invariant.2))

@@ -1,0 +1,4 @@
+pub mod RunMarks
+pub mod OneLife
+pub mod RunningSet
+pub mod MarkRows

@@ -1,0 +1,49 @@
+-- Worked rows: what notes show, computed.
+use Rattle.std.proofs.Common.{◌≡◌, true, List, [], ◌∷◌, None, refl}
+use Rattle.lz_slot.specs.declared.command.Command.TheVariants.{Add, Has}
+use Rattle.lz_slot.specs.declared.format.Format.TheVariants.{Two}
+use Rattle.lz_slot.specs.declared.history.Mark.TheVariants.{Call, Answer as answer}
+use Rattle.lz_list.specs.declared.word.Word.TheVariants.{Head, Link, Key, Halt}
+use Rattle.lz_machine.specs.declared.event.Event.TheVariants.{Pin, Answer}
+use Rattle.lz_machine.specs.declared.event.Outcome.TheVariants.{Done}
+use Rattle.lz_machine.specs.Yards.{Shape}
+use Rattle.lz_board.specs.declared.view.What.TheVariants.{Called, Played, Found}
+use Rattle.lz_board.specs.declared.view.Note.{Note}
+use Rattle.lz_board.specs.Notes.{note_by, load_note}
+use Rattle.lz_tie.specs.Marks.{calls_in, number_of, marks_in}
+
+abbrev shape : Shape
+shape = record { slots = 2; buckets = 1; passes = 2 }
+
+-- pass 2 makes a `has`, and then pass 1 an `add`
+abbrev both : List Note
+both =
+    note_by 1 (Called (Add 12) Two) None ∷ note_by 0 (Found 1 0) None
+    ∷ note_by 2 (Played Pin Done) None ∷ note_by 2 (Called (Has 9) Two) None ∷ note_by 0 (Found 2 0) None ∷ []
+
+-- the `has` walks over the one member, and answers
+abbrev answered : List Note
+answered =
+    note_by 2 (Played Answer Done) None
+    ∷ load_note 2 (record { word = Link 0; value = 8589934592; at = 4 }) ∷ load_note 2 (record { word = Key 0; value = 9; at = 4 })
+    ∷ load_note 2 (record { word = Head 0; value = 1; at = 4 }) ∷ load_note 2 (record { word = Halt; value = 0; at = 4 }) ∷ both
+
+calls_are : marks_in shape both ≡ Call 2 1 (Add 12) ∷ Call 1 2 (Has 9) ∷ []
+calls_are = refl
+
+answer_is : marks_in shape answered ≡ answer 1 true ∷ Call 2 1 (Add 12) ∷ Call 1 2 (Has 9) ∷ []
+answer_is = refl
+
+-- the answer is that of its own pass's call, and not of the newest one
+of_no_other : marks_in shape answered ≡ answer 2 true ∷ Call 2 1 (Add 12) ∷ Call 1 2 (Has 9) ∷ [] → ⊥
+of_no_other same = absurd cc
+
+calls_count : calls_in answered ≡ 2
+calls_count = refl
+
+number_is : number_of 2 answered ≡ 1
+number_is = refl
+
+-- an Answer without a call shows nothing
+nothing_shown : marks_in shape (note_by 1 (Played Answer Done) None ∷ []) ≡ []
+nothing_shown = refl

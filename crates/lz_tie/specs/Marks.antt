@@ -1,0 +1,49 @@
+-- The marks that notes show: what can be seen of the calls from outside. Notes and marks stand newest first.
+use Rattle.std.specs.Prelude.{ℕ, suc, ◌==◌, if◌then◌else◌, List, [], ◌∷◌, ◌++◌, Option, Some, None}
+use Rattle.lz_slot.specs.declared.command.Command.{Command}
+use Rattle.lz_slot.specs.declared.history.Mark.TheVariants.{Call}
+use Rattle.lz_slot.specs.Histories.{History}
+use Rattle.lz_machine.specs.declared.caller.Progress.{Progress}
+use Rattle.lz_machine.specs.declared.event.Reply.{Reply}
+use Rattle.lz_machine.specs.Runs.{mark_of_turn, reply_at}
+use Rattle.lz_machine.specs.Yards.{Shape}
+use Rattle.lz_board.specs.declared.view.What.{What}
+use Rattle.lz_board.specs.declared.view.What.TheVariants.{Called, Played, Found}
+use Rattle.lz_board.specs.declared.view.Note.{Note}
+use Rattle.lz_board.specs.Notes.{place, steps_of}
+
+-- how many calls were made, after one more step
+abbrev pub calls_with : What → ℕ → ℕ
+calls_with (Called c format) calls = suc calls
+calls_with _ calls = calls
+
+-- how many calls were made
+abbrev pub calls_in : List Note → ℕ
+calls_in [] = 0
+calls_in (n ∷ ns) = calls_with n.what (calls_in ns)
+
+-- the number of pass p's last call after a step of pass `by`: calls are numbered from 1, in the order in which they were made
+abbrev pub number_with : ℕ → ℕ → What → ℕ → ℕ → ℕ
+number_with p by (Called c format) calls number = if by == p then suc calls else number
+number_with p by _ calls number = number
+
+-- the number of pass p's last call, 0 where it made none
+abbrev pub number_of : ℕ → List Note → ℕ
+number_of p [] = 0
+number_of p (n ∷ ns) = number_with p n.by n.what (calls_in ns) (number_of p ns)
+
+-- the reply that a call at this place is about to give
+abbrev pub reply_in : Option (Command × Progress) → Option Reply
+reply_in None = None
+reply_in (Some call) = reply_at call.1
+
+-- what a step of pass p shows, behind these notes: a call that is made, or the reply with which its last one ends
+abbrev pub marks_with : Shape → ℕ → What → List Note → History
+marks_with shape p (Called c format) ns = Call (suc (calls_in ns)) p c ∷ []
+marks_with shape p (Played e o) ns = mark_of_turn (number_of p ns) (reply_in (place shape (steps_of p ns)))
+marks_with shape p (Found q v) ns = []
+
+-- what the notes show
+abbrev pub marks_in : Shape → List Note → History
+marks_in shape [] = []
+marks_in shape (n ∷ ns) = marks_with shape n.by n.what ns ++ marks_in shape ns
