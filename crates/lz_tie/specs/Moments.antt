@@ -1,7 +1,7 @@
 -- What a crash might have left at any moment of a life, by the notes of its calls. Notes and steps stand newest first.
-use Rattle.std.specs.Prelude.{◌≡◌, ◌≤◌, ℕ, IsTrue, List, ◌++◌}
-use Rattle.lz_disk.specs.Images.{Medium, IsImage}
-use Rattle.lz_disk.specs.Devices.{Device}
+use Rattle.std.specs.Prelude.{◌≡◌, ◌⊎◌, ℕ, false, IsTrue, List, [], ◌++◌}
+use Rattle.lz_disk.specs.Images.{Medium, IsImage, at_rest}
+use Rattle.lz_disk.specs.Devices.{Device, LeavesOnly}
 use Rattle.lz_list.specs.Traces.{Trace}
 use Rattle.lz_machine.specs.Runs.{Start, IsStart, Up, Service, Transition, run, IsRun, first_point}
 use Rattle.lz_board.specs.declared.view.Sizes.{Sizes}
@@ -32,14 +32,21 @@ pub record IsLeftBy (z : Sizes) (opened : Trace) (ns : List Note) (t : List ℕ)
   pub state : (run (first_point begun.start) begun.steps).state ≡ Up service medium
   pub leaves : IsImage medium t
 
--- Each text that a crash at some moment since this one might have left is one that some beginning of the notes leaves.
-pub record LeavesBegun (z : Sizes) (opened : Trace) (ns : List Note) (since : ℕ) (disk : Device) : Type 0 where
-  pub past : since ≤ disk.moment
-  pub each : (t : List ℕ) → disk.left_since since t → IsLeftBy z opened ns t
+-- a device that says nothing
+abbrev pub no_device : Device
+no_device = record { honest = false; medium = at_rest []; moment = 0; left_since = λ t c. ⊥; calls = 0; faults = 0; must_fail = ⊥ }
 
--- that is so of an honest device
-abbrev pub LeftSince : BoardId → List Note → ℕ → Device → Type 0
-LeftSince b ns since disk = IsTrue disk.honest → LeavesBegun b.sizes b.opened ns since disk
+-- Each text that a crash might have left since the disk was like this is one that might have been left then, or one that some
+-- beginning of the notes leaves. That is so of an honest device.
+abbrev pub LeftSince : BoardId → Device → List Note → Device → Type 0
+LeftSince b first ns disk = IsTrue disk.honest → LeavesOnly first disk (λ t. IsImage first.medium t ⊎ IsLeftBy b.sizes b.opened ns t)
+
+-- A step of the device, and of the notes: each text that a crash in it might have left is left by some beginning of the notes
+-- after it, and so is what a beginning of those before it leaves.
+pub record GoesOn (b : BoardId) (was is : List Note) (old new : Device) : Type 0 where
+  pub honest : new.honest ≡ old.honest
+  pub time : IsTrue old.honest → LeavesOnly old new (IsLeftBy b.sizes b.opened is)
+  pub kept : (t : List ℕ) → IsLeftBy b.sizes b.opened was t → IsLeftBy b.sizes b.opened is t
 
 -- The text explains the calls and answers of some beginning of the notes.
 pub record ExplainsBegun (b : BoardId) (ns : List Note) (t : List ℕ) : Type 0 where
@@ -48,6 +55,7 @@ pub record ExplainsBegun (b : BoardId) (ns : List Note) (t : List ℕ) : Type 0 
   pub splits : ns ≡ later ++ before
   pub explains : Explains b before t
 
--- So each text that a crash might have left since this moment explains what was seen of the calls by then.
-abbrev pub ExplainedSince : BoardId → List Note → ℕ → Device → Type 0
-ExplainedSince b ns since disk = IsTrue disk.honest → (t : List ℕ) → disk.left_since since t → ExplainsBegun b ns t
+-- So each text that a crash might have left since the disk was like this is one that might have been left then, or explains
+-- what was seen of the calls by some moment since.
+abbrev pub ExplainedSince : BoardId → Device → List Note → Device → Type 0
+ExplainedSince b first ns disk = IsTrue disk.honest → LeavesOnly first disk (λ t. IsImage first.medium t ⊎ ExplainsBegun b ns t)

@@ -38,7 +38,7 @@ impl<N: Named, D: Disk> Model for Locked<N, D> {
     ghost view = { λ l. record { notes = notes l.pen; yard = l.yard.yard; disk = l.yard.disk } };
 
     ghost invariant = { λ l. IsPenOf N.board l.pen × IsLocked N.board (notes l.pen) l.yard.yard (D.device l.yard.disk)
-        × LeftSince N.board (notes l.pen) N.since (D.device l.yard.disk) };
+        × LeftSince N.board N.first (notes l.pen) (D.device l.yard.disk) };
 }
 
 impl<N: Named, D: Disk> Locked<N, D> {
@@ -46,7 +46,7 @@ impl<N: Named, D: Disk> Locked<N, D> {
     pub fn new(yard: Yard<D>, pen: Pen) -> Locked<N, D>
         requires pen { IsPenOf N.board pen }
         requires yard { IsLocked N.board (notes pen) yard.yard (D.device yard.disk) }
-        requires left { LeftSince N.board (notes pen) N.since (D.device yard.disk) }
+        requires left { LeftSince N.board N.first (notes pen) (D.device yard.disk) }
         ensures { result ≡ record { notes = notes pen; yard = yard.yard; disk = yard.disk } }
     {
         Locked {
@@ -118,8 +118,8 @@ impl<N: Named, D: Disk> Locked<N, D> {
     /// What a crash at any moment of the life might have left: each such text is one that may be left in the state to which
     /// some beginning of the notes leads, so it explains what was seen of the calls by then. Does nothing.
     pub fn moments(&self)
-        ensures left { LeftSince N.board self.now.notes N.since (D.device self.now.disk) }
-        ensures explained { ExplainedSince N.board self.now.notes N.since (D.device self.now.disk) }
+        ensures left { LeftSince N.board N.first self.now.notes (D.device self.now.disk) }
+        ensures explained { ExplainedSince N.board N.first self.now.notes (D.device self.now.disk) }
     {
         let _ = &self.yard;
     }
@@ -127,8 +127,8 @@ impl<N: Named, D: Disk> Locked<N, D> {
     /// Ends the life, and hands the disk back as it is.
     pub fn close(self) -> D
         ensures disk { result ≡ self.disk }
-        ensures left { LeftSince N.board self.notes N.since (D.device result) }
-        ensures explained { ExplainedSince N.board self.notes N.since (D.device result) }
+        ensures left { LeftSince N.board N.first self.notes (D.device result) }
+        ensures explained { ExplainedSince N.board N.first self.notes (D.device result) }
     {
         self.yard.close()
     }

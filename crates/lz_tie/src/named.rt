@@ -1,20 +1,21 @@
 //! Names of boards.
 use std::marker::Brand;
 
-/// Names one board, and the moment of its disk at which its life began, by values that contracts alone see.
+/// Names one board, and its disk as it was when the board's life began or before, by values that contracts alone see.
 pub trait Named {
-    ghost use Rattle.std.specs.Prelude.{ℕ};
+    ghost use Rattle.lz_disk.specs.Devices.{Device};
     ghost use Rattle.lz_board.specs.Seats.{BoardId};
 
     ghost board: { BoardId };
 
-    ghost since: { ℕ };
+    ghost first: { Device };
 }
 
 impl Named for Brand {
     ghost use Rattle.lz_tie.specs.Holds.{no_board};
+    ghost use Rattle.lz_tie.specs.Moments.{no_device};
 
     ghost board = { no_board };
 
-    ghost since = { 0 };
+    ghost first = { no_device };
 }

@@ -1,8 +1,9 @@
-use Rattle.std.proofs.Common.{ℕ, ◌≤◌, ◌∷◌, sym, ap, ◌∙◌, subst}
+use Rattle.std.proofs.Common.{ℕ, ◌≤◌, List, ◌∷◌, sym, ap, ◌∙◌, subst}
 use Rattle.lz_board.specs.declared.view.Part.{Part}
 use Rattle.lz_board.specs.Plays.{found_note}
 use Rattle.lz_board.specs.Seats.{BoardId, carried, id_of, notes, part}
 use Rattle.lz_tie.specs.Holds.{IsIdle}
+use Rattle.lz_tie.specs.Moments.{IsLeftBy}
 use Rattle.lz_tie.proofs.Hold.Joining.{joined}
 use Rattle.lz_tie.proofs.Hold.PinSight.{found, own_found}
 use Rattle.lz_tie.proofs.Moments.HeldMoments.{same_left, found_left, held_again}
@@ -30,8 +31,8 @@ call_joined-outcome-requires-clause-found g c =
 
 pub invariant_of-self : goal.invariant_of-self
 invariant_of-self g c =
-    let board = id_of c.args.board.now in
-    let left = same_left g.N.Named.board board c.requires.board (notes c.self.inside.pen) (notes c.join.new.pen) c.join.ensures.notes g.N.Named.since (g.D.Disk.device c.self.inside.yard.disk) c.self.invariant.2 in
-    let seen = found_left board (found_note c.number-number.result c.load_pin.result) (notes c.join.new.pen) (notes c.load_pin.new.pen) c.load_pin.ensures.notes g.N.Named.since (g.D.Disk.device c.self.inside.yard.disk) left in
-    held_again g.N.Named.board board c.requires.board c.cut.new.pen c.cut.ensures.pen (notes c.call_joined-outcome.new.pen) c.cut.ensures.notes c.call_joined-outcome.new.yard.yard (g.D.Disk.device c.call_joined-outcome.new.yard.disk) c.call_joined-outcome.ensures.hold.locked g.N.Named.since
-    (c.call_joined-outcome.ensures.left g.N.Named.since seen)
+    let b = g.N.Named.board in
+    let was = notes c.self.inside.pen in
+    let found = λ (t : List ℕ) (l : IsLeftBy b.sizes b.opened was t). found_left b (found_note c.number-number.result c.load_pin.result) (notes c.join.new.pen) (notes c.load_pin.new.pen) c.load_pin.ensures.notes t (same_left b was (notes c.join.new.pen) c.join.ensures.notes t l) in
+    held_again b (id_of c.args.board.now) c.requires.board g.N.Named.first (g.D.Disk.device c.self.inside.yard.disk) (g.D.Disk.device c.call_joined-outcome.new.yard.disk) was (notes c.load_pin.new.pen) (notes c.call_joined-outcome.new.pen) found c.call_joined-outcome.ensures.moments c.self.invariant.2
+    c.call_joined-outcome.new.yard.yard c.call_joined-outcome.ensures.hold.locked c.cut.new.pen c.cut.ensures.pen c.cut.ensures.notes

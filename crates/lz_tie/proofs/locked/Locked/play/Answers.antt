@@ -33,7 +33,8 @@ returns-clause-alone g c =
 
 pub invariant_of-self : goal.invariant_of-self
 invariant_of-self g c =
-    let board = id_of c.args.board.now in
-    let left = same_left g.N.Named.board board c.requires.board (notes c.self.inside.pen) (notes c.join.new.pen) c.join.ensures.notes g.N.Named.since (g.D.Disk.device c.self.inside.yard.disk) c.self.invariant.2 in
-    held_again g.N.Named.board board c.requires.board c.cut.new.pen c.cut.ensures.pen (notes c.play_joined-turn.new.pen) c.cut.ensures.notes c.play_joined-turn.new.yard.yard (g.D.Disk.device c.play_joined-turn.new.yard.disk) c.play_joined-turn.ensures.hold.locked g.N.Named.since
-    (c.play_joined-turn.ensures.left g.N.Named.since left)
+    let b = g.N.Named.board in
+    let was = notes c.self.inside.pen in
+    let found = same_left b was (notes c.join.new.pen) c.join.ensures.notes in
+    held_again b (id_of c.args.board.now) c.requires.board g.N.Named.first (g.D.Disk.device c.self.inside.yard.disk) (g.D.Disk.device c.play_joined-turn.new.yard.disk) was (notes c.join.new.pen) (notes c.play_joined-turn.new.pen) found c.play_joined-turn.ensures.moments c.self.invariant.2
+    c.play_joined-turn.new.yard.yard c.play_joined-turn.ensures.hold.locked c.cut.new.pen c.cut.ensures.pen c.cut.ensures.notes
