@@ -1,2 +1,3 @@
 pub mod OpenedYard
 pub mod OpenedMoments
+pub mod FirstSets
