@@ -9,3 +9,4 @@ pub mod Counting
 pub mod Marks
 pub mod RunningSets
 pub mod OwnCalls
+pub mod Moments

@@ -8,6 +8,7 @@ ghost use Rattle.lz_board.specs.Plays.{found_note};
 ghost use Rattle.lz_board.specs.Seats.{IsOf, IsPenOf, id_of, notes, part};
 ghost use Rattle.lz_tie.specs.OnePass.{OnlyOwn};
 ghost use Rattle.lz_tie.specs.Holds.{HasCall, Holds, IsIdle, IsLocked, IsTurn, Turned, begins_with};
+ghost use Rattle.lz_tie.specs.Moments.{ExplainedSince, LeftSince};
 
 use crate::calling::call_joined;
 use crate::named::Named;
@@ -31,12 +32,14 @@ pub struct Locked<N: Named, D: Disk> {
 impl<N: Named, D: Disk> Model for Locked<N, D> {
     ghost use Rattle.lz_board.specs.Seats.{IsPenOf, notes};
     ghost use Rattle.lz_tie.specs.Holds.{IsLocked, LockedOver};
+    ghost use Rattle.lz_tie.specs.Moments.{LeftSince};
 
     ghost Value = { LockedOver D };
 
     ghost view = { λ l. record { notes = notes l.pen; yard = l.yard.yard; disk = l.yard.disk } };
 
-    ghost invariant = { λ l. IsPenOf N.board l.pen × IsLocked N.board (notes l.pen) l.yard.yard (D.device l.yard.disk) };
+    ghost invariant = { λ l. IsPenOf N.board l.pen × IsLocked N.board (notes l.pen) l.yard.yard (D.device l.yard.disk)
+        × LeftSince N.board N.first (notes l.pen) (D.device l.yard.disk) };
 }
 
 impl<N: Named, D: Disk> Locked<N, D> {
@@ -44,6 +47,7 @@ impl<N: Named, D: Disk> Locked<N, D> {
     pub fn new(yard: Yard<D>, pen: Pen) -> Locked<N, D>
         requires pen { IsPenOf N.board pen }
         requires yard { IsLocked N.board (notes pen) yard.yard (D.device yard.disk) }
+        requires left { LeftSince N.board N.first (notes pen) (D.device yard.disk) }
         ensures { result ≡ record { notes = notes pen; yard = yard.yard; disk = yard.disk } }
     {
         Locked {
@@ -115,9 +119,20 @@ impl<N: Named, D: Disk> Locked<N, D> {
         outcome
     }
 
+    /// What a crash at any moment of the life might have left: each such text is one that may be left in the state to which
+    /// some beginning of the notes leads, so it explains what was seen of the calls by then. Does nothing.
+    pub fn moments(&self)
+        ensures left { LeftSince N.board N.first self.now.notes (D.device self.now.disk) }
+        ensures explained { ExplainedSince N.board N.first self.now.notes (D.device self.now.disk) }
+    {
+        let _ = &self.yard;
+    }
+
     /// Ends the life, and hands the disk back as it is.
     pub fn close(self) -> D
-        ensures { result ≡ self.disk }
+        ensures disk { result ≡ self.disk }
+        ensures left { LeftSince N.board N.first self.notes (D.device result) }
+        ensures explained { ExplainedSince N.board N.first self.notes (D.device result) }
     {
         self.yard.close()
     }
