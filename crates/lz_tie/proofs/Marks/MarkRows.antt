@@ -13,7 +13,7 @@ use Rattle.lz_machine.specs.Yards.{Shape}
 use Rattle.lz_board.specs.declared.view.What.TheVariants.{Called, Played, Found}
 use Rattle.lz_board.specs.declared.view.Note.{Note}
 use Rattle.lz_board.specs.Notes.{note_by, load_note, steps_of}
-use Rattle.lz_tie.specs.Marks.{calls_in, number_of, marks_in}
+use Rattle.lz_tie.specs.Marks.{calls_in, number_of, marks_in, Shows}
 use Rattle.lz_tie.specs.OwnCalls.{AsAnswered, AsRefused, SeenCall, calls_of, told}
 
 abbrev shape : Shape
@@ -41,6 +41,10 @@ answer_is = refl
 -- the answer is that of its own pass's call, and not of the newest one
 of_no_other : marks_in shape answered ≡ answer 2 true ∷ Call 2 1 (Add 12) ∷ Call 1 2 (Has 9) ∷ [] → ⊥
 of_no_other same = absurd cc
+
+-- what came since
+answer_since : Shows shape both answered (answer 1 true ∷ [])
+answer_since = refl
 
 calls_count : calls_in answered ≡ 2
 calls_count = refl
