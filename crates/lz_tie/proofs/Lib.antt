@@ -4,6 +4,8 @@ pub mod Hold
 pub mod Reuse
 pub mod Replies
 pub mod Start
+pub mod Moments
 pub mod AnswerRows
+pub mod OneCallerRows
 pub mod Calls
 pub mod Marks

@@ -1,1 +1,3 @@
 pub mod OpenedYard
+pub mod OpenedMoments
+pub mod FirstSets

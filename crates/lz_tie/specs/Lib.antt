@@ -1,5 +1,7 @@
 pub mod NotedRuns
+pub mod OnePass
 pub mod Answers
+pub mod OneCaller
 pub mod Holds
 pub mod Reuse
 pub mod UnderWay
@@ -7,3 +9,4 @@ pub mod Counting
 pub mod Marks
 pub mod RunningSets
 pub mod OwnCalls
+pub mod Moments

@@ -5,11 +5,13 @@ ghost use Rattle.lz_machine.specs.declared.event.Event.TheVariants.{SeePin};
 ghost use Rattle.lz_machine.specs.Calls.{event_at};
 ghost use Rattle.lz_machine.specs.Runs.{mark_of_turn, reply_at};
 ghost use Rattle.lz_board.specs.declared.view.What.TheVariants.{Called, Played};
-ghost use Rattle.lz_board.specs.Notes.{note_by, shape_of, trace_of};
+ghost use Rattle.lz_board.specs.Notes.{Extends, note_by, shape_of, trace_of};
 ghost use Rattle.lz_board.specs.Plays.{found_note};
 ghost use Rattle.lz_tie.specs.Marks.{Shows, calls_in, number_of};
 ghost use Rattle.lz_board.specs.Seats.{IsOf, IsPenOf, id_of, notes, part};
+ghost use Rattle.lz_tie.specs.OnePass.{OnlyOwn};
 ghost use Rattle.lz_tie.specs.Holds.{HasCall, Holds, IsIdle, IsLocked, IsTurn, Turned, begins_with};
+ghost use Rattle.lz_tie.specs.Moments.{ExplainedSince, LeftSince};
 
 use crate::calling::call_joined;
 use crate::named::Named;
@@ -33,12 +35,14 @@ pub struct Locked<N: Named, D: Disk> {
 impl<N: Named, D: Disk> Model for Locked<N, D> {
     ghost use Rattle.lz_board.specs.Seats.{IsPenOf, notes};
     ghost use Rattle.lz_tie.specs.Holds.{IsLocked, LockedOver};
+    ghost use Rattle.lz_tie.specs.Moments.{LeftSince};
 
     ghost Value = { LockedOver D };
 
     ghost view = { λ l. record { notes = notes l.pen; yard = l.yard.yard; disk = l.yard.disk } };
 
-    ghost invariant = { λ l. IsPenOf N.board l.pen × IsLocked N.board (notes l.pen) l.yard.yard (D.device l.yard.disk) };
+    ghost invariant = { λ l. IsPenOf N.board l.pen × IsLocked N.board (notes l.pen) l.yard.yard (D.device l.yard.disk)
+        × LeftSince N.board N.first (notes l.pen) (D.device l.yard.disk) };
 }
 
 impl<N: Named, D: Disk> Locked<N, D> {
@@ -46,6 +50,7 @@ impl<N: Named, D: Disk> Locked<N, D> {
     pub fn new(yard: Yard<D>, pen: Pen) -> Locked<N, D>
         requires pen { IsPenOf N.board pen }
         requires yard { IsLocked N.board (notes pen) yard.yard (D.device yard.disk) }
+        requires left { LeftSince N.board N.first (notes pen) (D.device yard.disk) }
         ensures { result ≡ record { notes = notes pen; yard = yard.yard; disk = yard.disk } }
     {
         Locked {
@@ -56,7 +61,7 @@ impl<N: Named, D: Disk> Locked<N, D> {
     }
 
     /// One hold: plays the next event of the pass's call, which is no load and no look at a pin word. In a set of
-    /// one pass nothing was published that the pass hasn't seen.
+    /// one pass nothing was published that the pass hasn't seen, and nothing changed since the life began but by it.
     pub fn play(&mut self, board: &Board, pass: &mut Pass, caller: &Caller, event: Event) -> Turn
         requires board { id_of board.now ≡ N.board }
         requires pass { IsOf N.board pass.old }
@@ -66,6 +71,7 @@ impl<N: Named, D: Disk> Locked<N, D> {
         ensures holds { Holds N.board.opened self.old.notes self.new.notes (note_by (part pass.old).number (Played event result.outcome) result.published) (part pass.old) (part pass.new) }
         ensures turned { Turned N.board.opened self.old.notes (part pass.old) caller.now.command caller.now.progress event result.outcome result.published }
         ensures alone { N.board.sizes.passes ≡ 1 → trace_of N.board.opened self.old.notes ≡ (part pass.old).known }
+        ensures own { N.board.sizes.passes ≡ 1 → OnlyOwn (part pass.old).number N.board.opened (trace_of N.board.opened self.old.notes) }
     {
         board.join(&mut self.pen, pass);
         let turn = play_joined(board, &mut self.pen, &mut self.yard, pass, caller, event);
@@ -99,7 +105,8 @@ impl<N: Named, D: Disk> Locked<N, D> {
     }
 
     /// The first hold of a call: the pen finds the pass's own pin word, and the call's Invoke is played and noted. The answer
-    /// is that of the Invoke: OldFile for an Add of a key that the file's format can't hold, which is answered next.
+    /// is that of the Invoke: OldFile for an Add of a key that the file's format can't hold, which is answered next. The
+    /// pass had seen all that the life began with.
     pub fn call(&mut self, board: &Board, pass: &mut Pass, command: Command) -> Outcome
         requires board { id_of board.now ≡ N.board }
         requires pass { IsOf N.board pass.old }
@@ -108,6 +115,7 @@ impl<N: Named, D: Disk> Locked<N, D> {
         ensures shows { Shows (shape_of N.board.sizes) self.old.notes self.new.notes (Call (suc (calls_in self.old.notes)) (part pass.old).number command ∷ []) }
         ensures holds { Holds N.board.opened (found_note (part pass.old).number (part pass.old).pin ∷ self.old.notes) self.new.notes (note_by (part pass.old).number (Called command self.old.yard.vault.format) None) (part pass.old) (part pass.new) }
         ensures outcome { result ≡ begins_with self.old.yard.vault.format command }
+        ensures opened { Extends (part pass.old).known N.board.opened }
     {
         board.join(&mut self.pen, pass);
         let number = pass.number();
@@ -117,9 +125,20 @@ impl<N: Named, D: Disk> Locked<N, D> {
         outcome
     }
 
+    /// What a crash at any moment of the life might have left: each such text is one that may be left in the state to which
+    /// some beginning of the notes leads, so it explains what was seen of the calls by then. Does nothing.
+    pub fn moments(&self)
+        ensures left { LeftSince N.board N.first self.now.notes (D.device self.now.disk) }
+        ensures explained { ExplainedSince N.board N.first self.now.notes (D.device self.now.disk) }
+    {
+        let _ = &self.yard;
+    }
+
     /// Ends the life, and hands the disk back as it is.
     pub fn close(self) -> D
-        ensures { result ≡ self.disk }
+        ensures disk { result ≡ self.disk }
+        ensures left { LeftSince N.board N.first self.notes (D.device result) }
+        ensures explained { ExplainedSince N.board N.first self.notes (D.device result) }
     {
         self.yard.close()
     }

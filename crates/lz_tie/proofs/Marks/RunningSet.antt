@@ -8,7 +8,7 @@ use Rattle.lz_slot.specs.Histories.{History, Life, Runs, Fits, ChainTo, last_his
 use Rattle.lz_slot.specs.Sets.{Keys, Same, after, reply, key_of}
 use Rattle.lz_list.specs.Traces.{Trace, member}
 use Rattle.lz_machine.specs.Lasts.{Lasts}
-use Rattle.lz_machine.specs.Runs.{Up, Reached, Start, first_point, start_keys, shape_of as shape_in}
+use Rattle.lz_machine.specs.Runs.{State, Up, Service, Transition, Reached, Start, IsStart, run, IsRun, first_point, start_keys, shape_of as shape_in}
 use Rattle.lz_machine.specs.Yards.{Shape, Yard, first_trace}
 use Rattle.lz_machine.proofs.Ledger.Membership.{upto_all}
 use Rattle.lz_machine.proofs.Open.FirstPoint.{one_set}
@@ -18,7 +18,8 @@ use Rattle.lz_machine.proofs.Theorem.Reached.{every_history, what_lasts}
 use Rattle.lz_board.specs.declared.view.Note.{Note}
 use Rattle.lz_board.specs.Notes.{shape_of, trace_of}
 use Rattle.lz_board.specs.Seats.{BoardId}
-use Rattle.lz_tie.specs.Holds.{IsLocked}
+use Rattle.lz_tie.specs.NotedRuns.{ReadsAs}
+use Rattle.lz_tie.specs.Holds.{sizes_of, IsLocked}
 use Rattle.lz_tie.specs.Marks.{marks_in}
 use Rattle.lz_tie.specs.RunningSets.{members_of, Explains, HasHistory}
 use Rattle.lz_tie.proofs.Reading.TraceNotes.{trace_reads}
@@ -42,40 +43,38 @@ runs_from M (i ∷ L) S T U same runs = (
 fits_from : (M : History) (L : List ℕ) (S T U : Keys) → Same S T → Fits S M L U → Fits T M L U
 fits_from M L S T U same fits = record { once = fits.once; answered = fits.answered; not_refused = fits.not_refused; order = fits.order; runs = runs_from M L S T U same fits.runs }
 
-module _ (b : BoardId) (ns : List Note) (y : Yard) (dev : Device) (locked : IsLocked b ns y dev) where
-  abbrev start : Start
-  start = locked.tied.start
-
+-- The notes are read as this run, of a life that began with the board's first trace, and the run has come to this state.
+module _ (b : BoardId) (ns : List Note) (start : Start) (steps : List Transition) (sizes : b.sizes ≡ sizes_of start.shape) (starts : IsStart start) (runs : IsRun (first_point start) steps) (reads : ReadsAs (first_point start) ns steps)
+    (begins : b.opened ≡ (first_point start).trace) (service : Service) (medium : Medium) (state : (run (first_point start) steps).state ≡ Up service medium) where
   abbrev marks : History
   marks = marks_in (shape_of b.sizes) ns
 
   shape_is : shape_of b.sizes ≡ start.shape
-  shape_is =
-      ap shape_of locked.sizes ∙ locked.tied.yard.shape
-      ∙ subst (λ w. shape_in w ≡ start.shape) locked.tied.state (run_keeps_shape (first_point start) locked.tied.steps)
+  shape_is = ap shape_of sizes
 
-  reached : Reached start (Up locked.tied.service locked.tied.medium) marks (trace_of b.opened ns)
+  reached : Reached start (Up service medium) marks (trace_of b.opened ns)
   reached = record {
-    steps = locked.tied.steps;
-    starts = locked.tied.starts;
-    runs = locked.tied.runs;
-    state = locked.tied.state;
-    marks = (marks_read start ns locked.tied.steps locked.tied.runs locked.tied.reads).0 ∙ ap (λ (s : Shape). marks_in s ns) (sym shape_is);
-    trace = trace_reads (first_point start) ns locked.tied.steps locked.tied.reads ∙ ap (λ P. trace_of P ns) (sym locked.tied.begins);
+    steps = steps;
+    starts = starts;
+    runs = runs;
+    state = state;
+    marks = (marks_read start ns steps runs reads).0 ∙ ap (λ (s : Shape). marks_in s ns) (sym shape_is);
+    trace = trace_reads (first_point start) ns steps reads ∙ ap (λ P. trace_of P ns) (sym begins);
   }
 
   -- the life began with the members of the board's first trace
   began : Same (start_keys start) (members_of b.opened)
   began k =
       let P = first_trace start.shape start.text in
-      let first = (opened_up start.shape start.text (start_keys start) locked.tied.starts.buckets.0 locked.tied.starts.text locked.tied.starts.bytes 0).began in
-      sym (first.members k) ∙ ap (member k) (upto_all (length P) P (omega arith) ∙ sym locked.tied.begins)
+      let first = (opened_up start.shape start.text (start_keys start) starts.buckets.0 starts.text starts.bytes 0).began in
+      sym (first.members k) ∙ ap (member k) (upto_all (length P) P (omega arith) ∙ sym begins)
 
-  explained : (t : List ℕ) → IsImage locked.tied.medium t → Explains b ns t
+  -- each text that a crash may leave there explains what the notes show
+  pub explained : (t : List ℕ) → IsImage medium t → Explains b ns t
   explained t image =
-      let state = Up locked.tied.service locked.tied.medium in
-      let every = every_history start state marks (trace_of b.opened ns) t reached (inl image) in
-      let lasting = what_lasts start state marks (trace_of b.opened ns) t reached (inl image) in
+      let w = Up service medium in
+      let every = every_history start w marks (trace_of b.opened ns) t reached (inl image) in
+      let lasting = what_lasts start w marks (trace_of b.opened ns) t reached (inl image) in
       let life = one_life (shape_of b.sizes) (start_keys start) ns in
       let chain = subst (λ (l : List Life). ChainTo l every.0) life every.2 in
       record {
@@ -87,5 +86,13 @@ module _ (b : BoardId) (ns : List Note) (y : Yard) (dev : Device) (locked : IsLo
             (subst (λ (l : List Life). Lasts (trace_of b.opened ns) (last_history l) lasting.0) life lasting.2);
       }
 
-  pub history_of : HasHistory b ns dev
-  history_of honest t image = explained t (subst (λ (m : Medium). IsImage m t) (locked.tied.device honest) image)
+-- the lock's notes are read as the run that its invariant names
+pub locked_sizes : (b : BoardId) (ns : List Note) (y : Yard) (dev : Device) (locked : IsLocked b ns y dev) → b.sizes ≡ sizes_of locked.tied.start.shape
+locked_sizes b ns y dev locked =
+    let tie = locked.tied in
+    locked.sizes ∙ ap sizes_of (tie.yard.shape ∙ subst (λ (w : State). shape_in w ≡ tie.start.shape) tie.state (run_keeps_shape (first_point tie.start) tie.steps))
+
+pub history_of : (b : BoardId) (ns : List Note) (y : Yard) (dev : Device) → IsLocked b ns y dev → HasHistory b ns dev
+history_of b ns y dev locked = λ honest t image.
+    let tie = locked.tied in
+    explained b ns tie.start tie.steps (locked_sizes b ns y dev locked) tie.starts tie.runs tie.reads tie.begins tie.service tie.medium tie.state t (subst (λ (m : Medium). IsImage m t) (tie.device honest) image)

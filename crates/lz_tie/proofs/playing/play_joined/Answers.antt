@@ -7,6 +7,7 @@ use Rattle.lz_board.specs.Seats.{IsAtHand, carried, id_of, notes}
 use Rattle.lz_tie.specs.Holds.{InHold, IsExchange, Holds}
 use Rattle.lz_tie.proofs.Hold.Joining.{hand_noted, hand_moved}
 use Rattle.lz_tie.proofs.Hold.JoinedTurn as joined
+use Rattle.lz_tie.proofs.Moments.HeldMoments.{turn_left}
 use Rattle.lz_tie.proofs.playing.play_joined.Goals.{in-Some, in-None}
 use Rattle.lz_tie.proofs.playing.play_joined.Goals as goal
 
@@ -77,3 +78,8 @@ returns-clause-hand g c =
           (hand_moved (id_of c.args.board.now) c.args.pass.now w.shift.new.pass (carried c.args.pen.now) (carried w.shift.new.pen) opened ns (note_by c.number-number.result (Played c.args.event c.step-outcome.result) c.published-published.result) c.requires.hand w.shift.ensures.pass w.shift.ensures.carried
           (joined.moves (id_of c.args.board.now) (notes c.args.pen.now) c.args.yard.now.yard (g.D.Disk.device c.args.yard.now.disk) (carried c.args.pen.now) c.requires.hold c.args._caller.now c.args.event c.requires.turn c.number-number.result c.pin.result (c.number-number.ensures ∙ c.requires.hand.number) (c.pin.ensures ∙ c.requires.hand.pin) c.note_pin.new.self.yard c.note_pin.ensures.yard (g.D.Disk.device c.note_pin.new.self.disk) (ap (λ d. g.D.Disk.device d) c.note_pin.ensures.rest.1) c.step-outcome.result c.step-outcome.new.self.yard c.step-outcome.new.self.told (g.D.Disk.device c.step-outcome.new.self.disk) c.step-outcome.ensures.played c.step-outcome.ensures.shape c.published-published.result c.published-published.ensures (subst (IsExchange c.step-outcome.new.self.yard.words c.step-outcome.new.self.told.changed c.step-outcome.new.self.told.before) w.in-None.is c.exchange_of.ensures)).1)
     ]
+
+pub returns-clause-moments : goal.returns-clause-moments
+returns-clause-moments g c =
+    turn_left (id_of c.args.board.now) (notes c.args.pen.now) c.args.yard.now.yard (g.D.Disk.device c.args.yard.now.disk) (carried c.args.pen.now) c.requires.hold c.args._caller.now c.args.event c.requires.turn c.note_pin.new.self.yard c.step-outcome.new.self.yard c.number-number.result c.step-outcome.result c.step-outcome.new.self.told (g.D.Disk.device c.note_pin.new.self.disk) (g.D.Disk.device c.step-outcome.new.self.disk) (ap (λ d. g.D.Disk.device d) c.note_pin.ensures.rest.1)
+    c.step-outcome.ensures.played _ (notes c.match-exchange_of.pen) (returns-clause-holds g c).notes (returns-clause-hold g c).locked

@@ -1,4 +1,4 @@
-use Rattle.std.proofs.Common.{◌∷◌, ◌≤◌, sym, ap, ◌∙◌, subst}
+use Rattle.std.proofs.Common.{◌≤◌, ℕ, List, ◌∷◌, sym, ap, ◌∙◌, subst}
 use Rattle.lz_machine.specs.declared.event.Event.TheVariants.{SeePin}
 use Rattle.lz_machine.specs.Calls.{event_at}
 use Rattle.lz_machine.specs.Runs.{mark_of_turn, reply_at}
@@ -9,8 +9,10 @@ use Rattle.lz_board.specs.Seats.{BoardId, carried, id_of, notes, part}
 use Rattle.lz_tie.specs.Marks.{Shows, number_of}
 use Rattle.lz_tie.proofs.Marks.GrownMarks.{hold_shows}
 use Rattle.lz_tie.specs.Holds.{Turned}
+use Rattle.lz_tie.specs.Moments.{IsLeftBy}
 use Rattle.lz_tie.proofs.Hold.Joining.{joined, seen_turned}
 use Rattle.lz_tie.proofs.Hold.PinSight.{found, found_turn, seen_range}
+use Rattle.lz_tie.proofs.Moments.HeldMoments.{same_left, found_left, held_again}
 use Rattle.lz_tie.proofs.locked.Locked.see.Goals as goal
 
 pub play_joined-turn-requires-clause-hold : goal.play_joined-turn-requires-clause-hold
@@ -48,3 +50,11 @@ returns-clause-turned g c =
     (c.load_pin-value.ensures.notes ∙ ap (λ ns. found_note c.args.seen c.load_pin-value.result ∷ ns) c.join.ensures.notes) (c.load_pin-value.ensures.carried ∙ c.join.ensures.carried) c.play_joined-turn.ensures.turned in
     let with_board = subst (λ (b : BoardId). Turned b.opened (found_note c.args.seen c.load_pin-value.result ∷ notes c.self.inside.pen) (part c.args.pass.now) c.args.caller.now.command c.args.caller.now.progress event c.play_joined-turn.result.outcome c.play_joined-turn.result.published) c.requires.board gave in
     subst (λ v. Turned g.N.Named.board.opened (found_note c.args.seen c.load_pin-value.result ∷ v.notes) (part c.args.pass.now) c.args.caller.now.command c.args.caller.now.progress event c.play_joined-turn.result.outcome c.play_joined-turn.result.published) c.self.view_is with_board
+
+pub invariant_of-self : goal.invariant_of-self
+invariant_of-self g c =
+    let b = g.N.Named.board in
+    let was = notes c.self.inside.pen in
+    let found = λ (t : List ℕ) (l : IsLeftBy b.sizes b.opened was t). found_left b (found_note c.args.seen c.load_pin-value.result) (notes c.join.new.pen) (notes c.load_pin-value.new.pen) c.load_pin-value.ensures.notes t (same_left b was (notes c.join.new.pen) c.join.ensures.notes t l) in
+    held_again b (id_of c.args.board.now) c.requires.board g.N.Named.first (g.D.Disk.device c.self.inside.yard.disk) (g.D.Disk.device c.play_joined-turn.new.yard.disk) was (notes c.load_pin-value.new.pen) (notes c.play_joined-turn.new.pen) found c.play_joined-turn.ensures.moments c.self.invariant.2
+    c.play_joined-turn.new.yard.yard c.play_joined-turn.ensures.hold.locked c.cut.new.pen c.cut.ensures.pen c.cut.ensures.notes

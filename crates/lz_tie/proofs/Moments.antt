@@ -1,0 +1,2 @@
+pub mod LeftBeginnings
+pub mod HeldMoments

@@ -1,0 +1,136 @@
+-- One hold: what a crash might have left in it is left by the notes before it or by those after it.
+use Rattle.std.proofs.Common.{◌≡◌, ◌⊎◌, inl, inr, ⊎_elim, ℕ, List, [], ◌∷◌, length, refl, sym, subst, arith}
+use Rattle.std.specs.Prelude.{IsTrue}
+use Rattle.lz_disk.specs.Images.{IsImage}
+use Rattle.lz_disk.specs.Devices.{Device, LeavesOnly}
+use Rattle.lz_vault.specs.Vaults.{LeavesEither}
+use Rattle.lz_machine.specs.declared.event.Event.{Event}
+use Rattle.lz_machine.specs.declared.event.Outcome.{Outcome}
+use Rattle.lz_machine.specs.Yards.{Yard}
+use Rattle.lz_machine.specs.Orders.{Calling}
+use Rattle.lz_yard.specs.declared.told.Told.{Told}
+use Rattle.lz_yard.specs.Steps.{Played as PlayedOver}
+use Rattle.lz_yard.proofs.Events.KeptFit.{fault_or_not}
+use Rattle.lz_board.specs.declared.view.Sizes.{Sizes}
+use Rattle.lz_board.specs.declared.view.Load.{Load}
+use Rattle.lz_board.specs.declared.view.Note.{Note}
+use Rattle.lz_board.specs.declared.view.Part.{Part}
+use Rattle.lz_board.specs.Notes.{splice, steps_of, shape_of}
+use Rattle.lz_board.specs.Plays.{noted}
+use Rattle.lz_board.specs.declared.board.Pen.{Pen}
+use Rattle.lz_board.specs.Seats.{BoardId, IsPenOf, notes}
+use Rattle.lz_tie.specs.NotedRuns.{AreNext}
+use Rattle.lz_tie.specs.Holds.{IsLocked, InHold, IsTurn, IsIdle}
+use Rattle.lz_tie.specs.Moments.{IsLeftBy, LeftSince, GoesOn, ExplainsBegun, ExplainedSince}
+use Rattle.lz_tie.proofs.Marks.RunningSet.{explained, locked_sizes}
+use Rattle.lz_tie.proofs.Moments.LeftBeginnings.{more_left, splice_left}
+
+-- what may be left of the lock's disk is left by all its notes
+pub now_left : (b : BoardId) (ns : List Note) (y : Yard) (dev : Device) → IsLocked b ns y dev → IsTrue dev.honest → (t : List ℕ) → IsImage dev.medium t → IsLeftBy b.sizes b.opened ns t
+now_left b ns y dev l honest t image =
+    let tie = l.tied in
+    record {
+      begun = record { later = []; before = ns; splits = refl; start = tie.start; steps = tie.steps; sizes = locked_sizes b ns y dev l; starts = tie.starts; runs = tie.runs; reads = tie.reads; begins = tie.begins };
+      service = tie.service;
+      medium = tie.medium;
+      state = tie.state;
+      leaves = subst (λ d. IsImage d t) (tie.device honest) image;
+    }
+
+-- Any step of the yard for a pass in a hold, noted behind its loads.
+module _ (b : BoardId) (ns : List Note) (y : Yard) (dev : Device) (h : Part) (hold : InHold b ns y dev h) (next : AreNext (shape_of b.sizes) h.number h.loads (steps_of h.number ns))
+    (y1 z' : Yard) (p : ℕ) (e : Event) (o : Outcome) (told : Told) (dev1 dev' : Device) (same : dev1 ≡ dev) (played : PlayedOver y1 p e o z' told dev1 dev')
+    (n : Note) (ns' : List Note) (notes : ns' ≡ noted b.opened ns h n) (locked : IsLocked b ns' z' dev') where
+  call : (dev'.honest ≡ dev.honest) × (IsTrue dev.honest → LeavesEither dev dev')
+  call = subst (λ (d : Device). (dev'.honest ≡ d.honest) × (IsTrue d.honest → LeavesEither d dev')) same (⊎_elim
+      (λ bad. let d = (played.failed bad).call in (d.honest, d.time))
+      (λ ok. let d = (played.done ok).call in (d.honest, d.time))
+      (fault_or_not o))
+
+  more : (t : List ℕ) → IsLeftBy b.sizes b.opened ns t → IsLeftBy b.sizes b.opened ns' t
+  more t l = subst (λ r. IsLeftBy b.sizes b.opened r t) (sym notes) (more_left b.sizes b.opened n (splice b.opened h.number h.loads ns) t
+      (splice_left b.sizes b.opened h.number hold.knows.numbered.0 h.base (length h.known) h.loads ns t hold.knows.quiet hold.knows.least hold.knows.order hold.knows.shown next l))
+
+  in_step : (honest : IsTrue dev.honest) (t : List ℕ) → IsImage dev.medium t ⊎ IsImage dev'.medium t → IsLeftBy b.sizes b.opened ns' t
+  in_step honest t image = ⊎_elim
+      (λ old. more t (now_left b ns y dev hold.locked honest t old))
+      (λ new. now_left b ns' z' dev' locked (subst IsTrue (sym call.0) honest) t new)
+      image
+
+  step_left : GoesOn b ns ns' dev dev'
+  step_left = record {
+    honest = call.0;
+    time = λ honest. let time = call.1 honest in record {
+      later = time.later;
+      each = λ t is. in_step honest t (time.each t is);
+      before = λ m t low is. ⊎_elim (λ old. inl old) (λ image. inr (in_step honest t image)) (time.before m t low is);
+    };
+    kept = more;
+  }
+
+-- the turn of a call
+pub turn_left : (b : BoardId) (ns : List Note) (y : Yard) (dev : Device) (h : Part) → InHold b ns y dev h → (c : Calling) (e : Event) → IsTurn ns h c e → (y1 z' : Yard) (p : ℕ) (o : Outcome) (told : Told) (dev1 dev' : Device) → dev1 ≡ dev
+    → PlayedOver y1 p e o z' told dev1 dev' → (n : Note) (ns' : List Note) → ns' ≡ noted b.opened ns h n → IsLocked b ns' z' dev' → GoesOn b ns ns' dev dev'
+turn_left b ns y dev h hold c e turn y1 z' p o told dev1 dev' same played n ns' is locked =
+    step_left b ns y dev h hold (subst (λ (x : Sizes × List Note). AreNext (shape_of x.0) h.number h.loads x.1) (λ i. (hold.knows.sized i, sym hold.knows.noted i)) turn.call.next)
+    y1 z' p e o told dev1 dev' same played n ns' is locked
+
+-- the first step of a call, before which its pass has made no loads
+pub call_left : (b : BoardId) (ns : List Note) (y : Yard) (dev : Device) (h : Part) → InHold b ns y dev h → IsIdle b.sizes h → (e : Event) (y1 z' : Yard) (p : ℕ) (o : Outcome) (told : Told) (dev1 dev' : Device) → dev1 ≡ dev
+    → PlayedOver y1 p e o z' told dev1 dev' → (n : Note) (ns' : List Note) → ns' ≡ noted b.opened ns h n → IsLocked b ns' z' dev' → GoesOn b ns ns' dev dev'
+call_left b ns y dev h hold idle e y1 z' p o told dev1 dev' same played n ns' is locked =
+    step_left b ns y dev h hold (subst (λ (hs : List Load). AreNext (shape_of b.sizes) h.number hs (steps_of h.number ns)) (sym idle.no_loads) tt)
+    y1 z' p e o told dev1 dev' same played n ns' is locked
+
+-- what holds of each text that might have been left
+leaves_more : (first dev : Device) (P Q : List ℕ → Type 0) → ((t : List ℕ) → P t → Q t) → LeavesOnly first dev (λ t. IsImage first.medium t ⊎ P t) → LeavesOnly first dev (λ t. IsImage first.medium t ⊎ Q t)
+leaves_more first dev P Q more known = record {
+  later = known.later;
+  each = λ t is. turn t (known.each t is);
+  before = λ m t low is. ⊎_elim (λ old. inl old) (λ p. inr (turn t p)) (known.before m t low is);
+}
+  where
+    turn : (t : List ℕ) → IsImage first.medium t ⊎ P t → IsImage first.medium t ⊎ Q t
+    turn t is = ⊎_elim (λ old. inl old) (λ p. inr (more t p)) is
+
+-- what a beginning of the notes leaves explains it
+left_explains : (b : BoardId) (ns : List Note) (t : List ℕ) → IsLeftBy b.sizes b.opened ns t → ExplainsBegun b ns t
+left_explains b ns t l = let g = l.begun in record {
+  later = g.later;
+  before = g.before;
+  splits = g.splits;
+  explains = explained b g.before g.start g.steps g.sizes g.starts g.runs g.reads g.begins l.service l.medium l.state t l.leaves;
+}
+
+pub since_explained : (b : BoardId) (first : Device) (ns : List Note) (dev : Device) → LeftSince b first ns dev → ExplainedSince b first ns dev
+since_explained b first ns dev left = λ honest. leaves_more first dev (IsLeftBy b.sizes b.opened ns) (ExplainsBegun b ns) (left_explains b ns) (left honest)
+
+-- notes that are the same, and notes of which one is more
+pub same_left : (b : BoardId) (ns ns' : List Note) → ns' ≡ ns → (t : List ℕ) → IsLeftBy b.sizes b.opened ns t → IsLeftBy b.sizes b.opened ns' t
+same_left b ns ns' notes t l = subst (λ r. IsLeftBy b.sizes b.opened r t) (sym notes) l
+
+pub found_left : (b : BoardId) (n : Note) (ns ns' : List Note) → ns' ≡ n ∷ ns → (t : List ℕ) → IsLeftBy b.sizes b.opened ns t → IsLeftBy b.sizes b.opened ns' t
+found_left b n ns ns' notes t l = same_left b (n ∷ ns) ns' notes t (more_left b.sizes b.opened n ns t l)
+
+-- what might have been left goes on over a hold
+gone_on : (b : BoardId) (first dev dev' : Device) (ns was is : List Note) → ((t : List ℕ) → IsLeftBy b.sizes b.opened ns t → IsLeftBy b.sizes b.opened was t) → GoesOn b was is dev dev' → LeftSince b first ns dev → LeftSince b first is dev'
+gone_on b first dev dev' ns was is found on left = λ honest. over (left (subst IsTrue on.honest honest)) (on.time (subst IsTrue on.honest honest))
+  where
+    turn : (t : List ℕ) → IsImage first.medium t ⊎ IsLeftBy b.sizes b.opened ns t → IsImage first.medium t ⊎ IsLeftBy b.sizes b.opened is t
+    turn t known = ⊎_elim (λ old. inl old) (λ l. inr (on.kept t (found t l))) known
+
+    over : LeavesOnly first dev (λ t. IsImage first.medium t ⊎ IsLeftBy b.sizes b.opened ns t) → LeavesOnly dev dev' (IsLeftBy b.sizes b.opened is) → LeavesOnly first dev' (λ t. IsImage first.medium t ⊎ IsLeftBy b.sizes b.opened is t)
+    over known time = let past = known.later in let later = time.later in record {
+      later = omega (arith, past, later);
+      each = λ t left. ⊎_elim (λ earlier. turn t (known.each t earlier)) (λ l. inr l) (time.before first.moment t past left);
+      before = λ m t low left. ⊎_elim (λ earlier. ⊎_elim (λ old. inl old) (λ p. inr (turn t p)) (known.before m t low earlier)) (λ l. inr (inr l)) (time.before m t (omega (arith, low, past)) left);
+    }
+
+-- the lock's invariant of what it keeps after a hold
+pub held_again : (b board : BoardId) → board ≡ b → (first dev dev' : Device) (ns was is : List Note) → ((t : List ℕ) → IsLeftBy b.sizes b.opened ns t → IsLeftBy b.sizes b.opened was t) → GoesOn board was is dev dev' → LeftSince b first ns dev
+    → (y : Yard) → IsLocked board is y dev' → (pen : Pen) → IsPenOf board pen → notes pen ≡ is → IsPenOf b pen × IsLocked b (notes pen) y dev' × LeftSince b first (notes pen) dev'
+held_again b board same first dev dev' ns was is found on left y locked pen of_board noted = (
+  subst (λ (q : BoardId). IsPenOf q pen) same of_board,
+  subst (λ (x : BoardId × List Note). IsLocked x.0 x.1 y dev') (λ i. (same i, sym noted i)) locked,
+  subst (λ r. LeftSince b first r dev') (sym noted) (gone_on b first dev dev' ns was is found (subst (λ (q : BoardId). GoesOn q was is dev dev') same on) left),
+)

@@ -1,0 +1,51 @@
+-- A text that holds the set which an open read explains what was seen before the first call.
+use Rattle.std.proofs.Common.{◌≡◌, ℕ, List, [], refl, sym, ap, ◌∙◌, subst, le_refl}
+use Rattle.std.proofs.lemmas.List.{append-nil}
+use Rattle.std.specs.Prelude.{IsTrue}
+use Rattle.lz_slot.specs.Sets.{Keys}
+use Rattle.lz_slot.specs.Bytes.{Holds}
+use Rattle.lz_slot.proofs.Files.HeldSets.{holds_same_set}
+use Rattle.lz_disk.specs.Devices.{Device}
+use Rattle.lz_disk.specs.Images.{IsImage, at_rest}
+use Rattle.lz_machine.specs.Yards.{Yard, first_trace}
+use Rattle.lz_machine.specs.Runs.{opened_service}
+use Rattle.lz_machine.proofs.Open.FirstPoint.{one_set}
+use Rattle.lz_yard.specs.Filling.{OpensYard}
+use Rattle.lz_board.specs.declared.view.Note.{Note}
+use Rattle.lz_board.specs.Opened.{sizes_in, opened_by}
+use Rattle.lz_board.specs.Seats.{BoardId}
+use Rattle.lz_board.proofs.Start.FirstWords.{opens_text}
+use Rattle.lz_tie.specs.Holds.{sizes_of}
+use Rattle.lz_tie.specs.RunningSets.{Explains}
+use Rattle.lz_tie.specs.Moments.{ExplainsBegun}
+use Rattle.lz_tie.proofs.Marks.RunningSet.{explained}
+use Rattle.lz_tie.proofs.Start.OpenedYard.{opened_sizes}
+
+module _ (b : BoardId) (before after : Device) (buckets passes : ℕ) (y : Yard) (opens : OpensYard before after buckets passes y) (in_words : b.sizes ≡ sizes_in y.words) (trace : b.opened ≡ opened_by y.words) where
+  abbrev read : List ℕ
+  read = opens.first.0
+
+  sizes : b.sizes ≡ sizes_of y.shape
+  sizes = in_words ∙ opened_sizes y read opens.first.2 opens.first.3
+
+  begins : b.opened ≡ first_trace y.shape read
+  begins = trace ∙ (opens_text y.shape read y.words opens.first.2.text.no_key_twice (ap (λ (x : Yard). x.words) opens.first.3)).1
+
+  -- the text that was read, which nothing may leave otherwise
+  itself : IsImage (at_rest read) read
+  itself = record { bytes = opens.first.2.bytes; no_shorter = le_refl _; no_longer = le_refl _; sure = λ i low sure. refl }
+
+  first_explains : Explains b [] read
+  first_explains = explained b [] (record { shape = y.shape; text = read }) [] sizes opens.first.2 tt refl begins (opened_service y.shape read) (at_rest read) refl read itself
+
+  -- so each text that might have been left before the open explains no calls, where each holds the set that was read
+  pub same_set_explains : (ns : List Note) → IsTrue before.honest → (S : Keys) → Holds before.medium.seen b.sizes.slots S → (t : List ℕ) → Holds t b.sizes.slots S → ExplainsBegun b ns t
+  same_set_explains ns honest S seen t holds =
+      let e = first_explains in
+      let was = subst (λ r. Holds r b.sizes.slots S) (sym (opens.first.1 honest)) seen in
+      record {
+        later = ns;
+        before = [];
+        splits = sym (append-nil ns);
+        explains = record { found = e.found; holds = holds_same_set t b.sizes.slots S e.found (one_set read b.sizes.slots S e.found was e.holds) holds; calls = e.calls; fits = e.fits; lasts = e.lasts };
+      }

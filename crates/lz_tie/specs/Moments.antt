@@ -1,0 +1,61 @@
+-- What a crash might have left at any moment of a life, by the notes of its calls. Notes and steps stand newest first.
+use Rattle.std.specs.Prelude.{◌≡◌, ◌⊎◌, ℕ, false, IsTrue, List, [], ◌++◌}
+use Rattle.lz_disk.specs.Images.{Medium, IsImage, at_rest}
+use Rattle.lz_disk.specs.Devices.{Device, LeavesOnly}
+use Rattle.lz_list.specs.Traces.{Trace}
+use Rattle.lz_machine.specs.Runs.{Start, IsStart, Up, Service, Transition, run, IsRun, first_point}
+use Rattle.lz_board.specs.declared.view.Sizes.{Sizes}
+use Rattle.lz_board.specs.declared.view.Note.{Note}
+use Rattle.lz_board.specs.Seats.{BoardId}
+use Rattle.lz_tie.specs.NotedRuns.{ReadsAs}
+use Rattle.lz_tie.specs.Holds.{sizes_of}
+use Rattle.lz_tie.specs.RunningSets.{Explains}
+
+-- Some beginning of the notes is read as a run of the machine, on a board of these sizes whose life began with this trace.
+pub record Begun (z : Sizes) (opened : Trace) (ns : List Note) : Type 0 where
+  pub later : List Note
+  pub before : List Note
+  pub splits : ns ≡ later ++ before
+  pub start : Start
+  pub steps : List Transition
+  pub sizes : z ≡ sizes_of start.shape
+  pub starts : IsStart start
+  pub runs : IsRun (first_point start) steps
+  pub reads : ReadsAs (first_point start) before steps
+  pub begins : opened ≡ (first_point start).trace
+
+-- A crash may leave the text in the last state of the run that some beginning of the notes is read as.
+pub record IsLeftBy (z : Sizes) (opened : Trace) (ns : List Note) (t : List ℕ) : Type 0 where
+  pub begun : Begun z opened ns
+  pub service : Service
+  pub medium : Medium
+  pub state : (run (first_point begun.start) begun.steps).state ≡ Up service medium
+  pub leaves : IsImage medium t
+
+-- a device that says nothing
+abbrev pub no_device : Device
+no_device = record { honest = false; medium = at_rest []; moment = 0; left_since = λ t c. ⊥; calls = 0; faults = 0; must_fail = ⊥ }
+
+-- Each text that a crash might have left since the disk was like this is one that might have been left then, or one that some
+-- beginning of the notes leaves. That is so of an honest device.
+abbrev pub LeftSince : BoardId → Device → List Note → Device → Type 0
+LeftSince b first ns disk = IsTrue disk.honest → LeavesOnly first disk (λ t. IsImage first.medium t ⊎ IsLeftBy b.sizes b.opened ns t)
+
+-- A step of the device, and of the notes: each text that a crash in it might have left is left by some beginning of the notes
+-- after it, and so is what a beginning of those before it leaves.
+pub record GoesOn (b : BoardId) (was is : List Note) (old new : Device) : Type 0 where
+  pub honest : new.honest ≡ old.honest
+  pub time : IsTrue old.honest → LeavesOnly old new (IsLeftBy b.sizes b.opened is)
+  pub kept : (t : List ℕ) → IsLeftBy b.sizes b.opened was t → IsLeftBy b.sizes b.opened is t
+
+-- The text explains the calls and answers of some beginning of the notes.
+pub record ExplainsBegun (b : BoardId) (ns : List Note) (t : List ℕ) : Type 0 where
+  pub later : List Note
+  pub before : List Note
+  pub splits : ns ≡ later ++ before
+  pub explains : Explains b before t
+
+-- So each text that a crash might have left since the disk was like this is one that might have been left then, or explains
+-- what was seen of the calls by some moment since.
+abbrev pub ExplainedSince : BoardId → Device → List Note → Device → Type 0
+ExplainedSince b first ns disk = IsTrue disk.honest → LeavesOnly first disk (λ t. IsImage first.medium t ⊎ ExplainsBegun b ns t)
