@@ -7,7 +7,7 @@ ghost use Rattle.lz_board.specs.Notes.{note_by, shape_of, trace_of};
 ghost use Rattle.lz_board.specs.Plays.{found_note};
 ghost use Rattle.lz_board.specs.Seats.{IsOf, IsPenOf, id_of, notes, part};
 ghost use Rattle.lz_tie.specs.Holds.{HasCall, Holds, IsIdle, IsLocked, IsTurn, Turned, begins_with};
-ghost use Rattle.lz_tie.specs.Moments.{ExplainedSince, LeftSince};
+ghost use Rattle.lz_tie.specs.Moments.{ExplainedSince, HoldExplains, LeftSince};
 
 use crate::calling::call_joined;
 use crate::named::Named;
@@ -63,6 +63,7 @@ impl<N: Named, D: Disk> Locked<N, D> {
         requires pass { IsOf N.board pass.old }
         requires turn { IsTurn self.old.notes (part pass.old) caller.now event }
         ensures pass { IsOf N.board pass.new }
+        ensures moments { HoldExplains N.board self.old.notes self.new.notes (D.device self.old.disk) (D.device self.new.disk) }
         ensures holds { Holds N.board.opened self.old.notes self.new.notes (note_by (part pass.old).number (Played event result.outcome) result.published) (part pass.old) (part pass.new) }
         ensures turned { Turned N.board.opened self.old.notes (part pass.old) caller.now.command caller.now.progress event result.outcome result.published }
         ensures alone { N.board.sizes.passes ≡ 1 → trace_of N.board.opened self.old.notes ≡ (part pass.old).known }
@@ -86,6 +87,7 @@ impl<N: Named, D: Disk> Locked<N, D> {
         requires call { HasCall (part pass.old) caller.now }
         requires event { event_at (shape_of (part pass.old).sizes) caller.now.command caller.now.progress ≡ SeePin seen 0 }
         ensures pass { IsOf N.board pass.new }
+        ensures moments { HoldExplains N.board self.old.notes self.new.notes (D.device self.old.disk) (D.device self.new.disk) }
         ensures holds { Holds N.board.opened (found_note seen result.0 ∷ self.old.notes) self.new.notes (note_by (part pass.old).number (Played (SeePin seen result.0) result.1.outcome) result.1.published) (part pass.old) (part pass.new) }
         ensures turned { Turned N.board.opened (found_note seen result.0 ∷ self.old.notes) (part pass.old) caller.now.command caller.now.progress (SeePin seen result.0) result.1.outcome result.1.published }
     {
@@ -104,6 +106,7 @@ impl<N: Named, D: Disk> Locked<N, D> {
         requires pass { IsOf N.board pass.old }
         requires idle { IsIdle N.board.sizes (part pass.old) }
         ensures pass { IsOf N.board pass.new }
+        ensures moments { HoldExplains N.board self.old.notes self.new.notes (D.device self.old.disk) (D.device self.new.disk) }
         ensures holds { Holds N.board.opened (found_note (part pass.old).number (part pass.old).pin ∷ self.old.notes) self.new.notes (note_by (part pass.old).number (Called command self.old.yard.vault.format) None) (part pass.old) (part pass.new) }
         ensures outcome { result ≡ begins_with self.old.yard.vault.format command }
     {
