@@ -17,6 +17,7 @@ ghost use Rattle.lz_board.specs.Seats.{IsOf, id_of, part};
 ghost use Rattle.lz_tie.specs.Answers.{Answers};
 ghost use Rattle.lz_tie.specs.Counting.{Advanced, Counts, IsCounted, seen_pass};
 ghost use Rattle.lz_tie.specs.Holds.{IsIdle};
+ghost use Rattle.lz_tie.specs.Moments.{HoldExplains};
 
 use crate::locked::Locked;
 use crate::named::Named;
@@ -69,6 +70,7 @@ impl<N: Named, D: Disk> Locked<N, D> {
         requires buckets { (buckets ≡ N.board.sizes.buckets) × (1 ≤ buckets) × (buckets ≤ most_buckets) }
         requires passes { (passes ≡ N.board.sizes.passes) × (1 ≤ passes) × (passes ≤ most_passes) }
         ensures pass { IsOf N.board pass.new }
+        ensures moments { HoldExplains N.board self.old.notes self.new.notes (D.device self.old.disk) (D.device self.new.disk) }
         ensures counts { Counts N.board command self.old.yard.vault.format (part pass.old) result (part pass.new) }
     {
         let asked = command;
@@ -83,6 +85,7 @@ impl<N: Named, D: Disk> Locked<N, D> {
         requires counted { IsCounted N.board caller.now (part pass.old) }
         requires load { hop_of (event_at (shape_with caller.now) caller.now.command caller.now.progress) ≡ None }
         ensures pass { IsOf N.board pass.new }
+        ensures moments { HoldExplains N.board self.old.notes self.new.notes (D.device self.old.disk) (D.device self.new.disk) }
         ensures advanced { Advanced N.board self.new.notes caller.now result (part pass.old) (part pass.new) }
     {
         let event = caller.next();
@@ -105,6 +108,7 @@ impl<N: Named, D: Disk> Locked<N, D> {
         requires load { hop_of (event_at (shape_with caller.old) caller.old.command caller.old.progress) ≡ None }
         requires going { reply_at caller.old.progress ≡ None }
         ensures pass { IsOf N.board pass.new }
+        ensures moments { HoldExplains N.board self.old.notes self.new.notes (D.device self.old.disk) (D.device self.new.disk) }
         ensures advanced { Advanced N.board self.new.notes caller.old result (part pass.old) (part pass.new) }
         ensures caller { caller.new ≡ record caller.old { progress = progress_after (shape_with caller.old) caller.old.command caller.old.progress result.outcome } }
         ensures goes { (c : Asked) (format : Format) (before : Part) → Counts N.board c format before caller.old (part pass.old) → Counts N.board c format before caller.new (part pass.new) }
@@ -121,6 +125,7 @@ impl<N: Named, D: Disk> Locked<N, D> {
         requires counted { IsCounted N.board caller.now (part pass.old) }
         requires reply { caller.now.progress ≡ Answering _reply }
         ensures pass { IsOf N.board pass.new }
+        ensures moments { HoldExplains N.board self.old.notes self.new.notes (D.device self.old.disk) (D.device self.new.disk) }
         ensures idle { IsIdle N.board.sizes (part pass.new) }
         ensures answers { (c : Asked) (format : Format) (before : Part) → before.sizes ≡ N.board.sizes → Counts N.board c format before caller.now (part pass.old) → Answers c _reply before (part pass.new) }
     {
