@@ -1,8 +1,9 @@
 -- One hold: what a crash might have left in it is left by the notes before it or by those after it.
-use Rattle.std.proofs.Common.{◌≡◌, ◌⊎◌, inl, inr, ⊎_elim, ℕ, List, [], ◌∷◌, length, refl, sym, subst, arith}
+use Rattle.std.proofs.Common.{◌≡◌, ◌⊎◌, inl, inr, ⊎_elim, ℕ, List, [], ◌∷◌, length, refl, sym, subst}
 use Rattle.std.specs.Prelude.{IsTrue}
 use Rattle.lz_disk.specs.Images.{IsImage}
-use Rattle.lz_disk.specs.Devices.{Device, LeavesOnly}
+use Rattle.lz_disk.specs.Devices.{Device}
+use Rattle.lz_disk.proofs.Moments.{leaves_then, leaves_more}
 use Rattle.lz_vault.specs.Vaults.{LeavesEither}
 use Rattle.lz_machine.specs.declared.event.Event.{Event}
 use Rattle.lz_machine.specs.declared.event.Outcome.{Outcome}
@@ -69,17 +70,6 @@ call_left b ns y dev h hold idle e y1 z' p o told dev1 dev' same played n ns' is
     step_left b ns y dev h hold (subst (λ (hs : List Load). AreNext (shape_of b.sizes) h.number hs (steps_of h.number ns)) (sym idle.no_loads) tt)
     y1 z' p e o told dev1 dev' same played n ns' is locked
 
--- what holds of each text that might have been left
-leaves_more : (first dev : Device) (P Q : List ℕ → Type 0) → ((t : List ℕ) → P t → Q t) → LeavesOnly first dev (λ t. IsImage first.medium t ⊎ P t) → LeavesOnly first dev (λ t. IsImage first.medium t ⊎ Q t)
-leaves_more first dev P Q more known = record {
-  later = known.later;
-  each = λ t is. turn t (known.each t is);
-  before = λ m t low is. ⊎_elim (λ old. inl old) (λ p. inr (turn t p)) (known.before m t low is);
-}
-  where
-    turn : (t : List ℕ) → IsImage first.medium t ⊎ P t → IsImage first.medium t ⊎ Q t
-    turn t is = ⊎_elim (λ old. inl old) (λ p. inr (more t p)) is
-
 -- what a beginning of the notes leaves explains it
 left_explains : (b : BoardId) (ns : List Note) (t : List ℕ) → IsLeftBy b.sizes b.opened ns t → ExplainsBegun b ns t
 left_explains b ns t l = let g = l.begun in record {
@@ -90,7 +80,8 @@ left_explains b ns t l = let g = l.begun in record {
 }
 
 pub since_explained : (b : BoardId) (first : Device) (ns : List Note) (dev : Device) → LeftSince b first ns dev → ExplainedSince b first ns dev
-since_explained b first ns dev left = λ honest. leaves_more first dev (IsLeftBy b.sizes b.opened ns) (ExplainsBegun b ns) (left_explains b ns) (left honest)
+since_explained b first ns dev left = λ honest. leaves_more first dev (λ t. IsImage first.medium t ⊎ IsLeftBy b.sizes b.opened ns t) (λ t. IsImage first.medium t ⊎ ExplainsBegun b ns t)
+    (λ t. ⊎_elim (λ old. inl old) (λ l. inr (left_explains b ns t l))) (left honest)
 
 -- notes that are the same, and notes of which one is more
 pub same_left : (b : BoardId) (ns ns' : List Note) → ns' ≡ ns → (t : List ℕ) → IsLeftBy b.sizes b.opened ns t → IsLeftBy b.sizes b.opened ns' t
@@ -101,39 +92,30 @@ found_left b n ns ns' notes t l = same_left b (n ∷ ns) ns' notes t (more_left 
 
 -- What might have been left goes on over a hold, from the lock's notes ns to these.
 module _ (b : BoardId) (first dev dev' : Device) (ns was is : List Note) (y y' : Yard) (locked : IsLocked b ns y dev) (locked' : IsLocked b is y' dev') (found : (t : List ℕ) → IsLeftBy b.sizes b.opened ns t → IsLeftBy b.sizes b.opened was t) (on : GoesOn b was is dev dev') where
+  abbrev In : List ℕ → Type 0
+  In t = IsImage dev.medium t ⊎ IsImage dev'.medium t
+
+  abbrev Left : List Note → List ℕ → Type 0
+  Left r t = IsImage first.medium t ⊎ IsLeftBy b.sizes b.opened r t
+
+  in_hold : IsTrue dev'.honest → (t : List ℕ) → In t → Left is t
+  in_hold honest t image = inr (⊎_elim
+      (λ old. on.kept t (found t (now_left b ns y dev locked (subst IsTrue on.honest honest) t old)))
+      (λ new. now_left b is y' dev' locked' honest t new)
+      image)
+
   gone_on : LeftSince b first ns dev → LeftSince b first is dev'
-  gone_on left = λ honest. over honest (left (subst IsTrue on.honest honest)) (on.time (subst IsTrue on.honest honest))
-    where
-      turn : (t : List ℕ) → IsImage first.medium t ⊎ IsLeftBy b.sizes b.opened ns t → IsImage first.medium t ⊎ IsLeftBy b.sizes b.opened is t
-      turn t known = ⊎_elim (λ old. inl old) (λ l. inr (on.kept t (found t l))) known
-
-      in_hold : IsTrue dev'.honest → (t : List ℕ) → IsImage dev.medium t ⊎ IsImage dev'.medium t → IsLeftBy b.sizes b.opened is t
-      in_hold honest t image = ⊎_elim
-          (λ old. on.kept t (found t (now_left b ns y dev locked (subst IsTrue on.honest honest) t old)))
-          (λ new. now_left b is y' dev' locked' honest t new)
-          image
-
-      over : IsTrue dev'.honest → LeavesOnly first dev (λ t. IsImage first.medium t ⊎ IsLeftBy b.sizes b.opened ns t) → LeavesEither dev dev' → LeavesOnly first dev' (λ t. IsImage first.medium t ⊎ IsLeftBy b.sizes b.opened is t)
-      over honest known time = let past = known.later in let later = time.later in record {
-        later = omega (arith, past, later);
-        each = λ t left. ⊎_elim (λ earlier. turn t (known.each t earlier)) (λ image. inr (in_hold honest t image)) (time.before first.moment t past left);
-        before = λ m t low left. ⊎_elim (λ earlier. ⊎_elim (λ old. inl old) (λ p. inr (turn t p)) (known.before m t low earlier)) (λ image. inr (inr (in_hold honest t image))) (time.before m t (omega (arith, low, past)) left);
-      }
+  gone_on left = λ honest. let was = subst IsTrue on.honest honest in
+      leaves_then first dev dev' (Left is)
+      (leaves_more first dev (Left ns) (Left is) (λ t. ⊎_elim (λ old. inl old) (λ l. inr (on.kept t (found t l)))) (left was))
+      (leaves_more dev dev' In (Left is) (in_hold honest) (on.time was))
 
   explains : HoldExplains b ns is dev dev'
-  explains honest =
-      let time = on.time honest in
-      record {
-        later = time.later;
-        each = λ t left. turn t (time.each t left);
-        before = λ m t low left. ⊎_elim (λ earlier. inl earlier) (λ image. inr (turn t image)) (time.before m t low left);
-      }
-    where
-      turn : (t : List ℕ) → IsImage dev.medium t ⊎ IsImage dev'.medium t → Explains b ns t ⊎ Explains b is t
-      turn t image = ⊎_elim
-          (λ old. inl (history_of b ns y dev locked honest t old))
-          (λ new. inr (history_of b is y' dev' locked' (subst IsTrue (sym on.honest) honest) t new))
-          image
+  explains honest = leaves_more dev dev' In (λ t. Explains b ns t ⊎ Explains b is t)
+      (λ t. ⊎_elim
+      (λ old. inl (history_of b ns y dev locked honest t old))
+      (λ new. inr (history_of b is y' dev' locked' (subst IsTrue (sym on.honest) honest) t new)))
+      (on.time honest)
 
 -- In the words of the code that holds the lock: its invariant afterwards, and what a crash in the hold might have left.
 module _ (b board : BoardId) (same : board ≡ b) (first dev dev' : Device) (ns was is : List Note) (found : (t : List ℕ) → IsLeftBy b.sizes b.opened ns t → IsLeftBy b.sizes b.opened was t) (on : GoesOn board was is dev dev')
