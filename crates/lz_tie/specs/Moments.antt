@@ -37,11 +37,6 @@ pub record IsLeftBy (z : Sizes) (opened : Trace) (ns : List Note) (t : List ℕ)
 abbrev pub no_device : Device
 no_device = record { honest = false; medium = at_rest []; moment = 0; left_since = λ t c. ⊥; calls = 0; faults = 0; must_fail = ⊥ }
 
--- The disk was like `first`, and a crash since might have left only what may be left of it then or of it now. That is so of an
--- honest device.
-abbrev pub BeganAs : Device → Device → Type 0
-BeganAs first disk = IsTrue disk.honest → LeavesEither first disk
-
 -- Each text that a crash might have left since the disk was like this is one that might have been left then, or one that some
 -- beginning of the notes leaves. That is so of an honest device.
 abbrev pub LeftSince : BoardId → Device → List Note → Device → Type 0

@@ -7,7 +7,7 @@ ghost use Rattle.lz_board.specs.Notes.{note_by, shape_of, trace_of};
 ghost use Rattle.lz_board.specs.Plays.{found_note};
 ghost use Rattle.lz_board.specs.Seats.{IsOf, IsPenOf, id_of, notes, part};
 ghost use Rattle.lz_tie.specs.Holds.{HasCall, Holds, IsIdle, IsLocked, IsTurn, Turned, begins_with};
-ghost use Rattle.lz_tie.specs.Moments.{BeganAs, ExplainedSince, HoldExplains, LeftSince};
+ghost use Rattle.lz_tie.specs.Moments.{ExplainedSince, HoldExplains, LeftSince};
 
 use crate::calling::call_joined;
 use crate::named::Named;
@@ -42,12 +42,11 @@ impl<N: Named, D: Disk> Model for Locked<N, D> {
 }
 
 impl<N: Named, D: Disk> Locked<N, D> {
-    /// The value under the lock of a set that was just opened: its board has the yard's words. What a crash might have left since
-    /// the disk was as N names it is known from here on.
+    /// The value under the lock of a set that was just opened: its board has the yard's words.
     pub fn new(yard: Yard<D>, pen: Pen) -> Locked<N, D>
         requires pen { IsPenOf N.board pen }
         requires yard { IsLocked N.board (notes pen) yard.yard (D.device yard.disk) }
-        requires began { BeganAs N.first (D.device yard.disk) }
+        requires left { LeftSince N.board N.first (notes pen) (D.device yard.disk) }
         ensures { result ≡ record { notes = notes pen; yard = yard.yard; disk = yard.disk } }
     {
         Locked {
