@@ -87,7 +87,7 @@ where
     W: Write + Drop,
     D: Disk + Send,
     N: Named + Send + Sync,
-    requires { blank.name ≡ N.name }
+    requires { blank.board ≡ N.board }
     ensures { (result.0 ≡ Status.Done) ⊎ (result.0 ≡ Status.Failed) }
 {
     let (set, passes) = blank.start::<N>();

@@ -46,7 +46,7 @@ fn ask_all<N: Named, R: Wait>(
     pass: Pass,
     count: usize,
 ) -> Option<Vec<Result<bool, Fault>>>
-    requires { MayCall N.name pass }
+    requires { MayCall N.board pass }
 {
     let mut pass = pass;
     let mut answers = Vec::new(alloc);
@@ -63,7 +63,7 @@ fn play<N: Named, R: Wait>(
     blank: Blank<MemoryDisk, NoGate>,
     count: usize,
 ) -> Option<Played>
-    requires { blank.name ≡ N.name }
+    requires { blank.board ≡ N.board }
 {
     let (set, mut passes) = blank.start::<N>();
     let pass = passes.pop()?;

@@ -128,7 +128,7 @@ fn visit<N: Named, R: Wait>(
     pass: Pass,
     turnstile: &Turnstile,
 ) -> Option<Meanwhile>
-    requires { MayCall N.name pass }
+    requires { MayCall N.board pass }
 {
     let mut pass = pass;
     let held = turnstile.await_hold(rt)?;
@@ -156,7 +156,7 @@ fn call_held<N: Named, R: Wait>(
     pass: Pass,
     turnstile: &Turnstile,
 ) -> Result<bool, Fault>
-    requires { MayCall N.name pass }
+    requires { MayCall N.board pass }
 {
     let mut pass = pass;
     let answer = ask(rt, set, &mut pass, turnstile.command);
@@ -172,18 +172,18 @@ fn meet<N: Named + Send + Sync, R: Threads + Wait + Sync>(
     second: Pass,
     turnstile: &Turnstile,
 ) -> Option<Met>
-    requires first { MayCall N.name first }
-    requires second { MayCall N.name second }
+    requires first { MayCall N.board first }
+    requires second { MayCall N.board second }
 {
     thread::scope(
         thread::scope_env(),
         rt,
         move |scope| -> Option<Met>
-            requires { MayCall N.name first × MayCall N.name second }
+            requires { MayCall N.board first × MayCall N.board second }
         {
             let thread = scope.spawn(
                 move || -> Result<bool, Fault>
-                    requires { MayCall N.name first }
+                    requires { MayCall N.board first }
                 { call_held(rt, set, first, turnstile) },
             );
             let Ok(thread) = thread else {
@@ -211,7 +211,7 @@ fn play<N: Named + Send + Sync, R: Threads + Wait + Sync>(
     blank: Blank<MemoryDisk, Gate>,
     turnstile: &Turnstile,
 ) -> Option<Scene>
-    requires { blank.name ≡ N.name }
+    requires { blank.board ≡ N.board }
 {
     let (set, mut passes) = blank.start::<N>();
     let mut second = passes.pop()?;

@@ -19,7 +19,7 @@ fn replies_of<N: Named, R: Wait>(
     blank: Blank<MemoryDisk, NoGate>,
     lines: &[u8],
 ) -> Option<Vec<u8>>
-    requires { blank.name ≡ N.name }
+    requires { blank.board ≡ N.board }
 {
     let (set, mut passes) = blank.start::<N>();
     let pass = passes.pop()?;

@@ -122,8 +122,8 @@ pub fn ask<G: StepGate, N: Named, R: Wait>(
     pass: &mut Pass,
     command: Command,
 ) -> Result<bool, Fault>
-    requires { MayCall N.name pass.old }
-    ensures { MayCall N.name pass.new }
+    requires { MayCall N.board pass.old }
+    ensures { MayCall N.board pass.new }
 {
     match command {
         Command::Add(key) => set.add(rt, pass, key),
@@ -139,7 +139,7 @@ fn churn<N: Named, R: Wait>(
     pass: Pass,
     rounds: u64,
 ) -> Tally
-    requires { MayCall N.name pass }
+    requires { MayCall N.board pass }
 {
     let mut pass = pass;
     let mut tally = Tally::new();
@@ -164,19 +164,19 @@ fn churn_all<N: Named + Send + Sync, R: Threads + Wait + Sync>(
     passes: Vec<Pass>,
     rounds: u64,
 ) -> Vec<Tally>
-    requires { All (MayCall N.name) passes.items }
+    requires { All (MayCall N.board) passes.items }
 {
     thread::scope(
         thread::scope_env(),
         rt,
         move |scope| -> Vec<Tally>
-            requires { All (MayCall N.name) passes.items }
+            requires { All (MayCall N.board) passes.items }
         {
             let mut threads = Vec::new(alloc);
             for pass in passes {
                 let thread = scope.spawn(
                     move || -> Tally
-                        requires { MayCall N.name pass }
+                        requires { MayCall N.board pass }
                     { churn(rt, set, pass, rounds) },
                 );
                 if let Ok(thread) = thread {
@@ -205,7 +205,7 @@ fn share<N: Named + Send + Sync, R: Threads + Wait + Sync>(
     blank: Blank<MemoryDisk, NoGate>,
     rounds: u64,
 ) -> Shared
-    requires { blank.name ≡ N.name }
+    requires { blank.board ≡ N.board }
 {
     let (set, passes) = blank.start::<N>();
     let tallies = churn_all(rt, alloc, &set, passes, rounds);

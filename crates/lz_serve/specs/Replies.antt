@@ -8,9 +8,10 @@ use Rattle.lz_proto.specs.declared.reply.Reply.{Reply}
 use Rattle.lz_proto.specs.declared.reply.Reply.TheVariants as reply
 use Rattle.lz_set.specs.declared.fault.Fault.{Fault}
 use Rattle.lz_set.specs.declared.fault.Fault.TheVariants.{Full, Halted, Worn, Device, OldFile}
-use Rattle.lz_set.specs.declared.pass.Pass.{Pass}
-use Rattle.lz_set.specs.Names.{Name}
-use Rattle.lz_set.specs.Answers.{IsAnswer}
+use Rattle.lz_board.specs.declared.pass.Pass.{Pass}
+use Rattle.lz_board.specs.Seats.{part}
+use Rattle.lz_tie.specs.Answers.{Answers}
+use Rattle.lz_set.specs.Answers.{reply_of as reply_told}
 
 -- the reply that tells what a call answered: of a device that failed, now or before, a client is told that the service halted
 abbrev pub reply_of : Result Bool Fault → Reply
@@ -29,11 +30,11 @@ command_of (Remove k) = Some (command.Remove k)
 command_of (Has k) = Some (command.Has k)
 command_of Quit = None
 
--- The reply tells the answer of one call of the pass, which is that of the request; the pass stays this one.
-pub record SeatAnswers (name : Name) (old : Pass) (request : Request) (reply : Reply) (new : Pass) : Type 0 where
+-- The reply tells the answer of one call of the pass, which is that of the request, and the pass has what the table of answers
+-- promises it.
+pub record SeatAnswers (old : Pass) (request : Request) (reply : Reply) (new : Pass) : Type 0 where
   pub c : Command
   pub asked : command_of request ≡ Some c
   pub answer : Result Bool Fault
-  pub call : IsAnswer name old.number c answer
+  pub call : Answers c (reply_told answer) (part old) (part new)
   pub told : reply ≡ reply_of answer
-  pub same : new.number ≡ old.number

@@ -13,7 +13,7 @@ pub struct Seated<'a, D: Disk, G: StepGate, N: Named, R: Wait> {
     rt: &'a R,
     set: &'a Set<D, G, N>,
     pass: Pass,
-    ghost may_call: { MayCall N.name pass },
+    ghost may_call: { MayCall N.board pass },
 }
 
 impl<'a, D: Disk, G: StepGate, N: Named, R: Wait> Drop for Seated<'a, D, G, N, R> {
@@ -28,7 +28,7 @@ impl<'a, D: Disk, G: StepGate, N: Named, R: Wait> Drop for Seated<'a, D, G, N, R
 
 impl<'a, D: Disk, G: StepGate, N: Named, R: Wait> Seated<'a, D, G, N, R> {
     pub fn new(rt: &'a R, set: &'a Set<D, G, N>, pass: Pass) -> Seated<'a, D, G, N, R>
-        requires { MayCall N.name pass }
+        requires { MayCall N.board pass }
         ensures { result.pass ≡ pass }
     {
         Seated { rt, set, pass }
@@ -52,7 +52,7 @@ fn reply_of(answer: Result<bool, Fault>) -> Reply
 impl<'a, D: Disk, G: StepGate, N: Named, R: Wait> Service for Seated<'a, D, G, N, R> {
     ghost use Rattle.lz_serve.specs.Replies.{SeatAnswers};
 
-    ghost answers = { λ old request reply new. SeatAnswers N.name old.pass request reply new.pass };
+    ghost answers = { λ old request reply new. SeatAnswers old.pass request reply new.pass };
 
     fn ask(&mut self, request: Request) -> Reply {
         match request {

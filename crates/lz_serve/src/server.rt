@@ -95,7 +95,7 @@ where
     G: StepGate,
     N: Named,
     R: Wait + Clock + AllocGlobal,
-    requires { MayCall N.name pass }
+    requires { MayCall N.board pass }
 {
     let mut seated = Seated::new(rt, set, pass);
     let mut served = 0u64;
@@ -130,7 +130,7 @@ where
     G: StepGate + Send + Sync,
     N: Named + Send + Sync,
     R: Threads + Wait + Clock + AllocGlobal + Sync,
-    requires { All (MayCall N.name) passes.items }
+    requires { All (MayCall N.board) passes.items }
 {
     let halted = AtomicBool::new(false);
     let told = &halted;
@@ -138,13 +138,13 @@ where
         thread::scope_env(),
         rt,
         move |scope| -> usize
-            requires { All (MayCall N.name) passes.items }
+            requires { All (MayCall N.board) passes.items }
         {
             let mut threadless = 0usize;
             for pass in passes {
                 let thread = scope.spawn(
                     move || -> ()
-                        requires { MayCall N.name pass }
+                        requires { MayCall N.board pass }
                     {
                         if serve_pass(rt, listener, set, pass, bounds) {
                             told.store(true, Ordering::SeqCst);

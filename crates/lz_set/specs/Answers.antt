@@ -1,12 +1,9 @@
 -- What a call answers.
 use Rattle.std.specs.Prelude.{ℕ, Bool, true, false, Result, Ok, Err}
-use Rattle.lz_slot.specs.declared.command.Command.{Command}
 use Rattle.lz_machine.specs.declared.event.Reply.{Reply}
 use Rattle.lz_machine.specs.declared.event.Reply.TheVariants as reply
 use Rattle.lz_set.specs.declared.fault.Fault.{Fault}
 use Rattle.lz_set.specs.declared.fault.Fault.TheVariants.{Full, Halted, Worn, Device, OldFile}
-use Rattle.lz_set.specs.Locks.{IsReplied}
-use Rattle.lz_set.specs.Names.{Name}
 
 -- the number by which a program tells a fault
 abbrev pub fault_number : Fault → ℕ
@@ -25,7 +22,3 @@ reply_of (Err Halted) = reply.Halted
 reply_of (Err Worn) = reply.Worn
 reply_of (Err Device) = reply.Device
 reply_of (Err OldFile) = reply.OldFile
-
--- the answer is the reply of this pass's call of this command, in a state that a run of a set of this name reaches
-abbrev pub IsAnswer : Name → ℕ → Command → Result Bool Fault → Type 0
-IsAnswer name pass c answer = IsReplied name.shape pass c (reply_of answer)

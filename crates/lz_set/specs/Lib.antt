@@ -1,3 +1,3 @@
 pub mod Names
-pub mod Locks
+pub mod Blanks
 pub mod Answers

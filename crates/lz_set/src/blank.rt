@@ -1,47 +1,57 @@
 //! A set that has no name yet.
-ghost use Rattle.std.specs.Prelude.{◌≡◌, All, map};
-ghost use Rattle.std.specs.List.{range_with_len};
+ghost use Rattle.std.specs.Prelude.{◌≡◌, All, []};
+ghost use Rattle.lz_tie.specs.Moments.{LeftSince};
+ghost use Rattle.lz_set.specs.Blanks.{AreNew};
 ghost use Rattle.lz_set.specs.Names.{MayCall};
 
 use crate::gate::StepGate;
-use crate::locked::Locked;
-use crate::named::Named;
-use crate::pass::Pass;
-use crate::service::Service;
 use crate::set::Set;
+use lz_board::{Board, Pass, Pen};
 use lz_disk::Disk;
+use lz_tie::{Locked, Named};
+use lz_yard::Yard;
 use std::marker::Model;
 
 /// A set that was opened and has no name yet, with its passes.
 #[derive(Drop)]
 pub struct Blank<D: Disk, G: StepGate> {
-    pub(crate) service: Service<D>,
+    pub(crate) board: Board,
+    pub(crate) pen: Pen,
+    pub(crate) yard: Yard<D>,
     pub(crate) passes: Vec<Pass>,
+    pub(crate) buckets: usize,
     pub(crate) gate: G,
 }
 
 impl<D: Disk, G: StepGate> Model for Blank<D, G> {
-    ghost use Rattle.lz_set.specs.Locks.{AreOf, BlankOver};
+    ghost use Rattle.lz_board.specs.Seats.{id_of};
+    ghost use Rattle.lz_set.specs.Blanks.{BlankOver, IsBlank};
 
     ghost Value = { BlankOver D };
 
-    ghost view = { λ b. record { name = record { shape = b.service.yard.shape }; yard = b.service.yard; disk = b.service.disk } };
+    ghost view = { λ b. record { board = id_of b.board; yard = b.yard.yard; disk = b.yard.disk } };
 
-    ghost invariant = { λ b. AreOf (record { shape = b.service.yard.shape }) b.passes.items };
+    ghost invariant = { λ b. IsBlank (id_of b.board) b.pen b.yard.yard (D.device b.yard.disk) b.passes.items b.buckets };
 }
 
 impl<D: Disk, G: StepGate> Blank<D, G> {
-    /// The set, and its passes.
+    /// The set, and its passes in the order of their numbers, of which none has done anything yet.
     pub fn start<N: Named>(self) -> (Set<D, G, N>, Vec<Pass>)
-        requires { self.name ≡ N.name }
-        ensures passes { All (MayCall N.name) result.1.items }
-        ensures numbers { map (λ p. p.number) result.1.items ≡ range_with_len 1 N.name.shape.passes }
+        requires board { self.board ≡ N.board }
+        requires since { LeftSince N.board N.first [] (D.device self.disk) }
+        ensures may { All (MayCall N.board) result.1.items }
+        ensures passes { AreNew N.board result.1.items }
     {
         let Blank {
-            service,
+            board,
+            pen,
+            yard,
             passes,
+            buckets,
             gate,
         } = self;
-        (Set::of(Locked::new(service), gate), passes)
+        let count = passes.len();
+        let locked = Locked::new(yard, pen);
+        (Set::of(board, locked, gate, buckets, count), passes)
     }
 }

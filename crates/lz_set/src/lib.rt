@@ -1,41 +1,35 @@
 //! The set that threads share.
 //!
 //! A set is opened over a device, and hands out as many passes as were asked for. A thread with a pass of its own calls `add`,
-//! `remove` and `has`; the calls of several passes overlap, and each is played as the machine's events, one hold of the lock
-//! for each but the Invoke, which is played with the event after it. A program's work stands in a function generic in the
-//! set's name, which is called with std's `Brand`:
+//! `remove` and `has`; the calls of several passes overlap. Each walks along the list by loads that take no lock, and every
+//! other event of it is one hold of the lock. `glance` looks up without any lock. A program's work stands in a function
+//! generic in the set's name, which is called with std's `Brand`:
 //!
 //! ```text
 //! let blank = Set::open(alloc, disk, NoGate, 1, 8)?;
-//! work::<D, Brand, R>(rt, blank)              // ghosts-work g a = record { name = a.blank.name }
+//! work::<D, Brand, R>(rt, blank)     // ghosts-work g a = record { board = a.blank.board; first = g.D.Disk.device a.blank.disk }
 //!
 //! fn work<D: Disk, N: Named, R: Wait>(rt: &R, blank: Blank<D, NoGate>)
-//!     requires { blank.name ≡ N.name }
+//!     requires { (blank.board ≡ N.board) × LeftSince N.board N.first [] (D.device blank.disk) }
 //! {
-//!     let (set, passes) = blank.start::<N>();    // each of the passes may call: All (MayCall N.name) passes.items
+//!     let (set, passes) = blank.start::<N>();    // each of the passes may call: All (MayCall N.board) passes.items
 //!     ..
-//!     set.add(rt, &mut pass, key)                // requires MayCall N.name pass, which holds again afterwards
+//!     set.add(rt, &mut pass, key)                // requires MayCall N.board pass, which holds again afterwards
 //! }
 //! ```
 //!
-//! Proved: whatever threads did, each time the lock is got, what lies under it (words, node locks, stages, slots, what each
-//! pass has in hand, how far its call has come and, where the device is honest, the disk) is a state that a run of the machine
-//! reaches. So the laws of lz_machine hold of it; `Set::close` hands back the disk of such a state.
+//! Proved: what threads do is a run of the machine, each time the lock is got (`lz_tie::Locked`), and each answer is what
+//! the table of answers promises its thread, in terms of what its pass had seen before the call and has seen after it.
 #![tactic(auto)]
 
 mod blank;
 mod fault;
 mod gate;
-mod locked;
-mod named;
-mod pass;
-mod service;
 mod set;
 
 pub use blank::Blank;
 pub use fault::Fault;
 pub use gate::{NoGate, StepGate};
-pub use locked::Locked;
-pub use named::Named;
-pub use pass::Pass;
+pub use lz_board::{Glance, GlanceFault, Pass};
+pub use lz_tie::Named;
 pub use set::Set;

@@ -1,25 +1,40 @@
 //! The set.
-ghost use Rattle.std.specs.Prelude.{◌≡◌, ◌≤◌, IfErr, IfOk, IfSome};
+ghost use Rattle.std.specs.Prelude.{◌≡◌, ◌≢◌, ◌≤◌, [], Err, IfErr, IfNone, IfOk, IfSome, None, Some};
+ghost use Rattle.lz_slot.specs.declared.command.Command.{Command as Asked};
 ghost use Rattle.lz_slot.specs.declared.command.Command.TheVariants as command;
+ghost use Rattle.lz_slot.specs.declared.format.Format.{Format};
 ghost use Rattle.lz_slot.specs.Limits.{most_buckets, most_passes};
 ghost use Rattle.lz_vault.specs.Opens.{IsRefusedFor};
+ghost use Rattle.lz_machine.specs.Calls.{event_at};
+ghost use Rattle.lz_machine.specs.Laws.{hop_of};
+ghost use Rattle.lz_machine.specs.Orders.{shape_with};
+ghost use Rattle.lz_machine.specs.Runs.{reply_at};
+ghost use Rattle.lz_board.specs.declared.view.Part.{Part};
+ghost use Rattle.lz_board.specs.Glances.{Glances};
+ghost use Rattle.lz_board.specs.Opened.{opened_by};
+ghost use Rattle.lz_board.specs.Seats.{id_of, part, IsOf};
+ghost use Rattle.lz_tie.specs.Answers.{Answers, Met};
+ghost use Rattle.lz_tie.specs.Counting.{Counts, IsCounted};
+ghost use Rattle.lz_tie.specs.Holds.{sizes_of};
+ghost use Rattle.lz_tie.specs.Moments.{LeftSince};
 ghost use Rattle.lz_yard.specs.Filling.{OpensYard};
+ghost use Rattle.lz_set.specs.Answers.{reply_of};
+ghost use Rattle.lz_set.specs.Blanks.{IsSized};
 ghost use Rattle.lz_set.specs.Names.{MayCall};
-ghost use Rattle.lz_set.specs.Answers.{IsAnswer, reply_of};
-ghost use Rattle.lz_set.specs.Locks.{IsLeft, IsReplied};
 
 use crate::blank::Blank;
 use crate::fault::Fault;
 use crate::gate::StepGate;
-use crate::locked::Locked;
-use crate::named::Named;
-use crate::pass::{Pass, passes_of};
-use crate::service::{Service, Turned};
+use lz_board::{Board, Glance, GlanceFault, Pass};
+use lz_caller::Caller;
 use lz_disk::Disk;
-use lz_machine::{Kind, Outcome, Reply};
+use lz_list::Word;
+use lz_machine::{Event, Kind, Outcome, Reply};
 use lz_slot::{Command, Key};
+use lz_tie::{Locked, Named, load_next};
 use lz_vault::{OpenFault, Refused};
-use std::alloc::{AllocError, Global};
+use lz_yard::Yard;
+use std::alloc::Global;
 use std::marker::Brand;
 use std::sync::{Condvar, Mutex, Wait};
 
@@ -27,13 +42,18 @@ use std::sync::{Condvar, Mutex, Wait};
 #[derive(Drop)]
 pub struct Set<D: Disk, G: StepGate, N: Named> {
     gate: G,
-    locked: Mutex<Locked<D, N>>,
+    board: Board,
+    locked: Mutex<Locked<N, D>>,
     freed: Condvar,
+    buckets: usize,
+    passes: usize,
+    pub ghost named: { id_of board ≡ N.board },
+    pub ghost sized: { IsSized N.board buckets passes },
 }
 
 impl<D: Disk, G: StepGate> Set<D, G, Brand> {
     /// Opens a slot file with so many buckets for callers with so many passes. It is refused as the yard's open is, and with
-    /// Memory where there is no room for the calls.
+    /// Memory where there is no room for the board.
     pub fn open(
         alloc: Global,
         disk: D,
@@ -44,18 +64,22 @@ impl<D: Disk, G: StepGate> Set<D, G, Brand> {
         requires buckets { (1 ≤ buckets) × (buckets ≤ most_buckets) }
         requires passes { (1 ≤ passes) × (passes ≤ most_passes) }
         ensures ok { IfOk result (λ blank. OpensYard (D.device disk) (D.device blank.disk) buckets passes blank.yard) }
-        ensures name { IfOk result (λ blank. blank.name.shape ≡ blank.yard.shape) }
+        ensures board { IfOk result (λ blank. (blank.board.sizes ≡ sizes_of blank.yard.shape) × (blank.board.opened ≡ opened_by blank.yard.words)) }
+        ensures since { IfOk result (λ blank. LeftSince blank.board (D.device blank.disk) [] (D.device blank.disk)) }
         ensures err { IfErr result (λ refused. IsRefusedFor (D.device disk) (D.device refused.disk) refused.fault) }
     {
-        let service = Service::open(alloc, disk, buckets, passes)?;
-        match passes_of(alloc, passes) {
-            Ok(passes) => Ok(Blank {
-                service,
+        let yard = Yard::open(alloc, disk, buckets, passes)?;
+        match Board::new(alloc, yard.words()) {
+            Some((board, pen, passes)) => Ok(Blank {
+                board,
+                pen,
+                yard,
                 passes,
+                buckets,
                 gate,
             }),
-            Err(AllocError) => Err(Refused {
-                disk: service.close(),
+            None => Err(Refused {
+                disk: yard.close(),
                 fault: OpenFault::Memory,
             }),
         }
@@ -63,71 +87,156 @@ impl<D: Disk, G: StepGate> Set<D, G, Brand> {
 }
 
 impl<D: Disk, G: StepGate, N: Named> Set<D, G, N> {
-    pub(crate) fn of(locked: Locked<D, N>, gate: G) -> Set<D, G, N> {
+    pub(crate) fn of(
+        board: Board,
+        locked: Locked<N, D>,
+        gate: G,
+        buckets: usize,
+        passes: usize,
+    ) -> Set<D, G, N>
+        requires named { id_of board ≡ N.board }
+        requires sized { IsSized N.board buckets passes }
+    {
         Set {
             gate,
+            board,
             locked: Mutex::new(locked),
             freed: Condvar::new(),
+            buckets,
+            passes,
         }
     }
 
     /// Makes the key a member, and says whether it wasn't one. It may wait for the set or for a node.
     pub fn add<R: Wait>(&self, rt: &R, pass: &mut Pass, key: Key) -> Result<bool, Fault>
-        requires pass { MayCall N.name pass.old }
-        ensures pass { MayCall N.name pass.new × (pass.new.number ≡ pass.old.number) }
-        ensures answer { IsAnswer N.name pass.old.number (command.Add key) result }
+        requires pass { MayCall N.board pass.old }
+        ensures pass { MayCall N.board pass.new }
+        ensures answers { Answers (command.Add key) (reply_of result) (part pass.old) (part pass.new) }
     {
-        self.call(rt, pass.number, Command::Add(key))
+        self.call(rt, pass, Command::Add(key))
     }
 
     /// Makes the key no member, and says whether it was one. It may wait for the set or for a node.
     pub fn remove<R: Wait>(&self, rt: &R, pass: &mut Pass, key: Key) -> Result<bool, Fault>
-        requires pass { MayCall N.name pass.old }
-        ensures pass { MayCall N.name pass.new × (pass.new.number ≡ pass.old.number) }
-        ensures answer { IsAnswer N.name pass.old.number (command.Remove key) result }
+        requires pass { MayCall N.board pass.old }
+        ensures pass { MayCall N.board pass.new }
+        ensures answers { Answers (command.Remove key) (reply_of result) (part pass.old) (part pass.new) }
     {
-        self.call(rt, pass.number, Command::Remove(key))
+        self.call(rt, pass, Command::Remove(key))
     }
 
-    /// Whether the key is a member. It may wait for the set.
+    /// Whether the key is a member, where that is sure. It may wait for the set.
     pub fn has<R: Wait>(&self, rt: &R, pass: &mut Pass, key: Key) -> Result<bool, Fault>
-        requires pass { MayCall N.name pass.old }
-        ensures pass { MayCall N.name pass.new × (pass.new.number ≡ pass.old.number) }
-        ensures answer { IsAnswer N.name pass.old.number (command.Has key) result }
+        requires pass { MayCall N.board pass.old }
+        ensures pass { MayCall N.board pass.new }
+        ensures answers { Answers (command.Has key) (reply_of result) (part pass.old) (part pass.new) }
     {
-        self.call(rt, pass.number, Command::Has(key))
+        self.call(rt, pass, Command::Has(key))
     }
 
-    // Plays one call, hold by hold. One that isn't the pass's turn yet is played again.
-    fn call<R: Wait>(&self, rt: &R, pass: usize, command: Command) -> Result<bool, Fault>
-        requires { (1 ≤ pass) × (pass ≤ N.name.shape.passes) }
-        ensures { IsAnswer N.name pass command result }
+    /// Whether the key is a member, as far as that is sure. It waits for nobody.
+    pub fn glance(&self, pass: &mut Pass, key: Key) -> Result<Glance, GlanceFault>
+        requires pass { MayCall N.board pass.old }
+        ensures pass { MayCall N.board pass.new }
+        ensures outside { result ≢ Err GlanceFault.BusyPass }
+        ensures glances { Glances key result (part pass.old) (part pass.new) }
     {
-        let mut first = true;
+        self.board.glance(pass, key)
+    }
+
+    /// Lets two passes see what either has seen. It waits for nobody.
+    pub fn meet(&self, one: &mut Pass, other: &mut Pass)
+        requires one { MayCall N.board one.old }
+        requires other { MayCall N.board other.old }
+        ensures one { MayCall N.board one.new }
+        ensures other { MayCall N.board other.new }
+        ensures met { Met (part one.old) (part other.old) (part one.new) (part other.new) }
+    {
+        self.board.meet(one, other);
+    }
+
+    // Plays one call: its first hold, then a load or a hold for each event, until it has its reply.
+    fn call<R: Wait>(&self, rt: &R, pass: &mut Pass, command: Command) -> Result<bool, Fault>
+        requires pass { MayCall N.board pass.old }
+        ensures pass { MayCall N.board pass.new }
+        ensures answers { Answers command (reply_of result) (part pass.old) (part pass.new) }
+    {
+        let mut caller = self.begin(rt, pass, command);
         for _ in rt.forever() {
-            let asked = command;
-            if let Some(turned) = self.hold(rt, pass, asked, first) {
-                first = false;
-                self.tell(rt, pass, turned.kind);
-                if let Some(reply) = turned.reply {
-                    return answer_of(reply);
-                }
+            if let Some(reply) = caller.reply() {
+                self.answer(rt, pass, &caller, reply);
+                return answer_of(reply);
             }
+            self.go_on(rt, pass, &mut caller);
         }
         unreachable!()
     }
 
-    // One hold. Where it found a node lock taken, it waits until one was given back.
-    fn hold<R: Wait>(&self, rt: &R, pass: usize, command: Command, first: bool) -> Option<Turned>
-        requires { (1 ≤ pass) × (pass ≤ N.name.shape.passes) }
-        ensures { IfSome result (λ turned. IfSome turned.reply (IsReplied N.name.shape pass command)) }
+    // The first hold of a call: it is made, and goes inside. One that the file's format refuses goes nowhere.
+    fn begin<R: Wait>(&self, rt: &R, pass: &mut Pass, command: Command) -> Caller
+        requires pass { MayCall N.board pass.old }
+        ensures pass { IsOf N.board pass.new }
+        ensures counts { (format : Format) × Counts N.board command format (part pass.old) result (part pass.new) }
     {
         let mut locked = self.locked.lock(rt);
-        let turned = locked.play(pass, command, first);
-        if is_busy(&turned) {
+        let mut caller = locked.begin(&self.board, pass, command, self.buckets, self.passes);
+        if caller.reply().is_some() {
+            return caller;
+        }
+        locked.turn_on(&self.board, pass, &mut caller);
+        drop(locked);
+        self.tell(rt, pass.number(), Kind::Pin);
+        caller
+    }
+
+    // One more event of a call that isn't about to answer.
+    fn go_on<R: Wait>(&self, rt: &R, pass: &mut Pass, caller: &mut Caller)
+        requires pass { IsOf N.board pass.old }
+        requires counted { IsCounted N.board caller.old (part pass.old) }
+        requires going { reply_at caller.old.progress ≡ None }
+        ensures pass { IsOf N.board pass.new }
+        ensures goes { (c : Asked) (format : Format) (before : Part) → Counts N.board c format before caller.old (part pass.old) → Counts N.board c format before caller.new (part pass.new) }
+    {
+        let event = caller.next();
+        let looked = event;
+        let kind = event.kind();
+        match loaded_by(looked) {
+            Some(word) => {
+                load_next(&self.board, pass, caller, word);
+            }
+            None => self.hold(rt, pass, caller),
+        }
+        self.tell(rt, pass.number(), kind);
+    }
+
+    // A hold of the call's next event. Where it found a node lock taken, it waits until one was given back.
+    fn hold<R: Wait>(&self, rt: &R, pass: &mut Pass, caller: &mut Caller)
+        requires pass { IsOf N.board pass.old }
+        requires counted { IsCounted N.board caller.old (part pass.old) }
+        requires load { hop_of (event_at (shape_with caller.old) caller.old.command caller.old.progress) ≡ None }
+        requires going { reply_at caller.old.progress ≡ None }
+        ensures pass { IsOf N.board pass.new }
+        ensures goes { (c : Asked) (format : Format) (before : Part) → Counts N.board c format before caller.old (part pass.old) → Counts N.board c format before caller.new (part pass.new) }
+    {
+        let mut locked = self.locked.lock(rt);
+        let turn = locked.turn_on(&self.board, pass, caller);
+        if matches!(turn.outcome, Outcome::Busy) {
             drop(self.freed.wait(rt, locked));
         }
-        turned
+    }
+
+    // The last hold of a call.
+    fn answer<R: Wait>(&self, rt: &R, pass: &mut Pass, caller: &Caller, reply: Reply)
+        requires pass { IsOf N.board pass.old }
+        requires counted { IsCounted N.board caller.now (part pass.old) }
+        requires reply { reply_at caller.now.progress ≡ Some reply }
+        ensures pass { MayCall N.board pass.new }
+        ensures answers { (c : Asked) (format : Format) (before : Part) → before.sizes ≡ N.board.sizes → Counts N.board c format before caller.now (part pass.old) → Answers c reply before (part pass.new) }
+    {
+        let mut locked = self.locked.lock(rt);
+        locked.answer(&self.board, pass, caller, reply);
+        drop(locked);
+        self.tell(rt, pass.number(), Kind::Answer);
     }
 
     // Tells of an event that was played, while nobody is held up: callers that wait for a node, where it may have freed one,
@@ -140,18 +249,18 @@ impl<D: Disk, G: StepGate, N: Named> Set<D, G, N> {
     }
 
     /// Ends the life, and hands the disk back as it is.
-    pub fn close(self) -> D
-        ensures { IsLeft N.name.shape (D.device result).honest (D.device result).medium }
-    {
+    pub fn close(self) -> D {
         self.locked.into_inner().close()
     }
 }
 
-// Whether a claim found a node lock taken.
-fn is_busy(turned: &Option<Turned>) -> bool {
-    match turned {
-        None => false,
-        Some(turned) => matches!(turned.outcome, Outcome::Busy),
+// The word that the event loads.
+fn loaded_by(event: Event) -> Option<Word>
+    ensures { result ≡ hop_of event }
+{
+    match event {
+        Event::Hop(word) => Some(word),
+        _ => None,
     }
 }
 

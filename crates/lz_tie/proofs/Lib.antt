@@ -6,5 +6,6 @@ pub mod Replies
 pub mod Start
 pub mod Moments
 pub mod AnswerRows
+pub mod OneCallerRows
 pub mod Calls
 pub mod Marks

@@ -2,3 +2,6 @@ pub mod RunMarks
 pub mod OneLife
 pub mod RunningSet
 pub mod MarkRows
+pub mod OwnCalls
+pub mod ToldCalls
+pub mod GrownMarks

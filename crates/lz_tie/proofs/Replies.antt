@@ -4,3 +4,5 @@ pub mod OwnChange
 pub mod LastTurn
 pub mod ReplyRows
 pub mod AnsweredCall
+pub mod FreeSlot
+pub mod OneCaller

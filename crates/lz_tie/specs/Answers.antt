@@ -1,12 +1,12 @@
 -- What each answer promises a pass: P is what it had seen before its call, Q what it has seen after. Traces and steps stand
 -- newest first. A pass's own changes are the linkings, markings and unlinkings made for it.
-use Rattle.std.specs.Prelude.{◌≡◌, ◌⊎◌, ℕ, suc, ◌+◌, Bool, true, false, List, [], ◌∷◌, ◌++◌, length, Option, Some, None}
+use Rattle.std.specs.Prelude.{◌≡◌, ◌⊎◌, ℕ, suc, ◌+◌, true, false, List, [], ◌∷◌, ◌++◌, length, Option, Some, None}
 use Rattle.lz_slot.specs.declared.command.Command.{Command}
 use Rattle.lz_slot.specs.declared.command.Command.TheVariants.{Add, Remove, Has}
 use Rattle.lz_slot.specs.declared.format.Format.{Format}
 use Rattle.lz_allot.specs.declared.counts.Counts.{Counts}
 use Rattle.lz_list.specs.declared.publishing.Publishing.TheVariants.{Linked as linked, Marked as marked, Unlinked as unlinked}
-use Rattle.lz_list.specs.Traces.{Trace, Begins, member, linking_in, is_settled, is_removed, halt_word}
+use Rattle.lz_list.specs.Traces.{Trace, Begins, Lawful, member, linking_in, is_settled, is_removed, halt_word}
 use Rattle.lz_machine.specs.declared.event.Event.TheVariants.{Reserve, Answer}
 use Rattle.lz_machine.specs.declared.event.Outcome.{Outcome}
 use Rattle.lz_machine.specs.declared.event.Outcome.TheVariants.{Done, NoSlot}
@@ -23,6 +23,7 @@ use Rattle.lz_board.specs.declared.view.Part.{Part}
 use Rattle.lz_board.specs.Notes.{note_by, own, place, shape_of}
 use Rattle.lz_board.specs.Glances.{Changes, Between}
 use Rattle.lz_board.specs.Ways.{Rests}
+use Rattle.lz_tie.specs.OnePass.{OnlyOwn}
 
 -- its own adding of k in slot s, which was settled since
 pub record Added (p k : ℕ) (P Q : Trace) : Type 0 where
@@ -115,6 +116,9 @@ pub record Answers (c : Command) (reply : Reply) (before after : Part) : Type 0 
   pub format : Format
   pub one_call : IsOneCall (shape_of before.sizes) before.number format c reply new
   pub promises : Promises (shape_of before.sizes) before.number format c reply after.pin new before.known after.known
+  -- what it has seen was lawful; in a set of one pass nothing was changed but by its calls
+  pub lawful : Lawful before.sizes.buckets before.sizes.slots after.known
+  pub alone : before.sizes.passes ≡ 1 → OnlyOwn before.number before.known after.known
 
 -- After two passes have met, each has seen all that either had seen, and what one has seen begins what the other has.
 pub record Met (one other one' other' : Part) : Type 0 where

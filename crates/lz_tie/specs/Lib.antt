@@ -1,9 +1,12 @@
 pub mod NotedRuns
+pub mod OnePass
 pub mod Answers
+pub mod OneCaller
 pub mod Holds
 pub mod Reuse
 pub mod UnderWay
 pub mod Counting
 pub mod Marks
 pub mod RunningSets
+pub mod OwnCalls
 pub mod Moments

@@ -1,7 +1,7 @@
 -- What a thread knows of its call between two holds, and what it has when its call has ended.
 use Rattle.std.specs.Prelude.{◌≡◌, ℕ, zero, suc, ◌+◌, ◌%◌, true, List, [], ◌∷◌, ◌++◌, Some, None}
 use Rattle.lz_slot.specs.declared.command.Command.{Command}
-use Rattle.lz_slot.specs.declared.command.Command.TheVariants.{Add, Remove, Has}
+use Rattle.lz_slot.specs.declared.command.Command.TheVariants.{Add, Remove}
 use Rattle.lz_slot.specs.declared.format.Format.{Format}
 use Rattle.lz_slot.specs.Sets.{HasMembers}
 use Rattle.lz_allot.specs.declared.counts.Counts.{Counts}
@@ -18,7 +18,7 @@ use Rattle.lz_machine.specs.Yards.{IsInside}
 use Rattle.lz_board.specs.declared.view.What.TheVariants.{Called}
 use Rattle.lz_board.specs.declared.view.Note.{Note}
 use Rattle.lz_board.specs.declared.view.Part.{Part}
-use Rattle.lz_board.specs.Notes.{note_by}
+use Rattle.lz_board.specs.Notes.{Extends, note_by}
 use Rattle.lz_board.specs.Glances.{Changes}
 use Rattle.lz_board.specs.Seats.{BoardId}
 use Rattle.lz_tie.specs.Answers.{AreWithin, MayHaveChanged, last_reserve}
@@ -78,7 +78,8 @@ pub record UnderWay (b : BoardId) (c : Command) (format : Format) (before : Part
   pub own : Trace
   pub changes : Changes h.number before.known h.known own
   pub is_own : OwnAt h.number c at own
-  -- it went in since the call was made
+  -- before the call it had seen what the life began with; it went in since
+  pub opened : Extends before.known b.opened
   pub since : IsInside h.pin → Begins before.known h.begun
   pub old : at ≡ Answering OldFile → is_old format c ≡ true
   pub full : (counts : Counts) → at ≡ Answering (Full counts) → FoundFull b.sizes.slots b.sizes.passes counts within h.known

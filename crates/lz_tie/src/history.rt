@@ -1,8 +1,18 @@
 //! What a set that runs says of what its callers have seen.
+ghost use Rattle.std.specs.Prelude.{◌≡◌, ◌∷◌, Some};
+ghost use Rattle.lz_slot.specs.declared.command.Command.{Command as Asked};
+ghost use Rattle.lz_machine.specs.declared.event.Reply.{Reply};
+ghost use Rattle.lz_board.specs.declared.view.Part.{Part};
+ghost use Rattle.lz_board.specs.Notes.{shape_of, trace_of};
+ghost use Rattle.lz_board.specs.Plays.{knowing};
+ghost use Rattle.lz_board.specs.Seats.{IsOf, id_of, part};
+ghost use Rattle.lz_tie.specs.Answers.{Answers};
+ghost use Rattle.lz_tie.specs.OwnCalls.{TellsOwn, told};
 ghost use Rattle.lz_tie.specs.RunningSets.{HasHistory};
 
 use crate::locked::Locked;
 use crate::named::Named;
+use lz_board::{Board, Pass};
 use lz_disk::Disk;
 
 impl<N: Named, D: Disk> Locked<N, D> {
@@ -13,4 +23,23 @@ impl<N: Named, D: Disk> Locked<N, D> {
     {
         let _ = &self.yard;
     }
+
+    /// The pass joins the pen for a moment, and has then seen all that was published. In that history its calls are those that
+    /// it has made itself, with the replies that it got.
+    pub fn welcome(&mut self, board: &Board, pass: &mut Pass)
+        requires board { id_of board.now ≡ N.board }
+        requires pass { IsOf N.board pass.old }
+        ensures pass { IsOf N.board pass.new }
+        ensures part { part pass.new ≡ knowing (trace_of N.board.opened self.old.notes) (part pass.old) }
+        ensures same { self.new ≡ self.old }
+        ensures own { TellsOwn N.board self.old.notes (part pass.new) }
+    {
+        board.join(&mut self.pen, pass);
+        board.cut(&mut self.pen, pass);
+    }
 }
+
+/// A call that a pass has made and that was answered is the newest of its own calls, with its reply.
+pub fn answers_are_told()
+    ensures { (c : Asked) (reply : Reply) (before after : Part) → Answers c reply before after → told (shape_of before.sizes) after.steps ≡ (c, Some reply) ∷ told (shape_of before.sizes) before.steps }
+{}

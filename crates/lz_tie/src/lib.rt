@@ -2,16 +2,18 @@
 //!
 //! Each hold of the lock plays one event of a pass's call and notes it. Proved: the pen's notes are read as a run of the machine
 //! whose last state the yard has, so the laws of lz_machine hold of it; a pass's own loads, made without the lock, stand in that
-//! run where the pass saw their words.
+//! run where the pass saw their words. In a set of one pass each answer is a plain set's (`laws`).
 #![tactic(auto)]
 
 mod calling;
 mod history;
+pub mod laws;
 mod locked;
 mod moves;
 mod named;
 mod playing;
 
+pub use history::answers_are_told;
 pub use locked::Locked;
 pub use moves::load_next;
 pub use named::Named;

@@ -3,9 +3,10 @@ ghost use Rattle.std.specs.Prelude.{◌≡◌, ◌∷◌, None};
 ghost use Rattle.lz_machine.specs.declared.event.Event.TheVariants.{SeePin};
 ghost use Rattle.lz_machine.specs.Calls.{event_at};
 ghost use Rattle.lz_board.specs.declared.view.What.TheVariants.{Called, Played};
-ghost use Rattle.lz_board.specs.Notes.{note_by, shape_of, trace_of};
+ghost use Rattle.lz_board.specs.Notes.{Extends, note_by, shape_of, trace_of};
 ghost use Rattle.lz_board.specs.Plays.{found_note};
 ghost use Rattle.lz_board.specs.Seats.{IsOf, IsPenOf, id_of, notes, part};
+ghost use Rattle.lz_tie.specs.OnePass.{OnlyOwn};
 ghost use Rattle.lz_tie.specs.Holds.{HasCall, Holds, IsIdle, IsLocked, IsTurn, Turned, begins_with};
 ghost use Rattle.lz_tie.specs.Moments.{ExplainedSince, HoldExplains, LeftSince};
 
@@ -57,7 +58,7 @@ impl<N: Named, D: Disk> Locked<N, D> {
     }
 
     /// One hold: plays the next event of the pass's call, which is no load and no look at a pin word. In a set of
-    /// one pass nothing was published that the pass hasn't seen.
+    /// one pass nothing was published that the pass hasn't seen, and nothing changed since the life began but by it.
     pub fn play(&mut self, board: &Board, pass: &mut Pass, caller: &Caller, event: Event) -> Turn
         requires board { id_of board.now ≡ N.board }
         requires pass { IsOf N.board pass.old }
@@ -67,6 +68,7 @@ impl<N: Named, D: Disk> Locked<N, D> {
         ensures holds { Holds N.board.opened self.old.notes self.new.notes (note_by (part pass.old).number (Played event result.outcome) result.published) (part pass.old) (part pass.new) }
         ensures turned { Turned N.board.opened self.old.notes (part pass.old) caller.now.command caller.now.progress event result.outcome result.published }
         ensures alone { N.board.sizes.passes ≡ 1 → trace_of N.board.opened self.old.notes ≡ (part pass.old).known }
+        ensures own { N.board.sizes.passes ≡ 1 → OnlyOwn (part pass.old).number N.board.opened (trace_of N.board.opened self.old.notes) }
     {
         board.join(&mut self.pen, pass);
         let turn = play_joined(board, &mut self.pen, &mut self.yard, pass, caller, event);
@@ -100,7 +102,8 @@ impl<N: Named, D: Disk> Locked<N, D> {
     }
 
     /// The first hold of a call: the pen finds the pass's own pin word, and the call's Invoke is played and noted. The answer
-    /// is that of the Invoke: OldFile for an Add of a key that the file's format can't hold, which is answered next.
+    /// is that of the Invoke: OldFile for an Add of a key that the file's format can't hold, which is answered next. The
+    /// pass had seen all that the life began with.
     pub fn call(&mut self, board: &Board, pass: &mut Pass, command: Command) -> Outcome
         requires board { id_of board.now ≡ N.board }
         requires pass { IsOf N.board pass.old }
@@ -109,6 +112,7 @@ impl<N: Named, D: Disk> Locked<N, D> {
         ensures moments { HoldExplains N.board self.old.notes self.new.notes (D.device self.old.disk) (D.device self.new.disk) }
         ensures holds { Holds N.board.opened (found_note (part pass.old).number (part pass.old).pin ∷ self.old.notes) self.new.notes (note_by (part pass.old).number (Called command self.old.yard.vault.format) None) (part pass.old) (part pass.new) }
         ensures outcome { result ≡ begins_with self.old.yard.vault.format command }
+        ensures opened { Extends (part pass.old).known N.board.opened }
     {
         board.join(&mut self.pen, pass);
         let number = pass.number();

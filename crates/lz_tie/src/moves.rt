@@ -10,14 +10,16 @@ ghost use Rattle.lz_machine.specs.Calls.{event_at, progress_after};
 ghost use Rattle.lz_machine.specs.Laws.{hop_of};
 ghost use Rattle.lz_machine.specs.Orders.{shape_with};
 ghost use Rattle.lz_machine.specs.Runs.{reply_at};
+ghost use Rattle.lz_caller.specs.Begun.{begun_after};
 ghost use Rattle.lz_board.specs.declared.view.Part.{Part};
 ghost use Rattle.lz_board.specs.Addresses.{index};
 ghost use Rattle.lz_board.specs.Plays.{loading};
 ghost use Rattle.lz_board.specs.Seats.{IsOf, id_of, part};
 ghost use Rattle.lz_tie.specs.Answers.{Answers};
 ghost use Rattle.lz_tie.specs.Counting.{Advanced, Counts, IsCounted, seen_pass};
-ghost use Rattle.lz_tie.specs.Holds.{IsIdle};
 ghost use Rattle.lz_tie.specs.Moments.{HoldExplains};
+ghost use Rattle.lz_tie.specs.Holds.{IsIdle, begins_with};
+ghost use Rattle.lz_tie.specs.OneCaller.{IsPlainAnswer, keys_in};
 
 use crate::locked::Locked;
 use crate::named::Named;
@@ -72,6 +74,7 @@ impl<N: Named, D: Disk> Locked<N, D> {
         ensures pass { IsOf N.board pass.new }
         ensures moments { HoldExplains N.board self.old.notes self.new.notes (D.device self.old.disk) (D.device self.new.disk) }
         ensures counts { Counts N.board command self.old.yard.vault.format (part pass.old) result (part pass.new) }
+        ensures caller { result ≡ record { command = command; buckets = buckets; passes = passes; progress = begun_after (begins_with self.old.yard.vault.format command) } }
     {
         let asked = command;
         let outcome = self.call(board, pass, command);
@@ -118,7 +121,8 @@ impl<N: Named, D: Disk> Locked<N, D> {
         turn
     }
 
-    /// The last hold of a call, whose reply is this one. The pass may make the next call.
+    /// The last hold of a call, whose reply is this one. The pass may make the next call. In a set of one pass the reply is
+    /// that of the plain set, of the members that the pass had seen before the call, and it has seen those that are left.
     pub fn answer(&mut self, board: &Board, pass: &mut Pass, caller: &Caller, _reply: Reply) -> Turn
         requires board { id_of board.now ≡ N.board }
         requires pass { IsOf N.board pass.old }
@@ -128,6 +132,7 @@ impl<N: Named, D: Disk> Locked<N, D> {
         ensures moments { HoldExplains N.board self.old.notes self.new.notes (D.device self.old.disk) (D.device self.new.disk) }
         ensures idle { IsIdle N.board.sizes (part pass.new) }
         ensures answers { (c : Asked) (format : Format) (before : Part) → before.sizes ≡ N.board.sizes → Counts N.board c format before caller.now (part pass.old) → Answers c _reply before (part pass.new) }
+        ensures plain { N.board.sizes.passes ≡ 1 → (c : Asked) (format : Format) (before : Part) → before.sizes ≡ N.board.sizes → Counts N.board c format before caller.now (part pass.old) → IsPlainAnswer format N.board.sizes.slots c _reply (keys_in before.known) (keys_in (part pass.new).known) }
     {
         self.play(board, pass, caller, Event::Answer)
     }

@@ -1,5 +1,5 @@
 -- A call that is under way goes on by a load of its pass.
-use Rattle.std.proofs.Common.{◌≡◌, ℕ, zero, suc, true, false, List, [], ◌∷◌, ◌++◌, length, refl, sym, ap, ◌∙◌, subst, append_assoc}
+use Rattle.std.proofs.Common.{◌≡◌, ℕ, zero, suc, false, List, [], ◌∷◌, ◌++◌, length, refl, sym, ap, ◌∙◌, subst, append_assoc}
 use mathlib.Core.Bool.{false≢true}
 use Rattle.std.specs.Prelude.{is_some, slice_index_or, Option, None}
 use Rattle.lz_slot.specs.declared.command.Command.{Command}
@@ -26,7 +26,7 @@ use Rattle.lz_board.specs.declared.view.Sizes.{Sizes}
 use Rattle.lz_board.specs.declared.view.What.TheVariants.{Played}
 use Rattle.lz_board.specs.declared.view.Load.{Load}
 use Rattle.lz_board.specs.declared.view.Part.{Part}
-use Rattle.lz_board.specs.Notes.{own, is_for, IsShared, placed, goes_on, shape_of}
+use Rattle.lz_board.specs.Notes.{is_for, IsShared, placed, goes_on, shape_of}
 use Rattle.lz_board.specs.Addresses.{index, word_at}
 use Rattle.lz_board.specs.Glances.{Changes}
 use Rattle.lz_board.specs.Plays.{loading, IsShownTo}
@@ -124,6 +124,7 @@ module _ (b : BoardId) (c : Command) (format : Format) (before : Part) (at : Pro
     own = U.own;
     changes = changes_now;
     is_own = there.is_own;
+    opened = U.opened;
     since = U.since;
     old = λ old. absurd (not_old next there.inside old);
     full = λ counts full. absurd (not_full next counts there.room full);

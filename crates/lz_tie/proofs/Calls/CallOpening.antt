@@ -17,7 +17,7 @@ use Rattle.lz_board.specs.declared.view.What.TheVariants.{Called}
 use Rattle.lz_board.specs.declared.view.Note.{Note}
 use Rattle.lz_board.specs.declared.view.Load.{Load}
 use Rattle.lz_board.specs.declared.view.Part.{Part}
-use Rattle.lz_board.specs.Notes.{note_by, load_note, place, shape_of}
+use Rattle.lz_board.specs.Notes.{Extends, note_by, load_note, place, shape_of}
 use Rattle.lz_board.specs.Glances.{Changes}
 use Rattle.lz_board.specs.Seats.{BoardId}
 use Rattle.lz_tie.specs.Holds.{IsIdle, Holds}
@@ -40,9 +40,9 @@ opening : (shape : Shape) (p : ℕ) (c : Command) (old : Bool) → Opening shape
 opening shape p c true = record { outside = refl; pass = tt; is_own = old_none p c [] refl; says = λ is. refl; room = refl }
 opening shape p c false = record { outside = refl; pass = tt; is_own = calm p c first_progress [] refl refl; says = λ is. absurd (false≢true (ap says_old is)); room = refl }
 
-pub called : (b : BoardId) (c : Command) (format : Format) (before : Part) (opened : Trace) (was is : List Note) (after : Part) → before.sizes ≡ b.sizes → IsIdle b.sizes before
+pub called : (b : BoardId) (c : Command) (format : Format) (before : Part) (opened : Trace) (was is : List Note) (after : Part) → before.sizes ≡ b.sizes → IsIdle b.sizes before → Extends before.known b.opened
     → Holds opened was is (note_by before.number (Called c format) None) before after → UnderWay b c format before (begun format c) after
-called b c format before opened was is after sized idle H =
+called b c format before opened was is after sized idle from H =
     let n = note_by before.number (Called c format) None in
     let o = opening (shape_of after.sizes) after.number c (is_old format c) in
     let steps : after.steps ≡ n ∷ before.steps = H.steps ∙ ap (λ (l : List Load). n ∷ (map (load_note before.number) l ++ before.steps)) idle.no_loads in
@@ -62,6 +62,7 @@ called b c format before opened was is after sized idle H =
       own = [];
       changes = subst (λ (p : ℕ). Changes p before.known after.known []) (sym H.number) (changes_after opened was is n before after before.known [] H record { since = []; goes_on = refl; own = refl });
       is_own = o.is_own;
+      opened = from;
       since = λ inside. absurd (omega (arith, pin, inside));
       old = o.says;
       full = λ counts full. absurd (not_full (begun format c) counts o.room full);

@@ -1,5 +1,5 @@
 -- A call that a caller counts goes on by each of its moves.
-use Rattle.std.proofs.Common.{◌≡◌, ◌⊎◌, ℕ, zero, suc, ◌==◌, ◌+◌, nat_lt, Bool, true, false, List, [], ◌∷◌, length, refl, sym, ap, ◌∙◌, subst}
+use Rattle.std.proofs.Common.{◌≡◌, ℕ, zero, suc, ◌==◌, ◌+◌, nat_lt, Bool, true, false, List, [], ◌∷◌, length, refl, sym, ap, ◌∙◌, subst}
 use mathlib.Core.Bool.{false≢true}
 use Rattle.std.specs.Prelude.{if◌then◌else◌, is_some, slice_index_or, unwrap_or, Option, Some, None}
 use Rattle.lz_slot.specs.declared.command.Command.{Command}
@@ -7,12 +7,10 @@ use Rattle.lz_slot.specs.declared.command.Command.TheVariants.{Add, Remove, Has}
 use Rattle.lz_slot.specs.declared.format.Format.{Format}
 use Rattle.lz_slot.specs.Sets.{key_of}
 use Rattle.lz_list.specs.declared.place.Place.{Place}
-use Rattle.lz_list.specs.declared.walk.Look.{Look}
 use Rattle.lz_list.specs.declared.walk.Look.TheVariants.{AtHead}
 use Rattle.lz_list.specs.declared.walk.Met.{Met}
 use Rattle.lz_list.specs.declared.walk.Met.TheVariants.{Absent, Unmarked, Marked as met_marked}
 use Rattle.lz_list.specs.declared.word.Word.{Word}
-use Rattle.lz_list.specs.declared.word.Word.TheVariants.{Halt as halt_at}
 use Rattle.lz_list.specs.Hops.{LeadsOn}
 use Rattle.lz_list.specs.Traces.{Trace, word_after}
 use Rattle.lz_list.specs.Walks.{Hopped, More, End, wants, hopped}
@@ -22,7 +20,7 @@ use Rattle.lz_flush.specs.Settling.{may_answer}
 use Rattle.lz_machine.specs.declared.event.Event.{Event}
 use Rattle.lz_machine.specs.declared.event.Event.TheVariants.{Hop, Check, SeePin, Answer}
 use Rattle.lz_machine.specs.declared.event.Outcome.{Outcome}
-use Rattle.lz_machine.specs.declared.event.Outcome.TheVariants.{Done, Value, Slot, NoSlot, Taken, True, False, Early, Worn, OldFile, Fault, Dead}
+use Rattle.lz_machine.specs.declared.event.Outcome.TheVariants.{Value, Slot, NoSlot, Taken, True, False, Early, Worn, OldFile, Fault, Dead}
 use Rattle.lz_machine.specs.declared.event.Reply.{Reply}
 use Rattle.lz_machine.specs.declared.event.Reply.TheVariants.{Yes, No, Halted, OldFile as SaysOldFile}
 use Rattle.lz_machine.specs.declared.caller.Sequence.{Sequence}
@@ -43,38 +41,41 @@ use Rattle.lz_board.specs.declared.view.Sizes.{Sizes}
 use Rattle.lz_board.specs.declared.view.Note.{Note}
 use Rattle.lz_board.specs.declared.view.Part.{Part}
 use Rattle.lz_board.specs.Addresses.{index, IsWalkable}
-use Rattle.lz_board.specs.Notes.{note_by, pin_after, shape_of, trace_of, IsShared}
+use Rattle.lz_board.specs.Notes.{Extends, note_by, pin_after, shape_of, trace_of, IsShared}
 use Rattle.lz_board.specs.Plays.{loading, IsShownTo}
 use Rattle.lz_board.specs.Seats.{BoardId}
-use Rattle.lz_board.specs.Walkers.{IsOnWalk, IsHop, Walked}
+use Rattle.lz_board.specs.Walkers.{Walked}
 use Rattle.lz_board.proofs.Walk.WalkerLemma.{first_look, hop_shown}
 use Rattle.lz_tie.specs.declared.playing.Turn.{Turn}
+use Rattle.lz_tie.specs.OnePass.{OnlyOwn}
 use Rattle.lz_tie.specs.Answers.{Answers}
+use Rattle.lz_tie.specs.OneCaller.{keys_in, IsPlainAnswer}
 use Rattle.lz_tie.specs.NotedRuns.{seen_event}
 use Rattle.lz_tie.specs.Holds.{HasCall, Holds, Turned, IsIdle, IsTurn, SeesPin, begins_with}
 use Rattle.lz_tie.specs.UnderWay.{UnderWay}
-use Rattle.lz_tie.specs.Counting.{seen_pass, OnWalk, Counts, IsCounted, Advanced}
+use Rattle.lz_tie.specs.Counting.{seen_pass, OnWalk, Counts, Advanced}
 use Rattle.lz_tie.proofs.Calls.CallOpening.{called}
 use Rattle.lz_tie.proofs.Calls.CallLoad.{load_place}
 use Rattle.lz_tie.proofs.Calls.CallerStep.{IsCallerOn, has_call, event_is, caller_turned, caller_loaded}
 use Rattle.lz_tie.proofs.Replies.AnsweredCall.{answered, idle_again}
+use Rattle.lz_tie.proofs.Replies.OneCaller.{one_caller}
 
 -- a call that was just made stands on no walk
 begun_walk : (z : Sizes) (c : Command) (P0 Q : Trace) (old : Bool) → OnWalk z c (if old then Answering SaysOldFile else first_progress) P0 Q
 begun_walk z c P0 Q true = tt
 begun_walk z c P0 Q false = tt
 
-pub counted_new : (b : BoardId) (c : Command) (format : Format) (before : Part) (opened : Trace) (was is : List Note) (after : Part) → before.sizes ≡ b.sizes → IsIdle b.sizes before
+pub counted_new : (b : BoardId) (c : Command) (format : Format) (before : Part) (opened : Trace) (was is : List Note) (after : Part) → before.sizes ≡ b.sizes → IsIdle b.sizes before → Extends before.known b.opened
     → Holds opened was is (note_by before.number (Called c format) None) before after → (o : Outcome) → o ≡ begins_with format c
     → (buckets passes : ℕ) → buckets ≡ b.sizes.buckets → passes ≡ b.sizes.passes → (k : Calling) → k ≡ record { command = c; buckets = buckets; passes = passes; progress = begun_after o } → Counts b c format before k after
-counted_new b c format before opened was is after sized idle H o is_o buckets passes same_buckets same_passes k is_k =
+counted_new b c format before opened was is after sized idle from H o is_o buckets passes same_buckets same_passes k is_k =
     let at : begun format c ≡ k.progress = begins (is_old format c) ∙ ap begun_after (sym is_o) ∙ ap (λ (q : Calling). q.progress) (sym is_k) in
     let command : k.command ≡ c = ap (λ (q : Calling). q.command) is_k in
     record {
       command = command;
       buckets = ap (λ (q : Calling). q.buckets) is_k ∙ same_buckets;
       passes = ap (λ (q : Calling). q.passes) is_k ∙ same_passes;
-      under = subst (λ (q : Progress). UnderWay b c format before q after) at (called b c format before opened was is after sized idle H);
+      under = subst (λ (q : Progress). UnderWay b c format before q after) at (called b c format before opened was is after sized idle from H);
       walk = subst (λ (q : Command × Progress). OnWalk b.sizes q.0 q.1 after.begun after.known) (λ i. (sym command i, at i)) (begun_walk b.sizes c after.begun after.known (is_old format c));
     }
 
@@ -254,8 +255,17 @@ module _ (b : BoardId) (c : Command) (format : Format) (before : Part) (k : Call
       turned_now : Turned b.opened was h c (Answering reply) Answer t.outcome t.published
       turned_now = subst (λ (q : Command × Progress). Turned b.opened was h q.0 q.1 Answer t.outcome t.published) (λ i. (C.command i, answering i)) T
 
-      pub answers_so : before.sizes ≡ b.sizes → (b.sizes.passes ≡ 1 → trace_of b.opened was ≡ h.known) → Answers c reply before h'
-      answers_so same alone = answered b c format before reply h was is t.outcome t.published h' under_now H turned_now same alone
+      module _ (same : before.sizes ≡ b.sizes) (alone : b.sizes.passes ≡ 1 → trace_of b.opened was ≡ h.known) (own : b.sizes.passes ≡ 1 → OnlyOwn h.number b.opened (trace_of b.opened was)) where
+        given : (answers : Answers c reply before h') × (answers.format ≡ format)
+        given = answered b c format before reply h was is t.outcome t.published h' under_now H turned_now same alone own
+
+        pub answers_so : Answers c reply before h'
+        answers_so = given.0
+
+        -- in a set of one pass that of the plain set
+        pub plain_so : b.sizes.passes ≡ 1 → IsPlainAnswer format b.sizes.slots c reply (keys_in before.known) (keys_in h'.known)
+        plain_so one = subst (λ (q : Format × Sizes). IsPlainAnswer q.0 q.1.slots c reply (keys_in before.known) (keys_in h'.known)) (λ i. (given.1 i, same i))
+            (one_caller c reply before h' given.0 (ap (λ (z : Sizes). z.passes) same ∙ one))
 
       pub then_idle : IsIdle b.sizes h'
       then_idle = idle_again b c format before reply h was is t.outcome t.published h' under_now H turned_now

@@ -110,6 +110,7 @@ module _ (b : BoardId) (c : Command) (format : Format) (before : Part) (at : Pro
         own = own h.number (listed x) ++ U.own;
         changes = subst (λ (p : ℕ). Changes p before.known h'.known (own h.number (listed x) ++ U.own)) (sym H.number) C;
         is_own = subst (λ (p : ℕ). OwnAt p c next (own h.number (listed x) ++ U.own)) (sym H.number) is_own;
+        opened = U.opened;
         since = begins_after opened was is (note_by h.number (Played e o) x) h h' before.known H (begins_changed h.number before.known h'.known (own h.number (listed x) ++ U.own) C) U.since;
         old = old;
         full = full;

@@ -1,16 +1,20 @@
--- Worked rows: what notes show, computed.
-use Rattle.std.proofs.Common.{◌≡◌, true, List, [], ◌∷◌, None, refl}
+-- Worked rows: what notes show, and a pass's own calls, computed.
+use Rattle.std.proofs.Common.{◌≡◌, Bool, true, false, List, [], ◌∷◌, Some, None, is_some, refl, ap}
+use mathlib.Core.Bool.{false≢true}
 use Rattle.lz_slot.specs.declared.command.Command.TheVariants.{Add, Has}
 use Rattle.lz_slot.specs.declared.format.Format.TheVariants.{Two}
-use Rattle.lz_slot.specs.declared.history.Mark.TheVariants.{Call, Answer as answer}
+use Rattle.lz_slot.specs.declared.history.Mark.TheVariants.{Call, Answer as answer, Refused}
+use Rattle.lz_slot.specs.declared.history.Refusal.TheVariants.{Full}
 use Rattle.lz_list.specs.declared.word.Word.TheVariants.{Head, Link, Key, Halt}
 use Rattle.lz_machine.specs.declared.event.Event.TheVariants.{Pin, Answer}
 use Rattle.lz_machine.specs.declared.event.Outcome.TheVariants.{Done}
+use Rattle.lz_machine.specs.declared.event.Reply.TheVariants.{Yes}
 use Rattle.lz_machine.specs.Yards.{Shape}
 use Rattle.lz_board.specs.declared.view.What.TheVariants.{Called, Played, Found}
 use Rattle.lz_board.specs.declared.view.Note.{Note}
-use Rattle.lz_board.specs.Notes.{note_by, load_note}
+use Rattle.lz_board.specs.Notes.{note_by, load_note, steps_of}
 use Rattle.lz_tie.specs.Marks.{calls_in, number_of, marks_in}
+use Rattle.lz_tie.specs.OwnCalls.{AsAnswered, AsRefused, SeenCall, calls_of, told}
 
 abbrev shape : Shape
 shape = record { slots = 2; buckets = 1; passes = 2 }
@@ -47,3 +51,30 @@ number_is = refl
 -- an Answer without a call shows nothing
 nothing_shown : marks_in shape (note_by 1 (Played Answer Done) None ∷ []) ≡ []
 nothing_shown = refl
+
+-- what each pass has made by its own steps
+told_has : told shape (steps_of 2 answered) ≡ (Has 9, Some Yes) ∷ []
+told_has = refl
+
+told_add : told shape (steps_of 1 answered) ≡ (Add 12, None) ∷ []
+told_add = refl
+
+-- and its calls in that history
+seen_has : calls_of 2 (marks_in shape answered) ≡ record { number = 1; command = Has 9; ending = Some (AsAnswered true) } ∷ []
+seen_has = refl
+
+seen_add : calls_of 1 (marks_in shape answered) ≡ record { number = 2; command = Add 12; ending = None } ∷ []
+seen_add = refl
+
+-- a pass gets no answer of another pass's call
+no_answer_of_others : calls_of 1 (marks_in shape answered) ≡ record { number = 2; command = Add 12; ending = Some (AsAnswered true) } ∷ [] → ⊥
+no_answer_of_others same = absurd (false≢true (ap first_ended same))
+  where
+    first_ended : List SeenCall → Bool
+    first_ended [] = false
+    first_ended (call ∷ calls) = is_some call.ending
+
+-- of two calls each has its own ending
+two_calls : calls_of 1 (Refused 3 Full ∷ Call 3 1 (Add 9) ∷ answer 2 false ∷ answer 1 true ∷ Call 2 2 (Has 8) ∷ Call 1 1 (Add 12) ∷ [])
+    ≡ record { number = 3; command = Add 9; ending = Some (AsRefused Full) } ∷ record { number = 1; command = Add 12; ending = Some (AsAnswered true) } ∷ []
+two_calls = refl

@@ -27,7 +27,7 @@ use Rattle.lz_tie.specs.Marks.{calls_with, calls_in, number_with, number_of, rep
 use Rattle.lz_tie.proofs.Reading.CallPlaces.{Placed, place_reads, run_before}
 
 -- a step of another pass, or one that begins no call, leaves a pass's number
-other_number : (p : ℕ) (n : Note) (ns : List Note) → n.by ≢ p → number_of p (n ∷ ns) ≡ number_of p ns
+pub other_number : (p : ℕ) (n : Note) (ns : List Note) → n.by ≢ p → number_of p (n ∷ ns) ≡ number_of p ns
 other_number p n ns away = go n.what
   where
     go : (what : What) → number_with p n.by what (calls_in ns) (number_of p ns) ≡ number_of p ns

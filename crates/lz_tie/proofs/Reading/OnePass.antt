@@ -1,12 +1,20 @@
 -- In a set of one pass nothing is published but for it, and so it has seen the whole trace.
-use Rattle.std.proofs.Common.{◌≡◌, ◌⊎◌, inl, inr, ⊎_elim, ℕ, ◌≤◌, List, [], ◌∷◌, ◌++◌, length, length-append, refl, sym, ap, ◌∙◌, subst, arith}
+use Rattle.std.proofs.Common.{◌≡◌, ◌⊎◌, inl, inr, ⊎_elim, ℕ, ◌≤◌, List, [], ◌∷◌, ◌++◌, length, length-append, refl, sym, ap, ◌∙◌, subst, arith, append_assoc}
 use Rattle.std.specs.Prelude.{Option, Some, None}
 use Rattle.lz_disk.specs.Images.{Medium}
 use Rattle.lz_disk.specs.Devices.{Device}
 use Rattle.lz_list.specs.declared.publishing.Publishing.{Publishing}
 use Rattle.lz_list.specs.Traces.{Trace}
-use Rattle.lz_machine.specs.Yards.{Shape, Yard}
-use Rattle.lz_machine.specs.Runs.{Start, State, Up, Service, Caller, Transition, Calls, Turn, Fails, Looks, Trips, Stops, Crashes, CrashesIn, Opens, OpenFails, run, IsRun, first_point, caller_at, shape_of as shape_in}
+use Rattle.lz_vault.specs.declared.vault.Stage.{Stage}
+use Rattle.lz_vault.specs.declared.vault.Stage.TheVariants.{Closed, Open}
+use Rattle.lz_machine.specs.declared.actor.Actor.{Actor}
+use Rattle.lz_machine.specs.declared.course.Course.{Course}
+use Rattle.lz_machine.specs.declared.course.Course.TheVariants.{Plays}
+use Rattle.lz_machine.specs.declared.event.Event.{Event}
+use Rattle.lz_machine.specs.declared.event.Event.TheVariants.{Link, Mark, Settle, Unlink}
+use Rattle.lz_machine.specs.Yards.{Shape, Yard, actor_at, cell_at}
+use Rattle.lz_machine.specs.Table.{course, line_publishes, published_on, publishes, settling}
+use Rattle.lz_machine.specs.Runs.{Start, State, Up, Service, Caller, Transition, Calls, Turn, Fails, Looks, Trips, Stops, Crashes, CrashesIn, Opens, OpenFails, run, IsRun, first_point, caller_at, next_event, shape_of as shape_in}
 use Rattle.lz_machine.proofs.Frames.OneActor.{caller_range}
 use Rattle.lz_machine.proofs.Runs.Shape.{run_keeps_shape}
 use Rattle.lz_board.specs.declared.view.Sizes.{Sizes}
@@ -14,21 +22,44 @@ use Rattle.lz_board.specs.declared.view.What.{What}
 use Rattle.lz_board.specs.declared.view.What.TheVariants.{Called, Played, Found}
 use Rattle.lz_board.specs.declared.view.Note.{Note}
 use Rattle.lz_board.specs.declared.view.Part.{Part}
-use Rattle.lz_board.specs.Notes.{listed, trace_of, Quiet}
+use Rattle.lz_board.specs.Notes.{Extends, listed, trace_of, Quiet}
 use Rattle.lz_board.specs.Kept.{Knows}
 use Rattle.lz_board.specs.Seats.{BoardId}
+use Rattle.lz_board.proofs.Upkeep.Growth.{extends_both, extends_trans}
 use Rattle.lz_board.proofs.Upkeep.Splice.{low_or_not, least_load}
+use Rattle.lz_tie.specs.OnePass.{AreOwn, OnlyOwn}
 use Rattle.lz_tie.specs.NotedRuns.{TellsTurn, TellsFault, TellsStep, TellsOf, ReadsAs}
 use Rattle.lz_tie.specs.Holds.{IsLocked}
 use Rattle.lz_tie.proofs.Reading.CallPlaces.{place_reads, run_before}
+use Rattle.lz_tie.proofs.Reading.OwnTraces.{own_append}
 
--- the note publishes nothing, or is by one of these passes
+-- the note publishes nothing, or is by one of these passes and publishes for it
 abbrev IsByPass : ℕ → Note → Type 0
-IsByPass passes n = (n.published ≡ None) ⊎ ((1 ≤ n.by) × (n.by ≤ passes))
+IsByPass passes n = (n.published ≡ None) ⊎ ((1 ≤ n.by) × (n.by ≤ passes) × AreOwn n.by (listed n.published))
 
 abbrev AreByPasses : ℕ → List Note → Type 0
 AreByPasses passes [] = Unit {0}
 AreByPasses passes (n ∷ ns) = IsByPass passes n × AreByPasses passes ns
+
+-- what an actor's event changes is changed for it
+settling_own : (a : ℕ) (stage : Stage) (s : ℕ) → AreOwn a (settling stage s)
+settling_own a Open s = tt
+settling_own a Closed s = tt
+settling_own a stage s = tt
+
+event_own : (y : Yard) (actor : Actor) (a : ℕ) (e : Event) → AreOwn a (publishes y actor a e)
+event_own y actor a Link = (refl, tt)
+event_own y actor a Mark = (refl, tt)
+event_own y actor a Unlink = (refl, tt)
+event_own y actor a (Settle s) = settling_own a (cell_at y s).stage s
+event_own y actor a e = tt
+
+line_own : (y : Yard) (a : ℕ) (e : Event) → AreOwn a (line_publishes y a e)
+line_own y a e = go (course y a e)
+  where
+    go : (k : Course) → AreOwn a (published_on k y (actor_at y a) a e)
+    go Plays = event_own y (actor_at y a) a e
+    go k = tt
 
 -- a step publishes where it is a call's turn
 step_by : (service : Service) (disk : Medium) (n : Note) (step : Transition) → TellsStep (Up service disk) n step → IsByPass (length service.callers) n
@@ -37,7 +68,10 @@ step_by service disk n (Turn a) t = go (caller_at service.callers a) refl t.1
   where
     go : (q : Option Caller) → caller_at service.callers a ≡ q → TellsTurn service a q n → IsByPass (length service.callers) n
     go None is t = absurd t
-    go (Some caller) is u = inr (subst (λ (p : ℕ). (1 ≤ p) × (p ≤ length service.callers)) (sym t.0) (caller_range service.callers a caller is))
+    go (Some caller) is u =
+        let range = caller_range service.callers a caller is in
+        let own : AreOwn a (listed n.published) = subst (AreOwn a) (sym u.1) (line_own service.yard a (next_event service.yard caller)) in
+        inr (subst (λ (p : ℕ). (1 ≤ p) × (p ≤ length service.callers) × AreOwn p (listed n.published)) (sym t.0) (range.0, range.1, own))
 step_by service disk n (Fails a new) t = go (caller_at service.callers a) t.1
   where
     go : (q : Option Caller) → TellsFault service q n → IsByPass (length service.callers) n
@@ -72,7 +106,7 @@ one_long : (opened : Trace) (n : ℕ) (ns : List Note) → AreByPasses 1 ns → 
 one_long opened n [] are quiet least = least
 one_long opened n (x ∷ xs) are quiet least = ⊎_elim
     (λ (none : x.published ≡ None). subst (λ (p : Option Publishing). length (listed p ++ trace_of opened xs) ≤ n) (sym none) (one_long opened n xs are.1 quiet.1 least))
-    (λ (range : (1 ≤ x.by) × (x.by ≤ 1)). let low = range.0 in let high = range.1 in ⊎_elim
+    (λ (range : (1 ≤ x.by) × (x.by ≤ 1) × AreOwn x.by (listed x.published)). let low = range.0 in let high = range.1 in ⊎_elim
     (λ over. absurd (quiet.0 over.1 (omega (arith, low, high))))
     (λ within. within.1)
     (low_or_not n (length (trace_of opened (x ∷ xs)))))
@@ -83,16 +117,52 @@ no_more : (more P : Trace) → length (more ++ P) ≤ length P → more ++ P ≡
 no_more [] P le = refl
 no_more (x ∷ xs) P le = let l = length-append xs P in absurd (omega (arith, le, l))
 
-pub alone_trace : (b : BoardId) (ns : List Note) (y : Yard) (dev : Device) (h : Part) → IsLocked b ns y dev → Knows b.sizes b.opened ns h → b.sizes.passes ≡ 1 → trace_of b.opened ns ≡ h.known
-alone_trace b ns y dev h locked knows one =
+-- where all is published by the one pass, the trace grows by its changes alone
+only_own : (opened : Trace) (ns : List Note) → AreByPasses 1 ns → OnlyOwn 1 opened (trace_of opened ns)
+only_own opened [] are = record { since = []; goes_on = refl; own = tt }
+only_own opened (n ∷ ns) are =
+    let rest = only_own opened ns are.1 in
+    record {
+      since = listed n.published ++ rest.since;
+      goes_on = ap (λ (P : Trace). listed n.published ++ P) rest.goes_on ∙ sym (append_assoc (listed n.published) rest.since opened);
+      own = own_append 1 (listed n.published) rest.since (published are.0) rest.own;
+    }
+  where
+    published : IsByPass 1 n → AreOwn 1 (listed n.published)
+    published (inl none) = subst (λ (x : Option Publishing). AreOwn 1 (listed x)) (sym none) tt
+    published (inr range) = let low = range.0 in let high = range.1 in let is : n.by ≡ 1 = omega (arith, low, high) in subst (λ (p : ℕ). AreOwn p (listed n.published)) is range.2
+
+-- the one pass is the first, and all is published for it
+abbrev IsOne : BoardId → List Note → Part → Type 0
+IsOne b ns h = (h.number ≡ 1) × AreByPasses 1 ns
+
+is_one : (b : BoardId) (ns : List Note) (y : Yard) (dev : Device) (h : Part) → IsLocked b ns y dev → Knows b.sizes b.opened ns h → b.sizes.passes ≡ 1 → IsOne b ns h
+is_one b ns y dev h locked knows one =
     let t = locked.tied in
     let shape : y.shape ≡ t.start.shape = t.yard.shape ∙ subst (λ (w : State). shape_in w ≡ t.start.shape) t.state (run_keeps_shape (first_point t.start) t.steps) in
     let passes : t.start.shape.passes ≡ 1 = ap (λ (s : Shape). s.passes) (sym shape) ∙ ap (λ (z : Sizes). z.passes) (sym locked.sizes) ∙ one in
     let low = knows.numbered.0 in
     let high = knows.numbered.1 in
-    let number : h.number ≡ 1 = omega (arith, low, high, one) in
-    let long = one_long b.opened h.base ns (subst (λ (n : ℕ). AreByPasses n ns) passes (passes_read t.start ns t.steps t.runs t.reads)) (subst (λ (q : ℕ). Quiet b.opened q h.base ns) number knows.quiet) knows.least in
+    (omega (arith, low, high, one), subst (λ (n : ℕ). AreByPasses n ns) passes (passes_read t.start ns t.steps t.runs t.reads))
+
+pub alone_trace : (b : BoardId) (ns : List Note) (y : Yard) (dev : Device) (h : Part) → IsLocked b ns y dev → Knows b.sizes b.opened ns h → b.sizes.passes ≡ 1 → trace_of b.opened ns ≡ h.known
+alone_trace b ns y dev h locked knows one =
+    let is = is_one b ns y dev h locked knows one in
+    let long = one_long b.opened h.base ns is.1 (subst (λ (q : ℕ). Quiet b.opened q h.base ns) is.0 knows.quiet) knows.least in
     let seen = least_load h.base (length h.known) h.loads knows.order in
     let since = knows.since in
     let within : length (since.0 ++ h.known) ≤ length h.known = subst (λ (P : Trace). length P ≤ length h.known) since.1 (omega (arith, long, seen)) in
     since.1 ∙ no_more since.0 h.known within
+
+-- since the life began each change was made for it
+pub own_trace : (b : BoardId) (ns : List Note) (y : Yard) (dev : Device) (h : Part) → IsLocked b ns y dev → Knows b.sizes b.opened ns h → b.sizes.passes ≡ 1 → OnlyOwn h.number b.opened (trace_of b.opened ns)
+own_trace b ns y dev h locked knows one =
+    let is = is_one b ns y dev h locked knows one in
+    subst (λ (p : ℕ). OnlyOwn p b.opened (trace_of b.opened ns)) (sym is.0) (only_own b.opened ns is.1)
+
+-- a pass, one of however many, has seen what the life began with
+pub opened_known : (b : BoardId) (ns : List Note) (h : Part) → Knows b.sizes b.opened ns h → Extends h.known b.opened
+opened_known b ns h knows =
+    let least = knows.least in
+    let seen = least_load h.base (length h.known) h.loads knows.order in
+    extends_both b.opened h.known (trace_of b.opened ns) (extends_trans b.opened h.begun (trace_of b.opened ns) knows.began knows.from) (knows.since.0, knows.since.1) (omega (arith, least, seen))

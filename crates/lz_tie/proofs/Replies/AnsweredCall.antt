@@ -29,6 +29,8 @@ use Rattle.lz_board.specs.Notes.{listed, trace_of, note_by, load_note, own, is_f
 use Rattle.lz_board.specs.Glances.{Changes}
 use Rattle.lz_board.specs.Seats.{BoardId}
 use Rattle.lz_board.proofs.Upkeep.Splice.{trace_splice}
+use Rattle.lz_tie.specs.OnePass.{OnlyOwn}
+use Rattle.lz_tie.proofs.Reading.OwnTraces.{own_since}
 use Rattle.lz_tie.specs.Answers.{Promises, WasFull, IsOneCall, Answers}
 use Rattle.lz_tie.specs.Holds.{Holds, Turned, IsIdle}
 use Rattle.lz_tie.specs.UnderWay.{UnderWay, OwnAt, FoundFull}
@@ -162,15 +164,25 @@ module _ (b : BoardId) (c : Command) (format : Format) (before : Part) (reply : 
       rows b.sizes.slots b.sizes.buckets b.sizes.passes h.number (their_view b.opened was h c reply o x turned) format after.pin new before.known h.begun now law c reply under.own stands made under.is_own
       (λ worn. pin_now ∙ stays_outside h.pin (worn_side h.pin reply under.side worn) ∙ worn_pin b.opened was h c reply o x turned worn) (λ old. under.old (ap Answering old)) (found alone)
 
-  -- The answer keeps what the table promises. In a set of one pass the trace is what the pass has seen.
-  pub answered : before.sizes ≡ b.sizes → (b.sizes.passes ≡ 1 → trace_of b.opened was ≡ h.known) → Answers c reply before after
-  answered same alone = record {
-    new = new;
-    steps = steps_now;
-    format = format;
-    one_call = subst (λ (q : Sizes × ℕ). IsOneCall (shape_of q.0) q.1 format c reply new) (λ i. (sym same i, under.number i)) is_call;
-    promises = subst (λ (q : Sizes × ℕ × Trace). Promises (shape_of q.0) q.1 format c reply after.pin new before.known q.2) (λ i. (sym same i, under.number i, sym knows_now i)) (kept alone);
-  }
+  -- where each change of the life was its own, so is each since the call was made
+  changed_alone : OnlyOwn h.number b.opened now → OnlyOwn h.number before.known now
+  changed_alone own = own_since h.number b.opened before.known now own under.opened (made.since, made.goes_on)
+
+  -- The answer keeps what the table promises, on a file of the format with which the call began. In a set of one pass the trace
+  -- is what the pass has seen, and each change its own.
+  pub answered : before.sizes ≡ b.sizes → (b.sizes.passes ≡ 1 → trace_of b.opened was ≡ h.known) → (b.sizes.passes ≡ 1 → OnlyOwn h.number b.opened now) → (answers : Answers c reply before after) × (answers.format ≡ format)
+  answered same alone own = (
+    record {
+      new = new;
+      steps = steps_now;
+      format = format;
+      one_call = subst (λ (q : Sizes × ℕ). IsOneCall (shape_of q.0) q.1 format c reply new) (λ i. (sym same i, under.number i)) is_call;
+      promises = subst (λ (q : Sizes × ℕ × Trace). Promises (shape_of q.0) q.1 format c reply after.pin new before.known q.2) (λ i. (sym same i, under.number i, sym knows_now i)) (kept alone);
+      lawful = subst (λ (q : Sizes × Trace). Lawful q.0.buckets q.0.slots q.1) (λ i. (sym same i, sym knows_now i)) law;
+      alone = λ one. subst (λ (q : ℕ × Trace). OnlyOwn q.0 before.known q.1) (λ i. (under.number i, sym knows_now i)) (changed_alone (own (sym (ap (λ (z : Sizes). z.passes) same) ∙ one)));
+    },
+    refl,
+  )
 
   -- and the pass may make the next call
   pub idle_again : IsIdle b.sizes after

@@ -1,4 +1,4 @@
 use Rattle.lazyset_tests.proofs.drills.play_on.Given as goal
 
 abbrev pub ghosts-play : goal.ghosts-play
-ghosts-play g a = record { name = a.blank.name }
+ghosts-play g a = record { board = a.blank.board }

@@ -1,4 +1,4 @@
 use Rattle.lazyset_tests.proofs.seats.answered.Given as goal
 
 abbrev pub ghosts-replies_of : goal.ghosts-replies_of
-ghosts-replies_of g a = record { name = a.blank.name }
+ghosts-replies_of g a = record { board = a.blank.board }

@@ -4,5 +4,5 @@ use Rattle.lz_tie.proofs.locked.Locked.begin.Goals as goal
 
 pub returns-clause-counts : goal.returns-clause-counts
 returns-clause-counts g c =
-    counted_new g.N.Named.board c.args.command _ (part c.args.pass.now) g.N.Named.board.opened _ _ (part c.call-outcome.new.pass) c.requires.pass.2.sized c.requires.idle c.call-outcome.ensures.holds c.call-outcome.result c.call-outcome.ensures.outcome
+    counted_new g.N.Named.board c.args.command _ (part c.args.pass.now) g.N.Named.board.opened _ _ (part c.call-outcome.new.pass) c.requires.pass.2.sized c.requires.idle c.call-outcome.ensures.opened c.call-outcome.ensures.holds c.call-outcome.result c.call-outcome.ensures.outcome
     c.args.buckets c.args.passes c.requires.buckets.0 c.requires.passes.0 c.begun.result c.begun.ensures

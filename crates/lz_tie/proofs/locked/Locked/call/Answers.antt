@@ -1,9 +1,11 @@
 use Rattle.std.proofs.Common.{ℕ, ◌≤◌, List, ◌∷◌, sym, ap, ◌∙◌, subst}
 use Rattle.lz_board.specs.declared.view.Part.{Part}
+use Rattle.lz_board.specs.Kept.{Knows}
 use Rattle.lz_board.specs.Plays.{found_note}
 use Rattle.lz_board.specs.Seats.{BoardId, carried, id_of, notes, part}
 use Rattle.lz_tie.specs.Holds.{IsIdle}
 use Rattle.lz_tie.specs.Moments.{IsLeftBy, HoldExplains}
+use Rattle.lz_tie.proofs.Reading.OnePass.{opened_known}
 use Rattle.lz_tie.proofs.Hold.Joining.{joined}
 use Rattle.lz_tie.proofs.Hold.PinSight.{found, own_found}
 use Rattle.lz_tie.proofs.Moments.HeldMoments.{same_left, found_left, held_again, hold_explains}
@@ -45,3 +47,8 @@ call_joined-outcome-requires-clause-found g c =
     let number = ap (λ (h : Part). h.number) c.join.ensures.carried ∙ sym c.requires.pass.2.number ∙ sym c.join.ensures.same.0 ∙ sym c.number-number.ensures in
     own_found (notes c.join.new.pen) (notes c.load_pin.new.pen) (carried c.join.new.pen) (carried c.load_pin.new.pen) c.load_pin.result (c.load_pin.ensures.own number)
     (c.load_pin.ensures.notes ∙ ap (λ n. found_note n c.load_pin.result ∷ notes c.join.new.pen) (sym number)) c.load_pin.ensures.carried
+
+pub returns-clause-opened : goal.returns-clause-opened
+returns-clause-opened g c =
+    let knows = subst (λ (b : BoardId). Knows b.sizes b.opened (notes c.self.inside.pen) (part c.args.pass.now)) c.requires.board c.join.ensures.knows in
+    opened_known g.N.Named.board (notes c.self.inside.pen) (part c.args.pass.now) knows

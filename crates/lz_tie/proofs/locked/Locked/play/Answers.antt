@@ -4,7 +4,8 @@ use Rattle.lz_board.specs.Kept.{Knows}
 use Rattle.lz_board.specs.Seats.{BoardId, carried, id_of, notes, part}
 use Rattle.lz_tie.specs.Holds.{IsTurn, Turned}
 use Rattle.lz_tie.specs.Moments.{HoldExplains}
-use Rattle.lz_tie.proofs.Reading.OnePass.{alone_trace}
+use Rattle.lz_tie.specs.OnePass.{OnlyOwn}
+use Rattle.lz_tie.proofs.Reading.OnePass.{alone_trace, own_trace}
 use Rattle.lz_tie.proofs.Hold.Joining.{joined, joined_turn, seen_turned}
 use Rattle.lz_tie.proofs.Moments.HeldMoments.{same_left, held_again, hold_explains}
 use Rattle.lz_tie.proofs.locked.Locked.play.Goals as goal
@@ -48,3 +49,9 @@ returns-clause-alone g c =
     let knows = subst (λ (b : BoardId). Knows b.sizes b.opened (notes c.self.inside.pen) (part c.args.pass.now)) c.requires.board c.join.ensures.knows in
     λ one. subst (λ v. trace_of g.N.Named.board.opened v.notes ≡ (part c.args.pass.now).known) c.self.view_is
     (alone_trace g.N.Named.board (notes c.self.inside.pen) c.self.inside.yard.yard (g.D.Disk.device c.self.inside.yard.disk) (part c.args.pass.now) c.self.invariant.1 knows one)
+
+pub returns-clause-own : goal.returns-clause-own
+returns-clause-own g c =
+    let knows = subst (λ (b : BoardId). Knows b.sizes b.opened (notes c.self.inside.pen) (part c.args.pass.now)) c.requires.board c.join.ensures.knows in
+    λ one. subst (λ v. OnlyOwn (part c.args.pass.now).number g.N.Named.board.opened (trace_of g.N.Named.board.opened v.notes)) c.self.view_is
+    (own_trace g.N.Named.board (notes c.self.inside.pen) c.self.inside.yard.yard (g.D.Disk.device c.self.inside.yard.disk) (part c.args.pass.now) c.self.invariant.1 knows one)

@@ -1,0 +1,34 @@
+-- A set that was opened and has no name yet.
+use Rattle.std.specs.Prelude.{◌≡◌, ◌≤◌, ℕ, All, List, [], length, map}
+use Rattle.lz_slot.specs.Limits.{most_buckets, most_passes}
+use Rattle.lz_disk.specs.Devices.{Device}
+use Rattle.lz_machine.specs.Yards.{Yard}
+use Rattle.lz_board.specs.declared.board.Pen.{Pen}
+use Rattle.lz_board.specs.declared.pass.Pass.{Pass}
+use Rattle.lz_board.specs.Plays.{parts_from}
+use Rattle.lz_board.specs.Seats.{BoardId, IsNew, IsPenOf, notes as notes_of, part}
+use Rattle.lz_tie.specs.Holds.{IsLocked}
+
+-- The board that its name will have, its yard and its disk.
+pub record BlankOver (D : Type 0) : Type 0 where
+  pub board : BoardId
+  pub yard : Yard
+  pub disk : D
+
+-- How many buckets and passes a board has, as a call is told.
+pub record IsSized (b : BoardId) (B S : ℕ) : Type 0 where
+  pub buckets : (B ≡ b.sizes.buckets) × (1 ≤ B) × (B ≤ most_buckets)
+  pub passes : (S ≡ b.sizes.passes) × (1 ≤ S) × (S ≤ most_passes)
+
+-- The passes of a board, in the order of their numbers, of which none has done anything yet.
+pub record AreNew (b : BoardId) (ps : List Pass) : Type 0 where
+  pub new : All (IsNew b) ps
+  pub parts : map (λ p. part p) ps ≡ parts_from b.sizes b.opened b.sizes.passes 1
+
+-- The yard may go under the lock with the board's pen, and the passes are the board's.
+pub record IsBlank (b : BoardId) (p : Pen) (y : Yard) (disk : Device) (ps : List Pass) (B : ℕ) : Type 0 where
+  pub pen : IsPenOf b p
+  pub notes : notes_of p ≡ []
+  pub locked : IsLocked b [] y disk
+  pub passes : AreNew b ps
+  pub sized : IsSized b B (length ps)

@@ -1,0 +1,69 @@
+-- What notes show grows: loads that are put among them show nothing, and a hold's step puts its mark before all others.
+use Rattle.std.proofs.Common.{◌≡◌, ◌≢◌, ℕ, suc, ◌≤◌, List, [], ◌∷◌, ◌++◌, length, refl, sym, ap, ◌∙◌, subst}
+use Rattle.std.specs.Prelude.{Option, Some, None}
+use Rattle.lz_slot.specs.declared.command.Command.{Command}
+use Rattle.lz_slot.specs.declared.history.Mark.TheVariants.{Call}
+use Rattle.lz_list.specs.Traces.{Trace}
+use Rattle.lz_machine.specs.declared.caller.Progress.{Progress}
+use Rattle.lz_machine.specs.declared.caller.Progress.TheVariants.{Answering}
+use Rattle.lz_machine.specs.Runs.{mark_of_turn}
+use Rattle.lz_machine.specs.Yards.{Shape}
+use Rattle.lz_board.specs.declared.view.What.{What}
+use Rattle.lz_board.specs.declared.view.What.TheVariants.{Called, Played, Found}
+use Rattle.lz_board.specs.declared.view.Note.{Note}
+use Rattle.lz_board.specs.declared.view.Load.{Load}
+use Rattle.lz_board.specs.Notes.{steps_of, load_note, insert, splice, Quiet, InOrder, place}
+use Rattle.lz_board.proofs.Upkeep.Splice.{at_place, other_step, steps_insert_other, steps_splice, quiet_splice}
+use Rattle.lz_tie.specs.NotedRuns.{AreNext, IsHopAt}
+use Rattle.lz_tie.specs.Marks.{calls_with, calls_in, number_with, number_of, reply_in, marks_with, marks_in}
+
+-- a call that loads next isn't about to reply
+load_replies : (shape : Shape) (h : Load) (at : Option (Command × Progress)) → IsHopAt shape h at → reply_in at ≡ None
+load_replies shape h None is = absurd is
+load_replies shape h (Some (c, Answering reply)) is = absurd cc
+load_replies shape h (Some (c, at)) is = refl
+
+module _ (opened : Trace) (shape : Shape) (p : ℕ) where
+  calls_insert : (h : Load) (ns : List Note) → calls_in (insert opened p h ns) ≡ calls_in ns
+  calls_insert h [] = refl
+  calls_insert h (x ∷ xs) = at_place opened (λ r. calls_in r ≡ calls_in (x ∷ xs)) p h x xs (λ _. ap (calls_with x.what) (calls_insert h xs)) (λ _. refl)
+
+  number_insert : (q : ℕ) (h : Load) (ns : List Note) → number_of q (insert opened p h ns) ≡ number_of q ns
+  number_insert q h [] = refl
+  number_insert q h (x ∷ xs) = at_place opened (λ r. number_of q r ≡ number_of q (x ∷ xs)) p h x xs
+      (λ _ i. number_with q x.by x.what (calls_insert h xs i) (number_insert q h xs i)) (λ _. refl)
+
+  -- another pass's step shows the same behind the load
+  with_insert : (by : ℕ) (what : What) (h : Load) (ns : List Note) → p ≢ by → marks_with shape by what (insert opened p h ns) ≡ marks_with shape by what ns
+  with_insert by (Called c format) h ns other = ap (λ k. Call (suc k) by c ∷ []) (calls_insert h ns)
+  with_insert by (Played e o) h ns other = λ i. mark_of_turn (number_insert by h ns i) (reply_in (place shape (steps_insert_other opened by p h ns other i)))
+  with_insert by (Found q v) h ns other = refl
+
+  shows_no_load : (h : Load) (ns : List Note) → IsHopAt shape h (place shape (steps_of p ns)) → marks_in shape (load_note p h ∷ ns) ≡ marks_in shape ns
+  shows_no_load h ns next = ap (λ r. mark_of_turn (number_of p ns) r ++ marks_in shape ns) (load_replies shape h (place shape (steps_of p ns)) next)
+
+  marks_insert : (h : Load) (ns : List Note) → Quiet opened p h.at ns → IsHopAt shape h (place shape (steps_of p ns)) → marks_in shape (insert opened p h ns) ≡ marks_in shape ns
+  marks_insert h [] quiet next = absurd next
+  marks_insert h (x ∷ xs) quiet next = at_place opened (λ r. marks_in shape r ≡ marks_in shape (x ∷ xs)) p h x xs
+      (λ over.
+      let away = quiet.0 over in
+      let rest = marks_insert h xs quiet.1 (subst (λ l. IsHopAt shape h (place shape l)) (other_step opened p x xs away) next) in
+      (λ i. with_insert x.by x.what h xs (λ same. away (sym same)) i ++ rest i))
+      (λ _. shows_no_load h (x ∷ xs) next)
+
+  -- all loads of a call
+  pub calls_splice : (hs : List Load) (ns : List Note) → calls_in (splice opened p hs ns) ≡ calls_in ns
+  calls_splice [] ns = refl
+  calls_splice (h ∷ hs) ns = calls_insert h (splice opened p hs ns) ∙ calls_splice hs ns
+
+  pub number_splice : (q : ℕ) (hs : List Load) (ns : List Note) → number_of q (splice opened p hs ns) ≡ number_of q ns
+  number_splice q [] ns = refl
+  number_splice q (h ∷ hs) ns = number_insert q h (splice opened p hs ns) ∙ number_splice q hs ns
+
+  pub marks_splice : (base top : ℕ) (hs : List Load) (ns : List Note) → Quiet opened p base ns → length opened ≤ base → InOrder base hs top → AreNext shape p hs (steps_of p ns)
+      → marks_in shape (splice opened p hs ns) ≡ marks_in shape ns
+  marks_splice base top [] ns quiet low order next = refl
+  marks_splice base top (h ∷ hs) ns quiet low order next =
+      let own = steps_splice opened p base h.at hs ns quiet low order.1 in
+      marks_insert h (splice opened p hs ns) (quiet_splice opened p base h.at hs ns quiet low order.1) (subst (λ l. IsHopAt shape h (place shape l)) (sym own) next.0)
+      ∙ marks_splice base h.at hs ns quiet low order.1 next.1

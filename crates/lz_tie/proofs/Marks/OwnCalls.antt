@@ -1,0 +1,250 @@
+-- A pass's calls in the history that notes show are those of its own steps.
+use Rattle.std.proofs.Common.{◌≡◌, ◌≢◌, ⊎_elim, ℕ, suc, ◌≤◌, Bool, true, false, List, [], ◌∷◌, ◌++◌, map, refl, sym, ap, ◌∙◌, subst, arith, eq-eqb, ne_eqb}
+use Rattle.std.specs.Prelude.{◌==◌, if◌then◌else◌, Option, Some, None}
+use Rattle.std.proofs.lemmas.Bool.{cases_eq}
+use Rattle.lz_slot.specs.declared.command.Command.{Command}
+use Rattle.lz_slot.specs.declared.format.Format.{Format}
+use Rattle.lz_slot.specs.Histories.{History}
+use Rattle.lz_list.specs.declared.publishing.Publishing.{Publishing}
+use Rattle.lz_list.specs.Traces.{Trace}
+use Rattle.lz_machine.specs.declared.event.Event.{Event}
+use Rattle.lz_machine.specs.declared.event.Outcome.{Outcome}
+use Rattle.lz_machine.specs.declared.event.Reply.{Reply}
+use Rattle.lz_machine.specs.declared.event.Reply.TheVariants.{Yes, No, Full, Worn, OldFile, Halted, Device}
+use Rattle.lz_machine.specs.Runs.{mark_of, mark_of_turn}
+use Rattle.lz_machine.specs.Yards.{Shape}
+use Rattle.lz_board.specs.declared.view.What.{What}
+use Rattle.lz_board.specs.declared.view.What.TheVariants.{Called, Played, Found}
+use Rattle.lz_board.specs.declared.view.Note.{Note}
+use Rattle.lz_board.specs.declared.view.Part.{Part}
+use Rattle.lz_board.specs.Notes.{place, shape_of, steps_of}
+use Rattle.lz_board.specs.Plays.{knowing}
+use Rattle.lz_board.specs.Seats.{BoardId}
+use Rattle.lz_board.proofs.Upkeep.Splice.{own_step, other_step}
+use Rattle.lz_tie.specs.Marks.{calls_with, calls_in, number_with, number_of, reply_in, marks_in}
+use Rattle.lz_tie.specs.OwnCalls.{Ending, SeenCall, ended, calls_of, replied, told_with, told, ending_of, unnumbered, shown, TellsOwn}
+use Rattle.lz_tie.proofs.Marks.RunMarks.{other_number}
+
+-- each of the calls has a number with F
+abbrev AllNumbers : (ℕ → Type 0) → List SeenCall → Type 0
+AllNumbers F [] = Unit {0}
+AllNumbers F (call ∷ calls) = F call.number × AllNumbers F calls
+
+all_numbers : (F G : ℕ → Type 0) → ((i : ℕ) → F i → G i) → (calls : List SeenCall) → AllNumbers F calls → AllNumbers G calls
+all_numbers F G to [] h = tt
+all_numbers F G to (call ∷ calls) h = (to call.number h.0, all_numbers F G to calls h.1)
+
+-- the newest call has this number
+abbrev HeadIs : ℕ → List SeenCall → Type 0
+HeadIs i [] = Unit {0}
+HeadIs i (call ∷ calls) = call.number ≡ i
+
+-- an ending changes no number
+module _ (i : ℕ) (e : Ending) where
+  abbrev either : Bool → SeenCall → List SeenCall → List SeenCall
+  either b call calls = if b then record { number = call.number; command = call.command; ending = Some e } ∷ calls else call ∷ ended i e calls
+
+  ended_numbers : (F : ℕ → Type 0) (calls : List SeenCall) → AllNumbers F calls → AllNumbers F (ended i e calls)
+  ended_numbers F [] h = tt
+  ended_numbers F (call ∷ calls) h = go (call.number == i) (ended_numbers F calls h.1)
+    where
+      go : (b : Bool) → AllNumbers F (ended i e calls) → AllNumbers F (either b call calls)
+      go true rest = (h.0, h.1)
+      go false rest = (h.0, rest)
+
+  ended_head : (j : ℕ) (calls : List SeenCall) → HeadIs j calls → HeadIs j (ended i e calls)
+  ended_head j [] h = tt
+  ended_head j (call ∷ calls) h = go (call.number == i)
+    where
+      go : (b : Bool) → HeadIs j (either b call calls)
+      go true = h
+      go false = h
+
+  -- an ending of another call
+  missed : (calls : List SeenCall) → AllNumbers (λ j. j ≢ i) calls → ended i e calls ≡ calls
+  missed [] h = refl
+  missed (call ∷ calls) h = ap (λ b. either b call calls) (ne_eqb call.number i h.0) ∙ ap (λ l. call ∷ l) (missed calls h.1)
+
+-- an ending of the newest call
+hit : (i : ℕ) (reply : Reply) (calls : List SeenCall) (own : List (Command × Option Reply)) → HeadIs i calls → map unnumbered calls ≡ map shown own
+    → map unnumbered (ended i (ending_of reply) calls) ≡ map shown (replied reply own)
+hit i reply [] [] head same = refl
+hit i reply [] (mine ∷ own) head same = absurd cc
+hit i reply (call ∷ calls) [] head same = absurd cc
+hit i reply (call ∷ calls) (mine ∷ own) head same =
+    ap (λ b. map unnumbered (either i (ending_of reply) b call calls)) (eq-eqb call.number i head)
+    ∙ ap (λ (x : Command × List (Command × Option Ending)). (x.0, Some (ending_of reply)) ∷ x.1) (λ j. (command j, rest j))
+  where
+    first : unnumbered call ≡ shown mine
+    first = cc
+
+    command : call.command ≡ mine.0
+    command = ap (λ (x : Command × Option Ending). x.0) first
+
+    rest : map unnumbered calls ≡ map shown own
+    rest = cc
+
+-- a reply is an ending
+reply_ends : (p i : ℕ) (reply : Reply) (M : History) → calls_of p (mark_of i reply ∷ M) ≡ ended i (ending_of reply) (calls_of p M)
+reply_ends p i Yes M = refl
+reply_ends p i No M = refl
+reply_ends p i (Full counts) M = refl
+reply_ends p i Worn M = refl
+reply_ends p i OldFile M = refl
+reply_ends p i Halted M = refl
+reply_ends p i Device M = refl
+
+-- no call has a number above the count
+number_within : (p : ℕ) (ns : List Note) → number_of p ns ≤ calls_in ns
+number_within p [] = omega arith
+number_within p (n ∷ ns) = go n.what (number_within p ns)
+  where
+    of_made : number_of p ns ≤ calls_in ns → (b : Bool) → (if b then suc (calls_in ns) else number_of p ns) ≤ suc (calls_in ns)
+    of_made high true = omega arith
+    of_made high false = omega (arith, high)
+
+    go : (what : What) → number_of p ns ≤ calls_in ns → number_with p n.by what (calls_in ns) (number_of p ns) ≤ calls_with what (calls_in ns)
+    go (Called c format) high = of_made high (n.by == p)
+    go (Played e o) high = high
+    go (Found q v) high = high
+
+module _ (shape : Shape) (p : ℕ) where
+  abbrev calls_at : List Note → List SeenCall
+  calls_at ns = calls_of p (marks_in shape ns)
+
+  -- a number of a call of this pass: no other pass's last call has it
+  abbrev IsOwn : List Note → ℕ → Type 0
+  IsOwn ns i = (i ≤ calls_in ns) × ((q : ℕ) → q ≢ p → i ≢ number_of q ns)
+
+  record Own (ns : List Note) : Type 0 where
+    same : map unnumbered (calls_at ns) ≡ map shown (told shape (steps_of p ns))
+    head : HeadIs (number_of p ns) (calls_at ns)
+    apart : AllNumbers (IsOwn ns) (calls_at ns)
+
+  module _ (by : ℕ) (published : Option Publishing) (ns : List Note) (h : Own ns) where
+    abbrev step_note : What → Note
+    step_note what = record { by = by; what = what; published = published }
+
+    abbrev with_step : What → List Note
+    with_step what = step_note what ∷ ns
+
+    abbrev told_at : List (Command × Option Reply)
+    told_at = told shape (steps_of p ns)
+
+    -- its own steps are one more, or not
+    own_told : (what : What) → by ≡ p → told shape (steps_of p (with_step what)) ≡ told_with what (reply_in (place shape (steps_of p ns))) told_at
+    own_told what is = ap (told shape) (own_step [] p (step_note what) ns is)
+
+    other_told : (what : What) → by ≢ p → told shape (steps_of p (with_step what)) ≡ told_at
+    other_told what away = ap (told shape) (other_step [] p (step_note what) ns away)
+
+    -- after a new call
+    module _ (c : Command) (format : Format) where
+      abbrev what : What
+      what = Called c format
+
+      -- the numbers of the calls before it
+      still_own : AllNumbers (IsOwn (with_step what)) (calls_at ns)
+      still_own = all_numbers (IsOwn ns) (IsOwn (with_step what)) (λ i own. let low = own.0 in (omega (arith, low), λ q away. later q (by == q) i own.0 (own.1 q away))) (calls_at ns) h.apart
+        where
+          later : (q : ℕ) (b : Bool) (i : ℕ) → i ≤ calls_in ns → i ≢ number_of q ns → i ≢ (if b then suc (calls_in ns) else number_of q ns)
+          later q true i low other same = absurd (omega (arith, low, same))
+          later q false i low other same = other same
+
+      abbrev new : SeenCall
+      new = record { number = suc (calls_in ns); command = c; ending = None }
+
+      own_called : by ≡ p → Own (with_step what)
+      own_called is = record {
+        same = ap (map unnumbered) grown ∙ ap (λ l. (c, None) ∷ l) h.same ∙ ap (map shown) (sym (own_told what is));
+        head = subst (HeadIs (number_of p (with_step what))) (sym grown) (sym number);
+        apart = subst (AllNumbers (IsOwn (with_step what))) (sym grown) ((omega arith, fresh), still_own);
+      }
+        where
+          grown : calls_at (with_step what) ≡ new ∷ calls_at ns
+          grown = ap (λ b. if b then new ∷ calls_at ns else calls_at ns) (eq-eqb by p is)
+
+          number : number_of p (with_step what) ≡ suc (calls_in ns)
+          number = ap (λ b. if b then suc (calls_in ns) else number_of p ns) (eq-eqb by p is)
+
+          fresh : (q : ℕ) → q ≢ p → suc (calls_in ns) ≢ number_of q (with_step what)
+          fresh q away same =
+              let high = number_within q ns in
+              let over : suc (calls_in ns) ≡ number_of q ns = same ∙ other_number q (step_note what) ns (λ so. away (sym so ∙ is)) in
+              absurd (omega (arith, high, over))
+
+      other_called : by ≢ p → Own (with_step what)
+      other_called away = record {
+        same = ap (map unnumbered) kept ∙ h.same ∙ ap (map shown) (sym (other_told what away));
+        head = subst (HeadIs (number_of p (with_step what))) (sym kept) (subst (λ i. HeadIs i (calls_at ns)) (sym (other_number p (step_note what) ns away)) h.head);
+        apart = subst (AllNumbers (IsOwn (with_step what))) (sym kept) still_own;
+      }
+        where
+          kept : calls_at (with_step what) ≡ calls_at ns
+          kept = ap (λ b. if b then new ∷ calls_at ns else calls_at ns) (ne_eqb by p away)
+
+      called : Own (with_step what)
+      called = ⊎_elim own_called other_called (cases_eq by p)
+
+    -- a step that ends none of the pass's calls
+    stays : (what : What) → calls_in (with_step what) ≡ calls_in ns → ((q : ℕ) → number_of q (with_step what) ≡ number_of q ns) → calls_at (with_step what) ≡ calls_at ns
+        → told shape (steps_of p (with_step what)) ≡ told_at → Own (with_step what)
+    stays what count number calls own = record {
+      same = ap (map unnumbered) calls ∙ h.same ∙ ap (map shown) (sym own);
+      head = subst (HeadIs (number_of p (with_step what))) (sym calls) (subst (λ i. HeadIs i (calls_at ns)) (sym (number p)) h.head);
+      apart = subst (AllNumbers (IsOwn (with_step what))) (sym calls)
+          (all_numbers (IsOwn ns) (IsOwn (with_step what)) (λ i own. (subst (λ k. i ≤ k) (sym count) own.0, λ q away same. own.1 q away (same ∙ number q))) (calls_at ns) h.apart);
+    }
+
+    module _ (e : Event) (o : Outcome) where
+      abbrev event : What
+      event = Played e o
+
+      -- an event before the reply
+      goes_on : reply_in (place shape (steps_of by ns)) ≡ None → Own (with_step event)
+      goes_on none = stays event refl (λ q. refl) (ap (λ r. calls_of p (mark_of_turn (number_of by ns) r ++ marks_in shape ns)) none)
+          (⊎_elim
+          (λ (is : by ≡ p). own_told event is ∙ ap (λ r. told_with event r told_at) (ap (λ q. reply_in (place shape (steps_of q ns))) (sym is) ∙ none))
+          (other_told event)
+          (cases_eq by p))
+
+      -- and the one that gives it
+      module _ (reply : Reply) (some : reply_in (place shape (steps_of by ns)) ≡ Some reply) where
+        ends : calls_at (with_step event) ≡ ended (number_of by ns) (ending_of reply) (calls_at ns)
+        ends = ap (λ r. calls_of p (mark_of_turn (number_of by ns) r ++ marks_in shape ns)) some ∙ reply_ends p (number_of by ns) reply (marks_in shape ns)
+
+        own_ends : by ≡ p → Own (with_step event)
+        own_ends is = record {
+          same =
+              ap (map unnumbered) ends
+              ∙ hit (number_of by ns) reply (calls_at ns) told_at (subst (λ q. HeadIs (number_of q ns) (calls_at ns)) (sym is) h.head) h.same
+              ∙ ap (map shown) (sym (own_told event is ∙ ap (λ r. told_with event r told_at) (ap (λ q. reply_in (place shape (steps_of q ns))) (sym is) ∙ some)));
+          head = subst (HeadIs (number_of p ns)) (sym ends) (ended_head (number_of by ns) (ending_of reply) (number_of p ns) (calls_at ns) h.head);
+          apart = subst (AllNumbers (IsOwn ns)) (sym ends) (ended_numbers (number_of by ns) (ending_of reply) (IsOwn ns) (calls_at ns) h.apart);
+        }
+
+        other_ends : by ≢ p → Own (with_step event)
+        other_ends away = stays event refl (λ q. refl)
+            (ends ∙ missed (number_of by ns) (ending_of reply) (calls_at ns) (all_numbers (IsOwn ns) (λ j. j ≢ number_of by ns) (λ i own. own.1 by away) (calls_at ns) h.apart))
+            (other_told event away)
+
+      played : (r : Option Reply) → reply_in (place shape (steps_of by ns)) ≡ r → Own (with_step event)
+      played None none = goes_on none
+      played (Some reply) some = ⊎_elim (own_ends reply some) (other_ends reply some) (cases_eq by p)
+
+    step_own : (what : What) → Own (with_step what)
+    step_own (Called c format) = called c format
+    step_own (Played e o) = played e o (reply_in (place shape (steps_of by ns))) refl
+    step_own (Found q v) = stays (Found q v) refl (λ r. refl) refl (⊎_elim (own_told (Found q v)) (other_told (Found q v)) (cases_eq by p))
+
+  own : (ns : List Note) → Own ns
+  own [] = record { same = refl; head = tt; apart = tt }
+  own (n ∷ ns) = step_own n.by n.published ns (own ns) n.what
+
+  -- its calls in the history are those of its own steps
+  pub calls_own : (ns : List Note) → map unnumbered (calls_of p (marks_in shape ns)) ≡ map shown (told shape (steps_of p ns))
+  calls_own ns = (own ns).same
+
+-- and so those of the steps that the pass has at hand, also once it has seen more
+pub tells_own : (b : BoardId) (ns : List Note) (h h' : Part) (seen : Trace) → steps_of h.number ns ≡ h.steps → h' ≡ knowing seen h → TellsOwn b ns h'
+tells_own b ns h h' seen noted is = subst (TellsOwn b ns) (sym is) (calls_own (shape_of b.sizes) h.number ns ∙ ap (λ l. map shown (told (shape_of b.sizes) l)) noted)

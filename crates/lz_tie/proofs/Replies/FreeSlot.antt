@@ -1,0 +1,102 @@
+-- Where a key is linked the members are fewer than the slots: each has a node, in a slot that holds its key, and so has the new one.
+use Rattle.std.proofs.Common.{◌≡◌, inl, inr, ℕ, zero, suc, ◌<◌, ◌==◌, ◌&&◌, ◌||◌, not, if◌then◌else◌, Bool, true, false, List, [], ◌∷◌, ◌++◌, length, refl, sym, ap, ◌∙◌, subst, arith}
+use mathlib.Core.Bool.{false≢true}
+use Rattle.std.specs.Prelude.{nat_eq}
+use Rattle.std.specs.List.{IsDistinct}
+use Rattle.std.specs.Cmp.{nat_eq_equiv}
+use Rattle.std.proofs.lemmas.Map.Keys.{IsDistinct-push}
+use Rattle.std.proofs.lemmas.Map.Made.{length-le_from_is_member}
+use Rattle.std.proofs.lemmas.Bool.{cases_Bool, cases_eq, and_parts, not-true, or_cases, or_left, or_right}
+use Rattle.std.proofs.lemmas.Bool.Decides.{nat_tests}
+use Rattle.std.proofs.lemmas.List.{length-append}
+use Rattle.lz_slot.specs.Sets.{Keys, Same, members}
+use Rattle.lz_slot.proofs.Sets.{members_among}
+use Rattle.lz_list.specs.declared.publishing.Publishing.TheVariants.{Linked as linked}
+use Rattle.lz_list.specs.Traces.{Trace, has_key, bucket_of, chain_of, key_word, next_link, member, Lawful}
+use Rattle.lz_list.proofs.Chains.TraceChain.{words_show_chain}
+use Rattle.lz_list.proofs.Traces.Absence.{unlinked_is_settled}
+use Rattle.lz_list.proofs.Traces.TraceWords.{node_of_key}
+use Rattle.lz_machine.proofs.Alone.Size.{members_append, none_distinct}
+use Rattle.lz_machine.proofs.Frames.Ranges.{on_range}
+use Rattle.lz_tie.specs.OneCaller.{keys_in, HasRoom}
+
+-- the keys that the first n slots hold
+abbrev slot_keys : Trace → ℕ → List ℕ
+slot_keys P zero = []
+slot_keys P (suc n) = slot_keys P n ++ key_word n P ∷ []
+
+count : (P : Trace) (n : ℕ) → length (slot_keys P n) ≡ n
+count P zero = refl
+count P (suc n) = omega (arith, count P n, length-append (slot_keys P n) (key_word n P ∷ []))
+
+slot_has : (P : Trace) (n s : ℕ) → s < n → members (slot_keys P n) (key_word s P) ≡ true
+slot_has P zero s lt = absurd (omega (arith, lt))
+slot_has P (suc n) s lt = members_append (slot_keys P n) (key_word n P ∷ []) (key_word s P) ∙ elim (cases_eq s n) [
+  | inl same ↦ or_right (members (slot_keys P n) (key_word s P)) (members (key_word n P ∷ []) (key_word s P)) (subst (λ (q : ℕ). members (key_word q P ∷ []) (key_word s P) ≡ true) same (grind (arith, nat_tests)))
+  | inr other ↦ or_left (members (slot_keys P n) (key_word s P)) (members (key_word n P ∷ []) (key_word s P)) (slot_has P n s (omega (arith, lt, other)))
+]
+
+and_true : (a b : Bool) → a ≡ true → b ≡ true → (a && b) ≡ true
+and_true a b one other = rw (one, other) refl
+
+-- the keys of a list that pass a test, each once
+abbrev picked : (ℕ → Bool) → List ℕ → List ℕ
+picked test [] = []
+picked test (x ∷ xs) = if test x && not (members (picked test xs) x) then picked test xs ++ x ∷ [] else picked test xs
+
+picked_distinct : (test : ℕ → Bool) (xs : List ℕ) → IsDistinct nat_eq (picked test xs)
+picked_distinct test [] = none_distinct
+picked_distinct test (x ∷ xs) = go (test x && not (members (picked test xs) x)) refl (picked_distinct test xs)
+  where
+    go : (b : Bool) → (test x && not (members (picked test xs) x)) ≡ b → IsDistinct nat_eq (picked test xs) → IsDistinct nat_eq (if b then picked test xs ++ x ∷ [] else picked test xs)
+    go false is before = before
+    go true is before = IsDistinct-push nat_eq_equiv (picked test xs) x before (sym (members_among (picked test xs) x) ∙ not-true (members (picked test xs) x) (and_parts (test x) (not (members (picked test xs) x)) is).1)
+
+picked_members : (test : ℕ → Bool) (xs : List ℕ) (q : ℕ) → members (picked test xs) q ≡ (test q && members xs q)
+picked_members test [] q = grind (arith, nat_tests)
+picked_members test (x ∷ xs) q = go (test x && not (members (picked test xs) x)) refl (picked_members test xs q)
+  where
+    go : (b : Bool) → (test x && not (members (picked test xs) x)) ≡ b → members (picked test xs) q ≡ (test q && members xs q) → members (if b then picked test xs ++ x ∷ [] else picked test xs) q ≡ (test q && ((x == q) || members xs q))
+    go true is rest = members_append (picked test xs) (x ∷ []) q ∙ grind (arith, nat_tests, is, rest)
+    go false is rest = grind (arith, nat_tests, is, rest)
+
+module _ (buckets slots k s p : ℕ) (P : Trace) (law : Lawful buckets slots (linked k s p ∷ P)) where
+  member_slot : (q : ℕ) → member q P ≡ true → members (slot_keys P slots) q ≡ true
+  member_slot q is = elim (cases_Bool (has_key q (chain_of buckets q P))) [
+    | inl has ↦
+        let at = node_of_key (next_link buckets (bucket_of buckets q) P) (λ t. key_word t P) q 0 (chain_of buckets q P) (words_show_chain buckets slots P law.1 (bucket_of buckets q)).shows has in
+        subst (λ (j : ℕ). members (slot_keys P slots) j ≡ true) at.2 (slot_has P slots at.0 (on_range buckets slots P (bucket_of buckets q) at.0 law.1 at.1))
+    | inr none ↦ absurd (false≢true (sym (unlinked_is_settled buckets q slots P law.1 none).0 ∙ is))
+  ]
+
+  own_slot : members (slot_keys P slots) k ≡ true
+  own_slot = subst (λ (j : ℕ). members (slot_keys P slots) j ≡ true) law.0.key (slot_has P slots s law.0.in_range)
+
+  -- the members, and with them the new key
+  abbrev keys : List ℕ
+  keys = picked (keys_in P) (slot_keys P slots)
+
+  all_keys : (q : ℕ) → member q P ≡ members keys q
+  all_keys q = elim (cases_Bool (member q P)) [
+    | inl is ↦ is ∙ sym (picked_members (keys_in P) (slot_keys P slots) q ∙ and_true (member q P) (members (slot_keys P slots) q) is (member_slot q is))
+    | inr none ↦ none ∙ sym (picked_members (keys_in P) (slot_keys P slots) q ∙ ap (λ (b : Bool). b && members (slot_keys P slots) q) none)
+  ]
+
+  distinct : IsDistinct nat_eq (keys ++ k ∷ [])
+  distinct = IsDistinct-push nat_eq_equiv keys k (picked_distinct (keys_in P) (slot_keys P slots)) (sym (members_among keys k) ∙ sym (all_keys k) ∙ law.0.no_member)
+
+  held : (q : ℕ) → members (keys ++ k ∷ []) q ≡ true → members (slot_keys P slots) q ≡ true
+  held q is = elim (or_cases (members keys q) (members (k ∷ []) q) (sym (members_append keys (k ∷ []) q) ∙ is)) [
+    | inl there ↦ member_slot q (all_keys q ∙ there)
+    | inr here ↦ let is_k : k ≡ q = grind (arith, nat_tests, here) in subst (λ (j : ℕ). members (slot_keys P slots) j ≡ true) is_k own_slot
+  ]
+
+  fewer : length keys < slots
+  fewer =
+      let le = length-le_from_is_member nat_eq_equiv (keys ++ k ∷ []) (slot_keys P slots) distinct
+      (λ q is. sym (members_among (slot_keys P slots) q) ∙ held q (members_among (keys ++ k ∷ []) q ∙ is)) in
+      omega (arith, le, count P slots, length-append keys (k ∷ []))
+
+  -- so the set of the members has room
+  pub room : (S : Keys) → Same S (keys_in P) → HasRoom slots S
+  room S same = (length keys, record { keys = keys; count = refl; distinct = picked_distinct (keys_in P) (slot_keys P slots); all = λ q. same q ∙ all_keys q }, fewer)
