@@ -87,7 +87,8 @@ where
     W: Write + Drop,
     D: Disk + Send,
     N: Named + Send + Sync,
-    requires { blank.board ≡ N.board }
+    requires board { blank.board ≡ N.board }
+    requires since { LeftSince N.board N.first [] (D.device blank.disk) }
     ensures { (result.0 ≡ Status.Done) ⊎ (result.0 ≡ Status.Failed) }
 {
     let (set, passes) = blank.start::<N>();

@@ -63,7 +63,8 @@ fn play<N: Named, R: Wait>(
     blank: Blank<MemoryDisk, NoGate>,
     count: usize,
 ) -> Option<Played>
-    requires { blank.board ≡ N.board }
+    requires board { blank.board ≡ N.board }
+    requires since { LeftSince N.board N.first [] (D.device blank.disk) }
 {
     let (set, mut passes) = blank.start::<N>();
     let pass = passes.pop()?;

@@ -211,7 +211,8 @@ fn play<N: Named + Send + Sync, R: Threads + Wait + Sync>(
     blank: Blank<MemoryDisk, Gate>,
     turnstile: &Turnstile,
 ) -> Option<Scene>
-    requires { blank.board ≡ N.board }
+    requires board { blank.board ≡ N.board }
+    requires since { LeftSince N.board N.first [] (D.device blank.disk) }
 {
     let (set, mut passes) = blank.start::<N>();
     let mut second = passes.pop()?;

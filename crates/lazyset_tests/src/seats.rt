@@ -19,7 +19,8 @@ fn replies_of<N: Named, R: Wait>(
     blank: Blank<MemoryDisk, NoGate>,
     lines: &[u8],
 ) -> Option<Vec<u8>>
-    requires { blank.board ≡ N.board }
+    requires board { blank.board ≡ N.board }
+    requires since { LeftSince N.board N.first [] (D.device blank.disk) }
 {
     let (set, mut passes) = blank.start::<N>();
     let pass = passes.pop()?;

@@ -205,7 +205,8 @@ fn share<N: Named + Send + Sync, R: Threads + Wait + Sync>(
     blank: Blank<MemoryDisk, NoGate>,
     rounds: u64,
 ) -> Shared
-    requires { blank.board ≡ N.board }
+    requires board { blank.board ≡ N.board }
+    requires since { LeftSince N.board N.first [] (D.device blank.disk) }
 {
     let (set, passes) = blank.start::<N>();
     let tallies = churn_all(rt, alloc, &set, passes, rounds);

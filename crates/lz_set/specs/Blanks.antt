@@ -8,6 +8,7 @@ use Rattle.lz_board.specs.declared.pass.Pass.{Pass}
 use Rattle.lz_board.specs.Plays.{parts_from}
 use Rattle.lz_board.specs.Seats.{BoardId, IsNew, IsPenOf, notes as notes_of, part}
 use Rattle.lz_tie.specs.Holds.{IsLocked}
+use Rattle.lz_tie.specs.Moments.{LeftSince}
 
 -- The board that its name will have, its yard and its disk.
 pub record BlankOver (D : Type 0) : Type 0 where
@@ -32,3 +33,9 @@ pub record IsBlank (b : BoardId) (p : Pen) (y : Yard) (disk : Device) (ps : List
   pub locked : IsLocked b [] y disk
   pub passes : AreNew b ps
   pub sized : IsSized b B (length ps)
+
+-- A name may be given to the set: its values are the set's board, and the disk as it is or was before, since when nothing else
+-- could be left of it.
+pub record MayBeNamed {D : Type 0} (device : D → Device) (b : BoardId) (first : Device) (blank : BlankOver D) : Type 0 where
+  pub board : blank.board ≡ b
+  pub since : LeftSince b first [] (device blank.disk)

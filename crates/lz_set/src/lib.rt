@@ -10,7 +10,7 @@
 //! work::<D, Brand, R>(rt, blank)     // ghosts-work g a = record { board = a.blank.board; first = g.D.Disk.device a.blank.disk }
 //!
 //! fn work<D: Disk, N: Named, R: Wait>(rt: &R, blank: Blank<D, NoGate>)
-//!     requires { (blank.board ≡ N.board) × LeftSince N.board N.first [] (D.device blank.disk) }
+//!     requires { MayBeNamed D.device N.board N.first blank }
 //! {
 //!     let (set, passes) = blank.start::<N>();    // each of the passes may call: All (MayCall N.board) passes.items
 //!     ..
@@ -23,6 +23,7 @@
 #![tactic(auto)]
 
 mod blank;
+mod closing;
 mod fault;
 mod gate;
 mod set;

@@ -2,11 +2,13 @@
 ghost use Rattle.std.specs.Prelude.{◌≡◌, ◌∷◌, Some};
 ghost use Rattle.lz_slot.specs.declared.command.Command.{Command as Asked};
 ghost use Rattle.lz_machine.specs.declared.event.Reply.{Reply};
+ghost use Rattle.lz_machine.specs.Marks.{IsTold};
 ghost use Rattle.lz_board.specs.declared.view.Part.{Part};
 ghost use Rattle.lz_board.specs.Notes.{shape_of, trace_of};
 ghost use Rattle.lz_board.specs.Plays.{knowing};
 ghost use Rattle.lz_board.specs.Seats.{IsOf, id_of, part};
 ghost use Rattle.lz_tie.specs.Answers.{Answers};
+ghost use Rattle.lz_tie.specs.Marks.{AreOfPasses, marks_in};
 ghost use Rattle.lz_tie.specs.OwnCalls.{TellsOwn, told};
 ghost use Rattle.lz_tie.specs.RunningSets.{HasHistory};
 
@@ -17,9 +19,12 @@ use lz_disk::Disk;
 
 impl<N: Named, D: Disk> Locked<N, D> {
     /// What holds each time the lock is got: whatever a crash leaves of an honest device's disk then holds a set, to which the
-    /// calls that were made and answered lead, and in which what was settled is.
+    /// calls that were made and answered lead, and in which what was settled is. Each call of that history was made by a
+    /// pass that had none open, and has ended once at most.
     pub fn holds(&self)
         ensures history { HasHistory N.board self.now.notes (D.device self.now.disk) }
+        ensures told { IsTold (marks_in (shape_of N.board.sizes) self.now.notes) }
+        ensures passes { AreOfPasses N.board.sizes.passes (marks_in (shape_of N.board.sizes) self.now.notes) }
     {
         let _ = &self.yard;
     }

@@ -1,4 +1,4 @@
-use Rattle.std.proofs.Common.{◌≡◌, [], sym, subst}
+use Rattle.std.proofs.Common.{◌≡◌, [], refl, sym, subst}
 use Rattle.lz_board.specs.Opened.{IsOpened}
 use Rattle.lz_board.specs.Seats.{id_of}
 use Rattle.lz_tie.proofs.Start.OpenedYard.{words_opened}
@@ -17,5 +17,8 @@ invariant_of-result g c =
     blank (id_of c.in-Some.board) c.in-Some.pen (g.D.Disk.device c.args.disk) (g.D.Disk.device c.in_ok-yard.yard.disk) c.args.buckets c.args.passes c.in_ok-yard.yard.yard c.words.result.now c.in-Some.passes.items
     c.in_ok-yard.ensures.ok c.words.ensures new.board.0 new.board.1 new.pen.0 new.pen.1 new.passes.0 new.passes.1 new.passes.2 c.requires.buckets c.requires.passes
 
-pub returns-in-Some-clause-since : goal.returns-in-Some-clause-since
-returns-in-Some-clause-since g c = now_since (id_of c.in-Some.board) [] (g.D.Disk.device c.in_ok-yard.yard.disk) (g.met.D.Disk.timely c.in_ok-yard.yard.disk)
+pub returns-in-Some-clause-named : goal.returns-in-Some-clause-named
+returns-in-Some-clause-named g c = record {
+  board = refl;
+  since = now_since (id_of c.in-Some.board) [] (g.D.Disk.device c.in_ok-yard.yard.disk) (g.met.D.Disk.timely c.in_ok-yard.yard.disk);
+}

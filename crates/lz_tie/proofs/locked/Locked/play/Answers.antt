@@ -1,7 +1,10 @@
-use Rattle.std.proofs.Common.{◌≡◌, sym, subst}
-use Rattle.lz_board.specs.Notes.{trace_of}
+use Rattle.std.proofs.Common.{◌≡◌, sym, ap, ◌∙◌, subst}
+use Rattle.lz_machine.specs.Runs.{mark_of_turn, reply_at}
+use Rattle.lz_board.specs.Notes.{shape_of, trace_of}
 use Rattle.lz_board.specs.Kept.{Knows}
 use Rattle.lz_board.specs.Seats.{BoardId, carried, id_of, notes, part}
+use Rattle.lz_tie.specs.Marks.{Shows, number_of}
+use Rattle.lz_tie.proofs.Marks.GrownMarks.{hold_shows}
 use Rattle.lz_tie.specs.Holds.{IsTurn, Turned}
 use Rattle.lz_tie.specs.Moments.{HoldExplains}
 use Rattle.lz_tie.specs.OnePass.{OnlyOwn}
@@ -14,6 +17,16 @@ pub play_joined-turn-requires-clause-hold : goal.play_joined-turn-requires-claus
 play_joined-turn-requires-clause-hold g c =
     joined g.N.Named.board (id_of c.args.board.now) c.requires.board (notes c.self.inside.pen) (notes c.join.new.pen) c.self.inside.yard.yard (g.D.Disk.device c.self.inside.yard.disk) (part c.args.pass.now) (carried c.join.new.pen)
     c.self.invariant.1 c.join.ensures.knows c.join.ensures.told c.join.ensures.notes c.join.ensures.carried
+
+pub returns-clause-shows : goal.returns-clause-shows
+returns-clause-shows g c =
+    let board = id_of c.args.board.now in
+    let hold = joined g.N.Named.board board c.requires.board (notes c.self.inside.pen) (notes c.join.new.pen) c.self.inside.yard.yard (g.D.Disk.device c.self.inside.yard.disk) (part c.args.pass.now) (carried c.join.new.pen)
+    c.self.invariant.1 c.join.ensures.knows c.join.ensures.told c.join.ensures.notes c.join.ensures.carried in
+    let shown = hold_shows g.N.Named.board board c.requires.board (notes c.join.new.pen) (notes c.play_joined-turn.new.pen) (notes c.cut.new.pen) (part c.args.pass.now) (carried c.join.new.pen) (carried c.play_joined-turn.new.pen) (trace_of board.opened (notes c.self.inside.pen))
+    c.args.caller.now c.args.event c.play_joined-turn.result.outcome c.play_joined-turn.result.published hold.knows c.join.ensures.carried c.requires.turn.call c.play_joined-turn.ensures.holds c.cut.ensures.notes in
+    subst (λ was. Shows (shape_of g.N.Named.board.sizes) was (notes c.cut.new.pen) (mark_of_turn (number_of (part c.args.pass.now).number was) (reply_at c.args.caller.now.progress)))
+    (c.join.ensures.notes ∙ ap (λ v. v.notes) c.self.view_is) shown
 
 pub play_joined-turn-requires-clause-turn : goal.play_joined-turn-requires-clause-turn
 play_joined-turn-requires-clause-turn g c =

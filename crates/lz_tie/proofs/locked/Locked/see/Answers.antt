@@ -1,10 +1,13 @@
 use Rattle.std.proofs.Common.{◌≤◌, ℕ, List, ◌∷◌, sym, ap, ◌∙◌, subst}
 use Rattle.lz_machine.specs.declared.event.Event.TheVariants.{SeePin}
 use Rattle.lz_machine.specs.Calls.{event_at}
+use Rattle.lz_machine.specs.Runs.{mark_of_turn, reply_at}
 use Rattle.lz_board.specs.declared.view.Sizes.{Sizes}
 use Rattle.lz_board.specs.Notes.{trace_of, shape_of}
 use Rattle.lz_board.specs.Plays.{found_note}
 use Rattle.lz_board.specs.Seats.{BoardId, carried, id_of, notes, part}
+use Rattle.lz_tie.specs.Marks.{Shows, number_of}
+use Rattle.lz_tie.proofs.Marks.GrownMarks.{hold_shows}
 use Rattle.lz_tie.specs.Holds.{Turned}
 use Rattle.lz_tie.specs.Moments.{IsLeftBy, HoldExplains}
 use Rattle.lz_tie.proofs.Hold.Joining.{joined, seen_turned}
@@ -20,6 +23,20 @@ play_joined-turn-requires-clause-hold g c =
     (seen_range (part c.args.pass.now).sizes.passes (event_at (shape_of (part c.args.pass.now).sizes) c.args.caller.now.command c.args.caller.now.progress) c.args.seen 0 c.requires.call.pass c.requires.event) in
     found (id_of c.args.board.now) (notes c.join.new.pen) (notes c.load_pin-value.new.pen) c.self.inside.yard.yard (g.D.Disk.device c.self.inside.yard.disk) (carried c.join.new.pen) (carried c.load_pin-value.new.pen) hold c.args.seen c.load_pin-value.result range
     c.load_pin-value.ensures.told c.load_pin-value.ensures.own c.load_pin-value.ensures.notes c.load_pin-value.ensures.carried
+
+pub returns-clause-shows : goal.returns-clause-shows
+returns-clause-shows g c =
+    let board = id_of c.args.board.now in
+    let joint = joined g.N.Named.board board c.requires.board (notes c.self.inside.pen) (notes c.join.new.pen) c.self.inside.yard.yard (g.D.Disk.device c.self.inside.yard.disk) (part c.args.pass.now) (carried c.join.new.pen)
+    c.self.invariant.1 c.join.ensures.knows c.join.ensures.told c.join.ensures.notes c.join.ensures.carried in
+    let range = subst (λ (s : Sizes). (1 ≤ c.args.seen) × (c.args.seen ≤ s.passes)) (c.requires.pass.2.sized ∙ ap (λ (b : BoardId). b.sizes) (sym c.requires.board))
+    (seen_range (part c.args.pass.now).sizes.passes (event_at (shape_of (part c.args.pass.now).sizes) c.args.caller.now.command c.args.caller.now.progress) c.args.seen 0 c.requires.call.pass c.requires.event) in
+    let hold = found board (notes c.join.new.pen) (notes c.load_pin-value.new.pen) c.self.inside.yard.yard (g.D.Disk.device c.self.inside.yard.disk) (carried c.join.new.pen) (carried c.load_pin-value.new.pen) joint c.args.seen c.load_pin-value.result range
+    c.load_pin-value.ensures.told c.load_pin-value.ensures.own c.load_pin-value.ensures.notes c.load_pin-value.ensures.carried in
+    let shown = hold_shows g.N.Named.board board c.requires.board (notes c.load_pin-value.new.pen) (notes c.play_joined-turn.new.pen) (notes c.cut.new.pen) (part c.args.pass.now) (carried c.load_pin-value.new.pen) (carried c.play_joined-turn.new.pen) (trace_of board.opened (notes c.self.inside.pen))
+    c.args.caller.now (SeePin c.args.seen c.load_pin-value.result) c.play_joined-turn.result.outcome c.play_joined-turn.result.published hold.knows (c.load_pin-value.ensures.carried ∙ c.join.ensures.carried) c.requires.call c.play_joined-turn.ensures.holds c.cut.ensures.notes in
+    subst (λ was. Shows (shape_of g.N.Named.board.sizes) was (notes c.cut.new.pen) (mark_of_turn (number_of (part c.args.pass.now).number was) (reply_at c.args.caller.now.progress)))
+    (c.load_pin-value.ensures.notes ∙ ap (λ ns. found_note c.args.seen c.load_pin-value.result ∷ ns) (c.join.ensures.notes ∙ ap (λ v. v.notes) c.self.view_is)) shown
 
 pub play_joined-turn-requires-clause-turn : goal.play_joined-turn-requires-clause-turn
 play_joined-turn-requires-clause-turn g c =
