@@ -11,7 +11,7 @@ ghost use Rattle.lz_tie.specs.Marks.{Shows, calls_in, number_of};
 ghost use Rattle.lz_board.specs.Seats.{IsOf, IsPenOf, id_of, notes, part};
 ghost use Rattle.lz_tie.specs.OnePass.{OnlyOwn};
 ghost use Rattle.lz_tie.specs.Holds.{HasCall, Holds, IsIdle, IsLocked, IsTurn, Turned, begins_with};
-ghost use Rattle.lz_tie.specs.Moments.{ExplainedSince, LeftSince};
+ghost use Rattle.lz_tie.specs.Moments.{ExplainedSince, HoldExplains, LeftSince};
 
 use crate::calling::call_joined;
 use crate::named::Named;
@@ -67,6 +67,7 @@ impl<N: Named, D: Disk> Locked<N, D> {
         requires pass { IsOf N.board pass.old }
         requires turn { IsTurn self.old.notes (part pass.old) caller.now event }
         ensures pass { IsOf N.board pass.new }
+        ensures moments { HoldExplains N.board self.old.notes self.new.notes (D.device self.old.disk) (D.device self.new.disk) }
         ensures shows { Shows (shape_of N.board.sizes) self.old.notes self.new.notes (mark_of_turn (number_of (part pass.old).number self.old.notes) (reply_at caller.now.progress)) }
         ensures holds { Holds N.board.opened self.old.notes self.new.notes (note_by (part pass.old).number (Played event result.outcome) result.published) (part pass.old) (part pass.new) }
         ensures turned { Turned N.board.opened self.old.notes (part pass.old) caller.now.command caller.now.progress event result.outcome result.published }
@@ -92,6 +93,7 @@ impl<N: Named, D: Disk> Locked<N, D> {
         requires call { HasCall (part pass.old) caller.now }
         requires event { event_at (shape_of (part pass.old).sizes) caller.now.command caller.now.progress ≡ SeePin seen 0 }
         ensures pass { IsOf N.board pass.new }
+        ensures moments { HoldExplains N.board self.old.notes self.new.notes (D.device self.old.disk) (D.device self.new.disk) }
         ensures shows { Shows (shape_of N.board.sizes) self.old.notes self.new.notes (mark_of_turn (number_of (part pass.old).number self.old.notes) (reply_at caller.now.progress)) }
         ensures holds { Holds N.board.opened (found_note seen result.0 ∷ self.old.notes) self.new.notes (note_by (part pass.old).number (Played (SeePin seen result.0) result.1.outcome) result.1.published) (part pass.old) (part pass.new) }
         ensures turned { Turned N.board.opened (found_note seen result.0 ∷ self.old.notes) (part pass.old) caller.now.command caller.now.progress (SeePin seen result.0) result.1.outcome result.1.published }
@@ -112,6 +114,7 @@ impl<N: Named, D: Disk> Locked<N, D> {
         requires pass { IsOf N.board pass.old }
         requires idle { IsIdle N.board.sizes (part pass.old) }
         ensures pass { IsOf N.board pass.new }
+        ensures moments { HoldExplains N.board self.old.notes self.new.notes (D.device self.old.disk) (D.device self.new.disk) }
         ensures shows { Shows (shape_of N.board.sizes) self.old.notes self.new.notes (Call (suc (calls_in self.old.notes)) (part pass.old).number command ∷ []) }
         ensures holds { Holds N.board.opened (found_note (part pass.old).number (part pass.old).pin ∷ self.old.notes) self.new.notes (note_by (part pass.old).number (Called command self.old.yard.vault.format) None) (part pass.old) (part pass.new) }
         ensures outcome { result ≡ begins_with self.old.yard.vault.format command }

@@ -21,6 +21,7 @@ ghost use Rattle.lz_board.specs.Seats.{IsOf, id_of, part};
 ghost use Rattle.lz_tie.specs.Answers.{Answers};
 ghost use Rattle.lz_tie.specs.Marks.{Shows, calls_in, number_of};
 ghost use Rattle.lz_tie.specs.Counting.{Advanced, Counts, IsCounted, seen_pass};
+ghost use Rattle.lz_tie.specs.Moments.{HoldExplains};
 ghost use Rattle.lz_tie.specs.Holds.{IsIdle, begins_with};
 ghost use Rattle.lz_tie.specs.OneCaller.{IsPlainAnswer, keys_in};
 
@@ -75,6 +76,7 @@ impl<N: Named, D: Disk> Locked<N, D> {
         requires buckets { (buckets ≡ N.board.sizes.buckets) × (1 ≤ buckets) × (buckets ≤ most_buckets) }
         requires passes { (passes ≡ N.board.sizes.passes) × (1 ≤ passes) × (passes ≤ most_passes) }
         ensures pass { IsOf N.board pass.new }
+        ensures moments { HoldExplains N.board self.old.notes self.new.notes (D.device self.old.disk) (D.device self.new.disk) }
         ensures shows { Shows (shape_of N.board.sizes) self.old.notes self.new.notes (Call (suc (calls_in self.old.notes)) (part pass.old).number command ∷ []) }
         ensures counts { Counts N.board command self.old.yard.vault.format (part pass.old) result (part pass.new) }
         ensures caller { result ≡ record { command = command; buckets = buckets; passes = passes; progress = begun_after (begins_with self.old.yard.vault.format command) } }
@@ -91,6 +93,7 @@ impl<N: Named, D: Disk> Locked<N, D> {
         requires counted { IsCounted N.board caller.now (part pass.old) }
         requires load { hop_of (event_at (shape_with caller.now) caller.now.command caller.now.progress) ≡ None }
         ensures pass { IsOf N.board pass.new }
+        ensures moments { HoldExplains N.board self.old.notes self.new.notes (D.device self.old.disk) (D.device self.new.disk) }
         ensures shows { Shows (shape_of N.board.sizes) self.old.notes self.new.notes (mark_of_turn (number_of (part pass.old).number self.old.notes) (reply_at caller.now.progress)) }
         ensures advanced { Advanced N.board self.new.notes caller.now result (part pass.old) (part pass.new) }
     {
@@ -114,6 +117,7 @@ impl<N: Named, D: Disk> Locked<N, D> {
         requires load { hop_of (event_at (shape_with caller.old) caller.old.command caller.old.progress) ≡ None }
         requires going { reply_at caller.old.progress ≡ None }
         ensures pass { IsOf N.board pass.new }
+        ensures moments { HoldExplains N.board self.old.notes self.new.notes (D.device self.old.disk) (D.device self.new.disk) }
         ensures shows { Shows (shape_of N.board.sizes) self.old.notes self.new.notes [] }
         ensures advanced { Advanced N.board self.new.notes caller.old result (part pass.old) (part pass.new) }
         ensures caller { caller.new ≡ record caller.old { progress = progress_after (shape_with caller.old) caller.old.command caller.old.progress result.outcome } }
@@ -132,6 +136,7 @@ impl<N: Named, D: Disk> Locked<N, D> {
         requires counted { IsCounted N.board caller.now (part pass.old) }
         requires reply { caller.now.progress ≡ Answering _reply }
         ensures pass { IsOf N.board pass.new }
+        ensures moments { HoldExplains N.board self.old.notes self.new.notes (D.device self.old.disk) (D.device self.new.disk) }
         ensures shows { Shows (shape_of N.board.sizes) self.old.notes self.new.notes (mark_of (number_of (part pass.old).number self.old.notes) _reply ∷ []) }
         ensures idle { IsIdle N.board.sizes (part pass.new) }
         ensures answers { (c : Asked) (format : Format) (before : Part) → before.sizes ≡ N.board.sizes → Counts N.board c format before caller.now (part pass.old) → Answers c _reply before (part pass.new) }
