@@ -8,6 +8,7 @@ ghost use Rattle.lz_board.specs.Plays.{found_note};
 ghost use Rattle.lz_board.specs.Seats.{IsOf, IsPenOf, id_of, notes, part};
 ghost use Rattle.lz_tie.specs.OnePass.{OnlyOwn};
 ghost use Rattle.lz_tie.specs.Holds.{HasCall, Holds, IsIdle, IsLocked, IsTurn, Turned, begins_with};
+ghost use Rattle.lz_tie.specs.Lives.{LivesOn};
 ghost use Rattle.lz_tie.specs.Moments.{ExplainedSince, LeftSince};
 
 use crate::calling::call_joined;
@@ -32,6 +33,7 @@ pub struct Locked<N: Named, D: Disk> {
 impl<N: Named, D: Disk> Model for Locked<N, D> {
     ghost use Rattle.lz_board.specs.Seats.{IsPenOf, notes};
     ghost use Rattle.lz_tie.specs.Holds.{IsLocked, LockedOver};
+    ghost use Rattle.lz_tie.specs.Lives.{LivesOn};
     ghost use Rattle.lz_tie.specs.Moments.{LeftSince};
 
     ghost Value = { LockedOver D };
@@ -39,7 +41,7 @@ impl<N: Named, D: Disk> Model for Locked<N, D> {
     ghost view = { λ l. record { notes = notes l.pen; yard = l.yard.yard; disk = l.yard.disk } };
 
     ghost invariant = { λ l. IsPenOf N.board l.pen × IsLocked N.board (notes l.pen) l.yard.yard (D.device l.yard.disk)
-        × LeftSince N.board N.first (notes l.pen) (D.device l.yard.disk) };
+        × LeftSince N.board N.first (notes l.pen) (D.device l.yard.disk) × LivesOn N.format N.first l.yard.yard (D.device l.yard.disk) };
 }
 
 impl<N: Named, D: Disk> Locked<N, D> {
@@ -48,6 +50,7 @@ impl<N: Named, D: Disk> Locked<N, D> {
         requires pen { IsPenOf N.board pen }
         requires yard { IsLocked N.board (notes pen) yard.yard (D.device yard.disk) }
         requires left { LeftSince N.board N.first (notes pen) (D.device yard.disk) }
+        requires life { LivesOn N.format N.first yard.yard (D.device yard.disk) }
         ensures { result ≡ record { notes = notes pen; yard = yard.yard; disk = yard.disk } }
     {
         Locked {
@@ -120,10 +123,12 @@ impl<N: Named, D: Disk> Locked<N, D> {
     }
 
     /// What a crash at any moment of the life might have left: each such text is one that may be left in the state to which
-    /// some beginning of the notes leads, so it explains what was seen of the calls by then. Does nothing.
+    /// some beginning of the notes leads, so it explains what was seen of the calls by then. And why the life is over, where it
+    /// is. Does nothing.
     pub fn moments(&self)
         ensures left { LeftSince N.board N.first self.now.notes (D.device self.now.disk) }
         ensures explained { ExplainedSince N.board N.first self.now.notes (D.device self.now.disk) }
+        ensures life { LivesOn N.format N.first self.now.yard (D.device self.now.disk) }
     {
         let _ = &self.yard;
     }
@@ -133,6 +138,7 @@ impl<N: Named, D: Disk> Locked<N, D> {
         ensures disk { result ≡ self.disk }
         ensures left { LeftSince N.board N.first self.notes (D.device result) }
         ensures explained { ExplainedSince N.board N.first self.notes (D.device result) }
+        ensures life { LivesOn N.format N.first self.yard (D.device result) }
     {
         self.yard.close()
     }

@@ -7,6 +7,7 @@ use Rattle.lz_tie.specs.OnePass.{OnlyOwn}
 use Rattle.lz_tie.proofs.Reading.OnePass.{alone_trace, own_trace}
 use Rattle.lz_tie.proofs.Hold.Joining.{joined, joined_turn, seen_turned}
 use Rattle.lz_tie.proofs.Moments.HeldMoments.{same_left, held_again}
+use Rattle.lz_tie.proofs.Lives.HeldLives.{life_on}
 use Rattle.lz_tie.proofs.locked.Locked.play.Goals as goal
 
 pub play_joined-turn-requires-clause-hold : goal.play_joined-turn-requires-clause-hold
@@ -43,5 +44,6 @@ invariant_of-self g c =
     let b = g.N.Named.board in
     let was = notes c.self.inside.pen in
     let found = same_left b was (notes c.join.new.pen) c.join.ensures.notes in
-    held_again b (id_of c.args.board.now) c.requires.board g.N.Named.first (g.D.Disk.device c.self.inside.yard.disk) (g.D.Disk.device c.play_joined-turn.new.yard.disk) was (notes c.join.new.pen) (notes c.play_joined-turn.new.pen) found c.play_joined-turn.ensures.moments c.self.invariant.2
-    c.play_joined-turn.new.yard.yard c.play_joined-turn.ensures.hold.locked c.cut.new.pen c.cut.ensures.pen c.cut.ensures.notes
+    let kept = held_again b (id_of c.args.board.now) c.requires.board g.N.Named.first (g.D.Disk.device c.self.inside.yard.disk) (g.D.Disk.device c.play_joined-turn.new.yard.disk) was (notes c.join.new.pen) (notes c.play_joined-turn.new.pen) found c.play_joined-turn.ensures.moments c.self.invariant.2
+    c.play_joined-turn.new.yard.yard c.play_joined-turn.ensures.hold.locked c.cut.new.pen c.cut.ensures.pen c.cut.ensures.notes in
+    (kept.0, kept.1, kept.2, life_on g.N.Named.format g.N.Named.first c.self.inside.yard.yard c.play_joined-turn.new.yard.yard (g.D.Disk.device c.self.inside.yard.disk) (g.D.Disk.device c.play_joined-turn.new.yard.disk) c.play_joined-turn.ensures.life c.self.invariant.3)

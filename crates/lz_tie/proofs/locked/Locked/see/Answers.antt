@@ -10,6 +10,7 @@ use Rattle.lz_tie.specs.Moments.{IsLeftBy}
 use Rattle.lz_tie.proofs.Hold.Joining.{joined, seen_turned}
 use Rattle.lz_tie.proofs.Hold.PinSight.{found, found_turn, seen_range}
 use Rattle.lz_tie.proofs.Moments.HeldMoments.{same_left, found_left, held_again}
+use Rattle.lz_tie.proofs.Lives.HeldLives.{life_on}
 use Rattle.lz_tie.proofs.locked.Locked.see.Goals as goal
 
 pub play_joined-turn-requires-clause-hold : goal.play_joined-turn-requires-clause-hold
@@ -39,5 +40,6 @@ invariant_of-self g c =
     let b = g.N.Named.board in
     let was = notes c.self.inside.pen in
     let found = λ (t : List ℕ) (l : IsLeftBy b.sizes b.opened was t). found_left b (found_note c.args.seen c.load_pin-value.result) (notes c.join.new.pen) (notes c.load_pin-value.new.pen) c.load_pin-value.ensures.notes t (same_left b was (notes c.join.new.pen) c.join.ensures.notes t l) in
-    held_again b (id_of c.args.board.now) c.requires.board g.N.Named.first (g.D.Disk.device c.self.inside.yard.disk) (g.D.Disk.device c.play_joined-turn.new.yard.disk) was (notes c.load_pin-value.new.pen) (notes c.play_joined-turn.new.pen) found c.play_joined-turn.ensures.moments c.self.invariant.2
-    c.play_joined-turn.new.yard.yard c.play_joined-turn.ensures.hold.locked c.cut.new.pen c.cut.ensures.pen c.cut.ensures.notes
+    let kept = held_again b (id_of c.args.board.now) c.requires.board g.N.Named.first (g.D.Disk.device c.self.inside.yard.disk) (g.D.Disk.device c.play_joined-turn.new.yard.disk) was (notes c.load_pin-value.new.pen) (notes c.play_joined-turn.new.pen) found c.play_joined-turn.ensures.moments c.self.invariant.2
+    c.play_joined-turn.new.yard.yard c.play_joined-turn.ensures.hold.locked c.cut.new.pen c.cut.ensures.pen c.cut.ensures.notes in
+    (kept.0, kept.1, kept.2, life_on g.N.Named.format g.N.Named.first c.self.inside.yard.yard c.play_joined-turn.new.yard.yard (g.D.Disk.device c.self.inside.yard.disk) (g.D.Disk.device c.play_joined-turn.new.yard.disk) c.play_joined-turn.ensures.life c.self.invariant.3)
