@@ -112,6 +112,7 @@ impl<N: Named, D: Disk> Locked<N, D> {
         ensures pass { IsOf N.board pass.new }
         ensures holds { Holds N.board.opened (found_note (part pass.old).number (part pass.old).pin ∷ self.old.notes) self.new.notes (note_by (part pass.old).number (Called command self.old.yard.vault.format) None) (part pass.old) (part pass.new) }
         ensures outcome { result ≡ begins_with self.old.yard.vault.format command }
+        ensures format { self.old.yard.vault.format ≡ N.format }
         ensures opened { Extends (part pass.old).known N.board.opened }
     {
         board.join(&mut self.pen, pass);
