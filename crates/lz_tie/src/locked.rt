@@ -1,5 +1,7 @@
 //! What lies under the lock.
-ghost use Rattle.std.specs.Prelude.{◌≡◌, ◌∷◌, None};
+ghost use Rattle.std.specs.Prelude.{◌≡◌, ◌⊎◌, ◌≤◌, ◌<◌, ◌∷◌, None};
+ghost use Rattle.lz_vault.specs.Vaults.{last_sync};
+ghost use Rattle.lz_list.specs.Traces.{halt_word};
 ghost use Rattle.lz_machine.specs.declared.event.Event.TheVariants.{SeePin};
 ghost use Rattle.lz_machine.specs.Calls.{event_at};
 ghost use Rattle.lz_board.specs.declared.view.What.TheVariants.{Called, Played};
@@ -134,12 +136,13 @@ impl<N: Named, D: Disk> Locked<N, D> {
         let _ = &self.yard;
     }
 
-    /// Ends the life, and hands the disk back as it is.
+    /// Ends the life, and hands the disk back as it is. Where the set was halted no sync was left, or the device has failed.
     pub fn close(self) -> D
         ensures disk { result ≡ self.disk }
         ensures left { LeftSince N.board N.first self.notes (D.device result) }
         ensures explained { ExplainedSince N.board N.first self.notes (D.device result) }
         ensures life { LivesOn N.format N.first self.yard (D.device result) }
+        ensures over { halt_word (trace_of N.board.opened self.notes) ≡ 1 → (last_sync ≤ self.yard.vault.syncs) ⊎ (N.first.faults < (D.device result).faults) }
     {
         self.yard.close()
     }
