@@ -9,3 +9,4 @@ pub mod AnswerRows
 pub mod OneCallerRows
 pub mod Calls
 pub mod Marks
+pub mod Sessions
