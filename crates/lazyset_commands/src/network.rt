@@ -4,6 +4,7 @@ ghost use Rattle.std.specs.Io.KnownBytes.{Appends};
 ghost use Rattle.lz_slot.specs.Limits.{most_buckets, most_passes};
 ghost use Rattle.lz_vault.specs.Opens.{IsFaultOf};
 ghost use Rattle.lazyset_commands.specs.Runs.{refusal_text};
+ghost use Rattle.lz_set.specs.Blanks.{MayBeNamed};
 
 use crate::running::refuse;
 use crate::status::Status;
@@ -87,7 +88,7 @@ where
     W: Write + Drop,
     D: Disk + Send,
     N: Named + Send + Sync,
-    requires { blank.board ≡ N.board }
+    requires { MayBeNamed D.device N.board N.first blank }
     ensures { (result.0 ≡ Status.Done) ⊎ (result.0 ≡ Status.Failed) }
 {
     let (set, passes) = blank.start::<N>();

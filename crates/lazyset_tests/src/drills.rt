@@ -1,6 +1,8 @@
 //! Each device call of a set's commands fails in turn, and each kind of crash follows.
 ghost use Rattle.std.specs.Prelude.{◌≡◌};
 ghost use Rattle.lz_set.specs.Names.{MayCall};
+ghost use Rattle.lz_set.specs.Blanks.{MayBeNamed};
+ghost use Rattle.lz_disk.specs.Records.{device_of};
 
 use crate::faults::{FAILINGS, Failing, PICKS, set_failing};
 use crate::threads::{ask, keys_in, made};
@@ -63,7 +65,7 @@ fn play<N: Named, R: Wait>(
     blank: Blank<MemoryDisk, NoGate>,
     count: usize,
 ) -> Option<Played>
-    requires { blank.board ≡ N.board }
+    requires { MayBeNamed device_of N.board N.first blank }
 {
     let (set, mut passes) = blank.start::<N>();
     let pass = passes.pop()?;

@@ -1,6 +1,8 @@
 //! A caller that is held between two of its events, while another caller's calls are answered.
 ghost use Rattle.std.specs.Prelude.{◌≡◌};
 ghost use Rattle.lz_set.specs.Names.{MayCall};
+ghost use Rattle.lz_set.specs.Blanks.{MayBeNamed};
+ghost use Rattle.lz_disk.specs.Records.{device_of};
 
 use crate::threads::{ask, keys_in, made};
 use lz_disk::MemoryDisk;
@@ -211,7 +213,7 @@ fn play<N: Named + Send + Sync, R: Threads + Wait + Sync>(
     blank: Blank<MemoryDisk, Gate>,
     turnstile: &Turnstile,
 ) -> Option<Scene>
-    requires { blank.board ≡ N.board }
+    requires { MayBeNamed device_of N.board N.first blank }
 {
     let (set, mut passes) = blank.start::<N>();
     let mut second = passes.pop()?;

@@ -1,5 +1,7 @@
 //! What a session over a set of one pass answers to its lines.
 ghost use Rattle.std.specs.Prelude.{◌≡◌, ◌≤◌};
+ghost use Rattle.lz_set.specs.Blanks.{MayBeNamed};
+ghost use Rattle.lz_disk.specs.Records.{device_of};
 
 use crate::threads::made;
 use crate::transcript::transcripts;
@@ -19,7 +21,7 @@ fn replies_of<N: Named, R: Wait>(
     blank: Blank<MemoryDisk, NoGate>,
     lines: &[u8],
 ) -> Option<Vec<u8>>
-    requires { blank.board ≡ N.board }
+    requires { MayBeNamed device_of N.board N.first blank }
 {
     let (set, mut passes) = blank.start::<N>();
     let pass = passes.pop()?;

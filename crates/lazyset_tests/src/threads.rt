@@ -1,6 +1,8 @@
 //! Threads that share a set.
 ghost use Rattle.std.specs.Prelude.{◌≡◌, ◌≤◌, All};
 ghost use Rattle.lz_set.specs.Names.{MayCall};
+ghost use Rattle.lz_set.specs.Blanks.{MayBeNamed};
+ghost use Rattle.lz_disk.specs.Records.{device_of};
 
 use crate::faults::{FAILINGS, PICKS, set_failing};
 use lz_disk::MemoryDisk;
@@ -205,7 +207,7 @@ fn share<N: Named + Send + Sync, R: Threads + Wait + Sync>(
     blank: Blank<MemoryDisk, NoGate>,
     rounds: u64,
 ) -> Shared
-    requires { blank.board ≡ N.board }
+    requires { MayBeNamed device_of N.board N.first blank }
 {
     let (set, passes) = blank.start::<N>();
     let tallies = churn_all(rt, alloc, &set, passes, rounds);

@@ -28,7 +28,8 @@ blank b p before after B S y w ps opens words sizes opened pen none count new pa
     let S_is : length ps ≡ S = count ∙ pins ∙ ap (λ (z : Sizes). z.passes) large ∙ opens.passes in
     record {
       pen = pen;
-      locked = opened_locked b (notes p) before after B S y opens (sizes ∙ ap sizes_in words) (opened ∙ ap opened_by words) none;
+      notes = none;
+      locked = opened_locked b [] before after B S y opens (sizes ∙ ap sizes_in words) (opened ∙ ap opened_by words) refl;
       passes = record { new = new; parts = subst (λ (n : ℕ). map (λ q. part q) ps ≡ parts_from b.sizes b.opened n 1) pins parts };
       sized = record {
         buckets = (B_is, some_buckets.0, some_buckets.1);

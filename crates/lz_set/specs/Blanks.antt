@@ -1,13 +1,14 @@
 -- A set that was opened and has no name yet.
-use Rattle.std.specs.Prelude.{◌≡◌, ◌≤◌, ℕ, All, List, length, map}
+use Rattle.std.specs.Prelude.{◌≡◌, ◌≤◌, ℕ, All, List, [], length, map}
 use Rattle.lz_slot.specs.Limits.{most_buckets, most_passes}
 use Rattle.lz_disk.specs.Devices.{Device}
 use Rattle.lz_machine.specs.Yards.{Yard}
 use Rattle.lz_board.specs.declared.board.Pen.{Pen}
 use Rattle.lz_board.specs.declared.pass.Pass.{Pass}
 use Rattle.lz_board.specs.Plays.{parts_from}
-use Rattle.lz_board.specs.Seats.{BoardId, IsNew, IsPenOf, notes, part}
+use Rattle.lz_board.specs.Seats.{BoardId, IsNew, IsPenOf, notes as notes_of, part}
 use Rattle.lz_tie.specs.Holds.{IsLocked}
+use Rattle.lz_tie.specs.Moments.{LeftSince}
 
 -- The board that its name will have, its yard and its disk.
 pub record BlankOver (D : Type 0) : Type 0 where
@@ -28,6 +29,13 @@ pub record AreNew (b : BoardId) (ps : List Pass) : Type 0 where
 -- The yard may go under the lock with the board's pen, and the passes are the board's.
 pub record IsBlank (b : BoardId) (p : Pen) (y : Yard) (disk : Device) (ps : List Pass) (B : ℕ) : Type 0 where
   pub pen : IsPenOf b p
-  pub locked : IsLocked b (notes p) y disk
+  pub notes : notes_of p ≡ []
+  pub locked : IsLocked b [] y disk
   pub passes : AreNew b ps
   pub sized : IsSized b B (length ps)
+
+-- A name may be given to the set: its values are the set's board, and the disk as it is or was before, since when nothing else
+-- could be left of it.
+pub record MayBeNamed {D : Type 0} (device : D → Device) (b : BoardId) (first : Device) (blank : BlankOver D) : Type 0 where
+  pub board : blank.board ≡ b
+  pub since : LeftSince b first [] (device blank.disk)

@@ -1,3 +1,4 @@
 pub mod Names
 pub mod Blanks
 pub mod Answers
+pub mod Left

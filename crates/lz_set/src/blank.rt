@@ -1,8 +1,6 @@
 //! A set that has no name yet.
-ghost use Rattle.std.specs.Prelude.{◌≡◌, All, length, map};
-ghost use Rattle.lz_board.specs.Plays.{parts_from};
-ghost use Rattle.lz_board.specs.Seats.{part};
-ghost use Rattle.lz_set.specs.Blanks.{AreNew};
+ghost use Rattle.std.specs.Prelude.{All};
+ghost use Rattle.lz_set.specs.Blanks.{AreNew, MayBeNamed};
 ghost use Rattle.lz_set.specs.Names.{MayCall};
 
 use crate::gate::StepGate;
@@ -38,7 +36,7 @@ impl<D: Disk, G: StepGate> Model for Blank<D, G> {
 impl<D: Disk, G: StepGate> Blank<D, G> {
     /// The set, and its passes in the order of their numbers, of which none has done anything yet.
     pub fn start<N: Named>(self) -> (Set<D, G, N>, Vec<Pass>)
-        requires { self.board ≡ N.board }
+        requires { MayBeNamed D.device N.board N.first self }
         ensures may { All (MayCall N.board) result.1.items }
         ensures passes { AreNew N.board result.1.items }
     {

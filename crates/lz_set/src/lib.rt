@@ -7,10 +7,10 @@
 //!
 //! ```text
 //! let blank = Set::open(alloc, disk, NoGate, 1, 8)?;
-//! work::<D, Brand, R>(rt, blank)              // ghosts-work g a = record { board = a.blank.board }
+//! work::<D, Brand, R>(rt, blank)     // ghosts-work g a = record { board = a.blank.board; first = g.D.Disk.device a.blank.disk }
 //!
 //! fn work<D: Disk, N: Named, R: Wait>(rt: &R, blank: Blank<D, NoGate>)
-//!     requires { blank.board ≡ N.board }
+//!     requires { MayBeNamed D.device N.board N.first blank }
 //! {
 //!     let (set, passes) = blank.start::<N>();    // each of the passes may call: All (MayCall N.board) passes.items
 //!     ..
@@ -23,6 +23,7 @@
 #![tactic(auto)]
 
 mod blank;
+mod closing;
 mod fault;
 mod gate;
 mod set;

@@ -18,7 +18,7 @@ ghost use Rattle.lz_tie.specs.Counting.{Counts, IsCounted};
 ghost use Rattle.lz_tie.specs.Holds.{sizes_of};
 ghost use Rattle.lz_yard.specs.Filling.{OpensYard};
 ghost use Rattle.lz_set.specs.Answers.{reply_of};
-ghost use Rattle.lz_set.specs.Blanks.{IsSized};
+ghost use Rattle.lz_set.specs.Blanks.{IsSized, MayBeNamed};
 ghost use Rattle.lz_set.specs.Names.{MayCall};
 
 use crate::blank::Blank;
@@ -41,8 +41,8 @@ use std::sync::{Condvar, Mutex, Wait};
 #[derive(Drop)]
 pub struct Set<D: Disk, G: StepGate, N: Named> {
     gate: G,
-    board: Board,
-    locked: Mutex<Locked<N, D>>,
+    pub(crate) board: Board,
+    pub(crate) locked: Mutex<Locked<N, D>>,
     freed: Condvar,
     buckets: usize,
     passes: usize,
@@ -64,6 +64,7 @@ impl<D: Disk, G: StepGate> Set<D, G, Brand> {
         requires passes { (1 ≤ passes) × (passes ≤ most_passes) }
         ensures ok { IfOk result (λ blank. OpensYard (D.device disk) (D.device blank.disk) buckets passes blank.yard) }
         ensures board { IfOk result (λ blank. (blank.board.sizes ≡ sizes_of blank.yard.shape) × (blank.board.opened ≡ opened_by blank.yard.words)) }
+        ensures named { IfOk result (λ blank. MayBeNamed D.device blank.board (D.device blank.disk) blank) }
         ensures err { IfErr result (λ refused. IsRefusedFor (D.device disk) (D.device refused.disk) refused.fault) }
     {
         let yard = Yard::open(alloc, disk, buckets, passes)?;
@@ -244,11 +245,6 @@ impl<D: Disk, G: StepGate, N: Named> Set<D, G, N> {
             self.freed.notify_all();
         }
         self.gate.after(rt, pass, kind);
-    }
-
-    /// Ends the life, and hands the disk back as it is.
-    pub fn close(self) -> D {
-        self.locked.into_inner().close()
     }
 }
 

@@ -5,3 +5,4 @@ pub mod MarkRows
 pub mod OwnCalls
 pub mod ToldCalls
 pub mod GrownMarks
+pub mod WholeHistory

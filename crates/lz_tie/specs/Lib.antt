@@ -11,3 +11,4 @@ pub mod RunningSets
 pub mod OwnCalls
 pub mod Moments
 pub mod Sessions
+pub mod Lives

@@ -1,5 +1,5 @@
 -- The marks that notes show: what can be seen of the calls from outside. Notes and marks stand newest first.
-use Rattle.std.specs.Prelude.{ℕ, suc, ◌==◌, if◌then◌else◌, List, [], ◌∷◌, ◌++◌, Option, Some, None}
+use Rattle.std.specs.Prelude.{◌≡◌, ℕ, suc, ◌≤◌, ◌==◌, if◌then◌else◌, List, [], ◌∷◌, ◌++◌, Option, Some, None}
 use Rattle.lz_slot.specs.declared.command.Command.{Command}
 use Rattle.lz_slot.specs.declared.history.Mark.TheVariants.{Call}
 use Rattle.lz_slot.specs.Histories.{History}
@@ -47,3 +47,13 @@ marks_with shape p (Found q v) ns = []
 abbrev pub marks_in : Shape → List Note → History
 marks_in shape [] = []
 marks_in shape (n ∷ ns) = marks_with shape n.by n.what ns ++ marks_in shape ns
+
+-- the later notes show these marks, and before them all that the earlier ones did
+abbrev pub Shows : Shape → List Note → List Note → History → Type 0
+Shows shape was is new = marks_in shape is ≡ new ++ marks_in shape was
+
+-- each call of the history was made by one of so many passes
+abbrev pub AreOfPasses : ℕ → History → Type 0
+AreOfPasses passes [] = Unit {0}
+AreOfPasses passes (Call i q c ∷ M) = (1 ≤ q) × (q ≤ passes) × AreOfPasses passes M
+AreOfPasses passes (m ∷ M) = AreOfPasses passes M

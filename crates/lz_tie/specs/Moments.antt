@@ -2,6 +2,7 @@
 use Rattle.std.specs.Prelude.{◌≡◌, ◌⊎◌, ℕ, false, IsTrue, List, [], ◌++◌}
 use Rattle.lz_disk.specs.Images.{Medium, IsImage, at_rest}
 use Rattle.lz_disk.specs.Devices.{Device, LeavesOnly}
+use Rattle.lz_vault.specs.Vaults.{LeavesEither}
 use Rattle.lz_list.specs.Traces.{Trace}
 use Rattle.lz_machine.specs.Runs.{Start, IsStart, Up, Service, Transition, run, IsRun, first_point}
 use Rattle.lz_board.specs.declared.view.Sizes.{Sizes}
@@ -41,12 +42,16 @@ no_device = record { honest = false; medium = at_rest []; moment = 0; left_since
 abbrev pub LeftSince : BoardId → Device → List Note → Device → Type 0
 LeftSince b first ns disk = IsTrue disk.honest → LeavesOnly first disk (λ t. IsImage first.medium t ⊎ IsLeftBy b.sizes b.opened ns t)
 
--- A step of the device, and of the notes: each text that a crash in it might have left is left by some beginning of the notes
--- after it, and so is what a beginning of those before it leaves.
+-- One hold, of the notes and of the disk: at each moment each image is one of before it or of after it, and what a beginning
+-- of the notes left is left by one of those after it too.
 pub record GoesOn (b : BoardId) (was is : List Note) (old new : Device) : Type 0 where
   pub honest : new.honest ≡ old.honest
-  pub time : IsTrue old.honest → LeavesOnly old new (IsLeftBy b.sizes b.opened is)
+  pub time : IsTrue old.honest → LeavesEither old new
   pub kept : (t : List ℕ) → IsLeftBy b.sizes b.opened was t → IsLeftBy b.sizes b.opened is t
+
+-- Each text that a crash in a hold might have left explains all that was seen before it, or all that was seen after it.
+abbrev pub HoldExplains : BoardId → List Note → List Note → Device → Device → Type 0
+HoldExplains b was is old new = IsTrue old.honest → LeavesOnly old new (λ t. Explains b was t ⊎ Explains b is t)
 
 -- The text explains the calls and answers of some beginning of the notes.
 pub record ExplainsBegun (b : BoardId) (ns : List Note) (t : List ℕ) : Type 0 where

@@ -71,14 +71,16 @@ ending_of OldFile = AsRefused refused_old_file
 ending_of Halted = AsCut cut_halted
 ending_of Device = AsCut cut_device
 
+-- and of a call that may have none yet
 abbrev pub ending_in : Option Reply → Option Ending
 ending_in None = None
 ending_in (Some reply) = Some (ending_of reply)
 
--- a call without its number, and one as a history shows it
+-- a call of a history without its number
 abbrev pub unnumbered : SeenCall → Command × Option Ending
 unnumbered call = (call.command, call.ending)
 
+-- a pass's own call as a history shows it
 abbrev pub shown : Command × Option Reply → Command × Option Ending
 shown call = (call.0, ending_in call.1)
 

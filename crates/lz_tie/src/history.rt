@@ -2,11 +2,13 @@
 ghost use Rattle.std.specs.Prelude.{◌≡◌, ◌∷◌, Some};
 ghost use Rattle.lz_slot.specs.declared.command.Command.{Command as Asked};
 ghost use Rattle.lz_machine.specs.declared.event.Reply.{Reply};
+ghost use Rattle.lz_machine.specs.Marks.{IsTold};
 ghost use Rattle.lz_board.specs.declared.view.Part.{Part};
 ghost use Rattle.lz_board.specs.Notes.{shape_of, trace_of};
 ghost use Rattle.lz_board.specs.Plays.{knowing};
 ghost use Rattle.lz_board.specs.Seats.{IsOf, id_of, part};
 ghost use Rattle.lz_tie.specs.Answers.{Answers};
+ghost use Rattle.lz_tie.specs.Marks.{AreOfPasses, marks_in};
 ghost use Rattle.lz_tie.specs.OwnCalls.{TellsOwn, told};
 ghost use Rattle.lz_tie.specs.RunningSets.{HasHistory};
 ghost use Rattle.lz_tie.specs.Sessions.{AreOn, TellsAlone};
@@ -18,16 +20,19 @@ use lz_disk::Disk;
 
 impl<N: Named, D: Disk> Locked<N, D> {
     /// What holds each time the lock is got: whatever a crash leaves of an honest device's disk then holds a set, to which the
-    /// calls that were made and answered lead, and in which what was settled is.
+    /// calls that were made and answered lead, and in which what was settled is. Each call of that history was made by a
+    /// pass that had none open, and has ended once at most.
     pub fn holds(&self)
         ensures history { HasHistory N.board self.now.notes (D.device self.now.disk) }
+        ensures told { IsTold (marks_in (shape_of N.board.sizes) self.now.notes) }
+        ensures passes { AreOfPasses N.board.sizes.passes (marks_in (shape_of N.board.sizes) self.now.notes) }
     {
         let _ = &self.yard;
     }
 
     /// The pass joins the pen for a moment, and has then seen all that was published. In that history its calls are those that
     /// it has made itself, with the replies that it got; in a set of one pass there are no others. Each was made on a file of
-    /// the yard's format.
+    /// the set's format.
     pub fn welcome(&mut self, board: &Board, pass: &mut Pass)
         requires board { id_of board.now ≡ N.board }
         requires pass { IsOf N.board pass.old }
@@ -36,7 +41,7 @@ impl<N: Named, D: Disk> Locked<N, D> {
         ensures same { self.new ≡ self.old }
         ensures own { TellsOwn N.board self.old.notes (part pass.new) }
         ensures alone { N.board.sizes.passes ≡ 1 → TellsAlone N.board self.old.notes (part pass.new) }
-        ensures format { AreOn self.old.yard.vault.format (part pass.new).steps }
+        ensures format { AreOn N.format (part pass.new).steps }
     {
         board.join(&mut self.pen, pass);
         board.cut(&mut self.pen, pass);

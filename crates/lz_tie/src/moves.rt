@@ -1,22 +1,27 @@
 //! The moves of a thread's call: its beginning, a load without the lock, and a hold of each other event.
-ghost use Rattle.std.specs.Prelude.{◌≡◌, ◌≤◌, None};
+ghost use Rattle.std.specs.Prelude.{◌≡◌, ◌≤◌, ◌∷◌, [], None, suc};
 ghost use Rattle.lz_slot.specs.declared.command.Command.{Command as Asked};
 ghost use Rattle.lz_slot.specs.declared.format.Format.{Format};
+ghost use Rattle.lz_slot.specs.declared.history.Mark.TheVariants.{Call};
 ghost use Rattle.lz_slot.specs.Limits.{most_buckets, most_passes};
 ghost use Rattle.lz_machine.specs.declared.caller.Progress.TheVariants.{Answering};
 ghost use Rattle.lz_machine.specs.declared.event.Event.TheVariants.{Hop};
 ghost use Rattle.lz_machine.specs.declared.event.Outcome.TheVariants.{Value};
 ghost use Rattle.lz_machine.specs.Calls.{event_at, progress_after};
+ghost use Rattle.lz_machine.specs.Runs.{mark_of, mark_of_turn};
 ghost use Rattle.lz_machine.specs.Laws.{hop_of};
 ghost use Rattle.lz_machine.specs.Orders.{shape_with};
 ghost use Rattle.lz_machine.specs.Runs.{reply_at};
 ghost use Rattle.lz_caller.specs.Begun.{begun_after};
 ghost use Rattle.lz_board.specs.declared.view.Part.{Part};
 ghost use Rattle.lz_board.specs.Addresses.{index};
+ghost use Rattle.lz_board.specs.Notes.{shape_of};
 ghost use Rattle.lz_board.specs.Plays.{loading};
 ghost use Rattle.lz_board.specs.Seats.{IsOf, id_of, part};
 ghost use Rattle.lz_tie.specs.Answers.{Answers};
+ghost use Rattle.lz_tie.specs.Marks.{Shows, calls_in, number_of};
 ghost use Rattle.lz_tie.specs.Counting.{Advanced, Counts, IsCounted, seen_pass};
+ghost use Rattle.lz_tie.specs.Moments.{HoldExplains};
 ghost use Rattle.lz_tie.specs.Holds.{IsIdle, begins_with};
 ghost use Rattle.lz_tie.specs.OneCaller.{IsPlainAnswer, keys_in};
 
@@ -56,7 +61,8 @@ pub fn load_next(board: &Board, pass: &mut Pass, caller: &mut Caller, word: Word
 }
 
 impl<N: Named, D: Disk> Locked<N, D> {
-    /// Makes a call: the first hold of a pass that has none. The buckets and passes are those of the board.
+    /// Makes a call: the first hold of a pass that has none. The buckets and passes are those of the board, and its format is
+    /// that of the set's file.
     pub fn begin(
         &mut self,
         board: &Board,
@@ -71,8 +77,10 @@ impl<N: Named, D: Disk> Locked<N, D> {
         requires buckets { (buckets ≡ N.board.sizes.buckets) × (1 ≤ buckets) × (buckets ≤ most_buckets) }
         requires passes { (passes ≡ N.board.sizes.passes) × (1 ≤ passes) × (passes ≤ most_passes) }
         ensures pass { IsOf N.board pass.new }
-        ensures counts { Counts N.board command self.old.yard.vault.format (part pass.old) result (part pass.new) }
-        ensures caller { result ≡ record { command = command; buckets = buckets; passes = passes; progress = begun_after (begins_with self.old.yard.vault.format command) } }
+        ensures moments { HoldExplains N.board self.old.notes self.new.notes (D.device self.old.disk) (D.device self.new.disk) }
+        ensures shows { Shows (shape_of N.board.sizes) self.old.notes self.new.notes (Call (suc (calls_in self.old.notes)) (part pass.old).number command ∷ []) }
+        ensures counts { Counts N.board command N.format (part pass.old) result (part pass.new) }
+        ensures caller { result ≡ record { command = command; buckets = buckets; passes = passes; progress = begun_after (begins_with N.format command) } }
     {
         let asked = command;
         let outcome = self.call(board, pass, command);
@@ -86,6 +94,8 @@ impl<N: Named, D: Disk> Locked<N, D> {
         requires counted { IsCounted N.board caller.now (part pass.old) }
         requires load { hop_of (event_at (shape_with caller.now) caller.now.command caller.now.progress) ≡ None }
         ensures pass { IsOf N.board pass.new }
+        ensures moments { HoldExplains N.board self.old.notes self.new.notes (D.device self.old.disk) (D.device self.new.disk) }
+        ensures shows { Shows (shape_of N.board.sizes) self.old.notes self.new.notes (mark_of_turn (number_of (part pass.old).number self.old.notes) (reply_at caller.now.progress)) }
         ensures advanced { Advanced N.board self.new.notes caller.now result (part pass.old) (part pass.new) }
     {
         let event = caller.next();
@@ -108,6 +118,8 @@ impl<N: Named, D: Disk> Locked<N, D> {
         requires load { hop_of (event_at (shape_with caller.old) caller.old.command caller.old.progress) ≡ None }
         requires going { reply_at caller.old.progress ≡ None }
         ensures pass { IsOf N.board pass.new }
+        ensures moments { HoldExplains N.board self.old.notes self.new.notes (D.device self.old.disk) (D.device self.new.disk) }
+        ensures shows { Shows (shape_of N.board.sizes) self.old.notes self.new.notes [] }
         ensures advanced { Advanced N.board self.new.notes caller.old result (part pass.old) (part pass.new) }
         ensures caller { caller.new ≡ record caller.old { progress = progress_after (shape_with caller.old) caller.old.command caller.old.progress result.outcome } }
         ensures goes { (c : Asked) (format : Format) (before : Part) → Counts N.board c format before caller.old (part pass.old) → Counts N.board c format before caller.new (part pass.new) }
@@ -125,6 +137,8 @@ impl<N: Named, D: Disk> Locked<N, D> {
         requires counted { IsCounted N.board caller.now (part pass.old) }
         requires reply { caller.now.progress ≡ Answering _reply }
         ensures pass { IsOf N.board pass.new }
+        ensures moments { HoldExplains N.board self.old.notes self.new.notes (D.device self.old.disk) (D.device self.new.disk) }
+        ensures shows { Shows (shape_of N.board.sizes) self.old.notes self.new.notes (mark_of (number_of (part pass.old).number self.old.notes) _reply ∷ []) }
         ensures idle { IsIdle N.board.sizes (part pass.new) }
         ensures answers { (c : Asked) (format : Format) (before : Part) → before.sizes ≡ N.board.sizes → Counts N.board c format before caller.now (part pass.old) → Answers c _reply before (part pass.new) }
         ensures plain { N.board.sizes.passes ≡ 1 → (c : Asked) (format : Format) (before : Part) → before.sizes ≡ N.board.sizes → Counts N.board c format before caller.now (part pass.old) → IsPlainAnswer format N.board.sizes.slots c _reply (keys_in before.known) (keys_in (part pass.new).known) }

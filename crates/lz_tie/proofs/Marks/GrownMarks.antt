@@ -1,21 +1,32 @@
 -- What notes show grows: loads that are put among them show nothing, and a hold's step puts its mark before all others.
-use Rattle.std.proofs.Common.{◌≡◌, ◌≢◌, ℕ, suc, ◌≤◌, List, [], ◌∷◌, ◌++◌, length, refl, sym, ap, ◌∙◌, subst}
+use Rattle.std.proofs.Common.{◌≡◌, ◌≢◌, ℕ, suc, ◌≤◌, List, [], ◌∷◌, ◌++◌, length, map, refl, sym, ap, ◌∙◌, subst}
 use Rattle.std.specs.Prelude.{Option, Some, None}
 use Rattle.lz_slot.specs.declared.command.Command.{Command}
+use Rattle.lz_slot.specs.declared.format.Format.{Format}
 use Rattle.lz_slot.specs.declared.history.Mark.TheVariants.{Call}
+use Rattle.lz_list.specs.declared.publishing.Publishing.{Publishing}
 use Rattle.lz_list.specs.Traces.{Trace}
+use Rattle.lz_machine.specs.declared.event.Event.{Event}
+use Rattle.lz_machine.specs.declared.event.Outcome.{Outcome}
 use Rattle.lz_machine.specs.declared.caller.Progress.{Progress}
 use Rattle.lz_machine.specs.declared.caller.Progress.TheVariants.{Answering}
-use Rattle.lz_machine.specs.Runs.{mark_of_turn}
+use Rattle.lz_machine.specs.Orders.{Calling}
+use Rattle.lz_machine.specs.Runs.{mark_of_turn, reply_at}
 use Rattle.lz_machine.specs.Yards.{Shape}
 use Rattle.lz_board.specs.declared.view.What.{What}
 use Rattle.lz_board.specs.declared.view.What.TheVariants.{Called, Played, Found}
 use Rattle.lz_board.specs.declared.view.Note.{Note}
 use Rattle.lz_board.specs.declared.view.Load.{Load}
-use Rattle.lz_board.specs.Notes.{steps_of, load_note, insert, splice, Quiet, InOrder, place}
+use Rattle.lz_board.specs.declared.view.Part.{Part}
+use Rattle.lz_board.specs.declared.view.Sizes.{Sizes}
+use Rattle.lz_board.specs.Notes.{steps_of, note_by, load_note, insert, splice, Quiet, InOrder, place, shape_of}
+use Rattle.lz_board.specs.Kept.{Knows}
+use Rattle.lz_board.specs.Plays.{knowing}
+use Rattle.lz_board.specs.Seats.{BoardId}
 use Rattle.lz_board.proofs.Upkeep.Splice.{at_place, other_step, steps_insert_other, steps_splice, quiet_splice}
 use Rattle.lz_tie.specs.NotedRuns.{AreNext, IsHopAt}
-use Rattle.lz_tie.specs.Marks.{calls_with, calls_in, number_with, number_of, reply_in, marks_with, marks_in}
+use Rattle.lz_tie.specs.Holds.{HasCall, Holds}
+use Rattle.lz_tie.specs.Marks.{calls_with, calls_in, number_with, number_of, reply_in, marks_with, marks_in, Shows}
 
 -- a call that loads next isn't about to reply
 load_replies : (shape : Shape) (h : Load) (at : Option (Command × Progress)) → IsHopAt shape h at → reply_in at ≡ None
@@ -67,3 +78,46 @@ module _ (opened : Trace) (shape : Shape) (p : ℕ) where
       let own = steps_splice opened p base h.at hs ns quiet low order.1 in
       marks_insert h (splice opened p hs ns) (quiet_splice opened p base h.at hs ns quiet low order.1) (subst (λ l. IsHopAt shape h (place shape l)) (sym own) next.0)
       ∙ marks_splice base h.at hs ns quiet low order.1 next.1
+
+-- a hold of a pass whose loads come next
+module _ (b : BoardId) (was is : List Note) (h h' : Part) (knows : Knows b.sizes b.opened was h) where
+  abbrev shape : Shape
+  shape = shape_of b.sizes
+
+  abbrev spliced : List Note
+  spliced = splice b.opened h.number h.loads was
+
+  -- it puts the reply that was next before all that was shown
+  pub turn_shows : (c : Calling) (e : Event) (o : Outcome) (x : Option Publishing) → HasCall h c → Holds b.opened was is (note_by h.number (Played e o) x) h h'
+      → Shows shape was is (mark_of_turn (number_of h.number was) (reply_at c.progress))
+  turn_shows c e o x call holds =
+      ap (marks_in shape) holds.notes
+      ∙ (λ i. mark_of_turn (number_splice b.opened shape h.number h.number h.loads was i) (reply_in (at i)) ++ rest i)
+    where
+      next : AreNext shape h.number h.loads (steps_of h.number was)
+      next = subst (λ (z : Sizes). AreNext (shape_of z) h.number h.loads (steps_of h.number was)) knows.sized (subst (AreNext (shape_of h.sizes) h.number h.loads) (sym knows.noted) call.next)
+
+      rest : marks_in shape spliced ≡ marks_in shape was
+      rest = marks_splice b.opened shape h.number h.base (length h.known) h.loads was knows.quiet knows.least knows.order next
+
+      at : place shape (steps_of h.number spliced) ≡ Some (c.command, c.progress)
+      at =
+          ap (place shape) (steps_splice b.opened h.number h.base (length h.known) h.loads was knows.quiet knows.least knows.order)
+          ∙ ap (λ l. place shape (map (load_note h.number) h.loads ++ l)) knows.noted
+          ∙ subst (λ (z : Sizes). place (shape_of z) (map (load_note h.number) h.loads ++ h.steps) ≡ Some (c.command, c.progress)) knows.sized call.at
+
+  -- and the hold that makes a call puts that call there
+  pub call_shows : (c : Command) (format : Format) → h.loads ≡ [] → Holds b.opened was is (note_by h.number (Called c format) None) h h'
+      → Shows shape was is (Call (suc (calls_in was)) h.number c ∷ [])
+  call_shows c format none holds =
+      ap (marks_in shape) holds.notes
+      ∙ ap (λ l. marks_in shape (note_by h.number (Called c format) None ∷ splice b.opened h.number l was)) none
+
+-- the same of a pass that has joined the pen for that hold
+pub hold_shows : (b board : BoardId) → board ≡ b → (was is is' : List Note) (h h' h'' : Part) (seen : Trace) (c : Calling) (e : Event) (o : Outcome) (x : Option Publishing)
+    → Knows board.sizes board.opened was h' → h' ≡ knowing seen h → HasCall h c → Holds board.opened was is (note_by h'.number (Played e o) x) h' h'' → is' ≡ is
+    → Shows (shape_of b.sizes) was is' (mark_of_turn (number_of h.number was) (reply_at c.progress))
+hold_shows b board same was is is' h h' h'' seen c e o x knows part call holds later =
+    subst (λ (q : BoardId × List Note × ℕ). Shows (shape_of q.0.sizes) was q.1 (mark_of_turn (number_of q.2 was) (reply_at c.progress)))
+    (λ i. (same i, sym later i, ap (λ (q : Part). q.number) part i))
+    (turn_shows board was is h' h'' knows c e o x (subst (λ (q : Part). HasCall q c) (sym part) (record { next = call.next; at = call.at; pass = call.pass })) holds)

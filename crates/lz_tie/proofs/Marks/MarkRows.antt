@@ -1,5 +1,5 @@
 -- Worked rows: what notes show, and a pass's own calls, computed.
-use Rattle.std.proofs.Common.{◌≡◌, Bool, true, false, List, [], ◌∷◌, Some, None, is_some, refl, ap}
+use Rattle.std.proofs.Common.{◌≡◌, Bool, true, false, List, [], ◌∷◌, Some, None, is_some, refl, ap, arith}
 use mathlib.Core.Bool.{false≢true}
 use Rattle.lz_slot.specs.declared.command.Command.TheVariants.{Add, Has}
 use Rattle.lz_slot.specs.declared.format.Format.TheVariants.{Two}
@@ -13,7 +13,7 @@ use Rattle.lz_machine.specs.Yards.{Shape}
 use Rattle.lz_board.specs.declared.view.What.TheVariants.{Called, Played, Found}
 use Rattle.lz_board.specs.declared.view.Note.{Note}
 use Rattle.lz_board.specs.Notes.{note_by, load_note, steps_of}
-use Rattle.lz_tie.specs.Marks.{calls_in, number_of, marks_in}
+use Rattle.lz_tie.specs.Marks.{calls_in, number_of, marks_in, Shows, AreOfPasses}
 use Rattle.lz_tie.specs.OwnCalls.{AsAnswered, AsRefused, SeenCall, calls_of, told}
 
 abbrev shape : Shape
@@ -41,6 +41,17 @@ answer_is = refl
 -- the answer is that of its own pass's call, and not of the newest one
 of_no_other : marks_in shape answered ≡ answer 2 true ∷ Call 2 1 (Add 12) ∷ Call 1 2 (Has 9) ∷ [] → ⊥
 of_no_other same = absurd cc
+
+-- what came since
+answer_since : Shows shape both answered (answer 1 true ∷ [])
+answer_since = refl
+
+-- the second of two passes isn't the only one
+of_two_passes : AreOfPasses 2 (marks_in shape both)
+of_two_passes = (omega arith, omega arith, (omega arith, omega arith, tt))
+
+not_of_one : AreOfPasses 1 (marks_in shape both) → ⊥
+not_of_one are = let high = are.2.1 in absurd (omega (arith, high))
 
 calls_count : calls_in answered ≡ 2
 calls_count = refl

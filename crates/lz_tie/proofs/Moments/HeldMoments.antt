@@ -1,8 +1,9 @@
 -- One hold: what a crash might have left in it is left by the notes before it or by those after it.
-use Rattle.std.proofs.Common.{◌≡◌, ◌⊎◌, inl, inr, ⊎_elim, ℕ, List, [], ◌∷◌, length, refl, sym, subst, arith}
+use Rattle.std.proofs.Common.{◌≡◌, ◌⊎◌, inl, inr, ⊎_elim, ℕ, List, [], ◌∷◌, length, refl, sym, subst}
 use Rattle.std.specs.Prelude.{IsTrue}
 use Rattle.lz_disk.specs.Images.{IsImage}
-use Rattle.lz_disk.specs.Devices.{Device, LeavesOnly}
+use Rattle.lz_disk.specs.Devices.{Device}
+use Rattle.lz_disk.proofs.Moments.{leaves_then, leaves_more}
 use Rattle.lz_vault.specs.Vaults.{LeavesEither}
 use Rattle.lz_machine.specs.declared.event.Event.{Event}
 use Rattle.lz_machine.specs.declared.event.Outcome.{Outcome}
@@ -21,8 +22,9 @@ use Rattle.lz_board.specs.declared.board.Pen.{Pen}
 use Rattle.lz_board.specs.Seats.{BoardId, IsPenOf, notes}
 use Rattle.lz_tie.specs.NotedRuns.{AreNext}
 use Rattle.lz_tie.specs.Holds.{IsLocked, InHold, IsTurn, IsIdle}
-use Rattle.lz_tie.specs.Moments.{IsLeftBy, LeftSince, GoesOn, ExplainsBegun, ExplainedSince}
-use Rattle.lz_tie.proofs.Marks.RunningSet.{explained, locked_sizes}
+use Rattle.lz_tie.specs.RunningSets.{Explains}
+use Rattle.lz_tie.specs.Moments.{IsLeftBy, LeftSince, GoesOn, HoldExplains, ExplainsBegun, ExplainedSince}
+use Rattle.lz_tie.proofs.Marks.RunningSet.{explained, history_of, locked_sizes}
 use Rattle.lz_tie.proofs.Moments.LeftBeginnings.{more_left, splice_left}
 
 -- what may be left of the lock's disk is left by all its notes
@@ -51,22 +53,8 @@ module _ (b : BoardId) (ns : List Note) (y : Yard) (dev : Device) (h : Part) (ho
   more t l = subst (λ r. IsLeftBy b.sizes b.opened r t) (sym notes) (more_left b.sizes b.opened n (splice b.opened h.number h.loads ns) t
       (splice_left b.sizes b.opened h.number hold.knows.numbered.0 h.base (length h.known) h.loads ns t hold.knows.quiet hold.knows.least hold.knows.order hold.knows.shown next l))
 
-  in_step : (honest : IsTrue dev.honest) (t : List ℕ) → IsImage dev.medium t ⊎ IsImage dev'.medium t → IsLeftBy b.sizes b.opened ns' t
-  in_step honest t image = ⊎_elim
-      (λ old. more t (now_left b ns y dev hold.locked honest t old))
-      (λ new. now_left b ns' z' dev' locked (subst IsTrue (sym call.0) honest) t new)
-      image
-
   step_left : GoesOn b ns ns' dev dev'
-  step_left = record {
-    honest = call.0;
-    time = λ honest. let time = call.1 honest in record {
-      later = time.later;
-      each = λ t is. in_step honest t (time.each t is);
-      before = λ m t low is. ⊎_elim (λ old. inl old) (λ image. inr (in_step honest t image)) (time.before m t low is);
-    };
-    kept = more;
-  }
+  step_left = record { honest = call.0; time = call.1; kept = more }
 
 -- the turn of a call
 pub turn_left : (b : BoardId) (ns : List Note) (y : Yard) (dev : Device) (h : Part) → InHold b ns y dev h → (c : Calling) (e : Event) → IsTurn ns h c e → (y1 z' : Yard) (p : ℕ) (o : Outcome) (told : Told) (dev1 dev' : Device) → dev1 ≡ dev
@@ -82,17 +70,6 @@ call_left b ns y dev h hold idle e y1 z' p o told dev1 dev' same played n ns' is
     step_left b ns y dev h hold (subst (λ (hs : List Load). AreNext (shape_of b.sizes) h.number hs (steps_of h.number ns)) (sym idle.no_loads) tt)
     y1 z' p e o told dev1 dev' same played n ns' is locked
 
--- what holds of each text that might have been left
-leaves_more : (first dev : Device) (P Q : List ℕ → Type 0) → ((t : List ℕ) → P t → Q t) → LeavesOnly first dev (λ t. IsImage first.medium t ⊎ P t) → LeavesOnly first dev (λ t. IsImage first.medium t ⊎ Q t)
-leaves_more first dev P Q more known = record {
-  later = known.later;
-  each = λ t is. turn t (known.each t is);
-  before = λ m t low is. ⊎_elim (λ old. inl old) (λ p. inr (turn t p)) (known.before m t low is);
-}
-  where
-    turn : (t : List ℕ) → IsImage first.medium t ⊎ P t → IsImage first.medium t ⊎ Q t
-    turn t is = ⊎_elim (λ old. inl old) (λ p. inr (more t p)) is
-
 -- what a beginning of the notes leaves explains it
 left_explains : (b : BoardId) (ns : List Note) (t : List ℕ) → IsLeftBy b.sizes b.opened ns t → ExplainsBegun b ns t
 left_explains b ns t l = let g = l.begun in record {
@@ -103,7 +80,8 @@ left_explains b ns t l = let g = l.begun in record {
 }
 
 pub since_explained : (b : BoardId) (first : Device) (ns : List Note) (dev : Device) → LeftSince b first ns dev → ExplainedSince b first ns dev
-since_explained b first ns dev left = λ honest. leaves_more first dev (IsLeftBy b.sizes b.opened ns) (ExplainsBegun b ns) (left_explains b ns) (left honest)
+since_explained b first ns dev left = λ honest. leaves_more first dev (λ t. IsImage first.medium t ⊎ IsLeftBy b.sizes b.opened ns t) (λ t. IsImage first.medium t ⊎ ExplainsBegun b ns t)
+    (λ t. ⊎_elim (λ old. inl old) (λ l. inr (left_explains b ns t l))) (left honest)
 
 -- notes that are the same, and notes of which one is more
 pub same_left : (b : BoardId) (ns ns' : List Note) → ns' ≡ ns → (t : List ℕ) → IsLeftBy b.sizes b.opened ns t → IsLeftBy b.sizes b.opened ns' t
@@ -112,25 +90,48 @@ same_left b ns ns' notes t l = subst (λ r. IsLeftBy b.sizes b.opened r t) (sym 
 pub found_left : (b : BoardId) (n : Note) (ns ns' : List Note) → ns' ≡ n ∷ ns → (t : List ℕ) → IsLeftBy b.sizes b.opened ns t → IsLeftBy b.sizes b.opened ns' t
 found_left b n ns ns' notes t l = same_left b (n ∷ ns) ns' notes t (more_left b.sizes b.opened n ns t l)
 
--- what might have been left goes on over a hold
-gone_on : (b : BoardId) (first dev dev' : Device) (ns was is : List Note) → ((t : List ℕ) → IsLeftBy b.sizes b.opened ns t → IsLeftBy b.sizes b.opened was t) → GoesOn b was is dev dev' → LeftSince b first ns dev → LeftSince b first is dev'
-gone_on b first dev dev' ns was is found on left = λ honest. over (left (subst IsTrue on.honest honest)) (on.time (subst IsTrue on.honest honest))
-  where
-    turn : (t : List ℕ) → IsImage first.medium t ⊎ IsLeftBy b.sizes b.opened ns t → IsImage first.medium t ⊎ IsLeftBy b.sizes b.opened is t
-    turn t known = ⊎_elim (λ old. inl old) (λ l. inr (on.kept t (found t l))) known
+-- What might have been left goes on over a hold, from the lock's notes ns to these.
+module _ (b : BoardId) (first dev dev' : Device) (ns was is : List Note) (y y' : Yard) (locked : IsLocked b ns y dev) (locked' : IsLocked b is y' dev') (found : (t : List ℕ) → IsLeftBy b.sizes b.opened ns t → IsLeftBy b.sizes b.opened was t) (on : GoesOn b was is dev dev') where
+  abbrev In : List ℕ → Type 0
+  In t = IsImage dev.medium t ⊎ IsImage dev'.medium t
 
-    over : LeavesOnly first dev (λ t. IsImage first.medium t ⊎ IsLeftBy b.sizes b.opened ns t) → LeavesOnly dev dev' (IsLeftBy b.sizes b.opened is) → LeavesOnly first dev' (λ t. IsImage first.medium t ⊎ IsLeftBy b.sizes b.opened is t)
-    over known time = let past = known.later in let later = time.later in record {
-      later = omega (arith, past, later);
-      each = λ t left. ⊎_elim (λ earlier. turn t (known.each t earlier)) (λ l. inr l) (time.before first.moment t past left);
-      before = λ m t low left. ⊎_elim (λ earlier. ⊎_elim (λ old. inl old) (λ p. inr (turn t p)) (known.before m t low earlier)) (λ l. inr (inr l)) (time.before m t (omega (arith, low, past)) left);
-    }
+  abbrev Left : List Note → List ℕ → Type 0
+  Left r t = IsImage first.medium t ⊎ IsLeftBy b.sizes b.opened r t
 
--- the lock's invariant of what it keeps after a hold
-pub held_again : (b board : BoardId) → board ≡ b → (first dev dev' : Device) (ns was is : List Note) → ((t : List ℕ) → IsLeftBy b.sizes b.opened ns t → IsLeftBy b.sizes b.opened was t) → GoesOn board was is dev dev' → LeftSince b first ns dev
-    → (y : Yard) → IsLocked board is y dev' → (pen : Pen) → IsPenOf board pen → notes pen ≡ is → IsPenOf b pen × IsLocked b (notes pen) y dev' × LeftSince b first (notes pen) dev'
-held_again b board same first dev dev' ns was is found on left y locked pen of_board noted = (
-  subst (λ (q : BoardId). IsPenOf q pen) same of_board,
-  subst (λ (x : BoardId × List Note). IsLocked x.0 x.1 y dev') (λ i. (same i, sym noted i)) locked,
-  subst (λ r. LeftSince b first r dev') (sym noted) (gone_on b first dev dev' ns was is found (subst (λ (q : BoardId). GoesOn q was is dev dev') same on) left),
-)
+  in_hold : IsTrue dev'.honest → (t : List ℕ) → In t → Left is t
+  in_hold honest t image = inr (⊎_elim
+      (λ old. on.kept t (found t (now_left b ns y dev locked (subst IsTrue on.honest honest) t old)))
+      (λ new. now_left b is y' dev' locked' honest t new)
+      image)
+
+  gone_on : LeftSince b first ns dev → LeftSince b first is dev'
+  gone_on left = λ honest. let was = subst IsTrue on.honest honest in
+      leaves_then first dev dev' (Left is)
+      (leaves_more first dev (Left ns) (Left is) (λ t. ⊎_elim (λ old. inl old) (λ l. inr (on.kept t (found t l)))) (left was))
+      (leaves_more dev dev' In (Left is) (in_hold honest) (on.time was))
+
+  explains : HoldExplains b ns is dev dev'
+  explains honest = leaves_more dev dev' In (λ t. Explains b ns t ⊎ Explains b is t)
+      (λ t. ⊎_elim
+      (λ old. inl (history_of b ns y dev locked honest t old))
+      (λ new. inr (history_of b is y' dev' locked' (subst IsTrue (sym on.honest) honest) t new)))
+      (on.time honest)
+
+-- In the words of the code that holds the lock: its invariant afterwards, and what a crash in the hold might have left.
+module _ (b board : BoardId) (same : board ≡ b) (first dev dev' : Device) (ns was is : List Note) (found : (t : List ℕ) → IsLeftBy b.sizes b.opened ns t → IsLeftBy b.sizes b.opened was t) (on : GoesOn board was is dev dev')
+    (y y' : Yard) (locked : IsLocked b ns y dev) (locked' : IsLocked board is y' dev') (pen : Pen) (of_board : IsPenOf board pen) (noted : notes pen ≡ is) where
+  went : GoesOn b was is dev dev'
+  went = subst (λ (q : BoardId). GoesOn q was is dev dev') same on
+
+  kept : IsLocked b is y' dev'
+  kept = subst (λ (q : BoardId). IsLocked q is y' dev') same locked'
+
+  pub held_again : LeftSince b first ns dev → IsPenOf b pen × IsLocked b (notes pen) y' dev' × LeftSince b first (notes pen) dev'
+  held_again left = (
+    subst (λ (q : BoardId). IsPenOf q pen) same of_board,
+    subst (λ r. IsLocked b r y' dev') (sym noted) kept,
+    subst (λ r. LeftSince b first r dev') (sym noted) (gone_on b first dev dev' ns was is y y' locked kept found went left),
+  )
+
+  pub hold_explains : HoldExplains b ns (notes pen) dev dev'
+  hold_explains = subst (λ r. HoldExplains b ns r dev dev') (sym noted) (explains b first dev dev' ns was is y y' locked kept found went)

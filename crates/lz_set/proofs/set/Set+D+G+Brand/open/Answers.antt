@@ -1,7 +1,8 @@
-use Rattle.std.proofs.Common.{◌≡◌, sym, subst}
+use Rattle.std.proofs.Common.{◌≡◌, [], refl, sym, subst}
 use Rattle.lz_board.specs.Opened.{IsOpened}
 use Rattle.lz_board.specs.Seats.{id_of}
 use Rattle.lz_tie.proofs.Start.OpenedYard.{words_opened}
+use Rattle.lz_tie.proofs.Start.OpenedMoments.{now_since}
 use Rattle.lz_set.proofs.Opening.{blank}
 use Rattle.lz_set.proofs.set.Set+D+G+Brand.open.Goals as goal
 
@@ -15,3 +16,9 @@ invariant_of-result g c =
     let new = c.in-Some.ensures in
     blank (id_of c.in-Some.board) c.in-Some.pen (g.D.Disk.device c.args.disk) (g.D.Disk.device c.in_ok-yard.yard.disk) c.args.buckets c.args.passes c.in_ok-yard.yard.yard c.words.result.now c.in-Some.passes.items
     c.in_ok-yard.ensures.ok c.words.ensures new.board.0 new.board.1 new.pen.0 new.pen.1 new.passes.0 new.passes.1 new.passes.2 c.requires.buckets c.requires.passes
+
+pub returns-in-Some-clause-named : goal.returns-in-Some-clause-named
+returns-in-Some-clause-named g c = record {
+  board = refl;
+  since = now_since (id_of c.in-Some.board) [] (g.D.Disk.device c.in_ok-yard.yard.disk) (g.met.D.Disk.timely c.in_ok-yard.yard.disk);
+}

@@ -1,12 +1,24 @@
 use Rattle.std.proofs.Common.{subst}
+use Rattle.lz_machine.specs.Marks.{IsTold}
+use Rattle.lz_board.specs.Notes.{shape_of}
 use Rattle.lz_board.specs.Seats.{notes}
+use Rattle.lz_tie.specs.Marks.{AreOfPasses, marks_in}
 use Rattle.lz_tie.specs.RunningSets.{HasHistory}
 use Rattle.lz_tie.proofs.Marks.RunningSet.{history_of}
+use Rattle.lz_tie.proofs.Marks.WholeHistory.{history_told, history_passes}
 use Rattle.lz_tie.proofs.locked.Locked.holds.Goals as goal
 
-pub returns : goal.returns
-returns g c = record {
-  history =
-      subst (λ v. HasHistory g.N.Named.board v.notes (g.D.Disk.device v.disk)) c.self.view_is
-      (history_of g.N.Named.board (notes c.self.inside.pen) c.self.inside.yard.yard (g.D.Disk.device c.self.inside.yard.disk) c.self.invariant.1);
-}
+pub returns-clause-history : goal.returns-clause-history
+returns-clause-history g c =
+    subst (λ v. HasHistory g.N.Named.board v.notes (g.D.Disk.device v.disk)) c.self.view_is
+    (history_of g.N.Named.board (notes c.self.inside.pen) c.self.inside.yard.yard (g.D.Disk.device c.self.inside.yard.disk) c.self.invariant.1)
+
+pub returns-clause-told : goal.returns-clause-told
+returns-clause-told g c =
+    subst (λ v. IsTold (marks_in (shape_of g.N.Named.board.sizes) v.notes)) c.self.view_is
+    (history_told g.N.Named.board (notes c.self.inside.pen) c.self.inside.yard.yard (g.D.Disk.device c.self.inside.yard.disk) c.self.invariant.1)
+
+pub returns-clause-passes : goal.returns-clause-passes
+returns-clause-passes g c =
+    subst (λ v. AreOfPasses g.N.Named.board.sizes.passes (marks_in (shape_of g.N.Named.board.sizes) v.notes)) c.self.view_is
+    (history_passes g.N.Named.board (notes c.self.inside.pen) c.self.inside.yard.yard (g.D.Disk.device c.self.inside.yard.disk) c.self.invariant.1)

@@ -1,4 +1,5 @@
 use Rattle.std.proofs.Common.{◌∙◌, sym, subst}
+use Rattle.lz_slot.specs.declared.format.Format.{Format}
 use Rattle.lz_board.specs.declared.view.Part.{Part}
 use Rattle.lz_board.specs.Notes.{trace_of}
 use Rattle.lz_board.specs.Kept.{Knows}
@@ -28,6 +29,5 @@ returns-clause-format g c =
     let b = g.N.Named.board in
     let ns = notes c.self.inside.pen in
     let knows = subst (λ (b : BoardId). Knows b.sizes b.opened ns (part c.args.pass.now)) c.requires.board c.join.ensures.knows in
-    subst (λ v. AreOn v.yard.vault.format (part c.cut.new.pass).steps) c.self.view_is
-    (subst (λ (h : Part). AreOn c.self.inside.yard.yard.vault.format h.steps) (sym (c.cut.ensures.part ∙ c.join.ensures.carried))
-    (format_alone b ns c.self.inside.yard.yard (g.D.Disk.device c.self.inside.yard.disk) c.self.invariant.1 (part c.args.pass.now) knows))
+    subst (λ (x : Format × Part). AreOn x.0 x.1.steps) (λ i. (c.self.invariant.3.format i, sym (c.cut.ensures.part ∙ c.join.ensures.carried) i))
+    (format_alone b ns c.self.inside.yard.yard (g.D.Disk.device c.self.inside.yard.disk) c.self.invariant.1 (part c.args.pass.now) knows)

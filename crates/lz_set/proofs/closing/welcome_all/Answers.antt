@@ -1,0 +1,51 @@
+use Rattle.std.proofs.Common.{◌≡◌, ◌<◌, ◌+◌, arith, ℕ, suc, All, List, length, map, slice_set, slice_index_or, refl, sym, ap, ◌∙◌, subst}
+use Rattle.std.proofs.lemmas.List.Elements.{All-set}
+use Rattle.std.proofs.lemmas.List.{length-map}
+use Rattle.lz_board.specs.declared.pass.Pass.{Pass}
+use Rattle.lz_board.specs.declared.view.Note.{Note}
+use Rattle.lz_board.specs.Notes.{trace_of}
+use Rattle.lz_board.specs.Plays.{knowing}
+use Rattle.lz_board.specs.Seats.{IsOf, part}
+use Rattle.lz_tie.specs.OwnCalls.{TellsOwn}
+use Rattle.lz_set.proofs.Welcome.{Welcomed, none_yet, one_more, all_seen, all_own}
+use Rattle.lz_set.proofs.closing.welcome_all.Goals as goal
+
+pub loop-i-init : goal.loop-i-init
+loop-i-init g c = record {
+  same = refl;
+  here = c.requires.passes;
+  so = none_yet g.N.Named.board c.args.locked.now.notes (trace_of g.N.Named.board.opened c.args.locked.now.notes) (map (λ p. part p) c.args.passes.now);
+}
+
+pub loop-i-preserved : goal.loop-i-preserved
+loop-i-preserved g c =
+    let b = g.N.Named.board in
+    let ns = c.args.locked.now.notes in
+    let K = trace_of b.opened ns in
+    let low = c.loop-i-test.true in
+    let long = c.loop-i.auto.passes in
+    let lt : c.loop-i.i < length c.loop-i.passes = omega (arith, low, long) in
+    let notes_are = ap (λ l. l.notes) c.loop-i.invariant.same in
+    let next : c.loop-i.i + 1 ≡ suc c.loop-i.i = omega arith in
+    record {
+      same = c.welcome.ensures.same ∙ c.loop-i.invariant.same;
+      here = All-set (λ p. IsOf b p) c.loop-i.passes c.loop-i.i c.welcome.new.pass c.welcome.ensures.pass c.loop-i.invariant.here;
+      so = subst (λ (n : ℕ). Welcomed b ns K n (map (λ p. part p) c.args.passes.now) (map (λ p. part p) (slice_set c.loop-i.passes c.loop-i.i c.welcome.new.pass))) (sym next)
+          (one_more b ns K c.loop-i.passes (map (λ p. part p) c.args.passes.now) c.loop-i.i c.index-passes-i.result c.welcome.new.pass lt c.loop-i.invariant.so
+          (subst (λ (l : List Note). part c.welcome.new.pass ≡ knowing (trace_of b.opened l) (part (slice_index_or c.loop-i.passes c.loop-i.i c.index-passes-i.result))) notes_are c.welcome.ensures.part)
+          (subst (λ (l : List Note). TellsOwn b l (part c.welcome.new.pass)) notes_are c.welcome.ensures.own));
+    }
+
+pub returns-clause-seen : goal.returns-clause-seen
+returns-clause-seen g c =
+    let over = c.loop-i-test.false in
+    let long = c.loop-i.auto.passes in
+    let count : length (map (λ (p : Pass). part p) c.loop-i.passes) ≡ length c.loop-i.passes = length-map c.loop-i.passes (λ (p : Pass). part p) in
+    all_seen g.N.Named.board c.args.locked.now.notes (trace_of g.N.Named.board.opened c.args.locked.now.notes) (map (λ p. part p) c.args.passes.now) (map (λ p. part p) c.loop-i.passes) c.loop-i.i (omega (arith, over, long, count)) c.loop-i.invariant.so
+
+pub returns-clause-own : goal.returns-clause-own
+returns-clause-own g c =
+    let over = c.loop-i-test.false in
+    let long = c.loop-i.auto.passes in
+    let count : length (map (λ (p : Pass). part p) c.loop-i.passes) ≡ length c.loop-i.passes = length-map c.loop-i.passes (λ (p : Pass). part p) in
+    all_own g.N.Named.board c.args.locked.now.notes (trace_of g.N.Named.board.opened c.args.locked.now.notes) (map (λ p. part p) c.args.passes.now) (map (λ p. part p) c.loop-i.passes) c.loop-i.i (omega (arith, over, long, count)) c.loop-i.invariant.so

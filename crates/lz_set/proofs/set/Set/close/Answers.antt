@@ -1,0 +1,13 @@
+use Rattle.std.proofs.Common.{sym, subst}
+use Rattle.lz_tie.specs.RunningSets.{HasHistory}
+use Rattle.lz_set.proofs.set.Set.close.Goals as goal
+
+pub returns : goal.returns
+returns g c =
+    let ns = c.into_inner-locked.result.notes in
+    record {
+      left = (ns, record {
+        now = subst (λ disk. HasHistory g.N.Named.board ns (g.D.Disk.device disk)) (sym c.close.ensures.disk) c.holds.ensures.history;
+        ever = c.close.ensures.explained;
+      });
+    }

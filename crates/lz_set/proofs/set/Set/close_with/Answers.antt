@@ -1,0 +1,24 @@
+use Rattle.std.proofs.Common.{◌≡◌, List, All, map, sym, ap, ◌∙◌, subst}
+use Rattle.lz_board.specs.declared.view.Note.{Note}
+use Rattle.lz_board.specs.Notes.{trace_of}
+use Rattle.lz_board.specs.Plays.{knowing}
+use Rattle.lz_board.specs.Seats.{part}
+use Rattle.lz_tie.specs.OwnCalls.{TellsOwn}
+use Rattle.lz_tie.specs.RunningSets.{HasHistory}
+use Rattle.lz_set.proofs.set.Set.close_with.Goals as goal
+
+pub returns-clause-left : goal.returns-clause-left
+returns-clause-left g c =
+    let b = g.N.Named.board in
+    let was = c.into_inner-locked.result.notes in
+    let ns = c.welcome_all.new.locked.notes in
+    let same : ns ≡ was = ap (λ l. l.notes) c.welcome_all.ensures.same in
+    record {
+      notes = ns;
+      left = record {
+        now = subst (λ disk. HasHistory b ns (g.D.Disk.device disk)) (sym c.close.ensures.disk) c.holds.ensures.history;
+        ever = c.close.ensures.explained;
+      };
+      seen = subst (λ (l : List Note). map (λ p. part p) c.welcome_all.new.passes ≡ map (knowing (trace_of b.opened l)) (map (λ p. part p) c.args.passes.now)) (sym same) c.welcome_all.ensures.seen;
+      own = subst (λ (l : List Note). All (TellsOwn b l) (map (λ p. part p) c.welcome_all.new.passes)) (sym same) c.welcome_all.ensures.own;
+    }

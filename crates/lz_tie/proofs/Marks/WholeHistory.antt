@@ -1,0 +1,110 @@
+-- The history that the lock's notes show is that of a run, and each of its calls was made by a pass of the board.
+use Rattle.std.proofs.Common.{◌≡◌, ℕ, ◌≤◌, List, [], ◌∷◌, ◌++◌, length, refl, sym, ap, ◌∙◌, subst}
+use Rattle.std.specs.Prelude.{Option, Some, None}
+use Rattle.lz_disk.specs.Devices.{Device}
+use Rattle.lz_disk.specs.Images.{Medium}
+use Rattle.lz_slot.specs.Histories.{History}
+use Rattle.lz_machine.specs.declared.event.Reply.{Reply}
+use Rattle.lz_machine.specs.declared.event.Reply.TheVariants.{Yes, No, Full, Worn, OldFile, Halted, Device as device_failed}
+use Rattle.lz_machine.specs.Marks.{IsTold}
+use Rattle.lz_machine.specs.Runs.{Start, State, Up, Service, Caller, Transition, Calls, Turn, Fails, Looks, Trips, Stops, Crashes, CrashesIn, Opens, OpenFails, run, IsRun, MayStep, first_point, caller_at, mark_of, mark_of_turn}
+use Rattle.lz_machine.specs.Yards.{Shape, Yard}
+use Rattle.lz_machine.proofs.Frames.OneActor.{caller_range}
+use Rattle.lz_machine.proofs.Theorem.Marks.{marks_tell}
+use Rattle.lz_board.specs.declared.view.What.{What}
+use Rattle.lz_board.specs.declared.view.What.TheVariants.{Called, Played, Found}
+use Rattle.lz_board.specs.declared.view.Note.{Note}
+use Rattle.lz_board.specs.Notes.{place, shape_of, steps_of}
+use Rattle.lz_board.specs.Seats.{BoardId}
+use Rattle.lz_tie.specs.NotedRuns.{TellsTurn, TellsFault, TellsStep, TellsOne, TellsOf, ReadsAs}
+use Rattle.lz_tie.specs.Holds.{IsLocked}
+use Rattle.lz_tie.specs.Marks.{number_of, reply_in, marks_with, marks_in, AreOfPasses}
+use Rattle.lz_tie.proofs.Reading.CallPlaces.{Placed, place_reads, run_before}
+use Rattle.lz_tie.proofs.Marks.RunMarks.{marks_read}
+use Rattle.lz_tie.proofs.Marks.RunningSet.{locked_sizes}
+
+-- the note is by one of the passes
+abbrev InRange : ℕ → Note → Type 0
+InRange passes n = (1 ≤ n.by) × (n.by ≤ passes)
+
+-- a step that a note tells is one of an actor
+module _ (service : Service) (disk : Medium) (n : Note) (count : length service.callers ≡ service.yard.shape.passes) where
+  abbrev passes : ℕ
+  passes = service.yard.shape.passes
+
+  of_caller : (a : ℕ) (caller : Caller) → n.by ≡ a → caller_at service.callers a ≡ Some caller → InRange passes n
+  of_caller a caller by is = subst (λ p. (1 ≤ p) × (p ≤ passes)) (sym by) (subst (λ m. (1 ≤ a) × (a ≤ m)) count (caller_range service.callers a caller is))
+
+  of_turn : (a : ℕ) (q : Option Caller) → caller_at service.callers a ≡ q → n.by ≡ a → TellsTurn service a q n → InRange passes n
+  of_turn a None is by t = absurd t
+  of_turn a (Some caller) is by t = of_caller a caller by is
+
+  of_fault : (a : ℕ) (q : Option Caller) → caller_at service.callers a ≡ q → n.by ≡ a → TellsFault service q n → InRange passes n
+  of_fault a None is by t = absurd t
+  of_fault a (Some caller) is by t = of_caller a caller by is
+
+  step_by : (step : Transition) → MayStep (Up service disk) step → TellsStep (Up service disk) n step → InRange passes n
+  step_by (Calls a c) may t = subst (λ p. (1 ≤ p) × (p ≤ passes)) (sym t.0) may.0
+  step_by (Turn a) may t = of_turn a (caller_at service.callers a) refl t.0 t.1
+  step_by (Fails a new) may t = of_fault a (caller_at service.callers a) refl t.0 t.1
+  step_by (Looks a) may t = absurd t
+  step_by Trips may t = absurd t
+  step_by Stops may t = absurd t
+  step_by (Crashes x) may t = absurd t
+  step_by (CrashesIn a x) may t = absurd t
+  step_by Opens may t = absurd t
+  step_by (OpenFails why done) may t = absurd t
+
+-- replies make no call
+module _ (passes : ℕ) (M : History) (are : AreOfPasses passes M) where
+  reply_of_passes : (i : ℕ) (reply : Reply) → AreOfPasses passes (mark_of i reply ∷ M)
+  reply_of_passes i Yes = are
+  reply_of_passes i No = are
+  reply_of_passes i (Full counts) = are
+  reply_of_passes i Worn = are
+  reply_of_passes i OldFile = are
+  reply_of_passes i Halted = are
+  reply_of_passes i device_failed = are
+
+  turn_of_passes : (i : ℕ) (reply : Option Reply) → AreOfPasses passes (mark_of_turn i reply ++ M)
+  turn_of_passes i None = are
+  turn_of_passes i (Some reply) = reply_of_passes i reply
+
+passes_read : (start : Start) (ns : List Note) (steps : List Transition) → IsRun (first_point start) steps → ReadsAs (first_point start) ns steps → AreOfPasses start.shape.passes (marks_in start.shape ns)
+passes_read start [] steps runs reads = tt
+passes_read start (n ∷ ns) steps runs (new, before, is, tells, rest) =
+    let p = first_point start in
+    let past = run_before p new before (subst (IsRun p) is runs) in
+    go n.what (place_reads start ns before past rest) (passes_read start ns before past rest) tells
+  where
+    made : Placed start (run (first_point start) before) ns → TellsOne (run (first_point start) before).state n new → InRange start.shape.passes n
+    made h t =
+        let p = first_point start in
+        let all : IsRun p (t.step ∷ before) = subst (λ (l : List Transition). IsRun p (l ++ before)) t.steps (subst (IsRun p) is runs) in
+        let may = subst (λ (w : State). MayStep w t.step) h.state all.0 in
+        let told = subst (λ (w : State). TellsStep w n t.step) h.state t.tells in
+        subst (λ (s : Shape). InRange s.passes n) h.shape (step_by h.service h.disk n (h.count ∙ ap (λ (s : Shape). s.passes) (sym h.shape)) t.step may told)
+
+    go : (what : What) → Placed start (run (first_point start) before) ns → AreOfPasses start.shape.passes (marks_in start.shape ns) → TellsOf (run (first_point start) before).state n what new
+        → AreOfPasses start.shape.passes (marks_with start.shape n.by what ns ++ marks_in start.shape ns)
+    go (Called c format) h are t = let range = made h t in (range.0, range.1, are)
+    go (Played e o) h are t = turn_of_passes start.shape.passes (marks_in start.shape ns) are (number_of n.by ns) (reply_in (place start.shape (steps_of n.by ns)))
+    go (Found q v) h are t = are
+
+module _ (b : BoardId) (ns : List Note) (y : Yard) (dev : Device) (locked : IsLocked b ns y dev) where
+  shape_is : locked.tied.start.shape ≡ shape_of b.sizes
+  shape_is = ap shape_of (sym (locked_sizes b ns y dev locked))
+
+  -- the marks stand in the order of a run
+  pub history_told : IsTold (marks_in (shape_of b.sizes) ns)
+  history_told =
+      let tie = locked.tied in
+      let p = run (first_point tie.start) tie.steps in
+      subst IsTold ((marks_read tie.start ns tie.steps tie.runs tie.reads).0 ∙ ap (λ (s : Shape). marks_in s ns) shape_is)
+      (marks_tell tie.start p.state p.marks p.trace record { steps = tie.steps; starts = tie.starts; runs = tie.runs; state = refl; marks = refl; trace = refl })
+
+  -- and each call is one of a pass
+  pub history_passes : AreOfPasses b.sizes.passes (marks_in (shape_of b.sizes) ns)
+  history_passes =
+      let tie = locked.tied in
+      subst (λ (s : Shape). AreOfPasses s.passes (marks_in s ns)) shape_is (passes_read tie.start ns tie.steps tie.runs tie.reads)
