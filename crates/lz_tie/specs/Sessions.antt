@@ -25,16 +25,16 @@ use Rattle.lz_tie.specs.OwnCalls.{told}
 use Rattle.lz_tie.specs.RunningSets.{members_of, Explains}
 
 -- calls that were answered, each with its reply
-abbrev pub Exchanges : Type 0
-Exchanges = List (Command × Reply)
+abbrev pub AnsweredCalls : Type 0
+AnsweredCalls = List (Command × Reply)
 
 -- A pass of a set of this size made the calls one after the other, and was answered so; its part was `old`, and is `new`.
-abbrev pub Served : Sizes → Exchanges → Part → Part → Type 0
+abbrev pub Served : Sizes → AnsweredCalls → Part → Part → Type 0
 Served z [] old new = new ≡ old
 Served z (call ∷ calls) old new = (old.sizes ≡ z) × ((mid : Part) × Answers call.0 call.1 old mid × Served z calls mid new)
 
 -- the plain set S of a file of format F with N slots, asked these calls, may reply so and be T then
-abbrev pub PlainRun : Format → ℕ → Exchanges → Keys → Keys → Type 0
+abbrev pub PlainRun : Format → ℕ → AnsweredCalls → Keys → Keys → Type 0
 PlainRun F N [] S T = Same T S
 PlainRun F N (call ∷ calls) S T = (U : Keys) × IsPlainAnswer F N call.0 call.1 S U × PlainRun F N calls U T
 
@@ -45,12 +45,12 @@ cuts_off Device = true
 cuts_off _ = false
 
 -- no call was cut off
-abbrev pub NoneCut : Exchanges → Type 0
+abbrev pub NoneCut : AnsweredCalls → Type 0
 NoneCut [] = Unit {0}
 NoneCut (call ∷ calls) = (cuts_off call.1 ≡ false) × NoneCut calls
 
 -- no call but the last was
-abbrev pub CutLast : Exchanges → Type 0
+abbrev pub CutLast : AnsweredCalls → Type 0
 CutLast [] = Unit {0}
 CutLast (call ∷ []) = Unit {0}
 CutLast (call ∷ next ∷ calls) = (cuts_off call.1 ≡ false) × CutLast (next ∷ calls)
@@ -77,7 +77,7 @@ TellsAlone b ns h = marks_in (shape_of b.sizes) ns ≡ marks_alone h.number (tol
 
 -- A set of one pass, on a file of format F: since its life began the pass has made these calls and no other, and only the last
 -- may have been cut off.
-pub record IsSession (b : BoardId) (F : Format) (ns : List Note) (calls : Exchanges) (before after : Part) : Type 0 where
+pub record IsSession (b : BoardId) (F : Format) (ns : List Note) (calls : AnsweredCalls) (before after : Part) : Type 0 where
   pub alone : b.sizes.passes ≡ 1
   pub known : before.known ≡ b.opened
   pub no_steps : before.steps ≡ []
@@ -87,14 +87,14 @@ pub record IsSession (b : BoardId) (F : Format) (ns : List Note) (calls : Exchan
   pub tells : TellsAlone b ns after
 
 -- the set T is S; or the next of the calls, if there is one, was under way and is done
-abbrev pub MayHaveNext : Exchanges → Keys → Keys → Type 0
+abbrev pub MayHaveNext : AnsweredCalls → Keys → Keys → Type 0
 MayHaveNext [] S T = Same T S
 MayHaveNext (call ∷ calls) S T = Same T S ⊎ Same T (after call.0 S)
 
 -- The text holds the plain set after some first ones of the calls; the next one may be under way, done or not.
-pub record HoldsAfterSome (F : Format) (N : ℕ) (calls : Exchanges) (S : Keys) (t : List ℕ) : Type 0 where
-  pub done : Exchanges
-  pub rest : Exchanges
+pub record HoldsAfterSome (F : Format) (N : ℕ) (calls : AnsweredCalls) (S : Keys) (t : List ℕ) : Type 0 where
+  pub done : AnsweredCalls
+  pub rest : AnsweredCalls
   pub splits : calls ≡ done ++ rest
   pub ends : Keys
   pub run : PlainRun F N done S ends
@@ -105,14 +105,14 @@ pub record HoldsAfterSome (F : Format) (N : ℕ) (calls : Exchanges) (S : Keys) 
 -- The replies to a session are the plain set's, of the set with which the life began.
 abbrev pub SessionIsPlain : Type 0
 SessionIsPlain =
-    (b : BoardId) (F : Format) (ns : List Note) (calls : Exchanges) (before after : Part)
+    (b : BoardId) (F : Format) (ns : List Note) (calls : AnsweredCalls) (before after : Part)
     → IsSession b F ns calls before after → PlainRun F b.sizes.slots calls (members_of b.opened) (members_of after.known)
 
 -- A text that a crash may leave after it holds the plain set that is left; where none was cut off, it holds the members that
 -- the pass has seen.
 abbrev pub SessionIsHeld : Type 0
 SessionIsHeld =
-    (b : BoardId) (F : Format) (ns : List Note) (calls : Exchanges) (before after : Part)
+    (b : BoardId) (F : Format) (ns : List Note) (calls : AnsweredCalls) (before after : Part)
     → IsSession b F ns calls before after
     → (t : List ℕ) (explains : Explains b ns t)
     → PlainRun F b.sizes.slots calls (members_of b.opened) explains.found × (NoneCut calls → Same explains.found (members_of after.known))
@@ -120,6 +120,6 @@ SessionIsHeld =
 -- A text that a crash might have left at any moment of it holds the plain set after some first ones of the calls.
 abbrev pub MomentsArePlain : Type 0
 MomentsArePlain =
-    (b : BoardId) (F : Format) (ns : List Note) (calls : Exchanges) (before after : Part)
+    (b : BoardId) (F : Format) (ns : List Note) (calls : AnsweredCalls) (before after : Part)
     → IsSession b F ns calls before after
     → (t : List ℕ) → ExplainsBegun b ns t → HoldsAfterSome F b.sizes.slots calls (members_of b.opened) t

@@ -20,29 +20,29 @@ use Rattle.lz_board.specs.Notes.{note_by, shape_of}
 use Rattle.lz_tie.specs.Answers.{Answers}
 use Rattle.lz_tie.specs.OneCaller.{IsPlainAnswer, PlainRow, keys_in}
 use Rattle.lz_tie.specs.OwnCalls.{told}
-use Rattle.lz_tie.specs.Sessions.{Exchanges, Served, PlainRun, cuts_off, NoneCut, CutLast, AreOn, marks_alone}
+use Rattle.lz_tie.specs.Sessions.{AnsweredCalls, Served, PlainRun, cuts_off, NoneCut, CutLast, AreOn, marks_alone}
 use Rattle.lz_tie.proofs.Marks.ToldCalls.{answers_told}
 use Rattle.lz_tie.proofs.Replies.OneCaller.{one_caller}
 use Rattle.lz_tie.proofs.Sessions.PlainRows.{LeadsTo, row_leaves, row_same, row_cut, leads_on, leads_cut, no_cut}
 
 -- the pass's calls, the newest first, once it has made these too
-abbrev pub told_after : Exchanges → List (Command × Option Reply) → List (Command × Option Reply)
+abbrev pub told_after : AnsweredCalls → List (Command × Option Reply) → List (Command × Option Reply)
 told_after [] rest = rest
 told_after (call ∷ calls) rest = told_after calls ((call.0, Some call.1) ∷ rest)
 
-pub told_append : (done calls : Exchanges) (rest : List (Command × Option Reply)) → told_after (done ++ calls) rest ≡ told_after calls (told_after done rest)
+pub told_append : (done calls : AnsweredCalls) (rest : List (Command × Option Reply)) → told_after (done ++ calls) rest ≡ told_after calls (told_after done rest)
 told_append [] calls rest = refl
 told_append (call ∷ done) calls rest = told_append done calls ((call.0, Some call.1) ∷ rest)
 
 -- its steps tell them
-pub served_told : (z : Sizes) (calls : Exchanges) (old new : Part) → Served z calls old new → told (shape_of z) new.steps ≡ told_after calls (told (shape_of z) old.steps)
+pub served_told : (z : Sizes) (calls : AnsweredCalls) (old new : Part) → Served z calls old new → told (shape_of z) new.steps ≡ told_after calls (told (shape_of z) old.steps)
 served_told z [] old new is = ap (λ (h : Part). told (shape_of z) h.steps) is
 served_told z (call ∷ calls) old new (size, (mid, answers, rest)) =
     served_told z calls mid new rest
     ∙ ap (told_after calls) (subst (λ (z : Sizes). told (shape_of z) mid.steps ≡ (call.0, Some call.1) ∷ told (shape_of z) old.steps) size (answers_told call.0 call.1 old mid answers))
 
 -- the first of them
-pub served_first : (z : Sizes) (done calls : Exchanges) (old new : Part) → Served z (done ++ calls) old new → (mid : Part) × Served z done old mid × Served z calls mid new
+pub served_first : (z : Sizes) (done calls : AnsweredCalls) (old new : Part) → Served z (done ++ calls) old new → (mid : Part) × Served z done old mid × Served z calls mid new
 served_first z [] calls old new served = (old, refl, served)
 served_first z (call ∷ done) calls old new (size, (mid, answers, rest)) =
     let r = served_first z done calls mid new rest in
@@ -57,7 +57,7 @@ are_newer : (F : Format) (newer older : List Note) → AreOn F (newer ++ older) 
 are_newer F [] older are = tt
 are_newer F (n ∷ newer) older are = (are.0, are_newer F newer older are.1)
 
-pub served_on : (z : Sizes) (F : Format) (calls : Exchanges) (old new : Part) → Served z calls old new → AreOn F new.steps → AreOn F old.steps
+pub served_on : (z : Sizes) (F : Format) (calls : AnsweredCalls) (old new : Part) → Served z calls old new → AreOn F new.steps → AreOn F old.steps
 served_on z F [] old new is are = subst (λ (h : Part). AreOn F h.steps) is are
 served_on z F (call ∷ calls) old new (size, (mid, answers, rest)) are =
     are_older F answers.new old.steps (subst (AreOn F) answers.steps (served_on z F calls mid new rest are))
@@ -80,7 +80,7 @@ plain_answer z F c reply old mid one size answers are =
     (one_caller c reply old mid answers (ap (λ (z : Sizes). z.passes) size ∙ one))
 
 -- and so are they all
-pub plain_served : (z : Sizes) (F : Format) → z.passes ≡ 1 → (calls : Exchanges) (old new : Part) → Served z calls old new → AreOn F new.steps → PlainRun F z.slots calls (keys_in old.known) (keys_in new.known)
+pub plain_served : (z : Sizes) (F : Format) → z.passes ≡ 1 → (calls : AnsweredCalls) (old new : Part) → Served z calls old new → AreOn F new.steps → PlainRun F z.slots calls (keys_in old.known) (keys_in new.known)
 plain_served z F one [] old new is are = λ k. ap (λ (h : Part). keys_in h.known k) is
 plain_served z F one (call ∷ calls) old new (size, (mid, answers, rest)) are = (
   keys_in mid.known,
@@ -103,12 +103,12 @@ module _ (p : ℕ) where
     clean = no_cut (suc (length rest)) p c reply (marks_alone p rest) none whole.clean;
   }
 
-  pub whole_after : (calls : Exchanges) (rest : List (Command × Option Reply)) → NoneCut calls → Whole p rest → Whole p (told_after calls rest)
+  pub whole_after : (calls : AnsweredCalls) (rest : List (Command × Option Reply)) → NoneCut calls → Whole p rest → Whole p (told_after calls rest)
   whole_after [] rest none whole = whole
   whole_after (call ∷ calls) rest none whole = whole_after calls ((call.0, Some call.1) ∷ rest) none.1 (whole_more call.0 call.1 rest none.0 whole)
 
   -- a list that fits it leads to a plain set
-  pub fits_plain : (S T : Keys) (L : List ℕ) (calls : Exchanges) (rest : List (Command × Option Reply)) → CutLast calls → Whole p rest → Fits S (marks_alone p (told_after calls rest)) L T → IsPlain S (marks_alone p (told_after calls rest)) T
+  pub fits_plain : (S T : Keys) (L : List ℕ) (calls : AnsweredCalls) (rest : List (Command × Option Reply)) → CutLast calls → Whole p rest → Fits S (marks_alone p (told_after calls rest)) L T → IsPlain S (marks_alone p (told_after calls rest)) T
   fits_plain S T L [] rest cut whole fits = served (suc (length rest)) (marks_alone p rest) S L T whole.ended whole.clean fits
   fits_plain S T L (call ∷ []) rest cut whole fits =
       let n = suc (length rest) in
@@ -123,7 +123,7 @@ module _ (p : ℕ) where
         leads_on S0 (suc (length rest)) p c (marks_alone p rest) (keys_in old.known) past reply T none plain k
         ∙ sym (row_leaves z.slots c reply (keys_in old.known) (keys_in mid.known) none answer.row k)
 
-    pub leads_after : (calls : Exchanges) (rest : List (Command × Option Reply)) (old new : Part) → NoneCut calls → Served z calls old new → AreOn F new.steps
+    pub leads_after : (calls : AnsweredCalls) (rest : List (Command × Option Reply)) (old new : Part) → NoneCut calls → Served z calls old new → AreOn F new.steps
         → LeadsTo S0 (marks_alone p rest) (keys_in old.known) → LeadsTo S0 (marks_alone p (told_after calls rest)) (keys_in new.known)
     leads_after [] rest old new none is are past = subst (λ (h : Part). LeadsTo S0 (marks_alone p rest) (keys_in h.known)) (sym is) past
     leads_after (call ∷ calls) rest old new none (size, (mid, answers, later)) are past =
@@ -149,7 +149,7 @@ module _ (p : ℕ) where
         whole none = row_same z.slots c reply S (keys_in mid.known) T none answer.row (leads_on S0 (suc (length rest)) p c M S past reply T none plain)
 
     -- so the calls lead the plain set there
-    pub plain_to : (calls : Exchanges) (rest : List (Command × Option Reply)) (old new : Part) (T : Keys) → CutLast calls → Served z calls old new → AreOn F new.steps
+    pub plain_to : (calls : AnsweredCalls) (rest : List (Command × Option Reply)) (old new : Part) (T : Keys) → CutLast calls → Served z calls old new → AreOn F new.steps
         → LeadsTo S0 (marks_alone p rest) (keys_in old.known) → IsPlain S0 (marks_alone p (told_after calls rest)) T → PlainRun F z.slots calls (keys_in old.known) T
     plain_to [] rest old new T cut is are past plain = past T plain
     plain_to (call ∷ []) rest old new T cut (size, (mid, answers, later)) are past plain = (

@@ -13,7 +13,7 @@ use Rattle.lz_tie.specs.Marks.{marks_in}
 use Rattle.lz_tie.specs.OneCaller.{keys_in}
 use Rattle.lz_tie.specs.OwnCalls.{told}
 use Rattle.lz_tie.specs.RunningSets.{members_of, Explains}
-use Rattle.lz_tie.specs.Sessions.{Exchanges, PlainRun, NoneCut, CutLast, marks_alone, IsSession, SessionIsPlain, SessionIsHeld}
+use Rattle.lz_tie.specs.Sessions.{AnsweredCalls, PlainRun, NoneCut, CutLast, marks_alone, IsSession, SessionIsPlain, SessionIsHeld}
 use Rattle.lz_tie.proofs.Sessions.PlainRows.{LeadsTo}
 use Rattle.lz_tie.proofs.Sessions.ServedCalls.{told_after, served_told, plain_served, whole_none, fits_plain, leads_after, plain_to}
 
@@ -22,12 +22,12 @@ pub leads_none : (p : ℕ) (opened : Trace) (old : Part) → old.known ≡ opene
 leads_none p opened old known = subst (λ (P : Trace). LeadsTo (members_of opened) (marks_alone p []) (keys_in P)) (sym known) (λ T plain k. sym (plain k))
 
 -- none was cut off, so none but the last
-pub cut_last : (calls : Exchanges) → NoneCut calls → CutLast calls
+pub cut_last : (calls : AnsweredCalls) → NoneCut calls → CutLast calls
 cut_last [] none = tt
 cut_last (call ∷ []) none = tt
 cut_last (call ∷ next ∷ calls) none = (none.0, cut_last (next ∷ calls) none.1)
 
-module _ (b : BoardId) (F : Format) (ns : List Note) (calls : Exchanges) (before after : Part) (session : IsSession b F ns calls before after) where
+module _ (b : BoardId) (F : Format) (ns : List Note) (calls : AnsweredCalls) (before after : Part) (session : IsSession b F ns calls before after) where
   -- the history of the notes
   pub session_marks : marks_in (shape_of b.sizes) ns ≡ marks_alone after.number (told_after calls [])
   session_marks =

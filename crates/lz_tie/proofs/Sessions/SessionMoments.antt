@@ -22,7 +22,7 @@ use Rattle.lz_tie.specs.Marks.{marks_with, marks_in}
 use Rattle.lz_tie.specs.Moments.{ExplainsBegun}
 use Rattle.lz_tie.specs.OneCaller.{keys_in}
 use Rattle.lz_tie.specs.RunningSets.{members_of, Explains}
-use Rattle.lz_tie.specs.Sessions.{Exchanges, Served, PlainRun, NoneCut, CutLast, AreOn, marks_alone, IsSession, MayHaveNext, HoldsAfterSome, MomentsArePlain}
+use Rattle.lz_tie.specs.Sessions.{AnsweredCalls, Served, PlainRun, NoneCut, CutLast, AreOn, marks_alone, IsSession, MayHaveNext, HoldsAfterSome, MomentsArePlain}
 use Rattle.lz_tie.proofs.Sessions.PlainRows.{LeadsTo, leads_open}
 use Rattle.lz_tie.proofs.Sessions.ServedCalls.{told_after, served_first, served_on, plain_served, Whole, whole_none, whole_after, fits_plain, leads_after, plain_to}
 use Rattle.lz_tie.proofs.Sessions.SessionEnd.{leads_none, session_marks}
@@ -36,16 +36,16 @@ marks_later shape (n ∷ later) before =
     (new ++ r.0, ap (λ (M : History). new ++ M) r.1 ∙ sym (append_assoc new r.0 (marks_in shape before)))
 
 -- Some first ones of the calls, and what a history shows of them: each has ended, or the next one has begun.
-record FirstOnes (p : ℕ) (calls : Exchanges) (rest : List (Command × Option Reply)) (M : History) : Type 0 where
-  done : Exchanges
-  left : Exchanges
+record FirstOnes (p : ℕ) (calls : AnsweredCalls) (rest : List (Command × Option Reply)) (M : History) : Type 0 where
+  done : AnsweredCalls
+  left : AnsweredCalls
   splits : calls ≡ done ++ left
   shows : (M ≡ marks_alone p (told_after done rest))
-      ⊎ ((c : Command) × (reply : Reply) × (more : Exchanges) × (left ≡ (c, reply) ∷ more) × (M ≡ marks_alone p ((c, None) ∷ told_after done rest)))
+      ⊎ ((c : Command) × (reply : Reply) × (more : AnsweredCalls) × (left ≡ (c, reply) ∷ more) × (M ≡ marks_alone p ((c, None) ∷ told_after done rest)))
 
 module _ (p : ℕ) (M : History) where
   -- a history that ends that of all calls, or that of those before them
-  cut_at : (calls : Exchanges) (rest : List (Command × Option Reply)) (X : History) → X ++ M ≡ marks_alone p (told_after calls rest) → FirstOnes p calls rest M ⊎ ((Y : History) × (Y ++ M ≡ marks_alone p rest))
+  cut_at : (calls : AnsweredCalls) (rest : List (Command × Option Reply)) (X : History) → X ++ M ≡ marks_alone p (told_after calls rest) → FirstOnes p calls rest M ⊎ ((Y : History) × (Y ++ M ≡ marks_alone p rest))
   cut_at [] rest X is = inr (X, is)
   cut_at (call ∷ calls) rest X is = ⊎_elim
       (λ first. inl (record { done = call ∷ first.done; left = first.left; splits = ap (λ l. call ∷ l) first.splits; shows = first.shows }))
@@ -66,7 +66,7 @@ module _ (p : ℕ) (M : History) where
       of_call (y ∷ []) same = inl (record { done = []; left = call ∷ calls; splits = refl; shows = inr (call.0, call.1, calls, refl, tail y (mark_of n call.1) M since same) })
       of_call (y ∷ x ∷ Y) same = inr (Y, tail x (Call n p call.0) (Y ++ M) (marks_alone p rest) (tail y (mark_of n call.1) (x ∷ Y ++ M) since same))
 
-  first_ones : (calls : Exchanges) (X : History) → X ++ M ≡ marks_alone p (told_after calls []) → FirstOnes p calls [] M
+  first_ones : (calls : AnsweredCalls) (X : History) → X ++ M ≡ marks_alone p (told_after calls []) → FirstOnes p calls [] M
   first_ones calls X is = ⊎_elim (λ first. first) (λ older. record { done = []; left = calls; splits = refl; shows = inl (none older.0 older.1) }) (cut_at calls [] X is)
     where
       none : (Y : History) → Y ++ M ≡ [] → M ≡ []
@@ -74,23 +74,23 @@ module _ (p : ℕ) (M : History) where
       none (y ∷ Y) same = absurd cc
 
 -- of calls of which only the last may have been cut off, the first ones
-cut_first : (done left : Exchanges) → CutLast (done ++ left) → CutLast done
+cut_first : (done left : AnsweredCalls) → CutLast (done ++ left) → CutLast done
 cut_first [] left cut = tt
 cut_first (call ∷ []) left cut = tt
 cut_first (call ∷ next ∷ done) left cut = (cut.0, cut_first (next ∷ done) left cut.1)
 
 -- and those before another one
-none_before : (done : Exchanges) (call : Command × Reply) (more : Exchanges) → CutLast (done ++ call ∷ more) → NoneCut done
+none_before : (done : AnsweredCalls) (call : Command × Reply) (more : AnsweredCalls) → CutLast (done ++ call ∷ more) → NoneCut done
 none_before [] call more cut = tt
 none_before (first ∷ []) call more cut = (cut.0, tt)
 none_before (first ∷ next ∷ done) call more cut = (cut.0, none_before (next ∷ done) call more cut.1)
 
 -- no more was done
-no_next : (left : Exchanges) (S : Keys) → MayHaveNext left S S
+no_next : (left : AnsweredCalls) (S : Keys) → MayHaveNext left S S
 no_next [] S = λ k. refl
 no_next (call ∷ left) S = inl (λ k. refl)
 
-module _ (b : BoardId) (F : Format) (ns : List Note) (calls : Exchanges) (before after : Part) (session : IsSession b F ns calls before after) (t : List ℕ) (begun : ExplainsBegun b ns t) where
+module _ (b : BoardId) (F : Format) (ns : List Note) (calls : AnsweredCalls) (before after : Part) (session : IsSession b F ns calls before after) (t : List ℕ) (begun : ExplainsBegun b ns t) where
   abbrev e : Explains b begun.before t
   e = begun.explains
 
@@ -107,7 +107,7 @@ module _ (b : BoardId) (F : Format) (ns : List Note) (calls : Exchanges) (before
       first_ones p (marks_in (shape_of b.sizes) begun.before) calls r.0
       (sym r.1 ∙ ap (marks_in (shape_of b.sizes)) (sym begun.splits) ∙ session_marks b F ns calls before after session)
 
-  module _ (done left : Exchanges) (splits : calls ≡ done ++ left) where
+  module _ (done left : AnsweredCalls) (splits : calls ≡ done ++ left) where
     cut : CutLast (done ++ left)
     cut = subst CutLast splits session.cut
 
@@ -140,7 +140,7 @@ module _ (b : BoardId) (F : Format) (ns : List Note) (calls : Exchanges) (before
         }
 
     -- the next one has begun
-    begins : (c : Command) (reply : Reply) (more : Exchanges) → left ≡ (c, reply) ∷ more → marks_in (shape_of b.sizes) begun.before ≡ marks_alone p ((c, None) ∷ told_after done []) → HoldsAfterSome F b.sizes.slots calls S0 t
+    begins : (c : Command) (reply : Reply) (more : AnsweredCalls) → left ≡ (c, reply) ∷ more → marks_in (shape_of b.sizes) begun.before ≡ marks_alone p ((c, None) ∷ told_after done []) → HoldsAfterSome F b.sizes.slots calls S0 t
     begins c reply more next is =
         let none = none_before done (c, reply) more (subst (λ l. CutLast (done ++ l)) next cut) in
         let rest = told_after done [] in
