@@ -8,5 +8,7 @@ pub mod Moments
 pub mod Lives
 pub mod AnswerRows
 pub mod OneCallerRows
+pub mod SessionRows
 pub mod Calls
 pub mod Marks
+pub mod Sessions

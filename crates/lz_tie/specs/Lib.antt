@@ -10,4 +10,5 @@ pub mod Marks
 pub mod RunningSets
 pub mod OwnCalls
 pub mod Moments
+pub mod Sessions
 pub mod Lives

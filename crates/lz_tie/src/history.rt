@@ -11,6 +11,7 @@ ghost use Rattle.lz_tie.specs.Answers.{Answers};
 ghost use Rattle.lz_tie.specs.Marks.{AreOfPasses, marks_in};
 ghost use Rattle.lz_tie.specs.OwnCalls.{TellsOwn, told};
 ghost use Rattle.lz_tie.specs.RunningSets.{HasHistory};
+ghost use Rattle.lz_tie.specs.Sessions.{AreOn, TellsAlone};
 
 use crate::locked::Locked;
 use crate::named::Named;
@@ -30,7 +31,8 @@ impl<N: Named, D: Disk> Locked<N, D> {
     }
 
     /// The pass joins the pen for a moment, and has then seen all that was published. In that history its calls are those that
-    /// it has made itself, with the replies that it got.
+    /// it has made itself, with the replies that it got; in a set of one pass there are no others. Each was made on a file of
+    /// the set's format.
     pub fn welcome(&mut self, board: &Board, pass: &mut Pass)
         requires board { id_of board.now ≡ N.board }
         requires pass { IsOf N.board pass.old }
@@ -38,6 +40,8 @@ impl<N: Named, D: Disk> Locked<N, D> {
         ensures part { part pass.new ≡ knowing (trace_of N.board.opened self.old.notes) (part pass.old) }
         ensures same { self.new ≡ self.old }
         ensures own { TellsOwn N.board self.old.notes (part pass.new) }
+        ensures alone { N.board.sizes.passes ≡ 1 → TellsAlone N.board self.old.notes (part pass.new) }
+        ensures format { AreOn N.format (part pass.new).steps }
     {
         board.join(&mut self.pen, pass);
         board.cut(&mut self.pen, pass);

@@ -1,9 +1,28 @@
 //! What follows from the answers that a pass was given. Each function is one law.
 
 ghost use Rattle.lz_tie.specs.OneCaller.{OneCallerIsPlain};
+ghost use Rattle.lz_tie.specs.Sessions.{MomentsArePlain, SessionIsHeld, SessionIsPlain};
 
 /// In a set of one pass each answer is the plain set's: of the members that the pass had seen before its call, and those that
 /// it has seen after.
 pub fn one_caller_is_plain()
     ensures { OneCallerIsPlain }
+{}
+
+/// In a set of one pass the replies to a session are the plain set's: of the set with which the life began, and the one that
+/// the pass has seen after.
+pub fn session_is_plain()
+    ensures { SessionIsPlain }
+{}
+
+/// In a set of one pass each text that a crash may leave after a session holds the plain set after its calls. Where the last
+/// one was cut off, it may be done or not.
+pub fn session_is_held()
+    ensures { SessionIsHeld }
+{}
+
+/// In a set of one pass each text that a crash might have left at any moment of a session holds the plain set after some first
+/// ones of its calls, with the next one under way, done or not.
+pub fn moments_are_plain()
+    ensures { MomentsArePlain }
 {}

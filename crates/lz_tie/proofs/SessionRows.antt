@@ -1,0 +1,127 @@
+-- Worked rows of one caller's session, computed on small cases.
+use Rattle.std.proofs.Common.{◌≡◌, true, false, inl, inr, List, [], ◌∷◌, ◌++◌, Some, None, refl, arith}
+use mathlib.Core.Bool.{false≢true, true≢false}
+use Rattle.std.proofs.lemmas.Bool.Decides.{nat_tests}
+use Rattle.lz_slot.specs.declared.command.Command.TheVariants.{Add, Remove, Has}
+use Rattle.lz_slot.specs.declared.format.Format.TheVariants.{One, Two}
+use Rattle.lz_slot.specs.declared.history.Mark.TheVariants.{Call, Answer as answer}
+use Rattle.lz_list.specs.declared.word.Word.TheVariants.{Head, Link, Key, Halt}
+use Rattle.lz_list.specs.Traces.{Trace, Lawful, opening}
+use Rattle.lz_machine.specs.declared.event.Event.TheVariants.{Pin, Answer}
+use Rattle.lz_machine.specs.declared.event.Outcome.TheVariants.{Done}
+use Rattle.lz_machine.specs.declared.event.Reply.TheVariants.{Yes, No, Halted}
+use Rattle.lz_board.specs.declared.view.Part.{Part}
+use Rattle.lz_board.specs.declared.view.Note.{Note}
+use Rattle.lz_board.specs.declared.view.Sizes.{Sizes}
+use Rattle.lz_board.specs.declared.view.What.TheVariants.{Called, Played, Found}
+use Rattle.lz_board.specs.Notes.{note_by, load_note}
+use Rattle.lz_board.specs.Plays.{fresh}
+use Rattle.lz_board.specs.Seats.{BoardId}
+use Rattle.lz_tie.specs.Answers.{Answers}
+use Rattle.lz_tie.specs.Holds.{no_board}
+use Rattle.lz_tie.specs.OneCaller.{keys_in}
+use Rattle.lz_tie.specs.Sessions.{PlainRun, CutLast, AreOn, marks_alone, IsSession, MayHaveNext}
+
+-- key 9 was found in slot 0
+abbrev P0 : Trace
+P0 = opening 1 ((9, 0) ∷ [])
+
+abbrev sizes : Sizes
+sizes = record { slots = 2; buckets = 1; passes = 1 }
+
+abbrev board : BoardId
+board = record { table = no_board.table; sizes = sizes; opened = P0 }
+
+-- the steps of a `has` that walks over the one member
+abbrev steps : List Note
+steps =
+    note_by 1 (Played Answer Done) None
+    ∷ load_note 1 (record { word = Link 0; value = 8589934592; at = 4 }) ∷ load_note 1 (record { word = Key 0; value = 9; at = 4 })
+    ∷ load_note 1 (record { word = Head 0; value = 1; at = 4 }) ∷ load_note 1 (record { word = Halt; value = 0; at = 4 })
+    ∷ note_by 1 (Played Pin Done) None ∷ note_by 1 (Called (Has 9) Two) None ∷ []
+
+abbrev before : Part
+before = fresh sizes P0 1
+
+abbrev after : Part
+after = record { sizes = sizes; number = 1; pin = 2; begun = P0; known = P0; steps = steps; base = 4; loads = [] }
+
+lawful : Lawful 1 2 P0
+lawful = (
+  tt,
+  (
+    record { in_range = omega arith; loose = λ b. refl; no_member = refl; no_node = refl; key = refl; link = refl; no_mark = refl; not_added = refl; not_removed = refl },
+    ((λ b. refl), ((λ b. refl), tt)),
+  ),
+)
+
+answers : Answers (Has 9) Yes before after
+answers = record {
+  new = steps;
+  steps = refl;
+  format = Two;
+  one_call = record {
+    within =
+        load_note 1 (record { word = Link 0; value = 8589934592; at = 4 }) ∷ load_note 1 (record { word = Key 0; value = 9; at = 4 })
+        ∷ load_note 1 (record { word = Head 0; value = 1; at = 4 }) ∷ load_note 1 (record { word = Halt; value = 0; at = 4 })
+        ∷ note_by 1 (Played Pin Done) None ∷ [];
+    steps = refl;
+    only = (tt, (tt, (tt, (tt, (tt, tt)))));
+    answers = refl;
+  };
+  promises = (
+    record { then = P0; between = record { from = inl refl; upto = inl refl }; settled = record { begins = inl refl; member = refl; settled = refl } },
+    record { since = []; goes_on = refl; own = refl },
+  );
+  lawful = lawful;
+  alone = λ one. record { since = []; goes_on = refl; own = tt };
+}
+
+-- a session of that one call, in the history of the pen's notes
+session : IsSession board Two (steps ++ note_by 0 (Found 1 0) None ∷ []) ((Has 9, Yes) ∷ []) before after
+session = record {
+  alone = refl;
+  known = refl;
+  no_steps = refl;
+  served = (refl, (after, answers, refl));
+  cut = tt;
+  format = (tt, (tt, (tt, (tt, (tt, (tt, (refl, tt)))))));
+  tells = refl;
+}
+
+-- no call of another pass may stand in that history
+not_alone : IsSession board Two (note_by 2 (Called (Add 12) Two) None ∷ steps) ((Has 9, Yes) ∷ []) before after → ⊥
+not_alone h = let tells = h.tells in absurd cc
+
+-- what is shown of a call that was answered, and of the next one
+marks_are : marks_alone 1 ((Add 12, None) ∷ (Has 9, Some Yes) ∷ []) ≡ Call 2 1 (Add 12) ∷ answer 1 true ∷ Call 1 1 (Has 9) ∷ []
+marks_are = refl
+
+-- the plain set of key 9
+run_of_two : PlainRun Two 2 ((Has 9, Yes) ∷ (Has 8, No) ∷ []) (keys_in P0) (keys_in P0)
+run_of_two = (
+  keys_in P0,
+  record { old = refl; row = (refl, λ j. refl) },
+  (keys_in P0, record { old = refl; row = (refl, λ j. refl) }, λ j. refl),
+)
+
+not_a_run : PlainRun Two 2 ((Has 9, No) ∷ []) (keys_in P0) (keys_in P0) → ⊥
+not_a_run h = true≢false h.1.row.0
+
+-- only the last call may be cut off
+cut_at_the_end : CutLast ((Add 12, Yes) ∷ (Remove 9, Halted) ∷ [])
+cut_at_the_end = (refl, tt)
+
+not_before : CutLast ((Remove 9, Halted) ∷ (Add 12, Yes) ∷ []) → ⊥
+not_before h = true≢false h.0
+
+-- a removing that is under way may be done; where no call is, the set stands
+under_way : MayHaveNext ((Remove 9, Yes) ∷ []) (keys_in P0) (λ j. false)
+under_way = inr (λ j. grind (arith, nat_tests))
+
+no_call : MayHaveNext [] (keys_in P0) (λ j. false) → ⊥
+no_call h = false≢true (h 9)
+
+-- a call on a file of the older format is none on one of the newer
+not_on : AreOn Two (note_by 1 (Called (Has 9) One) None ∷ []) → ⊥
+not_on h = absurd cc

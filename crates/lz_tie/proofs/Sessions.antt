@@ -1,0 +1,6 @@
+pub mod PlainRows
+pub mod ServedCalls
+pub mod AloneMarks
+pub mod SoleNotes
+pub mod SessionEnd
+pub mod SessionMoments

@@ -1,0 +1,64 @@
+-- What is left once a session has ended.
+use Rattle.std.proofs.Common.{◌≡◌, ℕ, List, [], ◌∷◌, sym, ap, ◌∙◌, subst}
+use Rattle.lz_slot.specs.declared.format.Format.{Format}
+use Rattle.lz_slot.specs.Histories.{History, Fits}
+use Rattle.lz_slot.specs.Sets.{Same}
+use Rattle.lz_machine.specs.Alone.{IsPlain}
+use Rattle.lz_list.specs.Traces.{Trace}
+use Rattle.lz_board.specs.declared.view.Note.{Note}
+use Rattle.lz_board.specs.declared.view.Part.{Part}
+use Rattle.lz_board.specs.Notes.{shape_of}
+use Rattle.lz_board.specs.Seats.{BoardId}
+use Rattle.lz_tie.specs.Marks.{marks_in}
+use Rattle.lz_tie.specs.OneCaller.{keys_in}
+use Rattle.lz_tie.specs.OwnCalls.{told}
+use Rattle.lz_tie.specs.RunningSets.{members_of, Explains}
+use Rattle.lz_tie.specs.Sessions.{AnsweredCalls, PlainRun, NoneCut, CutLast, marks_alone, IsSession, SessionIsPlain, SessionIsHeld}
+use Rattle.lz_tie.proofs.Sessions.PlainRows.{LeadsTo}
+use Rattle.lz_tie.proofs.Sessions.ServedCalls.{told_after, served_told, plain_served, whole_none, fits_plain, leads_after, plain_to}
+
+-- at first the history leads to the set with which the life began
+pub leads_none : (p : ℕ) (opened : Trace) (old : Part) → old.known ≡ opened → LeadsTo (members_of opened) (marks_alone p []) (keys_in old.known)
+leads_none p opened old known = subst (λ (P : Trace). LeadsTo (members_of opened) (marks_alone p []) (keys_in P)) (sym known) (λ T plain k. sym (plain k))
+
+-- none was cut off, so none but the last
+pub cut_last : (calls : AnsweredCalls) → NoneCut calls → CutLast calls
+cut_last [] none = tt
+cut_last (call ∷ []) none = tt
+cut_last (call ∷ next ∷ calls) none = (none.0, cut_last (next ∷ calls) none.1)
+
+module _ (b : BoardId) (F : Format) (ns : List Note) (calls : AnsweredCalls) (before after : Part) (session : IsSession b F ns calls before after) where
+  -- the history of the notes
+  pub session_marks : marks_in (shape_of b.sizes) ns ≡ marks_alone after.number (told_after calls [])
+  session_marks =
+      session.tells
+      ∙ ap (marks_alone after.number) (served_told b.sizes calls before after session.served)
+      ∙ ap (λ l. marks_alone after.number (told_after calls (told (shape_of b.sizes) l))) session.no_steps
+
+  session_plain : PlainRun F b.sizes.slots calls (members_of b.opened) (members_of after.known)
+  session_plain =
+      subst (λ (P : Trace). PlainRun F b.sizes.slots calls (keys_in P) (keys_in after.known)) session.known
+      (plain_served b.sizes F session.alone calls before after session.served session.format)
+
+  module _ (t : List ℕ) (explains : Explains b ns t) where
+    plain : IsPlain (members_of b.opened) (marks_alone after.number (told_after calls [])) explains.found
+    plain =
+        fits_plain after.number (members_of b.opened) explains.found explains.calls calls [] session.cut (whole_none after.number)
+        (subst (λ (M : History). Fits (members_of b.opened) M explains.calls explains.found) session_marks explains.fits)
+
+    held_run : PlainRun F b.sizes.slots calls (members_of b.opened) explains.found
+    held_run =
+        subst (λ (P : Trace). PlainRun F b.sizes.slots calls (keys_in P) explains.found) session.known
+        (plain_to after.number b.sizes F session.alone (members_of b.opened) calls [] before after explains.found session.cut session.served session.format
+        (leads_none after.number b.opened before session.known) plain)
+
+    held_whole : NoneCut calls → Same explains.found (members_of after.known)
+    held_whole none =
+        leads_after after.number b.sizes F session.alone (members_of b.opened) calls [] before after none session.served session.format
+        (leads_none after.number b.opened before session.known) explains.found plain
+
+pub session_is_plain : SessionIsPlain
+session_is_plain b F ns calls before after session = session_plain b F ns calls before after session
+
+pub session_is_held : SessionIsHeld
+session_is_held b F ns calls before after session t explains = (held_run b F ns calls before after session t explains, held_whole b F ns calls before after session t explains)

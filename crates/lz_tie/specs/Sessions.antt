@@ -1,0 +1,125 @@
+-- A session of the one caller: calls that a pass made one after the other, in a set of one pass. Lists of calls and replies
+-- stand oldest first; notes, steps and marks stand newest first.
+use Rattle.std.specs.Prelude.{◌≡◌, ◌⊎◌, ℕ, suc, Bool, true, false, List, [], ◌∷◌, ◌++◌, length, Option}
+use Rattle.lz_slot.specs.declared.command.Command.{Command}
+use Rattle.lz_slot.specs.declared.format.Format.{Format}
+use Rattle.lz_slot.specs.declared.history.Mark.TheVariants.{Call}
+use Rattle.lz_slot.specs.Bytes.{Holds}
+use Rattle.lz_slot.specs.Histories.{History}
+use Rattle.lz_slot.specs.Sets.{Keys, Same, after}
+use Rattle.lz_machine.specs.declared.event.Reply.{Reply}
+use Rattle.lz_machine.specs.declared.event.Reply.TheVariants.{Halted, Device}
+use Rattle.lz_machine.specs.Runs.{mark_of_turn}
+use Rattle.lz_board.specs.declared.view.Sizes.{Sizes}
+use Rattle.lz_board.specs.declared.view.What.{What}
+use Rattle.lz_board.specs.declared.view.What.TheVariants.{Called}
+use Rattle.lz_board.specs.declared.view.Note.{Note}
+use Rattle.lz_board.specs.declared.view.Part.{Part}
+use Rattle.lz_board.specs.Notes.{shape_of}
+use Rattle.lz_board.specs.Seats.{BoardId}
+use Rattle.lz_tie.specs.Answers.{Answers}
+use Rattle.lz_tie.specs.Marks.{marks_in}
+use Rattle.lz_tie.specs.Moments.{ExplainsBegun}
+use Rattle.lz_tie.specs.OneCaller.{IsPlainAnswer}
+use Rattle.lz_tie.specs.OwnCalls.{told}
+use Rattle.lz_tie.specs.RunningSets.{members_of, Explains}
+
+-- calls that were answered, each with its reply
+abbrev pub AnsweredCalls : Type 0
+AnsweredCalls = List (Command × Reply)
+
+-- A pass of a set of this size made the calls one after the other, and was answered so; its part was `old`, and is `new`.
+abbrev pub Served : Sizes → AnsweredCalls → Part → Part → Type 0
+Served z [] old new = new ≡ old
+Served z (call ∷ calls) old new = (old.sizes ≡ z) × ((mid : Part) × Answers call.0 call.1 old mid × Served z calls mid new)
+
+-- the plain set S of a file of format F with N slots, asked these calls, may reply so and be T then
+abbrev pub PlainRun : Format → ℕ → AnsweredCalls → Keys → Keys → Type 0
+PlainRun F N [] S T = Same T S
+PlainRun F N (call ∷ calls) S T = (U : Keys) × IsPlainAnswer F N call.0 call.1 S U × PlainRun F N calls U T
+
+-- the reply ends a session: it leaves open whether the command was done
+abbrev pub cuts_off : Reply → Bool
+cuts_off Halted = true
+cuts_off Device = true
+cuts_off _ = false
+
+-- no call was cut off
+abbrev pub NoneCut : AnsweredCalls → Type 0
+NoneCut [] = Unit {0}
+NoneCut (call ∷ calls) = (cuts_off call.1 ≡ false) × NoneCut calls
+
+-- no call but the last was
+abbrev pub CutLast : AnsweredCalls → Type 0
+CutLast [] = Unit {0}
+CutLast (call ∷ []) = Unit {0}
+CutLast (call ∷ next ∷ calls) = (cuts_off call.1 ≡ false) × CutLast (next ∷ calls)
+
+-- a step that begins a call does so over a file of this format
+abbrev pub IsOn : Format → What → Type 0
+IsOn F (Called c format) = format ≡ F
+IsOn F w = Unit {0}
+
+-- each of the steps does
+abbrev pub AreOn : Format → List Note → Type 0
+AreOn F [] = Unit {0}
+AreOn F (n ∷ ns) = IsOn F n.what × AreOn F ns
+
+-- what a history shows of the calls of one pass, where no other makes one; the newest call stands first
+abbrev pub marks_alone : ℕ → List (Command × Option Reply) → History
+marks_alone p [] = []
+marks_alone p (call ∷ calls) =
+    mark_of_turn (suc (length calls)) call.1 ++ Call (suc (length calls)) p call.0 ∷ marks_alone p calls
+
+-- The history of the notes is that of the pass's own calls.
+abbrev pub TellsAlone : BoardId → List Note → Part → Type 0
+TellsAlone b ns h = marks_in (shape_of b.sizes) ns ≡ marks_alone h.number (told (shape_of b.sizes) h.steps)
+
+-- A set of one pass, on a file of format F: since its life began the pass has made these calls and no other, and only the last
+-- may have been cut off.
+pub record IsSession (b : BoardId) (F : Format) (ns : List Note) (calls : AnsweredCalls) (before after : Part) : Type 0 where
+  pub alone : b.sizes.passes ≡ 1
+  pub known : before.known ≡ b.opened
+  pub no_steps : before.steps ≡ []
+  pub served : Served b.sizes calls before after
+  pub cut : CutLast calls
+  pub format : AreOn F after.steps
+  pub tells : TellsAlone b ns after
+
+-- the set T is S; or the next of the calls, if there is one, was under way and is done
+abbrev pub MayHaveNext : AnsweredCalls → Keys → Keys → Type 0
+MayHaveNext [] S T = Same T S
+MayHaveNext (call ∷ calls) S T = Same T S ⊎ Same T (after call.0 S)
+
+-- The text holds the plain set after some first ones of the calls; the next one may be under way, done or not.
+pub record HoldsAfterSome (F : Format) (N : ℕ) (calls : AnsweredCalls) (S : Keys) (t : List ℕ) : Type 0 where
+  pub done : AnsweredCalls
+  pub rest : AnsweredCalls
+  pub splits : calls ≡ done ++ rest
+  pub ends : Keys
+  pub run : PlainRun F N done S ends
+  pub found : Keys
+  pub next : MayHaveNext rest ends found
+  pub holds : Holds t N found
+
+-- The replies to a session are the plain set's, of the set with which the life began.
+abbrev pub SessionIsPlain : Type 0
+SessionIsPlain =
+    (b : BoardId) (F : Format) (ns : List Note) (calls : AnsweredCalls) (before after : Part)
+    → IsSession b F ns calls before after → PlainRun F b.sizes.slots calls (members_of b.opened) (members_of after.known)
+
+-- A text that a crash may leave after it holds the plain set that is left; where none was cut off, it holds the members that
+-- the pass has seen.
+abbrev pub SessionIsHeld : Type 0
+SessionIsHeld =
+    (b : BoardId) (F : Format) (ns : List Note) (calls : AnsweredCalls) (before after : Part)
+    → IsSession b F ns calls before after
+    → (t : List ℕ) (explains : Explains b ns t)
+    → PlainRun F b.sizes.slots calls (members_of b.opened) explains.found × (NoneCut calls → Same explains.found (members_of after.known))
+
+-- A text that a crash might have left at any moment of it holds the plain set after some first ones of the calls.
+abbrev pub MomentsArePlain : Type 0
+MomentsArePlain =
+    (b : BoardId) (F : Format) (ns : List Note) (calls : AnsweredCalls) (before after : Part)
+    → IsSession b F ns calls before after
+    → (t : List ℕ) → ExplainsBegun b ns t → HoldsAfterSome F b.sizes.slots calls (members_of b.opened) t
