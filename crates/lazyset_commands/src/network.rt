@@ -88,7 +88,7 @@ where
     W: Write + Drop,
     D: Disk + Send,
     N: Named + Send + Sync,
-    requires { MayBeNamed D.device N.board N.first blank }
+    requires { MayBeNamed D.device N.board N.first N.format blank }
     ensures { (result.0 ≡ Status.Done) ⊎ (result.0 ≡ Status.Failed) }
 {
     let (set, passes) = blank.start::<N>();

@@ -65,7 +65,7 @@ fn play<N: Named, R: Wait>(
     blank: Blank<MemoryDisk, NoGate>,
     count: usize,
 ) -> Option<Played>
-    requires { MayBeNamed device_of N.board N.first blank }
+    requires { MayBeNamed device_of N.board N.first N.format blank }
 {
     let (set, mut passes) = blank.start::<N>();
     let pass = passes.pop()?;

@@ -213,7 +213,7 @@ fn play<N: Named + Send + Sync, R: Threads + Wait + Sync>(
     blank: Blank<MemoryDisk, Gate>,
     turnstile: &Turnstile,
 ) -> Option<Scene>
-    requires { MayBeNamed device_of N.board N.first blank }
+    requires { MayBeNamed device_of N.board N.first N.format blank }
 {
     let (set, mut passes) = blank.start::<N>();
     let mut second = passes.pop()?;

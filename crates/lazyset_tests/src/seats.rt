@@ -21,7 +21,7 @@ fn replies_of<N: Named, R: Wait>(
     blank: Blank<MemoryDisk, NoGate>,
     lines: &[u8],
 ) -> Option<Vec<u8>>
-    requires { MayBeNamed device_of N.board N.first blank }
+    requires { MayBeNamed device_of N.board N.first N.format blank }
 {
     let (set, mut passes) = blank.start::<N>();
     let pass = passes.pop()?;

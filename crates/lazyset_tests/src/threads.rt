@@ -207,7 +207,7 @@ fn share<N: Named + Send + Sync, R: Threads + Wait + Sync>(
     blank: Blank<MemoryDisk, NoGate>,
     rounds: u64,
 ) -> Shared
-    requires { MayBeNamed device_of N.board N.first blank }
+    requires { MayBeNamed device_of N.board N.first N.format blank }
 {
     let (set, passes) = blank.start::<N>();
     let tallies = churn_all(rt, alloc, &set, passes, rounds);

@@ -1,6 +1,7 @@
 -- What the service of one pass replies.
 use Rattle.std.specs.Prelude.{◌≡◌, Bool, true, false, Result, Ok, Err, Option, Some, None}
 use Rattle.lz_slot.specs.declared.command.Command.{Command}
+use Rattle.lz_slot.specs.declared.format.Format.{Format}
 use Rattle.lz_slot.specs.declared.command.Command.TheVariants as command
 use Rattle.lz_proto.specs.declared.request.Request.{Request}
 use Rattle.lz_proto.specs.declared.request.Request.TheVariants.{Add, Remove, Has, Quit}
@@ -9,8 +10,9 @@ use Rattle.lz_proto.specs.declared.reply.Reply.TheVariants as reply
 use Rattle.lz_set.specs.declared.fault.Fault.{Fault}
 use Rattle.lz_set.specs.declared.fault.Fault.TheVariants.{Full, Halted, Worn, Device, OldFile}
 use Rattle.lz_board.specs.declared.pass.Pass.{Pass}
-use Rattle.lz_board.specs.Seats.{part}
+use Rattle.lz_board.specs.Seats.{BoardId, part}
 use Rattle.lz_tie.specs.Answers.{Answers}
+use Rattle.lz_tie.specs.OneCaller.{IsPlainAnswer, keys_in}
 use Rattle.lz_set.specs.Answers.{reply_of as reply_told}
 
 -- the reply that tells what a call answered: of a device that failed, now or before, a client is told that the service halted
@@ -30,11 +32,12 @@ command_of (Remove k) = Some (command.Remove k)
 command_of (Has k) = Some (command.Has k)
 command_of Quit = None
 
--- The reply tells the answer of one call of the pass, which is that of the request, and the pass has what the table of answers
--- promises it.
-pub record SeatAnswers (old : Pass) (request : Request) (reply : Reply) (new : Pass) : Type 0 where
+-- The reply tells the answer of one call of the pass, which is that of the request: the pass has what the table of answers
+-- promises it. In a set of one pass the answer is the plain set's, over a file of this format.
+pub record SeatAnswers (b : BoardId) (F : Format) (old : Pass) (request : Request) (reply : Reply) (new : Pass) : Type 0 where
   pub c : Command
   pub asked : command_of request ≡ Some c
   pub answer : Result Bool Fault
   pub call : Answers c (reply_told answer) (part old) (part new)
+  pub plain : b.sizes.passes ≡ 1 → IsPlainAnswer F b.sizes.slots c (reply_told answer) (keys_in (part old).known) (keys_in (part new).known)
   pub told : reply ≡ reply_of answer

@@ -52,7 +52,7 @@ fn reply_of(answer: Result<bool, Fault>) -> Reply
 impl<'a, D: Disk, G: StepGate, N: Named, R: Wait> Service for Seated<'a, D, G, N, R> {
     ghost use Rattle.lz_serve.specs.Replies.{SeatAnswers};
 
-    ghost answers = { λ old request reply new. SeatAnswers old.pass request reply new.pass };
+    ghost answers = { λ old request reply new. SeatAnswers N.board N.format old.pass request reply new.pass };
 
     fn ask(&mut self, request: Request) -> Reply {
         match request {

@@ -1,5 +1,6 @@
 -- A set that was opened and has no name yet.
 use Rattle.std.specs.Prelude.{◌≡◌, ◌≤◌, ℕ, All, List, [], length, map}
+use Rattle.lz_slot.specs.declared.format.Format.{Format}
 use Rattle.lz_slot.specs.Limits.{most_buckets, most_passes}
 use Rattle.lz_disk.specs.Devices.{Device}
 use Rattle.lz_machine.specs.Yards.{Yard}
@@ -8,6 +9,7 @@ use Rattle.lz_board.specs.declared.pass.Pass.{Pass}
 use Rattle.lz_board.specs.Plays.{parts_from}
 use Rattle.lz_board.specs.Seats.{BoardId, IsNew, IsPenOf, notes as notes_of, part}
 use Rattle.lz_tie.specs.Holds.{IsLocked}
+use Rattle.lz_tie.specs.Lives.{LivesOn}
 use Rattle.lz_tie.specs.Moments.{LeftSince}
 
 -- The board that its name will have, its yard and its disk.
@@ -34,8 +36,9 @@ pub record IsBlank (b : BoardId) (p : Pen) (y : Yard) (disk : Device) (ps : List
   pub passes : AreNew b ps
   pub sized : IsSized b B (length ps)
 
--- A name may be given to the set: its values are the set's board, and the disk as it is or was before, since when nothing else
--- could be left of it.
-pub record MayBeNamed {D : Type 0} (device : D → Device) (b : BoardId) (first : Device) (blank : BlankOver D) : Type 0 where
+-- A name may be given to the set: its values are the set's board, the file's format, and the disk as it is or was before, since
+-- when nothing else could be left of it.
+pub record MayBeNamed {D : Type 0} (device : D → Device) (b : BoardId) (first : Device) (F : Format) (blank : BlankOver D) : Type 0 where
   pub board : blank.board ≡ b
   pub since : LeftSince b first [] (device blank.disk)
+  pub life : LivesOn F first blank.yard (device blank.disk)

@@ -36,7 +36,7 @@ impl<D: Disk, G: StepGate> Model for Blank<D, G> {
 impl<D: Disk, G: StepGate> Blank<D, G> {
     /// The set, and its passes in the order of their numbers, of which none has done anything yet.
     pub fn start<N: Named>(self) -> (Set<D, G, N>, Vec<Pass>)
-        requires { MayBeNamed D.device N.board N.first self }
+        requires { MayBeNamed D.device N.board N.first N.format self }
         ensures may { All (MayCall N.board) result.1.items }
         ensures passes { AreNew N.board result.1.items }
     {

@@ -7,10 +7,11 @@
 //!
 //! ```text
 //! let blank = Set::open(alloc, disk, NoGate, 1, 8)?;
-//! work::<D, Brand, R>(rt, blank)     // ghosts-work g a = record { board = a.blank.board; first = g.D.Disk.device a.blank.disk }
+//! // ghosts-work g a = record { board = a.blank.board; first = g.D.Disk.device a.blank.disk; format = a.blank.yard.vault.format }
+//! work::<D, Brand, R>(rt, blank)
 //!
 //! fn work<D: Disk, N: Named, R: Wait>(rt: &R, blank: Blank<D, NoGate>)
-//!     requires { MayBeNamed D.device N.board N.first blank }
+//!     requires { MayBeNamed D.device N.board N.first N.format blank }
 //! {
 //!     let (set, passes) = blank.start::<N>();    // each of the passes may call: All (MayCall N.board) passes.items
 //!     ..

@@ -16,6 +16,7 @@ ghost use Rattle.lz_board.specs.Seats.{id_of, part, IsOf};
 ghost use Rattle.lz_tie.specs.Answers.{Answers, Met};
 ghost use Rattle.lz_tie.specs.Counting.{Counts, IsCounted};
 ghost use Rattle.lz_tie.specs.Holds.{sizes_of};
+ghost use Rattle.lz_tie.specs.OneCaller.{IsPlainAnswer, keys_in};
 ghost use Rattle.lz_yard.specs.Filling.{OpensYard};
 ghost use Rattle.lz_set.specs.Answers.{reply_of};
 ghost use Rattle.lz_set.specs.Blanks.{IsSized, MayBeNamed};
@@ -64,7 +65,7 @@ impl<D: Disk, G: StepGate> Set<D, G, Brand> {
         requires passes { (1 ≤ passes) × (passes ≤ most_passes) }
         ensures ok { IfOk result (λ blank. OpensYard (D.device disk) (D.device blank.disk) buckets passes blank.yard) }
         ensures board { IfOk result (λ blank. (blank.board.sizes ≡ sizes_of blank.yard.shape) × (blank.board.opened ≡ opened_by blank.yard.words)) }
-        ensures named { IfOk result (λ blank. MayBeNamed D.device blank.board (D.device blank.disk) blank) }
+        ensures named { IfOk result (λ blank. MayBeNamed D.device blank.board (D.device blank.disk) blank.yard.vault.format blank) }
         ensures err { IfErr result (λ refused. IsRefusedFor (D.device disk) (D.device refused.disk) refused.fault) }
     {
         let yard = Yard::open(alloc, disk, buckets, passes)?;
@@ -111,6 +112,7 @@ impl<D: Disk, G: StepGate, N: Named> Set<D, G, N> {
         requires pass { MayCall N.board pass.old }
         ensures pass { MayCall N.board pass.new }
         ensures answers { Answers (command.Add key) (reply_of result) (part pass.old) (part pass.new) }
+        ensures plain { N.board.sizes.passes ≡ 1 → IsPlainAnswer N.format N.board.sizes.slots (command.Add key) (reply_of result) (keys_in (part pass.old).known) (keys_in (part pass.new).known) }
     {
         self.call(rt, pass, Command::Add(key))
     }
@@ -120,6 +122,7 @@ impl<D: Disk, G: StepGate, N: Named> Set<D, G, N> {
         requires pass { MayCall N.board pass.old }
         ensures pass { MayCall N.board pass.new }
         ensures answers { Answers (command.Remove key) (reply_of result) (part pass.old) (part pass.new) }
+        ensures plain { N.board.sizes.passes ≡ 1 → IsPlainAnswer N.format N.board.sizes.slots (command.Remove key) (reply_of result) (keys_in (part pass.old).known) (keys_in (part pass.new).known) }
     {
         self.call(rt, pass, Command::Remove(key))
     }
@@ -129,6 +132,7 @@ impl<D: Disk, G: StepGate, N: Named> Set<D, G, N> {
         requires pass { MayCall N.board pass.old }
         ensures pass { MayCall N.board pass.new }
         ensures answers { Answers (command.Has key) (reply_of result) (part pass.old) (part pass.new) }
+        ensures plain { N.board.sizes.passes ≡ 1 → IsPlainAnswer N.format N.board.sizes.slots (command.Has key) (reply_of result) (keys_in (part pass.old).known) (keys_in (part pass.new).known) }
     {
         self.call(rt, pass, Command::Has(key))
     }
@@ -159,6 +163,7 @@ impl<D: Disk, G: StepGate, N: Named> Set<D, G, N> {
         requires pass { MayCall N.board pass.old }
         ensures pass { MayCall N.board pass.new }
         ensures answers { Answers command (reply_of result) (part pass.old) (part pass.new) }
+        ensures plain { N.board.sizes.passes ≡ 1 → IsPlainAnswer N.format N.board.sizes.slots command (reply_of result) (keys_in (part pass.old).known) (keys_in (part pass.new).known) }
     {
         let mut caller = self.begin(rt, pass, command);
         for _ in rt.forever() {
@@ -175,7 +180,7 @@ impl<D: Disk, G: StepGate, N: Named> Set<D, G, N> {
     fn begin<R: Wait>(&self, rt: &R, pass: &mut Pass, command: Command) -> Caller
         requires pass { MayCall N.board pass.old }
         ensures pass { IsOf N.board pass.new }
-        ensures counts { (format : Format) × Counts N.board command format (part pass.old) result (part pass.new) }
+        ensures counts { Counts N.board command N.format (part pass.old) result (part pass.new) }
     {
         let mut locked = self.locked.lock(rt);
         let mut caller = locked.begin(&self.board, pass, command, self.buckets, self.passes);
@@ -231,6 +236,8 @@ impl<D: Disk, G: StepGate, N: Named> Set<D, G, N> {
         requires reply { reply_at caller.now.progress ≡ Some reply }
         ensures pass { MayCall N.board pass.new }
         ensures answers { (c : Asked) (format : Format) (before : Part) → before.sizes ≡ N.board.sizes → Counts N.board c format before caller.now (part pass.old) → Answers c reply before (part pass.new) }
+        ensures plain { N.board.sizes.passes ≡ 1 → (c : Asked) (format : Format) (before : Part) → before.sizes ≡ N.board.sizes → Counts N.board c format before caller.now (part pass.old)
+            → IsPlainAnswer format N.board.sizes.slots c reply (keys_in before.known) (keys_in (part pass.new).known) }
     {
         let mut locked = self.locked.lock(rt);
         locked.answer(&self.board, pass, caller, reply);

@@ -5,6 +5,7 @@ pub mod Reuse
 pub mod Replies
 pub mod Start
 pub mod Moments
+pub mod Lives
 pub mod AnswerRows
 pub mod OneCallerRows
 pub mod Calls

@@ -1,3 +1,4 @@
 pub mod OpenedYard
 pub mod OpenedMoments
 pub mod FirstSets
+pub mod OpenedLives

@@ -10,3 +10,4 @@ pub mod Marks
 pub mod RunningSets
 pub mod OwnCalls
 pub mod Moments
+pub mod Lives

@@ -4,6 +4,7 @@ ghost use Rattle.lz_board.specs.declared.view.What.TheVariants.{Called};
 ghost use Rattle.lz_board.specs.Notes.{note_by, pin_after};
 ghost use Rattle.lz_board.specs.Seats.{Carries, IsAtHand, carried, id_of, notes};
 ghost use Rattle.lz_tie.specs.Holds.{Holds, InHold, IsIdle, begins_with};
+ghost use Rattle.lz_tie.specs.Lives.{KeepsLife};
 ghost use Rattle.lz_tie.specs.Moments.{GoesOn};
 
 use lz_board::{Board, Note, Pass, Pen, What};
@@ -32,6 +33,7 @@ pub(crate) fn call_joined<D: Disk>(
     ensures holds { Holds (id_of board.now).opened (notes pen.old) (notes pen.new) (note_by (carried pen.old).number (Called command yard.old.yard.vault.format) None) (carried pen.old) (carried pen.new) }
     ensures outcome { result ≡ begins_with yard.old.yard.vault.format command }
     ensures moments { GoesOn (id_of board.now) (notes pen.old) (notes pen.new) (D.device yard.old.disk) (D.device yard.new.disk) }
+    ensures life { KeepsLife yard.old.yard (D.device yard.old.disk) yard.new.yard (D.device yard.new.disk) }
 {
     let asked = command;
     let played = command;

@@ -1,6 +1,8 @@
 //! What lies under the lock.
-ghost use Rattle.std.specs.Prelude.{◌≡◌, ◌∷◌, [], None, suc};
+ghost use Rattle.std.specs.Prelude.{◌≡◌, ◌⊎◌, ◌≤◌, ◌<◌, ◌∷◌, [], None, suc};
 ghost use Rattle.lz_slot.specs.declared.history.Mark.TheVariants.{Call};
+ghost use Rattle.lz_vault.specs.Vaults.{last_sync};
+ghost use Rattle.lz_list.specs.Traces.{halt_word};
 ghost use Rattle.lz_machine.specs.declared.event.Event.TheVariants.{SeePin};
 ghost use Rattle.lz_machine.specs.Calls.{event_at};
 ghost use Rattle.lz_machine.specs.Runs.{mark_of_turn, reply_at};
@@ -11,6 +13,7 @@ ghost use Rattle.lz_tie.specs.Marks.{Shows, calls_in, number_of};
 ghost use Rattle.lz_board.specs.Seats.{IsOf, IsPenOf, id_of, notes, part};
 ghost use Rattle.lz_tie.specs.OnePass.{OnlyOwn};
 ghost use Rattle.lz_tie.specs.Holds.{HasCall, Holds, IsIdle, IsLocked, IsTurn, Turned, begins_with};
+ghost use Rattle.lz_tie.specs.Lives.{LivesOn};
 ghost use Rattle.lz_tie.specs.Moments.{ExplainedSince, HoldExplains, LeftSince};
 
 use crate::calling::call_joined;
@@ -35,6 +38,7 @@ pub struct Locked<N: Named, D: Disk> {
 impl<N: Named, D: Disk> Model for Locked<N, D> {
     ghost use Rattle.lz_board.specs.Seats.{IsPenOf, notes};
     ghost use Rattle.lz_tie.specs.Holds.{IsLocked, LockedOver};
+    ghost use Rattle.lz_tie.specs.Lives.{LivesOn};
     ghost use Rattle.lz_tie.specs.Moments.{LeftSince};
 
     ghost Value = { LockedOver D };
@@ -42,7 +46,7 @@ impl<N: Named, D: Disk> Model for Locked<N, D> {
     ghost view = { λ l. record { notes = notes l.pen; yard = l.yard.yard; disk = l.yard.disk } };
 
     ghost invariant = { λ l. IsPenOf N.board l.pen × IsLocked N.board (notes l.pen) l.yard.yard (D.device l.yard.disk)
-        × LeftSince N.board N.first (notes l.pen) (D.device l.yard.disk) };
+        × LeftSince N.board N.first (notes l.pen) (D.device l.yard.disk) × LivesOn N.format N.first l.yard.yard (D.device l.yard.disk) };
 }
 
 impl<N: Named, D: Disk> Locked<N, D> {
@@ -51,6 +55,7 @@ impl<N: Named, D: Disk> Locked<N, D> {
         requires pen { IsPenOf N.board pen }
         requires yard { IsLocked N.board (notes pen) yard.yard (D.device yard.disk) }
         requires left { LeftSince N.board N.first (notes pen) (D.device yard.disk) }
+        requires life { LivesOn N.format N.first yard.yard (D.device yard.disk) }
         ensures { result ≡ record { notes = notes pen; yard = yard.yard; disk = yard.disk } }
     {
         Locked {
@@ -118,6 +123,7 @@ impl<N: Named, D: Disk> Locked<N, D> {
         ensures shows { Shows (shape_of N.board.sizes) self.old.notes self.new.notes (Call (suc (calls_in self.old.notes)) (part pass.old).number command ∷ []) }
         ensures holds { Holds N.board.opened (found_note (part pass.old).number (part pass.old).pin ∷ self.old.notes) self.new.notes (note_by (part pass.old).number (Called command self.old.yard.vault.format) None) (part pass.old) (part pass.new) }
         ensures outcome { result ≡ begins_with self.old.yard.vault.format command }
+        ensures format { self.old.yard.vault.format ≡ N.format }
         ensures opened { Extends (part pass.old).known N.board.opened }
     {
         board.join(&mut self.pen, pass);
@@ -129,19 +135,23 @@ impl<N: Named, D: Disk> Locked<N, D> {
     }
 
     /// What a crash at any moment of the life might have left: each such text is one that may be left in the state to which
-    /// some beginning of the notes leads, so it explains what was seen of the calls by then. Does nothing.
+    /// some beginning of the notes leads, so it explains what was seen of the calls by then. And why the life is over, where it
+    /// is. Does nothing.
     pub fn moments(&self)
         ensures left { LeftSince N.board N.first self.now.notes (D.device self.now.disk) }
         ensures explained { ExplainedSince N.board N.first self.now.notes (D.device self.now.disk) }
+        ensures life { LivesOn N.format N.first self.now.yard (D.device self.now.disk) }
     {
         let _ = &self.yard;
     }
 
-    /// Ends the life, and hands the disk back as it is.
+    /// Ends the life, and hands the disk back as it is. Where the set was halted no sync was left, or the device has failed.
     pub fn close(self) -> D
         ensures disk { result ≡ self.disk }
         ensures left { LeftSince N.board N.first self.notes (D.device result) }
         ensures explained { ExplainedSince N.board N.first self.notes (D.device result) }
+        ensures life { LivesOn N.format N.first self.yard (D.device result) }
+        ensures over { halt_word (trace_of N.board.opened self.notes) ≡ 1 → (last_sync ≤ self.yard.vault.syncs) ⊎ (N.first.faults < (D.device result).faults) }
     {
         self.yard.close()
     }

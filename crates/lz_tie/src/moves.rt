@@ -61,7 +61,8 @@ pub fn load_next(board: &Board, pass: &mut Pass, caller: &mut Caller, word: Word
 }
 
 impl<N: Named, D: Disk> Locked<N, D> {
-    /// Makes a call: the first hold of a pass that has none. The buckets and passes are those of the board.
+    /// Makes a call: the first hold of a pass that has none. The buckets and passes are those of the board, and its format is
+    /// that of the set's file.
     pub fn begin(
         &mut self,
         board: &Board,
@@ -78,8 +79,8 @@ impl<N: Named, D: Disk> Locked<N, D> {
         ensures pass { IsOf N.board pass.new }
         ensures moments { HoldExplains N.board self.old.notes self.new.notes (D.device self.old.disk) (D.device self.new.disk) }
         ensures shows { Shows (shape_of N.board.sizes) self.old.notes self.new.notes (Call (suc (calls_in self.old.notes)) (part pass.old).number command ∷ []) }
-        ensures counts { Counts N.board command self.old.yard.vault.format (part pass.old) result (part pass.new) }
-        ensures caller { result ≡ record { command = command; buckets = buckets; passes = passes; progress = begun_after (begins_with self.old.yard.vault.format command) } }
+        ensures counts { Counts N.board command N.format (part pass.old) result (part pass.new) }
+        ensures caller { result ≡ record { command = command; buckets = buckets; passes = passes; progress = begun_after (begins_with N.format command) } }
     {
         let asked = command;
         let outcome = self.call(board, pass, command);

@@ -3,6 +3,7 @@ ghost use Rattle.lz_board.specs.declared.view.What.TheVariants.{Played};
 ghost use Rattle.lz_board.specs.Notes.{note_by};
 ghost use Rattle.lz_board.specs.Seats.{Carries, IsAtHand, carried, id_of, notes};
 ghost use Rattle.lz_tie.specs.Holds.{Holds, InHold, IsExchange, IsTurn, Turned};
+ghost use Rattle.lz_tie.specs.Lives.{KeepsLife};
 ghost use Rattle.lz_tie.specs.Moments.{GoesOn};
 
 use lz_board::{Board, Note, Pass, Pen, What};
@@ -70,6 +71,7 @@ pub(crate) fn play_joined<D: Disk>(
     ensures holds { Holds (id_of board.now).opened (notes pen.old) (notes pen.new) (note_by (carried pen.old).number (Played event result.outcome) result.published) (carried pen.old) (carried pen.new) }
     ensures turned { Turned (id_of board.now).opened (notes pen.old) (carried pen.old) _caller.now.command _caller.now.progress event result.outcome result.published }
     ensures moments { GoesOn (id_of board.now) (notes pen.old) (notes pen.new) (D.device yard.old.disk) (D.device yard.new.disk) }
+    ensures life { KeepsLife yard.old.yard (D.device yard.old.disk) yard.new.yard (D.device yard.new.disk) }
 {
     let number = pass.number();
     yard.note_pin(number, pass.pin());

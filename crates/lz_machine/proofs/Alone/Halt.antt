@@ -141,6 +141,10 @@ reached_dead : (start : Start) (steps : List Transition) → IsRun (first_point 
 reached_dead start [] runs = opens_dead start.shape start.text
 reached_dead start (step ∷ steps) runs = let p = run (first_point start) steps in step_dead _ p.state step runs.0 (reached_dead start steps runs.1)
 
+-- where the halt word is set the vault is dead
+pub halted_dead : (start : Start) (steps : List Transition) (service : Service) (disk : Medium) → IsRun (first_point start) steps → (run (first_point start) steps).state ≡ Up service disk → service.yard.words.halt ≡ 1 → service.yard.vault.dead ≡ true
+halted_dead start steps service disk runs state halt = (subst DeadAt state (reached_dead start steps runs)) halt
+
 -- what is about to be answered
 replies : (at : Progress) (reply : Reply) → reply_at at ≡ Some reply → at ≡ Answering reply
 replies (Answering other) reply is = ap Answering (same_Some other reply is)

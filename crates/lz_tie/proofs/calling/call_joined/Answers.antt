@@ -4,6 +4,7 @@ use Rattle.lz_machine.specs.declared.event.Event.TheVariants.{Invoke}
 use Rattle.lz_board.specs.Seats.{carried, id_of, notes}
 use Rattle.lz_tie.proofs.Hold.JoinedCall as joined
 use Rattle.lz_tie.proofs.Moments.HeldMoments.{call_left}
+use Rattle.lz_tie.proofs.Lives.HeldLives.{held_keeps}
 use Rattle.lz_tie.proofs.calling.call_joined.Goals as goal
 
 pub step-outcome-requires-clause-may : goal.step-outcome-requires-clause-may
@@ -26,3 +27,8 @@ pub returns-clause-moments : goal.returns-clause-moments
 returns-clause-moments g c =
     call_left (id_of c.args.board.now) (notes c.args.pen.now) c.args.yard.now.yard (g.D.Disk.device c.args.yard.now.disk) (carried c.args.pen.now) c.requires.hold c.requires.idle (Invoke c.args.command) c.note_pin.new.self.yard c.step-outcome.new.self.yard c.number-number.result c.step-outcome.result c.step-outcome.new.self.told (g.D.Disk.device c.note_pin.new.self.disk) (g.D.Disk.device c.step-outcome.new.self.disk) (ap (λ d. g.D.Disk.device d) c.note_pin.ensures.rest.1)
     c.step-outcome.ensures.played _ (notes c.note.new.pen) (returns-clause-holds g c).notes (returns-clause-hold g c).locked
+
+pub returns-clause-life : goal.returns-clause-life
+returns-clause-life g c =
+    held_keeps c.args.yard.now.yard c.note_pin.new.self.yard c.step-outcome.new.self.yard c.number-number.result c.pin.result c.note_pin.ensures.yard c.number-number.result (Invoke c.args.command) c.step-outcome.result c.step-outcome.new.self.told
+    (g.D.Disk.device c.args.yard.now.disk) (g.D.Disk.device c.note_pin.new.self.disk) (g.D.Disk.device c.step-outcome.new.self.disk) (ap (λ d. g.D.Disk.device d) c.note_pin.ensures.rest.1) c.step-outcome.ensures.played

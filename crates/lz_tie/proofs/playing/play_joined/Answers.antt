@@ -8,6 +8,7 @@ use Rattle.lz_tie.specs.Holds.{InHold, IsExchange, Holds}
 use Rattle.lz_tie.proofs.Hold.Joining.{hand_noted, hand_moved}
 use Rattle.lz_tie.proofs.Hold.JoinedTurn as joined
 use Rattle.lz_tie.proofs.Moments.HeldMoments.{turn_left}
+use Rattle.lz_tie.proofs.Lives.HeldLives.{held_keeps}
 use Rattle.lz_tie.proofs.playing.play_joined.Goals.{in-Some, in-None}
 use Rattle.lz_tie.proofs.playing.play_joined.Goals as goal
 
@@ -83,3 +84,8 @@ pub returns-clause-moments : goal.returns-clause-moments
 returns-clause-moments g c =
     turn_left (id_of c.args.board.now) (notes c.args.pen.now) c.args.yard.now.yard (g.D.Disk.device c.args.yard.now.disk) (carried c.args.pen.now) c.requires.hold c.args._caller.now c.args.event c.requires.turn c.note_pin.new.self.yard c.step-outcome.new.self.yard c.number-number.result c.step-outcome.result c.step-outcome.new.self.told (g.D.Disk.device c.note_pin.new.self.disk) (g.D.Disk.device c.step-outcome.new.self.disk) (ap (λ d. g.D.Disk.device d) c.note_pin.ensures.rest.1)
     c.step-outcome.ensures.played _ (notes c.match-exchange_of.pen) (returns-clause-holds g c).notes (returns-clause-hold g c).locked
+
+pub returns-clause-life : goal.returns-clause-life
+returns-clause-life g c =
+    held_keeps c.args.yard.now.yard c.note_pin.new.self.yard c.step-outcome.new.self.yard c.number-number.result c.pin.result c.note_pin.ensures.yard c.number-number.result c.args.event c.step-outcome.result c.step-outcome.new.self.told
+    (g.D.Disk.device c.args.yard.now.disk) (g.D.Disk.device c.note_pin.new.self.disk) (g.D.Disk.device c.step-outcome.new.self.disk) (ap (λ d. g.D.Disk.device d) c.note_pin.ensures.rest.1) c.step-outcome.ensures.played

@@ -2,6 +2,7 @@ use Rattle.std.proofs.Common.{◌≡◌, [], List, sym, ap, ◌∙◌, subst}
 use Rattle.lz_board.specs.declared.view.Note.{Note}
 use Rattle.lz_board.specs.Seats.{BoardId, id_of, notes}
 use Rattle.lz_tie.specs.Holds.{IsLocked}
+use Rattle.lz_tie.specs.Lives.{LivesOn}
 use Rattle.lz_tie.specs.Moments.{LeftSince}
 use Rattle.lz_set.proofs.blank.Blank.start.Goals as goal
 
@@ -16,3 +17,6 @@ pub new-locked-requires-clause-left : goal.new-locked-requires-clause-left
 new-locked-requires-clause-left g c =
     subst (λ (ns : List Note). LeftSince g.N.Named.board g.N.Named.first ns (g.D.Disk.device c.self.inside.yard.disk)) (sym c.self.invariant.notes)
     (subst (λ disk. LeftSince g.N.Named.board g.N.Named.first [] (g.D.Disk.device disk)) (sym (ap (λ v. v.disk) c.self.view_is)) c.requires.since)
+
+pub new-locked-requires-clause-life : goal.new-locked-requires-clause-life
+new-locked-requires-clause-life g c = subst (λ v. LivesOn g.N.Named.format g.N.Named.first v.yard (g.D.Disk.device v.disk)) (sym c.self.view_is) c.requires.life

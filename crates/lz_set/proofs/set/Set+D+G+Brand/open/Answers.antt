@@ -3,6 +3,7 @@ use Rattle.lz_board.specs.Opened.{IsOpened}
 use Rattle.lz_board.specs.Seats.{id_of}
 use Rattle.lz_tie.proofs.Start.OpenedYard.{words_opened}
 use Rattle.lz_tie.proofs.Start.OpenedMoments.{now_since}
+use Rattle.lz_tie.proofs.Start.OpenedLives.{now_lives}
 use Rattle.lz_set.proofs.Opening.{blank}
 use Rattle.lz_set.proofs.set.Set+D+G+Brand.open.Goals as goal
 
@@ -21,4 +22,5 @@ pub returns-in-Some-clause-named : goal.returns-in-Some-clause-named
 returns-in-Some-clause-named g c = record {
   board = refl;
   since = now_since (id_of c.in-Some.board) [] (g.D.Disk.device c.in_ok-yard.yard.disk) (g.met.D.Disk.timely c.in_ok-yard.yard.disk);
+  life = now_lives (g.D.Disk.device c.args.disk) (g.D.Disk.device c.in_ok-yard.yard.disk) c.args.buckets c.args.passes c.in_ok-yard.yard.yard c.in_ok-yard.ensures.ok;
 }

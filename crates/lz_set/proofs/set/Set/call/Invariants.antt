@@ -1,4 +1,3 @@
-use Rattle.lz_slot.specs.declared.format.Format.{Format}
 use Rattle.lz_board.specs.Seats.{IsOf, part}
 use Rattle.lz_tie.specs.Counting.{Counts}
 use Rattle.lz_set.proofs.set.Set.call.Given as goal
@@ -6,5 +5,5 @@ use Rattle.lz_set.proofs.set.Set.call.Given as goal
 abbrev pub invariant-loop : goal.invariant-loop
 invariant-loop g l = record {
   pass : IsOf g.N.Named.board l.pass;
-  counts : (format : Format) × Counts g.N.Named.board l.fn.command format (part l.fn.pass) l.caller (part l.pass);
+  counts : Counts g.N.Named.board l.fn.command g.N.Named.format (part l.fn.pass) l.caller (part l.pass);
 }

@@ -9,6 +9,7 @@ use Rattle.lz_tie.proofs.Reading.OnePass.{opened_known}
 use Rattle.lz_tie.proofs.Hold.Joining.{joined}
 use Rattle.lz_tie.proofs.Hold.PinSight.{found, own_found}
 use Rattle.lz_tie.proofs.Moments.HeldMoments.{same_left, found_left, held_again, hold_explains}
+use Rattle.lz_tie.proofs.Lives.HeldLives.{life_on}
 use Rattle.lz_tie.proofs.locked.Locked.call.Goals as goal
 
 pub call_joined-outcome-requires-clause-hold : goal.call_joined-outcome-requires-clause-hold
@@ -19,14 +20,6 @@ call_joined-outcome-requires-clause-hold g c =
     let range = subst (λ (n : ℕ). (1 ≤ n) × (n ≤ board.sizes.passes)) (ap (λ (h : Part). h.number) c.join.ensures.carried ∙ sym c.requires.pass.2.number ∙ sym c.join.ensures.same.0 ∙ sym c.number-number.ensures) hold.knows.numbered in
     found board (notes c.join.new.pen) (notes c.load_pin.new.pen) c.self.inside.yard.yard (g.D.Disk.device c.self.inside.yard.disk) (carried c.join.new.pen) (carried c.load_pin.new.pen) hold c.number-number.result c.load_pin.result range
     c.load_pin.ensures.told c.load_pin.ensures.own c.load_pin.ensures.notes c.load_pin.ensures.carried
-
-pub invariant_of-self : goal.invariant_of-self
-invariant_of-self g c =
-    let b = g.N.Named.board in
-    let was = notes c.self.inside.pen in
-    let found = λ (t : List ℕ) (l : IsLeftBy b.sizes b.opened was t). found_left b (found_note c.number-number.result c.load_pin.result) (notes c.join.new.pen) (notes c.load_pin.new.pen) c.load_pin.ensures.notes t (same_left b was (notes c.join.new.pen) c.join.ensures.notes t l) in
-    held_again b (id_of c.args.board.now) c.requires.board g.N.Named.first (g.D.Disk.device c.self.inside.yard.disk) (g.D.Disk.device c.call_joined-outcome.new.yard.disk) was (notes c.load_pin.new.pen) (notes c.call_joined-outcome.new.pen) found c.call_joined-outcome.ensures.moments
-    c.self.inside.yard.yard c.call_joined-outcome.new.yard.yard c.self.invariant.1 c.call_joined-outcome.ensures.hold.locked c.cut.new.pen c.cut.ensures.pen c.cut.ensures.notes c.self.invariant.2
 
 pub returns-clause-moments : goal.returns-clause-moments
 returns-clause-moments g c =
@@ -52,3 +45,12 @@ pub returns-clause-opened : goal.returns-clause-opened
 returns-clause-opened g c =
     let knows = subst (λ (b : BoardId). Knows b.sizes b.opened (notes c.self.inside.pen) (part c.args.pass.now)) c.requires.board c.join.ensures.knows in
     opened_known g.N.Named.board (notes c.self.inside.pen) (part c.args.pass.now) knows
+
+pub invariant_of-self : goal.invariant_of-self
+invariant_of-self g c =
+    let b = g.N.Named.board in
+    let was = notes c.self.inside.pen in
+    let found = λ (t : List ℕ) (l : IsLeftBy b.sizes b.opened was t). found_left b (found_note c.number-number.result c.load_pin.result) (notes c.join.new.pen) (notes c.load_pin.new.pen) c.load_pin.ensures.notes t (same_left b was (notes c.join.new.pen) c.join.ensures.notes t l) in
+    let kept = held_again b (id_of c.args.board.now) c.requires.board g.N.Named.first (g.D.Disk.device c.self.inside.yard.disk) (g.D.Disk.device c.call_joined-outcome.new.yard.disk) was (notes c.load_pin.new.pen) (notes c.call_joined-outcome.new.pen) found c.call_joined-outcome.ensures.moments
+    c.self.inside.yard.yard c.call_joined-outcome.new.yard.yard c.self.invariant.1 c.call_joined-outcome.ensures.hold.locked c.cut.new.pen c.cut.ensures.pen c.cut.ensures.notes c.self.invariant.2 in
+    (kept.0, kept.1, kept.2, life_on g.N.Named.format g.N.Named.first c.self.inside.yard.yard c.call_joined-outcome.new.yard.yard (g.D.Disk.device c.self.inside.yard.disk) (g.D.Disk.device c.call_joined-outcome.new.yard.disk) c.call_joined-outcome.ensures.life c.self.invariant.3)

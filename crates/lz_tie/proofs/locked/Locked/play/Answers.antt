@@ -11,6 +11,7 @@ use Rattle.lz_tie.specs.OnePass.{OnlyOwn}
 use Rattle.lz_tie.proofs.Reading.OnePass.{alone_trace, own_trace}
 use Rattle.lz_tie.proofs.Hold.Joining.{joined, joined_turn, seen_turned}
 use Rattle.lz_tie.proofs.Moments.HeldMoments.{same_left, held_again, hold_explains}
+use Rattle.lz_tie.proofs.Lives.HeldLives.{life_on}
 use Rattle.lz_tie.proofs.locked.Locked.play.Goals as goal
 
 pub play_joined-turn-requires-clause-hold : goal.play_joined-turn-requires-clause-hold
@@ -32,14 +33,6 @@ pub play_joined-turn-requires-clause-turn : goal.play_joined-turn-requires-claus
 play_joined-turn-requires-clause-turn g c =
     joined_turn (notes c.self.inside.pen) (notes c.join.new.pen) (part c.args.pass.now) (carried c.join.new.pen) (trace_of (id_of c.args.board.now).opened (notes c.self.inside.pen)) c.args.caller.now c.args.event
     (subst (λ v. IsTurn v.notes (part c.args.pass.now) c.args.caller.now c.args.event) (sym c.self.view_is) c.requires.turn) c.join.ensures.notes c.join.ensures.carried
-
-pub invariant_of-self : goal.invariant_of-self
-invariant_of-self g c =
-    let b = g.N.Named.board in
-    let was = notes c.self.inside.pen in
-    let found = same_left b was (notes c.join.new.pen) c.join.ensures.notes in
-    held_again b (id_of c.args.board.now) c.requires.board g.N.Named.first (g.D.Disk.device c.self.inside.yard.disk) (g.D.Disk.device c.play_joined-turn.new.yard.disk) was (notes c.join.new.pen) (notes c.play_joined-turn.new.pen) found c.play_joined-turn.ensures.moments
-    c.self.inside.yard.yard c.play_joined-turn.new.yard.yard c.self.invariant.1 c.play_joined-turn.ensures.hold.locked c.cut.new.pen c.cut.ensures.pen c.cut.ensures.notes c.self.invariant.2
 
 pub returns-clause-moments : goal.returns-clause-moments
 returns-clause-moments g c =
@@ -68,3 +61,12 @@ returns-clause-own g c =
     let knows = subst (λ (b : BoardId). Knows b.sizes b.opened (notes c.self.inside.pen) (part c.args.pass.now)) c.requires.board c.join.ensures.knows in
     λ one. subst (λ v. OnlyOwn (part c.args.pass.now).number g.N.Named.board.opened (trace_of g.N.Named.board.opened v.notes)) c.self.view_is
     (own_trace g.N.Named.board (notes c.self.inside.pen) c.self.inside.yard.yard (g.D.Disk.device c.self.inside.yard.disk) (part c.args.pass.now) c.self.invariant.1 knows one)
+
+pub invariant_of-self : goal.invariant_of-self
+invariant_of-self g c =
+    let b = g.N.Named.board in
+    let was = notes c.self.inside.pen in
+    let found = same_left b was (notes c.join.new.pen) c.join.ensures.notes in
+    let kept = held_again b (id_of c.args.board.now) c.requires.board g.N.Named.first (g.D.Disk.device c.self.inside.yard.disk) (g.D.Disk.device c.play_joined-turn.new.yard.disk) was (notes c.join.new.pen) (notes c.play_joined-turn.new.pen) found c.play_joined-turn.ensures.moments
+    c.self.inside.yard.yard c.play_joined-turn.new.yard.yard c.self.invariant.1 c.play_joined-turn.ensures.hold.locked c.cut.new.pen c.cut.ensures.pen c.cut.ensures.notes c.self.invariant.2 in
+    (kept.0, kept.1, kept.2, life_on g.N.Named.format g.N.Named.first c.self.inside.yard.yard c.play_joined-turn.new.yard.yard (g.D.Disk.device c.self.inside.yard.disk) (g.D.Disk.device c.play_joined-turn.new.yard.disk) c.play_joined-turn.ensures.life c.self.invariant.3)

@@ -13,6 +13,7 @@ use Rattle.lz_tie.specs.Moments.{IsLeftBy, HoldExplains}
 use Rattle.lz_tie.proofs.Hold.Joining.{joined, seen_turned}
 use Rattle.lz_tie.proofs.Hold.PinSight.{found, found_turn, seen_range}
 use Rattle.lz_tie.proofs.Moments.HeldMoments.{same_left, found_left, held_again, hold_explains}
+use Rattle.lz_tie.proofs.Lives.HeldLives.{life_on}
 use Rattle.lz_tie.proofs.locked.Locked.see.Goals as goal
 
 pub play_joined-turn-requires-clause-hold : goal.play_joined-turn-requires-clause-hold
@@ -43,14 +44,6 @@ play_joined-turn-requires-clause-turn g c =
     found_turn (notes c.join.new.pen) (notes c.load_pin-value.new.pen) (part c.args.pass.now) (carried c.load_pin-value.new.pen) (trace_of (id_of c.args.board.now).opened (notes c.self.inside.pen)) c.args.caller.now c.args.seen c.load_pin-value.result c.requires.call c.requires.event
     c.load_pin-value.ensures.notes (c.load_pin-value.ensures.carried ∙ c.join.ensures.carried)
 
-pub invariant_of-self : goal.invariant_of-self
-invariant_of-self g c =
-    let b = g.N.Named.board in
-    let was = notes c.self.inside.pen in
-    let found = λ (t : List ℕ) (l : IsLeftBy b.sizes b.opened was t). found_left b (found_note c.args.seen c.load_pin-value.result) (notes c.join.new.pen) (notes c.load_pin-value.new.pen) c.load_pin-value.ensures.notes t (same_left b was (notes c.join.new.pen) c.join.ensures.notes t l) in
-    held_again b (id_of c.args.board.now) c.requires.board g.N.Named.first (g.D.Disk.device c.self.inside.yard.disk) (g.D.Disk.device c.play_joined-turn.new.yard.disk) was (notes c.load_pin-value.new.pen) (notes c.play_joined-turn.new.pen) found c.play_joined-turn.ensures.moments
-    c.self.inside.yard.yard c.play_joined-turn.new.yard.yard c.self.invariant.1 c.play_joined-turn.ensures.hold.locked c.cut.new.pen c.cut.ensures.pen c.cut.ensures.notes c.self.invariant.2
-
 pub returns-clause-moments : goal.returns-clause-moments
 returns-clause-moments g c =
     let b = g.N.Named.board in
@@ -67,3 +60,12 @@ returns-clause-turned g c =
     (c.load_pin-value.ensures.notes ∙ ap (λ ns. found_note c.args.seen c.load_pin-value.result ∷ ns) c.join.ensures.notes) (c.load_pin-value.ensures.carried ∙ c.join.ensures.carried) c.play_joined-turn.ensures.turned in
     let with_board = subst (λ (b : BoardId). Turned b.opened (found_note c.args.seen c.load_pin-value.result ∷ notes c.self.inside.pen) (part c.args.pass.now) c.args.caller.now.command c.args.caller.now.progress event c.play_joined-turn.result.outcome c.play_joined-turn.result.published) c.requires.board gave in
     subst (λ v. Turned g.N.Named.board.opened (found_note c.args.seen c.load_pin-value.result ∷ v.notes) (part c.args.pass.now) c.args.caller.now.command c.args.caller.now.progress event c.play_joined-turn.result.outcome c.play_joined-turn.result.published) c.self.view_is with_board
+
+pub invariant_of-self : goal.invariant_of-self
+invariant_of-self g c =
+    let b = g.N.Named.board in
+    let was = notes c.self.inside.pen in
+    let found = λ (t : List ℕ) (l : IsLeftBy b.sizes b.opened was t). found_left b (found_note c.args.seen c.load_pin-value.result) (notes c.join.new.pen) (notes c.load_pin-value.new.pen) c.load_pin-value.ensures.notes t (same_left b was (notes c.join.new.pen) c.join.ensures.notes t l) in
+    let kept = held_again b (id_of c.args.board.now) c.requires.board g.N.Named.first (g.D.Disk.device c.self.inside.yard.disk) (g.D.Disk.device c.play_joined-turn.new.yard.disk) was (notes c.load_pin-value.new.pen) (notes c.play_joined-turn.new.pen) found c.play_joined-turn.ensures.moments
+    c.self.inside.yard.yard c.play_joined-turn.new.yard.yard c.self.invariant.1 c.play_joined-turn.ensures.hold.locked c.cut.new.pen c.cut.ensures.pen c.cut.ensures.notes c.self.invariant.2 in
+    (kept.0, kept.1, kept.2, life_on g.N.Named.format g.N.Named.first c.self.inside.yard.yard c.play_joined-turn.new.yard.yard (g.D.Disk.device c.self.inside.yard.disk) (g.D.Disk.device c.play_joined-turn.new.yard.disk) c.play_joined-turn.ensures.life c.self.invariant.3)

@@ -1,0 +1,2 @@
+pub mod HeldLives
+pub mod HaltedVault

@@ -1,0 +1,28 @@
+-- A set that was halted has a dead vault, so its life is over for one of the reasons that a life has.
+use Rattle.std.proofs.Common.{◌≡◌, ◌⊎◌, ◌≤◌, ◌<◌, true, List, sym, ap, ◌∙◌}
+use Rattle.lz_slot.specs.declared.format.Format.{Format}
+use Rattle.lz_disk.specs.Devices.{Device}
+use Rattle.lz_vault.specs.Vaults.{Vaulted, last_sync}
+use Rattle.lz_list.specs.Traces.{halt_word}
+use Rattle.lz_machine.specs.Yards.{Yard}
+use Rattle.lz_machine.specs.Runs.{run, first_point}
+use Rattle.lz_machine.proofs.Alone.Halt.{halted_dead}
+use Rattle.lz_machine.proofs.Theorem.Reached.{reached_sound}
+use Rattle.lz_machine.proofs.Theorem.WornPass.{up_at}
+use Rattle.lz_board.specs.declared.view.Note.{Note}
+use Rattle.lz_board.specs.Notes.{trace_of}
+use Rattle.lz_board.specs.Seats.{BoardId}
+use Rattle.lz_tie.specs.Holds.{IsLocked}
+use Rattle.lz_tie.specs.Lives.{LivesOn}
+use Rattle.lz_tie.proofs.Reading.TraceNotes.{trace_reads}
+
+pub dead_halted : (b : BoardId) (ns : List Note) (y : Yard) (dev : Device) → IsLocked b ns y dev → halt_word (trace_of b.opened ns) ≡ 1 → y.vault.dead ≡ true
+dead_halted b ns y dev locked halted =
+    let tie = locked.tied in
+    let there = up_at tie.start (run (first_point tie.start) tie.steps) tie.service tie.medium (reached_sound tie.start tie.steps tie.starts tie.runs) tie.state in
+    let trace = trace_reads (first_point tie.start) ns tie.steps tie.reads ∙ ap (λ P. trace_of P ns) (sym tie.begins) in
+    ap (λ (v : Vaulted). v.dead) tie.yard.vault ∙ halted_dead tie.start tie.steps tie.service tie.medium tie.runs tie.state (there.up.sound.trace.halt ∙ ap halt_word trace ∙ halted)
+
+-- no sync was left, or the device has failed
+pub over_halted : (b : BoardId) (ns : List Note) (y : Yard) (dev first : Device) (F : Format) → IsLocked b ns y dev → LivesOn F first y dev → halt_word (trace_of b.opened ns) ≡ 1 → (last_sync ≤ y.vault.syncs) ⊎ (first.faults < dev.faults)
+over_halted b ns y dev first F locked lives halted = lives.dead (dead_halted b ns y dev locked halted)

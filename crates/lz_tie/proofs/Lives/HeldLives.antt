@@ -1,0 +1,101 @@
+-- One hold: the file's format stays, and a vault dies only for want of a sync or because the device failed.
+use Rattle.std.proofs.Common.{◌≡◌, ◌≢◌, ◌⊎◌, inl, inr, ⊎_elim, ℕ, ◌≤◌, ◌<◌, ◌==◌, Bool, true, false, not, ◌&&◌, refl, sym, ap, ◌∙◌, subst, arith, le_refl}
+use Rattle.std.specs.Prelude.{if◌then◌else◌}
+use Rattle.std.proofs.lemmas.Bool.Decides.{nat_tests}
+use Rattle.lz_slot.specs.declared.format.Format.{Format}
+use Rattle.lz_disk.specs.Devices.{Device}
+use Rattle.lz_vault.specs.Vaults.{DeviceCall, NoCall, WriteAt, SyncAll, syncs_after, last_sync, Vaulted}
+use Rattle.lz_list.specs.declared.word.Word.TheVariants.{Pin as pin_at}
+use Rattle.lz_list.specs.Words.{set}
+use Rattle.lz_machine.specs.declared.course.Course.{Course}
+use Rattle.lz_machine.specs.declared.course.Course.TheVariants.{Refused, Dies, Plays}
+use Rattle.lz_machine.specs.declared.event.Event.{Event}
+use Rattle.lz_machine.specs.declared.event.Event.TheVariants.{Pin, Sync, Answer}
+use Rattle.lz_machine.specs.declared.event.Outcome.{Outcome}
+use Rattle.lz_machine.specs.declared.event.Outcome.TheVariants.{Done, Worn, NotNow, Dead, Fault}
+use Rattle.lz_machine.specs.Yards.{Yard, actor_at}
+use Rattle.lz_machine.specs.Table.{course, course_alive, call_of, is_played_dead, is_spent, is_sure, last_pin, line_on, needs, pin_of, stays_out}
+use Rattle.lz_machine.specs.Runs.{with_words}
+use Rattle.lz_yard.specs.declared.told.Told.{Told}
+use Rattle.lz_yard.specs.Steps.{Played as PlayedOver}
+use Rattle.lz_yard.proofs.Events.KeptFit.{fault_or_not}
+use Rattle.lz_tie.specs.Lives.{LivesOn, KeepsLife}
+
+-- only a sync dies by itself, where none is left
+alive_dies : (y : Yard) (a pin : ℕ) (e : Event) → course_alive y a pin e ≡ Dies → is_spent y ≡ true
+alive_dies y a pin Pin is = go (pin == last_pin) is
+  where
+    go : (worn : Bool) → (if worn then Refused Worn else Plays) ≡ Dies → is_spent y ≡ true
+    go true dies = absurd cc
+    go false dies = absurd cc
+alive_dies y a pin Answer is = go (stays_out (actor_at y a) pin) is
+  where
+    go : (out : Bool) → (if out then Refused Done else Plays) ≡ Dies → is_spent y ≡ true
+    go true dies = absurd cc
+    go false dies = absurd cc
+alive_dies y a pin (Sync s) is = go (is_sure y s) (is_spent y) is
+  where
+    go : (sure spent : Bool) → (if not sure && spent then Dies else Plays) ≡ Dies → spent ≡ true
+    go true spent dies = absurd cc
+    go false true dies = refl
+    go false false dies = absurd cc
+alive_dies y a pin _ is = absurd cc
+
+spent_syncs : (syncs : ℕ) → (syncs == last_sync) ≡ true → last_sync ≤ syncs
+spent_syncs syncs spent = grind (arith, nat_tests, spent)
+
+dies_spent : (y : Yard) (a : ℕ) (e : Event) → course y a e ≡ Dies → last_sync ≤ y.vault.syncs
+dies_spent y a e is = spent_syncs y.vault.syncs (alive_dies y a (pin_of y a) e (go (y.vault.dead && not (is_played_dead e)) (needs y a e) (course_alive y a (pin_of y a) e) is))
+  where
+    go : (refused ready : Bool) (k : Course) → (if refused then Refused Dead else if ready then k else Refused NotNow) ≡ Dies → k ≡ Dies
+    go true ready k dies = absurd cc
+    go false true k dies = dies
+    go false false k dies = absurd cc
+
+more_syncs : (call : DeviceCall) (syncs : ℕ) → syncs ≤ syncs_after call syncs
+more_syncs NoCall syncs = le_refl syncs
+more_syncs (WriteAt at bytes) syncs = le_refl syncs
+more_syncs SyncAll syncs = omega arith
+
+-- an event whose device call, if it has one, succeeded
+line_keeps : (y : Yard) (a : ℕ) (e : Event) (old new : Device) → new.honest ≡ old.honest → old.faults ≤ new.faults → (k : Course) → course y a e ≡ k → KeepsLife y old (line_on k y (actor_at y a) a e).0 new
+line_keeps y a e old new honest faults (Refused o) is = record { format = refl; honest = honest; faults = faults; syncs = le_refl y.vault.syncs; dead = λ dead. inl dead }
+line_keeps y a e old new honest faults Dies is = record { format = refl; honest = honest; faults = faults; syncs = le_refl y.vault.syncs; dead = λ _. inr (inl (dies_spent y a e is)) }
+line_keeps y a e old new honest faults Plays is = record { format = refl; honest = honest; faults = faults; syncs = more_syncs (call_of y (actor_at y a) e) y.vault.syncs; dead = λ dead. inl dead }
+
+-- any step of a yard over a device
+step_keeps : (y z : Yard) (p : ℕ) (e : Event) (o : Outcome) (told : Told) (old new : Device) → PlayedOver y p e o z told old new → KeepsLife y old z new
+step_keeps y z p e o told old new played = ⊎_elim
+    (λ (bad : o ≡ Fault). let f = played.failed bad in let risen = f.call.faults in
+    subst (λ (q : Yard). KeepsLife y old q new) (sym f.yard) (record { format = refl; honest = f.call.honest; faults = omega (arith, risen); syncs = le_refl y.vault.syncs; dead = λ _. inr (inr risen) }))
+    (λ (ok : o ≢ Fault). let d = played.done ok in
+    subst (λ (q : Yard). KeepsLife y old q new) (sym d.yard) (line_keeps y p e old new d.call.honest d.call.faults (course y p e) refl))
+    (fault_or_not o)
+
+-- the step of a hold, before which the yard got its copy of a pin word
+pub held_keeps : (y y1 z : Yard) (q pin : ℕ) → y1 ≡ with_words y (set y.words (pin_at q) pin) → (p : ℕ) (e : Event) (o : Outcome) (told : Told) (dev dev1 dev' : Device) → dev1 ≡ dev → PlayedOver y1 p e o z told dev1 dev' → KeepsLife y dev z dev'
+held_keeps y y1 z q pin is p e o told dev dev1 dev' same played =
+    let kept = step_keeps y1 z p e o told dev1 dev' played in
+    let vault : y1.vault ≡ y.vault = ap (λ (r : Yard). r.vault) is in
+    let past = subst (λ (d : Device). (dev'.honest ≡ d.honest) × (d.faults ≤ dev'.faults)) same (kept.honest, kept.faults) in
+    record {
+      format = kept.format ∙ ap (λ (v : Vaulted). v.format) vault;
+      honest = past.0;
+      faults = past.1;
+      syncs = subst (λ (v : Vaulted). v.syncs ≤ z.vault.syncs) vault kept.syncs;
+      dead = subst (λ (x : Vaulted × Device). z.vault.dead ≡ true → (x.0.dead ≡ true) ⊎ ((last_sync ≤ z.vault.syncs) ⊎ (x.1.faults < dev'.faults))) (λ i. (vault i, same i)) kept.dead;
+    }
+
+-- a life goes on over such a step
+pub life_on : (F : Format) (first : Device) (y z : Yard) (dev dev' : Device) → KeepsLife y dev z dev' → LivesOn F first y dev → LivesOn F first z dev'
+life_on F first y z dev dev' kept lives =
+    let faults = lives.faults in let more = kept.faults in let syncs = kept.syncs in
+    record {
+      format = kept.format ∙ lives.format;
+      honest = kept.honest ∙ lives.honest;
+      faults = omega (arith, faults, more);
+      dead = λ dead. ⊎_elim
+          (λ was. ⊎_elim (λ spent. inl (omega (arith, spent, syncs))) (λ failed. inr (omega (arith, failed, more))) (lives.dead was))
+          (λ now. ⊎_elim (λ spent. inl spent) (λ failed. inr (omega (arith, failed, faults))) now)
+          (kept.dead dead);
+    }
