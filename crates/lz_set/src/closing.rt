@@ -4,8 +4,7 @@ ghost use Rattle.lz_board.specs.declared.view.Note.{Note};
 ghost use Rattle.lz_board.specs.Notes.{trace_of};
 ghost use Rattle.lz_board.specs.Plays.{knowing};
 ghost use Rattle.lz_board.specs.Seats.{IsOf, id_of, part};
-ghost use Rattle.lz_tie.specs.OwnCalls.{TellsOwn};
-ghost use Rattle.lz_set.specs.Left.{IsLeft, IsLeftWith};
+ghost use Rattle.lz_set.specs.Left.{IsLeft, IsLeftWith, IsWelcome};
 
 use crate::gate::StepGate;
 use crate::set::Set;
@@ -28,7 +27,7 @@ impl<D: Disk, G: StepGate, N: Named> Set<D, G, N> {
     pub fn close_with(self, passes: &mut [Pass]) -> D
         requires passes { All (λ p. IsOf N.board p) passes.old }
         ensures passes { All (λ p. IsOf N.board p) passes.new }
-        ensures left { IsLeftWith N.board N.first (D.device result) (map (λ p. part p) passes.old) (map (λ p. part p) passes.new) }
+        ensures left { IsLeftWith N.board N.first N.format (D.device result) (map (λ p. part p) passes.old) (map (λ p. part p) passes.new) }
     {
         let Set { board, locked, .. } = self;
         let mut locked = locked.into_inner();
@@ -39,17 +38,13 @@ impl<D: Disk, G: StepGate, N: Named> Set<D, G, N> {
 }
 
 // Each of the passes joins the pen for a moment.
-fn welcome_all<N: Named, D: Disk>(
-    board: &Board,
-    locked: &mut Locked<N, D>,
-    passes: &mut [Pass],
-)
+fn welcome_all<N: Named, D: Disk>(board: &Board, locked: &mut Locked<N, D>, passes: &mut [Pass])
     requires board { id_of board.now ≡ N.board }
     requires passes { All (λ p. IsOf N.board p) passes.old }
     ensures same { locked.new ≡ locked.old }
     ensures passes { All (λ p. IsOf N.board p) passes.new }
     ensures seen { map (λ p. part p) passes.new ≡ map (knowing (trace_of N.board.opened locked.old.notes)) (map (λ p. part p) passes.old) }
-    ensures own { All (TellsOwn N.board locked.old.notes) (map (λ p. part p) passes.new) }
+    ensures welcome { All (IsWelcome N.board N.format locked.old.notes) (map (λ p. part p) passes.new) }
 {
     for i in 0..passes.len() {
         locked.welcome(board, &mut passes[i]);

@@ -6,8 +6,13 @@ pub returns : goal.returns
 returns g c =
     let ns = c.into_inner-locked.result.notes in
     record {
-      left = (ns, record {
-        now = subst (λ disk. HasHistory g.N.Named.board ns (g.D.Disk.device disk)) (sym c.close.ensures.disk) c.holds.ensures.history;
-        ever = c.close.ensures.explained;
-      });
+      left = (
+        ns,
+        record {
+          now = subst (λ disk. HasHistory g.N.Named.board ns (g.D.Disk.device disk)) (sym c.close.ensures.disk) c.holds.ensures.history;
+          ever = c.close.ensures.explained;
+          honest = c.close.ensures.life.honest;
+          faults = c.close.ensures.life.faults;
+        },
+      );
     }

@@ -3,8 +3,8 @@ use Rattle.lz_board.specs.declared.view.Note.{Note}
 use Rattle.lz_board.specs.Notes.{trace_of}
 use Rattle.lz_board.specs.Plays.{knowing}
 use Rattle.lz_board.specs.Seats.{part}
-use Rattle.lz_tie.specs.OwnCalls.{TellsOwn}
 use Rattle.lz_tie.specs.RunningSets.{HasHistory}
+use Rattle.lz_set.specs.Left.{IsWelcome}
 use Rattle.lz_set.proofs.set.Set.close_with.Goals as goal
 
 pub returns-clause-left : goal.returns-clause-left
@@ -18,7 +18,9 @@ returns-clause-left g c =
       left = record {
         now = subst (λ disk. HasHistory b ns (g.D.Disk.device disk)) (sym c.close.ensures.disk) c.holds.ensures.history;
         ever = c.close.ensures.explained;
+        honest = c.close.ensures.life.honest;
+        faults = c.close.ensures.life.faults;
       };
       seen = subst (λ (l : List Note). map (λ p. part p) c.welcome_all.new.passes ≡ map (knowing (trace_of b.opened l)) (map (λ p. part p) c.args.passes.now)) (sym same) c.welcome_all.ensures.seen;
-      own = subst (λ (l : List Note). All (TellsOwn b l) (map (λ p. part p) c.welcome_all.new.passes)) (sym same) c.welcome_all.ensures.own;
+      welcome = subst (λ (l : List Note). All (IsWelcome b g.N.Named.format l) (map (λ p. part p) c.welcome_all.new.passes)) (sym same) c.welcome_all.ensures.welcome;
     }
