@@ -1,0 +1,240 @@
+//! A reader and a writer that fail at each place of the commands, and of a session of the service.
+ghost use Rattle.std.specs.Prelude.{◌≡◌};
+ghost use Rattle.lz_set.specs.Names.{MayCall};
+
+use crate::commands::TWO_SLOTS;
+use crate::pipes::{Narrow, Slow};
+use crate::threads::{keys_in, made};
+use lazyset_commands::{check_on, judge_on, rehearse_on};
+use lz_disk::MemoryDisk;
+use lz_proto::{End, SessionFault, session};
+use lz_serve::Seated;
+use lz_set::{Blank, Named, NoGate, Pass, Set};
+use lz_slot::Format;
+use std::alloc::Global;
+use std::io::{Read, Write};
+use std::marker::Brand;
+use std::sync::Wait;
+use std::test::Fail;
+
+// Whether a command that ends with this code, and writes this to a writer that works, wrote so many bytes of it to one that
+// took no more, and failed where that isn't all.
+fn is_cut_off(ended: u8, written: &Narrow, at: usize, code: u8, told: &[u8]) -> bool {
+    let wanted = if at < told.len() { 1 } else { code };
+    ended == wanted && Some(written.taken.as_slice()) == told.get(..at)
+}
+
+// A file with 17 in the first slot, one of whose second slot is damaged, and one that isn't made.
+fn files() -> [[u8; 48]; 3] {
+    let mut good = TWO_SLOTS;
+    good[16] = 0xa5;
+    good[31] = 17;
+    let mut damaged = good;
+    damaged[32] = 0xa5;
+    damaged[34] = 1;
+    let mut unmade = good;
+    unmade[0] = 0;
+    [good, damaged, unmade]
+}
+
+#[test]
+fn a_failed_write_ends_a_check(rt: HostRuntime) -> Result<(), Fail> {
+    let told: [(&[u8], u8); 3] = [
+        (b"slot 0 key 17\ngood\n", 0),
+        (b"slot 0 key 17\nslot 1 badkey\ndamaged\n", 4),
+        (b"refused 1\n", 3),
+    ];
+    for (file, (told, code)) in files().iter().zip(told) {
+        for room in 0..told.len().wrapping_add(1) {
+            let mut writer = Narrow::new(rt.alloc(), room);
+            let status = check_on(rt.alloc(), file, &mut writer);
+            let is_told = is_cut_off(status.code(), &writer, room, code, told);
+            assert!(rt; is_told, "after {room} bytes");
+        }
+    }
+    Ok(())
+}
+
+#[test]
+fn a_failed_write_ends_a_judgement(rt: HostRuntime) -> Result<(), Fail> {
+    let rows: [(&[u8], &[u8], u8); 3] = [
+        (b"call 1 1 add 9\nanswer 1 yes\npoint 1 1\n", b"good\n", 0),
+        (b"call 1 1 add 9\nanswer 1 yes\n", b"flaw 1 1\n", 4),
+        (b"stop\nwhat\n", b"line 2\n", 3),
+    ];
+    for (history, told, code) in rows {
+        for room in 0..told.len().wrapping_add(1) {
+            let mut writer = Narrow::new(rt.alloc(), room);
+            let status = judge_on(rt.alloc(), history, &mut writer);
+            let is_told = is_cut_off(status.code(), &writer, room, code, told);
+            assert!(rt; is_told, "after {room} bytes");
+        }
+    }
+    Ok(())
+}
+
+// Lines that are rehearsed, and one that isn't lawful; and what they tell.
+const SCRIPT: &[u8] = b"call 1 add 9\nfinish 1\nshow\ncrash old\nopen\nopen\n";
+
+const SEEN: &[u8] = b"call 1 1 add 9\nanswer 1 yes\nshow 9\ncrash\nopen 9\nline 6\n";
+
+#[test]
+fn a_failed_write_ends_a_rehearsal(rt: HostRuntime) -> Result<(), Fail> {
+    for room in 0..SEEN.len().wrapping_add(1) {
+        let mut reader = SCRIPT;
+        let mut writer = Narrow::new(rt.alloc(), room);
+        let status = rehearse_on(rt.alloc(), &mut reader, &mut writer, 2, 1, Format::Two);
+        let is_told = is_cut_off(status.code(), &writer, room, 3, SEEN);
+        assert!(rt; is_told, "after {room} bytes");
+    }
+    Ok(())
+}
+
+// Nothing is rehearsed of a script that wasn't read to its end.
+#[test]
+fn a_failed_read_ends_a_rehearsal(rt: HostRuntime) -> Result<(), Fail> {
+    for count in 0..SCRIPT.len().wrapping_add(1) {
+        for step in [1, 3] {
+            let mut reader = Slow {
+                text: SCRIPT.get(..count).unwrap_or(b""),
+                step,
+                fails: true,
+            };
+            let mut output: Vec<u8> = Vec::new(rt.alloc());
+            let status = rehearse_on(rt.alloc(), &mut reader, &mut output, 2, 1, Format::Two);
+            assert_eq!(rt; status.code(), 1);
+            assert_eq!(rt;
+                output.as_slice(),
+                b"noread\n".as_slice(),
+                "after {count} bytes"
+            );
+        }
+    }
+    Ok(())
+}
+
+/// How a session ended, what another one of the same set was then told, and the disk that was left.
+#[derive(Drop)]
+struct Talked {
+    ended: Result<End, SessionFault>,
+    told: Vec<u8>,
+    disk: MemoryDisk,
+}
+
+// A session by a pass of a set.
+fn converse<N: Named, I: Read, O: Write, R: Wait>(
+    rt: &R,
+    alloc: Global,
+    set: &Set<MemoryDisk, NoGate, N>,
+    pass: Pass,
+    reader: &mut I,
+    writer: &mut O,
+) -> Result<End, SessionFault>
+    requires { MayCall N.name pass }
+{
+    let mut seated = Seated::new(rt, set, pass);
+    session(alloc, reader, writer, &mut seated)
+}
+
+// A session of a new set, and behind it one of another pass, which asks which keys are members.
+fn talk<N: Named, I: Read, O: Write, R: Wait>(
+    rt: &R,
+    alloc: Global,
+    blank: Blank<MemoryDisk, NoGate>,
+    reader: &mut I,
+    writer: &mut O,
+) -> Option<Talked>
+    requires { blank.name ≡ N.name }
+{
+    let (set, mut passes) = blank.start::<N>();
+    let (Some(other), Some(pass)) = (passes.pop(), passes.pop()) else {
+        return None;
+    };
+    let ended = converse(rt, alloc, &set, pass, reader, writer);
+    let mut asked = b"has 1\nhas 2\nhas 3\n".as_slice();
+    let mut told: Vec<u8> = Vec::new(alloc);
+    if converse(rt, alloc, &set, other, &mut asked, &mut told).is_err() {
+        return None;
+    }
+    Some(Talked {
+        ended,
+        told,
+        disk: set.close(),
+    })
+}
+
+fn talk_on<I: Read, O: Write, R: Wait>(
+    rt: &R,
+    alloc: Global,
+    reader: &mut I,
+    writer: &mut O,
+) -> Option<Talked> {
+    match Set::open(alloc, made(alloc, 2)?, NoGate, 1, 2) {
+        Ok(blank) => talk::<Brand, I, O, R>(rt, alloc, blank, reader, writer),
+        Err(_) => None,
+    }
+}
+
+// Four commands that are each answered yes.
+const LINES: &[u8] = b"add 1\nadd 2\nremove 1\nadd 3\n";
+
+const REPLIES: &[u8] = b"yes\nyes\nyes\nyes\n";
+
+/// The members before the first command and after each, and what a session is told that asks for each key.
+const STATES: [(&[u64], &[u8]); 5] = [
+    (&[], b"no\nno\nno\n"),
+    (&[1], b"yes\nno\nno\n"),
+    (&[1, 2], b"yes\nyes\nno\n"),
+    (&[2], b"no\nyes\nno\n"),
+    (&[2, 3], b"no\nyes\nyes\n"),
+];
+
+// Whether the session ended with this fault, and so many commands were done: for the other session, and in the file.
+fn has_left(alloc: Global, talked: Talked, fault: SessionFault, done: usize) -> bool {
+    let Talked { ended, told, disk } = talked;
+    let (Some((keys, seen)), Some(found)) = (STATES.get(done), keys_in(alloc, disk)) else {
+        return false;
+    };
+    ended == Err(fault) && told.as_slice() == *seen && found.as_slice() == *keys
+}
+
+// The lines that came whole before a read failed are answered and done, and no other.
+#[test]
+fn a_failed_read_ends_a_session(rt: HostRuntime) -> Result<(), Fail> {
+    for count in 0..LINES.len().wrapping_add(1) {
+        for step in [1, 3] {
+            let text = LINES.get(..count).unwrap_or(b"");
+            let done = text.iter().filter(|byte| **byte == b'\n').count();
+            let mut reader = Slow {
+                text,
+                step,
+                fails: true,
+            };
+            let mut output: Vec<u8> = Vec::new(rt.alloc());
+            let Some(talked) = talk_on(&rt, rt.alloc(), &mut reader, &mut output) else {
+                panic!(rt; "no session")
+            };
+            let is_told = Some(output.as_slice()) == REPLIES.get(..done.wrapping_mul(4));
+            let has_left = has_left(rt.alloc(), talked, SessionFault::Read, done);
+            assert!(rt; is_told && has_left, "after {count} bytes");
+        }
+    }
+    Ok(())
+}
+
+// The command whose reply couldn't be written was done, and none behind it.
+#[test]
+fn a_failed_write_ends_a_session(rt: HostRuntime) -> Result<(), Fail> {
+    for room in 0..REPLIES.len() {
+        let mut reader = LINES;
+        let mut writer = Narrow::new(rt.alloc(), room);
+        let Some(talked) = talk_on(&rt, rt.alloc(), &mut reader, &mut writer) else {
+            panic!(rt; "no session")
+        };
+        let is_told = Some(writer.taken.as_slice()) == REPLIES.get(..room);
+        let done = (room / 4).wrapping_add(1);
+        let has_left = has_left(rt.alloc(), talked, SessionFault::Write, done);
+        assert!(rt; is_told && has_left, "after {room} bytes");
+    }
+    Ok(())
+}
