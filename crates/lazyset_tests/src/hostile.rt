@@ -2,10 +2,12 @@
 use crate::commands::{Ran, TWO_SLOTS, disk_with, run};
 use crate::noise::Noise;
 use crate::noise_texts::{file, history, history_of, lines, script};
+use crate::pipes::Slow;
 use crate::seats::answered;
-use lazyset_commands::{check_on, judge_on, rehearse_on};
+use lazyset_commands::{check_on, judge_on, rehearse_on, run_on};
 use lz_slot::{Format, read_number};
-use std::alloc::Global;
+use std::alloc::{AllocError, Global};
+use std::sync::Wait;
 use std::test::Fail;
 
 // What a line of a session may be answered.
@@ -65,29 +67,82 @@ fn is_answered(ran: &Ran, text: &[u8]) -> bool {
         && told.lines().all(|line| REPLIES.contains(&line))
 }
 
-// At least 100,000 lines, in 10,000 inputs, to a set of two slots, by a run and by a session of the service: both answer
-// alike, and the file holds a set behind them.
+// Whether a run that reads so many bytes at once answers the same, and leaves the same file.
+fn is_same_in_pieces(
+    alloc: Global,
+    file: &[u8],
+    text: &[u8],
+    step: usize,
+    ran: &Ran,
+) -> Result<bool, AllocError> {
+    let mut reader = Slow {
+        text,
+        step,
+        fails: false,
+    };
+    let mut output: Vec<u8> = Vec::new(alloc);
+    let (status, disk) = run_on(alloc, &mut reader, &mut output, disk_with(alloc, file)?);
+    Ok(ran.tells(status.code(), output.as_slice()) && ran.leaves(disk.bytes()))
+}
+
+// Whether a session of the service answers the same, and the run left a file that holds a set.
+fn is_same_served<R: Wait>(rt: &R, alloc: Global, text: &[u8], ran: &Ran) -> bool {
+    let Some(served) = answered(rt, alloc, 2, 1, text) else {
+        return false;
+    };
+    let mut output: Vec<u8> = Vec::new(alloc);
+    let checked = check_on(alloc, ran.disk.bytes(), &mut output);
+    served.as_slice() == ran.printed.as_slice() && checked.code() == 0
+}
+
+// At least 100,000 lines, in 10,000 inputs to a set of two slots: by a run that reads them whole, by one that reads pieces, and
+// by a session of the service.
 #[test]
 fn a_hundred_thousand_lines_are_answered(rt: HostRuntime) -> Result<(), Fail> {
     let mut noise = Noise::new(1);
+    let mut file = TWO_SLOTS;
+    file[7] = b'2';
     let mut replies = 0usize;
     for input in 0..10_000u32 {
         let text = lines(rt.alloc(), &mut noise)?;
         let text = text.as_slice();
-        let mut file = TWO_SLOTS;
-        file[7] = 0x32;
+        let step = noise.below(70).wrapping_add(1) as usize;
         let ran = run(rt.alloc(), disk_with(rt.alloc(), &file)?, text);
         assert!(rt; is_answered(&ran, text), "{input}: {text:?}");
-        let served = answered(&rt, rt.alloc(), 2, 1, text);
-        let is_alike = served.is_some_and(|served| served.as_slice() == ran.printed.as_slice());
-        assert!(rt; is_alike, "{input}: {text:?}");
-        let mut output: Vec<u8> = Vec::new(rt.alloc());
-        let checked = check_on(rt.alloc(), ran.disk.bytes(), &mut output);
-        assert!(rt; checked.code() == 0, "{input}: {text:?}");
+        let is_same = is_same_in_pieces(rt.alloc(), &file, text, step, &ran)?;
+        assert!(rt; is_same, "{input}: {text:?}");
+        let is_same = is_same_served(&rt, rt.alloc(), text, &ran);
+        assert!(rt; is_same, "{input}: {text:?}");
         replies = replies.wrapping_add(replies_due(text));
     }
     assert!(rt; replies >= 100_000, "{replies}");
     Ok(())
+}
+
+/// How often each status came.
+#[derive(Debug, Drop)]
+struct Statuses {
+    counts: [u32; 5],
+}
+
+impl Statuses {
+    fn new() -> Statuses {
+        Statuses { counts: [0; 5] }
+    }
+
+    fn note(&mut self, code: u8) {
+        if let Some(count) = self.counts.get_mut(code as usize) {
+            *count = count.wrapping_add(1);
+        }
+    }
+
+    // Whether each of these came more than a thousand times.
+    fn came(&self, codes: &[usize]) -> bool {
+        codes.iter().all(|code| match self.counts.get(*code) {
+            Some(count) => *count > 1_000,
+            None => false,
+        })
+    }
 }
 
 // Whether a survey's lines name slots, and its last one is this.
@@ -122,6 +177,7 @@ fn agrees(code: u8, told: &str, ran: &Ran) -> bool {
 #[test]
 fn a_hundred_thousand_files_are_checked(rt: HostRuntime) -> Result<(), Fail> {
     let mut noise = Noise::new(2);
+    let mut statuses = Statuses::new();
     for number in 0..100_000u32 {
         let bytes = file(rt.alloc(), &mut noise)?;
         let bytes = bytes.as_slice();
@@ -131,7 +187,9 @@ fn a_hundred_thousand_files_are_checked(rt: HostRuntime) -> Result<(), Fail> {
         let told = str::from_utf8(output.as_slice()).unwrap_or("");
         assert!(rt; agrees(status.code(), told, &ran), "{number}: {bytes:?}");
         assert!(rt; ran.leaves(bytes), "{number}: {bytes:?}");
+        statuses.note(status.code());
     }
+    assert!(rt; statuses.came(&[0, 3, 4]), "{statuses:?}");
     Ok(())
 }
 
@@ -161,13 +219,16 @@ fn judged(alloc: Global, text: &[u8]) -> (u8, Vec<u8>) {
 #[test]
 fn a_hundred_thousand_histories_are_judged(rt: HostRuntime) -> Result<(), Fail> {
     let mut noise = Noise::new(3);
+    let mut statuses = Statuses::new();
     for number in 0..100_000u32 {
         let text = history(rt.alloc(), &mut noise)?;
         let text = text.as_slice();
         let (code, output) = judged(rt.alloc(), text);
         let told = str::from_utf8(output.as_slice()).unwrap_or("");
         assert!(rt; is_judgement(code, told, text), "{number}: {text:?}");
+        statuses.note(code);
     }
+    assert!(rt; statuses.came(&[0, 3, 4]), "{statuses:?}");
     Ok(())
 }
 
@@ -188,6 +249,7 @@ fn is_rehearsal(code: u8, told: &str, script: &[u8]) -> bool {
 #[test]
 fn a_hundred_thousand_scripts_are_rehearsed(rt: HostRuntime) -> Result<(), Fail> {
     let mut noise = Noise::new(4);
+    let mut statuses = Statuses::new();
     for number in 0..100_000u32 {
         let text = script(rt.alloc(), &mut noise)?;
         let text = text.as_slice();
@@ -202,6 +264,8 @@ fn a_hundred_thousand_scripts_are_rehearsed(rt: HostRuntime) -> Result<(), Fail>
         let history = history_of(rt.alloc(), told)?;
         let (code, _) = judged(rt.alloc(), history.as_bytes());
         assert!(rt; code == 0 || code == 4, "{number}: {told}");
+        statuses.note(status.code());
     }
+    assert!(rt; statuses.came(&[0, 3]), "{statuses:?}");
     Ok(())
 }

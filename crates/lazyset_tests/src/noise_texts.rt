@@ -139,21 +139,21 @@ fn push_steps(script: &mut String, noise: &mut Noise) -> Result<(), AllocError> 
     let turns = noise.below(20).wrapping_add(1);
     let (command, key) = (noise.word(&COMMANDS), noise.word(&KEYS));
     let (kind, pick) = (noise.word(&KINDS), noise.word(&PICKS));
-    match noise.below(16) {
-        0 | 1 => write!(
+    match noise.below(32) {
+        0..=2 => write!(
             script,
             "call {actor} {command} {key}\nturn {actor} {turns}\n"
         ),
-        2 => write!(
+        3 | 4 => write!(
             script,
             "call {actor} {command} {key}\nuntil {actor} {kind}\n"
         ),
-        3 | 4 => write!(script, "finish {actor}\n"),
-        5 => write!(script, "turn {actor} {turns}\n"),
-        6 => write!(script, "crash {pick}\nopen\n"),
-        7 => write!(script, "stop\nopen\n"),
-        8 => script.push_str("trip\n"),
-        9 => script.push_str("show\n"),
+        5 | 6 => write!(script, "finish {actor}\n"),
+        7 => write!(script, "turn {actor} {turns}\n"),
+        8 | 9 => write!(script, "crash {pick}\nopen\n"),
+        10 | 11 => write!(script, "stop\nopen\n"),
+        12 => script.push_str("trip\n"),
+        13 | 14 => script.push_str("show\n"),
         _ => write!(script, "call {actor} {command} {key}\nfinish {actor}\n"),
     }
 }
@@ -233,7 +233,7 @@ fn push_marks(history: &mut String, noise: &mut Noise, call: u32) -> Result<(), 
 
 /// Lines of a history: that of a rehearsal, or of any answers.
 pub fn history(alloc: Global, noise: &mut Noise) -> Result<Vec<u8>, AllocError> {
-    if noise.one_in(16) {
+    if noise.one_in(2) {
         let formed = rehearsed_history(alloc, noise)?;
         return text(alloc, noise, &HISTORY_WORDS, formed.as_bytes());
     }
@@ -244,30 +244,36 @@ pub fn history(alloc: Global, noise: &mut Noise) -> Result<Vec<u8>, AllocError> 
     text(alloc, noise, &HISTORY_WORDS, formed.as_bytes())
 }
 
-// Adds the bytes of a slot: most of a key, behind a gate that is open or not.
-fn push_slot(file: &mut Vec<u8>, noise: &mut Noise) -> Result<(), AllocError> {
+// Adds the bytes of a slot: most of them of a key, behind a gate that is open or not.
+fn push_slot(file: &mut Vec<u8>, noise: &mut Noise, index: u16) -> Result<(), AllocError> {
     let mut slot = [0; 16];
     slot[0] = if noise.one_in(2) { 0xa5 } else { noise.byte() };
-    slot[1] = if noise.one_in(4) {
-        noise.byte() % 17
-    } else {
-        0
-    };
-    slot[15] = noise.byte() % 8;
+    slot[14..].copy_from_slice(&index.to_be_bytes());
     if noise.one_in(8) {
+        slot[1] = noise.byte() % 17;
+    }
+    if noise.one_in(4) {
+        slot[15] = noise.byte() % 4;
+    }
+    if noise.one_in(16) {
         slot[8] = noise.byte();
     }
     file.extend_from_slice(&slot)
 }
 
-/// A file: of up to four slots, whole or spoiled, or bytes of all kinds.
+/// A file: of a few slots or of many, whole or spoiled, or bytes of all kinds.
 pub fn file(alloc: Global, noise: &mut Noise) -> Result<Vec<u8>, AllocError> {
-    let slots = noise.byte() % 5;
+    let slots = if noise.one_in(64) {
+        u16::from_be_bytes([noise.byte() % 4, noise.byte()])
+    } else {
+        u16::from(noise.byte() % 5)
+    };
     let format = if noise.one_in(2) { b'1' } else { b'2' };
     let mut formed = b"\xa5LZYSET".to_vec(alloc)?;
-    formed.extend_from_slice(&[format, 0, 0, 0, 0, 0, 0, 0, slots])?;
-    for _ in 0..slots {
-        push_slot(&mut formed, noise)?;
+    formed.push(format)?;
+    formed.extend_from_slice(&u64::from(slots).to_be_bytes())?;
+    for index in 0..slots {
+        push_slot(&mut formed, noise, index)?;
     }
     text(alloc, noise, &["\0", "LZYSET", "1", "2"], formed.as_slice())
 }
