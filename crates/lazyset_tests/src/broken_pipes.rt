@@ -2,10 +2,10 @@
 ghost use Rattle.std.specs.Prelude.{◌≡◌};
 ghost use Rattle.lz_set.specs.Names.{MayCall};
 
-use crate::commands::TWO_SLOTS;
+use crate::commands::{TWO_SLOTS, disk_with};
 use crate::pipes::{Narrow, Slow};
 use crate::threads::{keys_in, made};
-use lazyset_commands::{check_on, judge_on, rehearse_on};
+use lazyset_commands::{check_of_on, check_on, judge_on, make_on, rehearse_on, renew_on};
 use lz_disk::MemoryDisk;
 use lz_proto::{End, SessionFault, session};
 use lz_serve::Seated;
@@ -14,6 +14,7 @@ use lz_slot::Format;
 use std::alloc::Global;
 use std::io::{Read, Write};
 use std::marker::Brand;
+use std::process::Abort;
 use std::sync::Wait;
 use std::test::Fail;
 
@@ -24,17 +25,21 @@ fn is_cut_off(ended: u8, written: &Narrow, at: usize, code: u8, told: &[u8]) -> 
     ended == wanted && Some(written.taken.as_slice()) == told.get(..at)
 }
 
-// A file with 17 in the first slot, one of whose second slot is damaged, and one that isn't made.
+// A file with 17 in the first of two slots.
+const HELD: [u8; 48] = [
+    0xa5, 0x4c, 0x5a, 0x59, 0x53, 0x45, 0x54, 0x31, 0, 0, 0, 0, 0, 0, 0, 2, //
+    0xa5, 0, 0, 0, 0, 0, 0, 0, 0, 0, 0, 0, 0, 0, 0, 17, //
+    0, 0, 0, 0, 0, 0, 0, 0, 0, 0, 0, 0, 0, 0, 0, 0,
+];
+
+// That file, the same with a damaged second slot, and one that isn't made.
 fn files() -> [[u8; 48]; 3] {
-    let mut good = TWO_SLOTS;
-    good[16] = 0xa5;
-    good[31] = 17;
-    let mut damaged = good;
+    let mut damaged = HELD;
     damaged[32] = 0xa5;
     damaged[34] = 1;
-    let mut unmade = good;
+    let mut unmade = HELD;
     unmade[0] = 0;
-    [good, damaged, unmade]
+    [HELD, damaged, unmade]
 }
 
 #[test]
@@ -51,6 +56,66 @@ fn a_failed_write_ends_a_check(rt: HostRuntime) -> Result<(), Fail> {
             let is_told = is_cut_off(status.code(), &writer, room, code, told);
             assert!(rt; is_told, "after {room} bytes");
         }
+    }
+    Ok(())
+}
+
+// A check of a file beside one of which it may be the renewal.
+fn compare(
+    rt: &impl Abort,
+    alloc: Global,
+    file: &[u8],
+    old: &[u8],
+    told: &[u8],
+    code: u8,
+) -> Result<(), Fail> {
+    for room in 0..told.len().wrapping_add(1) {
+        let mut writer = Narrow::new(alloc, room);
+        let status = check_of_on(alloc, file, old, &mut writer);
+        let is_told = is_cut_off(status.code(), &writer, room, code, told);
+        assert!(rt; is_told, "after {room} bytes");
+    }
+    Ok(())
+}
+
+#[test]
+fn a_failed_write_ends_a_comparison(rt: HostRuntime) -> Result<(), Fail> {
+    let same: &[u8] = b"slot 0 key 17\ngood\nsame\n";
+    compare(&rt, rt.alloc(), &HELD, &HELD, same, 0)?;
+    let apart: &[u8] = b"slot 0 key 17\ngood\nflaw 8\n";
+    compare(&rt, rt.alloc(), &HELD, b"", apart, 4)
+}
+
+// What couldn't be told was done: the file is made.
+#[test]
+fn a_failed_write_ends_a_making(rt: HostRuntime) -> Result<(), Fail> {
+    let told: &[u8] = b"made 2\n";
+    for room in 0..told.len().wrapping_add(1) {
+        let mut disk = disk_with(rt.alloc(), &[])?;
+        let mut writer = Narrow::new(rt.alloc(), room);
+        let status = make_on(&mut writer, &mut disk, 2, Format::One);
+        let is_told = is_cut_off(status.code(), &writer, room, 0, told);
+        assert!(rt; is_told, "after {room} bytes");
+        assert!(rt; disk.bytes() == TWO_SLOTS.as_slice(), "after {room} bytes");
+    }
+    Ok(())
+}
+
+// The new file holds the set of the old one, which is as it was.
+#[test]
+fn a_failed_write_ends_a_renewal(rt: HostRuntime) -> Result<(), Fail> {
+    let told: &[u8] = b"renewed 1\n";
+    for room in 0..told.len().wrapping_add(1) {
+        let mut old = disk_with(rt.alloc(), &HELD)?;
+        let mut new = disk_with(rt.alloc(), &[])?;
+        let mut writer = Narrow::new(rt.alloc(), room);
+        let status = renew_on(rt.alloc(), &mut writer, &mut old, &mut new, 3);
+        let is_told = is_cut_off(status.code(), &writer, room, 0, told);
+        assert!(rt; is_told, "after {room} bytes");
+        assert!(rt; old.bytes() == HELD.as_slice(), "after {room} bytes");
+        let keys = keys_in(rt.alloc(), new);
+        let is_held = keys.is_some_and(|keys| keys.as_slice() == [17].as_slice());
+        assert!(rt; is_held, "after {room} bytes");
     }
     Ok(())
 }
