@@ -1,21 +1,13 @@
 //! A reader and a writer that fail at each place of the commands, and of a session of the service.
-ghost use Rattle.std.specs.Prelude.{◌≡◌};
-ghost use Rattle.lz_set.specs.Names.{MayCall};
-
 use crate::commands::{TWO_SLOTS, disk_with};
 use crate::pipes::{Narrow, Slow};
+use crate::talks::{Talked, talk_on};
 use crate::threads::{keys_in, made};
 use lazyset_commands::{check_of_on, check_on, judge_on, make_on, rehearse_on, renew_on};
-use lz_disk::MemoryDisk;
-use lz_proto::{End, SessionFault, session};
-use lz_serve::Seated;
-use lz_set::{Blank, Named, NoGate, Pass, Set};
+use lz_proto::SessionFault;
 use lz_slot::Format;
 use std::alloc::Global;
-use std::io::{Read, Write};
-use std::marker::Brand;
 use std::process::Abort;
-use std::sync::Wait;
 use std::test::Fail;
 
 // Whether a command that ends with this code, and writes this to a writer that works, wrote so many bytes of it to one that
@@ -178,68 +170,6 @@ fn a_failed_read_ends_a_rehearsal(rt: HostRuntime) -> Result<(), Fail> {
     Ok(())
 }
 
-/// How a session ended, what another one of the same set was then told, and the disk that was left.
-#[derive(Drop)]
-struct Talked {
-    ended: Result<End, SessionFault>,
-    told: Vec<u8>,
-    disk: MemoryDisk,
-}
-
-// A session by a pass of a set.
-fn converse<N: Named, I: Read, O: Write, R: Wait>(
-    rt: &R,
-    alloc: Global,
-    set: &Set<MemoryDisk, NoGate, N>,
-    pass: Pass,
-    reader: &mut I,
-    writer: &mut O,
-) -> Result<End, SessionFault>
-    requires { MayCall N.name pass }
-{
-    let mut seated = Seated::new(rt, set, pass);
-    session(alloc, reader, writer, &mut seated)
-}
-
-// A session of a new set, and behind it one of another pass, which asks which keys are members.
-fn talk<N: Named, I: Read, O: Write, R: Wait>(
-    rt: &R,
-    alloc: Global,
-    blank: Blank<MemoryDisk, NoGate>,
-    reader: &mut I,
-    writer: &mut O,
-) -> Option<Talked>
-    requires { blank.name ≡ N.name }
-{
-    let (set, mut passes) = blank.start::<N>();
-    let (Some(other), Some(pass)) = (passes.pop(), passes.pop()) else {
-        return None;
-    };
-    let ended = converse(rt, alloc, &set, pass, reader, writer);
-    let mut asked = b"has 1\nhas 2\nhas 3\n".as_slice();
-    let mut told: Vec<u8> = Vec::new(alloc);
-    if converse(rt, alloc, &set, other, &mut asked, &mut told).is_err() {
-        return None;
-    }
-    Some(Talked {
-        ended,
-        told,
-        disk: set.close(),
-    })
-}
-
-fn talk_on<I: Read, O: Write, R: Wait>(
-    rt: &R,
-    alloc: Global,
-    reader: &mut I,
-    writer: &mut O,
-) -> Option<Talked> {
-    match Set::open(alloc, made(alloc, 2)?, NoGate, 1, 2) {
-        Ok(blank) => talk::<Brand, I, O, R>(rt, alloc, blank, reader, writer),
-        Err(_) => None,
-    }
-}
-
 // Four commands that are each answered yes.
 const LINES: &[u8] = b"add 1\nadd 2\nremove 1\nadd 3\n";
 
@@ -276,7 +206,10 @@ fn a_failed_read_ends_a_session(rt: HostRuntime) -> Result<(), Fail> {
                 fails: true,
             };
             let mut output: Vec<u8> = Vec::new(rt.alloc());
-            let Some(talked) = talk_on(&rt, rt.alloc(), &mut reader, &mut output) else {
+            let Some(disk) = made(rt.alloc(), 2) else {
+                panic!(rt; "no disk")
+            };
+            let Some(talked) = talk_on(&rt, rt.alloc(), disk, &mut reader, &mut output) else {
                 panic!(rt; "no session")
             };
             let is_told = Some(output.as_slice()) == REPLIES.get(..done.wrapping_mul(4));
@@ -293,7 +226,10 @@ fn a_failed_write_ends_a_session(rt: HostRuntime) -> Result<(), Fail> {
     for room in 0..REPLIES.len() {
         let mut reader = LINES;
         let mut writer = Narrow::new(rt.alloc(), room);
-        let Some(talked) = talk_on(&rt, rt.alloc(), &mut reader, &mut writer) else {
+        let Some(disk) = made(rt.alloc(), 2) else {
+            panic!(rt; "no disk")
+        };
+        let Some(talked) = talk_on(&rt, rt.alloc(), disk, &mut reader, &mut writer) else {
             panic!(rt; "no session")
         };
         let is_told = Some(writer.taken.as_slice()) == REPLIES.get(..room);

@@ -60,6 +60,8 @@ mod slots;
 #[cfg(test)]
 mod surveying;
 #[cfg(test)]
+mod talks;
+#[cfg(test)]
 mod threads;
 #[cfg(test)]
 mod transcript;
