@@ -4,6 +4,8 @@
 #[cfg(test)]
 mod boards;
 #[cfg(test)]
+mod broken_pipes;
+#[cfg(test)]
 mod commands;
 #[cfg(test)]
 mod crashes;
@@ -16,6 +18,8 @@ mod glancing;
 #[cfg(test)]
 mod held;
 #[cfg(test)]
+mod hostile;
+#[cfg(test)]
 mod interleaving;
 #[cfg(test)]
 mod judging;
@@ -24,7 +28,13 @@ mod large;
 #[cfg(test)]
 mod lists;
 #[cfg(test)]
+mod noise;
+#[cfg(test)]
+mod noise_texts;
+#[cfg(test)]
 mod parts;
+#[cfg(test)]
+mod pipes;
 #[cfg(test)]
 mod plays;
 #[cfg(test)]
@@ -49,6 +59,8 @@ mod sessions;
 mod slots;
 #[cfg(test)]
 mod surveying;
+#[cfg(test)]
+mod talks;
 #[cfg(test)]
 mod threads;
 #[cfg(test)]

@@ -34,8 +34,8 @@ fn replies_of<N: Named, R: Wait>(
     }
 }
 
-// The replies to lines over a new set of so many slots and buckets.
-fn answered<R: Wait>(
+/// The replies to lines over a new set of so many slots and buckets.
+pub fn answered<R: Wait>(
     rt: &R,
     alloc: Global,
     slots: usize,

@@ -1,0 +1,4 @@
+use Rattle.drills.proofs.sessions.drill.Given as goal
+
+abbrev pub ghosts-talk : goal.ghosts-talk
+ghosts-talk g a = record { name = a.blank.name }
