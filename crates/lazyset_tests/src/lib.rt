@@ -2,15 +2,21 @@
 #![tactic(auto)]
 
 #[cfg(test)]
+mod beside;
+#[cfg(test)]
 mod boards;
 #[cfg(test)]
 mod commands;
+#[cfg(test)]
+mod comparing;
 #[cfg(test)]
 mod crashes;
 #[cfg(test)]
 mod drills;
 #[cfg(test)]
 mod faults;
+#[cfg(test)]
+mod gates;
 #[cfg(test)]
 mod glancing;
 #[cfg(test)]
@@ -24,9 +30,17 @@ mod large;
 #[cfg(test)]
 mod lists;
 #[cfg(test)]
+mod meeting;
+#[cfg(test)]
+mod onlookers;
+#[cfg(test)]
+mod partners;
+#[cfg(test)]
 mod parts;
 #[cfg(test)]
 mod plays;
+#[cfg(test)]
+mod plots;
 #[cfg(test)]
 mod refusals;
 #[cfg(test)]
@@ -45,6 +59,8 @@ mod seats;
 mod serving;
 #[cfg(test)]
 mod sessions;
+#[cfg(test)]
+mod sittings;
 #[cfg(test)]
 mod slots;
 #[cfg(test)]
