@@ -1,5 +1,6 @@
 //! A session over one pass of a set.
-ghost use Rattle.std.specs.Prelude.{◌≡◌};
+ghost use Rattle.lz_disk.specs.Records.{device_of};
+ghost use Rattle.lz_set.specs.Blanks.{MayBeNamed};
 
 use crate::fault::Fault;
 use crate::sets::open;
@@ -86,7 +87,7 @@ fn talk<N: Named, R: Print + AllocGlobal + Wait>(
     rt: &R,
     blank: Blank<MemoryDisk, NoGate>,
 ) -> Result<(), Fault>
-    requires { blank.name ≡ N.name }
+    requires { MayBeNamed device_of N.board N.first N.format blank }
 {
     let (set, mut passes) = blank.start::<N>();
     let Some(pass) = passes.pop() else {

@@ -1,5 +1,6 @@
 //! The open of a set.
-ghost use Rattle.std.specs.Prelude.{◌≡◌};
+ghost use Rattle.lz_disk.specs.Records.{device_of};
+ghost use Rattle.lz_set.specs.Blanks.{MayBeNamed};
 
 use crate::fault::Fault;
 use crate::file::{disk, is_as_before};
@@ -44,7 +45,7 @@ fn open_again<R: Print + AllocGlobal>(
 }
 
 fn ask<N: Named, R: Print + Wait>(rt: &R, blank: Blank<MemoryDisk, NoGate>) -> Result<(), Fault>
-    requires { blank.name ≡ N.name }
+    requires { MayBeNamed device_of N.board N.first N.format blank }
 {
     let (set, mut passes) = blank.start::<N>();
     println!(rt; "Set::open: {} passes", passes.len())?;

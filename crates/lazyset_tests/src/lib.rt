@@ -2,17 +2,23 @@
 #![tactic(auto)]
 
 #[cfg(test)]
+mod beside;
+#[cfg(test)]
 mod boards;
 #[cfg(test)]
 mod broken_pipes;
 #[cfg(test)]
 mod commands;
 #[cfg(test)]
+mod comparing;
+#[cfg(test)]
 mod crashes;
 #[cfg(test)]
 mod drills;
 #[cfg(test)]
 mod faults;
+#[cfg(test)]
+mod gates;
 #[cfg(test)]
 mod glancing;
 #[cfg(test)]
@@ -28,6 +34,12 @@ mod large;
 #[cfg(test)]
 mod lists;
 #[cfg(test)]
+mod meeting;
+#[cfg(test)]
+mod onlookers;
+#[cfg(test)]
+mod partners;
+#[cfg(test)]
 mod noise;
 #[cfg(test)]
 mod noise_texts;
@@ -37,6 +49,8 @@ mod parts;
 mod pipes;
 #[cfg(test)]
 mod plays;
+#[cfg(test)]
+mod plots;
 #[cfg(test)]
 mod refusals;
 #[cfg(test)]
@@ -55,6 +69,8 @@ mod seats;
 mod serving;
 #[cfg(test)]
 mod sessions;
+#[cfg(test)]
+mod sittings;
 #[cfg(test)]
 mod slots;
 #[cfg(test)]
