@@ -5,6 +5,7 @@ ghost use Rattle.lz_set.specs.Blanks.{MayBeNamed};
 ghost use Rattle.lz_disk.specs.Records.{device_of};
 
 use crate::faults::{FAILINGS, Failing, PICKS, set_failing};
+use crate::partners::last_pass;
 use crate::talks::{Talked, talk_on};
 use crate::threads::{ask, keys_in, made};
 use lz_disk::MemoryDisk;
@@ -70,7 +71,7 @@ fn play<N: Named, R: Wait>(
     requires { MayBeNamed device_of N.board N.first N.format blank }
 {
     let (set, mut passes) = blank.start::<N>();
-    let pass = passes.pop()?;
+    let pass = last_pass::<N>(&mut passes)?;
     let answers = ask_all(rt, alloc, &set, pass, count)?;
     Some(Played {
         answers,

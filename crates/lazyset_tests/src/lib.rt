@@ -36,13 +36,13 @@ mod lists;
 #[cfg(test)]
 mod meeting;
 #[cfg(test)]
-mod onlookers;
-#[cfg(test)]
-mod partners;
-#[cfg(test)]
 mod noise;
 #[cfg(test)]
 mod noise_texts;
+#[cfg(test)]
+mod onlookers;
+#[cfg(test)]
+mod partners;
 #[cfg(test)]
 mod parts;
 #[cfg(test)]

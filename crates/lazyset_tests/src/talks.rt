@@ -1,7 +1,9 @@
 //! A session of the service, and another one behind it.
-ghost use Rattle.std.specs.Prelude.{◌≡◌};
 ghost use Rattle.lz_set.specs.Names.{MayCall};
+ghost use Rattle.lz_disk.specs.Records.{device_of};
+ghost use Rattle.lz_set.specs.Blanks.{MayBeNamed};
 
+use crate::partners::last_pass;
 use lz_disk::MemoryDisk;
 use lz_proto::{End, SessionFault, session};
 use lz_serve::Seated;
@@ -28,7 +30,7 @@ fn converse<N: Named, I: Read, O: Write, R: Wait>(
     reader: &mut I,
     writer: &mut O,
 ) -> Result<End, SessionFault>
-    requires { MayCall N.name pass }
+    requires { MayCall N.board pass }
 {
     let mut seated = Seated::new(rt, set, pass);
     session(alloc, reader, writer, &mut seated)
@@ -42,10 +44,11 @@ fn talk<N: Named, I: Read, O: Write, R: Wait>(
     reader: &mut I,
     writer: &mut O,
 ) -> Option<Talked>
-    requires { blank.name ≡ N.name }
+    requires { MayBeNamed device_of N.board N.first N.format blank }
 {
     let (set, mut passes) = blank.start::<N>();
-    let (Some(other), Some(pass)) = (passes.pop(), passes.pop()) else {
+    let (Some(other), Some(pass)) = (last_pass::<N>(&mut passes), last_pass::<N>(&mut passes))
+    else {
         return None;
     };
     let ended = converse(rt, alloc, &set, pass, reader, writer);
