@@ -81,3 +81,5 @@ mod talks;
 mod threads;
 #[cfg(test)]
 mod transcript;
+#[cfg(test)]
+mod tripping;
