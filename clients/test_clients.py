@@ -129,6 +129,8 @@ class Small(AgainstTheProgram):
         with Lazyset(self.service.port, timeout=0.2) as keys:
             self.assertTrue(keys.add(17))
             self.service.process.send_signal(signal.SIGSTOP)
+            # All its threads have stopped when the system says so.
+            os.waitpid(self.service.process.pid, os.WUNTRACED)
             with self.assertRaises(lazyset.LostConnection):
                 keys.has(17)
             self.service.process.send_signal(signal.SIGCONT)

@@ -1,5 +1,7 @@
 """A client of `lazyset serve`, which needs Python's standard library alone (3.8 or later).
 
+    from lazyset import Command, Lazyset
+
     with Lazyset(7000) as keys:
         keys.add(17)                              # True: it is a member now, and wasn't before
         keys.has(17, room=3)                      # False: room 3 is another set
