@@ -12,7 +12,7 @@ use lazyset_commands::{
 use lz_disk::{Disk, FileDisk};
 use lz_slot::{Format, MOST_BUCKETS, MOST_PASSES, MOST_REHEARSED};
 use std::alloc::AllocError;
-use std::fs::File;
+use std::fs::{File, OpenOptions};
 use std::io::{ErrorKind, Read};
 use std::net::{Net, TcpListener, TcpStream};
 use std::rt::{Env, Files};
@@ -40,9 +40,29 @@ where
         Err(error) => return Err(Fault::of_arguments(error)),
     };
     match command_line(rt.alloc())?.try_get_matches_from(words.as_slice()) {
-        Ok(matches) => dispatch(rt, &matches),
+        Ok(matches) => {
+            let stands = stand_in(rt);
+            let status = dispatch(rt, &matches);
+            drop(stands);
+            status
+        }
         Err(error) => Err(fault_of(rt.alloc(), error)),
     }
+}
+
+// What stands in for standard input, output and error where they are closed: else the next file that is opened would get the
+// number of one, and what the program says would be written into that file.
+fn stand_in<R: Files<File = File>>(rt: &R) -> (Option<File>, Option<File>, Option<File>) {
+    (open_nothing(rt), open_nothing(rt), open_nothing(rt))
+}
+
+// The file that holds nothing and takes everything, where there is one.
+fn open_nothing<R: Files<File = File>>(rt: &R) -> Option<File> {
+    OpenOptions::new()
+        .read(true)
+        .write(true)
+        .open(rt, "/dev/null")
+        .ok()
 }
 
 fn dispatch<R>(rt: &R, matches: &ArgMatches<'_>) -> Result<Status, Fault>

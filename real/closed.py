@@ -1,0 +1,35 @@
+"""A start with standard input, output or error closed: what the program says is written over no file."""
+
+from __future__ import annotations
+
+import os
+
+from real.program import Ended, Key, Program
+from real.report import expect
+
+# What each closing leaves of a run that is asked for key 2: without an input nothing is asked.
+CLOSINGS = (("<&-", False), (">&-", True), ("2>&-", True))
+
+SHELL = ("sh", "-c")
+
+
+def run_closed(program: Program, closing: str, *words: str, lines: str = "") -> Ended:
+    """Runs a command whose standard input, output or error is closed."""
+    return program.run(*words, lines=lines, before=(*SHELL, f'exec "$0" "$@" {closing}'))
+
+
+def try_closed(program: Program, folder: str) -> None:
+    """Runs, makings and renewals behind each closing."""
+    for closing, is_asked in CLOSINGS:
+        file = os.path.join(folder, f"file{len(closing)}{closing[0]}".replace("<", "in").replace(">", "out"))
+        program.make(file, 4)
+        expect(program.run("run", file, lines="add 1\n"), Ended("yes\n", 0), "a run")
+        run_closed(program, closing, "run", file, lines="add 2\n")
+        keys = [Key(0, 1), Key(0, 2)] if is_asked else [Key(0, 1)]
+        expect(program.members(file), keys, f"the members behind a run with {closing}")
+        expect(run_closed(program, closing, "make", file, "4").status, 3, f"making it again with {closing}")
+        expect(program.members(file), keys, f"the members behind a making with {closing}")
+        renewed = f"{file}-renewed"
+        expect(run_closed(program, closing, "renew", file, renewed, "8").status, 0, f"renewing it with {closing}")
+        expect(program.members(file), keys, f"the old file's members behind a renewal with {closing}")
+        expect(program.members(renewed), keys, f"the new file's members behind a renewal with {closing}")
