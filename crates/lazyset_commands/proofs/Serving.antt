@@ -12,7 +12,7 @@ use Rattle.lz_vault.specs.Vaults.{Vaulted, VaultOver, last_sync}
 use Rattle.lz_proto.specs.declared.request.Request.{Request}
 use Rattle.lz_proto.specs.declared.request.Request.TheVariants.{Add, Remove, Has, Quit}
 use Rattle.lz_proto.specs.declared.reply.Reply.{Reply}
-use Rattle.lz_proto.specs.declared.reply.Reply.TheVariants.{Halted}
+use Rattle.lz_proto.specs.declared.reply.Reply.TheVariants.{Halted, Worn}
 use Rattle.lz_proto.specs.declared.fault.Bad.{Bad}
 use Rattle.lz_proto.specs.declared.item.Item.{Item}
 use Rattle.lz_proto.specs.declared.item.Item.TheVariants.{Asks, Faulty}
@@ -55,6 +55,9 @@ may_be : (F : Format) (N : ℕ) (S T : Keys) (request : Request) (reply : Reply)
 may_be F N S T (Add k) Halted answers = absurd answers.0
 may_be F N S T (Remove k) Halted answers = absurd answers.0
 may_be F N S T (Has k) Halted answers = absurd answers.0
+may_be F N S T (Add k) Worn answers = absurd answers.0
+may_be F N S T (Remove k) Worn answers = absurd answers.0
+may_be F N S T (Has k) Worn answers = absurd answers.0
 may_be F N S T Quit reply answers = absurd answers
 may_be F N S T request reply answers = answers
 
@@ -70,7 +73,7 @@ may_serve F N (Asks request ∷ items) (Halted ∷ replies) S T served = (may_be
 may_serve F N (Asks request ∷ items) (reply ∷ replies) S T served = (served.0, may_be F N S served.0 request reply served.1, may_serve F N items replies served.0 T served.2)
 
 -- nothing was asked yet
-found_here : (F : Format) (N : ℕ) (S : Keys) (items : List Item) (t : List ℕ) → Holds t N S → FoundAfter F N S items t
+pub found_here : (F : Format) (N : ℕ) (S : Keys) (items : List Item) (t : List ℕ) → Holds t N S → FoundAfter F N S items t
 found_here F N S items t holds = record { done = []; rest = items; first = refl; replies = []; found = S; served = refl; held = holds }
 
 -- more items follow those asked
@@ -86,7 +89,7 @@ found_of_more F N S all items more t whole found = record {
 }
 
 -- a line's fault was told before them
-found_past_fault : (F : Format) (N : ℕ) (S : Keys) (bad : Bad) (items : List Item) (t : List ℕ) → FoundAfter F N S items t → FoundAfter F N S (Faulty bad ∷ items) t
+pub found_past_fault : (F : Format) (N : ℕ) (S : Keys) (bad : Bad) (items : List Item) (t : List ℕ) → FoundAfter F N S items t → FoundAfter F N S (Faulty bad ∷ items) t
 found_past_fault F N S bad items t found = record {
   done = Faulty bad ∷ found.done;
   rest = found.rest;
@@ -98,7 +101,7 @@ found_past_fault F N S bad items t found = record {
 }
 
 -- the first item is under way, done or not
-found_amid : (F : Format) (N : ℕ) (S T : Keys) (request : Request) (items : List Item) (t : List ℕ) → Serves (MayAnswer F N) S (Asks request ∷ []) (Halted ∷ []) T → Holds t N T → FoundAfter F N S (Asks request ∷ items) t
+pub found_amid : (F : Format) (N : ℕ) (S T : Keys) (request : Request) (items : List Item) (t : List ℕ) → Serves (MayAnswer F N) S (Asks request ∷ []) (Halted ∷ []) T → Holds t N T → FoundAfter F N S (Asks request ∷ items) t
 found_amid F N S T request items t served holds = record { done = Asks request ∷ []; rest = items; first = refl; replies = Halted ∷ []; found = T; served = served; held = holds }
 
 -- it was answered, and others after it

@@ -44,12 +44,12 @@ synced_was old timely t image =
     subst (IsImage old.medium) (sym is) seen
 
 -- after a sync, or none
-unwritten : (old new : Device) → IsTimely old → (new.medium ≡ old.medium) ⊎ (new.medium ≡ synced old.medium) → (t : List ℕ) → IsImage new.medium t → IsImage old.medium t
+pub unwritten : (old new : Device) → IsTimely old → (new.medium ≡ old.medium) ⊎ (new.medium ≡ synced old.medium) → (t : List ℕ) → IsImage new.medium t → IsImage old.medium t
 unwritten old new timely (inl same) t image = subst (λ (m : Medium). IsImage m t) same image
 unwritten old new timely (inr after_sync) t image = synced_was old timely t (subst (λ (m : Medium). IsImage m t) after_sync image)
 
 -- an open that wrote nothing leaves what could be left before
-opening_leaves : (old new : Device) (P : List ℕ → Type 0) → IsTimely old → (new.medium ≡ old.medium) ⊎ (new.medium ≡ synced old.medium) → LeavesEither old new
+pub opening_leaves : (old new : Device) (P : List ℕ → Type 0) → IsTimely old → (new.medium ≡ old.medium) ⊎ (new.medium ≡ synced old.medium) → LeavesEither old new
     → LeavesOnly old new (λ t. IsImage old.medium t ⊎ P t)
 opening_leaves old new P timely same time = leaves_more old new _ _ (λ t either. ⊎_elim inl (λ image. inl (unwritten old new timely same t image)) either) time
 

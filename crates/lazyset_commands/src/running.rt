@@ -63,7 +63,7 @@ pub fn run_on<R: Read + Drop, W: Write + Drop, D: Disk>(
 }
 
 // The status after a session.
-fn status_after(ended: Result<End, SessionFault>) -> Status
+pub(crate) fn status_after(ended: Result<End, SessionFault>) -> Status
     ensures { result ≡ session_status ended }
 {
     match ended {
