@@ -1,6 +1,6 @@
 -- The calls that a session of the one pass made, and what the plain set's replies to them say of its items.
-use Rattle.std.proofs.Common.{◌≡◌, ◌≢◌, ◌⊎◌, inl, inr, ⊎_elim, ℕ, Bool, true, false, List, [], ◌∷◌, ◌++◌, Option, Some, None, refl, sym, ap, ◌∙◌, subst}
-use Rattle.lz_slot.specs.Sets.{Keys, Same, after}
+use Rattle.std.proofs.Common.{◌≡◌, ◌≢◌, inr, ⊎_elim, ℕ, false, List, [], ◌∷◌, ◌++◌, Some, refl, sym, ap, ◌∙◌, subst}
+use Rattle.lz_slot.specs.Sets.{Keys, after}
 use Rattle.lz_slot.specs.Bytes.{Holds}
 use Rattle.lz_slot.specs.declared.command.Command.{Command}
 use Rattle.lz_slot.specs.declared.command.Command.TheVariants as command
@@ -13,7 +13,6 @@ use Rattle.lz_proto.specs.declared.reply.Reply.{Reply}
 use Rattle.lz_proto.specs.declared.reply.Reply.TheVariants.{Halted}
 use Rattle.lz_proto.specs.declared.item.Item.{Item}
 use Rattle.lz_proto.specs.declared.item.Item.TheVariants.{Asks, Faulty}
-use Rattle.lz_proto.specs.declared.end.End.{End}
 use Rattle.lz_proto.specs.declared.end.End.TheVariants as ends
 use Rattle.lz_proto.specs.Sessions.{Serves, end_of}
 use Rattle.lz_board.specs.declared.pass.Pass.{Pass}
@@ -100,8 +99,8 @@ module _ (F : Format) (N : ℕ) where
           ⊎_elim
           (λ same. found_here F N S (Asks request ∷ items) t (subst (Holds t N) (same_is h.found h.ends same ∙ none) h.holds))
           (λ same.
-              let found : h.found ≡ after c S = same_is h.found (after c h.ends) same ∙ ap (λ (U : Keys). after c U) none in
-              found_amid F N S h.found request items t (may_halt request S h.found [] [] (half_done request c S h.found asked found) refl) h.holds)
+          let found : h.found ≡ after c S = same_is h.found (after c h.ends) same ∙ ap (λ (U : Keys). after c U) none in
+          found_amid F N S h.found request items t (may_halt request S h.found [] [] (half_done request c S h.found asked found) refl) h.holds)
           (subst (λ (l : AnsweredCalls). MayHaveNext l h.ends h.found) (sym is) next)
       go (d ∷ done) rest is run next =
           let (U, answer, later) = run in
@@ -167,7 +166,7 @@ module _ {X : Type 0} (pass_of : X → Pass) (b : BoardId) (F : Format) where
       let r = given_of asked.answer in
       let is : Halted ≡ shown r = asked.told ∙ shown_of asked.answer in
       let may : (S T : Keys) → IsPlainAnswer F N asked.c r S T → MayAnswer F N S request Halted T = λ S T a.
-          subst (λ (reply : Reply). MayAnswer F N S request reply T) (sym is) (told_row F N S T request asked.c r asked.asked a)
+      subst (λ (reply : Reply). MayAnswer F N S request reply T) (sym is) (told_row F N S T request asked.c r asked.asked a)
       in
       record {
         calls = (asked.c, r) ∷ [];
@@ -189,10 +188,10 @@ module _ {X : Type 0} (pass_of : X → Pass) (b : BoardId) (F : Format) where
       let whole : cuts_off r ≡ false = uncut r (λ halted. goes (is ∙ halted)) in
       let ends_so = end_more request asked.c reply items replies asked.asked goes in
       let may : (S T : Keys) → IsPlainAnswer F N asked.c r S T → MayAnswer F N S request reply T = λ S T a.
-          subst (λ (p : Reply). MayAnswer F N S request p T) (sym is) (told_row F N S T request asked.c r asked.asked a)
+      subst (λ (p : Reply). MayAnswer F N S request p T) (sym is) (told_row F N S T request asked.c r asked.asked a)
       in
       let pass : (S T : Keys) → IsPlainAnswer F N asked.c r S T → PassAnswers F N S request reply T = λ S T a.
-          subst (λ (p : Reply). PassAnswers F N S request p T) (sym is) (passed F N S T request r whole (told_row F N S T request asked.c r asked.asked a))
+      subst (λ (p : Reply). PassAnswers F N S request p T) (sym is) (passed F N S T request r whole (told_row F N S T request asked.c r asked.asked a))
       in
       record {
         calls = (asked.c, r) ∷ m.calls;

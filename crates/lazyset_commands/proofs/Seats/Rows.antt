@@ -1,10 +1,8 @@
 -- An answer of a set of one pass is told as the plain set's.
-use Rattle.std.proofs.Common.{◌≡◌, ◌⊎◌, inl, inr, ⊎_elim, ℕ, ◌<◌, ◌≤◌, Bool, true, false, List, length, Option, Some, None, Result, Ok, Err, refl, sym, ◌∙◌, ap, subst, arith}
+use Rattle.std.proofs.Common.{◌≡◌, inl, inr, ⊎_elim, ℕ, ◌≤◌, Bool, true, false, Some, Result, Ok, Err, refl, sym, ◌∙◌, subst, arith}
 use Rattle.std.proofs.lemmas.Map.Made.{length-le_from_is_member}
 use Rattle.std.specs.Cmp.{nat_eq_equiv}
-use Rattle.std.specs.Prelude.{nat_eq}
-use Rattle.std.specs.List.{list_any}
-use Rattle.lz_slot.specs.Sets.{Keys, Same, after, HasMembers, members}
+use Rattle.lz_slot.specs.Sets.{Keys, Same, after, HasMembers}
 use Rattle.lz_slot.specs.declared.command.Command.{Command}
 use Rattle.lz_slot.specs.declared.command.Command.TheVariants as command
 use Rattle.lz_slot.specs.declared.format.Format.{Format}
@@ -51,7 +49,7 @@ same_is S T same = λ i. λ k. same k i
 no_larger : (S : Keys) (n m : ℕ) → HasMembers S n → HasMembers S m → n ≤ m
 no_larger S n m one other =
     let within = length-le_from_is_member nat_eq_equiv one.keys other.keys one.distinct
-        (λ q is. sym (members_among other.keys q) ∙ sym (other.all q) ∙ one.all q ∙ members_among one.keys q ∙ is) in
+    (λ q is. sym (members_among other.keys q) ∙ sym (other.all q) ∙ one.all q ∙ members_among one.keys q ∙ is) in
     let a = one.count in
     let b = other.count in
     omega (arith, within, a, b)

@@ -1,5 +1,5 @@
 -- What a run leaves that served its session by the one pass of a set.
-use Rattle.std.proofs.Common.{◌≡◌, ◌⊎◌, inl, inr, ⊎_elim, ℕ, ◌≤◌, List, [], ◌∷◌, length, Option, IsTrue, refl, sym, ap, ◌∙◌, subst, arith}
+use Rattle.std.proofs.Common.{◌≡◌, ◌⊎◌, inl, inr, ⊎_elim, ℕ, ◌≤◌, List, [], length, Option, IsTrue, refl, sym, ap, ◌∙◌, subst, arith}
 use Rattle.lz_slot.specs.Sets.{Keys}
 use Rattle.lz_slot.specs.Bytes.{Holds, format_of}
 use Rattle.lz_slot.specs.declared.format.Format.{Format}
@@ -8,7 +8,7 @@ use Rattle.lz_disk.specs.Devices.{Device, IsTimely, LeavesOnly}
 use Rattle.lz_disk.proofs.Moments.{leaves_then, leaves_more}
 use Rattle.lz_machine.specs.Yards.{Yard}
 use Rattle.lz_machine.proofs.Open.FirstPoint.{one_set}
-use Rattle.lz_proto.proofs.FirstItems.{FirstAsked, session_asked}
+use Rattle.lz_proto.proofs.FirstItems.{session_asked}
 use Rattle.lz_board.specs.declared.view.Note.{Note}
 use Rattle.lz_board.specs.declared.view.Part.{Part}
 use Rattle.lz_board.specs.declared.view.Sizes.{Sizes}
@@ -18,7 +18,7 @@ use Rattle.lz_serve.specs.Replies.{SeatAnswers}
 use Rattle.lz_tie.specs.Moments.{ExplainsBegun}
 use Rattle.lz_tie.specs.OwnCalls.{told}
 use Rattle.lz_tie.specs.RunningSets.{members_of}
-use Rattle.lz_tie.specs.Sessions.{IsSession, AreOn, TellsAlone, marks_alone}
+use Rattle.lz_tie.specs.Sessions.{IsSession, AreOn, marks_alone}
 use Rattle.lz_tie.proofs.Sessions.SessionMoments.{moments_are_plain}
 use Rattle.lz_tie.proofs.Start.FirstSets.{same_set_explains}
 use Rattle.lz_tie.proofs.Start.OpenedYard.{opened_sizes}
@@ -131,7 +131,7 @@ module _ {D : Type 0} (device : D → Device) (buckets : ℕ) (state : Status) (
         let opening = opening_leaves (device old) mid (FoundAfter (format_of seen) N S first.items) timely (inr (ran.opens.vault.medium honest)) (ran.opens.vault.time honest) in
         let was = unwritten (device old) mid timely (inr (ran.opens.vault.medium honest)) in
         let begun : (t : List ℕ) → ExplainsBegun b seat.notes t → FoundAfter (format_of seen) N S first.items t = λ t text.
-            of_file (λ F n T. FoundAfter F n T first.items t) (told_moment (λ p. p) b F0 seat.notes seat.begun seat.done one known no_steps (seat.alone one) seat.format input first t text)
+        of_file (λ F n T. FoundAfter F n T first.items t) (told_moment (λ p. p) b F0 seat.notes seat.begun seat.done one known no_steps (seat.alone one) seat.format input first t text)
         in (
           first.text,
           first.known,

@@ -1,15 +1,11 @@
 -- What a session of the one pass says of the set that is left, once the pass was handed back.
-use Rattle.std.proofs.Common.{◌≡◌, ◌≢◌, ◌⊎◌, inl, inr, ⊎_elim, ℕ, List, [], ◌∷◌, ◌++◌, Option, Result, Ok, Err, refl, sym, ap, ◌∙◌, subst}
+use Rattle.std.proofs.Common.{◌≡◌, ◌≢◌, ℕ, List, [], ◌∷◌, ◌++◌, Option, Result, Ok, Err, refl, sym, ◌∙◌, subst}
 use Rattle.std.specs.Io.KnownBytes.{Appends}
-use Rattle.lz_slot.specs.Sets.{Keys, Same}
-use Rattle.lz_slot.specs.Bytes.{Holds}
+use Rattle.lz_slot.specs.Sets.{Keys}
 use Rattle.lz_slot.proofs.Files.HeldSets.{holds_same_set}
-use Rattle.lz_slot.specs.declared.command.Command.{Command}
 use Rattle.lz_slot.specs.declared.format.Format.{Format}
 use Rattle.lz_disk.specs.Images.{Medium, IsImage}
-use Rattle.lz_machine.specs.declared.event.Reply.{Reply as Given}
 use Rattle.lz_proto.specs.declared.item.Item.{Item}
-use Rattle.lz_proto.specs.declared.reply.Reply.{Reply}
 use Rattle.lz_proto.specs.declared.fault.SessionFault.{SessionFault}
 use Rattle.lz_proto.specs.declared.fault.SessionFault.TheVariants.{Read, Write, Memory}
 use Rattle.lz_proto.specs.declared.end.End.{End}
@@ -26,15 +22,13 @@ use Rattle.lz_tie.specs.RunningSets.{members_of, Explains}
 use Rattle.lz_tie.specs.Sessions.{AnsweredCalls, Served, PlainRun, NoneCut, CutLast, IsSession, TellsAlone, AreOn}
 use Rattle.lz_tie.proofs.Sessions.SessionEnd.{session_is_held, session_is_plain}
 use Rattle.lz_tie.proofs.Sessions.SessionMoments.{moments_are_plain}
-use Rattle.lazyset_commands.specs.Asks.{MayAnswer, PassAnswers}
+use Rattle.lazyset_commands.specs.Asks.{MayAnswer}
 use Rattle.lazyset_commands.specs.Ends.{session_status}
-use Rattle.lazyset_commands.specs.Plains.{EachHolds}
 use Rattle.lazyset_commands.specs.Runs.{FoundAfter}
 use Rattle.lazyset_commands.specs.Seats.{RepliesOfPass}
-use Rattle.lazyset_commands.specs.declared.status.Status.{Status}
 use Rattle.lazyset_commands.specs.declared.status.Status.TheVariants as status
 use Rattle.lazyset_commands.proofs.Serving.{found_of_more}
-use Rattle.lazyset_commands.proofs.Seats.Calls.{Made, answers, made}
+use Rattle.lazyset_commands.proofs.Seats.Calls.{answers, made}
 
 -- calls were made, and then others
 served_then : (z : Sizes) (done more : AnsweredCalls) (old mid new : Part) → Served z done old mid → Served z more mid new → Served z (done ++ more) old new

@@ -12,7 +12,7 @@ returns g c =
     let tells = c.session-ended.ensures in
     let welcome = one_welcome b F left.notes c.into_pass-pass.result c.from_mut.result.now c.close_with-disk.new.passes c.from_mut.ensures.value left.seen left.welcome in
     let told = known_session (λ s. s.pass) (SeatAnswers b F) (g.R.Read.remaining c.args.reader.now) (g.R.Read.remaining c.session-ended.new.reader) c.new-seated.result c.session-ended.new.service
-        c.args.pass c.into_pass-pass.result c.session-ended.result tells.0 c.new-seated.ensures (sym c.into_pass-pass.ensures.same) tells.2
+    c.args.pass c.into_pass-pass.result c.session-ended.result tells.0 c.new-seated.ensures (sym c.into_pass-pass.ensures.same) tells.2
     in
     record {
       begun = c.args.pass;

@@ -2,7 +2,7 @@ use Rattle.std.proofs.Common.{inl, inr, refl, sym, ap, ◌∙◌}
 use Rattle.lz_board.specs.declared.view.Sizes.{Sizes}
 use Rattle.lazyset_commands.specs.Runs.{FoundAfter}
 use Rattle.lazyset_commands.proofs.SessionSets.{failed_open, refused_leaves}
-use Rattle.lazyset_commands.proofs.Seats.Runs.{seat_honest, seat_faults, seat_set, seat_plain, seat_leaves}
+use Rattle.lazyset_commands.proofs.Seats.Runs.{seat_faults, seat_set, seat_plain, seat_leaves}
 use Rattle.lazyset_commands.proofs.seated.run_set_on.Goals as goal
 
 pub run_blank-requires-clause-one : goal.run_blank-requires-clause-one
