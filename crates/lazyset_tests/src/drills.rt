@@ -5,8 +5,11 @@ ghost use Rattle.lz_set.specs.Blanks.{MayBeNamed};
 ghost use Rattle.lz_disk.specs.Records.{device_of};
 
 use crate::faults::{FAILINGS, Failing, PICKS, set_failing};
+use crate::partners::last_pass;
+use crate::talks::{Talked, talk_on};
 use crate::threads::{ask, keys_in, made};
 use lz_disk::MemoryDisk;
+use lz_proto::End;
 use lz_set::{Blank, Fault, Named, NoGate, Pass, Set};
 use lz_slot::{Command, Key};
 use std::alloc::Global;
@@ -68,7 +71,7 @@ fn play<N: Named, R: Wait>(
     requires { MayBeNamed device_of N.board N.first N.format blank }
 {
     let (set, mut passes) = blank.start::<N>();
-    let pass = passes.pop()?;
+    let pass = last_pass::<N>(&mut passes)?;
     let answers = ask_all(rt, alloc, &set, pass, count)?;
     Some(Played {
         answers,
@@ -150,6 +153,61 @@ fn each_device_call_fails(rt: HostRuntime) -> Result<(), Fail> {
         for (failed, calls) in [(0usize, 0u64..4), (1, 4..8), (2, 8..10)] {
             for passes in calls {
                 drill(&rt, rt.alloc(), failing, passes, failed)?;
+            }
+        }
+    }
+    Ok(())
+}
+
+// The same commands in a session of the service.
+const LINES: &[u8] = b"add 1\nadd 2\nremove 1\nhas 2\n";
+
+// What the session is told where the command of this number meets the fault.
+const TOLD: [&[u8]; 3] = [b"halted\n", b"yes\nhalted\n", b"yes\nyes\nhalted\n"];
+
+// The session ends there, and another one of the set with its first command. The disk is left as above.
+fn drill_session<R: Wait + Abort>(
+    rt: &R,
+    alloc: Global,
+    failing: Failing,
+    passes: u64,
+    failed: usize,
+) -> Result<(), Fail> {
+    let Some(mut disk) = made(alloc, 2) else {
+        panic!(rt; "no disk")
+    };
+    set_failing(&mut disk, failing, passes.wrapping_add(OPENING));
+    let mut reader = LINES;
+    let mut output: Vec<u8> = Vec::new(alloc);
+    let Some(talked) = talk_on(rt, alloc, disk, &mut reader, &mut output) else {
+        panic!(rt; "no set")
+    };
+    let Talked {
+        ended,
+        told,
+        mut disk,
+    } = talked;
+    let is_halted = ended == Ok(End::Halted) && told.as_slice() == b"halted\n".as_slice();
+    let is_told = TOLD.get(failed).copied() == Some(output.as_slice());
+    assert!(rt; is_halted && is_told, "{failing:?} {passes}");
+    for pick in PICKS {
+        let crashed = disk.crashed(pick)?;
+        assert!(rt;
+            holds(alloc, crashed, failed),
+            "{failing:?} {passes} {pick:?}"
+        );
+    }
+    disk.stop();
+    assert!(rt; holds(alloc, disk, failed), "{failing:?} {passes}");
+    Ok(())
+}
+
+#[test]
+fn each_device_call_of_a_session_fails(rt: HostRuntime) -> Result<(), Fail> {
+    for failing in FAILINGS {
+        for (failed, calls) in [(0usize, 0u64..4), (1, 4..8), (2, 8..10)] {
+            for passes in calls {
+                drill_session(&rt, rt.alloc(), failing, passes, failed)?;
             }
         }
     }

@@ -1,5 +1,4 @@
 //! A caller that is held between two of its events, while another caller's calls are answered.
-ghost use Rattle.std.specs.Prelude.{◌≡◌};
 ghost use Rattle.lz_set.specs.Names.{MayCall};
 ghost use Rattle.lz_set.specs.Blanks.{MayBeNamed};
 ghost use Rattle.lz_disk.specs.Records.{device_of};

@@ -2,9 +2,15 @@
 #![tactic(auto)]
 
 #[cfg(test)]
+mod beside;
+#[cfg(test)]
 mod boards;
 #[cfg(test)]
+mod broken_pipes;
+#[cfg(test)]
 mod commands;
+#[cfg(test)]
+mod comparing;
 #[cfg(test)]
 mod crashes;
 #[cfg(test)]
@@ -12,9 +18,13 @@ mod drills;
 #[cfg(test)]
 mod faults;
 #[cfg(test)]
+mod gates;
+#[cfg(test)]
 mod glancing;
 #[cfg(test)]
 mod held;
+#[cfg(test)]
+mod hostile;
 #[cfg(test)]
 mod interleaving;
 #[cfg(test)]
@@ -24,9 +34,23 @@ mod large;
 #[cfg(test)]
 mod lists;
 #[cfg(test)]
+mod meeting;
+#[cfg(test)]
+mod noise;
+#[cfg(test)]
+mod noise_texts;
+#[cfg(test)]
+mod onlookers;
+#[cfg(test)]
+mod partners;
+#[cfg(test)]
 mod parts;
 #[cfg(test)]
+mod pipes;
+#[cfg(test)]
 mod plays;
+#[cfg(test)]
+mod plots;
 #[cfg(test)]
 mod refusals;
 #[cfg(test)]
@@ -46,9 +70,13 @@ mod serving;
 #[cfg(test)]
 mod sessions;
 #[cfg(test)]
+mod sittings;
+#[cfg(test)]
 mod slots;
 #[cfg(test)]
 mod surveying;
+#[cfg(test)]
+mod talks;
 #[cfg(test)]
 mod threads;
 #[cfg(test)]

@@ -3,6 +3,7 @@ ghost use Rattle.std.specs.Prelude.{◌≡◌, ◌≤◌};
 ghost use Rattle.lz_set.specs.Blanks.{MayBeNamed};
 ghost use Rattle.lz_disk.specs.Records.{device_of};
 
+use crate::partners::last_pass;
 use crate::threads::made;
 use crate::transcript::transcripts;
 use lz_disk::MemoryDisk;
@@ -24,7 +25,7 @@ fn replies_of<N: Named, R: Wait>(
     requires { MayBeNamed device_of N.board N.first N.format blank }
 {
     let (set, mut passes) = blank.start::<N>();
-    let pass = passes.pop()?;
+    let pass = last_pass::<N>(&mut passes)?;
     let mut seated = Seated::new(rt, &set, pass);
     let mut input = lines;
     let mut output: Vec<u8> = Vec::new(alloc);
@@ -34,8 +35,8 @@ fn replies_of<N: Named, R: Wait>(
     }
 }
 
-// The replies to lines over a new set of so many slots and buckets.
-fn answered<R: Wait>(
+/// The replies to lines over a new set of so many slots and buckets.
+pub fn answered<R: Wait>(
     rt: &R,
     alloc: Global,
     slots: usize,

@@ -1,5 +1,6 @@
 //! What a run answers to its lines, in whatever pieces they come, and where a reader or a writer fails.
 use crate::commands::{ONE_SLOT, TWO_SLOTS, disk_with};
+use crate::pipes::{Narrow, Slow};
 use crate::transcript::transcripts;
 use lazyset_commands::run_on;
 use std::alloc::{AllocError, Global};
@@ -7,71 +8,24 @@ use std::io;
 use std::io::{ErrorKind, Read, Write};
 use std::test::Fail;
 
-/// Gives its text a byte at a time, and then ends, or fails.
-#[derive(Drop)]
-struct Slow<'a> {
-    text: &'a [u8],
-    fails: bool,
-}
-
-impl<'a> Read for Slow<'a> {
-    fn read(&mut self, buffer: &mut [u8]) -> io::Result<usize> {
-        if self.text.is_empty() && self.fails {
-            return Err(io::Error::from(ErrorKind::Other));
-        }
-        if buffer.is_empty() || self.text.is_empty() {
-            return Ok(0);
-        }
-        buffer[0] = self.text[0];
-        self.text = &self.text[1..];
-        Ok(1)
-    }
-}
-
-/// Takes so many bytes, and then fails.
-#[derive(Drop)]
-struct Narrow {
-    taken: Vec<u8>,
-    room: usize,
-}
-
-impl Write for Narrow {
-    fn write(&mut self, bytes: &[u8]) -> io::Result<usize> {
-        if bytes.is_empty() {
-            return Ok(0);
-        }
-        if self.room == 0 {
-            return Err(io::Error::from(ErrorKind::Other));
-        }
-        if self.taken.push(bytes[0]).is_err() {
-            return Err(io::Error::from(ErrorKind::OutOfMemory));
-        }
-        self.room -= 1;
-        Ok(1)
-    }
-
-    fn flush(&mut self) -> io::Result<()> {
-        Ok(())
-    }
-}
-
-// Whether a run over a file with these bytes answers so, where the lines come whole and where they come byte by byte.
+// Whether a run over a file with these bytes answers so, where the lines come whole and where they come in pieces of
+// one byte and of three.
 fn answers(alloc: Global, file: &[u8], lines: &[u8], replies: &[u8]) -> Result<bool, AllocError> {
     let mut input = lines;
     let mut output: Vec<u8> = Vec::new(alloc);
     let (status, _disk) = run_on(alloc, &mut input, &mut output, disk_with(alloc, file)?);
-    let mut slow = Slow {
-        text: lines,
-        fails: false,
-    };
-    let mut slowly: Vec<u8> = Vec::new(alloc);
-    let (slow_status, _disk) = run_on(alloc, &mut slow, &mut slowly, disk_with(alloc, file)?);
-    Ok(
-        status.code() == 0
-            && slow_status.code() == 0
-            && output.as_slice() == replies
-            && slowly.as_slice() == replies,
-    )
+    let mut is_answered = status.code() == 0 && output.as_slice() == replies;
+    for step in [1, 3] {
+        let mut slow = Slow {
+            text: lines,
+            step,
+            fails: false,
+        };
+        let mut slowly: Vec<u8> = Vec::new(alloc);
+        let (status, _disk) = run_on(alloc, &mut slow, &mut slowly, disk_with(alloc, file)?);
+        is_answered &= status.code() == 0 && slowly.as_slice() == replies;
+    }
+    Ok(is_answered)
 }
 
 // Runs over made files of one slot or two.
@@ -238,12 +192,18 @@ fn a_failed_read_ends_the_run(rt: HostRuntime) -> Result<(), Fail> {
             let Some(text) = lines.get(..count) else {
                 return Ok(());
             };
-            let mut reader = Slow { text, fails: true };
-            let mut output: Vec<u8> = Vec::new(rt.alloc());
-            let disk = disk_with(rt.alloc(), &TWO_SLOTS)?;
-            let (status, _disk) = run_on(rt.alloc(), &mut reader, &mut output, disk);
-            assert_eq!(rt; status.code(), 1);
-            assert_eq!(rt; output.as_slice(), replies, "after {count} bytes");
+            for step in [1, 3] {
+                let mut reader = Slow {
+                    text,
+                    step,
+                    fails: true,
+                };
+                let mut output: Vec<u8> = Vec::new(rt.alloc());
+                let disk = disk_with(rt.alloc(), &TWO_SLOTS)?;
+                let (status, _disk) = run_on(rt.alloc(), &mut reader, &mut output, disk);
+                assert_eq!(rt; status.code(), 1);
+                assert_eq!(rt; output.as_slice(), replies, "after {count} bytes");
+            }
         }
         came = below;
     }
@@ -256,10 +216,7 @@ fn a_failed_write_ends_the_run(rt: HostRuntime) -> Result<(), Fail> {
     let replies: &[u8] = b"yes\nyes\nfull\n";
     for room in 0..13 {
         let mut input = b"add 17\nadd 18\nadd 19\n".as_slice();
-        let mut writer = Narrow {
-            taken: Vec::new(rt.alloc()),
-            room,
-        };
+        let mut writer = Narrow::new(rt.alloc(), room);
         let disk = disk_with(rt.alloc(), &TWO_SLOTS)?;
         let (status, disk) = run_on(rt.alloc(), &mut input, &mut writer, disk);
         assert_eq!(rt; status.code(), 1);

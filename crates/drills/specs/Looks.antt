@@ -1,0 +1,10 @@
+-- Who may look at a board.
+use Rattle.std.specs.Prelude.{◌≡◌, false}
+use Rattle.lz_board.specs.declared.board.Board.{Board}
+use Rattle.lz_board.specs.declared.pass.Pass.{Pass}
+use Rattle.lz_board.specs.Kept.{is_calling}
+use Rattle.lz_board.specs.Seats.{id_of, part, IsOf}
+
+-- the pass has a seat at this board, and no call open
+abbrev pub MayLook : Board → Pass → Type 0
+MayLook board pass = IsOf (id_of board) pass × (is_calling (id_of board).sizes (part pass).steps ≡ false)

@@ -1,0 +1,65 @@
+//! The open of a set.
+ghost use Rattle.lz_disk.specs.Records.{device_of};
+ghost use Rattle.lz_set.specs.Blanks.{MayBeNamed};
+
+use crate::fault::Fault;
+use crate::file::{disk, is_as_before};
+use lz_disk::MemoryDisk;
+use lz_set::{Blank, Named, NoGate, Set};
+use lz_slot::Key;
+use lz_vault::Refused;
+use std::marker::Brand;
+use std::sync::Wait;
+
+/// The keys that are looked for.
+const LOOKED: [u64; 2] = [17, 18];
+
+pub fn drill<R: Print + AllocGlobal + Wait>(rt: &R) -> Result<(), Fault> {
+    let blank = open(rt)?;
+    ask::<Brand, R>(rt, blank)
+}
+
+/// The set of the file, for two passes.
+pub fn open<R: Print + AllocGlobal>(rt: &R) -> Result<Blank<MemoryDisk, NoGate>, Fault> {
+    match Set::open(rt.alloc(), disk(rt.alloc())?, NoGate, 1, 2) {
+        Ok(blank) => Ok(blank),
+        Err(refused) => open_again(rt, refused),
+    }
+}
+
+fn open_again<R: Print + AllocGlobal>(
+    rt: &R,
+    refused: Refused<MemoryDisk>,
+) -> Result<Blank<MemoryDisk, NoGate>, Fault> {
+    let Refused { disk, fault } = refused;
+    let told = fault;
+    let number = told.number();
+    if !is_as_before(fault, &disk) {
+        return Err(Fault::Wrong);
+    }
+    println!(rt; "again Set::open {number}")?;
+    match Set::open(rt.alloc(), disk, NoGate, 1, 2) {
+        Ok(blank) => Ok(blank),
+        Err(_) => Err(Fault::Wrong),
+    }
+}
+
+fn ask<N: Named, R: Print + Wait>(rt: &R, blank: Blank<MemoryDisk, NoGate>) -> Result<(), Fault>
+    requires { MayBeNamed device_of N.board N.first N.format blank }
+{
+    let (set, mut passes) = blank.start::<N>();
+    println!(rt; "Set::open: {} passes", passes.len())?;
+    let Some(mut pass) = passes.pop() else {
+        return Err(Fault::Wrong);
+    };
+    for number in LOOKED {
+        let Some(key) = Key::new(number) else {
+            return Err(Fault::Wrong);
+        };
+        let Ok(is_member) = set.has(rt, &mut pass, key) else {
+            return Err(Fault::Wrong);
+        };
+        println!(rt; "key {key} {is_member}")?;
+    }
+    Ok(())
+}
