@@ -62,16 +62,20 @@ PassAnswers F N S (Remove k) Worn T = T ≡ S
 PassAnswers F N S (Has k) Worn T = T ≡ S
 PassAnswers F N S request reply T = SetAnswers F N S request reply T
 
--- what it replies where the device may fail, too: `halted` leaves open whether the command was done
+-- what the plain set replies whose device may fail: `halted` leaves open whether the command was done
 abbrev pub MayAnswer : Format → ℕ → Keys → Request → Reply → Keys → Type 0
 MayAnswer F N S (Add k) Halted T = (T ≡ S) ⊎ (T ≡ after (command.Add k) S)
 MayAnswer F N S (Remove k) Halted T = (T ≡ S) ⊎ (T ≡ after (command.Remove k) S)
 MayAnswer F N S (Has k) Halted T = T ≡ S
-MayAnswer F N S (Add k) Worn T = T ≡ S
-MayAnswer F N S (Remove k) Worn T = T ≡ S
-MayAnswer F N S (Has k) Worn T = T ≡ S
 MayAnswer F N S Quit reply T = ⊥
 MayAnswer F N S request reply T = SetAnswers F N S request reply T
+
+-- and where a pass serves it: one that is worn out replies `worn`, and the set stays
+abbrev pub PassMayAnswer : Format → ℕ → Keys → Request → Reply → Keys → Type 0
+PassMayAnswer F N S (Add k) Worn T = T ≡ S
+PassMayAnswer F N S (Remove k) Worn T = T ≡ S
+PassMayAnswer F N S (Has k) Worn T = T ≡ S
+PassMayAnswer F N S request reply T = MayAnswer F N S request reply T
 
 -- The life is over after `halted`, and only then; it ends in a command only where the device fails in it, or has made its
 -- last sync.

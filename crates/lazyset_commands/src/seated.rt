@@ -8,6 +8,7 @@ ghost use Rattle.lz_slot.specs.Sets.{Keys};
 ghost use Rattle.lz_board.specs.Seats.{IsNew};
 ghost use Rattle.lz_set.specs.Blanks.{MayBeNamed};
 ghost use Rattle.lz_set.specs.Names.{MayCall};
+ghost use Rattle.lazyset_commands.specs.Asks.{PassMayAnswer};
 ghost use Rattle.lazyset_commands.specs.Runs.{FailedOpen, FoundAfter, OfInput, RefusedOpen, SessionOfSet};
 ghost use Rattle.lazyset_commands.specs.Seats.{RanSeat, RepliesOfPass, ServedSeat};
 
@@ -46,7 +47,7 @@ where
 
     // Where what is read holds S, the session is the plain set's, however it ends, and so is what a crash after it leaves.
     ensures set { (N : ℕ) (S : Keys) → IsTrue (D.device disk).honest → Holds (D.device disk).medium.seen N S
-        → SessionOfSet (format_of (D.device disk).medium.seen) N S result.0 (R.remaining reader.old) (R.remaining reader.new) (W.contents writer.old) (W.contents writer.new) (D.device result.1).medium
+        → SessionOfSet (PassMayAnswer (format_of (D.device disk).medium.seen) N) N S result.0 (R.remaining reader.old) (R.remaining reader.new) (W.contents writer.old) (W.contents writer.new) (D.device result.1).medium
         ⊎ FailedOpen result.0 (W.contents writer.old) (W.contents writer.new) (D.device disk).medium (D.device result.1).medium }
 
     // A run that is done leaves the one set after all the replies.
@@ -57,7 +58,7 @@ where
     // input's items, with one of them under way.
     ensures any_moment { (N : ℕ) (S : Keys) → IsTrue (D.device disk).honest → Holds (D.device disk).medium.seen N S
         → OfInput (R.remaining reader.old) (λ items. LeavesOnly (D.device disk) (D.device result.1)
-        (λ t. IsImage (D.device disk).medium t ⊎ FoundAfter (format_of (D.device disk).medium.seen) N S items t)) }
+        (λ t. IsImage (D.device disk).medium t ⊎ FoundAfter (PassMayAnswer (format_of (D.device disk).medium.seen) N) N S items t)) }
 {
     match Set::open(rt.alloc(), disk, NoGate, buckets, 1) {
         Ok(blank) => run_blank::<Rt, R, W, D, Brand>(rt, reader, writer, blank),

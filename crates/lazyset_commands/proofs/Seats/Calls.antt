@@ -21,7 +21,7 @@ use Rattle.lz_set.specs.Answers.{reply_of as given_of}
 use Rattle.lz_serve.specs.Replies.{SeatAnswers, command_of}
 use Rattle.lz_tie.specs.OneCaller.{IsPlainAnswer}
 use Rattle.lz_tie.specs.Sessions.{AnsweredCalls, Served, PlainRun, NoneCut, CutLast, cuts_off, MayHaveNext, HoldsAfterSome}
-use Rattle.lazyset_commands.specs.Asks.{MayAnswer, PassAnswers}
+use Rattle.lazyset_commands.specs.Asks.{PassAnswers, PassMayAnswer}
 use Rattle.lazyset_commands.specs.Runs.{FoundAfter}
 use Rattle.lazyset_commands.proofs.Serving.{found_here, found_past_fault, found_amid}
 use Rattle.lazyset_commands.proofs.Seats.Rows.{shown, shown_of, same_is, told_row, passed}
@@ -55,8 +55,8 @@ end_more request c reply items replies asked goes = refl
 
 module _ (F : Format) (N : ℕ) where
   -- one more reply of a set that may halt, and of one that doesn't
-  may_next : (request : Request) (reply : Reply) (S T U : Keys) (items : List Item) (replies : List Reply) → reply ≢ Halted → MayAnswer F N S request reply T → Serves (MayAnswer F N) T items replies U
-      → Serves (MayAnswer F N) S (Asks request ∷ items) (reply ∷ replies) U
+  may_next : (request : Request) (reply : Reply) (S T U : Keys) (items : List Item) (replies : List Reply) → reply ≢ Halted → PassMayAnswer F N S request reply T → Serves (PassMayAnswer F N) T items replies U
+      → Serves (PassMayAnswer F N) S (Asks request ∷ items) (reply ∷ replies) U
   may_next Quit reply S T U items replies goes may served = absurd may
   may_next request Halted S T U items replies goes may served = absurd (goes refl)
   may_next request reply S T U items replies goes may served = (T, may, served)
@@ -68,12 +68,12 @@ module _ (F : Format) (N : ℕ) where
   pass_next request reply S T U items replies goes answers served = (T, answers, served)
 
   -- the last reply, which may leave its command done or not
-  may_halt : (request : Request) (S T : Keys) (items : List Item) (replies : List Reply) → MayAnswer F N S request Halted T → replies ≡ [] → Serves (MayAnswer F N) S (Asks request ∷ items) (Halted ∷ replies) T
+  may_halt : (request : Request) (S T : Keys) (items : List Item) (replies : List Reply) → PassMayAnswer F N S request Halted T → replies ≡ [] → Serves (PassMayAnswer F N) S (Asks request ∷ items) (Halted ∷ replies) T
   may_halt Quit S T items replies may none = absurd may
   may_halt request S T items replies may none = (may, none)
 
   -- a command that is under way is done
-  half_done : (request : Request) (c : Command) (S T : Keys) → command_of request ≡ Some c → T ≡ after c S → MayAnswer F N S request Halted T
+  half_done : (request : Request) (c : Command) (S T : Keys) → command_of request ≡ Some c → T ≡ after c S → PassMayAnswer F N S request Halted T
   half_done (Add k) c S T asked is = let same : c ≡ command.Add k = cc in inr (is ∙ ap (λ (d : Command). after d S) same)
   half_done (Remove k) c S T asked is = let same : c ≡ command.Remove k = cc in inr (is ∙ ap (λ (d : Command). after d S) same)
   half_done (Has k) c S T asked is = let same : c ≡ command.Has k = cc in is ∙ ap (λ (d : Command). after d S) same
@@ -90,17 +90,17 @@ module _ (F : Format) (N : ℕ) where
 
   -- the first call may not have begun, or is under way, or it was answered, and others after it
   first_moment : (request : Request) (c : Command) (r : Given) (calls : AnsweredCalls) (items : List Item) (S : Keys) (t : List ℕ) → command_of request ≡ Some c
-      → ((U : Keys) → IsPlainAnswer F N c r S U → HoldsAfterSome F N calls U t → FoundAfter F N S (Asks request ∷ items) t) → HoldsAfterSome F N ((c, r) ∷ calls) S t → FoundAfter F N S (Asks request ∷ items) t
+      → ((U : Keys) → IsPlainAnswer F N c r S U → HoldsAfterSome F N calls U t → FoundAfter (PassMayAnswer F N) N S (Asks request ∷ items) t) → HoldsAfterSome F N ((c, r) ∷ calls) S t → FoundAfter (PassMayAnswer F N) N S (Asks request ∷ items) t
   first_moment request c r calls items S t asked past h = go h.done h.rest h.splits h.run h.next
     where
-      go : (done rest : AnsweredCalls) → (c, r) ∷ calls ≡ done ++ rest → PlainRun F N done S h.ends → MayHaveNext rest h.ends h.found → FoundAfter F N S (Asks request ∷ items) t
+      go : (done rest : AnsweredCalls) → (c, r) ∷ calls ≡ done ++ rest → PlainRun F N done S h.ends → MayHaveNext rest h.ends h.found → FoundAfter (PassMayAnswer F N) N S (Asks request ∷ items) t
       go [] rest is run next =
           let none : h.ends ≡ S = same_is h.ends S run in
           ⊎_elim
-          (λ same. found_here F N S (Asks request ∷ items) t (subst (Holds t N) (same_is h.found h.ends same ∙ none) h.holds))
+          (λ same. found_here (PassMayAnswer F N) N S (Asks request ∷ items) t (subst (Holds t N) (same_is h.found h.ends same ∙ none) h.holds))
           (λ same.
           let found : h.found ≡ after c S = same_is h.found (after c h.ends) same ∙ ap (λ (U : Keys). after c U) none in
-          found_amid F N S h.found request items t (may_halt request S h.found [] [] (half_done request c S h.found asked found) refl) h.holds)
+          found_amid (PassMayAnswer F N) N S h.found request items t (may_halt request S h.found [] [] (half_done request c S h.found asked found) refl) h.holds)
           (subst (λ (l : AnsweredCalls). MayHaveNext l h.ends h.found) (sym is) next)
       go (d ∷ done) rest is run next =
           let (U, answer, later) = run in
@@ -108,7 +108,7 @@ module _ (F : Format) (N : ℕ) where
           (record { done = done; rest = rest; splits = tail_is (c, r) d calls (done ++ rest) is; ends = h.ends; run = later; found = h.found; next = next; holds = h.holds })
 
   -- others were answered after it
-  found_next : (request : Request) (reply : Reply) (S T : Keys) (items : List Item) (t : List ℕ) → reply ≢ Halted → MayAnswer F N S request reply T → FoundAfter F N T items t → FoundAfter F N S (Asks request ∷ items) t
+  found_next : (request : Request) (reply : Reply) (S T : Keys) (items : List Item) (t : List ℕ) → reply ≢ Halted → PassMayAnswer F N S request reply T → FoundAfter (PassMayAnswer F N) N T items t → FoundAfter (PassMayAnswer F N) N S (Asks request ∷ items) t
   found_next request reply S T items t goes may found = record {
     done = Asks request ∷ found.done;
     rest = found.rest;
@@ -132,12 +132,12 @@ module _ {X : Type 0} (pass_of : X → Pass) (b : BoardId) (F : Format) where
     pub served : Served b.sizes calls (part (pass_of old)) (part (pass_of new))
     pub cut : CutLast calls
     pub none : end_of items replies ≢ ends.Halted → NoneCut calls
-    pub run : (S T : Keys) → PlainRun F N calls S T → Serves (MayAnswer F N) S items replies T
+    pub run : (S T : Keys) → PlainRun F N calls S T → Serves (PassMayAnswer F N) S items replies T
     pub whole : end_of items replies ≢ ends.Halted → (S T : Keys) → PlainRun F N calls S T → Serves (PassAnswers F N) S items replies T
-    pub moment : (S : Keys) (t : List ℕ) → HoldsAfterSome F N calls S t → FoundAfter F N S items t
+    pub moment : (S : Keys) (t : List ℕ) → HoldsAfterSome F N calls S t → FoundAfter (PassMayAnswer F N) N S items t
 
   -- none were asked
-  made_none : (items : List Item) (old new : X) → new ≡ old → ((S T : Keys) → T ≡ S → Serves (MayAnswer F N) S items [] T) → ((S T : Keys) → T ≡ S → Serves (PassAnswers F N) S items [] T) → Made items [] old new
+  made_none : (items : List Item) (old new : X) → new ≡ old → ((S T : Keys) → T ≡ S → Serves (PassMayAnswer F N) S items [] T) → ((S T : Keys) → T ≡ S → Serves (PassAnswers F N) S items [] T) → Made items [] old new
   made_none items old new same may pass = record {
     calls = [];
     served = ap (λ (x : X). part (pass_of x)) same;
@@ -145,7 +145,7 @@ module _ {X : Type 0} (pass_of : X → Pass) (b : BoardId) (F : Format) where
     none = λ goes. tt;
     run = λ S T run. may S T (same_is T S run);
     whole = λ goes S T run. pass S T (same_is T S run);
-    moment = λ S t h. found_here F N S items t (none_made F N S t h);
+    moment = λ S t h. found_here (PassMayAnswer F N) N S items t (none_made F N S t h);
   }
 
   made_fault : (bad : _) (items : List Item) (replies : List Reply) (old new : X) → Made items replies old new → Made (Faulty bad ∷ items) replies old new
@@ -156,7 +156,7 @@ module _ {X : Type 0} (pass_of : X → Pass) (b : BoardId) (F : Format) where
     none = m.none;
     run = m.run;
     whole = m.whole;
-    moment = λ S t h. found_past_fault F N S bad items t (m.moment S t h);
+    moment = λ S t h. found_past_fault (PassMayAnswer F N) N S bad items t (m.moment S t h);
   }
 
   -- the last one was cut off
@@ -165,8 +165,8 @@ module _ {X : Type 0} (pass_of : X → Pass) (b : BoardId) (F : Format) where
   made_last request items replies old new asked none halts =
       let r = given_of asked.answer in
       let is : Halted ≡ shown r = asked.told ∙ shown_of asked.answer in
-      let may : (S T : Keys) → IsPlainAnswer F N asked.c r S T → MayAnswer F N S request Halted T = λ S T a.
-      subst (λ (reply : Reply). MayAnswer F N S request reply T) (sym is) (told_row F N S T request asked.c r asked.asked a)
+      let may : (S T : Keys) → IsPlainAnswer F N asked.c r S T → PassMayAnswer F N S request Halted T = λ S T a.
+      subst (λ (reply : Reply). PassMayAnswer F N S request reply T) (sym is) (told_row F N S T request asked.c r asked.asked a)
       in
       record {
         calls = (asked.c, r) ∷ [];
@@ -176,7 +176,7 @@ module _ {X : Type 0} (pass_of : X → Pass) (b : BoardId) (F : Format) where
         run = λ S T (U, a, same). may_halt F N request S T items replies (may S T (subst (IsPlainAnswer F N asked.c r S) (sym (same_is T U same)) a)) none;
         whole = λ goes. absurd (goes halts);
         moment = λ S t h. first_moment F N request asked.c r [] items S t asked.asked
-            (λ U a rest. found_amid F N S U request items t (may_halt F N request S U [] [] (may S U a) refl) (none_made F N U t rest)) h;
+            (λ U a rest. found_amid (PassMayAnswer F N) N S U request items t (may_halt F N request S U [] [] (may S U a) refl) (none_made F N U t rest)) h;
       }
 
   -- one more was answered
@@ -187,8 +187,8 @@ module _ {X : Type 0} (pass_of : X → Pass) (b : BoardId) (F : Format) where
       let is : reply ≡ shown r = asked.told ∙ shown_of asked.answer in
       let whole : cuts_off r ≡ false = uncut r (λ halted. goes (is ∙ halted)) in
       let ends_so = end_more request asked.c reply items replies asked.asked goes in
-      let may : (S T : Keys) → IsPlainAnswer F N asked.c r S T → MayAnswer F N S request reply T = λ S T a.
-      subst (λ (p : Reply). MayAnswer F N S request p T) (sym is) (told_row F N S T request asked.c r asked.asked a)
+      let may : (S T : Keys) → IsPlainAnswer F N asked.c r S T → PassMayAnswer F N S request reply T = λ S T a.
+      subst (λ (p : Reply). PassMayAnswer F N S request p T) (sym is) (told_row F N S T request asked.c r asked.asked a)
       in
       let pass : (S T : Keys) → IsPlainAnswer F N asked.c r S T → PassAnswers F N S request reply T = λ S T a.
       subst (λ (p : Reply). PassAnswers F N S request p T) (sym is) (passed F N S T request r whole (told_row F N S T request asked.c r asked.asked a))

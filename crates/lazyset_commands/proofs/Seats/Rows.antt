@@ -19,7 +19,7 @@ use Rattle.lz_set.specs.Answers.{reply_of as given_of}
 use Rattle.lz_serve.specs.Replies.{command_of, reply_of}
 use Rattle.lz_tie.specs.OneCaller.{HasRoom, IsPlainAnswer}
 use Rattle.lz_tie.specs.Sessions.{cuts_off}
-use Rattle.lazyset_commands.specs.Asks.{MayAnswer, PassAnswers}
+use Rattle.lazyset_commands.specs.Asks.{PassAnswers, PassMayAnswer}
 
 -- the reply that tells an answer of the machine
 abbrev pub shown : Given → Reply
@@ -59,7 +59,7 @@ room : (N : ℕ) (S : Keys) → HasRoom N S → HasMembers S N → ⊥
 room N S (n, some, few) all = let le = no_larger S N n all some in omega (arith, le, few)
 
 module _ (F : Format) (N : ℕ) (S T : Keys) where
-  add_row : (k : ℕ) (r : Given) → IsPlainAnswer F N (command.Add k) r S T → MayAnswer F N S (Add k) (shown r) T
+  add_row : (k : ℕ) (r : Given) → IsPlainAnswer F N (command.Add k) r S T → PassMayAnswer F N S (Add k) (shown r) T
   add_row k given.Yes a = ((a.row.0, room N S a.row.1, sym a.old), same_is T _ a.row.2)
   add_row k given.No a = ((a.row.0, sym a.old), same_is T _ a.row.1)
   add_row k (given.Full counts) a = ((a.row.0, a.row.1, sym a.old), same_is T S a.row.2)
@@ -68,7 +68,7 @@ module _ (F : Format) (N : ℕ) (S T : Keys) where
   add_row k given.Halted a = ⊎_elim (λ same. inl (same_is T S same)) (λ same. inr (same_is T (after (command.Add k) S) same)) a.row
   add_row k given.Device a = ⊎_elim (λ same. inl (same_is T S same)) (λ same. inr (same_is T (after (command.Add k) S) same)) a.row
 
-  remove_row : (k : ℕ) (r : Given) → IsPlainAnswer F N (command.Remove k) r S T → MayAnswer F N S (Remove k) (shown r) T
+  remove_row : (k : ℕ) (r : Given) → IsPlainAnswer F N (command.Remove k) r S T → PassMayAnswer F N S (Remove k) (shown r) T
   remove_row k given.Yes a = ((a.row.0, tt, sym a.old), same_is T _ a.row.1)
   remove_row k given.No a = ((a.row.0, sym a.old), same_is T _ a.row.1)
   remove_row k (given.Full counts) a = absurd a.row
@@ -77,7 +77,7 @@ module _ (F : Format) (N : ℕ) (S T : Keys) where
   remove_row k given.Halted a = ⊎_elim (λ same. inl (same_is T S same)) (λ same. inr (same_is T (after (command.Remove k) S) same)) a.row
   remove_row k given.Device a = ⊎_elim (λ same. inl (same_is T S same)) (λ same. inr (same_is T (after (command.Remove k) S) same)) a.row
 
-  has_row : (k : ℕ) (r : Given) → IsPlainAnswer F N (command.Has k) r S T → MayAnswer F N S (Has k) (shown r) T
+  has_row : (k : ℕ) (r : Given) → IsPlainAnswer F N (command.Has k) r S T → PassMayAnswer F N S (Has k) (shown r) T
   has_row k given.Yes a = ((a.row.0, tt, sym a.old), same_is T _ a.row.1)
   has_row k given.No a = ((a.row.0, sym a.old), same_is T _ a.row.1)
   has_row k (given.Full counts) a = absurd a.row
@@ -87,14 +87,14 @@ module _ (F : Format) (N : ℕ) (S T : Keys) where
   has_row k given.Device a = ⊎_elim (λ same. same_is T S same) (λ same. same_is T S same) a.row
 
   -- the answer of a call is told as one of a set that may halt
-  pub told_row : (request : Request) (c : Command) (r : Given) → command_of request ≡ Some c → IsPlainAnswer F N c r S T → MayAnswer F N S request (shown r) T
+  pub told_row : (request : Request) (c : Command) (r : Given) → command_of request ≡ Some c → IsPlainAnswer F N c r S T → PassMayAnswer F N S request (shown r) T
   told_row (Add k) c r asked a = add_row k r (let same : c ≡ command.Add k = cc in subst (λ (d : Command). IsPlainAnswer F N d r S T) same a)
   told_row (Remove k) c r asked a = remove_row k r (let same : c ≡ command.Remove k = cc in subst (λ (d : Command). IsPlainAnswer F N d r S T) same a)
   told_row (Has k) c r asked a = has_row k r (let same : c ≡ command.Has k = cc in subst (λ (d : Command). IsPlainAnswer F N d r S T) same a)
   told_row Quit c r asked a = absurd (let never = asked in cc)
 
   -- and where it isn't cut off, as the plain set's
-  pub passed : (request : Request) (r : Given) → cuts_off r ≡ false → MayAnswer F N S request (shown r) T → PassAnswers F N S request (shown r) T
+  pub passed : (request : Request) (r : Given) → cuts_off r ≡ false → PassMayAnswer F N S request (shown r) T → PassAnswers F N S request (shown r) T
   passed Quit r whole may = absurd may
   passed request given.Halted whole may = absurd (let never : true ≡ false = whole in cc)
   passed request given.Device whole may = absurd (let never : true ≡ false = whole in cc)

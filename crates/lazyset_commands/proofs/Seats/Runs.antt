@@ -22,6 +22,7 @@ use Rattle.lz_tie.specs.Sessions.{IsSession, AreOn, marks_alone}
 use Rattle.lz_tie.proofs.Sessions.SessionMoments.{moments_are_plain}
 use Rattle.lz_tie.proofs.Start.FirstSets.{same_set_explains}
 use Rattle.lz_tie.proofs.Start.OpenedYard.{opened_sizes}
+use Rattle.lazyset_commands.specs.Asks.{PassMayAnswer}
 use Rattle.lazyset_commands.specs.Runs.{FoundAfter, OfInput, SessionOfSet}
 use Rattle.lazyset_commands.specs.Seats.{RanSeat, RepliesOfPass, ServedSeat}
 use Rattle.lazyset_commands.specs.declared.status.Status.{Status}
@@ -109,8 +110,8 @@ module _ {D : Type 0} (device : D → Device) (buckets : ℕ) (state : Status) (
     of_file P is =
         subst (λ (F : Format). P F N S) (ran.opens.vault.format honest) (subst (λ (n : ℕ). P F0 n S) sized (subst (λ (T : Keys). P F0 b.sizes.slots T) begins is))
 
-    pub seat_set : SessionOfSet (format_of seen) N S state input rest before later (device new).medium
-    seat_set = of_file (λ F n T. SessionOfSet F n T state input rest before later (device new).medium) (record {
+    pub seat_set : SessionOfSet (PassMayAnswer (format_of seen) N) N S state input rest before later (device new).medium
+    seat_set = of_file (λ F n T. SessionOfSet (PassMayAnswer F n) n T state input rest before later (device new).medium) (record {
       ended = seat.ended;
       status_is = seat.status_is;
       written = seat.tells.0;
@@ -125,13 +126,13 @@ module _ {D : Type 0} (device : D → Device) (buckets : ℕ) (state : Status) (
         (told_plain (λ p. p) b F0 seat.notes seat.begun seat.done one known no_steps (seat.alone one) seat.format (device new).medium (seat.left.now still) input rest before later seat.ended (is ∙ seat.status_is) seat.tells)
 
     -- at each moment the text is one that might have been left before, or holds the set after some first ones of the items
-    pub seat_leaves : IsTimely (device old) → OfInput input (λ items. LeavesOnly (device old) (device new) (λ t. IsImage (device old).medium t ⊎ FoundAfter (format_of seen) N S items t))
+    pub seat_leaves : IsTimely (device old) → OfInput input (λ items. LeavesOnly (device old) (device new) (λ t. IsImage (device old).medium t ⊎ FoundAfter (PassMayAnswer (format_of seen) N) N S items t))
     seat_leaves timely =
         let first = session_asked (SeatAnswers b F0) input rest seat.begun seat.done seat.ended seat.tells.0 seat.tells.2 in
-        let opening = opening_leaves (device old) mid (FoundAfter (format_of seen) N S first.items) timely (inr (ran.opens.vault.medium honest)) (ran.opens.vault.time honest) in
+        let opening = opening_leaves (device old) mid (FoundAfter (PassMayAnswer (format_of seen) N) N S first.items) timely (inr (ran.opens.vault.medium honest)) (ran.opens.vault.time honest) in
         let was = unwritten (device old) mid timely (inr (ran.opens.vault.medium honest)) in
-        let begun : (t : List ℕ) → ExplainsBegun b seat.notes t → FoundAfter (format_of seen) N S first.items t = λ t text.
-        of_file (λ F n T. FoundAfter F n T first.items t) (told_moment (λ p. p) b F0 seat.notes seat.begun seat.done one known no_steps (seat.alone one) seat.format input first t text)
+        let begun : (t : List ℕ) → ExplainsBegun b seat.notes t → FoundAfter (PassMayAnswer (format_of seen) N) N S first.items t = λ t text.
+        of_file (λ F n T. FoundAfter (PassMayAnswer F n) n T first.items t) (told_moment (λ p. p) b F0 seat.notes seat.begun seat.done one known no_steps (seat.alone one) seat.format input first t text)
         in (
           first.text,
           first.known,

@@ -22,7 +22,7 @@ use Rattle.lz_tie.specs.RunningSets.{members_of, Explains}
 use Rattle.lz_tie.specs.Sessions.{AnsweredCalls, Served, PlainRun, NoneCut, CutLast, IsSession, TellsAlone, AreOn}
 use Rattle.lz_tie.proofs.Sessions.SessionEnd.{session_is_held, session_is_plain}
 use Rattle.lz_tie.proofs.Sessions.SessionMoments.{moments_are_plain}
-use Rattle.lazyset_commands.specs.Asks.{MayAnswer}
+use Rattle.lazyset_commands.specs.Asks.{PassMayAnswer}
 use Rattle.lazyset_commands.specs.Ends.{session_status}
 use Rattle.lazyset_commands.specs.Runs.{FoundAfter}
 use Rattle.lazyset_commands.specs.Seats.{RepliesOfPass}
@@ -61,13 +61,13 @@ module _ {X : Type 0} (pass_of : X → Pass) (b : BoardId) (F : Format) (ns : Li
 
   module _ (t : List ℕ) (e : Explains b ns t) where
     -- the replies to all the items
-    told_answered : (items : List Item) (written : List ℕ) (ended : End) → Answered (answers pass_of b F) old items new written ended → Answered (MayAnswer F N) S0 items e.found written ended
+    told_answered : (items : List Item) (written : List ℕ) (ended : End) → Answered (answers pass_of b F) old items new written ended → Answered (PassMayAnswer F N) S0 items e.found written ended
     told_answered items written ended answered =
         let m = made pass_of b F items answered.replies old new answered.served in
         record { replies = answered.replies; served = m.run S0 e.found (held_run m.calls m.served m.cut t e); text = answered.text; ends = answered.ends }
 
     -- those before a write failed, and the one at which it did
-    told_cut : (items : List Item) (written : List ℕ) → CutOff (answers pass_of b F) old items new written → CutOff (MayAnswer F N) S0 items e.found written
+    told_cut : (items : List Item) (written : List ℕ) → CutOff (answers pass_of b F) old items new written → CutOff (PassMayAnswer F N) S0 items e.found written
     told_cut items written cut =
         let first = cut.answered in
         let m = made pass_of b F cut.done first.replies old cut.mid first.served in
@@ -91,7 +91,7 @@ module _ {X : Type 0} (pass_of : X → Pass) (b : BoardId) (F : Format) (ns : Li
         }
 
     pub told_session : (input after : Option (List ℕ)) (r : Result End SessionFault) (written : List ℕ) → SessionTells (answers pass_of b F) input after old new written r
-        → SessionTells (MayAnswer F N) input after S0 e.found written r
+        → SessionTells (PassMayAnswer F N) input after S0 e.found written r
     told_session input after (Ok ended) written tells =
         record { text = tells.text; known = tells.known; items = tells.items; its = tells.its; answered = told_answered tells.items written ended tells.answered }
     told_session input after (Err Read) written (text, gone, stopped) =
@@ -102,10 +102,10 @@ module _ {X : Type 0} (pass_of : X → Pass) (b : BoardId) (F : Format) (ns : Li
         (text, gone, record { items = broken.items; its = broken.its; cut = told_cut broken.items written broken.cut })
 
   -- a text that might have been left at any moment
-  pub told_moment : (input : Option (List ℕ)) (first : FirstAsked (answers pass_of b F) input old new) (t : List ℕ) → ExplainsBegun b ns t → FoundAfter F N S0 first.items t
+  pub told_moment : (input : Option (List ℕ)) (first : FirstAsked (answers pass_of b F) input old new) (t : List ℕ) → ExplainsBegun b ns t → FoundAfter (PassMayAnswer F N) N S0 first.items t
   told_moment input first t begun =
       let m = made pass_of b F first.done first.replies old new first.served in
-      found_of_more F N S0 first.items first.done first.rest t first.whole
+      found_of_more (PassMayAnswer F N) N S0 first.items first.done first.rest t first.whole
       (m.moment S0 t (moments_are_plain b F ns m.calls (part (pass_of old)) (part (pass_of new)) (session m.calls m.served m.cut) t begun))
 
   module _ (medium : Medium) (explains : (t : List ℕ) → IsImage medium t → Explains b ns t) where

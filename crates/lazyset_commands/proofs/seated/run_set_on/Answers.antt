@@ -1,5 +1,6 @@
 use Rattle.std.proofs.Common.{inl, inr, refl, sym, ap, ◌∙◌}
 use Rattle.lz_board.specs.declared.view.Sizes.{Sizes}
+use Rattle.lazyset_commands.specs.Asks.{PassMayAnswer}
 use Rattle.lazyset_commands.specs.Runs.{FoundAfter}
 use Rattle.lazyset_commands.proofs.SessionSets.{failed_open, refused_leaves}
 use Rattle.lazyset_commands.proofs.Seats.Runs.{seat_faults, seat_set, seat_plain, seat_leaves}
@@ -41,4 +42,4 @@ pub returns-in-Err-clause-set : goal.returns-in-Err-clause-set
 returns-in-Err-clause-set g c = λ N S honest held. inr (failed_open _ _ _ c.in-Err.ensures.err _ _ _ N S honest held c.refuse.ensures.told)
 
 pub returns-in-Err-clause-any_moment : goal.returns-in-Err-clause-any_moment
-returns-in-Err-clause-any_moment g c = λ N S honest held. refused_leaves _ _ _ c.in-Err.ensures.err _ (λ items t. FoundAfter _ N S items t) honest (g.met.D.Disk.timely c.args.disk honest)
+returns-in-Err-clause-any_moment g c = λ N S honest held. refused_leaves _ _ _ c.in-Err.ensures.err _ (λ items t. FoundAfter (PassMayAnswer _ N) N S items t) honest (g.met.D.Disk.timely c.args.disk honest)
