@@ -1,14 +1,16 @@
 -- What a run does that serves its session by the one pass of a set.
-use Rattle.std.specs.Prelude.{◌≡◌, ℕ, List, Option, Result}
+use Rattle.std.specs.Prelude.{◌≡◌, ◌⊎◌, ◌≤◌, ◌<◌, ℕ, List, Option, Result, Ok}
 use Rattle.std.specs.Io.KnownBytes.{Appends}
 use Rattle.lz_slot.specs.Sets.{Keys}
 use Rattle.lz_slot.specs.declared.format.Format.{Format}
 use Rattle.lz_disk.specs.Images.{Medium}
 use Rattle.lz_disk.specs.Devices.{Device}
+use Rattle.lz_vault.specs.Vaults.{last_sync}
 use Rattle.lz_proto.specs.Lines.{Items}
 use Rattle.lz_proto.specs.declared.item.Item.{Item}
 use Rattle.lz_proto.specs.declared.reply.Reply.{Reply}
 use Rattle.lz_proto.specs.declared.end.End.{End}
+use Rattle.lz_proto.specs.declared.end.End.TheVariants.{Halted}
 use Rattle.lz_proto.specs.declared.fault.SessionFault.{SessionFault}
 use Rattle.lz_proto.specs.Sessions.{IsInput, Serves, SessionTells, Writes, session_text}
 use Rattle.lz_yard.specs.Filling.{OpensYard}
@@ -27,7 +29,8 @@ use Rattle.lazyset_commands.specs.Plains.{EachHolds}
 use Rattle.lazyset_commands.specs.declared.status.Status.{Status}
 
 -- A new pass of a set served a session, whose end gives the status. What is left of the disk tells a history, since the disk was
--- like `first`: in a set of one pass, of the pass's own calls alone.
+-- like `first`: in a set of one pass, of the pass's own calls alone. It halts only where the device failed since, or has made its
+-- last sync.
 pub record ServedSeat (b : BoardId) (first : Device) (F : Format) (status : Status) (input rest before after : Option (List ℕ)) (disk : Device) : Type 0 where
   pub begun : Pass
   pub fresh : IsNew b begun
@@ -39,6 +42,7 @@ pub record ServedSeat (b : BoardId) (first : Device) (F : Format) (status : Stat
   pub left : IsLeft b first notes disk
   pub alone : b.sizes.passes ≡ 1 → TellsAlone b notes (part done)
   pub format : AreOn F (part done).steps
+  pub halts : ended ≡ Ok Halted → (last_sync ≤ left.yard.vault.syncs) ⊎ (first.faults < disk.faults)
 
 -- The disk was opened as a set of so many buckets and of one pass, and that pass served a session.
 pub record RanSeat {D : Type 0} (device : D → Device) (buckets : ℕ) (status : Status) (input rest before after : Option (List ℕ)) (old new : D) : Type 0 where
