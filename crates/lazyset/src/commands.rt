@@ -7,7 +7,7 @@ use crate::fault::Fault;
 use clap::ArgMatches;
 use lazyset_commands::{
     MOST_JUDGED, MOST_SURVEYED, ServeOptions, Status, check_of_on, check_on, judge_on, make_on,
-    rehearse_on, renew_on, run_on, serve_on,
+    rehearse_on, renew_on, run_set_on, serve_on,
 };
 use lz_disk::{Disk, FileDisk};
 use lz_slot::{Format, MOST_BUCKETS, MOST_PASSES, MOST_REHEARSED};
@@ -125,14 +125,13 @@ where
 
 fn run_file<R>(rt: &R, matches: &ArgMatches<'_>) -> Result<Status, Fault>
 where
-    R: Files<File = File> + Input + Print + AllocGlobal,
+    R: Files<File = File> + Input + Print + AllocGlobal + Wait,
 {
-    // A session of one caller looks through the slots: in how many lists they stand makes no difference to it yet.
-    if number_within(matches, "buckets", MOST_BUCKETS).is_none() {
+    let Some(buckets) = number_within(matches, "buckets", MOST_BUCKETS) else {
         return Ok(Status::CommandLine);
-    }
+    };
     let disk = open(rt, matches, false)?;
-    let (status, _disk) = run_on(rt.alloc(), &mut rt.reader(), &mut io::writer(rt), disk);
+    let (status, _disk) = run_set_on(rt, &mut rt.reader(), &mut io::writer(rt), disk, buckets);
     Ok(status)
 }
 

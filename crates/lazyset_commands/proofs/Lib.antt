@@ -12,3 +12,4 @@ pub mod Allotting
 pub mod RehearsalEnds
 pub mod TwoNumbers
 pub mod LineTexts
+pub mod Seats

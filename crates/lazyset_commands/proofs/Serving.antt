@@ -69,44 +69,45 @@ may_serve F N (Asks request ∷ items) [] S T served = absurd served
 may_serve F N (Asks request ∷ items) (Halted ∷ replies) S T served = (may_be F N S T request Halted served.0, served.1)
 may_serve F N (Asks request ∷ items) (reply ∷ replies) S T served = (served.0, may_be F N S served.0 request reply served.1, may_serve F N items replies served.0 T served.2)
 
--- nothing was asked yet
-found_here : (F : Format) (N : ℕ) (S : Keys) (items : List Item) (t : List ℕ) → Holds t N S → FoundAfter F N S items t
-found_here F N S items t holds = record { done = []; rest = items; first = refl; replies = []; found = S; served = refl; held = holds }
+module _ (A : Keys → Request → Reply → Keys → Type 0) (N : ℕ) where
+  -- nothing was asked yet
+  pub found_here : (S : Keys) (items : List Item) (t : List ℕ) → Holds t N S → FoundAfter A N S items t
+  found_here S items t holds = record { done = []; rest = items; first = refl; replies = []; found = S; served = refl; held = holds }
 
--- more items follow those asked
-pub found_of_more : (F : Format) (N : ℕ) (S : Keys) (all items more : List Item) (t : List ℕ) → all ≡ items ++ more → FoundAfter F N S items t → FoundAfter F N S all t
-found_of_more F N S all items more t whole found = record {
-  done = found.done;
-  rest = found.rest ++ more;
-  first = whole ∙ ap (λ (x : List Item). x ++ more) found.first ∙ append_assoc found.done found.rest more;
-  replies = found.replies;
-  found = found.found;
-  served = found.served;
-  held = found.held;
-}
+  -- more items follow those asked
+  pub found_of_more : (S : Keys) (all items more : List Item) (t : List ℕ) → all ≡ items ++ more → FoundAfter A N S items t → FoundAfter A N S all t
+  found_of_more S all items more t whole found = record {
+    done = found.done;
+    rest = found.rest ++ more;
+    first = whole ∙ ap (λ (x : List Item). x ++ more) found.first ∙ append_assoc found.done found.rest more;
+    replies = found.replies;
+    found = found.found;
+    served = found.served;
+    held = found.held;
+  }
 
--- a line's fault was told before them
-found_past_fault : (F : Format) (N : ℕ) (S : Keys) (bad : Bad) (items : List Item) (t : List ℕ) → FoundAfter F N S items t → FoundAfter F N S (Faulty bad ∷ items) t
-found_past_fault F N S bad items t found = record {
-  done = Faulty bad ∷ found.done;
-  rest = found.rest;
-  first = ap (λ (x : List Item). Faulty bad ∷ x) found.first;
-  replies = found.replies;
-  found = found.found;
-  served = found.served;
-  held = found.held;
-}
+  -- a line's fault was told before them
+  pub found_past_fault : (S : Keys) (bad : Bad) (items : List Item) (t : List ℕ) → FoundAfter A N S items t → FoundAfter A N S (Faulty bad ∷ items) t
+  found_past_fault S bad items t found = record {
+    done = Faulty bad ∷ found.done;
+    rest = found.rest;
+    first = ap (λ (x : List Item). Faulty bad ∷ x) found.first;
+    replies = found.replies;
+    found = found.found;
+    served = found.served;
+    held = found.held;
+  }
 
--- the first item is under way, done or not
-found_amid : (F : Format) (N : ℕ) (S T : Keys) (request : Request) (items : List Item) (t : List ℕ) → Serves (MayAnswer F N) S (Asks request ∷ []) (Halted ∷ []) T → Holds t N T → FoundAfter F N S (Asks request ∷ items) t
-found_amid F N S T request items t served holds = record { done = Asks request ∷ []; rest = items; first = refl; replies = Halted ∷ []; found = T; served = served; held = holds }
+  -- the first item is under way, done or not
+  pub found_amid : (S T : Keys) (request : Request) (items : List Item) (t : List ℕ) → Serves A S (Asks request ∷ []) (Halted ∷ []) T → Holds t N T → FoundAfter A N S (Asks request ∷ items) t
+  found_amid S T request items t served holds = record { done = Asks request ∷ []; rest = items; first = refl; replies = Halted ∷ []; found = T; served = served; held = holds }
 
 -- it was answered, and others after it
-found_past : (F : Format) (N : ℕ) (S T : Keys) (request : Request) (reply : Reply) (items : List Item) (t : List ℕ) → SetAnswers F N S request reply T → FoundAfter F N T items t
-    → FoundAfter F N S (Asks request ∷ items) t
+found_past : (F : Format) (N : ℕ) (S T : Keys) (request : Request) (reply : Reply) (items : List Item) (t : List ℕ) → SetAnswers F N S request reply T → FoundAfter (MayAnswer F N) N T items t
+    → FoundAfter (MayAnswer F N) N S (Asks request ∷ items) t
 found_past F N S T request reply items t answers found = cases request reply answers
   where
-    past : (request : Request) (reply : Reply) → Serves (MayAnswer F N) S (Asks request ∷ found.done) (reply ∷ found.replies) found.found → FoundAfter F N S (Asks request ∷ items) t
+    past : (request : Request) (reply : Reply) → Serves (MayAnswer F N) S (Asks request ∷ found.done) (reply ∷ found.replies) found.found → FoundAfter (MayAnswer F N) N S (Asks request ∷ items) t
     past request reply served = record {
       done = Asks request ∷ found.done;
       rest = found.rest;
@@ -117,7 +118,7 @@ found_past F N S T request reply items t answers found = cases request reply ans
       held = found.held;
     }
 
-    cases : (request : Request) (reply : Reply) → SetAnswers F N S request reply T → FoundAfter F N S (Asks request ∷ items) t
+    cases : (request : Request) (reply : Reply) → SetAnswers F N S request reply T → FoundAfter (MayAnswer F N) N S (Asks request ∷ items) t
     cases Quit reply answers = absurd answers
     cases (Add k) Halted answers = absurd answers.0
     cases (Remove k) Halted answers = absurd answers.0
@@ -221,31 +222,31 @@ module _ {D : Type 0} (device : D → Device) (timely : (disk : D) → IsTrue (d
   -- at each moment of a request the set is that of before it, or what the request makes of it
   request_leaves : (request : Request) (reply : Reply) (old new : VaultOver D) (F : Format) (N : ℕ) (S : Keys) (items : List Item) → PlainAnswers device old request reply new
       → IsTrue (device old.disk).honest → length old.memory.cells ≡ N → EachHolds (device old.disk).medium N S
-      → LeavesOnly (device old.disk) (device new.disk) (FoundAfter F N S (Asks request ∷ items))
+      → LeavesOnly (device old.disk) (device new.disk) (FoundAfter (MayAnswer F N) N S (Asks request ∷ items))
   request_leaves request reply old new F N S items asked honest count each = cases request asked
     where
       moments : (c : Command) → Asked c reply old.memory new.memory (device old.disk) (device new.disk) → LeavesOnly (device old.disk) (device new.disk) (HoldsBeforeOrAfter N S c)
       moments c asked = subst (λ (n : ℕ). LeavesOnly (device old.disk) (device new.disk) (HoldsBeforeOrAfter n S c)) count
           (asked.any_moment S honest (subst (λ (n : ℕ). EachHolds (device old.disk).medium n S) (sym count) each))
 
-      cases : (request : Request) → PlainAnswers device old request reply new → LeavesOnly (device old.disk) (device new.disk) (FoundAfter F N S (Asks request ∷ items))
-      cases (Add k) asked = leaves_more _ _ _ _ (λ t either. ⊎_elim (found_here F N S (Asks (Add k) ∷ items) t) (found_amid F N S (after (command.Add k) S) (Add k) items t (inr refl, refl)) either) (moments (command.Add k) asked)
-      cases (Remove k) asked = leaves_more _ _ _ _ (λ t either. ⊎_elim (found_here F N S (Asks (Remove k) ∷ items) t) (found_amid F N S (after (command.Remove k) S) (Remove k) items t (inr refl, refl)) either) (moments (command.Remove k) asked)
-      cases (Has k) asked = leaves_more _ _ _ _ (λ t either. ⊎_elim (found_here F N S (Asks (Has k) ∷ items) t) (found_here F N S (Asks (Has k) ∷ items) t) either) (moments (command.Has k) asked)
+      cases : (request : Request) → PlainAnswers device old request reply new → LeavesOnly (device old.disk) (device new.disk) (FoundAfter (MayAnswer F N) N S (Asks request ∷ items))
+      cases (Add k) asked = leaves_more _ _ _ _ (λ t either. ⊎_elim (found_here (MayAnswer F N) N S (Asks (Add k) ∷ items) t) (found_amid (MayAnswer F N) N S (after (command.Add k) S) (Add k) items t (inr refl, refl)) either) (moments (command.Add k) asked)
+      cases (Remove k) asked = leaves_more _ _ _ _ (λ t either. ⊎_elim (found_here (MayAnswer F N) N S (Asks (Remove k) ∷ items) t) (found_amid (MayAnswer F N) N S (after (command.Remove k) S) (Remove k) items t (inr refl, refl)) either) (moments (command.Remove k) asked)
+      cases (Has k) asked = leaves_more _ _ _ _ (λ t either. ⊎_elim (found_here (MayAnswer F N) N S (Asks (Has k) ∷ items) t) (found_here (MayAnswer F N) N S (Asks (Has k) ∷ items) t) either) (moments (command.Has k) asked)
       cases Quit asked = absurd asked
 
   -- at each moment the set is that after some first ones of the items
   pub items_leave : (items : List Item) (replies : List Reply) (old new : VaultOver D) (F : Format) (N : ℕ) (S : Keys) → Serves (PlainAnswers device) old items replies new
       → IsTrue (device old.disk).honest → old.memory.format ≡ F → length old.memory.cells ≡ N → EachHolds (device old.disk).medium N S
-      → LeavesOnly (device old.disk) (device new.disk) (FoundAfter F N S items)
+      → LeavesOnly (device old.disk) (device new.disk) (FoundAfter (MayAnswer F N) N S items)
   items_leave [] [] old new F N S served honest named count each =
-      subst (λ (x : VaultOver D). LeavesOnly (device old.disk) (device x.disk) (FoundAfter F N S [])) (sym served) (quiet _ _ (timely old.disk honest) (λ t image. found_here F N S [] t (each t image)))
+      subst (λ (x : VaultOver D). LeavesOnly (device old.disk) (device x.disk) (FoundAfter (MayAnswer F N) N S [])) (sym served) (quiet _ _ (timely old.disk honest) (λ t image. found_here (MayAnswer F N) N S [] t (each t image)))
   items_leave [] (reply ∷ replies) old new F N S served honest named count each = absurd served
   items_leave (Faulty bad ∷ items) replies old new F N S served honest named count each =
-      leaves_more _ _ _ _ (found_past_fault F N S bad items) (items_leave items replies old new F N S served honest named count each)
+      leaves_more _ _ _ _ (found_past_fault (MayAnswer F N) N S bad items) (items_leave items replies old new F N S served honest named count each)
   items_leave (Asks Quit ∷ items) [] old new F N S served honest named count each =
-      subst (λ (x : VaultOver D). LeavesOnly (device old.disk) (device x.disk) (FoundAfter F N S (Asks Quit ∷ items))) (sym served)
-      (quiet _ _ (timely old.disk honest) (λ t image. found_here F N S (Asks Quit ∷ items) t (each t image)))
+      subst (λ (x : VaultOver D). LeavesOnly (device old.disk) (device x.disk) (FoundAfter (MayAnswer F N) N S (Asks Quit ∷ items))) (sym served)
+      (quiet _ _ (timely old.disk honest) (λ t image. found_here (MayAnswer F N) N S (Asks Quit ∷ items) t (each t image)))
   items_leave (Asks Quit ∷ items) (reply ∷ replies) old new F N S served honest named count each = absurd served
   items_leave (Asks request ∷ items) [] old new F N S served honest named count each = absurd served
   items_leave (Asks request ∷ items) (Halted ∷ replies) old new F N S served honest named count each = request_leaves request Halted old new F N S items served.0 honest count each

@@ -44,12 +44,12 @@ synced_was old timely t image =
     subst (IsImage old.medium) (sym is) seen
 
 -- after a sync, or none
-unwritten : (old new : Device) → IsTimely old → (new.medium ≡ old.medium) ⊎ (new.medium ≡ synced old.medium) → (t : List ℕ) → IsImage new.medium t → IsImage old.medium t
+pub unwritten : (old new : Device) → IsTimely old → (new.medium ≡ old.medium) ⊎ (new.medium ≡ synced old.medium) → (t : List ℕ) → IsImage new.medium t → IsImage old.medium t
 unwritten old new timely (inl same) t image = subst (λ (m : Medium). IsImage m t) same image
 unwritten old new timely (inr after_sync) t image = synced_was old timely t (subst (λ (m : Medium). IsImage m t) after_sync image)
 
 -- an open that wrote nothing leaves what could be left before
-opening_leaves : (old new : Device) (P : List ℕ → Type 0) → IsTimely old → (new.medium ≡ old.medium) ⊎ (new.medium ≡ synced old.medium) → LeavesEither old new
+pub opening_leaves : (old new : Device) (P : List ℕ → Type 0) → IsTimely old → (new.medium ≡ old.medium) ⊎ (new.medium ≡ synced old.medium) → LeavesEither old new
     → LeavesOnly old new (λ t. IsImage old.medium t ⊎ P t)
 opening_leaves old new P timely same time = leaves_more old new _ _ (λ t either. ⊎_elim inl (λ image. inl (unwritten old new timely same t image)) either) time
 
@@ -127,14 +127,14 @@ module _ {D : Type 0} (device : D → Device) (timely : (disk : D) → IsTrue (d
         (T, (text, gone, record { items = broken.items; its = broken.its; cut = cut }), holds)
 
     -- at each moment of it the set is that after some first ones of the input's items
-    pub session_leaves : FirstAsked (PlainAnswers device) input old new → OfInput input (λ items. LeavesOnly (device old.disk) (device new.disk) (FoundAfter F N S items))
+    pub session_leaves : FirstAsked (PlainAnswers device) input old new → OfInput input (λ items. LeavesOnly (device old.disk) (device new.disk) (FoundAfter (MayAnswer F N) N S items))
     session_leaves first = (
       first.text,
       first.known,
       (
         first.items,
         first.its,
-        leaves_more _ _ _ _ (λ t found. found_of_more F N S first.items first.done first.rest t first.whole found) (items_leave device timely first.done first.replies old new F N S first.served honest named count each),
+        leaves_more _ _ _ _ (λ t found. found_of_more (MayAnswer F N) N S first.items first.done first.rest t first.whole found) (items_leave device timely first.done first.replies old new F N S first.served honest named count each),
       ),
     )
 
@@ -194,7 +194,7 @@ module _ {D : Type 0} (device : D → Device) (timely : (disk : D) → IsTrue (d
       still : IsTrue (device opened.disk).honest
       still = subst IsTrue (sym opens.honest) honest
 
-      pub ran_set : (state : Status) → state ≡ session_status r → SessionOfSet (format_of (device old).medium.seen) N S state input after before later (device left.disk).medium
+      pub ran_set : (state : Status) → state ≡ session_status r → SessionOfSet (MayAnswer (format_of (device old).medium.seen) N) N S state input after before later (device left.disk).medium
       ran_set state is =
           let (count, each) = opened_set (device old) (device opened.disk) opened.memory N S honest opens held in
           record {
@@ -210,7 +210,7 @@ module _ {D : Type 0} (device : D → Device) (timely : (disk : D) → IsTrue (d
           let (count, each) = opened_set (device old) (device opened.disk) opened.memory N S honest opens held in
           session_plain input after opened left (format_of (device old).medium.seen) N S opens.fresh.1 still (opens.format honest) count each r before later is tells
 
-      pub ran_leaves : OfInput input (λ items. LeavesOnly (device old) (device left.disk) (λ t. IsImage (device old).medium t ⊎ FoundAfter (format_of (device old).medium.seen) N S items t))
+      pub ran_leaves : OfInput input (λ items. LeavesOnly (device old) (device left.disk) (λ t. IsImage (device old).medium t ⊎ FoundAfter (MayAnswer (format_of (device old).medium.seen) N) N S items t))
       ran_leaves =
           let (count, each) = opened_set (device old) (device opened.disk) opened.memory N S honest opens held in
           let (text, known, of_items) = session_leaves input after opened left (format_of (device old).medium.seen) N S opens.fresh.1 still (opens.format honest) count each first in

@@ -55,6 +55,13 @@ SetAnswers F N S (Remove k) reply T = IsPlainReply F (command.Remove k) reply S 
 SetAnswers F N S (Has k) reply T = IsPlainReply F (command.Has k) reply S N × (T ≡ set_after_reply (command.Has k) reply S)
 SetAnswers F N S Quit reply T = ⊥
 
+-- What the plain set replies where a pass serves it: one that is worn out replies `worn`, and the set stays.
+abbrev pub PassAnswers : Format → ℕ → Keys → Request → Reply → Keys → Type 0
+PassAnswers F N S (Add k) Worn T = T ≡ S
+PassAnswers F N S (Remove k) Worn T = T ≡ S
+PassAnswers F N S (Has k) Worn T = T ≡ S
+PassAnswers F N S request reply T = SetAnswers F N S request reply T
+
 -- what the plain set replies whose device may fail: `halted` leaves open whether the command was done
 abbrev pub MayAnswer : Format → ℕ → Keys → Request → Reply → Keys → Type 0
 MayAnswer F N S (Add k) Halted T = (T ≡ S) ⊎ (T ≡ after (command.Add k) S)
@@ -62,6 +69,13 @@ MayAnswer F N S (Remove k) Halted T = (T ≡ S) ⊎ (T ≡ after (command.Remove
 MayAnswer F N S (Has k) Halted T = T ≡ S
 MayAnswer F N S Quit reply T = ⊥
 MayAnswer F N S request reply T = SetAnswers F N S request reply T
+
+-- and where a pass serves it: one that is worn out replies `worn`, and the set stays
+abbrev pub PassMayAnswer : Format → ℕ → Keys → Request → Reply → Keys → Type 0
+PassMayAnswer F N S (Add k) Worn T = T ≡ S
+PassMayAnswer F N S (Remove k) Worn T = T ≡ S
+PassMayAnswer F N S (Has k) Worn T = T ≡ S
+PassMayAnswer F N S request reply T = MayAnswer F N S request reply T
 
 -- The life is over after `halted`, and only then; it ends in a command only where the device fails in it, or has made its
 -- last sync.

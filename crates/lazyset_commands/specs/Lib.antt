@@ -9,3 +9,4 @@ pub mod Comparisons
 pub mod Judgements
 pub mod Rehearsals
 pub mod Renewals
+pub mod Seats

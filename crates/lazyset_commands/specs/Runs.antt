@@ -12,12 +12,13 @@ use Rattle.lz_vault.specs.declared.opening.OpenFault.{OpenFault}
 use Rattle.lz_vault.specs.declared.opening.OpenFault.TheVariants.{BadKey, Memory, Twice, Device as DeviceFailed}
 use Rattle.lz_proto.specs.Lines.{Items}
 use Rattle.lz_proto.specs.declared.item.Item.{Item}
+use Rattle.lz_proto.specs.declared.request.Request.{Request}
 use Rattle.lz_proto.specs.declared.reply.Reply.{Reply}
 use Rattle.lz_proto.specs.declared.end.End.{End}
 use Rattle.lz_proto.specs.declared.end.End.TheVariants.{Halted}
 use Rattle.lz_proto.specs.declared.fault.SessionFault.{SessionFault}
 use Rattle.lz_proto.specs.Sessions.{IsInput, Serves, SessionTells, Writes, session_text}
-use Rattle.lazyset_commands.specs.Asks.{MayAnswer, PlainAnswers, SetAnswers}
+use Rattle.lazyset_commands.specs.Asks.{PlainAnswers, SetAnswers}
 use Rattle.lazyset_commands.specs.Ends.{open_status, session_status}
 use Rattle.lazyset_commands.specs.Makings.{refused_text}
 use Rattle.lazyset_commands.specs.Plains.{EachHolds}
@@ -63,14 +64,14 @@ pub record RepliesOfSet (F : Format) (N : ℕ) (S : Keys) (input before after : 
   pub written : Appends before after (session_text items replies)
   pub held : EachHolds disk N last
 
--- The session is the plain set's, beginning with S, and each image holds a set in which it may have ended: one command that
--- was answered `halted` may have been done or not.
-pub record SessionOfSet (F : Format) (N : ℕ) (S : Keys) (status : Status) (input rest before after : Option (List ℕ)) (disk : Medium) : Type 0 where
+-- The session is that of a set which answers so, beginning with S, and each image holds a set in which it may have ended: one
+-- command that was answered `halted` may have been done or not.
+pub record SessionOfSet (A : Keys → Request → Reply → Keys → Type 0) (N : ℕ) (S : Keys) (status : Status) (input rest before after : Option (List ℕ)) (disk : Medium) : Type 0 where
   pub ended : Result End SessionFault
   pub status_is : status ≡ session_status ended
   pub written : List ℕ
   pub appended : Appends before after written
-  pub each : (t : List ℕ) → IsImage disk t → (T : Keys) × SessionTells (MayAnswer F N) input rest S T written ended × Holds t N T
+  pub each : (t : List ℕ) → IsImage disk t → (T : Keys) × SessionTells A input rest S T written ended × Holds t N T
 
 -- The device failed at the open, or there was no memory: this was told, and nothing was written to the disk.
 pub record FailedOpen (status : Status) (before after : Option (List ℕ)) (old new : Medium) : Type 0 where
@@ -79,14 +80,15 @@ pub record FailedOpen (status : Status) (before after : Option (List ℕ)) (old 
   pub told : Tells before after (refusal_text fault) Failed status
   pub unwritten : (new ≡ old) ⊎ (new ≡ synced old)
 
--- The text holds the set after some first ones of the items; the last of these may be under way, done or not.
-pub record FoundAfter (F : Format) (N : ℕ) (S : Keys) (items : List Item) (t : List ℕ) : Type 0 where
+-- The text holds the set after some first ones of the items, which it answers so; the last of these may be under way, done or
+-- not.
+pub record FoundAfter (A : Keys → Request → Reply → Keys → Type 0) (N : ℕ) (S : Keys) (items : List Item) (t : List ℕ) : Type 0 where
   pub done : List Item
   pub rest : List Item
   pub first : items ≡ done ++ rest
   pub replies : List Reply
   pub found : Keys
-  pub served : Serves (MayAnswer F N) S done replies found
+  pub served : Serves A S done replies found
   pub held : Holds t N found
 
 -- this is so of the input's items

@@ -11,6 +11,7 @@ mod refusal;
 mod rehearsing;
 mod renewing;
 mod running;
+mod seated;
 mod status;
 mod telling;
 
@@ -23,4 +24,5 @@ pub use plain::{Fault, Plain};
 pub use rehearsing::rehearse_on;
 pub use renewing::renew_on;
 pub use running::run_on;
+pub use seated::run_set_on;
 pub use status::Status;

@@ -6,6 +6,7 @@ ghost use Rattle.lz_disk.specs.Images.{IsImage};
 ghost use Rattle.lz_slot.specs.Bytes.{Holds, format_of};
 ghost use Rattle.lz_slot.specs.Sets.{Keys};
 ghost use Rattle.lz_proto.specs.declared.item.Item.{Item};
+ghost use Rattle.lazyset_commands.specs.Asks.{MayAnswer};
 ghost use Rattle.lazyset_commands.specs.Ends.{open_status, session_status};
 ghost use Rattle.lazyset_commands.specs.Runs.{FailedOpen, FoundAfter, OfInput, RanSession, RefusedOpen, RepliesOfSet, SessionOfSet, refusal_text};
 ghost use Rattle.lazyset_commands.specs.Tellings.{Tells};
@@ -36,7 +37,7 @@ pub fn run_on<R: Read + Drop, W: Write + Drop, D: Disk>(
 
     // Where what is read holds S, the session is the plain set's, however it ends, and so is what a crash after it leaves.
     ensures set { (N : ℕ) (S : Keys) → IsTrue (D.device disk).honest → Holds (D.device disk).medium.seen N S
-        → SessionOfSet (format_of (D.device disk).medium.seen) N S result.0 (R.remaining reader.old) (R.remaining reader.new) (W.contents writer.old) (W.contents writer.new) (D.device result.1).medium
+        → SessionOfSet (MayAnswer (format_of (D.device disk).medium.seen) N) N S result.0 (R.remaining reader.old) (R.remaining reader.new) (W.contents writer.old) (W.contents writer.new) (D.device result.1).medium
         ⊎ FailedOpen result.0 (W.contents writer.old) (W.contents writer.new) (D.device disk).medium (D.device result.1).medium }
 
     // A run that is done leaves the one set after all the replies.
@@ -47,7 +48,7 @@ pub fn run_on<R: Read + Drop, W: Write + Drop, D: Disk>(
     // input's items, with one of them under way.
     ensures any_moment { (N : ℕ) (S : Keys) → IsTrue (D.device disk).honest → Holds (D.device disk).medium.seen N S
         → OfInput (R.remaining reader.old) (λ items. LeavesOnly (D.device disk) (D.device result.1)
-        (λ t. IsImage (D.device disk).medium t ⊎ FoundAfter (format_of (D.device disk).medium.seen) N S items t)) }
+        (λ t. IsImage (D.device disk).medium t ⊎ FoundAfter (MayAnswer (format_of (D.device disk).medium.seen) N) N S items t)) }
 {
     match Plain::open(alloc, disk) {
         Ok(plain) => {
@@ -63,7 +64,7 @@ pub fn run_on<R: Read + Drop, W: Write + Drop, D: Disk>(
 }
 
 // The status after a session.
-fn status_after(ended: Result<End, SessionFault>) -> Status
+pub(crate) fn status_after(ended: Result<End, SessionFault>) -> Status
     ensures { result ≡ session_status ended }
 {
     match ended {

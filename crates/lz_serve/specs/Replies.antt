@@ -33,11 +33,12 @@ command_of (Has k) = Some (command.Has k)
 command_of Quit = None
 
 -- The reply tells the answer of one call of the pass, which is that of the request: the pass has what the table of answers
--- promises it. In a set of one pass the answer is the plain set's, over a file of this format.
+-- promises it, and it is a part of this board. In a set of one pass the answer is the plain set's, over a file of this format.
 pub record SeatAnswers (b : BoardId) (F : Format) (old : Pass) (request : Request) (reply : Reply) (new : Pass) : Type 0 where
   pub c : Command
   pub asked : command_of request ≡ Some c
   pub answer : Result Bool Fault
+  pub sized : (part old).sizes ≡ b.sizes
   pub call : Answers c (reply_told answer) (part old) (part new)
   pub plain : b.sizes.passes ≡ 1 → IsPlainAnswer F b.sizes.slots c (reply_told answer) (keys_in (part old).known) (keys_in (part new).known)
   pub told : reply ≡ reply_of answer

@@ -33,6 +33,19 @@ impl<'a, D: Disk, G: StepGate, N: Named, R: Wait> Seated<'a, D, G, N, R> {
     {
         Seated { rt, set, pass }
     }
+
+    /// Ends the service, and hands its pass back.
+    pub fn into_pass(self) -> Pass
+        ensures same { result ≡ self.entry.pass }
+        ensures may_call { MayCall N.board result }
+    {
+        let Seated {
+            rt: _,
+            set: _,
+            pass,
+        } = self;
+        pass
+    }
 }
 
 // The reply that tells what a call answered.

@@ -5,15 +5,16 @@ use Rattle.lz_list.specs.Traces.{Trace}
 use Rattle.lz_board.specs.declared.pass.Pass.{Pass}
 use Rattle.lz_board.specs.declared.view.Note.{Note}
 use Rattle.lz_board.specs.declared.view.Part.{Part}
+use Rattle.lz_board.specs.Notes.{Extends}
 use Rattle.lz_board.specs.Plays.{knowing}
 use Rattle.lz_board.specs.Seats.{BoardId, part}
 use Rattle.lz_set.specs.Left.{IsWelcome}
 use Rattle.std.proofs.lemmas.List.Elements.{All-nil, All-cons}
 
--- a part that has seen the trace, or is as before
+-- a part that has seen the trace, of which it had seen a beginning, or is as before
 abbrev pub HasCome : BoardId → Format → List Note → Trace → ℕ → Part → Part → Type 0
 HasCome b F ns K zero h g = g ≡ h
-HasCome b F ns K (suc n) h g = (g ≡ knowing K h) × IsWelcome b F ns g
+HasCome b F ns K (suc n) h g = (g ≡ knowing K h) × IsWelcome b F ns g × Extends K h.known
 
 -- one fewer
 abbrev pub fewer : ℕ → ℕ
@@ -33,11 +34,11 @@ module _ (b : BoardId) (F : Format) (ns : List Note) (K : Trace) where
   none_yet (h ∷ hs) = (refl, none_yet hs)
 
   pub one_more : (ps : List Pass) (hs : List Part) (n : ℕ) (d x : Pass) → n < length ps → Welcomed b F ns K n hs (map (λ p. part p) ps)
-      → part x ≡ knowing K (part (slice_index_or ps n d)) → IsWelcome b F ns (part x) → Welcomed b F ns K (suc n) hs (map (λ p. part p) (slice_set ps n x))
-  one_more [] hs n d x lt so seen own = absurd (omega (arith, lt))
-  one_more (p ∷ ps) [] n d x lt so seen own = absurd so
-  one_more (p ∷ ps) (h ∷ hs) zero d x lt so seen own = ((seen ∙ ap (knowing K) so.0, own), so.1)
-  one_more (p ∷ ps) (h ∷ hs) (suc n) d x lt so seen own = (so.0, one_more ps hs n d x (omega (arith, lt)) so.1 seen own)
+      → part x ≡ knowing K (part (slice_index_or ps n d)) → IsWelcome b F ns (part x) → Extends K (part (slice_index_or ps n d)).known → Welcomed b F ns K (suc n) hs (map (λ p. part p) (slice_set ps n x))
+  one_more [] hs n d x lt so seen own since = absurd (omega (arith, lt))
+  one_more (p ∷ ps) [] n d x lt so seen own since = absurd so
+  one_more (p ∷ ps) (h ∷ hs) zero d x lt so seen own since = ((seen ∙ ap (knowing K) so.0, own, subst (λ (u : Part). Extends K u.known) so.0 since), so.1)
+  one_more (p ∷ ps) (h ∷ hs) (suc n) d x lt so seen own since = (so.0, one_more ps hs n d x (omega (arith, lt)) so.1 seen own since)
 
   pub all_seen : (hs gs : List Part) (n : ℕ) → length gs ≤ n → Welcomed b F ns K n hs gs → gs ≡ map (knowing K) hs
   all_seen [] [] n le so = refl
@@ -52,3 +53,10 @@ module _ (b : BoardId) (F : Format) (ns : List Note) (K : Trace) where
   all_own (h ∷ hs) [] n le so = absurd so
   all_own (h ∷ hs) (g ∷ gs) zero le so = absurd (omega (arith, le))
   all_own (h ∷ hs) (g ∷ gs) (suc n) le so = All-cons (IsWelcome b F ns) g gs so.0.1 (all_own hs gs n (omega (arith, le)) so.1)
+
+  pub all_since : (hs gs : List Part) (n : ℕ) → length gs ≤ n → Welcomed b F ns K n hs gs → All (λ (h : Part). Extends K h.known) hs
+  all_since [] [] n le so = All-nil (λ (h : Part). Extends K h.known)
+  all_since [] (g ∷ gs) n le so = absurd so
+  all_since (h ∷ hs) [] n le so = absurd so
+  all_since (h ∷ hs) (g ∷ gs) zero le so = absurd (omega (arith, le))
+  all_since (h ∷ hs) (g ∷ gs) (suc n) le so = All-cons (λ (u : Part). Extends K u.known) h hs so.0.2 (all_since hs gs n (omega (arith, le)) so.1)

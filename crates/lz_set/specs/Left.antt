@@ -1,24 +1,32 @@
 -- What a set leaves that was closed.
-use Rattle.std.specs.Prelude.{◌≡◌, ◌≤◌, All, List, map}
+use Rattle.std.specs.Prelude.{◌≡◌, ◌⊎◌, ◌≤◌, ◌<◌, All, List, map}
 use Rattle.lz_slot.specs.declared.format.Format.{Format}
 use Rattle.lz_disk.specs.Devices.{Device}
+use Rattle.lz_vault.specs.Vaults.{last_sync}
+use Rattle.lz_list.specs.Traces.{halt_word}
+use Rattle.lz_machine.specs.Yards.{Yard}
 use Rattle.lz_board.specs.declared.view.Note.{Note}
 use Rattle.lz_board.specs.declared.view.Part.{Part}
-use Rattle.lz_board.specs.Notes.{trace_of}
+use Rattle.lz_board.specs.Notes.{Extends, trace_of}
 use Rattle.lz_board.specs.Plays.{knowing}
 use Rattle.lz_board.specs.Seats.{BoardId}
+use Rattle.lz_tie.specs.Holds.{IsLocked}
 use Rattle.lz_tie.specs.Moments.{ExplainedSince}
 use Rattle.lz_tie.specs.OwnCalls.{TellsOwn}
 use Rattle.lz_tie.specs.RunningSets.{HasHistory}
 use Rattle.lz_tie.specs.Sessions.{AreOn, TellsAlone}
 
 -- Whatever a crash leaves of the disk now explains what these notes show of calls and answers, and each text that a crash might
--- have left since it was like `first` what a beginning of them shows.
+-- have left since it was like `first` what a beginning of them shows. They are a run of the machine, which led to this yard; where
+-- the set was halted in it, the disk's last sync was made, or the device has failed since.
 pub record IsLeft (b : BoardId) (first : Device) (ns : List Note) (disk : Device) : Type 0 where
   pub now : HasHistory b ns disk
   pub ever : ExplainedSince b first ns disk
   pub honest : disk.honest ≡ first.honest
   pub faults : first.faults ≤ disk.faults
+  pub yard : Yard
+  pub locked : IsLocked b ns yard disk
+  pub over : halt_word (trace_of b.opened ns) ≡ 1 → (last_sync ≤ yard.vault.syncs) ⊎ (first.faults < disk.faults)
 
 -- A pass with this part has seen all that was published; the notes' calls of it are those that it made, with the replies that
 -- it got, on a file of this format; and in a set of one pass the notes show nothing else.
@@ -27,9 +35,10 @@ pub record IsWelcome (b : BoardId) (F : Format) (ns : List Note) (h : Part) : Ty
   pub alone : b.sizes.passes ≡ 1 → TellsAlone b ns h
   pub format : AreOn F h.steps
 
--- Besides, these parts of passes have become such ones.
+-- Besides, these parts of passes, which had seen a beginning of what was published, have become such ones.
 pub record IsLeftWith (b : BoardId) (first : Device) (F : Format) (disk : Device) (before after : List Part) : Type 0 where
   pub notes : List Note
   pub left : IsLeft b first notes disk
+  pub since : All (λ (h : Part). Extends (trace_of b.opened notes) h.known) before
   pub seen : after ≡ map (knowing (trace_of b.opened notes)) before
   pub welcome : All (IsWelcome b F notes) after

@@ -1,7 +1,8 @@
 //! The end of a set's life.
 ghost use Rattle.std.specs.Prelude.{◌≡◌, All, List, map};
 ghost use Rattle.lz_board.specs.declared.view.Note.{Note};
-ghost use Rattle.lz_board.specs.Notes.{trace_of};
+ghost use Rattle.lz_board.specs.declared.view.Part.{Part};
+ghost use Rattle.lz_board.specs.Notes.{Extends, trace_of};
 ghost use Rattle.lz_board.specs.Plays.{knowing};
 ghost use Rattle.lz_board.specs.Seats.{IsOf, id_of, part};
 ghost use Rattle.lz_set.specs.Left.{IsLeft, IsLeftWith, IsWelcome};
@@ -43,6 +44,7 @@ fn welcome_all<N: Named, D: Disk>(board: &Board, locked: &mut Locked<N, D>, pass
     requires passes { All (λ p. IsOf N.board p) passes.old }
     ensures same { locked.new ≡ locked.old }
     ensures passes { All (λ p. IsOf N.board p) passes.new }
+    ensures since { All (λ (h : Part). Extends (trace_of N.board.opened locked.old.notes) h.known) (map (λ p. part p) passes.old) }
     ensures seen { map (λ p. part p) passes.new ≡ map (knowing (trace_of N.board.opened locked.old.notes)) (map (λ p. part p) passes.old) }
     ensures welcome { All (IsWelcome N.board N.format locked.old.notes) (map (λ p. part p) passes.new) }
 {

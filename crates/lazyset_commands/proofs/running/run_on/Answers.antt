@@ -1,4 +1,5 @@
 use Rattle.std.proofs.Common.{inl, inr, refl, sym, ◌∙◌}
+use Rattle.lazyset_commands.specs.Asks.{MayAnswer}
 use Rattle.lazyset_commands.specs.Runs.{FoundAfter}
 use Rattle.lazyset_commands.proofs.SessionSets.{failed_open, ran, ran_faults, ran_honest, ran_leaves, ran_plain, ran_set, refused_leaves}
 use Rattle.lazyset_commands.proofs.running.run_on.Goals as goal
@@ -31,4 +32,4 @@ pub returns-in-Err-clause-set : goal.returns-in-Err-clause-set
 returns-in-Err-clause-set g c = λ N S honest held. inr (failed_open _ _ _ c.in-Err.ensures.err _ _ _ N S honest held c.refuse.ensures.told)
 
 pub returns-in-Err-clause-any_moment : goal.returns-in-Err-clause-any_moment
-returns-in-Err-clause-any_moment g c = λ N S honest held. refused_leaves _ _ _ c.in-Err.ensures.err _ (λ items t. FoundAfter _ N S items t) honest (g.met.D.Disk.timely c.args.disk honest)
+returns-in-Err-clause-any_moment g c = λ N S honest held. refused_leaves _ _ _ c.in-Err.ensures.err _ (λ items t. FoundAfter (MayAnswer _ N) N S items t) honest (g.met.D.Disk.timely c.args.disk honest)

@@ -3,11 +3,11 @@ use Rattle.std.proofs.lemmas.List.Elements.{All-set}
 use Rattle.std.proofs.lemmas.List.{length-map}
 use Rattle.lz_board.specs.declared.pass.Pass.{Pass}
 use Rattle.lz_board.specs.declared.view.Note.{Note}
-use Rattle.lz_board.specs.Notes.{trace_of}
+use Rattle.lz_board.specs.Notes.{Extends, trace_of}
 use Rattle.lz_board.specs.Plays.{knowing}
 use Rattle.lz_board.specs.Seats.{IsOf, part}
 use Rattle.lz_set.specs.Left.{IsWelcome}
-use Rattle.lz_set.proofs.Welcome.{Welcomed, none_yet, one_more, all_seen, all_own}
+use Rattle.lz_set.proofs.Welcome.{Welcomed, none_yet, one_more, all_seen, all_own, all_since}
 use Rattle.lz_set.proofs.closing.welcome_all.Goals as goal
 
 pub loop-i-init : goal.loop-i-init
@@ -34,7 +34,8 @@ loop-i-preserved g c =
       so = subst (λ (n : ℕ). Welcomed b F ns K n (map (λ p. part p) c.args.passes.now) (map (λ p. part p) (slice_set c.loop-i.passes c.loop-i.i c.welcome.new.pass))) (sym next)
           (one_more b F ns K c.loop-i.passes (map (λ p. part p) c.args.passes.now) c.loop-i.i c.index-passes-i.result c.welcome.new.pass lt c.loop-i.invariant.so
           (subst (λ (l : List Note). part c.welcome.new.pass ≡ knowing (trace_of b.opened l) (part (slice_index_or c.loop-i.passes c.loop-i.i c.index-passes-i.result))) notes_are c.welcome.ensures.part)
-          (subst (λ (l : List Note). IsWelcome b F l (part c.welcome.new.pass)) notes_are (record { own = c.welcome.ensures.own; alone = c.welcome.ensures.alone; format = c.welcome.ensures.format })));
+          (subst (λ (l : List Note). IsWelcome b F l (part c.welcome.new.pass)) notes_are (record { own = c.welcome.ensures.own; alone = c.welcome.ensures.alone; format = c.welcome.ensures.format }))
+          (subst (λ (l : List Note). Extends (trace_of b.opened l) (part (slice_index_or c.loop-i.passes c.loop-i.i c.index-passes-i.result)).known) notes_are c.welcome.ensures.since));
     }
 
 pub returns-clause-seen : goal.returns-clause-seen
@@ -50,3 +51,10 @@ returns-clause-welcome g c =
     let long = c.loop-i.auto.passes in
     let count : length (map (λ (p : Pass). part p) c.loop-i.passes) ≡ length c.loop-i.passes = length-map c.loop-i.passes (λ (p : Pass). part p) in
     all_own g.N.Named.board g.N.Named.format c.args.locked.now.notes (trace_of g.N.Named.board.opened c.args.locked.now.notes) (map (λ p. part p) c.args.passes.now) (map (λ p. part p) c.loop-i.passes) c.loop-i.i (omega (arith, over, long, count)) c.loop-i.invariant.so
+
+pub returns-clause-since : goal.returns-clause-since
+returns-clause-since g c =
+    let over = c.loop-i-test.false in
+    let long = c.loop-i.auto.passes in
+    let count : length (map (λ (p : Pass). part p) c.loop-i.passes) ≡ length c.loop-i.passes = length-map c.loop-i.passes (λ (p : Pass). part p) in
+    all_since g.N.Named.board g.N.Named.format c.args.locked.now.notes (trace_of g.N.Named.board.opened c.args.locked.now.notes) (map (λ p. part p) c.args.passes.now) (map (λ p. part p) c.loop-i.passes) c.loop-i.i (omega (arith, over, long, count)) c.loop-i.invariant.so

@@ -1,8 +1,10 @@
 use Rattle.std.proofs.Common.{◌≡◌, List, All, map, sym, ap, ◌∙◌, subst}
 use Rattle.lz_board.specs.declared.view.Note.{Note}
-use Rattle.lz_board.specs.Notes.{trace_of}
+use Rattle.lz_board.specs.declared.view.Part.{Part}
+use Rattle.lz_board.specs.Notes.{Extends, trace_of}
 use Rattle.lz_board.specs.Plays.{knowing}
 use Rattle.lz_board.specs.Seats.{part}
+use Rattle.lz_tie.specs.Holds.{IsLocked}
 use Rattle.lz_tie.specs.RunningSets.{HasHistory}
 use Rattle.lz_set.specs.Left.{IsWelcome}
 use Rattle.lz_set.proofs.set.Set.close_with.Goals as goal
@@ -12,6 +14,7 @@ returns-clause-left g c =
     let b = g.N.Named.board in
     let was = c.into_inner-locked.result.notes in
     let ns = c.welcome_all.new.locked.notes in
+    let yard = c.welcome_all.new.locked.yard in
     let same : ns ≡ was = ap (λ l. l.notes) c.welcome_all.ensures.same in
     record {
       notes = ns;
@@ -20,7 +23,11 @@ returns-clause-left g c =
         ever = c.close.ensures.explained;
         honest = c.close.ensures.life.honest;
         faults = c.close.ensures.life.faults;
+        yard = yard;
+        locked = subst (λ disk. IsLocked b ns yard (g.D.Disk.device disk)) (sym c.close.ensures.disk) c.holds.ensures.locked;
+        over = c.close.ensures.over;
       };
+      since = subst (λ (l : List Note). All (λ (h : Part). Extends (trace_of b.opened l) h.known) (map (λ p. part p) c.args.passes.now)) (sym same) c.welcome_all.ensures.since;
       seen = subst (λ (l : List Note). map (λ p. part p) c.welcome_all.new.passes ≡ map (knowing (trace_of b.opened l)) (map (λ p. part p) c.args.passes.now)) (sym same) c.welcome_all.ensures.seen;
       welcome = subst (λ (l : List Note). All (IsWelcome b g.N.Named.format l) (map (λ p. part p) c.welcome_all.new.passes)) (sym same) c.welcome_all.ensures.welcome;
     }

@@ -2,6 +2,7 @@ use Rattle.std.proofs.Common.{subst}
 use Rattle.lz_machine.specs.Marks.{IsTold}
 use Rattle.lz_board.specs.Notes.{shape_of}
 use Rattle.lz_board.specs.Seats.{notes}
+use Rattle.lz_tie.specs.Holds.{IsLocked}
 use Rattle.lz_tie.specs.Marks.{AreOfPasses, marks_in}
 use Rattle.lz_tie.specs.RunningSets.{HasHistory}
 use Rattle.lz_tie.proofs.Marks.RunningSet.{history_of}
@@ -22,3 +23,7 @@ pub returns-clause-passes : goal.returns-clause-passes
 returns-clause-passes g c =
     subst (λ v. AreOfPasses g.N.Named.board.sizes.passes (marks_in (shape_of g.N.Named.board.sizes) v.notes)) c.self.view_is
     (history_passes g.N.Named.board (notes c.self.inside.pen) c.self.inside.yard.yard (g.D.Disk.device c.self.inside.yard.disk) c.self.invariant.1)
+
+pub returns-clause-locked : goal.returns-clause-locked
+returns-clause-locked g c =
+    subst (λ v. IsLocked g.N.Named.board v.notes v.yard (g.D.Disk.device v.disk)) c.self.view_is c.self.invariant.1

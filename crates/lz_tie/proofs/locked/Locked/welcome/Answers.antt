@@ -1,7 +1,7 @@
 use Rattle.std.proofs.Common.{◌∙◌, sym, subst}
 use Rattle.lz_slot.specs.declared.format.Format.{Format}
 use Rattle.lz_board.specs.declared.view.Part.{Part}
-use Rattle.lz_board.specs.Notes.{trace_of}
+use Rattle.lz_board.specs.Notes.{Extends, trace_of}
 use Rattle.lz_board.specs.Kept.{Knows}
 use Rattle.lz_board.specs.Seats.{BoardId, id_of, notes, part}
 use Rattle.lz_tie.specs.OwnCalls.{TellsOwn}
@@ -9,6 +9,12 @@ use Rattle.lz_tie.specs.Sessions.{AreOn, TellsAlone}
 use Rattle.lz_tie.proofs.Marks.OwnCalls.{tells_own}
 use Rattle.lz_tie.proofs.Sessions.SoleNotes.{tells_alone, format_alone}
 use Rattle.lz_tie.proofs.locked.Locked.welcome.Goals as goal
+
+pub returns-clause-since : goal.returns-clause-since
+returns-clause-since g c =
+    let b = g.N.Named.board in
+    let knows = subst (λ (b : BoardId). Knows b.sizes b.opened (notes c.self.inside.pen) (part c.args.pass.now)) c.requires.board c.join.ensures.knows in
+    subst (λ v. Extends (trace_of b.opened v.notes) (part c.args.pass.now).known) c.self.view_is (knows.since.0, knows.since.1)
 
 pub returns-clause-own : goal.returns-clause-own
 returns-clause-own g c =
