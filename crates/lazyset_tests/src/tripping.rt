@@ -126,12 +126,7 @@ fn finds(
 
 // Whether what is found behind the failure is as it may be: the set after the change where it was answered, that before it
 // where its gate wasn't written yet, and one of the two else.
-fn is_kept(
-    alloc: Global,
-    change: Change,
-    turns: usize,
-    end: &str,
-) -> Result<bool, AllocError> {
+fn is_kept(alloc: Global, change: Change, turns: usize, end: &str) -> Result<bool, AllocError> {
     let before = change.is_held;
     let was_done = finds(alloc, change, turns, end, !before)?;
     let was_not = finds(alloc, change, turns, end, before)?;
