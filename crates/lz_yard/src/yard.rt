@@ -1,6 +1,7 @@
 //! The yard: what callers share under one lock.
 ghost use Rattle.std.specs.Prelude.{◌≡◌, ◌≤◌, true, IfErr, IfOk, IfSome};
 ghost use Rattle.lz_slot.specs.Limits.{most_buckets, most_passes};
+ghost use Rattle.lz_allot.specs.Uses.{counts};
 ghost use Rattle.lz_list.specs.Words.{set};
 ghost use Rattle.lz_list.specs.Lists.{IsWord};
 ghost use Rattle.lz_vault.specs.Opens.{IsRefusedFor};
@@ -13,6 +14,7 @@ ghost use Rattle.lz_machine.specs.Table.{needs};
 use crate::filling::Tables;
 use crate::parts::Parts;
 use crate::told::nothing_told;
+use lz_allot::Counts;
 use lz_disk::Disk;
 use lz_list::{Publishing, Word, Words};
 use lz_machine::{Event, Outcome};
@@ -98,6 +100,19 @@ impl<D: Disk> Yard<D> {
         ensures rest { (self.new.told ≡ self.old.told) × (self.new.disk ≡ self.old.disk) }
     {
         self.parts.set_pin(actor, value);
+    }
+
+    pub fn slots(&self) -> usize
+        ensures { result ≡ self.now.yard.shape.slots }
+    {
+        self.parts.slots
+    }
+
+    /// How many slots are free, taken and in limbo.
+    pub fn counts(&self) -> Counts
+        ensures { result ≡ counts self.now.yard.uses }
+    {
+        self.parts.allot.counts()
     }
 
     pub fn words(&self) -> &Words
