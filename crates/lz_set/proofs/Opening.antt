@@ -15,6 +15,7 @@ use Rattle.lz_board.specs.Seats.{BoardId, IsNew, IsPenOf, notes, part}
 use Rattle.lz_tie.specs.Holds.{sizes_of}
 use Rattle.lz_tie.proofs.Start.OpenedYard.{opened_locked, opened_sizes}
 use Rattle.lz_set.specs.Blanks.{IsBlank}
+use Rattle.lz_set.proofs.Members.{begins_with}
 
 pub blank : (b : BoardId) (p : Pen) (before after : Device) (B S : ℕ) (y : Yard) (w : Words) (ps : List Pass) → OpensYard before after B S y → w ≡ y.words
     → b.sizes ≡ sizes_in w → b.opened ≡ opened_by w → IsPenOf b p → notes p ≡ []
@@ -35,4 +36,5 @@ blank b p before after B S y w ps opens words sizes opened pen none count new pa
         buckets = (B_is, some_buckets.0, some_buckets.1);
         passes = (count ∙ pins, subst (λ (n : ℕ). 1 ≤ n) (sym S_is) some_passes.0, subst (λ (n : ℕ). n ≤ most_passes) (sym S_is) some_passes.1);
       };
+      begins = begins_with b before after B S y opens (opened ∙ ap opened_by words);
     }

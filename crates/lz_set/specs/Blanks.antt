@@ -1,8 +1,10 @@
 -- A set that was opened and has no name yet.
 use Rattle.std.specs.Prelude.{◌≡◌, ◌≤◌, ℕ, All, List, [], length, map}
 use Rattle.lz_slot.specs.declared.format.Format.{Format}
+use Rattle.lz_slot.specs.Sets.{HasMembers}
 use Rattle.lz_slot.specs.Limits.{most_buckets, most_passes}
 use Rattle.lz_disk.specs.Devices.{Device}
+use Rattle.lz_allot.specs.Uses.{counts}
 use Rattle.lz_machine.specs.Yards.{Yard}
 use Rattle.lz_board.specs.declared.board.Pen.{Pen}
 use Rattle.lz_board.specs.declared.pass.Pass.{Pass}
@@ -11,6 +13,7 @@ use Rattle.lz_board.specs.Seats.{BoardId, IsNew, IsPenOf, notes as notes_of, par
 use Rattle.lz_tie.specs.Holds.{IsLocked}
 use Rattle.lz_tie.specs.Lives.{LivesOn}
 use Rattle.lz_tie.specs.Moments.{LeftSince}
+use Rattle.lz_tie.specs.RunningSets.{members_of}
 
 -- The board that its name will have, its yard and its disk.
 pub record BlankOver (D : Type 0) : Type 0 where
@@ -28,13 +31,14 @@ pub record AreNew (b : BoardId) (ps : List Pass) : Type 0 where
   pub new : All (IsNew b) ps
   pub parts : map (λ p. part p) ps ≡ parts_from b.sizes b.opened b.sizes.passes 1
 
--- The yard may go under the lock with the board's pen, and the passes are the board's.
+-- The yard may go under the lock with the board's pen, the passes are the board's, and as many slots are taken as it has members.
 pub record IsBlank (b : BoardId) (p : Pen) (y : Yard) (disk : Device) (ps : List Pass) (B : ℕ) : Type 0 where
   pub pen : IsPenOf b p
   pub notes : notes_of p ≡ []
   pub locked : IsLocked b [] y disk
   pub passes : AreNew b ps
   pub sized : IsSized b B (length ps)
+  pub begins : HasMembers (members_of b.opened) (counts y.uses).taken
 
 -- A name may be given to the set: its values are the set's board, the file's format, and the disk as it is or was before, since
 -- when nothing else could be left of it.

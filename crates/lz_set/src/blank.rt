@@ -1,5 +1,7 @@
 //! A set that has no name yet.
-ghost use Rattle.std.specs.Prelude.{All};
+ghost use Rattle.std.specs.Prelude.{◌≡◌, All};
+ghost use Rattle.lz_slot.specs.Sets.{HasMembers};
+ghost use Rattle.lz_tie.specs.RunningSets.{members_of};
 ghost use Rattle.lz_set.specs.Blanks.{AreNew, MayBeNamed};
 ghost use Rattle.lz_set.specs.Names.{MayCall};
 
@@ -34,6 +36,20 @@ impl<D: Disk, G: StepGate> Model for Blank<D, G> {
 }
 
 impl<D: Disk, G: StepGate> Blank<D, G> {
+    /// How many slots its file has.
+    pub fn slots(&self) -> usize
+        ensures { result ≡ self.now.board.sizes.slots }
+    {
+        self.yard.slots()
+    }
+
+    /// How many members it begins with.
+    pub fn members(&self) -> usize
+        ensures { HasMembers (members_of self.now.board.opened) result }
+    {
+        self.yard.counts().taken
+    }
+
     /// The set, and its passes in the order of their numbers, of which none has done anything yet.
     pub fn start<N: Named>(self) -> (Set<D, G, N>, Vec<Pass>)
         requires { MayBeNamed D.device N.board N.first N.format self }
