@@ -12,6 +12,9 @@ pub struct Layout {
 /// How many looks make a round: the rounds of each layout go over its keys so often that half of the looks find a member.
 pub const ROUND: u64 = 4000;
 
+/// How many slots are free: one that was used is free again once every pass was seen to have left it.
+const SPARE: usize = 8;
+
 /// The layouts that are measured.
 pub const LAYOUTS: [Layout; 3] = [
     Layout {
@@ -44,16 +47,23 @@ impl Layout {
         look.wrapping_mul(1201).checked_rem(all).unwrap_or(0)
     }
 
-    /// A file that holds the members.
+    /// The key that is added and removed beside the looks: a number behind all that are looked for.
+    pub fn changed(self) -> u64 {
+        (self.keys as u64).wrapping_mul(2).wrapping_add(1)
+    }
+
+    /// A file that holds the members, with some free slots behind them.
     pub fn file(self, alloc: Global) -> Result<Vec<u8>, AllocError> {
         let mut bytes = vec![in alloc; OPEN_GATE]?;
-        bytes.extend_from_slice(&header_body(Format::Two, self.keys as u64))?;
+        let slots = (self.keys as u64).wrapping_add(SPARE as u64);
+        bytes.extend_from_slice(&header_body(Format::Two, slots))?;
         for slot in 0..self.keys {
             if let Some(key) = Key::new(self.member(slot)) {
                 bytes.push(OPEN_GATE)?;
                 bytes.extend_from_slice(&slot_body(key))?;
             }
         }
+        bytes.extend_from_slice(&[0; 16 * SPARE])?;
         Ok(bytes)
     }
 }

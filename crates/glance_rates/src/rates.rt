@@ -1,93 +1,66 @@
-//! Rounds of looks, by several threads, and what is said of them.
-ghost use Rattle.std.specs.Prelude.{◌≡◌, ◌≤◌, All};
-ghost use Rattle.glance_rates.specs.Looks.{MayLook};
+//! What is measured, and what is said of it.
+ghost use Rattle.std.specs.Prelude.{◌≡◌, ◌≤◌, All, IfSome};
+ghost use Rattle.lz_disk.specs.Records.{device_of};
+ghost use Rattle.lz_set.specs.Blanks.{MayBeNamed};
+ghost use Rattle.lz_set.specs.Names.{MayCall};
 
-use crate::boards::{look_round, open_board};
 use crate::layout::{LAYOUTS, Layout, ROUND};
 use crate::nodes::Nodes;
-use lz_board::{Board, Pass};
-use std::alloc::Global;
+use crate::sets::open_set;
+use crate::tally::Tally;
+use crate::threads::{Seen, look_by_threads};
+use lz_disk::MemoryDisk;
+use lz_set::{Blank, Named, NoGate, Pass};
 use std::io::ErrorKind;
+use std::marker::Brand;
 use std::rt::Env;
 use std::sync::Wait;
 use std::thread::Threads;
 use std::time::{Clock, Duration, Instant};
-use std::{env, io, thread};
+use std::{env, io};
 
-/// What rounds of looks found, and how long they took.
+/// By how many threads it is looked, and whether beside one that changes the set.
 #[derive(Clone, Copy)]
-struct Tally {
-    rounds: u64,
-    found: u64,
-    taken: Duration,
+struct Company {
+    threads: usize,
+    writer: bool,
+    name: &'static str,
 }
 
-impl Tally {
-    const NONE: Tally = Tally {
-        rounds: 0,
-        found: 0,
-        taken: Duration::ZERO,
-    };
+const COMPANIES: [Company; 6] = [
+    Company {
+        threads: 1,
+        writer: false,
+        name: "1 thread",
+    },
+    Company {
+        threads: 2,
+        writer: false,
+        name: "2 threads",
+    },
+    Company {
+        threads: 4,
+        writer: false,
+        name: "4 threads",
+    },
+    Company {
+        threads: 1,
+        writer: true,
+        name: "1 thread beside a writer",
+    },
+    Company {
+        threads: 2,
+        writer: true,
+        name: "2 threads beside a writer",
+    },
+    Company {
+        threads: 4,
+        writer: true,
+        name: "4 threads beside a writer",
+    },
+];
 
-    // Another round is done. Says whether the time is up.
-    fn note<R: Clock>(
-        &mut self,
-        rt: &R,
-        found: u64,
-        start: Instant,
-        time: Duration,
-    ) -> io::Result<bool> {
-        self.rounds = self.rounds.wrapping_add(1);
-        self.found = self.found.wrapping_add(found);
-        self.taken = start.elapsed(rt)?;
-        Ok(self.taken >= time)
-    }
-
-    // What other threads did meanwhile counts too.
-    fn beside(self, other: Tally) -> Tally {
-        Tally {
-            rounds: self.rounds.wrapping_add(other.rounds),
-            found: self.found.wrapping_add(other.found),
-            taken: self.taken.max(other.taken),
-        }
-    }
-
-    fn looks(self) -> u64 {
-        self.rounds.wrapping_mul(ROUND)
-    }
-
-    fn rate(self) -> u64 {
-        let micros = self.taken.as_micros();
-        let rate = (self.looks() as u128)
-            .wrapping_mul(1_000_000)
-            .checked_div(micros);
-        u64::try_from(rate.unwrap_or(0)).unwrap_or(0)
-    }
-}
-
-// Looks by one pass, in whole rounds, until the time is up.
-fn look_for<R: Clock>(
-    rt: &R,
-    board: &Board,
-    pass: Pass,
-    layout: Layout,
-    time: Duration,
-) -> io::Result<Tally>
-    requires { MayLook board.now pass }
-{
-    let mut pass = pass;
-    let mut tally = Tally::NONE;
-    let start = Instant::now(rt)?;
-    for _ in 0..u64::MAX {
-        let found = look_round(board, &mut pass, layout);
-        if tally.note(rt, found, start, time)? {
-            break;
-        }
-    }
-    Ok(tally)
-}
-
-// The same over plain nodes.
+// Looks over plain nodes, in whole rounds, until the time is up.
 fn walk_for<R: Clock>(rt: &R, nodes: &Nodes, layout: Layout, time: Duration) -> io::Result<Tally> {
     let mut tally = Tally::NONE;
     let start = Instant::now(rt)?;
@@ -102,58 +75,55 @@ fn walk_for<R: Clock>(rt: &R, nodes: &Nodes, layout: Layout, time: Duration) -> 
     Ok(tally)
 }
 
-// Looks by a thread for each pass.
-fn look_by_threads<R: Threads + Wait + Clock + Sync>(
-    rt: &R,
-    alloc: Global,
-    board: &Board,
-    passes: Vec<Pass>,
-    layout: Layout,
-    time: Duration,
-) -> io::Result<Tally>
-    requires { All (MayLook board.now) passes.items }
-{
-    thread::scope(
-        thread::scope_env(),
-        rt,
-        move |scope| -> io::Result<Tally>
-            requires { All (MayLook board.now) passes.items }
-        {
-            let mut threads = Vec::new(alloc);
-            for pass in passes {
-                let thread = scope.spawn(
-                    move || -> io::Result<Tally>
-                        requires { MayLook board.now pass }
-                    { look_for(rt, board, pass, layout, time) },
-                );
-                if let Ok(thread) = thread {
-                    threads.push(thread)?;
-                }
-            }
-            let mut all = Tally::NONE;
-            for thread in threads {
-                all = all.beside(thread.join(rt)?);
-            }
-            Ok(all)
-        },
-    )
+// Says what was found, or how often a second it was looked and changed where that was asked.
+fn tell(rt: &impl Print, layout: Layout, who: &str, seen: Seen, time: Duration) -> io::Result<()> {
+    let Layout { keys, buckets } = layout;
+    let Seen { looks, changes } = seen;
+    if time.is_zero() {
+        let (found, all) = (looks.found, looks.looks());
+        println!(rt; "{keys} keys, buckets {buckets}, {who}: {found} of {all} found")
+    } else if changes == 0 {
+        println!(rt;
+            "{keys} keys, buckets {buckets}, {who}: {} a second",
+            looks.rate()
+        )
+    } else {
+        let changed = looks.a_second(changes);
+        println!(rt;
+            "{keys} keys, buckets {buckets}, {who}: {} a second, {changed} changes",
+            looks.rate()
+        )
+    }
 }
 
-// Says what was found, or how often a second it was looked where that was asked.
-fn tell(
-    rt: &impl Print,
+// Looks at the set in this company.
+fn look<R, N>(
+    rt: &R,
+    blank: Blank<MemoryDisk, NoGate>,
     layout: Layout,
-    who: &str,
-    tally: Tally,
+    company: Company,
     time: Duration,
-) -> io::Result<()> {
-    let Layout { keys, buckets } = layout;
-    let (found, looks, rate) = (tally.found, tally.looks(), tally.rate());
-    if time.is_zero() {
-        println!(rt; "{keys} keys, buckets {buckets}, {who}: {found} of {looks} found")
-    } else {
-        println!(rt; "{keys} keys, buckets {buckets}, {who}: {rate} a second")
+) -> io::Result<Seen>
+where
+    R: Threads + Wait + Clock + AllocGlobal + Sync,
+    N: Named + Send + Sync,
+    requires { MayBeNamed device_of N.board N.first N.format blank }
+{
+    let (set, mut passes) = blank.start::<N>();
+    let writer = take_writer::<N>(&mut passes, company.writer);
+    look_by_threads(rt, rt.alloc(), &set, passes, writer, layout, time)
+}
+
+// The pass of a writer, where there is to be one.
+fn take_writer<N: Named>(passes: &mut Vec<Pass>, writes: bool) -> Option<Pass>
+    requires may { All (MayCall N.board) passes.old.items }
+    ensures rest { All (MayCall N.board) passes.new.items }
+    ensures last { IfSome result (λ pass. MayCall N.board pass) }
+{
+    if !writes {
+        return None;
     }
+    passes.pop()
 }
 
 fn measure<R>(rt: &R, layout: Layout, time: Duration) -> io::Result<()>
@@ -162,21 +132,31 @@ where
     requires { (1 ≤ layout.buckets) × (layout.buckets ≤ 4096) }
 {
     let nodes = Nodes::new(rt.alloc(), layout)?;
-    tell(
-        rt,
-        layout,
-        "plain",
-        walk_for(rt, &nodes, layout, time)?,
-        time,
-    )?;
-    for (count, who) in [(1usize, "1 thread"), (2, "2 threads"), (4, "4 threads")] {
-        let Some((board, passes)) = open_board(rt.alloc(), layout, count) else {
-            return Err(io::Error::from(ErrorKind::OutOfMemory));
-        };
-        let tally = look_by_threads(rt, rt.alloc(), &board, passes, layout, time)?;
-        tell(rt, layout, who, tally, time)?;
+    let plain = Seen {
+        looks: walk_for(rt, &nodes, layout, time)?,
+        changes: 0,
+    };
+    tell(rt, layout, "plain", plain, time)?;
+    for company in COMPANIES {
+        measure_in(rt, layout, company, time)?;
     }
     Ok(())
+}
+
+fn measure_in<R>(rt: &R, layout: Layout, company: Company, time: Duration) -> io::Result<()>
+where
+    R: Threads + Wait + Clock + Print + AllocGlobal + Sync,
+    requires { (1 ≤ layout.buckets) × (layout.buckets ≤ 4096) }
+{
+    let passes = company
+        .threads
+        .saturating_add(company.writer as usize)
+        .clamp(1, 64);
+    let Some(blank) = open_set(rt.alloc(), layout, passes) else {
+        return Err(io::Error::from(ErrorKind::OutOfMemory));
+    };
+    let seen = look::<R, Brand>(rt, blank, layout, company, time)?;
+    tell(rt, layout, company.name, seen, time)
 }
 
 /// Measures each layout, for as many milliseconds as the first word says, or for one round.
