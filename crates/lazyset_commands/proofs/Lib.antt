@@ -13,3 +13,4 @@ pub mod RehearsalEnds
 pub mod TwoNumbers
 pub mod LineTexts
 pub mod Seats
+pub mod Services

@@ -1,7 +1,5 @@
 pub mod Rows
 pub mod Calls
 pub mod Told
-pub mod Mapped
 pub mod Handed
-pub mod Halts
 pub mod Runs

@@ -10,3 +10,4 @@ pub mod Judgements
 pub mod Rehearsals
 pub mod Renewals
 pub mod Seats
+pub mod Services

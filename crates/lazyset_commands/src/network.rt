@@ -1,17 +1,17 @@
 //! The command that serves a set over the network.
-ghost use Rattle.std.specs.Prelude.{◌≡◌, ◌⊎◌, ◌≤◌, IsTrue};
-ghost use Rattle.std.specs.Io.KnownBytes.{Appends};
+ghost use Rattle.std.specs.Prelude.{◌≡◌, ◌⊎◌, ◌≤◌, ◌<◌, All, true, vec_len};
 ghost use Rattle.lz_slot.specs.Limits.{most_buckets, most_passes};
-ghost use Rattle.lz_vault.specs.Opens.{IsFaultOf};
-ghost use Rattle.lazyset_commands.specs.Runs.{refusal_text};
 ghost use Rattle.lz_set.specs.Blanks.{MayBeNamed};
+ghost use Rattle.lz_set.specs.Names.{MayCall};
+ghost use Rattle.lazyset_commands.specs.Services.{HadNoPort, RanService, RefusedService, ServedPasses};
 
 use crate::running::refuse;
 use crate::status::Status;
+use crate::telling::tell;
 use lz_disk::Disk;
-use lz_serve::{Bounds, serve};
-use lz_set::{Blank, Named, NoGate, Set};
-use lz_vault::{OpenFault, Refused};
+use lz_serve::{Bounds, Served, serve};
+use lz_set::{Blank, Named, NoGate, Pass, Set};
+use lz_vault::Refused;
 use std::io;
 use std::io::Write;
 use std::marker::Brand;
@@ -19,6 +19,9 @@ use std::net::{Net, TcpListener, TcpStream};
 use std::sync::Wait;
 use std::thread::Threads;
 use std::time::{Clock, Duration};
+
+// What is said where the service can't listen.
+const NO_PORT: &[u8] = b"noport\n";
 
 /// How a set is served.
 #[derive(Clone, Copy, Debug, PartialEq, Eq)]
@@ -62,9 +65,11 @@ where
     D: Disk + Send,
     requires passes { (1 ≤ options.passes) × (options.passes ≤ most_passes) }
     requires buckets { (1 ≤ options.buckets) × (options.buckets ≤ most_buckets) }
-    ensures refused { result.0 ≡ Status.Refused → (fault : OpenFault) × Appends (W.contents writer.old) (W.contents writer.new) (refusal_text fault)
-        × (IsTrue (D.device disk).honest → IsFaultOf (D.device disk).medium.seen fault) }
-    ensures other { (result.0 ≡ Status.Done) ⊎ (result.0 ≡ Status.Refused) ⊎ (result.0 ≡ Status.Failed) }
+    // Either the passes of the set that was opened were served, or there was no port, or the open was refused.
+    ensures ran { RanService D.device options.buckets options.passes result.0 (W.contents writer.old) (W.contents writer.new) disk result.1
+        ⊎ RefusedService D.device result.0 (W.contents writer.old) (W.contents writer.new) disk result.1 }
+    ensures honest { (D.device result.1).honest ≡ (D.device disk).honest }
+    ensures faults { (D.device disk).faults ≤ (D.device result.1).faults }
 {
     match Set::open(rt.alloc(), disk, NoGate, options.buckets, options.passes) {
         Ok(blank) => serve_blank::<R, W, D, Brand>(rt, writer, blank, options),
@@ -89,23 +94,54 @@ where
     D: Disk + Send,
     N: Named + Send + Sync,
     requires { MayBeNamed D.device N.board N.first N.format blank }
-    ensures { (result.0 ≡ Status.Done) ⊎ (result.0 ≡ Status.Failed) }
+    ensures { ServedPasses N.board N.first N.format result.0 (D.device result.1) ⊎ HadNoPort N.board N.first result.0 (W.contents writer.old) (W.contents writer.new) (D.device result.1) }
 {
     let (set, passes) = blank.start::<N>();
     let Some((listener, port)) = listen(rt, options.port) else {
-        // Where standard output fails too, the status alone is left to tell.
-        let _ = writeln!(writer, "noport");
-        return (Status::Failed, set.close());
+        return (tell(writer, Status::Failed, NO_PORT), set.close());
     };
     // A service goes on where nobody reads what it says.
     let _ = tell_port(writer, port);
-    let served = serve(rt, &listener, &set, passes, options.bounds());
-    let status = if served.halted || served.threadless > 0 {
+    serve_passes(rt, &listener, set, passes, options.bounds())
+}
+
+// Serves the passes, and ends the set's life behind them.
+fn serve_passes<R, D, N>(
+    rt: &R,
+    listener: &TcpListener,
+    set: Set<D, NoGate, N>,
+    passes: Vec<Pass>,
+    bounds: Bounds,
+) -> (Status, D)
+where
+    R: Threads + Wait + Clock + AllocGlobal + Sync,
+    D: Disk + Send,
+    N: Named + Send + Sync,
+    requires may_call { All (MayCall N.board) passes.items }
+    requires all { vec_len passes ≡ N.board.sizes.passes }
+    ensures { ServedPasses N.board N.first N.format result.0 (D.device result.1) }
+{
+    let Served {
+        passes,
+        halted,
+        threadless,
+    } = serve(rt, listener, &set, passes, bounds);
+    let mut passes = passes;
+    let disk = set.close_with(passes.as_mut_slice());
+    (status_of_service(halted, threadless), disk)
+}
+
+// The status after a service.
+fn status_of_service(halted: bool, threadless: usize) -> Status
+    ensures done { result ≡ Status.Done → threadless ≡ 0 }
+    ensures failed { result ≡ Status.Failed → (halted ≡ true) ⊎ (0 < threadless) }
+    ensures other { (result ≡ Status.Done) ⊎ (result ≡ Status.Failed) }
+{
+    if halted || threadless > 0 {
         Status::Failed
     } else {
         Status::Done
-    };
-    (status, set.close())
+    }
 }
 
 // A listener on a port of the loopback interface, and its port.

@@ -1,28 +1,18 @@
 //! Sessions over the network, in a thread for each pass.
-ghost use Rattle.std.specs.Prelude.{All};
+ghost use Rattle.std.specs.Prelude.{◌≡◌, ◌+◌, ◌≤◌, true, All, IfSome, vec_capacity, vec_len};
+ghost use Rattle.std.specs.List.{Any};
 ghost use Rattle.lz_set.specs.Names.{MayCall};
+ghost use Rattle.lz_serve.specs.Halts.{SawHalt};
 
-use crate::seated::Seated;
+use crate::pass_thread::{Finished, serve_pass};
 use lz_disk::Disk;
-use lz_proto::{End, session};
 use lz_set::{Named, Pass, Set, StepGate};
-use std::io::Read;
-use std::net::{Shutdown, TcpListener, TcpStream};
+use std::alloc::Global;
+use std::net::TcpListener;
 use std::sync::Wait;
-use std::sync::atomic::{AtomicBool, Ordering};
 use std::thread;
-use std::thread::Threads;
+use std::thread::{JoinHandle, Threads};
 use std::time::{Clock, Duration};
-
-/// How many milliseconds a thread waits before it tries again where no connection could be had, as when no descriptors are
-/// left.
-const PAUSE: u64 = 20;
-
-/// For how many milliseconds, and how often, what a client still sends behind a session's end is read and thrown away: a
-/// connection that is closed over unread bytes is reset, and the client may lose its last replies.
-const FAREWELL: u64 = 100;
-
-const FAREWELLS: usize = 16;
 
 /// When sessions and passes end.
 #[derive(Clone, Copy, Debug, PartialEq, Eq)]
@@ -34,85 +24,14 @@ pub struct Bounds {
 }
 
 /// How a service ended.
-#[derive(Clone, Copy, Debug, PartialEq, Eq)]
+#[derive(Drop)]
 pub struct Served {
+    /// The passes whose threads are done, in the order in which they were given.
+    pub passes: Vec<Pass>,
     /// A session ended because the device had failed.
     pub halted: bool,
-    /// For how many passes no thread could be made.
+    /// For how many passes no thread could be made. These are gone.
     pub threadless: usize,
-}
-
-// Serves one connection, and says whether its session found the set halted.
-fn serve_stream<D, G, N, R>(
-    rt: &R,
-    stream: &TcpStream,
-    seated: &mut Seated<'_, D, G, N, R>,
-    idle: Option<Duration>,
-) -> bool
-where
-    D: Disk,
-    G: StepGate,
-    N: Named,
-    R: Wait + AllocGlobal,
-{
-    // A reply goes out at once; where that can't be asked for it may go out later.
-    let _ = stream.set_nodelay(true);
-    // Where no time can be set the session waits without an end.
-    let _ = stream.set_read_timeout(idle);
-    let _ = stream.set_write_timeout(idle);
-    let ended = session(rt.alloc(), &mut &*stream, &mut &*stream, seated);
-    take_leave(stream);
-    matches!(ended, Ok(End::Halted))
-}
-
-// Ends the replies, and reads for a while what is still sent.
-fn take_leave(stream: &TcpStream) {
-    let patience = Some(Duration::from_millis(FAREWELL));
-    if stream.shutdown(Shutdown::Write).is_err() || stream.set_read_timeout(patience).is_err() {
-        return;
-    }
-    let mut rest = [0; 4096];
-    let mut reader = stream;
-    for _ in 0..FAREWELLS {
-        match reader.read(&mut rest) {
-            Ok(0) | Err(_) => return,
-            Ok(_) => {}
-        }
-    }
-}
-
-// Serves one connection after the other, so many of them, or without an end at 0. Says whether it ended because a session
-// found the set halted.
-fn serve_pass<D, G, N, R>(
-    rt: &R,
-    listener: &TcpListener,
-    set: &Set<D, G, N>,
-    pass: Pass,
-    bounds: Bounds,
-) -> bool
-where
-    D: Disk,
-    G: StepGate,
-    N: Named,
-    R: Wait + Clock + AllocGlobal,
-    requires { MayCall N.board pass }
-{
-    let mut seated = Seated::new(rt, set, pass);
-    let mut served = 0u64;
-    for stream in listener.incoming() {
-        let Ok(stream) = stream else {
-            thread::sleep(rt, Duration::from_millis(PAUSE));
-            continue;
-        };
-        if serve_stream(rt, &stream, &mut seated, bounds.idle) {
-            return true;
-        }
-        served = served.wrapping_add(1);
-        if served == bounds.sessions {
-            return false;
-        }
-    }
-    false
 }
 
 /// Serves connections with a thread for each pass, which serves one connection after the other: so many of them, or
@@ -131,35 +50,83 @@ where
     N: Named + Send + Sync,
     R: Threads + Wait + Clock + AllocGlobal + Sync,
     requires { All (MayCall N.board) passes.items }
+    ensures may_call { All (MayCall N.board) result.passes.items }
+    ensures count { vec_len result.passes + result.threadless ≡ vec_len passes }
+    ensures halted { result.halted ≡ true → Any SawHalt result.passes.items }
 {
-    let halted = AtomicBool::new(false);
-    let told = &halted;
-    let threadless = thread::scope(
+    thread::scope(
         thread::scope_env(),
         rt,
-        move |scope| -> usize
+        move |scope| -> Served
             requires { All (MayCall N.board) passes.items }
+            ensures may_call { All (MayCall N.board) result.passes.items }
+            ensures count { vec_len result.passes + result.threadless ≡ vec_len passes }
+            ensures halted { result.halted ≡ true → Any SawHalt result.passes.items }
         {
-            let mut threadless = 0usize;
+            let given = passes.len();
+            let Some((mut threads, done)) = room_for::<N>(rt.alloc(), given) else {
+                return Served {
+                    passes: Vec::new(rt.alloc()),
+                    halted: false,
+                    threadless: given,
+                };
+            };
             for pass in passes {
                 let thread = scope.spawn(
-                    move || -> ()
+                    move || -> Finished<N>
                         requires { MayCall N.board pass }
-                    {
-                        if serve_pass(rt, listener, set, pass, bounds) {
-                            told.store(true, Ordering::SeqCst);
-                        }
-                    },
+                    { serve_pass(rt, listener, set, pass, bounds) },
                 );
-                if thread.is_err() {
-                    threadless = threadless.wrapping_add(1);
-                }
+                let Ok(thread) = thread else {
+                    continue;
+                };
+                let Ok(()) = threads.push(thread) else {
+                    unreachable!()
+                };
             }
-            threadless
+            let threadless = given - threads.len();
+            let (passes, halted) = join_all(rt, threads, done);
+            Served {
+                passes,
+                halted,
+                threadless,
+            }
         },
-    );
-    Served {
-        halted: halted.load(Ordering::SeqCst),
-        threadless,
+    )
+}
+
+type Rooms<N> = (Vec<JoinHandle<Finished<N>>>, Vec<Pass>);
+
+// Room for so many threads, and for the passes that they hand back.
+fn room_for<N: Named>(alloc: Global, count: usize) -> Option<Rooms<N>>
+    ensures threads { IfSome result (λ rooms. (vec_len rooms.0 ≡ 0) × (count ≤ vec_capacity rooms.0)) }
+    ensures passes { IfSome result (λ rooms. (vec_len rooms.1 ≡ 0) × (count ≤ vec_capacity rooms.1)) }
+{
+    let threads = Vec::with_capacity(alloc, count).ok()?;
+    let passes = Vec::with_capacity(alloc, count).ok()?;
+    Some((threads, passes))
+}
+
+// Waits for each thread, in the order of the passes. Hands these back, and says whether one of the threads found the set halted.
+fn join_all<N: Named, R: Threads>(
+    rt: &R,
+    threads: Vec<JoinHandle<Finished<N>>>,
+    room: Vec<Pass>,
+) -> (Vec<Pass>, bool)
+    requires empty { vec_len room ≡ 0 }
+    requires room { vec_len threads ≤ vec_capacity room }
+    ensures may_call { All (MayCall N.board) result.0.items }
+    ensures count { vec_len result.0 ≡ vec_len threads }
+    ensures halted { result.1 ≡ true → Any SawHalt result.0.items }
+{
+    let mut passes = room;
+    let mut halted = false;
+    for thread in threads {
+        let (pass, found) = thread.join(rt).into_parts();
+        halted = halted || found;
+        let Ok(()) = passes.push(pass) else {
+            unreachable!()
+        };
     }
+    (passes, halted)
 }

@@ -2,9 +2,9 @@ use Rattle.std.proofs.Common.{sym}
 use Rattle.lz_serve.specs.Replies.{SeatAnswers}
 use Rattle.lz_board.specs.Notes.{trace_of}
 use Rattle.lz_board.specs.Seats.{part}
-use Rattle.lazyset_commands.proofs.Seats.Halts.{halt_extended, session_halts}
+use Rattle.lz_serve.proofs.Halting.{halt_extended, session_halts}
 use Rattle.lazyset_commands.proofs.Seats.Handed.{one_since, one_welcome}
-use Rattle.lazyset_commands.proofs.Seats.Mapped.{known_session}
+use Rattle.lz_serve.proofs.Mapped.{known_session}
 use Rattle.lazyset_commands.proofs.seated.run_pass.Goals as goal
 
 pub returns : goal.returns

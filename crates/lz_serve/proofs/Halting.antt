@@ -1,4 +1,4 @@
--- A session of the one pass that halted: the set's halt word is 1.
+-- A pass of whose sessions one halted: it has seen that the set was halted.
 use Rattle.std.proofs.Common.{◌≡◌, Bool, true, false, List, [], ◌∷◌, ◌++◌, Option, ℕ, Result, Ok, Err, ap, ◌∙◌}
 use Rattle.lz_slot.specs.declared.command.Command.{Command}
 use Rattle.lz_slot.specs.declared.command.Command.TheVariants as command

@@ -1,0 +1,52 @@
+-- What a service of a set does: its passes are served, each by a thread.
+use Rattle.std.specs.Prelude.{◌≡◌, ◌⊎◌, ◌≤◌, ◌<◌, ℕ, List, [], ◌∷◌, ◌++◌, codes, length, Option}
+use Rattle.lz_slot.specs.declared.format.Format.{Format}
+use Rattle.lz_disk.specs.Devices.{Device}
+use Rattle.lz_vault.specs.Opens.{IsRefusedFor}
+use Rattle.lz_vault.specs.Vaults.{last_sync}
+use Rattle.lz_vault.specs.declared.opening.OpenFault.{OpenFault}
+use Rattle.lz_yard.specs.Filling.{OpensYard}
+use Rattle.lz_board.specs.declared.view.Note.{Note}
+use Rattle.lz_board.specs.declared.view.Part.{Part}
+use Rattle.lz_board.specs.Opened.{opened_by}
+use Rattle.lz_board.specs.Seats.{BoardId}
+use Rattle.lz_tie.specs.Holds.{sizes_of}
+use Rattle.lz_set.specs.Blanks.{BlankOver}
+use Rattle.lz_set.specs.Left.{IsLeft, IsLeftWith}
+use Rattle.lazyset_commands.specs.Ends.{open_status}
+use Rattle.lazyset_commands.specs.Runs.{refusal_text}
+use Rattle.lazyset_commands.specs.Tellings.{Tells}
+use Rattle.lazyset_commands.specs.declared.status.Status.{Status}
+use Rattle.lazyset_commands.specs.declared.status.Status.TheVariants.{Done, Failed}
+
+-- Passes of a set were served, and have ended with these parts: what is left of the disk tells a history, in which their calls are those
+-- that they made, with the replies that they got. It is done only where each pass was served, and has failed only where one wasn't, the
+-- device failed, or it has made its last sync.
+pub record ServedPasses (b : BoardId) (first : Device) (F : Format) (status : Status) (disk : Device) : Type 0 where
+  pub ended : List Part
+  pub met : List Part
+  pub left : IsLeftWith b first F disk ended met
+  pub whole : status ≡ Done → length ended ≡ b.sizes.passes
+  pub failed : status ≡ Failed → (length ended < b.sizes.passes) ⊎ ((last_sync ≤ left.left.yard.vault.syncs) ⊎ (first.faults < disk.faults))
+  pub other : (status ≡ Done) ⊎ (status ≡ Failed)
+
+-- There was no port for the service, which was told; what is left of the disk tells a history.
+pub record HadNoPort (b : BoardId) (first : Device) (status : Status) (before after : Option (List ℕ)) (disk : Device) : Type 0 where
+  pub told : Tells before after (codes "noport" ++ 10 ∷ []) Failed status
+  pub notes : List Note
+  pub left : IsLeft b first notes disk
+
+-- The disk was opened as a set of so many buckets and passes, and its passes were served, or there was no port.
+pub record RanService {D : Type 0} (device : D → Device) (buckets passes : ℕ) (status : Status) (before after : Option (List ℕ)) (old new : D) : Type 0 where
+  pub opened : BlankOver D
+  pub opens : OpensYard (device old) (device opened.disk) buckets passes opened.yard
+  pub sizes : opened.board.sizes ≡ sizes_of opened.yard.shape
+  pub trace : opened.board.opened ≡ opened_by opened.yard.words
+  pub served : ServedPasses opened.board (device opened.disk) opened.yard.vault.format status (device new)
+      ⊎ HadNoPort opened.board (device opened.disk) status before after (device new)
+
+-- The open was refused, and the refusal was told.
+pub record RefusedService {D : Type 0} (device : D → Device) (status : Status) (before after : Option (List ℕ)) (old new : D) : Type 0 where
+  pub fault : OpenFault
+  pub refused : IsRefusedFor (device old) (device new) fault
+  pub told : Tells before after (refusal_text fault) (open_status fault) status

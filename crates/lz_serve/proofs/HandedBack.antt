@@ -1,0 +1,21 @@
+-- Passes that threads hand back, one after the other.
+use Rattle.std.proofs.Common.{◌≡◌, ◌⊎◌, ⊎_elim, Bool, true, All, List, [], ◌∷◌, ◌++◌, sym, ◌∙◌, subst, arith}
+use Rattle.std.specs.List.{Any}
+use Rattle.std.proofs.lemmas.List.{get_or_append_left, length-append}
+use Rattle.std.proofs.lemmas.List.Elements.{All-append}
+use Rattle.std.proofs.lemmas.List.Quantifiers.{Any-push}
+
+module _ {X : Type 0} (P : X → Type 0) (xs ys : List X) (x : X) (pushed : ys ≡ xs ++ x ∷ []) where
+  -- what holds of each still does
+  pub all_back : All P xs → P x → All P ys
+  all_back each new = subst (All P) (sym pushed) (All-append P xs (x ∷ []) each (λ k d low. grind arith))
+
+  here_or_before : Any P xs → Any P (xs ++ x ∷ [])
+  here_or_before (k, y, low, at, holds) =
+      let longer = length-append xs (x ∷ []) in
+      (k, y, omega (arith, low, longer), get_or_append_left xs (x ∷ []) y k low ∙ at, holds)
+
+  -- it holds of one of them, where it held of one before, or holds of the last
+  pub one_back : (was found now : Bool) → (was ≡ true → Any P xs) → (found ≡ true → P x) → now ≡ true → (now ≡ true → (was ≡ true) ⊎ (found ≡ true)) → Any P ys
+  one_back was found now before last is or =
+      subst (Any P) (sym pushed) (⊎_elim (λ w. here_or_before (before w)) (λ f. Any-push P xs x (last f)) (or is))

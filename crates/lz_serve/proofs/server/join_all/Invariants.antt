@@ -1,0 +1,13 @@
+use Rattle.std.specs.Prelude.{◌≡◌, ◌+◌, ◌≤◌, true, All, vec_capacity, vec_items, vec_len}
+use Rattle.std.specs.List.{Any}
+use Rattle.std.specs.Vec.Iter.{into_iter_len}
+use Rattle.lz_set.specs.Names.{MayCall}
+use Rattle.lz_serve.specs.Halts.{SawHalt}
+use Rattle.lz_serve.proofs.server.join_all.Given as goal
+
+abbrev pub invariant-loop-thread : goal.invariant-loop-thread
+invariant-loop-thread g l =
+    (vec_len l.passes + into_iter_len l.thread-iterator ≡ vec_len l.fn.threads)
+    × (vec_len l.fn.threads ≤ vec_capacity l.passes)
+    × All (MayCall g.N.Named.board) (vec_items l.passes)
+    × (l.halted ≡ true → Any SawHalt (vec_items l.passes))

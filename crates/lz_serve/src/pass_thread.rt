@@ -1,0 +1,147 @@
+//! The thread of a pass, which serves one connection after the other.
+ghost use Rattle.std.specs.Prelude.{◌≡◌, true};
+ghost use Rattle.lz_set.specs.Names.{MayCall};
+ghost use Rattle.lz_serve.specs.Halts.{SawHalt};
+
+use crate::seated::Seated;
+use crate::server::Bounds;
+use lz_disk::Disk;
+use lz_proto::{End, session};
+use lz_set::{Named, Pass, Set, StepGate};
+use std::io::Read;
+use std::marker::PhantomData;
+use std::net::{Shutdown, TcpListener, TcpStream};
+use std::sync::Wait;
+use std::thread;
+use std::time::{Clock, Duration};
+
+/// How many milliseconds a thread waits before it tries again where no connection could be had, as when no descriptors are
+/// left.
+const PAUSE: u64 = 20;
+
+/// For how many milliseconds, and how often, what a client still sends behind a session's end is read and thrown away: a
+/// connection that is closed over unread bytes is reset, and the client may lose its last replies.
+const FAREWELL: u64 = 100;
+
+const FAREWELLS: usize = 16;
+
+/// A pass whose thread is done, and whether a session found the set halted, which ended the thread.
+#[derive(Drop)]
+pub(crate) struct Finished<N: Named> {
+    halted: bool,
+    pass: Pass,
+    of: PhantomData<N>,
+    ghost may_call: { MayCall N.board pass },
+    ghost seen: { halted ≡ true → SawHalt pass },
+}
+
+impl<N: Named> Finished<N> {
+    /// The pass, and whether a session found the set halted.
+    pub(crate) fn into_parts(self) -> (Pass, bool)
+        ensures may_call { MayCall N.board result.0 }
+        ensures seen { result.1 ≡ true → SawHalt result.0 }
+    {
+        let Finished {
+            halted,
+            pass,
+            of: _,
+        } = self;
+        (pass, halted)
+    }
+}
+
+/// Serves by this pass, until a session found the set halted, or it has served as many as it may.
+pub(crate) fn serve_pass<D, G, N, R>(
+    rt: &R,
+    listener: &TcpListener,
+    set: &Set<D, G, N>,
+    pass: Pass,
+    bounds: Bounds,
+) -> Finished<N>
+where
+    D: Disk,
+    G: StepGate,
+    N: Named,
+    R: Wait + Clock + AllocGlobal,
+    requires { MayCall N.board pass }
+{
+    let mut seated = Seated::new(rt, set, pass);
+    let halted = serve_sessions(rt, listener, &mut seated, bounds);
+    Finished {
+        halted,
+        pass: seated.into_pass(),
+        of: PhantomData,
+    }
+}
+
+// Serves one connection after the other, so many of them, or without an end at 0. Says whether it ended because a session
+// found the set halted.
+fn serve_sessions<D, G, N, R>(
+    rt: &R,
+    listener: &TcpListener,
+    seated: &mut Seated<'_, D, G, N, R>,
+    bounds: Bounds,
+) -> bool
+where
+    D: Disk,
+    G: StepGate,
+    N: Named,
+    R: Wait + Clock + AllocGlobal,
+    ensures { result ≡ true → SawHalt seated.new.pass }
+{
+    let mut served = 0u64;
+    for stream in listener.incoming() {
+        let Ok(stream) = stream else {
+            thread::sleep(rt, Duration::from_millis(PAUSE));
+            continue;
+        };
+        if serve_stream(rt, &stream, seated, bounds.idle) {
+            return true;
+        }
+        served = served.wrapping_add(1);
+        if served == bounds.sessions {
+            return false;
+        }
+    }
+    false
+}
+
+// Serves one connection, and says whether its session found the set halted.
+fn serve_stream<D, G, N, R>(
+    rt: &R,
+    stream: &TcpStream,
+    seated: &mut Seated<'_, D, G, N, R>,
+    idle: Option<Duration>,
+) -> bool
+where
+    D: Disk,
+    G: StepGate,
+    N: Named,
+    R: Wait + AllocGlobal,
+    ensures { result ≡ true → SawHalt seated.new.pass }
+{
+    // A reply goes out at once; where that can't be asked for it may go out later.
+    let _ = stream.set_nodelay(true);
+    // Where no time can be set the session waits without an end.
+    let _ = stream.set_read_timeout(idle);
+    let _ = stream.set_write_timeout(idle);
+    let ended = session(rt.alloc(), &mut &*stream, &mut &*stream, seated);
+    take_leave(stream);
+    matches!(ended, Ok(End::Halted))
+}
+
+// Ends the replies, and reads for a while what is still sent.
+fn take_leave(stream: &TcpStream) {
+    let patience = Some(Duration::from_millis(FAREWELL));
+    if stream.shutdown(Shutdown::Write).is_err() || stream.set_read_timeout(patience).is_err() {
+        return;
+    }
+    let mut rest = [0; 4096];
+    let mut reader = stream;
+    for _ in 0..FAREWELLS {
+        match reader.read(&mut rest) {
+            Ok(0) | Err(_) => return,
+            Ok(_) => {}
+        }
+    }
+}
