@@ -1,4 +1,5 @@
 //! The plain set and a seat of a running set answer the same to the same lines.
+use crate::noise::Noise;
 use crate::sittings::{Pieces, sitting_over};
 use crate::threads::made;
 use lazyset_commands::Plain;
@@ -12,44 +13,24 @@ const LINES: usize = 10_000;
 /// Of so many slots, so that the set is full at times, and empty at times.
 const SLOTS: u64 = 6;
 
-/// Numbers that follow from a seed, as SplitMix64 makes them (Steele, Lea and Flood).
-#[derive(Drop)]
-struct Dice {
-    state: u64,
-}
-
-impl Dice {
-    fn below(&mut self, bound: u64) -> u64 {
-        self.state = self.state.wrapping_add(0x9e37_79b9_7f4a_7c15);
-        let once = (self.state ^ (self.state >> 30)).wrapping_mul(0xbf58_476d_1ce4_e5b9);
-        let twice = (once ^ (once >> 27)).wrapping_mul(0x94d0_49bb_1331_11eb);
-        (twice ^ (twice >> 31)).checked_rem(bound).unwrap_or(0)
-    }
-
-    // What a line asks for. Now and then it is nothing that a set knows.
-    fn verb(&mut self) -> &'static str {
-        match self.below(8) {
-            0 | 1 | 2 => "add ",
-            3 | 4 => "remove ",
-            5 | 6 => "has ",
-            _ => match self.below(4) {
-                0 => "add  ",
-                1 => "Has ",
-                2 => "add 0",
-                _ => "",
-            },
-        }
+// What a line asks for. Now and then it is nothing that a set knows.
+fn verb(noise: &mut Noise) -> &'static str {
+    match noise.below(8) {
+        0 | 1 | 2 => "add ",
+        3 | 4 => "remove ",
+        5 | 6 => "has ",
+        _ => noise.word(&["add  ", "Has ", "add 0", ""]),
     }
 }
 
 // So many lines, each about one of a few keys.
 fn lines_of(alloc: Global, seed: u64) -> Result<String, AllocError> {
-    let mut dice = Dice { state: seed };
+    let mut noise = Noise::new(seed);
     let mut lines = String::new(alloc);
     for _ in 0..LINES {
-        let verb = dice.verb();
-        let key = dice.below(12);
-        write!(lines, "{verb}{key}\n")?;
+        let asked = verb(&mut noise);
+        let key = noise.below(12);
+        write!(lines, "{asked}{key}\n")?;
     }
     Ok(lines)
 }

@@ -3,7 +3,8 @@ ghost use Rattle.lz_set.specs.Names.{MayCall};
 ghost use Rattle.lz_set.specs.Blanks.{MayBeNamed};
 ghost use Rattle.lz_disk.specs.Records.{device_of};
 
-use crate::threads::{ask, keys_in, made};
+use crate::partners::{call_once, fill, last_pass};
+use crate::threads::{keys_in, made};
 use lz_disk::MemoryDisk;
 use lz_machine::Kind;
 use lz_set::{Blank, Fault, Named, Pass, Set, StepGate};
@@ -159,8 +160,7 @@ fn call_held<N: Named, R: Wait>(
 ) -> Result<bool, Fault>
     requires { MayCall N.board pass }
 {
-    let mut pass = pass;
-    let answer = ask(rt, set, &mut pass, turnstile.command);
+    let answer = call_once(rt, set, pass, turnstile.command);
     turnstile.finish(rt);
     answer
 }
@@ -215,11 +215,9 @@ fn play<N: Named + Send + Sync, R: Threads + Wait + Sync>(
     requires { MayBeNamed device_of N.board N.first N.format blank }
 {
     let (set, mut passes) = blank.start::<N>();
-    let mut second = passes.pop()?;
-    let first = passes.pop()?;
-    for number in [10, 20, 30] {
-        let _ = set.add(rt, &mut second, Key::new(number)?);
-    }
+    let mut second = last_pass::<N>(&mut passes)?;
+    let first = last_pass::<N>(&mut passes)?;
+    fill(rt, &set, &mut second)?;
     let met = meet(rt, &set, first, second, turnstile)?;
     Some(Scene {
         met,

@@ -2,6 +2,8 @@
 #![tactic(auto)]
 
 #[cfg(test)]
+mod alike;
+#[cfg(test)]
 mod beside;
 #[cfg(test)]
 mod boards;
@@ -32,6 +34,8 @@ mod judging;
 #[cfg(test)]
 mod large;
 #[cfg(test)]
+mod lawful_lines;
+#[cfg(test)]
 mod lists;
 #[cfg(test)]
 mod meeting;
@@ -44,8 +48,6 @@ mod onlookers;
 #[cfg(test)]
 mod partners;
 #[cfg(test)]
-mod parts;
-#[cfg(test)]
 mod pipes;
 #[cfg(test)]
 mod plays;
@@ -56,11 +58,15 @@ mod refusals;
 #[cfg(test)]
 mod rehearsal;
 #[cfg(test)]
-mod rehearsing;
-#[cfg(test)]
 mod renewals;
 #[cfg(test)]
 mod rooms;
+#[cfg(test)]
+mod scripted_crashes;
+#[cfg(test)]
+mod scripted_failures;
+#[cfg(test)]
+mod scripted_turns;
 #[cfg(test)]
 mod scripts;
 #[cfg(test)]

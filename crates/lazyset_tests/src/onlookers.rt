@@ -5,13 +5,12 @@ ghost use Rattle.lz_set.specs.Blanks.{MayBeNamed};
 ghost use Rattle.lz_disk.specs.Records.{device_of};
 
 use crate::gates::{Gate, Signals, wait_for};
-use crate::partners::last_pass;
+use crate::partners::{call_once, fill, last_pass};
 use crate::plots::{Asked, Phase, Plot, addition, removal};
-use crate::threads::{ask, made};
+use crate::threads::made;
 use lz_disk::MemoryDisk;
 use lz_machine::Kind;
 use lz_set::{Blank, Fault, Glance, GlanceFault, Named, Pass, Set};
-use lz_slot::{Command, Key};
 use std::alloc::Global;
 use std::marker::Brand;
 use std::process::Abort;
@@ -72,19 +71,6 @@ fn look_on<N: Named, R: Wait + Clock>(
     })
 }
 
-// The first pass calls.
-fn call_once<N: Named, R: Wait + Clock>(
-    rt: &R,
-    set: &Set<MemoryDisk, Gate<'_, R>, N>,
-    pass: Pass,
-    command: Command,
-) -> Result<bool, Fault>
-    requires { MayCall N.board pass }
-{
-    let mut pass = pass;
-    ask(rt, set, &mut pass, command)
-}
-
 // The first pass calls, and is held; the other two are beside it. None where its call had another answer than true.
 fn hold<N: Named + Send + Sync, R: Threads + Wait + Clock + Sync>(
     rt: &R,
@@ -121,21 +107,6 @@ fn hold<N: Named + Send + Sync, R: Threads + Wait + Clock + Sync>(
             }
         },
     )
-}
-
-// Adds 10, 20 and 30, in this order.
-fn fill<N: Named, R: Wait + Clock>(
-    rt: &R,
-    set: &Set<MemoryDisk, Gate<'_, R>, N>,
-    pass: &mut Pass,
-) -> Option<()>
-    requires { MayCall N.board pass.old }
-    ensures { MayCall N.board pass.new }
-{
-    for number in [10, 20, 30] {
-        let _ = set.add(rt, pass, Key::new(number)?);
-    }
-    Some(())
 }
 
 // The second pass fills the set and tells the third one. Then both are beside the first one.

@@ -1,5 +1,6 @@
 //! A file renewed into another capacity, and its device calls failing in turn.
 use crate::commands::{Ran, disk_with, make, run};
+use crate::faults::{FAILINGS, Failing, PICKS, set_failing};
 use lazyset_commands::{check_of_on, check_on, renew_on};
 use lz_disk::{MemoryDisk, Pick};
 use lz_slot::Format;
@@ -12,15 +13,6 @@ const RENEWED: [u8; 48] = [
     0xa5, 0x4c, 0x5a, 0x59, 0x53, 0x45, 0x54, 0x32, 0, 0, 0, 0, 0, 0, 0, 2, //
     0xa5, 0, 0, 0, 0, 0, 0, 0, 0, 0, 0, 0, 0, 0, 0, 0x11, //
     0xa5, 0, 0, 0, 0, 0, 0, 0, 0, 0, 0, 0, 0, 0, 0, 0x05,
-];
-
-const PICKS: [Pick; 6] = [
-    Pick::Old,
-    Pick::New,
-    Pick::Byte(0xa5),
-    Pick::Byte(0x37),
-    Pick::Byte(0),
-    Pick::Part(1),
 ];
 
 /// What a renewal ended with and printed, and both disks.
@@ -153,22 +145,6 @@ fn refuses_an_old_file(rt: HostRuntime) -> Result<(), Fail> {
         assert_eq!(rt; done.new.calls(), 0);
     }
     Ok(())
-}
-
-/// Whether a device fails at one call or from then on.
-#[derive(Clone, Copy)]
-enum Failing {
-    Once,
-    ForGood,
-}
-
-const FAILINGS: [Failing; 2] = [Failing::Once, Failing::ForGood];
-
-fn set_failing(disk: &mut MemoryDisk, failing: Failing, passes: u64) {
-    match failing {
-        Failing::Once => disk.trip_after(passes),
-        Failing::ForGood => disk.fuse(passes),
-    }
 }
 
 // What a crash leaves of a new file that wasn't renewed to the end: nothing that is made, or exactly the members.

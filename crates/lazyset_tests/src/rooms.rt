@@ -1,6 +1,6 @@
 //! Keys of other rooms than the first, in files of either format.
 use crate::commands::{TWO_SLOTS, disk_with};
-use lazyset_commands::{Fault, Plain};
+use lazyset_commands::{Fault, Plain, rehearse_on};
 use lz_core::{Step, World};
 use lz_disk::MemoryDisk;
 use lz_slot::{Command, Format, Key, Mark};
@@ -87,5 +87,27 @@ fn worlds_have_rooms(rt: HostRuntime) -> Result<(), Fail> {
     }
     let members = world.members(rt.alloc())?;
     assert_eq!(rt; members.as_slice(), [last, first_of_next].as_slice());
+    Ok(())
+}
+
+// Whether the rehearsal of a script on two slots prints this in a file of this format.
+fn prints(alloc: Global, format: Format, script: &[u8], told: &[u8]) -> bool {
+    let mut reader = script;
+    let mut output: Vec<u8> = Vec::new(alloc);
+    let status = rehearse_on(alloc, &mut reader, &mut output, 2, 1, format);
+    status.code() == 0 && output.as_slice() == told
+}
+
+// Keys are shown by room and then by number; a key of another room than 0 is refused in a file of format 1.
+#[test]
+fn rooms_are_rehearsed(rt: HostRuntime) -> Result<(), Fail> {
+    let script =
+        b"call 1 add 1:0\nfinish 1\ncall 1 add 999999999999999999\nfinish 1\nshow\n".as_slice();
+    let shown =
+        b"call 1 1 add 1:0\nanswer 1 yes\ncall 2 1 add 999999999999999999\nanswer 2 yes\nshow 999999999999999999 1:0\n".as_slice();
+    let refused =
+        b"call 1 1 add 1:0\nrefused 1 oldfile\ncall 2 1 add 999999999999999999\nanswer 2 yes\nshow 999999999999999999\n".as_slice();
+    assert!(rt; prints(rt.alloc(), Format::Two, script, shown));
+    assert!(rt; prints(rt.alloc(), Format::One, script, refused));
     Ok(())
 }

@@ -255,23 +255,6 @@ fn two_threads_add_up_to_a_set(rt: HostRuntime) -> Result<(), Fail> {
     Ok(())
 }
 
-/// Whether a device fails at one call or from then on.
-#[derive(Clone, Copy, Debug)]
-enum Failing {
-    Once,
-    ForGood,
-}
-
-// A disk of 64 slots that fails after so many calls.
-fn failing_disk(alloc: Global, failing: Failing, calls: u64) -> Option<MemoryDisk> {
-    let mut disk = made(alloc, 64)?;
-    match failing {
-        Failing::Once => disk.trip_after(calls),
-        Failing::ForGood => disk.fuse(calls),
-    }
-    Some(disk)
-}
-
 // The call whose device call failed is told, and all others that come then are halted. What was answered is there, whatever the
 // crash behind it leaves.
 #[test]

@@ -14,7 +14,7 @@ returns g c =
     let left = c.close_with-disk.ensures.left in
     let tells = c.session-ended.ensures in
     let welcome = one_welcome b F left.notes c.into_pass-pass.result c.from_mut.result.now c.close_with-disk.new.passes c.from_mut.ensures.value left.seen left.welcome in
-    let told = known_session (λ s. s.pass) (SeatAnswers b F) (g.R.Read.remaining c.args.reader.now) (g.R.Read.remaining c.session-ended.new.reader) c.new-seated.result c.session-ended.new.service
+    let told = known_session (λ s. s.pass) (SeatAnswers b F) _ _ c.new-seated.result c.session-ended.new.service
     c.args.pass c.into_pass-pass.result c.session-ended.result tells.0 c.new-seated.ensures (sym c.into_pass-pass.ensures.same) tells.2
     in
     let since = one_since (trace_of b.opened left.notes) c.into_pass-pass.result c.from_mut.result.now c.from_mut.ensures.value left.since in
@@ -31,5 +31,5 @@ returns g c =
       format = welcome.format;
       halts = λ is.
           left.left.over (halt_extended (part c.into_pass-pass.result).known (trace_of b.opened left.notes) since
-          (session_halts b F c.session-ended.result (g.R.Read.remaining c.args.reader.now) (g.R.Read.remaining c.session-ended.new.reader) c.args.pass c.into_pass-pass.result tells.0 told is));
+          (session_halts b F c.session-ended.result _ _ c.args.pass c.into_pass-pass.result tells.0 told is));
     }

@@ -124,8 +124,8 @@ publish-requires-clause-writes g c =
     let is : c.set-3.new.self ≡ nine_words = c.set-3.ensures ∙ (λ i. set (with_link i) (Head 0) 1) in
     let sized = c.in-Some.ensures.board.0 ∙ ap sizes_in is in
     let first = c.in-Some.ensures.board.1 ∙ ap opened_by is in
-    let at0 = ap (trace_of b.opened) c.in-Some.ensures.pen.1 ∙ first in
-    writes_key b.sizes b.opened _ c.new-slot.result c.key-twelve.result sized c.new-slot.ensures c.key-twelve.ensures at0
+    let at_open = ap (trace_of b.opened) c.in-Some.ensures.pen.1 ∙ first in
+    writes_key b.sizes b.opened _ c.new-slot.result c.key-twelve.result sized c.new-slot.ensures c.key-twelve.ensures at_open
 
 pub publish-requires-clause-lawful : goal.publish-requires-clause-lawful
 publish-requires-clause-lawful g c =
@@ -136,8 +136,8 @@ publish-requires-clause-lawful g c =
     let is : c.set-3.new.self ≡ nine_words = c.set-3.ensures ∙ (λ i. set (with_link i) (Head 0) 1) in
     let sized = c.in-Some.ensures.board.0 ∙ ap sizes_in is in
     let first = c.in-Some.ensures.board.1 ∙ ap opened_by is in
-    let at0 = ap (trace_of b.opened) c.in-Some.ensures.pen.1 ∙ first in
-    lawful_key b.sizes b.opened _ c.new-slot.result c.key-twelve.result sized c.new-slot.ensures c.key-twelve.ensures at0
+    let at_open = ap (trace_of b.opened) c.in-Some.ensures.pen.1 ∙ first in
+    lawful_key b.sizes b.opened _ c.new-slot.result c.key-twelve.result sized c.new-slot.ensures c.key-twelve.ensures at_open
 
 pub publish-requires-clause-prepares : goal.publish-requires-clause-prepares
 publish-requires-clause-prepares g c =
@@ -148,8 +148,8 @@ publish-requires-clause-prepares g c =
     let is : c.set-3.new.self ≡ nine_words = c.set-3.ensures ∙ (λ i. set (with_link i) (Head 0) 1) in
     let sized = c.in-Some.ensures.board.0 ∙ ap sizes_in is in
     let first = c.in-Some.ensures.board.1 ∙ ap opened_by is in
-    let at0 = ap (trace_of b.opened) c.in-Some.ensures.pen.1 ∙ first in
-    leaves_key b.sizes b.opened _ c.new-slot.result c.key-twelve.result sized c.new-slot.ensures c.key-twelve.ensures first at0
+    let at_open = ap (trace_of b.opened) c.in-Some.ensures.pen.1 ∙ first in
+    leaves_key b.sizes b.opened _ c.new-slot.result c.key-twelve.result sized c.new-slot.ensures c.key-twelve.ensures first at_open
 
 pub publish-requires-2-clause-writes : goal.publish-requires-2-clause-writes
 publish-requires-2-clause-writes g c =
@@ -160,9 +160,9 @@ publish-requires-2-clause-writes g c =
     let is : c.set-3.new.self ≡ nine_words = c.set-3.ensures ∙ (λ i. set (with_link i) (Head 0) 1) in
     let sized = c.in-Some.ensures.board.0 ∙ ap sizes_in is in
     let first = c.in-Some.ensures.board.1 ∙ ap opened_by is in
-    let at0 = ap (trace_of b.opened) c.in-Some.ensures.pen.1 ∙ first in
-    let at1 = c.publish.ensures.trace ∙ (λ i. key_prepared (c.new-slot.ensures i) (c.key-twelve.ensures i) ∷ at0 i) in
-    writes_link b.sizes b.opened _ c.new-slot.result c.key-twelve.result sized c.new-slot.ensures c.key-twelve.ensures at1
+    let at_open = ap (trace_of b.opened) c.in-Some.ensures.pen.1 ∙ first in
+    let at_key = c.publish.ensures.trace ∙ (λ i. key_prepared (c.new-slot.ensures i) (c.key-twelve.ensures i) ∷ at_open i) in
+    writes_link b.sizes b.opened _ c.new-slot.result c.key-twelve.result sized c.new-slot.ensures c.key-twelve.ensures at_key
 
 pub publish-requires-2-clause-lawful : goal.publish-requires-2-clause-lawful
 publish-requires-2-clause-lawful g c =
@@ -173,9 +173,9 @@ publish-requires-2-clause-lawful g c =
     let is : c.set-3.new.self ≡ nine_words = c.set-3.ensures ∙ (λ i. set (with_link i) (Head 0) 1) in
     let sized = c.in-Some.ensures.board.0 ∙ ap sizes_in is in
     let first = c.in-Some.ensures.board.1 ∙ ap opened_by is in
-    let at0 = ap (trace_of b.opened) c.in-Some.ensures.pen.1 ∙ first in
-    let at1 = c.publish.ensures.trace ∙ (λ i. key_prepared (c.new-slot.ensures i) (c.key-twelve.ensures i) ∷ at0 i) in
-    lawful_link b.sizes b.opened _ c.new-slot.result c.key-twelve.result sized c.new-slot.ensures c.key-twelve.ensures at1
+    let at_open = ap (trace_of b.opened) c.in-Some.ensures.pen.1 ∙ first in
+    let at_key = c.publish.ensures.trace ∙ (λ i. key_prepared (c.new-slot.ensures i) (c.key-twelve.ensures i) ∷ at_open i) in
+    lawful_link b.sizes b.opened _ c.new-slot.result c.key-twelve.result sized c.new-slot.ensures c.key-twelve.ensures at_key
 
 pub publish-requires-2-clause-prepares : goal.publish-requires-2-clause-prepares
 publish-requires-2-clause-prepares g c =
@@ -186,9 +186,9 @@ publish-requires-2-clause-prepares g c =
     let is : c.set-3.new.self ≡ nine_words = c.set-3.ensures ∙ (λ i. set (with_link i) (Head 0) 1) in
     let sized = c.in-Some.ensures.board.0 ∙ ap sizes_in is in
     let first = c.in-Some.ensures.board.1 ∙ ap opened_by is in
-    let at0 = ap (trace_of b.opened) c.in-Some.ensures.pen.1 ∙ first in
-    let at1 = c.publish.ensures.trace ∙ (λ i. key_prepared (c.new-slot.ensures i) (c.key-twelve.ensures i) ∷ at0 i) in
-    leaves_link b.sizes b.opened _ c.new-slot.result c.key-twelve.result sized c.new-slot.ensures c.key-twelve.ensures first at1
+    let at_open = ap (trace_of b.opened) c.in-Some.ensures.pen.1 ∙ first in
+    let at_key = c.publish.ensures.trace ∙ (λ i. key_prepared (c.new-slot.ensures i) (c.key-twelve.ensures i) ∷ at_open i) in
+    leaves_link b.sizes b.opened _ c.new-slot.result c.key-twelve.result sized c.new-slot.ensures c.key-twelve.ensures first at_key
 
 pub publish-requires-3-clause-writes : goal.publish-requires-3-clause-writes
 publish-requires-3-clause-writes g c =
@@ -199,10 +199,10 @@ publish-requires-3-clause-writes g c =
     let is : c.set-3.new.self ≡ nine_words = c.set-3.ensures ∙ (λ i. set (with_link i) (Head 0) 1) in
     let sized = c.in-Some.ensures.board.0 ∙ ap sizes_in is in
     let first = c.in-Some.ensures.board.1 ∙ ap opened_by is in
-    let at0 = ap (trace_of b.opened) c.in-Some.ensures.pen.1 ∙ first in
-    let at1 = c.publish.ensures.trace ∙ (λ i. key_prepared (c.new-slot.ensures i) (c.key-twelve.ensures i) ∷ at0 i) in
-    let at2 = c.publish-2.ensures.trace ∙ (λ i. link_prepared (c.new-slot.ensures i) 0 ∷ at1 i) in
-    writes_linked b.sizes b.opened _ c.new-slot.result c.key-twelve.result sized c.new-slot.ensures c.key-twelve.ensures c.number-2.result c.new-5.result c.new-5.ensures at2
+    let at_open = ap (trace_of b.opened) c.in-Some.ensures.pen.1 ∙ first in
+    let at_key = c.publish.ensures.trace ∙ (λ i. key_prepared (c.new-slot.ensures i) (c.key-twelve.ensures i) ∷ at_open i) in
+    let at_link = c.publish-2.ensures.trace ∙ (λ i. link_prepared (c.new-slot.ensures i) 0 ∷ at_key i) in
+    writes_linked b.sizes b.opened _ c.new-slot.result c.key-twelve.result sized c.new-slot.ensures c.key-twelve.ensures c.number-2.result c.new-5.result c.new-5.ensures at_link
 
 pub publish-requires-3-clause-lawful : goal.publish-requires-3-clause-lawful
 publish-requires-3-clause-lawful g c =
@@ -213,10 +213,10 @@ publish-requires-3-clause-lawful g c =
     let is : c.set-3.new.self ≡ nine_words = c.set-3.ensures ∙ (λ i. set (with_link i) (Head 0) 1) in
     let sized = c.in-Some.ensures.board.0 ∙ ap sizes_in is in
     let first = c.in-Some.ensures.board.1 ∙ ap opened_by is in
-    let at0 = ap (trace_of b.opened) c.in-Some.ensures.pen.1 ∙ first in
-    let at1 = c.publish.ensures.trace ∙ (λ i. key_prepared (c.new-slot.ensures i) (c.key-twelve.ensures i) ∷ at0 i) in
-    let at2 = c.publish-2.ensures.trace ∙ (λ i. link_prepared (c.new-slot.ensures i) 0 ∷ at1 i) in
-    lawful_linked b.sizes b.opened _ c.new-slot.result c.key-twelve.result sized c.new-slot.ensures c.key-twelve.ensures c.number-2.result at2
+    let at_open = ap (trace_of b.opened) c.in-Some.ensures.pen.1 ∙ first in
+    let at_key = c.publish.ensures.trace ∙ (λ i. key_prepared (c.new-slot.ensures i) (c.key-twelve.ensures i) ∷ at_open i) in
+    let at_link = c.publish-2.ensures.trace ∙ (λ i. link_prepared (c.new-slot.ensures i) 0 ∷ at_key i) in
+    lawful_linked b.sizes b.opened _ c.new-slot.result c.key-twelve.result sized c.new-slot.ensures c.key-twelve.ensures c.number-2.result at_link
 
 pub publish-requires-4-clause-writes : goal.publish-requires-4-clause-writes
 publish-requires-4-clause-writes g c =
@@ -227,12 +227,12 @@ publish-requires-4-clause-writes g c =
     let is : c.set-3.new.self ≡ nine_words = c.set-3.ensures ∙ (λ i. set (with_link i) (Head 0) 1) in
     let sized = c.in-Some.ensures.board.0 ∙ ap sizes_in is in
     let first = c.in-Some.ensures.board.1 ∙ ap opened_by is in
-    let at0 = ap (trace_of b.opened) c.in-Some.ensures.pen.1 ∙ first in
-    let at1 = c.publish.ensures.trace ∙ (λ i. key_prepared (c.new-slot.ensures i) (c.key-twelve.ensures i) ∷ at0 i) in
-    let at2 = c.publish-2.ensures.trace ∙ (λ i. link_prepared (c.new-slot.ensures i) 0 ∷ at1 i) in
+    let at_open = ap (trace_of b.opened) c.in-Some.ensures.pen.1 ∙ first in
+    let at_key = c.publish.ensures.trace ∙ (λ i. key_prepared (c.new-slot.ensures i) (c.key-twelve.ensures i) ∷ at_open i) in
+    let at_link = c.publish-2.ensures.trace ∙ (λ i. link_prepared (c.new-slot.ensures i) 0 ∷ at_key i) in
     let p = c.number-2.result in
-    let at3 = c.publish-3.ensures.trace ∙ (λ i. linked (c.key-twelve.ensures i) (c.new-slot.ensures i) p ∷ at2 i) in
-    writes_settled b.sizes b.opened _ c.new-slot.result c.key-twelve.result sized c.new-slot.ensures c.key-twelve.ensures p at3
+    let at_linked = c.publish-3.ensures.trace ∙ (λ i. linked (c.key-twelve.ensures i) (c.new-slot.ensures i) p ∷ at_link i) in
+    writes_settled b.sizes b.opened _ c.new-slot.result c.key-twelve.result sized c.new-slot.ensures c.key-twelve.ensures p at_linked
 
 pub publish-requires-4-clause-lawful : goal.publish-requires-4-clause-lawful
 publish-requires-4-clause-lawful g c =
@@ -243,12 +243,12 @@ publish-requires-4-clause-lawful g c =
     let is : c.set-3.new.self ≡ nine_words = c.set-3.ensures ∙ (λ i. set (with_link i) (Head 0) 1) in
     let sized = c.in-Some.ensures.board.0 ∙ ap sizes_in is in
     let first = c.in-Some.ensures.board.1 ∙ ap opened_by is in
-    let at0 = ap (trace_of b.opened) c.in-Some.ensures.pen.1 ∙ first in
-    let at1 = c.publish.ensures.trace ∙ (λ i. key_prepared (c.new-slot.ensures i) (c.key-twelve.ensures i) ∷ at0 i) in
-    let at2 = c.publish-2.ensures.trace ∙ (λ i. link_prepared (c.new-slot.ensures i) 0 ∷ at1 i) in
+    let at_open = ap (trace_of b.opened) c.in-Some.ensures.pen.1 ∙ first in
+    let at_key = c.publish.ensures.trace ∙ (λ i. key_prepared (c.new-slot.ensures i) (c.key-twelve.ensures i) ∷ at_open i) in
+    let at_link = c.publish-2.ensures.trace ∙ (λ i. link_prepared (c.new-slot.ensures i) 0 ∷ at_key i) in
     let p = c.number-2.result in
-    let at3 = c.publish-3.ensures.trace ∙ (λ i. linked (c.key-twelve.ensures i) (c.new-slot.ensures i) p ∷ at2 i) in
-    lawful_settled b.sizes b.opened _ c.new-slot.result c.key-twelve.result sized c.new-slot.ensures c.key-twelve.ensures p at3
+    let at_linked = c.publish-3.ensures.trace ∙ (λ i. linked (c.key-twelve.ensures i) (c.new-slot.ensures i) p ∷ at_link i) in
+    lawful_settled b.sizes b.opened _ c.new-slot.result c.key-twelve.result sized c.new-slot.ensures c.key-twelve.ensures p at_linked
 
 pub publish-requires-5-clause-writes : goal.publish-requires-5-clause-writes
 publish-requires-5-clause-writes g c =
@@ -259,13 +259,13 @@ publish-requires-5-clause-writes g c =
     let is : c.set-3.new.self ≡ nine_words = c.set-3.ensures ∙ (λ i. set (with_link i) (Head 0) 1) in
     let sized = c.in-Some.ensures.board.0 ∙ ap sizes_in is in
     let first = c.in-Some.ensures.board.1 ∙ ap opened_by is in
-    let at0 = ap (trace_of b.opened) c.in-Some.ensures.pen.1 ∙ first in
-    let at1 = c.publish.ensures.trace ∙ (λ i. key_prepared (c.new-slot.ensures i) (c.key-twelve.ensures i) ∷ at0 i) in
-    let at2 = c.publish-2.ensures.trace ∙ (λ i. link_prepared (c.new-slot.ensures i) 0 ∷ at1 i) in
+    let at_open = ap (trace_of b.opened) c.in-Some.ensures.pen.1 ∙ first in
+    let at_key = c.publish.ensures.trace ∙ (λ i. key_prepared (c.new-slot.ensures i) (c.key-twelve.ensures i) ∷ at_open i) in
+    let at_link = c.publish-2.ensures.trace ∙ (λ i. link_prepared (c.new-slot.ensures i) 0 ∷ at_key i) in
     let p = c.number-2.result in
-    let at3 = c.publish-3.ensures.trace ∙ (λ i. linked (c.key-twelve.ensures i) (c.new-slot.ensures i) p ∷ at2 i) in
-    let at4 = c.publish-4.ensures.trace ∙ (λ i. settled (c.new-slot.ensures i) Added ∷ at3 i) in
-    writes_halt b.sizes b.opened _ c.new-slot.result c.key-twelve.result sized c.new-slot.ensures c.key-twelve.ensures p at4
+    let at_linked = c.publish-3.ensures.trace ∙ (λ i. linked (c.key-twelve.ensures i) (c.new-slot.ensures i) p ∷ at_link i) in
+    let at_settled = c.publish-4.ensures.trace ∙ (λ i. settled (c.new-slot.ensures i) Added ∷ at_linked i) in
+    writes_halt b.sizes b.opened _ c.new-slot.result c.key-twelve.result sized c.new-slot.ensures c.key-twelve.ensures p at_settled
 
 pub publish-requires-5-clause-lawful : goal.publish-requires-5-clause-lawful
 publish-requires-5-clause-lawful g c =
@@ -276,13 +276,13 @@ publish-requires-5-clause-lawful g c =
     let is : c.set-3.new.self ≡ nine_words = c.set-3.ensures ∙ (λ i. set (with_link i) (Head 0) 1) in
     let sized = c.in-Some.ensures.board.0 ∙ ap sizes_in is in
     let first = c.in-Some.ensures.board.1 ∙ ap opened_by is in
-    let at0 = ap (trace_of b.opened) c.in-Some.ensures.pen.1 ∙ first in
-    let at1 = c.publish.ensures.trace ∙ (λ i. key_prepared (c.new-slot.ensures i) (c.key-twelve.ensures i) ∷ at0 i) in
-    let at2 = c.publish-2.ensures.trace ∙ (λ i. link_prepared (c.new-slot.ensures i) 0 ∷ at1 i) in
+    let at_open = ap (trace_of b.opened) c.in-Some.ensures.pen.1 ∙ first in
+    let at_key = c.publish.ensures.trace ∙ (λ i. key_prepared (c.new-slot.ensures i) (c.key-twelve.ensures i) ∷ at_open i) in
+    let at_link = c.publish-2.ensures.trace ∙ (λ i. link_prepared (c.new-slot.ensures i) 0 ∷ at_key i) in
     let p = c.number-2.result in
-    let at3 = c.publish-3.ensures.trace ∙ (λ i. linked (c.key-twelve.ensures i) (c.new-slot.ensures i) p ∷ at2 i) in
-    let at4 = c.publish-4.ensures.trace ∙ (λ i. settled (c.new-slot.ensures i) Added ∷ at3 i) in
-    lawful_halt b.sizes b.opened _ c.new-slot.result c.key-twelve.result sized c.new-slot.ensures c.key-twelve.ensures p at4
+    let at_linked = c.publish-3.ensures.trace ∙ (λ i. linked (c.key-twelve.ensures i) (c.new-slot.ensures i) p ∷ at_link i) in
+    let at_settled = c.publish-4.ensures.trace ∙ (λ i. settled (c.new-slot.ensures i) Added ∷ at_linked i) in
+    lawful_halt b.sizes b.opened _ c.new-slot.result c.key-twelve.result sized c.new-slot.ensures c.key-twelve.ensures p at_settled
 
 pub unpin-requires-clause-inside : goal.unpin-requires-clause-inside
 unpin-requires-clause-inside g c =

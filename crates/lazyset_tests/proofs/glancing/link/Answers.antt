@@ -22,16 +22,16 @@ publish-requires-2-clause-writes c =
     let b = id_of c.args.board.now in
     let h = c.requires.here in
     let p = c.number-owner.result in
-    let at3 = c.publish.ensures.trace ∙ (λ i. linked (c.requires.twelve i) (c.requires.slot i) p ∷ h.trace i) in
-    writes_settled b.sizes b.opened _ c.args.slot c.args.twelve h.sized c.requires.slot c.requires.twelve p at3
+    let at_linked = c.publish.ensures.trace ∙ (λ i. linked (c.requires.twelve i) (c.requires.slot i) p ∷ h.trace i) in
+    writes_settled b.sizes b.opened _ c.args.slot c.args.twelve h.sized c.requires.slot c.requires.twelve p at_linked
 
 pub publish-requires-2-clause-lawful : goal.publish-requires-2-clause-lawful
 publish-requires-2-clause-lawful c =
     let b = id_of c.args.board.now in
     let h = c.requires.here in
     let p = c.number-owner.result in
-    let at3 = c.publish.ensures.trace ∙ (λ i. linked (c.requires.twelve i) (c.requires.slot i) p ∷ h.trace i) in
-    lawful_settled b.sizes b.opened _ c.args.slot c.args.twelve h.sized c.requires.slot c.requires.twelve p at3
+    let at_linked = c.publish.ensures.trace ∙ (λ i. linked (c.requires.twelve i) (c.requires.slot i) p ∷ h.trace i) in
+    lawful_settled b.sizes b.opened _ c.args.slot c.args.twelve h.sized c.requires.slot c.requires.twelve p at_linked
 
 pub returns-clause-here : goal.returns-clause-here
 returns-clause-here c =

@@ -26,22 +26,22 @@ pub publish-requires-2-clause-writes : goal.publish-requires-2-clause-writes
 publish-requires-2-clause-writes c =
     let b = id_of c.args.board.now in
     let h = c.requires.here in
-    let at1 = c.publish.ensures.trace ∙ (λ i. key_prepared (c.requires.slot i) (c.requires.twelve i) ∷ h.trace i) in
-    writes_link b.sizes b.opened _ c.args.slot c.args.twelve h.sized c.requires.slot c.requires.twelve at1
+    let at_key = c.publish.ensures.trace ∙ (λ i. key_prepared (c.requires.slot i) (c.requires.twelve i) ∷ h.trace i) in
+    writes_link b.sizes b.opened _ c.args.slot c.args.twelve h.sized c.requires.slot c.requires.twelve at_key
 
 pub publish-requires-2-clause-lawful : goal.publish-requires-2-clause-lawful
 publish-requires-2-clause-lawful c =
     let b = id_of c.args.board.now in
     let h = c.requires.here in
-    let at1 = c.publish.ensures.trace ∙ (λ i. key_prepared (c.requires.slot i) (c.requires.twelve i) ∷ h.trace i) in
-    lawful_link b.sizes b.opened _ c.args.slot c.args.twelve h.sized c.requires.slot c.requires.twelve at1
+    let at_key = c.publish.ensures.trace ∙ (λ i. key_prepared (c.requires.slot i) (c.requires.twelve i) ∷ h.trace i) in
+    lawful_link b.sizes b.opened _ c.args.slot c.args.twelve h.sized c.requires.slot c.requires.twelve at_key
 
 pub publish-requires-2-clause-prepares : goal.publish-requires-2-clause-prepares
 publish-requires-2-clause-prepares c =
     let b = id_of c.args.board.now in
     let h = c.requires.here in
-    let at1 = c.publish.ensures.trace ∙ (λ i. key_prepared (c.requires.slot i) (c.requires.twelve i) ∷ h.trace i) in
-    leaves_link b.sizes b.opened _ c.args.slot c.args.twelve h.sized c.requires.slot c.requires.twelve h.opened at1
+    let at_key = c.publish.ensures.trace ∙ (λ i. key_prepared (c.requires.slot i) (c.requires.twelve i) ∷ h.trace i) in
+    leaves_link b.sizes b.opened _ c.args.slot c.args.twelve h.sized c.requires.slot c.requires.twelve h.opened at_key
 
 pub returns-clause-here : goal.returns-clause-here
 returns-clause-here c =
