@@ -5,3 +5,4 @@ pub mod PastLife
 pub mod WrongAnswer
 pub mod WholeRun
 pub mod GoodVerdict
+pub mod FirstFlaw

@@ -78,6 +78,20 @@ IsFlaw h (WrongReply i) =
     (S : Keys) × (c : Command) × (answer : Bool) × IsReached (IsPoint h.points) h.marks i S × IsCalled h.marks i c × IsAnswered h.marks i answer × (reply c (S (key_of c)) ≢ answer)
 IsFlaw h (WrongSet n) = IsWrongSet (IsPoint h.points) h.marks n
 
+-- the turn at which the judge looks for a flaw; one pass looks at replies and at sets
+abbrev pub flaw_turn : Flaw → ℕ
+flaw_turn (NeverCalled i) = 1
+flaw_turn (ListedTwice i) = 2
+flaw_turn (RefusedListed i) = 3
+flaw_turn (Unlisted i) = 4
+flaw_turn (Misordered j) = 5
+flaw_turn (WrongReply i) = 6
+flaw_turn (WrongSet n) = 6
+
+-- no flaw of an earlier turn is true of the history
+abbrev pub IsFirstKind : Record → Flaw → Type 0
+IsFirstKind h flaw = (other : Flaw) → IsFlaw h other → flaw_turn flaw ≤ flaw_turn other
+
 -- the number by which a program tells a flaw
 abbrev pub flaw_number : Flaw → ℕ
 flaw_number (Unlisted i) = 1

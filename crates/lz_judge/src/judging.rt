@@ -3,7 +3,7 @@ ghost use Rattle.std.specs.Prelude.{◌≡◌, ◌≢◌, ℕ, Bool, IfOk, IfErr
 ghost use Rattle.lz_slot.specs.Sets.{Keys, members};
 ghost use Rattle.lz_slot.specs.Histories.{Chain, lives};
 ghost use Rattle.lz_judge.specs.Records.{ArePlaces, IsLawful, IsPoint};
-ghost use Rattle.lz_judge.specs.Flaws.{IsFlaw, OrderedChain};
+ghost use Rattle.lz_judge.specs.Flaws.{IsFirstKind, IsFlaw, OrderedChain};
 ghost use Rattle.lz_judge.specs.Passes.{HasPlaces, IsCensus, Ordered};
 ghost use Rattle.lz_judge.specs.Verdicts.{AreCalled, AreListed};
 ghost use Rattle.lz_judge.specs.declared.flaw.Flaw.{Flaw as AFlaw};
@@ -25,6 +25,7 @@ pub fn judge(alloc: Global, history: &History) -> Result<Result<(), Flaw>, Alloc
     ensures ordered { IfOk result (λ verdict. OnOk verdict ((T : Keys) × OrderedChain (IsPoint history.now.points) (lives (members []) history.now.marks) T)) }
     ensures chain { IfOk result (λ verdict. OnOk verdict (Chain (members []) history.now.marks)) }
     ensures flaw { IfOk result (λ verdict. IfErr verdict (IsFlaw history.now)) }
+    ensures first { IfOk result (λ verdict. IfErr verdict (IsFirstKind history.now)) }
     ensures flawless { IfOk result (λ verdict. OnOk verdict ((flaw : AFlaw) → ¬ IsFlaw history.now flaw)) }
 {
     let marks = history.marks();
@@ -58,6 +59,7 @@ fn flaw_of_points(
     requires census { IsCensus (reverse marks.now) census.now.calls census.now.answers }
     requires places { HasPlaces (reverse points.now) places.now }
     ensures flaw { IfOk result (λ found. IfSome found (λ flaw. IsFlaw (record { marks = reverse marks.now; points = reverse points.now }) flaw)) }
+    ensures first { IfOk result (λ found. IfSome found (IsFirstKind (record { marks = reverse marks.now; points = reverse points.now }))) }
     ensures none { IfOk result (λ found. found ≡ None → AreListed (reverse marks.now) (reverse points.now) places.now) }
     ensures called { IfOk result (λ found. found ≡ None → AreCalled (reverse marks.now) (reverse points.now)) }
 {

@@ -1,5 +1,6 @@
 use Rattle.std.proofs.Common.{◌≡◌, ◌∙◌, sym, Some, None, true, false}
 use Rattle.std.specs.Prelude.{reverse}
+use Rattle.lz_judge.proofs.Lives.FirstFlaw.{first_refused, first_stranger, first_twin, first_unlisted}
 use Rattle.lz_judge.proofs.Lives.GoodVerdict.{is_made_tells}
 use Rattle.lz_judge.proofs.Passes.PassTable.{made_is, only_place, place_point, point_place}
 use Rattle.lz_judge.proofs.judging.flaw_of_points.Goals as goal
@@ -40,3 +41,23 @@ returns-clause-called c = λ none. record {
   made = λ i p at. is_made_tells (reverse c.args.marks.now) i (sym (c.requires.census.made i) ∙ c.stranger.ensures.none c.in_default.is i p at);
   once = λ i. c.in_ok-call.ensures.1.none c.in_default-2.is i;
 }
+
+pub returns-in-Some-clause-first : goal.returns-in-Some-clause-first
+returns-in-Some-clause-first c = first_stranger _ c.in-Some.call
+
+pub returns-in-Some-2-clause-first : goal.returns-in-Some-2-clause-first
+returns-in-Some-2-clause-first c =
+    first_twin _ c.in-Some-2.call (λ i p at. is_made_tells (reverse c.args.marks.now) i (sym (c.requires.census.made i) ∙ c.stranger.ensures.none c.in_default.is i p at))
+
+pub returns-in-Some-refused_listed-clause-first : goal.returns-in-Some-refused_listed-clause-first
+returns-in-Some-refused_listed-clause-first c =
+    first_refused _ c.in-Some-refused_listed.call (λ i p at. is_made_tells (reverse c.args.marks.now) i (sym (c.requires.census.made i) ∙ c.stranger.ensures.none c.in_default.is i p at))
+    (λ i. c.in_ok-call.ensures.1.none c.in_default-2.is i)
+
+pub returns-in-Some-unlisted-clause-first : goal.returns-in-Some-unlisted-clause-first
+returns-in-Some-unlisted-clause-first c =
+    let once = c.in_ok-call.ensures.1.none c.in_default-2.is in
+    first_unlisted _ c.in-Some-unlisted.call (λ i p at. is_made_tells (reverse c.args.marks.now) i (sym (c.requires.census.made i) ∙ c.stranger.ensures.none c.in_default.is i p at))
+    (λ i. once i)
+    (λ i p refused is.
+    let e : None ≡ Some p = sym (c.refused_listed.ensures.none c.in_default-refused_listed.is i refused) ∙ c.requires.places i ∙ only_place (reverse c.args.points.now) i p (once i) is in cc)

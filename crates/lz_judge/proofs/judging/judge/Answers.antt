@@ -5,10 +5,11 @@ use Rattle.lz_slot.specs.Histories.{ChainTo, lives}
 use Rattle.lz_slot.specs.declared.history.Mark.{Mark}
 use Rattle.lz_judge.specs.declared.history.Point.{Point}
 use Rattle.lz_judge.specs.Records.{ArePlaces, IsLawful, IsPoint, Record}
-use Rattle.lz_judge.specs.Flaws.{IsFlaw, IsMisplaced, OrderedChain}
-use Rattle.lz_judge.specs.declared.flaw.Flaw.TheVariants.{WrongReply, WrongSet}
+use Rattle.lz_judge.specs.Flaws.{IsFirstKind, IsFlaw, IsMisplaced, OrderedChain}
+use Rattle.lz_judge.specs.declared.flaw.Flaw.TheVariants.{Misordered, WrongReply, WrongSet}
 use Rattle.lz_judge.specs.Passes.{IsAt, Ordered}
 use Rattle.lz_judge.proofs.Passes.PassTable.{chain_same, known_all, ordered_chain, place_point, places_low, wrong_flaw, wrong_set_flaw}
+use Rattle.lz_judge.proofs.Lives.FirstFlaw.{behind_order, behind_points}
 use Rattle.lz_judge.proofs.Lives.GoodVerdict.{flawless}
 use Rattle.lz_judge.specs.declared.flaw.Flaw.{Flaw}
 use Rattle.lz_judge.proofs.judging.judge.Goals as goal
@@ -80,3 +81,37 @@ returns-clause-flawless c =
     subst (λ (h : Record). (flaw : Flaw) → IsFlaw h flaw → ⊥) (sym (λ i. record { marks = c.marks-marks.ensures.marks i; points = c.points-points.ensures.points i }))
     (flawless (record { marks = marks; points = points }) c.in_ok-places.places c.in_ok-census.census.answers T known listed (c.in_ok-flaw.ensures.called c.in_default.is) same
     (chain_same (IsAt c.in_ok-places.places) (IsPoint points) same (lives (members []) marks) T chain))
+
+pub returns-in-Some-2-clause-first : goal.returns-in-Some-2-clause-first
+returns-in-Some-2-clause-first c =
+    let marks = reverse c.marks-marks.result.now in
+    let points = reverse c.points-points.result.now in
+    let listed = c.in_ok-flaw.ensures.none c.in_default.is in
+    let same : (i p : ℕ) → IsAt c.in_ok-places.places i p ↔ IsPoint points i p =
+    λ i p. (λ at. place_point points i p (sym (c.in_ok-places.ensures i) ∙ at), listed.placed i p) in
+    subst (λ (h : Record). IsFirstKind h (Misordered c.in-Some-2.call)) (sym (λ i. record { marks = c.marks-marks.ensures.marks i; points = c.points-points.ensures.points i }))
+    (behind_points (record { marks = marks; points = points }) c.in_ok-places.places listed (c.in_ok-flaw.ensures.called c.in_default.is) same)
+
+pub returns-in-Some-wrong_reply-clause-first : goal.returns-in-Some-wrong_reply-clause-first
+returns-in-Some-wrong_reply-clause-first c =
+    let marks = reverse c.marks-marks.result.now in
+    let points = reverse c.points-points.result.now in
+    let listed = c.in_ok-flaw.ensures.none c.in_default.is in
+    let same : (i p : ℕ) → IsAt c.in_ok-places.places i p ↔ IsPoint points i p =
+    λ i p. (λ at. place_point points i p (sym (c.in_ok-places.ensures i) ∙ at), listed.placed i p) in
+    let known = known_all marks points c.in_ok-places.places c.in_ok-census.census.answers (subst IsLawful c.marks-marks.ensures.marks c.marks-marks.ensures.lawful)
+    c.in_ok-census.ensures.told listed (subst (λ l. Ordered marks c.in_ok-places.places l) c.in_default-2.is c.in_ok-call.ensures) in
+    subst (λ (h : Record). IsFirstKind h (WrongReply c.in-Some-wrong_reply.call)) (sym (λ i. record { marks = c.marks-marks.ensures.marks i; points = c.points-points.ensures.points i }))
+    (behind_order (record { marks = marks; points = points }) c.in_ok-places.places listed (c.in_ok-flaw.ensures.called c.in_default.is) same c.in_ok-census.census.answers known)
+
+pub returns-in-Some-wrong_set-clause-first : goal.returns-in-Some-wrong_set-clause-first
+returns-in-Some-wrong_set-clause-first c =
+    let marks = reverse c.marks-marks.result.now in
+    let points = reverse c.points-points.result.now in
+    let listed = c.in_ok-flaw.ensures.none c.in_default.is in
+    let same : (i p : ℕ) → IsAt c.in_ok-places.places i p ↔ IsPoint points i p =
+    λ i p. (λ at. place_point points i p (sym (c.in_ok-places.ensures i) ∙ at), listed.placed i p) in
+    let known = known_all marks points c.in_ok-places.places c.in_ok-census.census.answers (subst IsLawful c.marks-marks.ensures.marks c.marks-marks.ensures.lawful)
+    c.in_ok-census.ensures.told listed (subst (λ l. Ordered marks c.in_ok-places.places l) c.in_default-2.is c.in_ok-call.ensures) in
+    subst (λ (h : Record). IsFirstKind h (WrongSet c.in-Some-wrong_set.open)) (sym (λ i. record { marks = c.marks-marks.ensures.marks i; points = c.points-points.ensures.points i }))
+    (behind_order (record { marks = marks; points = points }) c.in_ok-places.places listed (c.in_ok-flaw.ensures.called c.in_default.is) same c.in_ok-census.census.answers known)
