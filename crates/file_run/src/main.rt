@@ -2,13 +2,14 @@
 //! standard input on a file of two slots that lies there.
 #![tactic(auto)]
 
-use lazyset_commands::{Status, make_on, run_on};
+use lazyset_commands::{Status, make_on, run_set_on};
 use lz_disk::{DeviceFault, FileDisk};
 use lz_slot::Format;
 use std::fs::{File, Files};
 use std::io;
 use std::io::Read;
 use std::process::ExitCode;
+use std::sync::Wait;
 use thiserror::Error;
 
 #[derive(Debug, Drop, Error)]
@@ -18,6 +19,9 @@ enum Fault {
     #[error("a file could not be read, or a line not be written\n")]
     File(#[from] io::Error),
 }
+
+// Over how many buckets the lines are run.
+const BUCKETS: usize = 7;
 
 // The most bytes of a file that are printed.
 const MOST_PRINTED: usize = 64;
@@ -32,12 +36,15 @@ fn main(rt: HostRuntime) -> ExitCode {
     }
 }
 
-fn run_files<R: Files<File = File> + Input + Print + AllocGlobal>(rt: &R) -> Result<(), Fault> {
+fn run_files<R>(rt: &R) -> Result<(), Fault>
+where
+    R: Files<File = File> + Input + Print + AllocGlobal + Wait,
+{
     let mut new = open(rt, "new", true)?;
     let made = make_on(&mut io::writer(rt), &mut new, 2, Format::Two);
     tell(rt, "new", made)?;
     let stored = open(rt, "stored", false)?;
-    let (ran, _disk) = run_on(rt.alloc(), &mut rt.reader(), &mut io::writer(rt), stored);
+    let (ran, _disk) = run_set_on(rt, &mut rt.reader(), &mut io::writer(rt), stored, BUCKETS);
     tell(rt, "stored", ran)
 }
 
