@@ -6,6 +6,7 @@ import os
 import re
 import shutil
 import subprocess
+import tempfile
 from typing import Dict, List, Sequence, Tuple
 
 from lazyset import Reply, Verb
@@ -109,12 +110,25 @@ def try_session(program: Program, folder: str) -> None:
 
 
 def failed_life(program: Program, file: str, call: str, number: int, seed: int) -> Tuple[List[Call], int]:
-    """Serves eight clients until the device fails, and gives what they saw and how the service ended."""
+    """Serves eight clients until the device fails, and gives what they saw and how the service ended. Its log says how it
+    began, and once that the device failed."""
     before = failing(file, call, number)
-    with Service(program, file, kills.CLIENTS, before=before) as service:
-        clients = load.start(kills.CLIENTS, service.port, seed)
-        calls = load.finish(clients)
-        return calls, service.wait() or 0
+    members = len(program.members(file))
+    with tempfile.TemporaryFile("w+") as log:
+        with Service(program, file, kills.CLIENTS, before=before, log=log) as service:
+            clients = load.start(kills.CLIENTS, service.port, seed)
+            calls = load.finish(clients)
+            status = service.wait() or 0
+        log.seek(0)
+        expect(log.read(), log_text(file, members), "what the service says on standard error")
+    return calls, status
+
+
+def log_text(file: str, members: int) -> str:
+    """What a service says on standard error whose device fails."""
+    serving = f"{kills.SLOTS} slots, {members} members, 1 buckets, {kills.CLIENTS} passes"
+    failed = "the device failed: nothing is answered until the file is opened anew"
+    return f"{file}: serving {serving}\n{file}: {failed}\n"
 
 
 def try_service(program: Program, folder: str, seed: int) -> None:

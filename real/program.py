@@ -6,7 +6,7 @@ import os
 import signal
 import subprocess
 from dataclasses import dataclass
-from typing import List, NamedTuple, Optional, Sequence
+from typing import IO, List, NamedTuple, Optional, Sequence, Union
 
 from real.report import Wrong, expect
 
@@ -72,12 +72,18 @@ class Service:
     """The program serving a file, as a process of its own."""
 
     def __init__(
-        self, program: Program, file: str, passes: int, *options: str, before: Sequence[str] = ()
+        self,
+        program: Program,
+        file: str,
+        passes: int,
+        *options: str,
+        before: Sequence[str] = (),
+        log: Union[int, IO[str]] = subprocess.DEVNULL,
     ) -> None:
         self.process = subprocess.Popen(
             [*before, program.path, "serve", file, "0", str(passes), *options],
             stdout=subprocess.PIPE,
-            stderr=subprocess.DEVNULL,
+            stderr=log,
             text=True,
             start_new_session=True,
         )

@@ -4,14 +4,14 @@ ghost use Rattle.lz_slot.specs.Limits.{most_buckets, most_passes};
 
 use crate::command_line::{command_line, fault_of};
 use crate::fault::Fault;
+use crate::log::Log;
 use clap::ArgMatches;
 use lazyset_commands::{
     MOST_JUDGED, MOST_SURVEYED, ServeOptions, Status, check_of_on, check_on, judge_on, make_on,
     rehearse_on, renew_on, run_set_on, serve_on,
 };
-use lz_disk::{Disk, FileDisk};
+use lz_disk::FileDisk;
 use lz_slot::{Format, MOST_BUCKETS, MOST_PASSES, MOST_REHEARSED};
-use std::alloc::AllocError;
 use std::fs::{File, OpenOptions};
 use std::io::{ErrorKind, Read};
 use std::net::{Net, TcpListener, TcpStream};
@@ -23,11 +23,6 @@ use std::{env, io};
 
 // The most bytes that one read of a file takes.
 const MOST_PIECE: usize = 4_096;
-
-// How many bytes the head of a file has, and each of its slots.
-const HEAD: u64 = 16;
-
-const SLOT: u64 = 16;
 
 /// Runs the command that the process's arguments name.
 pub fn run<R>(rt: &R) -> Result<Status, Fault>
@@ -143,34 +138,11 @@ where
     let Some(options) = serve_options(matches) else {
         return Ok(Status::CommandLine);
     };
-    let mut disk = open(rt, matches, false)?;
-    let greeting = greeting_of(rt, matches, &mut disk, &options)?;
-    // A service goes on where nobody reads what it says.
-    let _ = rt.eprintln(greeting.as_str());
-    let (status, _disk) = serve_on(rt, &mut io::writer(rt), disk, options);
-    Ok(status)
-}
-
-// What is said on standard error at the start of a service.
-fn greeting_of<R>(
-    rt: &R,
-    matches: &ArgMatches<'_>,
-    disk: &mut FileDisk,
-    options: &ServeOptions,
-) -> Result<String, AllocError>
-where
-    R: AllocGlobal,
-{
+    let disk = open(rt, matches, false)?;
     let file = matches.get_str("FILE").unwrap_or("");
-    let size = match disk.size() {
-        Ok(size) => size,
-        Err(_) => 0,
-    };
-    let slots = size.saturating_sub(HEAD) / SLOT;
-    let buckets = options.buckets;
-    let passes = options.passes;
-    let alloc = rt.alloc();
-    Ok(format!(in alloc; "opening {file}: {slots} slots, {buckets} buckets, {passes} passes")?)
+    let log = Log { rt, file };
+    let (status, _disk) = serve_on(rt, &mut io::writer(rt), &log, disk, options);
+    Ok(status)
 }
 
 // How the command line asks to serve.

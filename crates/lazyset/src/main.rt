@@ -4,6 +4,7 @@
 mod command_line;
 mod commands;
 mod fault;
+mod log;
 
 use std::process::ExitCode;
 

@@ -9,7 +9,7 @@ use crate::running::refuse;
 use crate::status::Status;
 use crate::telling::tell;
 use lz_disk::Disk;
-use lz_serve::{Bounds, Served, serve};
+use lz_serve::{Bounds, Observer, Served, Serving, serve};
 use lz_set::{Blank, Named, NoGate, Pass, Set};
 use lz_vault::Refused;
 use std::io;
@@ -54,14 +54,21 @@ impl ServeOptions {
 }
 
 /// Opens the set that the disk holds and serves it on a port of 127.0.0.1, with a thread for each pass, each of which serves
-/// one connection after the other. Says `listening P` before the first one, `refused N` of a refused open as a run does, and
+/// one connection after the other. The observer is told once the service stands, and where the device failed. Says `listening P` before the first connection, `refused N` of a refused open as a run does, and
 /// `noport` where it can't listen there. It ends when each pass has served its sessions, and hands the disk back: Failed where the device failed, or
 /// where there was no thread for a pass.
-pub fn serve_on<R, W, D>(rt: &R, writer: &mut W, disk: D, options: ServeOptions) -> (Status, D)
+pub fn serve_on<R, W, O, D>(
+    rt: &R,
+    writer: &mut W,
+    observer: &O,
+    disk: D,
+    options: ServeOptions,
+) -> (Status, D)
 where
     R: Net<Listener = TcpListener, Stream = TcpStream>,
     R: Threads + Wait + Clock + AllocGlobal + Sync,
     W: Write + Drop,
+    O: Observer + Sync,
     D: Disk + Send,
     requires passes { (1 ≤ options.passes) × (options.passes ≤ most_passes) }
     requires buckets { (1 ≤ options.buckets) × (options.buckets ≤ most_buckets) }
@@ -72,7 +79,7 @@ where
     ensures faults { (D.device disk).faults ≤ (D.device result.1).faults }
 {
     match Set::open(rt.alloc(), disk, NoGate, options.buckets, options.passes) {
-        Ok(blank) => serve_blank::<R, W, D, Brand>(rt, writer, blank, options),
+        Ok(blank) => serve_blank::<R, W, O, D, Brand>(rt, writer, observer, blank, options),
         Err(refused) => {
             let Refused { disk, fault } = refused;
             (refuse(writer, fault), disk)
@@ -81,9 +88,10 @@ where
 }
 
 // Listens, and serves the set.
-fn serve_blank<R, W, D, N>(
+fn serve_blank<R, W, O, D, N>(
     rt: &R,
     writer: &mut W,
+    observer: &O,
     blank: Blank<D, NoGate>,
     options: ServeOptions,
 ) -> (Status, D)
@@ -91,23 +99,32 @@ where
     R: Net<Listener = TcpListener, Stream = TcpStream>,
     R: Threads + Wait + Clock + AllocGlobal + Sync,
     W: Write + Drop,
+    O: Observer + Sync,
     D: Disk + Send,
     N: Named + Send + Sync,
     requires { MayBeNamed D.device N.board N.first N.format blank }
     ensures { ServedPasses N.board N.first N.format result.0 (D.device result.1) ⊎ HadNoPort N.board N.first result.0 (W.contents writer.old) (W.contents writer.new) (D.device result.1) }
 {
+    let serving = Serving {
+        slots: blank.slots(),
+        members: blank.members(),
+        buckets: options.buckets,
+        passes: options.passes,
+    };
     let (set, passes) = blank.start::<N>();
     let Some((listener, port)) = listen(rt, options.port) else {
         return (tell(writer, Status::Failed, NO_PORT), set.close());
     };
+    observer.serving(serving);
     // A service goes on where nobody reads what it says.
     let _ = tell_port(writer, port);
-    serve_passes(rt, &listener, set, passes, options.bounds())
+    serve_passes(rt, observer, &listener, set, passes, options.bounds())
 }
 
 // Serves the passes, and ends the set's life behind them.
-fn serve_passes<R, D, N>(
+fn serve_passes<R, O, D, N>(
     rt: &R,
+    observer: &O,
     listener: &TcpListener,
     set: Set<D, NoGate, N>,
     passes: Vec<Pass>,
@@ -115,6 +132,7 @@ fn serve_passes<R, D, N>(
 ) -> (Status, D)
 where
     R: Threads + Wait + Clock + AllocGlobal + Sync,
+    O: Observer + Sync,
     D: Disk + Send,
     N: Named + Send + Sync,
     requires may_call { All (MayCall N.board) passes.items }
@@ -125,7 +143,7 @@ where
         passes,
         halted,
         threadless,
-    } = serve(rt, listener, &set, passes, bounds);
+    } = serve(rt, listener, &set, passes, bounds, observer);
     let mut passes = passes;
     let disk = set.close_with(passes.as_mut_slice());
     (status_of_service(halted, threadless), disk)

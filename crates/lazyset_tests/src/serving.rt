@@ -2,6 +2,7 @@
 use crate::threads::{keys_in, made};
 use lazyset_commands::{ServeOptions, Status, serve_on};
 use lz_disk::MemoryDisk;
+use lz_serve::{Observer, Serving};
 use std::alloc::{AllocError, Global};
 use std::io::{ErrorKind, Write};
 use std::net::{Net, Shutdown, TcpListener, TcpStream};
@@ -47,8 +48,51 @@ impl<'a> Write for Announcer<'a> {
     }
 }
 
+/// Notes what an operator is told.
+#[derive(Drop)]
+struct Noted {
+    starts: AtomicU64,
+    slots: AtomicU64,
+    members: AtomicU64,
+    halts: AtomicU64,
+}
+
+impl Noted {
+    fn nothing() -> Noted {
+        Noted {
+            starts: AtomicU64::new(0),
+            slots: AtomicU64::new(0),
+            members: AtomicU64::new(0),
+            halts: AtomicU64::new(0),
+        }
+    }
+
+    // How many starts and halts were told, and with how many slots and members.
+    fn told(&self) -> [u64; 4] {
+        let Noted {
+            starts,
+            slots,
+            members,
+            halts,
+        } = self;
+        [starts, slots, members, halts].map(|number| number.load(Ordering::SeqCst))
+    }
+}
+
+impl Observer for Noted {
+    fn serving(&self, serving: Serving) {
+        self.starts.fetch_add(1, Ordering::SeqCst);
+        self.slots.store(serving.slots as u64, Ordering::SeqCst);
+        self.members.store(serving.members as u64, Ordering::SeqCst);
+    }
+
+    fn halted(&self) {
+        self.halts.fetch_add(1, Ordering::SeqCst);
+    }
+}
+
 // Serves the set of a disk until each pass has served its sessions.
-fn serve_all<R>(rt: &R, disk: MemoryDisk, port: &AtomicU64) -> (Status, MemoryDisk)
+fn serve_all<R>(rt: &R, noted: &Noted, disk: MemoryDisk, port: &AtomicU64) -> (Status, MemoryDisk)
 where
     R: Net<Listener = TcpListener, Stream = TcpStream>,
     R: Threads + Wait + Clock + AllocGlobal + Sync,
@@ -57,7 +101,7 @@ where
         said: String::new(rt.alloc()),
         port,
     };
-    serve_on(rt, &mut announcer, disk, OPTIONS)
+    serve_on(rt, &mut announcer, noted, disk, OPTIONS)
 }
 
 // The port that the service listens on, or 0 if none was told within ten seconds.
@@ -113,13 +157,15 @@ fn eight_clients_share_a_set(rt: HostRuntime) -> Result<(), Fail> {
         panic!(rt; "no disk")
     };
     let port = AtomicU64::new(0);
-    let (rt, port) = (&rt, &port);
+    let noted = Noted::nothing();
+    let (rt, noted, port) = (&rt, &noted, &port);
     let ((status, disk), told) = thread::join(
         rt,
-        move || serve_all(rt, disk, port),
+        move || serve_all(rt, noted, disk, port),
         || thread::map_indices(rt, alloc, CLIENTS, &|client| talk(rt, alloc, port, client)),
     );
     assert_eq!(rt; status, Status::Done);
+    assert_eq!(rt; noted.told(), [1, 1000, 0, 0]);
     let own = "yes\n".repeat(alloc, 100)?;
     let mut adders = 0usize;
     for told in &told? {

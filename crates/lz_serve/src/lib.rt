@@ -4,9 +4,11 @@
 //! A client that goes away, sends half a line or stops reading ends its own session alone.
 #![tactic(auto)]
 
+mod observer;
 mod pass_thread;
 mod seated;
 mod server;
 
+pub use observer::{Observer, Serving, Unobserved};
 pub use seated::Seated;
 pub use server::{Bounds, Served, serve};

@@ -3,6 +3,7 @@ ghost use Rattle.std.specs.Prelude.{◌≡◌, true};
 ghost use Rattle.lz_set.specs.Names.{MayCall};
 ghost use Rattle.lz_serve.specs.Halts.{SawHalt};
 
+use crate::observer::Observer;
 use crate::seated::Seated;
 use crate::server::Bounds;
 use lz_disk::Disk;
@@ -12,6 +13,7 @@ use std::io::Read;
 use std::marker::PhantomData;
 use std::net::{Shutdown, TcpListener, TcpStream};
 use std::sync::Wait;
+use std::sync::atomic::{AtomicBool, Ordering};
 use std::thread;
 use std::time::{Clock, Duration};
 
@@ -50,23 +52,30 @@ impl<N: Named> Finished<N> {
     }
 }
 
-/// Serves by this pass, until a session found the set halted, or it has served as many as it may.
-pub(crate) fn serve_pass<D, G, N, R>(
+/// Serves by this pass, until a session found the set halted, or it has served as many as it may. The first thread
+/// that finds it halted tells the observer.
+pub(crate) fn serve_pass<D, G, N, R, O>(
     rt: &R,
     listener: &TcpListener,
     set: &Set<D, G, N>,
     pass: Pass,
     bounds: Bounds,
+    observer: &O,
+    told: &AtomicBool,
 ) -> Finished<N>
 where
     D: Disk,
     G: StepGate,
     N: Named,
     R: Wait + Clock + AllocGlobal,
+    O: Observer,
     requires { MayCall N.board pass }
 {
     let mut seated = Seated::new(rt, set, pass);
     let halted = serve_sessions(rt, listener, &mut seated, bounds);
+    if halted && !told.swap(true, Ordering::SeqCst) {
+        observer.halted();
+    }
     Finished {
         halted,
         pass: seated.into_pass(),

@@ -4,12 +4,14 @@ ghost use Rattle.std.specs.List.{Any};
 ghost use Rattle.lz_set.specs.Names.{MayCall};
 ghost use Rattle.lz_serve.specs.Halts.{SawHalt};
 
+use crate::observer::Observer;
 use crate::pass_thread::{Finished, serve_pass};
 use lz_disk::Disk;
 use lz_set::{Named, Pass, Set, StepGate};
 use std::alloc::Global;
 use std::net::TcpListener;
 use std::sync::Wait;
+use std::sync::atomic::AtomicBool;
 use std::thread;
 use std::thread::{JoinHandle, Threads};
 use std::time::{Clock, Duration};
@@ -36,19 +38,46 @@ pub struct Served {
 
 /// Serves connections with a thread for each pass, which serves one connection after the other: so many of them, or
 /// without an end where `bounds.sessions` is 0. A session that ended with a fault, or because its client was idle, counts too. A thread ends as well behind a session that
-/// found the set halted. A connection for which no thread is free waits in the listener's queue.
-pub fn serve<D, G, N, R>(
+/// found the set halted; the first one tells the observer. A connection for which no thread is free waits in the listener's queue.
+pub fn serve<D, G, N, R, O>(
     rt: &R,
     listener: &TcpListener,
     set: &Set<D, G, N>,
     passes: Vec<Pass>,
     bounds: Bounds,
+    observer: &O,
 ) -> Served
 where
     D: Disk + Send,
     G: StepGate + Send + Sync,
     N: Named + Send + Sync,
     R: Threads + Wait + Clock + AllocGlobal + Sync,
+    O: Observer + Sync,
+    requires { All (MayCall N.board) passes.items }
+    ensures may_call { All (MayCall N.board) result.passes.items }
+    ensures count { vec_len result.passes + result.threadless ≡ vec_len passes }
+    ensures halted { result.halted ≡ true → Any SawHalt result.passes.items }
+{
+    let told = AtomicBool::new(false);
+    serve_passes(rt, listener, set, passes, bounds, observer, &told)
+}
+
+// The same, where it is known whether the observer was told that the set is halted.
+fn serve_passes<D, G, N, R, O>(
+    rt: &R,
+    listener: &TcpListener,
+    set: &Set<D, G, N>,
+    passes: Vec<Pass>,
+    bounds: Bounds,
+    observer: &O,
+    told: &AtomicBool,
+) -> Served
+where
+    D: Disk + Send,
+    G: StepGate + Send + Sync,
+    N: Named + Send + Sync,
+    R: Threads + Wait + Clock + AllocGlobal + Sync,
+    O: Observer + Sync,
     requires { All (MayCall N.board) passes.items }
     ensures may_call { All (MayCall N.board) result.passes.items }
     ensures count { vec_len result.passes + result.threadless ≡ vec_len passes }
@@ -75,7 +104,7 @@ where
                 let thread = scope.spawn(
                     move || -> Finished<N>
                         requires { MayCall N.board pass }
-                    { serve_pass(rt, listener, set, pass, bounds) },
+                    { serve_pass(rt, listener, set, pass, bounds, observer, told) },
                 );
                 let Ok(thread) = thread else {
                     continue;

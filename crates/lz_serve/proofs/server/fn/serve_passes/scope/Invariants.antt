@@ -1,6 +1,6 @@
 use Rattle.std.specs.Prelude.{◌+◌, ◌≤◌, vec_capacity, vec_len}
 use Rattle.std.specs.Vec.Iter.{into_iter_len}
-use Rattle.lz_serve.proofs.server.fn.serve.scope.Given as goal
+use Rattle.lz_serve.proofs.server.fn.serve_passes.scope.Given as goal
 
 abbrev pub invariant-loop-pass : goal.invariant-loop-pass
 invariant-loop-pass g l = (vec_len l.threads + into_iter_len l.pass-iterator ≤ l.given) × (l.given ≤ vec_capacity l.threads)
