@@ -9,6 +9,6 @@ mod pass_thread;
 mod seated;
 mod server;
 
-pub use observer::{Observer, Serving, Unobserved};
+pub use observer::{Observer, Serving};
 pub use seated::Seated;
 pub use server::{Bounds, Served, serve};

@@ -40,13 +40,3 @@ pub trait Observer: Drop {
     /// anew. Told once.
     fn halted(&self);
 }
-
-/// Tells nobody.
-#[derive(Clone, Copy, Debug)]
-pub struct Unobserved;
-
-impl Observer for Unobserved {
-    fn serving(&self, _serving: Serving) {}
-
-    fn halted(&self) {}
-}
