@@ -27,6 +27,7 @@ mod blank;
 mod closing;
 mod fault;
 mod gate;
+mod group_commit;
 mod set;
 
 pub use blank::Blank;

@@ -25,6 +25,7 @@ ghost use Rattle.lz_set.specs.Names.{MayCall};
 use crate::blank::Blank;
 use crate::fault::Fault;
 use crate::gate::StepGate;
+use crate::group_commit::GroupCommit;
 use lz_board::{Board, Glance, GlanceFault, Pass};
 use lz_caller::Caller;
 use lz_disk::Disk;
@@ -36,7 +37,10 @@ use lz_vault::{OpenFault, Refused};
 use lz_yard::Yard;
 use std::alloc::Global;
 use std::marker::Brand;
-use std::sync::{Condvar, Mutex, Wait};
+use std::sync::{Condvar, Mutex, MutexGuard, Wait};
+
+// How many holds others may have before a sync, for each pass: those of a whole addition.
+const HOLDS_OF_A_CALL: usize = 16;
 
 /// A set that threads share, which N names.
 #[derive(Drop)]
@@ -45,6 +49,7 @@ pub struct Set<D: Disk, G: StepGate, N: Named> {
     pub(crate) board: Board,
     pub(crate) locked: Mutex<Locked<N, D>>,
     freed: Condvar,
+    commits: GroupCommit,
     buckets: usize,
     passes: usize,
     pub ghost named: { id_of board ≡ N.board },
@@ -102,6 +107,7 @@ impl<D: Disk, G: StepGate, N: Named> Set<D, G, N> {
             board,
             locked: Mutex::new(locked),
             freed: Condvar::new(),
+            commits: GroupCommit::new(),
             buckets,
             passes,
         }
@@ -165,13 +171,14 @@ impl<D: Disk, G: StepGate, N: Named> Set<D, G, N> {
         ensures answers { Answers command (reply_of result) (part pass.old) (part pass.new) }
         ensures plain { N.board.sizes.passes ≡ 1 → IsPlainAnswer N.format N.board.sizes.slots command (reply_of result) (keys_in (part pass.old).known) (keys_in (part pass.new).known) }
     {
+        let mut group = self.commits.group();
         let mut caller = self.begin(rt, pass, command);
         for _ in rt.forever() {
             if let Some(reply) = caller.reply() {
                 self.answer(rt, pass, &caller, reply);
                 return answer_of(reply);
             }
-            self.go_on(rt, pass, &mut caller);
+            self.go_on(rt, pass, &mut caller, &mut group);
         }
         unreachable!()
     }
@@ -182,7 +189,7 @@ impl<D: Disk, G: StepGate, N: Named> Set<D, G, N> {
         ensures pass { IsOf N.board pass.new }
         ensures counts { Counts N.board command N.format (part pass.old) result (part pass.new) }
     {
-        let mut locked = self.locked.lock(rt);
+        let mut locked = self.commits.lock(rt, &self.locked);
         let mut caller = locked.begin(&self.board, pass, command, self.buckets, self.passes);
         if caller.reply().is_some() {
             return caller;
@@ -193,8 +200,8 @@ impl<D: Disk, G: StepGate, N: Named> Set<D, G, N> {
         caller
     }
 
-    // One more event of a call that isn't about to answer.
-    fn go_on<R: Wait>(&self, rt: &R, pass: &mut Pass, caller: &mut Caller)
+    // One more event of a call that isn't about to answer, whose last write was in this group.
+    fn go_on<R: Wait>(&self, rt: &R, pass: &mut Pass, caller: &mut Caller, group: &mut usize)
         requires pass { IsOf N.board pass.old }
         requires counted { IsCounted N.board caller.old (part pass.old) }
         requires going { reply_at caller.old.progress ≡ None }
@@ -208,13 +215,20 @@ impl<D: Disk, G: StepGate, N: Named> Set<D, G, N> {
             Some(word) => {
                 load_next(&self.board, pass, caller, word);
             }
-            None => self.hold(rt, pass, caller),
+            None => self.hold(rt, pass, caller, kind, group),
         }
         self.tell(rt, pass.number(), kind);
     }
 
-    // A hold of the call's next event. Where it found a node lock taken, it waits until one was given back.
-    fn hold<R: Wait>(&self, rt: &R, pass: &mut Pass, caller: &mut Caller)
+    // A hold of the call's next event, which is of this kind. Where it found a node lock taken, it waits until one was given back.
+    fn hold<R: Wait>(
+        &self,
+        rt: &R,
+        pass: &mut Pass,
+        caller: &mut Caller,
+        kind: Kind,
+        group: &mut usize,
+    )
         requires pass { IsOf N.board pass.old }
         requires counted { IsCounted N.board caller.old (part pass.old) }
         requires load { hop_of (event_at (shape_with caller.old) caller.old.command caller.old.progress) ≡ None }
@@ -222,10 +236,41 @@ impl<D: Disk, G: StepGate, N: Named> Set<D, G, N> {
         ensures pass { IsOf N.board pass.new }
         ensures goes { (c : Asked) (format : Format) (before : Part) → Counts N.board c format before caller.old (part pass.old) → Counts N.board c format before caller.new (part pass.new) }
     {
-        let mut locked = self.locked.lock(rt);
+        let mut locked = self.lock_for(rt, kind, *group);
         let turn = locked.turn_on(&self.board, pass, caller);
-        if matches!(turn.outcome, Outcome::Busy) {
+        let is_busy = matches!(turn.outcome, Outcome::Busy);
+        self.leave(rt, locked, is_busy, kind, group);
+    }
+
+    // Takes the lock for an event of this kind: behind others, where it is a sync.
+    fn lock_for<R: Wait>(&self, rt: &R, kind: Kind, group: usize) -> MutexGuard<'_, Locked<N, D>> {
+        if matches!(kind, Kind::Sync) {
+            let most = self.passes.saturating_mul(HOLDS_OF_A_CALL);
+            return self.commits.lock_to_sync(rt, &self.locked, group, most);
+        }
+        self.commits.lock(rt, &self.locked)
+    }
+
+    // Gives the lock back behind an event of this kind.
+    fn leave<R: Wait>(
+        &self,
+        rt: &R,
+        locked: MutexGuard<'_, Locked<N, D>>,
+        is_busy: bool,
+        kind: Kind,
+        group: &mut usize,
+    ) {
+        let closes = matches!(kind, Kind::Sync) && self.commits.close(*group);
+        if matches!(kind, Kind::WriteKey | Kind::WriteOpen | Kind::WriteClose) {
+            *group = self.commits.group();
+        }
+        if is_busy {
             drop(self.freed.wait(rt, locked));
+        } else {
+            drop(locked);
+        }
+        if closes {
+            self.commits.wake();
         }
     }
 
@@ -239,7 +284,7 @@ impl<D: Disk, G: StepGate, N: Named> Set<D, G, N> {
         ensures plain { N.board.sizes.passes ≡ 1 → (c : Asked) (format : Format) (before : Part) → before.sizes ≡ N.board.sizes → Counts N.board c format before caller.now (part pass.old)
             → IsPlainAnswer format N.board.sizes.slots c reply (keys_in before.known) (keys_in (part pass.new).known) }
     {
-        let mut locked = self.locked.lock(rt);
+        let mut locked = self.commits.lock(rt, &self.locked);
         locked.answer(&self.board, pass, caller, reply);
         drop(locked);
         self.tell(rt, pass.number(), Kind::Answer);
