@@ -1,12 +1,8 @@
 //! The command that judges a history.
-ghost use Rattle.std.specs.Prelude.{◌≡◌, ◌⊎◌, [], IfOk};
+ghost use Rattle.std.specs.Prelude.{◌≡◌, ◌⊎◌, IfOk};
 ghost use Rattle.std.specs.String.{string_bytes};
-ghost use Rattle.std.specs.Io.KnownBytes.{Appends};
-ghost use Rattle.lz_slot.specs.Sets.{members};
-ghost use Rattle.lz_slot.specs.Histories.{Chain};
-ghost use Rattle.lz_judge.specs.Flaws.{IsFlaw};
-ghost use Rattle.lz_judge.specs.declared.flaw.Flaw.{Flaw as AFlaw};
-ghost use Rattle.lazyset_commands.specs.Judgements.{IsOrdered, JudgedGood, JudgedUnread, JudgedWrong, flaw_text, good_text, line_text, numbers_text};
+ghost use Rattle.lazyset_commands.specs.Judgements.{FoundGood, FoundWrong, IsJudged, JudgedGood, JudgedUnread, JudgedWrong, flaw_text, line_text, numbers_text};
+ghost use Rattle.lazyset_commands.specs.Tellings.{LacksMemory, Tells};
 
 use crate::status::Status;
 use crate::telling::{NO_MEMORY, tell};
@@ -23,9 +19,10 @@ const _: () = prove!(MOST_JUDGED > MOST_BYTES);
 /// open's, or `line L` with the first line that doesn't read. Failed where the line could not be written, and for want of
 /// memory, which says `nomemory`.
 pub fn judge_on<W: Write + Drop>(alloc: Global, bytes: &[u8], writer: &mut W) -> Status
-    ensures good { result ≡ Status.Done → JudgedGood bytes.now (W.contents writer.old) (W.contents writer.new) }
-    ensures line { result ≡ Status.Refused → JudgedUnread bytes.now (W.contents writer.old) (W.contents writer.new) }
-    ensures flaw { result ≡ Status.Damaged → JudgedWrong bytes.now (W.contents writer.old) (W.contents writer.new) }
+    ensures told { IsJudged bytes.now result (W.contents writer.old) (W.contents writer.new) ⊎ LacksMemory (W.contents writer.old) (W.contents writer.new) result }
+    ensures good { result ≡ Status.Done → JudgedGood bytes.now result (W.contents writer.old) (W.contents writer.new) }
+    ensures line { result ≡ Status.Refused → JudgedUnread bytes.now result (W.contents writer.old) (W.contents writer.new) }
+    ensures flaw { result ≡ Status.Damaged → JudgedWrong bytes.now result (W.contents writer.old) (W.contents writer.new) }
     ensures other { (result ≡ Status.Done) ⊎ (result ≡ Status.Refused) ⊎ (result ≡ Status.Damaged) ⊎ (result ≡ Status.Failed) }
 {
     match History::read(alloc, bytes) {
@@ -36,8 +33,9 @@ pub fn judge_on<W: Write + Drop>(alloc: Global, bytes: &[u8], writer: &mut W) ->
 }
 
 fn judge_history<W: Write + Drop>(alloc: Global, history: &History, writer: &mut W) -> Status
-    ensures good { result ≡ Status.Done → IsOrdered history.now × ((flaw : AFlaw) → ¬ IsFlaw history.now flaw) × Chain (members []) history.now.marks × Appends (W.contents writer.old) (W.contents writer.new) good_text }
-    ensures flaw { result ≡ Status.Damaged → (flaw : Flaw) × IsFlaw history.now flaw × Appends (W.contents writer.old) (W.contents writer.new) (flaw_text flaw) }
+    ensures told { FoundGood history.now result (W.contents writer.old) (W.contents writer.new) ⊎ FoundWrong history.now result (W.contents writer.old) (W.contents writer.new) ⊎ LacksMemory (W.contents writer.old) (W.contents writer.new) result }
+    ensures good { result ≡ Status.Done → FoundGood history.now result (W.contents writer.old) (W.contents writer.new) }
+    ensures flaw { result ≡ Status.Damaged → FoundWrong history.now result (W.contents writer.old) (W.contents writer.new) }
     ensures other { (result ≡ Status.Done) ⊎ (result ≡ Status.Damaged) ⊎ (result ≡ Status.Failed) }
 {
     match judge(alloc, history) {
@@ -48,7 +46,9 @@ fn judge_history<W: Write + Drop>(alloc: Global, history: &History, writer: &mut
 }
 
 fn tell_flaw<W: Write + Drop>(alloc: Global, flaw: Flaw, writer: &mut W) -> Status
-    ensures { (result ≡ Status.Failed) ⊎ ((result ≡ Status.Damaged) × Appends (W.contents writer.old) (W.contents writer.new) (flaw_text flaw)) }
+    ensures tells { Tells (W.contents writer.old) (W.contents writer.new) (flaw_text flaw) Status.Damaged result ⊎ LacksMemory (W.contents writer.old) (W.contents writer.new) result }
+    ensures flaw { result ≡ Status.Damaged → Tells (W.contents writer.old) (W.contents writer.new) (flaw_text flaw) Status.Damaged result }
+    ensures other { (result ≡ Status.Damaged) ⊎ (result ≡ Status.Failed) }
 {
     match flaw_line(alloc, flaw) {
         Ok(text) => tell(writer, Status::Damaged, text.as_bytes()),
@@ -72,7 +72,9 @@ fn numbers_line(alloc: Global, number: u8, subject: u64) -> Result<String, Alloc
 }
 
 fn tell_line<W: Write + Drop>(alloc: Global, line: u64, writer: &mut W) -> Status
-    ensures { (result ≡ Status.Failed) ⊎ ((result ≡ Status.Refused) × Appends (W.contents writer.old) (W.contents writer.new) (line_text line)) }
+    ensures tells { Tells (W.contents writer.old) (W.contents writer.new) (line_text line) Status.Refused result ⊎ LacksMemory (W.contents writer.old) (W.contents writer.new) result }
+    ensures line { result ≡ Status.Refused → Tells (W.contents writer.old) (W.contents writer.new) (line_text line) Status.Refused result }
+    ensures other { (result ≡ Status.Refused) ⊎ (result ≡ Status.Failed) }
 {
     match line_of(alloc, line) {
         Ok(text) => tell(writer, Status::Refused, text.as_bytes()),
