@@ -3,8 +3,8 @@
 ghost use Rattle.std.specs.Prelude.{◌≤◌};
 
 use crate::commands::{ONE_SLOT, Ran, TWO_SLOTS, disk_with, run};
-use crate::transcript::{Transcript, transcripts};
 use lazyset_commands::{check_on, run_set_on};
+use lazyset_testing::{Transcript, transcripts};
 use lz_disk::MemoryDisk;
 use std::alloc::{AllocError, Global};
 use std::process::Abort;
@@ -183,7 +183,7 @@ fn run_each_beginning<R: Wait + AllocGlobal + Abort>(
 
 #[test]
 fn both_runs_answer_alike(rt: HostRuntime) -> Result<(), Fail> {
-    let transcripts = transcripts(&rt, rt.alloc(), INPUTS)?;
+    let transcripts = transcripts(rt.alloc(), INPUTS)?.expect(&rt, "transcripts");
     for transcript in transcripts.iter() {
         run_each_beginning(&rt, transcript)?;
     }

@@ -1,10 +1,7 @@
-//! A reader and a writer that fail at each place of the commands, and of a session of the service.
+//! A reader and a writer that fail at each place of the commands.
 use crate::commands::{TWO_SLOTS, disk_with};
-use crate::pipes::{Narrow, Slow};
-use crate::talks::{Talked, talk_on};
-use crate::threads::{keys_in, made};
 use lazyset_commands::{check_of_on, check_on, judge_on, make_on, rehearse_on, renew_on};
-use lz_proto::SessionFault;
+use lazyset_testing::{Narrow, Slow, keys_in};
 use lz_slot::Format;
 use std::alloc::Global;
 use std::process::Abort;
@@ -166,76 +163,6 @@ fn a_failed_read_ends_a_rehearsal(rt: HostRuntime) -> Result<(), Fail> {
                 "after {count} bytes"
             );
         }
-    }
-    Ok(())
-}
-
-// Four commands that are each answered yes.
-const LINES: &[u8] = b"add 1\nadd 2\nremove 1\nadd 3\n";
-
-const REPLIES: &[u8] = b"yes\nyes\nyes\nyes\n";
-
-/// The members before the first command and after each, and what a session is told that asks for each key.
-const STATES: [(&[u64], &[u8]); 5] = [
-    (&[], b"no\nno\nno\n"),
-    (&[1], b"yes\nno\nno\n"),
-    (&[1, 2], b"yes\nyes\nno\n"),
-    (&[2], b"no\nyes\nno\n"),
-    (&[2, 3], b"no\nyes\nyes\n"),
-];
-
-// Whether the session ended with this fault, and so many commands were done: for the other session, and in the file.
-fn has_left(alloc: Global, talked: Talked, fault: SessionFault, done: usize) -> bool {
-    let Talked { ended, told, disk } = talked;
-    let (Some((keys, seen)), Some(found)) = (STATES.get(done), keys_in(alloc, disk)) else {
-        return false;
-    };
-    ended == Err(fault) && told.as_slice() == *seen && found.as_slice() == *keys
-}
-
-// The lines that came whole before a read failed are answered and done, and no other.
-#[test]
-fn a_failed_read_ends_a_session(rt: HostRuntime) -> Result<(), Fail> {
-    for count in 0..LINES.len().wrapping_add(1) {
-        for step in [1, 3] {
-            let text = LINES.get(..count).unwrap_or(b"");
-            let done = text.iter().filter(|byte| **byte == b'\n').count();
-            let mut reader = Slow {
-                text,
-                step,
-                fails: true,
-            };
-            let mut output: Vec<u8> = Vec::new(rt.alloc());
-            let Some(disk) = made(rt.alloc(), 2) else {
-                panic!(rt; "no disk")
-            };
-            let Some(talked) = talk_on(&rt, rt.alloc(), disk, &mut reader, &mut output) else {
-                panic!(rt; "no session")
-            };
-            let is_told = Some(output.as_slice()) == REPLIES.get(..done.wrapping_mul(4));
-            let has_left = has_left(rt.alloc(), talked, SessionFault::Read, done);
-            assert!(rt; is_told && has_left, "after {count} bytes");
-        }
-    }
-    Ok(())
-}
-
-// The command whose reply couldn't be written was done, and none behind it.
-#[test]
-fn a_failed_write_ends_a_session(rt: HostRuntime) -> Result<(), Fail> {
-    for room in 0..REPLIES.len() {
-        let mut reader = LINES;
-        let mut writer = Narrow::new(rt.alloc(), room);
-        let Some(disk) = made(rt.alloc(), 2) else {
-            panic!(rt; "no disk")
-        };
-        let Some(talked) = talk_on(&rt, rt.alloc(), disk, &mut reader, &mut writer) else {
-            panic!(rt; "no session")
-        };
-        let is_told = Some(writer.taken.as_slice()) == REPLIES.get(..room);
-        let done = (room / 4).wrapping_add(1);
-        let has_left = has_left(rt.alloc(), talked, SessionFault::Write, done);
-        assert!(rt; is_told && has_left, "after {room} bytes");
     }
     Ok(())
 }

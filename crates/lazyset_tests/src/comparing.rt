@@ -1,8 +1,8 @@
 //! The plain set and a seat of a running set answer the same to the same lines.
 use crate::noise::Noise;
-use crate::sittings::{Pieces, sitting_over};
-use crate::threads::made;
+use crate::sittings::sitting_over;
 use lazyset_commands::Plain;
+use lazyset_testing::{Slow, made};
 use lz_proto::{End, session};
 use std::alloc::{AllocError, Global};
 use std::test::Fail;
@@ -63,9 +63,12 @@ fn a_seat_answers_as_the_plain_set(rt: HostRuntime) -> Result<(), Fail> {
         let Some(disk) = made(rt.alloc(), SLOTS) else {
             panic!(rt; "no disk")
         };
-        let text = lines.as_bytes();
-        let pieces = Pieces { text, most: 4096 };
-        let Some(seated) = sitting_over(&rt, rt.alloc(), disk, buckets, pieces) else {
+        let input = Slow {
+            text: lines.as_bytes(),
+            step: 4096,
+            fails: false,
+        };
+        let Some(seated) = sitting_over(&rt, rt.alloc(), disk, buckets, input) else {
             panic!(rt; "no set")
         };
         assert_eq!(rt; seated.end, Some(End::Done));

@@ -1,6 +1,6 @@
 //! Each device call of a short run fails in turn, and each kind of crash follows.
 use crate::commands::{Ran, TWO_SLOTS, disk_with, make, run};
-use crate::faults::{FAILINGS, Failing, PICKS, set_failing};
+use lazyset_testing::{FAILINGS, Failing, PICKS, set_failing};
 use lz_disk::{Disk, MemoryDisk, Pick};
 use lz_slot::Format;
 use std::alloc::Global;

@@ -2,9 +2,9 @@
 use crate::commands::{Ran, TWO_SLOTS, disk_with, run};
 use crate::noise::Noise;
 use crate::noise_texts::{file, history, history_of, lines, script};
-use crate::pipes::Slow;
 use crate::seats::answered;
 use lazyset_commands::{check_on, judge_on, rehearse_on, run_on};
+use lazyset_testing::Slow;
 use lz_slot::{Format, read_number};
 use std::alloc::{AllocError, Global};
 use std::sync::Wait;

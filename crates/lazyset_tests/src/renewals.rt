@@ -1,7 +1,7 @@
 //! A file renewed into another capacity, and its device calls failing in turn.
 use crate::commands::{Ran, disk_with, make, run};
-use crate::faults::{FAILINGS, Failing, PICKS, set_failing};
 use lazyset_commands::{check_of_on, check_on, renew_on};
+use lazyset_testing::{FAILINGS, Failing, PICKS, set_failing};
 use lz_disk::{MemoryDisk, Pick};
 use lz_slot::Format;
 use std::alloc::{AllocError, Global};

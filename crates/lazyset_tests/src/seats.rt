@@ -3,9 +3,7 @@ ghost use Rattle.std.specs.Prelude.{◌≡◌, ◌≤◌};
 ghost use Rattle.lz_set.specs.Blanks.{MayBeNamed};
 ghost use Rattle.lz_disk.specs.Records.{device_of};
 
-use crate::partners::last_pass;
-use crate::threads::made;
-use crate::transcript::transcripts;
+use lazyset_testing::{last_pass, made, transcripts};
 use lz_disk::MemoryDisk;
 use lz_proto::session;
 use lz_serve::Seated;
@@ -123,7 +121,7 @@ const SESSIONS: &str = "
 // Each line is answered by what stands below it, with one bucket as with seven.
 #[test]
 fn a_seat_answers_each_line(rt: HostRuntime) -> Result<(), Fail> {
-    let transcripts = transcripts(&rt, rt.alloc(), SESSIONS)?;
+    let transcripts = transcripts(rt.alloc(), SESSIONS)?.expect(&rt, "transcripts");
     for transcript in transcripts.iter() {
         let (asked, told) = transcript.first(rt.alloc(), transcript.lines(), "\n")?;
         for buckets in [1, 7] {

@@ -1,8 +1,7 @@
 //! What a run answers to its lines, in whatever pieces they come, and where a reader or a writer fails.
 use crate::commands::{ONE_SLOT, TWO_SLOTS, disk_with};
-use crate::pipes::{Narrow, Slow};
-use crate::transcript::transcripts;
 use lazyset_commands::run_on;
+use lazyset_testing::{Narrow, Slow, transcripts};
 use std::alloc::{AllocError, Global};
 use std::io;
 use std::io::{ErrorKind, Read, Write};
@@ -126,7 +125,7 @@ const RUNS: &str = "
 // Each line is answered by what stands below it, whether it ends by a line feed alone or by both characters.
 #[test]
 fn answers_each_line(rt: HostRuntime) -> Result<(), Fail> {
-    let transcripts = transcripts(&rt, rt.alloc(), RUNS)?;
+    let transcripts = transcripts(rt.alloc(), RUNS)?.expect(&rt, "transcripts");
     for transcript in transcripts.iter() {
         let file: &[u8] = if transcript.slots == 1 {
             &ONE_SLOT

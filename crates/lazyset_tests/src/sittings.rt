@@ -5,34 +5,15 @@ ghost use Rattle.lz_set.specs.Blanks.{MayBeNamed};
 ghost use Rattle.lz_disk.specs.Records.{device_of};
 
 use crate::commands::{ONE_SLOT, TWO_SLOTS, disk_with};
-use crate::partners::last_pass;
+use lazyset_testing::{Slow, last_pass};
 use lz_disk::MemoryDisk;
 use lz_proto::{End, session};
 use lz_serve::Seated;
 use lz_set::{Blank, Named, NoGate, Pass, Set};
 use std::alloc::Global;
-use std::io;
-use std::io::Read;
 use std::marker::Brand;
 use std::sync::Wait;
 use std::test::Fail;
-
-/// Gives its text in pieces of so many bytes at most.
-#[derive(Drop)]
-pub struct Pieces<'a> {
-    pub text: &'a [u8],
-    pub most: usize,
-}
-
-impl<'a> Read for Pieces<'a> {
-    fn read(&mut self, buffer: &mut [u8]) -> io::Result<usize> {
-        let count = self.most.min(buffer.len()).min(self.text.len());
-        let (piece, rest) = self.text.split_at(count);
-        buffer[..count].copy_from_slice(piece);
-        self.text = rest;
-        Ok(count)
-    }
-}
 
 /// What a session wrote, how it ended, and the disk that it left.
 #[derive(Drop)]
@@ -48,7 +29,7 @@ fn serve<N: Named, R: Wait>(
     alloc: Global,
     set: &Set<MemoryDisk, NoGate, N>,
     pass: Pass,
-    lines: Pieces<'_>,
+    lines: Slow<'_>,
     written: &mut Vec<u8>,
 ) -> Option<End>
     requires { MayCall N.board pass }
@@ -63,7 +44,7 @@ fn start_sitting<N: Named, R: Wait>(
     rt: &R,
     alloc: Global,
     blank: Blank<MemoryDisk, NoGate>,
-    lines: Pieces<'_>,
+    lines: Slow<'_>,
 ) -> Option<Sitting>
     requires { MayBeNamed device_of N.board N.first N.format blank }
 {
@@ -84,7 +65,7 @@ pub fn sitting_over<R: Wait>(
     alloc: Global,
     disk: MemoryDisk,
     buckets: usize,
-    lines: Pieces<'_>,
+    lines: Slow<'_>,
 ) -> Option<Sitting>
     requires { (1 ≤ buckets) × (buckets ≤ 4096) }
 {
@@ -198,11 +179,14 @@ impl Row {
 #[test]
 fn sessions_over_a_set_leave_its_file(rt: HostRuntime) -> Result<(), Fail> {
     for (at, row) in ROWS.iter().enumerate() {
-        for most in [1, 4096] {
-            let text = row.lines;
-            let pieces = Pieces { text, most };
+        for step in [1, 4096] {
+            let lines = Slow {
+                text: row.lines,
+                step,
+                fails: false,
+            };
             let disk = disk_with(rt.alloc(), row.file)?;
-            let Some(sitting) = sitting_over(&rt, rt.alloc(), disk, 1, pieces) else {
+            let Some(sitting) = sitting_over(&rt, rt.alloc(), disk, 1, lines) else {
                 panic!(rt; "no set")
             };
             assert!(rt; sitting.end == Some(row.end), "row {at}");

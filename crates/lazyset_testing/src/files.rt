@@ -1,0 +1,31 @@
+//! Files on disks in memory.
+use lz_disk::MemoryDisk;
+use lz_slot::{Format, Slot};
+use lz_vault::{Vault, make};
+use std::alloc::Global;
+
+/// A disk in memory with a new file of so many slots.
+pub fn made(alloc: Global, slots: u64) -> Option<MemoryDisk> {
+    let Ok(mut disk) = MemoryDisk::new(alloc, Vec::new(alloc)) else {
+        return None;
+    };
+    match make(&mut disk, Format::Two, slots) {
+        Ok(()) => Some(disk),
+        Err(_) => None,
+    }
+}
+
+/// The keys of the members that a disk's file holds, ascending.
+pub fn keys_in(alloc: Global, disk: MemoryDisk) -> Option<Vec<u64>> {
+    let Ok(vault) = Vault::open(alloc, disk) else {
+        return None;
+    };
+    let mut keys = Vec::new(alloc);
+    for index in 0..vault.slots() {
+        if let Some(key) = vault.key_at(Slot::new(index as u16)) {
+            keys.push(key.get()).ok()?;
+        }
+    }
+    keys.sort().ok()?;
+    Some(keys)
+}

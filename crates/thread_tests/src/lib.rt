@@ -1,0 +1,29 @@
+//! Threads that share a set or a board, the service, and what passes see of one another's calls. It has nothing but tests.
+#![tactic(auto)]
+
+#[cfg(test)]
+mod beside;
+#[cfg(test)]
+mod boards;
+#[cfg(test)]
+mod drills;
+#[cfg(test)]
+mod gates;
+#[cfg(test)]
+mod glancing;
+#[cfg(test)]
+mod held;
+#[cfg(test)]
+mod meeting;
+#[cfg(test)]
+mod onlookers;
+#[cfg(test)]
+mod partners;
+#[cfg(test)]
+mod plots;
+#[cfg(test)]
+mod serving;
+#[cfg(test)]
+mod talks;
+#[cfg(test)]
+mod threads;

@@ -1,0 +1,158 @@
+//! Passes that meet: afterwards each has seen what either had.
+ghost use Rattle.std.specs.Prelude.{◌≡◌, All};
+ghost use Rattle.lz_set.specs.Names.{MayCall};
+ghost use Rattle.lz_set.specs.Blanks.{MayBeNamed};
+ghost use Rattle.lz_disk.specs.Records.{device_of};
+
+use lazyset_commands::check_on;
+use lazyset_testing::{last_pass, made};
+use lz_disk::MemoryDisk;
+use lz_set::{Blank, Fault, Glance, GlanceFault, Named, NoGate, Pass, Set};
+use lz_slot::Key;
+use std::alloc::Global;
+use std::marker::Brand;
+use std::sync::Wait;
+use std::test::Fail;
+
+/// What two passes were answered that took turns with a key.
+#[derive(Clone, Copy)]
+struct Turns {
+    added: Result<bool, Fault>,
+    seen: Result<Glance, GlanceFault>,
+    removed: Result<bool, Fault>,
+    missed: Result<Glance, GlanceFault>,
+}
+
+// The first pass adds the key and the second one removes it. After each change they meet, and the other one glances.
+fn take_turns<N: Named, R: Wait>(
+    rt: &R,
+    set: &Set<MemoryDisk, NoGate, N>,
+    first: Pass,
+    second: Pass,
+    key: Key,
+) -> Turns
+    requires first { MayCall N.board first }
+    requires second { MayCall N.board second }
+{
+    let (mut first, mut second) = (first, second);
+    let added = set.add(rt, &mut first, key);
+    set.meet(&mut first, &mut second);
+    let seen = set.glance(&mut second, key);
+    let removed = set.remove(rt, &mut second, key);
+    set.meet(&mut first, &mut second);
+    let missed = set.glance(&mut first, key);
+    Turns {
+        added,
+        seen,
+        removed,
+        missed,
+    }
+}
+
+// The same with the passes of a set that was opened for two.
+fn start_turns<N: Named, R: Wait>(
+    rt: &R,
+    blank: Blank<MemoryDisk, NoGate>,
+    key: Key,
+) -> Option<Turns>
+    requires { MayBeNamed device_of N.board N.first N.format blank }
+{
+    let (set, mut passes) = blank.start::<N>();
+    let second = last_pass::<N>(&mut passes)?;
+    let first = last_pass::<N>(&mut passes)?;
+    Some(take_turns(rt, &set, first, second, key))
+}
+
+// The same on a new set of two slots.
+fn turns_of<R: Wait>(rt: &R, alloc: Global, key: Key) -> Option<Turns> {
+    match Set::open(alloc, made(alloc, 2)?, NoGate, 1, 2) {
+        Ok(blank) => start_turns::<Brand, _>(rt, blank, key),
+        Err(_) => None,
+    }
+}
+
+// A pass that met the one that changed the key sees the change, and sees it settled.
+#[test]
+fn two_passes_take_turns(rt: HostRuntime) -> Result<(), Fail> {
+    let turns = Key::new(9).and_then(|nine| turns_of(&rt, rt.alloc(), nine));
+    let Some(turns) = turns else {
+        panic!(rt; "no set")
+    };
+    assert_eq!(rt; turns.added, Ok(true));
+    assert_eq!(rt; turns.seen, Ok(Glance::Yes));
+    assert_eq!(rt; turns.removed, Ok(true));
+    assert_eq!(rt; turns.missed, Ok(Glance::No));
+    Ok(())
+}
+
+// Ends the set's life behind the calls of two passes.
+fn close_with_both<N: Named>(
+    set: Set<MemoryDisk, NoGate, N>,
+    first: Pass,
+    second: Pass,
+) -> MemoryDisk
+    requires first { MayCall N.board first }
+    requires second { MayCall N.board second }
+{
+    let mut passes = [first, second];
+    set.close_with(&mut passes)
+}
+
+// Two passes add a key each, and one removes what the other one added.
+fn leave<N: Named, R: Wait>(
+    rt: &R,
+    set: Set<MemoryDisk, NoGate, N>,
+    first: Pass,
+    second: Pass,
+) -> Option<MemoryDisk>
+    requires first { MayCall N.board first }
+    requires second { MayCall N.board second }
+{
+    let (mut first, mut second) = (first, second);
+    let (nine, four, large) = (Key::new(9)?, Key::new(4)?, Key::new(17)?);
+    let answers = [
+        set.add(rt, &mut first, nine),
+        set.add(rt, &mut second, four),
+        set.add(rt, &mut first, large),
+        set.remove(rt, &mut first, four),
+    ];
+    if answers.iter().any(|answer| *answer != Ok(true)) {
+        return None;
+    }
+    Some(close_with_both(set, first, second))
+}
+
+// The same with the passes of a set that was opened for two.
+fn start_leaving<N: Named, R: Wait>(rt: &R, blank: Blank<MemoryDisk, NoGate>) -> Option<MemoryDisk>
+    requires { MayBeNamed device_of N.board N.first N.format blank }
+{
+    let (set, mut passes) = blank.start::<N>();
+    let second = last_pass::<N>(&mut passes)?;
+    let first = last_pass::<N>(&mut passes)?;
+    leave(rt, set, first, second)
+}
+
+// The same on a new set of four slots.
+fn left_by_two<R: Wait>(rt: &R, alloc: Global) -> Option<MemoryDisk> {
+    match Set::open(alloc, made(alloc, 4)?, NoGate, 1, 2) {
+        Ok(blank) => start_leaving::<Brand, _>(rt, blank),
+        Err(_) => None,
+    }
+}
+
+// A set that is closed with its passes leaves the members that their calls left.
+#[test]
+fn a_set_is_closed_with_its_passes(rt: HostRuntime) -> Result<(), Fail> {
+    let Some(mut disk) = left_by_two(&rt, rt.alloc()) else {
+        panic!(rt; "no set")
+    };
+    disk.stop();
+    let mut found: Vec<u8> = Vec::new(rt.alloc());
+    let status = check_on(rt.alloc(), disk.bytes(), &mut found);
+    assert_eq!(rt; status.code(), 0);
+    assert_eq!(rt;
+        found.as_slice(),
+        b"slot 0 key 9\nslot 2 key 17\ngood\n".as_slice()
+    );
+    Ok(())
+}
