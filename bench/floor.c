@@ -32,7 +32,7 @@ int main(int count, char **words) {
     double began = now(), ends_at = began + atof(words[2]);
     while (now() < ends_at) {
         off_t at = 16 * ((off_t)(done * 7919) % slots);
-        if (pwrite(file, slot, sizeof slot, at) != (ssize_t)sizeof slot || fsync(file) != 0) {
+        if (pwrite(file, slot, sizeof slot, at) != (ssize_t)sizeof slot || fdatasync(file) != 0) {
             perror("sync");
             return 1;
         }
