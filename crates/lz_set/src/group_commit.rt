@@ -53,8 +53,8 @@ impl GroupCommit {
         locked
     }
 
-    /// Takes the lock for a sync that shall cover what was written in this group: behind those that wait for the lock, so many of them at most, while
-    /// the group is open.
+    /// Takes the lock for a sync that shall cover what was written in this group: while the group is open, behind those that
+    /// wait for the lock, so many of them at most.
     pub(crate) fn lock_to_sync<'a, T, R: Wait>(
         &self,
         rt: &R,
