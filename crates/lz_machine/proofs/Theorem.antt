@@ -12,6 +12,7 @@ pub mod FreedSlots
 pub mod OneAdd
 pub mod JoinedRuns
 pub mod TraceOutside
+pub mod WalkEnds
 pub mod NoSlotCounts
 pub mod EventNeeds
 pub mod WornPass

@@ -29,4 +29,5 @@ pub mod OneAdd
 pub mod OpenFailures
 pub mod JoinedRuns
 pub mod CallsStand
+pub mod WalkEnds
 pub mod NoSlotCounts

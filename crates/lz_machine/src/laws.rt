@@ -13,6 +13,7 @@ ghost use Rattle.lz_machine.specs.NextEvents.{NextIsKnown};
 ghost use Rattle.lz_machine.specs.NoSlotCounts.{CountsAreRight};
 ghost use Rattle.lz_machine.specs.OneAdd.{LeavesText, OneAddRuns};
 ghost use Rattle.lz_machine.specs.OpenFailures.{HeldIsOpened};
+ghost use Rattle.lz_machine.specs.WalkEnds.{WalkEnds};
 
 /// The list of calls that a trace and a ledger give fits the history.
 pub fn ledger_fits()
@@ -124,6 +125,14 @@ pub fn formats_stay()
 /// that was there, and settled, since then.
 pub fn calls_stand()
     ensures { CallsStand }
+{}
+
+/// Hindsight at the end of a walk, in each state that a run reaches: a walk that ends past its key's place, or on a marked node
+/// with the flag of removing, had a trace since its pass went in at which the key was no member, and its last change covered.
+/// One that ends on an unmarked node with the flag of adding finds the key a member, surely; without its flag the node is the
+/// key's last one, and its change isn't covered yet.
+pub fn walk_ends()
+    ensures { WalkEnds }
 {}
 
 /// A marked slot on which a pass that is inside may stand is closed once its last write is sure.

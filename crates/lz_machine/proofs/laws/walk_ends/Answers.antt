@@ -1,0 +1,5 @@
+use Rattle.lz_machine.proofs.Theorem.WalkEnds.{walk_ends}
+use Rattle.lz_machine.proofs.laws.walk_ends.Goals as goal
+
+pub returns : goal.returns
+returns c = walk_ends
