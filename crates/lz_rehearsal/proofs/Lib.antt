@@ -4,3 +4,7 @@ pub mod LineReads
 pub mod Appending
 pub mod Rehearsed
 pub mod Rows
+pub mod SilentLines
+pub mod SaidText
+pub mod LawfulMarks
+pub mod RehearsedText

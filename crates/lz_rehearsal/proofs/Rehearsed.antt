@@ -46,7 +46,7 @@ play_of_line old new Open marks text does = (step.Open ∷ [], does.0)
 play_of_line old new Show marks text does =
     ([], subst (λ (ms : List Mark). PlaysOn old [] ms new) (sym does.none) (subst (λ (w : WorldOver). PlaysOn old [] [] w) (sym does.same) (stays old)))
 
-play_of : (old new : WorldOver) (lines : List Line) (marks : List Mark) (text : List ℕ) → Rehearsed old lines marks text new → IsPlay old marks new
+pub play_of : (old new : WorldOver) (lines : List Line) (marks : List Mark) (text : List ℕ) → Rehearsed old lines marks text new → IsPlay old marks new
 play_of old _ _ _ _ nothing = ([], stays old)
 play_of old _ _ _ _ (more lines line marks seen text written mid new before does) =
     let first = play_of old mid lines marks text before in

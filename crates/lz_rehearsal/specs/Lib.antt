@@ -4,3 +4,4 @@ pub mod Tellings
 pub mod Scripting
 pub mod Rehearsals
 pub mod Rehearsing
+pub mod Histories

@@ -1,9 +1,11 @@
 //! Scripts of rehearsals, read exactly, and the text of what a rehearsal prints. A script is at most 100,000 lines of at
 //! most 64 bytes: a script that was read has the lines that its input spells, and a line that is named at fault is the
 //! first that doesn't read. A rehearsal plays the lines on a world one after another, up to the first that isn't lawful
-//! where it stands, and writes one line for each mark, for the members, and for an actor that found a lock taken.
+//! where it stands, and writes one line for each mark, for the members, and for an actor that found a lock taken. What it
+//! writes on a new world is a history to the judge (`laws`).
 #![tactic(auto)]
 
+pub mod laws;
 mod limits;
 mod line;
 mod rehearsal;

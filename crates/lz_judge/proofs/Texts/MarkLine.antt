@@ -32,14 +32,14 @@ use Rattle.lz_judge.specs.Limits.{most_bytes, most_actors, most_faults}
 use Rattle.lz_judge.specs.TextsRead.{Reads, nothing, line}
 
 -- no byte of a word is this one
-none_of : (c : ℕ) (word : List ℕ) → Lacks c word → All (λ b. b == c ≡ false) word
+pub none_of : (c : ℕ) (word : List ℕ) → Lacks c word → All (λ b. b == c ≡ false) word
 none_of c [] h = All-nil (λ b. b == c ≡ false)
 none_of c (b ∷ word) h =
     let both = lacks_more c b word h in
     let here : b == c ≡ false = grind (arith, nat_tests, both.0) in
     All-cons (λ b. b == c ≡ false) b word here (none_of c word both.1)
 
-first_word : (word rest : List ℕ) → Lacks 32 word → words_of (word ++ 32 ∷ rest) ≡ word ∷ words_of rest
+pub first_word : (word rest : List ℕ) → Lacks 32 word → words_of (word ++ 32 ∷ rest) ≡ word ∷ words_of rest
 first_word word rest h = slice_split_at (λ b. b == 32) word 32 rest (none_of 32 word h) refl
 
 last_word : (word : List ℕ) → Lacks 32 word → words_of word ≡ word ∷ []
@@ -53,13 +53,13 @@ eight : (a b c d e f g h : List ℕ) → a ++ b ++ c ++ d ++ e ++ f ++ g ++ h �
 eight a b c d e f g h = simp append_assoc
 
 -- what is read of a first word goes on
-goes_on : {A B : Type 0} (read : List ℕ → Option A) (word : List ℕ) (words : List (List ℕ)) (a : A) (go : A → List (List ℕ) → Option B)
+pub goes_on : {A B : Type 0} (read : List ℕ → Option A) (word : List ℕ) (words : List (List ℕ)) (a : A) (go : A → List (List ℕ) → Option B)
     → read word ≡ Some a → with_word read (word ∷ words) go ≡ go a words
 goes_on {A = A} read word words a go is =
     ap (λ (r : Option A). option_and_then (λ (taken : A × List (List ℕ)). go taken.0 taken.1) (option_map (λ (a : A). (a, words)) r)) is
 
 -- a line of these words
-of_words : (text : List ℕ) (kind : List ℕ) (words : List (List ℕ)) → words_of text ≡ kind ∷ words → line_read text ≡ kind_read kind words
+pub of_words : (text : List ℕ) (kind : List ℕ) (words : List (List ℕ)) → words_of text ≡ kind ∷ words → line_read text ≡ kind_read kind words
 of_words text kind words is = ap (λ (ws : List (List ℕ)). with_word (λ (kind : List ℕ). Some kind) ws kind_read) is
 
 named : (k : ℕ) → k ≤ largest_key → key_named (key_text k) ≡ Some k
@@ -155,7 +155,7 @@ refusal_reads i why (some, few) =
 abbrev cut_from : Why → ℕ → List (List ℕ) → Option Line
 cut_from why i words = at_end (Seen (Cut i why)) words
 
-one_number : (kind : List ℕ) (n : ℕ) → n ≤ largest_read → Lacks 32 kind → words_of (kind ++ (codes " " ++ decimal n)) ≡ kind ∷ decimal n ∷ []
+pub one_number : (kind : List ℕ) (n : ℕ) → n ≤ largest_read → Lacks 32 kind → words_of (kind ++ (codes " " ++ decimal n)) ≡ kind ∷ decimal n ∷ []
 one_number kind n few clear = first_word kind (decimal n) clear ∙ ap (λ (ws : List (List ℕ)). kind ∷ ws) (last_word (decimal n) (decimal_lacks 32 n refl few))
 
 cut_reads : (i : ℕ) (why : Why) → IsMarkOfRun (Cut i why) → ReadsMark (mark_text (Cut i why)) (Cut i why)
@@ -167,7 +167,7 @@ cut_reads i Device (some, few) =
     ∙ goes_on call_number (decimal i) [] i (cut_from Device) (decimal_read 1 largest_read i (omega arith) some few)
 
 -- the words of keys
-keys_words : (k : ℕ) (ks : List ℕ) (least : ℕ) → AscendFrom least (k ∷ ks) → words_of (key_text k ++ keys_text ks) ≡ key_text k ∷ map key_text ks
+pub keys_words : (k : ℕ) (ks : List ℕ) (least : ℕ) → AscendFrom least (k ∷ ks) → words_of (key_text k ++ keys_text ks) ≡ key_text k ∷ map key_text ks
 keys_words k [] least (above, small, rest) = ap words_of (append-nil (key_text k)) ∙ last_word (key_text k) (key_lacks k small)
 keys_words k (j ∷ js) least (above, small, rest) =
     first_word (key_text k) (key_text j ++ keys_text js) (key_lacks k small) ∙ ap (λ (ws : List (List ℕ)). key_text k ∷ ws) (keys_words j js (k + 1) rest)
@@ -178,7 +178,7 @@ from_is least k above small =
     let here : not_below least k ≡ Some k = rw test refl in
     ap (option_and_then (not_below least)) (named k small) ∙ here
 
-keys_are : (least : ℕ) (ks : List ℕ) → AscendFrom least ks → keys_from least (map key_text ks) ≡ Some ks
+pub keys_are : (least : ℕ) (ks : List ℕ) → AscendFrom least ks → keys_from least (map key_text ks) ≡ Some ks
 keys_are least [] ascend = refl
 keys_are least (k ∷ ks) (above, small, rest) =
     ap (option_and_then (λ (key : ℕ). option_map (λ (keys : List ℕ). key ∷ keys) (keys_from (key + 1) (map key_text ks)))) (from_is least k above small)
@@ -237,7 +237,7 @@ command_clear (Add k) = refl
 command_clear (Remove k) = refl
 command_clear (Has k) = refl
 
-keys_clear : (least : ℕ) (ks : List ℕ) → AscendFrom least ks → Lacks 10 (keys_text ks)
+pub keys_clear : (least : ℕ) (ks : List ℕ) → AscendFrom least ks → Lacks 10 (keys_text ks)
 keys_clear least [] ascend = refl
 keys_clear least (k ∷ ks) (above, small, rest) =
     joined (codes " ") (key_text k ++ keys_text ks) refl (joined (key_text k) (keys_text ks) (key_text_lacks 10 k refl refl small) (keys_clear (k + 1) ks rest))
@@ -255,7 +255,7 @@ cut_clear : (why : Why) → Lacks 10 (cut_word why)
 cut_clear Halted = refl
 cut_clear Device = refl
 
-mark_clear : (m : Mark) → IsMarkOfRun m → Lacks 10 (mark_text m)
+pub mark_clear : (m : Mark) → IsMarkOfRun m → Lacks 10 (mark_text m)
 mark_clear (Call i a c) ((some, few), one, low, small) =
     clear_eight (codes "call ") (decimal i) (codes " ") (decimal a) (codes " ") (command_word c) (codes " ") (key_text (key_of c))
     refl (number_clear i few) refl (number_clear a (omega arith)) refl (command_clear c) refl (key_text_lacks 10 (key_of c) refl refl small)
