@@ -2,12 +2,12 @@
 use Rattle.std.proofs.Common.{◌≡◌, ◌⊎◌, inl, inr, ⊎_elim, ℕ, ◌+◌, List, [], ◌∷◌, ◌++◌, codes, decimal, length, take, Option, Result, Ok, Err, refl, sym, ◌∙◌, subst, arith, append_assoc, length-append}
 use Rattle.std.proofs.Math.Seq.{take-append-add}
 use Rattle.std.proofs.lemmas.List.{take-append-le}
-use Rattle.std.specs.Io.KnownBytes.{Appends}
-use Rattle.std.proofs.KnownBytes.{Appends-trans}
+use Rattle.std.specs.Io.KnownBytes.{Appends, Keeps}
+use Rattle.std.proofs.KnownBytes.{Appends-kept, Appends-trans}
 use Rattle.lz_proto.specs.Steps.{SendTells}
 use Rattle.lz_proto.specs.declared.fault.SessionFault.{SessionFault}
 use Rattle.lz_proto.specs.declared.fault.SessionFault.TheVariants.{Read, Write, Memory}
-use Rattle.lazyset_commands.specs.Tellings.{Tells, status_sent}
+use Rattle.lazyset_commands.specs.Tellings.{IsCutShort, Tells, status_sent}
 use Rattle.lz_vault.specs.declared.opening.OpenFault.{OpenFault}
 use Rattle.lz_vault.specs.declared.opening.OpenFault.TheVariants as opening
 use Rattle.lazyset_commands.specs.Ends.{open_status}
@@ -87,3 +87,10 @@ refusal_ends old new text fault state tells = ⊎_elim (λ whole. ⊎_elim (λ i
 pub number_tells : (old new : Option (List ℕ)) (told : Status) (r : Result (Unit {0}) SessionFault) (n number : ℕ) → n ≡ number → SendTells old new (codes "refused " ++ decimal n ++ 10 ∷ []) r
     → Tells old new (refused_text number) told (status_sent r told)
 number_tells old new told r n number is sent = sent_tells old new (refused_text number) told r (subst (λ (i : ℕ). SendTells old new (refused_text i) r) is sent)
+
+-- what was sent before a flush is all of the text, or a part
+pub sent_flushed : (old mid new : Option (List ℕ)) (text : List ℕ) (r : Result (Unit {0}) SessionFault) → SendTells old mid text r → Keeps mid new → Appends old new text ⊎ IsCutShort old new text
+sent_flushed old mid new text (Ok done) p kept = inl (Appends-kept old mid new text p kept)
+sent_flushed old mid new text (Err Read) p kept = absurd p
+sent_flushed old mid new text (Err Write) (n, less, p) kept = inr (n, less, Appends-kept old mid new (take n text) p kept)
+sent_flushed old mid new text (Err Memory) p kept = absurd p

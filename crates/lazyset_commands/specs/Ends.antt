@@ -38,9 +38,8 @@ abbrev pub make_status : MakeFault → Status
 make_status making.Device = Failed
 make_status fault = Refused
 
--- how a rehearsal ends after its lines, where that could be told
-abbrev pub rehearsal_status : Result (Unit {0}) RehearsalFault → Status
-rehearsal_status (Ok done) = Done
-rehearsal_status (Err (rehearsal.Line number)) = Refused
-rehearsal_status (Err rehearsal.Write) = Failed
-rehearsal_status (Err rehearsal.Memory) = Failed
+-- how a rehearsal ends before its script did, where that could be told
+abbrev pub rehearsal_status : RehearsalFault → Status
+rehearsal_status (rehearsal.Line number) = Refused
+rehearsal_status rehearsal.Write = Failed
+rehearsal_status rehearsal.Memory = Failed

@@ -6,17 +6,13 @@ use Rattle.lz_judge.specs.Records.{IsPoint, Record}
 use Rattle.lz_judge.specs.TextsRead.{IsFirstUnread, Reads}
 use Rattle.lz_judge.specs.Flaws.{IsFirstKind, IsFlaw, OrderedChain, flaw_number, flaw_subject}
 use Rattle.lz_judge.specs.declared.flaw.Flaw.{Flaw}
-use Rattle.lazyset_commands.specs.Tellings.{Tells}
+use Rattle.lazyset_commands.specs.Tellings.{Tells, line_text}
 use Rattle.lazyset_commands.specs.declared.status.Status.{Status}
 use Rattle.lazyset_commands.specs.declared.status.Status.TheVariants.{Done, Refused, Damaged}
 
 -- the line of a history without a flaw
 abbrev pub good_text : List ℕ
 good_text = codes "good" ++ 10 ∷ []
-
--- the first line that doesn't read
-abbrev pub line_text : ℕ → List ℕ
-line_text line = codes "line " ++ decimal line ++ 10 ∷ []
 
 -- the line of a flaw with these numbers
 abbrev pub numbers_text : ℕ → ℕ → List ℕ

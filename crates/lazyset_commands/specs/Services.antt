@@ -1,5 +1,6 @@
 -- What a service of a set does: its passes are served, each by a thread.
-use Rattle.std.specs.Prelude.{◌≡◌, ◌⊎◌, ◌≤◌, ◌<◌, ℕ, List, [], ◌∷◌, ◌++◌, codes, length, Option}
+use Rattle.std.specs.Prelude.{◌≡◌, ◌⊎◌, ◌≤◌, ◌<◌, ℕ, List, [], ◌∷◌, ◌++◌, codes, decimal, length, Option}
+use Rattle.std.specs.Io.KnownBytes.{Appends}
 use Rattle.lz_slot.specs.declared.format.Format.{Format}
 use Rattle.lz_disk.specs.Devices.{Device}
 use Rattle.lz_vault.specs.Opens.{IsRefusedFor}
@@ -15,7 +16,7 @@ use Rattle.lz_set.specs.Blanks.{BlankOver}
 use Rattle.lz_set.specs.Left.{IsLeft, IsLeftWith}
 use Rattle.lazyset_commands.specs.Ends.{open_status}
 use Rattle.lazyset_commands.specs.Runs.{refusal_text}
-use Rattle.lazyset_commands.specs.Tellings.{Tells}
+use Rattle.lazyset_commands.specs.Tellings.{IsCutShort, Tells}
 use Rattle.lazyset_commands.specs.declared.status.Status.{Status}
 use Rattle.lazyset_commands.specs.declared.status.Status.TheVariants.{Done, Failed}
 
@@ -30,6 +31,19 @@ pub record ServedPasses (b : BoardId) (first : Device) (F : Format) (status : St
   pub failed : status ≡ Failed → (length ended < b.sizes.passes) ⊎ ((last_sync ≤ left.left.yard.vault.syncs) ⊎ (first.faults < disk.faults))
   pub other : (status ≡ Done) ⊎ (status ≡ Failed)
 
+-- the line that names the port on which a service listens
+abbrev pub port_text : ℕ → List ℕ
+port_text port = codes "listening " ++ decimal port ++ 10 ∷ []
+
+-- the line of a port was written, or a part of it that isn't all
+abbrev pub TellsPort : Option (List ℕ) → Option (List ℕ) → Type 0
+TellsPort before after = (port : ℕ) × (port < 65_536) × (Appends before after (port_text port) ⊎ IsCutShort before after (port_text port))
+
+-- There was a port for the service, which was told where anybody reads it, and its passes were served.
+pub record HadPort (b : BoardId) (first : Device) (F : Format) (status : Status) (before after : Option (List ℕ)) (disk : Device) : Type 0 where
+  pub told : TellsPort before after
+  pub served : ServedPasses b first F status disk
+
 -- There was no port for the service, which was told; what is left of the disk tells a history.
 pub record HadNoPort (b : BoardId) (first : Device) (status : Status) (before after : Option (List ℕ)) (disk : Device) : Type 0 where
   pub told : Tells before after (codes "noport" ++ 10 ∷ []) Failed status
@@ -42,7 +56,7 @@ pub record RanService {D : Type 0} (device : D → Device) (buckets passes : ℕ
   pub opens : OpensYard (device old) (device opened.disk) buckets passes opened.yard
   pub sizes : opened.board.sizes ≡ sizes_of opened.yard.shape
   pub trace : opened.board.opened ≡ opened_by opened.yard.words
-  pub served : ServedPasses opened.board (device opened.disk) opened.yard.vault.format status (device new)
+  pub served : HadPort opened.board (device opened.disk) opened.yard.vault.format status before after (device new)
       ⊎ HadNoPort opened.board (device opened.disk) status before after (device new)
 
 -- The open was refused, and the refusal was told.

@@ -1,8 +1,8 @@
 //! The command that judges a history.
 ghost use Rattle.std.specs.Prelude.{◌≡◌, ◌⊎◌, IfOk};
 ghost use Rattle.std.specs.String.{string_bytes};
-ghost use Rattle.lazyset_commands.specs.Judgements.{FoundGood, FoundWrong, IsJudged, JudgedGood, JudgedUnread, JudgedWrong, flaw_text, line_text, numbers_text};
-ghost use Rattle.lazyset_commands.specs.Tellings.{LacksMemory, Tells};
+ghost use Rattle.lazyset_commands.specs.Judgements.{FoundGood, FoundWrong, IsJudged, JudgedGood, JudgedUnread, JudgedWrong, flaw_text, numbers_text};
+ghost use Rattle.lazyset_commands.specs.Tellings.{LacksMemory, Tells, line_text};
 
 use crate::status::Status;
 use crate::telling::{NO_MEMORY, tell};

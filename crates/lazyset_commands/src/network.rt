@@ -3,8 +3,9 @@ ghost use Rattle.std.specs.Prelude.{◌≡◌, ◌⊎◌, ◌≤◌, ◌<◌, Al
 ghost use Rattle.lz_slot.specs.Limits.{most_buckets, most_passes};
 ghost use Rattle.lz_set.specs.Blanks.{MayBeNamed};
 ghost use Rattle.lz_set.specs.Names.{MayCall};
-ghost use Rattle.lazyset_commands.specs.Services.{HadNoPort, RanService, RefusedService, ServedPasses};
+ghost use Rattle.lazyset_commands.specs.Services.{HadNoPort, HadPort, RanService, RefusedService, ServedPasses, TellsPort};
 
+use crate::refusal::send_line;
 use crate::running::refuse;
 use crate::status::Status;
 use crate::telling::tell;
@@ -12,7 +13,6 @@ use lz_disk::Disk;
 use lz_serve::{Bounds, Observer, Served, Serving, serve};
 use lz_set::{Blank, Named, NoGate, Pass, Set};
 use lz_vault::Refused;
-use std::io;
 use std::io::Write;
 use std::marker::Brand;
 use std::net::{Net, TcpListener, TcpStream};
@@ -103,7 +103,7 @@ where
     D: Disk + Send,
     N: Named + Send + Sync,
     requires { MayBeNamed D.device N.board N.first N.format blank }
-    ensures { ServedPasses N.board N.first N.format result.0 (D.device result.1) ⊎ HadNoPort N.board N.first result.0 (W.contents writer.old) (W.contents writer.new) (D.device result.1) }
+    ensures { HadPort N.board N.first N.format result.0 (W.contents writer.old) (W.contents writer.new) (D.device result.1) ⊎ HadNoPort N.board N.first result.0 (W.contents writer.old) (W.contents writer.new) (D.device result.1) }
 {
     let serving = Serving {
         slots: blank.slots(),
@@ -116,8 +116,7 @@ where
         return (tell(writer, Status::Failed, NO_PORT), set.close());
     };
     observer.serving(serving);
-    // A service goes on where nobody reads what it says.
-    let _ = tell_port(writer, port);
+    tell_port(writer, port);
     serve_passes(rt, observer, &listener, set, passes, options.bounds())
 }
 
@@ -172,7 +171,10 @@ where
     Some((listener, taken))
 }
 
-fn tell_port<W: Write + Drop>(writer: &mut W, port: u16) -> io::Result<()> {
-    writeln!(writer, "listening {port}")?;
-    writer.flush()
+// Says on which port the service listens. It goes on where nobody reads what it says.
+fn tell_port<W: Write>(writer: &mut W, port: u16)
+    ensures { TellsPort (W.contents writer.old) (W.contents writer.new) }
+{
+    let _ = send_line(writer, b"listening ", u64::from(port));
+    let _ = writer.flush();
 }

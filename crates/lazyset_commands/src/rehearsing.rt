@@ -1,22 +1,23 @@
 //! The command that rehearses a script.
-ghost use Rattle.std.specs.Prelude.{◌≡◌, ◌⊎◌, ◌≤◌, ℕ, IfSome, Ok, Err};
-ghost use Rattle.std.specs.Io.KnownBytes.{Appends};
+ghost use Rattle.std.specs.Prelude.{◌≡◌, ◌⊎◌, ◌≤◌};
 ghost use Rattle.lz_slot.specs.Limits.{most_buckets, most_passes, most_rehearsed};
-ghost use Rattle.lz_rehearsal.specs.Tellings.{line_text};
 ghost use Rattle.lazyset_commands.specs.Ends.{rehearsal_status};
-ghost use Rattle.lazyset_commands.specs.Rehearsals.{IsUnread, OfScript, RehearsedAll, RehearsedTo};
+ghost use Rattle.lazyset_commands.specs.Rehearsals.{IsRehearsal, IsRehearsed, IsUnread, OfScript, RehearsedAll, RehearsedTo, fault_text};
+ghost use Rattle.lazyset_commands.specs.Tellings.{LacksMemory, Tells, line_text};
 
+use crate::refusal::send_line;
 use crate::status::Status;
-use crate::telling::{NO_MEMORY, NO_READ, tell};
+use crate::telling::{NO_MEMORY, NO_READ, status_sent, tell};
 use lz_core::World;
-use lz_rehearsal::{Line, RehearsalFault, Script, ScriptFault, rehearse, write_line};
+use lz_rehearsal::{Line, RehearsalFault, Script, ScriptFault, rehearse};
 use lz_slot::Format;
 use std::alloc::Global;
 use std::io::{Read, Write};
 
 /// Reads a script, rehearses it on a new set of so many slots and buckets in a file of this format, and writes what is seen as it comes. Refused, with
 /// `line L`, where the script doesn't read, and then nothing was rehearsed, or where a line isn't lawful where it stands.
-/// Failed, with `noread` or `nomemory`, where a read failed or there was no memory, and where a write failed.
+/// Failed, with `noread` or `nomemory`, where a read failed or there was no memory, and where a write failed: then a beginning was
+/// written of what is seen and of the line with which it would have ended.
 pub fn rehearse_on<R: Read, W: Write + Drop>(
     alloc: Global,
     reader: &mut R,
@@ -27,10 +28,11 @@ pub fn rehearse_on<R: Read, W: Write + Drop>(
 ) -> Status
     requires slots { (1 ≤ slots) × (slots ≤ most_rehearsed) }
     requires buckets { (1 ≤ buckets) × (buckets ≤ most_buckets) }
-    ensures done { result ≡ Status.Done → IfSome (R.remaining reader.old) (OfScript (λ lines.
-        RehearsedAll (record { slots = slots; buckets = buckets; passes = most_passes }) format lines (W.contents writer.old) (W.contents writer.new))) }
-    ensures refused { result ≡ Status.Refused → IfSome (R.remaining reader.old) (λ input. IsUnread input (W.contents writer.old) (W.contents writer.new) ⊎ OfScript (λ lines.
-        RehearsedTo (record { slots = slots; buckets = buckets; passes = most_passes }) format lines (W.contents writer.old) (W.contents writer.new)) input) }
+    ensures told { IsRehearsed (record { slots = slots; buckets = buckets; passes = most_passes }) format (R.remaining reader.old) result (W.contents writer.old) (W.contents writer.new) }
+    ensures done { result ≡ Status.Done → OfScript (λ lines.
+        RehearsedAll (record { slots = slots; buckets = buckets; passes = most_passes }) format lines result (W.contents writer.old) (W.contents writer.new)) (R.remaining reader.old) }
+    ensures refused { result ≡ Status.Refused → IsUnread (R.remaining reader.old) result (W.contents writer.old) (W.contents writer.new) ⊎ OfScript (λ lines.
+        RehearsedTo (record { slots = slots; buckets = buckets; passes = most_passes }) format lines result (W.contents writer.old) (W.contents writer.new)) (R.remaining reader.old) }
     ensures other { (result ≡ Status.Done) ⊎ (result ≡ Status.Refused) ⊎ (result ≡ Status.Failed) }
 {
     match Script::read(alloc, reader) {
@@ -52,39 +54,33 @@ fn rehearse_lines<W: Write + Drop>(
 ) -> Status
     requires slots { (1 ≤ slots) × (slots ≤ most_rehearsed) }
     requires buckets { (1 ≤ buckets) × (buckets ≤ most_buckets) }
-    ensures done { result ≡ Status.Done → RehearsedAll (record { slots = slots; buckets = buckets; passes = most_passes }) format lines.now (W.contents writer.old) (W.contents writer.new) }
-    ensures refused { result ≡ Status.Refused → RehearsedTo (record { slots = slots; buckets = buckets; passes = most_passes }) format lines.now (W.contents writer.old) (W.contents writer.new) }
-    ensures other { (result ≡ Status.Done) ⊎ (result ≡ Status.Refused) ⊎ (result ≡ Status.Failed) }
+    ensures { IsRehearsal (record { slots = slots; buckets = buckets; passes = most_passes }) format lines.now result (W.contents writer.old) (W.contents writer.new)
+        ⊎ LacksMemory (W.contents writer.old) (W.contents writer.new) result }
 {
     let Ok(world) = World::new(alloc, slots, buckets, format) else {
         return tell(writer, Status::Failed, NO_MEMORY);
     };
     let mut world = world;
-    let ended = rehearse(alloc, &mut world, lines, writer);
-    tell_end(writer, ended)
-}
-
-// Tells how a rehearsal ended.
-fn tell_end<W: Write + Drop>(writer: &mut W, ended: Result<(), RehearsalFault>) -> Status
-    ensures done { result ≡ Status.Done → (ended ≡ Ok tt) × (W.contents writer.new ≡ W.contents writer.old) }
-    ensures refused { result ≡ Status.Refused → (number : ℕ) × (ended ≡ Err (RehearsalFault.Line number)) × Appends (W.contents writer.old) (W.contents writer.new) (line_text number) }
-    ensures table { (result ≡ rehearsal_status ended) ⊎ (result ≡ Status.Failed) }
-    ensures other { (result ≡ Status.Done) ⊎ (result ≡ Status.Refused) ⊎ (result ≡ Status.Failed) }
-{
-    match ended {
+    match rehearse(alloc, &mut world, lines, writer) {
         Ok(()) => Status::Done,
-        Err(RehearsalFault::Line(number)) => refuse_line(writer, number),
-        Err(RehearsalFault::Write) => Status::Failed,
-        Err(RehearsalFault::Memory) => tell(writer, Status::Failed, NO_MEMORY),
+        Err(fault) => tell_fault(writer, fault),
     }
 }
 
-// Tells the line at which a rehearsal ended.
-fn refuse_line<W: Write + Drop>(writer: &mut W, number: u64) -> Status
-    ensures { (result ≡ Status.Failed) ⊎ ((result ≡ Status.Refused) × Appends (W.contents writer.old) (W.contents writer.new) (line_text number)) }
+// Tells why a rehearsal ended before its script did.
+fn tell_fault<W: Write + Drop>(writer: &mut W, fault: RehearsalFault) -> Status
+    ensures { Tells (W.contents writer.old) (W.contents writer.new) (fault_text fault) (rehearsal_status fault) result }
 {
-    match write_line(writer, number) {
-        Ok(()) => Status::Refused,
-        Err(_) => Status::Failed,
+    match fault {
+        RehearsalFault::Line(number) => refuse_line(writer, number),
+        RehearsalFault::Write => Status::Failed,
+        RehearsalFault::Memory => tell(writer, Status::Failed, NO_MEMORY),
     }
+}
+
+// Tells the line with which an input or a rehearsal was refused.
+fn refuse_line<W: Write>(writer: &mut W, number: u64) -> Status
+    ensures { Tells (W.contents writer.old) (W.contents writer.new) (line_text number) Status.Refused result }
+{
+    status_sent(send_line(writer, b"line ", number), Status::Refused)
 }

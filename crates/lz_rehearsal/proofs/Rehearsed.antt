@@ -1,9 +1,9 @@
 -- A rehearsal goes on, line by line and turn by turn.
-use Rattle.std.proofs.Common.{◌≡◌, inl, inr, ◌≤◌, ◌<◌, ◌+◌, ◌-◌, ℕ, zero, suc, true, false, Option, None, Some, List, [], ◌∷◌, ◌++◌, length, take, drop, get_or, slice_get, is_some, unwrap_or, Result, Ok, Err, OnOk, refl, sym, ap, subst, ◌∙◌, arith, ◌↔◌}
+use Rattle.std.proofs.Common.{◌≡◌, inl, inr, ◌≤◌, ◌<◌, ◌+◌, ◌-◌, ℕ, zero, suc, Option, None, Some, List, [], ◌∷◌, ◌++◌, length, take, drop, get_or, slice_get, is_some, unwrap_or, Result, Ok, Err, OnOk, IfOk, refl, sym, ap, subst, ◌∙◌, arith}
 use Rattle.std.proofs.lemmas.Bool.{false≢true}
 use Rattle.std.proofs.Math.Seq.{split_at}
 use Rattle.std.proofs.lemmas.List.{append-nil, length-take-le, take_more}
-use Rattle.std.proofs.KnownBytes.{Appends-trans}
+use Rattle.std.proofs.KnownBytes.{Appends-nil, Appends-trans}
 use Rattle.std.specs.Io.KnownBytes.{Appends}
 use Rattle.lz_slot.specs.declared.history.Mark.{Mark}
 use Rattle.lz_machine.specs.declared.event.Outcome.{Outcome}
@@ -17,9 +17,9 @@ use Rattle.lz_core.proofs.Runs.JoinedPlays.{chains, joins}
 use Rattle.lz_rehearsal.specs.declared.line.Line.{Line}
 use Rattle.lz_rehearsal.specs.declared.line.Line.TheVariants.{Call, Turn, Until, Finish, Trip, Stop, Crash, Open, Show}
 use Rattle.lz_rehearsal.specs.Limits.{most_turns}
-use Rattle.lz_rehearsal.specs.Rehearsals.{Adds, Does, EndsAt, EndsWithin, IsLawfulLine, Rehearsed, Rehearses, Turns, enough, ended, busy, met, again, nothing, more}
+use Rattle.lz_rehearsal.specs.Rehearsals.{Adds, AddsPart, Does, EndsAt, EndsCutShort, EndsWithin, IsLawfulLine, Rehearsed, Rehearses, Turns, enough, ended, busy, met, again, nothing, more}
 use Rattle.lz_slot.specs.MarkTexts.{marks_text}
-use Rattle.lz_rehearsal.specs.Rehearsing.{PlaysStep, ShowsMembers, TakesTurns, Tells}
+use Rattle.lz_rehearsal.specs.Rehearsing.{EndsTurns, GoesOn, PlaysStep, TakesTurns}
 
 -- what lines do is the play of some steps
 abbrev pub IsPlay : WorldOver → List Mark → WorldOver → Type 0
@@ -61,15 +61,11 @@ rehearses old new lines marks text b a h written =
     let play = play_of old new lines marks text h in
     record { marks = marks; text = text; rehearsed = h; written = written; chain = chains old new play.0 marks play.1; of_run = (play.1 (record { state = old.state; marks = []; trace = []; calls = old.calls }) (record { state = refl; calls = refl })).of_run }
 
-pub appends_none : (b : Text) → Appends b b []
-appends_none None = tt
-appends_none (Some bytes) = sym (append-nil bytes)
-
 appends_more : (b m a : Text) (t : List ℕ) → Appends b m t → Appends m a [] → Appends b a t
 appends_more b m a t one other = subst (Appends b a) (append-nil t) (Appends-trans b m a t [] one other)
 
 pub begins : (old : WorldOver) (b : Text) → Rehearses old [] old b b
-begins old b = rehearses old old [] [] [] b b nothing (appends_none b)
+begins old b = rehearses old old [] [] [] b b nothing (Appends-nil b)
 
 -- one line more
 pub goes_on : (old mid new : WorldOver) (lines : List Line) (i : ℕ) (line : Line) (b m a : Text) → i < length lines → get_or lines i line ≡ line
@@ -112,29 +108,32 @@ ends_within old mid lines i line b m a within at before none = record {
   rehearses = written_more old mid (take i lines) b m a before none;
 }
 
--- the members were shown by their line
-adds_show : (old new : WorldOver) (b a : Text) → ShowsMembers old b a → new ≡ old → Adds old Show new b a
-adds_show old new b a h same = record {
-  seen = [];
-  text = h.text;
-  does = record { up = h.shows.up; same = same; none = refl; keys = h.shows.keys; members = h.shows.members; ascend = h.shows.ascend; shown = h.shows.shown };
-  written = h.written;
+-- a line of whose text a part was written
+pub ends_cut_short : (old mid new : WorldOver) (lines : List Line) (i : ℕ) (line : Line) (b m a : Text) → i < length lines → get_or lines i line ≡ line
+    → Rehearses old (take i lines) mid b m → AddsPart mid line new m a → EndsCutShort old lines new b a
+ends_cut_short old mid new lines i line b m a within at before cut = record {
+  front = take i lines;
+  line = line;
+  rest = drop (suc i) lines;
+  whole = cut_here lines i line within at;
+  mid = mid;
+  middle = m;
+  rehearses = before;
+  cut = cut;
 }
 
 -- Turns of a line, the last of which comes later: what ends them there ends them.
 abbrev pub IsGoing : ℕ → Option Kind → ℕ → WorldOver → ℕ → WorldOver → Type 0
 IsGoing a awaited most start left here = (marks : List Mark) (text : List ℕ) (new : WorldOver) → Turns a awaited left here marks text new → Turns a awaited most start marks text new
 
-pub record Going (a : ℕ) (awaited : Option Kind) (most : ℕ) (start : WorldOver) (played : ℕ) (here : WorldOver) (b m : Text) : Type 0 where
+pub record Going (a : ℕ) (awaited : Option Kind) (most : ℕ) (start : WorldOver) (played : ℕ) (here : WorldOver) : Type 0 where
   pub going : IsGoing a awaited most start (most - played) here
-  pub unwritten : Appends b m []
   pub still : played ≡ 0 → here ≡ start
   pub lawful : 1 ≤ played → IsLawful here.state (step.Turn a)
 
-pub going_first : (a : ℕ) (awaited : Option Kind) (most : ℕ) (start : WorldOver) (b : Text) → Going a awaited most start 0 start b b
-going_first a awaited most start b = record {
+pub going_first : (a : ℕ) (awaited : Option Kind) (most : ℕ) (start : WorldOver) → Going a awaited most start 0 start
+going_first a awaited most start = record {
   going = λ marks text new h. subst (λ (n : ℕ). Turns a awaited n start marks text new) (omega arith) h;
-  unwritten = appends_none b;
   still = λ none. refl;
   lawful = λ some. absurd (omega (arith, some));
 }
@@ -143,74 +142,62 @@ left_one : (most played : ℕ) → played < most → suc (most - (played + 1)) �
 left_one most played low = omega (arith, low)
 
 -- a turn that isn't the last of its line
-pub going_on : (a : ℕ) (awaited : Option Kind) (most played : ℕ) (start here new : WorldOver) (turned : Turned) (b m c : Text) → played < most
-    → Going a awaited most start played here b m
+pub going_on : (a : ℕ) (awaited : Option Kind) (most played : ℕ) (start here new : WorldOver) (turned : Turned) → played < most
+    → Going a awaited most start played here
     → PlaysOn here (step.Turn a ∷ []) (mark_list turned.mark) new → IsTold here.state a turned.kind turned.outcome new.state
     → (turned.mark ≡ None → IsLawful new.state (step.Turn a))
-    → Tells a awaited turned false m c → Going a awaited most start (played + 1) new b c
-going_on a awaited most played start here new turned b m c low h plays told lawful tells = record {
+    → GoesOn awaited turned → Going a awaited most start (played + 1) new
+going_on a awaited most played start here new turned low h plays told lawful goes = record {
   going = λ marks text end rest.
       h.going marks text end (subst (λ (n : ℕ). Turns a awaited n here marks text end) (left_one most played low)
       (again (most - (played + 1)) here new end turned.kind turned.outcome marks text
-      (subst (λ (mark : Option Mark). PlaysOn here (step.Turn a ∷ []) (mark_list mark) new) tells.0 plays, told) tells.1 tells.2 rest));
-  unwritten = appends_more b m c [] h.unwritten tells.3;
+      (subst (λ (mark : Option Mark). PlaysOn here (step.Turn a ∷ []) (mark_list mark) new) goes.0 plays, told) goes.1 goes.2 rest));
   still = λ none. absurd (omega (arith, none));
-  lawful = λ some. lawful tells.0;
+  lawful = λ some. lawful goes.0;
 }
 
-last_turn : (a : ℕ) (awaited : Option Kind) (n : ℕ) (here new : WorldOver) (turned : Turned) (m c : Text)
+last_turn : (a : ℕ) (awaited : Option Kind) (n : ℕ) (here new : WorldOver) (turned : Turned) (text : List ℕ)
     → PlaysOn here (step.Turn a ∷ []) (mark_list turned.mark) new → IsTold here.state a turned.kind turned.outcome new.state
-    → Tells a awaited turned true m c → TakesTurns a awaited (suc n) here new m c
-last_turn a awaited n here new turned m c plays told (inl over) = record {
-  seen = over.0 ∷ [];
-  text = _;
-  turns = ended n here new turned.kind turned.outcome over.0 (subst (λ (mark : Option Mark). PlaysOn here (step.Turn a ∷ []) (mark_list mark) new) over.1 plays, told);
-  written = over.2;
-}
-last_turn a awaited n here new turned m c plays told (inr (inl found)) = record {
-  seen = [];
-  text = _;
-  turns = busy n here new turned.kind (subst (λ (mark : Option Mark). PlaysOn here (step.Turn a ∷ []) (mark_list mark) new) found.0 plays, subst (λ (o : Outcome). IsTold here.state a turned.kind o new.state) found.1 told);
-  written = found.2;
-}
-last_turn a awaited n here new turned m c plays told (inr (inr came)) = record {
-  seen = [];
-  text = [];
-  turns = met n here new turned.kind turned.outcome (subst (λ (mark : Option Mark). PlaysOn here (step.Turn a ∷ []) (mark_list mark) new) came.0 plays, told) came.1 came.2;
-  written = came.3;
-}
-
-went : (a : ℕ) (awaited : Option Kind) (most played : ℕ) (start here new : WorldOver) (b m c : Text) → Going a awaited most start played here b m
-    → TakesTurns a awaited (most - played) here new m c → TakesTurns a awaited most start new b c
-went a awaited most played start here new b m c h taken = record {
-  seen = taken.seen;
-  text = taken.text;
-  turns = h.going taken.seen taken.text new taken.turns;
-  written = Appends-trans b m c [] taken.text h.unwritten taken.written;
-}
+    → EndsTurns a awaited turned text → TakesTurns a awaited (suc n) here text new
+last_turn a awaited n here new turned text plays told (inl over) = (
+  over.0 ∷ [],
+  subst (λ (t : List ℕ). Turns a awaited (suc n) here (over.0 ∷ []) t new) (sym over.2)
+      (ended n here new turned.kind turned.outcome over.0 (subst (λ (mark : Option Mark). PlaysOn here (step.Turn a ∷ []) (mark_list mark) new) over.1 plays, told)),
+)
+last_turn a awaited n here new turned text plays told (inr (inl found)) = (
+  [],
+  subst (λ (t : List ℕ). Turns a awaited (suc n) here [] t new) (sym found.2)
+      (busy n here new turned.kind (subst (λ (mark : Option Mark). PlaysOn here (step.Turn a ∷ []) (mark_list mark) new) found.0 plays, subst (λ (o : Outcome). IsTold here.state a turned.kind o new.state) found.1 told)),
+)
+last_turn a awaited n here new turned text plays told (inr (inr came)) = (
+  [],
+  subst (λ (t : List ℕ). Turns a awaited (suc n) here [] t new) (sym came.3)
+      (met n here new turned.kind turned.outcome (subst (λ (mark : Option Mark). PlaysOn here (step.Turn a ∷ []) (mark_list mark) new) came.0 plays, told) came.1 came.2),
+)
 
 -- a turn that is the last of its line
-pub going_ends : (a : ℕ) (awaited : Option Kind) (most played : ℕ) (start here new : WorldOver) (turned : Turned) (b m c : Text) → played < most
-    → Going a awaited most start played here b m
+pub going_ends : (a : ℕ) (awaited : Option Kind) (most played : ℕ) (start here new : WorldOver) (turned : Turned) (text : List ℕ) → played < most
+    → Going a awaited most start played here
     → PlaysOn here (step.Turn a ∷ []) (mark_list turned.mark) new → IsTold here.state a turned.kind turned.outcome new.state
-    → Tells a awaited turned true m c → TakesTurns a awaited most start new b c
-going_ends a awaited most played start here new turned b m c low h plays told tells =
-    went a awaited most played start here new b m c h
-    (subst (λ (n : ℕ). TakesTurns a awaited n here new m c) (left_one most played low) (last_turn a awaited (most - (played + 1)) here new turned m c plays told tells))
+    → EndsTurns a awaited turned text → TakesTurns a awaited most start text new
+going_ends a awaited most played start here new turned text low h plays told ends =
+    let last = last_turn a awaited (most - (played + 1)) here new turned text plays told ends in
+    (last.0, h.going last.0 text new (subst (λ (n : ℕ). Turns a awaited n here last.0 text new) (left_one most played low) last.1))
 
 -- as many turns as there may be
-pub going_enough : (a : ℕ) (awaited : Option Kind) (most played : ℕ) (start here : WorldOver) (b m : Text) → most ≤ played → Going a awaited most start played here b m → TakesTurns a awaited most start here b m
-going_enough a awaited most played start here b m all h =
-    let none : 0 ≡ most - played = omega (arith, all) in
-    record { seen = []; text = []; turns = h.going [] [] here (subst (λ (n : ℕ). Turns a awaited n here [] [] here) none (enough here)); written = h.unwritten }
+pub going_enough : (a : ℕ) (awaited : Option Kind) (most played : ℕ) (start here : WorldOver) (text : List ℕ) → most ≤ played → Going a awaited most start played here → text ≡ []
+    → TakesTurns a awaited most start text here
+going_enough a awaited most played start here text all h none =
+    let left : 0 ≡ most - played = omega (arith, all) in
+    ([], subst (λ (t : List ℕ). Turns a awaited most start [] t here) (sym none) (h.going [] [] here (subst (λ (n : ℕ). Turns a awaited n here [] [] here) left (enough here))))
 
 -- only the first turn of a line may be unlawful
-pub going_unlawful : (a : ℕ) (awaited : Option Kind) (most played : ℕ) (start here : WorldOver) (b m : Text) → Going a awaited most start played here b m
+pub going_unlawful : (a : ℕ) (awaited : Option Kind) (most played : ℕ) (start here : WorldOver) → Going a awaited most start played here
     → ¬ IsLawful here.state (step.Turn a) → (here ≡ start) × ¬ IsLawful start.state (step.Turn a)
-going_unlawful a awaited most zero start here b m h unlawful =
+going_unlawful a awaited most zero start here h unlawful =
     let same = h.still refl in
     (same, subst (λ (w : WorldOver). ¬ IsLawful w.state (step.Turn a)) same unlawful)
-going_unlawful a awaited most (suc played) start here b m h unlawful = absurd (unlawful (h.lawful (omega arith)))
+going_unlawful a awaited most (suc played) start here h unlawful = absurd (unlawful (h.lawful (omega arith)))
 
 -- a play of one step that stops at it
 none_behind : (play other : PlayStep) (i : ℕ) → slice_get (play ∷ []) (suc i) ≡ Some other → ⊥
@@ -232,15 +219,8 @@ stopped old new play i h still =
     let its : h.step ≡ play = sym (ap (λ (o : Option PlayStep). unwrap_or o play) at) in
     (same, subst (λ (w : WorldOver). ¬ IsLawful w.state play) same (subst (λ (s : PlayStep). ¬ IsLawful new.state s) its h.unlawful))
 
-pub show_adds : {F : Type 0} (r : Result (Unit {0}) F) (old : WorldOver) (line : Line) (b a : Text) → line ≡ Show → OnOk r (ShowsMembers old b a) → OnOk r (Adds old line old b a)
-show_adds (Err e) old line b a is h = tt
-show_adds (Ok done) old line b a is h = subst (λ (l : Line). Adds old l old b a) (sym is) (adds_show old old b a h refl)
-
--- what holds once the marks are written holds where the step was told as done
-pub on_written : {E F A B : Type 0} (told : Result Unit E) (result : Result Unit F) → ((result ≡ Ok tt) ↔ (told ≡ Ok tt)) → OnOk told A → (A → B) → OnOk result B
-on_written {E = E} {A = A} told (Ok tt) same written then_ = then_ (subst (λ (r : Result Unit E). OnOk r A) (same.0 refl) written)
-on_written told (Err fault) same written then_ = tt
-
--- a step whose marks are written was played
-pub step_written : (old : WorldOver) (play : PlayStep) (marks : List Mark) (new : WorldOver) (before after : Option (List ℕ)) → PlaysOn old (play ∷ []) marks new → Appends before after (marks_text marks) → PlaysStep old play new before after
-step_written old play marks new before after plays written = record { seen = marks; text = marks_text marks; plays = (plays, refl); written = written }
+-- what was played has the text that was put together
+pub step_put : {V E F : Type 0} (r : Result V F) (told : Result Unit E) (items : V → List ℕ) (old : WorldOver) (play : PlayStep) (marks : List Mark) (text : List ℕ) (new : WorldOver)
+    → PlaysOn old (play ∷ []) marks new → IfOk r (λ whole. (told ≡ Ok tt) × (items whole ≡ text)) → OnOk told (text ≡ marks_text marks) → IfOk r (λ whole. PlaysStep old play (items whole) new)
+step_put {E = E} (Ok whole) told items old play marks text new plays put written = (marks, (plays, put.1 ∙ subst (λ (r : Result Unit E). OnOk r (text ≡ marks_text marks)) put.0 written))
+step_put (Err fault) told items old play marks text new plays put written = tt

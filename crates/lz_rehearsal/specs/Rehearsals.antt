@@ -1,5 +1,5 @@
 -- What the rehearsal of a script does.
-use Rattle.std.specs.Prelude.{◌≡◌, ◌≢◌, ℕ, suc, Option, None, Some, List, [], ◌∷◌, ◌++◌, length}
+use Rattle.std.specs.Prelude.{◌≡◌, ◌≢◌, ℕ, suc, ◌<◌, Option, None, Some, List, [], ◌∷◌, ◌++◌, length, take}
 use Rattle.std.specs.Io.KnownBytes.{Appends}
 use Rattle.lz_slot.specs.declared.history.Mark.{Mark}
 use Rattle.lz_machine.specs.declared.event.Outcome.{Outcome}
@@ -86,6 +86,15 @@ pub record Adds (old : WorldOver) (line : Line) (new : WorldOver) (before after 
   pub does : Does old line seen text new
   pub written : Appends before after text
 
+-- A line was rehearsed, and of its text a part was written that isn't all.
+pub record AddsPart (old : WorldOver) (line : Line) (new : WorldOver) (before after : Option (List ℕ)) : Type 0 where
+  pub seen : List Mark
+  pub text : List ℕ
+  pub does : Does old line seen text new
+  pub sent : ℕ
+  pub less : sent < length text
+  pub written : Appends before after (take sent text)
+
 -- The lines were rehearsed, and their text written. What was seen is a chain of lives, and its marks are those of a run, so that
 -- the line of each reads as that mark.
 pub record Rehearses (old : WorldOver) (lines : List Line) (new : WorldOver) (before after : Option (List ℕ)) : Type 0 where
@@ -114,3 +123,14 @@ pub record EndsWithin (old : WorldOver) (lines : List Line) (before after : Opti
   pub whole : lines ≡ front ++ line ∷ rest
   pub mid : WorldOver
   pub rehearses : Rehearses old front mid before after
+
+-- Some lines were rehearsed, and their text written. The next one was rehearsed too, and of its text a part was written that isn't all.
+pub record EndsCutShort (old : WorldOver) (lines : List Line) (new : WorldOver) (before after : Option (List ℕ)) : Type 0 where
+  pub front : List Line
+  pub line : Line
+  pub rest : List Line
+  pub whole : lines ≡ front ++ line ∷ rest
+  pub mid : WorldOver
+  pub middle : Option (List ℕ)
+  pub rehearses : Rehearses old front mid before middle
+  pub cut : AddsPart mid line new middle after

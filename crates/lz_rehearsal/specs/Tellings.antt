@@ -14,7 +14,3 @@ show_text keys = codes "show" ++ keys_text keys ++ 10 ∷ []
 -- the line of an actor that found a lock taken
 abbrev pub busy_text : ℕ → List ℕ
 busy_text a = codes "busy " ++ decimal a ++ 10 ∷ []
-
--- the line that names a line of the script
-abbrev pub line_text : ℕ → List ℕ
-line_text number = codes "line " ++ decimal number ++ 10 ∷ []

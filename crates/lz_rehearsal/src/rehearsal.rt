@@ -1,14 +1,15 @@
 //! The rehearsal of a script.
-ghost use Rattle.std.specs.Prelude.{◌≡◌, ℕ, IsErrOf, IsTrue, OnOk, IfOk, Ok, Some, [], ◌↔◌};
+ghost use Rattle.std.specs.Prelude.{◌≡◌, ℕ, List, IsErrOf, IsTrue, MatchOption, OnOk, OnErr, IfOk, Ok, Err, Some, [], ◌↔◌};
 ghost use Rattle.std.specs.Io.KnownBytes.{Appends};
 ghost use Rattle.lz_core.specs.Worlds.{IsLawful, IsUp};
-ghost use Rattle.lz_rehearsal.specs.Rehearsals.{Adds, EndsAt, EndsWithin, IsLawfulLine, IsShow, IsStep, Rehearses};
-ghost use Rattle.lz_rehearsal.specs.Rehearsing.{ShowsMembers, PlaysStep, TakesTurns, Tells};
+ghost use Rattle.lz_rehearsal.specs.Rehearsals.{Adds, AddsPart, EndsAt, EndsCutShort, EndsWithin, IsLawfulLine, IsShow, Rehearses};
+ghost use Rattle.lz_rehearsal.specs.Rehearsing.{EndsTurns, GoesOn, PlaysLine, PlaysStep, TakesTurns};
 
 use crate::limits::MOST_TURNS;
 use crate::line::Line;
 use crate::telling::{write_busy, write_mark, write_marks, write_members};
 use lz_core::{Kind, Outcome, PlayFault, Step, Turned, World};
+use lz_proto::send;
 use std::alloc::Global;
 use std::io;
 use std::io::Write;
@@ -18,13 +19,14 @@ use std::io::Write;
 pub enum RehearsalFault {
     /// The line with this number, from 1, isn't lawful where it stands. A line of turns isn't where its first turn isn't.
     Line(u64),
-    /// A write failed.
+    /// A write failed, before the whole text of a line was written.
     Write,
+    /// There was no memory for a line. Nothing of its text was written.
     Memory,
 }
 
 /// Rehearses the lines of a script on a world, and writes the text of each as it comes.
-pub fn rehearse<W: Write + Drop>(
+pub fn rehearse<W: Write>(
     alloc: Global,
     world: &mut World,
     lines: &[Line],
@@ -32,6 +34,7 @@ pub fn rehearse<W: Write + Drop>(
 ) -> Result<(), RehearsalFault>
     ensures done { OnOk result (Rehearses world.old lines.now world.new (W.contents writer.old) (W.contents writer.new)) }
     ensures line { (number : ℕ) → IsErrOf result (RehearsalFault.Line number) → EndsAt world.old lines.now number world.new (W.contents writer.old) (W.contents writer.new) }
+    ensures write { IsErrOf result RehearsalFault.Write → EndsCutShort world.old lines.now world.new (W.contents writer.old) (W.contents writer.new) }
     ensures memory { IsErrOf result RehearsalFault.Memory → EndsWithin world.old lines.now (W.contents writer.old) (W.contents writer.new) }
 {
     for (before, line) in lines.iter().enumerate() {
@@ -40,8 +43,8 @@ pub fn rehearse<W: Write + Drop>(
     Ok(())
 }
 
-// Rehearses the line with this number.
-fn rehearse_line<W: Write + Drop>(
+// Rehearses the line with this number. Its text is put together first: of a `write!` that fails nothing says what was written.
+fn rehearse_line<W: Write>(
     alloc: Global,
     world: &mut World,
     line: Line,
@@ -50,89 +53,99 @@ fn rehearse_line<W: Write + Drop>(
 ) -> Result<(), RehearsalFault>
     ensures done { OnOk result (Adds world.old line world.new (W.contents writer.old) (W.contents writer.new)) }
     ensures line { (n : ℕ) → IsErrOf result (RehearsalFault.Line n) → (n ≡ number) × (world.new ≡ world.old) × Appends (W.contents writer.old) (W.contents writer.new) [] × ¬ IsLawfulLine world.old.state line }
+    ensures write { IsErrOf result RehearsalFault.Write → AddsPart world.old line world.new (W.contents writer.old) (W.contents writer.new) }
     ensures memory { IsErrOf result RehearsalFault.Memory → Appends (W.contents writer.old) (W.contents writer.new) [] }
+{
+    let text = match play_line(alloc, world, line) {
+        Ok(text) => text,
+        Err(PlayFault::NotNow(_)) => return Err(RehearsalFault::Line(number)),
+        Err(PlayFault::Memory) => return Err(RehearsalFault::Memory),
+    };
+    match send(writer, text.as_slice()) {
+        Ok(()) => Ok(()),
+        Err(_) => Err(RehearsalFault::Write),
+    }
+}
+
+// Plays a line, and puts together the text of what was seen.
+fn play_line(alloc: Global, world: &mut World, line: Line) -> Result<Vec<u8>, PlayFault>
+    ensures ok { IfOk result (λ text. PlaysLine world.old line text.items world.new) }
+    ensures not_now { (i : ℕ) → IsErrOf result (PlayFault.NotNow i) → (world.new ≡ world.old) × ¬ IsLawfulLine world.old.state line }
 {
     match line {
-        Line::Call(actor, command) => {
-            play_step(alloc, world, Step::Call(actor, command), number, writer)
-        }
-        Line::Turn(actor, most) => play_turns(world, actor, None, most, number, writer),
-        Line::Until(actor, kind) => {
-            play_turns(world, actor, Some(kind), MOST_TURNS, number, writer)
-        }
-        Line::Finish(actor) => play_turns(world, actor, None, MOST_TURNS, number, writer),
-        Line::Trip => play_step(alloc, world, Step::Trip, number, writer),
-        Line::Stop => play_step(alloc, world, Step::Stop, number, writer),
-        Line::Crash(pick) => play_step(alloc, world, Step::Crash(pick), number, writer),
-        Line::Open => play_step(alloc, world, Step::Open, number, writer),
-        Line::Show => show(alloc, world, number, writer),
+        Line::Call(actor, command) => play_step(alloc, world, Step::Call(actor, command)),
+        Line::Turn(actor, most) => play_turns(alloc, world, actor, None, most),
+        Line::Until(actor, kind) => play_turns(alloc, world, actor, Some(kind), MOST_TURNS),
+        Line::Finish(actor) => play_turns(alloc, world, actor, None, MOST_TURNS),
+        Line::Trip => play_step(alloc, world, Step::Trip),
+        Line::Stop => play_step(alloc, world, Step::Stop),
+        Line::Crash(pick) => play_step(alloc, world, Step::Crash(pick)),
+        Line::Open => play_step(alloc, world, Step::Open),
+        Line::Show => show(alloc, world),
     }
 }
 
-fn play_step<W: Write + Drop>(
-    alloc: Global,
-    world: &mut World,
-    step: Step,
-    number: u64,
-    writer: &mut W,
-) -> Result<(), RehearsalFault>
-    ensures done { OnOk result (PlaysStep world.old step world.new (W.contents writer.old) (W.contents writer.new)) }
-    ensures line { (n : ℕ) → IsErrOf result (RehearsalFault.Line n) → (n ≡ number) × (world.new ≡ world.old) × Appends (W.contents writer.old) (W.contents writer.new) [] × ¬ IsLawful world.old.state step }
-    ensures memory { IsErrOf result RehearsalFault.Memory → Appends (W.contents writer.old) (W.contents writer.new) [] }
+fn play_step(alloc: Global, world: &mut World, step: Step) -> Result<Vec<u8>, PlayFault>
+    ensures ok { IfOk result (λ text. PlaysStep world.old step text.items world.new) }
+    ensures not_now { (i : ℕ) → IsErrOf result (PlayFault.NotNow i) → (world.new ≡ world.old) × ¬ IsLawful world.old.state step }
 {
     match world.play(alloc, &[step]) {
-        Ok(marks) => written(write_marks(writer, marks.as_slice())),
-        Err(PlayFault::NotNow(_)) => Err(RehearsalFault::Line(number)),
-        Err(PlayFault::Memory) => Err(RehearsalFault::Memory),
+        Ok(marks) => {
+            let mut text = Vec::new(alloc);
+            let told = write_marks(&mut text, marks.as_slice());
+            put(text, told)
+        }
+        Err(fault) => Err(fault),
     }
 }
 
-// Plays turns of an actor, at most so many, and writes the line with which they end, if there is one.
-fn play_turns<W: Write + Drop>(
+// Plays turns of an actor, at most so many. The text is that of the last.
+fn play_turns(
+    alloc: Global,
     world: &mut World,
     actor: usize,
     awaited: Option<Kind>,
     most: u64,
-    number: u64,
-    writer: &mut W,
-) -> Result<(), RehearsalFault>
-    ensures done { OnOk result (TakesTurns actor awaited most world.old world.new (W.contents writer.old) (W.contents writer.new)) }
-    ensures line { (n : ℕ) → IsErrOf result (RehearsalFault.Line n) → (n ≡ number) × (world.new ≡ world.old) × Appends (W.contents writer.old) (W.contents writer.new) [] × ¬ IsLawful world.old.state (Step.Turn actor) }
-    ensures memory { IsErrOf result RehearsalFault.Memory → Appends (W.contents writer.old) (W.contents writer.new) [] }
+) -> Result<Vec<u8>, PlayFault>
+    ensures ok { IfOk result (λ text. TakesTurns actor awaited most world.old text.items world.new) }
+    ensures not_now { (i : ℕ) → IsErrOf result (PlayFault.NotNow i) → (world.new ≡ world.old) × ¬ IsLawful world.old.state (Step.Turn actor) }
 {
     for _ in 0..most {
         let turned = match world.turn(actor) {
             Ok(turned) => turned,
-            Err(PlayFault::NotNow(_)) => return Err(RehearsalFault::Line(number)),
-            Err(PlayFault::Memory) => return Err(RehearsalFault::Memory),
+            Err(fault) => return Err(fault),
         };
-        if tell_turn(writer, actor, awaited, &turned)? {
-            return Ok(());
+        match end_of_turns(alloc, actor, awaited, &turned) {
+            Ok(None) => {}
+            Ok(Some(text)) => return Ok(text),
+            Err(fault) => return Err(fault),
         }
     }
-    Ok(())
+    Ok(Vec::new(alloc))
 }
 
-// Writes the line of a turn, if it has one. Whether it is the last turn of its line.
-fn tell_turn<W: Write + Drop>(
-    writer: &mut W,
+// The text of a line of turns, if this turn ends it.
+fn end_of_turns(
+    alloc: Global,
     actor: usize,
     awaited: Option<Kind>,
     turned: &Turned,
-) -> Result<bool, RehearsalFault>
-    ensures told { IfOk result (λ last. Tells actor awaited turned.now last (W.contents writer.old) (W.contents writer.new)) }
-    ensures fault { (fault : RehearsalFault) → IsErrOf result fault → fault ≡ RehearsalFault.Write }
+) -> Result<Option<Vec<u8>>, PlayFault>
+    ensures told { IfOk result (λ end. MatchOption end (GoesOn awaited turned.now) (λ text. EndsTurns actor awaited turned.now text.items)) }
+    ensures fault { OnErr result (result ≡ Err PlayFault.Memory) }
 {
+    let mut text = Vec::new(alloc);
     if let Some(mark) = &turned.mark {
-        written(write_mark(writer, mark))?;
-        return Ok(true);
+        let told = write_mark(&mut text, mark);
+        return Ok(Some(put(text, told)?));
     }
     match turned.outcome {
         Outcome::Busy => {
-            written(write_busy(writer, actor))?;
-            Ok(true)
+            let told = write_busy(&mut text, actor);
+            Ok(Some(put(text, told)?))
         }
-        _ => Ok(is_awaited(awaited, turned.kind)),
+        _ if is_awaited(awaited, turned.kind) => Ok(Some(text)),
+        _ => Ok(None),
     }
 }
 
@@ -146,33 +159,31 @@ fn is_awaited(awaited: Option<Kind>, kind: Kind) -> bool
     }
 }
 
-// Writes the members of an open service.
-fn show<W: Write + Drop>(
-    alloc: Global,
-    world: &World,
-    number: u64,
-    writer: &mut W,
-) -> Result<(), RehearsalFault>
-    ensures done { OnOk result (ShowsMembers world.now (W.contents writer.old) (W.contents writer.new)) }
-    ensures line { (n : ℕ) → IsErrOf result (RehearsalFault.Line n) → (n ≡ number) × Appends (W.contents writer.old) (W.contents writer.new) [] × ¬ IsUp world.now.state }
-    ensures memory { IsErrOf result RehearsalFault.Memory → Appends (W.contents writer.old) (W.contents writer.new) [] }
+// The line of the members of an open service.
+fn show(alloc: Global, world: &World) -> Result<Vec<u8>, PlayFault>
+    ensures ok { IfOk result (λ text. IsShow world.now [] text.items world.now) }
+    ensures not_now { (i : ℕ) → IsErrOf result (PlayFault.NotNow i) → ¬ IsUp world.now.state }
 {
     if !world.is_open() {
-        return Err(RehearsalFault::Line(number));
+        return Err(PlayFault::NotNow(1));
     }
     match world.members(alloc) {
-        Ok(members) => written(write_members(writer, members.as_slice())),
-        Err(_) => Err(RehearsalFault::Memory),
+        Ok(members) => {
+            let mut text = Vec::new(alloc);
+            let told = write_members(&mut text, members.as_slice());
+            put(text, told)
+        }
+        Err(_) => Err(PlayFault::Memory),
     }
 }
 
-// What a write comes to.
-fn written(told: io::Result<()>) -> Result<(), RehearsalFault>
-    ensures done { (result ≡ Ok tt) ↔ (told ≡ Ok tt) }
-    ensures fault { (fault : RehearsalFault) → IsErrOf result fault → fault ≡ RehearsalFault.Write }
+// A text that was put together, where there was memory for all of it.
+fn put(text: Vec<u8>, told: io::Result<()>) -> Result<Vec<u8>, PlayFault>
+    ensures ok { IfOk result (λ whole. (told ≡ Ok tt) × (whole.items ≡ text.items)) }
+    ensures fault { OnErr result (result ≡ Err PlayFault.Memory) }
 {
     match told {
-        Ok(()) => Ok(()),
-        Err(_) => Err(RehearsalFault::Write),
+        Ok(()) => Ok(text),
+        Err(_) => Err(PlayFault::Memory),
     }
 }

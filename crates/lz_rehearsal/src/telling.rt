@@ -3,7 +3,7 @@ ghost use Rattle.std.specs.Prelude.{◌≡◌, OnOk, ◌∷◌, ◌++◌, []};
 ghost use Rattle.std.specs.Io.KnownBytes.{Appends};
 ghost use Rattle.lz_slot.specs.Sets.{key_of};
 ghost use Rattle.lz_slot.specs.MarkTexts.{answer_word, command_word, cut_word, keys_text, marks_text, refusal_word};
-ghost use Rattle.lz_rehearsal.specs.Tellings.{busy_text, line_text, mark_line, show_text};
+ghost use Rattle.lz_rehearsal.specs.Tellings.{busy_text, mark_line, show_text};
 
 use lz_slot::{Command, Cut, Found, Key, Mark, Refusal};
 use std::io;
@@ -98,13 +98,6 @@ pub fn write_busy<W: Write + Drop>(writer: &mut W, actor: usize) -> io::Result<(
     ensures { OnOk result (Appends (W.contents writer.old) (W.contents writer.new) (busy_text actor)) }
 {
     writeln!(writer, "busy {actor}")
-}
-
-/// The line that names a line of the script, counted from 1.
-pub fn write_line<W: Write + Drop>(writer: &mut W, number: u64) -> io::Result<()>
-    ensures { OnOk result (Appends (W.contents writer.old) (W.contents writer.new) (line_text number)) }
-{
-    writeln!(writer, "line {number}")
 }
 
 fn write_keys<W: Write + Drop>(writer: &mut W, keys: &[Key]) -> io::Result<()>

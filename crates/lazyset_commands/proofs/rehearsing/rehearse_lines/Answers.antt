@@ -1,12 +1,14 @@
-use Rattle.lazyset_commands.proofs.RehearsalEnds.{all_told, line_told}
+use Rattle.std.proofs.Common.{inl, inr, Err, ap}
+use Rattle.lz_rehearsal.specs.declared.rehearsal.RehearsalFault.{RehearsalFault}
+use Rattle.lazyset_commands.proofs.RehearsalEnds.{fault_told}
 use Rattle.lazyset_commands.proofs.rehearsing.rehearse_lines.Goals as goal
 
-pub returns-clause-done : goal.returns-clause-done
-returns-clause-done g c = λ is.
-    let kept = g.W.Write.contents in
-    all_told _ c.args.format c.args.lines.now c.in-Ok.world c.rehearse-ended.new.world c.rehearse-ended.result (kept c.args.writer.now) (kept c.rehearse-ended.new.writer) (kept c.tell_end.new.writer) c.in-Ok.ensures c.rehearse-ended.ensures.done (c.tell_end.ensures.done is)
+pub returns-in_default : goal.returns-in_default
+returns-in_default g c = inr c.tell.ensures.tells
 
-pub returns-clause-refused : goal.returns-clause-refused
-returns-clause-refused g c = λ is.
+pub returns : goal.returns
+returns g c =
     let kept = g.W.Write.contents in
-    line_told _ c.args.format c.args.lines.now c.in-Ok.world c.rehearse-ended.new.world c.rehearse-ended.result (kept c.args.writer.now) (kept c.rehearse-ended.new.writer) (kept c.tell_end.new.writer) c.in-Ok.ensures c.rehearse-ended.ensures.line (c.tell_end.ensures.refused is)
+    let ended = c.in-Err.ensures in
+    inl (fault_told _ c.args.format c.args.lines.now c.in-Ok.world c.rehearse.new.world c.in-Err.fault c.tell_fault.result (kept c.args.writer.now) (kept c.rehearse.new.writer) (kept c.tell_fault.new.writer)
+    c.in-Ok.ensures (λ number is. ended.line number (ap (λ (f : RehearsalFault). Err f) is)) (λ is. ended.write (ap (λ (f : RehearsalFault). Err f) is)) (λ is. ended.memory (ap (λ (f : RehearsalFault). Err f) is)) c.tell_fault.ensures)

@@ -2,4 +2,4 @@ use Rattle.lz_rehearsal.proofs.Rehearsed.{Going}
 use Rattle.lz_rehearsal.proofs.rehearsal.play_turns.Given as goal
 
 abbrev pub invariant-loop : goal.invariant-loop
-invariant-loop g l = Going l.actor l.awaited l.most l.fn.world l.counter l.world (g.W.Write.contents l.fn.writer) (g.W.Write.contents l.writer)
+invariant-loop l = Going l.actor l.awaited l.most l.fn.world l.counter l.world

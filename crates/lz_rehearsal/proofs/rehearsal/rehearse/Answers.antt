@@ -1,8 +1,8 @@
 use Rattle.std.proofs.Common.{sym}
 use Rattle.std.proofs.lemmas.Result.{err_from_is_err_and}
 use Rattle.lz_core.proofs.Runs.JoinedPlays.{same_fault}
-use Rattle.lz_rehearsal.specs.declared.rehearsal.RehearsalFault.TheVariants.{Line, Memory}
-use Rattle.lz_rehearsal.proofs.Rehearsed.{begins, ends_at, ends_within, goes_on}
+use Rattle.lz_rehearsal.specs.declared.rehearsal.RehearsalFault.TheVariants.{Line, Write, Memory}
+use Rattle.lz_rehearsal.proofs.Rehearsed.{begins, ends_at, ends_cut_short, ends_within, goes_on}
 use Rattle.lz_rehearsal.proofs.rehearsal.rehearse.Goals as goal
 
 pub loop-before-init : goal.loop-before-init
@@ -18,6 +18,14 @@ returns-in_err-rehearse_line-clause-line g c = λ number is.
     ends_at c.args.world.now c.loop-before.world c.rehearse_line.new.world c.args.lines.now c.loop-before.before number c.index-lines-before.result
     (kept c.args.writer.now) (kept c.loop-before.writer) (kept c.rehearse_line.new.writer) c.loop-before-test.true (sym c.index-lines-before.is)
     c.loop-before.invariant.rehearsed told.0 told.1 told.2 told.3
+
+pub returns-in_err-rehearse_line-clause-write : goal.returns-in_err-rehearse_line-clause-write
+returns-in_err-rehearse_line-clause-write g c = λ is.
+    let kept = g.W.Write.contents in
+    let p = err_from_is_err_and c.from_residual.result c.from_residual.ensures.1 in
+    ends_cut_short c.args.world.now c.loop-before.world c.rehearse_line.new.world c.args.lines.now c.loop-before.before c.index-lines-before.result
+    (kept c.args.writer.now) (kept c.loop-before.writer) (kept c.rehearse_line.new.writer) c.loop-before-test.true (sym c.index-lines-before.is)
+    c.loop-before.invariant.rehearsed (c.in_err-rehearse_line.ensures.write (same_fault c.from_residual.result p.0 _ Write p.1 p.2 is))
 
 pub returns-in_err-rehearse_line-clause-memory : goal.returns-in_err-rehearse_line-clause-memory
 returns-in_err-rehearse_line-clause-memory g c = λ is.
