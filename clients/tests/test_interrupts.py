@@ -8,7 +8,7 @@ import socket
 import sys
 import threading
 from types import FrameType
-from typing import Any, List, Optional
+from typing import Any, Callable, List, Optional
 
 import lazyset
 from lazyset import Command, Lazyset, Reply
@@ -40,6 +40,12 @@ def interrupt_at(line: int) -> Any:
     return trace
 
 
+def main_thread() -> int:
+    ident = threading.main_thread().ident
+    assert ident is not None
+    return ident
+
+
 def has_until(keys: Lazyset, line: int) -> Optional[bool]:
     """The answer of `has(1)`, or None where it was cut off at the line, or by its timeout."""
     sys.settrace(interrupt_at(line))
@@ -52,33 +58,44 @@ def has_until(keys: Lazyset, line: int) -> Optional[bool]:
 
 
 class Late(AgainstAFake):
-    """A server that answers the first line of a connection late, when it is told to."""
+    """A server that answers the first line of a connection late, when it is told to. Where a test handles signals, the server
+    signals when it has that line, until it was handled: the client is between its sending and its receiving then."""
 
     def setUp(self) -> None:
         self.release = threading.Event()
         self.addCleanup(self.release.set)
+        self.handled = threading.Event()
+        self.handled.set()
 
     def late(self, connection: socket.socket) -> None:
         lines = lines_of(connection)
+        while not self.handled.wait(SOON):
+            signal.pthread_kill(main_thread(), signal.SIGALRM)
         self.release.wait(20)
         connection.sendall(b"".join(b"yes\n" if line == b"has 1" else b"no\n" for line in lines))
         one_is_member(connection)
 
-    def alarm(self, handler: Any) -> None:
-        """Calls the handler soon, by a signal."""
-        before = signal.signal(signal.SIGALRM, handler)
-        self.addCleanup(signal.signal, signal.SIGALRM, before)
-        signal.setitimer(signal.ITIMER_REAL, SOON)
+    def handle(self, act: Callable[[], None]) -> None:
+        """Has the next signal call this, and all further ones nothing."""
+
+        def handler(*_: object) -> None:
+            if not self.handled.is_set():
+                self.handled.set()
+                act()
+
+        self.handled.clear()
+        signal.signal(signal.SIGALRM, handler)
+        self.addCleanup(signal.signal, signal.SIGALRM, signal.SIG_IGN)
 
     def test_each_exception_closes_the_connection(self) -> None:
         for kind in (Deadline, KeyboardInterrupt, MemoryError, SystemExit, GeneratorExit):
             self.release.clear()
             keys = self.connected(self.late)
 
-            def raises(*_: object) -> None:
+            def raises() -> None:
                 raise kind
 
-            self.alarm(raises)
+            self.handle(raises)
             with self.assertRaises(kind):
                 keys.has(1)
             self.release.set()
@@ -94,14 +111,14 @@ class Late(AgainstAFake):
         keys = self.connected(self.late)
         within: List[object] = []
 
-        def calls(*_: object) -> None:
+        def calls() -> None:
             try:
                 within.append(keys.has(2))
             except lazyset.Closed as error:
                 within.append(error.command)
             self.release.set()
 
-        self.alarm(calls)
+        self.handle(calls)
         with self.assertRaises(lazyset.LostConnection):
             keys.has(1)
         self.assertEqual(within, [Command.has(2)])

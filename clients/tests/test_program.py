@@ -59,8 +59,8 @@ class Small(AgainstTheProgram):
         self.assertTrue(keys.has(17))
 
     def test_a_stopped_service_is_timed_out(self) -> None:
-        with Lazyset(self.service.port, timeout=0.2) as keys:
-            self.assertTrue(keys.add(17))
+        with Lazyset(self.service.port) as first, Lazyset(self.service.port, timeout=0.2) as keys:
+            self.assertTrue(first.add(17))
             self.service.process.send_signal(signal.SIGSTOP)
             # All its threads have stopped when the system says so.
             os.waitpid(self.service.process.pid, os.WUNTRACED)
