@@ -29,21 +29,21 @@ class OverTheProgram(AgainstTheProgram):
 
     def test_many_threads(self) -> None:
         threads_count, each = 8, 100
-        wrong: List[int] = [0] * threads_count
+        right: List[int] = [0] * threads_count
         with Pool(self.service.port, 3) as keys:
 
             def call(index: int) -> None:
                 for number in range(index * each, (index + 1) * each):
-                    wrong[index] += keys.has(number) is not False
-                    wrong[index] += keys.add(number) is not True
-                    wrong[index] += keys.has(number) is not True
+                    right[index] += keys.has(number) is False
+                    right[index] += keys.add(number) is True
+                    right[index] += keys.has(number) is True
 
             threads = [threading.Thread(target=call, args=(index,)) for index in range(threads_count)]
             for thread in threads:
                 thread.start()
             for thread in threads:
                 thread.join()
-        self.assertEqual(wrong, [0] * threads_count)
+        self.assertEqual(right, [3 * each] * threads_count)
 
     def test_it_connects_again_after_a_kill(self) -> None:
         with Pool(self.service.port, 2) as keys:

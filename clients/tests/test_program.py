@@ -106,19 +106,19 @@ class Large(AgainstTheProgram):
 
     def test_two_threads_share_one_connection(self) -> None:
         lookups = 3000
-        wrong: List[int] = [0, 0]
+        right: List[int] = [0, 0]
         with Lazyset(self.service.port) as keys:
             self.assertTrue(keys.add(1))
 
             def look_up(number: int, is_member: bool) -> None:
-                wrong[number] = sum(keys.has(number) is not is_member for _ in range(lookups))
+                right[number] = sum(keys.has(number) is is_member for _ in range(lookups))
 
             threads = [threading.Thread(target=look_up, args=words) for words in ((0, False), (1, True))]
             for thread in threads:
                 thread.start()
             for thread in threads:
                 thread.join()
-        self.assertEqual(wrong, [0, 0])
+        self.assertEqual(right, [lookups, lookups])
 
 
 class Old(AgainstTheProgram):
