@@ -133,3 +133,30 @@ fn a_play_ends_where_a_step_is_not_lawful(rt: HostRuntime) -> Result<(), Fail> {
     assert!(rt; hold(rt.alloc(), &plays, nine)?);
     Ok(())
 }
+
+// A world over a file of format 2 shows its members by room, and then by number. An addition has fifteen turns, and two more
+// where its walks meet a key above its own.
+#[test]
+fn worlds_have_rooms(rt: HostRuntime) -> Result<(), Fail> {
+    let mut world = World::new(rt.alloc(), 2, 1, Format::Two)?;
+    let last = Key::in_room(0, 999_999_999_999_999_999).expect(&rt, "a key");
+    let first_of_next = Key::in_room(1, 0).expect(&rt, "a key");
+    let called = told(
+        &mut world,
+        rt.alloc(),
+        &[Step::Call(1, Command::Add(first_of_next))],
+    )?;
+    assert_eq!(rt; called.as_slice(), b"call 1 1 add 1:0\n".as_slice());
+    let answered = told(&mut world, rt.alloc(), &[Step::Turn(1); 15])?;
+    assert_eq!(rt; answered.as_slice(), b"answer 1 yes\n".as_slice());
+    let called = told(&mut world, rt.alloc(), &[Step::Call(1, Command::Add(last))])?;
+    assert_eq!(rt;
+        called.as_slice(),
+        b"call 2 1 add 999999999999999999\n".as_slice()
+    );
+    let answered = told(&mut world, rt.alloc(), &[Step::Turn(1); 17])?;
+    assert_eq!(rt; answered.as_slice(), b"answer 2 yes\n".as_slice());
+    let members = world.members(rt.alloc())?;
+    assert_eq!(rt; members.as_slice(), [last, first_of_next].as_slice());
+    Ok(())
+}
