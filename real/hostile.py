@@ -20,7 +20,7 @@ from real.report import Wrong, expect
 from real.verdicts import MOST_ACTORS, judged
 
 # How many inputs of each kind there are where another number isn't asked for.
-INPUTS = 1500
+INPUTS = 5000
 
 # So many inputs of lines are one session's.
 BATCH = 10

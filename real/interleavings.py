@@ -29,8 +29,8 @@ TURNS = 15
 
 @dataclass(frozen=True)
 class Change:
-    """A command that changes the set of nine alone, or the empty one: its turns, and after how many of them its gate is sure, and its
-    last device call is made."""
+    """A command that changes the set of nine alone, or the empty one: its turns, and after how many of them its gate is sure, and
+    its last device call is made."""
 
     verb: str
     is_held: bool
