@@ -2,24 +2,31 @@
 use lz_core::{PlayFault, Step, World};
 use lz_disk::Pick;
 use lz_rehearsal::write_marks;
-use lz_slot::{Command, Format, Key};
+use lz_slot::{Command, Format, Key, Mark};
 use std::alloc::{AllocError, Global};
 use std::test::Fail;
 
+// The marks of a play. Nothing of what a play promises is asked here.
+fn play(world: &mut World, alloc: Global, steps: &[Step]) -> Result<Vec<Mark>, PlayFault> {
+    world.play(alloc, steps)
+}
+
+// The text of marks.
+fn text_of(alloc: Global, marks: &[Mark]) -> Vec<u8> {
+    let mut output: Vec<u8> = Vec::new(alloc);
+    let _ = write_marks(&mut output, marks);
+    output
+}
+
 // What a play told: its marks' text, or the step that wasn't lawful.
 fn told(world: &mut World, alloc: Global, steps: &[Step]) -> Result<Vec<u8>, AllocError> {
-    let mut output: Vec<u8> = Vec::new(alloc);
-    match world.play(alloc, steps) {
-        Ok(marks) => {
-            let _ = write_marks(&mut output, marks.as_slice());
-        }
-        Err(PlayFault::NotNow(step)) => {
-            let line = format!(in alloc; "not now {step}\n")?;
-            output.extend_from_slice(line.as_bytes())?;
-        }
-        Err(PlayFault::Memory) => {}
+    match play(world, alloc, steps) {
+        Ok(marks) => Ok(text_of(alloc, marks.as_slice())),
+        Err(PlayFault::NotNow(step)) => format!(in alloc; "not now {step}\n")?
+            .as_bytes()
+            .to_vec(alloc),
+        Err(PlayFault::Memory) => Ok(Vec::new(alloc)),
     }
-    Ok(output)
 }
 
 // Steps of a play, what it tells, and whether the service is open then and nine is its only member.
@@ -131,32 +138,5 @@ fn a_play_ends_where_a_step_is_not_lawful(rt: HostRuntime) -> Result<(), Fail> {
         ),
     ];
     assert!(rt; hold(rt.alloc(), &plays, nine)?);
-    Ok(())
-}
-
-// A world over a file of format 2 shows its members by room, and then by number. An addition has fifteen turns, and two more
-// where its walks meet a key above its own.
-#[test]
-fn worlds_have_rooms(rt: HostRuntime) -> Result<(), Fail> {
-    let mut world = World::new(rt.alloc(), 2, 1, Format::Two)?;
-    let last = Key::in_room(0, 999_999_999_999_999_999).expect(&rt, "a key");
-    let first_of_next = Key::in_room(1, 0).expect(&rt, "a key");
-    let called = told(
-        &mut world,
-        rt.alloc(),
-        &[Step::Call(1, Command::Add(first_of_next))],
-    )?;
-    assert_eq!(rt; called.as_slice(), b"call 1 1 add 1:0\n".as_slice());
-    let answered = told(&mut world, rt.alloc(), &[Step::Turn(1); 15])?;
-    assert_eq!(rt; answered.as_slice(), b"answer 1 yes\n".as_slice());
-    let called = told(&mut world, rt.alloc(), &[Step::Call(1, Command::Add(last))])?;
-    assert_eq!(rt;
-        called.as_slice(),
-        b"call 2 1 add 999999999999999999\n".as_slice()
-    );
-    let answered = told(&mut world, rt.alloc(), &[Step::Turn(1); 17])?;
-    assert_eq!(rt; answered.as_slice(), b"answer 2 yes\n".as_slice());
-    let members = world.members(rt.alloc())?;
-    assert_eq!(rt; members.as_slice(), [last, first_of_next].as_slice());
     Ok(())
 }
