@@ -42,11 +42,11 @@ class Program:
 
     path: str
 
-    def run(self, *words: str, lines: str = "", before: Sequence[str] = ()) -> Ended:
+    def run(self, *words: str, lines: Union[str, bytes] = "", before: Sequence[str] = ()) -> Ended:
         """Runs a command to its end, behind the words of another program where some are given."""
         ended = subprocess.run(
             [*before, self.path, *words],
-            input=lines.encode("ascii"),
+            input=lines.encode("ascii") if isinstance(lines, str) else lines,
             stdout=subprocess.PIPE,
             stderr=subprocess.PIPE,
             timeout=PATIENCE,

@@ -1,15 +1,28 @@
-//! Devices that are made to fail, and the crashes behind it.
+//! Devices that are made to fail, and how a life ends behind it.
 use lz_disk::{MemoryDisk, Pick};
+use std::alloc::AllocError;
 
-/// What crashes make of the bytes that aren't sure.
-pub const PICKS: [Pick; 6] = [
-    Pick::Old,
-    Pick::New,
-    Pick::Byte(0xa5),
-    Pick::Byte(0x37),
-    Pick::Byte(0),
-    Pick::Part(1),
+/// How a life ends: the process stops, or the device crashes, and picks what becomes of the bytes that aren't sure.
+pub const ENDS: [Option<Pick>; 7] = [
+    None,
+    Some(Pick::Old),
+    Some(Pick::New),
+    Some(Pick::Byte(0xa5)),
+    Some(Pick::Byte(0x37)),
+    Some(Pick::Byte(0)),
+    Some(Pick::Part(1)),
 ];
+
+/// Ends a life so.
+pub fn end_life(disk: &mut MemoryDisk, end: Option<Pick>) -> Result<(), AllocError> {
+    match end {
+        Some(pick) => disk.crash(pick),
+        None => {
+            disk.stop();
+            Ok(())
+        }
+    }
+}
 
 /// Whether a device fails at one call or from then on.
 #[derive(Clone, Copy, Debug)]

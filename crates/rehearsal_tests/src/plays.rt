@@ -2,24 +2,31 @@
 use lz_core::{PlayFault, Step, World};
 use lz_disk::Pick;
 use lz_rehearsal::write_marks;
-use lz_slot::{Command, Format, Key};
+use lz_slot::{Command, Format, Key, Mark};
 use std::alloc::{AllocError, Global};
 use std::test::Fail;
 
+// The marks of a play. Nothing of what a play promises is asked here.
+fn play(world: &mut World, alloc: Global, steps: &[Step]) -> Result<Vec<Mark>, PlayFault> {
+    world.play(alloc, steps)
+}
+
+// The text of marks.
+fn text_of(alloc: Global, marks: &[Mark]) -> Vec<u8> {
+    let mut output: Vec<u8> = Vec::new(alloc);
+    let _ = write_marks(&mut output, marks);
+    output
+}
+
 // What a play told: its marks' text, or the step that wasn't lawful.
 fn told(world: &mut World, alloc: Global, steps: &[Step]) -> Result<Vec<u8>, AllocError> {
-    let mut output: Vec<u8> = Vec::new(alloc);
-    match world.play(alloc, steps) {
-        Ok(marks) => {
-            let _ = write_marks(&mut output, marks.as_slice());
-        }
-        Err(PlayFault::NotNow(step)) => {
-            let line = format!(in alloc; "not now {step}\n")?;
-            output.extend_from_slice(line.as_bytes())?;
-        }
-        Err(PlayFault::Memory) => {}
+    match play(world, alloc, steps) {
+        Ok(marks) => Ok(text_of(alloc, marks.as_slice())),
+        Err(PlayFault::NotNow(step)) => format!(in alloc; "not now {step}\n")?
+            .as_bytes()
+            .to_vec(alloc),
+        Err(PlayFault::Memory) => Ok(Vec::new(alloc)),
     }
-    Ok(output)
 }
 
 // Steps of a play, what it tells, and whether the service is open then and nine is its only member.

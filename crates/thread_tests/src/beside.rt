@@ -1,5 +1,5 @@
-//! What a pass sees of a call of another one that is held between two of its events, at a gate that gives up in the end.
-ghost use Rattle.std.specs.Prelude.{◌≡◌};
+//! What passes see of a call of another one that is held between two of its events, at a gate that gives up in the end.
+ghost use Rattle.std.specs.Prelude.{◌≡◌, ◌≤◌, IfSome};
 ghost use Rattle.lz_set.specs.Names.{MayCall};
 ghost use Rattle.lz_set.specs.Blanks.{MayBeNamed};
 ghost use Rattle.lz_disk.specs.Records.{device_of};
@@ -21,76 +21,126 @@ use std::thread;
 use std::thread::Threads;
 use std::time::Clock;
 
-/// What the second pass was answered while the first one was held.
+/// What was answered and seen while the first pass was held: the second one calls, and it or a third one glances.
 #[derive(Clone, Copy, Debug, PartialEq)]
 struct Beside {
     // A glance at the held call's key, before anything was heard of the call.
     early: Result<Glance, GlanceFault>,
     added: Result<bool, Fault>,
-    // The key again, after an addition that saw all that the held call has done.
+    // The key again, and the added one, after an addition that saw all that the held call has done.
     glanced: Result<Glance, GlanceFault>,
+    fresh: Result<Glance, GlanceFault>,
     looked: Result<bool, Fault>,
-    // And after the look, which made sure of what it found.
+    // And after a look, which made sure of what it found.
     settled: Result<Glance, GlanceFault>,
     absent: Result<Glance, GlanceFault>,
 }
 
-// While the first pass is held the second one adds a key, and looks for the first one's.
+// While the first pass is held the second one adds a key, looks for the first one's, and glances.
 fn visit<N: Named, R: Wait + Clock>(
     rt: &R,
     set: &Set<MemoryDisk, Gate<'_, R>, N>,
     pass: Pass,
-    signals: &Signals,
     asked: Asked,
-) -> Option<Beside>
+) -> Beside
     requires { MayCall N.board pass }
 {
     let mut pass = pass;
     let key = asked.command.key();
-    if !wait_for(rt, &signals.is_held) {
-        return None;
-    }
     let early = set.glance(&mut pass, key);
     let added = set.add(rt, &mut pass, asked.added);
     let glanced = set.glance(&mut pass, key);
+    let fresh = set.glance(&mut pass, asked.added);
     let looked = set.has(rt, &mut pass, key);
     let settled = set.glance(&mut pass, key);
     let absent = set.glance(&mut pass, asked.absent);
-    signals.may_go_on.store(true, Ordering::SeqCst);
-    Some(Beside {
+    Beside {
         early,
         added,
         glanced,
+        fresh,
         looked,
         settled,
         absent,
-    })
+    }
 }
 
-/// What the held call was answered, and the calls beside it.
-#[derive(Clone, Copy)]
-struct Answered {
-    held: Result<bool, Fault>,
-    beside: Option<Beside>,
+// The same, where a third pass does nothing but glance, and the second one tells it what it has seen.
+fn look_on<N: Named, R: Wait + Clock>(
+    rt: &R,
+    set: &Set<MemoryDisk, Gate<'_, R>, N>,
+    second: Pass,
+    third: Pass,
+    asked: Asked,
+) -> Beside
+    requires second { MayCall N.board second }
+    requires third { MayCall N.board third }
+{
+    let (mut second, mut third) = (second, third);
+    let key = asked.command.key();
+    set.meet(&mut second, &mut third);
+    let early = set.glance(&mut third, key);
+    let added = set.add(rt, &mut second, asked.added);
+    set.meet(&mut second, &mut third);
+    let glanced = set.glance(&mut third, key);
+    let fresh = set.glance(&mut third, asked.added);
+    let looked = set.has(rt, &mut second, key);
+    set.meet(&mut third, &mut second);
+    let settled = set.glance(&mut third, key);
+    let absent = set.glance(&mut third, asked.absent);
+    Beside {
+        early,
+        added,
+        glanced,
+        fresh,
+        looked,
+        settled,
+        absent,
+    }
 }
 
-// The first pass calls, and is held; the second one is beside it.
+// One of the two, as there is a third pass or not. None where the first pass isn't held.
+fn stand_beside<N: Named, R: Wait + Clock>(
+    rt: &R,
+    set: &Set<MemoryDisk, Gate<'_, R>, N>,
+    second: Pass,
+    third: Option<Pass>,
+    signals: &Signals,
+    asked: Asked,
+) -> Option<Beside>
+    requires second { MayCall N.board second }
+    requires third { IfSome third (λ pass. MayCall N.board pass) }
+{
+    if !wait_for(rt, &signals.is_held) {
+        return None;
+    }
+    let beside = match third {
+        Some(third) => look_on(rt, set, second, third, asked),
+        None => visit(rt, set, second, asked),
+    };
+    signals.may_go_on.store(true, Ordering::SeqCst);
+    Some(beside)
+}
+
+// The first pass calls, and is held; the others are beside it. None where its call had another answer than true.
 fn hold<N: Named + Send + Sync, R: Threads + Wait + Clock + Sync>(
     rt: &R,
     set: &Set<MemoryDisk, Gate<'_, R>, N>,
     first: Pass,
     second: Pass,
+    third: Option<Pass>,
     signals: &Signals,
     asked: Asked,
-) -> Option<Answered>
+) -> Option<Beside>
     requires first { MayCall N.board first }
     requires second { MayCall N.board second }
+    requires third { IfSome third (λ pass. MayCall N.board pass) }
 {
     thread::scope(
         thread::scope_env(),
         rt,
-        move |scope| -> Option<Answered>
-            requires { MayCall N.board first × MayCall N.board second }
+        move |scope| -> Option<Beside>
+            requires { MayCall N.board first × MayCall N.board second × IfSome third (λ pass. MayCall N.board pass) }
         {
             let thread = scope.spawn(
                 move || -> Result<bool, Fault>
@@ -100,23 +150,24 @@ fn hold<N: Named + Send + Sync, R: Threads + Wait + Clock + Sync>(
             let Ok(thread) = thread else {
                 return None;
             };
-            let beside = visit(rt, set, second, signals, asked);
-            Some(Answered {
-                held: thread.join(rt),
-                beside,
-            })
+            let beside = stand_beside(rt, set, second, third, signals, asked);
+            if thread.join(rt) == Ok(true) {
+                beside
+            } else {
+                None
+            }
         },
     )
 }
 
-/// What was answered, and the disk that was left.
+/// What was answered and seen, and the disk that was left.
 #[derive(Drop)]
 struct Scene {
-    answered: Answered,
+    beside: Beside,
     disk: MemoryDisk,
 }
 
-// The second pass fills the set, and is then beside the first one.
+// The second pass fills the set, and then it is beside the first one, with a third one where there is one.
 fn play<N: Named + Send + Sync, R: Threads + Wait + Clock + Sync>(
     rt: &R,
     blank: Blank<MemoryDisk, Gate<'_, R>>,
@@ -128,85 +179,93 @@ fn play<N: Named + Send + Sync, R: Threads + Wait + Clock + Sync>(
     let (set, mut passes) = blank.start::<N>();
     let mut second = last_pass::<N>(&mut passes)?;
     let first = last_pass::<N>(&mut passes)?;
+    let third = last_pass::<N>(&mut passes);
     fill(rt, &set, &mut second)?;
-    let answered = hold(rt, &set, first, second, signals, asked)?;
+    let beside = hold(rt, &set, first, second, third, signals, asked)?;
     Some(Scene {
-        answered,
+        beside,
         disk: set.close(),
     })
 }
 
-// The scene of a call that is held after its first event of this kind, on a new set of eight slots. None where a wait gave up.
+// The scene of a call that is held after its event of this number and kind, on a new set of eight slots and so many passes. None
+// where a wait gave up, or the event was another.
 fn scene_of<R: Threads + Wait + Clock + Sync>(
     rt: &R,
     alloc: Global,
+    passes: usize,
+    event: u64,
     kind: Kind,
     asked: Asked,
-) -> Option<Scene> {
+) -> Option<Scene>
+    requires { (2 ≤ passes) × (passes ≤ 3) }
+{
     let signals = Signals::new();
     let gate = Gate {
         clock: rt,
+        pass: passes - 1,
+        event,
         kind,
         signals: &signals,
     };
-    let scene = match Set::open(alloc, made(alloc, 8)?, gate, 1, 2) {
+    let scene = match Set::open(alloc, made(alloc, 8)?, gate, 1, passes) {
         Ok(blank) => play::<Brand, _>(rt, blank, &signals, asked),
         Err(_) => None,
     };
-    if signals.is_given_up.load(Ordering::SeqCst) {
+    if signals.is_off.load(Ordering::SeqCst) {
         return None;
     }
     scene
 }
 
-// What the pass beside the call has to be answered at this phase, whose first glance saw this.
+// What the passes beside the call have to be answered at this phase, of which the first glance saw this.
 fn wanted(plot: &Plot, phase: Phase, early: Result<Glance, GlanceFault>) -> Beside {
     Beside {
         early,
         added: Ok(true),
         glanced: Ok(plot.sight(phase)),
+        fresh: Ok(Glance::Yes),
         looked: Ok(plot.is_member(phase != Phase::Before)),
         settled: Ok(plot.settled_sight(phase)),
         absent: Ok(Glance::No),
     }
 }
 
-// Holds the call after its first event of each kind in turn.
+// Whether the scene is as the plot has it at this phase.
+fn is_as_plotted(alloc: Global, plot: &Plot, phase: Phase, scene: Scene) -> bool {
+    let Scene { beside, disk } = scene;
+    let early = beside.early;
+    plot.may_be_seen(phase, early)
+        && beside == wanted(plot, phase, early)
+        && keys_in(alloc, disk).is_some_and(|keys| keys.as_slice() == plot.keys)
+}
+
+// Holds the call after each of its events in turn.
 fn hold_after_each<R: Threads + Wait + Clock + Sync + Abort>(
     rt: &R,
     alloc: Global,
     plot: &Plot,
 ) -> Result<(), Fail> {
-    for (kind, phase) in plot.phases {
-        let Some(scene) = scene_of(rt, alloc, kind, plot.asked) else {
-            panic!(rt; "{kind:?}: no set, or a wait that gave up")
-        };
-        let Scene { answered, disk } = scene;
-        let Answered { held, beside } = answered;
-        let Some(beside) = beside else {
-            panic!(rt; "{kind:?}: never held")
-        };
-        assert!(rt; held == Ok(true), "{kind:?}");
-        assert!(rt;
-            plot.may_be_seen(phase, beside.early),
-            "{kind:?}: {beside:?}"
-        );
-        assert_eq!(rt; beside, wanted(plot, phase, beside.early), "{kind:?}");
-        let keys = keys_in(alloc, disk);
-        assert!(rt;
-            keys.is_some_and(|keys| plot.leaves(keys.as_slice())),
-            "{kind:?}"
-        );
+    for passes in [2, 3] {
+        let mut event = 0u64;
+        for (phase, kinds) in plot.acts {
+            for kind in kinds {
+                let scene = scene_of(rt, alloc, passes, event, *kind, plot.asked);
+                let is_right = scene.is_some_and(|scene| is_as_plotted(alloc, plot, phase, scene));
+                assert!(rt; is_right, "{passes} passes, event {event}: {kind:?}");
+                event = event.wrapping_add(1);
+            }
+        }
     }
     Ok(())
 }
 
 #[test]
-fn glances_beside_an_addition(rt: HostRuntime) -> Result<(), Fail> {
+fn an_addition_is_held_after_each_event(rt: HostRuntime) -> Result<(), Fail> {
     hold_after_each(&rt, rt.alloc(), &addition(&rt))
 }
 
 #[test]
-fn glances_beside_a_removal(rt: HostRuntime) -> Result<(), Fail> {
+fn a_removal_is_held_after_each_event(rt: HostRuntime) -> Result<(), Fail> {
     hold_after_each(&rt, rt.alloc(), &removal(&rt))
 }

@@ -6,7 +6,7 @@ ghost use Rattle.lz_disk.specs.Records.{device_of};
 
 use crate::talks::{Talked, talk_on};
 use crate::threads::ask;
-use lazyset_testing::{FAILINGS, Failing, PICKS, keys_in, last_pass, made, set_failing};
+use lazyset_testing::{ENDS, FAILINGS, Failing, keys_in, last_pass, made, set_failing};
 use lz_disk::MemoryDisk;
 use lz_proto::End;
 use lz_set::{Blank, Fault, Named, NoGate, Pass, Set};
@@ -133,8 +133,8 @@ fn drill<R: Wait + Abort>(
         "{failing:?} {passes}: {answers:?}"
     );
     assert!(rt; disk.calls().wrapping_sub(before) == passes.wrapping_add(1));
-    for pick in PICKS {
-        let crashed = disk.crashed(pick)?;
+    for pick in ENDS.iter().flatten() {
+        let crashed = disk.crashed(*pick)?;
         assert!(rt;
             holds(alloc, crashed, failed),
             "{failing:?} {passes} {pick:?}"
@@ -189,8 +189,8 @@ fn drill_session<R: Wait + Abort>(
     let is_halted = ended == Ok(End::Halted) && told.as_slice() == b"halted\n".as_slice();
     let is_told = TOLD.get(failed).copied() == Some(output.as_slice());
     assert!(rt; is_halted && is_told, "{failing:?} {passes}");
-    for pick in PICKS {
-        let crashed = disk.crashed(pick)?;
+    for pick in ENDS.iter().flatten() {
+        let crashed = disk.crashed(*pick)?;
         assert!(rt;
             holds(alloc, crashed, failed),
             "{failing:?} {passes} {pick:?}"

@@ -2,27 +2,31 @@
 use lz_machine::Kind;
 use lz_set::StepGate;
 use std::sync::Wait;
-use std::sync::atomic::{AtomicBool, Ordering};
+use std::sync::atomic::{AtomicBool, AtomicU64, Ordering};
 use std::thread;
 use std::time::{Clock, Duration};
 
 /// After how many turns a wait gives up, each a load and a sleep of one millisecond.
 const TURNS: u64 = 10_000;
 
-/// What a held caller and the one beside it tell each other.
+/// What a held caller and those beside it tell each other.
 #[derive(Drop)]
 pub struct Signals {
+    // How many events the held caller has played.
+    pub played: AtomicU64,
     pub is_held: AtomicBool,
     pub may_go_on: AtomicBool,
-    pub is_given_up: AtomicBool,
+    // A wait gave up, or the event was of another kind.
+    pub is_off: AtomicBool,
 }
 
 impl Signals {
     pub fn new() -> Signals {
         Signals {
+            played: AtomicU64::new(0),
             is_held: AtomicBool::new(false),
             may_go_on: AtomicBool::new(false),
-            is_given_up: AtomicBool::new(false),
+            is_off: AtomicBool::new(false),
         }
     }
 }
@@ -38,21 +42,24 @@ pub fn wait_for(clock: &impl Clock, signal: &AtomicBool) -> bool {
     false
 }
 
-/// Holds the first pass after its first event of this kind.
+/// Holds a pass after its event of this number, counted from 0, which has to be of this kind.
 #[derive(Drop)]
 pub struct Gate<'a, C: Clock> {
     pub clock: &'a C,
+    pub pass: usize,
+    pub event: u64,
     pub kind: Kind,
     pub signals: &'a Signals,
 }
 
 impl<'a, C: Clock> StepGate for Gate<'a, C> {
     fn after<R: Wait>(&self, _rt: &R, pass: usize, kind: Kind) {
-        if pass != 1 || kind != self.kind || self.signals.is_held.swap(true, Ordering::SeqCst) {
+        if pass != self.pass || self.signals.played.fetch_add(1, Ordering::SeqCst) != self.event {
             return;
         }
-        if !wait_for(self.clock, &self.signals.may_go_on) {
-            self.signals.is_given_up.store(true, Ordering::SeqCst);
+        self.signals.is_held.store(true, Ordering::SeqCst);
+        if kind != self.kind || !wait_for(self.clock, &self.signals.may_go_on) {
+            self.signals.is_off.store(true, Ordering::SeqCst);
         }
     }
 }

@@ -1,4 +1,4 @@
-//! Threads that share a set or a board, the service, and what passes see of one another's calls. It has nothing but tests.
+//! Threads that share a set or a board, sessions of the service, and what passes see of one another's calls. It has nothing but tests.
 #![tactic(auto)]
 
 #[cfg(test)]
@@ -12,17 +12,11 @@ mod gates;
 #[cfg(test)]
 mod glancing;
 #[cfg(test)]
-mod held;
-#[cfg(test)]
 mod meeting;
-#[cfg(test)]
-mod onlookers;
 #[cfg(test)]
 mod partners;
 #[cfg(test)]
 mod plots;
-#[cfg(test)]
-mod serving;
 #[cfg(test)]
 mod talks;
 #[cfg(test)]

@@ -4,8 +4,7 @@ ghost use Rattle.lz_set.specs.Names.{MayCall};
 ghost use Rattle.lz_set.specs.Blanks.{MayBeNamed};
 ghost use Rattle.lz_disk.specs.Records.{device_of};
 
-use lazyset_commands::check_on;
-use lazyset_testing::{last_pass, made};
+use lazyset_testing::{keys_in, last_pass, made};
 use lz_disk::MemoryDisk;
 use lz_set::{Blank, Fault, Glance, GlanceFault, Named, NoGate, Pass, Set};
 use lz_slot::Key;
@@ -143,16 +142,8 @@ fn left_by_two<R: Wait>(rt: &R, alloc: Global) -> Option<MemoryDisk> {
 // A set that is closed with its passes leaves the members that their calls left.
 #[test]
 fn a_set_is_closed_with_its_passes(rt: HostRuntime) -> Result<(), Fail> {
-    let Some(mut disk) = left_by_two(&rt, rt.alloc()) else {
-        panic!(rt; "no set")
-    };
-    disk.stop();
-    let mut found: Vec<u8> = Vec::new(rt.alloc());
-    let status = check_on(rt.alloc(), disk.bytes(), &mut found);
-    assert_eq!(rt; status.code(), 0);
-    assert_eq!(rt;
-        found.as_slice(),
-        b"slot 0 key 9\nslot 2 key 17\ngood\n".as_slice()
-    );
+    let disk = left_by_two(&rt, rt.alloc());
+    let keys = disk.and_then(|disk| keys_in(rt.alloc(), disk));
+    assert!(rt; keys.is_some_and(|keys| keys.as_slice() == [9, 17].as_slice()));
     Ok(())
 }

@@ -20,15 +20,16 @@ pub enum Phase {
     Settled,
 }
 
-/// A call that changes a key whose node is in this slot, how far it has come after its first event of each kind, and the keys
-/// that the last file holds.
+/// The events of a call while it has come so far.
+pub type Act = (Phase, &'static [Kind]);
+
+/// A call that changes a key whose node is in this slot, its events, and the keys that the last file holds.
 #[derive(Clone, Copy)]
 pub struct Plot {
     pub asked: Asked,
     slot: u16,
-    pub phases: [(Kind, Phase); 12],
-    keys: [u64; 5],
-    count: usize,
+    pub acts: [Act; 3],
+    pub keys: &'static [u64],
 }
 
 impl Plot {
@@ -66,11 +67,6 @@ impl Plot {
             Phase::Unsettled | Phase::Settled => Phase::Settled,
         })
     }
-
-    /// Whether these are the keys that have to be left.
-    pub fn leaves(&self, keys: &[u64]) -> bool {
-        Some(keys) == self.keys.get(..self.count)
-    }
 }
 
 // The call that is held, with 40 as the key that is added meanwhile and 16 as the one that never is.
@@ -90,45 +86,68 @@ pub fn addition(rt: &impl Abort) -> Plot {
     Plot {
         asked: asked_beside(rt, Key::new(15).map(Command::Add)),
         slot: 3,
-        phases: [
-            (Kind::Pin, Phase::Before),
-            (Kind::Hop, Phase::Before),
-            (Kind::Reserve, Phase::Before),
-            (Kind::WriteKey, Phase::Before),
-            (Kind::Sync, Phase::Before),
-            (Kind::Claim, Phase::Before),
-            (Kind::Check, Phase::Before),
-            (Kind::WriteOpen, Phase::Before),
-            (Kind::Link, Phase::Unsettled),
-            (Kind::Release, Phase::Unsettled),
-            (Kind::Settle, Phase::Settled),
-            (Kind::Answer, Phase::Settled),
+        acts: [
+            (Phase::Before, &ADDING),
+            (Phase::Unsettled, &[Kind::Link, Kind::Release, Kind::Sync]),
+            (Phase::Settled, &[Kind::Settle, Kind::Answer]),
         ],
-        keys: [10, 15, 20, 30, 40],
-        count: 5,
+        keys: &[10, 15, 20, 30, 40],
     }
 }
+
+// The events of the addition up to its gate.
+const ADDING: [Kind; 16] = [
+    Kind::Pin,
+    Kind::Hop,
+    Kind::Hop,
+    Kind::Hop,
+    Kind::Hop,
+    Kind::Hop,
+    Kind::Reserve,
+    Kind::WriteKey,
+    Kind::Sync,
+    Kind::Hop,
+    Kind::Hop,
+    Kind::Hop,
+    Kind::Hop,
+    Kind::Claim,
+    Kind::Check,
+    Kind::WriteOpen,
+];
 
 /// 20 is removed, which was the second of three keys.
 pub fn removal(rt: &impl Abort) -> Plot {
     Plot {
         asked: asked_beside(rt, Key::new(20).map(Command::Remove)),
         slot: 1,
-        phases: [
-            (Kind::Pin, Phase::Before),
-            (Kind::Hop, Phase::Before),
-            (Kind::Claim, Phase::Before),
-            (Kind::Check, Phase::Before),
-            (Kind::WriteClose, Phase::Before),
-            (Kind::Mark, Phase::Unsettled),
-            (Kind::Sync, Phase::Unsettled),
-            (Kind::Settle, Phase::Settled),
-            (Kind::Unlink, Phase::Settled),
-            (Kind::Release, Phase::Settled),
-            (Kind::Retire, Phase::Settled),
-            (Kind::Answer, Phase::Settled),
+        acts: [
+            (Phase::Before, &REMOVING),
+            (Phase::Unsettled, &[Kind::Mark, Kind::Sync]),
+            (
+                Phase::Settled,
+                &[
+                    Kind::Settle,
+                    Kind::Unlink,
+                    Kind::Release,
+                    Kind::Retire,
+                    Kind::Answer,
+                ],
+            ),
         ],
-        keys: [10, 30, 40, 0, 0],
-        count: 3,
+        keys: &[10, 30, 40],
     }
 }
+
+// The events of the removal up to its gate.
+const REMOVING: [Kind; 10] = [
+    Kind::Pin,
+    Kind::Hop,
+    Kind::Hop,
+    Kind::Hop,
+    Kind::Hop,
+    Kind::Hop,
+    Kind::Hop,
+    Kind::Claim,
+    Kind::Check,
+    Kind::WriteClose,
+];

@@ -4,7 +4,7 @@ ghost use Rattle.lz_set.specs.Names.{MayCall};
 ghost use Rattle.lz_set.specs.Blanks.{MayBeNamed};
 ghost use Rattle.lz_disk.specs.Records.{device_of};
 
-use lazyset_testing::{FAILINGS, PICKS, keys_in, made, set_failing};
+use lazyset_testing::{ENDS, FAILINGS, end_life, keys_in, made, set_failing};
 use lz_disk::MemoryDisk;
 use lz_set::{Blank, Fault, Named, NoGate, Pass, Set, StepGate};
 use lz_slot::{Command, Key};
@@ -229,11 +229,11 @@ fn two_threads_add_up_to_a_set(rt: HostRuntime) -> Result<(), Fail> {
 }
 
 // The call whose device call failed is told, and all others that come then are halted. What was answered is there, whatever the
-// crash behind it leaves.
+// crash or the stop behind it leaves.
 #[test]
 fn a_device_fails_under_four_threads(rt: HostRuntime) -> Result<(), Fail> {
     for failing in FAILINGS {
-        for pick in PICKS {
+        for end in ENDS {
             let Some(mut disk) = made(rt.alloc(), 64) else {
                 panic!(rt; "no disk")
             };
@@ -247,13 +247,13 @@ fn a_device_fails_under_four_threads(rt: HostRuntime) -> Result<(), Fail> {
                 .fold(0u64, |sum, tally| sum.wrapping_add(tally.devices));
             assert_eq!(rt; devices, 1);
             assert!(rt; tallies.iter().all(|tally| tally.others == 0));
-            disk.crash(pick)?;
+            end_life(&mut disk, end)?;
             let Some(keys) = keys_in(rt.alloc(), disk) else {
                 panic!(rt; "no file")
             };
             assert!(rt;
                 tallies.len() == 4 && leads_to(&tallies, &keys),
-                "{failing:?} {pick:?}: {keys:?}"
+                "{failing:?} {end:?}: {keys:?}"
             );
         }
     }

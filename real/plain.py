@@ -1,0 +1,240 @@
+"""A plain set of keys in a file, and how lines and files are read: an independent model, written from docs/FORMATS.md."""
+
+from __future__ import annotations
+
+from typing import Dict, List, NamedTuple, Optional, Tuple, Union
+
+from real.program import Key
+
+MOST_NUMBER = 10**18 - 1
+MOST_ROOM = 15
+MOST_SLOTS = 65536
+MOST_LINE = 64
+
+HEAD_SIZE = SLOT_SIZE = 16
+OPEN = 0xA5
+NAMES = {b"LZYSET1": 1, b"LZYSET2": 2}
+
+VERBS = (b"add", b"remove", b"has")
+
+# What a line asks for: a verb and a key, or a number that tells why it asks for nothing, or nothing more at all.
+Command = Tuple[str, Key]
+QUIT = "quit"
+
+
+def read_decimal(text: bytes) -> Optional[int]:
+    """A plain decimal number: digits, with no zero in front of another one."""
+    if not text or text.strip(b"0123456789") or (text[:1] == b"0" and len(text) > 1):
+        return None
+    return int(text)
+
+
+def read_range(text: bytes, low: int, high: int) -> Optional[int]:
+    """A plain decimal number from low to high."""
+    number = read_decimal(text)
+    return number if number is not None and low <= number <= high else None
+
+
+def read_key(text: bytes) -> Union[Key, int]:
+    """A key, or the number of the reply `bad`."""
+    room: Optional[int] = 0
+    before, colon, after = text.partition(b":")
+    if colon:
+        room, text = read_range(before, 0, MOST_ROOM), after
+    if room is None:
+        return 6
+    number = read_decimal(text)
+    if number is None:
+        return 3
+    return Key(room, number) if number <= MOST_NUMBER else 4
+
+
+def read_line(line: bytes) -> Union[Command, str, int]:
+    """What a line without its line feed asks for: a command, `quit`, or the number of the reply `bad`."""
+    line = line[:-1] if line.endswith(b"\r") else line
+    if len(line) > MOST_LINE:
+        return 1
+    if line == b"quit":
+        return QUIT
+    verb, space, rest = line.partition(b" ")
+    if verb not in VERBS or not space:
+        return 2
+    key = read_key(rest)
+    return key if isinstance(key, int) else (verb.decode(), key)
+
+
+def slot_of(key: Key) -> bytes:
+    """The bytes of an open slot."""
+    return bytes([OPEN, key.room]) + bytes(6) + key.number.to_bytes(8, "big")
+
+
+def head_of(form: int, slots: int) -> bytes:
+    """The head of a made file."""
+    return bytes([OPEN]) + b"LZYSET%d" % form + slots.to_bytes(8, "big")
+
+
+class Plain:
+    """A set of one caller: each member has the lowest slot that was free."""
+
+    def __init__(self, form: int, slots: int) -> None:
+        self.form = form
+        self.slots: List[bytes] = [bytes(SLOT_SIZE)] * slots
+        self.places: Dict[Key, int] = {}
+
+    def ask(self, verb: str, key: Key) -> str:
+        """The reply to a command."""
+        if verb == "has":
+            return "yes" if key in self.places else "no"
+        return self._add(key) if verb == "add" else self._remove(key)
+
+    def _add(self, key: Key) -> str:
+        if self.form == 1 and key.room:
+            return "oldfile"
+        if key in self.places:
+            return "no"
+        if len(self.places) == len(self.slots):
+            return "full"
+        place = next(place for place, slot in enumerate(self.slots) if slot[0] != OPEN)
+        self.places[key], self.slots[place] = place, slot_of(key)
+        return "yes"
+
+    def _remove(self, key: Key) -> str:
+        if key not in self.places:
+            return "no"
+        place = self.places.pop(key)
+        self.slots[place] = b"\0" + self.slots[place][1:]
+        return "yes"
+
+    def replies(self, text: bytes) -> str:
+        """The replies to the lines of a whole input, each ended by a line feed."""
+        lines = text.split(b"\n")
+        told: List[str] = []
+        for line in lines[:-1]:
+            asked = read_line(line)
+            if asked == QUIT:
+                return "".join(told)
+            told.append(f"bad {asked}\n" if isinstance(asked, int) else f"{self.ask(*asked)}\n")
+        return "".join(told) + ("bad 5\n" if lines[-1] else "")
+
+    def file(self) -> bytes:
+        """The bytes of the set's file."""
+        return head_of(self.form, len(self.slots)) + b"".join(self.slots)
+
+
+class Flaw(NamedTuple):
+    """What a slot is that an open refuses: with no key, or with the key of an earlier one."""
+
+    slot: int
+    first: Optional[int]
+
+
+class Survey:
+    """What a file's bytes are: refused by their head, or slots that hold keys or are flawed."""
+
+    def __init__(self, text: bytes) -> None:
+        self.refusal = refusal_of(text)
+        self.lines: List[str] = []
+        self.flaws: List[Flaw] = []
+        self.members: Dict[Key, int] = {}
+        if not self.refusal:
+            self.form = NAMES[text[1:8]]
+            for place in range(int.from_bytes(text[8:16], "big")):
+                start = HEAD_SIZE + SLOT_SIZE * place
+                self._note(place, text[start : start + SLOT_SIZE])
+
+    def _note(self, place: int, slot: bytes) -> None:
+        if slot[0] != OPEN:
+            return
+        key = key_in(self.form, slot)
+        if key is None:
+            self.flaws.append(Flaw(place, None))
+            self.lines.append(f"slot {place} badkey\n")
+        elif key in self.members:
+            self.flaws.append(Flaw(place, self.members[key]))
+            self.lines.append(f"slot {place} twice {self.members[key]}\n")
+        else:
+            self.members[key] = place
+            self.lines.append(f"slot {place} key {key}\n")
+
+    def checked(self) -> Tuple[str, int]:
+        """What a check prints, and its status."""
+        if self.refusal:
+            return f"refused {self.refusal}\n", 3
+        return "".join(self.lines) + ("damaged\n" if self.flaws else "good\n"), 4 if self.flaws else 0
+
+    def opened(self) -> Tuple[str, int]:
+        """What a run without lines prints, and its status: the refusal of an open, or nothing."""
+        if self.refusal:
+            return f"refused {self.refusal}\n", 3
+        if not self.flaws:
+            return "", 0
+        slot, first = self.flaws[0]
+        return (f"refused 5 {slot}\n" if first is None else f"refused 6 {first} {slot}\n"), 3
+
+    def holds(self) -> bool:
+        """Whether the file holds a set."""
+        return not self.refusal and not self.flaws
+
+    def compared(self, old: Survey) -> Tuple[str, int]:
+        """What a check of this file beside an older one prints, and its status."""
+        told, status = self.checked()
+        if status:
+            return told, status
+        flaw = self._difference(old)
+        return told + (f"flaw {flaw}\n" if flaw else "same\n"), 4 if flaw else 0
+
+    def _difference(self, old: Survey) -> str:
+        if not old.holds():
+            return "8"
+        for number, here, there in ((9, old, self), (10, self, old)):
+            missing = [place for key, place in here.members.items() if key not in there.members]
+            if missing:
+                return f"{number} {min(missing)}"
+        return ""
+
+
+def refusal_of(text: bytes) -> int:
+    """The number with which a file's head is refused; 0 where it isn't."""
+    if len(text) < HEAD_SIZE or text[0] != OPEN:
+        return 1
+    if text[1:8] not in NAMES:
+        return 2
+    slots = int.from_bytes(text[8:16], "big")
+    if not 1 <= slots <= MOST_SLOTS:
+        return 4
+    return 0 if len(text) == HEAD_SIZE + SLOT_SIZE * slots else 3
+
+
+def key_in(form: int, slot: bytes) -> Optional[Key]:
+    """The key of an open slot, if its bytes are one's."""
+    room, number = slot[1], int.from_bytes(slot[8:], "big")
+    is_key = room <= (MOST_ROOM if form == 2 else 0) and not any(slot[2:8]) and number <= MOST_NUMBER
+    return Key(room, number) if is_key else None
+
+
+def made(text: bytes, form: int, slots: int) -> Tuple[str, bytes]:
+    """What a making on a file prints, and the file that it leaves."""
+    if not 1 <= slots <= MOST_SLOTS:
+        return "refused 2\n", text
+    if len(text) >= HEAD_SIZE and text[0] == OPEN:
+        return "refused 1\n", text
+    if len(text) > HEAD_SIZE + SLOT_SIZE * slots:
+        return "refused 4\n", text
+    return f"made {slots}\n", Plain(form, slots).file()
+
+
+def renewed(old: bytes, new: bytes, slots: int) -> Tuple[str, bytes]:
+    """What a renewal prints, and the new file that it leaves."""
+    survey = Survey(old)
+    members = sorted(survey.members.items(), key=lambda item: item[1])
+    told, made_file = made(new, 2, slots)
+    if not 1 <= slots <= MOST_SLOTS:
+        return "refused new 2\n", new
+    if not survey.holds():
+        return f"refused old {survey.opened()[0][len('refused '):]}", new
+    if slots < len(members):
+        return f"refused 9 {len(members)} {slots}\n", new
+    if told.startswith("refused"):
+        return f"refused new {told[len('refused '):]}", new
+    held = b"".join(slot_of(key) for key, _ in members)
+    return f"renewed {len(members)}\n", head_of(2, slots) + held + bytes(len(made_file) - HEAD_SIZE - len(held))
