@@ -11,6 +11,7 @@ from typing import Counter as Count
 from typing import Optional
 
 from real import guests
+from real.explained import story_of, unexplained
 from real.files import bytes_in, put
 from real.noise import KINDS as NOISE_KINDS
 from real.noise import Noise
@@ -161,7 +162,7 @@ def first_unread(script: bytes) -> int:
 
 
 def expect_rehearsed(script: bytes, ended: Ended, what: str) -> str:
-    """What was told of a script is of its form, and the history in it reads. Gives the kind of its end."""
+    """What was told of a script is of its form, and a history that a plain set explains. Gives the kind of its end."""
     unread = first_unread(script)
     if unread:
         expect(ended, Ended(f"line {unread}\n", 3), what)
@@ -173,18 +174,22 @@ def expect_rehearsed(script: bytes, ended: Ended, what: str) -> str:
         raise Wrong(f"{what}: told {ended.text!r}")
     odd = [line for line in lines if not SEEN.fullmatch(line)]
     expect(odd, [], f"lines of no form that were told of {what}")
-    told = "".join(f"{line}\n" for line in lines).encode()
-    if judged(told)[1] == 3:
+    told = "".join(f"{line}\n" for line in lines)
+    if judged(told.encode())[1] == 3:
         raise Wrong(f"{what}: what was told is no history: {ended.text!r}")
+    expect(unexplained(story_of(told)), [], f"what no plain set explains of {what}, which told {ended.text!r}")
     return "unlawful" if is_cut else "played"
 
 
 def try_scripts(program: Program, drawn: Drawn) -> None:
-    """Each script is told in the stated form, up to its first line that isn't lawful; one that doesn't read isn't played."""
+    """Each script is told in the stated form, up to its first line that isn't lawful, and a plain set explains it; one that doesn't
+    read isn't played."""
     noise = drawn.noise(4)
     came: Count[str] = Counter()
     for number in range(drawn.count):
         script = noise.script()
+        if not first_unread(script):
+            script += b"stop\nopen\n"
         size = (noise.draw.choice("12"), "--buckets", noise.draw.choice("12"), "--format", noise.draw.choice("12"))
         ended = program.run("rehearse", *size, lines=script)
         came[expect_rehearsed(script, ended, f"script {number}, {size}, {script!r}")] += 1
