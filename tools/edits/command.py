@@ -3,6 +3,7 @@
 from __future__ import annotations
 
 import argparse
+import functools
 import sys
 import time
 from typing import List, Sequence
@@ -20,7 +21,7 @@ def read_words(words: Sequence[str]) -> argparse.Namespace:
     parser.add_argument("--of", choices=list(OF), default="all", help="whose edits (all)")
     parser.add_argument("--lanes", type=int, default=0, help="crates side by side (a processor less than there are, at most 3)")
     parser.add_argument("--plan", action="store_true", help="say what would be tried, and try nothing")
-    parser.add_argument("--gate", action="store_true", help="after rt ci: the wrong bodies of crates that changed, and others by turns")
+    parser.add_argument("--gate", action="store_true", help="after rt ci: the wrong bodies of what changed, and others by turns")
     parser.add_argument("--turn", type=int, default=None, help="with --gate, whose turn it is (the day's number)")
     parser.add_argument("crates", nargs="*", metavar="CRATE")
     options = parser.parse_args(words)
@@ -44,10 +45,12 @@ def try_all(top: str, crates: Sequence[kit.Crate], folders: Sequence[str], lanes
     if unproved:
         sys.exit(f"the library {unproved.name} isn't proved, so no edit was tried")
     lines = record.read(top)
-    outcomes = kit.in_lanes({
-        it.name: kit.Task(one.length(it, folders, lines), kit.rt().need(it), lambda it=it: one.try_edits(top, it, folders, is_after_ci))
-        for it in crates
-    }, lanes)
+
+    def task(crate: kit.Crate) -> kit.Task:
+        call = functools.partial(one.try_edits, top, crate, folders, is_after_ci)
+        return kit.Task(one.length(crate, folders, lines), kit.rt().need(crate), call)
+
+    outcomes = kit.in_lanes({it.name: task(it) for it in crates}, lanes)
     failed = sum(it.failed for it in outcomes.values())
     kit.say(f"processor time: {kit.processor_seconds() / 60:.1f} minutes")
     kit.say(f"{sum(it.refused for it in outcomes.values())} refused, {failed} failed")

@@ -8,7 +8,7 @@ import os
 import re
 import sys
 import tempfile
-from typing import Dict, FrozenSet, List, NamedTuple, Optional, Sequence
+from typing import Dict, FrozenSet, List, NamedTuple, Optional, Sequence, Set, Tuple
 
 from edits import kit
 from edits.source import Name, Source, source_of
@@ -34,11 +34,13 @@ class Place(NamedTuple):
 
 @dataclasses.dataclass(eq=False)
 class Edit:
-    """A wrong body. Where it changes functions alone these are known, else it is tried alone (`functions` is empty)."""
+    """A wrong body. One that changes more than bodies has no functions here, and is tried alone."""
 
     name: str
     pairs: List[Pair]
-    functions: FrozenSet[Place]
+    # The functions whose bodies it changes, and those that it adds.
+    functions: FrozenSet[Place] = frozenset()
+    added: FrozenSet[Place] = frozenset()
     # Why it can't be applied.
     fault: str = ""
     # How many may share a check with it, itself counted.
@@ -97,26 +99,27 @@ class Sources:
 
     def edit(self, path: str) -> Edit:
         """Reads an edit of the crate."""
-        with open(f"{self.folder}/{path}", encoding="utf-8") as file:
-            edit = Edit(path, pairs_of(file.read()), frozenset())
+        with open(f"{self.folder}/{path}", encoding="utf-8", errors="replace") as file:
+            edit = Edit(path, pairs_of(file.read()))
         # The kit's own reading says what is wrong with an edit.
         texts, fault = kit.rt().read_edit(f"{self.folder}/{path}", self.folder)
         edit.fault = fault or ""
-        changed = [self.changed(file, text) for file, text in (texts or {}).items()]
-        if all(changed):
-            edit.functions = frozenset(place for functions in changed for place in functions or ())
+        changes = [self.changes(file, text) for file, text in (texts or {}).items()]
+        if all(bodies for bodies, _ in changes):
+            edit.functions = frozenset(place for bodies, _ in changes for place in bodies)
+            edit.added = frozenset(place for _, added in changes for place in added)
         return edit
 
-    def changed(self, file: str, text: str) -> FrozenSet[Place]:
-        """The functions of a file whose bodies this text changes, or that it adds; none where it changes more than that."""
+    def changes(self, file: str, text: str) -> Tuple[Set[Place], Set[Place]]:
+        """The functions of a file whose bodies this text changes, and those that it adds; none where it changes more."""
         old, new = (self.source(file), read_source(text)) if file.startswith("src/") else (None, None)
         if old is None or new is None:
-            return frozenset()
-        added = frozenset(new.functions.keys() - old.functions.keys())
-        if old.without_bodies() != new.without(added):
-            return frozenset()
+            return set(), set()
+        added = new.functions.keys() - old.functions.keys()
+        if old.without(frozenset()) != new.without(frozenset(added)):
+            return set(), set()
         bodies = {name for name, it in old.functions.items() if it.body != new.functions[name].body}
-        return frozenset(Place(file, name) for name in bodies | added)
+        return {Place(file, name) for name in bodies}, {Place(file, name) for name in added}
 
 
 def read_source(text: str) -> Optional[Source]:

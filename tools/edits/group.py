@@ -2,9 +2,10 @@
 
 from __future__ import annotations
 
+import os
 import re
 import tempfile
-from typing import Dict, List, Sequence, Set
+from typing import Dict, FrozenSet, List, Sequence, Set
 
 from edits import kit
 from edits.edit import Edit, Place, Sources, read_source
@@ -78,37 +79,43 @@ class Trial:
 
     def fits(self, edit: Edit, group: List[Edit]) -> bool:
         is_plain = bool(edit.functions and group[0].functions)
-        taken = {place for it in group for place in it.functions}
-        return is_plain and not edit.functions & taken and self.sources.applied([*group, edit]) is not None
+        taken = {place for it in group for place in it.functions | it.added}
+        is_apart = not (edit.functions | edit.added) & taken
+        return is_plain and is_apart and self.sources.applied([*group, edit]) is not None
 
     def judge(self, group: List[Edit]) -> List[Edit]:
         """Tries a group, tells the verdicts that are clear, and returns the others."""
         texts = self.sources.applied(group)
         assert texts is not None
-        # What an edit's check keeps would stand in place of the crate's own work: so each has a folder of its own.
-        with tempfile.TemporaryDirectory(prefix="try-edits-") as kept:
-            kit.link_kept(self.room, kept)
-            said = kit.check(self.crate, texts, kept)
-        self.checks += 1
+        said = self.check(texts)
         if len(group) == 1:
             self.judge_one(group[0], said, texts)
             return []
-        own = {it: self.items_of(it, said) for it in group}
-        # Of a type or an impl, the check says again what it says of a function.
-        others = said.refused().keys() - set().union(*own.values())
+        edited = {item for it in group for item in self.items_of(it.functions | it.added, said)}
+        others = sorted(said.refused().keys() - edited)
         if not said.is_judged() or others:
-            why = said.unread or " ".join(sorted(others)) or said.lines[-1]
+            why = said.unread or " ".join(others) or said.lines[-1]
             kit.say(f"  {self.crate.name}: {len(group)} in one check, which isn't clear: {why[:200]}")
             return self.halved(group)
-        return [it for it in group if not self.judge_in_group(it, own[it], said, texts)]
+        return [it for it in group if not self.judge_in_group(it, said, texts)]
+
+    def check(self, texts: Dict[str, str]) -> kit.Check:
+        """Checks the crate with these texts. What it keeps isn't for the checks after it, but where they have nothing."""
+        self.checks += 1
+        if not os.listdir(self.room):
+            return kit.check(self.crate, texts, self.room)
+        with tempfile.TemporaryDirectory(prefix="try-edits-") as kept:
+            kit.link_kept(self.room, kept)
+            return kit.check(self.crate, texts, kept)
 
     def halved(self, group: List[Edit]) -> List[Edit]:
         for edit in group:
             edit.most = max(len(group) // 2, 1)
         return group
 
-    def judge_in_group(self, edit: Edit, own: Set[str], said: kit.Check, texts: Dict[str, str]) -> bool:
+    def judge_in_group(self, edit: Edit, said: kit.Check, texts: Dict[str, str]) -> bool:
         """Tells whether an edit is refused in its group, and returns whether that is clear."""
+        own = self.items_of(edit.functions, said)
         refused = sorted(own & said.refused().keys())
         if refused:
             self.tell_refused(edit, refused, said, texts)
@@ -119,13 +126,16 @@ class Trial:
 
     def judge_one(self, edit: Edit, said: kit.Check, texts: Dict[str, str]) -> None:
         """Tells the verdict on an edit that was tried alone."""
-        refused = sorted(self.items_of(edit, said) & said.refused().keys()) or sorted(said.refused())
+        own = self.items_of(edit.functions, said) if edit.functions else said.said.keys()
+        refused = sorted(own & said.refused().keys())
         if not said.is_judged():
             self.tell("BAD EDIT", edit, said.unread or f"status {said.status}: {' / '.join(said.lines[:3])}")
         elif said.status == 0:
             self.tell("NOT REFUSED", edit, "the crate is still proved")
         elif refused:
             self.tell_refused(edit, refused, said, texts)
+        elif edit.functions:
+            self.tell("NOT REFUSED", edit, f"its function isn't, but {' '.join(sorted(said.unproved())) or said.lines[-1]}")
         else:
             self.tell("refused", edit, next(iter(said.unproved().values()), said.lines[-1]))
 
@@ -141,9 +151,9 @@ class Trial:
         (self.refused if verdict == "refused" else self.failed).append(edit.name)
         kit.say(f"{verdict} {self.crate.name}/{edit.name}: {why[:200]}")
 
-    def items_of(self, edit: Edit, said: kit.Check) -> Set[str]:
-        """A check's names for the functions that an edit changes or adds."""
-        return {it for it in said.said for place in edit.functions if is_of(it, self.crate.name, place)}
+    def items_of(self, places: FrozenSet[Place], said: kit.Check) -> Set[str]:
+        """A check's names for these functions."""
+        return {it for it in said.said for place in places if is_of(it, self.crate.name, place)}
 
     def meant(self, item: str, said: kit.Check, texts: Dict[str, str]) -> str:
         """Why an item is refused for what it means; empty where a proof only names what isn't there."""

@@ -77,7 +77,7 @@ def promises(library: kit.Crate) -> str:
         if rows is None:
             known = bytes_of(library, path)
         elif path.endswith(".rt"):
-            known = repr(source_of(rows[0]).without_bodies()).encode()
+            known = repr(source_of(rows[0]).without(frozenset())).encode()
         else:
             known = repr(tokens_of(rows[0])).encode()
         found.update(repr((path, known)).encode())

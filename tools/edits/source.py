@@ -60,16 +60,8 @@ class Source:
                 return name
         return None
 
-    def without_bodies(self) -> List[Token]:
-        """The tokens that are in no body: what another crate, or another function, can know."""
-        found, at = [], 0
-        for _, body, end in self.places.values():
-            found += self.tokens[at:body]
-            at = end
-        return [*found, *self.tokens[at:]]
-
     def without(self, names: FrozenSet[Name]) -> List[Token]:
-        """As above, and without these functions' heads."""
+        """The tokens that are in no body, which is what others can know of the functions, and not in the heads of these."""
         found, at = [], 0
         for name, (start, body, end) in self.places.items():
             found += self.tokens[at : start if name in names else body]

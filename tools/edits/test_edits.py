@@ -5,6 +5,7 @@ from __future__ import annotations
 import contextlib
 import io
 import os
+import re
 import shutil
 import sys
 import tempfile
@@ -14,7 +15,7 @@ from typing import Dict, List, Optional, Tuple
 sys.dont_write_bytecode = True
 sys.path.insert(0, os.path.dirname(os.path.dirname(os.path.abspath(__file__))))
 
-from edits import gate, kit, record  # noqa: E402
+from edits import change, gate, kit, record  # noqa: E402
 from edits.crate import Outcome, try_edits  # noqa: E402
 from edits.edit import FOLDERS, MUST_FAIL, WRONG_BODIES, Place, Sources, read_source  # noqa: E402
 from edits.group import is_of  # noqa: E402
@@ -104,6 +105,8 @@ SECOND_IS_ITSELF = ("next(next(x))", "next(x) + 1")
 LEAST_IS_THE_SECOND = ("if x < y { x } else { y }", "y")
 LOWER_IS_TURNED = ("    least(x, y)", "    least(y, x)")
 LOWER_WITHOUT_A_CALL = ("    least(x, y)", "    if x < y { x } else { y }")
+# A wrong body before the right one, which has another name then.
+NEXT = "pub fn next(x: usize) -> usize requires { x < 1000 } ensures { result ≡ x + 1 }"
 NO_SUCH_TEXT = ("x - 1", "x - 2")
 THIRD_IS_SECOND = ("low::next(low::second(x))", "low::second(x)")
 
@@ -256,6 +259,29 @@ class RecordTest(EditsTest):
             known = self.repository.hash("high")
 
 
+class ChangeTest(EditsTest):
+    """What tools/check-change does."""
+
+    def test_change(self) -> None:
+        """Of a changed crate it tells the layout, the proofs and the edits, and fails where an edit isn't refused."""
+        top = self.repository.top
+        self.repository.write(".gitignore", "out/\n")
+        for words in (("init", "-q"), ("add", "."), ("-c", "user.name=a", "-c", "user.email=a", "commit", "-qm", "all")):
+            change.git(top, *words)
+        self.assertEqual(change.touched(top, "HEAD"), set())
+        self.repository.put_edits("low", {"second_is_itself": SECOND_IS_ITSELF})
+        self.assertEqual(change.touched(top, "HEAD"), {"low"})
+        self.repository.write("crates.txt", "low:\nhigh: low memchr\n")
+        self.assertEqual(change.touched(top, "HEAD"), {"low", "high"})
+        self.repository.write("crates.txt", FILES["crates.txt"])
+        with contextlib.redirect_stdout(io.StringIO()) as said:
+            status = change.main(top, [])
+        self.assertEqual(status, 1)
+        told = re.sub(r" \(\d+ s\)", "", said.getvalue()).split("\n")
+        steps = [it for it in told if re.fullmatch(r"touched.*|low: \w+: \w+", it)]
+        self.assertEqual(steps, ["touched: low", "low: layout: ok", "low: proofs: ok", "low: edits: FAILED"])
+
+
 class ReadingTest(EditsTest):
     """How sources and edits are read."""
 
@@ -264,7 +290,7 @@ class ReadingTest(EditsTest):
         assert source is not None
         self.assertEqual(list(source.functions), [Name("Round", "Shape", "size"), Name("Round", "", "new")])
         self.assertEqual(source.function_on(3), Name("Round", "Shape", "size"))
-        left = " ".join(it.text for it in source.without_bodies())
+        left = " ".join(it.text for it in source.without(frozenset()))
         self.assertIn('"ensures" "{" "result"', left)
         self.assertNotIn("Round { }", left)
         self.assertIn("most ( ) -> u8 {".replace("->", "- >"), left)
@@ -286,17 +312,18 @@ class ReadingTest(EditsTest):
         """An edit of bodies names their functions; one of more than bodies names none."""
         self.repository.put_edits("low", {
             "body": NEXT_IS_TWO_MORE,
-            "added": ("pub fn next(x: usize) -> usize", "fn more(x: usize) -> usize { x } pub fn next(x: usize) -> usize"),
+            "renamed": ("pub fn next(x: usize) -> usize", f"{NEXT} {{ x }} fn next_in_truth(x: usize) -> usize"),
             "clause": ("result ≡ x + 1", "result ≡ x + 2"),
         })
         sources = Sources(self.repository.crate("low").folder)
 
-        def changed(name: str) -> List[str]:
-            return sorted(it.name.name for it in sources.edit(f"{WRONG_BODIES}/{name}.edit").functions)
+        def changed(name: str) -> Tuple[List[str], List[str]]:
+            edit = sources.edit(f"{WRONG_BODIES}/{name}.edit")
+            return [it.name.name for it in edit.functions], [it.name.name for it in edit.added]
 
-        self.assertEqual(changed("body"), ["next"])
-        self.assertEqual(changed("added"), ["more"])
-        self.assertEqual(changed("clause"), [])
+        self.assertEqual(changed("body"), (["next"], []))
+        self.assertEqual(changed("renamed"), (["next"], ["next_in_truth"]))
+        self.assertEqual(changed("clause"), ([], []))
 
 
 if __name__ == "__main__":
