@@ -23,7 +23,7 @@ LIST = "crates.txt"
 def read_words(words: Sequence[str]) -> argparse.Namespace:
     parser = argparse.ArgumentParser(prog="tools/check-change", description="Checks the crates that a change touches.")
     parser.add_argument("base", nargs="?", default="HEAD", metavar="BASE", help="the revision that the change is since (HEAD)")
-    parser.add_argument("--jobs", type=int, default=0, help="how many processes share a proof (as the kit chooses)")
+    parser.add_argument("--all-tests", action="store_true", help="also tests of what stands on a crate and doesn't name it")
     parser.add_argument("--jobs", type=int, default=0, help="how many processes share a proof (as the kit chooses)")
     return parser.parse_args(words)
 
