@@ -6,10 +6,9 @@ import argparse
 import os
 import re
 import subprocess
-import sys
 import tempfile
 import time
-from typing import Callable, Dict, List, Sequence, Set
+from typing import IO, Callable, Dict, List, Sequence, Set
 
 from edits import crate as one
 from edits import kit, record
@@ -71,18 +70,25 @@ class Steps:
         with tempfile.TemporaryFile("w+", errors="replace") as said:
             how = {"cwd": crate.folder, "stdin": subprocess.DEVNULL, "stdout": said, "stderr": said}
             ran = subprocess.run(["rt", *words, *self.jobs], check=False, **how)
-            said.seek(0)
-            if ran.returncode:
-                kit.say("".join(said.readlines()[-SHOWN:]).rstrip())
+            self.show(said, ran.returncode)
         return ran.returncode == 0
+
+    def layout(self, crate: kit.Crate) -> bool:
+        with tempfile.TemporaryFile("w+", errors="replace") as said:
+            status: int = kit.rt().rtlib.fmt(crate.folder, "--check", said)
+            self.show(said, status)
+        return status == 0
+
+    def show(self, said: IO[str], status: int) -> None:
+        """Shows the end of what a command said that failed."""
+        said.seek(0)
+        lines = said.readlines()[-SHOWN:] if status else []
+        if lines:
+            kit.say("".join(lines).rstrip())
 
     def check(self, crate: kit.Crate) -> bool:
         """Checks a crate: its layout, its proofs, and its edits if what their refusals rest on isn't as recorded."""
-
-        def layout() -> bool:
-            return bool(kit.rt().rtlib.fmt(crate.folder, "--check", sys.stdout) == 0)
-
-        self.tell(f"{crate.name}: layout", layout)
+        self.tell(f"{crate.name}: layout", lambda: self.layout(crate))
         if not self.tell(f"{crate.name}: proofs", lambda: self.run(crate, "lib" if crate.makes_rlib() else "check")):
             return False
         line = record.read(self.top).get(crate.name)
