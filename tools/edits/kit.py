@@ -116,10 +116,11 @@ class Check:
         return not self.unread and (self.status == 0 or is_refused)
 
     def is_proved(self) -> bool:
-        return self.status == 0 and not self.unproved()
+        return self.status == 0
 
     def unproved(self) -> Dict[str, str]:
-        return {it: said for it, said in self.said.items() if said != "proved" and not said.startswith("proved, ")}
+        """What isn't `proved`, nor proved with a remark (`proved, may wait`)."""
+        return {it: said for it, said in self.said.items() if not re.match(r"proved\b", said)}
 
     def refused(self) -> Dict[str, str]:
         """What is refused for itself, and not since it calls what is refused."""

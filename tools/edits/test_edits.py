@@ -55,6 +55,23 @@ pub fn lower(x: usize, y: usize) -> usize
 {
     least(x, y)
 }
+
+/// What has sides.
+pub trait Shape {
+    /// How many.
+    fn sides(&self) -> usize
+        ensures { result ≡ 3 };
+}
+
+/// Three corners.
+#[derive(Clone, Copy)]
+pub struct Triangle {}
+
+impl Shape for Triangle {
+    fn sides(&self) -> usize {
+        3
+    }
+}
 """
 # A proof by a person, of the name that a call's result has.
 LOWER = """use Rattle.low.proofs.lower.Goals as goal
@@ -104,6 +121,7 @@ NEXT_IS_TWO_MORE = ("    x + 1", "    x + 1 + 1")
 SECOND_IS_ITSELF = ("next(next(x))", "next(x) + 1")
 LEAST_IS_THE_SECOND = ("if x < y { x } else { y }", "y")
 LOWER_IS_TURNED = ("    least(x, y)", "    least(y, x)")
+TRIANGLE_OF_FOUR = ("        3", "        4")
 LOWER_WITHOUT_A_CALL = ("    least(x, y)", "    if x < y { x } else { y }")
 # A wrong body before the right one, which has another name then.
 NEXT = "pub fn next(x: usize) -> usize requires { x < 1000 } ensures { result ≡ x + 1 }"
@@ -175,19 +193,23 @@ class VerdictTest(EditsTest):
     """What is said of edits."""
 
     def test_group(self) -> None:
-        """Of a group the right body fails, and a wrong caller of a wrong function is found in a later check."""
+        """Of a group the right body fails, and a wrong caller of a wrong function is found in a later check.
+
+        An impl is refused with its method.
+        """
         self.repository.put_edits("low", {
             "least_is_the_second": LEAST_IS_THE_SECOND,
             "lower_is_turned": LOWER_IS_TURNED,
             "next_is_two_more": NEXT_IS_TWO_MORE,
             "second_is_itself": SECOND_IS_ITSELF,
+            "triangle_of_four": TRIANGLE_OF_FOUR,
         })
         outcome, lines = self.tried("low")
-        self.assertEqual((outcome.refused, outcome.failed), (3, 1), lines)
-        told = [line.partition("/")[0] + line.partition("wrong-bodies")[2].partition(".edit")[0] for line in lines[:4]]
-        first = ["refused low/least_is_the_second", "refused low/next_is_two_more"]
-        self.assertEqual(told[:2], first)
-        self.assertEqual(sorted(told[2:]), ["NOT REFUSED low/second_is_itself", "refused low/lower_is_turned"])
+        self.assertEqual((outcome.refused, outcome.failed), (4, 1), lines)
+        told = [line.partition("/")[0] + line.partition("wrong-bodies")[2].partition(".edit")[0] for line in lines[:5]]
+        first = ["refused low/least_is_the_second", "refused low/next_is_two_more", "refused low/triangle_of_four"]
+        self.assertEqual(told[:3], first)
+        self.assertEqual(sorted(told[3:]), ["NOT REFUSED low/second_is_itself", "refused low/lower_is_turned"])
         self.assertEqual(record.read(self.repository.top), {})
 
     def test_vanished_name(self) -> None:
