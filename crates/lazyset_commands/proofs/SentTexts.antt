@@ -12,7 +12,7 @@ use Rattle.lz_vault.specs.declared.opening.OpenFault.{OpenFault}
 use Rattle.lz_vault.specs.declared.opening.OpenFault.TheVariants as opening
 use Rattle.lazyset_commands.specs.Ends.{open_status}
 use Rattle.lazyset_commands.specs.Makings.{refused_text}
-use Rattle.lazyset_commands.specs.Runs.{refusal_text}
+use Rattle.lazyset_commands.specs.Refusals.{refusal_text}
 use Rattle.lazyset_commands.specs.declared.status.Status.{Status}
 use Rattle.lazyset_commands.specs.declared.status.Status.TheVariants as status
 

@@ -1,16 +1,41 @@
 //! The lines that have numbers: what was made, and why not.
-ghost use Rattle.std.specs.Prelude.{◌++◌, ◌∷◌, [], codes, decimal};
+ghost use Rattle.std.specs.Prelude.{◌≡◌, ◌⊎◌, ◌++◌, ◌∷◌, [], codes, decimal};
+ghost use Rattle.std.specs.Io.KnownBytes.{Appends};
 ghost use Rattle.lz_proto.specs.Steps.{SendTells};
-ghost use Rattle.lazyset_commands.specs.Runs.{refusal_text};
+ghost use Rattle.lazyset_commands.specs.Ends.{open_status};
+ghost use Rattle.lazyset_commands.specs.Refusals.{refusal_text};
+ghost use Rattle.lazyset_commands.specs.Tellings.{Tells};
 
+use crate::status::Status;
+use crate::telling::status_sent;
 use itoa::Buffer;
 use lz_proto::{SessionFault, send};
 use lz_slot::Slot;
 use lz_vault::OpenFault;
 use std::io::Write;
 
-/// Sends the line of a refused open.
-pub fn send_refusal<W: Write>(writer: &mut W, fault: OpenFault) -> Result<(), SessionFault>
+/// Says why an open was refused.
+pub fn refuse<W: Write + Drop>(writer: &mut W, fault: OpenFault) -> Status
+    ensures told { Tells (W.contents writer.old) (W.contents writer.new) (refusal_text fault) (open_status fault) result }
+    ensures refused { result ≡ Status.Refused → Appends (W.contents writer.old) (W.contents writer.new) (refusal_text fault) × (open_status fault ≡ Status.Refused) }
+    ensures other { (result ≡ Status.Refused) ⊎ (result ≡ Status.Failed) }
+{
+    let told = fault;
+    status_sent(send_refusal(writer, fault), status_of(told))
+}
+
+/// The status after a refused open.
+pub fn status_of(fault: OpenFault) -> Status
+    ensures { result ≡ open_status fault }
+{
+    match fault {
+        OpenFault::Device | OpenFault::Memory => Status::Failed,
+        _ => Status::Refused,
+    }
+}
+
+// Sends the line of a refused open.
+fn send_refusal<W: Write>(writer: &mut W, fault: OpenFault) -> Result<(), SessionFault>
     ensures { SendTells (W.contents writer.old) (W.contents writer.new) (refusal_text fault) result }
 {
     let numbered = fault;

@@ -13,7 +13,7 @@ ghost use Rattle.lazyset_commands.specs.Tellings.{Tells};
 use crate::refusal::{send_line, send_two};
 use crate::status::Status;
 use crate::telling::status_sent;
-use crate::{making, running};
+use crate::{making, refusal};
 use lz_disk::Disk;
 use lz_proto::SessionFault;
 use lz_slot::Slot;
@@ -64,7 +64,7 @@ fn status_of(answer: &Result<u64, RenewFault>) -> Status
 {
     match answer {
         Ok(_) => Status::Done,
-        Err(RenewFault::Old(fault)) => running::status_of(*fault),
+        Err(RenewFault::Old(fault)) => refusal::status_of(*fault),
         Err(RenewFault::New(fault)) => making::status_of(*fault),
         Err(RenewFault::TooSmall(_, _)) => Status::Refused,
     }
