@@ -6,3 +6,4 @@ pub mod RehearsalEnds
 pub mod Openings
 pub mod Runs
 pub mod Services
+pub mod Verdicts
