@@ -8,7 +8,7 @@ use crate::log::Log;
 use clap::ArgMatches;
 use lazyset_commands::{
     MOST_JUDGED, MOST_SURVEYED, ServeOptions, Status, check_of_on, check_on, judge_on, make_on,
-    rehearse_on, renew_on, run_set_on, serve_on,
+    rehearse_on, renew_on, run_on, serve_on,
 };
 use lz_disk::FileDisk;
 use lz_slot::{Format, MOST_BUCKETS, MOST_PASSES, MOST_REHEARSED};
@@ -126,7 +126,7 @@ where
         return Ok(Status::CommandLine);
     };
     let disk = open(rt, matches, false)?;
-    let (status, _disk) = run_set_on(rt, &mut rt.reader(), &mut io::writer(rt), disk, buckets);
+    let (status, _disk) = run_on(rt, &mut rt.reader(), &mut io::writer(rt), disk, buckets);
     Ok(status)
 }
 
