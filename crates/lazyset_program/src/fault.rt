@@ -1,4 +1,5 @@
 //! What ends a command before it has what it works on.
+use lazyset_command_line::Refusal;
 use lazyset_commands::Status;
 use std::alloc::AllocError;
 use std::io;
@@ -29,6 +30,14 @@ impl Fault {
             ErrorKind::InvalidData => Fault::NotText,
             ErrorKind::OutOfMemory => Fault::Memory(AllocError),
             _ => Fault::NoArguments(error),
+        }
+    }
+
+    /// Why the command line asks for nothing that can be done.
+    pub fn of_refusal(refusal: Refusal) -> Fault {
+        match refusal {
+            Refusal::Memory(error) => Fault::Memory(error),
+            Refusal::Told { text, status } => Fault::CommandLine { text, status },
         }
     }
 

@@ -1,6 +1,6 @@
 //! A new board.
 ghost use Rattle.std.specs.Prelude.{All, IfOk};
-ghost use Rattle.drills.specs.Looks.{MayLook};
+ghost use Rattle.drill_calls.specs.Looks.{MayLook};
 
 use crate::fault::Fault;
 use crate::file::disk;
