@@ -21,7 +21,10 @@ END = "end-of-example"
 PATIENCE = 20.0
 
 # What the examples call beside the program and the shell's own words.
-TOOLS = ("nc", "strace", "python3", "xxd", "od")
+TOOLS = ("nc", "strace", "python3", "xxd", "od", "flock")
+
+# The clients, which the examples call as in the repository's folder. The one for the shell calls `nc`.
+CLIENTS = os.path.join(os.path.dirname(os.path.dirname(os.path.abspath(__file__))), "clients")
 
 
 @dataclass
@@ -57,11 +60,12 @@ class Shell:
         words = os.path.join(folder, "bin")
         os.mkdir(words)
         os.symlink(program, os.path.join(words, "lazyset"))
+        os.symlink(CLIENTS, os.path.join(folder, "clients"))
         path = os.pathsep.join([words, os.environ.get("PATH", os.defpath)])
         self.process = subprocess.Popen(
             ["sh"],
             cwd=folder,
-            env={**os.environ, "PATH": path, "LC_ALL": "C"},
+            env={**os.environ, "PATH": path, "LC_ALL": "C", "PYTHONDONTWRITEBYTECODE": "1"},
             stdin=subprocess.PIPE,
             stdout=subprocess.PIPE,
             stderr=subprocess.DEVNULL,
@@ -107,6 +111,8 @@ class Shell:
 def missing(examples: Sequence[Example]) -> List[str]:
     """The tools that the examples call and this machine hasn't."""
     called = {word for example in examples for word in re.findall(r"[a-z0-9]+", example.command)}
+    if "ask" in called:
+        called.add("nc")
     return [tool for tool in TOOLS if tool in called and shutil.which(tool) is None]
 
 

@@ -3,8 +3,8 @@
 from __future__ import annotations
 
 import traceback
-from dataclasses import dataclass
-from typing import Callable
+from dataclasses import dataclass, field
+from typing import Callable, List
 
 
 class Wrong(Exception):
@@ -29,10 +29,12 @@ class Report:
     passed: int = 0
     failed: int = 0
     skipped: int = 0
+    left_out: List[str] = field(default_factory=list)
 
     def run(self, name: str, trial: Callable[[], None]) -> None:
         """Runs one trial, and tells its end in a line."""
         if self.only not in name:
+            self.left_out.append(name)
             return
         try:
             trial()
@@ -47,6 +49,9 @@ class Report:
         else:
             self.passed += 1
             print(f"passed   {name}", flush=True)
+
+    def has_tried(self) -> bool:
+        return self.passed + self.failed + self.skipped > 0
 
     def closing_line(self) -> str:
         counts = f"{self.passed} passed, {self.failed} failed"

@@ -2,7 +2,7 @@
 //! standard input on a file of two slots that lies there.
 #![tactic(auto)]
 
-use lazyset_commands::{Status, make_on, run_set_on};
+use lazyset_commands::{Status, make_on, run_on};
 use lz_disk::{DeviceFault, FileDisk};
 use lz_slot::Format;
 use std::fs::{File, Files};
@@ -44,7 +44,7 @@ where
     let made = make_on(&mut io::writer(rt), &mut new, 2, Format::Two);
     tell(rt, "new", made)?;
     let stored = open(rt, "stored", false)?;
-    let (ran, _disk) = run_set_on(rt, &mut rt.reader(), &mut io::writer(rt), stored, BUCKETS);
+    let (ran, _disk) = run_on(rt, &mut rt.reader(), &mut io::writer(rt), stored, BUCKETS);
     tell(rt, "stored", ran)
 }
 

@@ -1,15 +1,10 @@
-//! The command line of the set service: it reads the words, opens the files, and hands over to the library of commands.
+//! The command line of the set service.
 #![tactic(auto)]
-
-mod command_line;
-mod commands;
-mod fault;
-mod log;
 
 use std::process::ExitCode;
 
 fn main(rt: HostRuntime) -> ExitCode {
-    match commands::run(&rt) {
+    match lazyset_program::run(&rt) {
         Ok(status) => ExitCode::from(status.code()),
         Err(fault) => {
             // Where standard output fails too, the status alone is left to tell.

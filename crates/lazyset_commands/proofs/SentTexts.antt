@@ -12,7 +12,7 @@ use Rattle.lz_vault.specs.declared.opening.OpenFault.{OpenFault}
 use Rattle.lz_vault.specs.declared.opening.OpenFault.TheVariants as opening
 use Rattle.lazyset_commands.specs.Ends.{open_status}
 use Rattle.lazyset_commands.specs.Makings.{refused_text}
-use Rattle.lazyset_commands.specs.Runs.{refusal_text}
+use Rattle.lazyset_commands.specs.Refusals.{refusal_text}
 use Rattle.lazyset_commands.specs.declared.status.Status.{Status}
 use Rattle.lazyset_commands.specs.declared.status.Status.TheVariants as status
 
@@ -41,24 +41,6 @@ sent_less old new first second Write (n, less, q) = (
 pub sent_after : (old mid new : Option (List ℕ)) (first second text : List ℕ) (r : Result (Unit {0}) SessionFault) → Appends old mid first → text ≡ second → SendTells mid new text r → SendTells old new (first ++ second) r
 sent_after old mid new first second text r p is q = sent_more old mid new first second r p (subst (λ (t : List ℕ). SendTells mid new t r) is q)
 
-regroup : (a b c d : List ℕ) → a ++ ((b ++ c) ++ d) ≡ ((a ++ b) ++ c) ++ d
-regroup a b c d = simp append_assoc
-
--- the line of two slots that hold one key
-pub twice_sent : (old mid new : Option (List ℕ)) (r : Result (Unit {0}) SessionFault) (first second n m : ℕ) → n ≡ first → m ≡ second → Appends old mid (codes "refused 6 " ++ decimal n)
-    → SendTells mid new (codes " " ++ decimal m ++ 10 ∷ []) r → SendTells old new (refusal_text (opening.Twice first second)) r
-twice_sent old mid new r first second n m p q whole sent =
-    let all = sent_more old mid new (codes "refused 6 " ++ decimal n) (codes " " ++ decimal m ++ 10 ∷ []) r whole sent in
-    let grouped = subst (λ (t : List ℕ). SendTells old new t r) (regroup (codes "refused 6 " ++ decimal n) (codes " ") (decimal m) (10 ∷ [])) all in
-    subst (λ (i : ℕ). SendTells old new (refusal_text (opening.Twice i second)) r) p (subst (λ (j : ℕ). SendTells old new (refusal_text (opening.Twice n j)) r) q grouped)
-
-pub twice_cut : (old new : Option (List ℕ)) (fault : SessionFault) (first second n : ℕ) → n ≡ first → SendTells old new (codes "refused 6 " ++ decimal n) (Err fault)
-    → SendTells old new (refusal_text (opening.Twice first second)) (Err fault)
-twice_cut old new fault first second n p sent =
-    let less = sent_less old new (codes "refused 6 " ++ decimal n) (codes " " ++ decimal second ++ 10 ∷ []) fault sent in
-    let grouped = subst (λ (t : List ℕ). SendTells old new t (Err fault)) (regroup (codes "refused 6 " ++ decimal n) (codes " ") (decimal second) (10 ∷ [])) less in
-    subst (λ (i : ℕ). SendTells old new (refusal_text (opening.Twice i second)) (Err fault)) p grouped
-
 -- the status of a command that sent its text so
 pub sent_tells : (old new : Option (List ℕ)) (text : List ℕ) (told : Status) (r : Result (Unit {0}) SessionFault) → SendTells old new text r → Tells old new text told (status_sent r told)
 sent_tells old new text told (Ok done) p = inl (p, refl)
@@ -69,6 +51,14 @@ sent_tells old new text told (Err Memory) p = absurd p
 -- a text that couldn't be told whole fails the command
 pub told_either : (old new : Option (List ℕ)) (text : List ℕ) (told state : Status) → Tells old new text told state → (state ≡ status.Failed) ⊎ ((state ≡ told) × Appends old new text)
 told_either old new text told state tells = ⊎_elim (λ whole. inr (whole.1, whole.0)) (λ part. inl part.1) tells
+
+-- how a command ends that told a text
+pub told_ends : (old new : Option (List ℕ)) (text : List ℕ) (told state : Status) → Tells old new text told state → (state ≡ told) ⊎ (state ≡ status.Failed)
+told_ends old new text told state tells = ⊎_elim (λ whole. inl whole.1) (λ part. inr part.1) tells
+
+-- one that failed in any case
+pub only_failed : {P : Type 0} (state : Status) → (state ≡ status.Failed) ⊎ ((state ≡ status.Failed) × P) → state ≡ status.Failed
+only_failed state ends = ⊎_elim (λ failed. failed) (λ told. told.0) ends
 
 -- one that tells a refusal told it whole
 pub told_refused : (old new : Option (List ℕ)) (text : List ℕ) (told state : Status) → Tells old new text told state → state ≡ status.Refused → Appends old new text × (told ≡ status.Refused)

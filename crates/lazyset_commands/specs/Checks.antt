@@ -1,5 +1,5 @@
 -- What a check of a file tells.
-use Rattle.std.specs.Prelude.{◌≡◌, ℕ, Option, List, [], ◌∷◌, ◌++◌, codes, decimal, if◌then◌else◌}
+use Rattle.std.specs.Prelude.{ℕ, Option, List, [], ◌∷◌, ◌++◌, codes, decimal, if◌then◌else◌}
 use Rattle.std.specs.List.{flat_map}
 use Rattle.lz_slot.specs.Bytes.{header_fault_number}
 use Rattle.lz_slot.specs.Texts.{key_text}

@@ -1,13 +1,12 @@
-pub mod Plains
 pub mod Ends
 pub mod Tellings
 pub mod Makings
-pub mod Asks
+pub mod Refusals
+pub mod PlainReplies
 pub mod Runs
 pub mod Checks
 pub mod Comparisons
 pub mod Judgements
 pub mod Rehearsals
 pub mod Renewals
-pub mod Seats
 pub mod Services

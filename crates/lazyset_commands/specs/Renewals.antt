@@ -1,5 +1,5 @@
 -- What a renewal tells.
-use Rattle.std.specs.Prelude.{◌≡◌, ◌↔◌, ◌++◌, ◌∷◌, [], ℕ, IfErr, IfOk, IsErrOf, List, Result, Ok, Err, codes, decimal}
+use Rattle.std.specs.Prelude.{◌↔◌, ◌++◌, ◌∷◌, [], ℕ, IfErr, IfOk, IsErrOf, List, Result, Ok, Err, codes, decimal}
 use Rattle.lz_disk.specs.Devices.{Device}
 use Rattle.lz_vault.specs.Makes.{IsBadCount, make_fault_number}
 use Rattle.lz_vault.specs.Opens.{open_fault_number}

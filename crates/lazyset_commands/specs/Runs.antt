@@ -1,15 +1,12 @@
--- What a run of commands does, and what it leaves of the disk.
-use Rattle.std.specs.Prelude.{◌≡◌, ◌⊎◌, ℕ, ◌≤◌, ◌<◌, Option, Result, Ok, true, List, [], ◌∷◌, ◌++◌, codes, decimal}
+-- What a run of commands does, by the one pass of a set, and what it leaves of the disk.
+use Rattle.std.specs.Prelude.{◌≡◌, ◌⊎◌, ℕ, ◌≤◌, ◌<◌, Option, Result, Ok, List, ◌++◌}
 use Rattle.std.specs.Io.KnownBytes.{Appends}
 use Rattle.lz_slot.specs.Sets.{Keys}
 use Rattle.lz_slot.specs.Bytes.{Holds}
 use Rattle.lz_slot.specs.declared.format.Format.{Format}
-use Rattle.lz_disk.specs.Images.{Medium, IsImage, synced}
+use Rattle.lz_disk.specs.Images.{Medium, IsImage}
 use Rattle.lz_disk.specs.Devices.{Device}
-use Rattle.lz_vault.specs.Opens.{IsRefusedFor, Opens, open_fault_number}
-use Rattle.lz_vault.specs.Vaults.{VaultOver, last_sync}
-use Rattle.lz_vault.specs.declared.opening.OpenFault.{OpenFault}
-use Rattle.lz_vault.specs.declared.opening.OpenFault.TheVariants.{BadKey, Memory, Twice, Device as DeviceFailed}
+use Rattle.lz_vault.specs.Vaults.{last_sync}
 use Rattle.lz_proto.specs.Lines.{Items}
 use Rattle.lz_proto.specs.declared.item.Item.{Item}
 use Rattle.lz_proto.specs.declared.request.Request.{Request}
@@ -18,49 +15,58 @@ use Rattle.lz_proto.specs.declared.end.End.{End}
 use Rattle.lz_proto.specs.declared.end.End.TheVariants.{Halted}
 use Rattle.lz_proto.specs.declared.fault.SessionFault.{SessionFault}
 use Rattle.lz_proto.specs.Sessions.{IsInput, Serves, SessionTells, Writes, session_text}
-use Rattle.lazyset_commands.specs.Asks.{PlainAnswers, SetAnswers}
-use Rattle.lazyset_commands.specs.Ends.{open_status, session_status}
-use Rattle.lazyset_commands.specs.Makings.{refused_text}
-use Rattle.lazyset_commands.specs.Plains.{EachHolds}
-use Rattle.lazyset_commands.specs.Tellings.{Tells}
+use Rattle.lz_yard.specs.Filling.{OpensYard}
+use Rattle.lz_board.specs.declared.pass.Pass.{Pass}
+use Rattle.lz_board.specs.declared.view.Note.{Note}
+use Rattle.lz_board.specs.Opened.{opened_by}
+use Rattle.lz_board.specs.Seats.{BoardId, IsNew, part}
+use Rattle.lz_tie.specs.Holds.{sizes_of}
+use Rattle.lz_tie.specs.Sessions.{AreOn, TellsAlone}
+use Rattle.lz_set.specs.Blanks.{BlankOver}
+use Rattle.lz_set.specs.Left.{IsLeft}
+use Rattle.lz_serve.specs.Replies.{SeatAnswers}
+use Rattle.lazyset_commands.specs.Ends.{session_status}
+use Rattle.lazyset_commands.specs.PlainReplies.{PassAnswers}
 use Rattle.lazyset_commands.specs.declared.status.Status.{Status}
-use Rattle.lazyset_commands.specs.declared.status.Status.TheVariants.{Failed}
 
--- the line of a refused open
-abbrev pub refusal_text : OpenFault → List ℕ
-refusal_text (BadKey s) = codes "refused 5 " ++ decimal s ++ 10 ∷ []
-refusal_text (Twice first second) = codes "refused 6 " ++ decimal first ++ codes " " ++ decimal second ++ 10 ∷ []
-refusal_text fault = refused_text (open_fault_number fault)
+-- each image of the disk is a file of N slots that holds the set S
+abbrev pub EachHolds : Medium → ℕ → Keys → Type 0
+EachHolds disk N S = (t : List ℕ) → IsImage disk t → Holds t N S
 
--- The disk was opened, and a session was served over its set, whose end gives the status. It halts only where the device
--- failed in it, or has made its last sync.
-pub record RanSession {D : Type 0} (device : D → Device) (status : Status) (input rest before after : Option (List ℕ)) (old new : D) : Type 0 where
-  pub opened : VaultOver D
-  pub opens : Opens (device old) (device opened.disk) opened.memory
-  pub left : VaultOver D
-  pub closed : left.disk ≡ new
+-- A new pass of a set served a session, whose end gives the status. What is left of the disk tells a history, since the disk was
+-- like `first`: in a set of one pass, of the pass's own calls alone. It halts only where the device failed since, or has made its
+-- last sync.
+pub record ServedSeat (b : BoardId) (first : Device) (F : Format) (status : Status) (input rest before after : Option (List ℕ)) (disk : Device) : Type 0 where
+  pub begun : Pass
+  pub fresh : IsNew b begun
+  pub done : Pass
   pub ended : Result End SessionFault
   pub status_is : status ≡ session_status ended
-  pub tells : Writes before after (λ written. SessionTells (PlainAnswers device) input rest opened left written ended)
-  pub halts : ended ≡ Ok Halted → (left.memory.dead ≡ true) × ((last_sync ≤ left.memory.syncs) ⊎ ((device old).faults < (device new).faults))
+  pub tells : Writes before after (λ written. SessionTells (SeatAnswers b F) input rest begun done written ended)
+  pub notes : List Note
+  pub left : IsLeft b first notes disk
+  pub alone : b.sizes.passes ≡ 1 → TellsAlone b notes (part done)
+  pub format : AreOn F (part done).steps
+  pub halts : ended ≡ Ok Halted → (last_sync ≤ left.yard.vault.syncs) ⊎ (first.faults < disk.faults)
 
--- The open was refused, nothing was read of the input, and the refusal was told.
-pub record RefusedOpen {D : Type 0} (device : D → Device) (status : Status) (input rest before after : Option (List ℕ)) (old new : D) : Type 0 where
-  pub fault : OpenFault
-  pub refused : IsRefusedFor (device old) (device new) fault
-  pub unread : rest ≡ input
-  pub told : Tells before after (refusal_text fault) (open_status fault) status
+-- The disk was opened as a set of so many buckets and of one pass, and that pass served a session.
+pub record RanSeat {D : Type 0} (device : D → Device) (buckets : ℕ) (status : Status) (input rest before after : Option (List ℕ)) (old new : D) : Type 0 where
+  pub opened : BlankOver D
+  pub opens : OpensYard (device old) (device opened.disk) buckets 1 opened.yard
+  pub sizes : opened.board.sizes ≡ sizes_of opened.yard.shape
+  pub trace : opened.board.opened ≡ opened_by opened.yard.words
+  pub served : ServedSeat opened.board (device opened.disk) opened.yard.vault.format status input rest before after (device new)
 
--- What was written is the session text of the input's items and the plain set's replies to them over a file of the format
--- F, beginning with S, and each image holds the last set.
-pub record RepliesOfSet (F : Format) (N : ℕ) (S : Keys) (input before after : Option (List ℕ)) (disk : Medium) : Type 0 where
+-- What was written is the session text of the input's items and the replies of the plain set, served by a pass, over a file of
+-- the format F, beginning with S, and each image holds the last set.
+pub record RepliesOfPass (F : Format) (N : ℕ) (S : Keys) (input before after : Option (List ℕ)) (disk : Medium) : Type 0 where
   pub text : List ℕ
   pub known : IsInput input text
   pub items : List Item
   pub its : Items text items
   pub replies : List Reply
   pub last : Keys
-  pub served : Serves (SetAnswers F N) S items replies last
+  pub served : Serves (PassAnswers F N) S items replies last
   pub written : Appends before after (session_text items replies)
   pub held : EachHolds disk N last
 
@@ -72,13 +78,6 @@ pub record SessionOfSet (A : Keys → Request → Reply → Keys → Type 0) (N 
   pub written : List ℕ
   pub appended : Appends before after written
   pub each : (t : List ℕ) → IsImage disk t → (T : Keys) × SessionTells A input rest S T written ended × Holds t N T
-
--- The device failed at the open, or there was no memory: this was told, and nothing was written to the disk.
-pub record FailedOpen (status : Status) (before after : Option (List ℕ)) (old new : Medium) : Type 0 where
-  pub fault : OpenFault
-  pub cause : (fault ≡ DeviceFailed) ⊎ (fault ≡ Memory)
-  pub told : Tells before after (refusal_text fault) Failed status
-  pub unwritten : (new ≡ old) ⊎ (new ≡ synced old)
 
 -- The text holds the set after some first ones of the items, which it answers so; the last of these may be under way, done or
 -- not.

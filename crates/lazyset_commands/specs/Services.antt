@@ -15,7 +15,7 @@ use Rattle.lz_tie.specs.Holds.{sizes_of}
 use Rattle.lz_set.specs.Blanks.{BlankOver}
 use Rattle.lz_set.specs.Left.{IsLeft, IsLeftWith}
 use Rattle.lazyset_commands.specs.Ends.{open_status}
-use Rattle.lazyset_commands.specs.Runs.{refusal_text}
+use Rattle.lazyset_commands.specs.Refusals.{refusal_text}
 use Rattle.lazyset_commands.specs.Tellings.{IsCutShort, Tells}
 use Rattle.lazyset_commands.specs.declared.status.Status.{Status}
 use Rattle.lazyset_commands.specs.declared.status.Status.TheVariants.{Done, Failed}

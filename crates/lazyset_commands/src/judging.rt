@@ -1,11 +1,11 @@
 //! The command that judges a history.
-ghost use Rattle.std.specs.Prelude.{◌≡◌, ◌⊎◌, IfOk};
-ghost use Rattle.std.specs.String.{string_bytes};
-ghost use Rattle.lazyset_commands.specs.Judgements.{FoundGood, FoundWrong, IsJudged, JudgedGood, JudgedUnread, JudgedWrong, flaw_text, numbers_text};
-ghost use Rattle.lazyset_commands.specs.Tellings.{LacksMemory, Tells, line_text};
+ghost use Rattle.std.specs.Prelude.{◌≡◌, ◌⊎◌};
+ghost use Rattle.lazyset_commands.specs.Judgements.{FoundGood, FoundWrong, IsJudged, JudgedGood, JudgedUnread, JudgedWrong, flaw_text};
+ghost use Rattle.lazyset_commands.specs.Tellings.{LacksMemory, Tells};
 
+use crate::refusal::{refuse_line, send_two};
 use crate::status::Status;
-use crate::telling::{NO_MEMORY, tell};
+use crate::telling::{NO_MEMORY, status_sent, tell};
 use lz_judge::{Flaw, History, MOST_BYTES, judge};
 use std::alloc::{AllocError, Global};
 use std::io::Write;
@@ -27,7 +27,7 @@ pub fn judge_on<W: Write + Drop>(alloc: Global, bytes: &[u8], writer: &mut W) ->
 {
     match History::read(alloc, bytes) {
         Ok(Ok(history)) => judge_history(alloc, &history, writer),
-        Ok(Err(line)) => tell_line(alloc, line, writer),
+        Ok(Err(line)) => refuse_line(writer, line),
         Err(AllocError) => tell(writer, Status::Failed, NO_MEMORY),
     }
 }
@@ -40,50 +40,16 @@ fn judge_history<W: Write + Drop>(alloc: Global, history: &History, writer: &mut
 {
     match judge(alloc, history) {
         Ok(Ok(())) => tell(writer, Status::Done, b"good\n"),
-        Ok(Err(flaw)) => tell_flaw(alloc, flaw, writer),
+        Ok(Err(flaw)) => tell_flaw(writer, flaw),
         Err(AllocError) => tell(writer, Status::Failed, NO_MEMORY),
     }
 }
 
-fn tell_flaw<W: Write + Drop>(alloc: Global, flaw: Flaw, writer: &mut W) -> Status
-    ensures tells { Tells (W.contents writer.old) (W.contents writer.new) (flaw_text flaw) Status.Damaged result ⊎ LacksMemory (W.contents writer.old) (W.contents writer.new) result }
-    ensures flaw { result ≡ Status.Damaged → Tells (W.contents writer.old) (W.contents writer.new) (flaw_text flaw) Status.Damaged result }
-    ensures other { (result ≡ Status.Damaged) ⊎ (result ≡ Status.Failed) }
-{
-    match flaw_line(alloc, flaw) {
-        Ok(text) => tell(writer, Status::Damaged, text.as_bytes()),
-        Err(AllocError) => tell(writer, Status::Failed, NO_MEMORY),
-    }
-}
-
-fn flaw_line(alloc: Global, flaw: Flaw) -> Result<String, AllocError>
-    ensures { IfOk result (λ text. string_bytes text ≡ flaw_text flaw) }
+fn tell_flaw<W: Write>(writer: &mut W, flaw: Flaw) -> Status
+    ensures { Tells (W.contents writer.old) (W.contents writer.new) (flaw_text flaw) Status.Damaged result }
 {
     let told = flaw;
-    let number = told.number();
-    let subject = flaw.subject();
-    numbers_line(alloc, number, subject)
-}
-
-fn numbers_line(alloc: Global, number: u8, subject: u64) -> Result<String, AllocError>
-    ensures { IfOk result (λ text. string_bytes text ≡ numbers_text number subject) }
-{
-    format!(in alloc; "flaw {number} {subject}\n")
-}
-
-fn tell_line<W: Write + Drop>(alloc: Global, line: u64, writer: &mut W) -> Status
-    ensures tells { Tells (W.contents writer.old) (W.contents writer.new) (line_text line) Status.Refused result ⊎ LacksMemory (W.contents writer.old) (W.contents writer.new) result }
-    ensures line { result ≡ Status.Refused → Tells (W.contents writer.old) (W.contents writer.new) (line_text line) Status.Refused result }
-    ensures other { (result ≡ Status.Refused) ⊎ (result ≡ Status.Failed) }
-{
-    match line_of(alloc, line) {
-        Ok(text) => tell(writer, Status::Refused, text.as_bytes()),
-        Err(AllocError) => tell(writer, Status::Failed, NO_MEMORY),
-    }
-}
-
-fn line_of(alloc: Global, line: u64) -> Result<String, AllocError>
-    ensures { IfOk result (λ text. string_bytes text ≡ line_text line) }
-{
-    format!(in alloc; "line {line}\n")
+    let number = u64::from(told.number());
+    let sent = send_two(writer, b"flaw ", number, flaw.subject());
+    status_sent(sent, Status::Damaged)
 }

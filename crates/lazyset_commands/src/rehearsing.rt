@@ -1,17 +1,20 @@
 //! The command that rehearses a script.
 ghost use Rattle.std.specs.Prelude.{◌≡◌, ◌⊎◌, ◌≤◌};
 ghost use Rattle.lz_slot.specs.Limits.{most_buckets, most_passes, most_rehearsed};
+ghost use Rattle.lz_slot.specs.declared.format.Format.{Format as AFormat};
+ghost use Rattle.lz_machine.specs.Yards.{Shape};
+ghost use Rattle.lz_core.specs.Worlds.{IsNew};
 ghost use Rattle.lazyset_commands.specs.Ends.{rehearsal_status};
 ghost use Rattle.lazyset_commands.specs.Rehearsals.{IsRehearsal, IsRehearsed, IsUnread, OfScript, RehearsedAll, RehearsedTo, fault_text};
-ghost use Rattle.lazyset_commands.specs.Tellings.{LacksMemory, Tells, line_text};
+ghost use Rattle.lazyset_commands.specs.Tellings.{LacksMemory, Tells};
 
-use crate::refusal::send_line;
+use crate::refusal::refuse_line;
 use crate::status::Status;
-use crate::telling::{NO_MEMORY, NO_READ, status_sent, tell};
+use crate::telling::{NO_MEMORY, NO_READ, tell};
 use lz_core::World;
 use lz_rehearsal::{Line, RehearsalFault, Script, ScriptFault, rehearse};
 use lz_slot::Format;
-use std::alloc::Global;
+use std::alloc::{AllocError, Global};
 use std::io::{Read, Write};
 
 /// Reads a script, rehearses it on a new set of so many slots and buckets in a file of this format, and writes what is seen as it comes. Refused, with
@@ -57,11 +60,22 @@ fn rehearse_lines<W: Write + Drop>(
     ensures { IsRehearsal (record { slots = slots; buckets = buckets; passes = most_passes }) format lines.now result (W.contents writer.old) (W.contents writer.new)
         ⊎ LacksMemory (W.contents writer.old) (W.contents writer.new) result }
 {
-    let Ok(world) = World::new(alloc, slots, buckets, format) else {
-        return tell(writer, Status::Failed, NO_MEMORY);
-    };
-    let mut world = world;
-    match rehearse(alloc, &mut world, lines, writer) {
+    match World::new(alloc, slots, buckets, format) {
+        Ok(mut world) => rehearse_world(alloc, &mut world, lines, writer),
+        Err(AllocError) => tell(writer, Status::Failed, NO_MEMORY),
+    }
+}
+
+// Rehearses the lines on this world.
+fn rehearse_world<W: Write + Drop>(
+    alloc: Global,
+    world: &mut World,
+    lines: &[Line],
+    writer: &mut W,
+) -> Status
+    ensures { (shape : Shape) (format : AFormat) → IsNew shape format world.old → IsRehearsal shape format lines.now result (W.contents writer.old) (W.contents writer.new) }
+{
+    match rehearse(alloc, world, lines, writer) {
         Ok(()) => Status::Done,
         Err(fault) => tell_fault(writer, fault),
     }
@@ -76,11 +90,4 @@ fn tell_fault<W: Write + Drop>(writer: &mut W, fault: RehearsalFault) -> Status
         RehearsalFault::Write => Status::Failed,
         RehearsalFault::Memory => tell(writer, Status::Failed, NO_MEMORY),
     }
-}
-
-// Tells the line with which an input or a rehearsal was refused.
-fn refuse_line<W: Write>(writer: &mut W, number: u64) -> Status
-    ensures { Tells (W.contents writer.old) (W.contents writer.new) (line_text number) Status.Refused result }
-{
-    status_sent(send_line(writer, b"line ", number), Status::Refused)
 }

@@ -10,13 +10,12 @@ ghost use Rattle.lz_vault.specs.Renewals.{IsToldFirst, OnlySyncs};
 ghost use Rattle.lazyset_commands.specs.Renewals.{IsRenewal, new_number_text, old_text, renewal_status, renewal_text};
 ghost use Rattle.lazyset_commands.specs.Tellings.{Tells};
 
-use crate::refusal::{send_line, send_two};
+use crate::refusal::{send_line, send_slots, send_two};
 use crate::status::Status;
 use crate::telling::status_sent;
-use crate::{making, running};
+use crate::{making, refusal};
 use lz_disk::Disk;
 use lz_proto::SessionFault;
-use lz_slot::Slot;
 use lz_vault::{MakeFault, OpenFault, RenewFault, renew};
 use std::alloc::Global;
 use std::io::Write;
@@ -64,7 +63,7 @@ fn status_of(answer: &Result<u64, RenewFault>) -> Status
 {
     match answer {
         Ok(_) => Status::Done,
-        Err(RenewFault::Old(fault)) => running::status_of(*fault),
+        Err(RenewFault::Old(fault)) => refusal::status_of(*fault),
         Err(RenewFault::New(fault)) => making::status_of(*fault),
         Err(RenewFault::TooSmall(_, _)) => Status::Refused,
     }
@@ -98,20 +97,9 @@ fn send_old<W: Write>(writer: &mut W, fault: OpenFault) -> Result<(), SessionFau
     let numbered = fault;
     match fault {
         OpenFault::BadKey(slot) => send_line(writer, b"refused old 5 ", u64::from(slot.index())),
-        OpenFault::Twice(first, second) => send_twice(writer, first, second),
+        OpenFault::Twice(first, second) => send_slots(writer, b"refused old 6 ", first, second),
         _ => send_line(writer, b"refused old ", u64::from(numbered.number())),
     }
-}
-
-fn send_twice<W: Write>(writer: &mut W, first: Slot, second: Slot) -> Result<(), SessionFault>
-    ensures { SendTells (W.contents writer.old) (W.contents writer.new) (old_text (OpenFault.Twice first second)) result }
-{
-    send_two(
-        writer,
-        b"refused old 6 ",
-        u64::from(first.index()),
-        u64::from(second.index()),
-    )
 }
 
 fn send_new<W: Write>(writer: &mut W, fault: MakeFault) -> Result<(), SessionFault>

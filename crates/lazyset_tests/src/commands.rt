@@ -1,5 +1,5 @@
 //! The commands over a disk in memory.
-use lazyset_commands::{make_on, run_set_on};
+use lazyset_commands::{make_on, run_on};
 use lz_disk::MemoryDisk;
 use lz_slot::Format;
 use std::alloc::{AllocError, Global};
@@ -37,7 +37,7 @@ pub struct Ran {
 pub fn run<R: Wait + AllocGlobal>(rt: &R, disk: MemoryDisk, lines: &[u8]) -> Ran {
     let mut input = lines;
     let mut printed: Vec<u8> = Vec::new(rt.alloc());
-    let (status, disk) = run_set_on(rt, &mut input, &mut printed, disk, 1);
+    let (status, disk) = run_on(rt, &mut input, &mut printed, disk, 1);
     Ran {
         code: status.code(),
         printed,

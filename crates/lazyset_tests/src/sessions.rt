@@ -1,6 +1,6 @@
 //! Where a reader or a writer of a run fails, or is interrupted.
 use crate::commands::{TWO_SLOTS, disk_with};
-use lazyset_commands::run_set_on;
+use lazyset_commands::run_on;
 use lazyset_testing::{Narrow, Slow};
 use std::alloc::AllocError;
 use std::io;
@@ -32,7 +32,7 @@ fn a_failed_read_ends_the_run(rt: HostRuntime) -> Result<(), Fail> {
             };
             let mut output: Vec<u8> = Vec::new(rt.alloc());
             let disk = disk_with(rt.alloc(), &TWO_SLOTS)?;
-            let (status, _disk) = run_set_on(&rt, &mut reader, &mut output, disk, 1);
+            let (status, _disk) = run_on(&rt, &mut reader, &mut output, disk, 1);
             let is_told = REPLIES.get(lines).copied() == Some(output.as_slice());
             assert!(rt; status.code() == 1 && is_told, "after {count} bytes");
         }
@@ -48,7 +48,7 @@ fn a_failed_write_ends_the_run(rt: HostRuntime) -> Result<(), Fail> {
         let mut input = b"add 17\nadd 18\nadd 19\n".as_slice();
         let mut writer = Narrow::new(rt.alloc(), room);
         let disk = disk_with(rt.alloc(), &TWO_SLOTS)?;
-        let (status, disk) = run_set_on(&rt, &mut input, &mut writer, disk, 1);
+        let (status, disk) = run_on(&rt, &mut input, &mut writer, disk, 1);
         assert_eq!(rt; status.code(), 1);
         assert_eq!(rt; Some(writer.taken.as_slice()), replies.get(..room));
         assert_eq!(rt; disk.bytes().len(), 48);
@@ -139,7 +139,7 @@ fn ends_when_interrupted<R: Wait + AllocGlobal>(
         fault: write_fault,
     };
     let disk = disk_with(rt.alloc(), &TWO_SLOTS)?;
-    let (status, _disk) = run_set_on(rt, &mut reader, &mut writer, disk, 1);
+    let (status, _disk) = run_on(rt, &mut reader, &mut writer, disk, 1);
     Ok((status.code(), writer.taken))
 }
 

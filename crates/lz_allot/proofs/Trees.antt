@@ -1,5 +1,5 @@
 -- The tree of free slots: a leaf that is set, and the walk down to the lowest true one.
-use Rattle.std.proofs.Common.{◌≡◌, ◌≢◌, ⊎_elim, ℕ, zero, suc, ◌+◌, ◌*◌, ◌^◌, ◌/◌, ◌-◌, ◌<◌, ◌≤◌, Bool, true, false, ◌||◌, List, [], ◌∷◌, length, get_or, take, drop, set, refl, sym, ◌∙◌, ap, arith, Some, None, get_or-set_same, get_or-set_other, length-take, length-drop}
+use Rattle.std.proofs.Common.{◌≡◌, ◌≢◌, ⊎_elim, ℕ, zero, suc, ◌+◌, ◌*◌, ◌^◌, ◌/◌, ◌-◌, ◌<◌, ◌≤◌, Bool, true, false, ◌||◌, List, [], ◌∷◌, length, get_or, take, drop, set, refl, sym, ◌∙◌, ap, arith, Some, None, get_or-set_other, length-take, length-drop}
 use Rattle.std.specs.List.{position, position_or_len}
 use Rattle.std.proofs.lemmas.List.{get_or-take, get_or-drop, drop-set-add}
 use Rattle.std.proofs.lemmas.List.Sums.{position_or_len_is}
@@ -15,27 +15,6 @@ node_other nodes j k b other = get_or-set_other nodes j k b false other
 pub joined_other : (nodes : List Bool) (j k : ℕ) (b : Bool) → k ≢ j → 2 * k ≢ j → 2 * k + 1 ≢ j → IsJoined nodes k → IsJoined (set nodes j b) k
 joined_other nodes j k b other left right joined =
     rw (node_other nodes j k b other, node_other nodes j (2 * k) b left, node_other nodes j (2 * k + 1) b right) joined
-
--- after a leaf was set, all nodes are joined but the one above it
-pub joined_but_above : (nodes : List Bool) (width slots leaf : ℕ) (b : Bool) → IsTree nodes width slots → width ≤ leaf
-    → (k : ℕ) → 1 ≤ k → k < width → k ≢ leaf / 2 → IsJoined (set nodes leaf b) k
-joined_but_above nodes width slots leaf b tree low k least high above =
-    joined_other nodes leaf k b (λ same. absurd (omega arith)) (λ same. above (omega arith)) (λ same. above (omega arith)) (tree.joined k least high)
-
--- and once that one is joined, all but the one above that
-pub joined_up : (nodes : List Bool) (width node : ℕ) (b : Bool) → 1 ≤ node → node < length nodes
-    → b ≡ (node_at nodes (2 * node) || node_at nodes (2 * node + 1))
-    → ((k : ℕ) → 1 ≤ k → k < width → k ≢ node → IsJoined nodes k)
-    → (k : ℕ) → 1 ≤ k → k < width → k ≢ node / 2 → IsJoined (set nodes node b) k
-joined_up nodes width node b least inside is joined k low high above =
-    ⊎_elim
-    (λ same.
-    let left : 2 * k ≢ node = (λ e. absurd (omega arith)) in
-    let right : 2 * k + 1 ≢ node = (λ e. absurd (omega arith)) in
-    let here : node_at (set nodes node b) k ≡ b = ap (node_at (set nodes node b)) same ∙ get_or-set_same nodes node b false inside in
-    rw (here, node_other nodes node (2 * k) b left, node_other nodes node (2 * k + 1) b right, same) is)
-    (λ other. joined_other nodes node k b other (λ e. above (omega arith)) (λ e. above (omega arith)) (joined k low high other))
-    (cases_eq k node)
 
 -- what a tree shows after a leaf was set
 pub shows_set : (old nodes : List Bool) (width slots s : ℕ) (b : Bool) → s < slots → drop width nodes ≡ drop width (set old (width + s) b)

@@ -1,4 +1,2 @@
 pub mod WalkerLemma
 pub mod GlanceAnswer
-pub mod Rest
-pub mod CallWay

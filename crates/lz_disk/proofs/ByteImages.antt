@@ -1,7 +1,7 @@
 -- What a crash leaves that puts one byte at each loose position.
 use Rattle.std.proofs.Common.{◌≡◌, ◌⊎◌, inl, inr, ⊎_elim, ℕ, zero, suc, ◌+◌, ◌-◌, ◌≤◌, ◌<◌, min, Bool, true, false, List, [], ◌∷◌, ◌++◌, length, get_or, take, drop, replicate, if◌then◌else◌, sym, refl, ◌∙◌, ap, arith}
 use Rattle.std.proofs.lemmas.Bool.{cases_lt}
-use Rattle.std.proofs.lemmas.List.{get_or-replicate, length-replicate, take_more, take_all, drop-drop}
+use Rattle.std.proofs.lemmas.List.{get_or-replicate, length-replicate, take_more, drop-drop}
 use borrow.Rule.Slice.PartMut.{put_mid}
 use Rattle.std.proofs.lemmas.Grind.{same_number_lists}
 use Rattle.lz_disk.specs.Images.{Medium, IsImage, IsConsistent, AreBytes, is_loose, overwritten}
@@ -133,9 +133,6 @@ part_filled ranges h at n low high text part is_low is_high is_part =
 pub record IsFilling (changes : List Record) (byte left : ℕ) (old text : List ℕ) : Type 0 where
   pub within : left ≤ length changes
   pub same : (start : List ℕ) → with_loose (after start (take left changes)).loose byte 0 text ≡ with_loose (after start changes).loose byte 0 old
-
-pub filling_begins : (changes : List Record) (byte left : ℕ) (old : List ℕ) → left ≡ length changes → IsFilling changes byte left old old
-filling_begins changes byte left old is = record { within = omega arith; same = λ start. ap (λ (l : List Record). with_loose (after start l).loose byte 0 old) (take_all left changes (omega arith)) }
 
 last_change : (changes : List Record) (left i : ℕ) (r : Record) → left ≡ i + 1 → left ≤ length changes → r ≡ get_or changes i r → (start : List ℕ) → after start (take left changes) ≡ after_record (after start (take i changes)) r
 last_change changes left i r on within is start =

@@ -138,6 +138,17 @@ open_read (word ∷ words) = if is_word word (codes "fault") then fault_read wor
 abbrev pub show_read : List (List ℕ) → Option Line
 show_read words = option_map (λ keys. Other) (keys_from 0 words)
 
+-- what a line of this kind says with the words behind, where it is no call's and no call's end
+abbrev pub other_read : List ℕ → List (List ℕ) → Option Line
+other_read kind words =
+    if is_word kind (codes "stop") then at_end (Seen mark.Stop) words
+    else if is_word kind (codes "crash") then at_end (Seen mark.Crash) words
+    else if is_word kind (codes "open") then open_read words
+    else if is_word kind (codes "show") then show_read words
+    else if is_word kind (codes "busy") then busy_read words
+    else if is_word kind (codes "point") then point_read words
+    else None
+
 -- what a line of this kind says with the words behind
 abbrev pub kind_read : List ℕ → List (List ℕ) → Option Line
 kind_read kind words =
@@ -146,13 +157,7 @@ kind_read kind words =
     else if is_word kind (codes "refused") then refused_read words
     else if is_word kind (codes "halted") then cut_read Halted words
     else if is_word kind (codes "device") then cut_read Device words
-    else if is_word kind (codes "stop") then at_end (Seen mark.Stop) words
-    else if is_word kind (codes "crash") then at_end (Seen mark.Crash) words
-    else if is_word kind (codes "open") then open_read words
-    else if is_word kind (codes "show") then show_read words
-    else if is_word kind (codes "busy") then busy_read words
-    else if is_word kind (codes "point") then point_read words
-    else None
+    else other_read kind words
 
 -- what a line says
 abbrev pub line_read : List ℕ → Option Line

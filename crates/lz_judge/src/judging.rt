@@ -32,20 +32,43 @@ pub fn judge(alloc: Global, history: &History) -> Result<Result<(), Flaw>, Alloc
     let points = history.points();
     let census = take_census(alloc, marks)?;
     let places = read_places(alloc, points)?;
-    if let Some(flaw) = flaw_of_points(alloc, marks, points, &census, &places)? {
+    if let Some(flaw) = first_flaw(alloc, marks, points, &census, &places)? {
         return Ok(Err(flaw));
     }
-    if let Some(call) = misordered(alloc, marks, &places)? {
-        return Ok(Err(Flaw::Misordered(call)));
+    Ok(Ok(()))
+}
+
+// The flaw that is told, if there is one.
+fn first_flaw(
+    alloc: Global,
+    marks: &[Mark],
+    points: &[Point],
+    census: &Census,
+    places: &BTreeMap<u64, u64>,
+) -> Result<Option<Flaw>, AllocError>
+    requires lawful { IsLawful (reverse marks.now) }
+    requires low { ArePlaces (reverse points.now) }
+    requires census { IsCensus (reverse marks.now) census.now.calls census.now.answers }
+    requires places { HasPlaces (reverse points.now) places.now }
+    ensures ordered { IfOk result (λ found. found ≡ None → (T : Keys) × OrderedChain (IsPoint (reverse points.now)) (lives (members []) (reverse marks.now)) T) }
+    ensures flaw { IfOk result (λ found. IfSome found (λ flaw. IsFlaw (record { marks = reverse marks.now; points = reverse points.now }) flaw)) }
+    ensures first { IfOk result (λ found. IfSome found (IsFirstKind (record { marks = reverse marks.now; points = reverse points.now }))) }
+    ensures flawless { IfOk result (λ found. found ≡ None → (flaw : AFlaw) → ¬ IsFlaw (record { marks = reverse marks.now; points = reverse points.now }) flaw) }
+{
+    if let Some(flaw) = flaw_of_points(alloc, marks, points, census, places)? {
+        return Ok(Some(flaw));
     }
-    let play = play_lives(alloc, marks, &places, &census.answers)?;
+    if let Some(call) = misordered(alloc, marks, places)? {
+        return Ok(Some(Flaw::Misordered(call)));
+    }
+    let play = play_lives(alloc, marks, places, &census.answers)?;
     if let Some(call) = play.wrong_reply {
-        return Ok(Err(Flaw::WrongReply(call)));
+        return Ok(Some(Flaw::WrongReply(call)));
     }
     if let Some(open) = play.wrong_set {
-        return Ok(Err(Flaw::WrongSet(open)));
+        return Ok(Some(Flaw::WrongSet(open)));
     }
-    Ok(Ok(()))
+    Ok(None)
 }
 
 // What is wrong with which calls have points.

@@ -1,9 +1,9 @@
 //! One line of a history.
-ghost use Rattle.std.specs.Prelude.{◌≡◌, ◌≤◌, ◌∷◌, ℕ, IfOk, IfSome, option_map};
+ghost use Rattle.std.specs.Prelude.{◌≡◌, ◌≤◌, ◌∷◌, ℕ, IfOk, IfSome, Some, option_and_then, option_map};
 ghost use Rattle.lz_slot.specs.Numerals.{largest_read, number_in};
 ghost use Rattle.lz_judge.specs.Limits.{most_actors};
 ghost use Rattle.lz_judge.specs.Lines.{IsLow};
-ghost use Rattle.lz_judge.specs.LinesRead.{answer_read, answered_read, at_end, busy_read, call_read, command_named, cut_read, fault_read, key_from, key_named, keys_from, line_read, open_read, point_read, refusal_read, refused_read, show_read, take_word, words_behind, words_of};
+ghost use Rattle.lz_judge.specs.LinesRead.{is_word, answer_read, answered_read, at_end, busy_read, call_read, command_named, cut_read, fault_read, key_from, key_named, keys_from, line_read, open_read, other_read, point_read, refusal_read, refused_read, show_read, take_word, words_behind, words_of};
 
 use crate::history::Point;
 use crate::limits::{MAX_PLACE, MOST_ACTORS, MOST_FAULTS};
@@ -22,11 +22,11 @@ pub enum Line {
 
 // A kind of line is known by its first word. Each kind is one line.
 macro_rules! kinds {
-    ($kind:ident; $($name:literal => $read:expr;)*) => {{
-        $(if $kind == $name.as_slice() {
+    ($kind:ident; $($name:literal => $read:expr;)* _ => $other:expr) => {{
+        $(if is_word($kind, $name) {
             return $read;
         })*
-        Ok(None)
+        $other
     }};
 }
 
@@ -42,12 +42,23 @@ pub fn read_line(alloc: Global, line: &[u8]) -> Result<Option<Line>, AllocError>
         b"refused" => Ok(read_refused(rest));
         b"halted" => Ok(read_cut(rest, Cut::Halted));
         b"device" => Ok(read_cut(rest, Cut::Device));
-        b"stop" => Ok(read_end(rest, Line::Seen(Mark::Stop)));
-        b"crash" => Ok(read_end(rest, Line::Seen(Mark::Crash)));
-        b"open" => read_open(alloc, rest);
-        b"show" => read_show(alloc, rest);
-        b"busy" => Ok(read_busy(rest));
-        b"point" => Ok(read_point(rest));
+        _ => read_other(alloc, kind, rest)
+    }
+}
+
+// What a line says that is no call's and no call's end.
+fn read_other(alloc: Global, kind: &[u8], text: Option<&[u8]>) -> Result<Option<Line>, AllocError>
+    ensures low { IfOk result (λ read. IfSome read IsLow) }
+    ensures says { IfOk result (λ read. read ≡ other_read kind.now (words_behind text.entry)) }
+{
+    kinds! { kind;
+        b"stop" => Ok(read_end(text, Line::Seen(Mark::Stop)));
+        b"crash" => Ok(read_end(text, Line::Seen(Mark::Crash)));
+        b"open" => read_open(alloc, text);
+        b"show" => read_show(alloc, text);
+        b"busy" => Ok(read_busy(text));
+        b"point" => Ok(read_point(text));
+        _ => Ok(None)
     }
 }
 
@@ -61,16 +72,42 @@ fn split_word(text: &[u8]) -> (&[u8], Option<&[u8]>)
     }
 }
 
+fn is_word(word: &[u8], name: &[u8]) -> bool
+    ensures { result ≡ is_word word.now name.now }
+{
+    word == name
+}
+
+// The next word, and what stands behind it.
+fn next_word(text: Option<&[u8]>) -> Option<(&[u8], Option<&[u8]>)>
+    ensures { option_map (λ r. (r.0.now, words_behind r.1)) result ≡ take_word (λ word. Some word) (words_behind text.entry) }
+{
+    match text {
+        Some(text) => Some(split_word(text)),
+        None => None,
+    }
+}
+
 fn read_call(text: Option<&[u8]>) -> Option<Line>
     ensures low { IfSome result IsLow }
     ensures says { result ≡ call_read (words_behind text.entry) }
 {
-    let (call, text) = read_call_number(text)?;
-    let (actor, text) = read_actor(text)?;
-    let (name, text) = split_word(text?);
-    let (word, text) = split_word(text?);
-    let mark = Mark::Call(call, actor, command_of(name, key_of(word)?)?);
-    read_end(text, Line::Seen(mark))
+    let Some((call, text)) = read_call_number(text) else {
+        return None;
+    };
+    let Some((actor, text)) = read_number(text, 1, MOST_ACTORS) else {
+        return None;
+    };
+    let Some((name, text)) = next_word(text) else {
+        return None;
+    };
+    let Some((word, text)) = next_word(text) else {
+        return None;
+    };
+    let Some(command) = command_of(name, word) else {
+        return None;
+    };
+    read_end(text, Line::Seen(Mark::Call(call, actor as usize, command)))
 }
 
 // The key that a word spells.
@@ -83,16 +120,20 @@ fn key_of(word: &[u8]) -> Option<Key>
     }
 }
 
-fn command_of(name: &[u8], key: Key) -> Option<Command>
-    ensures { result ≡ command_named name.now key }
+// The command of this name on the key that the word spells.
+fn command_of(name: &[u8], word: &[u8]) -> Option<Command>
+    ensures { result ≡ option_and_then (λ key. command_named name.now key) (key_named word.now) }
 {
-    if name == b"add".as_slice() {
+    let Some(key) = key_of(word) else {
+        return None;
+    };
+    if is_word(name, b"add") {
         return Some(Command::Add(key));
     }
-    if name == b"remove".as_slice() {
+    if is_word(name, b"remove") {
         return Some(Command::Remove(key));
     }
-    if name == b"has".as_slice() {
+    if is_word(name, b"has") {
         return Some(Command::Has(key));
     }
     None
@@ -102,19 +143,25 @@ fn read_answer(text: Option<&[u8]>) -> Option<Line>
     ensures low { IfSome result IsLow }
     ensures says { result ≡ answered_read (words_behind text.entry) }
 {
-    let (call, text) = read_call_number(text)?;
-    let (word, text) = split_word(text?);
-    let answer = answer_of(word)?;
+    let Some((call, text)) = read_call_number(text) else {
+        return None;
+    };
+    let Some((word, text)) = next_word(text) else {
+        return None;
+    };
+    let Some(answer) = answer_of(word) else {
+        return None;
+    };
     read_end(text, Line::Seen(Mark::Answer(call, answer)))
 }
 
 fn answer_of(word: &[u8]) -> Option<bool>
     ensures { result ≡ answer_read word.now }
 {
-    if word == b"yes".as_slice() {
+    if is_word(word, b"yes") {
         return Some(true);
     }
-    if word == b"no".as_slice() {
+    if is_word(word, b"no") {
         return Some(false);
     }
     None
@@ -124,22 +171,28 @@ fn read_refused(text: Option<&[u8]>) -> Option<Line>
     ensures low { IfSome result IsLow }
     ensures says { result ≡ refused_read (words_behind text.entry) }
 {
-    let (call, text) = read_call_number(text)?;
-    let (word, text) = split_word(text?);
-    let why = refusal_of(word)?;
+    let Some((call, text)) = read_call_number(text) else {
+        return None;
+    };
+    let Some((word, text)) = next_word(text) else {
+        return None;
+    };
+    let Some(why) = refusal_of(word) else {
+        return None;
+    };
     read_end(text, Line::Seen(Mark::Refused(call, why)))
 }
 
 fn refusal_of(word: &[u8]) -> Option<Refusal>
     ensures { result ≡ refusal_read word.now }
 {
-    if word == b"full".as_slice() {
+    if is_word(word, b"full") {
         return Some(Refusal::Full);
     }
-    if word == b"worn".as_slice() {
+    if is_word(word, b"worn") {
         return Some(Refusal::Worn);
     }
-    if word == b"oldfile".as_slice() {
+    if is_word(word, b"oldfile") {
         return Some(Refusal::OldFile);
     }
     None
@@ -149,7 +202,9 @@ fn read_cut(text: Option<&[u8]>, why: Cut) -> Option<Line>
     ensures low { IfSome result IsLow }
     ensures says { result ≡ cut_read why (words_behind text.entry) }
 {
-    let (call, text) = read_call_number(text)?;
+    let Some((call, text)) = read_call_number(text) else {
+        return None;
+    };
     read_end(text, Line::Seen(Mark::Cut(call, why)))
 }
 
@@ -157,7 +212,9 @@ fn read_busy(text: Option<&[u8]>) -> Option<Line>
     ensures low { IfSome result IsLow }
     ensures says { result ≡ busy_read (words_behind text.entry) }
 {
-    let (_, text) = read_actor(text)?;
+    let Some((_, text)) = read_number(text, 1, MOST_ACTORS) else {
+        return None;
+    };
     read_end(text, Line::Other)
 }
 
@@ -165,8 +222,12 @@ fn read_point(text: Option<&[u8]>) -> Option<Line>
     ensures low { IfSome result IsLow }
     ensures says { result ≡ point_read (words_behind text.entry) }
 {
-    let (call, text) = read_call_number(text)?;
-    let (place, text) = read_number(text, 0, MAX_PLACE)?;
+    let Some((call, text)) = read_call_number(text) else {
+        return None;
+    };
+    let Some((place, text)) = read_number(text, 0, MAX_PLACE) else {
+        return None;
+    };
     read_end(text, Line::Placed(Point { call, place }))
 }
 
@@ -176,7 +237,7 @@ fn read_open(alloc: Global, text: Option<&[u8]>) -> Result<Option<Line>, AllocEr
 {
     if let Some(words) = text {
         let (word, rest) = split_word(words);
-        if word == b"fault".as_slice() {
+        if is_word(word, b"fault") {
             return Ok(read_fault(rest));
         }
     }
@@ -190,7 +251,9 @@ fn read_fault(text: Option<&[u8]>) -> Option<Line>
     ensures low { IfSome result IsLow }
     ensures says { result ≡ fault_read (words_behind text.entry) }
 {
-    let (fault, text) = read_number(text, 1, MOST_FAULTS)?;
+    let Some((fault, text)) = read_number(text, 1, MOST_FAULTS) else {
+        return None;
+    };
     read_end(text, Line::Seen(Mark::OpenFailed(fault as u8)))
 }
 
@@ -223,20 +286,18 @@ fn read_call_number(text: Option<&[u8]>) -> Option<(u64, Option<&[u8]>)>
     read_number(text, 1, u64::MAX)
 }
 
-fn read_actor(text: Option<&[u8]>) -> Option<(usize, Option<&[u8]>)>
-    ensures { option_map (λ r. (r.0, words_behind r.1)) result ≡ take_word (number_in 1 most_actors) (words_behind text.entry) }
-{
-    let (actor, rest) = read_number(text, 1, MOST_ACTORS)?;
-    Some((actor as usize, rest))
-}
-
 // The number from low up to high that the next word is, and what stands behind it.
 fn read_number(text: Option<&[u8]>, low: u64, high: u64) -> Option<(u64, Option<&[u8]>)>
     ensures words { option_map (λ r. (r.0, words_behind r.1)) result ≡ take_word (number_in low high) (words_behind text.entry) }
     ensures range { IfSome result (λ r. r.0 ≤ high) }
 {
-    let (word, rest) = split_word(text?);
-    Some((lz_slot::read_number(word, low, high)?, rest))
+    let Some((word, rest)) = next_word(text) else {
+        return None;
+    };
+    let Some(number) = lz_slot::read_number(word, low, high) else {
+        return None;
+    };
+    Some((number, rest))
 }
 
 // The keys that the words are, strictly ascending; none where they aren't.
@@ -262,9 +323,8 @@ fn read_keys(alloc: Global, text: Option<&[u8]>) -> Result<Option<Vec<Key>>, All
 fn key_from(word: &[u8], least: u64) -> Option<Key>
     ensures { result ≡ key_from least word.now }
 {
-    let key = key_of(word)?;
-    if key.rank() < least {
-        return None;
+    match key_of(word) {
+        Some(key) if key.rank() >= least => Some(key),
+        _ => None,
     }
-    Some(key)
 }

@@ -3,7 +3,6 @@ pub mod Shape
 pub mod CallerTable
 pub mod NextEvent
 pub mod Course
-pub mod SlotCount
 pub mod EventRange
 pub mod Twins
 pub mod EventOrder

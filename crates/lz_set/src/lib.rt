@@ -2,7 +2,8 @@
 //!
 //! A set is opened over a device, and hands out as many passes as were asked for. A thread with a pass of its own calls `add`,
 //! `remove` and `has`; the calls of several passes overlap. Each walks along the list by loads that take no lock, and every
-//! other event of it is one hold of the lock. A sync goes behind the callers that wait for that lock, and covers what they write.
+//! other event of it is one hold of the lock, which is kept from one to the next where no gate watches. A sync waits until all
+//! calls that run have come to one of theirs, and covers what they wrote.
 //! `glance` looks up without any lock. A program's work stands in a function
 //! generic in the set's name, which is called with std's `Brand`:
 //!

@@ -25,7 +25,7 @@ ghost use Rattle.lz_set.specs.Names.{MayCall};
 use crate::blank::Blank;
 use crate::fault::Fault;
 use crate::gate::StepGate;
-use crate::group_commit::GroupCommit;
+use crate::group_commit::{GroupCommit, Stay};
 use lz_board::{Board, Glance, GlanceFault, Pass};
 use lz_caller::Caller;
 use lz_disk::Disk;
@@ -37,10 +37,7 @@ use lz_vault::{OpenFault, Refused};
 use lz_yard::Yard;
 use std::alloc::Global;
 use std::marker::Brand;
-use std::sync::{Condvar, Mutex, MutexGuard, Wait};
-
-// How many holds others may have before a sync, for each pass: those of a whole addition.
-const HOLDS_OF_A_CALL: usize = 16;
+use std::sync::{Mutex, MutexGuard, Wait};
 
 /// A set that threads share, which N names.
 #[derive(Drop)]
@@ -48,7 +45,6 @@ pub struct Set<D: Disk, G: StepGate, N: Named> {
     gate: G,
     pub(crate) board: Board,
     pub(crate) locked: Mutex<Locked<N, D>>,
-    freed: Condvar,
     commits: GroupCommit,
     buckets: usize,
     passes: usize,
@@ -106,7 +102,6 @@ impl<D: Disk, G: StepGate, N: Named> Set<D, G, N> {
             gate,
             board,
             locked: Mutex::new(locked),
-            freed: Condvar::new(),
             commits: GroupCommit::new(),
             buckets,
             passes,
@@ -164,44 +159,58 @@ impl<D: Disk, G: StepGate, N: Named> Set<D, G, N> {
         self.board.meet(one, other);
     }
 
-    // Plays one call: its first hold, then a load or a hold for each event, until it has its reply.
+    // Plays one call: its first hold, then a load or a hold for each event, until it has its reply. Where no gate watches, the
+    // lock is kept from one hold to the next, up to a load or a wait.
     fn call<R: Wait>(&self, rt: &R, pass: &mut Pass, command: Command) -> Result<bool, Fault>
         requires pass { MayCall N.board pass.old }
         ensures pass { MayCall N.board pass.new }
         ensures answers { Answers command (reply_of result) (part pass.old) (part pass.new) }
         ensures plain { N.board.sizes.passes ≡ 1 → IsPlainAnswer N.format N.board.sizes.slots command (reply_of result) (keys_in (part pass.old).known) (keys_in (part pass.new).known) }
     {
-        let mut group = self.commits.group();
-        let mut caller = self.begin(rt, pass, command);
+        // A lookup writes nothing, so no sync waits for it.
+        let changes = !matches!(command, Command::Has(_));
+        let mut stay = self.commits.come(changes);
+        if changes {
+            self.commits.run(&mut stay);
+        }
+        let mut caller = self.begin(rt, pass, command, &mut stay);
+        let mut kept = None;
         for _ in rt.forever() {
             if let Some(reply) = caller.reply() {
-                self.answer(rt, pass, &caller, reply);
+                self.answer(rt, pass, &caller, reply, kept, &mut stay);
                 return answer_of(reply);
             }
-            self.go_on(rt, pass, &mut caller, &mut group);
+            kept = self.go_on(rt, pass, &mut caller, kept, &mut stay);
         }
         unreachable!()
     }
 
     // The first hold of a call: it is made, and goes inside. One that the file's format refuses goes nowhere.
-    fn begin<R: Wait>(&self, rt: &R, pass: &mut Pass, command: Command) -> Caller
+    fn begin<R: Wait>(&self, rt: &R, pass: &mut Pass, command: Command, stay: &mut Stay) -> Caller
         requires pass { MayCall N.board pass.old }
         ensures pass { IsOf N.board pass.new }
         ensures counts { Counts N.board command N.format (part pass.old) result (part pass.new) }
     {
-        let mut locked = self.commits.lock(rt, &self.locked);
+        let mut locked = self.lock(rt, stay);
         let mut caller = locked.begin(&self.board, pass, command, self.buckets, self.passes);
         if caller.reply().is_some() {
             return caller;
         }
         locked.turn_on(&self.board, pass, &mut caller);
-        drop(locked);
-        self.tell(rt, pass.number(), Kind::Pin);
+        // A load comes next.
+        self.unlock(rt, pass.number(), Kind::Pin, locked, stay);
         caller
     }
 
-    // One more event of a call that isn't about to answer, whose last write was in this group.
-    fn go_on<R: Wait>(&self, rt: &R, pass: &mut Pass, caller: &mut Caller, group: &mut usize)
+    // One more event of a call that isn't about to answer.
+    fn go_on<'a, R: Wait>(
+        &'a self,
+        rt: &R,
+        pass: &mut Pass,
+        caller: &mut Caller,
+        kept: Option<MutexGuard<'a, Locked<N, D>>>,
+        stay: &mut Stay,
+    ) -> Option<MutexGuard<'a, Locked<N, D>>>
         requires pass { IsOf N.board pass.old }
         requires counted { IsCounted N.board caller.old (part pass.old) }
         requires going { reply_at caller.old.progress ≡ None }
@@ -213,22 +222,26 @@ impl<D: Disk, G: StepGate, N: Named> Set<D, G, N> {
         let kind = event.kind();
         match loaded_by(looked) {
             Some(word) => {
+                drop(kept);
+                self.commits.wake(stay);
                 load_next(&self.board, pass, caller, word);
+                self.gate.after(rt, pass.number(), kind);
+                None
             }
-            None => self.hold(rt, pass, caller, kind, group),
+            None => self.hold(rt, pass, caller, kind, kept, stay),
         }
-        self.tell(rt, pass.number(), kind);
     }
 
     // A hold of the call's next event, which is of this kind. Where it found a node lock taken, it waits until one was given back.
-    fn hold<R: Wait>(
-        &self,
+    fn hold<'a, R: Wait>(
+        &'a self,
         rt: &R,
         pass: &mut Pass,
         caller: &mut Caller,
         kind: Kind,
-        group: &mut usize,
-    )
+        kept: Option<MutexGuard<'a, Locked<N, D>>>,
+        stay: &mut Stay,
+    ) -> Option<MutexGuard<'a, Locked<N, D>>>
         requires pass { IsOf N.board pass.old }
         requires counted { IsCounted N.board caller.old (part pass.old) }
         requires load { hop_of (event_at (shape_with caller.old) caller.old.command caller.old.progress) ≡ None }
@@ -236,46 +249,93 @@ impl<D: Disk, G: StepGate, N: Named> Set<D, G, N> {
         ensures pass { IsOf N.board pass.new }
         ensures goes { (c : Asked) (format : Format) (before : Part) → Counts N.board c format before caller.old (part pass.old) → Counts N.board c format before caller.new (part pass.new) }
     {
-        let mut locked = self.lock_for(rt, kind, *group);
+        let mut locked = self.lock_for(rt, kind, kept, stay);
         let turn = locked.turn_on(&self.board, pass, caller);
         let is_busy = matches!(turn.outcome, Outcome::Busy);
-        self.leave(rt, locked, is_busy, kind, group);
+        self.leave(rt, pass.number(), kind, is_busy, locked, stay)
     }
 
-    // Takes the lock for an event of this kind: behind others, where it is a sync.
-    fn lock_for<R: Wait>(&self, rt: &R, kind: Kind, group: usize) -> MutexGuard<'_, Locked<N, D>> {
-        if matches!(kind, Kind::Sync) {
-            let most = self.passes.saturating_mul(HOLDS_OF_A_CALL);
-            return self.commits.lock_to_sync(rt, &self.locked, group, most);
+    // Takes the lock, where it wasn't kept. A call that a gate may hold runs only while it waits for the lock or has it.
+    fn lock<R: Wait>(&self, rt: &R, stay: &mut Stay) -> MutexGuard<'_, Locked<N, D>> {
+        if self.gate.watches() {
+            self.commits.run(stay);
         }
-        self.commits.lock(rt, &self.locked)
+        self.locked.lock(rt)
     }
 
-    // Gives the lock back behind an event of this kind.
-    fn leave<R: Wait>(
+    // Gives the lock back, and tells the gate of the event that was played.
+    fn unlock<R: Wait>(
         &self,
         rt: &R,
-        locked: MutexGuard<'_, Locked<N, D>>,
-        is_busy: bool,
+        pass: usize,
         kind: Kind,
-        group: &mut usize,
+        locked: MutexGuard<'_, Locked<N, D>>,
+        stay: &mut Stay,
     ) {
-        let closes = matches!(kind, Kind::Sync) && self.commits.close(*group);
-        if matches!(kind, Kind::WriteKey | Kind::WriteOpen | Kind::WriteClose) {
-            *group = self.commits.group();
+        if self.gate.watches() {
+            self.commits.rest(stay);
         }
-        if is_busy {
-            drop(self.freed.wait(rt, locked));
+        drop(locked);
+        self.commits.wake(stay);
+        self.gate.after(rt, pass, kind);
+    }
+
+    // The lock for an event of this kind: for a sync once it has to wait for others no more.
+    fn lock_for<'a, R: Wait>(
+        &'a self,
+        rt: &R,
+        kind: Kind,
+        kept: Option<MutexGuard<'a, Locked<N, D>>>,
+        stay: &mut Stay,
+    ) -> MutexGuard<'a, Locked<N, D>> {
+        let locked = match kept {
+            Some(locked) => locked,
+            None => self.lock(rt, stay),
+        };
+        if matches!(kind, Kind::Sync) {
+            return self.commits.await_sync(rt, locked, stay, self.passes);
+        }
+        locked
+    }
+
+    // What follows an event of this kind. The lock is kept, unless the call has to wait for a node or a gate watches.
+    fn leave<'a, R: Wait>(
+        &'a self,
+        rt: &R,
+        pass: usize,
+        kind: Kind,
+        is_busy: bool,
+        locked: MutexGuard<'a, Locked<N, D>>,
+        stay: &mut Stay,
+    ) -> Option<MutexGuard<'a, Locked<N, D>>> {
+        match kind {
+            Kind::Sync => self.commits.close(stay),
+            Kind::WriteKey | Kind::WriteOpen | Kind::WriteClose => self.commits.write(stay),
+            Kind::Release | Kind::Halt => self.commits.free(),
+            _ => {}
+        }
+        let locked = if is_busy {
+            self.commits.await_node(rt, locked, stay)
         } else {
-            drop(locked);
+            locked
+        };
+        if self.gate.watches() {
+            self.unlock(rt, pass, kind, locked, stay);
+            return None;
         }
-        if closes {
-            self.commits.wake();
-        }
+        Some(locked)
     }
 
     // The last hold of a call.
-    fn answer<R: Wait>(&self, rt: &R, pass: &mut Pass, caller: &Caller, reply: Reply)
+    fn answer<'a, R: Wait>(
+        &'a self,
+        rt: &R,
+        pass: &mut Pass,
+        caller: &Caller,
+        reply: Reply,
+        kept: Option<MutexGuard<'a, Locked<N, D>>>,
+        stay: &mut Stay,
+    )
         requires pass { IsOf N.board pass.old }
         requires counted { IsCounted N.board caller.now (part pass.old) }
         requires reply { reply_at caller.now.progress ≡ Some reply }
@@ -284,19 +344,10 @@ impl<D: Disk, G: StepGate, N: Named> Set<D, G, N> {
         ensures plain { N.board.sizes.passes ≡ 1 → (c : Asked) (format : Format) (before : Part) → before.sizes ≡ N.board.sizes → Counts N.board c format before caller.now (part pass.old)
             → IsPlainAnswer format N.board.sizes.slots c reply (keys_in before.known) (keys_in (part pass.new).known) }
     {
-        let mut locked = self.commits.lock(rt, &self.locked);
+        let mut locked = self.lock_for(rt, Kind::Answer, kept, stay);
         locked.answer(&self.board, pass, caller, reply);
-        drop(locked);
-        self.tell(rt, pass.number(), Kind::Answer);
-    }
-
-    // Tells of an event that was played, while nobody is held up: callers that wait for a node, where it may have freed one,
-    // and the gate.
-    fn tell<R: Wait>(&self, rt: &R, pass: usize, kind: Kind) {
-        if matches!(kind, Kind::Release | Kind::Halt) {
-            self.freed.notify_all();
-        }
-        self.gate.after(rt, pass, kind);
+        self.commits.part(stay, self.passes);
+        self.unlock(rt, pass.number(), Kind::Answer, locked, stay);
     }
 }
 

@@ -16,7 +16,6 @@ use Rattle.lz_board.specs.declared.view.Part.{Part}
 use Rattle.lz_board.specs.Notes.{listed, trace_of, steps_of, Extends, Since, load_note, splice, Quiet, InOrder, IsShared, AllShown, pin_after_played, pin_after, pin_after_what, turned_at}
 use Rattle.lz_board.specs.Addresses.{word_at}
 use Rattle.lz_board.specs.Kept.{is_calling, shows_played, shows, Knows, PinTold}
-use Rattle.lz_machine.specs.Yards.{IsInside}
 use Rattle.lz_board.specs.Noting.{IsStep, MayNote, KeepsPin, MovesPin}
 use Rattle.lz_board.specs.Plays.{noted, noted_part, moved_part, knowing, loading, entering, found_note}
 use Rattle.lz_board.proofs.Upkeep.Splice.{trace_splice, own_step, other_step, steps_splice, steps_splice_other, quiet_more, quiet_splice, quiet_splice_other, pin_splice, turned_splice}

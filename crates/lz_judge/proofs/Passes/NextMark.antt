@@ -1,6 +1,6 @@
 -- One mark, or one point, more in a pass.
 use Rattle.std.proofs.Common.{◌≡◌, ◌≢◌, ◌⊎◌, inl, inr, ⊎_elim, ℕ, ◌+◌, ◌<◌, Bool, true, false, List, [], ◌∷◌, length, get_or, take, sym, refl, ◌∙◌, ap, subst, Option, Some, None, Result, Ok, Err}
-use Rattle.std.specs.Prelude.{reverse, IsSome, OnOk, is_some, not}
+use Rattle.std.specs.Prelude.{reverse, IfOk, IsSome, OnOk, is_some, not}
 use Rattle.std.specs.BTreeMap as tree
 use Rattle.std.specs.BTreeSet as set
 use Rattle.std.specs.BTreeMap.{BTreeMap}
@@ -18,8 +18,11 @@ use Rattle.lz_judge.specs.Records.{IsPoint}
 use Rattle.lz_judge.specs.Passes.{Strangers, RefusedOnes, UnlistedOnes}
 
 -- one element more of a list that is read newest first
+pub newest_at : {X : Type 0} (xs : List X) (i : ℕ) (d : X) → i < length xs → reverse (take (i + 1) xs) ≡ get_or xs i d ∷ reverse (take i xs)
+newest_at {X} xs i d lt = ap reverse (take_more xs i d lt) ∙ reverse-append (take i xs) (get_or xs i d ∷ [])
+
 pub newest_more : {X : Type 0} (xs : List X) (i : ℕ) (x : X) → i < length xs → x ≡ get_or xs i x → reverse (take (i + 1) xs) ≡ x ∷ reverse (take i xs)
-newest_more {X} xs i x lt is = ap reverse (take_more xs i x lt) ∙ reverse-append (take i xs) (get_or xs i x ∷ []) ∙ ap (λ (y : X). y ∷ reverse (take i xs)) (sym is)
+newest_more {X} xs i x lt is = newest_at xs i x lt ∙ ap (λ (y : X). y ∷ reverse (take i xs)) (sym is)
 
 -- what the lesser of two numbers is
 abbrev pub IsLesser : Option ℕ → ℕ → Option ℕ → Type 0
@@ -133,3 +136,7 @@ apart_bool false true is = λ same. cc
 pub on_ok : {T E : Type 0} (r : Result T E) (P : Type 0) → P → OnOk r P
 on_ok (Ok x) P p = p
 on_ok (Err e) P p = tt
+
+pub if_ok : {T E : Type 0} (r : Result T E) {P Q : T → Type 0} → ((x : T) → P x → Q x) → IfOk r P → IfOk r Q
+if_ok (Ok x) more p = more x p
+if_ok (Err e) more p = tt

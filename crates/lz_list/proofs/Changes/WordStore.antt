@@ -5,7 +5,6 @@ use Rattle.std.proofs.lemmas.Bool.{cases_eq}
 use Rattle.lz_list.specs.declared.place.Place.TheVariants.{Node}
 use Rattle.lz_list.specs.declared.word.Word.{Word}
 use Rattle.lz_list.specs.declared.word.Word.TheVariants.{Head, Link, Key, Pin, Halt}
-use Rattle.lz_list.specs.declared.flags.Flags.{Flags}
 use Rattle.lz_list.specs.Words.{Words, get, set, is_marked_at, link_with, next_of, flags_of, change_flags, marked_flags}
 use Rattle.lz_list.specs.Traces.{Chain, on}
 use Rattle.lz_list.specs.Lists.{next_in, home, ShowsChain, IsSorted, IsNodeOf, IsNodeIn, IsMember, IsTable, IsWord, KeepsLink, KeepsList, AllStay, OthersStay}
@@ -160,9 +159,3 @@ module _ (w : Words) (table : IsTable w) (sorted : IsSorted w) where
         let itself : IsNodeIn new (home w (get w (Key s))) (get w (Key s)) s = record { chain = node.chain; shown = shown; stands = node.stands; key = refl } in
         let same = same_node new (home w (get w (Key s))) (get w (Key s)) is.0 s is.1 itself in
         false≢true (sym is.2 ∙ ap (λ (r : ℕ). is_marked_at new (Node r)) same ∙ is_marked)
-
--- a link word whose flags become others, and whose mark and next link stay, keeps the list
-pub flags_keep : (w : Words) (s : ℕ) (f : Flags) → f.mark ≡ (flags_of (get w (Link s))).mark → KeepsLink w (Link s) (link_with (next_of (get w (Link s))) f)
-flags_keep w s f same =
-    let small : next_of (get w (Link s)) < 2 ^ 32 = omega arith in
-    (next_of_link (next_of (get w (Link s))) small f, mark_of_link (next_of (get w (Link s))) small f ∙ same)

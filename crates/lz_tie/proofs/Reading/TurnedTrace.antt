@@ -50,9 +50,6 @@ turned_same q opened n ns same = ap (λ b. if b then turned_at q opened ns else 
 turned_now : (q : ℕ) (opened : Trace) (n : Note) (ns : List Note) → pin_after q (n ∷ ns) ≢ pin_after q ns → turned_at q opened (n ∷ ns) ≡ trace_of opened ns
 turned_now q opened n ns away = ap (λ b. if b then turned_at q opened ns else trace_of opened ns) (ne_eqb (pin_after q (n ∷ ns)) (pin_after q ns) away)
 
-odd_or_even : (n : ℕ) → (n % 2 ≡ 1) ⊎ (n % 2 ≡ 0)
-odd_or_even n = ⊎_elim (λ even. inr even) (λ odd. inl (omega (arith, odd))) (cases_eq (n % 2) 0)
-
 module _ (start : Start) (starts : IsStart start) where
   abbrev p : Point
   p = first_point start

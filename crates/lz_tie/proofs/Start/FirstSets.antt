@@ -26,11 +26,6 @@ use Rattle.lz_tie.proofs.Start.OpenedYard.{opened_sizes}
 no_calls : (b : BoardId) (ns : List Note) (t : List ℕ) → Explains b [] t → ExplainsBegun b ns t
 no_calls b ns t e = record { later = ns; before = []; splits = sym (append-nil ns); explains = e }
 
--- where a disk explains no calls, each text that might have been left since explains a beginning of the notes
-pub since_history : (b : BoardId) (first : Device) (ns : List Note) (dev : Device) → HasHistory b [] first → ExplainedSince b first ns dev → IsTrue first.honest → IsTrue dev.honest → LeavesOnly first dev (ExplainsBegun b ns)
-since_history b first ns dev began since was honest = leaves_more first dev (λ t. IsImage first.medium t ⊎ ExplainsBegun b ns t) (ExplainsBegun b ns)
-    (λ t. ⊎_elim (λ old. no_calls b ns t (began was t old)) (λ e. e)) (since honest)
-
 module _ (b : BoardId) (before after : Device) (buckets passes : ℕ) (y : Yard) (opens : OpensYard before after buckets passes y) (in_words : b.sizes ≡ sizes_in y.words) (trace : b.opened ≡ opened_by y.words) where
   abbrev read : List ℕ
   read = opens.first.0

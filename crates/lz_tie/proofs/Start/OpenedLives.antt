@@ -6,15 +6,6 @@ use Rattle.lz_machine.specs.Yards.{Yard}
 use Rattle.lz_yard.specs.Filling.{OpensYard}
 use Rattle.lz_tie.specs.Lives.{LivesOn}
 
--- since the disk was handed to the open
-pub opened_lives : (before after : Device) (buckets passes : ℕ) (y : Yard) → OpensYard before after buckets passes y → LivesOn y.vault.format before y after
-opened_lives before after buckets passes y opens = record {
-  format = refl;
-  honest = opens.vault.honest;
-  faults = opens.vault.faults;
-  dead = λ dead. absurd (false≢true (sym opens.vault.fresh.1 ∙ dead));
-}
-
 -- since the open was done
 pub now_lives : (before after : Device) (buckets passes : ℕ) (y : Yard) → OpensYard before after buckets passes y → LivesOn y.vault.format after y after
 now_lives before after buckets passes y opens = record {

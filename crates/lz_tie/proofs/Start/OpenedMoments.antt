@@ -12,12 +12,6 @@ use Rattle.lz_tie.specs.Holds.{IsLocked}
 use Rattle.lz_tie.specs.Moments.{IsLeftBy, LeftSince}
 use Rattle.lz_tie.proofs.Moments.HeldMoments.{now_left}
 
--- an open leaves what might have been left before it, or what it has made sure
-pub opened_left : (b : BoardId) (ns : List Note) (before after : Device) (buckets passes : ℕ) (y : Yard) → OpensYard before after buckets passes y → IsLocked b ns y after → LeftSince b before ns after
-opened_left b ns before after buckets passes y opens locked = λ honest.
-    leaves_more before after (λ t. IsImage before.medium t ⊎ IsImage after.medium t) (λ t. IsImage before.medium t ⊎ IsLeftBy b.sizes b.opened ns t)
-    (λ t. ⊎_elim (λ old. inl old) (λ new. inr (now_left b ns y after locked honest t new))) (opens.vault.time (subst IsTrue opens.vault.honest honest))
-
 -- since the disk is as it is now there was no other moment
 pub now_since : (b : BoardId) (ns : List Note) (dev : Device) → (IsTrue dev.honest → IsTimely dev) → LeftSince b dev ns dev
 now_since b ns dev timely = λ honest. quiet dev (λ t. IsImage dev.medium t ⊎ IsLeftBy b.sizes b.opened ns t) (timely honest) (λ t image. inl image)

@@ -1,7 +1,7 @@
 -- What the calls of the vault ask for, and what they make of an event.
 use Rattle.std.proofs.Common.{◌≡◌, ◌≢◌, ◌⊎◌, inl, inr, ℕ, ◌+◌, ◌*◌, ◌<◌, ◌≤◌, Bool, true, false, not, ◌&&◌, ◌==◌, List, length, refl, sym, ap, ◌∙◌, subst, arith}
-use Rattle.std.specs.Prelude.{Option, Some, Result, Ok, Err, if◌then◌else◌, slice_get, slice_set, map, unwrap_or}
-use Rattle.std.proofs.lemmas.Option.{same_Some, slice_get-get_or}
+use Rattle.std.specs.Prelude.{Option, Some, Ok, Err, if◌then◌else◌, slice_get, slice_set, unwrap_or}
+use Rattle.std.proofs.lemmas.Option.{slice_get-get_or}
 use mathlib.Core.Bool.{false≢true}
 use Rattle.std.proofs.lemmas.Bool.Decides.{nat_tests}
 use Rattle.lz_disk.specs.Devices.{Device}
@@ -9,8 +9,8 @@ use Rattle.lz_vault.specs.declared.vault.Stage.{Stage}
 use Rattle.lz_vault.specs.declared.vault.Stage.TheVariants.{KeyLoose, Keyed, Opening, Open, Closing}
 use Rattle.lz_vault.specs.declared.vault.VaultFault.{VaultFault}
 use Rattle.lz_vault.specs.declared.vault.VaultFault.TheVariants as fault
-use Rattle.lz_vault.specs.Stages.{Cell, cell_synced, IsAt, IsFree, IsOpened}
-use Rattle.lz_vault.specs.Vaults.{DeviceCall, NoCall, WriteAt, SyncAll, Vaulted, Called, IsSpent, Succeeds, Fails, cells_failed, syncs_after, last_sync, died}
+use Rattle.lz_vault.specs.Stages.{Cell, IsAt, IsFree, IsOpened}
+use Rattle.lz_vault.specs.Vaults.{DeviceCall, NoCall, WriteAt, SyncAll, Vaulted, Called, IsSpent, Succeeds, Fails, cells_failed, syncs_after, last_sync}
 use Rattle.lz_slot.specs.Bytes.{slot_body}
 use Rattle.lz_list.specs.declared.word.Word.TheVariants.{Key as key_at}
 use Rattle.lz_list.specs.Words.{set}
@@ -19,19 +19,10 @@ use Rattle.lz_machine.specs.declared.event.Event.{Event}
 use Rattle.lz_machine.specs.declared.event.Event.TheVariants.{Sync, WriteKey}
 use Rattle.lz_machine.specs.declared.event.Outcome.TheVariants.{Dead, Done}
 use Rattle.lz_machine.specs.declared.course.Course.TheVariants.{Refused, Dies, Plays}
-use Rattle.lz_machine.specs.declared.actor.Actor.{Actor}
 use Rattle.lz_vault.specs.Members.{no_cell}
 use Rattle.lz_machine.specs.Yards.{Yard, actor_at, cell_at}
 use Rattle.lz_machine.specs.Table.{course, call_of, cells_after, vault_after, with_vault, is_unused, is_sure, is_spent, slot_of}
-use Rattle.lz_machine.specs.Ready.{HasSlot, HasCurr}
 use Rattle.lz_yard.specs.Parts.{Does, Known}
-
--- what is known of the slot that an actor holds, and of the node that it claimed
-pub of_slot : (actor : Actor) (A : ℕ → Type 0) (s : ℕ) → HasSlot actor A → actor.slot ≡ Some s → A s
-of_slot actor A s has there = subst A (same_Some has.0 s (sym has.1 ∙ there)) has.2
-
-pub of_curr : (actor : Actor) (A : ℕ → Type 0) (s : ℕ) → HasCurr actor A → actor.curr ≡ Some s → A s
-of_curr actor A s has there = subst A (same_Some has.0 s (sym has.1 ∙ there)) has.2
 
 -- an event that a dead vault refuses is played on one that isn't dead
 pub lives : (dead : Bool) → (dead && true) ≡ false → dead ≡ false
@@ -81,13 +72,6 @@ called_fails : (call : DeviceCall) (cells : List Cell) (old new : Vaulted) (befo
 called_fails call cells old new before after fault.Device alive called = (called.1, called.2)
 called_fails call cells old new before after fault.Dead alive called = absurd (alive called.0)
 
--- a sync where none is left
-pub spent_dies : (cells : List Cell) (old new : Vaulted) (before after : Device) (result : Result (Unit {0}) VaultFault) → old.syncs ≡ last_sync
-    → Called SyncAll cells old new before after result → (new ≡ died old) × Succeeds NoCall before after
-spent_dies cells old new before after (Ok done) spent called = absurd (omega (arith, called.0.1, spent))
-spent_dies cells old new before after (Err fault.Device) spent called = absurd (omega (arith, called.0.1, spent))
-spent_dies cells old new before after (Err fault.Dead) spent called = (called.1, called.2)
-
 module _ (y : Yard) (a : ℕ) (e : Event) (call : DeviceCall) (cells : List Cell) (new : Vaulted) (before after : Device)
     (call_is : call_of y (actor_at y a) e ≡ call) (cells_is : cells_after y (actor_at y a) e ≡ cells) where
   -- its device call failed
@@ -132,10 +116,3 @@ sync_made y a s known most loose (inl dead) = absurd (false≢true (sym (lives y
 sync_made y a s known most loose (inr none) =
     let more = sync_more y.vault.syncs most (sync_left y a s known.0 loose) in
     absurd (omega (arith, more, none))
-
-pub sync_fails : (y : Yard) (a s : ℕ) (new : Vaulted) (before after : Device) (why : VaultFault) → Known Plays y a (Sync s) → y.vault.syncs ≤ last_sync → is_sure y s ≡ false
-    → Called SyncAll (map cell_synced y.vault.cells) y.vault new before after (Err why) → Does y a (Sync s) (Err why) (with_vault y new) before after
-sync_fails y a s new before after why known most loose called =
-    does_fail y a (Sync s) SyncAll (map cell_synced y.vault.cells) new before after
-    (ap (λ (b : Bool). if b then NoCall else SyncAll) loose) (ap (λ (b : Bool). if b then y.vault.cells else map cell_synced y.vault.cells) loose)
-    why (sync_made y a s known most loose) (λ none. cc) called

@@ -27,17 +27,17 @@ use Rattle.lz_list.specs.Words.{Words}
 use Rattle.lz_list.specs.Locks.{NodeLocks}
 use Rattle.lz_list.specs.Lists.{Listed}
 use Rattle.lz_list.specs.declared.word.Word.TheVariants.{Head, Link}
-use Rattle.lz_list.specs.Traces.{Chain, IsFound, has_key, has_slot, word_after, words_after, opening}
+use Rattle.lz_list.specs.Traces.{Chain, IsFound, has_slot, word_after, words_after, opening}
 use Rattle.lz_list.proofs.Tables.WordTable.{length-table}
 use Rattle.lz_machine.specs.declared.actor.Actor.{Actor}
 use Rattle.lz_machine.specs.Yards.{Yard, Shape, cell_read, use_read, slots_read, opened_yard}
 use Rattle.lz_slot.specs.Nodes.{has_node}
 use Rattle.lz_vault.specs.Members.{member_in, member_at, no_cell}
 use Rattle.lz_yard.specs.Filling.{AreTables}
-use Rattle.lz_machine.specs.Runs.{IsStart, by_key, keys_found}
+use Rattle.lz_machine.specs.Runs.{IsStart, keys_found}
 use Rattle.lz_machine.proofs.Open.Texts.{text_of, text_size, text_head, text_format, text_says, text_bytes}
-use Rattle.lz_list.proofs.Chains.ChainNode.{node_has_key, node_slot}
-use Rattle.lz_machine.proofs.Open.FirstNodes.{node_held, held_found, key_held}
+use Rattle.lz_list.proofs.Chains.ChainNode.{node_slot}
+use Rattle.lz_machine.proofs.Open.FirstNodes.{node_held, held_found}
 use Rattle.lz_machine.proofs.Open.ListedKeys.{holds_listed}
 use Rattle.lz_yard.proofs.Opening.MemberNodes.{slot_node, are_found}
 use Rattle.lz_vault.proofs.Members.{node_cases, are_distinct}

@@ -1,5 +1,5 @@
 -- The members that an open found, as the list of the machine has them.
-use Rattle.std.proofs.Common.{◌≡◌, ◌⊎◌, inl, inr, ℕ, ◌<◌, Bool, true, false, ◌==◌, [], ◌∷◌, List, refl, sym, ◌∙◌, arith}
+use Rattle.std.proofs.Common.{◌≡◌, inl, inr, ℕ, ◌<◌, Bool, true, false, [], ◌∷◌, List, refl, sym, ◌∙◌, arith}
 use mathlib.Core.Bool.{false≢true}
 use Rattle.std.specs.Prelude.{Some}
 use Rattle.std.proofs.lemmas.Option.{same_Some}

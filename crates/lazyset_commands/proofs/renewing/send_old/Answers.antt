@@ -8,7 +8,7 @@ pub returns-in-BadKey : goal.returns-in-BadKey
 returns-in-BadKey g c = rw c.in-BadKey.is (one_same (codes "refused old 5 ") c.from.result c.in-BadKey.slot _ _ c.send_line.result (c.from.ensures ∙ c.index.ensures) c.send_line.ensures)
 
 pub returns-in-Twice : goal.returns-in-Twice
-returns-in-Twice g c = rw c.in-Twice.is c.send_twice.ensures
+returns-in-Twice g c = rw c.in-Twice.is c.send_slots.ensures
 
 pub returns-in_default : goal.returns-in_default
 returns-in_default g c = rw (old_numbered c.args.fault c.in_default.not-BadKey c.in_default.not-Twice)

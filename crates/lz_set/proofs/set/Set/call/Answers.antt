@@ -14,13 +14,13 @@ returns-in-Some-reply-clause-answers g c =
     subst (λ (r : Reply). Answers c.args.command r (part c.args.pass.now) (part c.answer.new.pass)) (sym c.answer_of.ensures)
     (c.answer.ensures.answers c.args.command g.N.Named.format (part c.args.pass.now) at_hand.sized c.loop.invariant.counts)
 
-pub go_on-requires-clause-counted : goal.go_on-requires-clause-counted
-go_on-requires-clause-counted g c = (c.args.command, g.N.Named.format, part c.args.pass.now, c.loop.invariant.counts)
+pub go_on-kept-requires-clause-counted : goal.go_on-kept-requires-clause-counted
+go_on-kept-requires-clause-counted g c = (c.args.command, g.N.Named.format, part c.args.pass.now, c.loop.invariant.counts)
 
 pub loop-preserved : goal.loop-preserved
 loop-preserved g c = record {
-  pass = c.go_on.ensures.pass;
-  counts = c.go_on.ensures.goes c.args.command g.N.Named.format (part c.args.pass.now) c.loop.invariant.counts;
+  pass = c.go_on-kept.ensures.pass;
+  counts = c.go_on-kept.ensures.goes c.args.command g.N.Named.format (part c.args.pass.now) c.loop.invariant.counts;
 }
 
 pub returns-in-Some-reply-clause-plain : goal.returns-in-Some-reply-clause-plain

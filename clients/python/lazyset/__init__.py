@@ -1,0 +1,61 @@
+"""A client of `lazyset serve`, which needs Python's standard library alone (3.8 or later).
+
+    from lazyset import Command, Lazyset, Pool
+
+    with Lazyset(7000) as keys:
+        keys.add(17)                              # True: it is a member now, and wasn't before
+        keys.has(17, room=3)                      # False: room 3 is another set
+        keys.batch([Command.add(18), Command.has(17)])
+
+    with Pool(7000, size=8) as keys:              # for many threads at once
+        keys.add(19)
+
+What each reply means, and what a lost connection leaves unknown, is told in docs/PROTOCOL.md; what a call may raise in
+`lazyset.errors`.
+"""
+
+from .commands import MOST_NUMBER, MOST_ROOM, Command, Reply, Verb
+from .connection import CONNECT_TIMEOUT, REPLY_TIMEOUT, Lazyset
+from .errors import (
+    Bad,
+    BadReply,
+    Closed,
+    Full,
+    Halted,
+    LazysetError,
+    LostConnection,
+    NoConnection,
+    OldFile,
+    Refused,
+    TimedOut,
+    Unfinished,
+    Worn,
+)
+from .pool import Pool
+
+__version__ = "1.0"
+
+__all__ = [
+    "CONNECT_TIMEOUT",
+    "MOST_NUMBER",
+    "MOST_ROOM",
+    "REPLY_TIMEOUT",
+    "Bad",
+    "BadReply",
+    "Closed",
+    "Command",
+    "Full",
+    "Halted",
+    "Lazyset",
+    "LazysetError",
+    "LostConnection",
+    "NoConnection",
+    "OldFile",
+    "Pool",
+    "Refused",
+    "Reply",
+    "TimedOut",
+    "Unfinished",
+    "Verb",
+    "Worn",
+]

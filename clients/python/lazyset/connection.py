@@ -1,0 +1,290 @@
+"""A connection to a set service."""
+
+from __future__ import annotations
+
+import os
+import socket
+import threading
+import time
+from types import TracebackType
+from typing import Iterable, List, Optional, Sequence, Type
+
+from .commands import Command, Reply
+from .errors import (
+    Bad,
+    BadReply,
+    Closed,
+    Full,
+    Halted,
+    LostConnection,
+    NoConnection,
+    OldFile,
+    TimedOut,
+    Unfinished,
+    Worn,
+)
+
+# How long a reply may take, in seconds, where nothing else is given. A command waits for two syncs of a disk, and a first one
+# until a pass of the service is free: 30 seconds are far more than a working disk needs, and an end where a service has stopped.
+REPLY_TIMEOUT = 30.0
+
+# How long connecting may take. The service listens on its own machine: it takes no time, unless the queue of those that wait
+# for a pass is full.
+CONNECT_TIMEOUT = 10.0
+
+# How long close() may wait, for another thread's call and for the service.
+CLOSE_TIMEOUT = 1.0
+
+# How many commands of a batch are sent before their replies are read. Their lines and replies fit into the buffers of a
+# connection, so neither side waits for the other to read.
+WINDOW = 512
+
+# No reply is longer.
+MOST_REPLY = 64
+
+_REFUSED = {Reply.FULL: Full, Reply.OLD_FILE: OldFile, Reply.WORN: Worn}
+
+
+class Lazyset:
+    """A connection to the service on a port.
+
+    Threads may share it: their calls go one after the other. (A `Pool` has several under way at once.)
+
+    `timeout` is how many seconds a reply may take, from the moment its command was sent or the reply before it came; `TimedOut`
+    then. `connect_timeout` is how many seconds connecting may take; `NoConnection` then. None is no limit: then a call waits
+    for as long as all passes of the service are taken.
+
+    Whatever ends a call between its first byte sent and its last reply read (a lost connection, a timeout, Ctrl-C, an
+    exception that a signal handler raises) closes the connection, so that no reply is ever taken for that of another command.
+    From then on each call raises `Closed`, until `reconnect()`."""
+
+    def __init__(
+        self,
+        port: int,
+        host: str = "127.0.0.1",
+        timeout: Optional[float] = REPLY_TIMEOUT,
+        connect_timeout: Optional[float] = CONNECT_TIMEOUT,
+    ) -> None:
+        self._address = (host, port)
+        self._timeout = _limit(timeout)
+        self._connect_timeout = _limit(connect_timeout)
+        self._lock = threading.RLock()
+        self._process = os.getpid()
+        self._socket: Optional[socket.socket] = None
+        # Whether each command that was sent has had its reply. It is so before and after each call, and never within one.
+        self._is_in_step = False
+        self._has_a_pass = False
+        self._received = b""
+        self.reconnect()
+
+    def __enter__(self) -> Lazyset:
+        return self
+
+    def __exit__(
+        self,
+        kind: Optional[Type[BaseException]],
+        error: Optional[BaseException],
+        trace: Optional[TracebackType],
+    ) -> None:
+        self.close()
+
+    def add(self, number: int, room: int = 0) -> bool:
+        """Makes the key a member, for good. True where it wasn't one."""
+        return self._ask(Command.add(number, room))
+
+    def remove(self, number: int, room: int = 0) -> bool:
+        """Makes the key no member, for good. True where it was one."""
+        return self._ask(Command.remove(number, room))
+
+    def has(self, number: int, room: int = 0) -> bool:
+        """Whether the key is a member."""
+        return self._ask(Command.has(number, room))
+
+    def batch(self, commands: Iterable[Command]) -> List[Reply]:
+        """Carries out the commands in their order, with many under way at once, and gives the reply of each.
+
+        All commands are taken before the first one is sent, so what is no command (TypeError) leaves nothing done."""
+        taken = list(commands)
+        for command in taken:
+            if not isinstance(command, Command):
+                raise TypeError(f"a batch is of Command, not {command!r}")
+        return self._exchange(taken)
+
+    def close(self) -> None:
+        """Ends the session, and waits until the service has ended it too, so that its pass is free.
+
+        It never takes longer than two seconds: it doesn't wait for a session that never got a pass, ends a call under way
+        in another thread (with `LostConnection` there), and gives up where the service doesn't answer."""
+        self._leave_parent()
+        if not self._lock.acquire(timeout=CLOSE_TIMEOUT):
+            self._abort()
+            return
+        try:
+            self._finish()
+        finally:
+            self._lock.release()
+
+    def reconnect(self) -> None:
+        """Connects again, to the same port; a connection that is still open is closed first."""
+        self._leave_parent()
+        with self._lock:
+            self._finish()
+            try:
+                self._socket = socket.create_connection(self._address, self._connect_timeout)
+                self._socket.setsockopt(socket.IPPROTO_TCP, socket.TCP_NODELAY, 1)
+            except OSError as error:
+                self._drop()
+                raise NoConnection(f"no connection to {self._address}: {error}") from error
+            self._received = b""
+            self._has_a_pass = False
+            self._is_in_step = True
+
+    def is_usable(self) -> bool:
+        """Whether the connection is open, as far as this side knows without asking."""
+        self._leave_parent()
+        with self._lock:
+            if self._socket is None or not self._is_in_step:
+                return False
+            try:
+                # Between calls there is nothing to read: an end is the service's, and bytes are no reply of ours.
+                self._socket.settimeout(0)
+                self._socket.recv(1, socket.MSG_PEEK)
+                return False
+            except (BlockingIOError, InterruptedError):
+                return True
+            except OSError:
+                return False
+
+    def _ask(self, command: Command) -> bool:
+        reply = self._exchange([command])[0]
+        if reply in _REFUSED:
+            raise _REFUSED[reply](command)
+        return reply is Reply.YES
+
+    def _exchange(self, commands: Sequence[Command]) -> List[Reply]:
+        """Sends the commands and reads their replies, as the only call on this connection."""
+        self._leave_parent()
+        with self._lock:
+            connection = self._socket
+            if connection is None or not self._is_in_step:
+                # Within another call too, where a signal handler calls: that one loses its connection.
+                self._drop()
+                raise Closed("the connection is closed", (), commands[0] if commands else None)
+            self._is_in_step = False
+            try:
+                replies = self._converse(connection, commands)
+            except BaseException:
+                self._drop()
+                raise
+            self._is_in_step = True
+            return replies
+
+    def _converse(self, connection: socket.socket, commands: Sequence[Command]) -> List[Reply]:
+        replies: List[Reply] = []
+        try:
+            for first in range(0, len(commands), WINDOW):
+                window = commands[first : first + WINDOW]
+                self._send(connection, window)
+                for _ in window:
+                    replies.append(self._receive(connection))
+                if self._received:
+                    raise BadReply(f"more than was asked for: {self._received!r}")
+        except Unfinished as error:
+            error.replies = replies
+            error.command = commands[len(replies)] if len(replies) < len(commands) else None
+            raise
+        return replies
+
+    def _send(self, connection: socket.socket, commands: Sequence[Command]) -> None:
+        try:
+            connection.settimeout(self._timeout)
+            connection.sendall(b"".join(command.line() for command in commands))
+        except socket.timeout as error:
+            raise TimedOut(f"not sent within {self._timeout} seconds") from error
+        except OSError as error:
+            raise LostConnection(f"not sent: {error}") from error
+
+    def _receive(self, connection: socket.socket) -> Reply:
+        word = self._line(connection)
+        if word.startswith(b"bad ") and word[4:].isdigit():
+            raise Bad(int(word[4:]))
+        try:
+            reply = Reply(word.decode("ascii"))
+        except ValueError as error:
+            raise BadReply(f"no reply of a set service: {word!r}") from error
+        if reply is Reply.HALTED:
+            raise Halted("the service's device failed")
+        self._has_a_pass = True
+        return reply
+
+    def _line(self, connection: socket.socket) -> bytes:
+        latest = None if self._timeout is None else time.monotonic() + self._timeout
+        while b"\n" not in self._received:
+            if len(self._received) > MOST_REPLY:
+                raise BadReply(f"no reply of a set service: {self._received!r}")
+            self._received += self._piece(connection, latest)
+        word, self._received = self._received.split(b"\n", 1)
+        return word
+
+    def _piece(self, connection: socket.socket, latest: Optional[float]) -> bytes:
+        try:
+            connection.settimeout(_until(latest))
+            piece = connection.recv(4096)
+        except socket.timeout as error:
+            raise TimedOut(f"no reply within {self._timeout} seconds") from error
+        except OSError as error:
+            raise LostConnection(f"no reply: {error}") from error
+        if not piece:
+            raise LostConnection("the connection ended")
+        return piece
+
+    def _finish(self) -> None:
+        """Ends the session where each command has had its reply, and the connection."""
+        connection, is_in_step = self._socket, self._is_in_step
+        self._is_in_step = False
+        try:
+            if connection is not None and is_in_step:
+                latest = time.monotonic() + CLOSE_TIMEOUT
+                connection.settimeout(CLOSE_TIMEOUT)
+                connection.sendall(b"quit\n")
+                connection.settimeout(_until(latest))
+                while self._has_a_pass and connection.recv(4096):
+                    connection.settimeout(_until(latest))
+        except OSError:
+            pass
+        finally:
+            self._drop()
+
+    def _drop(self) -> None:
+        self._is_in_step = False
+        connection = self._socket
+        if connection is not None:
+            connection.close()
+            self._socket = None
+
+    def _abort(self) -> None:
+        """Ends the connection under another thread's call, which notices it."""
+        connection = self._socket
+        if connection is not None:
+            try:
+                connection.shutdown(socket.SHUT_RDWR)
+            except OSError:
+                pass
+
+    def _leave_parent(self) -> None:
+        """In a process that was forked off: the connection is the parent's. Only this process's copy is closed."""
+        if self._process != os.getpid():
+            self._lock = threading.RLock()
+            self._drop()
+            self._process = os.getpid()
+
+
+def _limit(seconds: Optional[float]) -> Optional[float]:
+    if seconds is not None and not seconds > 0:
+        raise ValueError(f"a timeout is more than 0 seconds, or None, not {seconds}")
+    return seconds
+
+
+def _until(latest: Optional[float]) -> Optional[float]:
+    """How many seconds are left."""
+    return None if latest is None else max(latest - time.monotonic(), 1e-6)

@@ -1,0 +1,106 @@
+"""What a call may raise, besides TypeError and ValueError for what is no command (nothing is sent then).
+
+    LazysetError
+        Refused             answered, and nothing was changed; the connection goes on
+            Full, OldFile, Worn
+        Unfinished          the connection is closed; `replies` and `command` say how far the call came
+            Halted          the service's device failed
+            Bad, BadReply   this is no service of this protocol
+            LostConnection  the connection ended
+                TimedOut    no reply came in time
+                Closed, NoConnection    nothing was sent
+"""
+
+from __future__ import annotations
+
+from typing import List, Optional, Sequence
+
+from .commands import Command, Reply
+
+
+class LazysetError(Exception):
+    """Whatever goes wrong with a command that reads."""
+
+
+class Refused(LazysetError):
+    """The service answered `command` and changed nothing. The connection goes on."""
+
+    reason = "refused"
+
+    def __init__(self, command: Command) -> None:
+        super().__init__(f"{self.reason}: {command}")
+        self.command = command
+
+
+class Full(Refused):
+    """The set has as many members as the file has slots. Where clients overlap it may come while the slot of a key that was
+    just removed isn't free again yet: ask again later."""
+
+    reason = "the file has no free slot"
+
+
+class OldFile(Refused):
+    """The file is of format 1, which knows room 0 alone."""
+
+    reason = "a file of format 1 has room 0 alone"
+
+
+class Worn(Refused):
+    """The pass of this connection has carried out all the commands that it can. Another connection may still be served."""
+
+    reason = "this connection's pass is worn"
+
+
+class Unfinished(LazysetError):
+    """A call ended before each of its commands had a reply, and the connection is closed.
+
+    `replies` are those that came, and `command` is the first one without (None where the call had none). Of `command` and
+    those after it some first ones may have been done and the rest not. They may be asked again, on a new connection:
+    docs/PROTOCOL.md, "When a connection is lost", says what the replies mean then."""
+
+    def __init__(self, message: str, replies: Sequence[Reply] = (), command: Optional[Command] = None) -> None:
+        super().__init__(message)
+        self.replies: List[Reply] = list(replies)
+        self.command = command
+
+    def __str__(self) -> str:
+        told = super().__str__()
+        return f"{told} (at {self.command}, after {len(self.replies)} replies)" if self.command else told
+
+
+class Halted(Unfinished):
+    """The service's device failed. `command` may have been done or not, and opening the file decides it; none after it was
+    done. The service carries out nothing more until it is started again."""
+
+
+class Bad(Unfinished):
+    """The service answered `bad N` to `command` (N is `number`): it didn't take the line for a command, which no service of
+    this protocol does. The commands after it may have been done."""
+
+    def __init__(self, number: int) -> None:
+        super().__init__(f"bad {number}")
+        self.number = number
+
+
+class BadReply(Unfinished):
+    """What came is no reply of this protocol. Nothing is known of `command` and those after it."""
+
+
+class LostConnection(Unfinished):
+    """The connection ended. `command` and those after it may have been done, some first ones of them."""
+
+
+class TimedOut(LostConnection):
+    """No reply came within the timeout. **The command may have been done, or be done later**: the service may still carry
+    it out after the connection is closed. So an `add` that is asked again and answered `no` (False) may have been added by
+    the first try: it isn't a sign that anyone handled that key."""
+
+
+class Closed(LostConnection):
+    """The connection was closed before this call, by close() or by whatever ended an earlier call. **Nothing was sent.**
+    reconnect() opens it again."""
+
+
+class NoConnection(LostConnection):
+    """There is no connection to the service: the port is closed, or connecting or waiting for a free connection of a pool
+    took too long. **Nothing was sent.**"""

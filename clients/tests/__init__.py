@@ -1,0 +1,1 @@
+"""The tests of ../test_clients.py, which runs them."""

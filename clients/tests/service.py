@@ -1,0 +1,49 @@
+"""The program's service over a new file."""
+
+from __future__ import annotations
+
+import os
+import shutil
+import signal
+import subprocess
+import tempfile
+import unittest
+
+
+class Service:
+    """A service over a new file in a folder of its own."""
+
+    def __init__(self, slots: int, passes: int = 4, file_format: int = 2) -> None:
+        self.program = os.environ["LAZYSET"]
+        self.folder = tempfile.mkdtemp(prefix="lazyset-clients-")
+        self.file = os.path.join(self.folder, "f")
+        self.passes = passes
+        words = [self.program, "make", self.file, str(slots), "--format", str(file_format)]
+        subprocess.run(words, check=True, stdout=subprocess.DEVNULL)
+        self.start()
+
+    def start(self, port: int = 0) -> None:
+        words = [self.program, "serve", self.file, str(port), str(self.passes)]
+        self.process = subprocess.Popen(words, stdout=subprocess.PIPE, stderr=subprocess.DEVNULL, text=True)
+        assert self.process.stdout is not None
+        self.port = int(self.process.stdout.readline().split()[1])
+
+    def kill(self) -> None:
+        self.process.send_signal(signal.SIGKILL)
+        self.process.wait()
+        assert self.process.stdout is not None
+        self.process.stdout.close()
+
+    def end(self) -> None:
+        self.kill()
+        shutil.rmtree(self.folder)
+
+
+class AgainstTheProgram(unittest.TestCase):
+    slots = 2
+    passes = 4
+    file_format = 2
+
+    def setUp(self) -> None:
+        self.service = Service(self.slots, self.passes, self.file_format)
+        self.addCleanup(self.service.end)

@@ -1,0 +1,99 @@
+"""The client for the shell: what it prints, what it says on standard error, and its status."""
+
+from __future__ import annotations
+
+import os
+import shutil
+import socket
+import subprocess
+import time
+import unittest
+from typing import List, NamedTuple
+
+from .fake import AgainstAFake, answers
+from .service import AgainstTheProgram
+
+ASK = os.path.join(os.path.dirname(os.path.dirname(os.path.abspath(__file__))), "shell", "ask")
+
+
+class Said(NamedTuple):
+    status: int
+    replies: List[str]
+    message: str
+
+
+def ask(*words: str) -> Said:
+    ended = subprocess.run([ASK, *words], stdout=subprocess.PIPE, stderr=subprocess.PIPE, text=True, timeout=20)
+    return Said(ended.returncode, ended.stdout.splitlines(), ended.stderr)
+
+
+def closed_port() -> str:
+    with socket.create_server(("127.0.0.1", 0)) as listener:
+        return str(listener.getsockname()[1])
+
+
+@unittest.skipUnless(shutil.which("nc") and shutil.which("timeout"), "nc or timeout isn't installed")
+class OverTheProgram(AgainstTheProgram):
+    passes = 1
+
+    def setUp(self) -> None:
+        super().setUp()
+        self.port = str(self.service.port)
+
+    def test_lines_that_are_answered(self) -> None:
+        said = ask(self.port, "add 17", "has 17", "add 17", "has 3:17")
+        self.assertEqual(said, Said(0, ["yes", "yes", "no", "no"], ""))
+        self.assertEqual(ask(self.port, "has 17", "quit", "has 17"), Said(0, ["yes"], ""))
+
+    def test_a_line_that_is_no_command(self) -> None:
+        said = ask(self.port, "has 17", "add", "has x")
+        self.assertEqual((said.status, said.replies), (4, ["no", "bad 2", "bad 3"]))
+        self.assertIn("line 2", said.message)
+        self.assertIn("bad 2", said.message)
+
+    def test_a_full_file(self) -> None:
+        said = ask(self.port, "add 1", "add 2", "add 3")
+        self.assertEqual((said.status, said.replies), (1, ["yes", "yes", "full"]))
+        self.assertIn("line 3", said.message)
+
+    def test_all_passes_are_taken(self) -> None:
+        with socket.create_connection(("127.0.0.1", self.service.port)) as taken:
+            taken.sendall(b"has 1\n")
+            taken.recv(99)
+            began = time.monotonic()
+            said = ask("-t", "1", self.port, "has 1")
+            self.assertEqual((said.status, said.replies), (5, []))
+            self.assertIn("0 of 1 replies", said.message)
+            self.assertLess(time.monotonic() - began, 10)
+
+    def test_a_service_that_was_killed(self) -> None:
+        self.service.kill()
+        said = ask(self.port, "has 1")
+        self.assertEqual((said.status, said.replies), (3, []))
+        self.assertIn(self.port, said.message)
+        self.service.start()
+
+
+@unittest.skipUnless(shutil.which("nc") and shutil.which("timeout"), "nc or timeout isn't installed")
+class OverAFake(AgainstAFake):
+    def test_replies_that_are_cut_off(self) -> None:
+        for script in (answers(b"yes\nn"), answers(b"yes\n")):
+            said = ask(str(self.fake(script).port), "has 1", "has 2", "has 3")
+            self.assertEqual((said.status, said.replies), (6, ["yes"]))
+            self.assertIn("after 1 of 3 replies", said.message)
+
+    def test_a_device_that_failed(self) -> None:
+        said = ask(str(self.fake(answers(b"yes\nhalted\n")).port), "has 1", "has 2", "has 3")
+        self.assertEqual((said.status, said.replies), (1, ["yes", "halted"]))
+        self.assertIn("line 2", said.message)
+
+    def test_the_command_line(self) -> None:
+        for words in ((), ("7000",), ("-t",), ("-t", "x", "7000", "has 1"), ("-t", "1"), ("-t", "1", "7000")):
+            said = ask(*words)
+            self.assertEqual((said.status, said.replies), (2, []), words)
+            self.assertTrue(said.message, words)
+
+    def test_a_closed_port(self) -> None:
+        said = ask(closed_port(), "has 1")
+        self.assertEqual((said.status, said.replies), (3, []))
+        self.assertTrue(said.message)

@@ -1,0 +1,23 @@
+# Completion of lazyset's command line for bash: source it, or put it into a folder of bash-completion as `lazyset`.
+_lazyset() {
+    local word=${COMP_WORDS[COMP_CWORD]} options=""
+    if [ "$COMP_CWORD" -eq 1 ]; then
+        mapfile -t COMPREPLY < <(compgen -W "make renew run serve check judge rehearse help --help --version" -- "$word")
+        return
+    fi
+    case "${COMP_WORDS[1]}" in
+    make) options="--format --help" ;;
+    run) options="--buckets --help" ;;
+    serve) options="--sessions --idle --buckets --help" ;;
+    check) options="--of --help" ;;
+    rehearse) options="--buckets --format --help" ;;
+    *) options="--help" ;;
+    esac
+    case "${COMP_WORDS[COMP_CWORD - 1]},$word" in
+    --format,*) mapfile -t COMPREPLY < <(compgen -W "1 2" -- "$word") ;;
+    --buckets,* | --sessions,* | --idle,*) COMPREPLY=() ;;
+    *,-*) mapfile -t COMPREPLY < <(compgen -W "$options" -- "$word") ;;
+    *) mapfile -t COMPREPLY < <(compgen -f -- "$word") ;;
+    esac
+}
+complete -o filenames -F _lazyset lazyset

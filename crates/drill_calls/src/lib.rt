@@ -1,0 +1,22 @@
+//! Makes each call that asks for memory, and prints what it answered.
+//!
+//! Where a request is refused, as the kit's runner does it (`fail-allocations`), one line more is printed: `again` and the
+//! call, with the number of its fault where it has one. Then what the call was made on is as before, and the same call made
+//! again answers as it would have. `again` alone says that there was no memory for what a call is made on.
+#![tactic(auto)]
+
+mod boards;
+mod calls;
+mod fault;
+mod file;
+mod histories;
+mod lines;
+mod plays;
+mod prior;
+mod sessions;
+mod sets;
+mod surveys;
+mod vaults;
+
+pub use calls::drill_all;
+pub use fault::Fault;

@@ -1,0 +1,14 @@
+-- The numbers of a request.
+use Rattle.std.specs.Prelude.{◌≤◌}
+use Rattle.lz_slot.specs.Limits.{most_buckets, most_passes, most_rehearsed}
+use Rattle.lazyset_command_line.specs.declared.request.Request.{Request}
+use Rattle.lazyset_command_line.specs.declared.request.Request.TheVariants.{Run, Serve, Rehearse}
+
+-- its numbers are those with which the command may be run
+abbrev pub IsWithin : Request → Type 0
+IsWithin (Run file buckets) = (1 ≤ buckets) × (buckets ≤ most_buckets)
+IsWithin (Serve file options) =
+    ((1 ≤ options.passes) × (options.passes ≤ most_passes)) × (1 ≤ options.buckets) × (options.buckets ≤ most_buckets)
+IsWithin (Rehearse slots buckets format) =
+    ((1 ≤ slots) × (slots ≤ most_rehearsed)) × (1 ≤ buckets) × (buckets ≤ most_buckets)
+IsWithin request = Unit {0}

@@ -1,0 +1,10 @@
+//! The words of the command line: which ones there are, and what they ask for.
+#![tactic(auto)]
+
+mod command;
+mod refusal;
+mod request;
+mod words;
+
+pub use refusal::Refusal;
+pub use request::{Request, read};

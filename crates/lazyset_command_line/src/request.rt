@@ -1,0 +1,195 @@
+//! What a command line asks for.
+ghost use Rattle.std.specs.Prelude.{◌≤◌, IfOk, IfSome};
+ghost use Rattle.lz_slot.specs.Limits.{most_buckets, most_passes};
+ghost use Rattle.lazyset_command_line.specs.Requests.{IsWithin};
+
+use crate::command::command_line;
+use crate::refusal::{Refusal, refusal_of};
+use clap::ArgMatches;
+use lazyset_commands::{ServeOptions, Status};
+use lz_slot::{Format, MOST_BUCKETS, MOST_PASSES, MOST_REHEARSED};
+use std::alloc::{AllocError, Global};
+
+/// A command, with its words.
+#[derive(Clone, Copy)]
+pub enum Request<'a> {
+    Make {
+        file: &'a str,
+        slots: u64,
+        format: Format,
+    },
+    Renew {
+        old: &'a str,
+        new: &'a str,
+        slots: u64,
+    },
+    Run {
+        file: &'a str,
+        buckets: usize,
+    },
+    Serve {
+        file: &'a str,
+        options: ServeOptions,
+    },
+    Check {
+        file: &'a str,
+        of: Option<&'a str>,
+    },
+    Judge {
+        file: &'a str,
+    },
+    Rehearse {
+        slots: usize,
+        buckets: usize,
+        format: Format,
+    },
+}
+
+/// What the words of a command line ask for, the first of which names the program.
+pub fn read<'a>(alloc: Global, words: &'a [String]) -> Result<Request<'a>, Refusal>
+    ensures { IfOk result IsWithin }
+{
+    let Ok(command) = command_line(alloc) else {
+        return Err(Refusal::Memory(AllocError));
+    };
+    match command.try_get_matches_from(words) {
+        Ok(matches) => match request_of(&matches) {
+            Some(request) => Ok(request),
+            None => Err(Refusal::Told {
+                text: String::new(alloc),
+                status: Status::CommandLine,
+            }),
+        },
+        Err(error) => Err(refusal_of(alloc, error)),
+    }
+}
+
+fn request_of<'a>(matches: &ArgMatches<'a>) -> Option<Request<'a>>
+    ensures { IfSome result IsWithin }
+{
+    match matches.subcommand()? {
+        ("make", words) => make(words),
+        ("renew", words) => renew(words),
+        ("check", words) => check(words),
+        ("judge", words) => judge(words),
+        ("rehearse", words) => rehearse(words),
+        ("serve", words) => serve(words),
+        (_, words) => run(words),
+    }
+}
+
+fn make<'a>(words: &ArgMatches<'a>) -> Option<Request<'a>>
+    ensures { IfSome result IsWithin }
+{
+    Some(Request::Make {
+        file: text(words, "FILE")?,
+        slots: number(words, "SLOTS")?,
+        format: format_of(words)?,
+    })
+}
+
+fn renew<'a>(words: &ArgMatches<'a>) -> Option<Request<'a>>
+    ensures { IfSome result IsWithin }
+{
+    Some(Request::Renew {
+        old: text(words, "OLD")?,
+        new: text(words, "NEW")?,
+        slots: number(words, "SLOTS")?,
+    })
+}
+
+fn run<'a>(words: &ArgMatches<'a>) -> Option<Request<'a>>
+    ensures { IfSome result IsWithin }
+{
+    let buckets = number_within(words, "buckets", MOST_BUCKETS)?;
+    Some(Request::Run {
+        file: text(words, "FILE")?,
+        buckets,
+    })
+}
+
+fn serve<'a>(words: &ArgMatches<'a>) -> Option<Request<'a>>
+    ensures { IfSome result IsWithin }
+{
+    let options = serve_options(words)?;
+    Some(Request::Serve {
+        file: text(words, "FILE")?,
+        options,
+    })
+}
+
+// How the command line asks to serve.
+fn serve_options(matches: &ArgMatches<'_>) -> Option<ServeOptions>
+    ensures passes { IfSome result (λ options. (1 ≤ options.passes) × (options.passes ≤ most_passes)) }
+    ensures buckets { IfSome result (λ options. (1 ≤ options.buckets) × (options.buckets ≤ most_buckets)) }
+{
+    let port = u16::try_from(number(matches, "PORT")?).ok()?;
+    let passes = number_within(matches, "PASSES", MOST_PASSES)?;
+    let buckets = number_within(matches, "buckets", MOST_BUCKETS)?;
+    Some(ServeOptions {
+        port,
+        passes,
+        sessions: number(matches, "sessions")?,
+        buckets,
+        idle: number(matches, "idle")?,
+    })
+}
+
+fn check<'a>(words: &ArgMatches<'a>) -> Option<Request<'a>>
+    ensures { IfSome result IsWithin }
+{
+    Some(Request::Check {
+        file: text(words, "FILE")?,
+        of: text(words, "of"),
+    })
+}
+
+fn judge<'a>(words: &ArgMatches<'a>) -> Option<Request<'a>>
+    ensures { IfSome result IsWithin }
+{
+    Some(Request::Judge {
+        file: text(words, "FILE")?,
+    })
+}
+
+fn rehearse<'a>(words: &ArgMatches<'a>) -> Option<Request<'a>>
+    ensures { IfSome result IsWithin }
+{
+    let slots = number_within(words, "SLOTS", MOST_REHEARSED)?;
+    let buckets = number_within(words, "buckets", MOST_BUCKETS)?;
+    Some(Request::Rehearse {
+        slots,
+        buckets,
+        format: format_of(words)?,
+    })
+}
+
+// The format that the command line names.
+fn format_of(matches: &ArgMatches<'_>) -> Option<Format> {
+    match number(matches, "format")? {
+        1 => Some(Format::One),
+        2 => Some(Format::Two),
+        _ => None,
+    }
+}
+
+// A text of the command line.
+fn text<'a>(matches: &ArgMatches<'a>, name: &str) -> Option<&'a str> {
+    matches.get_str(name)
+}
+
+// A number of the command line.
+fn number(matches: &ArgMatches<'_>, name: &str) -> Option<u64> {
+    matches.get_one::<u64>(name)
+}
+
+// A number of the command line, from 1 to the most.
+fn number_within(matches: &ArgMatches<'_>, name: &str, most: usize) -> Option<usize>
+    ensures { IfSome result (λ n. (1 ≤ n) × (n ≤ most)) }
+{
+    let count = usize::try_from(number(matches, name)?).ok()?;
+    if count < 1 || count > most {
+        return None;
+    }
+    Some(count)
+}

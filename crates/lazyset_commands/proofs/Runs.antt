@@ -1,0 +1,6 @@
+pub mod FoundSets
+pub mod PlainRows
+pub mod SessionCalls
+pub mod ToldSessions
+pub mod HandedPass
+pub mod LeftSets

@@ -1,0 +1,143 @@
+-- What a run leaves that served its session by the one pass of a set.
+use Rattle.std.proofs.Common.{◌≡◌, ◌⊎◌, inl, inr, ⊎_elim, ℕ, ◌≤◌, List, [], length, Option, IsTrue, refl, sym, ap, ◌∙◌, subst, arith}
+use Rattle.lz_slot.specs.Sets.{Keys}
+use Rattle.lz_slot.specs.Bytes.{Holds, format_of}
+use Rattle.lz_slot.specs.declared.format.Format.{Format}
+use Rattle.lz_disk.specs.Images.{IsImage}
+use Rattle.lz_disk.specs.Devices.{Device, IsTimely, LeavesOnly}
+use Rattle.lz_disk.proofs.Moments.{leaves_then, leaves_more}
+use Rattle.lz_machine.specs.Yards.{Yard}
+use Rattle.lz_machine.proofs.Open.FirstPoint.{one_set}
+use Rattle.lz_proto.proofs.FirstItems.{session_asked}
+use Rattle.lz_board.specs.declared.view.Note.{Note}
+use Rattle.lz_board.specs.declared.view.Part.{Part}
+use Rattle.lz_board.specs.declared.view.Sizes.{Sizes}
+use Rattle.lz_board.specs.Notes.{shape_of}
+use Rattle.lz_board.specs.Seats.{BoardId, part}
+use Rattle.lz_serve.specs.Replies.{SeatAnswers}
+use Rattle.lz_tie.specs.Moments.{ExplainsBegun}
+use Rattle.lz_tie.specs.OwnCalls.{told}
+use Rattle.lz_tie.specs.RunningSets.{members_of}
+use Rattle.lz_tie.specs.Sessions.{IsSession, AreOn, marks_alone}
+use Rattle.lz_tie.proofs.Sessions.SessionMoments.{moments_are_plain}
+use Rattle.lz_tie.proofs.Start.FirstSets.{same_set_explains}
+use Rattle.lz_tie.proofs.Start.OpenedYard.{opened_sizes}
+use Rattle.lazyset_commands.specs.PlainReplies.{PassMayAnswer}
+use Rattle.lazyset_commands.specs.Runs.{FoundAfter, OfInput, RanSeat, RepliesOfPass, ServedSeat, SessionOfSet}
+use Rattle.lazyset_commands.specs.declared.status.Status.{Status}
+use Rattle.lazyset_commands.specs.declared.status.Status.TheVariants as status
+use Rattle.lazyset_commands.proofs.Openings.{opening_leaves, unwritten}
+use Rattle.lazyset_commands.proofs.Runs.PlainRows.{same_is}
+use Rattle.lazyset_commands.proofs.Runs.SessionCalls.{none_made}
+use Rattle.lazyset_commands.proofs.Runs.ToldSessions.{told_session, told_plain, told_moment}
+
+module _ {D : Type 0} (device : D → Device) (buckets : ℕ) (state : Status) (input rest before later : Option (List ℕ)) (old new : D) (ran : RanSeat device buckets state input rest before later old new) where
+  abbrev b : BoardId
+  b = ran.opened.board
+
+  abbrev y : Yard
+  y = ran.opened.yard
+
+  abbrev F0 : Format
+  F0 = y.vault.format
+
+  abbrev mid : Device
+  mid = device ran.opened.disk
+
+  abbrev seat : ServedSeat b mid F0 state input rest before later (device new)
+  seat = ran.served
+
+  abbrev S0 : Keys
+  S0 = members_of b.opened
+
+  one : b.sizes.passes ≡ 1
+  one = ap (λ (z : Sizes). z.passes) ran.sizes ∙ ran.opens.passes
+
+  known : (part seat.begun).known ≡ b.opened
+  known = ap (λ (h : Part). h.known) seat.fresh.1
+
+  no_steps : (part seat.begun).steps ≡ []
+  no_steps = ap (λ (h : Part). h.steps) seat.fresh.1
+
+  pub seat_honest : (device new).honest ≡ (device old).honest
+  seat_honest = seat.left.honest ∙ ran.opens.vault.honest
+
+  pub seat_faults : (device old).faults ≤ (device new).faults
+  seat_faults = let a = ran.opens.vault.faults in let b = seat.left.faults in omega (arith, a, b)
+
+  module _ (N : ℕ) (S : Keys) (honest : IsTrue (device old).honest) (held : Holds (device old).medium.seen N S) where
+    abbrev seen : List ℕ
+    seen = (device old).medium.seen
+
+    still : IsTrue (device new).honest
+    still = subst IsTrue (sym seat_honest) honest
+
+    -- the board has the file's slots, and its life began with the set that the file held
+    sized : b.sizes.slots ≡ N
+    sized =
+        let first = ran.opens.first in
+        let is = first.2.text.size in
+        let was = held.size in
+        let read = ap (λ (t : List ℕ). length t) (first.1 honest) in
+        let same : y.shape.slots ≡ N = omega (arith, is, was, read) in
+        ap (λ (z : Sizes). z.slots) ran.sizes ∙ same
+
+    at_slots : Holds seen b.sizes.slots S
+    at_slots = subst (λ (n : ℕ). Holds seen n S) (sym sized) held
+
+    no_calls : IsSession b F0 [] [] (part seat.begun) (part seat.begun)
+    no_calls = record {
+      alone = one;
+      known = known;
+      no_steps = no_steps;
+      served = refl;
+      cut = tt;
+      format = subst (AreOn F0) (sym no_steps) tt;
+      tells = subst (λ (l : List Note). [] ≡ marks_alone (part seat.begun).number (told (shape_of b.sizes) l)) (sym no_steps) refl;
+    }
+
+    begins : S0 ≡ S
+    begins =
+        let first = ran.opens.first in
+        let in_words = ran.sizes ∙ sym (opened_sizes y first.0 first.2 first.3) in
+        let text : ExplainsBegun b [] seen = same_set_explains b (device old) mid buckets 1 y ran.opens in_words ran.trace [] honest S at_slots seen at_slots in
+        let there = none_made F0 b.sizes.slots S0 seen (moments_are_plain b F0 [] [] (part seat.begun) (part seat.begun) no_calls seen text) in
+        same_is S0 S (one_set seen b.sizes.slots S0 S there at_slots)
+
+    -- so what is said of these is said of the file
+    of_file : (P : Format → ℕ → Keys → Type 0) → P F0 b.sizes.slots S0 → P (format_of seen) N S
+    of_file P is =
+        subst (λ (F : Format). P F N S) (ran.opens.vault.format honest) (subst (λ (n : ℕ). P F0 n S) sized (subst (λ (T : Keys). P F0 b.sizes.slots T) begins is))
+
+    pub seat_set : SessionOfSet (PassMayAnswer (format_of seen) N) N S state input rest before later (device new).medium
+    seat_set = of_file (λ F n T. SessionOfSet (PassMayAnswer F n) n T state input rest before later (device new).medium) (record {
+      ended = seat.ended;
+      status_is = seat.status_is;
+      written = seat.tells.0;
+      appended = seat.tells.1;
+      each = λ t image.
+          let e = seat.left.now still t image in
+          (e.found, told_session (λ p. p) b F0 seat.notes seat.begun seat.done one known no_steps (seat.alone one) seat.format t e input rest seat.ended seat.tells.0 seat.tells.2, e.holds);
+    })
+
+    pub seat_plain : status.Done ≡ state → RepliesOfPass (format_of seen) N S input before later (device new).medium
+    seat_plain is = of_file (λ F n T. RepliesOfPass F n T input before later (device new).medium)
+        (told_plain (λ p. p) b F0 seat.notes seat.begun seat.done one known no_steps (seat.alone one) seat.format (device new).medium (seat.left.now still) input rest before later seat.ended (is ∙ seat.status_is) seat.tells)
+
+    -- at each moment the text is one that might have been left before, or holds the set after some first ones of the items
+    pub seat_leaves : IsTimely (device old) → OfInput input (λ items. LeavesOnly (device old) (device new) (λ t. IsImage (device old).medium t ⊎ FoundAfter (PassMayAnswer (format_of seen) N) N S items t))
+    seat_leaves timely =
+        let first = session_asked (SeatAnswers b F0) input rest seat.begun seat.done seat.ended seat.tells.0 seat.tells.2 in
+        let opening = opening_leaves (device old) mid (FoundAfter (PassMayAnswer (format_of seen) N) N S first.items) timely (inr (ran.opens.vault.medium honest)) (ran.opens.vault.time honest) in
+        let was = unwritten (device old) mid timely (inr (ran.opens.vault.medium honest)) in
+        let begun : (t : List ℕ) → ExplainsBegun b seat.notes t → FoundAfter (PassMayAnswer (format_of seen) N) N S first.items t = λ t text.
+        of_file (λ F n T. FoundAfter (PassMayAnswer F n) n T first.items t) (told_moment (λ p. p) b F0 seat.notes seat.begun seat.done one known no_steps (seat.alone one) seat.format input first t text)
+        in (
+          first.text,
+          first.known,
+          (
+            first.items,
+            first.its,
+            leaves_then _ _ _ _ opening (leaves_more _ _ _ _ (λ t either. ⊎_elim (λ image. inl (was t image)) (λ text. inr (begun t text)) either) (seat.left.ever still)),
+          ),
+        )

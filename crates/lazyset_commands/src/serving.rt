@@ -1,0 +1,179 @@
+//! The command that serves a set over the network.
+ghost use Rattle.std.specs.Prelude.{◌≡◌, ◌⊎◌, ◌≤◌, ◌<◌, All, true, vec_len};
+ghost use Rattle.lz_slot.specs.Limits.{most_buckets, most_passes};
+ghost use Rattle.lz_set.specs.Blanks.{MayBeNamed};
+ghost use Rattle.lz_set.specs.Names.{MayCall};
+ghost use Rattle.lazyset_commands.specs.Services.{HadNoPort, HadPort, RanService, RefusedService, ServedPasses, TellsPort};
+
+use crate::refusal::{refuse, send_line};
+use crate::status::Status;
+use crate::telling::tell;
+use lz_disk::Disk;
+use lz_serve::{Bounds, Observer, Served, Serving, serve};
+use lz_set::{Blank, Named, NoGate, Pass, Set};
+use lz_vault::Refused;
+use std::io::Write;
+use std::marker::Brand;
+use std::net::{Net, TcpListener, TcpStream};
+use std::sync::Wait;
+use std::thread::Threads;
+use std::time::{Clock, Duration};
+
+// What is said where the service can't listen.
+const NO_PORT: &[u8] = b"noport\n";
+
+/// How a set is served.
+#[derive(Clone, Copy, Debug, PartialEq, Eq)]
+pub struct ServeOptions {
+    /// The port of the loopback interface; 0 for any that is free.
+    pub port: u16,
+    /// How many connections are served at once, 1 to 64.
+    pub passes: usize,
+    /// After how many sessions each pass ends; 0 for no end.
+    pub sessions: u64,
+    /// How many lists the keys are spread over, 1 to 4096.
+    pub buckets: usize,
+    /// After how many seconds a client's session ends, in which it sent nothing or took none of its replies; 0 for no end.
+    pub idle: u64,
+}
+
+impl ServeOptions {
+    // When its sessions and passes end.
+    fn bounds(&self) -> Bounds {
+        let idle = if self.idle == 0 {
+            None
+        } else {
+            Some(Duration::from_secs(self.idle))
+        };
+        Bounds {
+            sessions: self.sessions,
+            idle,
+        }
+    }
+}
+
+/// Opens the set that the disk holds and serves it on a port of 127.0.0.1, with a thread for each pass, each of which serves
+/// one connection after the other. The observer is told once the service stands, and where the device failed. Says `listening P` before the first connection, `refused N` of a refused open as a run does, and
+/// `noport` where it can't listen there. It ends when each pass has served its sessions, and hands the disk back: Failed where the device failed, or
+/// where there was no thread for a pass.
+pub fn serve_on<R, W, O, D>(
+    rt: &R,
+    writer: &mut W,
+    observer: &O,
+    disk: D,
+    options: ServeOptions,
+) -> (Status, D)
+where
+    R: Net<Listener = TcpListener, Stream = TcpStream>,
+    R: Threads + Wait + Clock + AllocGlobal + Sync,
+    W: Write + Drop,
+    O: Observer + Sync,
+    D: Disk + Send,
+    requires passes { (1 ≤ options.passes) × (options.passes ≤ most_passes) }
+    requires buckets { (1 ≤ options.buckets) × (options.buckets ≤ most_buckets) }
+    // Either the passes of the set that was opened were served, or there was no port, or the open was refused.
+    ensures ran { RanService D.device options.buckets options.passes result.0 (W.contents writer.old) (W.contents writer.new) disk result.1
+        ⊎ RefusedService D.device result.0 (W.contents writer.old) (W.contents writer.new) disk result.1 }
+    ensures honest { (D.device result.1).honest ≡ (D.device disk).honest }
+    ensures faults { (D.device disk).faults ≤ (D.device result.1).faults }
+{
+    match Set::open(rt.alloc(), disk, NoGate, options.buckets, options.passes) {
+        Ok(blank) => serve_blank::<R, W, O, D, Brand>(rt, writer, observer, blank, options),
+        Err(refused) => {
+            let Refused { disk, fault } = refused;
+            (refuse(writer, fault), disk)
+        }
+    }
+}
+
+// Listens, and serves the set.
+fn serve_blank<R, W, O, D, N>(
+    rt: &R,
+    writer: &mut W,
+    observer: &O,
+    blank: Blank<D, NoGate>,
+    options: ServeOptions,
+) -> (Status, D)
+where
+    R: Net<Listener = TcpListener, Stream = TcpStream>,
+    R: Threads + Wait + Clock + AllocGlobal + Sync,
+    W: Write + Drop,
+    O: Observer + Sync,
+    D: Disk + Send,
+    N: Named + Send + Sync,
+    requires { MayBeNamed D.device N.board N.first N.format blank }
+    ensures { HadPort N.board N.first N.format result.0 (W.contents writer.old) (W.contents writer.new) (D.device result.1) ⊎ HadNoPort N.board N.first result.0 (W.contents writer.old) (W.contents writer.new) (D.device result.1) }
+{
+    let serving = Serving {
+        slots: blank.slots(),
+        members: blank.members(),
+        buckets: options.buckets,
+        passes: options.passes,
+    };
+    let (set, passes) = blank.start::<N>();
+    let Some((listener, port)) = listen(rt, options.port) else {
+        return (tell(writer, Status::Failed, NO_PORT), set.close());
+    };
+    observer.serving(serving);
+    tell_port(writer, port);
+    serve_passes(rt, observer, &listener, set, passes, options.bounds())
+}
+
+// Serves the passes, and ends the set's life behind them.
+fn serve_passes<R, O, D, N>(
+    rt: &R,
+    observer: &O,
+    listener: &TcpListener,
+    set: Set<D, NoGate, N>,
+    passes: Vec<Pass>,
+    bounds: Bounds,
+) -> (Status, D)
+where
+    R: Threads + Wait + Clock + AllocGlobal + Sync,
+    O: Observer + Sync,
+    D: Disk + Send,
+    N: Named + Send + Sync,
+    requires may_call { All (MayCall N.board) passes.items }
+    requires all { vec_len passes ≡ N.board.sizes.passes }
+    ensures { ServedPasses N.board N.first N.format result.0 (D.device result.1) }
+{
+    let Served {
+        passes,
+        halted,
+        threadless,
+    } = serve(rt, listener, &set, passes, bounds, observer);
+    let mut passes = passes;
+    let disk = set.close_with(passes.as_mut_slice());
+    (status_of_service(halted, threadless), disk)
+}
+
+// The status after a service.
+fn status_of_service(halted: bool, threadless: usize) -> Status
+    ensures done { result ≡ Status.Done → threadless ≡ 0 }
+    ensures failed { result ≡ Status.Failed → (halted ≡ true) ⊎ (0 < threadless) }
+    ensures other { (result ≡ Status.Done) ⊎ (result ≡ Status.Failed) }
+{
+    if halted || threadless > 0 {
+        Status::Failed
+    } else {
+        Status::Done
+    }
+}
+
+// A listener on a port of the loopback interface, and its port.
+fn listen<R>(rt: &R, port: u16) -> Option<(TcpListener, u16)>
+where
+    R: Net<Listener = TcpListener, Stream = TcpStream>,
+{
+    let listener = TcpListener::bind(rt, ("127.0.0.1", port)).ok()?;
+    let taken = listener.local_addr().ok()?.port();
+    Some((listener, taken))
+}
+
+// Says on which port the service listens. It goes on where nobody reads what it says.
+fn tell_port<W: Write>(writer: &mut W, port: u16)
+    ensures { TellsPort (W.contents writer.old) (W.contents writer.new) }
+{
+    let _ = send_line(writer, b"listening ", u64::from(port));
+    let _ = writer.flush();
+}

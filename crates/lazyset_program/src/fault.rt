@@ -1,0 +1,53 @@
+//! What ends a command before it has what it works on.
+use lazyset_command_line::Refusal;
+use lazyset_commands::Status;
+use std::alloc::AllocError;
+use std::io;
+use std::io::ErrorKind;
+use thiserror::Error;
+
+#[derive(Debug, Drop, Error)]
+pub enum Fault {
+    #[error("nofile\n")]
+    NoFile,
+    #[error("noread\n")]
+    NoRead,
+    #[error("nomemory\n")]
+    Memory(#[from(alloc)] AllocError),
+    #[error("noarguments\n")]
+    NoArguments(io::Error),
+    #[error("an argument isn't UTF-8\n")]
+    NotText,
+    /// The command line was not understood, or asked for help: the text says which.
+    #[error("{text}")]
+    CommandLine { text: String, status: Status },
+}
+
+impl Fault {
+    /// Why the process's arguments couldn't be had.
+    pub fn of_arguments(error: io::Error) -> Fault {
+        match error.kind() {
+            ErrorKind::InvalidData => Fault::NotText,
+            ErrorKind::OutOfMemory => Fault::Memory(AllocError),
+            _ => Fault::NoArguments(error),
+        }
+    }
+
+    /// Why the command line asks for nothing that can be done.
+    pub fn of_refusal(refusal: Refusal) -> Fault {
+        match refusal {
+            Refusal::Memory(error) => Fault::Memory(error),
+            Refusal::Told { text, status } => Fault::CommandLine { text, status },
+        }
+    }
+
+    /// How the command ended.
+    pub fn status(&self) -> Status {
+        match self {
+            Fault::NoFile => Status::Refused,
+            Fault::NotText => Status::CommandLine,
+            Fault::NoRead | Fault::Memory(_) | Fault::NoArguments(_) => Status::Failed,
+            Fault::CommandLine { status, .. } => *status,
+        }
+    }
+}

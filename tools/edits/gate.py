@@ -1,0 +1,49 @@
+"""What the gate tries beside `rt ci`: the crates that changed since all of their edits were refused, and others by turns."""
+
+from __future__ import annotations
+
+from typing import Dict, List, NamedTuple, Sequence
+
+from edits import kit, record
+from edits.crate import length
+from edits.edit import WRONG_BODIES, files_of
+
+TURNS = 8
+
+
+class Choice(NamedTuple):
+    """The crates whose wrong bodies are tried, as they changed or as it is their turn, and those that are left out."""
+
+    changed: List[kit.Crate]
+    in_turn: List[kit.Crate]
+    left_out: List[kit.Crate]
+
+
+def turns(crates: Sequence[kit.Crate], lines: Dict[str, record.Line]) -> List[List[kit.Crate]]:
+    """The crates in parts that take about as long as each other: the longest first, each into the shortest part so far."""
+    lengths = {it.name: length(it, (WRONG_BODIES,), lines) for it in crates}
+    parts: List[List[kit.Crate]] = [[] for _ in range(TURNS)]
+    for crate in sorted(crates, key=lambda it: (-lengths[it.name], it.name)):
+        min(parts, key=lambda part: sum(lengths[it.name] for it in part)).append(crate)
+    return parts
+
+
+def choose(top: str, crates: Sequence[kit.Crate], turn: int) -> Choice:
+    lines, hashes = record.read(top), record.Hashes()
+    with_edits = [it for it in crates if files_of(it, (WRONG_BODIES,))]
+    changed = [it for it in with_edits if it.name not in lines or lines[it.name].hash != hashes.of(it)]
+    others = [it for it in with_edits if it not in changed]
+    part = turns(with_edits, lines)[turn % TURNS]
+    return Choice(changed, [it for it in others if it in part], [it for it in others if it not in part])
+
+
+def tell(choice: Choice, turn: int) -> None:
+    """Says which wrong bodies are tried, and which not, and why."""
+
+    def named(crates: Sequence[kit.Crate]) -> str:
+        return ", ".join(f"{it.name} ({len(files_of(it, (WRONG_BODIES,)))})" for it in crates) or "none"
+
+    kit.say("wrong bodies, how many by crate; those of must-fail were tried by rt ci")
+    kit.say(f"tried, since the crate or a contract below it changed since all of its edits were refused: {named(choice.changed)}")
+    kit.say(f"tried, since it is their turn ({turn % TURNS} of 0 to {TURNS - 1}): {named(choice.in_turn)}")
+    kit.say(f"left out, since nothing changed that their refusal rests on, and it isn't their turn: {named(choice.left_out)}")

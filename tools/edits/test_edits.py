@@ -1,0 +1,352 @@
+"""Tests of ./try-edits, over small crates that the kit proves: python3 tools/edits/test_edits.py"""
+
+from __future__ import annotations
+
+import contextlib
+import io
+import os
+import re
+import shutil
+import sys
+import tempfile
+import unittest
+from typing import Dict, List, Optional, Tuple
+
+sys.dont_write_bytecode = True
+sys.path.insert(0, os.path.dirname(os.path.dirname(os.path.abspath(__file__))))
+
+from edits import change, gate, kit, record  # noqa: E402
+from edits.crate import Outcome, try_edits  # noqa: E402
+from edits.edit import FOLDERS, MUST_FAIL, WRONG_BODIES, Place, Sources, read_source  # noqa: E402
+from edits.group import is_of  # noqa: E402
+from edits.source import Name  # noqa: E402
+
+LOW = """//! Small functions.
+#![tactic(auto)]
+
+ghost use Rattle.std.specs.Prelude.{◌≡◌, ◌+◌, ◌<◌, ◌≤◌};
+
+/// One more.
+pub fn next(x: usize) -> usize
+    requires { x < 1000 }
+    ensures { result ≡ x + 1 }
+{
+    x + 1
+}
+
+/// Two more.
+pub fn second(x: usize) -> usize
+    requires { x < 900 }
+    ensures { result ≡ x + 2 }
+{
+    next(next(x))
+}
+
+/// A number up to the first.
+pub fn least(x: usize, y: usize) -> usize
+    ensures { result ≤ x }
+{
+    if x < y { x } else { y }
+}
+
+/// A number up to the first, by another function.
+pub fn lower(x: usize, y: usize) -> usize
+    ensures { result ≤ x }
+{
+    least(x, y)
+}
+
+/// What has sides.
+pub trait Shape {
+    /// How many.
+    fn sides(&self) -> usize
+        ensures { result ≡ 3 };
+}
+
+/// Three corners.
+#[derive(Clone, Copy)]
+pub struct Triangle {}
+
+impl Shape for Triangle {
+    fn sides(&self) -> usize {
+        3
+    }
+}
+"""
+# A proof by a person, of the name that a call's result has.
+LOWER = """use Rattle.low.proofs.lower.Goals as goal
+
+pub returns : goal.returns
+returns c = c.least.ensures
+"""
+HIGH = """//! A function over another crate's.
+#![tactic(auto)]
+
+ghost use Rattle.std.specs.Prelude.{◌≡◌, ◌+◌, ◌<◌};
+
+/// Three more.
+pub fn third(x: usize) -> usize
+    requires { x < 800 }
+    ensures { result ≡ x + 3 }
+{
+    low::next(low::second(x))
+}
+"""
+METHODS = """impl<T: Copy> Shape<T> for Round<'_, T> {
+    fn size(&self) -> u8
+        ensures { result ≡ 1 }
+    {
+        1
+    }
+}
+
+impl Round {
+    pub(crate) fn new() -> Round {
+        Round {}
+    }
+
+    const fn most() -> u8 {
+        9
+    }
+}
+"""
+FILES = {
+    "crates.txt": "low:\nhigh: low\n",
+    "HANDLES": "Handles allowed: none.\n",
+    "crates/low/src/lib.rt": LOW,
+    "crates/low/proofs/lower/Answers.antt": LOWER,
+    "crates/high/src/lib.rt": HIGH,
+}
+NEXT_IS_TWO_MORE = ("    x + 1", "    x + 1 + 1")
+SECOND_IS_ITSELF = ("next(next(x))", "next(x) + 1")
+LEAST_IS_THE_SECOND = ("if x < y { x } else { y }", "y")
+LOWER_IS_TURNED = ("    least(x, y)", "    least(y, x)")
+TRIANGLE_OF_FOUR = ("        3", "        4")
+LOWER_WITHOUT_A_CALL = ("    least(x, y)", "    if x < y { x } else { y }")
+# A wrong body before the right one, which has another name then.
+NEXT = "pub fn next(x: usize) -> usize requires { x < 1000 } ensures { result ≡ x + 1 }"
+NO_SUCH_TEXT = ("x - 1", "x - 2")
+THIRD_IS_SECOND = ("low::next(low::second(x))", "low::second(x)")
+
+
+class Repository:
+    """A repository in a folder for temporary files."""
+
+    def __init__(self, top: str, built: Optional[Repository] = None) -> None:
+        """Writes the crates, or copies those of another repository with what is built of them."""
+        self.top = top
+        if built:
+            shutil.copytree(built.top, top, dirs_exist_ok=True)
+        for path, text in FILES.items() if not built else ():
+            self.write(path, text)
+
+    def write(self, path: str, text: str) -> None:
+        whole = os.path.join(self.top, path)
+        os.makedirs(os.path.dirname(whole), exist_ok=True)
+        with open(whole, "w", encoding="utf-8") as file:
+            file.write(text)
+
+    def put_edits(self, crate: str, edits: Dict[str, Tuple[str, str]], folder: str = WRONG_BODIES) -> None:
+        for name, (old, new) in edits.items():
+            self.write(f"crates/{crate}/{folder}/{name}.edit", f"file: src/lib.rt\nold: {old}\nnew: {new}\n")
+
+    def crate(self, name: str) -> kit.Crate:
+        return next(it for it in kit.crates(self.top) if it.name == name)
+
+    def hash(self, name: str) -> str:
+        return record.Hashes().of(self.crate(name))
+
+
+# The repository that each test gets a copy of.
+BUILT: List[Repository] = []
+
+
+def setUpModule() -> None:
+    kit.start()
+    folder = tempfile.TemporaryDirectory(prefix="test-edits-")
+    unittest.addModuleCleanup(folder.cleanup)
+    BUILT.append(Repository(folder.name))
+    kit.built([BUILT[0].crate("low")], is_after_ci=False)
+
+
+class EditsTest(unittest.TestCase):
+    """A test with a repository of two crates, of which the lower one is built."""
+
+    def setUp(self) -> None:
+        folder = tempfile.TemporaryDirectory(prefix="test-edits-")
+        self.addCleanup(folder.cleanup)
+        self.repository = Repository(folder.name, BUILT[0])
+
+    def tried(self, crate: str, folders: Tuple[str, ...] = FOLDERS) -> Tuple[Outcome, List[str]]:
+        """What came of a crate's edits, and the lines that were printed."""
+        found = self.repository.crate(crate)
+        self.assertIsNone(kit.built(found.below(), is_after_ci=False))
+        with contextlib.redirect_stdout(io.StringIO()) as said:
+            outcome = try_edits(self.repository.top, found, folders)
+        return outcome, said.getvalue().split("\n")
+
+    def assert_said(self, start: str, lines: List[str]) -> None:
+        self.assertTrue(any(it.startswith(start) for it in lines), f"no line begins with {start}: {lines}")
+
+
+class VerdictTest(EditsTest):
+    """What is said of edits."""
+
+    def test_group(self) -> None:
+        """Of a group the right body fails, and a wrong caller of a wrong function is found in a later check.
+
+        An impl is refused with its method.
+        """
+        self.repository.put_edits("low", {
+            "least_is_the_second": LEAST_IS_THE_SECOND,
+            "lower_is_turned": LOWER_IS_TURNED,
+            "next_is_two_more": NEXT_IS_TWO_MORE,
+            "second_is_itself": SECOND_IS_ITSELF,
+            "triangle_of_four": TRIANGLE_OF_FOUR,
+        })
+        outcome, lines = self.tried("low")
+        self.assertEqual((outcome.refused, outcome.failed), (4, 1), lines)
+        told = [line.partition("/")[0] + line.partition("wrong-bodies")[2].partition(".edit")[0] for line in lines[:5]]
+        first = ["refused low/least_is_the_second", "refused low/next_is_two_more", "refused low/triangle_of_four"]
+        self.assertEqual(told[:3], first)
+        self.assertEqual(sorted(told[3:]), ["NOT REFUSED low/second_is_itself", "refused low/lower_is_turned"])
+        self.assertEqual(record.read(self.repository.top), {})
+
+    def test_vanished_name(self) -> None:
+        """A right body that is refused as a proof cites what isn't there any more."""
+        self.repository.put_edits("low", {"lower_without_a_call": LOWER_WITHOUT_A_CALL, "next_is_two_more": NEXT_IS_TWO_MORE})
+        outcome, lines = self.tried("low")
+        self.assertEqual((outcome.refused, outcome.failed), (1, 1), lines)
+        self.assert_said("ONLY BY NAME low/wrong-bodies/lower_without_a_call.edit", lines)
+
+    def test_bad_edit(self) -> None:
+        self.repository.put_edits("low", {"no_such_text": NO_SUCH_TEXT, "twice": ("pub fn", "fn")})
+        outcome, lines = self.tried("low")
+        self.assertEqual((outcome.refused, outcome.failed), (0, 2), lines)
+        self.assert_said("BAD EDIT low/wrong-bodies/no_such_text.edit", lines)
+        self.assert_said("BAD EDIT low/wrong-bodies/twice.edit", lines)
+
+    def test_contract(self) -> None:
+        """An edit of a contract is tried alone, and so is what isn't proved without an edit."""
+        self.repository.put_edits("high", {"third_promises_four": ("ensures { result ≡ x + 3 }", "ensures { result ≡ x + 4 }")})
+        outcome, lines = self.tried("high")
+        self.assertEqual((outcome.refused, outcome.failed), (1, 0), lines)
+        self.repository.write("crates/high/src/lib.rt", HIGH.replace("x + 3", "x + 5"))
+        outcome, lines = self.tried("high")
+        self.assertEqual((outcome.refused, outcome.failed), (0, 1), lines)
+        self.assert_said("high NOT PROVED", lines)
+
+
+class RecordTest(EditsTest):
+    """The record and the choice of the gate."""
+
+    def test_record(self) -> None:
+        """A crate has a line once all of its edits were refused, and the gate then leaves it out."""
+        top = self.repository.top
+        self.repository.put_edits("high", {"third_is_second": THIRD_IS_SECOND})
+        self.tried("high", (WRONG_BODIES,))
+        self.assertEqual(record.read(top), {}, "edits of one folder are not all")
+        crates = [self.repository.crate("high")]
+        self.assertEqual(gate.choose(top, crates, 0).changed, crates)
+        self.tried("high")
+        line = record.read(top)["high"]
+        self.assertEqual((line.hash, line.edits), (self.repository.hash("high"), 1))
+        chosen = [gate.choose(top, crates, turn) for turn in range(gate.TURNS)]
+        self.assertEqual([it.changed for it in chosen], [[]] * gate.TURNS)
+        self.assertEqual(sorted(len(it.in_turn) for it in chosen), [0] * (gate.TURNS - 1) + [1])
+        self.repository.write("crates/low/src/lib.rt", LOW.replace("x < 900", "x < 901"))
+        self.assertEqual(gate.choose(top, crates, 0).changed, crates)
+
+    def test_hash(self) -> None:
+        """It changes with what a refusal rests on, and with nothing else."""
+        self.repository.put_edits("high", {"third_is_second": THIRD_IS_SECOND}, MUST_FAIL)
+        known = self.repository.hash("high")
+        same = {
+            "crates/low/src/lib.rt": LOW.replace("next(next(x))", "next(x) + 1").replace("/// Two more.", "/// Two added."),
+            "crates/low/proofs/lower/Answers.antt": LOWER + "\n",
+            "crates/high/proofs/third/Answers.antt": "\n",
+        }
+        others = {
+            "crates/low/src/lib.rt": LOW.replace("x < 900", "x < 901"),
+            "crates/low/specs/Lib.antt": "pub mod More\n",
+            "crates/high/src/lib.rt": HIGH + "\n",
+            "crates/high/wrong-bodies/another.edit": "file: src/lib.rt\n",
+        }
+        for path, text in same.items():
+            self.repository.write(path, text)
+            self.assertEqual(self.repository.hash("high"), known, path)
+        for path, text in others.items():
+            self.repository.write(path, text)
+            self.assertNotEqual(self.repository.hash("high"), known, path)
+            known = self.repository.hash("high")
+
+
+class ChangeTest(EditsTest):
+    """What tools/check-change does."""
+
+    def test_change(self) -> None:
+        """Of a changed crate it tells the layout, the proofs and the edits, and fails where an edit isn't refused."""
+        top = self.repository.top
+        self.repository.write(".gitignore", "out/\n")
+        for words in (("init", "-q"), ("add", "."), ("-c", "user.name=a", "-c", "user.email=a", "commit", "-qm", "all")):
+            change.git(top, *words)
+        self.assertEqual(change.touched(top, "HEAD"), set())
+        self.repository.put_edits("low", {"second_is_itself": SECOND_IS_ITSELF})
+        self.assertEqual(change.touched(top, "HEAD"), {"low"})
+        self.repository.write("crates.txt", "low:\nhigh: low memchr\n")
+        self.assertEqual(change.touched(top, "HEAD"), {"low", "high"})
+        self.repository.write("crates.txt", FILES["crates.txt"])
+        with contextlib.redirect_stdout(io.StringIO()) as said:
+            status = change.main(top, [])
+        self.assertEqual(status, 1)
+        told = re.sub(r" \(\d+ s\)", "", said.getvalue()).split("\n")
+        steps = [it for it in told if re.fullmatch(r"touched.*|low: \w+: \w+", it)]
+        self.assertEqual(steps, ["touched: low", "low: layout: ok", "low: proofs: ok", "low: edits: FAILED"])
+
+
+class ReadingTest(EditsTest):
+    """How sources and edits are read."""
+
+    def test_functions(self) -> None:
+        source = read_source(METHODS)
+        assert source is not None
+        self.assertEqual(list(source.functions), [Name("Round", "Shape", "size"), Name("Round", "", "new")])
+        self.assertEqual(source.function_on(3), Name("Round", "Shape", "size"))
+        left = " ".join(it.text for it in source.without(frozenset()))
+        self.assertIn('"ensures" "{" "result"', left)
+        self.assertNotIn("Round { }", left)
+        self.assertIn("most ( ) -> u8 {".replace("->", "- >"), left)
+
+    def test_names(self) -> None:
+        free = Place("src/a/mod.rt", Name("", "", "size"))
+        self.assertTrue(is_of("low::a::size", "low", free))
+        self.assertTrue(is_of("low::a::fn::size::map+FnMut::call_mut", "low", free))
+        self.assertFalse(is_of("low::b::size", "low", free))
+        self.assertFalse(is_of("low::a::Round::size", "low", free))
+        method = Place("src/a.rt", Name("Round", "", "size"))
+        self.assertTrue(is_of("low::b::Round::size", "low", method))
+        self.assertTrue(is_of("low::b::Round+Disk::size", "low", method))
+        self.assertFalse(is_of("low::b::Rounded::size", "low", method))
+        self.assertFalse(is_of("low::b::RoundShape::size", "low", method))
+        self.assertTrue(is_of("low::b::RoundShape::size", "low", Place("src/a.rt", Name("Round", "Shape", "size"))))
+
+    def test_changed_functions(self) -> None:
+        """An edit of bodies names their functions; one of more than bodies names none."""
+        self.repository.put_edits("low", {
+            "body": NEXT_IS_TWO_MORE,
+            "renamed": ("pub fn next(x: usize) -> usize", f"{NEXT} {{ x }} fn next_in_truth(x: usize) -> usize"),
+            "clause": ("result ≡ x + 1", "result ≡ x + 2"),
+        })
+        sources = Sources(self.repository.crate("low").folder)
+
+        def changed(name: str) -> Tuple[List[str], List[str]]:
+            edit = sources.edit(f"{WRONG_BODIES}/{name}.edit")
+            return [it.name.name for it in edit.functions], [it.name.name for it in edit.added]
+
+        self.assertEqual(changed("body"), (["next"], []))
+        self.assertEqual(changed("renamed"), (["next"], ["next_in_truth"]))
+        self.assertEqual(changed("clause"), ([], []))
+
+
+if __name__ == "__main__":
+    unittest.main()
