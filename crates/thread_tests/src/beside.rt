@@ -231,41 +231,50 @@ fn wanted(plot: &Plot, phase: Phase, early: Result<Glance, GlanceFault>) -> Besi
     }
 }
 
-// Whether the scene is as the plot has it at this phase.
-fn is_as_plotted(alloc: Global, plot: &Plot, phase: Phase, scene: Scene) -> bool {
-    let Scene { beside, disk } = scene;
-    let early = beside.early;
-    plot.may_be_seen(phase, early)
-        && beside == wanted(plot, phase, early)
-        && keys_in(alloc, disk).is_some_and(|keys| keys.as_slice() == plot.keys)
-}
-
-// Holds the call after each of its events in turn.
+// Holds the call after each of its events in turn, on a set of so many passes.
 fn hold_after_each<R: Threads + Wait + Clock + Sync + Abort>(
     rt: &R,
     alloc: Global,
+    passes: usize,
     plot: &Plot,
-) -> Result<(), Fail> {
-    for passes in [2, 3] {
-        let mut event = 0u64;
-        for (phase, kinds) in plot.acts {
-            for kind in kinds {
-                let scene = scene_of(rt, alloc, passes, event, *kind, plot.asked);
-                let is_right = scene.is_some_and(|scene| is_as_plotted(alloc, plot, phase, scene));
-                assert!(rt; is_right, "{passes} passes, event {event}: {kind:?}");
-                event = event.wrapping_add(1);
-            }
-        }
+) -> Result<(), Fail>
+    requires { (2 ≤ passes) × (passes ≤ 3) }
+{
+    let mut event = 0u64;
+    for (kind, phase) in plot.events.iter().take(plot.length) {
+        let Some(scene) = scene_of(rt, alloc, passes, event, *kind, plot.asked) else {
+            panic!(rt;
+                "event {event}, {kind:?}: no set, another answer or event, or a wait that gave up"
+            )
+        };
+        let Scene { beside, disk } = scene;
+        assert!(rt;
+            plot.may_be_seen(*phase, beside.early),
+            "event {event}, {kind:?}: {beside:?}"
+        );
+        assert_eq!(rt;
+            beside,
+            wanted(plot, *phase, beside.early),
+            "event {event}, {kind:?}"
+        );
+        let keys = keys_in(alloc, disk);
+        assert!(rt;
+            keys.is_some_and(|keys| plot.leaves(keys.as_slice())),
+            "event {event}, {kind:?}"
+        );
+        event = event.wrapping_add(1);
     }
     Ok(())
 }
 
 #[test]
 fn an_addition_is_held_after_each_event(rt: HostRuntime) -> Result<(), Fail> {
-    hold_after_each(&rt, rt.alloc(), &addition(&rt))
+    hold_after_each(&rt, rt.alloc(), 2, &addition(&rt))?;
+    hold_after_each(&rt, rt.alloc(), 3, &addition(&rt))
 }
 
 #[test]
 fn a_removal_is_held_after_each_event(rt: HostRuntime) -> Result<(), Fail> {
-    hold_after_each(&rt, rt.alloc(), &removal(&rt))
+    hold_after_each(&rt, rt.alloc(), 2, &removal(&rt))?;
+    hold_after_each(&rt, rt.alloc(), 3, &removal(&rt))
 }

@@ -20,16 +20,16 @@ pub enum Phase {
     Settled,
 }
 
-/// The events of a call while it has come so far.
-pub type Act = (Phase, &'static [Kind]);
-
-/// A call that changes a key whose node is in this slot, its events, and the keys that the last file holds.
+/// A call that changes a key whose node is in this slot, so many events and how far each of them brings it, and the keys that the
+/// last file holds.
 #[derive(Clone, Copy)]
 pub struct Plot {
     pub asked: Asked,
     slot: u16,
-    pub acts: [Act; 3],
-    pub keys: &'static [u64],
+    pub events: [(Kind, Phase); 21],
+    pub length: usize,
+    keys: [u64; 5],
+    count: usize,
 }
 
 impl Plot {
@@ -60,6 +60,11 @@ impl Plot {
         phases.iter().any(|phase| sight == Ok(self.sight(*phase)))
     }
 
+    /// Whether these are the keys that have to be left.
+    pub fn leaves(&self, keys: &[u64]) -> bool {
+        Some(keys) == self.keys.get(..self.count)
+    }
+
     /// What a glance answers that sees the call at this phase, once a look has made sure of it.
     pub fn settled_sight(&self, phase: Phase) -> Glance {
         self.sight(match phase {
@@ -86,68 +91,65 @@ pub fn addition(rt: &impl Abort) -> Plot {
     Plot {
         asked: asked_beside(rt, Key::new(15).map(Command::Add)),
         slot: 3,
-        acts: [
-            (Phase::Before, &ADDING),
-            (Phase::Unsettled, &[Kind::Link, Kind::Release, Kind::Sync]),
-            (Phase::Settled, &[Kind::Settle, Kind::Answer]),
+        events: [
+            (Kind::Pin, Phase::Before),
+            (Kind::Hop, Phase::Before),
+            (Kind::Hop, Phase::Before),
+            (Kind::Hop, Phase::Before),
+            (Kind::Hop, Phase::Before),
+            (Kind::Hop, Phase::Before),
+            (Kind::Reserve, Phase::Before),
+            (Kind::WriteKey, Phase::Before),
+            (Kind::Sync, Phase::Before),
+            (Kind::Hop, Phase::Before),
+            (Kind::Hop, Phase::Before),
+            (Kind::Hop, Phase::Before),
+            (Kind::Hop, Phase::Before),
+            (Kind::Claim, Phase::Before),
+            (Kind::Check, Phase::Before),
+            (Kind::WriteOpen, Phase::Before),
+            (Kind::Link, Phase::Unsettled),
+            (Kind::Release, Phase::Unsettled),
+            (Kind::Sync, Phase::Unsettled),
+            (Kind::Settle, Phase::Settled),
+            (Kind::Answer, Phase::Settled),
         ],
-        keys: &[10, 15, 20, 30, 40],
+        length: 21,
+        keys: [10, 15, 20, 30, 40],
+        count: 5,
     }
 }
 
-// The events of the addition up to its gate.
-const ADDING: [Kind; 16] = [
-    Kind::Pin,
-    Kind::Hop,
-    Kind::Hop,
-    Kind::Hop,
-    Kind::Hop,
-    Kind::Hop,
-    Kind::Reserve,
-    Kind::WriteKey,
-    Kind::Sync,
-    Kind::Hop,
-    Kind::Hop,
-    Kind::Hop,
-    Kind::Hop,
-    Kind::Claim,
-    Kind::Check,
-    Kind::WriteOpen,
-];
-
-/// 20 is removed, which was the second of three keys.
+/// 20 is removed, which was the second of three keys. Rows behind the last event stand for none.
 pub fn removal(rt: &impl Abort) -> Plot {
     Plot {
         asked: asked_beside(rt, Key::new(20).map(Command::Remove)),
         slot: 1,
-        acts: [
-            (Phase::Before, &REMOVING),
-            (Phase::Unsettled, &[Kind::Mark, Kind::Sync]),
-            (
-                Phase::Settled,
-                &[
-                    Kind::Settle,
-                    Kind::Unlink,
-                    Kind::Release,
-                    Kind::Retire,
-                    Kind::Answer,
-                ],
-            ),
+        events: [
+            (Kind::Pin, Phase::Before),
+            (Kind::Hop, Phase::Before),
+            (Kind::Hop, Phase::Before),
+            (Kind::Hop, Phase::Before),
+            (Kind::Hop, Phase::Before),
+            (Kind::Hop, Phase::Before),
+            (Kind::Hop, Phase::Before),
+            (Kind::Claim, Phase::Before),
+            (Kind::Check, Phase::Before),
+            (Kind::WriteClose, Phase::Before),
+            (Kind::Mark, Phase::Unsettled),
+            (Kind::Sync, Phase::Unsettled),
+            (Kind::Settle, Phase::Settled),
+            (Kind::Unlink, Phase::Settled),
+            (Kind::Release, Phase::Settled),
+            (Kind::Retire, Phase::Settled),
+            (Kind::Answer, Phase::Settled),
+            (Kind::Answer, Phase::Settled),
+            (Kind::Answer, Phase::Settled),
+            (Kind::Answer, Phase::Settled),
+            (Kind::Answer, Phase::Settled),
         ],
-        keys: &[10, 30, 40],
+        length: 17,
+        keys: [10, 30, 40, 0, 0],
+        count: 3,
     }
 }
-
-// The events of the removal up to its gate.
-const REMOVING: [Kind; 10] = [
-    Kind::Pin,
-    Kind::Hop,
-    Kind::Hop,
-    Kind::Hop,
-    Kind::Hop,
-    Kind::Hop,
-    Kind::Hop,
-    Kind::Claim,
-    Kind::Check,
-    Kind::WriteClose,
-];
