@@ -1,1 +1,1 @@
-"""The parts of ./try-edits, which tries wrong bodies, and of tools/check-change, which tries a change."""
+"""The parts of tools/try-edits, which tries wrong bodies, and of tools/check-change, which tries a change."""

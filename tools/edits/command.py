@@ -1,4 +1,4 @@
-"""The command line of ./try-edits."""
+"""The command line of tools/try-edits."""
 
 from __future__ import annotations
 
@@ -17,7 +17,7 @@ SECONDS_OF_A_DAY = 86400
 
 
 def read_words(words: Sequence[str]) -> argparse.Namespace:
-    parser = argparse.ArgumentParser(prog="./try-edits", description="Tries wrong bodies, many in one check.")
+    parser = argparse.ArgumentParser(prog="tools/try-edits", description="Tries wrong bodies, many in one check.")
     parser.add_argument("--of", choices=list(OF), default="all", help="whose edits (all)")
     parser.add_argument("--lanes", type=int, default=0, help="crates side by side (a processor less than there are, at most 3)")
     parser.add_argument("--plan", action="store_true", help="say what would be tried, and try nothing")

@@ -1,4 +1,4 @@
-"""Tests of ./try-edits, over small crates that the kit proves: python3 tools/edits/test_edits.py"""
+"""Tests of tools/try-edits, over small crates that the kit proves: python3 tools/edits/test_edits.py"""
 
 from __future__ import annotations
 

@@ -10,8 +10,8 @@ from contextlib import contextmanager
 from typing import Callable, Iterator, List
 
 from lazyset import Command, Lazyset, Reply
-from real.program import Key, Program, Service
-from real.report import Wrong, expect
+from trials.program import Key, Program, Service
+from trials.report import Wrong, expect
 
 CLIENTS = 8
 OWN_KEYS = 100

@@ -4,8 +4,8 @@ from __future__ import annotations
 
 from typing import Dict, Iterator, List, NamedTuple, Optional, Set, Tuple
 
-from real.plain import VERBS, read_key, read_range
-from real.program import Key
+from trials.plain import VERBS, read_key, read_range
+from trials.program import Key
 
 MOST_CALLS = 100_000
 MOST_BYTES = 4_194_304

@@ -13,7 +13,7 @@ from dataclasses import dataclass, field
 from queue import Empty, Queue
 from typing import Iterator, List, Optional, Sequence
 
-from real.report import Skip, Wrong
+from trials.report import Skip, Wrong
 
 PROMPT = "    $ "
 INDENT = "    "
@@ -24,7 +24,7 @@ PATIENCE = 20.0
 TOOLS = ("nc", "strace", "python3", "xxd", "od", "flock")
 
 # The clients, which the examples call as in the repository's folder. The one for the shell calls `nc`.
-CLIENTS = os.path.join(os.path.dirname(os.path.dirname(os.path.abspath(__file__))), "clients")
+CLIENTS = os.path.join(os.path.dirname(os.path.abspath(__file__)), "..", "..", "clients")
 
 
 @dataclass

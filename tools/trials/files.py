@@ -5,9 +5,9 @@ from __future__ import annotations
 import os
 from typing import Iterator, Optional, Tuple
 
-from real.plain import MOST_SLOTS, Survey, head_of, slot_of
-from real.program import Ended, Key, Program
-from real.report import expect
+from trials.plain import MOST_SLOTS, Survey, head_of, slot_of
+from trials.program import Ended, Key, Program
+from trials.report import expect
 
 # Made files of two slots and of one, in the older format.
 TWO_SLOTS = bytes.fromhex("a5 4c 5a 59 53 45 54 31 00 00 00 00 00 00 00 02") + bytes(32)

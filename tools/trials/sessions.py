@@ -8,11 +8,11 @@ import subprocess
 from contextlib import suppress
 from typing import List, Tuple
 
-from real import transcripts
-from real.plain import Plain, Survey
-from real.program import PATIENCE, Ended, Program
-from real.report import Skip, expect
-from real.transcripts import Transcript
+from trials import transcripts
+from trials.plain import Plain, Survey
+from trials.program import PATIENCE, Ended, Program
+from trials.report import Skip, expect
+from trials.transcripts import Transcript
 
 MILLION = 10**6
 

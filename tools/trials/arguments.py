@@ -4,8 +4,8 @@ from __future__ import annotations
 
 import os
 
-from real.program import Ended, Program
-from real.report import expect
+from trials.program import Ended, Program
+from trials.report import expect
 
 # A byte that begins no character, as the system hands it to the program.
 BYTE = os.fsdecode(b"\xff")

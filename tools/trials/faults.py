@@ -10,10 +10,10 @@ import tempfile
 from typing import Dict, List, Sequence, Tuple
 
 from lazyset import Reply, Verb
-from real import kills, load
-from real.history import Call, History, Life, stamp
-from real.program import Ended, Key, Program, Service
-from real.report import Skip, Wrong, expect
+from trials import kills, load
+from trials.history import Call, History, Life, stamp
+from trials.program import Ended, Key, Program, Service
+from trials.report import Skip, Wrong, expect
 
 SLOTS = 3
 

@@ -9,8 +9,8 @@ import signal
 import subprocess
 from typing import List
 
-from real.program import Program
-from real.report import Skip, Wrong, expect
+from trials.program import Program
+from trials.report import Skip, Wrong, expect
 
 INSTANCE = "tickets"
 PROGRAM = "/usr/local/bin/lazyset"

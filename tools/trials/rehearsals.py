@@ -5,10 +5,10 @@ from __future__ import annotations
 import random
 from typing import Iterator, Sequence, Tuple
 
-from real import transcripts
-from real.program import Ended, Program
-from real.report import expect
-from real.transcripts import FORMATS, Transcript
+from trials import transcripts
+from trials.program import Ended, Program
+from trials.report import expect
+from trials.transcripts import FORMATS, Transcript
 
 STORED = ("turns", "crashes", "failures", "lawful", "limits")
 

@@ -8,8 +8,8 @@ from typing import List, Sequence, Tuple
 
 import lazyset
 from lazyset import Lazyset, Reply, Verb
-from real.history import Call, stamp
-from real.program import Key
+from trials.history import Call, stamp
+from trials.program import Key
 
 # What the clients ask for, and how often: mostly changes, since these are what a crash may lose.
 VERBS = (Verb.ADD, Verb.ADD, Verb.REMOVE, Verb.REMOVE, Verb.HAS)

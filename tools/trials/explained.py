@@ -7,8 +7,8 @@ from __future__ import annotations
 from functools import lru_cache
 from typing import Dict, FrozenSet, List, Optional, Set
 
-from real.program import Key
-from real.verdicts import Seen, Story, after
+from trials.program import Key
+from trials.verdicts import Seen, Story, after
 
 # Later than any line.
 NEVER = 1 << 62

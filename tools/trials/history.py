@@ -11,7 +11,7 @@ from dataclasses import dataclass, field
 from typing import Dict, FrozenSet, Iterator, List, Optional, Sequence, Set, Tuple
 
 from lazyset import Reply, Verb
-from real.program import Key
+from trials.program import Key
 
 # Later than any stamp.
 NEVER = 1 << 62

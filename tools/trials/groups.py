@@ -8,9 +8,9 @@ import threading
 from typing import List
 
 from lazyset import Command, Lazyset, Reply
-from real.faults import needs_strace
-from real.program import Key, Program, Service
-from real.report import Wrong, expect
+from trials.faults import needs_strace
+from trials.program import Key, Program, Service
+from trials.report import Wrong, expect
 
 CLIENTS = 16
 OWN_KEYS = 64

@@ -5,9 +5,9 @@ from __future__ import annotations
 import os
 from typing import Iterator, Sequence, Tuple
 
-from real.program import Ended, Program
-from real.report import expect
-from real.verdicts import MOST_BYTES, MOST_CALLS, judged
+from trials.program import Ended, Program
+from trials.report import expect
+from trials.verdicts import MOST_BYTES, MOST_CALLS, judged
 
 # Points of a history, each the number of a call and its place, and what is said of them.
 Verdict = Tuple[str, str]

@@ -7,9 +7,9 @@ import tempfile
 import threading
 from typing import Dict, List
 
-from real.guests import PATIENCE, connect, received
-from real.program import Key, Program, Service
-from real.report import expect
+from trials.guests import PATIENCE, connect, received
+from trials.program import Key, Program, Service
+from trials.report import expect
 
 CLIENTS = 8
 SHARED = 7

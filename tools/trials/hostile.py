@@ -10,15 +10,15 @@ from dataclasses import dataclass
 from typing import Counter as Count
 from typing import Optional
 
-from real import guests
-from real.explained import story_of, unexplained
-from real.files import bytes_in, put
-from real.noise import KINDS as NOISE_KINDS
-from real.noise import Noise
-from real.plain import MOST_LINE, VERBS, Plain, Survey, read_key, read_range, renewed
-from real.program import Ended, Program, Service
-from real.report import Wrong, expect
-from real.verdicts import MOST_ACTORS, judged
+from trials import guests
+from trials.explained import story_of, unexplained
+from trials.files import bytes_in, put
+from trials.noise import KINDS as NOISE_KINDS
+from trials.noise import Noise
+from trials.plain import MOST_LINE, VERBS, Plain, Survey, read_key, read_range, renewed
+from trials.program import Ended, Program, Service
+from trials.report import Wrong, expect
+from trials.verdicts import MOST_ACTORS, judged
 
 # How many inputs of each kind there are where another number isn't asked for.
 INPUTS = 5000

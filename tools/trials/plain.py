@@ -4,7 +4,7 @@ from __future__ import annotations
 
 from typing import Dict, List, NamedTuple, Optional, Tuple, Union
 
-from real.program import Key
+from trials.program import Key
 
 MOST_NUMBER = 10**18 - 1
 MOST_ROOM = 15

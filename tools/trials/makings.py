@@ -7,9 +7,9 @@ import random
 import subprocess
 import time
 
-from real.faults import FAILURES, count_calls, failing, needs_strace
-from real.program import Ended, Program
-from real.report import Wrong, expect
+from trials.faults import FAILURES, count_calls, failing, needs_strace
+from trials.program import Ended, Program
+from trials.report import Wrong, expect
 
 MOST_SLOTS = 65536
 KILLS = 20

@@ -8,7 +8,7 @@ import subprocess
 from dataclasses import dataclass
 from typing import IO, List, NamedTuple, Optional, Sequence, Union
 
-from real.report import Wrong, expect
+from trials.report import Wrong, expect
 
 # How long any command may take that has an end.
 PATIENCE = 60.0

@@ -6,7 +6,7 @@ from __future__ import annotations
 import random
 from typing import Sequence
 
-from real.plain import HEAD_SIZE, OPEN, SLOT_SIZE, head_of
+from trials.plain import HEAD_SIZE, OPEN, SLOT_SIZE, head_of
 
 COMMANDS = ("add", "remove", "has")
 

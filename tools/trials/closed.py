@@ -4,8 +4,8 @@ from __future__ import annotations
 
 import os
 
-from real.program import Ended, Key, Program
-from real.report import expect
+from trials.program import Ended, Key, Program
+from trials.report import expect
 
 # What each closing leaves of a run that is asked for key 2: without an input nothing is asked.
 CLOSINGS = (("<&-", False), (">&-", True), ("2>&-", True))

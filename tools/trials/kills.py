@@ -9,10 +9,10 @@ import time
 from typing import List
 
 import lazyset
-from real import load
-from real.history import Call, History, Life
-from real.program import Ended, Program, Service
-from real.report import Wrong, expect
+from trials import load
+from trials.history import Call, History, Life
+from trials.program import Ended, Program, Service
+from trials.report import Wrong, expect
 
 CLIENTS = 8
 

@@ -1,1 +1,0 @@
-"""The parts of ./try-real, which tries the built program on real files and sockets."""

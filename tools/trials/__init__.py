@@ -1,0 +1,1 @@
+"""The parts of tools/try-real, which tries the built program on real files and sockets."""
