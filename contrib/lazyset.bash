@@ -1,10 +1,16 @@
 # Completion of lazyset's command line for bash: source it, or put it into a folder of bash-completion as `lazyset`.
 _lazyset() {
-    local word=${COMP_WORDS[COMP_CWORD]} options=""
-    if [ "$COMP_CWORD" -eq 1 ]; then
-        mapfile -t COMPREPLY < <(compgen -W "make renew run serve check judge rehearse help --help --version" -- "$word")
-        return
-    fi
+    local word=${COMP_WORDS[COMP_CWORD]} commands="make renew run serve check judge rehearse help"
+    case "$COMP_CWORD,${COMP_WORDS[1]}" in
+    1,*) mapfile -t COMPREPLY < <(compgen -W "$commands --help --version" -- "$word") ;;
+    2,help) mapfile -t COMPREPLY < <(compgen -W "$commands" -- "$word") ;;
+    *) _lazyset_words "$word" ;;
+    esac
+}
+
+# The words of a command.
+_lazyset_words() {
+    local word=$1 options
     case "${COMP_WORDS[1]}" in
     make) options="--format --help" ;;
     run) options="--buckets --help" ;;
