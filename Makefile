@@ -1,5 +1,6 @@
 # Installs the program, its man page, the completion of bash and the unit of systemd:
 #
+#     make                                      gets the program (./first-run)
 #     make install                              below /usr/local
 #     make install PREFIX=/usr DESTDIR=FOLDER   as a package wants it
 #     make uninstall
@@ -13,7 +14,10 @@ MAN = $(PREFIX)/share/man/man1
 COMPLETIONS = $(PREFIX)/share/bash-completion/completions
 UNITS = $(PREFIX)/lib/systemd/system
 
-.PHONY: install uninstall
+.PHONY: all install uninstall
+
+all:
+	./first-run
 
 install:
 	@[ -n "$(PROGRAM)" ] || { echo "no program: ./first-run gets it"; exit 1; }
