@@ -35,6 +35,13 @@ def try_man_page(top: str) -> None:
     expect(told(["mandoc", "-T", "lint", os.path.join(top, "docs", "lazyset.1")]), "", "mandoc -T lint")
 
 
+def try_man(top: str) -> None:
+    needs("man", "groff")
+    words = ["man", "--warnings", "--encoding=UTF-8", "-Tutf8", "--ditroff", "--local-file", os.path.join(top, "docs", "lazyset.1")]
+    ended = subprocess.run(words, stdout=subprocess.DEVNULL, stderr=subprocess.PIPE, text=True, timeout=PATIENCE)
+    expect((ended.returncode, ended.stderr), (0, ""), "man -l")
+
+
 def try_scripts(top: str) -> None:
     needs("shellcheck")
     found = list(scripts(top))
