@@ -26,6 +26,7 @@ PACKED = [
     "usr/share/doc/lazyset/NEWS.md.gz",
     "usr/share/doc/lazyset/changelog.gz",
     "usr/share/doc/lazyset/copyright",
+    "usr/share/lintian/overrides/lazyset",
     "usr/share/man/man1/lazyset.1.gz",
 ]
 
