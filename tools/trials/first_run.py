@@ -15,12 +15,30 @@ from trials.program import PATIENCE, Program
 from trials.report import Wrong, expect
 
 # What stands for the kit: it proves nothing, says so of each crate, and leaves the built program.
-KIT = """#!/bin/sh
-sed -n 's/^\\([a-z_]*\\):.*/rt: \\1 proved/p' crates.txt
-sleep {seconds}
-mkdir -p crates/lazyset/out
-cp '{program}' crates/lazyset/out/lazyset
-echo '{last}'
+KIT = """#!/usr/bin/env python3
+import os
+import shutil
+import time
+
+
+def processors():
+    return 1
+
+
+def in_lanes(tasks):
+    return {{}}
+
+
+def main(words):
+    assert words == ["ci"]
+    with open("crates.txt") as file:
+        for line in file:
+            print("rt: " + line.split(":")[0] + " proved")
+    time.sleep({seconds})
+    os.makedirs("crates/lazyset/out", exist_ok=True)
+    shutil.copy({program!r}, "crates/lazyset/out/lazyset")
+    print({last!r})
+    return 0
 """
 
 
