@@ -327,6 +327,6 @@ module _ (b : BoardId) (c : Command) (format : Format) (before : Part) (k : Call
           command = C.command;
           buckets = C.buckets;
           passes = C.passes;
-          under = caller_loaded b c format before k (C.command, C.buckets, C.passes) h C.under w event shared_word seen value shown h' is_h;
+          under = caller_loaded b c format before k (C.command, C.buckets, C.passes) h C.under w event shared_word seen value shown is h' is_h;
           walk = subst (λ (q : Part). OnWalk b.sizes k.command (progress_after (shape_with k) k.command k.progress (Value value)) q.begun q.known) (sym is_h) there.walk;
         })
