@@ -10,9 +10,10 @@ ghost use Rattle.lz_machine.specs.Laws.{hop_of};
 ghost use Rattle.lz_machine.specs.Orders.{shape_with};
 ghost use Rattle.lz_machine.specs.Runs.{reply_at};
 ghost use Rattle.lz_board.specs.declared.view.Part.{Part};
-ghost use Rattle.lz_board.specs.Glances.{Glances};
+ghost use Rattle.lz_board.specs.Glances.{Glances, Turns};
 ghost use Rattle.lz_board.specs.Opened.{opened_by};
 ghost use Rattle.lz_board.specs.Seats.{id_of, part, IsOf};
+ghost use Rattle.lz_board.specs.Walkers.{KeepsCall};
 ghost use Rattle.lz_tie.specs.Answers.{Answers, Met};
 ghost use Rattle.lz_tie.specs.Counting.{Counts, IsCounted};
 ghost use Rattle.lz_tie.specs.Holds.{sizes_of};
@@ -144,6 +145,8 @@ impl<D: Disk, G: StepGate, N: Named> Set<D, G, N> {
         ensures pass { MayCall N.board pass.new }
         ensures outside { result ≢ Err GlanceFault.BusyPass }
         ensures glances { Glances key result (part pass.old) (part pass.new) }
+        ensures turns { Turns result (part pass.old) (part pass.new) }
+        ensures call { KeepsCall (part pass.old) (part pass.new) }
     {
         self.board.glance(pass, key)
     }

@@ -57,6 +57,7 @@ lawful = (
 
 answers : Answers (Has 9) Yes before after
 answers = record {
+  number = refl;
   new = steps;
   steps = refl;
   format = Two;
@@ -75,6 +76,7 @@ answers = record {
   );
   lawful = lawful;
   alone = λ one. record { since = []; goes_on = refl; own = tt };
+  late = λ halted. absurd cc;
 }
 
 -- a session of that one call, in the history of the pen's notes

@@ -56,7 +56,8 @@ load_onward shape p c LoadsHalt value P is h = halt_onward shape p P (calm_none 
 load_onward shape p c (Walking aim look) value P is h = hop_onward shape p P (calm_none p c (Walking aim look) P refl h) c aim (hopped shape.buckets (key_of c) look value)
 load_onward shape p c at value P is h = absurd is
 
-value_in : ℕ → Trace → Option Word → ℕ
+-- the value of a word, where there is one, after a trace
+abbrev pub value_in : ℕ → Trace → Option Word → ℕ
 value_in buckets P None = 0
 value_in buckets P (Some w) = word_after buckets P w
 

@@ -55,7 +55,7 @@ use Rattle.lz_tie.specs.Holds.{HasCall, Holds, Turned, IsIdle, IsTurn, SeesPin, 
 use Rattle.lz_tie.specs.UnderWay.{UnderWay}
 use Rattle.lz_tie.specs.Counting.{seen_pass, OnWalk, Counts, Advanced}
 use Rattle.lz_tie.proofs.Calls.CallOpening.{called}
-use Rattle.lz_tie.proofs.Calls.CallLoad.{load_place}
+use Rattle.lz_tie.proofs.Calls.CallLoad.{load_place, value_in}
 use Rattle.lz_tie.proofs.Calls.CallerStep.{IsCallerOn, has_call, event_is, caller_turned, caller_loaded}
 use Rattle.lz_tie.proofs.Replies.AnsweredCall.{answered, idle_again}
 use Rattle.lz_tie.proofs.Replies.OneCaller.{one_caller}
@@ -283,10 +283,6 @@ shared_at z shape same c at P0 Q walk w event = absurd (load_place shape c at w 
 record Takes (z : Sizes) (shape : Shape) (c : Command) (at : Progress) (P0 Q : Trace) (value : ℕ) : Type 0 where
   takes : MayTake at (Value value)
   walk : OnWalk z c (progress_after shape c at (Value value)) P0 Q
-
-abbrev value_in : ℕ → Trace → Option Word → ℕ
-value_in buckets P None = 0
-value_in buckets P (Some w) = word_after buckets P w
 
 load_takes : (z : Sizes) (walkable : IsWalkable z) (shape : Shape) → shape.buckets ≡ z.buckets → (c : Command) (at : Progress) (h : Part) → h.sizes ≡ z → IsInside h.pin → OnWalk z c at h.begun h.known → (w : Word) → event_at shape c at ≡ Hop w
     → (seen : Trace) → IsShownTo seen h → (value : ℕ) → value ≡ word_after z.buckets seen w → Takes z shape c at h.begun seen value
