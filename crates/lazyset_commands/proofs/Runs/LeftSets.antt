@@ -1,5 +1,5 @@
 -- What a run leaves that served its session by the one pass of a set.
-use Rattle.std.proofs.Common.{◌≡◌, ◌⊎◌, inl, inr, ⊎_elim, ℕ, ◌≤◌, List, [], length, Option, IsTrue, refl, sym, ap, ◌∙◌, subst, arith}
+use Rattle.std.proofs.Common.{◌≡◌, inl, inr, ⊎_elim, ℕ, ◌≤◌, List, [], length, Option, IsTrue, refl, sym, ap, ◌∙◌, subst, arith}
 use Rattle.lz_slot.specs.Sets.{Keys}
 use Rattle.lz_slot.specs.Bytes.{Holds, format_of}
 use Rattle.lz_slot.specs.declared.format.Format.{Format}

@@ -135,8 +135,7 @@ module _ {X : Type 0} (A : X → Request → Reply → X → Type 0) where
       let given : Serves Collects [] first.done first.replies all =
       serves_as Collecting Collects (λ (x : X × List Reply). x.1) (λ old new request reply asked. asked.1) first.done first.replies (old, []) (new, all) first.served in
       let told : SessionTells Collects input after [] all written r =
-      session_as Collecting Collects (λ (x : X × List Reply). x.1) (λ old new request reply asked. asked.1) input after (old, []) (new, all) r written both in
-      (
+      session_as Collecting Collects (λ (x : X × List Reply). x.1) (λ old new request reply asked. asked.1) input after (old, []) (new, all) r written both in (
         record {
           text = first.text;
           known = first.known;
