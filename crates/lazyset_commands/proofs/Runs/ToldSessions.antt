@@ -101,10 +101,10 @@ module _ {X : Type 0} (pass_of : X → Pass) (b : BoardId) (F : Format) (ns : Li
         (text, gone, record { items = broken.items; its = broken.its; cut = told_cut broken.items written broken.cut })
 
   -- a text that might have been left at any moment
-  pub told_moment : (input : Option (List ℕ)) (first : FirstAsked (answers pass_of b F) input old new) (t : List ℕ) → ExplainsBegun b ns t → FoundAfter (PassMayAnswer F N) N S0 first.items t
+  pub told_moment : (input : Option (List ℕ)) (first : FirstAsked (answers pass_of b F) input old new) (t : List ℕ) → ExplainsBegun b ns t → FoundAfter (PassMayAnswer F N) N S0 first.items first.replies t
   told_moment input first t begun =
       let m = made pass_of b F first.done first.replies old new first.served in
-      found_of_more (PassMayAnswer F N) N S0 first.items first.done first.rest t first.whole
+      found_of_more (PassMayAnswer F N) N S0 first.items first.done first.rest first.replies t first.whole
       (m.moment S0 t (moments_are_plain b F ns m.calls (part (pass_of old)) (part (pass_of new)) (session m.calls m.served m.cut) t begun))
 
   module _ (medium : Medium) (explains : (t : List ℕ) → IsImage medium t → Explains b ns t) where
