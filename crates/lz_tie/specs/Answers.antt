@@ -117,12 +117,11 @@ IsLateReply OldFile = Unit {0}
 IsLateReply Halted = Unit {0}
 IsLateReply reply = ⊥
 
--- A pass's part before a call and after it.
-pub record Answers (c : Command) (reply : Reply) (before after : Part) : Type 0 where
+-- A pass's part before a call and after it, on a file of this format.
+pub record Answers (format : Format) (c : Command) (reply : Reply) (before after : Part) : Type 0 where
   pub number : after.number ≡ before.number
   pub new : List Note
   pub steps : after.steps ≡ new ++ before.steps
-  pub format : Format
   pub one_call : IsOneCall (shape_of before.sizes) before.number format c reply new
   pub promises : Promises (shape_of before.sizes) before.number format c reply after.pin new before.known after.known
   -- what it has seen was lawful; in a set of one pass nothing was changed but by its calls

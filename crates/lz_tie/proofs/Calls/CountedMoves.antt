@@ -256,16 +256,13 @@ module _ (b : BoardId) (c : Command) (format : Format) (before : Part) (k : Call
       turned_now = subst (λ (q : Command × Progress). Turned b.opened was h q.0 q.1 Answer t.outcome t.published) (λ i. (C.command i, answering i)) T
 
       module _ (same : before.sizes ≡ b.sizes) (alone : b.sizes.passes ≡ 1 → trace_of b.opened was ≡ h.known) (own : b.sizes.passes ≡ 1 → OnlyOwn h.number b.opened (trace_of b.opened was)) where
-        given : (answers : Answers c reply before h') × (answers.format ≡ format)
-        given = answered b c format before reply h was is t.outcome t.published h' under_now H turned_now same alone own
-
-        pub answers_so : Answers c reply before h'
-        answers_so = given.0
+        pub answers_so : Answers format c reply before h'
+        answers_so = answered b c format before reply h was is t.outcome t.published h' under_now H turned_now same alone own
 
         -- in a set of one pass that of the plain set
         pub plain_so : b.sizes.passes ≡ 1 → IsPlainAnswer format b.sizes.slots c reply (keys_in before.known) (keys_in h'.known)
-        plain_so one = subst (λ (q : Format × Sizes). IsPlainAnswer q.0 q.1.slots c reply (keys_in before.known) (keys_in h'.known)) (λ i. (given.1 i, same i))
-            (one_caller c reply before h' given.0 (ap (λ (z : Sizes). z.passes) same ∙ one))
+        plain_so one = subst (λ (z : Sizes). IsPlainAnswer format z.slots c reply (keys_in before.known) (keys_in h'.known)) same
+            (one_caller format c reply before h' answers_so (ap (λ (z : Sizes). z.passes) same ∙ one))
 
       pub then_idle : IsIdle b.sizes h'
       then_idle = idle_again b c format before reply h was is t.outcome t.published h' under_now H turned_now
