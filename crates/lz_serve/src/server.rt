@@ -1,8 +1,9 @@
 //! Sessions over the network, in a thread for each pass.
-ghost use Rattle.std.specs.Prelude.{◌≡◌, ◌+◌, ◌≤◌, true, All, IfSome, vec_capacity, vec_len};
+ghost use Rattle.std.specs.Prelude.{◌≡◌, ◌+◌, ◌≤◌, true, false, All, IfSome, vec_capacity, vec_len};
 ghost use Rattle.std.specs.List.{Any};
+ghost use Rattle.lz_board.specs.Seats.{part};
 ghost use Rattle.lz_set.specs.Names.{MayCall};
-ghost use Rattle.lz_serve.specs.Halts.{SawHalt};
+ghost use Rattle.lz_serve.specs.Halts.{IsCalm, SawHalt};
 
 use crate::observer::Observer;
 use crate::pass_thread::{Finished, serve_pass};
@@ -53,10 +54,12 @@ where
     N: Named + Send + Sync,
     R: Threads + Wait + Clock + AllocGlobal + Sync,
     O: Observer + Sync,
-    requires { All (MayCall N.board) passes.items }
+    requires may_call { All (MayCall N.board) passes.items }
+    requires calm { All (λ pass. IsCalm (part pass)) passes.items }
     ensures may_call { All (MayCall N.board) result.passes.items }
     ensures count { vec_len result.passes + result.threadless ≡ vec_len passes }
     ensures halted { result.halted ≡ true → Any SawHalt result.passes.items }
+    ensures calm { result.halted ≡ false → All (λ pass. IsCalm (part pass)) result.passes.items }
 {
     let told = AtomicBool::new(false);
     serve_passes(rt, listener, set, passes, bounds, observer, &told)
@@ -78,19 +81,23 @@ where
     N: Named + Send + Sync,
     R: Threads + Wait + Clock + AllocGlobal + Sync,
     O: Observer + Sync,
-    requires { All (MayCall N.board) passes.items }
+    requires may_call { All (MayCall N.board) passes.items }
+    requires calm { All (λ pass. IsCalm (part pass)) passes.items }
     ensures may_call { All (MayCall N.board) result.passes.items }
     ensures count { vec_len result.passes + result.threadless ≡ vec_len passes }
     ensures halted { result.halted ≡ true → Any SawHalt result.passes.items }
+    ensures calm { result.halted ≡ false → All (λ pass. IsCalm (part pass)) result.passes.items }
 {
     thread::scope(
         thread::scope_env(),
         rt,
         move |scope| -> Served
-            requires { All (MayCall N.board) passes.items }
+            requires may_call { All (MayCall N.board) passes.items }
+            requires calm { All (λ pass. IsCalm (part pass)) passes.items }
             ensures may_call { All (MayCall N.board) result.passes.items }
             ensures count { vec_len result.passes + result.threadless ≡ vec_len passes }
             ensures halted { result.halted ≡ true → Any SawHalt result.passes.items }
+            ensures calm { result.halted ≡ false → All (λ pass. IsCalm (part pass)) result.passes.items }
         {
             let given = passes.len();
             let Some((mut threads, done)) = room_for::<N>(rt.alloc(), given) else {
@@ -103,7 +110,8 @@ where
             for pass in passes {
                 let thread = scope.spawn(
                     move || -> Finished<N>
-                        requires { MayCall N.board pass }
+                        requires may_call { MayCall N.board pass }
+                        requires calm { IsCalm (part pass) }
                     { serve_pass(rt, listener, set, pass, bounds, observer, told) },
                 );
                 let Ok(thread) = thread else {
@@ -147,6 +155,7 @@ fn join_all<N: Named, R: Threads>(
     ensures may_call { All (MayCall N.board) result.0.items }
     ensures count { vec_len result.0 ≡ vec_len threads }
     ensures halted { result.1 ≡ true → Any SawHalt result.0.items }
+    ensures calm { result.1 ≡ false → All (λ pass. IsCalm (part pass)) result.0.items }
 {
     let mut passes = room;
     let mut halted = false;
