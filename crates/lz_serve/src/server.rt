@@ -31,15 +31,15 @@ pub struct Bounds {
 pub struct Served {
     /// The passes whose threads are done, in the order in which they were given.
     pub passes: Vec<Pass>,
-    /// A session ended because the device had failed.
+    /// A call of these passes was answered that the set is halted or that the device failed, also where the client didn't get the reply.
     pub halted: bool,
     /// For how many passes no thread could be made. These are gone.
     pub threadless: usize,
 }
 
 /// Serves connections with a thread for each pass, which serves one connection after the other: so many of them, or
-/// without an end where `bounds.sessions` is 0. A session that ended with a fault, or because its client was idle, counts too. A thread ends as well behind a session that
-/// found the set halted; the first one tells the observer. A connection for which no thread is free waits in the listener's queue.
+/// without an end where `bounds.sessions` is 0. A session that ended with a fault, or because its client was idle, counts too. A thread ends as well after a session that
+/// found the set halted; the first one tells the observer. A pass of which a call was answered so before can't be served. A connection for which no thread is free waits in the listener's queue.
 pub fn serve<D, G, N, R, O>(
     rt: &R,
     listener: &TcpListener,
