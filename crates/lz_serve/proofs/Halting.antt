@@ -44,7 +44,8 @@ device_word (command.Add k) before after answers = answers.promises.halted
 device_word (command.Remove k) before after answers = answers.promises.halted
 device_word (command.Has k) before after answers = answers.promises.halted
 
-answer_word : (c : Command) (answer : Result Bool Fault) (before after : Part) → Halted ≡ reply_of answer → Answers c (given_of answer) before after → halt_word after.known ≡ 1
+-- so has one of which a client is told that the service halted
+pub answer_word : (c : Command) (answer : Result Bool Fault) (before after : Part) → Halted ≡ reply_of answer → Answers c (given_of answer) before after → halt_word after.known ≡ 1
 answer_word c (Ok true) before after told answers = absurd (cc)
 answer_word c (Ok false) before after told answers = absurd (cc)
 answer_word c (Err (fault.Full counts)) before after told answers = absurd (cc)

@@ -25,6 +25,11 @@ reply_of (Err OldFile) = reply.OldFile
 reply_of (Err Halted) = reply.Halted
 reply_of (Err Device) = reply.Halted
 
+-- the reply tells a client that the service halted
+abbrev pub says_halted : Reply → Bool
+says_halted reply.Halted = true
+says_halted r = false
+
 -- the command that a request asks for; `quit` asks for none
 abbrev pub command_of : Request → Option Command
 command_of (Add k) = Some (command.Add k)
