@@ -22,7 +22,7 @@ use Rattle.lz_board.specs.declared.view.Note.{Note}
 use Rattle.lz_board.specs.Opened.{opened_by}
 use Rattle.lz_board.specs.Seats.{BoardId, IsNew, part}
 use Rattle.lz_tie.specs.Holds.{sizes_of}
-use Rattle.lz_tie.specs.Sessions.{AreOn, TellsAlone}
+use Rattle.lz_tie.specs.Sessions.{TellsAlone}
 use Rattle.lz_set.specs.Blanks.{BlankOver}
 use Rattle.lz_set.specs.Left.{IsLeft}
 use Rattle.lz_serve.specs.Replies.{SeatAnswers}
@@ -47,7 +47,6 @@ pub record ServedSeat (b : BoardId) (first : Device) (F : Format) (status : Stat
   pub notes : List Note
   pub left : IsLeft b first notes disk
   pub alone : b.sizes.passes ≡ 1 → TellsAlone b notes (part done)
-  pub format : AreOn F (part done).steps
   pub halts : ended ≡ Ok ends.Halted → (last_sync ≤ left.yard.vault.syncs) ⊎ (first.faults < disk.faults)
 
 -- The disk was opened as a set of so many buckets and of one pass, and that pass served a session.

@@ -46,11 +46,11 @@ uncut (Err fault.Halted) is = absurd (true≢false is)
 uncut (Err fault.Device) is = absurd (true≢false is)
 
 -- so the pass stays calm
-calm_after : (c : Command) (answer : Result Bool Fault) (old new : Part) → Answers c (given_of answer) old new → new.sizes ≡ old.sizes → says_halted (reply_of answer) ≡ false → IsCalm old → IsCalm new
-calm_after c answer old new answers sized quiet calm =
+calm_after : (F : Format) (c : Command) (answer : Result Bool Fault) (old new : Part) → Answers F c (given_of answer) old new → new.sizes ≡ old.sizes → says_halted (reply_of answer) ≡ false → IsCalm old → IsCalm new
+calm_after F c answer old new answers sized quiet calm =
     let P = λ (call : Command × Option Given). was_cut call.1 ≡ false in
     let newest : All P (told (shape_of old.sizes) new.steps) =
-    All-same P _ _ (answers_told c (given_of answer) old new answers) (All-cons P (c, Some (given_of answer)) (told (shape_of old.sizes) old.steps) (uncut answer quiet) calm) in
+    All-same P _ _ (answers_told F c (given_of answer) old new answers) (All-cons P (c, Some (given_of answer)) (told (shape_of old.sizes) old.steps) (uncut answer quiet) calm) in
     subst (λ (z : Sizes). All P (told (shape_of z) new.steps)) (sym sized) newest
 
 -- what a pass has seen after a call goes on from what it had seen
@@ -82,7 +82,7 @@ module _ (b : BoardId) (F : Format) (old new : Pass) (request : Request) (r : Re
   saw_now says = told_so r answers.told says
     where
       told_so : (s : Reply) → s ≡ reply_of answers.answer → says_halted s ≡ true → halt_word (part new).known ≡ 1
-      told_so reply.Halted told says = answer_word answers.c answers.answer (part old) (part new) told answers.call
+      told_so reply.Halted told says = answer_word F answers.c answers.answer (part old) (part new) told answers.call
       told_so s told says = absurd (true≢false (sym says))
 
 pub or_true : (a b : Bool) → b ≡ true → true ≡ (a || b)
@@ -114,7 +114,7 @@ module _ {X : Type 0} (pass_of : X → Pass) (halted_of : X → Bool) (b : Board
   answer_keeps old request r new sized so quiet =
       let are = neither (halted_of old) (says_halted r) (sym so.1 ∙ quiet) in
       let not_told : says_halted (reply_of so.0.answer) ≡ false = subst (λ (s : Reply). says_halted s ≡ false) so.0.told are.1 in
-      (are.0, calm_after so.0.c so.0.answer (part (pass_of old)) (part (pass_of new)) so.0.call (sized ∙ sym so.0.sized) not_told)
+      (are.0, calm_after F so.0.c so.0.answer (part (pass_of old)) (part (pass_of new)) so.0.call (sized ∙ sym so.0.sized) not_told)
 
   -- a pass stays calm over a session after which its seat has never replied that the service halted
   pub calm_session : ((x : X) → (part (pass_of x)).sizes ≡ b.sizes) → (input after : Option (List ℕ)) (old new : X) (r : Result End SessionFault) (written : List ℕ)

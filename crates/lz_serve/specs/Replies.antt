@@ -44,6 +44,6 @@ pub record SeatAnswers (b : BoardId) (F : Format) (old : Pass) (request : Reques
   pub asked : command_of request ≡ Some c
   pub answer : Result Bool Fault
   pub sized : (part old).sizes ≡ b.sizes
-  pub call : Answers c (reply_told answer) (part old) (part new)
+  pub call : Answers F c (reply_told answer) (part old) (part new)
   pub plain : b.sizes.passes ≡ 1 → IsPlainAnswer F b.sizes.slots c (reply_told answer) (keys_in (part old).known) (keys_in (part new).known)
   pub told : reply ≡ reply_of answer

@@ -16,7 +16,7 @@ use Rattle.lz_serve.specs.Replies.{SeatAnswers}
 use Rattle.lz_tie.specs.Moments.{ExplainsBegun}
 use Rattle.lz_tie.specs.OwnCalls.{told}
 use Rattle.lz_tie.specs.RunningSets.{members_of}
-use Rattle.lz_tie.specs.Sessions.{IsSession, AreOn, marks_alone}
+use Rattle.lz_tie.specs.Sessions.{IsSession, marks_alone}
 use Rattle.lz_tie.proofs.Sessions.SessionMoments.{moments_are_plain}
 use Rattle.lz_tie.proofs.Start.FirstSets.{same_set_explains}
 use Rattle.lz_tie.proofs.Start.OpenedYard.{opened_sizes}
@@ -91,7 +91,6 @@ module _ {D : Type 0} (device : D → Device) (buckets : ℕ) (state : Status) (
       no_steps = no_steps;
       served = refl;
       cut = tt;
-      format = subst (AreOn F0) (sym no_steps) tt;
       tells = subst (λ (l : List Note). [] ≡ marks_alone (part seat.begun).number (told (shape_of b.sizes) l)) (sym no_steps) refl;
     }
 
@@ -124,7 +123,7 @@ module _ {D : Type 0} (device : D → Device) (buckets : ℕ) (state : Status) (
           told = told;
           each = λ t image.
               let e = seat.left.now still t image in
-              (e.found, told_session (λ p. p) b F0 seat.notes seat.begun seat.done one known no_steps (seat.alone one) seat.format t e input rest seat.ended seat.tells.0 seat.tells.2, e.holds);
+              (e.found, told_session (λ p. p) b F0 seat.notes seat.begun seat.done one known no_steps (seat.alone one) t e input rest seat.ended seat.tells.0 seat.tells.2, e.holds);
           any_moment = (
             first.text,
             first.known,
@@ -132,11 +131,11 @@ module _ {D : Type 0} (device : D → Device) (buckets : ℕ) (state : Status) (
               first.items,
               first.its,
               leaves_then (device old) mid (device new) _ (leaves_more _ _ _ _ (λ t image. inl image) opening)
-                  (leaves_more _ _ _ _ (λ t either. ⊎_elim (λ image. inl (was t image)) (λ text. inr (told_moment (λ p. p) b F0 seat.notes seat.begun seat.done one known no_steps (seat.alone one) seat.format input first t text)) either) (seat.left.ever still)),
+                  (leaves_more _ _ _ _ (λ t either. ⊎_elim (λ image. inl (was t image)) (λ text. inr (told_moment (λ p. p) b F0 seat.notes seat.begun seat.done one known no_steps (seat.alone one) input first t text)) either) (seat.left.ever still)),
             ),
           );
         })
 
     pub seat_plain : status.Done ≡ state → RepliesOfPass (format_of seen) N S input before later (device new).medium
     seat_plain is = of_file (λ F n T. RepliesOfPass F n T input before later (device new).medium)
-        (told_plain (λ p. p) b F0 seat.notes seat.begun seat.done one known no_steps (seat.alone one) seat.format (device new).medium (seat.left.now still) input rest before later seat.ended (is ∙ seat.status_is) seat.tells)
+        (told_plain (λ p. p) b F0 seat.notes seat.begun seat.done one known no_steps (seat.alone one) (device new).medium (seat.left.now still) input rest before later seat.ended (is ∙ seat.status_is) seat.tells)

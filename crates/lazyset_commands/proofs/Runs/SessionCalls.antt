@@ -132,7 +132,7 @@ module _ {X : Type 0} (pass_of : X → Pass) (b : BoardId) (F : Format) where
   -- The calls by which the items got their replies.
   pub record Made (items : List Item) (replies : List Reply) (old new : X) : Type 0 where
     pub calls : AnsweredCalls
-    pub served : Served b.sizes calls (part (pass_of old)) (part (pass_of new))
+    pub served : Served b.sizes F calls (part (pass_of old)) (part (pass_of new))
     pub cut : CutLast calls
     pub none : end_of items replies ≢ ends.Halted → NoneCut calls
     pub run : (S T : Keys) → PlainRun F N calls S T → Serves (PassMayAnswer F N) S items replies T

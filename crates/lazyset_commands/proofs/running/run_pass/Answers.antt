@@ -27,7 +27,6 @@ returns g c =
       notes = left.notes;
       left = left.left;
       alone = welcome.alone;
-      format = welcome.format;
       halts = λ is.
           left.left.over (halt_extended (part c.into_pass-pass.result).known (trace_of b.opened left.notes) since
           (session_halts b F c.session-ended.result _ _ c.args.pass c.into_pass-pass.result tells.0 told is));
