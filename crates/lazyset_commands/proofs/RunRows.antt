@@ -6,10 +6,10 @@ use Rattle.lazyset_commands.specs.Runs.{AreFirst, Collects}
 
 -- three additions were answered yes: the first two are done, or the third is under way too
 first_two : AreFirst (Yes ∷ Yes ∷ []) (Yes ∷ Yes ∷ Yes ∷ [])
-first_two = (refl, refl, tt)
+first_two = (refl, (refl, tt))
 
 third_under_way : AreFirst (Yes ∷ Yes ∷ Halted ∷ []) (Yes ∷ Yes ∷ Yes ∷ [])
-third_under_way = (refl, refl, tt)
+third_under_way = (refl, (refl, tt))
 
 -- the second can't be left out, neither as one that a worn pass refused nor as one that is under way before the third
 not_left_out : AreFirst (Yes ∷ Worn ∷ Yes ∷ []) (Yes ∷ Yes ∷ Yes ∷ []) → ⊥
