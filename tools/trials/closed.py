@@ -1,10 +1,11 @@
-"""A start with standard input, output or error closed: what the program says is written over no file."""
+"""A start with standard input, output or error closed: what the program says is written over no file. And one into a full device."""
 
 from __future__ import annotations
 
 import os
+import subprocess
 
-from trials.program import Ended, Key, Program
+from trials.program import PATIENCE, Ended, Key, Program
 from trials.report import expect
 
 # What each closing leaves of a run that is asked for key 2: without an input nothing is asked.
@@ -33,3 +34,12 @@ def try_closed(program: Program, folder: str) -> None:
         expect(run_closed(program, closing, "renew", file, renewed, "8").status, 0, f"renewing it with {closing}")
         expect(program.members(file), keys, f"the old file's members behind a renewal with {closing}")
         expect(program.members(renewed), keys, f"the new file's members behind a renewal with {closing}")
+
+
+def try_full(program: Program) -> None:
+    """Standard output is a device that is full: help and version that nobody gets have failed, and what else is
+    wrong keeps its own status."""
+    for words, status in ((["--help"], 1), (["help", "run"], 1), (["--version"], 1), (["dig"], 2), (["check", "/nowhere/at-all"], 3)):
+        with open("/dev/full", "wb") as full:
+            ended = subprocess.run([program.path, *words], stdout=full, stderr=subprocess.DEVNULL, timeout=PATIENCE)
+        expect(ended.returncode, status, f"the status of {' '.join(words)} into a full device")

@@ -5,6 +5,7 @@ from __future__ import annotations
 import os
 import re
 import shutil
+import socket
 import subprocess
 import tempfile
 from typing import Dict, List, Sequence, Tuple
@@ -12,7 +13,7 @@ from typing import Dict, List, Sequence, Tuple
 from lazyset import Reply, Verb
 from trials import kills, load
 from trials.history import Call, History, Life, stamp
-from trials.program import Ended, Key, Program, Service
+from trials.program import PATIENCE, Ended, Key, Program, Service
 from trials.report import Skip, Wrong, expect
 
 SLOTS = 3
@@ -120,13 +121,13 @@ def failed_life(program: Program, file: str, call: str, number: int, seed: int) 
             calls = load.finish(clients)
             status = service.wait() or 0
         log.seek(0)
-        expect(log.read(), log_text(file, members), "what the service says on standard error")
+        expect(log.read(), log_text(file, kills.SLOTS, members, kills.CLIENTS), "what the service says on standard error")
     return calls, status
 
 
-def log_text(file: str, members: int) -> str:
+def log_text(file: str, slots: int, members: int, passes: int) -> str:
     """What a service says on standard error whose device fails."""
-    serving = f"{kills.SLOTS} slots, {members} members, 1 buckets, {kills.CLIENTS} passes"
+    serving = f"{slots} slots, {members} members, 1 buckets, {passes} passes"
     failed = "the device failed: nothing is answered until the file is opened anew"
     return f"{file}: serving {serving}\n{file}: {failed}\n"
 
@@ -145,3 +146,22 @@ def try_service(program: Program, folder: str, seed: int) -> None:
         expect(halted, kills.CLIENTS, "clients that were told halted")
         history.lives.append(Life(calls, "stop", program.members(file)))
     kills.judge(program, folder, history)
+
+
+def try_untold(program: Program, folder: str) -> None:
+    """The device fails in the last session of a service, whose client can't be told so: the reply fails too. The service ends
+    with status 1 all the same, and says once why."""
+    needs_strace()
+    file = os.path.join(folder, "untold")
+    program.make(file, SLOTS)
+    # Of the thread that serves: its second sync, and its first reply.
+    calls = ["trace=fdatasync,sendto", "inject=fdatasync:error=EIO:when=2", "inject=sendto:error=EPIPE:when=1"]
+    before = ["strace", "-f", "-qq", "-o", os.devnull, *(word for call in calls for word in ("-e", call))]
+    with tempfile.TemporaryFile("w+") as log:
+        with Service(program, file, 1, "--sessions", "1", before=before, log=log) as service:
+            with socket.create_connection(("127.0.0.1", service.port), PATIENCE) as client:
+                client.sendall(b"add 1\n")
+                expect(client.recv(16), b"", "what the client is told")
+            expect(service.wait(), 1, "the status of a service whose device failed")
+        log.seek(0)
+        expect(log.read(), log_text(file, SLOTS, 0, 1), "what the service says on standard error")

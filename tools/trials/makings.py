@@ -4,8 +4,10 @@ from __future__ import annotations
 
 import os
 import random
+import re
 import subprocess
 import time
+from typing import List
 
 from trials.faults import FAILURES, count_calls, failing, needs_strace
 from trials.program import Ended, Program
@@ -72,3 +74,26 @@ def try_faults(program: Program, folder: str) -> None:
         expect_whole_or_nothing(program, file, 2)
     told = ", ".join(f"{count} of {call}" for call, count in counts.items())
     print(f"         failed in turn: {told}", flush=True)
+
+
+def synced_folders(program: Program, log: str, *words: str) -> List[str]:
+    """The folders that a command syncs."""
+    before = ["strace", "-f", "-qq", "-y", "-o", log, "-e", "trace=fsync"]
+    expect(program.run(*words, before=before).status, 0, words[0])
+    with open(log, encoding="ascii", errors="replace") as traced:
+        return re.findall(r"\bfsync\(\d+<([^>]*)>\)", traced.read())
+
+
+def try_links(program: Program, folder: str) -> None:
+    """A making and a renewal through symbolic links to files that aren't there yet: each file's own folder is synced."""
+    needs_strace()
+    log = os.path.join(folder, "log")
+    away = os.path.join(os.path.realpath(folder), "away")
+    os.mkdir(away)
+    made, renewed = (os.path.join(folder, name) for name in ("made", "renewed"))
+    for link in (made, renewed):
+        os.symlink(os.path.join(away, os.path.basename(link)), link)
+    for words in (["make", made, "2"], ["renew", made, renewed, "4"]):
+        expect(away in synced_folders(program, log, *words), True, f"{words[0]}: that the file's own folder is synced")
+    expect(sorted(os.listdir(away)), ["made", "renewed"], "the files behind the links")
+    expect(program.members(renewed), [], "the members of the renewed file")

@@ -8,8 +8,11 @@ fn main(rt: HostRuntime) -> ExitCode {
         Ok(status) => ExitCode::from(status.code()),
         Err(fault) => {
             // Where standard output fails too, the status alone is left to tell.
-            let _ = print!(rt; "{fault}");
-            ExitCode::from(fault.status().code())
+            let status = match print!(rt; "{fault}") {
+                Ok(()) => fault.status(),
+                Err(_) => fault.status_untold(),
+            };
+            ExitCode::from(status.code())
         }
     }
 }

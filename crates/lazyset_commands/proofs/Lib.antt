@@ -7,3 +7,4 @@ pub mod Openings
 pub mod Runs
 pub mod Services
 pub mod Verdicts
+pub mod RunRows

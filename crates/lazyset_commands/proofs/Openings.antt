@@ -1,5 +1,5 @@
 -- What an open leaves of the disk, and one that was refused.
-use Rattle.std.proofs.Common.{◌≡◌, ◌⊎◌, inl, inr, ⊎_elim, ℕ, List, Option, Some, None, IsTrue, refl, sym, ap, subst, arith}
+use Rattle.std.proofs.Common.{◌≡◌, ◌⊎◌, inl, inr, ⊎_elim, ℕ, List, Option, IsTrue, sym, ap, subst, arith}
 use Rattle.lz_slot.specs.Sets.{Keys}
 use Rattle.lz_slot.specs.Bytes.{Holds}
 use Rattle.lz_disk.specs.Images.{Medium, AreBytes, IsImage, synced}
@@ -11,13 +11,8 @@ use Rattle.lz_vault.specs.Vaults.{LeavesEither}
 use Rattle.lz_vault.specs.declared.opening.OpenFault.{OpenFault}
 use Rattle.lz_vault.specs.declared.opening.OpenFault.TheVariants as opening
 use Rattle.lz_machine.proofs.Open.OpenFailures.{held_is_opened}
-use Rattle.lz_proto.specs.declared.item.Item.{Item}
-use Rattle.lz_proto.specs.Sessions.{IsInput}
-use Rattle.lz_proto.proofs.Serving.{known_rest}
-use Rattle.lz_proto.proofs.Texts.{some_items}
 use Rattle.lazyset_commands.specs.Ends.{open_status}
 use Rattle.lazyset_commands.specs.Refusals.{FailedOpen, refusal_text}
-use Rattle.lazyset_commands.specs.Runs.{OfInput}
 use Rattle.lazyset_commands.specs.Tellings.{Tells}
 use Rattle.lazyset_commands.specs.declared.status.Status.{Status}
 use Rattle.lazyset_commands.specs.declared.status.Status.TheVariants as status
@@ -40,26 +35,19 @@ unwritten old new timely (inl same) t image = subst (λ (m : Medium). IsImage m 
 unwritten old new timely (inr after_sync) t image = synced_was old timely t (subst (λ (m : Medium). IsImage m t) after_sync image)
 
 -- an open that wrote nothing leaves what could be left before
-pub opening_leaves : (old new : Device) (P : List ℕ → Type 0) → IsTimely old → (new.medium ≡ old.medium) ⊎ (new.medium ≡ synced old.medium) → LeavesEither old new
-    → LeavesOnly old new (λ t. IsImage old.medium t ⊎ P t)
-opening_leaves old new P timely same time = leaves_more old new _ _ (λ t either. ⊎_elim inl (λ image. inl (unwritten old new timely same t image)) either) time
+pub opening_leaves : (old new : Device) → IsTimely old → (new.medium ≡ old.medium) ⊎ (new.medium ≡ synced old.medium) → LeavesEither old new → LeavesOnly old new (λ t. IsImage old.medium t)
+opening_leaves old new timely same time = leaves_more old new _ _ (λ t either. ⊎_elim (λ image. image) (λ image. unwritten old new timely same t image) either) time
 
--- an open that was refused
-module _ (old new : Device) (fault : OpenFault) (refused : IsRefusedFor old new fault) where
-  -- over what holds a set it failed for the device or for want of memory
-  pub failed_open : (state : Status) (before after : Option (List ℕ)) (N : ℕ) (S : Keys) → IsTrue old.honest → Holds old.medium.seen N S → Tells before after (refusal_text fault) (open_status fault) state
-      → FailedOpen state before after old.medium new.medium
-  failed_open state before after N S honest held told =
-      let cause = held_is_opened old.medium.seen N S fault held (refused.why honest) in
-      let fails : open_status fault ≡ status.Failed = ⊎_elim (λ (is : fault ≡ opening.Device). ap open_status is) (λ (is : fault ≡ opening.Memory). ap open_status is) cause in
-      record { fault = fault; cause = cause; told = subst (λ (s : Status). Tells before after (refusal_text fault) s state) fails told; unwritten = refused.medium honest }
-
-  -- and at each moment it leaves what could be left before
-  pub refused_leaves : (input : Option (List ℕ)) (P : List Item → List ℕ → Type 0) → IsTrue old.honest → IsTimely old → OfInput input (λ items. LeavesOnly old new (λ t. IsImage old.medium t ⊎ P items t))
-  refused_leaves input P honest timely =
-      let its = some_items (known_rest input) in
-      (known_rest input, known input, (its.0, its.1, opening_leaves old new (P its.0) timely (refused.medium honest) (refused.time honest)))
-    where
-      known : (input : Option (List ℕ)) → IsInput input (known_rest input)
-      known None = tt
-      known (Some bytes) = refl
+-- an open that was refused over what holds a set failed for the device or for want of memory
+pub failed_open : (old new : Device) (fault : OpenFault) → IsRefusedFor old new fault → (state : Status) (before after : Option (List ℕ)) (N : ℕ) (S : Keys) → IsTrue old.honest → IsTimely old
+    → Holds old.medium.seen N S → Tells before after (refusal_text fault) (open_status fault) state → FailedOpen state before after old new
+failed_open old new fault refused state before after N S honest timely held told =
+    let cause = held_is_opened old.medium.seen N S fault held (refused.why honest) in
+    let fails : open_status fault ≡ status.Failed = ⊎_elim (λ (is : fault ≡ opening.Device). ap open_status is) (λ (is : fault ≡ opening.Memory). ap open_status is) cause in
+    record {
+      fault = fault;
+      cause = cause;
+      told = subst (λ (s : Status). Tells before after (refusal_text fault) s state) fails told;
+      unwritten = refused.medium honest;
+      any_moment = opening_leaves old new timely (refused.medium honest) (refused.time honest);
+    }

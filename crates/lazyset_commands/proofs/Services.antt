@@ -1,6 +1,7 @@
 -- What a service leaves whose passes were handed back.
-use Rattle.std.proofs.Common.{◌≡◌, ◌⊎◌, inl, inr, ⊎_elim, Bool, true, ℕ, ◌+◌, ◌<◌, ◌≤◌, zero, suc, List, length, map, refl, sym, ap, ◌∙◌, subst, arith}
+use Rattle.std.proofs.Common.{◌≡◌, ◌⊎◌, inl, inr, ⊎_elim, All, Bool, true, false, ℕ, ◌+◌, ◌<◌, ◌≤◌, zero, suc, List, [], ◌∷◌, length, map, refl, sym, ap, ◌∙◌, subst, arith}
 use Rattle.std.proofs.lemmas.List.{get_or-map, length-map}
+use Rattle.std.proofs.lemmas.List.Elements.{All-cons, All-from_recursion, All-nil, All-tail}
 use Rattle.std.specs.List.{Any}
 use Rattle.lz_slot.specs.declared.format.Format.{Format}
 use Rattle.lz_disk.specs.Devices.{Device}
@@ -14,7 +15,7 @@ use Rattle.lz_board.specs.Plays.{parts_from}
 use Rattle.lz_board.specs.Seats.{BoardId, part}
 use Rattle.lz_set.specs.Blanks.{AreNew}
 use Rattle.lz_set.specs.Left.{IsLeftWith}
-use Rattle.lz_serve.specs.Halts.{SawHalt}
+use Rattle.lz_serve.specs.Halts.{IsCalm, SawHalt, was_cut}
 use Rattle.lz_serve.proofs.Halting.{halt_extended}
 use Rattle.lazyset_commands.specs.Services.{ServedPasses}
 use Rattle.lazyset_commands.specs.declared.status.Status.{Status}
@@ -28,6 +29,15 @@ length_parts z opened (suc n) p = ap (λ (k : ℕ). suc k) (length_parts z opene
 pub all_new : (b : BoardId) (ps : List Pass) → AreNew b ps → length ps ≡ b.sizes.passes
 all_new b ps new = sym (length-map ps (λ p. part p)) ∙ (ap (λ (l : List Part). length l) new.parts ∙ length_parts b.sizes b.opened b.sizes.passes 1)
 
+-- what holds of each pass's part holds of all parts
+all_parts : (P : Part → Type 0) (ps : List Pass) → All (λ p. P (part p)) ps → All P (map (λ p. part p) ps)
+all_parts P [] all = All-nil P
+all_parts P (p ∷ ps) all = All-cons P (part p) (map (λ p. part p) ps) (all 0 p (omega arith)) (all_parts P ps (All-tail (λ p. P (part p)) p ps all))
+
+-- a new pass has made no call
+pub new_calm : (b : BoardId) (ps : List Pass) → AreNew b ps → All (λ p. IsCalm (part p)) ps
+new_calm b ps new = λ k d low. subst IsCalm (sym (new.new k d low).1) (All-from_recursion (λ call. was_cut call.1 ≡ false) [] tt)
+
 module _ (b : BoardId) (first disk : Device) (F : Format) (ps : List Pass) (met : List Part) (left : IsLeftWith b first F disk (map (λ p. part p) ps) met) where
   -- where one of the passes saw the halt, the device has failed, or has made its last sync
   halt_left : Any SawHalt ps → (last_sync ≤ left.left.yard.vault.syncs) ⊎ (first.faults < disk.faults)
@@ -38,15 +48,16 @@ module _ (b : BoardId) (first disk : Device) (F : Format) (ps : List Pass) (met 
       let since = subst (λ (h : Part). Extends K h.known) same (left.since k (part p) here) in
       left.left.over (halt_extended (part p).known K since saw)
 
-  pub served_passes : (status : Status) (halted : Bool) (threadless : ℕ) → length ps + threadless ≡ b.sizes.passes → (halted ≡ true → Any SawHalt ps) → (status ≡ Done → threadless ≡ 0)
+  pub served_passes : (status : Status) (halted : Bool) (threadless : ℕ) → length ps + threadless ≡ b.sizes.passes → (halted ≡ true → Any SawHalt ps) → (halted ≡ false → All (λ p. IsCalm (part p)) ps)
+      → (status ≡ Done → (halted ≡ false) × (threadless ≡ 0))
       → (status ≡ Failed → (halted ≡ true) ⊎ (0 < threadless)) → (status ≡ Done) ⊎ (status ≡ Failed) → ServedPasses b first F status disk
-  served_passes status halted threadless count seen done failed other =
+  served_passes status halted threadless count seen calm done failed other =
       let long = length-map ps (λ p. part p) in
       record {
         ended = map (λ p. part p) ps;
         met = met;
         left = left;
-        whole = λ is. let none = done is in omega (arith, long, count, none);
+        whole = λ is. let none = (done is).1 in (omega (arith, long, count, none), all_parts IsCalm ps (calm (done is).0));
         failed = λ is. ⊎_elim (λ h. inr (halt_left (seen h))) (λ some. inl (omega (arith, long, count, some))) (failed is);
         other = other;
       }

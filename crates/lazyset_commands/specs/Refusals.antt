@@ -1,7 +1,7 @@
 -- What a refused open tells.
 use Rattle.std.specs.Prelude.{◌≡◌, ◌⊎◌, ℕ, Option, List, [], ◌∷◌, ◌++◌, codes, decimal}
-use Rattle.lz_disk.specs.Images.{Medium, synced}
-use Rattle.lz_disk.specs.Devices.{Device}
+use Rattle.lz_disk.specs.Images.{IsImage, synced}
+use Rattle.lz_disk.specs.Devices.{Device, LeavesOnly}
 use Rattle.lz_vault.specs.Opens.{IsRefusedFor, open_fault_number}
 use Rattle.lz_vault.specs.declared.opening.OpenFault.{OpenFault}
 use Rattle.lz_vault.specs.declared.opening.OpenFault.TheVariants.{BadKey, Memory, Twice, Device as DeviceFailed}
@@ -24,9 +24,11 @@ pub record RefusedOpen {D : Type 0} (device : D → Device) (status : Status) (i
   pub unread : rest ≡ input
   pub told : Tells before after (refusal_text fault) (open_status fault) status
 
--- The device failed at the open, or there was no memory: this was told, and nothing was written to the disk.
-pub record FailedOpen (status : Status) (before after : Option (List ℕ)) (old new : Medium) : Type 0 where
+-- The device failed at the open, or there was no memory: this was told, and nothing was written to the disk. A crash at any moment
+-- leaves what it might have left before.
+pub record FailedOpen (status : Status) (before after : Option (List ℕ)) (old new : Device) : Type 0 where
   pub fault : OpenFault
   pub cause : (fault ≡ DeviceFailed) ⊎ (fault ≡ Memory)
   pub told : Tells before after (refusal_text fault) Failed status
-  pub unwritten : (new ≡ old) ⊎ (new ≡ synced old)
+  pub unwritten : (new.medium ≡ old.medium) ⊎ (new.medium ≡ synced old.medium)
+  pub any_moment : LeavesOnly old new (λ t. IsImage old.medium t)

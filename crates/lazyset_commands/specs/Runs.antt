@@ -1,18 +1,19 @@
 -- What a run of commands does, by the one pass of a set, and what it leaves of the disk.
-use Rattle.std.specs.Prelude.{◌≡◌, ◌⊎◌, ℕ, ◌≤◌, ◌<◌, Option, Result, Ok, List, ◌++◌}
+use Rattle.std.specs.Prelude.{◌≡◌, ◌⊎◌, ℕ, ◌≤◌, ◌<◌, Option, Result, Ok, List, [], ◌∷◌, ◌++◌}
 use Rattle.std.specs.Io.KnownBytes.{Appends}
 use Rattle.lz_slot.specs.Sets.{Keys}
 use Rattle.lz_slot.specs.Bytes.{Holds}
 use Rattle.lz_slot.specs.declared.format.Format.{Format}
 use Rattle.lz_disk.specs.Images.{Medium, IsImage}
-use Rattle.lz_disk.specs.Devices.{Device}
+use Rattle.lz_disk.specs.Devices.{Device, LeavesOnly}
 use Rattle.lz_vault.specs.Vaults.{last_sync}
 use Rattle.lz_proto.specs.Lines.{Items}
 use Rattle.lz_proto.specs.declared.item.Item.{Item}
 use Rattle.lz_proto.specs.declared.request.Request.{Request}
 use Rattle.lz_proto.specs.declared.reply.Reply.{Reply}
+use Rattle.lz_proto.specs.declared.reply.Reply.TheVariants.{Halted}
 use Rattle.lz_proto.specs.declared.end.End.{End}
-use Rattle.lz_proto.specs.declared.end.End.TheVariants.{Halted}
+use Rattle.lz_proto.specs.declared.end.End.TheVariants as ends
 use Rattle.lz_proto.specs.declared.fault.SessionFault.{SessionFault}
 use Rattle.lz_proto.specs.Sessions.{IsInput, Serves, SessionTells, Writes, session_text}
 use Rattle.lz_yard.specs.Filling.{OpensYard}
@@ -21,7 +22,7 @@ use Rattle.lz_board.specs.declared.view.Note.{Note}
 use Rattle.lz_board.specs.Opened.{opened_by}
 use Rattle.lz_board.specs.Seats.{BoardId, IsNew, part}
 use Rattle.lz_tie.specs.Holds.{sizes_of}
-use Rattle.lz_tie.specs.Sessions.{AreOn, TellsAlone}
+use Rattle.lz_tie.specs.Sessions.{TellsAlone}
 use Rattle.lz_set.specs.Blanks.{BlankOver}
 use Rattle.lz_set.specs.Left.{IsLeft}
 use Rattle.lz_serve.specs.Replies.{SeatAnswers}
@@ -46,8 +47,7 @@ pub record ServedSeat (b : BoardId) (first : Device) (F : Format) (status : Stat
   pub notes : List Note
   pub left : IsLeft b first notes disk
   pub alone : b.sizes.passes ≡ 1 → TellsAlone b notes (part done)
-  pub format : AreOn F (part done).steps
-  pub halts : ended ≡ Ok Halted → (last_sync ≤ left.yard.vault.syncs) ⊎ (first.faults < disk.faults)
+  pub halts : ended ≡ Ok ends.Halted → (last_sync ≤ left.yard.vault.syncs) ⊎ (first.faults < disk.faults)
 
 -- The disk was opened as a set of so many buckets and of one pass, and that pass served a session.
 pub record RanSeat {D : Type 0} (device : D → Device) (buckets : ℕ) (status : Status) (input rest before after : Option (List ℕ)) (old new : D) : Type 0 where
@@ -70,22 +70,25 @@ pub record RepliesOfPass (F : Format) (N : ℕ) (S : Keys) (input before after :
   pub written : Appends before after (session_text items replies)
   pub held : EachHolds disk N last
 
--- The session is that of a set which answers so, beginning with S, and each image holds a set in which it may have ended: one
--- command that was answered `halted` may have been done or not.
-pub record SessionOfSet (A : Keys → Request → Reply → Keys → Type 0) (N : ℕ) (S : Keys) (status : Status) (input rest before after : Option (List ℕ)) (disk : Medium) : Type 0 where
-  pub ended : Result End SessionFault
-  pub status_is : status ≡ session_status ended
-  pub written : List ℕ
-  pub appended : Appends before after written
-  pub each : (t : List ℕ) → IsImage disk t → (T : Keys) × SessionTells A input rest S T written ended × Holds t N T
+-- a session's service that only collects the replies, the oldest first
+abbrev pub Collects : List Reply → Request → Reply → List Reply → Type 0
+Collects old request reply new = new ≡ old ++ reply ∷ []
 
--- The text holds the set after some first ones of the items, which it answers so; the last of these may be under way, done or
--- not.
-pub record FoundAfter (A : Keys → Request → Reply → Keys → Type 0) (N : ℕ) (S : Keys) (items : List Item) (t : List ℕ) : Type 0 where
+-- These are the first ones of all the replies; the last may be `halted` in the place of any other, where its command is under way.
+abbrev pub AreFirst : List Reply → List Reply → Type 0
+AreFirst [] all = Unit {0}
+AreFirst (reply ∷ replies) [] = ⊥
+AreFirst (Halted ∷ []) (other ∷ all) = Unit {0}
+AreFirst (reply ∷ replies) (other ∷ all) = (reply ≡ other) × AreFirst replies all
+
+-- The text holds the set after some first ones of the items, which it answers with the first ones of all the replies; the last of
+-- these may be under way, done or not.
+pub record FoundAfter (A : Keys → Request → Reply → Keys → Type 0) (N : ℕ) (S : Keys) (items : List Item) (all : List Reply) (t : List ℕ) : Type 0 where
   pub done : List Item
   pub rest : List Item
   pub first : items ≡ done ++ rest
   pub replies : List Reply
+  pub told : AreFirst replies all
   pub found : Keys
   pub served : Serves A S done replies found
   pub held : Holds t N found
@@ -93,3 +96,16 @@ pub record FoundAfter (A : Keys → Request → Reply → Keys → Type 0) (N : 
 -- this is so of the input's items
 abbrev pub OfInput : Option (List ℕ) → (List Item → Type 0) → Type 0
 OfInput input P = (text : List ℕ) × IsInput input text × ((items : List Item) × Items text items × P items)
+
+-- The session is that of a set which answers so, beginning with S, and what was written tells its replies. Each image of what is
+-- left holds a set in which it may have ended: one command that was answered `halted` may have been done or not. A crash at any
+-- moment leaves what it might have left before, or the set after some first ones of these replies.
+pub record SessionOfSet (A : Keys → Request → Reply → Keys → Type 0) (N : ℕ) (S : Keys) (status : Status) (input rest before after : Option (List ℕ)) (old new : Device) : Type 0 where
+  pub ended : Result End SessionFault
+  pub status_is : status ≡ session_status ended
+  pub written : List ℕ
+  pub appended : Appends before after written
+  pub replies : List Reply
+  pub told : SessionTells Collects input rest [] replies written ended
+  pub each : (t : List ℕ) → IsImage new.medium t → (T : Keys) × SessionTells A input rest S T written ended × Holds t N T
+  pub any_moment : OfInput input (λ items. LeavesOnly old new (λ t. IsImage old.medium t ⊎ FoundAfter A N S items replies t))

@@ -1,5 +1,7 @@
 -- What a service of a set does: its passes are served, each by a thread.
-use Rattle.std.specs.Prelude.{◌≡◌, ◌⊎◌, ◌≤◌, ◌<◌, ℕ, List, [], ◌∷◌, ◌++◌, codes, decimal, length, Option}
+use Rattle.std.specs.Prelude.{◌≡◌, ◌⊎◌, ◌≤◌, ◌<◌, ℕ, zero, suc, ◌*◌, All, List, [], ◌∷◌, ◌++◌, codes, decimal, length, Option, None, IsSomeAnd}
+use Rattle.std.specs.Duration.{as_nanos}
+use Rattle.std.specs.declared.time.Duration.{Duration}
 use Rattle.std.specs.Io.KnownBytes.{Appends}
 use Rattle.lz_slot.specs.declared.format.Format.{Format}
 use Rattle.lz_disk.specs.Devices.{Device}
@@ -14,20 +16,26 @@ use Rattle.lz_board.specs.Seats.{BoardId}
 use Rattle.lz_tie.specs.Holds.{sizes_of}
 use Rattle.lz_set.specs.Blanks.{BlankOver}
 use Rattle.lz_set.specs.Left.{IsLeft, IsLeftWith}
+use Rattle.lz_serve.specs.Halts.{IsCalm}
 use Rattle.lazyset_commands.specs.Ends.{open_status}
 use Rattle.lazyset_commands.specs.Refusals.{refusal_text}
 use Rattle.lazyset_commands.specs.Tellings.{IsCutShort, Tells}
 use Rattle.lazyset_commands.specs.declared.status.Status.{Status}
 use Rattle.lazyset_commands.specs.declared.status.Status.TheVariants.{Done, Failed}
 
+-- so many seconds are the bound on how long a client is waited for; 0 is none
+abbrev pub IsIdleBound : ℕ → Option Duration → Type 0
+IsIdleBound zero idle = idle ≡ None
+IsIdleBound (suc n) idle = IsSomeAnd idle (λ d. as_nanos d ≡ (suc n) * 1_000_000_000)
+
 -- Passes of a set were served, and have ended with these parts: what is left of the disk tells a history, in which their calls are those
--- that they made, with the replies that they got. It is done only where each pass was served, and has failed only where one wasn't, the
--- device failed, or it has made its last sync.
+-- that they made, with the replies that they got. It is done only where each pass was served, and no call of theirs was answered that the
+-- set is halted or that the device failed. It has failed only where a pass wasn't served, the device failed, or it has made its last sync.
 pub record ServedPasses (b : BoardId) (first : Device) (F : Format) (status : Status) (disk : Device) : Type 0 where
   pub ended : List Part
   pub met : List Part
   pub left : IsLeftWith b first F disk ended met
-  pub whole : status ≡ Done → length ended ≡ b.sizes.passes
+  pub whole : status ≡ Done → (length ended ≡ b.sizes.passes) × All IsCalm ended
   pub failed : status ≡ Failed → (length ended < b.sizes.passes) ⊎ ((last_sync ≤ left.left.yard.vault.syncs) ⊎ (first.faults < disk.faults))
   pub other : (status ≡ Done) ⊎ (status ≡ Failed)
 

@@ -1,7 +1,5 @@
 //! The command that serves a session, by the one pass of a set.
 ghost use Rattle.std.specs.Prelude.{◌≡◌, ◌⊎◌, ◌≤◌, ℕ, List, IsTrue};
-ghost use Rattle.lz_disk.specs.Devices.{LeavesOnly};
-ghost use Rattle.lz_disk.specs.Images.{IsImage};
 ghost use Rattle.lz_slot.specs.Bytes.{Holds, format_of};
 ghost use Rattle.lz_slot.specs.Limits.{most_buckets};
 ghost use Rattle.lz_slot.specs.Sets.{Keys};
@@ -11,7 +9,7 @@ ghost use Rattle.lz_set.specs.Names.{MayCall};
 ghost use Rattle.lazyset_commands.specs.Ends.{session_status};
 ghost use Rattle.lazyset_commands.specs.PlainReplies.{PassMayAnswer};
 ghost use Rattle.lazyset_commands.specs.Refusals.{FailedOpen, RefusedOpen};
-ghost use Rattle.lazyset_commands.specs.Runs.{FoundAfter, OfInput, RanSeat, RepliesOfPass, ServedSeat, SessionOfSet};
+ghost use Rattle.lazyset_commands.specs.Runs.{RanSeat, RepliesOfPass, ServedSeat, SessionOfSet};
 
 use crate::refusal::refuse;
 use crate::status::Status;
@@ -46,20 +44,16 @@ where
     ensures honest { (D.device result.1).honest ≡ (D.device disk).honest }
     ensures faults { (D.device disk).faults ≤ (D.device result.1).faults }
 
-    // Where what is read holds S, the session is the plain set's, however it ends, and so is what a crash after it leaves.
+    // Where what is read holds S, the session is the plain set's, however it ends. A crash after it leaves the set after its replies,
+    // and a crash at any moment leaves what it might have left before, or the set after some first ones of these replies, with the
+    // next command, under way then, done or not.
     ensures set { (N : ℕ) (S : Keys) → IsTrue (D.device disk).honest → Holds (D.device disk).medium.seen N S
-        → SessionOfSet (PassMayAnswer (format_of (D.device disk).medium.seen) N) N S result.0 (R.remaining reader.old) (R.remaining reader.new) (W.contents writer.old) (W.contents writer.new) (D.device result.1).medium
-        ⊎ FailedOpen result.0 (W.contents writer.old) (W.contents writer.new) (D.device disk).medium (D.device result.1).medium }
+        → SessionOfSet (PassMayAnswer (format_of (D.device disk).medium.seen) N) N S result.0 (R.remaining reader.old) (R.remaining reader.new) (W.contents writer.old) (W.contents writer.new) (D.device disk) (D.device result.1)
+        ⊎ FailedOpen result.0 (W.contents writer.old) (W.contents writer.new) (D.device disk) (D.device result.1) }
 
     // A run that is done leaves the one set after all the replies.
     ensures plain { (N : ℕ) (S : Keys) → IsTrue (D.device disk).honest → Holds (D.device disk).medium.seen N S → result.0 ≡ Status.Done
         → RepliesOfPass (format_of (D.device disk).medium.seen) N S (R.remaining reader.old) (W.contents writer.old) (W.contents writer.new) (D.device result.1).medium }
-
-    // A crash at any moment of the run leaves what it might have left before, or the set after some first ones of the
-    // input's items, with one of them under way.
-    ensures any_moment { (N : ℕ) (S : Keys) → IsTrue (D.device disk).honest → Holds (D.device disk).medium.seen N S
-        → OfInput (R.remaining reader.old) (λ items. LeavesOnly (D.device disk) (D.device result.1)
-        (λ t. IsImage (D.device disk).medium t ⊎ FoundAfter (PassMayAnswer (format_of (D.device disk).medium.seen) N) N S items t)) }
 {
     match Set::open(rt.alloc(), disk, NoGate, buckets, 1) {
         Ok(blank) => run_blank::<Rt, R, W, D, Brand>(rt, reader, writer, blank),

@@ -1,9 +1,9 @@
 //! The command that serves a set over the network.
-ghost use Rattle.std.specs.Prelude.{◌≡◌, ◌⊎◌, ◌≤◌, ◌<◌, All, true, vec_len};
+ghost use Rattle.std.specs.Prelude.{◌≡◌, ◌⊎◌, ◌≤◌, ◌<◌, All, true, false};
 ghost use Rattle.lz_slot.specs.Limits.{most_buckets, most_passes};
-ghost use Rattle.lz_set.specs.Blanks.{MayBeNamed};
+ghost use Rattle.lz_set.specs.Blanks.{AreNew, MayBeNamed};
 ghost use Rattle.lz_set.specs.Names.{MayCall};
-ghost use Rattle.lazyset_commands.specs.Services.{HadNoPort, HadPort, RanService, RefusedService, ServedPasses, TellsPort};
+ghost use Rattle.lazyset_commands.specs.Services.{HadNoPort, HadPort, IsIdleBound, RanService, RefusedService, ServedPasses, TellsPort};
 
 use crate::refusal::{refuse, send_line};
 use crate::status::Status;
@@ -39,7 +39,10 @@ pub struct ServeOptions {
 
 impl ServeOptions {
     // When its sessions and passes end.
-    fn bounds(&self) -> Bounds {
+    fn bounds(&self) -> Bounds
+        ensures sessions { result.sessions ≡ self.now.sessions }
+        ensures idle { IsIdleBound self.now.idle result.idle }
+    {
         let idle = if self.idle == 0 {
             None
         } else {
@@ -54,8 +57,8 @@ impl ServeOptions {
 
 /// Opens the set that the disk holds and serves it on a port of 127.0.0.1, with a thread for each pass, each of which serves
 /// one connection after the other. The observer is told once the service stands, and where the device failed. Says `listening P` before the first connection, `refused N` of a refused open as a run does, and
-/// `noport` where it can't listen there. It ends when each pass has served its sessions, and hands the disk back: Failed where the device failed, or
-/// where there was no thread for a pass.
+/// `noport` where it can't listen there. It ends when each pass has served its sessions, and hands the disk back: Failed where a call was
+/// answered that the set is halted or that the device failed, or where there was no thread for a pass.
 pub fn serve_on<R, W, O, D>(
     rt: &R,
     writer: &mut W,
@@ -119,7 +122,7 @@ where
     serve_passes(rt, observer, &listener, set, passes, options.bounds())
 }
 
-// Serves the passes, and ends the set's life behind them.
+// Serves the new passes, and ends the set's life after them.
 fn serve_passes<R, O, D, N>(
     rt: &R,
     observer: &O,
@@ -134,7 +137,7 @@ where
     D: Disk + Send,
     N: Named + Send + Sync,
     requires may_call { All (MayCall N.board) passes.items }
-    requires all { vec_len passes ≡ N.board.sizes.passes }
+    requires new { AreNew N.board passes.items }
     ensures { ServedPasses N.board N.first N.format result.0 (D.device result.1) }
 {
     let Served {
@@ -149,7 +152,7 @@ where
 
 // The status after a service.
 fn status_of_service(halted: bool, threadless: usize) -> Status
-    ensures done { result ≡ Status.Done → threadless ≡ 0 }
+    ensures done { result ≡ Status.Done → (halted ≡ false) × (threadless ≡ 0) }
     ensures failed { result ≡ Status.Failed → (halted ≡ true) ⊎ (0 < threadless) }
     ensures other { (result ≡ Status.Done) ⊎ (result ≡ Status.Failed) }
 {

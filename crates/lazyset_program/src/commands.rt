@@ -4,7 +4,7 @@ ghost use Rattle.lz_slot.specs.Limits.{most_buckets, most_passes, most_rehearsed
 ghost use Rattle.lazyset_command_line.specs.Requests.{IsWithin};
 
 use crate::fault::Fault;
-use crate::files::{open, read_front, stand_in};
+use crate::files::{create, open, read_front, stand_in};
 use crate::log::Log;
 use lazyset_command_line::{Request, read};
 use lazyset_commands::{
@@ -68,9 +68,9 @@ where
 
 fn make<R>(rt: &R, file: &str, slots: u64, format: Format) -> Result<Status, Fault>
 where
-    R: Files<File = File> + Print,
+    R: Files<File = File> + Print + AllocGlobal,
 {
-    let mut disk = open(rt, file, true)?;
+    let mut disk = create(rt, file)?;
     Ok(make_on(&mut io::writer(rt), &mut disk, slots, format))
 }
 
@@ -78,8 +78,8 @@ fn renew<R>(rt: &R, old: &str, new: &str, slots: u64) -> Result<Status, Fault>
 where
     R: Files<File = File> + Print + AllocGlobal,
 {
-    let mut old = open(rt, old, false)?;
-    let mut new = open(rt, new, true)?;
+    let mut old = open(rt, old)?;
+    let mut new = create(rt, new)?;
     Ok(renew_on(rt.alloc(), &mut io::writer(rt), &mut old, &mut new, slots))
 }
 
@@ -88,7 +88,7 @@ where
     R: Files<File = File> + Input + Print + AllocGlobal + Wait,
     requires { (1 ≤ buckets) × (buckets ≤ most_buckets) }
 {
-    let disk = open(rt, file, false)?;
+    let disk = open(rt, file)?;
     let (status, _disk) = run_on(rt, &mut rt.reader(), &mut io::writer(rt), disk, buckets);
     Ok(status)
 }
@@ -100,7 +100,7 @@ where
     requires passes { (1 ≤ options.passes) × (options.passes ≤ most_passes) }
     requires buckets { (1 ≤ options.buckets) × (options.buckets ≤ most_buckets) }
 {
-    let disk = open(rt, file, false)?;
+    let disk = open(rt, file)?;
     let log = Log { rt, file };
     let (status, _disk) = serve_on(rt, &mut io::writer(rt), &log, disk, options);
     Ok(status)

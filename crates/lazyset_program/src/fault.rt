@@ -50,4 +50,12 @@ impl Fault {
             Fault::CommandLine { status, .. } => *status,
         }
     }
+
+    /// How the command ended where its text couldn't be written: help that nobody gets has failed.
+    pub fn status_untold(&self) -> Status {
+        match self.status() {
+            Status::Done => Status::Failed,
+            status => status,
+        }
+    }
 }

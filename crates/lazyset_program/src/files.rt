@@ -24,7 +24,29 @@ fn open_nothing<R: Files<File = File>>(rt: &R) -> Option<File> {
 }
 
 /// The file at this path, as a disk.
-pub fn open<R: Files<File = File>>(rt: &R, path: &str, create: bool) -> Result<FileDisk, Fault> {
+pub fn open<R: Files<File = File>>(rt: &R, path: &str) -> Result<FileDisk, Fault> {
+    open_or_create(rt, path, false)
+}
+
+/// The file at this path, as a disk; it is created where it isn't there. Where a symbolic link was named it is opened again by its
+/// own path: it is the name in the file's own folder that has to be durable.
+pub fn create<R>(rt: &R, path: &str) -> Result<FileDisk, Fault>
+where
+    R: Files<File = File> + AllocGlobal,
+{
+    let disk = open_or_create(rt, path, true)?;
+    drop(disk);
+    match rt.canonicalize(rt.alloc(), path) {
+        Ok(itself) => open_or_create(rt, itself.as_str(), true),
+        Err(_) => Err(Fault::NoFile),
+    }
+}
+
+fn open_or_create<R: Files<File = File>>(
+    rt: &R,
+    path: &str,
+    create: bool,
+) -> Result<FileDisk, Fault> {
     match FileDisk::open(rt, path, create) {
         Ok(disk) => Ok(disk),
         Err(_) => Err(Fault::NoFile),

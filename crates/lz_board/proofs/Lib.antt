@@ -1,3 +1,4 @@
 pub mod Start
 pub mod Upkeep
 pub mod Walk
+pub mod NoteRows

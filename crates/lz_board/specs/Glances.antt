@@ -37,11 +37,16 @@ pub record GlancedUnsettled (k s : ℕ) (P Q : Trace) : Type 0 where
   pub in_slot : linking_in s then ≡ linking k then
   pub asks : may_answer (flags_after s then) ≡ asks_sync
 
--- The rows of a glance, by the pass's part before it and after it.
+-- no halt was published
+abbrev pub IsUnhalted : Trace → Type 0
+IsUnhalted P = halt_word P ≡ 0
+
+-- The rows of a glance, by the pass's part before it and after it. One that begins after the pass has seen the halt answers Halted,
+-- where the pass may go inside.
 abbrev pub Glances : ℕ → Result Glance GlanceFault → Part → Part → Type 0
-Glances k (Ok Yes) before after = Glanced k before.known after.known true × Changes before.number before.known after.known []
-Glances k (Ok No) before after = Glanced k before.known after.known false × Changes before.number before.known after.known []
-Glances k (Ok (Unsettled s)) before after = GlancedUnsettled k s before.known after.known × Changes before.number before.known after.known []
+Glances k (Ok Yes) before after = Glanced k before.known after.known true × Changes before.number before.known after.known [] × IsUnhalted before.known
+Glances k (Ok No) before after = Glanced k before.known after.known false × Changes before.number before.known after.known [] × IsUnhalted before.known
+Glances k (Ok (Unsettled s)) before after = GlancedUnsettled k s before.known after.known × Changes before.number before.known after.known [] × IsUnhalted before.known
 Glances k (Err Halted) before after = (halt_word after.known ≡ 1) × Changes before.number before.known after.known []
 Glances k (Err Worn) before after = (before.pin ≡ last_pin) × Changes before.number before.known after.known []
 Glances k (Err BusyPass) before after = IsInside before.pin × (after ≡ before)

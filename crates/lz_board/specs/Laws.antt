@@ -13,7 +13,7 @@ use Rattle.lz_board.specs.declared.view.Note.{Note}
 use Rattle.lz_board.specs.declared.view.Part.{Part}
 use Rattle.lz_board.specs.declared.view.View.{View}
 use Rattle.lz_board.specs.declared.view.Opening.{Opening}
-use Rattle.lz_board.specs.Notes.{trace_of, Since, IsShared}
+use Rattle.lz_board.specs.Notes.{trace_of, steps_of, Since, IsShared}
 use Rattle.lz_board.specs.Addresses.{index}
 use Rattle.lz_machine.specs.Yards.{IsInside}
 use Rattle.lz_board.specs.Kept.{IsPart}
@@ -42,10 +42,12 @@ pub record IsPublished (z : Sizes) (opened : Trace) (s : State Note View) (ns : 
   pub lawful : Lawful z.buckets z.slots (trace_of opened ns)
   pub words : AreWordsAfter z (trace_of opened ns) s.words
 
--- What the pass has seen is a beginning of the trace, behind which nothing was published for it, and its pin word is its own.
-pub record SeesBeginning (z : Sizes) (P : Trace) (words : List ℕ) (h : Part) : Type 0 where
-  pub seen : Since h.number P h.known
-  pub begun : Begins h.begun P
+-- What the pass has seen is a beginning of the notes' trace, after which nothing was published for it; its steps are the notes'
+-- of it, and its pin word is its own.
+pub record SeesBeginning (z : Sizes) (opened : Trace) (ns : List Note) (words : List ℕ) (h : Part) : Type 0 where
+  pub seen : Since h.number (trace_of opened ns) h.known
+  pub begun : Begins h.begun (trace_of opened ns)
+  pub steps : steps_of h.number ns ≡ h.steps
   pub pin : slice_index words (index z (PinOf h.number)) ≡ h.pin
 
 -- slot s is prepared for another node
@@ -71,7 +73,7 @@ abbrev pub PassesSeeBeginnings : Type 0
 PassesSeeBeginnings =
     (o : Opening) (s : State Note View)
     → holds_of o s
-    → (ns : List Note) × IsPublished o.sizes (opened_by o.words.value) s ns × ((h : Part) → IsPass s h → SeesBeginning o.sizes (trace_of (opened_by o.words.value) ns) s.words h)
+    → (ns : List Note) × IsPublished o.sizes (opened_by o.words.value) s ns × ((h : Part) → IsPass s h → SeesBeginning o.sizes (opened_by o.words.value) ns s.words h)
 
 -- and a slot isn't prepared anew while a pass is inside since before its last unlinking
 abbrev pub SlotsAreLeftFirst : Type 0

@@ -1,11 +1,10 @@
 -- A pass of whose sessions one halted: it has seen that the set was halted.
-use Rattle.std.proofs.Common.{◌≡◌, Bool, true, false, List, [], ◌∷◌, ◌++◌, Option, ℕ, Result, Ok, Err, ap, ◌∙◌}
+use Rattle.std.proofs.Common.{◌≡◌, Bool, true, false, List, [], ◌∷◌, Option, ℕ, Result, Ok, Err, ap, ◌∙◌}
 use Rattle.lz_slot.specs.declared.command.Command.{Command}
 use Rattle.lz_slot.specs.declared.command.Command.TheVariants as command
 use Rattle.lz_slot.specs.declared.format.Format.{Format}
 use Rattle.lz_list.specs.Traces.{Trace, halt_word}
 use Rattle.lz_machine.specs.declared.event.Reply.TheVariants as given
-use Rattle.lz_machine.proofs.Frames.Publishing.{halt_stays}
 use Rattle.lz_proto.specs.declared.request.Request.TheVariants.{Quit}
 use Rattle.lz_proto.specs.declared.reply.Reply.{Reply}
 use Rattle.lz_proto.specs.declared.reply.Reply.TheVariants.{Halted}
@@ -16,6 +15,7 @@ use Rattle.lz_proto.specs.declared.end.End.{End}
 use Rattle.lz_proto.specs.declared.end.End.TheVariants as ends
 use Rattle.lz_proto.specs.Sessions.{Serves, SessionTells, end_of}
 use Rattle.lz_board.specs.declared.pass.Pass.{Pass}
+use Rattle.lz_board.proofs.Walk.GlanceAnswer.{halt_longer}
 use Rattle.lz_board.specs.declared.view.Part.{Part}
 use Rattle.lz_board.specs.Notes.{Extends}
 use Rattle.lz_board.specs.Seats.{BoardId, part}
@@ -25,33 +25,30 @@ use Rattle.lz_set.specs.Answers.{reply_of as given_of}
 use Rattle.lz_serve.specs.Replies.{SeatAnswers, reply_of}
 use Rattle.lz_tie.specs.Answers.{Answers}
 
-halt_longer : (more P : Trace) → halt_word P ≡ 1 → halt_word (more ++ P) ≡ 1
-halt_longer [] P is = is
-halt_longer (e ∷ more) P is = halt_stays e (more ++ P) (halt_longer more P is)
-
 -- the halt word stays as the trace grows
 pub halt_extended : (P Q : Trace) → Extends Q P → halt_word P ≡ 1 → halt_word Q ≡ 1
 halt_extended P Q (more, same) is = ap halt_word same ∙ halt_longer more P is
 
 -- a call that was cut off has seen it
-halted_word : (c : Command) (before after : Part) → Answers c given.Halted before after → halt_word after.known ≡ 1
-halted_word (command.Add k) before after answers = answers.promises.halted
-halted_word (command.Remove k) before after answers = answers.promises.halted
-halted_word (command.Has k) before after answers = answers.promises.halted
+halted_word : (F : Format) (c : Command) (before after : Part) → Answers F c given.Halted before after → halt_word after.known ≡ 1
+halted_word F (command.Add k) before after answers = answers.promises.halted
+halted_word F (command.Remove k) before after answers = answers.promises.halted
+halted_word F (command.Has k) before after answers = answers.promises.halted
 
-device_word : (c : Command) (before after : Part) → Answers c given.Device before after → halt_word after.known ≡ 1
-device_word (command.Add k) before after answers = answers.promises.halted
-device_word (command.Remove k) before after answers = answers.promises.halted
-device_word (command.Has k) before after answers = answers.promises.halted
+device_word : (F : Format) (c : Command) (before after : Part) → Answers F c given.Device before after → halt_word after.known ≡ 1
+device_word F (command.Add k) before after answers = answers.promises.halted
+device_word F (command.Remove k) before after answers = answers.promises.halted
+device_word F (command.Has k) before after answers = answers.promises.halted
 
-answer_word : (c : Command) (answer : Result Bool Fault) (before after : Part) → Halted ≡ reply_of answer → Answers c (given_of answer) before after → halt_word after.known ≡ 1
-answer_word c (Ok true) before after told answers = absurd (cc)
-answer_word c (Ok false) before after told answers = absurd (cc)
-answer_word c (Err (fault.Full counts)) before after told answers = absurd (cc)
-answer_word c (Err fault.Worn) before after told answers = absurd (cc)
-answer_word c (Err fault.OldFile) before after told answers = absurd (cc)
-answer_word c (Err fault.Halted) before after told answers = halted_word c before after answers
-answer_word c (Err fault.Device) before after told answers = device_word c before after answers
+-- so has one of which a client is told that the service halted
+pub answer_word : (F : Format) (c : Command) (answer : Result Bool Fault) (before after : Part) → Halted ≡ reply_of answer → Answers F c (given_of answer) before after → halt_word after.known ≡ 1
+answer_word F c (Ok true) before after told answers = absurd (cc)
+answer_word F c (Ok false) before after told answers = absurd (cc)
+answer_word F c (Err (fault.Full counts)) before after told answers = absurd (cc)
+answer_word F c (Err fault.Worn) before after told answers = absurd (cc)
+answer_word F c (Err fault.OldFile) before after told answers = absurd (cc)
+answer_word F c (Err fault.Halted) before after told answers = halted_word F c before after answers
+answer_word F c (Err fault.Device) before after told answers = device_word F c before after answers
 
 module _ (b : BoardId) (F : Format) where
   items_halt : (items : List Item) (replies : List Reply) (old new : Pass) → Serves (SeatAnswers b F) old items replies new → end_of items replies ≡ ends.Halted → halt_word (part new).known ≡ 1
@@ -61,7 +58,7 @@ module _ (b : BoardId) (F : Format) where
   items_halt (Asks Quit ∷ items) [] old new served halts = absurd (cc)
   items_halt (Asks Quit ∷ items) (reply ∷ replies) old new served halts = absurd served
   items_halt (Asks request ∷ items) [] old new served halts = absurd served
-  items_halt (Asks request ∷ items) (Halted ∷ replies) old new served halts = answer_word served.0.c served.0.answer (part old) (part new) served.0.told served.0.call
+  items_halt (Asks request ∷ items) (Halted ∷ replies) old new served halts = answer_word F served.0.c served.0.answer (part old) (part new) served.0.told served.0.call
   items_halt (Asks request ∷ items) (reply ∷ replies) old new served halts = items_halt items replies served.0 new served.2 halts
 
   -- so has the pass at the end of a session that halted

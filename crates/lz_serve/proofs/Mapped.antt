@@ -1,4 +1,4 @@
--- A session over a service that is known by a part of it alone.
+-- A session over a service that is known by a part of it alone, and as what its answers imply of that.
 use Rattle.std.proofs.Common.{◌≡◌, ℕ, List, [], ◌∷◌, Option, Result, Ok, Err, ap, subst}
 use Rattle.lz_proto.specs.declared.request.Request.{Request}
 use Rattle.lz_proto.specs.declared.request.Request.TheVariants.{Quit}
@@ -12,10 +12,8 @@ use Rattle.lz_proto.specs.declared.end.End.{End}
 use Rattle.lz_proto.specs.declared.end.End.TheVariants as ends
 use Rattle.lz_proto.specs.Sessions.{Answered, CutOff, Serves, SessionTells}
 
-module _ {X Y : Type 0} (known : X → Y) (answers : Y → Request → Reply → Y → Type 0) where
-  abbrev pub over : X → Request → Reply → X → Type 0
-  over old request reply new = answers (known old) request reply (known new)
-
+module _ {X Y : Type 0} (known : X → Y) (over : X → Request → Reply → X → Type 0) (answers : Y → Request → Reply → Y → Type 0)
+    (implies : (old : X) (request : Request) (reply : Reply) (new : X) → over old request reply new → answers (known old) request reply (known new)) where
   serves : (items : List Item) (replies : List Reply) (old new : X) → Serves over old items replies new → Serves answers (known old) items replies (known new)
   serves [] [] old new served = ap known served
   serves [] (reply ∷ replies) old new served = absurd served
@@ -23,8 +21,8 @@ module _ {X Y : Type 0} (known : X → Y) (answers : Y → Request → Reply →
   serves (Asks Quit ∷ items) [] old new served = ap known served
   serves (Asks Quit ∷ items) (reply ∷ replies) old new served = absurd served
   serves (Asks request ∷ items) [] old new served = absurd served
-  serves (Asks request ∷ items) (Halted ∷ replies) old new served = served
-  serves (Asks request ∷ items) (reply ∷ replies) old new served = (known served.0, served.1, serves items replies served.0 new served.2)
+  serves (Asks request ∷ items) (Halted ∷ replies) old new served = (implies old request Halted new served.0, served.1)
+  serves (Asks request ∷ items) (reply ∷ replies) old new served = (known served.0, implies old request reply served.0 served.1, serves items replies served.0 new served.2)
 
   answered : (old new : X) (items : List Item) (written : List ℕ) (ended : End) → Answered over old items new written ended → Answered answers (known old) items (known new) written ended
   answered old new items written ended a = record { replies = a.replies; served = serves items a.replies old new a.served; text = a.text; ends = a.ends }

@@ -1,9 +1,23 @@
--- What a pass has seen of its set's end.
-use Rattle.std.specs.Prelude.{◌≡◌}
+-- What a pass has seen of its set's end, and what its calls were told of it.
+use Rattle.std.specs.Prelude.{◌≡◌, Bool, false, All, Option, Some, None}
 use Rattle.lz_list.specs.Traces.{halt_word}
+use Rattle.lz_machine.specs.declared.event.Reply.{Reply}
 use Rattle.lz_board.specs.declared.pass.Pass.{Pass}
+use Rattle.lz_board.specs.declared.view.Part.{Part}
+use Rattle.lz_board.specs.Notes.{shape_of}
 use Rattle.lz_board.specs.Seats.{part}
+use Rattle.lz_tie.specs.OwnCalls.{told}
+use Rattle.lz_tie.specs.Sessions.{cuts_off}
 
 -- the pass has seen that the set was halted
 abbrev pub SawHalt : Pass → Type 0
 SawHalt pass = halt_word (part pass).known ≡ 1
+
+-- a call with this reply, if it has one, was answered that the set is halted or that the device failed
+abbrev pub was_cut : Option Reply → Bool
+was_cut None = false
+was_cut (Some reply) = cuts_off reply
+
+-- none of the calls that the pass has made was answered so
+abbrev pub IsCalm : Part → Type 0
+IsCalm h = All (λ call. was_cut call.1 ≡ false) (told (shape_of h.sizes) h.steps)

@@ -25,6 +25,11 @@ reply_of (Err OldFile) = reply.OldFile
 reply_of (Err Halted) = reply.Halted
 reply_of (Err Device) = reply.Halted
 
+-- the reply tells a client that the service halted
+abbrev pub says_halted : Reply → Bool
+says_halted reply.Halted = true
+says_halted r = false
+
 -- the command that a request asks for; `quit` asks for none
 abbrev pub command_of : Request → Option Command
 command_of (Add k) = Some (command.Add k)
@@ -39,6 +44,6 @@ pub record SeatAnswers (b : BoardId) (F : Format) (old : Pass) (request : Reques
   pub asked : command_of request ≡ Some c
   pub answer : Result Bool Fault
   pub sized : (part old).sizes ≡ b.sizes
-  pub call : Answers c (reply_told answer) (part old) (part new)
+  pub call : Answers F c (reply_told answer) (part old) (part new)
   pub plain : b.sizes.passes ≡ 1 → IsPlainAnswer F b.sizes.slots c (reply_told answer) (keys_in (part old).known) (keys_in (part new).known)
   pub told : reply ≡ reply_of answer

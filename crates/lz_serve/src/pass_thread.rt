@@ -1,13 +1,14 @@
 //! The thread of a pass, which serves one connection after the other.
-ghost use Rattle.std.specs.Prelude.{◌≡◌, true};
+ghost use Rattle.std.specs.Prelude.{◌≡◌, true, false};
+ghost use Rattle.lz_board.specs.Seats.{part};
 ghost use Rattle.lz_set.specs.Names.{MayCall};
-ghost use Rattle.lz_serve.specs.Halts.{SawHalt};
+ghost use Rattle.lz_serve.specs.Halts.{IsCalm, SawHalt};
 
 use crate::observer::Observer;
 use crate::seated::Seated;
 use crate::server::Bounds;
 use lz_disk::Disk;
-use lz_proto::{End, session};
+use lz_proto::session;
 use lz_set::{Named, Pass, Set, StepGate};
 use std::io::Read;
 use std::marker::PhantomData;
@@ -27,7 +28,8 @@ const FAREWELL: u64 = 100;
 
 const FAREWELLS: usize = 16;
 
-/// A pass whose thread is done, and whether a session found the set halted, which ended the thread.
+/// A pass whose thread is done, and whether a client of it was told that the service halted, which ended the thread. Where none
+/// was, no call of the pass was cut off.
 #[derive(Drop)]
 pub(crate) struct Finished<N: Named> {
     halted: bool,
@@ -35,13 +37,15 @@ pub(crate) struct Finished<N: Named> {
     of: PhantomData<N>,
     ghost may_call: { MayCall N.board pass },
     ghost seen: { halted ≡ true → SawHalt pass },
+    ghost calm: { halted ≡ false → IsCalm (part pass) },
 }
 
 impl<N: Named> Finished<N> {
-    /// The pass, and whether a session found the set halted.
+    /// The pass, and whether a client of it was told that the service halted.
     pub(crate) fn into_parts(self) -> (Pass, bool)
         ensures may_call { MayCall N.board result.0 }
         ensures seen { result.1 ≡ true → SawHalt result.0 }
+        ensures calm { result.1 ≡ false → IsCalm (part result.0) }
     {
         let Finished {
             halted,
@@ -52,8 +56,8 @@ impl<N: Named> Finished<N> {
     }
 }
 
-/// Serves by this pass, until a session found the set halted, or it has served as many as it may. The first thread
-/// that finds it halted tells the observer.
+/// Serves by this pass, until a client was told that the service halted, or it has served as many as it may. The first thread
+/// that tells so tells the observer too.
 pub(crate) fn serve_pass<D, G, N, R, O>(
     rt: &R,
     listener: &TcpListener,
@@ -69,7 +73,8 @@ where
     N: Named,
     R: Wait + Clock + AllocGlobal,
     O: Observer,
-    requires { MayCall N.board pass }
+    requires may_call { MayCall N.board pass }
+    requires calm { IsCalm (part pass) }
 {
     let mut seated = Seated::new(rt, set, pass);
     let halted = serve_sessions(rt, listener, &mut seated, bounds);
@@ -83,8 +88,8 @@ where
     }
 }
 
-// Serves one connection after the other, so many of them, or without an end at 0. Says whether it ended because a session
-// found the set halted.
+// Serves one connection after the other, so many of them, or without an end at 0. Says whether it ended because a client was told
+// that the service halted.
 fn serve_sessions<D, G, N, R>(
     rt: &R,
     listener: &TcpListener,
@@ -96,7 +101,8 @@ where
     G: StepGate,
     N: Named,
     R: Wait + Clock + AllocGlobal,
-    ensures { result ≡ true → SawHalt seated.new.pass }
+    ensures seen { result ≡ true → SawHalt seated.new.pass }
+    ensures calm { result ≡ false → IsCalm (part seated.old.pass) → IsCalm (part seated.new.pass) }
 {
     let mut served = 0u64;
     for stream in listener.incoming() {
@@ -115,7 +121,7 @@ where
     false
 }
 
-// Serves one connection, and says whether its session found the set halted.
+// Serves one connection, and says whether the pass has ever replied that the service halted, even where the reply wasn't written.
 fn serve_stream<D, G, N, R>(
     rt: &R,
     stream: &TcpStream,
@@ -127,16 +133,18 @@ where
     G: StepGate,
     N: Named,
     R: Wait + AllocGlobal,
-    ensures { result ≡ true → SawHalt seated.new.pass }
+    ensures seen { result ≡ true → SawHalt seated.new.pass }
+    ensures calm { result ≡ false → IsCalm (part seated.old.pass) → IsCalm (part seated.new.pass) }
 {
     // A reply goes out at once; where that can't be asked for it may go out later.
     let _ = stream.set_nodelay(true);
     // Where no time can be set the session waits without an end.
     let _ = stream.set_read_timeout(idle);
     let _ = stream.set_write_timeout(idle);
-    let ended = session(rt.alloc(), &mut &*stream, &mut &*stream, seated);
+    // What the seat has replied counts, also where the client didn't get it.
+    let _ = session(rt.alloc(), &mut &*stream, &mut &*stream, seated);
     take_leave(stream);
-    matches!(ended, Ok(End::Halted))
+    seated.halted()
 }
 
 // Ends the replies, and reads for a while what is still sent.

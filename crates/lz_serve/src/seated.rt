@@ -1,7 +1,8 @@
 //! The service of one pass of a set.
-ghost use Rattle.std.specs.Prelude.{◌≡◌, ◌≢◌};
+ghost use Rattle.std.specs.Prelude.{◌≡◌, ◌≢◌, true, false};
 ghost use Rattle.lz_set.specs.Names.{MayCall};
-ghost use Rattle.lz_serve.specs.Replies.{reply_of};
+ghost use Rattle.lz_serve.specs.Halts.{SawHalt};
+ghost use Rattle.lz_serve.specs.Replies.{SeatAnswers, reply_of, says_halted};
 
 use lz_disk::Disk;
 use lz_proto::{Reply, Request, Service};
@@ -13,7 +14,10 @@ pub struct Seated<'a, D: Disk, G: StepGate, N: Named, R: Wait> {
     rt: &'a R,
     set: &'a Set<D, G, N>,
     pass: Pass,
+    /// It has replied that the service halted.
+    halted: bool,
     ghost may_call: { MayCall N.board pass },
+    ghost saw: { halted ≡ true → SawHalt pass },
 }
 
 impl<'a, D: Disk, G: StepGate, N: Named, R: Wait> Drop for Seated<'a, D, G, N, R> {
@@ -22,6 +26,7 @@ impl<'a, D: Disk, G: StepGate, N: Named, R: Wait> Drop for Seated<'a, D, G, N, R
             rt: _,
             set: _,
             pass: _,
+            halted: _,
         } = self;
     }
 }
@@ -29,9 +34,24 @@ impl<'a, D: Disk, G: StepGate, N: Named, R: Wait> Drop for Seated<'a, D, G, N, R
 impl<'a, D: Disk, G: StepGate, N: Named, R: Wait> Seated<'a, D, G, N, R> {
     pub fn new(rt: &'a R, set: &'a Set<D, G, N>, pass: Pass) -> Seated<'a, D, G, N, R>
         requires { MayCall N.board pass }
-        ensures { result.pass ≡ pass }
+        ensures pass { result.pass ≡ pass }
+        ensures halted { result.halted ≡ false }
     {
-        Seated { rt, set, pass }
+        // It has replied nothing yet.
+        let halted = false;
+        Seated {
+            rt,
+            set,
+            pass,
+            halted,
+        }
+    }
+
+    /// Whether it has replied that the service halted.
+    pub(crate) fn halted(&self) -> bool
+        ensures { result ≡ self.now.halted }
+    {
+        self.halted
     }
 
     /// Ends the service, and hands its pass back.
@@ -43,6 +63,7 @@ impl<'a, D: Disk, G: StepGate, N: Named, R: Wait> Seated<'a, D, G, N, R> {
             rt: _,
             set: _,
             pass,
+            halted: _,
         } = self;
         pass
     }
@@ -62,18 +83,44 @@ fn reply_of(answer: Result<bool, Fault>) -> Reply
     }
 }
 
-impl<'a, D: Disk, G: StepGate, N: Named, R: Wait> Service for Seated<'a, D, G, N, R> {
-    ghost use Rattle.lz_serve.specs.Replies.{SeatAnswers};
+// Whether the reply tells a client that the service halted.
+fn says_halted(reply: Reply) -> bool
+    ensures { result ≡ says_halted reply }
+{
+    matches!(reply, Reply::Halted)
+}
 
-    ghost answers = { λ old request reply new. SeatAnswers N.board N.format old.pass request reply new.pass };
+// Does what the request asks for by the pass, and replies.
+fn reply_to<D: Disk, G: StepGate, N: Named, R: Wait>(
+    rt: &R,
+    set: &Set<D, G, N>,
+    pass: &mut Pass,
+    request: Request,
+) -> Reply
+    requires may_call { MayCall N.board pass.old }
+    requires request { request ≢ Request.Quit }
+    ensures may_call { MayCall N.board pass.new }
+    ensures answers { SeatAnswers N.board N.format pass.old request result pass.new }
+{
+    match request {
+        Request::Add(key) => reply_of(set.add(rt, pass, key)),
+        Request::Remove(key) => reply_of(set.remove(rt, pass, key)),
+        Request::Has(key) => reply_of(set.has(rt, pass, key)),
+        // A session never asks it.
+        Request::Quit => Reply::No,
+    }
+}
+
+impl<'a, D: Disk, G: StepGate, N: Named, R: Wait> Service for Seated<'a, D, G, N, R> {
+    ghost use Rattle.std.specs.Prelude.{◌||◌};
+
+    ghost answers = { λ old request reply new. SeatAnswers N.board N.format old.pass request reply new.pass × (new.halted ≡ (old.halted || says_halted reply)) };
 
     fn ask(&mut self, request: Request) -> Reply {
-        match request {
-            Request::Add(key) => reply_of(self.set.add(self.rt, &mut self.pass, key)),
-            Request::Remove(key) => reply_of(self.set.remove(self.rt, &mut self.pass, key)),
-            Request::Has(key) => reply_of(self.set.has(self.rt, &mut self.pass, key)),
-            // A session never asks it.
-            Request::Quit => Reply::No,
+        let reply = reply_to(self.rt, self.set, &mut self.pass, request);
+        if says_halted(reply) {
+            self.halted = true;
         }
+        reply
     }
 }

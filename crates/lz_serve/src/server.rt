@@ -1,8 +1,9 @@
 //! Sessions over the network, in a thread for each pass.
-ghost use Rattle.std.specs.Prelude.{◌≡◌, ◌+◌, ◌≤◌, true, All, IfSome, vec_capacity, vec_len};
+ghost use Rattle.std.specs.Prelude.{◌≡◌, ◌+◌, ◌≤◌, true, false, All, IfSome, vec_capacity, vec_len};
 ghost use Rattle.std.specs.List.{Any};
+ghost use Rattle.lz_board.specs.Seats.{part};
 ghost use Rattle.lz_set.specs.Names.{MayCall};
-ghost use Rattle.lz_serve.specs.Halts.{SawHalt};
+ghost use Rattle.lz_serve.specs.Halts.{IsCalm, SawHalt};
 
 use crate::observer::Observer;
 use crate::pass_thread::{Finished, serve_pass};
@@ -30,15 +31,15 @@ pub struct Bounds {
 pub struct Served {
     /// The passes whose threads are done, in the order in which they were given.
     pub passes: Vec<Pass>,
-    /// A session ended because the device had failed.
+    /// A call of these passes was answered that the set is halted or that the device failed, also where the client didn't get the reply.
     pub halted: bool,
     /// For how many passes no thread could be made. These are gone.
     pub threadless: usize,
 }
 
 /// Serves connections with a thread for each pass, which serves one connection after the other: so many of them, or
-/// without an end where `bounds.sessions` is 0. A session that ended with a fault, or because its client was idle, counts too. A thread ends as well behind a session that
-/// found the set halted; the first one tells the observer. A connection for which no thread is free waits in the listener's queue.
+/// without an end where `bounds.sessions` is 0. A session that ended with a fault, or because its client was idle, counts too. A thread ends as well after a session that
+/// found the set halted; the first one tells the observer. A pass of which a call was answered so before can't be served. A connection for which no thread is free waits in the listener's queue.
 pub fn serve<D, G, N, R, O>(
     rt: &R,
     listener: &TcpListener,
@@ -53,10 +54,12 @@ where
     N: Named + Send + Sync,
     R: Threads + Wait + Clock + AllocGlobal + Sync,
     O: Observer + Sync,
-    requires { All (MayCall N.board) passes.items }
+    requires may_call { All (MayCall N.board) passes.items }
+    requires calm { All (λ pass. IsCalm (part pass)) passes.items }
     ensures may_call { All (MayCall N.board) result.passes.items }
     ensures count { vec_len result.passes + result.threadless ≡ vec_len passes }
     ensures halted { result.halted ≡ true → Any SawHalt result.passes.items }
+    ensures calm { result.halted ≡ false → All (λ pass. IsCalm (part pass)) result.passes.items }
 {
     let told = AtomicBool::new(false);
     serve_passes(rt, listener, set, passes, bounds, observer, &told)
@@ -78,19 +81,23 @@ where
     N: Named + Send + Sync,
     R: Threads + Wait + Clock + AllocGlobal + Sync,
     O: Observer + Sync,
-    requires { All (MayCall N.board) passes.items }
+    requires may_call { All (MayCall N.board) passes.items }
+    requires calm { All (λ pass. IsCalm (part pass)) passes.items }
     ensures may_call { All (MayCall N.board) result.passes.items }
     ensures count { vec_len result.passes + result.threadless ≡ vec_len passes }
     ensures halted { result.halted ≡ true → Any SawHalt result.passes.items }
+    ensures calm { result.halted ≡ false → All (λ pass. IsCalm (part pass)) result.passes.items }
 {
     thread::scope(
         thread::scope_env(),
         rt,
         move |scope| -> Served
-            requires { All (MayCall N.board) passes.items }
+            requires may_call { All (MayCall N.board) passes.items }
+            requires calm { All (λ pass. IsCalm (part pass)) passes.items }
             ensures may_call { All (MayCall N.board) result.passes.items }
             ensures count { vec_len result.passes + result.threadless ≡ vec_len passes }
             ensures halted { result.halted ≡ true → Any SawHalt result.passes.items }
+            ensures calm { result.halted ≡ false → All (λ pass. IsCalm (part pass)) result.passes.items }
         {
             let given = passes.len();
             let Some((mut threads, done)) = room_for::<N>(rt.alloc(), given) else {
@@ -103,7 +110,8 @@ where
             for pass in passes {
                 let thread = scope.spawn(
                     move || -> Finished<N>
-                        requires { MayCall N.board pass }
+                        requires may_call { MayCall N.board pass }
+                        requires calm { IsCalm (part pass) }
                     { serve_pass(rt, listener, set, pass, bounds, observer, told) },
                 );
                 let Ok(thread) = thread else {
@@ -147,6 +155,7 @@ fn join_all<N: Named, R: Threads>(
     ensures may_call { All (MayCall N.board) result.0.items }
     ensures count { vec_len result.0 ≡ vec_len threads }
     ensures halted { result.1 ≡ true → Any SawHalt result.0.items }
+    ensures calm { result.1 ≡ false → All (λ pass. IsCalm (part pass)) result.0.items }
 {
     let mut passes = room;
     let mut halted = false;

@@ -4,26 +4,31 @@ use Rattle.lz_slot.specs.declared.format.Format.{Format}
 use Rattle.lz_disk.specs.Devices.{Device}
 use Rattle.lz_vault.specs.Vaults.{last_sync}
 use Rattle.lz_list.specs.Traces.{halt_word}
+use Rattle.lz_machine.specs.Marks.{IsTold}
 use Rattle.lz_machine.specs.Yards.{Yard}
 use Rattle.lz_board.specs.declared.view.Note.{Note}
 use Rattle.lz_board.specs.declared.view.Part.{Part}
-use Rattle.lz_board.specs.Notes.{Extends, trace_of}
+use Rattle.lz_board.specs.Notes.{Extends, shape_of, trace_of}
 use Rattle.lz_board.specs.Plays.{knowing}
 use Rattle.lz_board.specs.Seats.{BoardId}
 use Rattle.lz_tie.specs.Holds.{IsLocked}
+use Rattle.lz_tie.specs.Marks.{AreOfPasses, marks_in}
 use Rattle.lz_tie.specs.Moments.{ExplainedSince}
 use Rattle.lz_tie.specs.OwnCalls.{TellsOwn}
 use Rattle.lz_tie.specs.RunningSets.{HasHistory}
 use Rattle.lz_tie.specs.Sessions.{AreOn, TellsAlone}
 
 -- Whatever a crash leaves of the disk now explains what these notes show of calls and answers, and each text that a crash might
--- have left since it was like `first` what a beginning of them shows. They are a run of the machine, which led to this yard; where
--- the set was halted in it, the disk's last sync was made, or the device has failed since.
+-- have left since it was like `first` what a beginning of them shows. Each call that they show was made by a pass of the set that had
+-- none open, and has ended once at most. They are a run of the machine, which led to this yard; where the set was halted in it, the
+-- disk's last sync was made, or the device has failed since.
 pub record IsLeft (b : BoardId) (first : Device) (ns : List Note) (disk : Device) : Type 0 where
   pub now : HasHistory b ns disk
   pub ever : ExplainedSince b first ns disk
   pub honest : disk.honest ≡ first.honest
   pub faults : first.faults ≤ disk.faults
+  pub told : IsTold (marks_in (shape_of b.sizes) ns)
+  pub passes : AreOfPasses b.sizes.passes (marks_in (shape_of b.sizes) ns)
   pub yard : Yard
   pub locked : IsLocked b ns yard disk
   pub over : halt_word (trace_of b.opened ns) ≡ 1 → (last_sync ≤ yard.vault.syncs) ⊎ (first.faults < disk.faults)

@@ -10,9 +10,10 @@ ghost use Rattle.lz_machine.specs.Laws.{hop_of};
 ghost use Rattle.lz_machine.specs.Orders.{shape_with};
 ghost use Rattle.lz_machine.specs.Runs.{reply_at};
 ghost use Rattle.lz_board.specs.declared.view.Part.{Part};
-ghost use Rattle.lz_board.specs.Glances.{Glances};
+ghost use Rattle.lz_board.specs.Glances.{Glances, Turns};
 ghost use Rattle.lz_board.specs.Opened.{opened_by};
 ghost use Rattle.lz_board.specs.Seats.{id_of, part, IsOf};
+ghost use Rattle.lz_board.specs.Walkers.{KeepsCall};
 ghost use Rattle.lz_tie.specs.Answers.{Answers, Met};
 ghost use Rattle.lz_tie.specs.Counting.{Counts, IsCounted};
 ghost use Rattle.lz_tie.specs.Holds.{sizes_of};
@@ -112,7 +113,7 @@ impl<D: Disk, G: StepGate, N: Named> Set<D, G, N> {
     pub fn add<R: Wait>(&self, rt: &R, pass: &mut Pass, key: Key) -> Result<bool, Fault>
         requires pass { MayCall N.board pass.old }
         ensures pass { MayCall N.board pass.new }
-        ensures answers { Answers (command.Add key) (reply_of result) (part pass.old) (part pass.new) }
+        ensures answers { Answers N.format (command.Add key) (reply_of result) (part pass.old) (part pass.new) }
         ensures plain { N.board.sizes.passes ≡ 1 → IsPlainAnswer N.format N.board.sizes.slots (command.Add key) (reply_of result) (keys_in (part pass.old).known) (keys_in (part pass.new).known) }
     {
         self.call(rt, pass, Command::Add(key))
@@ -122,7 +123,7 @@ impl<D: Disk, G: StepGate, N: Named> Set<D, G, N> {
     pub fn remove<R: Wait>(&self, rt: &R, pass: &mut Pass, key: Key) -> Result<bool, Fault>
         requires pass { MayCall N.board pass.old }
         ensures pass { MayCall N.board pass.new }
-        ensures answers { Answers (command.Remove key) (reply_of result) (part pass.old) (part pass.new) }
+        ensures answers { Answers N.format (command.Remove key) (reply_of result) (part pass.old) (part pass.new) }
         ensures plain { N.board.sizes.passes ≡ 1 → IsPlainAnswer N.format N.board.sizes.slots (command.Remove key) (reply_of result) (keys_in (part pass.old).known) (keys_in (part pass.new).known) }
     {
         self.call(rt, pass, Command::Remove(key))
@@ -132,7 +133,7 @@ impl<D: Disk, G: StepGate, N: Named> Set<D, G, N> {
     pub fn has<R: Wait>(&self, rt: &R, pass: &mut Pass, key: Key) -> Result<bool, Fault>
         requires pass { MayCall N.board pass.old }
         ensures pass { MayCall N.board pass.new }
-        ensures answers { Answers (command.Has key) (reply_of result) (part pass.old) (part pass.new) }
+        ensures answers { Answers N.format (command.Has key) (reply_of result) (part pass.old) (part pass.new) }
         ensures plain { N.board.sizes.passes ≡ 1 → IsPlainAnswer N.format N.board.sizes.slots (command.Has key) (reply_of result) (keys_in (part pass.old).known) (keys_in (part pass.new).known) }
     {
         self.call(rt, pass, Command::Has(key))
@@ -144,6 +145,8 @@ impl<D: Disk, G: StepGate, N: Named> Set<D, G, N> {
         ensures pass { MayCall N.board pass.new }
         ensures outside { result ≢ Err GlanceFault.BusyPass }
         ensures glances { Glances key result (part pass.old) (part pass.new) }
+        ensures turns { Turns result (part pass.old) (part pass.new) }
+        ensures call { KeepsCall (part pass.old) (part pass.new) }
     {
         self.board.glance(pass, key)
     }
@@ -164,7 +167,7 @@ impl<D: Disk, G: StepGate, N: Named> Set<D, G, N> {
     fn call<R: Wait>(&self, rt: &R, pass: &mut Pass, command: Command) -> Result<bool, Fault>
         requires pass { MayCall N.board pass.old }
         ensures pass { MayCall N.board pass.new }
-        ensures answers { Answers command (reply_of result) (part pass.old) (part pass.new) }
+        ensures answers { Answers N.format command (reply_of result) (part pass.old) (part pass.new) }
         ensures plain { N.board.sizes.passes ≡ 1 → IsPlainAnswer N.format N.board.sizes.slots command (reply_of result) (keys_in (part pass.old).known) (keys_in (part pass.new).known) }
     {
         // A lookup writes nothing, so no sync waits for it.
@@ -340,7 +343,7 @@ impl<D: Disk, G: StepGate, N: Named> Set<D, G, N> {
         requires counted { IsCounted N.board caller.now (part pass.old) }
         requires reply { reply_at caller.now.progress ≡ Some reply }
         ensures pass { MayCall N.board pass.new }
-        ensures answers { (c : Asked) (format : Format) (before : Part) → before.sizes ≡ N.board.sizes → Counts N.board c format before caller.now (part pass.old) → Answers c reply before (part pass.new) }
+        ensures answers { (c : Asked) (format : Format) (before : Part) → before.sizes ≡ N.board.sizes → Counts N.board c format before caller.now (part pass.old) → Answers format c reply before (part pass.new) }
         ensures plain { N.board.sizes.passes ≡ 1 → (c : Asked) (format : Format) (before : Part) → before.sizes ≡ N.board.sizes → Counts N.board c format before caller.now (part pass.old)
             → IsPlainAnswer format N.board.sizes.slots c reply (keys_in before.known) (keys_in (part pass.new).known) }
     {

@@ -1,23 +1,25 @@
 -- Worked rows: the definitions computed on small cases.
-use Rattle.std.proofs.Common.{◌≡◌, true, false, inl, inr, List, [], ◌∷◌, Some, None, refl, arith}
+use Rattle.std.proofs.Common.{◌≡◌, true, false, inl, inr, List, [], ◌∷◌, ⊎_elim, Some, None, refl, arith}
 use Rattle.lz_slot.specs.declared.command.Command.TheVariants.{Has}
 use Rattle.lz_slot.specs.declared.format.Format.TheVariants.{Two}
 use Rattle.lz_list.specs.declared.word.Word.TheVariants.{Head, Link, Key, Halt}
 use Rattle.lz_list.specs.declared.publishing.Change.TheVariants.{Added as as_added, Removed as as_removed}
 use Rattle.lz_list.specs.declared.publishing.Publishing.TheVariants.{Linked as linked, Marked as marked, Unlinked as unlinked, Settled as settled, KeyPrepared as key_prepared, LinkPrepared as link_prepared}
-use Rattle.lz_list.specs.Traces.{Trace, opening}
+use Rattle.lz_list.specs.Traces.{Trace, Begins, opening}
 use Rattle.lz_machine.specs.declared.event.Event.TheVariants.{Pin, Reserve, Answer}
 use Rattle.lz_machine.specs.declared.event.Outcome.TheVariants.{Done}
-use Rattle.lz_machine.specs.declared.event.Reply.TheVariants.{Yes}
+use Rattle.lz_machine.specs.declared.event.Reply.TheVariants.{Yes, Worn, Device}
 use Rattle.lz_machine.specs.Yards.{Shape}
 use Rattle.lz_board.specs.declared.view.What.TheVariants.{Called, Played, Found}
 use Rattle.lz_board.specs.declared.view.Note.{Note}
 use Rattle.lz_board.specs.declared.view.Load.{Load}
+use Rattle.lz_board.specs.declared.view.Part.{Part}
 use Rattle.lz_board.specs.declared.view.Sizes.{Sizes}
 use Rattle.lz_board.specs.Notes.{note_by, load_note, splice, pin_after}
 use Rattle.lz_board.specs.Addresses.{index, word_at}
 use Rattle.lz_board.specs.Glances.{Glanced, GlancedUnsettled}
-use Rattle.lz_tie.specs.Answers.{Added, Removed, IsOneCall}
+use Rattle.lz_board.specs.Plays.{fresh, knowing}
+use Rattle.lz_tie.specs.Answers.{Added, AreWithin, IsLateReply, IsOneCall, Met, Removed}
 
 -- key 9 was found in slot 0
 abbrev P0 : Trace
@@ -89,3 +91,47 @@ sizes = record { slots = 2; buckets = 3; passes = 2 }
 
 lies : word_at sizes (index sizes (Key 1)) ≡ Key 1
 lies = refl
+
+-- one call isn't answered twice
+not_twice : AreWithin (note_by 1 (Played Answer Done) None ∷ []) → ⊥
+not_twice h = h.0
+
+-- after the halt a pass may still be told that it is worn, but not that it was answered, nor of a fault that its call met
+late_worn : IsLateReply Worn
+late_worn = tt
+
+not_late_yes : IsLateReply Yes → ⊥
+not_late_yes h = h
+
+not_late_device : IsLateReply Device → ⊥
+not_late_device h = h
+
+-- two passes meet: one has seen the linking, and then both have
+abbrev first : Part
+first = fresh sizes [] 1
+
+abbrev other : Part
+other = fresh sizes [] 2
+
+abbrev one_linked : Trace
+one_linked = linked 12 1 1 ∷ []
+
+abbrev other_linked : Trace
+other_linked = linked 12 0 2 ∷ []
+
+met : Met (knowing one_linked first) other (knowing one_linked first) (knowing one_linked other)
+met = record { one_one = inl refl; one_other = inl refl; other_one = inr refl; other_other = inr refl; alike = inl (inl refl); one_kept = refl; other_kept = refl }
+
+-- they don't part with what neither sees of the other
+apart : Begins one_linked other_linked → ⊥
+apart = ⊎_elim (λ (is : one_linked ≡ other_linked). absurd cc) (λ (is : one_linked ≡ []). absurd cc)
+
+apart_too : Begins other_linked one_linked → ⊥
+apart_too = ⊎_elim (λ (is : other_linked ≡ one_linked). absurd cc) (λ (is : other_linked ≡ []). absurd cc)
+
+not_met : Met first other (knowing one_linked first) (knowing other_linked other) → ⊥
+not_met h = ⊎_elim apart apart_too h.alike
+
+-- and they don't change places
+not_exchanged : Met first other other first → ⊥
+not_exchanged h = let kept = h.one_kept in absurd cc

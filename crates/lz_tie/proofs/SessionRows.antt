@@ -55,11 +55,11 @@ lawful = (
   ),
 )
 
-answers : Answers (Has 9) Yes before after
+answers : Answers Two (Has 9) Yes before after
 answers = record {
+  number = refl;
   new = steps;
   steps = refl;
-  format = Two;
   one_call = record {
     within =
         load_note 1 (record { word = Link 0; value = 8589934592; at = 4 }) ∷ load_note 1 (record { word = Key 0; value = 9; at = 4 })
@@ -75,6 +75,7 @@ answers = record {
   );
   lawful = lawful;
   alone = λ one. record { since = []; goes_on = refl; own = tt };
+  late = λ halted. absurd cc;
 }
 
 -- a session of that one call, in the history of the pen's notes
@@ -85,7 +86,6 @@ session = record {
   no_steps = refl;
   served = (refl, (after, answers, refl));
   cut = tt;
-  format = (tt, (tt, (tt, (tt, (tt, (tt, (refl, tt)))))));
   tells = refl;
 }
 

@@ -22,6 +22,7 @@ use Rattle.lz_board.specs.declared.view.Note.{Note}
 use Rattle.lz_board.specs.declared.view.Part.{Part}
 use Rattle.lz_board.specs.Notes.{note_by, own, place, shape_of}
 use Rattle.lz_board.specs.Glances.{Changes, Between}
+use Rattle.lz_board.specs.Plays.{knowing}
 use Rattle.lz_board.specs.Ways.{Rests}
 use Rattle.lz_tie.specs.OnePass.{OnlyOwn}
 
@@ -109,21 +110,32 @@ pub record IsOneCall (shape : Shape) (p : ℕ) (format : Format) (c : Command) (
   pub only : AreWithin within
   pub answers : place shape (within ++ note_by p (Called c format) None ∷ []) ≡ Some (c, Answering reply)
 
--- A pass's part before a call and after it.
-pub record Answers (c : Command) (reply : Reply) (before after : Part) : Type 0 where
+-- these are the replies to a call that begins after the halt: it changes nothing
+abbrev pub IsLateReply : Reply → Type 0
+IsLateReply Worn = Unit {0}
+IsLateReply OldFile = Unit {0}
+IsLateReply Halted = Unit {0}
+IsLateReply reply = ⊥
+
+-- A pass's part before a call and after it, on a file of this format.
+pub record Answers (format : Format) (c : Command) (reply : Reply) (before after : Part) : Type 0 where
+  pub number : after.number ≡ before.number
   pub new : List Note
   pub steps : after.steps ≡ new ++ before.steps
-  pub format : Format
   pub one_call : IsOneCall (shape_of before.sizes) before.number format c reply new
   pub promises : Promises (shape_of before.sizes) before.number format c reply after.pin new before.known after.known
   -- what it has seen was lawful; in a set of one pass nothing was changed but by its calls
   pub lawful : Lawful before.sizes.buckets before.sizes.slots after.known
   pub alone : before.sizes.passes ≡ 1 → OnlyOwn before.number before.known after.known
+  pub late : halt_word before.known ≡ 1 → IsLateReply reply
 
--- After two passes have met, each has seen all that either had seen, and what one has seen begins what the other has.
+-- After two passes have met, each has seen all that either had seen, what one has seen begins what the other has, and all else
+-- that belongs to each is as it was.
 pub record Met (one other one' other' : Part) : Type 0 where
   pub one_one : Begins one.known one'.known
   pub one_other : Begins one.known other'.known
   pub other_one : Begins other.known one'.known
   pub other_other : Begins other.known other'.known
   pub alike : Begins one'.known other'.known ⊎ Begins other'.known one'.known
+  pub one_kept : one' ≡ knowing one'.known one
+  pub other_kept : other' ≡ knowing other'.known other

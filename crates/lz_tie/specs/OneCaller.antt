@@ -47,5 +47,5 @@ pub record IsPlainAnswer (F : Format) (N : ℕ) (c : Command) (told : Reply) (S 
 -- In a set of one pass each answer is that of the plain set: of the members that the pass had seen, and those that it has seen.
 abbrev pub OneCallerIsPlain : Type 0
 OneCallerIsPlain =
-    (c : Command) (told : Reply) (before after : Part) (answers : Answers c told before after)
-    → before.sizes.passes ≡ 1 → IsPlainAnswer answers.format before.sizes.slots c told (keys_in before.known) (keys_in after.known)
+    (F : Format) (c : Command) (told : Reply) (before after : Part)
+    → Answers F c told before after → before.sizes.passes ≡ 1 → IsPlainAnswer F before.sizes.slots c told (keys_in before.known) (keys_in after.known)

@@ -28,10 +28,11 @@ use Rattle.lz_tie.specs.RunningSets.{members_of, Explains}
 abbrev pub AnsweredCalls : Type 0
 AnsweredCalls = List (Command × Reply)
 
--- A pass of a set of this size made the calls one after the other, and was answered so; its part was `old`, and is `new`.
-abbrev pub Served : Sizes → AnsweredCalls → Part → Part → Type 0
-Served z [] old new = new ≡ old
-Served z (call ∷ calls) old new = (old.sizes ≡ z) × ((mid : Part) × Answers call.0 call.1 old mid × Served z calls mid new)
+-- A pass of a set of this size, on a file of format F, made the calls one after the other, and was answered so; its part was `old`,
+-- and is `new`.
+abbrev pub Served : Sizes → Format → AnsweredCalls → Part → Part → Type 0
+Served z F [] old new = new ≡ old
+Served z F (call ∷ calls) old new = (old.sizes ≡ z) × ((mid : Part) × Answers F call.0 call.1 old mid × Served z F calls mid new)
 
 -- the plain set S of a file of format F with N slots, asked these calls, may reply so and be T then
 abbrev pub PlainRun : Format → ℕ → AnsweredCalls → Keys → Keys → Type 0
@@ -81,9 +82,8 @@ pub record IsSession (b : BoardId) (F : Format) (ns : List Note) (calls : Answer
   pub alone : b.sizes.passes ≡ 1
   pub known : before.known ≡ b.opened
   pub no_steps : before.steps ≡ []
-  pub served : Served b.sizes calls before after
+  pub served : Served b.sizes F calls before after
   pub cut : CutLast calls
-  pub format : AreOn F after.steps
   pub tells : TellsAlone b ns after
 
 -- the set T is S; or the next of the calls, if there is one, was under way and is done

@@ -1,6 +1,7 @@
 //! What a set that runs says of what its callers have seen.
 ghost use Rattle.std.specs.Prelude.{◌≡◌, ◌∷◌, Some};
 ghost use Rattle.lz_slot.specs.declared.command.Command.{Command as Asked};
+ghost use Rattle.lz_slot.specs.declared.format.Format.{Format};
 ghost use Rattle.lz_machine.specs.declared.event.Reply.{Reply};
 ghost use Rattle.lz_machine.specs.Marks.{IsTold};
 ghost use Rattle.lz_board.specs.declared.view.Part.{Part};
@@ -53,5 +54,5 @@ impl<N: Named, D: Disk> Locked<N, D> {
 
 /// A call that a pass has made and that was answered is the newest of its own calls, with its reply.
 pub fn answers_are_told()
-    ensures { (c : Asked) (reply : Reply) (before after : Part) → Answers c reply before after → told (shape_of before.sizes) after.steps ≡ (c, Some reply) ∷ told (shape_of before.sizes) before.steps }
+    ensures { (F : Format) (c : Asked) (reply : Reply) (before after : Part) → Answers F c reply before after → told (shape_of before.sizes) after.steps ≡ (c, Some reply) ∷ told (shape_of before.sizes) before.steps }
 {}

@@ -140,7 +140,7 @@ impl<N: Named, D: Disk> Locked<N, D> {
         ensures moments { HoldExplains N.board self.old.notes self.new.notes (D.device self.old.disk) (D.device self.new.disk) }
         ensures shows { Shows (shape_of N.board.sizes) self.old.notes self.new.notes (mark_of (number_of (part pass.old).number self.old.notes) _reply ∷ []) }
         ensures idle { IsIdle N.board.sizes (part pass.new) }
-        ensures answers { (c : Asked) (format : Format) (before : Part) → before.sizes ≡ N.board.sizes → Counts N.board c format before caller.now (part pass.old) → Answers c _reply before (part pass.new) }
+        ensures answers { (c : Asked) (format : Format) (before : Part) → before.sizes ≡ N.board.sizes → Counts N.board c format before caller.now (part pass.old) → Answers format c _reply before (part pass.new) }
         ensures plain { N.board.sizes.passes ≡ 1 → (c : Asked) (format : Format) (before : Part) → before.sizes ≡ N.board.sizes → Counts N.board c format before caller.now (part pass.old) → IsPlainAnswer format N.board.sizes.slots c _reply (keys_in before.known) (keys_in (part pass.new).known) }
     {
         self.play(board, pass, caller, Event::Answer)

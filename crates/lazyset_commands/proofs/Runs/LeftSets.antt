@@ -1,14 +1,12 @@
 -- What a run leaves that served its session by the one pass of a set.
-use Rattle.std.proofs.Common.{◌≡◌, ◌⊎◌, inl, inr, ⊎_elim, ℕ, ◌≤◌, List, [], length, Option, IsTrue, refl, sym, ap, ◌∙◌, subst, arith}
+use Rattle.std.proofs.Common.{◌≡◌, inl, inr, ⊎_elim, ℕ, ◌≤◌, List, [], length, Option, IsTrue, refl, sym, ap, ◌∙◌, subst, arith}
 use Rattle.lz_slot.specs.Sets.{Keys}
 use Rattle.lz_slot.specs.Bytes.{Holds, format_of}
 use Rattle.lz_slot.specs.declared.format.Format.{Format}
-use Rattle.lz_disk.specs.Images.{IsImage}
-use Rattle.lz_disk.specs.Devices.{Device, IsTimely, LeavesOnly}
+use Rattle.lz_disk.specs.Devices.{Device, IsTimely}
 use Rattle.lz_disk.proofs.Moments.{leaves_then, leaves_more}
 use Rattle.lz_machine.specs.Yards.{Yard}
 use Rattle.lz_machine.proofs.Open.FirstPoint.{one_set}
-use Rattle.lz_proto.proofs.FirstItems.{session_asked}
 use Rattle.lz_board.specs.declared.view.Note.{Note}
 use Rattle.lz_board.specs.declared.view.Part.{Part}
 use Rattle.lz_board.specs.declared.view.Sizes.{Sizes}
@@ -18,17 +16,18 @@ use Rattle.lz_serve.specs.Replies.{SeatAnswers}
 use Rattle.lz_tie.specs.Moments.{ExplainsBegun}
 use Rattle.lz_tie.specs.OwnCalls.{told}
 use Rattle.lz_tie.specs.RunningSets.{members_of}
-use Rattle.lz_tie.specs.Sessions.{IsSession, AreOn, marks_alone}
+use Rattle.lz_tie.specs.Sessions.{IsSession, marks_alone}
 use Rattle.lz_tie.proofs.Sessions.SessionMoments.{moments_are_plain}
 use Rattle.lz_tie.proofs.Start.FirstSets.{same_set_explains}
 use Rattle.lz_tie.proofs.Start.OpenedYard.{opened_sizes}
 use Rattle.lazyset_commands.specs.PlainReplies.{PassMayAnswer}
-use Rattle.lazyset_commands.specs.Runs.{FoundAfter, OfInput, RanSeat, RepliesOfPass, ServedSeat, SessionOfSet}
+use Rattle.lazyset_commands.specs.Runs.{RanSeat, RepliesOfPass, ServedSeat, SessionOfSet}
 use Rattle.lazyset_commands.specs.declared.status.Status.{Status}
 use Rattle.lazyset_commands.specs.declared.status.Status.TheVariants as status
 use Rattle.lazyset_commands.proofs.Openings.{opening_leaves, unwritten}
 use Rattle.lazyset_commands.proofs.Runs.PlainRows.{same_is}
 use Rattle.lazyset_commands.proofs.Runs.SessionCalls.{none_made}
+use Rattle.lazyset_commands.proofs.Runs.ToldReplies.{asked_and_told}
 use Rattle.lazyset_commands.proofs.Runs.ToldSessions.{told_session, told_plain, told_moment}
 
 module _ {D : Type 0} (device : D → Device) (buckets : ℕ) (state : Status) (input rest before later : Option (List ℕ)) (old new : D) (ran : RanSeat device buckets state input rest before later old new) where
@@ -92,7 +91,6 @@ module _ {D : Type 0} (device : D → Device) (buckets : ℕ) (state : Status) (
       no_steps = no_steps;
       served = refl;
       cut = tt;
-      format = subst (AreOn F0) (sym no_steps) tt;
       tells = subst (λ (l : List Note). [] ≡ marks_alone (part seat.begun).number (told (shape_of b.sizes) l)) (sym no_steps) refl;
     }
 
@@ -109,35 +107,35 @@ module _ {D : Type 0} (device : D → Device) (buckets : ℕ) (state : Status) (
     of_file P is =
         subst (λ (F : Format). P F N S) (ran.opens.vault.format honest) (subst (λ (n : ℕ). P F0 n S) sized (subst (λ (T : Keys). P F0 b.sizes.slots T) begins is))
 
-    pub seat_set : SessionOfSet (PassMayAnswer (format_of seen) N) N S state input rest before later (device new).medium
-    seat_set = of_file (λ F n T. SessionOfSet (PassMayAnswer F n) n T state input rest before later (device new).medium) (record {
-      ended = seat.ended;
-      status_is = seat.status_is;
-      written = seat.tells.0;
-      appended = seat.tells.1;
-      each = λ t image.
-          let e = seat.left.now still t image in
-          (e.found, told_session (λ p. p) b F0 seat.notes seat.begun seat.done one known no_steps (seat.alone one) seat.format t e input rest seat.ended seat.tells.0 seat.tells.2, e.holds);
-    })
+    -- the session is the plain set's, and at each moment the text is one that might have been left before, or holds the set after
+    -- some first ones of the replies
+    pub seat_set : IsTimely (device old) → SessionOfSet (PassMayAnswer (format_of seen) N) N S state input rest before later (device old) (device new)
+    seat_set timely =
+        let (first, told) = asked_and_told (SeatAnswers b F0) input rest seat.begun seat.done seat.ended seat.tells.0 seat.tells.2 in
+        let opening = opening_leaves (device old) mid timely (inr (ran.opens.vault.medium honest)) (ran.opens.vault.time honest) in
+        let was = unwritten (device old) mid timely (inr (ran.opens.vault.medium honest)) in
+        of_file (λ F n T. SessionOfSet (PassMayAnswer F n) n T state input rest before later (device old) (device new)) (record {
+          ended = seat.ended;
+          status_is = seat.status_is;
+          written = seat.tells.0;
+          appended = seat.tells.1;
+          replies = first.replies;
+          told = told;
+          each = λ t image.
+              let e = seat.left.now still t image in
+              (e.found, told_session (λ p. p) b F0 seat.notes seat.begun seat.done one known no_steps (seat.alone one) t e input rest seat.ended seat.tells.0 seat.tells.2, e.holds);
+          any_moment = (
+            first.text,
+            first.known,
+            (
+              first.items,
+              first.its,
+              leaves_then (device old) mid (device new) _ (leaves_more _ _ _ _ (λ t image. inl image) opening)
+                  (leaves_more _ _ _ _ (λ t either. ⊎_elim (λ image. inl (was t image)) (λ text. inr (told_moment (λ p. p) b F0 seat.notes seat.begun seat.done one known no_steps (seat.alone one) input first t text)) either) (seat.left.ever still)),
+            ),
+          );
+        })
 
     pub seat_plain : status.Done ≡ state → RepliesOfPass (format_of seen) N S input before later (device new).medium
     seat_plain is = of_file (λ F n T. RepliesOfPass F n T input before later (device new).medium)
-        (told_plain (λ p. p) b F0 seat.notes seat.begun seat.done one known no_steps (seat.alone one) seat.format (device new).medium (seat.left.now still) input rest before later seat.ended (is ∙ seat.status_is) seat.tells)
-
-    -- at each moment the text is one that might have been left before, or holds the set after some first ones of the items
-    pub seat_leaves : IsTimely (device old) → OfInput input (λ items. LeavesOnly (device old) (device new) (λ t. IsImage (device old).medium t ⊎ FoundAfter (PassMayAnswer (format_of seen) N) N S items t))
-    seat_leaves timely =
-        let first = session_asked (SeatAnswers b F0) input rest seat.begun seat.done seat.ended seat.tells.0 seat.tells.2 in
-        let opening = opening_leaves (device old) mid (FoundAfter (PassMayAnswer (format_of seen) N) N S first.items) timely (inr (ran.opens.vault.medium honest)) (ran.opens.vault.time honest) in
-        let was = unwritten (device old) mid timely (inr (ran.opens.vault.medium honest)) in
-        let begun : (t : List ℕ) → ExplainsBegun b seat.notes t → FoundAfter (PassMayAnswer (format_of seen) N) N S first.items t = λ t text.
-        of_file (λ F n T. FoundAfter (PassMayAnswer F n) n T first.items t) (told_moment (λ p. p) b F0 seat.notes seat.begun seat.done one known no_steps (seat.alone one) seat.format input first t text)
-        in (
-          first.text,
-          first.known,
-          (
-            first.items,
-            first.its,
-            leaves_then _ _ _ _ opening (leaves_more _ _ _ _ (λ t either. ⊎_elim (λ image. inl (was t image)) (λ text. inr (begun t text)) either) (seat.left.ever still)),
-          ),
-        )
+        (told_plain (λ p. p) b F0 seat.notes seat.begun seat.done one known no_steps (seat.alone one) (device new).medium (seat.left.now still) input rest before later seat.ended (is ∙ seat.status_is) seat.tells)

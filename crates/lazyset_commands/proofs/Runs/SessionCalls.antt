@@ -23,7 +23,7 @@ use Rattle.lz_tie.specs.OneCaller.{IsPlainAnswer}
 use Rattle.lz_tie.specs.Sessions.{AnsweredCalls, Served, PlainRun, NoneCut, CutLast, cuts_off, MayHaveNext, HoldsAfterSome}
 use Rattle.lazyset_commands.specs.PlainReplies.{PassAnswers, PassMayAnswer}
 use Rattle.lazyset_commands.specs.Runs.{FoundAfter}
-use Rattle.lazyset_commands.proofs.Runs.FoundSets.{found_here, found_past_fault, found_amid}
+use Rattle.lazyset_commands.proofs.Runs.FoundSets.{first_next, found_here, found_past_fault, found_amid}
 use Rattle.lazyset_commands.proofs.Runs.PlainRows.{shown, shown_of, same_is, told_row, passed}
 
 -- a call that wasn't told as cut off was not
@@ -89,18 +89,19 @@ module _ (F : Format) (N : ℕ) where
       go (call ∷ done) rest is run next = absurd cc
 
   -- the first call may not have begun, or is under way, or it was answered, and others after it
-  first_moment : (request : Request) (c : Command) (r : Given) (calls : AnsweredCalls) (items : List Item) (S : Keys) (t : List ℕ) → command_of request ≡ Some c
-      → ((U : Keys) → IsPlainAnswer F N c r S U → HoldsAfterSome F N calls U t → FoundAfter (PassMayAnswer F N) N S (Asks request ∷ items) t) → HoldsAfterSome F N ((c, r) ∷ calls) S t → FoundAfter (PassMayAnswer F N) N S (Asks request ∷ items) t
-  first_moment request c r calls items S t asked past h = go h.done h.rest h.splits h.run h.next
+  first_moment : (request : Request) (c : Command) (r : Given) (calls : AnsweredCalls) (items : List Item) (reply : Reply) (replies : List Reply) (S : Keys) (t : List ℕ) → command_of request ≡ Some c
+      → ((U : Keys) → IsPlainAnswer F N c r S U → HoldsAfterSome F N calls U t → FoundAfter (PassMayAnswer F N) N S (Asks request ∷ items) (reply ∷ replies) t) → HoldsAfterSome F N ((c, r) ∷ calls) S t
+      → FoundAfter (PassMayAnswer F N) N S (Asks request ∷ items) (reply ∷ replies) t
+  first_moment request c r calls items reply replies S t asked past h = go h.done h.rest h.splits h.run h.next
     where
-      go : (done rest : AnsweredCalls) → (c, r) ∷ calls ≡ done ++ rest → PlainRun F N done S h.ends → MayHaveNext rest h.ends h.found → FoundAfter (PassMayAnswer F N) N S (Asks request ∷ items) t
+      go : (done rest : AnsweredCalls) → (c, r) ∷ calls ≡ done ++ rest → PlainRun F N done S h.ends → MayHaveNext rest h.ends h.found → FoundAfter (PassMayAnswer F N) N S (Asks request ∷ items) (reply ∷ replies) t
       go [] rest is run next =
           let none : h.ends ≡ S = same_is h.ends S run in
           ⊎_elim
-          (λ same. found_here (PassMayAnswer F N) N S (Asks request ∷ items) t (subst (Holds t N) (same_is h.found h.ends same ∙ none) h.holds))
+          (λ same. found_here (PassMayAnswer F N) N S (Asks request ∷ items) (reply ∷ replies) t (subst (Holds t N) (same_is h.found h.ends same ∙ none) h.holds))
           (λ same.
           let found : h.found ≡ after c S = same_is h.found (after c h.ends) same ∙ ap (λ (U : Keys). after c U) none in
-          found_amid (PassMayAnswer F N) N S h.found request items t (may_halt request S h.found [] [] (half_done request c S h.found asked found) refl) h.holds)
+          found_amid (PassMayAnswer F N) N S h.found request items reply replies t (may_halt request S h.found [] [] (half_done request c S h.found asked found) refl) h.holds)
           (subst (λ (l : AnsweredCalls). MayHaveNext l h.ends h.found) (sym is) next)
       go (d ∷ done) rest is run next =
           let (U, answer, later) = run in
@@ -108,12 +109,14 @@ module _ (F : Format) (N : ℕ) where
           (record { done = done; rest = rest; splits = tail_is (c, r) d calls (done ++ rest) is; ends = h.ends; run = later; found = h.found; next = next; holds = h.holds })
 
   -- others were answered after it
-  found_next : (request : Request) (reply : Reply) (S T : Keys) (items : List Item) (t : List ℕ) → reply ≢ Halted → PassMayAnswer F N S request reply T → FoundAfter (PassMayAnswer F N) N T items t → FoundAfter (PassMayAnswer F N) N S (Asks request ∷ items) t
-  found_next request reply S T items t goes may found = record {
+  found_next : (request : Request) (reply : Reply) (S T : Keys) (items : List Item) (replies : List Reply) (t : List ℕ) → reply ≢ Halted → PassMayAnswer F N S request reply T → FoundAfter (PassMayAnswer F N) N T items replies t
+      → FoundAfter (PassMayAnswer F N) N S (Asks request ∷ items) (reply ∷ replies) t
+  found_next request reply S T items replies t goes may found = record {
     done = Asks request ∷ found.done;
     rest = found.rest;
     first = ap (λ (x : List Item). Asks request ∷ x) found.first;
     replies = reply ∷ found.replies;
+    told = first_next reply found.replies replies goes found.told;
     found = found.found;
     served = may_next request reply S T found.found found.done found.replies goes may found.served;
     held = found.held;
@@ -129,12 +132,12 @@ module _ {X : Type 0} (pass_of : X → Pass) (b : BoardId) (F : Format) where
   -- The calls by which the items got their replies.
   pub record Made (items : List Item) (replies : List Reply) (old new : X) : Type 0 where
     pub calls : AnsweredCalls
-    pub served : Served b.sizes calls (part (pass_of old)) (part (pass_of new))
+    pub served : Served b.sizes F calls (part (pass_of old)) (part (pass_of new))
     pub cut : CutLast calls
     pub none : end_of items replies ≢ ends.Halted → NoneCut calls
     pub run : (S T : Keys) → PlainRun F N calls S T → Serves (PassMayAnswer F N) S items replies T
     pub whole : end_of items replies ≢ ends.Halted → (S T : Keys) → PlainRun F N calls S T → Serves (PassAnswers F N) S items replies T
-    pub moment : (S : Keys) (t : List ℕ) → HoldsAfterSome F N calls S t → FoundAfter (PassMayAnswer F N) N S items t
+    pub moment : (S : Keys) (t : List ℕ) → HoldsAfterSome F N calls S t → FoundAfter (PassMayAnswer F N) N S items replies t
 
   -- none were asked
   made_none : (items : List Item) (old new : X) → new ≡ old → ((S T : Keys) → T ≡ S → Serves (PassMayAnswer F N) S items [] T) → ((S T : Keys) → T ≡ S → Serves (PassAnswers F N) S items [] T) → Made items [] old new
@@ -145,7 +148,7 @@ module _ {X : Type 0} (pass_of : X → Pass) (b : BoardId) (F : Format) where
     none = λ goes. tt;
     run = λ S T run. may S T (same_is T S run);
     whole = λ goes S T run. pass S T (same_is T S run);
-    moment = λ S t h. found_here (PassMayAnswer F N) N S items t (none_made F N S t h);
+    moment = λ S t h. found_here (PassMayAnswer F N) N S items [] t (none_made F N S t h);
   }
 
   made_fault : (bad : _) (items : List Item) (replies : List Reply) (old new : X) → Made items replies old new → Made (Faulty bad ∷ items) replies old new
@@ -156,7 +159,7 @@ module _ {X : Type 0} (pass_of : X → Pass) (b : BoardId) (F : Format) where
     none = m.none;
     run = m.run;
     whole = m.whole;
-    moment = λ S t h. found_past_fault (PassMayAnswer F N) N S bad items t (m.moment S t h);
+    moment = λ S t h. found_past_fault (PassMayAnswer F N) N S bad items replies t (m.moment S t h);
   }
 
   -- the last one was cut off
@@ -175,8 +178,8 @@ module _ {X : Type 0} (pass_of : X → Pass) (b : BoardId) (F : Format) where
         none = λ goes. absurd (goes halts);
         run = λ S T (U, a, same). may_halt F N request S T items replies (may S T (subst (IsPlainAnswer F N asked.c r S) (sym (same_is T U same)) a)) none;
         whole = λ goes. absurd (goes halts);
-        moment = λ S t h. first_moment F N request asked.c r [] items S t asked.asked
-            (λ U a rest. found_amid (PassMayAnswer F N) N S U request items t (may_halt F N request S U [] [] (may S U a) refl) (none_made F N U t rest)) h;
+        moment = λ S t h. first_moment F N request asked.c r [] items Halted replies S t asked.asked
+            (λ U a rest. found_amid (PassMayAnswer F N) N S U request items Halted replies t (may_halt F N request S U [] [] (may S U a) refl) (none_made F N U t rest)) h;
       }
 
   -- one more was answered
@@ -200,7 +203,7 @@ module _ {X : Type 0} (pass_of : X → Pass) (b : BoardId) (F : Format) where
         none = λ ended. (whole, m.none (λ halted. ended (ends_so ∙ halted)));
         run = λ S T (U, a, later). may_next F N request reply S U T items replies goes (may S U a) (m.run U T later);
         whole = λ ended S T (U, a, later). pass_next F N request reply S U T items replies goes (pass S U a) (m.whole (λ halted. ended (ends_so ∙ halted)) U T later);
-        moment = λ S t h. first_moment F N request asked.c r m.calls items S t asked.asked (λ U a rest. found_next F N request reply S U items t goes (may S U a) (m.moment U t rest)) h;
+        moment = λ S t h. first_moment F N request asked.c r m.calls items reply replies S t asked.asked (λ U a rest. found_next F N request reply S U items replies t goes (may S U a) (m.moment U t rest)) h;
       }
 
   pub made : (items : List Item) (replies : List Reply) (old new : X) → Serves answers old items replies new → Made items replies old new

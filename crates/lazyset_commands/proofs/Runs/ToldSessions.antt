@@ -19,7 +19,7 @@ use Rattle.lz_board.specs.declared.view.Sizes.{Sizes}
 use Rattle.lz_board.specs.Seats.{BoardId, part}
 use Rattle.lz_tie.specs.Moments.{ExplainsBegun}
 use Rattle.lz_tie.specs.RunningSets.{members_of, Explains}
-use Rattle.lz_tie.specs.Sessions.{AnsweredCalls, Served, PlainRun, NoneCut, CutLast, IsSession, TellsAlone, AreOn}
+use Rattle.lz_tie.specs.Sessions.{AnsweredCalls, Served, PlainRun, NoneCut, CutLast, IsSession, TellsAlone}
 use Rattle.lz_tie.proofs.Sessions.SessionEnd.{session_is_held, session_is_plain}
 use Rattle.lz_tie.proofs.Sessions.SessionMoments.{moments_are_plain}
 use Rattle.lazyset_commands.specs.PlainReplies.{PassMayAnswer}
@@ -30,9 +30,9 @@ use Rattle.lazyset_commands.proofs.Runs.FoundSets.{found_of_more}
 use Rattle.lazyset_commands.proofs.Runs.SessionCalls.{answers, made}
 
 -- calls were made, and then others
-served_then : (z : Sizes) (done more : AnsweredCalls) (old mid new : Part) → Served z done old mid → Served z more mid new → Served z (done ++ more) old new
-served_then z [] more old mid new first then = subst (λ (h : Part). Served z more h new) first then
-served_then z (call ∷ done) more old mid new first then = (first.0, (first.1.0, first.1.1, served_then z done more first.1.0 mid new first.1.2 then))
+served_then : (z : Sizes) (F : Format) (done more : AnsweredCalls) (old mid new : Part) → Served z F done old mid → Served z F more mid new → Served z F (done ++ more) old new
+served_then z F [] more old mid new first then = subst (λ (h : Part). Served z F more h new) first then
+served_then z F (call ∷ done) more old mid new first then = (first.0, (first.1.0, first.1.1, served_then z F done more first.1.0 mid new first.1.2 then))
 
 cut_then : (done more : AnsweredCalls) → NoneCut done → CutLast more → CutLast (done ++ more)
 cut_then [] more none cut = cut
@@ -45,17 +45,17 @@ run_then F N [] more S T run = (S, λ k. refl, run)
 run_then F N (call ∷ done) more S T (U, answer, later) = let (M, first, then) = run_then F N done more U T later in (M, (U, answer, first), then)
 
 module _ {X : Type 0} (pass_of : X → Pass) (b : BoardId) (F : Format) (ns : List Note) (old new : X) (one : b.sizes.passes ≡ 1)
-    (known : (part (pass_of old)).known ≡ b.opened) (none : (part (pass_of old)).steps ≡ []) (tells : TellsAlone b ns (part (pass_of new))) (format : AreOn F (part (pass_of new)).steps) where
+    (known : (part (pass_of old)).known ≡ b.opened) (none : (part (pass_of old)).steps ≡ []) (tells : TellsAlone b ns (part (pass_of new))) where
   abbrev N : ℕ
   N = b.sizes.slots
 
   abbrev S0 : Keys
   S0 = members_of b.opened
 
-  session : (calls : AnsweredCalls) → Served b.sizes calls (part (pass_of old)) (part (pass_of new)) → CutLast calls → IsSession b F ns calls (part (pass_of old)) (part (pass_of new))
-  session calls served cut = record { alone = one; known = known; no_steps = none; served = served; cut = cut; format = format; tells = tells }
+  session : (calls : AnsweredCalls) → Served b.sizes F calls (part (pass_of old)) (part (pass_of new)) → CutLast calls → IsSession b F ns calls (part (pass_of old)) (part (pass_of new))
+  session calls served cut = record { alone = one; known = known; no_steps = none; served = served; cut = cut; tells = tells }
 
-  held_run : (calls : AnsweredCalls) → Served b.sizes calls (part (pass_of old)) (part (pass_of new)) → CutLast calls → (t : List ℕ) (e : Explains b ns t) → PlainRun F N calls S0 e.found
+  held_run : (calls : AnsweredCalls) → Served b.sizes F calls (part (pass_of old)) (part (pass_of new)) → CutLast calls → (t : List ℕ) (e : Explains b ns t) → PlainRun F N calls S0 e.found
   held_run calls served cut t e = (session_is_held b F ns calls (part (pass_of old)) (part (pass_of new)) (session calls served cut) t e).0
 
   module _ (t : List ℕ) (e : Explains b ns t) where
@@ -72,7 +72,7 @@ module _ {X : Type 0} (pass_of : X → Pass) (b : BoardId) (F : Format) (ns : Li
         let m = made pass_of b F cut.done first.replies old cut.mid first.served in
         let l = made pass_of b F (cut.item ∷ []) cut.reply cut.mid new cut.served in
         let goes : end_of cut.done first.replies ≢ ends.Halted = λ halted. let never : ends.Done ≡ ends.Halted = sym first.ends ∙ halted in cc in
-        let served = served_then b.sizes m.calls l.calls (part (pass_of old)) (part (pass_of cut.mid)) (part (pass_of new)) m.served l.served in
+        let served = served_then b.sizes F m.calls l.calls (part (pass_of old)) (part (pass_of cut.mid)) (part (pass_of new)) m.served l.served in
         let (M, before, last) = run_then F N m.calls l.calls S0 e.found (held_run (m.calls ++ l.calls) served (cut_then m.calls l.calls (m.none goes) l.cut) t e) in
         record {
           done = cut.done;
@@ -101,10 +101,10 @@ module _ {X : Type 0} (pass_of : X → Pass) (b : BoardId) (F : Format) (ns : Li
         (text, gone, record { items = broken.items; its = broken.its; cut = told_cut broken.items written broken.cut })
 
   -- a text that might have been left at any moment
-  pub told_moment : (input : Option (List ℕ)) (first : FirstAsked (answers pass_of b F) input old new) (t : List ℕ) → ExplainsBegun b ns t → FoundAfter (PassMayAnswer F N) N S0 first.items t
+  pub told_moment : (input : Option (List ℕ)) (first : FirstAsked (answers pass_of b F) input old new) (t : List ℕ) → ExplainsBegun b ns t → FoundAfter (PassMayAnswer F N) N S0 first.items first.replies t
   told_moment input first t begun =
       let m = made pass_of b F first.done first.replies old new first.served in
-      found_of_more (PassMayAnswer F N) N S0 first.items first.done first.rest t first.whole
+      found_of_more (PassMayAnswer F N) N S0 first.items first.done first.rest first.replies t first.whole
       (m.moment S0 t (moments_are_plain b F ns m.calls (part (pass_of old)) (part (pass_of new)) (session m.calls m.served m.cut) t begun))
 
   module _ (medium : Medium) (explains : (t : List ℕ) → IsImage medium t → Explains b ns t) where

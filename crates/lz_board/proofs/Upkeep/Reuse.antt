@@ -51,7 +51,7 @@ pub passes_see_beginnings : PassesSeeBeginnings
 passes_see_beginnings o s k = (
   k.notes,
   published o s k,
-  λ h is. let f = fits o s k h is in record { seen = f.knows.since; begun = begins_of _ _ f.knows.from; pin = f.pinned },
+  λ h is. let f = fits o s k h is in record { seen = f.knows.since; begun = begins_of _ _ f.knows.from; steps = f.knows.noted; pin = f.pinned },
 )
 
 pub slots_are_left_first : SlotsAreLeftFirst

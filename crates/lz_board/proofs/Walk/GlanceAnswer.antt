@@ -1,9 +1,10 @@
 -- What the end of a walk tells to a glance.
-use Rattle.std.proofs.Common.{◌≡◌, inl, inr, ℕ, Bool, true, false, Option, [], ◌∷◌, ◌++◌, Result, Ok, Err, IfOk, IfErr, refl, sym, ap, ◌∙◌, subst}
+use Rattle.std.proofs.Common.{◌≡◌, ◌≢◌, ◌⊎◌, inl, inr, ⊎_elim, ℕ, Bool, true, false, Option, [], ◌∷◌, ◌++◌, Result, Ok, Err, IfOk, IfErr, refl, sym, ap, ◌∙◌, subst, arith}
 use Rattle.lz_list.specs.declared.flags.Flags.{Flags}
 use Rattle.lz_list.specs.declared.place.Place.{Place}
 use Rattle.lz_list.specs.declared.walk.Met.{Met}
 use Rattle.lz_list.specs.declared.walk.Met.TheVariants.{Absent, Unmarked, Marked}
+use Rattle.lz_list.specs.declared.publishing.Publishing.TheVariants.{Halted as halted}
 use Rattle.lz_list.specs.Words.{link_to, place_number}
 use Rattle.lz_list.specs.Traces.{Trace, Begins, Lawful, is_marked, halt_word, IsNode, SettledNo}
 use Rattle.lz_list.specs.Pinned.{Once, IsQuiet}
@@ -21,7 +22,7 @@ use Rattle.lz_board.specs.declared.answer.Glance.TheVariants.{Yes, No, Unsettled
 use Rattle.lz_board.specs.declared.answer.GlanceFault.{GlanceFault}
 use Rattle.lz_board.specs.declared.answer.GlanceFault.TheVariants.{Halted, Worn, BusyPass}
 use Rattle.lz_board.specs.Notes.{Since}
-use Rattle.lz_board.specs.Glances.{Changes, Between, Glanced, GlancedUnsettled, Glances}
+use Rattle.lz_board.specs.Glances.{Changes, Between, Glanced, GlancedUnsettled, Glances, IsUnhalted}
 use Rattle.lz_board.specs.Walkers.{MetNode, Ended, sure_or, glance_of, IsGlance}
 use Rattle.lz_board.proofs.Upkeep.Growth.{begins_of}
 use Rattle.lz_board.proofs.Walk.WalkerLemma.{since_trans}
@@ -79,20 +80,29 @@ glance_longer k A P Q B Yes before after h = record { then = h.then; between = b
 glance_longer k A P Q B No before after h = record { then = h.then; between = between_longer A P h.then Q B before after h.between; settled = h.settled }
 glance_longer k A P Q B (Unsettled s) before after h = record { then = h.then; between = between_longer A P h.then Q B before after h.between; some = h.some; in_slot = h.in_slot; asks = h.asks }
 
-halt_longer : (more P : Trace) → halt_word P ≡ 1 → halt_word (more ++ P) ≡ 1
+pub halt_longer : (more P : Trace) → halt_word P ≡ 1 → halt_word (more ++ P) ≡ 1
 halt_longer [] P is = is
 halt_longer (e ∷ more) P is = halt_stays e (more ++ P) (halt_longer more P is)
 
 pub halt_since : (p : ℕ) (P Q : Trace) → Since p Q P → halt_word P ≡ 1 → halt_word Q ≡ 1
 halt_since p P Q since is = ap halt_word since.1 ∙ halt_longer since.0 P is
 
+halt_is : (P : Trace) → IsUnhalted P ⊎ (halt_word P ≡ 1)
+halt_is [] = inl refl
+halt_is (halted ∷ P) = inr refl
+halt_is (e ∷ P) = halt_is P
+
+-- what began a trace without a halt has none
+pub unhalted_before : (p : ℕ) (P Q : Trace) → Since p Q P → halt_word Q ≢ 1 → IsUnhalted P
+unhalted_before p P Q since un = ⊎_elim (λ (none : IsUnhalted P). none) (λ (is : halt_word P ≡ 1). absurd (un (halt_since p P Q since is))) (halt_is P)
+
 no_changes : (p : ℕ) (P Q : Trace) → Since p Q P → Changes p P Q []
 no_changes p P Q since = record { since = since.0; goes_on = since.1; own = since.2 }
 
 -- the rows of a glance that was inside from P to Q
 pub rows : (k : ℕ) (before after : Part) (P Q : Trace) → Since before.number P before.known → Since before.number Q P → Since before.number after.known Q
-    → (r : Result Glance GlanceFault) → IfOk r (λ g. IsGlance k P Q g) → IfErr r (λ f. (f ≡ Halted) × (halt_word Q ≡ 1)) → Glances k r before after
-rows k before after P Q a b c r ok err = go r ok err
+    → (r : Result Glance GlanceFault) → IfOk r (λ g. IsGlance k P Q g) → IfOk r (λ g. IsUnhalted P) → IfErr r (λ f. (f ≡ Halted) × (halt_word Q ≡ 1)) → Glances k r before after
+rows k before after P Q a b c r ok un err = go r ok un err
   where
     since : Since before.number after.known before.known
     since = since_trans before.number before.known Q after.known (since_trans before.number before.known P Q a b) c
@@ -103,10 +113,13 @@ rows k before after P Q a b c r ok err = go r ok err
     longer : (g : Glance) → IsGlance k P Q g → IsGlance k before.known after.known g
     longer g h = glance_longer k before.known P Q after.known g (begins_of before.known P (a.0, a.1)) (begins_of Q after.known (c.0, c.1)) h
 
-    go : (r : Result Glance GlanceFault) → IfOk r (λ g. IsGlance k P Q g) → IfErr r (λ f. (f ≡ Halted) × (halt_word Q ≡ 1)) → Glances k r before after
-    go (Ok Yes) ok err = (longer Yes ok, same)
-    go (Ok No) ok err = (longer No ok, same)
-    go (Ok (Unsettled s)) ok err = (longer (Unsettled s) ok, same)
-    go (Err Halted) ok err = (halt_since before.number Q after.known c err.1, same)
-    go (Err Worn) ok err = absurd cc
-    go (Err BusyPass) ok err = absurd cc
+    unhalted : IsUnhalted P → IsUnhalted before.known
+    unhalted none = unhalted_before before.number before.known P a (λ is. omega (arith, none, is))
+
+    go : (r : Result Glance GlanceFault) → IfOk r (λ g. IsGlance k P Q g) → IfOk r (λ g. IsUnhalted P) → IfErr r (λ f. (f ≡ Halted) × (halt_word Q ≡ 1)) → Glances k r before after
+    go (Ok Yes) ok un err = (longer Yes ok, same, unhalted un)
+    go (Ok No) ok un err = (longer No ok, same, unhalted un)
+    go (Ok (Unsettled s)) ok un err = (longer (Unsettled s) ok, same, unhalted un)
+    go (Err Halted) ok un err = (halt_since before.number Q after.known c err.1, same)
+    go (Err Worn) ok un err = absurd cc
+    go (Err BusyPass) ok un err = absurd cc

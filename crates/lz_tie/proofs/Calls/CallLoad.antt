@@ -1,13 +1,13 @@
 -- A call that is under way goes on by a load of its pass.
 use Rattle.std.proofs.Common.{◌≡◌, ℕ, zero, suc, false, List, [], ◌∷◌, ◌++◌, length, refl, sym, ap, ◌∙◌, subst, append_assoc}
 use mathlib.Core.Bool.{false≢true}
-use Rattle.std.specs.Prelude.{is_some, slice_index_or, Option, None}
+use Rattle.std.specs.Prelude.{is_some, slice_index_or, Option, Some, None}
 use Rattle.lz_slot.specs.declared.command.Command.{Command}
 use Rattle.lz_slot.specs.declared.format.Format.{Format}
 use Rattle.lz_slot.specs.Sets.{key_of}
 use Rattle.lz_list.specs.declared.word.Word.{Word}
 use Rattle.lz_list.specs.Walks.{hopped}
-use Rattle.lz_list.specs.Traces.{Trace}
+use Rattle.lz_list.specs.Traces.{Trace, halt_word, word_after}
 use Rattle.lz_machine.specs.declared.event.Event.{Event}
 use Rattle.lz_machine.specs.declared.event.Event.TheVariants.{Hop, Check}
 use Rattle.lz_machine.specs.declared.event.Outcome.TheVariants.{Value}
@@ -17,7 +17,7 @@ use Rattle.lz_machine.specs.declared.caller.Sequence.TheVariants.{Pinning, Resti
 use Rattle.lz_machine.specs.declared.caller.Progress.{Progress}
 use Rattle.lz_machine.specs.declared.caller.Progress.TheVariants.{Playing, LoadsHalt, Walking, Reserving, SeeingPins, Claiming, Checking, Answering}
 use Rattle.lz_machine.specs.Yards.{Shape}
-use Rattle.lz_machine.specs.Calls.{event_at, events_of, progress_after}
+use Rattle.lz_machine.specs.Calls.{event_at, events_of, halt_loaded, progress_after}
 use Rattle.lz_machine.specs.CallersSound.{is_before_pin, side_of}
 use Rattle.lz_machine.specs.Laws.{hop_of}
 use Rattle.lz_machine.specs.Orders.{IsLoading}
@@ -32,9 +32,10 @@ use Rattle.lz_board.specs.Glances.{Changes}
 use Rattle.lz_board.specs.Plays.{loading, IsShownTo}
 use Rattle.lz_board.specs.Seats.{BoardId}
 use Rattle.lz_board.proofs.Upkeep.Address.{shared_boards, decode}
+use Rattle.lz_board.proofs.Walk.GlanceAnswer.{halt_longer}
 use Rattle.std.proofs.lemmas.List.Elements.{filter-append}
 use Rattle.lz_tie.specs.NotedRuns.{IsHopAt}
-use Rattle.lz_tie.specs.UnderWay.{OwnAt, UnderWay}
+use Rattle.lz_tie.specs.UnderWay.{IsLate, OwnAt, UnderWay}
 use Rattle.lz_tie.proofs.Calls.OwnChanges.{calm_none}
 use Rattle.lz_tie.proofs.Calls.NextPlace.{Onward, hop_onward, halt_onward}
 use Rattle.lz_tie.proofs.Calls.CallTurn.{not_old, not_full}
@@ -54,6 +55,19 @@ load_onward : (shape : Shape) (p : ℕ) (c : Command) (at : Progress) (value : �
 load_onward shape p c LoadsHalt value P is h = halt_onward shape p P (calm_none p c LoadsHalt P refl h) c value
 load_onward shape p c (Walking aim look) value P is h = hop_onward shape p P (calm_none p c (Walking aim look) P refl h) c aim (hopped shape.buckets (key_of c) look value)
 load_onward shape p c at value P is h = absurd is
+
+-- the value of a word, where there is one, after a trace
+abbrev pub value_in : ℕ → Trace → Option Word → ℕ
+value_in buckets P None = 0
+value_in buckets P (Some w) = word_after buckets P w
+
+-- a load of the halt word after the halt ends the call
+late_load : (shape : Shape) (c : Command) (at : Progress) (w : Word) (buckets value : ℕ) (P : Trace) → IsLoading at → event_at shape c at ≡ Hop w → value ≡ word_after buckets P w → halt_word P ≡ 1 → IsLate at
+    → IsLate (progress_after shape c at (Value value))
+late_load shape c LoadsHalt w buckets value P is event found halted late =
+    subst (λ (n : ℕ). IsLate (halt_loaded n)) (sym halted ∙ ap (value_in buckets P) (ap hop_of event) ∙ sym found) tt
+late_load shape c (Walking aim look) w buckets value P is event found halted late = absurd late
+late_load shape c at w buckets value P is event found halted late = absurd is
 
 -- no event of a sequence is a load, so only a place of a load has one
 abbrev NoLoads : List Event → Type 0
@@ -85,7 +99,7 @@ load_place shape c (Checking aim curr) w is = absurd (false≢true (ap is_some (
 load_place shape c (Answering reply) w is = absurd (false≢true (ap is_some (ap hop_of is)))
 
 module _ (b : BoardId) (c : Command) (format : Format) (before : Part) (at : Progress) (h : Part) (U : UnderWay b c format before at h) (w : Word) (event : event_at (shape_of h.sizes) c at ≡ Hop w) (shared : IsShared b.sizes w)
-    (seen : Trace) (value : ℕ) (shown : IsShownTo seen h) where
+    (seen : Trace) (value : ℕ) (shown : IsShownTo seen h) (found : value ≡ word_after b.sizes.buckets seen w) where
   abbrev h1 : Part
   h1 = loading seen (index h.sizes w) value h
 
@@ -126,6 +140,7 @@ module _ (b : BoardId) (c : Command) (format : Format) (before : Part) (at : Pro
     is_own = there.is_own;
     opened = U.opened;
     since = U.since;
+    late = λ halted. late_load (shape_of h.sizes) c at w b.sizes.buckets value seen loads event found (ap halt_word changes_now.goes_on ∙ halt_longer changes_now.since before.known halted) (U.late halted);
     old = λ old. absurd (not_old next there.inside old);
     full = λ counts full. absurd (not_full next counts there.room full);
   }

@@ -22,7 +22,7 @@ use Rattle.lz_board.specs.Glances.{Changes}
 use Rattle.lz_board.specs.Seats.{BoardId}
 use Rattle.lz_tie.specs.Holds.{IsIdle, Holds}
 use Rattle.lz_tie.specs.NotedRuns.{AreNext}
-use Rattle.lz_tie.specs.UnderWay.{OwnAt, UnderWay}
+use Rattle.lz_tie.specs.UnderWay.{IsLate, OwnAt, UnderWay}
 use Rattle.lz_tie.proofs.Calls.OwnChanges.{calm, old_none}
 use Rattle.lz_tie.proofs.Calls.NextPlace.{is_full}
 use Rattle.lz_tie.proofs.Calls.CallTurn.{says_old, not_full}
@@ -35,10 +35,11 @@ record Opening (shape : Shape) (p : ℕ) (c : Command) (old : Bool) (at : Progre
   is_own : OwnAt p c at []
   says : at ≡ Answering OldFile → old ≡ true
   room : is_full at ≡ false
+  late : IsLate at
 
 opening : (shape : Shape) (p : ℕ) (c : Command) (old : Bool) → Opening shape p c old (if old then Answering OldFile else first_progress)
-opening shape p c true = record { outside = refl; pass = tt; is_own = old_none p c [] refl; says = λ is. refl; room = refl }
-opening shape p c false = record { outside = refl; pass = tt; is_own = calm p c first_progress [] refl refl; says = λ is. absurd (false≢true (ap says_old is)); room = refl }
+opening shape p c true = record { outside = refl; pass = tt; is_own = old_none p c [] refl; says = λ is. refl; room = refl; late = tt }
+opening shape p c false = record { outside = refl; pass = tt; is_own = calm p c first_progress [] refl refl; says = λ is. absurd (false≢true (ap says_old is)); room = refl; late = tt }
 
 pub called : (b : BoardId) (c : Command) (format : Format) (before : Part) (opened : Trace) (was is : List Note) (after : Part) → before.sizes ≡ b.sizes → IsIdle b.sizes before → Extends before.known b.opened
     → Holds opened was is (note_by before.number (Called c format) None) before after → UnderWay b c format before (begun format c) after
@@ -64,6 +65,7 @@ called b c format before opened was is after sized idle from H =
       is_own = o.is_own;
       opened = from;
       since = λ inside. absurd (omega (arith, pin, inside));
+      late = λ halted. o.late;
       old = o.says;
       full = λ counts full. absurd (not_full (begun format c) counts o.room full);
     }

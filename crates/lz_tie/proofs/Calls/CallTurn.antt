@@ -9,7 +9,7 @@ use Rattle.lz_allot.specs.declared.counts.Counts.{Counts}
 use Rattle.lz_allot.specs.Uses.{collect, lowest_free, counts}
 use Rattle.lz_vault.specs.Vaults.{NoCall}
 use Rattle.lz_list.specs.declared.publishing.Publishing.{Publishing}
-use Rattle.lz_list.specs.Traces.{Trace, member}
+use Rattle.lz_list.specs.Traces.{Trace, halt_word, member}
 use Rattle.lz_machine.specs.declared.course.Course.{Course}
 use Rattle.lz_machine.specs.declared.course.Course.TheVariants.{Plays}
 use Rattle.lz_machine.specs.declared.event.Event.{Event}
@@ -41,13 +41,13 @@ use Rattle.lz_board.specs.Notes.{note_by, listed, own, trace_of, load_note, shap
 use Rattle.lz_board.specs.Seats.{BoardId}
 use Rattle.lz_tie.specs.Answers.{IsWithin, last_reserve, reserved_by}
 use Rattle.lz_tie.specs.Holds.{Holds, Turned}
-use Rattle.lz_tie.specs.UnderWay.{OwnAt, FoundFull, UnderWay}
+use Rattle.lz_tie.specs.UnderWay.{IsLate, OwnAt, FoundFull, UnderWay}
 use Rattle.lz_tie.proofs.Reading.PinWords.{is_pinning}
 use Rattle.lz_tie.proofs.Calls.OwnChanges.{calm, calm_none, worn_none, full_none}
 use Rattle.lz_tie.proofs.Calls.TurnResult.{IsRefused, played_or_refused, pin_gives}
 use Rattle.lz_tie.proofs.Calls.NextPlace.{Onward, is_full, IsPlain, halting_onward, plays_onward}
 use Rattle.lz_tie.proofs.Calls.PartAfter.{known_after, steps_since, goes}
-use Rattle.lz_tie.proofs.Calls.InnerEvents.{plain_pin, plain_within, plain_loaded, plain_event, plain_going, plain_inside}
+use Rattle.lz_tie.proofs.Calls.InnerEvents.{plain_pin, plain_within, plain_loaded, plain_event, plain_going, plain_inside, plain_unlate}
 use Rattle.lz_yard.proofs.Events.KeptFit.{fault_or_not}
 
 -- which answer a place gives
@@ -123,10 +123,10 @@ module _ (b : BoardId) (c : Command) (format : Format) (before : Part) (at : Pro
       own_at = U.is_own
 
   -- where it comes to another place inside
-  comes_onward : is_pinning e ≡ false → reply_at at ≡ None → is_before_pin at ≡ false → Onward y.shape a c (progress_after y.shape c at o) (own a (listed x) ++ U.own) → UnderWay b c format before next h'
-  comes_onward plain going inside f =
+  comes_onward : is_pinning e ≡ false → reply_at at ≡ None → is_before_pin at ≡ false → ¬ IsLate at → Onward y.shape a c (progress_after y.shape c at o) (own a (listed x) ++ U.own) → UnderWay b c format before next h'
+  comes_onward plain going inside unlate f =
       let g : Onward (shape_of h.sizes) a c next (own a (listed x) ++ U.own) = subst (λ (s : Shape). Onward s a c (progress_after s c at o) (own a (listed x) ++ U.own)) (sym T.shape) f in
-      goes b c format before at h U opened was is e o x h' H going (plain_within e o plain) g.pass (side plain inside g.inside) g.is_own
+      goes b c format before at h U opened was is e o x h' H going (plain_within e o plain) g.pass (side plain inside g.inside) g.is_own (λ halted. absurd (unlate (U.late halted)))
       (λ old. absurd (not_old next g.inside old)) (λ counts full. absurd (not_full next counts g.room full))
     where
       side : is_pinning e ≡ false → is_before_pin at ≡ false → is_before_pin next ≡ false → h'.pin % 2 ≡ side_of (is_before_pin next)
@@ -137,7 +137,7 @@ module _ (b : BoardId) (c : Command) (format : Format) (before : Part) (at : Pro
   pub plain_turn : IsPlain at → UnderWay b c format before next h'
   plain_turn plain =
       let still : is_pinning e ≡ false = subst (λ (q : Event). is_pinning q ≡ false) event_is (plain_loaded y.words (event_at y.shape c at) (plain_event y.shape c at plain)) in
-      comes_onward still (plain_going at plain) (plain_inside at plain) (⊎_elim
+      comes_onward still (plain_going at plain) (plain_inside at plain) (plain_unlate at plain) (⊎_elim
       (λ cut. cut_onward cut.0 cut.1)
       (λ played. subst (λ (q : Outcome × Trace). Onward y.shape a c (progress_after y.shape c at q.0) (own a q.1 ++ U.own))
       (λ i. (sym (played.0 ∙ ap (outcome_of y (actor_at y a)) (sym event_is)) i, sym (played.1 ∙ ap (publishes y (actor_at y a) a) (sym event_is)) i))
@@ -146,13 +146,14 @@ module _ (b : BoardId) (c : Command) (format : Format) (before : Part) (at : Pro
 
   -- Where it comes to the place k.
   comes_to : (k : Progress) → next ≡ k → reply_at at ≡ None → IsWithin (Played e o) → HasPass h.sizes.passes (event_at (shape_of h.sizes) c k) → h'.pin % 2 ≡ side_of (is_before_pin k) → OwnAt a c k (own a (listed x) ++ U.own)
-      → k ≢ Answering OldFile → ((counts : Counts) → k ≡ Answering (Full counts) → FoundFull b.sizes.slots b.sizes.passes counts (steps_since b c format before at h U opened was is e o x h' H) h'.known)
+      → (halt_word before.known ≡ 1 → IsLate k) → k ≢ Answering OldFile → ((counts : Counts) → k ≡ Answering (Full counts) → FoundFull b.sizes.slots b.sizes.passes counts (steps_since b c format before at h U opened was is e o x h' H) h'.known)
       → UnderWay b c format before next h'
-  comes_to k is_k going inside pass side is_own old full =
+  comes_to k is_k going inside pass side is_own late old full =
       goes b c format before at h U opened was is e o x h' H going inside
       (subst (λ (q : Progress). HasPass h.sizes.passes (event_at (shape_of h.sizes) c q)) (sym is_k) pass)
       (side ∙ ap (λ (q : Progress). side_of (is_before_pin q)) (sym is_k))
       (subst (λ (q : Progress). OwnAt a c q (own a (listed x) ++ U.own)) (sym is_k) is_own)
+      (λ halted. subst IsLate (sym is_k) (late halted))
       (λ same. absurd (old (sym is_k ∙ same)))
       (λ counts same. full counts (sym is_k ∙ same))
 
@@ -189,18 +190,18 @@ module _ (b : BoardId) (c : Command) (format : Format) (before : Part) (at : Pro
       pinned is =
           let pin = pin_is ∙ ap (λ (q : Outcome). pin_after_played Pin q h.pin) (answer ∙ is) in
           comes_to LoadsHalt (λ i. progress_after (shape_of h.sizes) c (same i) ((answer ∙ is) i)) (ap reply_at same) within tt (omega (arith, pin, outside)) (calm a c LoadsHalt (own a (listed x) ++ U.own) refl none)
-          (not_old LoadsHalt refl) (λ counts full. absurd (not_full LoadsHalt counts refl full))
+          (λ halted. tt) (not_old LoadsHalt refl) (λ counts full. absurd (not_full LoadsHalt counts refl full))
 
       worn : (line y a Pin).1 ≡ Worn → UnderWay b c format before next h'
       worn is =
           comes_to (Answering SaysWorn) (λ i. progress_after (shape_of h.sizes) c (same i) ((answer ∙ is) i)) (ap reply_at same) within tt
           (ap (λ (q : ℕ). q % 2) (pin_is ∙ ap (λ (q : Outcome). pin_after_played Pin q h.pin) (answer ∙ is)) ∙ outside) (worn_none a c (own a (listed x) ++ U.own) none)
-          (λ old. absurd (false≢true (ap says_old old))) (λ counts full. absurd (not_full (Answering SaysWorn) counts refl full))
+          (λ halted. tt) (λ old. absurd (false≢true (ap says_old old))) (λ counts full. absurd (not_full (Answering SaysWorn) counts refl full))
 
   -- its second Reserve
   pub reserve_turn : at ≡ Reserving true → UnderWay b c format before next h'
   reserve_turn same = ⊎_elim
-      (λ cut. comes_onward plain going inside (cut_onward cut.0 cut.1))
+      (λ cut. comes_onward plain going inside unlate (cut_onward cut.0 cut.1))
       (λ played. reserved (lowest_free (collect y.uses)) refl played.0 played.1)
       (gave plain)
     where
@@ -215,6 +216,9 @@ module _ (b : BoardId) (c : Command) (format : Format) (before : Part) (at : Pro
 
       inside : is_before_pin at ≡ false
       inside = ap is_before_pin same
+
+      unlate : ¬ IsLate at
+      unlate late = subst IsLate same late
 
       calm_now : U.own ≡ []
       calm_now = calm_none a c (Reserving true) U.own refl (subst (λ (q : Progress). OwnAt a c q U.own) same U.is_own)
@@ -247,14 +251,14 @@ module _ (b : BoardId) (c : Command) (format : Format) (before : Part) (at : Pro
           let o_is : o ≡ Slot s = answer ∙ ap (outcome_of y (actor_at y a)) (sym e_is) ∙ ap (λ (q : Option ℕ). slot_found q (collect y.uses)) lowest in
           let none = (λ i. own a ((published ∙ ap (publishes y (actor_at y a) a) (sym e_is)) i) ++ U.own) ∙ calm_now in
           comes_to (Playing (Writing s) 0) (λ i. progress_after (shape_of h.sizes) c (same i) (o_is i)) going (plain_within e o plain) tt pin_same (calm a c (Playing (Writing s) 0) (own a (listed x) ++ U.own) refl none)
-          (not_old (Playing (Writing s) 0) refl) (λ counts full. absurd (not_full (Playing (Writing s) 0) counts refl full))
+          (λ halted. absurd (unlate (U.late halted))) (not_old (Playing (Writing s) 0) refl) (λ counts full. absurd (not_full (Playing (Writing s) 0) counts refl full))
       reserved None lowest answer published =
           let told = counts (collect y.uses) in
           let o_is : o ≡ NoSlot told = answer ∙ ap (outcome_of y (actor_at y a)) (sym e_is) ∙ ap (λ (q : Option ℕ). slot_found q (collect y.uses)) lowest in
           let nothing : listed x ≡ [] = published ∙ ap (publishes y (actor_at y a) a) (sym e_is) in
           let none = (λ i. own a (nothing i) ++ U.own) ∙ calm_now in
           comes_to (Answering (Full told)) (λ i. progress_after (shape_of h.sizes) c (same i) (o_is i)) going (plain_within e o plain) tt pin_same (full_none a c told (own a (listed x) ++ U.own) none)
-          (λ old. absurd (false≢true (ap says_old old))) (found_full None lowest refl o_is (λ bad. no_fault (sym o_is ∙ bad)) nothing)
+          (λ halted. absurd (unlate (U.late halted))) (λ old. absurd (false≢true (ap says_old old))) (found_full None lowest refl o_is (λ bad. no_fault (sym o_is ∙ bad)) nothing)
         where
           no_fault : {told : Counts} → NoSlot told ≡ Fault → ⊥
           no_fault is = absurd cc

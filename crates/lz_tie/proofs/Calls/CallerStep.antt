@@ -5,7 +5,7 @@ use Rattle.lz_slot.specs.declared.command.Command.{Command}
 use Rattle.lz_slot.specs.declared.format.Format.{Format}
 use Rattle.lz_list.specs.declared.publishing.Publishing.{Publishing}
 use Rattle.lz_list.specs.declared.word.Word.{Word}
-use Rattle.lz_list.specs.Traces.{Trace}
+use Rattle.lz_list.specs.Traces.{Trace, word_after}
 use Rattle.lz_machine.specs.declared.event.Event.{Event}
 use Rattle.lz_machine.specs.declared.event.Event.TheVariants.{Hop}
 use Rattle.lz_machine.specs.declared.event.Outcome.{Outcome}
@@ -59,7 +59,7 @@ module _ (b : BoardId) (c : Command) (format : Format) (before : Part) (k : Call
       subst (λ (at : Progress). UnderWay b c format before at h') (next_is o)
       (turned b c format before k.progress h U opened was is e o x h' H (subst (λ (q : Command). Turned opened was h q k.progress e o x) on.0 T) no_load going)
 
-  pub caller_loaded : (w : Word) → event_at (shape_with k) k.command k.progress ≡ Hop w → IsShared b.sizes w → (seen : Trace) (value : ℕ) → IsShownTo seen h → (h' : Part) → h' ≡ loading seen (index b.sizes w) value h
+  pub caller_loaded : (w : Word) → event_at (shape_with k) k.command k.progress ≡ Hop w → IsShared b.sizes w → (seen : Trace) (value : ℕ) → IsShownTo seen h → value ≡ word_after b.sizes.buckets seen w → (h' : Part) → h' ≡ loading seen (index b.sizes w) value h
       → UnderWay b c format before (progress_after (shape_with k) k.command k.progress (Value value)) h'
-  caller_loaded w event shared seen value shown h' is =
-      subst (λ (at : Progress). UnderWay b c format before at h') (next_is (Value value)) (loaded b c format before k.progress h U w (event_is ∙ event) shared seen value shown h' is)
+  caller_loaded w event shared seen value shown found h' is =
+      subst (λ (at : Progress). UnderWay b c format before at h') (next_is (Value value)) (loaded b c format before k.progress h U w (event_is ∙ event) shared seen value shown found h' is)

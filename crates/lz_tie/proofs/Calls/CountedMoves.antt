@@ -55,7 +55,7 @@ use Rattle.lz_tie.specs.Holds.{HasCall, Holds, Turned, IsIdle, IsTurn, SeesPin, 
 use Rattle.lz_tie.specs.UnderWay.{UnderWay}
 use Rattle.lz_tie.specs.Counting.{seen_pass, OnWalk, Counts, Advanced}
 use Rattle.lz_tie.proofs.Calls.CallOpening.{called}
-use Rattle.lz_tie.proofs.Calls.CallLoad.{load_place}
+use Rattle.lz_tie.proofs.Calls.CallLoad.{load_place, value_in}
 use Rattle.lz_tie.proofs.Calls.CallerStep.{IsCallerOn, has_call, event_is, caller_turned, caller_loaded}
 use Rattle.lz_tie.proofs.Replies.AnsweredCall.{answered, idle_again}
 use Rattle.lz_tie.proofs.Replies.OneCaller.{one_caller}
@@ -256,16 +256,13 @@ module _ (b : BoardId) (c : Command) (format : Format) (before : Part) (k : Call
       turned_now = subst (λ (q : Command × Progress). Turned b.opened was h q.0 q.1 Answer t.outcome t.published) (λ i. (C.command i, answering i)) T
 
       module _ (same : before.sizes ≡ b.sizes) (alone : b.sizes.passes ≡ 1 → trace_of b.opened was ≡ h.known) (own : b.sizes.passes ≡ 1 → OnlyOwn h.number b.opened (trace_of b.opened was)) where
-        given : (answers : Answers c reply before h') × (answers.format ≡ format)
-        given = answered b c format before reply h was is t.outcome t.published h' under_now H turned_now same alone own
-
-        pub answers_so : Answers c reply before h'
-        answers_so = given.0
+        pub answers_so : Answers format c reply before h'
+        answers_so = answered b c format before reply h was is t.outcome t.published h' under_now H turned_now same alone own
 
         -- in a set of one pass that of the plain set
         pub plain_so : b.sizes.passes ≡ 1 → IsPlainAnswer format b.sizes.slots c reply (keys_in before.known) (keys_in h'.known)
-        plain_so one = subst (λ (q : Format × Sizes). IsPlainAnswer q.0 q.1.slots c reply (keys_in before.known) (keys_in h'.known)) (λ i. (given.1 i, same i))
-            (one_caller c reply before h' given.0 (ap (λ (z : Sizes). z.passes) same ∙ one))
+        plain_so one = subst (λ (z : Sizes). IsPlainAnswer format z.slots c reply (keys_in before.known) (keys_in h'.known)) same
+            (one_caller format c reply before h' answers_so (ap (λ (z : Sizes). z.passes) same ∙ one))
 
       pub then_idle : IsIdle b.sizes h'
       then_idle = idle_again b c format before reply h was is t.outcome t.published h' under_now H turned_now
@@ -283,10 +280,6 @@ shared_at z shape same c at P0 Q walk w event = absurd (load_place shape c at w 
 record Takes (z : Sizes) (shape : Shape) (c : Command) (at : Progress) (P0 Q : Trace) (value : ℕ) : Type 0 where
   takes : MayTake at (Value value)
   walk : OnWalk z c (progress_after shape c at (Value value)) P0 Q
-
-abbrev value_in : ℕ → Trace → Option Word → ℕ
-value_in buckets P None = 0
-value_in buckets P (Some w) = word_after buckets P w
 
 load_takes : (z : Sizes) (walkable : IsWalkable z) (shape : Shape) → shape.buckets ≡ z.buckets → (c : Command) (at : Progress) (h : Part) → h.sizes ≡ z → IsInside h.pin → OnWalk z c at h.begun h.known → (w : Word) → event_at shape c at ≡ Hop w
     → (seen : Trace) → IsShownTo seen h → (value : ℕ) → value ≡ word_after z.buckets seen w → Takes z shape c at h.begun seen value
@@ -327,6 +320,6 @@ module _ (b : BoardId) (c : Command) (format : Format) (before : Part) (k : Call
           command = C.command;
           buckets = C.buckets;
           passes = C.passes;
-          under = caller_loaded b c format before k (C.command, C.buckets, C.passes) h C.under w event shared_word seen value shown h' is_h;
+          under = caller_loaded b c format before k (C.command, C.buckets, C.passes) h C.under w event shared_word seen value shown is h' is_h;
           walk = subst (λ (q : Part). OnWalk b.sizes k.command (progress_after (shape_with k) k.command k.progress (Value value)) q.begun q.known) (sym is_h) there.walk;
         })

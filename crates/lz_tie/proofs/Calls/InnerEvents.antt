@@ -17,6 +17,7 @@ use Rattle.lz_machine.specs.Runs.{reply_at}
 use Rattle.lz_board.specs.declared.view.What.TheVariants.{Played}
 use Rattle.lz_board.specs.Notes.{pin_after_played}
 use Rattle.lz_tie.specs.Answers.{IsWithin}
+use Rattle.lz_tie.specs.UnderWay.{IsLate}
 use Rattle.lz_tie.proofs.Reading.PinWords.{is_pinning}
 use Rattle.lz_tie.proofs.Calls.NextPlace.{IsPlain}
 
@@ -68,3 +69,10 @@ pub plain_inside : (at : Progress) → IsPlain at → is_before_pin at ≡ false
 plain_inside (Playing Pinning i) plain = absurd plain
 plain_inside (Answering reply) plain = absurd plain
 plain_inside at plain = refl
+
+-- a call that began after the halt doesn't come to one
+pub plain_unlate : (at : Progress) → IsPlain at → ¬ IsLate at
+plain_unlate (Playing Pinning i) plain late = absurd plain
+plain_unlate LoadsHalt plain late = absurd plain
+plain_unlate (Answering reply) plain late = absurd plain
+plain_unlate at plain late = late

@@ -7,7 +7,7 @@ use Rattle.lz_slot.specs.declared.command.Command.{Command}
 use Rattle.lz_slot.specs.declared.format.Format.{Format}
 use Rattle.lz_allot.specs.declared.counts.Counts.{Counts}
 use Rattle.lz_list.specs.declared.publishing.Publishing.{Publishing}
-use Rattle.lz_list.specs.Traces.{Trace, Begins}
+use Rattle.lz_list.specs.Traces.{Trace, Begins, halt_word}
 use Rattle.lz_machine.specs.declared.event.Event.{Event}
 use Rattle.lz_machine.specs.declared.event.Outcome.{Outcome}
 use Rattle.lz_machine.specs.declared.event.Reply.{Reply}
@@ -33,7 +33,7 @@ use Rattle.lz_board.proofs.Upkeep.Splice.{trace_splice}
 use Rattle.lz_tie.specs.Answers.{IsWithin, AreWithin}
 use Rattle.lz_tie.specs.Holds.{HasCall, Holds}
 use Rattle.lz_tie.specs.NotedRuns.{AreNext}
-use Rattle.lz_tie.specs.UnderWay.{OwnAt, FoundFull, UnderWay}
+use Rattle.lz_tie.specs.UnderWay.{IsLate, OwnAt, FoundFull, UnderWay}
 
 -- it has seen all that was published, and last what the hold published
 pub known_after : (opened : Trace) (was is : List Note) (n : Note) (h h' : Part) → Holds opened was is n h h' → h'.known ≡ listed n.published ++ trace_of opened was
@@ -95,9 +95,9 @@ module _ (b : BoardId) (c : Command) (format : Format) (before : Part) (at : Pro
 
   -- The call is under way where it has come to by its event.
   pub goes : reply_at at ≡ None → IsWithin (Played e o) → HasPass h.sizes.passes (event_at (shape_of h.sizes) c next) → h'.pin % 2 ≡ side_of (is_before_pin next) → OwnAt h.number c next (own h.number (listed x) ++ U.own)
-      → (next ≡ Answering OldFile → is_old format c ≡ true) → ((counts : Counts) → next ≡ Answering (Full counts) → FoundFull b.sizes.slots b.sizes.passes counts steps_since h'.known)
+      → (halt_word before.known ≡ 1 → IsLate next) → (next ≡ Answering OldFile → is_old format c ≡ true) → ((counts : Counts) → next ≡ Answering (Full counts) → FoundFull b.sizes.slots b.sizes.passes counts steps_since h'.known)
       → UnderWay b c format before next h'
-  goes going inside pass side is_own old full =
+  goes going inside pass side is_own late old full =
       let C = changes_after opened was is (note_by h.number (Played e o) x) h h' before.known U.own H U.changes in
       record {
         sizes = H.sizes ∙ U.sizes;
@@ -112,6 +112,7 @@ module _ (b : BoardId) (c : Command) (format : Format) (before : Part) (at : Pro
         is_own = subst (λ (p : ℕ). OwnAt p c next (own h.number (listed x) ++ U.own)) (sym H.number) is_own;
         opened = U.opened;
         since = begins_after opened was is (note_by h.number (Played e o) x) h h' before.known H (begins_changed h.number before.known h'.known (own h.number (listed x) ++ U.own) C) U.since;
+        late = late;
         old = old;
         full = full;
       }

@@ -59,7 +59,7 @@ module _ (shape : Shape) (p : ℕ) (format : Format) (c : Command) (rest : List 
       ∙ ap (λ a. told_with (Played Answer Done) (reply_in a) (told shape (since one.within))) at
       ∙ ap (λ l. told_with (Played Answer Done) (Some reply) l) (going one.within one.only (c, Answering reply) at)
 
-pub answers_told : (c : Command) (reply : Reply) (before after : Part) → Answers c reply before after
+pub answers_told : (F : Format) (c : Command) (reply : Reply) (before after : Part) → Answers F c reply before after
     → told (shape_of before.sizes) after.steps ≡ (c, Some reply) ∷ told (shape_of before.sizes) before.steps
-answers_told c reply before after a =
-    ap (told (shape_of before.sizes)) a.steps ∙ told_call (shape_of before.sizes) before.number a.format c before.steps reply a.new a.one_call
+answers_told F c reply before after a =
+    ap (told (shape_of before.sizes)) a.steps ∙ told_call (shape_of before.sizes) before.number F c before.steps reply a.new a.one_call

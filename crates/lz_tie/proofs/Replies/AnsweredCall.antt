@@ -170,19 +170,18 @@ module _ (b : BoardId) (c : Command) (format : Format) (before : Part) (reply : 
 
   -- The answer keeps what the table promises, on a file of the format with which the call began. In a set of one pass the trace
   -- is what the pass has seen, and each change its own.
-  pub answered : before.sizes ≡ b.sizes → (b.sizes.passes ≡ 1 → trace_of b.opened was ≡ h.known) → (b.sizes.passes ≡ 1 → OnlyOwn h.number b.opened now) → (answers : Answers c reply before after) × (answers.format ≡ format)
-  answered same alone own = (
-    record {
-      new = new;
-      steps = steps_now;
-      format = format;
-      one_call = subst (λ (q : Sizes × ℕ). IsOneCall (shape_of q.0) q.1 format c reply new) (λ i. (sym same i, under.number i)) is_call;
-      promises = subst (λ (q : Sizes × ℕ × Trace). Promises (shape_of q.0) q.1 format c reply after.pin new before.known q.2) (λ i. (sym same i, under.number i, sym knows_now i)) (kept alone);
-      lawful = subst (λ (q : Sizes × Trace). Lawful q.0.buckets q.0.slots q.1) (λ i. (sym same i, sym knows_now i)) law;
-      alone = λ one. subst (λ (q : ℕ × Trace). OnlyOwn q.0 before.known q.1) (λ i. (under.number i, sym knows_now i)) (changed_alone (own (sym (ap (λ (z : Sizes). z.passes) same) ∙ one)));
-    },
-    refl,
-  )
+  pub answered : before.sizes ≡ b.sizes → (b.sizes.passes ≡ 1 → trace_of b.opened was ≡ h.known) → (b.sizes.passes ≡ 1 → OnlyOwn h.number b.opened now) → Answers format c reply before after
+  answered same alone own =
+      record {
+        number = holds.number ∙ under.number;
+        new = new;
+        steps = steps_now;
+        one_call = subst (λ (q : Sizes × ℕ). IsOneCall (shape_of q.0) q.1 format c reply new) (λ i. (sym same i, under.number i)) is_call;
+        promises = subst (λ (q : Sizes × ℕ × Trace). Promises (shape_of q.0) q.1 format c reply after.pin new before.known q.2) (λ i. (sym same i, under.number i, sym knows_now i)) (kept alone);
+        lawful = subst (λ (q : Sizes × Trace). Lawful q.0.buckets q.0.slots q.1) (λ i. (sym same i, sym knows_now i)) law;
+        alone = λ one. subst (λ (q : ℕ × Trace). OnlyOwn q.0 before.known q.1) (λ i. (under.number i, sym knows_now i)) (changed_alone (own (sym (ap (λ (z : Sizes). z.passes) same) ∙ one)));
+        late = under.late;
+      }
 
   -- and the pass may make the next call
   pub idle_again : IsIdle b.sizes after

@@ -243,12 +243,12 @@ module _ (shape : Shape) (p : ℕ) (F : Format) (pin : ℕ) (new : List Note) (P
   plain_row (Remove k) Device h = cut p P Q only (Remove k) h
 
 pub one_caller : OneCallerIsPlain
-one_caller c told before after answers one =
+one_caller F c told before after answers one =
     let shape = shape_of before.sizes in
     let p = before.number in
     record {
-      old = both_ways (tells_old told) (is_old answers.format c)
-          (told_is_old shape p answers.format c told after.pin answers.new before.known after.known answers.promises)
-          (old_tells shape p answers.format c told answers.new answers.one_call);
-      row = plain_row shape p answers.format after.pin answers.new before.known after.known (answers.alone one) answers.lawful one c told answers.promises;
+      old = both_ways (tells_old told) (is_old F c)
+          (told_is_old shape p F c told after.pin answers.new before.known after.known answers.promises)
+          (old_tells shape p F c told answers.new answers.one_call);
+      row = plain_row shape p F after.pin answers.new before.known after.known (answers.alone one) answers.lawful one c told answers.promises;
     }

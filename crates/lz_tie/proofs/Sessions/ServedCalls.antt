@@ -20,7 +20,7 @@ use Rattle.lz_board.specs.Notes.{note_by, shape_of}
 use Rattle.lz_tie.specs.Answers.{Answers}
 use Rattle.lz_tie.specs.OneCaller.{IsPlainAnswer, PlainRow, keys_in}
 use Rattle.lz_tie.specs.OwnCalls.{told}
-use Rattle.lz_tie.specs.Sessions.{AnsweredCalls, Served, PlainRun, cuts_off, NoneCut, CutLast, AreOn, marks_alone}
+use Rattle.lz_tie.specs.Sessions.{AnsweredCalls, Served, PlainRun, cuts_off, NoneCut, CutLast, marks_alone}
 use Rattle.lz_tie.proofs.Marks.ToldCalls.{answers_told}
 use Rattle.lz_tie.proofs.Replies.OneCaller.{one_caller}
 use Rattle.lz_tie.proofs.Sessions.PlainRows.{LeadsTo, row_leaves, row_same, row_cut, leads_on, leads_cut, no_cut}
@@ -35,57 +35,33 @@ told_append [] calls rest = refl
 told_append (call ∷ done) calls rest = told_append done calls ((call.0, Some call.1) ∷ rest)
 
 -- its steps tell them
-pub served_told : (z : Sizes) (calls : AnsweredCalls) (old new : Part) → Served z calls old new → told (shape_of z) new.steps ≡ told_after calls (told (shape_of z) old.steps)
-served_told z [] old new is = ap (λ (h : Part). told (shape_of z) h.steps) is
-served_told z (call ∷ calls) old new (size, (mid, answers, rest)) =
-    served_told z calls mid new rest
-    ∙ ap (told_after calls) (subst (λ (z : Sizes). told (shape_of z) mid.steps ≡ (call.0, Some call.1) ∷ told (shape_of z) old.steps) size (answers_told call.0 call.1 old mid answers))
+pub served_told : (z : Sizes) (F : Format) (calls : AnsweredCalls) (old new : Part) → Served z F calls old new → told (shape_of z) new.steps ≡ told_after calls (told (shape_of z) old.steps)
+served_told z F [] old new is = ap (λ (h : Part). told (shape_of z) h.steps) is
+served_told z F (call ∷ calls) old new (size, (mid, answers, rest)) =
+    served_told z F calls mid new rest
+    ∙ ap (told_after calls) (subst (λ (z : Sizes). told (shape_of z) mid.steps ≡ (call.0, Some call.1) ∷ told (shape_of z) old.steps) size (answers_told F call.0 call.1 old mid answers))
 
 -- the first of them
-pub served_first : (z : Sizes) (done calls : AnsweredCalls) (old new : Part) → Served z (done ++ calls) old new → (mid : Part) × Served z done old mid × Served z calls mid new
-served_first z [] calls old new served = (old, refl, served)
-served_first z (call ∷ done) calls old new (size, (mid, answers, rest)) =
-    let r = served_first z done calls mid new rest in
+pub served_first : (z : Sizes) (F : Format) (done calls : AnsweredCalls) (old new : Part) → Served z F (done ++ calls) old new → (mid : Part) × Served z F done old mid × Served z F calls mid new
+served_first z F [] calls old new served = (old, refl, served)
+served_first z F (call ∷ done) calls old new (size, (mid, answers, rest)) =
+    let r = served_first z F done calls mid new rest in
     (r.0, (size, (mid, answers, r.1)), r.2)
 
--- where all steps are over one format, so are the earlier ones, and the newer ones
-are_older : (F : Format) (newer older : List Note) → AreOn F (newer ++ older) → AreOn F older
-are_older F [] older are = are
-are_older F (n ∷ newer) older are = are_older F newer older are.1
-
-are_newer : (F : Format) (newer older : List Note) → AreOn F (newer ++ older) → AreOn F newer
-are_newer F [] older are = tt
-are_newer F (n ∷ newer) older are = (are.0, are_newer F newer older are.1)
-
-pub served_on : (z : Sizes) (F : Format) (calls : AnsweredCalls) (old new : Part) → Served z calls old new → AreOn F new.steps → AreOn F old.steps
-served_on z F [] old new is are = subst (λ (h : Part). AreOn F h.steps) is are
-served_on z F (call ∷ calls) old new (size, (mid, answers, rest)) are =
-    are_older F answers.new old.steps (subst (AreOn F) answers.steps (served_on z F calls mid new rest are))
-
--- and so is an answered call
-answer_on : (F : Format) (c : Command) (reply : Reply) (old mid : Part) (answers : Answers c reply old mid) → AreOn F mid.steps → answers.format ≡ F
-answer_on F c reply old mid answers are =
-    let call = answers.one_call in
-    let last = note_by old.number (Called c answers.format) None ∷ [] in
-    let new : AreOn F answers.new = are_newer F answers.new old.steps (subst (AreOn F) answers.steps are) in
-    let all : AreOn F (note_by old.number (Played Answer Done) None ∷ (call.within ++ last)) = subst (AreOn F) call.steps new in
-    let first : AreOn F last = are_older F call.within last all.1 in
-    first.0
-
 -- each answer is the plain set's
-pub plain_answer : (z : Sizes) (F : Format) (c : Command) (reply : Reply) (old mid : Part) → z.passes ≡ 1 → old.sizes ≡ z → Answers c reply old mid → AreOn F mid.steps
+pub plain_answer : (z : Sizes) (F : Format) (c : Command) (reply : Reply) (old mid : Part) → z.passes ≡ 1 → old.sizes ≡ z → Answers F c reply old mid
     → IsPlainAnswer F z.slots c reply (keys_in old.known) (keys_in mid.known)
-plain_answer z F c reply old mid one size answers are =
-    subst (λ (x : Format × Sizes). IsPlainAnswer x.0 x.1.slots c reply (keys_in old.known) (keys_in mid.known)) (λ i. (answer_on F c reply old mid answers are i, size i))
-    (one_caller c reply old mid answers (ap (λ (z : Sizes). z.passes) size ∙ one))
+plain_answer z F c reply old mid one size answers =
+    subst (λ (y : Sizes). IsPlainAnswer F y.slots c reply (keys_in old.known) (keys_in mid.known)) size
+    (one_caller F c reply old mid answers (ap (λ (z : Sizes). z.passes) size ∙ one))
 
 -- and so are they all
-pub plain_served : (z : Sizes) (F : Format) → z.passes ≡ 1 → (calls : AnsweredCalls) (old new : Part) → Served z calls old new → AreOn F new.steps → PlainRun F z.slots calls (keys_in old.known) (keys_in new.known)
-plain_served z F one [] old new is are = λ k. ap (λ (h : Part). keys_in h.known k) is
-plain_served z F one (call ∷ calls) old new (size, (mid, answers, rest)) are = (
+pub plain_served : (z : Sizes) (F : Format) → z.passes ≡ 1 → (calls : AnsweredCalls) (old new : Part) → Served z F calls old new → PlainRun F z.slots calls (keys_in old.known) (keys_in new.known)
+plain_served z F one [] old new is = λ k. ap (λ (h : Part). keys_in h.known k) is
+plain_served z F one (call ∷ calls) old new (size, (mid, answers, rest)) = (
   keys_in mid.known,
-  plain_answer z F call.0 call.1 old mid one size answers (served_on z F calls mid new rest are),
-  plain_served z F one calls mid new rest are,
+  plain_answer z F call.0 call.1 old mid one size answers,
+  plain_served z F one calls mid new rest,
 )
 
 -- A history of the pass's calls alone, of which none was cut off: they have ended one after the other.
@@ -123,12 +99,12 @@ module _ (p : ℕ) where
         leads_on S0 (suc (length rest)) p c (marks_alone p rest) (keys_in old.known) past reply T none plain k
         ∙ sym (row_leaves z.slots c reply (keys_in old.known) (keys_in mid.known) none answer.row k)
 
-    pub leads_after : (calls : AnsweredCalls) (rest : List (Command × Option Reply)) (old new : Part) → NoneCut calls → Served z calls old new → AreOn F new.steps
+    pub leads_after : (calls : AnsweredCalls) (rest : List (Command × Option Reply)) (old new : Part) → NoneCut calls → Served z F calls old new
         → LeadsTo S0 (marks_alone p rest) (keys_in old.known) → LeadsTo S0 (marks_alone p (told_after calls rest)) (keys_in new.known)
-    leads_after [] rest old new none is are past = subst (λ (h : Part). LeadsTo S0 (marks_alone p rest) (keys_in h.known)) (sym is) past
-    leads_after (call ∷ calls) rest old new none (size, (mid, answers, later)) are past =
-        leads_after calls ((call.0, Some call.1) ∷ rest) mid new none.1 later are
-        (leads_more call.0 call.1 rest old mid none.0 (plain_answer z F call.0 call.1 old mid one size answers (served_on z F calls mid new later are)) past)
+    leads_after [] rest old new none is past = subst (λ (h : Part). LeadsTo S0 (marks_alone p rest) (keys_in h.known)) (sym is) past
+    leads_after (call ∷ calls) rest old new none (size, (mid, answers, later)) past =
+        leads_after calls ((call.0, Some call.1) ∷ rest) mid new none.1 later
+        (leads_more call.0 call.1 rest old mid none.0 (plain_answer z F call.0 call.1 old mid one size answers) past)
 
     -- the last call, cut off or not
     plain_last : (c : Command) (reply : Reply) (rest : List (Command × Option Reply)) (old mid : Part) (T : Keys) → IsPlainAnswer F z.slots c reply (keys_in old.known) (keys_in mid.known)
@@ -149,17 +125,17 @@ module _ (p : ℕ) where
         whole none = row_same z.slots c reply S (keys_in mid.known) T none answer.row (leads_on S0 (suc (length rest)) p c M S past reply T none plain)
 
     -- so the calls lead the plain set there
-    pub plain_to : (calls : AnsweredCalls) (rest : List (Command × Option Reply)) (old new : Part) (T : Keys) → CutLast calls → Served z calls old new → AreOn F new.steps
+    pub plain_to : (calls : AnsweredCalls) (rest : List (Command × Option Reply)) (old new : Part) (T : Keys) → CutLast calls → Served z F calls old new
         → LeadsTo S0 (marks_alone p rest) (keys_in old.known) → IsPlain S0 (marks_alone p (told_after calls rest)) T → PlainRun F z.slots calls (keys_in old.known) T
-    plain_to [] rest old new T cut is are past plain = past T plain
-    plain_to (call ∷ []) rest old new T cut (size, (mid, answers, later)) are past plain = (
+    plain_to [] rest old new T cut is past plain = past T plain
+    plain_to (call ∷ []) rest old new T cut (size, (mid, answers, later)) past plain = (
       T,
-      plain_last call.0 call.1 rest old mid T (plain_answer z F call.0 call.1 old mid one size answers (served_on z F [] mid new later are)) past plain,
+      plain_last call.0 call.1 rest old mid T (plain_answer z F call.0 call.1 old mid one size answers) past plain,
       λ k. refl,
     )
-    plain_to (call ∷ next ∷ calls) rest old new T cut (size, (mid, answers, later)) are past plain =
-        let answer = plain_answer z F call.0 call.1 old mid one size answers (served_on z F (next ∷ calls) mid new later are) in (
+    plain_to (call ∷ next ∷ calls) rest old new T cut (size, (mid, answers, later)) past plain =
+        let answer = plain_answer z F call.0 call.1 old mid one size answers in (
           keys_in mid.known,
           answer,
-          plain_to (next ∷ calls) ((call.0, Some call.1) ∷ rest) mid new T cut.1 later are (leads_more call.0 call.1 rest old mid cut.0 answer past) plain,
+          plain_to (next ∷ calls) ((call.0, Some call.1) ∷ rest) mid new T cut.1 later (leads_more call.0 call.1 rest old mid cut.0 answer past) plain,
         )

@@ -32,13 +32,13 @@ module _ (b : BoardId) (F : Format) (ns : List Note) (calls : AnsweredCalls) (be
   pub session_marks : marks_in (shape_of b.sizes) ns ≡ marks_alone after.number (told_after calls [])
   session_marks =
       session.tells
-      ∙ ap (marks_alone after.number) (served_told b.sizes calls before after session.served)
+      ∙ ap (marks_alone after.number) (served_told b.sizes F calls before after session.served)
       ∙ ap (λ l. marks_alone after.number (told_after calls (told (shape_of b.sizes) l))) session.no_steps
 
   session_plain : PlainRun F b.sizes.slots calls (members_of b.opened) (members_of after.known)
   session_plain =
       subst (λ (P : Trace). PlainRun F b.sizes.slots calls (keys_in P) (keys_in after.known)) session.known
-      (plain_served b.sizes F session.alone calls before after session.served session.format)
+      (plain_served b.sizes F session.alone calls before after session.served)
 
   module _ (t : List ℕ) (explains : Explains b ns t) where
     plain : IsPlain (members_of b.opened) (marks_alone after.number (told_after calls [])) explains.found
@@ -49,12 +49,12 @@ module _ (b : BoardId) (F : Format) (ns : List Note) (calls : AnsweredCalls) (be
     held_run : PlainRun F b.sizes.slots calls (members_of b.opened) explains.found
     held_run =
         subst (λ (P : Trace). PlainRun F b.sizes.slots calls (keys_in P) explains.found) session.known
-        (plain_to after.number b.sizes F session.alone (members_of b.opened) calls [] before after explains.found session.cut session.served session.format
+        (plain_to after.number b.sizes F session.alone (members_of b.opened) calls [] before after explains.found session.cut session.served
         (leads_none after.number b.opened before session.known) plain)
 
     held_whole : NoneCut calls → Same explains.found (members_of after.known)
     held_whole none =
-        leads_after after.number b.sizes F session.alone (members_of b.opened) calls [] before after none session.served session.format
+        leads_after after.number b.sizes F session.alone (members_of b.opened) calls [] before after none session.served
         (leads_none after.number b.opened before session.known) explains.found plain
 
 pub session_is_plain : SessionIsPlain

@@ -22,9 +22,9 @@ use Rattle.lz_tie.specs.Marks.{marks_with, marks_in}
 use Rattle.lz_tie.specs.Moments.{ExplainsBegun}
 use Rattle.lz_tie.specs.OneCaller.{keys_in}
 use Rattle.lz_tie.specs.RunningSets.{members_of, Explains}
-use Rattle.lz_tie.specs.Sessions.{AnsweredCalls, Served, PlainRun, NoneCut, CutLast, AreOn, marks_alone, IsSession, MayHaveNext, HoldsAfterSome, MomentsArePlain}
+use Rattle.lz_tie.specs.Sessions.{AnsweredCalls, Served, PlainRun, NoneCut, CutLast, marks_alone, IsSession, MayHaveNext, HoldsAfterSome, MomentsArePlain}
 use Rattle.lz_tie.proofs.Sessions.PlainRows.{LeadsTo, leads_open}
-use Rattle.lz_tie.proofs.Sessions.ServedCalls.{told_after, served_first, served_on, plain_served, Whole, whole_none, whole_after, fits_plain, leads_after, plain_to}
+use Rattle.lz_tie.proofs.Sessions.ServedCalls.{told_after, served_first, plain_served, Whole, whole_none, whole_after, fits_plain, leads_after, plain_to}
 use Rattle.lz_tie.proofs.Sessions.SessionEnd.{leads_none, session_marks}
 
 -- the marks of a beginning of the notes end those of all
@@ -111,11 +111,8 @@ module _ (b : BoardId) (F : Format) (ns : List Note) (calls : AnsweredCalls) (be
     cut : CutLast (done ++ left)
     cut = subst CutLast splits session.cut
 
-    parts : (mid : Part) × Served b.sizes done before mid × Served b.sizes left mid after
-    parts = served_first b.sizes done left before after (subst (λ l. Served b.sizes l before after) splits session.served)
-
-    on : AreOn F parts.0.steps
-    on = served_on b.sizes F left parts.0 after parts.2 session.format
+    parts : (mid : Part) × Served b.sizes F done before mid × Served b.sizes F left mid after
+    parts = served_first b.sizes F done left before after (subst (λ l. Served b.sizes F l before after) splits session.served)
 
     fits : (M : History) → marks_in (shape_of b.sizes) begun.before ≡ M → Fits S0 M e.calls e.found
     fits M is = subst (λ M. Fits S0 M e.calls e.found) is e.fits
@@ -133,7 +130,7 @@ module _ (b : BoardId) (F : Format) (ns : List Note) (calls : AnsweredCalls) (be
           rest = left;
           splits = splits;
           ends = e.found;
-          run = subst (λ (P : Trace). PlainRun F b.sizes.slots done (keys_in P) e.found) session.known (plain_to p b.sizes F session.alone S0 done [] before parts.0 e.found last parts.1 on first plain);
+          run = subst (λ (P : Trace). PlainRun F b.sizes.slots done (keys_in P) e.found) session.known (plain_to p b.sizes F session.alone S0 done [] before parts.0 e.found last parts.1 first plain);
           found = e.found;
           next = no_next left e.found;
           holds = e.holds;
@@ -145,14 +142,14 @@ module _ (b : BoardId) (F : Format) (ns : List Note) (calls : AnsweredCalls) (be
         let none = none_before done (c, reply) more (subst (λ l. CutLast (done ++ l)) next cut) in
         let rest = told_after done [] in
         let whole : Whole p rest = whole_after p done [] none (whole_none p) in
-        let past : LeadsTo S0 (marks_alone p rest) (keys_in parts.0.known) = leads_after p b.sizes F session.alone S0 done [] before parts.0 none parts.1 on first in
+        let past : LeadsTo S0 (marks_alone p rest) (keys_in parts.0.known) = leads_after p b.sizes F session.alone S0 done [] before parts.0 none parts.1 first in
         let plain = served_open (suc (length rest)) p c (marks_alone p rest) S0 e.calls e.found whole.ended whole.clean (fits (marks_alone p ((c, None) ∷ rest)) is) in
         record {
           done = done;
           rest = left;
           splits = splits;
           ends = keys_in parts.0.known;
-          run = subst (λ (P : Trace). PlainRun F b.sizes.slots done (keys_in P) (keys_in parts.0.known)) session.known (plain_served b.sizes F session.alone done before parts.0 parts.1 on);
+          run = subst (λ (P : Trace). PlainRun F b.sizes.slots done (keys_in P) (keys_in parts.0.known)) session.known (plain_served b.sizes F session.alone done before parts.0 parts.1);
           found = e.found;
           next = subst (λ l. MayHaveNext l (keys_in parts.0.known) e.found) (sym next) (leads_open S0 (suc (length rest)) p c (marks_alone p rest) (keys_in parts.0.known) past e.found plain);
           holds = e.holds;

@@ -1,9 +1,7 @@
 use Rattle.std.proofs.Common.{inl, inr, refl, sym, ap, ◌∙◌}
 use Rattle.lz_board.specs.declared.view.Sizes.{Sizes}
-use Rattle.lazyset_commands.specs.PlainReplies.{PassMayAnswer}
-use Rattle.lazyset_commands.specs.Runs.{FoundAfter}
-use Rattle.lazyset_commands.proofs.Openings.{failed_open, refused_leaves}
-use Rattle.lazyset_commands.proofs.Runs.LeftSets.{seat_faults, seat_set, seat_plain, seat_leaves}
+use Rattle.lazyset_commands.proofs.Openings.{failed_open}
+use Rattle.lazyset_commands.proofs.Runs.LeftSets.{seat_faults, seat_set, seat_plain}
 use Rattle.lazyset_commands.proofs.running.run_on.Goals as goal
 
 pub run_blank-requires-clause-one : goal.run_blank-requires-clause-one
@@ -23,23 +21,15 @@ returns-in-Ok-clause-faults g c = seat_faults g.D.Disk.device c.args.buckets _ _
 pub returns-in-Ok-clause-set : goal.returns-in-Ok-clause-set
 returns-in-Ok-clause-set g c = λ N S honest held.
     inl (seat_set g.D.Disk.device c.args.buckets _ _ _ _ _ c.args.disk _
-    (record { opened = c.in-Ok.blank; opens = c.in-Ok.ensures.ok; sizes = c.in-Ok.ensures.board.0; trace = c.in-Ok.ensures.board.1; served = c.run_blank.ensures }) N S honest held)
+    (record { opened = c.in-Ok.blank; opens = c.in-Ok.ensures.ok; sizes = c.in-Ok.ensures.board.0; trace = c.in-Ok.ensures.board.1; served = c.run_blank.ensures }) N S honest held (g.met.D.Disk.timely c.args.disk honest))
 
 pub returns-in-Ok-clause-plain : goal.returns-in-Ok-clause-plain
 returns-in-Ok-clause-plain g c = λ N S honest held is.
     seat_plain g.D.Disk.device c.args.buckets _ _ _ _ _ c.args.disk _
     (record { opened = c.in-Ok.blank; opens = c.in-Ok.ensures.ok; sizes = c.in-Ok.ensures.board.0; trace = c.in-Ok.ensures.board.1; served = c.run_blank.ensures }) N S honest held (sym is)
 
-pub returns-in-Ok-clause-any_moment : goal.returns-in-Ok-clause-any_moment
-returns-in-Ok-clause-any_moment g c = λ N S honest held.
-    seat_leaves g.D.Disk.device c.args.buckets _ _ _ _ _ c.args.disk _
-    (record { opened = c.in-Ok.blank; opens = c.in-Ok.ensures.ok; sizes = c.in-Ok.ensures.board.0; trace = c.in-Ok.ensures.board.1; served = c.run_blank.ensures }) N S honest held (g.met.D.Disk.timely c.args.disk honest)
-
 pub returns-in-Err-clause-ran : goal.returns-in-Err-clause-ran
 returns-in-Err-clause-ran g c = inr (record { fault = _; refused = c.in-Err.ensures.err; unread = refl; told = c.refuse.ensures.told })
 
 pub returns-in-Err-clause-set : goal.returns-in-Err-clause-set
-returns-in-Err-clause-set g c = λ N S honest held. inr (failed_open _ _ _ c.in-Err.ensures.err _ _ _ N S honest held c.refuse.ensures.told)
-
-pub returns-in-Err-clause-any_moment : goal.returns-in-Err-clause-any_moment
-returns-in-Err-clause-any_moment g c = λ N S honest held. refused_leaves _ _ _ c.in-Err.ensures.err _ (λ items t. FoundAfter (PassMayAnswer _ N) N S items t) honest (g.met.D.Disk.timely c.args.disk honest)
+returns-in-Err-clause-set g c = λ N S honest held. inr (failed_open _ _ _ c.in-Err.ensures.err _ _ _ N S honest (g.met.D.Disk.timely c.args.disk honest) held c.refuse.ensures.told)

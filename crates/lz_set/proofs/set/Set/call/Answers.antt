@@ -11,7 +11,7 @@ answer-requires-clause-counted g c = (c.args.command, g.N.Named.format, part c.a
 pub returns-in-Some-reply-clause-answers : goal.returns-in-Some-reply-clause-answers
 returns-in-Some-reply-clause-answers g c =
     let at_hand = c.requires.pass.0.2 in
-    subst (λ (r : Reply). Answers c.args.command r (part c.args.pass.now) (part c.answer.new.pass)) (sym c.answer_of.ensures)
+    subst (λ (r : Reply). Answers g.N.Named.format c.args.command r (part c.args.pass.now) (part c.answer.new.pass)) (sym c.answer_of.ensures)
     (c.answer.ensures.answers c.args.command g.N.Named.format (part c.args.pass.now) at_hand.sized c.loop.invariant.counts)
 
 pub go_on-kept-requires-clause-counted : goal.go_on-kept-requires-clause-counted

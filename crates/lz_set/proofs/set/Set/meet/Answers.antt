@@ -2,6 +2,7 @@ use Rattle.std.proofs.Common.{◌≡◌, inl, sym, ap, ◌∙◌, subst}
 use Rattle.lz_list.specs.Traces.{Trace, Begins}
 use Rattle.lz_list.proofs.Traces.Absence.{begins_itself}
 use Rattle.lz_board.specs.declared.view.Part.{Part}
+use Rattle.lz_board.specs.Plays.{knowing}
 use Rattle.lz_board.specs.Seats.{part}
 use Rattle.lz_board.proofs.Upkeep.Growth.{begins_of}
 use Rattle.lz_set.proofs.set.Set.meet.Goals as goal
@@ -20,4 +21,6 @@ returns-clause-met g c =
       other_one = from_other;
       other_other = subst (Begins (part c.args.other.now).known) (sym same) from_other;
       alike = inl (subst (λ (P : Trace). Begins seen P) (sym same) (begins_itself seen));
+      one_kept = c.meet.ensures.part_one;
+      other_kept = c.meet.ensures.part_other ∙ ap (λ (P : Trace). knowing P (part c.args.other.now)) (sym same);
     }

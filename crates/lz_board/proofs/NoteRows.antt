@@ -1,0 +1,19 @@
+-- Worked rows: whose a change is that was published.
+use Rattle.std.proofs.Common.{◌≡◌, [], ◌∷◌, refl}
+use Rattle.lz_list.specs.declared.publishing.Publishing.TheVariants.{Linked as linked, Marked as marked, Unlinked as unlinked}
+use Rattle.lz_list.specs.Traces.{Trace}
+use Rattle.lz_board.specs.Notes.{own}
+
+-- pass 1 linked key 12 in slot 0, and pass 2 took it out
+abbrev published : Trace
+published = unlinked 12 0 2 ∷ marked 12 0 2 ∷ linked 12 0 1 ∷ []
+
+own_of_adder : own 1 published ≡ linked 12 0 1 ∷ []
+own_of_adder = refl
+
+own_of_remover : own 2 published ≡ unlinked 12 0 2 ∷ marked 12 0 2 ∷ []
+own_of_remover = refl
+
+-- an unlinking isn't that of the pass that linked the node
+not_of_adder : own 1 published ≡ published → ⊥
+not_of_adder is = absurd cc

@@ -1,0 +1,124 @@
+-- Sessions of a seat, which remembers whether it has ever replied that the service halted.
+use Rattle.std.proofs.Common.{◌≡◌, ℕ, All, Bool, true, false, ◌||◌, List, Option, Some, Result, Ok, Err, refl, sym, ◌∙◌, subst}
+use mathlib.Core.Bool.{true≢false}
+use Rattle.std.proofs.lemmas.List.Elements.{All-cons, All-same}
+use Rattle.lz_slot.specs.declared.command.Command.{Command}
+use Rattle.lz_slot.specs.declared.command.Command.TheVariants as command
+use Rattle.lz_slot.specs.declared.format.Format.{Format}
+use Rattle.lz_list.specs.Traces.{Trace, halt_word}
+use Rattle.lz_machine.specs.declared.event.Reply.{Reply as Given}
+use Rattle.lz_machine.specs.declared.event.Reply.TheVariants as given
+use Rattle.lz_machine.specs.Yards.{Shape}
+use Rattle.lz_proto.specs.declared.request.Request.{Request}
+use Rattle.lz_proto.specs.declared.reply.Reply.{Reply}
+use Rattle.lz_proto.specs.declared.reply.Reply.TheVariants as reply
+use Rattle.lz_proto.specs.declared.fault.SessionFault.{SessionFault}
+use Rattle.lz_proto.specs.declared.end.End.{End}
+use Rattle.lz_proto.specs.Sessions.{SessionTells}
+use Rattle.lz_board.specs.declared.pass.Pass.{Pass}
+use Rattle.lz_board.specs.declared.view.Note.{Note}
+use Rattle.lz_board.specs.declared.view.Part.{Part}
+use Rattle.lz_board.specs.declared.view.Sizes.{Sizes}
+use Rattle.lz_board.specs.Glances.{Changes}
+use Rattle.lz_board.specs.Notes.{Extends, shape_of}
+use Rattle.lz_board.specs.Seats.{BoardId, part}
+use Rattle.lz_set.specs.declared.fault.Fault.{Fault}
+use Rattle.lz_set.specs.declared.fault.Fault.TheVariants as fault
+use Rattle.lz_set.specs.Answers.{reply_of as given_of}
+use Rattle.lz_tie.specs.Answers.{Answers, Promises}
+use Rattle.lz_tie.specs.OwnCalls.{told}
+use Rattle.lz_tie.specs.Sessions.{cuts_off}
+use Rattle.lz_tie.proofs.Marks.ToldCalls.{answers_told}
+use Rattle.lz_serve.specs.Halts.{IsCalm, was_cut}
+use Rattle.lz_serve.specs.Replies.{SeatAnswers, reply_of, says_halted}
+use Rattle.lz_serve.proofs.Halting.{answer_word, halt_extended}
+use Rattle.lz_serve.proofs.Kept.{session_keeps}
+use Rattle.lz_serve.proofs.Mapped.{known_session}
+
+-- an answer of which a client isn't told that the service halted doesn't cut its call off
+uncut : (answer : Result Bool Fault) → says_halted (reply_of answer) ≡ false → cuts_off (given_of answer) ≡ false
+uncut (Ok true) is = refl
+uncut (Ok false) is = refl
+uncut (Err (fault.Full counts)) is = refl
+uncut (Err fault.Worn) is = refl
+uncut (Err fault.OldFile) is = refl
+uncut (Err fault.Halted) is = absurd (true≢false is)
+uncut (Err fault.Device) is = absurd (true≢false is)
+
+-- so the pass stays calm
+calm_after : (F : Format) (c : Command) (answer : Result Bool Fault) (old new : Part) → Answers F c (given_of answer) old new → new.sizes ≡ old.sizes → says_halted (reply_of answer) ≡ false → IsCalm old → IsCalm new
+calm_after F c answer old new answers sized quiet calm =
+    let P = λ (call : Command × Option Given). was_cut call.1 ≡ false in
+    let newest : All P (told (shape_of old.sizes) new.steps) =
+    All-same P _ _ (answers_told F c (given_of answer) old new answers) (All-cons P (c, Some (given_of answer)) (told (shape_of old.sizes) old.steps) (uncut answer quiet) calm) in
+    subst (λ (z : Sizes). All P (told (shape_of z) new.steps)) (sym sized) newest
+
+-- what a pass has seen after a call goes on from what it had seen
+changed : {p : ℕ} {P Q own : Trace} → Changes p P Q own → Extends Q P
+changed h = (h.since, h.goes_on)
+
+promised : (shape : Shape) (p : ℕ) (F : Format) (c : Command) (r : Given) (pin : ℕ) (new : List Note) (P Q : Trace) → Promises shape p F c r pin new P Q → Extends Q P
+promised shape p F (command.Has k) given.Yes pin new P Q h = changed h.1
+promised shape p F (command.Has k) given.No pin new P Q h = changed h.1
+promised shape p F (command.Add k) given.Yes pin new P Q h = changed h.changes
+promised shape p F (command.Add k) given.No pin new P Q h = changed h.1
+promised shape p F (command.Remove k) given.Yes pin new P Q h = changed h.changes
+promised shape p F (command.Remove k) given.No pin new P Q h = changed h.1
+promised shape p F (command.Add k) (given.Full counts) pin new P Q h = changed h.changes
+promised shape p F (command.Remove k) (given.Full counts) pin new P Q h = absurd h
+promised shape p F (command.Has k) (given.Full counts) pin new P Q h = absurd h
+promised shape p F c given.Worn pin new P Q h = changed h.1
+promised shape p F c given.OldFile pin new P Q h = changed h.1
+promised shape p F c given.Halted pin new P Q h = changed h.changes
+promised shape p F c given.Device pin new P Q h = changed h.changes
+
+module _ (b : BoardId) (F : Format) (old new : Pass) (request : Request) (r : Reply) (answers : SeatAnswers b F old request r new) where
+  -- a pass that has seen the halt still has after its answer
+  pub saw_before : halt_word (part old).known ≡ 1 → halt_word (part new).known ≡ 1
+  saw_before seen = halt_extended (part old).known (part new).known (promised _ _ _ answers.c (given_of answers.answer) _ _ _ _ answers.call.promises) seen
+
+  -- and so has one that was answered so
+  pub saw_now : says_halted r ≡ true → halt_word (part new).known ≡ 1
+  saw_now says = told_so r answers.told says
+    where
+      told_so : (s : Reply) → s ≡ reply_of answers.answer → says_halted s ≡ true → halt_word (part new).known ≡ 1
+      told_so reply.Halted told says = answer_word F answers.c answers.answer (part old) (part new) told answers.call
+      told_so s told says = absurd (true≢false (sym says))
+
+pub or_true : (a b : Bool) → b ≡ true → true ≡ (a || b)
+or_true true b is = refl
+or_true false b is = sym is
+
+pub or_false : (a b : Bool) → b ≡ false → a ≡ (a || b)
+or_false true b is = refl
+or_false false b is = sym is
+
+neither : (a b : Bool) → (a || b) ≡ false → (a ≡ false) × (b ≡ false)
+neither true b is = absurd (true≢false is)
+neither false b is = (refl, is)
+
+module _ {X : Type 0} (pass_of : X → Pass) (halted_of : X → Bool) (b : BoardId) (F : Format) where
+  abbrev pub seat_answers : X → Request → Reply → X → Type 0
+  seat_answers old request reply new = SeatAnswers b F (pass_of old) request reply (pass_of new) × (halted_of new ≡ (halted_of old || says_halted reply))
+
+  -- the session of a seat is one of its pass
+  pub seat_session : (input after : Option (List ℕ)) (old new : X) (p q : Pass) (r : Result End SessionFault) (written : List ℕ) → pass_of old ≡ p → pass_of new ≡ q
+      → SessionTells seat_answers input after old new written r → SessionTells (SeatAnswers b F) input after p q written r
+  seat_session = known_session pass_of seat_answers (SeatAnswers b F) (λ old request reply new so. so.0)
+
+  -- it was not told of a halt before, and stays calm
+  abbrev KeepsCalm : X → X → Type 0
+  KeepsCalm old new = halted_of new ≡ false → (halted_of old ≡ false) × (IsCalm (part (pass_of old)) → IsCalm (part (pass_of new)))
+
+  answer_keeps : (old : X) (request : Request) (r : Reply) (new : X) → (part (pass_of new)).sizes ≡ b.sizes → seat_answers old request r new → KeepsCalm old new
+  answer_keeps old request r new sized so quiet =
+      let are = neither (halted_of old) (says_halted r) (sym so.1 ∙ quiet) in
+      let not_told : says_halted (reply_of so.0.answer) ≡ false = subst (λ (s : Reply). says_halted s ≡ false) so.0.told are.1 in
+      (are.0, calm_after F so.0.c so.0.answer (part (pass_of old)) (part (pass_of new)) so.0.call (sized ∙ sym so.0.sized) not_told)
+
+  -- a pass stays calm over a session after which its seat has never replied that the service halted
+  pub calm_session : ((x : X) → (part (pass_of x)).sizes ≡ b.sizes) → (input after : Option (List ℕ)) (old new : X) (r : Result End SessionFault) (written : List ℕ)
+      → SessionTells seat_answers input after old new written r → halted_of new ≡ false → IsCalm (part (pass_of old)) → IsCalm (part (pass_of new))
+  calm_session sized input after old new r written tells quiet =
+      (session_keeps seat_answers KeepsCalm (λ x still. (still, λ calm. calm)) (λ x y z first last still. let l = last still in let f = first l.0 in (f.0, λ calm. l.1 (f.1 calm)))
+      (λ o request reply n. answer_keeps o request reply n (sized n)) input after old new r written tells quiet).1
