@@ -5,3 +5,4 @@ pub mod SightChanges
 pub mod LeftSlots
 pub mod UseCounts
 pub mod CallEffects
+mod OutsideRows

@@ -2,3 +2,4 @@ pub mod Runs
 pub mod Callers
 pub mod Members
 pub mod Opens
+mod TripRows
