@@ -2,6 +2,7 @@
 use Rattle.std.proofs.Common.{◌≡◌, ◌≢◌, ⊎_elim, ℕ, suc, ◌≤◌, ◌<◌, Bool, true, false, List, [], ◌++◌, map, length, refl, sym, ap, ◌∙◌, subst, arith, eq-eqb, ne_eqb}
 use mathlib.Core.Bool.{false≢true}
 use Rattle.std.specs.Prelude.{is_some, if◌then◌else◌, Option, Some, None, IfSome}
+use Rattle.std.proofs.lemmas.Bool.{not-true}
 use Rattle.lz_slot.proofs.Counted.{of_pass_same, length-set_of_pass}
 use Rattle.lz_disk.specs.Devices.{Device}
 use Rattle.lz_allot.specs.Uses.{Taken, use_of}
@@ -23,6 +24,7 @@ use Rattle.lz_machine.specs.Calls.{event_at}
 use Rattle.lz_machine.specs.Orders.{Calling, HasPass}
 use Rattle.lz_machine.specs.Ready.{IsEventOf, IsReadyFor}
 use Rattle.lz_machine.specs.Runs.{MayPlay, with_words}
+use Rattle.lz_machine.proofs.Frames.Outside.{answered_pin, worn_out}
 use Rattle.lz_machine.proofs.Runs.EventRange.{is_event}
 use Rattle.lz_machine.proofs.Theorem.Readiness.{is_invoke, ready, plays_needs}
 use Rattle.lz_yard.specs.declared.told.Told.{Told}
@@ -39,7 +41,6 @@ use Rattle.lz_board.specs.Plays.{noted, noted_part, moved_part, found_note}
 use Rattle.lz_board.specs.Seats.{BoardId}
 use Rattle.lz_board.proofs.Upkeep.Splice.{trace_splice, pin_splice}
 use Rattle.lz_board.proofs.Upkeep.PartUpkeep.{trace_noted, knows_noted, knows_moved, told_own}
-use Rattle.lz_machine.proofs.Frames.Outside.{answered_pin, worn_out}
 use Rattle.lz_tie.specs.declared.playing.Exchange.{Exchange}
 use Rattle.lz_tie.specs.NotedRuns.{AreNext, SameButAllPins, IsTied, seen_event}
 use Rattle.lz_tie.specs.Holds.{sizes_of, IsLocked, InHold, IsTurn, SeesPin, Turned, IsExchange, Holds}
@@ -51,7 +52,6 @@ use Rattle.lz_tie.proofs.Reading.StandingCall.{still_calling}
 use Rattle.lz_tie.proofs.Hold.OneWord.{IsWalked, line_others, line_own, pin_changed, counting_silent}
 use Rattle.lz_tie.proofs.Hold.NoteCondition.{listed_is, listed_none, alike_tied, tied_loose, tied_held, tied_shared, noting_writes, noting_nothing, noting_lawful}
 use Rattle.lz_tie.proofs.Hold.NextStep as holding
-use Rattle.std.proofs.lemmas.Bool.{not-true}
 
 module _ (b : BoardId) (ns : List Note) (y : Yard) (dev : Device) (h : Part) (hold : InHold b ns y dev h) (c : Calling) (e : Event) (turn : IsTurn ns h c e) where
   abbrev a : ℕ

@@ -21,6 +21,7 @@ use Rattle.lz_machine.specs.declared.event.Outcome.TheVariants.{Done, Worn, NotN
 use Rattle.lz_machine.specs.Yards.{Shape, Yard, actor_at}
 use Rattle.lz_machine.specs.Table.{course, line, line_on, words_after, pin_of, last_pin, is_sure, stays_out, needs, pin_answered}
 use Rattle.lz_machine.specs.Runs.{Start, IsStart, State, Up, Down, Service, Caller, Transition, Calls, Turn, Fails, Looks, Trips, Stops, Crashes, CrashesIn, Opens, OpenFails, Point, run, IsRun, MayStep, first_point, caller_at, next_event, state_after, after_turn, after_fault, looked}
+use Rattle.lz_machine.proofs.Runs.Course.{answer_plays}
 use Rattle.lz_machine.proofs.Theorem.Reached.{reached_sound}
 use Rattle.lz_machine.proofs.Theorem.WornPass.{up_at}
 use Rattle.lz_machine.proofs.Frames.OneActor.{caller_range}
@@ -29,7 +30,6 @@ use Rattle.lz_board.specs.declared.view.What.{What}
 use Rattle.lz_board.specs.declared.view.What.TheVariants.{Called, Played, Found}
 use Rattle.lz_board.specs.declared.view.Note.{Note}
 use Rattle.lz_board.specs.Notes.{pin_after_played, pin_after_what, pin_after}
-use Rattle.lz_machine.proofs.Runs.Course.{answer_plays}
 use Rattle.lz_tie.specs.NotedRuns.{TellsTurn, TellsFault, TellsStep, TellsOne, TellsOf, ReadsAs}
 use Rattle.lz_tie.proofs.Reading.CallPlaces.{place_reads, run_before}
 
