@@ -19,11 +19,14 @@ finding_text (Key i k) = codes "slot " ++ decimal i ++ codes " key " ++ key_text
 finding_text (BadKey i) = codes "slot " ++ decimal i ++ codes " badkey" ++ 10 ∷ []
 finding_text (Twice i first) = codes "slot " ++ decimal i ++ codes " twice " ++ decimal first ++ 10 ∷ []
 
+-- the line that says whether a file is damaged
+abbrev pub state_text : Survey → List ℕ
+state_text survey = if is_good survey then codes "good" ++ 10 ∷ [] else codes "damaged" ++ 10 ∷ []
+
 -- the text of a survey
 abbrev pub survey_text : Survey → List ℕ
 survey_text (survey.Refused fault) = refused_text (header_fault_number fault)
-survey_text (survey.Found findings) =
-    flat_map finding_text findings.items ++ (if is_good (survey.Found findings) then codes "good" ++ 10 ∷ [] else codes "damaged" ++ 10 ∷ [])
+survey_text (survey.Found findings) = flat_map finding_text findings.items ++ state_text (survey.Found findings)
 
 -- how a check ends
 abbrev pub survey_status : Survey → Status

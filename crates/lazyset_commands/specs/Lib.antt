@@ -5,6 +5,7 @@ pub mod Refusals
 pub mod PlainReplies
 pub mod Runs
 pub mod Checks
+pub mod Infos
 pub mod Comparisons
 pub mod Judgements
 pub mod Rehearsals

@@ -1,12 +1,12 @@
 //! The command that says what a file holds.
-ghost use Rattle.std.specs.Prelude.{◌≡◌, ◌⊎◌, ◌++◌, ℕ, IfOk, OnOk};
+ghost use Rattle.std.specs.Prelude.{◌≡◌, ◌⊎◌, ◌++◌, ℕ, List, IfOk, OnOk};
 ghost use Rattle.std.specs.List.{flat_map};
 ghost use Rattle.std.specs.String.{string_bytes};
 ghost use Rattle.lz_slot.specs.Sets.{Keys};
 ghost use Rattle.lz_slot.specs.Bytes.{Holds};
 ghost use Rattle.lz_judge.specs.Surveys.{IsSurveyOf};
 ghost use Rattle.lazyset_commands.specs.Makings.{refused_text};
-ghost use Rattle.lazyset_commands.specs.Checks.{IsChecked, finding_text, survey_status, survey_text};
+ghost use Rattle.lazyset_commands.specs.Checks.{IsChecked, finding_text, state_text, survey_status, survey_text};
 ghost use Rattle.lazyset_commands.specs.Tellings.{LacksMemory, Tells};
 
 use crate::status::Status;
@@ -35,17 +35,22 @@ pub fn check_on<W: Write + Drop>(alloc: Global, bytes: &[u8], writer: &mut W) ->
     ensures damaged { (result ≡ Status.Refused) ⊎ (result ≡ Status.Damaged) → (N : ℕ) (S : Keys) → ¬ Holds bytes.now N S }
 {
     match survey(alloc, bytes) {
-        Ok(survey) => tell_survey(alloc, &survey, writer),
+        Ok(survey) => tell_survey(&survey, text_of(alloc, &survey), writer),
         Err(AllocError) => tell(writer, Status::Failed, NO_MEMORY),
     }
 }
 
-// Writes the survey's text.
-fn tell_survey<W: Write + Drop>(alloc: Global, survey: &Survey, writer: &mut W) -> Status
-    ensures told { Tells (W.contents writer.old) (W.contents writer.new) (survey_text survey.now) (survey_status survey.now) result ⊎ LacksMemory (W.contents writer.old) (W.contents writer.new) result }
+/// Writes what is told of a survey, where there was memory for it, and ends as the survey wants.
+pub(crate) fn tell_survey<W: Write + Drop>(
+    survey: &Survey,
+    text: Result<String, AllocError>,
+    writer: &mut W,
+) -> Status
+    ensures told { (words : List ℕ) → IfOk text (λ t. string_bytes t ≡ words)
+        → Tells (W.contents writer.old) (W.contents writer.new) words (survey_status survey.now) result ⊎ LacksMemory (W.contents writer.old) (W.contents writer.new) result }
     ensures status { (result ≡ Status.Failed) ⊎ (result ≡ survey_status survey.now) }
 {
-    match text_of(alloc, survey) {
+    match text {
         Ok(text) => tell(writer, status_of(survey), text.as_bytes()),
         Err(AllocError) => tell(writer, Status::Failed, NO_MEMORY),
     }
@@ -68,17 +73,24 @@ fn text_of(alloc: Global, survey: &Survey) -> Result<String, AllocError>
         Survey::Refused(fault) => refused_line(alloc, fault.number()),
         Survey::Found(findings) => {
             let mut text = lines_of(alloc, findings.as_slice())?;
-            text.push_str(if survey.is_good() {
-                "good\n"
-            } else {
-                "damaged\n"
-            })?;
+            add_state(&mut text, survey)?;
             Ok(text)
         }
     }
 }
 
-fn refused_line(alloc: Global, number: u8) -> Result<String, AllocError>
+/// Says whether the file is damaged.
+pub(crate) fn add_state(text: &mut String, survey: &Survey) -> Result<(), AllocError>
+    ensures { OnOk result (string_bytes text.new ≡ string_bytes text.old ++ state_text survey.now) }
+{
+    text.push_str(if survey.is_good() {
+        "good\n"
+    } else {
+        "damaged\n"
+    })
+}
+
+pub(crate) fn refused_line(alloc: Global, number: u8) -> Result<String, AllocError>
     ensures { IfOk result (λ text. string_bytes text ≡ refused_text number) }
 {
     format!(in alloc; "refused {number}\n")

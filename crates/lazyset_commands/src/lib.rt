@@ -3,6 +3,7 @@
 
 mod checking;
 mod comparing;
+mod informing;
 mod judging;
 mod making;
 mod refusal;
@@ -15,6 +16,7 @@ mod telling;
 
 pub use checking::{MOST_SURVEYED, check_on};
 pub use comparing::check_of_on;
+pub use informing::info_on;
 pub use judging::{MOST_JUDGED, judge_on};
 pub use making::make_on;
 pub use rehearsing::rehearse_on;

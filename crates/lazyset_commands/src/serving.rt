@@ -12,6 +12,7 @@ use lz_disk::Disk;
 use lz_serve::{Bounds, Observer, Served, Serving, serve};
 use lz_set::{Blank, Named, NoGate, Pass, Set};
 use lz_vault::Refused;
+use std::io;
 use std::io::Write;
 use std::marker::Brand;
 use std::net::{Net, TcpListener, TcpStream};
@@ -114,8 +115,12 @@ where
         passes: options.passes,
     };
     let (set, passes) = blank.start::<N>();
-    let Some((listener, port)) = listen(rt, options.port) else {
-        return (tell(writer, Status::Failed, NO_PORT), set.close());
+    let (listener, port) = match listen(rt, options.port) {
+        Ok(taken) => taken,
+        Err(error) => {
+            observer.no_port(error);
+            return (tell(writer, Status::Failed, NO_PORT), set.close());
+        }
     };
     observer.serving(serving);
     tell_port(writer, port);
@@ -164,13 +169,13 @@ fn status_of_service(halted: bool, threadless: usize) -> Status
 }
 
 // A listener on a port of the loopback interface, and its port.
-fn listen<R>(rt: &R, port: u16) -> Option<(TcpListener, u16)>
+fn listen<R>(rt: &R, port: u16) -> io::Result<(TcpListener, u16)>
 where
     R: Net<Listener = TcpListener, Stream = TcpStream>,
 {
-    let listener = TcpListener::bind(rt, ("127.0.0.1", port)).ok()?;
-    let taken = listener.local_addr().ok()?.port();
-    Some((listener, taken))
+    let listener = TcpListener::bind(rt, ("127.0.0.1", port))?;
+    let taken = listener.local_addr()?.port();
+    Ok((listener, taken))
 }
 
 // Says on which port the service listens. It goes on where nobody reads what it says.

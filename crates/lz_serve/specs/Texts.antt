@@ -4,4 +4,4 @@ use Rattle.lz_serve.specs.declared.observer.Serving.{Serving}
 
 -- the text of what a service stands on
 abbrev pub serving_text : Serving → List ℕ
-serving_text s = decimal s.slots ++ codes " slots, " ++ decimal s.members ++ codes " members, " ++ decimal s.buckets ++ codes " buckets, " ++ decimal s.passes ++ codes " passes"
+serving_text s = codes "slots " ++ decimal s.slots ++ codes ", members " ++ decimal s.members ++ codes ", buckets " ++ decimal s.buckets ++ codes ", passes " ++ decimal s.passes

@@ -1,5 +1,5 @@
 //! What an operator is told of a service.
-use std::fmt;
+use std::{fmt, io};
 
 /// What a service stands on.
 #[derive(Clone, Copy, Debug, PartialEq, Eq)]
@@ -26,7 +26,7 @@ impl fmt::Display for Serving {
         } = *self;
         write!(
             f,
-            "{slots} slots, {members} members, {buckets} buckets, {passes} passes"
+            "slots {slots}, members {members}, buckets {buckets}, passes {passes}"
         )
     }
 }
@@ -36,7 +36,19 @@ pub trait Observer: Drop {
     /// The service stands, and is about to take its first connection.
     fn serving(&self, serving: Serving);
 
+    /// The service can't listen on its port.
+    fn no_port(&self, error: io::Error);
+
+    /// For so many of the passes no thread could be made, so as many connections fewer are served at once.
+    fn threadless(&self, threadless: usize, passes: usize);
+
+    /// A connection was accepted.
+    fn accepted(&self);
+
+    /// A command was replied `full`.
+    fn full(&self);
+
     /// A session has found that the device failed, or that no sync is left: nothing more is answered until the file is opened
-    /// anew. Told once.
+    /// again. Told once.
     fn halted(&self);
 }

@@ -4,6 +4,7 @@ ghost use Rattle.lz_board.specs.Seats.{part};
 ghost use Rattle.lz_set.specs.Names.{MayCall};
 ghost use Rattle.lz_serve.specs.Halts.{IsCalm, SawHalt};
 
+use crate::observed::Observed;
 use crate::observer::Observer;
 use crate::seated::Seated;
 use crate::server::Bounds;
@@ -13,14 +14,17 @@ use lz_set::{Named, Pass, Set, StepGate};
 use std::io::Read;
 use std::marker::PhantomData;
 use std::net::{Shutdown, TcpListener, TcpStream};
+use std::os::fd::OwnedFd;
 use std::sync::Wait;
 use std::sync::atomic::{AtomicBool, Ordering};
 use std::thread;
 use std::time::{Clock, Duration};
 
 /// How many milliseconds a thread waits before it tries again where no connection could be had, as when no descriptors are
-/// left.
+/// left: twice as long each time, up to a second.
 const PAUSE: u64 = 20;
+
+const LONGEST_PAUSE: u64 = 1_000;
 
 /// For how many milliseconds, and how often, what a client still sends behind a session's end is read and thrown away: a
 /// connection that is closed over unread bytes is reset, and the client may lose its last replies.
@@ -76,41 +80,60 @@ where
     requires may_call { MayCall N.board pass }
     requires calm { IsCalm (part pass) }
 {
-    let mut seated = Seated::new(rt, set, pass);
-    let halted = serve_sessions(rt, listener, &mut seated, bounds);
+    let seated = Seated::new(rt, set, pass);
+    let mut observed = Observed { seated, observer };
+    let halted = serve_sessions(rt, listener, &mut observed, bounds, told);
     if halted && !told.swap(true, Ordering::SeqCst) {
         observer.halted();
+        close(listener);
     }
     Finished {
         halted,
-        pass: seated.into_pass(),
+        pass: observed.seated.into_pass(),
         of: PhantomData,
     }
 }
 
-// Serves one connection after the other, so many of them, or without an end at 0. Says whether it ended because a client was told
-// that the service halted.
-fn serve_sessions<D, G, N, R>(
+// Has each wait for a connection end with a fault, now and later. The kit's listener has no call for this, and its stream has. Where
+// no descriptor is left for that, each pass that waits ends with its next client.
+fn close(listener: &TcpListener) {
+    if let Ok(same) = listener.try_clone() {
+        let _ = TcpStream::from(OwnedFd::from(same)).shutdown(Shutdown::Both);
+    }
+}
+
+// Serves one connection after the other, so many of them, or without an end at 0, and no more once it was told that the service
+// halted. Says whether it ended because a client of its own was told so.
+fn serve_sessions<D, G, N, R, O>(
     rt: &R,
     listener: &TcpListener,
-    seated: &mut Seated<'_, D, G, N, R>,
+    observed: &mut Observed<'_, D, G, N, R, O>,
     bounds: Bounds,
+    told: &AtomicBool,
 ) -> bool
 where
     D: Disk,
     G: StepGate,
     N: Named,
     R: Wait + Clock + AllocGlobal,
-    ensures seen { result ≡ true → SawHalt seated.new.pass }
-    ensures calm { result ≡ false → IsCalm (part seated.old.pass) → IsCalm (part seated.new.pass) }
+    O: Observer,
+    ensures seen { result ≡ true → SawHalt observed.new.seated.pass }
+    ensures calm { result ≡ false → IsCalm (part observed.old.seated.pass) → IsCalm (part observed.new.seated.pass) }
 {
     let mut served = 0u64;
+    let mut pause = PAUSE;
     for stream in listener.incoming() {
+        if told.load(Ordering::SeqCst) {
+            return false;
+        }
         let Ok(stream) = stream else {
-            thread::sleep(rt, Duration::from_millis(PAUSE));
+            thread::sleep(rt, Duration::from_millis(pause));
+            pause = pause.saturating_mul(2).min(LONGEST_PAUSE);
             continue;
         };
-        if serve_stream(rt, &stream, seated, bounds.idle) {
+        pause = PAUSE;
+        observed.observer.accepted();
+        if serve_stream(rt, &stream, observed, bounds.idle) {
             return true;
         }
         served = served.wrapping_add(1);
@@ -122,10 +145,10 @@ where
 }
 
 // Serves one connection, and says whether the pass has ever replied that the service halted, even where the reply wasn't written.
-fn serve_stream<D, G, N, R>(
+fn serve_stream<D, G, N, R, O>(
     rt: &R,
     stream: &TcpStream,
-    seated: &mut Seated<'_, D, G, N, R>,
+    observed: &mut Observed<'_, D, G, N, R, O>,
     idle: Option<Duration>,
 ) -> bool
 where
@@ -133,8 +156,9 @@ where
     G: StepGate,
     N: Named,
     R: Wait + AllocGlobal,
-    ensures seen { result ≡ true → SawHalt seated.new.pass }
-    ensures calm { result ≡ false → IsCalm (part seated.old.pass) → IsCalm (part seated.new.pass) }
+    O: Observer,
+    ensures seen { result ≡ true → SawHalt observed.new.seated.pass }
+    ensures calm { result ≡ false → IsCalm (part observed.old.seated.pass) → IsCalm (part observed.new.seated.pass) }
 {
     // A reply goes out at once; where that can't be asked for it may go out later.
     let _ = stream.set_nodelay(true);
@@ -142,9 +166,9 @@ where
     let _ = stream.set_read_timeout(idle);
     let _ = stream.set_write_timeout(idle);
     // What the seat has replied counts, also where the client didn't get it.
-    let _ = session(rt.alloc(), &mut &*stream, &mut &*stream, seated);
+    let _ = session(rt.alloc(), &mut &*stream, &mut &*stream, observed);
     take_leave(stream);
-    seated.halted()
+    observed.seated.halted()
 }
 
 // Ends the replies, and reads for a while what is still sent.

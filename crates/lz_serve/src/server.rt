@@ -101,6 +101,7 @@ where
         {
             let given = passes.len();
             let Some((mut threads, done)) = room_for::<N>(rt.alloc(), given) else {
+                observer.threadless(given, given);
                 return Served {
                     passes: Vec::new(rt.alloc()),
                     halted: false,
@@ -122,6 +123,9 @@ where
                 };
             }
             let threadless = given - threads.len();
+            if threadless > 0 {
+                observer.threadless(threadless, given);
+            }
             let (passes, halted) = join_all(rt, threads, done);
             Served {
                 passes,
