@@ -12,6 +12,7 @@ use Rattle.lz_list.specs.declared.publishing.Change.TheVariants.{Added as as_add
 use Rattle.lz_list.specs.declared.publishing.Publishing.TheVariants.{Linked as linked, Settled as settled, KeyPrepared as key_prepared, LinkPrepared as link_prepared}
 use Rattle.lz_list.specs.declared.word.Word.TheVariants.{Head, Halt}
 use Rattle.lz_list.specs.declared.place.Place.TheVariants.{Bucket}
+use Rattle.lz_list.specs.Traces.{Trace}
 use Rattle.lz_machine.specs.declared.event.Event.TheVariants.{Pin, Reserve, WriteKey, Sync, Claim, Check, WriteOpen, Link, Release, Settle, Answer}
 use Rattle.lz_machine.specs.declared.event.Outcome.TheVariants.{Done, Slot, Taken, True}
 use Rattle.lz_machine.specs.Alone.{IsPlain}
@@ -64,6 +65,14 @@ not_back h = go h.new (append_cancel_right (h.new ++ Call 2 1 (Has 12) ∷ []) [
     go : (new : History) → new ++ Call 2 1 (Has 12) ∷ [] ≡ [] → ⊥
     go [] is = absurd cc
     go (m ∷ new) is = absurd cc
+
+-- nor do notes in which something isn't that was published
+not_unlinked : GrowsTo board (note_by 1 (Played Link Done) (Some (linked 12 0 1)) ∷ []) [] → ⊥
+not_unlinked h = go h.trace.0 h.trace.1
+  where
+    go : (more : Trace) → [] ≡ more ++ linked 12 0 1 ∷ [] → ⊥
+    go [] is = absurd cc
+    go (e ∷ more) is = absurd cc
 
 abbrev S0 : Keys
 S0 = members_of board.opened

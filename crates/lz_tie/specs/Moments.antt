@@ -67,7 +67,7 @@ pub record HoldExplains (b : BoardId) (was is : List Note) (old new : Device) : 
   pub honest : new.honest ≡ old.honest
   pub leaves : IsTrue old.honest → LeavesOnly old new (λ t. Explains b was t ⊎ Explains b is t)
 
--- What lies under the lock came from `first` to `last` by any number of holds. The states after each but the last stand newest first.
+-- What lies under the lock came from `first` to `last` by any number of holds. The states before each of them stand newest first.
 abbrev pub HoldByHold : (D : Type 0) → (D → Device) → BoardId → LockedOver D → List (LockedOver D) → LockedOver D → Type 0
 HoldByHold D device b first [] last = last ≡ first
 HoldByHold D device b first (mid ∷ holds) last =
