@@ -1,4 +1,4 @@
--- An answer keeps the invariant: the pass goes out, a slot that wasn't used is given back, and the call ends with its row.
+-- An answer keeps the invariant: the pass is outside then, a slot that wasn't used is given back, and the call ends with its row.
 use Rattle.std.proofs.Common.{◌≡◌, ◌≢◌, ◌⊎◌, ⊎_elim, inl, inr, ℕ, ◌≤◌, ◌+◌, ◌%◌, not, ◌||◌, if◌then◌else◌, Bool, true, false, List, ◌∷◌, length, Option, Some, None, refl, sym, ap, ◌∙◌, subst, arith}
 use mathlib.Core.Bool.{false≢true}
 use Rattle.std.proofs.lemmas.Bool.{cases_Bool}
