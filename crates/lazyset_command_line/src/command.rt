@@ -1,5 +1,5 @@
 //! The command line that the program understands, made of the table.
-use crate::words::{Form, SHEETS, Sheet, Word};
+use crate::words::{Form, SHEETS, STATUSES, Sheet, Word};
 use clap::{Arg, Command, value_parser};
 use std::alloc::{AllocError, Global};
 
@@ -13,6 +13,7 @@ pub fn command_line<'a>(alloc: Global) -> Result<Command<'a>, AllocError> {
         .about(
             "A set of keys, 0 to 999999999999999999 in each of 16 rooms, that survives crashes: every answer that was given lasts",
         )
+        .after_help(STATUSES)
         .subcommand_required(true);
     for sheet in SHEETS {
         command = command.subcommand(command_of(alloc, sheet)?)?;
@@ -23,7 +24,7 @@ pub fn command_line<'a>(alloc: Global) -> Result<Command<'a>, AllocError> {
 fn command_of<'a>(alloc: Global, sheet: Sheet) -> Result<Command<'a>, AllocError> {
     let command = Command::new(alloc, sheet.name)
         .about(sheet.about)
-        .after_help(sheet.example);
+        .after_help(sheet.notes);
     with_words(alloc, command, sheet.words)
 }
 

@@ -9,6 +9,7 @@ use clap::ArgMatches;
 use lazyset_commands::{ServeOptions, Status};
 use lz_slot::{Format, MOST_BUCKETS, MOST_PASSES, MOST_REHEARSED};
 use std::alloc::{AllocError, Global};
+use std::fmt;
 
 /// A command, with its words.
 #[derive(Clone, Copy)]
@@ -31,6 +32,9 @@ pub enum Request<'a> {
         file: &'a str,
         options: ServeOptions,
     },
+    Info {
+        file: &'a str,
+    },
     Check {
         file: &'a str,
         of: Option<&'a str>,
@@ -43,6 +47,22 @@ pub enum Request<'a> {
         buckets: usize,
         format: Format,
     },
+}
+
+/// The command and the files that it names.
+impl fmt::Display for Request<'_> {
+    fn fmt<W: fmt::Write>(&self, f: &mut fmt::Formatter<W>) -> fmt::Result {
+        match *self {
+            Request::Make { file, .. } => write!(f, "make {file}"),
+            Request::Renew { old, new, .. } => write!(f, "renew {old} {new}"),
+            Request::Run { file, .. } => write!(f, "run {file}"),
+            Request::Serve { file, .. } => write!(f, "serve {file}"),
+            Request::Info { file } => write!(f, "info {file}"),
+            Request::Check { file, .. } => write!(f, "check {file}"),
+            Request::Judge { file } => write!(f, "judge {file}"),
+            Request::Rehearse { .. } => f.write_str("rehearse"),
+        }
+    }
 }
 
 /// What the words of a command line ask for, the first of which names the program.
@@ -70,6 +90,7 @@ fn request_of<'a>(matches: &ArgMatches<'a>) -> Option<Request<'a>>
     match matches.subcommand()? {
         ("make", words) => make(words),
         ("renew", words) => renew(words),
+        ("info", words) => info(words),
         ("check", words) => check(words),
         ("judge", words) => judge(words),
         ("rehearse", words) => rehearse(words),
@@ -132,6 +153,14 @@ fn serve_options(matches: &ArgMatches<'_>) -> Option<ServeOptions>
         sessions: number(matches, "sessions")?,
         buckets,
         idle: number(matches, "idle")?,
+    })
+}
+
+fn info<'a>(words: &ArgMatches<'a>) -> Option<Request<'a>>
+    ensures { IfSome result IsWithin }
+{
+    Some(Request::Info {
+        file: text(words, "FILE")?,
     })
 }
 

@@ -25,52 +25,63 @@ pub struct Word {
 pub struct Sheet {
     pub name: &'static str,
     pub about: &'static str,
-    pub example: &'static str,
+    /// What its help says after the words.
+    pub notes: &'static str,
     pub words: &'static [Word],
 }
 
+/// What the whole help says after the commands.
+pub const STATUSES: &str =
+    "Exit statuses: 0 done; 1 the device, a read, a write or the port failed, or out of memory; 2 the command line; 3 the file or the input was refused; 4 damaged, not the same, or judged wrong. Standard error says in words why.";
+
 /// The commands, as the help lists them.
-pub const SHEETS: [Sheet; 7] = [
+pub const SHEETS: [Sheet; 8] = [
     Sheet {
         name: "make",
-        about: "Makes a slot file that holds the empty set, creating the file where it is absent",
-        example: "Example: lazyset make f 1000",
+        about: "Makes a file that holds the empty set. It overwrites any file that isn't a set, unless that is longer",
+        notes: "Prints `made SLOTS`, or `refused N`: 1 it is a set already, 2 bad number of slots, 3 the device failed, 4 the file is longer than the new one. A file that can't be had, or isn't a regular one, is `nofile`.\n\nExample: lazyset make f 1000",
         words: &[FILE, SLOTS, FORMAT],
     },
     Sheet {
         name: "renew",
-        about: "Makes a slot file that holds the keys of another, with room for more or for fewer, creating it where it is absent",
-        example: "Example: lazyset renew f g 2000",
+        about: "Makes a file that holds the keys of another one, with room for more or fewer. It overwrites as make does",
+        notes: "Prints `renewed M`, `refused old N` with what `run` would say of OLD, `refused new N` with what `make` would say of NEW, or `refused 9 M S` where M keys have no room in S slots.\n\nExample: lazyset renew f g 2000",
         words: &[OLD, NEW, SLOTS],
     },
     Sheet {
         name: "run",
-        about: "Answers the lines `add K`, `remove K` and `has K` of standard input, each with one line: yes, no, full, oldfile or halted. K is a number, as in `add 17`, or a room from 0 to 15 and a number, as in `add 3:17`: rooms keep several tenants or classes of keys apart. A file of format 1 answers oldfile to an `add` in another room than 0",
-        example: "Example: echo 'add 5' | lazyset run f",
+        about: "Answers the lines of standard input, each with one line",
+        notes: "Lines: `add K`, `remove K`, `has K`, `quit`. K is a number, as in `add 17`, or a room from 0 to 15 and a number, as in `add 3:17`.\n\nReplies: yes, no, full (no slot is free), oldfile (a file of format 1 has room 0 alone), halted (the device failed), worn (2^61 commands were carried out), bad 1 (a line of more than 64 bytes), bad 2 (no such command), bad 3 (not a number), bad 4 (too large), bad 5 (the input ended within a line), bad 6 (invalid room number).\n\nA file may be `refused N`: 1 not made, 2 another format, 3 wrong length, 4 bad number of slots, 5 I slot I holds no key, 6 I J slots I and J hold one key, 7 the device failed, 8 out of memory.\n\nIt needs the file for itself: with another process on it answered keys vanish.\n\nExample: echo 'add 5' | lazyset run f",
         words: &[FILE, BUCKETS],
     },
     Sheet {
         name: "serve",
-        about: "Answers the lines `add K`, `remove K` and `has K` of many connections at once, each with one line",
-        example: "Example: lazyset serve f 7000 8 --buckets 1024 --idle 600",
+        about: "Answers the lines of many connections at once, as `run` does",
+        notes: "Prints `listening PORT` when clients can connect, `refused N` as `run` does, or `noport`. Standard error is its log.\n\nIt needs the file for itself: with another process on it answered keys vanish. So start it under a lock.\n\nExample: flock --nonblock --no-fork f.lock lazyset serve f 7000 8 --buckets 1024 --idle 600",
         words: &[FILE, PORT, PASSES, SESSIONS, IDLE, BUCKETS],
     },
     Sheet {
+        name: "info",
+        about: "Counts what a file holds: `format F`, `slots N`, `members M`, `free F`, and `good` or `damaged`",
+        notes: "A head that can't be read is `refused N`, as by `run`. It writes nothing.\n\nExample: lazyset info f",
+        words: &[FILE],
+    },
+    Sheet {
         name: "check",
-        about: "Says what the file holds: a line for each slot that isn't closed, and `good` or `damaged`",
-        example: "Example: lazyset check f",
+        about: "Says what each open slot of a file holds, and `good` or `damaged`",
+        notes: "Prints `slot I key K`, `slot I badkey` or `slot J twice I` for each open slot. A head that can't be read is `refused N`, as by `run`. It writes nothing.\n\nExample: lazyset check f",
         words: &[FILE, OF],
     },
     Sheet {
         name: "judge",
         about: "Judges a history by the points of its calls: `good`, or the first flaw",
-        example: "Example: lazyset judge h, where h has the lines call 1 1 add 9, answer 1 yes, stop, open 9, point 1 5",
+        notes: "Prints `good`, `flaw N I`, or `line L` for the first line that doesn't read.\n\nExample: lazyset judge h, where h has the lines call 1 1 add 9, answer 1 yes, stop, open 9, point 1 5",
         words: &[HISTORY],
     },
     Sheet {
         name: "rehearse",
-        about: "Plays the script of standard input on a new set in memory: calls, turns, failures, stops, crashes and opens",
-        example: "Example: printf 'call 1 add 9\\nuntil 1 WriteOpen\\ncrash a5\\nopen\\n' | lazyset rehearse 2",
+        about: "Plays the script of standard input on a new set in memory: calls, failures, stops, crashes and opens",
+        notes: "Example: printf 'call 1 add 9\\nuntil 1 WriteOpen\\ncrash a5\\nopen\\n' | lazyset rehearse 2",
         words: &[REHEARSED, BUCKETS, FORMAT],
     },
 ];
@@ -112,7 +123,7 @@ const OF: Word = Word {
     value_name: Some("OLD"),
     form: Form::Text,
     default: None,
-    help: "A slot file from which this one was renewed: says behind `good` whether both hold the same keys, `same`, or what is wrong, `flaw 8`, `flaw 9 I` or `flaw 10 I`",
+    help: "A slot file from which this one was renewed: says after `good` whether both hold the same keys, `same`, or what is wrong, `flaw 8`, `flaw 9 I` or `flaw 10 I`",
 };
 
 const SLOTS: Word = Word {
@@ -144,7 +155,7 @@ const BUCKETS: Word = Word {
     value_name: Some("B"),
     form: Form::Within(1, MOST_BUCKETS as i64),
     default: Some("1"),
-    help: "How many lists the keys are spread over, 1 to 4096",
+    help: "The number of hash buckets, 1 to 4096: choose about the number of members",
 };
 
 const PORT: Word = Word {
@@ -160,7 +171,7 @@ const PASSES: Word = Word {
     value_name: None,
     form: Form::Within(1, MOST_PASSES as i64),
     default: None,
-    help: "How many connections are served at once, 1 to 64; further ones wait",
+    help: "How many connections are served at once, 1 to 64, each by a thread; further ones wait",
 };
 
 const SESSIONS: Word = Word {
@@ -168,7 +179,7 @@ const SESSIONS: Word = Word {
     value_name: Some("N"),
     form: Form::Within(0, 65_535),
     default: Some("0"),
-    help: "After how many connections each pass ends; 0 for no end",
+    help: "Each pass ends after so many connections; 0 for no end",
 };
 
 const IDLE: Word = Word {
@@ -176,5 +187,5 @@ const IDLE: Word = Word {
     value_name: Some("SECONDS"),
     form: Form::Within(0, 86_400),
     default: Some("0"),
-    help: "After how many seconds a connection ends on which nothing was sent; 0 for no end",
+    help: "Closes a connection on which nothing was sent, or no reply taken, for so long; 0 for never",
 };

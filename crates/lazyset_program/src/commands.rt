@@ -4,15 +4,21 @@ ghost use Rattle.lz_slot.specs.Limits.{most_buckets, most_passes, most_rehearsed
 ghost use Rattle.lazyset_command_line.specs.Requests.{IsWithin};
 
 use crate::fault::Fault;
-use crate::files::{create, open, read_front, stand_in};
+use crate::files::{create, is_absent, open, read_front, stand_in};
+use crate::heard::Heard;
 use crate::log::Log;
+use crate::watched::Watched;
+use crate::words::words_of;
 use lazyset_command_line::{Request, read};
 use lazyset_commands::{
-    MOST_JUDGED, MOST_SURVEYED, ServeOptions, Status, check_of_on, check_on, judge_on, make_on,
-    rehearse_on, renew_on, run_on, serve_on,
+    MOST_JUDGED, MOST_SURVEYED, ServeOptions, Status, check_of_on, check_on, info_on, judge_on,
+    make_on, rehearse_on, renew_on, run_on, serve_on,
 };
-use lz_slot::Format;
+use lz_disk::MemoryDisk;
+use lz_slot::{Format, MOST_SLOTS};
+use std::alloc::{AllocError, Global};
 use std::fs::File;
+use std::io::Write;
 use std::net::{Net, TcpListener, TcpStream};
 use std::rt::{Env, Files};
 use std::sync::Wait;
@@ -20,7 +26,7 @@ use std::thread::Threads;
 use std::time::Clock;
 use std::{env, io};
 
-/// Runs the command that the process's arguments name.
+/// Runs the command that the process's arguments name. Where it ends with a line that refuses, says in words why.
 pub fn run<R>(rt: &R) -> Result<Status, Fault>
 where
     R: Env + Files<File = File> + Input + Print + Eprint + AllocGlobal,
@@ -33,7 +39,11 @@ where
     match read(rt.alloc(), words.as_slice()) {
         Ok(request) => {
             let stands = stand_in(rt);
-            let status = dispatch(rt, request);
+            let mut writer = Heard::new(io::writer(rt));
+            let status = dispatch(rt, request, &mut writer);
+            if let Ok(Status::Failed | Status::Refused) = status {
+                say_why(rt, request, writer.line());
+            }
             drop(stands);
             status
         }
@@ -41,10 +51,19 @@ where
     }
 }
 
-fn dispatch<R>(rt: &R, request: Request<'_>) -> Result<Status, Fault>
+// Says in words why the command ended with this line.
+fn say_why<R: Eprint>(rt: &R, request: Request<'_>, line: Option<&str>) {
+    let Some(line) = line else { return };
+    if let Some(words) = words_of(request, line) {
+        let _ = eprintln!(rt; "lazyset: {request}: {line}: {words}");
+    }
+}
+
+fn dispatch<R, W>(rt: &R, request: Request<'_>, writer: &mut W) -> Result<Status, Fault>
 where
-    R: Files<File = File> + Input + Print + Eprint + AllocGlobal,
+    R: Files<File = File> + Input + Eprint + AllocGlobal,
     R: Net<Listener = TcpListener, Stream = TcpStream> + Threads + Wait + Clock + Sync,
+    W: Write + Drop,
     requires { IsWithin request }
 {
     match request {
@@ -52,97 +71,126 @@ where
             file,
             slots,
             format,
-        } => make(rt, file, slots, format),
-        Request::Renew { old, new, slots } => renew(rt, old, new, slots),
-        Request::Run { file, buckets } => run_file(rt, file, buckets),
-        Request::Serve { file, options } => serve(rt, file, options),
-        Request::Check { file, of } => check(rt, file, of),
-        Request::Judge { file } => judge(rt, file),
+        } => make(rt, writer, file, slots, format),
+        Request::Renew { old, new, slots } => renew(rt, writer, old, new, slots),
+        Request::Run { file, buckets } => run_file(rt, writer, file, buckets),
+        Request::Serve { file, options } => serve(rt, writer, file, options),
+        Request::Info { file } => info(rt, writer, file),
+        Request::Check { file, of } => check(rt, writer, file, of),
+        Request::Judge { file } => judge(rt, writer, file),
         Request::Rehearse {
             slots,
             buckets,
             format,
-        } => Ok(rehearse(rt, slots, buckets, format)),
+        } => Ok(rehearse(rt, writer, slots, buckets, format)),
     }
 }
 
-fn make<R>(rt: &R, file: &str, slots: u64, format: Format) -> Result<Status, Fault>
+// Whether a making of so many slots is refused over nothing: no file is created for that.
+fn makes_none<R: Files<File = File>>(rt: &R, path: &str, slots: u64) -> bool {
+    (slots == 0 || slots > MOST_SLOTS) && is_absent(rt, path)
+}
+
+// A disk in place of a file that isn't there, and isn't called.
+fn nothing(alloc: Global) -> Result<MemoryDisk, AllocError> {
+    MemoryDisk::new(alloc, Vec::new(alloc))
+}
+
+fn make<R, W>(
+    rt: &R,
+    writer: &mut W,
+    file: &str,
+    slots: u64,
+    format: Format,
+) -> Result<Status, Fault>
 where
-    R: Files<File = File> + Print + AllocGlobal,
+    R: Files<File = File> + Eprint + AllocGlobal,
+    W: Write + Drop,
 {
+    if makes_none(rt, file, slots) {
+        return Ok(make_on(writer, &mut nothing(rt.alloc())?, slots, format));
+    }
     let mut disk = create(rt, file)?;
-    Ok(make_on(&mut io::writer(rt), &mut disk, slots, format))
+    Ok(make_on(writer, &mut disk, slots, format))
 }
 
-fn renew<R>(rt: &R, old: &str, new: &str, slots: u64) -> Result<Status, Fault>
+fn renew<R, W>(rt: &R, writer: &mut W, old: &str, new: &str, slots: u64) -> Result<Status, Fault>
 where
-    R: Files<File = File> + Print + AllocGlobal,
+    R: Files<File = File> + Eprint + AllocGlobal,
+    W: Write + Drop,
 {
+    let alloc = rt.alloc();
     let mut old = open(rt, old)?;
+    if makes_none(rt, new, slots) {
+        return Ok(renew_on(alloc, writer, &mut old, &mut nothing(alloc)?, slots));
+    }
     let mut new = create(rt, new)?;
-    Ok(renew_on(rt.alloc(), &mut io::writer(rt), &mut old, &mut new, slots))
+    Ok(renew_on(alloc, writer, &mut old, &mut new, slots))
 }
 
-fn run_file<R>(rt: &R, file: &str, buckets: usize) -> Result<Status, Fault>
+fn run_file<R, W>(rt: &R, writer: &mut W, file: &str, buckets: usize) -> Result<Status, Fault>
 where
-    R: Files<File = File> + Input + Print + AllocGlobal + Wait,
+    R: Files<File = File> + Input + Eprint + AllocGlobal + Wait,
+    W: Write + Drop,
     requires { (1 ≤ buckets) × (buckets ≤ most_buckets) }
 {
     let disk = open(rt, file)?;
-    let (status, _disk) = run_on(rt, &mut rt.reader(), &mut io::writer(rt), disk, buckets);
+    let (status, _disk) = run_on(rt, &mut rt.reader(), writer, disk, buckets);
     Ok(status)
 }
 
-fn serve<R>(rt: &R, file: &str, options: ServeOptions) -> Result<Status, Fault>
+fn serve<R, W>(rt: &R, writer: &mut W, file: &str, options: ServeOptions) -> Result<Status, Fault>
 where
-    R: Files<File = File> + Print + Eprint + AllocGlobal,
+    R: Files<File = File> + Eprint + AllocGlobal,
     R: Net<Listener = TcpListener, Stream = TcpStream> + Threads + Wait + Clock + Sync,
+    W: Write + Drop,
     requires passes { (1 ≤ options.passes) × (options.passes ≤ most_passes) }
     requires buckets { (1 ≤ options.buckets) × (options.buckets ≤ most_buckets) }
 {
     let disk = open(rt, file)?;
-    let log = Log { rt, file };
-    let (status, _disk) = serve_on(rt, &mut io::writer(rt), &log, disk, options);
+    let watched = File::open(rt, file).ok().and_then(Watched::new);
+    let log = Log::new(rt, file, watched);
+    let (status, _disk) = serve_on(rt, writer, &log, disk, options);
     Ok(status)
 }
 
-fn check<R>(rt: &R, file: &str, of: Option<&str>) -> Result<Status, Fault>
+fn info<R, W>(rt: &R, writer: &mut W, file: &str) -> Result<Status, Fault>
 where
-    R: Files<File = File> + Print + AllocGlobal,
+    R: Files<File = File> + Eprint + AllocGlobal,
+    W: Write + Drop,
+{
+    let bytes = read_front(rt, file, MOST_SURVEYED)?;
+    Ok(info_on(rt.alloc(), bytes.as_slice(), writer))
+}
+
+fn check<R, W>(rt: &R, writer: &mut W, file: &str, of: Option<&str>) -> Result<Status, Fault>
+where
+    R: Files<File = File> + Eprint + AllocGlobal,
+    W: Write + Drop,
 {
     let bytes = read_front(rt, file, MOST_SURVEYED)?;
     let Some(old) = of else {
-        return Ok(check_on(rt.alloc(), bytes.as_slice(), &mut io::writer(rt)));
+        return Ok(check_on(rt.alloc(), bytes.as_slice(), writer));
     };
     let old = read_front(rt, old, MOST_SURVEYED)?;
-    Ok(check_of_on(
-        rt.alloc(),
-        bytes.as_slice(),
-        old.as_slice(),
-        &mut io::writer(rt),
-    ))
+    Ok(check_of_on(rt.alloc(), bytes.as_slice(), old.as_slice(), writer))
 }
 
-fn judge<R>(rt: &R, file: &str) -> Result<Status, Fault>
+fn judge<R, W>(rt: &R, writer: &mut W, file: &str) -> Result<Status, Fault>
 where
-    R: Files<File = File> + Print + AllocGlobal,
+    R: Files<File = File> + Eprint + AllocGlobal,
+    W: Write + Drop,
 {
     let bytes = read_front(rt, file, MOST_JUDGED)?;
-    Ok(judge_on(rt.alloc(), bytes.as_slice(), &mut io::writer(rt)))
+    Ok(judge_on(rt.alloc(), bytes.as_slice(), writer))
 }
 
-fn rehearse<R>(rt: &R, slots: usize, buckets: usize, format: Format) -> Status
+fn rehearse<R, W>(rt: &R, writer: &mut W, slots: usize, buckets: usize, format: Format) -> Status
 where
-    R: Input + Print + AllocGlobal,
+    R: Input + AllocGlobal,
+    W: Write + Drop,
     requires slots { (1 ≤ slots) × (slots ≤ most_rehearsed) }
     requires buckets { (1 ≤ buckets) × (buckets ≤ most_buckets) }
 {
-    rehearse_on(
-        rt.alloc(),
-        &mut rt.reader(),
-        &mut io::writer(rt),
-        slots,
-        buckets,
-        format,
-    )
+    rehearse_on(rt.alloc(), &mut rt.reader(), writer, slots, buckets, format)
 }

@@ -3,7 +3,12 @@ use crate::fault::Fault;
 use lz_disk::FileDisk;
 use std::fs::{File, OpenOptions};
 use std::io::{ErrorKind, Read};
+use std::os::fd::{AsRawFd, RawFd};
 use std::rt::Files;
+use std::{fmt, io};
+
+// The number of standard error, the last one of the three.
+const LAST_STANDARD: RawFd = 2;
 
 // The most bytes that one read of a file takes.
 const MOST_PIECE: usize = 4_096;
@@ -14,52 +19,85 @@ pub fn stand_in<R: Files<File = File>>(rt: &R) -> (Option<File>, Option<File>, O
     (open_nothing(rt), open_nothing(rt), open_nothing(rt))
 }
 
-// The file that holds nothing and takes everything, where there is one.
+// The file that holds nothing and takes everything, where there is one and it gets the number of a standard one.
 fn open_nothing<R: Files<File = File>>(rt: &R) -> Option<File> {
-    OpenOptions::new()
-        .read(true)
-        .write(true)
-        .open(rt, "/dev/null")
-        .ok()
+    let mut how = OpenOptions::new();
+    how.read(true).write(true);
+    let file = how.open(rt, "/dev/null").ok()?;
+    if file.as_raw_fd() > LAST_STANDARD {
+        return None;
+    }
+    Some(file)
+}
+
+// Says why a file can't be had.
+fn no_file<R: Eprint, W: fmt::Display + Drop>(rt: &R, path: &str, why: W) -> Fault {
+    let _ = eprintln!(rt; "lazyset: {path}: {why}");
+    Fault::NoFile
 }
 
 /// The file at this path, as a disk.
-pub fn open<R: Files<File = File>>(rt: &R, path: &str) -> Result<FileDisk, Fault> {
+pub fn open<R: Files<File = File> + Eprint>(rt: &R, path: &str) -> Result<FileDisk, Fault> {
     open_or_create(rt, path, false)
 }
 
-/// The file at this path, as a disk; it is created where it isn't there. Where a symbolic link was named it is opened again by its
-/// own path: it is the name in the file's own folder that has to be durable.
+/// The file at this path, as a disk; it is created where it isn't there, and it has to be a regular one: whatever is written into a
+/// block device, say, is lost there. Where a symbolic link was named it is opened again by its own path: it is the name in the
+/// file's own folder that has to be durable.
 pub fn create<R>(rt: &R, path: &str) -> Result<FileDisk, Fault>
 where
-    R: Files<File = File> + AllocGlobal,
+    R: Files<File = File> + Eprint + AllocGlobal,
 {
+    if let Ok(facts) = rt.metadata(path)
+        && !facts.is_file()
+    {
+        return Err(no_file(rt, path, "it isn't a regular file"));
+    }
     let disk = open_or_create(rt, path, true)?;
     drop(disk);
     match rt.canonicalize(rt.alloc(), path) {
         Ok(itself) => open_or_create(rt, itself.as_str(), true),
-        Err(_) => Err(Fault::NoFile),
+        Err(error) => Err(no_file(rt, path, error)),
     }
 }
 
-fn open_or_create<R: Files<File = File>>(
+/// Whether there is nothing at this path.
+pub fn is_absent<R: Files<File = File>>(rt: &R, path: &str) -> bool {
+    match rt.metadata(path) {
+        Ok(_) => false,
+        Err(error) => error.kind() == ErrorKind::NotFound,
+    }
+}
+
+fn open_or_create<R: Files<File = File> + Eprint>(
     rt: &R,
     path: &str,
     create: bool,
 ) -> Result<FileDisk, Fault> {
     match FileDisk::open(rt, path, create) {
         Ok(disk) => Ok(disk),
-        Err(_) => Err(Fault::NoFile),
+        Err(_) => Err(match why_not(rt, path, create) {
+            Some(error) => no_file(rt, path, error),
+            None => no_file(rt, path, "its folder couldn't be synced"),
+        }),
     }
 }
 
+// Why the file can't be opened. A disk doesn't say, so the system is asked once more.
+fn why_not<R: Files<File = File>>(rt: &R, path: &str, create: bool) -> Option<io::Error> {
+    let mut how = OpenOptions::new();
+    how.read(true).write(true).create(create);
+    how.open(rt, path).err()
+}
+
 // The file, for reading. A directory is none.
-fn open_readable<R: Files<File = File>>(rt: &R, path: &str) -> Result<File, Fault> {
-    let Ok(file) = File::open(rt, path) else {
-        return Err(Fault::NoFile);
+fn open_readable<R: Files<File = File> + Eprint>(rt: &R, path: &str) -> Result<File, Fault> {
+    let file = match File::open(rt, path) {
+        Ok(file) => file,
+        Err(error) => return Err(no_file(rt, path, error)),
     };
     match file.metadata() {
-        Ok(metadata) if metadata.is_dir() => Err(Fault::NoFile),
+        Ok(metadata) if metadata.is_dir() => Err(no_file(rt, path, "it is a directory")),
         _ => Ok(file),
     }
 }
@@ -67,7 +105,7 @@ fn open_readable<R: Files<File = File>>(rt: &R, path: &str) -> Result<File, Faul
 /// The file's bytes, up to so many.
 pub fn read_front<R>(rt: &R, path: &str, most: usize) -> Result<Vec<u8>, Fault>
 where
-    R: Files<File = File> + AllocGlobal,
+    R: Files<File = File> + Eprint + AllocGlobal,
 {
     let mut file = open_readable(rt, path)?;
     let mut bytes: Vec<u8> = Vec::new(rt.alloc());
@@ -77,7 +115,10 @@ where
             Ok(0) => break,
             Ok(count) => bytes.extend_from_slice(&piece[..count])?,
             Err(error) if error.kind() == ErrorKind::Interrupted => {}
-            Err(_) => return Err(Fault::NoRead),
+            Err(error) => {
+                let _ = eprintln!(rt; "lazyset: {path}: {error}");
+                return Err(Fault::NoRead);
+            }
         }
         if bytes.len() >= most {
             break;

@@ -5,7 +5,10 @@
 mod commands;
 mod fault;
 mod files;
+mod heard;
 mod log;
+mod watched;
+mod words;
 
 pub use commands::run;
 pub use fault::Fault;

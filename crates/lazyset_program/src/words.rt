@@ -1,0 +1,65 @@
+//! What the lines that refuse say in words, for standard error.
+
+use lazyset_command_line::Request;
+
+// What stands before the number of a fault.
+const REFUSED: &str = "refused ";
+
+const REFUSED_OLD: &str = "refused old ";
+
+const REFUSED_NEW: &str = "refused new ";
+
+/// The words for a line with which a command has ended, where it has any.
+pub fn words_of(request: Request<'_>, line: &str) -> Option<&'static str> {
+    if let Some(number) = number_after(REFUSED_OLD, line) {
+        return words_of_opening(number);
+    }
+    if let Some(number) = number_after(REFUSED_NEW, line) {
+        return words_of_making(number);
+    }
+    match (request, number_after(REFUSED, line)) {
+        (Request::Make { .. } | Request::Renew { .. }, Some(number)) => words_of_making(number),
+        (_, Some(number)) => words_of_opening(number),
+        (_, None) => words_of_end(line),
+    }
+}
+
+// The digit that follows this beginning of the line.
+fn number_after(beginning: &str, line: &str) -> Option<u8> {
+    line.strip_prefix(beginning)?.as_bytes().first().copied()
+}
+
+fn words_of_making(number: u8) -> Option<&'static str> {
+    match number {
+        b'1' => Some("it is a set already"),
+        b'2' => Some("a file has 1 to 65536 slots"),
+        b'3' => Some("the device failed"),
+        b'4' => Some("it is longer than the new file would be"),
+        b'9' => Some("so many keys have no room in so many slots"),
+        _ => None,
+    }
+}
+
+fn words_of_opening(number: u8) -> Option<&'static str> {
+    match number {
+        b'1' => Some("it isn't a set: never made, or its head is damaged"),
+        b'2' => Some("it has another format"),
+        b'3' => Some("its length doesn't fit its slots"),
+        b'4' => Some("its head has a wrong number of slots"),
+        b'5' => Some("this slot is open and holds no key"),
+        b'6' => Some("these slots hold the same key"),
+        b'7' => Some("the device failed"),
+        b'8' => Some("out of memory"),
+        _ => None,
+    }
+}
+
+fn words_of_end(line: &str) -> Option<&'static str> {
+    match line {
+        "halted" => Some("the device failed: open the file again"),
+        "nomemory" => Some("out of memory"),
+        "noread" => Some("a read of the input failed"),
+        _ if line.starts_with("line ") => Some("this line doesn't read, or may not stand there"),
+        _ => None,
+    }
+}
