@@ -1,5 +1,5 @@
 -- Worked rows: a device that is tripped fails once, and a device that isn't never fails. And the numbers of a play's faults.
-use Rattle.std.proofs.Common.{◌≡◌, ℕ, true, false, List, [], ◌∷◌, refl, arith}
+use Rattle.std.proofs.Common.{◌≡◌, ℕ, true, false, [], ◌∷◌, refl, arith}
 use Rattle.std.proofs.lemmas.Bool.{false≢true}
 use Rattle.lz_slot.specs.declared.command.Command.{Command}
 use Rattle.lz_disk.specs.Images.{Medium}
