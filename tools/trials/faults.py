@@ -127,9 +127,9 @@ def failed_life(program: Program, file: str, call: str, number: int, seed: int) 
 
 def log_text(file: str, slots: int, members: int, passes: int) -> str:
     """What a service says on standard error whose device fails."""
-    serving = f"{slots} slots, {members} members, 1 buckets, {passes} passes"
-    failed = "the device failed: nothing is answered until the file is opened anew"
-    return f"{file}: serving {serving}\n{file}: {failed}\n"
+    serving = f"serving: slots {slots}, members {members}, buckets 1, passes {passes}"
+    failed = "the device failed: nothing is answered until the file is opened again"
+    return f"{file}: {serving}\n{file}: {failed}\n"
 
 
 def try_service(program: Program, folder: str, seed: int) -> None:
