@@ -67,6 +67,16 @@ def try_refusals(program: Program, folder: str) -> None:
         expect(os.path.exists(new), given is not None, "that the new file is there")
 
 
+def try_lines(program: Program, folder: str) -> None:
+    """A line of a history or of a script that is refused."""
+    file, why = os.path.join(folder, "file"), "this line doesn't read, or may not stand there"
+    put(file, b"call 1 1 add 9\nanswer\n")
+    found = program.run_loud("judge", file)
+    expect(found, (Ended("line 2\n", 3), f"lazyset: judge {file}: line 2: {why}\n"), "a history that doesn't read")
+    found = program.run_loud("rehearse", "2", lines="open\nturn\n")
+    expect(found, (Ended("line 2\n", 3), f"lazyset: rehearse: line 2: {why}\n"), "a script that doesn't read")
+
+
 def try_files(program: Program, folder: str) -> None:
     """Each file that can't be had has the system's reason."""
     absent, inner = os.path.join(folder, "absent"), os.path.join(folder, "inner")
