@@ -1,6 +1,6 @@
 # Completion of lazyset's command line for bash: source it, or put it into a folder of bash-completion as `lazyset`.
 _lazyset() {
-    local word=${COMP_WORDS[COMP_CWORD]} commands="make renew run serve check judge rehearse help"
+    local word=${COMP_WORDS[COMP_CWORD]} commands="make renew run serve info check judge rehearse help"
     case "$COMP_CWORD,${COMP_WORDS[1]}" in
     1,*) mapfile -t COMPREPLY < <(compgen -W "$commands --help --version" -- "$word") ;;
     2,help) mapfile -t COMPREPLY < <(compgen -W "$commands" -- "$word") ;;

@@ -43,7 +43,7 @@ def try_eight(program: Program, folder: str) -> None:
                 thread.join(PATIENCE)
             expect(service.wait(), 0, "the status of a service whose sessions ended")
         log.seek(0)
-        expect(log.read(), f"{file}: serving 1000 slots, 0 members, 1 buckets, 4 passes\n", "its log")
+        expect(log.read(), f"{file}: serving: slots 1000, members 0, buckets 1, passes 4\n", "its log")
     expect([told[client][:400] for client in range(CLIENTS)], [b"yes\n" * 100] * CLIENTS, "replies to own keys")
     shared = sorted(told[client][400:] for client in range(CLIENTS))
     expect(shared, [b"no\n"] * (CLIENTS - 1) + [b"yes\n"], "replies to the shared key")

@@ -112,6 +112,32 @@ def cut_files() -> Iterator[Tuple[bytes, str, str]]:
             yield (wrong + bytes(16))[:length], "refused 4\n", "refused 4\n"
 
 
+# Files, and what an info says of each.
+COUNTED: Tuple[Tuple[bytes, str, int], ...] = (
+    (TWO_SLOTS, "format 1\nslots 2\nmembers 0\nfree 2\ngood\n", 0),
+    (RENEWED, "format 2\nslots 2\nmembers 2\nfree 0\ngood\n", 0),
+    (TWO_SLOTS[:32] + SEVENTEEN, "format 1\nslots 2\nmembers 1\nfree 1\ngood\n", 0),
+    # What is damaged is no member, and its slot isn't free.
+    (TWO_SLOTS[:16] + SEVENTEEN * 2, "format 1\nslots 2\nmembers 1\nfree 0\ndamaged\n", 4),
+    (TWO_SLOTS[:32] + changed(SEVENTEEN, 4, 1), "format 1\nslots 2\nmembers 0\nfree 1\ndamaged\n", 4),
+    (b"", "refused 1\n", 3),
+    (TWO_SLOTS + b"\0", "refused 3\n", 3),
+)
+
+
+def try_counts(program: Program, folder: str) -> None:
+    """An info says this of each file, and writes nothing there; so says an independent reader."""
+    file = os.path.join(folder, "counted")
+    for text, counted, status in COUNTED:
+        put(file, text)
+        expect(program.run("info", file), Ended(counted, status), f"an info of {text!r}")
+        expect(bytes_in(file), text, "a file after an info")
+        expect(Survey(text).counted(), (counted, status), f"the model's info of {text!r}")
+    for text, _, _ in (*SURVEYED, *cut_files()):
+        put(file, text)
+        expect(program.run("info", file), Ended(*Survey(text).counted()), f"an info of {text!r}")
+
+
 def try_surveys(program: Program, folder: str) -> None:
     """A check and a run say this of each file, and write nothing there."""
     file = os.path.join(folder, "surveyed")

@@ -19,12 +19,15 @@ KEYS = [Key(room, number) for room in (0, 7) for number in range(12)]
 
 
 class Client(threading.Thread):
-    """One client, which asks on a connection of its own until that is lost, the service halts, or it is told to stop."""
+    """One client, which asks on a connection of its own until that is lost, the service halts, or it is told to stop. It begins
+    once it may, and is ready for that once it has a pass."""
 
-    def __init__(self, actor: int, port: int, seed: int) -> None:
+    def __init__(self, actor: int, port: int, seed: int, may_begin: threading.Event) -> None:
         super().__init__(daemon=True)
         self.actor = actor
         self.port = port
+        self.may_begin = may_begin
+        self.is_ready = threading.Event()
         self.random = random.Random(seed)
         self.calls: List[Call] = []
         self.enough = threading.Event()
@@ -32,10 +35,15 @@ class Client(threading.Thread):
     def run(self) -> None:
         try:
             with Lazyset(self.port, timeout=30) as keys:
+                keys.has(lazyset.MOST_NUMBER)
+                self.is_ready.set()
+                self.may_begin.wait(30)
                 while not self.enough.is_set():
                     self._ask(keys)
         except (lazyset.LostConnection, lazyset.Halted):
             pass
+        finally:
+            self.is_ready.set()
 
     def _ask(self, keys: Lazyset) -> None:
         verb, key = self.random.choice(VERBS), self.random.choice(KEYS)
@@ -58,10 +66,14 @@ def _reply(keys: Lazyset, verb: Verb, key: Key) -> Reply:
 
 
 def start(count: int, port: int, seed: int) -> List[Client]:
-    """Starts so many clients."""
-    clients = [Client(actor, port, seed * 64 + actor) for actor in range(1, count + 1)]
+    """Starts so many clients, each of which has a pass before any begins."""
+    may_begin = threading.Event()
+    clients = [Client(actor, port, seed * 64 + actor, may_begin) for actor in range(1, count + 1)]
     for client in clients:
         client.start()
+    for client in clients:
+        client.is_ready.wait(30)
+    may_begin.set()
     return clients
 
 

@@ -137,8 +137,8 @@ class Survey:
         self.flaws: List[Flaw] = []
         self.members: Dict[Key, int] = {}
         if not self.refusal:
-            self.form = NAMES[text[1:8]]
-            for place in range(int.from_bytes(text[8:16], "big")):
+            self.form, self.slots = NAMES[text[1:8]], int.from_bytes(text[8:16], "big")
+            for place in range(self.slots):
                 start = HEAD_SIZE + SLOT_SIZE * place
                 self._note(place, text[start : start + SLOT_SIZE])
 
@@ -161,6 +161,15 @@ class Survey:
         if self.refusal:
             return f"refused {self.refusal}\n", 3
         return "".join(self.lines) + ("damaged\n" if self.flaws else "good\n"), 4 if self.flaws else 0
+
+    def counted(self) -> Tuple[str, int]:
+        """What an info prints, and its status."""
+        told, status = self.checked()
+        if self.refusal:
+            return told, status
+        free = self.slots - len(self.lines)
+        counts = f"format {self.form}\nslots {self.slots}\nmembers {len(self.members)}\nfree {free}\n"
+        return counts + told[len("".join(self.lines)) :], status
 
     def opened(self) -> Tuple[str, int]:
         """What a run without lines prints, and its status: the refusal of an open, or nothing."""

@@ -6,7 +6,7 @@ import os
 import signal
 import subprocess
 from dataclasses import dataclass
-from typing import IO, List, NamedTuple, Optional, Sequence, Union
+from typing import IO, List, NamedTuple, Optional, Sequence, Tuple, Union
 
 from trials.report import Wrong, expect
 
@@ -44,6 +44,10 @@ class Program:
 
     def run(self, *words: str, lines: Union[str, bytes] = "", before: Sequence[str] = ()) -> Ended:
         """Runs a command to its end, behind the words of another program where some are given."""
+        return self.run_loud(*words, lines=lines, before=before)[0]
+
+    def run_loud(self, *words: str, lines: Union[str, bytes] = "", before: Sequence[str] = ()) -> Tuple[Ended, str]:
+        """The same, and what the command says on standard error."""
         ended = subprocess.run(
             [*before, self.path, *words],
             input=lines.encode("ascii") if isinstance(lines, str) else lines,
@@ -51,7 +55,7 @@ class Program:
             stderr=subprocess.PIPE,
             timeout=PATIENCE,
         )
-        return Ended(ended.stdout.decode("ascii"), ended.returncode)
+        return Ended(ended.stdout.decode("ascii"), ended.returncode), os.fsdecode(ended.stderr)
 
     def make(self, file: str, slots: int) -> None:
         expect(self.run("make", file, str(slots)), Ended(f"made {slots}\n", 0), "make")

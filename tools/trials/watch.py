@@ -1,0 +1,153 @@
+"""What a service says in its log, and how it ends once the device has failed."""
+
+from __future__ import annotations
+
+import os
+import re
+import shutil
+import socket
+import subprocess
+import tempfile
+import time
+from contextlib import contextmanager
+from typing import IO, Iterator, List, Sequence
+
+from lazyset import Halted, Lazyset
+from trials.faults import failing, needs_strace
+from trials.files import put
+from trials.plain import head_of, slot_of
+from trials.program import PATIENCE, Key, Program, Service
+from trials.report import Skip, expect
+
+
+@contextmanager
+def logged(program: Program, file: str, passes: int, *options: str, before: Sequence[str] = ()) -> Iterator["Logged"]:
+    """A service whose log is kept."""
+    with tempfile.TemporaryFile("w+") as log, Service(program, file, passes, *options, before=before, log=log) as service:
+        yield Logged(service, log, file)
+
+
+class Logged:
+    """A service and its log."""
+
+    def __init__(self, service: Service, log: IO[str], file: str) -> None:
+        self.service = service
+        self.port = service.port
+        self._log = log
+        self._file = file
+
+    def lines(self) -> List[str]:
+        """The lines after the first one, without the file's name."""
+        self._log.seek(0)
+        return [line.replace(f"{self._file}: ", "").rstrip("\n") for line in self._log][1:]
+
+    def ask(self, *lines: str) -> List[str]:
+        """The replies of a session."""
+        with socket.create_connection(("127.0.0.1", self.port), PATIENCE) as client:
+            client.sendall("".join(f"{line}\n" for line in (*lines, "quit")).encode())
+            return client.makefile().read().split()
+
+
+def members_file(file: str, count: int) -> None:
+    put(file, head_of(2, count) + b"".join(slot_of(Key(0, key)) for key in range(count)))
+
+
+def try_lists(program: Program, folder: str) -> None:
+    """Lists of more than 64 members are told, and how to make them shorter."""
+    file = os.path.join(folder, "long")
+    hint = "long lists make commands slow: give it --buckets {} at the next start"
+    for members, buckets, advised in ((64, 1, None), (65, 1, 65), (200, 3, 200), (200, 4, None), (5000, 70, 4096)):
+        members_file(file, members)
+        with logged(program, file, 1, "--buckets", str(buckets)) as service:
+            wanted = [hint.format(advised)] if advised else []
+            expect(service.lines(), wanted, f"the log over {members} members in {buckets} lists")
+
+
+def try_full(program: Program, folder: str) -> None:
+    """The first `full` is told, and no other."""
+    file = os.path.join(folder, "full")
+    program.make(file, 1)
+    with logged(program, file, 2) as service:
+        expect(service.ask("add 1", "has 1"), ["yes", "yes"], "replies")
+        expect(service.lines(), [], "the log before")
+        expect(service.ask("add 2", "add 3"), ["full", "full"], "replies")
+        expect(service.ask("add 2"), ["full"], "another client's reply")
+        expect(service.lines(), ["full: no slot was free for a new key"], "the log")
+
+
+def replaces(file: str) -> None:
+    shutil.copy(file, f"{file}.copy")
+    os.replace(f"{file}.copy", file)
+
+
+def cuts(file: str) -> None:
+    os.truncate(file, 20)
+
+
+CHANGES = (
+    (os.remove, "the file was deleted, or another one put in its place"),
+    (replaces, "the file was deleted, or another one put in its place"),
+    (cuts, "the file's length was changed"),
+)
+
+
+def try_changes(program: Program, folder: str) -> None:
+    """A file that is deleted, replaced or cut under a service is told once, at the next connection."""
+    for number, (change, why) in enumerate(CHANGES):
+        file = os.path.join(folder, f"file-{number}")
+        program.make(file, 4)
+        with logged(program, file, 2) as service:
+            expect(service.ask("add 1"), ["yes"], "a reply")
+            expect(service.lines(), [], "the log before")
+            change(file)
+            for key in (2, 3):
+                expect(service.ask(f"add {key}"), ["yes"], "a reply after that")
+            expect(service.lines(), [f"{why}: what is answered may be lost at the end"], "the log")
+
+
+def try_threads(program: Program, folder: str) -> None:
+    """Where two of four threads can't be made the log says so, and the others serve."""
+    needs_strace()
+    file = os.path.join(folder, "threads")
+    program.make(file, 4)
+    calls = "clone,clone3"
+    before = ["strace", "-f", "-qq", "-o", os.devnull, "-e", f"trace={calls}", "-e", f"inject={calls}:error=EAGAIN:when=3+"]
+    with logged(program, file, 4, "--sessions", "1", before=before) as service:
+        for key in (1, 2):
+            expect(service.ask(f"add {key}"), ["yes"], "a reply")
+        expect(service.service.wait(), 1, "the status of a service without all its threads")
+        expect(service.lines(), ["no thread for 2 of 4 passes"], "the log")
+
+
+def try_end(program: Program, folder: str) -> None:
+    """Once a client was told that the device failed the service ends, though its other passes have no client."""
+    needs_strace()
+    file = os.path.join(folder, "ended")
+    program.make(file, 4)
+    with logged(program, file, 8, before=failing(file, "fdatasync", 2)) as service:
+        with Lazyset(service.port, timeout=PATIENCE) as keys:
+            try:
+                keys.add(1)
+            except Halted:
+                pass
+        began = time.monotonic()
+        expect(service.service.wait(), 1, "the status of a service whose device failed")
+        expect(time.monotonic() - began < 10, True, "that it ends at once")
+        expect(service.lines(), ["the device failed: nothing is answered until the file is opened again"], "the log")
+
+
+def try_pauses(program: Program, folder: str) -> None:
+    """A pass that can't accept for want of descriptors tries again ever more seldom."""
+    needs_strace()
+    file, trace = os.path.join(folder, "pauses"), os.path.join(folder, "trace")
+    program.make(file, 4)
+    before = ["sh", "-c", 'ulimit -n 6 && exec "$@"', "sh", "strace", "-f", "-qq", "-o", trace, "-e", "trace=accept,accept4"]
+    if subprocess.run([*before[:4], "true"]).returncode:
+        raise Skip("no limit can be set")
+    with logged(program, file, 1, before=before) as service:
+        with socket.create_connection(("127.0.0.1", service.port), PATIENCE):
+            time.sleep(2.5)
+    with open(trace, encoding="ascii", errors="replace") as traced:
+        tries = len(re.findall(r"EMFILE", traced.read()))
+    # After 20, 40, 80, .. milliseconds: seven within 2.5 seconds, and no more than two from a second on.
+    expect(4 <= tries <= 9, True, f"that {tries} tries are few")

@@ -1,0 +1,125 @@
+"""What is said on standard error, in words, of each end that standard output tells by a number."""
+
+from __future__ import annotations
+
+import os
+import socket
+from typing import Optional, Tuple
+
+from trials.faults import failing, needs_strace
+from trials.files import ONE_SLOT, RENEWED, SEVENTEEN, TWO_SLOTS, changed, put
+from trials.program import Ended, Program
+from trials.report import expect
+
+BAD_KEY = changed(RENEWED, 20, 1)
+TWICE = changed(RENEWED, 47, 0x11)
+
+# A file's bytes, what is printed of it by `run`, `serve`, and `check` or `info`, if it is refused there too, and the words.
+OPENED: Tuple[Tuple[bytes, str, bool, str], ...] = (
+    (b"", "refused 1", True, "it isn't a set: never made, or its head is damaged"),
+    (changed(TWO_SLOTS, 7, 0x39), "refused 2", True, "it has another format"),
+    (TWO_SLOTS + b"\0", "refused 3", True, "its length doesn't fit its slots"),
+    (changed(TWO_SLOTS, 15, 0), "refused 4", True, "its head has a wrong number of slots"),
+    (BAD_KEY, "refused 5 0", False, "this slot is open and holds no key"),
+    (TWICE, "refused 6 0 1", False, "these slots hold the same key"),
+)
+
+# A file's bytes or none, the slots that are asked for, what is printed, and the words.
+MADE: Tuple[Tuple[Optional[bytes], str, str, str], ...] = (
+    (TWO_SLOTS, "2", "refused 1", "it is a set already"),
+    (b"", "0", "refused 2", "a file has 1 to 65536 slots"),
+    (None, "0", "refused 2", "a file has 1 to 65536 slots"),
+    (None, "65537", "refused 2", "a file has 1 to 65536 slots"),
+    (bytes(49), "2", "refused 4", "it is longer than the new file would be"),
+)
+
+# An old file, a new one, the slots that are asked for, what is printed, and the words.
+RENEWALS: Tuple[Tuple[bytes, Optional[bytes], str, str, str], ...] = (
+    (b"", b"", "2", "refused old 1", "it isn't a set: never made, or its head is damaged"),
+    (BAD_KEY, b"", "2", "refused old 5 0", "this slot is open and holds no key"),
+    (RENEWED, RENEWED, "2", "refused new 1", "it is a set already"),
+    (RENEWED, None, "0", "refused new 2", "a file has 1 to 65536 slots"),
+    (RENEWED, b"", "1", "refused 9 2 1", "so many keys have no room in so many slots"),
+)
+
+
+def try_refusals(program: Program, folder: str) -> None:
+    """Each refusal has its words. A making that is refused for its number of slots leaves no file where none was."""
+    file, new = os.path.join(folder, "file"), os.path.join(folder, "new")
+
+    def expect_words(line: str, why: str, *words: str) -> None:
+        found = program.run_loud(*words, *({"run": (), "serve": ("0", "1")}.get(words[0], ())))
+        named = " ".join(words if words[0] == "renew" else words[:2]).replace(f"{file} {new} ", f"{file} {new}\n").split("\n")[0]
+        expect(found, (Ended(f"{line}\n", 3), f"lazyset: {named}: {line}: {why}\n"), " ".join(words))
+
+    for text, line, is_checked, why in OPENED:
+        put(file, text)
+        for command in ("run", "serve", "check", "info") if is_checked else ("run", "serve"):
+            expect_words(line, why, command, file)
+    for before, slots, line, why in MADE:
+        put(file, before)
+        expect_words(line, why, "make", file, slots, "--format", "1")
+        expect(os.path.exists(file), before is not None, "that the file is there")
+    for old, given, slots, line, why in RENEWALS:
+        put(file, old)
+        put(new, given)
+        expect_words(line, why, "renew", file, new, slots)
+        expect(os.path.exists(new), given is not None, "that the new file is there")
+
+
+def try_lines(program: Program, folder: str) -> None:
+    """A line of a history or of a script that is refused."""
+    file, why = os.path.join(folder, "file"), "this line doesn't read, or may not stand there"
+    put(file, b"call 1 1 add 9\nanswer\n")
+    found = program.run_loud("judge", file)
+    expect(found, (Ended("line 2\n", 3), f"lazyset: judge {file}: line 2: {why}\n"), "a history that doesn't read")
+    found = program.run_loud("rehearse", "2", lines="open\nturn\n")
+    expect(found, (Ended("line 2\n", 3), f"lazyset: rehearse: line 2: {why}\n"), "a script that doesn't read")
+
+
+def try_files(program: Program, folder: str) -> None:
+    """Each file that can't be had has the system's reason."""
+    absent, inner = os.path.join(folder, "absent"), os.path.join(folder, "inner")
+    deep, long = os.path.join(absent, "file"), os.path.join(folder, "n" * 300)
+    os.mkdir(inner)
+    missing, too_long = "No such file or directory (os error 2)", "File name too long (os error 36)"
+    for words, path, why in (
+        (("run", absent), absent, missing),
+        (("serve", absent, "0", "1"), absent, missing),
+        (("check", absent), absent, missing),
+        (("info", absent), absent, missing),
+        (("judge", absent), absent, missing),
+        (("renew", absent, inner, "2"), absent, missing),
+        (("make", deep, "2"), deep, missing),
+        (("make", long, "2"), long, too_long),
+        (("run", inner), inner, "Is a directory (os error 21)"),
+        (("check", inner), inner, "it is a directory"),
+    ):
+        found = program.run_loud(*words)
+        expect(found, (Ended("nofile\n", 3), f"lazyset: {path}: {why}\n"), " ".join(words))
+
+
+def try_port(program: Program, folder: str) -> None:
+    """A port that another program has."""
+    file = os.path.join(folder, "file")
+    put(file, ONE_SLOT)
+    with socket.create_server(("127.0.0.1", 0)) as other:
+        found = program.run_loud("serve", file, str(other.getsockname()[1]), "1")
+    said = f"lazyset: serve {file}: noport: Address already in use (os error 98)\n"
+    expect(found, (Ended("noport\n", 1), said), "a service whose port is taken")
+
+
+def try_devices(program: Program, folder: str) -> None:
+    """A device that fails under a making, an open and a run."""
+    needs_strace()
+    file, new = os.path.join(folder, "file"), os.path.join(folder, "new")
+    put(file, TWO_SLOTS[:32] + SEVENTEEN)
+    put(new, b"")
+    for words, path, number, line, why in (
+        (("make", new, "2"), new, 1, "refused 3", "the device failed"),
+        (("run", file), file, 1, "refused 7", "the device failed"),
+        (("run", file), file, 2, "halted", "the device failed: open the file again"),
+    ):
+        ended, said = program.run_loud(*words, lines="add 5\n", before=failing(path, "fdatasync", number))
+        expect(ended, Ended(f"{line}\n", 1), f"{words} whose sync {number} fails")
+        expect(said, f"lazyset: {words[0]} {path}: {line}: {why}\n", "what it says")
