@@ -59,8 +59,8 @@ pub enum Stage {
 }
 
 impl<D: Disk, G: StepGate, N: Named> Set<D, G, N> {
-    /// Begins a call, which whoever begins it is to play on to its answer: others may wait for the nodes that it holds. No
-    /// sync of `add`, `remove` and `has` waits for it. Like the others of a call, it waits for the set alone.
+    /// Begins a call. Its owner is to play it on to its answer, since others may wait for a node that it holds. No sync of `add`,
+    /// `remove` or `has` waits for it, and it waits for no other call: `go_on`, `sync` and `answer` take the lock alone.
     pub fn begin<R: Wait>(&self, rt: &R, pass: &mut Pass, command: Command) -> Underway
         requires pass { MayCall N.board pass.old }
         ensures pass { IsOf N.board pass.new }
@@ -69,7 +69,7 @@ impl<D: Disk, G: StepGate, N: Named> Set<D, G, N> {
         self.invoke(rt, pass, command, self.commits.come(false))
     }
 
-    /// Plays the call on up to a stage. It plays no Sync.
+    /// Plays the call on up to a stage, and no Sync. One that was busy claims its node again.
     pub fn go_on<R: Wait>(&self, rt: &R, pass: &mut Pass, call: &mut Underway) -> Stage
         requires pass { IsOf N.board pass.old }
         requires counted { IsCounted N.board call.old (part pass.old) }
