@@ -1,3 +1,5 @@
 pub mod Members
 pub mod Opening
+pub mod Plays
+pub mod StageRows
 pub mod Welcome

@@ -2,3 +2,4 @@ pub mod Names
 pub mod Blanks
 pub mod Answers
 pub mod Left
+pub mod Stages

@@ -1,4 +1,5 @@
 //! One sync for the writes of many callers.
+use lz_machine::Kind;
 use std::sync::atomic::{AtomicUsize, Ordering};
 use std::sync::{Condvar, MutexGuard, Wait};
 use std::thread;
@@ -11,16 +12,19 @@ const LOOKS: u32 = 100;
 /// group commit (DeWitt and others, "Implementation Techniques for Main Memory Database Systems", 1984). It says who goes on
 /// when, and nothing else.
 ///
-/// A call runs from when it comes until it is answered, but not while it waits here, for a sync or for a node, and not
-/// while a gate may hold it. Its counts go down only under the lock, so nobody goes to sleep over a count that has just
-/// become 0.
+/// A call that may write runs from when it comes until it is answered, but not while it waits here, for a sync or for a node, and
+/// not while a gate may hold it. A lookup runs from a sync for which it waited until it is answered. A call that its owner
+/// plays on as a value never runs, and never waits here. The counts go down only under the lock, so nobody goes to sleep over a
+/// count that has just become 0.
 ///
 /// No call waits for ever. Whoever runs waits for nothing but the lock, whose holders wait for nothing but the device (each sync
 /// returns, also one that fails). So whoever runs comes to an answer, to a sync or to a taken node, and runs no more. With the
 /// last of them the sync is played: by that call itself, where it came to a sync, and else by one of those that wait,
 /// which it wakes. While new calls come all the time, as many answers as there are passes end the wait. After the sync all that
 /// waited for it go on, whatever it gave: over a dead device each is told so by its own. A node is held by a call that
-/// runs, or waits for a sync, or is in a gate; the first two are done with it by and by, and wake those that wait for it.
+/// runs, or waits for a sync, or is in a gate, or is a value; the first two are done with it by and by, and the owner of the
+/// last is to play it on. Each wakes those that wait for the node, and one that is freed between a claim and the wait after it
+/// is not missed: the claim has noted how often one had been freed.
 #[derive(Drop)]
 pub(crate) struct GroupCommit {
     // How many syncs had a group to close: the number of the open one.
@@ -44,12 +48,14 @@ pub(crate) struct GroupCommit {
 /// How far a call has come, as others count it.
 #[derive(Drop)]
 pub(crate) struct Stay {
-    // It may write.
-    changes: bool,
+    // Syncs wait for it.
+    awaited: bool,
     // It is one of those that run.
     runs: bool,
     // The group that was open when it wrote last.
     group: usize,
+    // How often a node had been freed when it claimed one last.
+    frees: usize,
     // It has closed a group, and hasn't yet woken those that waited.
     wakes: bool,
 }
@@ -74,17 +80,20 @@ impl GroupCommit {
         self.groups.load(Ordering::SeqCst)
     }
 
-    /// A call comes, which may write or not. It doesn't run yet.
-    pub(crate) fn come(&self, changes: bool) -> Stay {
-        if changes && self.out.load(Ordering::SeqCst) != 0 {
-            self.out.fetch_sub(1, Ordering::SeqCst);
-        }
-        Stay {
-            changes,
+    /// A call comes. Where syncs are to wait for it, it runs from now on.
+    pub(crate) fn come(&self, awaited: bool) -> Stay {
+        let mut stay = Stay {
+            awaited,
             runs: false,
             group: self.group(),
+            frees: 0,
             wakes: false,
+        };
+        self.run(&mut stay);
+        if awaited && self.out.load(Ordering::SeqCst) != 0 {
+            self.out.fetch_sub(1, Ordering::SeqCst);
         }
+        stay
     }
 
     // Waits a little for clients that were just answered.
@@ -97,9 +106,9 @@ impl GroupCommit {
         }
     }
 
-    /// The call runs from now on.
+    /// The call runs from now on, where syncs wait for it.
     pub(crate) fn run(&self, stay: &mut Stay) {
-        if !stay.runs {
+        if stay.awaited && !stay.runs {
             stay.runs = true;
             self.running.fetch_add(1, Ordering::SeqCst);
         }
@@ -125,15 +134,21 @@ impl GroupCommit {
                 self.closed.notify_one();
             }
         }
-        if stay.changes {
+        if stay.awaited {
             self.out.fetch_add(1, Ordering::SeqCst);
         }
         self.rest(stay);
     }
 
-    /// The call has written: what it waits for is the sync of the group that is open now. Its caller holds the lock.
-    pub(crate) fn write(&self, stay: &mut Stay) {
-        stay.group = self.group();
+    /// The call has played an event of this kind. Its caller holds the lock.
+    pub(crate) fn played(&self, kind: Kind, stay: &mut Stay) {
+        match kind {
+            // What it waits for is the sync of the group that is open now.
+            Kind::WriteKey | Kind::WriteOpen | Kind::WriteClose => stay.group = self.group(),
+            Kind::Claim => stay.frees = self.frees.load(Ordering::SeqCst),
+            Kind::Release | Kind::Halt => self.free(),
+            _ => {}
+        }
     }
 
     /// Waits until the group in which the call wrote last is closed, or it is the call's turn to close it.
@@ -210,7 +225,7 @@ impl GroupCommit {
         }
     }
 
-    /// Waits until a node may have been freed.
+    /// Waits until a node may have been freed since the call claimed one.
     pub(crate) fn await_node<'a, T, R: Wait>(
         &self,
         rt: &R,
@@ -218,13 +233,15 @@ impl GroupCommit {
         stay: &mut Stay,
     ) -> MutexGuard<'a, T> {
         let mut locked = locked;
-        let seen = self.frees.load(Ordering::SeqCst);
+        if self.frees.load(Ordering::SeqCst) != stay.frees {
+            return locked;
+        }
         self.busy.fetch_add(1, Ordering::SeqCst);
         self.rest(stay);
         self.wake(stay);
         for _ in rt.forever() {
             locked = self.freed.wait(rt, locked);
-            if self.frees.load(Ordering::SeqCst) != seen {
+            if self.frees.load(Ordering::SeqCst) != stay.frees {
                 // Whoever freed it has counted the call among those that run.
                 stay.runs = true;
                 return locked;
@@ -233,8 +250,8 @@ impl GroupCommit {
         unreachable!()
     }
 
-    /// A node may have been freed: all that wait for one run again. The caller holds the lock.
-    pub(crate) fn free(&self) {
+    // A node may have been freed: all that wait for one run again.
+    fn free(&self) {
         self.frees.fetch_add(1, Ordering::SeqCst);
         let busy = self.busy.swap(0, Ordering::SeqCst);
         if busy != 0 {

@@ -4,6 +4,8 @@
 //! `remove` and `has`; the calls of several passes overlap. Each walks along the list by loads that take no lock, and every
 //! other event of it is one hold of the lock, which is kept from one to the next where no gate watches. A sync waits until all
 //! calls that run have come to one of theirs, and covers what they wrote.
+//! A thread that is to have many calls under way plays each as a value, `Underway`: `begin`, `go_on` from one stage to the next,
+//! `sync` where the call stands before one, and `answer`.
 //! `glance` looks up without any lock. A program's work stands in a function
 //! generic in the set's name, which is called with std's `Brand`:
 //!
@@ -31,6 +33,7 @@ mod fault;
 mod gate;
 mod group_commit;
 mod set;
+mod underway;
 
 pub use blank::Blank;
 pub use fault::Fault;
@@ -38,3 +41,4 @@ pub use gate::{NoGate, StepGate};
 pub use lz_board::{Glance, GlanceFault, Pass};
 pub use lz_tie::Named;
 pub use set::Set;
+pub use underway::{Stage, Underway};

@@ -1,30 +1,52 @@
-use Rattle.std.proofs.Common.{◌≡◌, sym, subst}
-use Rattle.lz_machine.specs.declared.event.Reply.{Reply}
+use Rattle.std.proofs.Common.{sym, subst}
+use Rattle.lz_machine.specs.Orders.{Calling}
 use Rattle.lz_board.specs.Seats.{part}
-use Rattle.lz_tie.specs.Answers.{Answers}
-use Rattle.lz_tie.specs.OneCaller.{IsPlainAnswer, keys_in}
+use Rattle.lz_tie.specs.Counting.{Counts}
 use Rattle.lz_set.proofs.set.Set.call.Goals as goal
 
-pub answer-requires-clause-counted : goal.answer-requires-clause-counted
-answer-requires-clause-counted g c = (c.args.command, g.N.Named.format, part c.args.pass.now, c.loop.invariant.counts)
+pub sync_for_all-kept-requires-clause-counted : goal.sync_for_all-kept-requires-clause-counted
+sync_for_all-kept-requires-clause-counted g c =
+    let asked = c.args.command in
+    let before = part c.args.pass.now in
+    (asked, g.N.Named.format, before, c.play-stage.ensures.counts asked g.N.Named.format before c.loop.invariant.counts)
 
-pub returns-in-Some-reply-clause-answers : goal.returns-in-Some-reply-clause-answers
-returns-in-Some-reply-clause-answers g c =
-    let at_hand = c.requires.pass.0.2 in
-    subst (λ (r : Reply). Answers g.N.Named.format c.args.command r (part c.args.pass.now) (part c.answer.new.pass)) (sym c.answer_of.ensures)
-    (c.answer.ensures.answers c.args.command g.N.Named.format (part c.args.pass.now) at_hand.sized c.loop.invariant.counts)
-
-pub go_on-kept-requires-clause-counted : goal.go_on-kept-requires-clause-counted
-go_on-kept-requires-clause-counted g c = (c.args.command, g.N.Named.format, part c.args.pass.now, c.loop.invariant.counts)
+pub loop-preserved-in-Syncs : goal.loop-preserved-in-Syncs
+loop-preserved-in-Syncs g c =
+    let asked = c.args.command in
+    let format = g.N.Named.format in
+    let before = part c.args.pass.now in
+    record {
+      pass = c.sync_for_all-kept.ensures.pass;
+      counts = c.sync_for_all-kept.ensures.counts asked format before (c.play-stage.ensures.counts asked format before c.loop.invariant.counts);
+    }
 
 pub loop-preserved : goal.loop-preserved
-loop-preserved g c = record {
-  pass = c.go_on-kept.ensures.pass;
-  counts = c.go_on-kept.ensures.goes c.args.command g.N.Named.format (part c.args.pass.now) c.loop.invariant.counts;
-}
+loop-preserved g c =
+    let asked = c.args.command in
+    let format = g.N.Named.format in
+    let before = part c.args.pass.now in
+    record {
+      pass = c.play-stage.ensures.pass;
+      counts = subst (λ (k : Calling). Counts g.N.Named.board asked format before k (part c.play-stage.new.pass)) (sym c.call.view_is)
+          (c.play-stage.ensures.counts asked format before c.loop.invariant.counts);
+    }
 
-pub returns-in-Some-reply-clause-plain : goal.returns-in-Some-reply-clause-plain
-returns-in-Some-reply-clause-plain g c = λ one.
-    let at_hand = c.requires.pass.0.2 in
-    subst (λ (r : Reply). IsPlainAnswer g.N.Named.format g.N.Named.board.sizes.slots c.args.command r (keys_in (part c.args.pass.now).known) (keys_in (part c.answer.new.pass).known)) (sym c.answer_of.ensures)
-    (c.answer.ensures.plain one c.args.command g.N.Named.format (part c.args.pass.now) at_hand.sized c.loop.invariant.counts)
+pub end-requires-clause-counted : goal.end-requires-clause-counted
+end-requires-clause-counted g c =
+    let asked = c.args.command in
+    let before = part c.args.pass.now in
+    (asked, g.N.Named.format, before, c.play-stage.ensures.counts asked g.N.Named.format before c.loop.invariant.counts)
+
+pub returns-in-Answers-clause-answers : goal.returns-in-Answers-clause-answers
+returns-in-Answers-clause-answers g c =
+    let asked = c.args.command in
+    let format = g.N.Named.format in
+    let before = part c.args.pass.now in
+    c.end.ensures.answers asked format before c.requires.pass.0.2.sized (c.play-stage.ensures.counts asked format before c.loop.invariant.counts)
+
+pub returns-in-Answers-clause-plain : goal.returns-in-Answers-clause-plain
+returns-in-Answers-clause-plain g c = λ one.
+    let asked = c.args.command in
+    let format = g.N.Named.format in
+    let before = part c.args.pass.now in
+    c.end.ensures.plain one asked format before c.requires.pass.0.2.sized (c.play-stage.ensures.counts asked format before c.loop.invariant.counts)

@@ -5,5 +5,5 @@ use Rattle.lz_set.proofs.set.Set.call.Given as goal
 abbrev pub invariant-loop : goal.invariant-loop
 invariant-loop g l = record {
   pass : IsOf g.N.Named.board l.pass;
-  counts : Counts g.N.Named.board l.fn.command g.N.Named.format (part l.fn.pass) l.caller (part l.pass);
+  counts : Counts g.N.Named.board l.fn.command g.N.Named.format (part l.fn.pass) l.call (part l.pass);
 }

@@ -1,0 +1,34 @@
+-- Worked rows: where calls stand that stopped.
+use Rattle.std.proofs.Common.{◌≡◌, Some, None, is_some, refl, ap}
+use mathlib.Core.Bool.{false≢true}
+use Rattle.lz_slot.specs.declared.command.Command.TheVariants.{Add}
+use Rattle.lz_list.specs.declared.place.Place.TheVariants.{Bucket}
+use Rattle.lz_machine.specs.declared.caller.Progress.{Progress}
+use Rattle.lz_machine.specs.declared.caller.Progress.TheVariants.{Playing, LoadsHalt, Claiming, Checking, Answering}
+use Rattle.lz_machine.specs.declared.caller.Sequence.TheVariants.{Adding}
+use Rattle.lz_machine.specs.declared.event.Reply.TheVariants.{No}
+use Rattle.lz_machine.specs.Orders.{Calling}
+use Rattle.lz_set.specs.declared.underway.Stage.TheVariants.{Syncs, Busy, Answers}
+use Rattle.lz_set.specs.Stages.{StandsAt}
+
+-- an adding of 9 in slot 1 that has come so far
+abbrev call_at : Progress → Calling
+call_at at = record { command = Add 9; buckets = 1; passes = 1; progress = at }
+
+syncs_after_release : StandsAt Syncs (call_at (Playing (Adding 1) 3))
+syncs_after_release = (1, refl)
+
+no_sync_before_it : StandsAt Syncs (call_at (Playing (Adding 1) 2)) → ⊥
+no_sync_before_it h = let is = h.1 in cc
+
+busy_at_its_claim : StandsAt Busy (call_at (Claiming (Some 1) (Bucket 0) None))
+busy_at_its_claim = (Bucket 0, None, refl)
+
+not_busy_once_taken : StandsAt Busy (call_at (Checking (Some 1) None)) → ⊥
+not_busy_once_taken h = let is = h.2 in cc
+
+has_its_reply : StandsAt Answers (call_at (Answering No))
+has_its_reply = (No, refl)
+
+no_reply_yet : StandsAt Answers (call_at LoadsHalt) → ⊥
+no_reply_yet h = false≢true (ap is_some h.1)

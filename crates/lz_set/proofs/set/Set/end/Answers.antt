@@ -1,0 +1,20 @@
+use Rattle.std.proofs.Common.{◌≡◌, sym, subst}
+use Rattle.lz_machine.specs.declared.event.Reply.{Reply}
+use Rattle.lz_machine.specs.Orders.{Calling}
+use Rattle.lz_board.specs.Seats.{part}
+use Rattle.lz_tie.specs.Answers.{Answers}
+use Rattle.lz_tie.specs.Counting.{Counts}
+use Rattle.lz_tie.specs.OneCaller.{IsPlainAnswer, keys_in}
+use Rattle.lz_set.proofs.set.Set.end.Goals as goal
+
+pub returns-clause-answers : goal.returns-clause-answers
+returns-clause-answers g c = λ asked format before sized counts.
+    subst (λ (r : Reply). Answers format asked r before (part c.answer.new.pass)) (sym c.answer_of.ensures)
+    (c.answer.ensures.answers asked format before sized
+    (subst (λ (k : Calling). Counts g.N.Named.board asked format before k (part c.args.pass.now)) (sym c.call.view_is) counts))
+
+pub returns-clause-plain : goal.returns-clause-plain
+returns-clause-plain g c = λ one asked format before sized counts.
+    subst (λ (r : Reply). IsPlainAnswer format g.N.Named.board.sizes.slots asked r (keys_in before.known) (keys_in (part c.answer.new.pass).known)) (sym c.answer_of.ensures)
+    (c.answer.ensures.plain one asked format before sized
+    (subst (λ (k : Calling). Counts g.N.Named.board asked format before k (part c.args.pass.now)) (sym c.call.view_is) counts))

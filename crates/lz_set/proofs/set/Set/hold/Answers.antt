@@ -1,0 +1,19 @@
+use Rattle.std.proofs.Common.{◌≡◌, sym, ap, ◌∙◌, subst}
+use Rattle.lz_machine.specs.declared.kind.Kind.{Kind}
+use Rattle.lz_machine.specs.Calls.{event_at}
+use Rattle.lz_machine.specs.Kinds.{kind_of}
+use Rattle.lz_machine.specs.Orders.{Calling, shape_with}
+use Rattle.lz_board.specs.Seats.{part}
+use Rattle.lz_set.specs.Stages.{CountsOn, HasPlayed}
+use Rattle.lz_set.proofs.Plays.{has_played}
+use Rattle.lz_set.proofs.set.Set.hold.Goals as goal
+
+pub returns-clause-counts : goal.returns-clause-counts
+returns-clause-counts g c =
+    subst (λ (k : Calling). CountsOn g.N.Named.board k (part c.args.pass.now) c.turn_on-turn.new.caller (part c.turn_on-turn.new.pass)) c.call.view_is c.turn_on-turn.ensures.goes
+
+pub returns-clause-played : goal.returns-clause-played
+returns-clause-played g c =
+    subst (λ (kind : Kind). HasPlayed kind (part c.turn_on-turn.new.pass))
+    (ap (λ (k : Calling). kind_of (event_at (shape_with k) k.command k.progress)) c.call.view_is ∙ sym c.requires.kind)
+    (has_played _ _ _ _ _ _ c.turn_on-turn.ensures.advanced)

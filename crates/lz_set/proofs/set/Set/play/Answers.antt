@@ -1,0 +1,30 @@
+use Rattle.std.proofs.Common.{◌≡◌, true, Option, Some, None, is_some, refl, sym, ap, ◌∙◌}
+use mathlib.Core.Bool.{false≢true}
+use Rattle.lz_machine.specs.declared.event.Reply.{Reply}
+use Rattle.lz_machine.specs.Orders.{Calling}
+use Rattle.lz_machine.specs.Runs.{reply_at}
+use Rattle.lz_set.proofs.set.Set.play.Goals as goal
+
+some_is : (o : Option Reply) → is_some o ≡ true → (reply : Reply) × (o ≡ Some reply)
+some_is None is = absurd (false≢true is)
+some_is (Some reply) is = (reply, refl)
+
+pub returns-then-is_some-clause-stands : goal.returns-then-is_some-clause-stands
+returns-then-is_some-clause-stands g c =
+    let got : (reply : Reply) × (c.reply.result ≡ Some reply) = some_is c.reply.result (sym c.is_some.ensures ∙ c.if-is_some.true) in
+    (got.0, ap (λ (k : Calling). reply_at k.progress) (sym c.call.view_is) ∙ sym c.reply.ensures ∙ got.1)
+
+pub turn-is_busy-requires-clause-counted : goal.turn-is_busy-requires-clause-counted
+turn-is_busy-requires-clause-counted g c =
+    let was = c.requires.counted in
+    (was.0, was.1, was.2, c.loop.invariant.counts was.0 was.1 was.2 was.3)
+
+pub returns-then-is_busy-clause-counts : goal.returns-then-is_busy-clause-counts
+returns-then-is_busy-clause-counts g c = λ asked format before counts.
+    c.turn-is_busy.ensures.counts asked format before (c.loop.invariant.counts asked format before counts)
+
+pub loop-preserved : goal.loop-preserved
+loop-preserved g c = record {
+  pass = c.turn-is_busy.ensures.pass;
+  counts = λ asked format before counts. c.turn-is_busy.ensures.counts asked format before (c.loop.invariant.counts asked format before counts);
+}

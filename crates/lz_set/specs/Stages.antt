@@ -1,0 +1,37 @@
+-- How a call under way is played on.
+use Rattle.std.specs.Prelude.{◌≡◌, ℕ, List, ◌∷◌, Option, Some}
+use Rattle.lz_slot.specs.declared.command.Command.{Command}
+use Rattle.lz_slot.specs.declared.format.Format.{Format}
+use Rattle.lz_list.specs.declared.place.Place.{Place}
+use Rattle.lz_list.specs.declared.publishing.Publishing.{Publishing}
+use Rattle.lz_machine.specs.declared.event.Event.{Event}
+use Rattle.lz_machine.specs.declared.event.Event.TheVariants.{Claim, Sync}
+use Rattle.lz_machine.specs.declared.event.Outcome.{Outcome}
+use Rattle.lz_machine.specs.declared.event.Reply.{Reply}
+use Rattle.lz_machine.specs.declared.kind.Kind.{Kind}
+use Rattle.lz_machine.specs.Calls.{event_at}
+use Rattle.lz_machine.specs.Kinds.{kind_of}
+use Rattle.lz_machine.specs.Orders.{Calling, shape_with}
+use Rattle.lz_machine.specs.Runs.{reply_at}
+use Rattle.lz_board.specs.declared.view.Note.{Note}
+use Rattle.lz_board.specs.declared.view.Part.{Part}
+use Rattle.lz_board.specs.declared.view.What.TheVariants.{Played}
+use Rattle.lz_board.specs.Notes.{note_by}
+use Rattle.lz_board.specs.Seats.{BoardId}
+use Rattle.lz_tie.specs.Counting.{Counts}
+use Rattle.lz_set.specs.declared.underway.Stage.{Stage}
+use Rattle.lz_set.specs.declared.underway.Stage.TheVariants.{Syncs, Busy, Answers}
+
+-- where a call stands that stopped at this stage: before a Sync, before a Claim, or with its reply
+abbrev pub StandsAt : Stage → Calling → Type 0
+StandsAt Syncs k = (slot : ℕ) × (event_at (shape_with k) k.command k.progress ≡ Sync slot)
+StandsAt Busy k = (pred : Place) × (curr : Option ℕ) × (event_at (shape_with k) k.command k.progress ≡ Claim pred curr)
+StandsAt Answers k = (reply : Reply) × (reply_at k.progress ≡ Some reply)
+
+-- the call that was counted before is counted after, on the same file, since the same part
+abbrev pub CountsOn : BoardId → Calling → Part → Calling → Part → Type 0
+CountsOn b k h k' h' = (c : Command) (format : Format) (before : Part) → Counts b c format before k h → Counts b c format before k' h'
+
+-- the newest step of the pass is an event of this kind
+abbrev pub HasPlayed : Kind → Part → Type 0
+HasPlayed kind h = (e : Event) × (o : Outcome) × (x : Option Publishing) × (rest : List Note) × (h.steps ≡ note_by h.number (Played e o) x ∷ rest) × (kind_of e ≡ kind)
