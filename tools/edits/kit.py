@@ -57,10 +57,10 @@ def start() -> None:
     rt().rtlib.guarded()
 
 
-def identity() -> str:
-    """What `rt version` says."""
+def logic() -> str:
+    """The sum of the kit's logic, by which it accepts a proof: the end of what `rt version` says. Its release stands before it."""
     with open(f"{rt().KIT}/KIT-ID", encoding="utf-8") as file:
-        return file.read().strip()
+        return file.read().split()[-1]
 
 
 def crates(top: str) -> List[Crate]:

@@ -1,7 +1,8 @@
 """The record: of each crate the hash under which all of its edits were last refused.
 
 The hash is of what a refusal rests on: the crate's sources, specs and edits, what the crates below it promise (their specs, and
-their sources without comments and bodies), and the kit. A body or a proof of a lower crate isn't in it, and no proof of its own.
+their sources without comments and bodies), and the kit's logic. A body or a proof of a lower crate isn't in it, no proof of its own,
+and no release of the kit: where its logic is the same, what has no proof has none.
 """
 
 from __future__ import annotations
@@ -56,7 +57,7 @@ class Hashes:
 
     def of(self, crate: kit.Crate) -> str:
         """The hash of what the refusals of a crate's edits rest on."""
-        found = hashlib.sha256(repr((kit.identity(), settings(crate))).encode())
+        found = hashlib.sha256(repr((kit.logic(), settings(crate))).encode())
         for path in files(crate.folder, ("src", "specs")):
             found.update(repr((path, bytes_of(crate, path))).encode())
         # In which of the two folders an edit stands is nothing to its refusal.

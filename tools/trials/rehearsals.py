@@ -10,7 +10,7 @@ from trials.program import Ended, Program
 from trials.report import expect
 from trials.transcripts import FORMATS, Transcript
 
-STORED = ("turns", "crashes", "failures", "lawful", "limits")
+STORED = ("turns", "crashes", "failures", "lawful", "limits", "reuse")
 
 MOST_LINES = 100_000
 
@@ -134,12 +134,12 @@ def awaited() -> Iterator[Transcript]:
 
 
 def try_stored(program: Program, seed: int) -> None:
-    """Each stored transcript, whole in either format, and each of its beginnings in one."""
+    """Each stored transcript, whole in each of its formats, and each of its beginnings in one."""
     draw = random.Random(seed)
     for name in STORED:
         for transcript in transcripts.stored(name):
-            try_whole(program, transcript)
-            try_beginnings(program, transcript, draw.choice(FORMATS))
+            try_whole(program, transcript, transcript.formats)
+            try_beginnings(program, transcript, draw.choice(transcript.formats))
     for transcript in (*unlawful(), *awaited()):
         try_whole(program, transcript)
 

@@ -3,7 +3,6 @@ use Rattle.std.proofs.Common.{◌≡◌, ◌⊎◌, inl, inr, ⊎_elim, All, Boo
 use Rattle.std.proofs.lemmas.List.{get_or-map, length-map}
 use Rattle.std.proofs.lemmas.List.Elements.{All-cons, All-from_recursion, All-nil, All-tail}
 use Rattle.std.specs.List.{Any}
-use Rattle.lz_slot.specs.declared.format.Format.{Format}
 use Rattle.lz_disk.specs.Devices.{Device}
 use Rattle.lz_vault.specs.Vaults.{last_sync}
 use Rattle.lz_list.specs.Traces.{Trace}
@@ -13,10 +12,10 @@ use Rattle.lz_board.specs.declared.view.Sizes.{Sizes}
 use Rattle.lz_board.specs.Notes.{Extends, trace_of}
 use Rattle.lz_board.specs.Plays.{parts_from}
 use Rattle.lz_board.specs.Seats.{BoardId, part}
+use Rattle.lz_board.proofs.Walk.GlanceAnswer.{halt_since}
 use Rattle.lz_set.specs.Blanks.{AreNew}
 use Rattle.lz_set.specs.Left.{IsLeftWith}
 use Rattle.lz_serve.specs.Halts.{IsCalm, SawHalt, was_cut}
-use Rattle.lz_serve.proofs.Halting.{halt_extended}
 use Rattle.lazyset_commands.specs.Services.{ServedPasses}
 use Rattle.lazyset_commands.specs.declared.status.Status.{Status}
 use Rattle.lazyset_commands.specs.declared.status.Status.TheVariants.{Done, Failed}
@@ -38,7 +37,7 @@ all_parts P (p ∷ ps) all = All-cons P (part p) (map (λ p. part p) ps) (all 0 
 pub new_calm : (b : BoardId) (ps : List Pass) → AreNew b ps → All (λ p. IsCalm (part p)) ps
 new_calm b ps new = λ k d low. subst IsCalm (sym (new.new k d low).1) (All-from_recursion (λ call. was_cut call.1 ≡ false) [] tt)
 
-module _ (b : BoardId) (first disk : Device) (F : Format) (ps : List Pass) (met : List Part) (left : IsLeftWith b first F disk (map (λ p. part p) ps) met) where
+module _ (b : BoardId) (first disk : Device) (ps : List Pass) (met : List Part) (left : IsLeftWith b first disk (map (λ p. part p) ps) met) where
   -- where one of the passes saw the halt, the device has failed, or has made its last sync
   halt_left : Any SawHalt ps → (last_sync ≤ left.left.yard.vault.syncs) ⊎ (first.faults < disk.faults)
   halt_left (k, p, low, at, saw) =
@@ -46,11 +45,11 @@ module _ (b : BoardId) (first disk : Device) (F : Format) (ps : List Pass) (met 
       let here : k < length (map (λ p. part p) ps) = subst (λ (n : ℕ). k < n) (sym (length-map ps (λ p. part p))) low in
       let same = get_or-map (λ (p : Pass). part p) ps k p (part p) low ∙ ap (λ (p : Pass). part p) at in
       let since = subst (λ (h : Part). Extends K h.known) same (left.since k (part p) here) in
-      left.left.over (halt_extended (part p).known K since saw)
+      left.left.over (halt_since (part p).known K since saw)
 
   pub served_passes : (status : Status) (halted : Bool) (threadless : ℕ) → length ps + threadless ≡ b.sizes.passes → (halted ≡ true → Any SawHalt ps) → (halted ≡ false → All (λ p. IsCalm (part p)) ps)
       → (status ≡ Done → (halted ≡ false) × (threadless ≡ 0))
-      → (status ≡ Failed → (halted ≡ true) ⊎ (0 < threadless)) → (status ≡ Done) ⊎ (status ≡ Failed) → ServedPasses b first F status disk
+      → (status ≡ Failed → (halted ≡ true) ⊎ (0 < threadless)) → (status ≡ Done) ⊎ (status ≡ Failed) → ServedPasses b first status disk
   served_passes status halted threadless count seen calm done failed other =
       let long = length-map ps (λ p. part p) in
       record {

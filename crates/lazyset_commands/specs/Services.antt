@@ -3,7 +3,6 @@ use Rattle.std.specs.Prelude.{◌≡◌, ◌⊎◌, ◌≤◌, ◌<◌, ℕ, zer
 use Rattle.std.specs.Duration.{as_nanos}
 use Rattle.std.specs.declared.time.Duration.{Duration}
 use Rattle.std.specs.Io.KnownBytes.{Appends}
-use Rattle.lz_slot.specs.declared.format.Format.{Format}
 use Rattle.lz_disk.specs.Devices.{Device}
 use Rattle.lz_vault.specs.Opens.{IsRefusedFor}
 use Rattle.lz_vault.specs.Vaults.{last_sync}
@@ -31,10 +30,10 @@ IsIdleBound (suc n) idle = IsSomeAnd idle (λ d. as_nanos d ≡ (suc n) * 1_000_
 -- Passes of a set were served, and have ended with these parts: what is left of the disk tells a history, in which their calls are those
 -- that they made, with the replies that they got. It is done only where each pass was served, and no call of theirs was answered that the
 -- set is halted or that the device failed. It has failed only where a pass wasn't served, the device failed, or it has made its last sync.
-pub record ServedPasses (b : BoardId) (first : Device) (F : Format) (status : Status) (disk : Device) : Type 0 where
+pub record ServedPasses (b : BoardId) (first : Device) (status : Status) (disk : Device) : Type 0 where
   pub ended : List Part
   pub met : List Part
-  pub left : IsLeftWith b first F disk ended met
+  pub left : IsLeftWith b first disk ended met
   pub whole : status ≡ Done → (length ended ≡ b.sizes.passes) × All IsCalm ended
   pub failed : status ≡ Failed → (length ended < b.sizes.passes) ⊎ ((last_sync ≤ left.left.yard.vault.syncs) ⊎ (first.faults < disk.faults))
   pub other : (status ≡ Done) ⊎ (status ≡ Failed)
@@ -48,9 +47,9 @@ abbrev pub TellsPort : Option (List ℕ) → Option (List ℕ) → Type 0
 TellsPort before after = (port : ℕ) × (port < 65_536) × (Appends before after (port_text port) ⊎ IsCutShort before after (port_text port))
 
 -- There was a port for the service, which was told where anybody reads it, and its passes were served.
-pub record HadPort (b : BoardId) (first : Device) (F : Format) (status : Status) (before after : Option (List ℕ)) (disk : Device) : Type 0 where
+pub record HadPort (b : BoardId) (first : Device) (status : Status) (before after : Option (List ℕ)) (disk : Device) : Type 0 where
   pub told : TellsPort before after
-  pub served : ServedPasses b first F status disk
+  pub served : ServedPasses b first status disk
 
 -- There was no port for the service, which was told; what is left of the disk tells a history.
 pub record HadNoPort (b : BoardId) (first : Device) (status : Status) (before after : Option (List ℕ)) (disk : Device) : Type 0 where
@@ -64,7 +63,7 @@ pub record RanService {D : Type 0} (device : D → Device) (buckets passes : ℕ
   pub opens : OpensYard (device old) (device opened.disk) buckets passes opened.yard
   pub sizes : opened.board.sizes ≡ sizes_of opened.yard.shape
   pub trace : opened.board.opened ≡ opened_by opened.yard.words
-  pub served : HadPort opened.board (device opened.disk) opened.yard.vault.format status before after (device new)
+  pub served : HadPort opened.board (device opened.disk) status before after (device new)
       ⊎ HadNoPort opened.board (device opened.disk) status before after (device new)
 
 -- The open was refused, and the refusal was told.

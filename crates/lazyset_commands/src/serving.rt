@@ -106,7 +106,7 @@ where
     D: Disk + Send,
     N: Named + Send + Sync,
     requires { MayBeNamed D.device N.board N.first N.format blank }
-    ensures { HadPort N.board N.first N.format result.0 (W.contents writer.old) (W.contents writer.new) (D.device result.1) ⊎ HadNoPort N.board N.first result.0 (W.contents writer.old) (W.contents writer.new) (D.device result.1) }
+    ensures { HadPort N.board N.first result.0 (W.contents writer.old) (W.contents writer.new) (D.device result.1) ⊎ HadNoPort N.board N.first result.0 (W.contents writer.old) (W.contents writer.new) (D.device result.1) }
 {
     let serving = Serving {
         slots: blank.slots(),
@@ -143,7 +143,7 @@ where
     N: Named + Send + Sync,
     requires may_call { All (MayCall N.board) passes.items }
     requires new { AreNew N.board passes.items }
-    ensures { ServedPasses N.board N.first N.format result.0 (D.device result.1) }
+    ensures { ServedPasses N.board N.first result.0 (D.device result.1) }
 {
     let Served {
         passes,

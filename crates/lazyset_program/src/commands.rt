@@ -4,7 +4,7 @@ ghost use Rattle.lz_slot.specs.Limits.{most_buckets, most_passes, most_rehearsed
 ghost use Rattle.lazyset_command_line.specs.Requests.{IsWithin};
 
 use crate::fault::Fault;
-use crate::files::{create, is_absent, open, read_front, stand_in};
+use crate::files::{create, is_absent, open, read_front, stand_in, take_away_empty};
 use crate::heard::Heard;
 use crate::log::Log;
 use crate::watched::Watched;
@@ -14,9 +14,7 @@ use lazyset_commands::{
     MOST_JUDGED, MOST_SURVEYED, ServeOptions, Status, check_of_on, check_on, info_on, judge_on,
     make_on, rehearse_on, renew_on, run_on, serve_on,
 };
-use lz_disk::MemoryDisk;
-use lz_slot::{Format, MOST_SLOTS};
-use std::alloc::{AllocError, Global};
+use lz_slot::Format;
 use std::fs::File;
 use std::io::Write;
 use std::net::{Net, TcpListener, TcpStream};
@@ -86,14 +84,15 @@ where
     }
 }
 
-// Whether a making of so many slots is refused over nothing: no file is created for that.
-fn makes_none<R: Files<File = File>>(rt: &R, path: &str, slots: u64) -> bool {
-    (slots == 0 || slots > MOST_SLOTS) && is_absent(rt, path)
-}
-
-// A disk in place of a file that isn't there, and isn't called.
-fn nothing(alloc: Global) -> Result<MemoryDisk, AllocError> {
-    MemoryDisk::new(alloc, Vec::new(alloc))
+// A refused making leaves no file where there was none.
+fn after_making<R>(rt: &R, path: &str, was_absent: bool, status: Status) -> Status
+where
+    R: Files<File = File> + AllocGlobal,
+{
+    if was_absent && matches!(status, Status::Refused) {
+        take_away_empty(rt, path);
+    }
+    status
 }
 
 fn make<R, W>(
@@ -107,11 +106,10 @@ where
     R: Files<File = File> + Eprint + AllocGlobal,
     W: Write + Drop,
 {
-    if makes_none(rt, file, slots) {
-        return Ok(make_on(writer, &mut nothing(rt.alloc())?, slots, format));
-    }
+    let was_absent = is_absent(rt, file);
     let mut disk = create(rt, file)?;
-    Ok(make_on(writer, &mut disk, slots, format))
+    let status = make_on(writer, &mut disk, slots, format);
+    Ok(after_making(rt, file, was_absent, status))
 }
 
 fn renew<R, W>(rt: &R, writer: &mut W, old: &str, new: &str, slots: u64) -> Result<Status, Fault>
@@ -119,13 +117,11 @@ where
     R: Files<File = File> + Eprint + AllocGlobal,
     W: Write + Drop,
 {
-    let alloc = rt.alloc();
     let mut old = open(rt, old)?;
-    if makes_none(rt, new, slots) {
-        return Ok(renew_on(alloc, writer, &mut old, &mut nothing(alloc)?, slots));
-    }
-    let mut new = create(rt, new)?;
-    Ok(renew_on(alloc, writer, &mut old, &mut new, slots))
+    let was_absent = is_absent(rt, new);
+    let mut disk = create(rt, new)?;
+    let status = renew_on(rt.alloc(), writer, &mut old, &mut disk, slots);
+    Ok(after_making(rt, new, was_absent, status))
 }
 
 fn run_file<R, W>(rt: &R, writer: &mut W, file: &str, buckets: usize) -> Result<Status, Fault>

@@ -61,6 +61,18 @@ where
     }
 }
 
+/// Takes away a file into which nothing was written, itself and not a link to it.
+pub fn take_away_empty<R: Files<File = File> + AllocGlobal>(rt: &R, path: &str) {
+    let Ok(itself) = rt.canonicalize(rt.alloc(), path) else {
+        return;
+    };
+    if let Ok(facts) = rt.metadata(itself.as_str())
+        && facts.len() == 0
+    {
+        let _ = rt.remove_file(itself.as_str());
+    }
+}
+
 /// Whether there is nothing at this path.
 pub fn is_absent<R: Files<File = File>>(rt: &R, path: &str) -> bool {
     match rt.metadata(path) {

@@ -12,6 +12,12 @@ use Rattle.lz_board.specs.declared.view.Part.{Part}
 use Rattle.lz_board.specs.Notes.{own}
 use Rattle.lz_machine.specs.Yards.{IsInside}
 
+-- the number by which a program tells a fault
+abbrev pub glance_fault_number : GlanceFault → ℕ
+glance_fault_number Halted = 1
+glance_fault_number Worn = 2
+glance_fault_number BusyPass = 3
+
 -- Q goes on from P, and this is all that was published for pass p since
 pub record Changes (p : ℕ) (P Q changes : Trace) : Type 0 where
   pub since : Trace

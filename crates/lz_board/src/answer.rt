@@ -1,4 +1,7 @@
 //! What a glance answers.
+ghost use Rattle.std.specs.Prelude.{◌≡◌};
+ghost use Rattle.lz_board.specs.Glances.{glance_fault_number};
+
 use lz_slot::Slot;
 
 /// What a pass saw of a key at a glance.
@@ -19,4 +22,17 @@ pub enum GlanceFault {
     Worn,
     /// It is inside already.
     BusyPass,
+}
+
+impl GlanceFault {
+    /// The number by which a program tells the fault.
+    pub fn number(self) -> u8
+        ensures { result ≡ glance_fault_number self }
+    {
+        match self {
+            GlanceFault::Halted => 1,
+            GlanceFault::Worn => 2,
+            GlanceFault::BusyPass => 3,
+        }
+    }
 }

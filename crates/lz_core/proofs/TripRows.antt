@@ -1,15 +1,24 @@
--- Worked rows: a device that is tripped fails once, and a device that isn't never fails.
-use Rattle.std.proofs.Common.{◌≡◌, ℕ, true, false, List, [], ◌∷◌, refl, arith}
+-- Worked rows: a device that is tripped fails once, and a device that isn't never fails. And the numbers of a play's faults.
+use Rattle.std.proofs.Common.{◌≡◌, ℕ, true, false, [], ◌∷◌, refl, arith}
 use Rattle.std.proofs.lemmas.Bool.{false≢true}
 use Rattle.lz_slot.specs.declared.command.Command.{Command}
 use Rattle.lz_disk.specs.Images.{Medium}
-use Rattle.lz_machine.specs.Runs.{Point, Calls, Turn, Fails, Trips, Stops, Opens, OpenFails, run}
+use Rattle.lz_machine.specs.Runs.{Point, Calls, Turn, Fails, Looks, Trips, Stops, Opens, OpenFails, run}
+use Rattle.lz_core.specs.declared.world.PlayFault.TheVariants as play_fault
 use Rattle.lz_core.specs.Trips.{CallsDevice, GoAsTripped}
+use Rattle.lz_core.specs.Worlds.{play_fault_number}
 
 module _ (p : Point) (a b : ℕ) (c : Command) (new later : Medium) where
   -- the first call after a trip fails, also where other calls have begun between
   once : GoAsTripped p false (Fails a new ∷ Calls b c ∷ Trips ∷ [])
   once = (refl, (tt, (tt, tt)))
+
+  -- or other actors have looked, which calls no device
+  after_a_look : GoAsTripped p false (Fails a new ∷ Looks b ∷ Trips ∷ [])
+  after_a_look = (refl, (tt, (tt, tt)))
+
+  not_opened_after_a_look : GoAsTripped p false (Opens ∷ Looks b ∷ Trips ∷ []) → ⊥
+  not_opened_after_a_look h = h.0 refl
 
   -- and the second one doesn't
   not_twice : GoAsTripped p false (Fails b later ∷ Fails a new ∷ Trips ∷ []) → ⊥
@@ -51,3 +60,6 @@ module _ (p : Point) (a b : ℕ) (c : Command) (new later : Medium) where
 
   not_memory_tripped : GoAsTripped p false (OpenFails 8 true ∷ Trips ∷ []) → ⊥
   not_memory_tripped h = let number : ◌≡◌ {A = ℕ} 8 7 = h.0.1 refl in absurd (omega (arith, number))
+
+fault_numbers : (play_fault_number (play_fault.NotNow 3) ≡ 1) × (play_fault_number play_fault.Memory ≡ 2)
+fault_numbers = (refl, refl)

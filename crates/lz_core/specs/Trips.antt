@@ -4,7 +4,7 @@ use Rattle.lz_vault.specs.Vaults.{IsMade}
 use Rattle.lz_vault.specs.Opens.{open_fault_number}
 use Rattle.lz_vault.specs.declared.opening.OpenFault.TheVariants.{Device}
 use Rattle.lz_machine.specs.Table.{line_call}
-use Rattle.lz_machine.specs.Runs.{State, Up, Down, Transition, Calls, Turn, Fails, Trips, Opens, OpenFails, Point, caller_at, next_event, run}
+use Rattle.lz_machine.specs.Runs.{State, Up, Down, Transition, Calls, Turn, Fails, Looks, Trips, Opens, OpenFails, Point, caller_at, next_event, run}
 
 -- an actor's next event calls the device
 abbrev pub CallsDevice : State → ℕ → Type 0
@@ -23,6 +23,7 @@ GoesAsTripped w tripped _ = Unit {0}
 abbrev pub tripped_after : Bool → Transition → Bool
 tripped_after tripped (Calls a c) = tripped
 tripped_after tripped (Turn a) = tripped
+tripped_after tripped (Looks a) = tripped
 tripped_after tripped Trips = true
 tripped_after tripped _ = false
 

@@ -15,6 +15,8 @@ use Rattle.lz_machine.specs.Kinds.{kind_of}
 use Rattle.lz_core.specs.declared.play.Step.{Step as PlayStep}
 use Rattle.lz_core.specs.declared.play.Step.TheVariants.{Call, Turn as TurnOf, Open}
 use Rattle.lz_core.specs.declared.open_calls.OpenCall.{OpenCall}
+use Rattle.lz_core.specs.declared.world.PlayFault.{PlayFault}
+use Rattle.lz_core.specs.declared.world.PlayFault.TheVariants as play_fault
 use Rattle.lz_vault.specs.Opens.{open_fault_number}
 use Rattle.lz_vault.specs.declared.opening.OpenFault.{OpenFault}
 use Rattle.lz_vault.specs.declared.opening.OpenFault.TheVariants.{Device, Memory}
@@ -221,6 +223,11 @@ IsOutcome (Down shape disk) a e outcome new = ⊥
 -- a turn told its event's kind and outcome
 abbrev pub IsTold : State → ℕ → Kind → Outcome → State → Type 0
 IsTold old a told outcome new = IsSomeAnd (next_of old a) (λ e. (told ≡ kind_of e) × IsOutcome old a e outcome new)
+
+-- the number by which a program tells a fault
+abbrev pub play_fault_number : PlayFault → ℕ
+play_fault_number (play_fault.NotNow step) = 1
+play_fault_number play_fault.Memory = 2
 
 -- the marks of a turn
 abbrev pub mark_list : Option Mark → List Mark

@@ -33,6 +33,20 @@ pub enum PlayFault {
     Memory,
 }
 
+impl PlayFault {
+    ghost use Rattle.lz_core.specs.Worlds.{play_fault_number};
+
+    /// The number by which a program tells the fault.
+    pub fn number(self) -> u8
+        ensures { result ≡ play_fault_number self }
+    {
+        match self {
+            PlayFault::NotNow(_) => 1,
+            PlayFault::Memory => 2,
+        }
+    }
+}
+
 /// What a turn was.
 #[derive(Drop)]
 pub struct Turned {

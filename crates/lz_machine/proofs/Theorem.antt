@@ -11,6 +11,7 @@ pub mod Timing
 pub mod FreedSlots
 pub mod OneAdd
 pub mod JoinedRuns
+pub mod RunRows
 pub mod TraceOutside
 pub mod WalkEnds
 pub mod NoSlotCounts

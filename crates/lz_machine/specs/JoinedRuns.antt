@@ -1,7 +1,7 @@
--- A run may begin where another one ended, with other buckets and passes.
-use Rattle.std.specs.Prelude.{◌≤◌, ℕ, List, ◌++◌}
+-- Runs may follow on one another: each begins with a text that the one before it may leave, with buckets and passes of its own.
+use Rattle.std.specs.Prelude.{◌≤◌, ℕ, List, [], ◌∷◌, ◌++◌}
 use Rattle.lz_slot.specs.Bytes.{Holds}
-use Rattle.lz_slot.specs.Histories.{History, ChainTo, lives}
+use Rattle.lz_slot.specs.Histories.{History, Life, ChainTo, lives}
 use Rattle.lz_slot.specs.Sets.{Keys}
 use Rattle.lz_list.specs.Traces.{Trace}
 use Rattle.lz_machine.specs.Runs.{Start, IsStart, State, Reached, MayLeave, start_keys}
@@ -13,10 +13,34 @@ LeftIsStart =
     → Reached start w M P → MayLeave w t → (1 ≤ buckets) × (buckets ≤ 4096) → (1 ≤ passes) × (passes ≤ 64)
     → IsStart (record { shape = record { slots = start.shape.slots; buckets = buckets; passes = passes }; text = t })
 
--- The lives of a run that begins with a text which another run may leave follow on that run's lives: together they are a
--- chain to the set of each text that the second run may leave.
+-- One run, as far as it has come.
+pub record Ran : Type 0 where
+  pub start : Start
+  pub state : State
+  pub marks : History
+  pub trace : Trace
+  pub reached : Reached start state marks trace
+
+-- Of these runs, the newest first, each but the oldest begins with a text that the one before it may leave.
+abbrev pub Follow : List Ran → Type 0
+Follow [] = Unit {0}
+Follow (r ∷ []) = Unit {0}
+Follow (r ∷ before ∷ earlier) = MayLeave before.state r.start.text × Follow (before ∷ earlier)
+
+-- the lives of all of them, the newest first
+abbrev pub all_lives : List Ran → List Life
+all_lives [] = []
+all_lives (r ∷ earlier) = lives (start_keys r.start) r.marks ++ all_lives earlier
+
+-- the start of the oldest of them
+abbrev pub first_start : Ran → List Ran → Start
+first_start r [] = r.start
+first_start r (before ∷ earlier) = first_start before earlier
+
+-- The lives of any number of runs that follow on one another are a chain to the set of each text that the newest may leave,
+-- which has the slots of the first start.
 abbrev pub RunsJoin : Type 0
 RunsJoin =
-    (start next : Start) (w v : State) (M H : History) (P Q : Trace) (t : List ℕ)
-    → Reached start w M P → MayLeave w next.text → Reached next v H Q → MayLeave v t
-    → (S : Keys) × Holds t start.shape.slots S × ChainTo (lives (start_keys next) H ++ lives (start_keys start) M) S
+    (r : Ran) (earlier : List Ran) (t : List ℕ)
+    → Follow (r ∷ earlier) → MayLeave r.state t
+    → (S : Keys) × Holds t (first_start r earlier).shape.slots S × ChainTo (all_lives (r ∷ earlier)) S

@@ -41,7 +41,7 @@ IsReadyFor y actor a Mark = HasCurr actor (λ s. (s < y.shape.slots) × (get y.w
 IsReadyFor y actor a Release = IsPlace y.words actor.pred × IsCurr y.words actor.curr
 IsReadyFor y actor a Unlink = HasCurr actor (λ s. (s < y.shape.slots) × IsPlace y.words actor.pred × MayUnlinkAt y.words actor.pred s × (get y.words (key_at s) ≤ largest_key))
 IsReadyFor y actor a Retire = HasCurr actor (λ s. IsTakenAt y.uses s)
-IsReadyFor y actor a Answer = (pin_of y a < last_pin) × IfSome actor.slot (λ s. (s < y.shape.slots) × (is_unused (cell_at y s).stage ≡ true → IsTakenAt y.uses s))
+IsReadyFor y actor a Answer = (pin_of y a ≤ last_pin) × IfSome actor.slot (λ s. (s < y.shape.slots) × (is_unused (cell_at y s).stage ≡ true → IsTakenAt y.uses s))
 IsReadyFor y actor a _ = Unit {0}
 
 -- the actor is one of the yard's, and so are the event's slots, words and passes; its calls may be made

@@ -41,6 +41,10 @@ pin_of y a = get y.words (pin_at a)
 abbrev pub stays_out : Actor → ℕ → Bool
 stays_out actor pin = (pin == last_pin) || (is_outside pin && actor.refused)
 
+-- the pin word of an actor after its Answer
+abbrev pub pin_answered : Actor → ℕ → ℕ
+pin_answered actor pin = if stays_out actor pin then pin else pin + 1
+
 -- an actor's slot, where it has one, and the slot of the node that it claimed last
 abbrev pub slot_of : Actor → ℕ
 slot_of actor = unwrap_or actor.slot 0
@@ -175,7 +179,7 @@ words_after y actor a Link = redirect y.words actor.pred (link_to actor.slot)
 words_after y actor a Mark = change_flags marked_flags y.words (node_of actor)
 words_after y actor a (Settle s) = if is_sure y s then change_flags (settle (cell_at y s).stage) y.words s else y.words
 words_after y actor a Unlink = redirect y.words actor.pred (next_at y.words (Node (node_of actor)))
-words_after y actor a Answer = set y.words (pin_at a) (get y.words (pin_at a) + 1)
+words_after y actor a Answer = if stays_out actor (pin_of y a) then y.words else set y.words (pin_at a) (get y.words (pin_at a) + 1)
 words_after y actor a Halt = set y.words halt_word 1
 words_after y actor a _ = y.words
 
@@ -253,7 +257,7 @@ abbrev pub uses_after : Yard → Actor → ℕ → Event → List Use
 uses_after y actor a Reserve = reserved (collect y.uses) (lowest_free (collect y.uses))
 uses_after y actor a Retire = retire y.shape.passes y.uses (node_of actor)
 uses_after y actor a (SeePin p value) = see_pin p value y.uses
-uses_after y actor a Answer = see_pin a (get y.words (pin_at a) + 1) (given_back y actor.slot)
+uses_after y actor a Answer = see_pin a (pin_answered actor (pin_of y a)) (given_back y actor.slot)
 uses_after y actor a _ = y.uses
 
 -- What each event answers.
@@ -286,10 +290,9 @@ yard_done y actor a e =
       actors = actors_after y actor a e;
     }
 
--- a pass that is worn isn't pinned, and an Answer without a pin changes nothing
+-- a pass that is worn isn't pinned
 abbrev pub course_alive : Yard → ℕ → ℕ → Event → Course
 course_alive y a pin Pin = if pin == last_pin then Refused Worn else Plays
-course_alive y a pin Answer = if stays_out (actor_at y a) pin then Refused Done else Plays
 course_alive y a pin (Sync s) = if not (is_sure y s) && is_spent y then Dies else Plays
 course_alive y a pin _ = Plays
 
@@ -337,7 +340,7 @@ word_changed y actor a Link = Some (word_of actor.pred)
 word_changed y actor a Mark = Some (link_at (node_of actor))
 word_changed y actor a (Settle s) = if is_sure y s then Some (link_at s) else None
 word_changed y actor a Unlink = Some (word_of actor.pred)
-word_changed y actor a Answer = Some (pin_at a)
+word_changed y actor a Answer = if stays_out actor (pin_of y a) then None else Some (pin_at a)
 word_changed y actor a Halt = Some halt_word
 word_changed y actor a _ = None
 

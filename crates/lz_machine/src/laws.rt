@@ -108,8 +108,8 @@ pub fn left_is_start()
     ensures { LeftIsStart }
 {}
 
-/// The main theorem over runs whose opens have other buckets and passes: where one run begins with a text that another may
-/// leave, their lives together are a chain.
+/// The main theorem over any number of runs, each with buckets and passes of its own: where each but the first begins with a
+/// text that the one before it may leave, their lives together are a chain.
 pub fn runs_join()
     ensures { RunsJoin }
 {}

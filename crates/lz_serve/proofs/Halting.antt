@@ -1,9 +1,9 @@
 -- A pass of whose sessions one halted: it has seen that the set was halted.
-use Rattle.std.proofs.Common.{◌≡◌, Bool, true, false, List, [], ◌∷◌, Option, ℕ, Result, Ok, Err, ap, ◌∙◌}
+use Rattle.std.proofs.Common.{◌≡◌, Bool, true, false, List, [], ◌∷◌, Option, ℕ, Result, Ok, Err, ◌∙◌}
 use Rattle.lz_slot.specs.declared.command.Command.{Command}
 use Rattle.lz_slot.specs.declared.command.Command.TheVariants as command
 use Rattle.lz_slot.specs.declared.format.Format.{Format}
-use Rattle.lz_list.specs.Traces.{Trace, halt_word}
+use Rattle.lz_list.specs.Traces.{halt_word}
 use Rattle.lz_machine.specs.declared.event.Reply.TheVariants as given
 use Rattle.lz_proto.specs.declared.request.Request.TheVariants.{Quit}
 use Rattle.lz_proto.specs.declared.reply.Reply.{Reply}
@@ -15,19 +15,13 @@ use Rattle.lz_proto.specs.declared.end.End.{End}
 use Rattle.lz_proto.specs.declared.end.End.TheVariants as ends
 use Rattle.lz_proto.specs.Sessions.{Serves, SessionTells, end_of}
 use Rattle.lz_board.specs.declared.pass.Pass.{Pass}
-use Rattle.lz_board.proofs.Walk.GlanceAnswer.{halt_longer}
 use Rattle.lz_board.specs.declared.view.Part.{Part}
-use Rattle.lz_board.specs.Notes.{Extends}
 use Rattle.lz_board.specs.Seats.{BoardId, part}
 use Rattle.lz_set.specs.declared.fault.Fault.{Fault}
 use Rattle.lz_set.specs.declared.fault.Fault.TheVariants as fault
 use Rattle.lz_set.specs.Answers.{reply_of as given_of}
 use Rattle.lz_serve.specs.Replies.{SeatAnswers, reply_of}
 use Rattle.lz_tie.specs.Answers.{Answers}
-
--- the halt word stays as the trace grows
-pub halt_extended : (P Q : Trace) → Extends Q P → halt_word P ≡ 1 → halt_word Q ≡ 1
-halt_extended P Q (more, same) is = ap halt_word same ∙ halt_longer more P is
 
 -- a call that was cut off has seen it
 halted_word : (F : Format) (c : Command) (before after : Part) → Answers F c given.Halted before after → halt_word after.known ≡ 1

@@ -3,12 +3,9 @@ use Rattle.std.proofs.Common.{◌≡◌, ℕ, All, Bool, true, false, ◌||◌, 
 use mathlib.Core.Bool.{true≢false}
 use Rattle.std.proofs.lemmas.List.Elements.{All-cons, All-same}
 use Rattle.lz_slot.specs.declared.command.Command.{Command}
-use Rattle.lz_slot.specs.declared.command.Command.TheVariants as command
 use Rattle.lz_slot.specs.declared.format.Format.{Format}
-use Rattle.lz_list.specs.Traces.{Trace, halt_word}
+use Rattle.lz_list.specs.Traces.{halt_word}
 use Rattle.lz_machine.specs.declared.event.Reply.{Reply as Given}
-use Rattle.lz_machine.specs.declared.event.Reply.TheVariants as given
-use Rattle.lz_machine.specs.Yards.{Shape}
 use Rattle.lz_proto.specs.declared.request.Request.{Request}
 use Rattle.lz_proto.specs.declared.reply.Reply.{Reply}
 use Rattle.lz_proto.specs.declared.reply.Reply.TheVariants as reply
@@ -16,22 +13,22 @@ use Rattle.lz_proto.specs.declared.fault.SessionFault.{SessionFault}
 use Rattle.lz_proto.specs.declared.end.End.{End}
 use Rattle.lz_proto.specs.Sessions.{SessionTells}
 use Rattle.lz_board.specs.declared.pass.Pass.{Pass}
-use Rattle.lz_board.specs.declared.view.Note.{Note}
 use Rattle.lz_board.specs.declared.view.Part.{Part}
 use Rattle.lz_board.specs.declared.view.Sizes.{Sizes}
-use Rattle.lz_board.specs.Glances.{Changes}
-use Rattle.lz_board.specs.Notes.{Extends, shape_of}
+use Rattle.lz_board.specs.Notes.{shape_of}
 use Rattle.lz_board.specs.Seats.{BoardId, part}
+use Rattle.lz_board.proofs.Walk.GlanceAnswer.{halt_since}
 use Rattle.lz_set.specs.declared.fault.Fault.{Fault}
 use Rattle.lz_set.specs.declared.fault.Fault.TheVariants as fault
 use Rattle.lz_set.specs.Answers.{reply_of as given_of}
-use Rattle.lz_tie.specs.Answers.{Answers, Promises}
+use Rattle.lz_tie.specs.Answers.{Answers}
 use Rattle.lz_tie.specs.OwnCalls.{told}
 use Rattle.lz_tie.specs.Sessions.{cuts_off}
 use Rattle.lz_tie.proofs.Marks.ToldCalls.{answers_told}
+use Rattle.lz_tie.proofs.Replies.SeenMore.{seen_more}
 use Rattle.lz_serve.specs.Halts.{IsCalm, was_cut}
 use Rattle.lz_serve.specs.Replies.{SeatAnswers, reply_of, says_halted}
-use Rattle.lz_serve.proofs.Halting.{answer_word, halt_extended}
+use Rattle.lz_serve.proofs.Halting.{answer_word}
 use Rattle.lz_serve.proofs.Kept.{session_keeps}
 use Rattle.lz_serve.proofs.Mapped.{known_session}
 
@@ -53,29 +50,10 @@ calm_after F c answer old new answers sized quiet calm =
     All-same P _ _ (answers_told F c (given_of answer) old new answers) (All-cons P (c, Some (given_of answer)) (told (shape_of old.sizes) old.steps) (uncut answer quiet) calm) in
     subst (λ (z : Sizes). All P (told (shape_of z) new.steps)) (sym sized) newest
 
--- what a pass has seen after a call goes on from what it had seen
-changed : {p : ℕ} {P Q own : Trace} → Changes p P Q own → Extends Q P
-changed h = (h.since, h.goes_on)
-
-promised : (shape : Shape) (p : ℕ) (F : Format) (c : Command) (r : Given) (pin : ℕ) (new : List Note) (P Q : Trace) → Promises shape p F c r pin new P Q → Extends Q P
-promised shape p F (command.Has k) given.Yes pin new P Q h = changed h.1
-promised shape p F (command.Has k) given.No pin new P Q h = changed h.1
-promised shape p F (command.Add k) given.Yes pin new P Q h = changed h.changes
-promised shape p F (command.Add k) given.No pin new P Q h = changed h.1
-promised shape p F (command.Remove k) given.Yes pin new P Q h = changed h.changes
-promised shape p F (command.Remove k) given.No pin new P Q h = changed h.1
-promised shape p F (command.Add k) (given.Full counts) pin new P Q h = changed h.changes
-promised shape p F (command.Remove k) (given.Full counts) pin new P Q h = absurd h
-promised shape p F (command.Has k) (given.Full counts) pin new P Q h = absurd h
-promised shape p F c given.Worn pin new P Q h = changed h.1
-promised shape p F c given.OldFile pin new P Q h = changed h.1
-promised shape p F c given.Halted pin new P Q h = changed h.changes
-promised shape p F c given.Device pin new P Q h = changed h.changes
-
 module _ (b : BoardId) (F : Format) (old new : Pass) (request : Request) (r : Reply) (answers : SeatAnswers b F old request r new) where
   -- a pass that has seen the halt still has after its answer
   pub saw_before : halt_word (part old).known ≡ 1 → halt_word (part new).known ≡ 1
-  saw_before seen = halt_extended (part old).known (part new).known (promised _ _ _ answers.c (given_of answers.answer) _ _ _ _ answers.call.promises) seen
+  saw_before seen = halt_since (part old).known (part new).known (seen_more F answers.c (given_of answers.answer) (part old) (part new) answers.call) seen
 
   -- and so has one that was answered so
   pub saw_now : says_halted r ≡ true → halt_word (part new).known ≡ 1

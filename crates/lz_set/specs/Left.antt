@@ -1,6 +1,5 @@
 -- What a set leaves that was closed.
 use Rattle.std.specs.Prelude.{◌≡◌, ◌⊎◌, ◌≤◌, ◌<◌, All, List, map}
-use Rattle.lz_slot.specs.declared.format.Format.{Format}
 use Rattle.lz_disk.specs.Devices.{Device}
 use Rattle.lz_vault.specs.Vaults.{last_sync}
 use Rattle.lz_list.specs.Traces.{halt_word}
@@ -16,7 +15,7 @@ use Rattle.lz_tie.specs.Marks.{AreOfPasses, marks_in}
 use Rattle.lz_tie.specs.Moments.{ExplainedSince}
 use Rattle.lz_tie.specs.OwnCalls.{TellsOwn}
 use Rattle.lz_tie.specs.RunningSets.{HasHistory}
-use Rattle.lz_tie.specs.Sessions.{AreOn, TellsAlone}
+use Rattle.lz_tie.specs.Sessions.{TellsAlone}
 
 -- Whatever a crash leaves of the disk now explains what these notes show of calls and answers, and each text that a crash might
 -- have left since it was like `first` what a beginning of them shows. Each call that they show was made by a pass of the set that had
@@ -34,16 +33,15 @@ pub record IsLeft (b : BoardId) (first : Device) (ns : List Note) (disk : Device
   pub over : halt_word (trace_of b.opened ns) ≡ 1 → (last_sync ≤ yard.vault.syncs) ⊎ (first.faults < disk.faults)
 
 -- A pass with this part has seen all that was published; the notes' calls of it are those that it made, with the replies that
--- it got, on a file of this format; and in a set of one pass the notes show nothing else.
-pub record IsWelcome (b : BoardId) (F : Format) (ns : List Note) (h : Part) : Type 0 where
+-- it got; and in a set of one pass the notes show nothing else.
+pub record IsWelcome (b : BoardId) (ns : List Note) (h : Part) : Type 0 where
   pub own : TellsOwn b ns h
   pub alone : b.sizes.passes ≡ 1 → TellsAlone b ns h
-  pub format : AreOn F h.steps
 
 -- Besides, these parts of passes, which had seen a beginning of what was published, have become such ones.
-pub record IsLeftWith (b : BoardId) (first : Device) (F : Format) (disk : Device) (before after : List Part) : Type 0 where
+pub record IsLeftWith (b : BoardId) (first disk : Device) (before after : List Part) : Type 0 where
   pub notes : List Note
   pub left : IsLeft b first notes disk
   pub since : All (λ (h : Part). Extends (trace_of b.opened notes) h.known) before
   pub seen : after ≡ map (knowing (trace_of b.opened notes)) before
-  pub welcome : All (IsWelcome b F notes) after
+  pub welcome : All (IsWelcome b notes) after

@@ -28,7 +28,7 @@ impl<D: Disk, G: StepGate, N: Named> Set<D, G, N> {
     pub fn close_with(self, passes: &mut [Pass]) -> D
         requires passes { All (λ p. IsOf N.board p) passes.old }
         ensures passes { All (λ p. IsOf N.board p) passes.new }
-        ensures left { IsLeftWith N.board N.first N.format (D.device result) (map (λ p. part p) passes.old) (map (λ p. part p) passes.new) }
+        ensures left { IsLeftWith N.board N.first (D.device result) (map (λ p. part p) passes.old) (map (λ p. part p) passes.new) }
     {
         let Set { board, locked, .. } = self;
         let mut locked = locked.into_inner();
@@ -46,7 +46,7 @@ fn welcome_all<N: Named, D: Disk>(board: &Board, locked: &mut Locked<N, D>, pass
     ensures passes { All (λ p. IsOf N.board p) passes.new }
     ensures since { All (λ (h : Part). Extends (trace_of N.board.opened locked.old.notes) h.known) (map (λ p. part p) passes.old) }
     ensures seen { map (λ p. part p) passes.new ≡ map (knowing (trace_of N.board.opened locked.old.notes)) (map (λ p. part p) passes.old) }
-    ensures welcome { All (IsWelcome N.board N.format locked.old.notes) (map (λ p. part p) passes.new) }
+    ensures welcome { All (IsWelcome N.board locked.old.notes) (map (λ p. part p) passes.new) }
 {
     for i in 0..passes.len() {
         locked.welcome(board, &mut passes[i]);

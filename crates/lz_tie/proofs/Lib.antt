@@ -9,6 +9,7 @@ pub mod Lives
 pub mod AnswerRows
 pub mod OneCallerRows
 pub mod SessionRows
+pub mod MomentRows
 pub mod Calls
 pub mod Marks
 pub mod Sessions

@@ -1,2 +1,4 @@
+pub mod GrownNotes
 pub mod LeftBeginnings
 pub mod HeldMoments
+pub mod LaterMoments

@@ -6,3 +6,4 @@ pub mod ReplyRows
 pub mod AnsweredCall
 pub mod FreeSlot
 pub mod OneCaller
+pub mod SeenMore

@@ -3,7 +3,7 @@ use Rattle.std.proofs.Common.{◌≡◌, true, false, inl, inr, List, [], ◌∷
 use mathlib.Core.Bool.{false≢true, true≢false}
 use Rattle.std.proofs.lemmas.Bool.Decides.{nat_tests}
 use Rattle.lz_slot.specs.declared.command.Command.TheVariants.{Add, Remove, Has}
-use Rattle.lz_slot.specs.declared.format.Format.TheVariants.{One, Two}
+use Rattle.lz_slot.specs.declared.format.Format.TheVariants.{Two}
 use Rattle.lz_slot.specs.declared.history.Mark.TheVariants.{Call, Answer as answer}
 use Rattle.lz_list.specs.declared.word.Word.TheVariants.{Head, Link, Key, Halt}
 use Rattle.lz_list.specs.Traces.{Trace, Lawful, opening}
@@ -20,7 +20,7 @@ use Rattle.lz_board.specs.Seats.{BoardId}
 use Rattle.lz_tie.specs.Answers.{Answers}
 use Rattle.lz_tie.specs.Holds.{no_board}
 use Rattle.lz_tie.specs.OneCaller.{keys_in}
-use Rattle.lz_tie.specs.Sessions.{PlainRun, CutLast, AreOn, marks_alone, IsSession, MayHaveNext}
+use Rattle.lz_tie.specs.Sessions.{PlainRun, CutLast, marks_alone, IsSession, MayHaveNext}
 
 -- key 9 was found in slot 0
 abbrev P0 : Trace
@@ -121,7 +121,3 @@ under_way = inr (λ j. grind (arith, nat_tests))
 
 no_call : MayHaveNext [] (keys_in P0) (λ j. false) → ⊥
 no_call h = false≢true (h 9)
-
--- a call on a file of the older format is none on one of the newer
-not_on : AreOn Two (note_by 1 (Called (Has 9) One) None ∷ []) → ⊥
-not_on h = absurd cc

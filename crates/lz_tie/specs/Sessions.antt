@@ -11,8 +11,6 @@ use Rattle.lz_machine.specs.declared.event.Reply.{Reply}
 use Rattle.lz_machine.specs.declared.event.Reply.TheVariants.{Halted, Device}
 use Rattle.lz_machine.specs.Runs.{mark_of_turn}
 use Rattle.lz_board.specs.declared.view.Sizes.{Sizes}
-use Rattle.lz_board.specs.declared.view.What.{What}
-use Rattle.lz_board.specs.declared.view.What.TheVariants.{Called}
 use Rattle.lz_board.specs.declared.view.Note.{Note}
 use Rattle.lz_board.specs.declared.view.Part.{Part}
 use Rattle.lz_board.specs.Notes.{shape_of}
@@ -55,16 +53,6 @@ abbrev pub CutLast : AnsweredCalls → Type 0
 CutLast [] = Unit {0}
 CutLast (call ∷ []) = Unit {0}
 CutLast (call ∷ next ∷ calls) = (cuts_off call.1 ≡ false) × CutLast (next ∷ calls)
-
--- a step that begins a call does so over a file of this format
-abbrev pub IsOn : Format → What → Type 0
-IsOn F (Called c format) = format ≡ F
-IsOn F w = Unit {0}
-
--- each of the steps does
-abbrev pub AreOn : Format → List Note → Type 0
-AreOn F [] = Unit {0}
-AreOn F (n ∷ ns) = IsOn F n.what × AreOn F ns
 
 -- what a history shows of the calls of one pass, where no other makes one; the newest call stands first
 abbrev pub marks_alone : ℕ → List (Command × Option Reply) → History

@@ -13,7 +13,7 @@ ghost use Rattle.lz_tie.specs.Holds.{IsLocked};
 ghost use Rattle.lz_tie.specs.Marks.{AreOfPasses, marks_in};
 ghost use Rattle.lz_tie.specs.OwnCalls.{TellsOwn, told};
 ghost use Rattle.lz_tie.specs.RunningSets.{HasHistory};
-ghost use Rattle.lz_tie.specs.Sessions.{AreOn, TellsAlone};
+ghost use Rattle.lz_tie.specs.Sessions.{TellsAlone};
 
 use crate::locked::Locked;
 use crate::named::Named;
@@ -34,8 +34,8 @@ impl<N: Named, D: Disk> Locked<N, D> {
     }
 
     /// The pass joins the pen for a moment, and has then seen all that was published. In that history its calls are those that
-    /// it has made itself, with the replies that it got; in a set of one pass there are no others. Each was made on a file of
-    /// the set's format. What the pass had seen before is a beginning of what was published.
+    /// it has made itself, with the replies that it got; in a set of one pass there are no others. What the pass had seen before is
+    /// a beginning of what was published.
     pub fn welcome(&mut self, board: &Board, pass: &mut Pass)
         requires board { id_of board.now ≡ N.board }
         requires pass { IsOf N.board pass.old }
@@ -45,7 +45,6 @@ impl<N: Named, D: Disk> Locked<N, D> {
         ensures same { self.new ≡ self.old }
         ensures own { TellsOwn N.board self.old.notes (part pass.new) }
         ensures alone { N.board.sizes.passes ≡ 1 → TellsAlone N.board self.old.notes (part pass.new) }
-        ensures format { AreOn N.format (part pass.new).steps }
     {
         board.join(&mut self.pen, pass);
         board.cut(&mut self.pen, pass);

@@ -1,7 +1,10 @@
 //! What follows from the answers that a pass was given. Each function is one law.
 
+ghost use Rattle.lz_tie.specs.Moments.{AnsweredCallsStay};
 ghost use Rattle.lz_tie.specs.OneCaller.{OneCallerIsPlain};
 ghost use Rattle.lz_tie.specs.Sessions.{MomentsArePlain, SessionIsHeld, SessionIsPlain};
+
+use lz_disk::Disk;
 
 /// In a set of one pass each answer is the plain set's: of the members that the pass had seen before its call, and those that
 /// it has seen after.
@@ -25,4 +28,10 @@ pub fn session_is_held()
 /// ones of its calls, with the next one under way, done or not.
 pub fn moments_are_plain()
     ensures { MomentsArePlain }
+{}
+
+/// A call that was answered stays: whenever the lock was got, each text that a crash might have left from then on, over any number
+/// of holds, explains all that had been seen of the calls by then, with what was seen later or some of it.
+pub fn answered_calls_stay<D: Disk>()
+    ensures { AnsweredCallsStay D D.device }
 {}

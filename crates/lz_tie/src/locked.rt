@@ -4,6 +4,7 @@ ghost use Rattle.lz_slot.specs.declared.history.Mark.TheVariants.{Call};
 ghost use Rattle.lz_vault.specs.Vaults.{last_sync};
 ghost use Rattle.lz_list.specs.Traces.{halt_word};
 ghost use Rattle.lz_machine.specs.declared.event.Event.TheVariants.{SeePin};
+ghost use Rattle.lz_machine.specs.declared.event.Outcome.TheVariants.{Fault};
 ghost use Rattle.lz_machine.specs.Calls.{event_at};
 ghost use Rattle.lz_machine.specs.Runs.{mark_of_turn, reply_at};
 ghost use Rattle.lz_board.specs.declared.view.What.TheVariants.{Called, Played};
@@ -65,8 +66,9 @@ impl<N: Named, D: Disk> Locked<N, D> {
         }
     }
 
-    /// One hold: plays the next event of the pass's call, which is no load and no look at a pin word. In a set of
-    /// one pass nothing was published that the pass hasn't seen, and nothing changed since the life began but by it.
+    /// One hold: plays the next event of the pass's call, which is no load and no look at a pin word. A fault is told only where the
+    /// device failed in this hold. In a set of one pass nothing was published that the pass hasn't seen, and nothing changed since
+    /// the life began but by it.
     pub fn play(&mut self, board: &Board, pass: &mut Pass, caller: &Caller, event: Event) -> Turn
         requires board { id_of board.now ≡ N.board }
         requires pass { IsOf N.board pass.old }
@@ -76,6 +78,7 @@ impl<N: Named, D: Disk> Locked<N, D> {
         ensures shows { Shows (shape_of N.board.sizes) self.old.notes self.new.notes (mark_of_turn (number_of (part pass.old).number self.old.notes) (reply_at caller.now.progress)) }
         ensures holds { Holds N.board.opened self.old.notes self.new.notes (note_by (part pass.old).number (Played event result.outcome) result.published) (part pass.old) (part pass.new) }
         ensures turned { Turned N.board.opened self.old.notes (part pass.old) caller.now.command caller.now.progress event result.outcome result.published }
+        ensures device { result.outcome ≡ Fault → (D.device self.old.disk).faults < (D.device self.new.disk).faults }
         ensures alone { N.board.sizes.passes ≡ 1 → trace_of N.board.opened self.old.notes ≡ (part pass.old).known }
         ensures own { N.board.sizes.passes ≡ 1 → OnlyOwn (part pass.old).number N.board.opened (trace_of N.board.opened self.old.notes) }
     {
@@ -102,6 +105,7 @@ impl<N: Named, D: Disk> Locked<N, D> {
         ensures shows { Shows (shape_of N.board.sizes) self.old.notes self.new.notes (mark_of_turn (number_of (part pass.old).number self.old.notes) (reply_at caller.now.progress)) }
         ensures holds { Holds N.board.opened (found_note seen result.0 ∷ self.old.notes) self.new.notes (note_by (part pass.old).number (Played (SeePin seen result.0) result.1.outcome) result.1.published) (part pass.old) (part pass.new) }
         ensures turned { Turned N.board.opened (found_note seen result.0 ∷ self.old.notes) (part pass.old) caller.now.command caller.now.progress (SeePin seen result.0) result.1.outcome result.1.published }
+        ensures device { result.1.outcome ≡ Fault → (D.device self.old.disk).faults < (D.device self.new.disk).faults }
     {
         board.join(&mut self.pen, pass);
         let value = board.load_pin(&mut self.pen, seen);

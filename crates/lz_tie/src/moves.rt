@@ -1,12 +1,12 @@
 //! The moves of a thread's call: its beginning, a load without the lock, and a hold of each other event.
-ghost use Rattle.std.specs.Prelude.{◌≡◌, ◌≤◌, ◌∷◌, [], None, suc};
+ghost use Rattle.std.specs.Prelude.{◌≡◌, ◌≤◌, ◌<◌, ◌∷◌, [], None, suc};
 ghost use Rattle.lz_slot.specs.declared.command.Command.{Command as Asked};
 ghost use Rattle.lz_slot.specs.declared.format.Format.{Format};
 ghost use Rattle.lz_slot.specs.declared.history.Mark.TheVariants.{Call};
 ghost use Rattle.lz_slot.specs.Limits.{most_buckets, most_passes};
 ghost use Rattle.lz_machine.specs.declared.caller.Progress.TheVariants.{Answering};
 ghost use Rattle.lz_machine.specs.declared.event.Event.TheVariants.{Hop};
-ghost use Rattle.lz_machine.specs.declared.event.Outcome.TheVariants.{Value};
+ghost use Rattle.lz_machine.specs.declared.event.Outcome.TheVariants.{Fault, Value};
 ghost use Rattle.lz_machine.specs.Calls.{event_at, progress_after};
 ghost use Rattle.lz_machine.specs.Runs.{mark_of, mark_of_turn};
 ghost use Rattle.lz_machine.specs.Laws.{hop_of};
@@ -97,6 +97,7 @@ impl<N: Named, D: Disk> Locked<N, D> {
         ensures moments { HoldExplains N.board self.old.notes self.new.notes (D.device self.old.disk) (D.device self.new.disk) }
         ensures shows { Shows (shape_of N.board.sizes) self.old.notes self.new.notes (mark_of_turn (number_of (part pass.old).number self.old.notes) (reply_at caller.now.progress)) }
         ensures advanced { Advanced N.board self.new.notes caller.now result (part pass.old) (part pass.new) }
+        ensures device { result.outcome ≡ Fault → (D.device self.old.disk).faults < (D.device self.new.disk).faults }
     {
         let event = caller.next();
         let looked = event;
@@ -121,6 +122,7 @@ impl<N: Named, D: Disk> Locked<N, D> {
         ensures moments { HoldExplains N.board self.old.notes self.new.notes (D.device self.old.disk) (D.device self.new.disk) }
         ensures shows { Shows (shape_of N.board.sizes) self.old.notes self.new.notes [] }
         ensures advanced { Advanced N.board self.new.notes caller.old result (part pass.old) (part pass.new) }
+        ensures device { result.outcome ≡ Fault → (D.device self.old.disk).faults < (D.device self.new.disk).faults }
         ensures caller { caller.new ≡ record caller.old { progress = progress_after (shape_with caller.old) caller.old.command caller.old.progress result.outcome } }
         ensures goes { (c : Asked) (format : Format) (before : Part) → Counts N.board c format before caller.old (part pass.old) → Counts N.board c format before caller.new (part pass.new) }
     {

@@ -1,4 +1,6 @@
 //! One turn of a pass that has joined the pen.
+ghost use Rattle.std.specs.Prelude.{◌≡◌, ◌<◌};
+ghost use Rattle.lz_machine.specs.declared.event.Outcome.TheVariants.{Fault};
 ghost use Rattle.lz_board.specs.declared.view.What.TheVariants.{Played};
 ghost use Rattle.lz_board.specs.Notes.{note_by};
 ghost use Rattle.lz_board.specs.Seats.{Carries, IsAtHand, carried, id_of, notes};
@@ -72,6 +74,7 @@ pub(crate) fn play_joined<D: Disk>(
     ensures turned { Turned (id_of board.now).opened (notes pen.old) (carried pen.old) _caller.now.command _caller.now.progress event result.outcome result.published }
     ensures moments { GoesOn (id_of board.now) (notes pen.old) (notes pen.new) (D.device yard.old.disk) (D.device yard.new.disk) }
     ensures life { KeepsLife yard.old.yard (D.device yard.old.disk) yard.new.yard (D.device yard.new.disk) }
+    ensures device { result.outcome ≡ Fault → (D.device yard.old.disk).faults < (D.device yard.new.disk).faults }
 {
     let number = pass.number();
     yard.note_pin(number, pass.pin());

@@ -1,5 +1,5 @@
 -- The yard as contracts see it, and what an event that is played does to its parts.
-use Rattle.std.specs.Prelude.{◌≡◌, ◌≢◌, ℕ, ◌<◌, ◌≤◌, true, false, not, ◌&&◌, List, length, slice_get, Option, Some, IfSome, Result, Ok, Err}
+use Rattle.std.specs.Prelude.{◌≡◌, ◌≢◌, ℕ, ◌<◌, ◌≤◌, true, false, not, ◌&&◌, List, length, slice_get, Some, IfSome, Result, Ok, Err}
 use Rattle.lz_disk.specs.Devices.{Device}
 use Rattle.lz_vault.specs.Vaults.{NoCall, Succeeds, Fails, last_sync}
 use Rattle.lz_vault.specs.declared.vault.VaultFault.{VaultFault}

@@ -73,11 +73,9 @@ impl<D: Disk> Parts<D> {
         if !self.needs(actor, tried) {
             return Course::Refused(Outcome::NotNow);
         }
-        let hand = self.actor(actor);
         let pin = self.word(Word::Pin(actor));
         match event {
             Event::Pin if pin == LAST_PIN => Course::Refused(Outcome::Worn),
-            Event::Answer if stays_out(hand, pin) => Course::Refused(Outcome::Done),
             Event::Sync(slot) if !self.is_sure(slot) && self.is_spent() => Course::Dies,
             _ => Course::Plays,
         }

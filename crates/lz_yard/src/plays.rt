@@ -6,11 +6,11 @@ ghost use Rattle.lz_flush.specs.Settling.{settle};
 ghost use Rattle.lz_allot.specs.Allots.{IsTakenAt};
 ghost use Rattle.lz_machine.specs.Yards.{actor_at, cell_at};
 ghost use Rattle.lz_machine.specs.Runs.{with_words};
-ghost use Rattle.lz_machine.specs.Table.{given_back, is_unused, kept_slot, set_actor, with_slot, with_vault};
+ghost use Rattle.lz_machine.specs.Table.{given_back, is_unused, kept_slot, last_pin, pin_answered, pin_of, set_actor, with_slot, with_vault, words_after};
 ghost use Rattle.lz_machine.specs.Ready.{IsReady};
 ghost use Rattle.lz_yard.specs.Parts.{Does, Fits, Known, with_actors, with_uses};
 
-use crate::hold::{is_old, released};
+use crate::hold::{is_old, released, stays_out};
 use crate::parts::Parts;
 use lz_disk::Disk;
 use lz_flush::settle;
@@ -49,6 +49,25 @@ impl<D: Disk> Parts<D> {
                 }
             }
         }
+    }
+
+    // Counts an actor's pin word up, unless the actor answers without a pin, and gives what it is then.
+    fn leave(&mut self, actor: usize) -> u64
+        requires low { 1 ≤ actor }
+        requires actors { actor ≤ length self.old.yard.actors }
+        requires pins { actor ≤ length self.old.yard.words.pins }
+        requires room { pin_of self.old.yard actor ≤ last_pin }
+        ensures pin { result ≡ pin_answered (actor_at self.old.yard actor) (pin_of self.old.yard actor) }
+        ensures yard { self.new.yard ≡ with_words self.old.yard (words_after self.old.yard (actor_at self.old.yard actor) actor Event.Answer) }
+        ensures rest { (self.new.rows ≡ self.old.rows) × (self.new.told ≡ self.old.told) × (self.new.disk ≡ self.old.disk) }
+    {
+        let hand = self.actor(actor);
+        let pin = self.word(Word::Pin(actor));
+        if stays_out(hand, pin) {
+            return pin;
+        }
+        self.list.set(Word::Pin(actor), pin + 1);
+        pin + 1
     }
 
     // Sets the flags that a slot's stage allows.
@@ -344,8 +363,7 @@ impl<D: Disk> Parts<D> {
         ensures done { Does self.old.yard actor Event.Answer result self.new.yard (D.device self.old.disk) (D.device self.new.disk) }
         ensures rest { (self.new.rows ≡ self.old.rows) × (self.new.told ≡ self.old.told) }
     {
-        let pin = self.word(Word::Pin(actor)) + 1;
-        self.list.set(Word::Pin(actor), pin);
+        let pin = self.leave(actor);
         let hand = self.actor(actor);
         let kept = self.give_back(hand.slot);
         self.allot.see_pin(actor, pin);

@@ -3,12 +3,13 @@ ghost use Rattle.std.specs.Prelude.{◌≡◌, ◌≤◌, ◌<◌, length, Some,
 ghost use Rattle.lz_slot.specs.Limits.{largest_key};
 ghost use Rattle.lz_list.specs.Words.{get};
 ghost use Rattle.lz_list.specs.Lists.{IsWord};
-ghost use Rattle.lz_machine.specs.Table.{is_sure, publishes, settling, word_changed};
+ghost use Rattle.lz_machine.specs.Table.{is_sure, pin_of, publishes, settling, stays_out, word_changed};
 ghost use Rattle.lz_machine.specs.Ready.{IsReady};
 ghost use Rattle.lz_machine.specs.Yards.{actor_at, cell_at};
 ghost use Rattle.lz_yard.specs.Parts.{Fits, Known};
 ghost use Rattle.lz_yard.specs.Steps.{Tells, value_of};
 
+use crate::hold::stays_out;
 use crate::parts::Parts;
 use crate::told::Told;
 use lz_disk::Disk;
@@ -30,6 +31,21 @@ impl<D: Disk> Parts<D> {
         }
     }
 
+    // The word that an Answer changes.
+    fn answer_word(&self, actor: usize) -> Option<Word>
+        requires low { 1 ≤ actor }
+        requires actors { actor ≤ length self.now.yard.actors }
+        requires pins { actor ≤ length self.now.yard.words.pins }
+        ensures { result ≡ (if stays_out (actor_at self.now.yard actor) (pin_of self.now.yard actor) then None else Some (Word.Pin actor)) }
+    {
+        let hand = self.actor(actor);
+        if stays_out(hand, self.word(Word::Pin(actor))) {
+            None
+        } else {
+            Some(Word::Pin(actor))
+        }
+    }
+
     // The word that an event changes where it is played.
     fn word_changed(&self, actor: usize, event: Event) -> Option<Word>
         requires low { 1 ≤ actor }
@@ -41,7 +57,8 @@ impl<D: Disk> Parts<D> {
         ensures there { IfSome result (λ word. IsWord self.now.yard.words word) }
     {
         match event {
-            Event::Pin | Event::Answer => Some(Word::Pin(actor)),
+            Event::Pin => Some(Word::Pin(actor)),
+            Event::Answer => self.answer_word(actor),
             Event::WriteKey(_) => Some(Word::Key(self.slot(actor))),
             Event::WriteOpen => Some(Word::Link(self.slot(actor))),
             Event::Link | Event::Unlink => Some(self.pred_word(actor)),

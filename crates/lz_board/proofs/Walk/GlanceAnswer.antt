@@ -21,7 +21,7 @@ use Rattle.lz_board.specs.declared.answer.Glance.{Glance}
 use Rattle.lz_board.specs.declared.answer.Glance.TheVariants.{Yes, No, Unsettled}
 use Rattle.lz_board.specs.declared.answer.GlanceFault.{GlanceFault}
 use Rattle.lz_board.specs.declared.answer.GlanceFault.TheVariants.{Halted, Worn, BusyPass}
-use Rattle.lz_board.specs.Notes.{Since}
+use Rattle.lz_board.specs.Notes.{Extends, Since}
 use Rattle.lz_board.specs.Glances.{Changes, Between, Glanced, GlancedUnsettled, Glances, IsUnhalted}
 use Rattle.lz_board.specs.Walkers.{MetNode, Ended, sure_or, glance_of, IsGlance}
 use Rattle.lz_board.proofs.Upkeep.Growth.{begins_of}
@@ -80,12 +80,13 @@ glance_longer k A P Q B Yes before after h = record { then = h.then; between = b
 glance_longer k A P Q B No before after h = record { then = h.then; between = between_longer A P h.then Q B before after h.between; settled = h.settled }
 glance_longer k A P Q B (Unsettled s) before after h = record { then = h.then; between = between_longer A P h.then Q B before after h.between; some = h.some; in_slot = h.in_slot; asks = h.asks }
 
-pub halt_longer : (more P : Trace) → halt_word P ≡ 1 → halt_word (more ++ P) ≡ 1
+halt_longer : (more P : Trace) → halt_word P ≡ 1 → halt_word (more ++ P) ≡ 1
 halt_longer [] P is = is
 halt_longer (e ∷ more) P is = halt_stays e (more ++ P) (halt_longer more P is)
 
-pub halt_since : (p : ℕ) (P Q : Trace) → Since p Q P → halt_word P ≡ 1 → halt_word Q ≡ 1
-halt_since p P Q since is = ap halt_word since.1 ∙ halt_longer since.0 P is
+-- who has seen the halt still has once it has seen more
+pub halt_since : (P Q : Trace) → Extends Q P → halt_word P ≡ 1 → halt_word Q ≡ 1
+halt_since P Q since is = ap halt_word since.1 ∙ halt_longer since.0 P is
 
 halt_is : (P : Trace) → IsUnhalted P ⊎ (halt_word P ≡ 1)
 halt_is [] = inl refl
@@ -94,7 +95,7 @@ halt_is (e ∷ P) = halt_is P
 
 -- what began a trace without a halt has none
 pub unhalted_before : (p : ℕ) (P Q : Trace) → Since p Q P → halt_word Q ≢ 1 → IsUnhalted P
-unhalted_before p P Q since un = ⊎_elim (λ (none : IsUnhalted P). none) (λ (is : halt_word P ≡ 1). absurd (un (halt_since p P Q since is))) (halt_is P)
+unhalted_before p P Q since un = ⊎_elim (λ (none : IsUnhalted P). none) (λ (is : halt_word P ≡ 1). absurd (un (halt_since P Q (since.0, since.1) is))) (halt_is P)
 
 no_changes : (p : ℕ) (P Q : Trace) → Since p Q P → Changes p P Q []
 no_changes p P Q since = record { since = since.0; goes_on = since.1; own = since.2 }
@@ -120,6 +121,6 @@ rows k before after P Q a b c r ok un err = go r ok un err
     go (Ok Yes) ok un err = (longer Yes ok, same, unhalted un)
     go (Ok No) ok un err = (longer No ok, same, unhalted un)
     go (Ok (Unsettled s)) ok un err = (longer (Unsettled s) ok, same, unhalted un)
-    go (Err Halted) ok un err = (halt_since before.number Q after.known c err.1, same)
+    go (Err Halted) ok un err = (halt_since Q after.known (c.0, c.1) err.1, same)
     go (Err Worn) ok un err = absurd cc
     go (Err BusyPass) ok un err = absurd cc

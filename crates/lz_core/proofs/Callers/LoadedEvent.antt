@@ -1,5 +1,5 @@
 -- The next event of a world's call is that of its run.
-use Rattle.std.proofs.Common.{◌≡◌, ◌≢◌, slice_get, IfSome, ℕ, zero, suc, map, List, Option, Some, None, is_some, refl, sym, ◌∙◌, ap, subst}
+use Rattle.std.proofs.Common.{◌≡◌, slice_get, IfSome, ℕ, zero, suc, map, List, Option, Some, None, is_some, refl, sym, ◌∙◌, ap, subst}
 use Rattle.std.proofs.lemmas.Bool.{false≢true}
 use Rattle.lz_slot.specs.Counted.{of_pass}
 use Rattle.lz_disk.specs.Records.{Past}

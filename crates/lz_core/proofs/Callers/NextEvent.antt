@@ -1,5 +1,5 @@
 -- The next event of an actor's call in a world with an open yard may be played.
-use Rattle.std.proofs.Common.{◌≡◌, ◌≢◌, ◌≤◌, ◌-◌, length, unwrap_or, ℕ, suc, Bool, true, false, map, slice_index_or, List, Option, Some, None, is_some, refl, sym, ◌∙◌, ap, subst}
+use Rattle.std.proofs.Common.{◌≡◌, ◌≤◌, ◌-◌, length, unwrap_or, ℕ, suc, Bool, true, false, map, slice_index_or, List, Option, Some, None, is_some, refl, sym, ◌∙◌, ap, subst}
 use Rattle.std.proofs.lemmas.Bool.{false≢true}
 use Rattle.std.proofs.lemmas.List.{length-map}
 use Rattle.lz_slot.specs.declared.history.Mark.{Mark}

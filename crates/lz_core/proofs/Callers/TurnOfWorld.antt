@@ -1,5 +1,5 @@
 -- A world, with an open service or without, goes on by an actor's next event: one that has such an event has a service.
-use Rattle.std.proofs.Common.{◌≡◌, ◌≢◌, inl, inr, ◌≤◌, ◌<◌, ◌-◌, arith, length, IsSome, IfSome, ℕ, zero, suc, Bool, map, slice_index_or, slice_set, List, [], ◌∷◌, Option, Some, None, is_some, sym, ◌∙◌, ap, subst}
+use Rattle.std.proofs.Common.{◌≡◌, inl, inr, ◌≤◌, ◌<◌, ◌-◌, arith, length, IsSome, IfSome, ℕ, zero, suc, Bool, map, slice_index_or, slice_set, List, [], ◌∷◌, Option, Some, None, is_some, sym, ◌∙◌, ap, subst}
 use Rattle.std.proofs.lemmas.Bool.{false≢true}
 use Rattle.std.proofs.lemmas.List.{length-map, get_or-set_same}
 use Rattle.lz_slot.specs.declared.history.Mark.{Mark}

@@ -26,6 +26,7 @@ use Rattle.lz_allot.specs.Uses.{Use, Taken, collect, lowest_free}
 use Rattle.lz_machine.proofs.Alone.Sights.{HasLeft, left_set, left_collect, left_seen}
 use Rattle.lz_machine.proofs.Steps.Unlink.{redirect_pins}
 use Rattle.lz_machine.proofs.Steps.Sync.{not_opening}
+use Rattle.lz_machine.proofs.Frames.Outside.{answered_other}
 
 -- the course of an event that was played at all
 abbrev of_parts : Bool → Bool → Bool → Course → Course
@@ -79,7 +80,7 @@ actors_other y actor a b (SeePin p value) other = refl
 actors_other y actor a b Answer other = of_pass_other y.actors a b _ idle_actor other
 actors_other y actor a b Halt other = refl
 
-pins_other : (y : Yard) (actor : Actor) (a b : ℕ) (e : Event) → b ≢ a → of_pass (words_after y actor a e).pins b 0 ≡ of_pass y.words.pins b 0
+pub pins_other : (y : Yard) (actor : Actor) (a b : ℕ) (e : Event) → b ≢ a → of_pass (words_after y actor a e).pins b 0 ≡ of_pass y.words.pins b 0
 pins_other y actor a b Pin other = of_pass_other y.words.pins a b _ 0 other
 pins_other y actor a b Link other = ap (λ (q : List ℕ). of_pass q b 0) (redirect_pins y.words actor.pred _)
 pins_other y actor a b Unlink other = ap (λ (q : List ℕ). of_pass q b 0) (redirect_pins y.words actor.pred _)
@@ -88,7 +89,7 @@ pins_other y actor a b (Settle s) other = go (is_sure y s)
     go : (sure : Bool) → of_pass (if sure then change_flags (settle (cell_at y s).stage) y.words s else y.words).pins b 0 ≡ of_pass y.words.pins b 0
     go true = refl
     go false = refl
-pins_other y actor a b Answer other = of_pass_other y.words.pins a b _ 0 other
+pins_other y actor a b Answer other = answered_other y actor a b other
 pins_other y actor a b (Invoke c) other = refl
 pins_other y actor a b (Hop word) other = refl
 pins_other y actor a b Reserve other = refl

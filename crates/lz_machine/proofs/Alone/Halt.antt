@@ -37,6 +37,7 @@ use Rattle.lz_machine.specs.declared.caller.Sequence.TheVariants.{Pinning}
 use Rattle.lz_machine.proofs.Theorem.WornPass.{IsUpAt, up_at}
 use Rattle.lz_machine.proofs.Theorem.Timeliness.{worn_there}
 use Rattle.lz_machine.proofs.Frames.OneActor.{mine}
+use Rattle.lz_machine.proofs.Frames.Outside.{answered_halt}
 
 -- only one event writes the halt word
 redirect_halt : (w : Words) (place : Place) (n : ℕ) → (redirect w place n).halt ≡ w.halt
@@ -68,7 +69,7 @@ halt_or_not y actor a (Settle s) = inr (go (is_sure y s))
 halt_or_not y actor a Unlink = inr (redirect_halt y.words actor.pred _)
 halt_or_not y actor a Retire = inr refl
 halt_or_not y actor a (SeePin p value) = inr refl
-halt_or_not y actor a Answer = inr refl
+halt_or_not y actor a Answer = inr (answered_halt y actor a)
 halt_or_not y actor a Halt = inl refl
 
 -- and only of a dead vault

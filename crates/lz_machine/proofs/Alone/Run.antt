@@ -25,6 +25,7 @@ use Rattle.lz_machine.specs.Calls.{event_at, loaded, progress_after, first_progr
 use Rattle.lz_machine.specs.Runs.{Caller, Service, Up, caller_at, next_event, MayLeave, LeftInside}
 use Rattle.lz_machine.specs.Alone.{has_cut}
 use Rattle.lz_machine.proofs.Alone.Service.{Ended}
+use Rattle.lz_machine.proofs.Frames.Outside.{answered_halt}
 
 -- a call that finds the halt word
 abbrev pub IsHalting : Progress → Type 0
@@ -158,6 +159,6 @@ pub answer_halt : (y : Yard) (a : ℕ) → (line y a Answer).0.words.halt ≡ y.
 answer_halt y a = go (course y a Answer)
   where
     go : (k : Course) → (line_on k y (actor_at y a) a Answer).0.words.halt ≡ y.words.halt
-    go Plays = refl
+    go Plays = answered_halt y (actor_at y a) a
     go Dies = refl
     go (Refused outcome) = refl

@@ -1,5 +1,5 @@
 -- Where one actor is alone, each turn keeps what makes full right.
-use Rattle.std.proofs.Common.{◌≡◌, ◌≢◌, ⊎_elim, inl, inr, ℕ, zero, suc, ◌+◌, ◌≤◌, ◌%◌, ◌&&◌, not, nat_lt, Bool, true, false, List, ◌++◌, map, unwrap_or, Option, Some, None, refl, sym, ap, ◌∙◌, subst, arith}
+use Rattle.std.proofs.Common.{◌≡◌, ◌≢◌, ⊎_elim, inl, inr, ℕ, zero, suc, ◌+◌, ◌≤◌, ◌&&◌, not, nat_lt, Bool, true, false, List, ◌++◌, map, unwrap_or, Option, Some, None, refl, sym, ap, ◌∙◌, subst, arith}
 use Rattle.std.specs.Prelude.{if◌then◌else◌}
 use mathlib.Core.Bool.{false≢true}
 use Rattle.std.proofs.lemmas.Bool.{cases_eq, cases_Bool}
@@ -35,21 +35,21 @@ use Rattle.lz_machine.specs.declared.caller.Sequence.TheVariants.{Pinning, Resti
 use Rattle.lz_machine.specs.declared.caller.Progress.{Progress}
 use Rattle.lz_machine.specs.declared.caller.Progress.TheVariants.{Playing, LoadsHalt, Walking, Reserving, SeeingPins, Claiming, Checking, Answering}
 use Rattle.lz_machine.specs.Yards.{Shape, Yard, actor_at, cell_at, actor_in, stage_in, pin_in}
-use Rattle.lz_machine.specs.Table.{line_publishes, line_failed, course, course_alive, line, line_on, published_on, pin_of, slot_found, given_back, is_unused, is_sure, is_spent, slot_of, stays_out}
+use Rattle.lz_machine.specs.Table.{line_publishes, line_failed, course, course_alive, line, line_on, published_on, pin_of, slot_found, given_back, is_unused, is_sure, is_spent, slot_of, pin_answered}
 use Rattle.lz_machine.specs.Calls.{halts, progress_after, event_of, loaded}
 use Rattle.lz_machine.specs.Runs.{Caller, caller_at, reply_at, next_event, moved_on}
 use Rattle.lz_machine.specs.CallersSound.{IsAdder, view_of, Relies}
 use Rattle.lz_machine.specs.Notes.{Notes}
 use Rattle.lz_machine.specs.Sound.{Sound}
 use Rattle.lz_machine.specs.Limbo.{IsSeen}
-use Rattle.lz_machine.proofs.Steps.Hop.{call_at, own, own_inside}
+use Rattle.lz_machine.proofs.Steps.Hop.{call_at, own}
 use Rattle.lz_machine.proofs.Alone.Sights.{HasLeft, IsSeenOdd, set_cases, left_set, left_seen, seen_outside}
 use Rattle.lz_machine.proofs.Alone.Frame.{idle_on, none_on, left_on, is_use_event, course_is, cell_cases, synced_none, is_opening_event}
 use Rattle.lz_machine.proofs.Alone.Walk.{Finds, walk_finds}
 use Rattle.lz_machine.proofs.Alone.Full.{LeftBelow, WalkStands, AddsTo, says_yes, AloneFull, all_other, stands_playing, stands_halt, stands_claim, stands_check, AsksToAdd, stands_hops}
 use Rattle.lz_machine.proofs.Frames.Uses.{free_limbo}
-use Rattle.lz_machine.proofs.Runs.Course.{course_dead}
-use Rattle.lz_machine.proofs.Frames.Outside.{out_even}
+use Rattle.lz_machine.proofs.Runs.Course.{course_dead, answer_plays}
+use Rattle.lz_machine.proofs.Frames.Outside.{answered_even}
 use Rattle.lz_machine.proofs.Alone.CalmEvent.{IsCalm, calm_adds, calm_sequence, is_calm_sequence, sequence_goes}
 
 module _ (n calls : ℕ) (y : Yard) (callers : List (Option Caller)) (disk : Medium) (M : History) (P : Trace) (notes : Notes) (sound : Sound n calls y callers disk M P notes) (a i : ℕ) (c : Command) where
@@ -296,18 +296,14 @@ module _ (n calls : ℕ) (y : Yard) (callers : List (Option Caller)) (disk : Med
   answer_left : (k : Course) → HasLeft y.uses a → HasLeft (line_on k y actor a Answer).0.uses a
   answer_left (Refused outcome) left = left
   answer_left Dies left = left
-  answer_left Plays left = left_seen (given_back y actor.slot) a (pin_of y a + 1) a (given_left actor.slot a left)
+  answer_left Plays left = left_seen (given_back y actor.slot) a (pin_answered actor (pin_of y a)) a (given_left actor.slot a left)
 
-  -- after a yes too: its pass goes out
-  yes_left : (line y a Answer).1 ≢ NotNow → pin_of y a % 2 ≡ 1 → HasLeft (line y a Answer).0.uses a
-  yes_left now odd = ⊎_elim
-      (λ dead. absurd (false≢true (sym dead.1)))
-      (λ alive. subst (λ (k : Course). HasLeft (line_on k y actor a Answer).0.uses a) (sym alive) (go (stays_out actor (pin_of y a)) refl))
-      (course_is y a Answer now)
-    where
-      go : (out : Bool) → stays_out actor (pin_of y a) ≡ out → HasLeft (line_on (if out then Refused Done else Plays) y actor a Answer).0.uses a
-      go false is = seen_outside (given_back y actor.slot) a (pin_of y a + 1) (omega (arith, odd)) (given_odd actor.slot a)
-      go true is = absurd (omega (arith, odd, out_even actor (pin_of y a) is))
+  -- after a yes too: its pass is outside
+  yes_left : (line y a Answer).1 ≢ NotNow → HasLeft (line y a Answer).0.uses a
+  yes_left now = ⊎_elim
+      (λ plays. subst (λ (k : Course). HasLeft (line_on k y actor a Answer).0.uses a) (sym plays.1) (seen_outside (given_back y actor.slot) a (pin_answered actor (pin_of y a)) (answered_even actor (pin_of y a) plays.0) (given_odd actor.slot a)))
+      (λ not_yet. absurd (now (ap (λ (k : Course). (line_on k y actor a Answer).1) not_yet)))
+      (answer_plays y a)
 
   answering : (reply : Reply) → caller_at callers a ≡ Some (call_at i c (Answering reply)) → AloneFull a y (Some (call_at i c (Answering reply))) P → (line y a Answer).1 ≢ NotNow
       → AloneFull a (line y a Answer).0 None (line_publishes y a Answer ++ P)
@@ -319,7 +315,7 @@ module _ (n calls : ℕ) (y : Yard) (callers : List (Option Caller)) (disk : Med
   }
     where
       left_now : (reply : Reply) → caller_at callers a ≡ Some (call_at i c (Answering reply)) → (says_yes (Answering reply) ≡ false → HasLeft y.uses a) → HasLeft (line y a Answer).0.uses a
-      left_now Yes is left = yes_left now (own_inside n calls y callers disk M P notes a i c (Answering Yes) is sound refl)
+      left_now Yes is left = yes_left now
       left_now _ is left = answer_left (course y a Answer) (left refl)
 
   -- where a call has come so far, its turn

@@ -71,6 +71,12 @@ no_reply y c _ e is other = refl
 done_is_now : Done ≡ NotNow → ⊥
 done_is_now is = absurd cc
 
+-- what a crash inside a call leaves are bytes
+pub inside_bytes : (a : ℕ) (service : Service) (disk : Medium) (who : Option Caller) (t : List ℕ) → LeftInside service disk a who t → AreBytes t
+inside_bytes a service disk None t h = absurd h
+inside_bytes a service disk (Some caller) t (inl image) = image.bytes
+inside_bytes a service disk (Some caller) t (inr image) = image.bytes
+
 -- Where each turn keeps the invariant.
 module _ (turn_keeps : (start : Start) (a : ℕ) (service : Service) (disk : Medium) (M : History) (P : Trace) (calls : ℕ) → IsSound start (point (Up service disk) M P calls) → MayStep (Up service disk) (Turn a) → IsSound start (point_after (point (Up service disk) M P calls) (Turn a))) where
   module _ (start : Start) (a : ℕ) (service : Service) (disk : Medium) (M : History) (P : Trace) (calls : ℕ) (sound : IsSound start (point (Up service disk) M P calls)) (caller : Caller) (is : caller_at service.callers a ≡ Some caller) where
@@ -149,11 +155,6 @@ module _ (turn_keeps : (start : Start) (a : ℕ) (service : Service) (disk : Med
       go None is h = absurd h
       go (Some caller) is h = left_of_caller start a service disk M P calls sound caller is t h
 
-  left_bytes : (a : ℕ) (service : Service) (disk : Medium) (who : Option Caller) (t : List ℕ) → LeftInside service disk a who t → AreBytes t
-  left_bytes a service disk None t h = absurd h
-  left_bytes a service disk (Some caller) t (inl image) = image.bytes
-  left_bytes a service disk (Some caller) t (inr image) = image.bytes
-
   -- at a point: a crash inside a call keeps the invariant
   pub crash_in_keeps : (start : Start) (w : State) (M : History) (P : Trace) (calls a : ℕ) (t : List ℕ) → IsSound start (point w M P calls) → MayStep w (CrashesIn a t) → IsSound start (point_after (point w M P calls) (CrashesIn a t))
   crash_in_keeps start (Down shape disk) M P calls a t sound may = absurd may
@@ -161,7 +162,7 @@ module _ (turn_keeps : (start : Start) (a : ℕ) (service : Service) (disk : Med
     where
       go : (L : List Life) → PointSound start (point (Up service disk) M P calls) L → IsLeft (point (Up service disk) M P calls) t L → PointSound start (point_after (point (Up service disk) M P calls) (CrashesIn a t)) L
       go [] h left = absurd h
-      go (life ∷ earlier) h left = (h.0, h.1, at_rest_sound service.yard.shape life P t (left_bytes a service disk (caller_at service.callers a) t may) left.1)
+      go (life ∷ earlier) h left = (h.0, h.1, at_rest_sound service.yard.shape life P t (inside_bytes a service disk (caller_at service.callers a) t may) left.1)
 
   -- a text that a crash may leave has a list
   pub may_leave_has : (start : Start) (w : State) (M : History) (P : Trace) (calls : ℕ) (t : List ℕ) → IsSound start (point w M P calls) → MayLeave w t → IsLeft (point w M P calls) t (lives (start_keys start) M)

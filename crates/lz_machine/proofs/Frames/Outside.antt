@@ -1,11 +1,17 @@
--- Actors that answer without a pin.
-use Rattle.std.proofs.Common.{◌≡◌, inl, inr, ℕ, ◌%◌, ◌==◌, ◌&&◌, ◌||◌, not, Bool, true, false, refl, sym, ap, ◌∙◌, arith}
+-- Actors that answer without a pin, and the pin words after an Answer.
+use Rattle.std.proofs.Common.{◌≡◌, ◌≢◌, inl, inr, ℕ, ◌+◌, ◌≤◌, ◌%◌, ◌==◌, ◌&&◌, ◌||◌, not, if◌then◌else◌, Bool, true, false, length, refl, sym, ap, ◌∙◌, arith}
 use mathlib.Core.Bool.{false≢true}
-use Rattle.std.proofs.lemmas.Bool.{cases_Bool}
+use Rattle.std.proofs.lemmas.Bool.{cases_Bool, cases_eq}
 use Rattle.std.proofs.lemmas.Bool.Decides.{nat_tests, eqb_tells}
+use Rattle.lz_slot.specs.Counted.{of_pass}
+use Rattle.lz_slot.proofs.Counted.{of_pass_same, of_pass_other}
 use Rattle.lz_allot.specs.Uses.{is_outside}
+use Rattle.lz_list.specs.declared.word.Word.TheVariants.{Pin as pin_at}
+use Rattle.lz_list.specs.Words.{set}
 use Rattle.lz_machine.specs.declared.actor.Actor.{Actor}
-use Rattle.lz_machine.specs.Table.{last_pin, stays_out}
+use Rattle.lz_machine.specs.declared.event.Event.TheVariants.{Answer}
+use Rattle.lz_machine.specs.Yards.{Yard}
+use Rattle.lz_machine.specs.Table.{last_pin, pin_of, stays_out, pin_answered, words_after}
 
 pub even_of : (pin : ℕ) → (pin % 2 == 0) ≡ true → pin % 2 ≡ 0
 even_of pin is = grind (arith, nat_tests)
@@ -39,3 +45,37 @@ refused_out actor pin even refused =
 -- its Answer has what it needs
 pub out_needs : (actor : Actor) (pin : ℕ) → stays_out actor pin ≡ true → (not (is_outside pin) || stays_out actor pin) ≡ true
 out_needs actor pin is = ap (λ (b : Bool). not (is_outside pin) || b) is ∙ or_true (not (is_outside pin))
+
+-- after its Answer a pass is outside
+pub answered_even : (actor : Actor) (pin : ℕ) → (not (is_outside pin) || stays_out actor pin) ≡ true → pin_answered actor pin % 2 ≡ 0
+answered_even actor pin may = go (stays_out actor pin) refl may
+  where
+    go : (out : Bool) → stays_out actor pin ≡ out → (not (is_outside pin) || out) ≡ true → (if out then pin else pin + 1) % 2 ≡ 0
+    go true is may = out_even actor pin is
+    go false is may = elim (cases_eq (pin % 2) 0) [
+      | inl even ↦ absurd (false≢true (sym (ap (λ (b : Bool). not b || false) (outside_even pin even)) ∙ may))
+      | inr odd ↦ omega (arith, odd)
+    ]
+
+-- the pin words after an Answer
+module _ (y : Yard) (actor : Actor) (a : ℕ) where
+  pub answered_pin : 1 ≤ a → a ≤ length y.words.pins → of_pass (words_after y actor a Answer).pins a 0 ≡ pin_answered actor (pin_of y a)
+  answered_pin low high = go (stays_out actor (pin_of y a))
+    where
+      go : (out : Bool) → of_pass (if out then y.words else set y.words (pin_at a) (pin_of y a + 1)).pins a 0 ≡ (if out then pin_of y a else pin_of y a + 1)
+      go true = refl
+      go false = of_pass_same y.words.pins a (pin_of y a + 1) 0 low high
+
+  pub answered_other : (b : ℕ) → b ≢ a → of_pass (words_after y actor a Answer).pins b 0 ≡ of_pass y.words.pins b 0
+  answered_other b other = go (stays_out actor (pin_of y a))
+    where
+      go : (out : Bool) → of_pass (if out then y.words else set y.words (pin_at a) (pin_of y a + 1)).pins b 0 ≡ of_pass y.words.pins b 0
+      go true = refl
+      go false = of_pass_other y.words.pins a b (pin_of y a + 1) 0 other
+
+  pub answered_halt : (words_after y actor a Answer).halt ≡ y.words.halt
+  answered_halt = go (stays_out actor (pin_of y a))
+    where
+      go : (out : Bool) → (if out then y.words else set y.words (pin_at a) (pin_of y a + 1)).halt ≡ y.words.halt
+      go true = refl
+      go false = refl

@@ -1,10 +1,11 @@
 -- What becomes of an event, by whether the vault is dead and what the event needs.
-use Rattle.std.proofs.Common.{◌≡◌, ℕ, Bool, true, false, not, ◌&&◌, refl, ap, ◌∙◌}
+use Rattle.std.proofs.Common.{◌≡◌, ◌⊎◌, inl, inr, ℕ, Bool, true, false, not, ◌&&◌, refl, ap, ◌∙◌}
 use Rattle.std.specs.Prelude.{if◌then◌else◌}
 use Rattle.lz_slot.specs.declared.command.Command.{Command}
 use Rattle.lz_machine.specs.declared.event.Event.{Event}
-use Rattle.lz_machine.specs.declared.event.Event.TheVariants.{Invoke}
+use Rattle.lz_machine.specs.declared.event.Event.TheVariants.{Invoke, Answer}
 use Rattle.lz_machine.specs.declared.event.Outcome.TheVariants.{Dead, NotNow}
+use Rattle.lz_machine.specs.declared.course.Course.{Course}
 use Rattle.lz_machine.specs.declared.course.Course.TheVariants.{Refused, Plays}
 use Rattle.lz_machine.specs.Yards.{Yard}
 use Rattle.lz_machine.specs.Table.{needs, pin_of, is_played_dead, course, course_alive}
@@ -32,6 +33,19 @@ invoke_plays y a c = go y.vault.dead
     go : (dead : Bool) → (if dead && not true then Refused Dead else if true then Plays else Refused NotNow) ≡ Plays
     go true = refl
     go false = refl
+
+-- an Answer is played where it has what it needs
+pub answer_plays : (y : Yard) (a : ℕ) → ((needs y a Answer ≡ true) × (course y a Answer ≡ Plays)) ⊎ (course y a Answer ≡ Refused NotNow)
+answer_plays y a = go y.vault.dead (needs y a Answer)
+  where
+    taken : Bool → Bool → Course
+    taken dead may = if dead && not true then Refused Dead else if may then Plays else Refused NotNow
+
+    go : (dead may : Bool) → ((may ≡ true) × (taken dead may ≡ Plays)) ⊎ (taken dead may ≡ Refused NotNow)
+    go true true = inl (refl, refl)
+    go true false = inr refl
+    go false true = inl (refl, refl)
+    go false false = inr refl
 
 -- a dead vault refuses an event that is not played dead
 pub course_dead : (y : Yard) (a : ℕ) (e : Event) → is_played_dead e ≡ false → y.vault.dead ≡ true → course y a e ≡ Refused Dead

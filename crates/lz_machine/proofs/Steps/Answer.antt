@@ -1,5 +1,5 @@
--- An answer keeps the invariant: the pass goes out, a slot that wasn't used is given back, and the call ends with its row.
-use Rattle.std.proofs.Common.{◌≡◌, ◌≢◌, ◌⊎◌, ⊎_elim, inl, inr, ℕ, ◌≤◌, ◌+◌, ◌%◌, not, ◌&&◌, ◌||◌, if◌then◌else◌, Bool, true, false, List, ◌∷◌, length, Option, Some, None, refl, sym, ap, ◌∙◌, subst, arith}
+-- An answer keeps the invariant: the pass is outside then, a slot that wasn't used is given back, and the call ends with its row.
+use Rattle.std.proofs.Common.{◌≡◌, ◌≢◌, ◌⊎◌, ⊎_elim, inl, inr, ℕ, ◌≤◌, ◌+◌, ◌%◌, not, ◌||◌, if◌then◌else◌, Bool, true, false, List, ◌∷◌, length, Option, Some, None, refl, sym, ap, ◌∙◌, subst, arith}
 use mathlib.Core.Bool.{false≢true}
 use Rattle.std.proofs.lemmas.Bool.{cases_Bool}
 use Rattle.std.proofs.lemmas.Bool.Decides.{nat_tests}
@@ -13,28 +13,29 @@ use Rattle.lz_slot.proofs.Counted.{of_pass_same, of_pass_other, length-set_of_pa
 use Rattle.lz_disk.specs.Images.{Medium}
 use Rattle.lz_vault.specs.Vaults.{medium_after}
 use Rattle.lz_allot.specs.Uses.{Use, see_pin, give_back, is_outside}
+use Rattle.lz_list.specs.Words.{Words}
 use Rattle.lz_list.specs.Traces.{Trace, halt_word}
 use Rattle.lz_machine.specs.declared.event.Event.TheVariants.{Answer}
-use Rattle.lz_machine.specs.declared.event.Outcome.TheVariants.{Done, NotNow, Dead}
+use Rattle.lz_machine.specs.declared.event.Outcome.TheVariants.{Done, NotNow}
 use Rattle.lz_machine.specs.declared.event.Reply.{Reply}
 use Rattle.lz_machine.specs.declared.event.Reply.TheVariants.{Worn as SaysWorn, OldFile as SaysOldFile}
 use Rattle.lz_machine.specs.declared.actor.Actor.{Actor}
 use Rattle.lz_machine.specs.declared.actor.Hold.TheVariants.{Nothing}
 use Rattle.lz_machine.specs.declared.course.Course.{Course}
-use Rattle.lz_machine.specs.declared.course.Course.TheVariants.{Refused, Plays}
 use Rattle.lz_machine.specs.declared.caller.Progress.TheVariants.{Answering}
 use Rattle.lz_machine.specs.Yards.{Yard, actor_at, idle_actor, IsInside, actor_in, pin_in, stage_in}
-use Rattle.lz_machine.specs.Table.{last_pin, stays_out, pin_of, needs, course, course_alive, line, line_on, call_on, yard_done, with_slot, kept_slot, given_back, is_unused}
+use Rattle.lz_machine.specs.Table.{last_pin, stays_out, pin_of, needs, course, line, line_on, call_on, yard_done, with_slot, kept_slot, given_back, is_unused}
 use Rattle.lz_machine.specs.Runs.{Caller, caller_at, mark_of, played}
 use Rattle.lz_machine.specs.LocksSound.{HasLock, RestsOn, LocksSound}
 use Rattle.lz_machine.specs.Notes.{Notes, entries}
 use Rattle.lz_machine.specs.CallersSound.{view_of, is_before_pin, side_of, IsIdle, MayAnswer, Relies, CallerSound, CallersSound}
 use Rattle.lz_machine.specs.SlotsSound.{opens, SlotsSound}
 use Rattle.lz_machine.specs.LedgerSound.{TailsSound}
-use Rattle.lz_machine.specs.Sound.{ReuseSound, IsAfter, Sound, UpSound}
+use Rattle.lz_machine.specs.Sound.{TraceSound, ReuseSound, IsAfter, Sound, UpSound}
+use Rattle.lz_machine.proofs.Runs.Course.{answer_plays}
 use Rattle.lz_machine.proofs.Frames.ActorTable.{by_actor}
 use Rattle.lz_machine.proofs.Frames.OneActor.{caller_range, carry}
-use Rattle.lz_machine.proofs.Frames.Outside.{out_even, out_needs}
+use Rattle.lz_machine.proofs.Frames.Outside.{out_even}
 use Rattle.lz_machine.proofs.Frames.Grip.{keeps_itself, slots_turn}
 use Rattle.lz_machine.proofs.Frames.NodeLocks.{held_locks}
 use Rattle.lz_machine.proofs.Frames.Hand.{reuse_turn}
@@ -80,71 +81,59 @@ module _ (n calls : ℕ) (y : Yard) (callers : List (Option Caller)) (disk : Med
         (others b other) (same_pins b other) (stays_open callers notes a how.last (call_at i c (Answering says)) is b other) refl (changed_still callers notes a how.last (call_at i c (Answering says)) is b other) (sound.callers.each b));
   }
 
-  -- a call that was refused outside: the yard stays
-  worn_sound : IsIdle (actor_in y.actors a) P → (IsInside (pin_in y.words.pins a) → ⊥) → Sound n calls y (ending callers a) disk (m ∷ M) P notes'
-  worn_sound idle outside = record {
-    trace = sound.trace;
-    images = sound.images;
-    slots = sound.slots;
-    locks = sound.locks;
-    callers = ended_callers y.actors y.words.pins refl (λ b other. refl) (λ b other. refl) (record { quiet = λ inside. absurd (outside inside); begins = λ inside. absurd (outside inside); stands = (idle, refl) });
-    reuse = sound.reuse;
-    ledger = how.ledger;
-    tails = ended_tails y.actors (λ b t slot. slot);
-  }
+  pub ended_after : (pins' : List ℕ) → ((b : ℕ) → b ≢ a → pin_in pins' b ≡ pin_in y.words.pins b) → IsAfter pins' (ending callers a) (entries y.shape.passes (ending callers a) notes') (m ∷ M) notes'.begun
+  ended_after pins' others = after_ended n calls y.shape.passes callers P M notes a (call_at i c (Answering says)) is le sound.ledger y.words.pins after m how.marks how.last how.is_last pins' others
 
-  worn_after : IsAfter y.words.pins (ending callers a) (entries y.shape.passes (ending callers a) notes') (m ∷ M) notes'.begun
-  worn_after = after_ended n calls y.shape.passes callers P M notes a (call_at i c (Answering says)) is le sound.ledger y.words.pins after m how.marks how.last how.is_last y.words.pins (λ b other. refl)
+  low : 1 ≤ a
+  low = (caller_range callers a (call_at i c (Answering says)) is).0
 
-  module _ (inside : IsInside (pin_in y.words.pins a)) (fresh : pin_in y.words.pins a ≢ last_pin) where
-    abbrev to : ℕ
-    to = pin_in y.words.pins a + 1
+  in_actors : a ≤ length y.actors
+  in_actors = omega (arith, le, sound.callers.hands)
 
-    abbrev pins' : List ℕ
-    pins' = set_of_pass y.words.pins a to
+  -- these may be the words after the answer, and this is its pin word
+  pub record Leaves (words' : Words) (to : ℕ) : Type 0 where
+    pub trace : TraceSound y.shape words' P
+    pub pin : to ≡ pin_in words'.pins a
+    pub outside : IsInside (pin_in words'.pins a) → ⊥
+    pub others : (b : ℕ) → b ≢ a → pin_in words'.pins b ≡ pin_in y.words.pins b
+    pub reuse : ReuseSound y.shape words'.pins y.uses y.actors P notes.begun
 
-    low : 1 ≤ a
-    low = (caller_range callers a (call_at i c (Answering says)) is).0
+  -- a call that was refused outside leaves its pin word
+  pub stays_outside : pin_in y.words.pins a % 2 ≡ 0 → Leaves y.words (pin_in y.words.pins a)
+  stays_outside even = record { trace = sound.trace; pin = refl; outside = λ inside. omega (arith, inside, even); others = λ b other. refl; reuse = sound.reuse }
 
-    in_pins : a ≤ length y.words.pins
-    in_pins = omega (arith, le, sound.trace.pins)
+  -- the pass goes out
+  pub goes_out : IsInside (pin_in y.words.pins a) → pin_in y.words.pins a ≢ last_pin → Leaves (pinned y.words a) (pin_in y.words.pins a + 1)
+  goes_out inside fresh =
+      let in_pins : a ≤ length y.words.pins = omega (arith, le, sound.trace.pins) in
+      let now : pin_in (pinned y.words a).pins a ≡ pin_in y.words.pins a + 1 = of_pass_same y.words.pins a (pin_in y.words.pins a + 1) 0 low in_pins in
+      record {
+        trace = trace_pinned y.shape y.words P a sound.trace;
+        pin = sym now;
+        outside = λ still. omega (arith, still, now, inside);
+        others = λ b other. of_pass_other y.words.pins a b (pin_in y.words.pins a + 1) 0 other;
+        reuse = left_reuse y.shape y.vault.cells y.vault.dead y.words.pins y.uses y.actors P notes a low in_pins sound.slots sound.reuse inside fresh;
+      }
 
-    in_actors : a ≤ length y.actors
-    in_actors = omega (arith, le, sound.callers.hands)
-
-    pin_now : pin_in pins' a ≡ to
-    pin_now = of_pass_same y.words.pins a to 0 low in_pins
-
-    pin_other : (b : ℕ) → b ≢ a → pin_in pins' b ≡ pin_in y.words.pins b
-    pin_other b other = of_pass_other y.words.pins a b to 0 other
-
-    out_now : IsInside (pin_in pins' a) → ⊥
-    out_now still = omega (arith, still, pin_now, inside)
-
-    -- the yard in which the pass has gone out, with these uses and actors
+  module _ (words' : Words) (to : ℕ) (leaves : Leaves words' to) where
+    -- the yard in which the pass is outside, with these uses and actors
     abbrev left_yard : List Use → List Actor → Yard
-    left_yard uses actors' = record { shape = y.shape; words = pinned y.words a; locks = y.locks; vault = y.vault; uses = see_pin a to uses; actors = actors' }
+    left_yard uses actors' = record { shape = y.shape; words = words'; locks = y.locks; vault = y.vault; uses = see_pin a to uses; actors = actors' }
 
     left_sound : (uses : List Use) (actors' : List Actor) → length actors' ≡ length y.actors → ((b : ℕ) → b ≢ a → actor_in actors' b ≡ actor_in y.actors b)
         → ((b t : ℕ) → (actor_in actors' b).slot ≡ Some t → (actor_in y.actors b).slot ≡ Some t) → IsIdle (actor_in actors' a) P
-        → SlotsSound y.shape y.vault.cells y.vault.dead uses actors' P → LocksSound y.shape y.locks actors' P → ReuseSound y.shape pins' uses actors' P notes.begun
+        → SlotsSound y.shape y.vault.cells y.vault.dead uses actors' P → LocksSound y.shape y.locks actors' P → ReuseSound y.shape words'.pins uses actors' P notes.begun
         → Sound n calls (left_yard uses actors') (ending callers a) disk (m ∷ M) P notes'
     left_sound uses actors' count others slot_then idle slots locks reuse = record {
-      trace = trace_pinned y.shape y.words P a sound.trace;
+      trace = leaves.trace;
       images = sound.images;
       slots = slots_uses y.shape y.vault.cells y.vault.dead uses (see_pin a to uses) actors' P (seen_keeps a to uses) slots;
       locks = locks;
-      callers = ended_callers actors' pins' count others pin_other (record { quiet = λ still. absurd (out_now still); begins = λ still. absurd (out_now still); stands = (idle, refl) });
-      reuse = seen_reuse a to y.shape pins' uses actors' P notes.begun (sym pin_now) low le reuse;
+      callers = ended_callers actors' words'.pins count others leaves.others (record { quiet = λ still. absurd (leaves.outside still); begins = λ still. absurd (leaves.outside still); stands = (idle, refl) });
+      reuse = seen_reuse a to y.shape words'.pins uses actors' P notes.begun leaves.pin low le reuse;
       ledger = how.ledger;
       tails = ended_tails actors' slot_then;
     }
-
-    reuse_out : ReuseSound y.shape pins' y.uses y.actors P notes.begun
-    reuse_out = left_reuse y.shape y.vault.cells y.vault.dead y.words.pins y.uses y.actors P notes a low in_pins sound.slots sound.reuse inside fresh
-
-    left_after : IsAfter pins' (ending callers a) (entries y.shape.passes (ending callers a) notes') (m ∷ M) notes'.begun
-    left_after = after_ended n calls y.shape.passes callers P M notes a (call_at i c (Answering says)) is le sound.ledger y.words.pins after m how.marks how.last how.is_last pins' pin_other
 
     -- it keeps what it has in hand
     module _ (x : Actor) (same : x ≡ actor_in y.actors a) where
@@ -161,7 +150,7 @@ module _ (n calls : ℕ) (y : Yard) (callers : List (Option Caller)) (disk : Med
           (held_locks y.shape y.locks y.actors actors' P a (λ b other. all_same b) sound.locks
           (λ place lock. subst (λ (q : Actor). HasLock q place) (all_same a) lock)
           (subst (λ (q : Actor). RestsOn y.shape.buckets q.hold q P) (sym (all_same a)) (sound.locks.rests a)))
-          (reuse_turn y.shape pins' y.uses y.actors actors' P notes.begun (λ b. ap (λ (q : Actor). q.slot) (all_same b)) reuse_out)
+          (reuse_turn y.shape words'.pins y.uses y.actors actors' P notes.begun (λ b. ap (λ (q : Actor). q.slot) (all_same b)) leaves.reuse)
 
     -- it gives its slot back
     given_sound : (s : ℕ) → (actor_in y.actors a).slot ≡ Some s → is_unused (stage_in y.vault.cells s) ≡ true → ((actor_in y.actors a).hold ≡ Nothing) ⊎ (halt_word P ≡ 1)
@@ -174,7 +163,7 @@ module _ (n calls : ℕ) (y : Yard) (callers : List (Option Caller)) (disk : Med
         (⊎_elim (λ nothing. inl (given_hold y.shape y.vault.cells y.vault.dead y.uses y.actors P sound.slots a s low in_actors has unused ∙ nothing, given_none y.shape y.vault.cells y.vault.dead y.uses y.actors P sound.slots a s low in_actors has unused)) (λ halted. inr halted) calm)
         (given_slots y.shape y.vault.cells y.vault.dead y.uses y.actors P sound.slots a s low in_actors has unused)
         (given_locks y.shape y.vault.cells y.vault.dead y.uses y.actors P sound.slots a s low in_actors has unused y.locks sound.locks)
-        (given_reuse y.shape y.vault.cells y.vault.dead y.uses y.actors P sound.slots a s low in_actors has unused pins' notes.begun reuse_out)
+        (given_reuse y.shape y.vault.cells y.vault.dead y.uses y.actors P sound.slots a s low in_actors has unused words'.pins notes.begun leaves.reuse)
 
     -- the slot of an actor that holds nothing wasn't used
     calm_unused : (s : ℕ) → (actor_in y.actors a).slot ≡ Some s → (actor_in y.actors a).hold ≡ Nothing → is_unused (stage_in y.vault.cells s) ≡ true
@@ -194,7 +183,7 @@ module _ (n calls : ℕ) (y : Yard) (callers : List (Option Caller)) (disk : Med
       | inr used ↦ rw used (kept_sound (with_slot (actor_at y a) (Some s)) (ap (with_slot (actor_at y a)) (sym has)) (⊎_elim (λ nothing. absurd (false≢true (sym used ∙ calm_unused s has nothing))) (λ halted. inr halted) calm))
     ]
 
-    pub played_sound : ((actor_in y.actors a).hold ≡ Nothing) ⊎ (halt_word P ≡ 1) → Sound n calls (yard_done y (actor_at y a) a Answer) (ending callers a) disk (m ∷ M) P notes'
+    pub played_sound : ((actor_in y.actors a).hold ≡ Nothing) ⊎ (halt_word P ≡ 1) → Sound n calls (answered_with (actor_in y.actors a).slot) (ending callers a) disk (m ∷ M) P notes'
     played_sound calm = answered_sound (actor_in y.actors a).slot refl calm
 
 -- what the call relies on, inside
@@ -224,11 +213,22 @@ in_of false side = refl
 
 module _ (n calls : ℕ) (y : Yard) (callers : List (Option Caller)) (disk : Medium) (M : History) (P : Trace) (start : Keys) (notes : Notes) (a i : ℕ) (c : Command) (says : Reply) (is : caller_at callers a ≡ Some (call_at i c (Answering says)))
     (up : UpSound n calls (record { yard = y; callers = callers }) disk (record { start = start; history = M }) P notes) where
-  abbrev Answered : Course → Type 0
-  Answered taken =
-      (noted : Notes) × UpSound n calls (played (record { yard = y; callers = callers }) a (call_at i c (Answering says)) (line_on taken y (actor_at y a) a Answer)) (medium_after (call_on taken y (actor_at y a) Answer) disk)
-      (record { start = start; history = mark_of i says ∷ M }) P noted × IsNoted y.words.pins (line_on taken y (actor_at y a) a Answer).0.words.pins P notes.begun noted.begun
-      × IsTold (line_on taken y (actor_at y a) a Answer).0.words.pins P notes.changed P noted.changed
+  abbrev Answered : Yard → Type 0
+  Answered new =
+      (noted : Notes) × UpSound n calls (played (record { yard = y; callers = callers }) a (call_at i c (Answering says)) (new, Done)) disk
+      (record { start = start; history = mark_of i says ∷ M }) P noted × IsNoted y.words.pins new.words.pins P notes.begun noted.begun
+      × IsTold new.words.pins P notes.changed P noted.changed
+
+  -- the yard after it, by whether the pass stays out
+  abbrev new_yard : Bool → Yard
+  new_yard out = record {
+    shape = y.shape;
+    words = if out then y.words else pinned y.words a;
+    locks = y.locks;
+    vault = y.vault;
+    uses = see_pin a (if out then pin_of y a else pin_of y a + 1) (given_back y (actor_at y a).slot);
+    actors = set_of_pass y.actors a (with_slot (actor_at y a) (kept_slot y (actor_at y a).slot));
+  }
 
   range : (1 ≤ a) × (a ≤ y.shape.passes)
   range = let r = caller_range callers a (call_at i c (Answering says)) is in (r.0, omega (arith, r.1, up.sound.callers.count))
@@ -237,7 +237,7 @@ module _ (n calls : ℕ) (y : Yard) (callers : List (Option Caller)) (disk : Med
   me = own n calls y callers disk M P notes a i c (Answering says) is up.sound
 
   -- it was refused outside
-  refused_up : (pin_in y.words.pins a % 2 ≡ 0) → Answered (Refused Done)
+  refused_up : (pin_in y.words.pins a % 2 ≡ 0) → Answered (new_yard true)
   refused_up even =
       let outside = out_of (is_before_pin (Answering says)) (sym me.stands.0 ∙ even) in
       let relies = out_rests c says a y (notes.begun a) P (notes.changed a) outside me.stands.2 in
@@ -245,64 +245,62 @@ module _ (n calls : ℕ) (y : Yard) (callers : List (Option Caller)) (disk : Med
         ends_now notes a how.last,
         record {
           began = up.began;
-          sound = worn_sound n calls y callers disk M P notes up.sound up.after a i c says is range.1 how relies.0 (λ inside. omega (arith, inside, even));
+          sound = played_sound n calls y callers disk M P notes up.sound up.after a i c says is range.1 how y.words (pin_of y a) (stays_outside n calls y callers disk M P notes up.sound up.after a i c says is range.1 how even)
+              (⊎_elim (λ nothing. inl nothing.0) (λ halted. inr halted) relies.0);
           since = up.since;
-          after = worn_after n calls y callers disk M P notes up.sound up.after a i c says is range.1 how;
+          after = ended_after n calls y callers disk M P notes up.sound up.after a i c says is range.1 how y.words.pins (λ b other. refl);
         },
         noted_same y.words.pins y.words.pins P notes.begun refl,
         told_ended y.words.pins a P notes how.last even,
       )
 
   -- its pass goes out
-  played_up : (pin_in y.words.pins a % 2 ≡ 1) → pin_in y.words.pins a ≢ last_pin → Answered Plays
+  played_up : (pin_in y.words.pins a % 2 ≡ 1) → pin_in y.words.pins a ≢ last_pin → Answered (new_yard false)
   played_up inside fresh =
       let relies = rests_of c says a y (notes.begun a) P (notes.changed a) (in_of (is_before_pin (Answering says)) (sym me.stands.0 ∙ inside)) me.stands.2 in
-      let how = ends n calls y.shape.passes callers P M notes a i range.1 up.sound.ledger y.words.pins up.after c says is (inr (inside, up.since a inside)) relies.0 in (
+      let how = ends n calls y.shape.passes callers P M notes a i range.1 up.sound.ledger y.words.pins up.after c says is (inr (inside, up.since a inside)) relies.0 in
+      let out = goes_out n calls y callers disk M P notes up.sound up.after a i c says is range.1 how inside fresh in (
         ends_now notes a how.last,
         record {
           began = up.began;
-          sound = played_sound n calls y callers disk M P notes up.sound up.after a i c says is range.1 how inside fresh relies.1;
+          sound = played_sound n calls y callers disk M P notes up.sound up.after a i c says is range.1 how (pinned y.words a) (pin_of y a + 1) out relies.1;
           since = since_out n y.words.pins notes.begun a _ (inl inside) range.0 (omega (arith, range.1, up.sound.trace.pins)) up.since;
-          after = left_after n calls y callers disk M P notes up.sound up.after a i c says is range.1 how inside fresh;
+          after = ended_after n calls y callers disk M P notes up.sound up.after a i c says is range.1 how (pinned y.words a).pins out.others;
         },
         noted_out y.words.pins a P notes.begun inside range.0 (omega (arith, range.1, up.sound.trace.pins)),
         told_out y.words.pins a P notes how.last inside range.0 (omega (arith, range.1, up.sound.trace.pins)),
       )
 
-  -- the course of an answer, by whether the vault is dead and the answer has what it needs
-  abbrev taken : Bool → Bool → Course
-  taken dead may = if dead && not true then Refused Dead else if may then course_alive y a (pin_of y a) Answer else Refused NotNow
-
-  either : (dead may : Bool) → taken dead may ≡ taken false may
-  either true may = refl
-  either false may = refl
-
-  plays : needs y a Answer ≡ true → course y a Answer ≡ course_alive y a (pin_of y a) Answer
-  plays may = either y.vault.dead (needs y a Answer) ∙ ap (taken false) may
-
-  not_yet : needs y a Answer ≡ false → course y a Answer ≡ Refused NotNow
-  not_yet lacks = either y.vault.dead (needs y a Answer) ∙ ap (taken false) lacks
-
   abbrev out : Bool
   out = stays_out (actor_at y a) (pin_of y a)
-
-  needs_inside : is_outside (pin_of y a) ≡ false → needs y a Answer ≡ true
-  needs_inside inside = ap (λ (b : Bool). not b || out) inside
 
   lacks_both : is_outside (pin_of y a) ≡ true → out ≡ false → needs y a Answer ≡ false
   lacks_both outside may_not = ap (λ (b : Bool). not b || out) outside ∙ may_not
 
-  answered : (line y a Answer).1 ≢ NotNow → Answered (course y a Answer)
-  answered now = elim (cases_Bool out) [
-    | inl refused ↦ subst Answered (sym (plays (out_needs (actor_at y a) (pin_of y a) refused) ∙ ap (λ (b : Bool). if b then Refused Done else Plays) refused)) (refused_up (out_even (actor_at y a) (pin_of y a) refused))
+  -- the yard after it, where it has what it needs
+  done : needs y a Answer ≡ true → Answered (yard_done y (actor_at y a) a Answer)
+  done may = elim (cases_Bool out) [
+    | inl refused ↦ subst (λ (b : Bool). Answered (new_yard b)) (sym refused) (refused_up (out_even (actor_at y a) (pin_of y a) refused))
     | inr may_not ↦ elim (cases_Bool (is_outside (pin_of y a))) [
-      | inl outside ↦ absurd (now (ap (λ (taken : Course). (line_on taken y (actor_at y a) a Answer).1) (not_yet (lacks_both outside may_not))))
-      | inr inside ↦ subst Answered (sym (plays (needs_inside inside) ∙ ap (λ (b : Bool). if b then Refused Done else Plays) may_not)) (played_up (odd inside) (λ last. omega (arith, odd inside, last)))
+      | inl outside ↦ absurd (false≢true (sym (lacks_both outside may_not) ∙ may))
+      | inr inside ↦ subst (λ (b : Bool). Answered (new_yard b)) (sym may_not) (played_up (odd inside) (λ last. omega (arith, odd inside, last)))
     ]
   ]
     where
       odd : is_outside (pin_of y a) ≡ false → pin_in y.words.pins a % 2 ≡ 1
       odd is = grind (arith, nat_tests, is)
+
+  abbrev AnsweredOn : Course → Type 0
+  AnsweredOn taken =
+      (noted : Notes) × UpSound n calls (played (record { yard = y; callers = callers }) a (call_at i c (Answering says)) (line_on taken y (actor_at y a) a Answer)) (medium_after (call_on taken y (actor_at y a) Answer) disk)
+      (record { start = start; history = mark_of i says ∷ M }) P noted × IsNoted y.words.pins (line_on taken y (actor_at y a) a Answer).0.words.pins P notes.begun noted.begun
+      × IsTold (line_on taken y (actor_at y a) a Answer).0.words.pins P notes.changed P noted.changed
+
+  answered : (line y a Answer).1 ≢ NotNow → AnsweredOn (course y a Answer)
+  answered now = ⊎_elim
+      (λ plays. subst AnsweredOn (sym plays.1) (done plays.0))
+      (λ not_yet. absurd (now (ap (λ (taken : Course). (line_on taken y (actor_at y a) a Answer).1) not_yet)))
+      (answer_plays y a)
 
 -- an answer keeps the invariant of an open service
 pub answer_up : AnswerUp

@@ -94,11 +94,6 @@ alive_now y a Pin = go (pin_of y a == last_pin)
     go : (b : Bool) → is_now (line_on (if b then Refused Worn else Plays) y (actor_at y a) a Pin).1 ≡ true
     go true = refl
     go false = refl
-alive_now y a Answer = go (stays_out (actor_at y a) (pin_of y a))
-  where
-    go : (b : Bool) → is_now (line_on (if b then Refused Done else Plays) y (actor_at y a) a Answer).1 ≡ true
-    go true = refl
-    go false = refl
 alive_now y a (Sync s) = go (not (is_sure y s) && is_spent y)
   where
     go : (b : Bool) → is_now (line_on (if b then Dies else Plays) y (actor_at y a) a (Sync s)).1 ≡ true

@@ -24,7 +24,7 @@ use Rattle.lz_machine.specs.declared.course.Course.TheVariants.{Refused, Dies, P
 use Rattle.lz_machine.specs.declared.event.Event.{Event}
 use Rattle.lz_machine.specs.declared.event.Event.TheVariants.{Pin, Reserve, Link, Settle, Unlink, Retire, SeePin, Answer}
 use Rattle.lz_machine.specs.Yards.{Shape, Yard, actor_at, cell_at, slots_read, pin_in}
-use Rattle.lz_machine.specs.Table.{course, line, line_on, line_publishes, published_on, publishes, settling, words_after, uses_after, node_of, has_marked, is_unused, given_back, reserved, needs}
+use Rattle.lz_machine.specs.Table.{course, line, line_on, line_publishes, published_on, publishes, settling, words_after, uses_after, node_of, has_marked, is_unused, given_back, reserved, needs, stays_out, pin_answered}
 use Rattle.lz_machine.specs.Calls.{event_at, loaded}
 use Rattle.lz_machine.specs.Runs.{Start, IsStart, Caller, Service, State, Up, Down, Transition, Calls, Turn, Fails, Looks, Trips, Stops, Crashes, CrashesIn, Opens, OpenFails, MayStep, IsRun, run, first_point, caller_at, next_event, start_keys, state_after, after_turn, after_fault, looked, pins_of, unlinkings, moments_of_step, moments, turn_publishes, opened_service}
 use Rattle.lz_machine.specs.FreedSlots.{FreedIsAllFree}
@@ -35,6 +35,8 @@ use Rattle.lz_machine.proofs.Steps.Trip.{point}
 use Rattle.lz_machine.proofs.Steps.Halt.{held_node}
 use Rattle.lz_machine.proofs.Steps.Turn.{settled_pins}
 use Rattle.lz_machine.proofs.Steps.Unlink.{redirect_pins}
+use Rattle.lz_machine.proofs.Steps.Pin.{pinned}
+use Rattle.lz_machine.proofs.Frames.Outside.{answered_pin}
 use Rattle.lz_machine.proofs.Frames.OneActor.{caller_range}
 use Rattle.lz_machine.proofs.Frames.Ranges.{on_range}
 use Rattle.lz_machine.proofs.Frames.Uses.{collected_free, free_limbo, left_of, limbo_same, use_map}
@@ -131,9 +133,16 @@ module _ (n calls : ℕ) (y : Yard) (callers : List (Option Caller)) (disk : Med
   settled_goes : (s q : ℕ) → Goes (Settle s) q
   settled_goes s q = inl (ap (λ (pins : List ℕ). pin_in pins q) (settled_pins y a s))
 
+  answered_goes : (q : ℕ) → Goes Answer q
+  answered_goes q = go (stays_out actor (pin_in y.words.pins a))
+    where
+      go : (out : Bool) → let pins : List ℕ = (if out then y.words else pinned y.words a).pins in (pin_in pins q ≡ pin_in y.words.pins q) ⊎ (pin_in pins q ≡ suc (pin_in y.words.pins q))
+      go true = inl refl
+      go false = counted q
+
   goes : (e : Event) (q : ℕ) → Goes e q
   goes Pin q = counted q
-  goes Answer q = counted q
+  goes Answer q = answered_goes q
   goes Link q = inl (ap (λ (pins : List ℕ). pin_in pins q) (redirect_pins y.words actor.pred _))
   goes Unlink q = inl (ap (λ (pins : List ℕ). pin_in pins q) (redirect_pins y.words actor.pred _))
   goes (Settle s) q = settled_goes s q
@@ -218,7 +227,7 @@ module _ (n calls : ℕ) (y : Yard) (callers : List (Option Caller)) (disk : Med
 
   answering : Becomes Answer
   answering s q seen low' high' is =
-      looking Answer (given_back y actor.slot) a (pin_in y.words.pins a + 1) s q seen (λ old. was actor.slot old) (sym (of_pass_same y.words.pins a (pin_in y.words.pins a + 1) 0 low (omega (arith, high, sound.trace.pins)))) is
+      looking Answer (given_back y actor.slot) a (pin_answered actor (pin_in y.words.pins a)) s q seen (λ old. was actor.slot old) (sym (answered_pin y actor a low (omega (arith, high, sound.trace.pins)))) is
     where
       was : (slot : Option ℕ) (old : List Sight) → use_of (given_back y slot) s ≡ Limbo old → use_of y.uses s ≡ Limbo old
       was None old is = is

@@ -1,26 +1,22 @@
 -- Runs that follow on one another.
-use Rattle.std.proofs.Common.{◌≡◌, inl, inr, ℕ, List, [], ◌∷◌, ◌++◌, Option, Some, None, refl, sym, subst, arith}
+use Rattle.std.proofs.Common.{◌≡◌, inl, inr, ℕ, List, [], ◌∷◌, ◌++◌, refl, sym, subst, arith}
 use Rattle.lz_slot.specs.declared.history.Mark.{Mark}
 use Rattle.lz_slot.specs.declared.history.Mark.TheVariants.{Call, Answer, Refused, Cut, Stop, Crash, Opened, OpenFailed}
 use Rattle.lz_slot.specs.Bytes.{Holds}
 use Rattle.lz_slot.specs.Histories.{History, Life, ChainTo, lives, with_mark}
 use Rattle.lz_slot.specs.Sets.{Keys, Same, members}
-use Rattle.lz_disk.specs.Images.{Medium, AreBytes}
-use Rattle.lz_machine.specs.JoinedRuns.{LeftIsStart, RunsJoin}
-use Rattle.lz_machine.specs.Runs.{Caller, Service, State, Up, Down, LeftInside, MayLeave, caller_at, start_keys}
+use Rattle.lz_disk.specs.Images.{AreBytes}
+use Rattle.lz_machine.specs.JoinedRuns.{LeftIsStart, RunsJoin, all_lives, first_start}
+use Rattle.lz_machine.specs.Runs.{State, Up, Down, MayLeave, caller_at, start_keys}
+use Rattle.lz_machine.proofs.Crash.Leftovers.{inside_bytes}
 use Rattle.lz_machine.proofs.Open.FirstPoint.{one_set, fits_same}
 use Rattle.lz_machine.proofs.Open.ListedKeys.{listed}
 use Rattle.lz_machine.proofs.Theorem.Reached.{every_history}
 
 -- what a crash may leave are bytes
-inside_bytes : (service : Service) (disk : Medium) (a : ℕ) (who : Option Caller) (t : List ℕ) → LeftInside service disk a who t → AreBytes t
-inside_bytes service disk a None t left = absurd left
-inside_bytes service disk a (Some caller) t (inl image) = image.bytes
-inside_bytes service disk a (Some caller) t (inr image) = image.bytes
-
 left_bytes : (w : State) (t : List ℕ) → MayLeave w t → AreBytes t
 left_bytes (Up service disk) t (inl image) = image.bytes
-left_bytes (Up service disk) t (inr (a, left)) = inside_bytes service disk a (caller_at service.callers a) t left
+left_bytes (Up service disk) t (inr (a, left)) = inside_bytes a service disk (caller_at service.callers a) t left
 left_bytes (Down shape disk) t image = image.bytes
 
 pub left_is_start : LeftIsStart
@@ -70,13 +66,21 @@ join (life ∷ []) earlier A S begins h old = (h.0, h.1, subst (ChainTo earlier)
 join (life ∷ next ∷ rest) earlier A S begins h old = (h.0, h.1, join (next ∷ rest) earlier A life.start begins h.2 old)
 
 pub runs_join : RunsJoin
-runs_join start next w v M H P Q t first leaves second left =
-    let before = every_history start w M P next.text first leaves in
-    let after = every_history next v H Q t second left in
-    let slots : next.shape.slots ≡ start.shape.slots = omega (arith, second.starts.text.size, before.1.size) in
-    let same : Same before.0 (start_keys next) = one_set next.text start.shape.slots before.0 (start_keys next) before.1 (subst (λ (n : ℕ). Holds next.text n (start_keys next)) slots second.starts.text) in (
+runs_join r [] t follow left =
+    let after = every_history r.start r.state r.marks r.trace t r.reached left in (
+      after.0,
+      after.1,
+      join (lives (start_keys r.start) r.marks) [] (start_keys r.start) after.0 (lives_begin (start_keys r.start) r.marks) after.2 tt,
+    )
+runs_join r (q ∷ earlier) t (leaves, follow) left =
+    let before = runs_join q earlier r.start.text follow leaves in
+    let after = every_history r.start r.state r.marks r.trace t r.reached left in
+    let size = (first_start q earlier).shape.slots in
+    let text = r.reached.starts.text in
+    let slots : r.start.shape.slots ≡ size = omega (arith, text.size, before.1.size) in
+    let same : Same before.0 (start_keys r.start) = one_set r.start.text size before.0 (start_keys r.start) before.1 (subst (λ (n : ℕ). Holds r.start.text n (start_keys r.start)) slots text) in (
       after.0,
       subst (λ (n : ℕ). Holds t n after.0) slots after.1,
-      join (lives (start_keys next) H) (lives (start_keys start) M) (start_keys next) after.0 (lives_begin (start_keys next) H) after.2
-          (chain_same (lives (start_keys start) M) before.0 (start_keys next) same before.2),
+      join (lives (start_keys r.start) r.marks) (all_lives (q ∷ earlier)) (start_keys r.start) after.0 (lives_begin (start_keys r.start) r.marks) after.2
+          (chain_same (all_lives (q ∷ earlier)) before.0 (start_keys r.start) same before.2),
     )

@@ -70,7 +70,7 @@ is_keyed _ is = absurd (false≢true is)
 
 -- a pin that isn't worn
 -- an event that is played isn't refused
-pub not_refused : (dead may refuses : Bool) (outcome : Outcome) → (if dead && not true then Refused Dead else if may then (if refuses then Refused outcome else Plays) else Refused NotNow) ≡ Plays → refuses ≡ true → ⊥
+not_refused : (dead may refuses : Bool) (outcome : Outcome) → (if dead && not true then Refused Dead else if may then (if refuses then Refused outcome else Plays) else Refused NotNow) ≡ Plays → refuses ≡ true → ⊥
 not_refused true false refuses outcome plays is = refused_plays plays
 not_refused true true true outcome plays is = refused_plays plays
 not_refused true true false outcome plays is = false≢true is

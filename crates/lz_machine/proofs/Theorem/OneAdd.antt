@@ -9,9 +9,10 @@ use Rattle.lz_slot.specs.Rooms.{largest_of}
 use Rattle.lz_vault.specs.Stages.{Cell}
 use Rattle.lz_list.specs.Traces.{bucket_of}
 use Rattle.lz_slot.specs.Histories.{Life, lives}
+use Rattle.lz_disk.specs.Images.{IsImage, IsSound}
 use Rattle.lz_machine.specs.declared.event.Outcome.TheVariants.{Done, Value, Slot, Taken, True, NotNow}
 use Rattle.lz_machine.specs.OneAdd.{one_slot, one_add, OneAddRuns, LeavesText}
-use Rattle.lz_machine.specs.Runs.{Start, IsStart, State, Up, Down, Point, IsRun, MayLeave, run, first_point, made_text, start_keys}
+use Rattle.lz_machine.specs.Runs.{Start, IsStart, State, Up, Down, Transition, Point, IsRun, MayLeave, disk_of, run, first_point, made_text, start_keys}
 use Rattle.lz_machine.specs.Sound.{StateSound, PointSound}
 use Rattle.lz_vault.specs.Members.{no_cell}
 use Rattle.lz_machine.proofs.Open.Texts.{text_bytes}
@@ -73,17 +74,27 @@ pub one_add_runs : OneAddRuns
 unfolding bucket_of
 one_add_runs = record { starts = starts; runs = runs; marks = refl }
 
--- what is read now is an image of the disk
-leaves : (start : Start) (p : Point) (w : State) (L : List Life) → PointSound start p L → p.state ≡ w → (t : List ℕ) × MayLeave w t
-leaves start p w [] sound is = absurd sound
-leaves start p (Up service disk) (life ∷ earlier) sound is =
+-- what is durable, and what is read now, are images of the disk
+sound_disk : (start : Start) (p : Point) (w : State) (L : List Life) → PointSound start p L → p.state ≡ w → IsSound (disk_of w)
+sound_disk start p w [] sound is = absurd sound
+sound_disk start p (Up service disk) (life ∷ earlier) sound is =
     let there : StateSound p (Up service disk) life = subst (λ (q : State). StateSound p q life) is sound.2 in
-    (disk.seen, inl there.2.sound.images.keeps.sound.seen)
-leaves start p (Down shape disk) (life ∷ earlier) sound is =
+    there.2.sound.images.keeps.sound
+sound_disk start p (Down shape disk) (life ∷ earlier) sound is =
     let there : StateSound p (Down shape disk) life = subst (λ (q : State). StateSound p q life) is sound.2 in
-    (disk.seen, there.sound.seen)
+    there.sound
+
+pub run_sound : (start : Start) (steps : List Transition) → IsStart start → IsRun (first_point start) steps → IsSound (disk_of (run (first_point start) steps).state)
+run_sound start steps is runs =
+    let p = run (first_point start) steps in
+    sound_disk start p p.state (lives (start_keys start) p.marks) (reached_sound start steps is runs) refl
+
+-- a crash may leave each image of the disk
+pub image_left : (w : State) (t : List ℕ) → IsImage (disk_of w) t → MayLeave w t
+image_left (Up service disk) t image = inl image
+image_left (Down shape disk) t image = image
 
 pub leaves_text : LeavesText
 leaves_text start w M P reached =
-    let p = run (first_point start) reached.steps in
-    leaves start p w (lives (start_keys start) p.marks) (reached_sound start reached.steps reached.starts reached.runs) reached.state
+    let sound = subst (λ (v : State). IsSound (disk_of v)) reached.state (run_sound start reached.steps reached.starts reached.runs) in
+    ((disk_of w).seen, image_left w (disk_of w).seen sound.seen)

@@ -1,5 +1,5 @@
 -- What an event rests on where it is played follows from the invariant.
-use Rattle.std.proofs.Common.{◌≡◌, ◌≢◌, ◌⊎◌, inl, inr, ℕ, zero, suc, ◌<◌, ◌≤◌, if◌then◌else◌, not, ◌&&◌, Bool, true, false, List, [], ◌∷◌, length, Option, Some, None, is_some, refl, sym, ap, ◌∙◌, subst, arith}
+use Rattle.std.proofs.Common.{◌≡◌, ◌⊎◌, inl, inr, ℕ, zero, suc, ◌<◌, ◌≤◌, if◌then◌else◌, not, ◌&&◌, Bool, true, false, List, [], ◌∷◌, length, Option, Some, None, is_some, refl, sym, ap, ◌∙◌, subst, arith}
 use mathlib.Core.Bool.{false≢true}
 use Rattle.std.specs.Prelude.{unwrap_or, IsSomeAnd, IfSome}
 use Rattle.std.proofs.lemmas.Bool.{cases_Bool, not-true, and_parts}
@@ -32,11 +32,11 @@ use Rattle.lz_machine.specs.declared.course.Course.{Course}
 use Rattle.lz_machine.specs.declared.course.Course.TheVariants.{Refused, Plays}
 use Rattle.lz_machine.specs.declared.event.Event.{Event}
 use Rattle.lz_machine.specs.declared.event.Event.TheVariants.{Invoke, Pin, WriteKey, Check, WriteOpen, Link, WriteClose, Mark, Release, Unlink, Retire, Answer}
-use Rattle.lz_machine.specs.declared.event.Outcome.TheVariants.{Dead, Done, NotNow, Worn}
+use Rattle.lz_machine.specs.declared.event.Outcome.TheVariants.{Dead, NotNow, Worn}
 use Rattle.lz_slot.proofs.Files.ExactBytes.{key_of_format}
 use Rattle.lz_vault.specs.Members.{no_cell}
 use Rattle.lz_machine.specs.Yards.{Shape, Yard, actor_at, cell_at, actor_in, stage_in, cell_in}
-use Rattle.lz_machine.specs.Table.{last_pin, pin_of, needs, is_played_dead, course_alive, course, is_unused, has_stage, has_checked, has_opened, has_marked, is_old, stays_out}
+use Rattle.lz_machine.specs.Table.{pin_of, needs, is_played_dead, course_alive, course, is_unused, has_stage, has_checked, has_opened, has_marked, is_old}
 use Rattle.lz_machine.specs.Calls.{event_at, loaded}
 use Rattle.lz_machine.specs.Runs.{Start, State, Up, Point, Service, Caller, caller_at, next_event, with_words, first_point, run, start_keys, IsNext, MayPlay}
 use Rattle.lz_machine.specs.Notes.{Notes}
@@ -56,8 +56,7 @@ use Rattle.lz_machine.proofs.Theorem.Reached.{reached_sound}
 use Rattle.lz_machine.proofs.Steps.ReturnedSlot.{closed_unused}
 use Rattle.lz_machine.proofs.Frames.Grip.{closer_locks}
 use Rattle.lz_machine.proofs.Crash.ImageSlots.{node_stands}
-use Rattle.lz_machine.proofs.Frames.Outside.{worn_out}
-use Rattle.lz_machine.proofs.Theorem.Needs.{Knows, check_locks, is_checked, is_closed, is_keyed, is_marking, is_opened, is_released, not_last, not_refused, opens_alive, release_locks, some_of}
+use Rattle.lz_machine.proofs.Theorem.Needs.{Knows, check_locks, is_checked, is_closed, is_keyed, is_marking, is_opened, is_released, not_last, opens_alive, release_locks, some_of}
 
 -- the yard of a sound service, with words of which only pins differ, and not the actor's own
 module _ (n calls : ℕ) (y : Yard) (callers : List (Option Caller)) (disk : Medium) (M : History) (P : Trace) (notes : Notes) (sound : Sound n calls y callers disk M P notes)
@@ -101,14 +100,11 @@ module _ (n calls : ℕ) (y : Yard) (callers : List (Option Caller)) (disk : Med
       by_hand (inl shut) = absurd (opened_shut (stage_in y.vault.cells s) (sound.slots.opened a s slot (ap unlocks hold)) shut)
       by_hand (inr opened) = is_key s (sound.slots.hand a s slot).in_range opened.2
 
-  pin_below : pin_of z a ≢ last_pin → pin_of z a < last_pin
-  pin_below other = omega (arith, pin, sound.reuse.worn a, other)
-
   abbrev Follows : Event → Type 0
   Follows e = needs z a e ≡ true → course z a e ≡ Plays → IsReadyFor z actor a e
 
   ready_pin : Follows Pin
-  ready_pin has plays = pin_below (not_last y.vault.dead (needs z a Pin) (pin_of z a) Worn plays)
+  ready_pin has plays = omega (arith, pin, sound.reuse.worn a, not_last y.vault.dead (needs z a Pin) (pin_of z a) Worn plays)
 
   ready_key : (k : ℕ) → k ≤ largest_of y.vault.format → Follows (WriteKey k)
   ready_key k fits has plays =
@@ -214,7 +210,7 @@ module _ (n calls : ℕ) (y : Yard) (callers : List (Option Caller)) (disk : Med
       (s, node, (omega (arith, gone.in_range, sound.slots.count), gone.taken))
 
   ready_answer : Follows Answer
-  ready_answer has plays = (pin_below (λ last. not_refused y.vault.dead (needs z a Answer) (stays_out (actor_at z a) (pin_of z a)) Done plays (worn_out (actor_at z a) (pin_of z a) last)), slot_kept actor.slot refl)
+  ready_answer has plays = (omega (arith, pin, sound.reuse.worn a), slot_kept actor.slot refl)
     where
       slot_kept : (slot : Option ℕ) → actor.slot ≡ slot → IfSome slot (λ s. (s < y.shape.slots) × (is_unused (cell_at z s).stage ≡ true → IsTakenAt y.uses s))
       slot_kept None is = tt

@@ -14,10 +14,15 @@ use Rattle.lz_vault.specs.Stages.{Cell}
 use Rattle.lz_disk.specs.Picks.{left_by}
 use Rattle.lz_disk.specs.declared.memory.Pick.{Pick}
 use Rattle.lz_disk.specs.declared.memory.Pick.TheVariants.{Old, Byte}
-use Rattle.lz_allot.specs.Uses.{Use, Free, Taken}
-use Rattle.lz_machine.specs.declared.event.Outcome.TheVariants.{Busy}
+use Rattle.lz_allot.specs.declared.sight.Sight.TheVariants.{Unseen, Inside, Left}
+use Rattle.lz_allot.specs.Uses.{Use, Free, Taken, Limbo}
+use Rattle.lz_machine.specs.declared.event.Event.TheVariants.{Answer as AnswerIt}
+use Rattle.lz_machine.specs.declared.event.Outcome.{Outcome}
+use Rattle.lz_machine.specs.declared.event.Outcome.TheVariants.{Busy, Slot, NoSlot}
 use Rattle.lz_machine.specs.declared.event.Reply.{Reply}
 use Rattle.lz_machine.specs.declared.event.Reply.TheVariants.{Full as SaysFull}
+use Rattle.lz_machine.specs.Yards.{Yard, opened_yard}
+use Rattle.lz_machine.specs.Table.{line}
 use Rattle.lz_machine.specs.Laws.{outcome_at}
 use Rattle.lz_machine.specs.Runs.{Start, State, Up, Down, Transition, Calls, Turn, Fails, Trips, Stops, Crashes, Opens, made_text, caller_at, reply_at, disk_of}
 use Rattle.lz_machine.proofs.Theorem.TraceRows.{fresh, head_2, marks_after, play, reader_steps, reader_trace, removal_steps, turns, until_release, words_of_state}
@@ -109,6 +114,10 @@ shown_after start steps = keys_shown (play start steps).trace
 abbrev uses_of : State → List Use
 uses_of (Up service disk) = service.yard.uses
 uses_of (Down shape disk) = []
+
+abbrev pins_of_state : State → List ℕ
+pins_of_state (Up service disk) = service.yard.words.pins
+pins_of_state (Down shape disk) = []
 
 -- the reply that an actor is about to give
 abbrev reply_of : State → ℕ → Option Reply
@@ -255,3 +264,46 @@ choice_open = refl
 choice_closed : marks_crashed (Byte 0x37) (fresh 2 64) choice_steps ≡ Call 1 1 (Add 9) ∷ Call 2 2 (Remove 9) ∷ Crash ∷ Opened [] ∷ []
 unfolding bucket_of
 choice_closed = refl
+
+-- The slot in limbo waits for pass 1, which is outside. The answer of its refused call looks at its pin word, which stays.
+abbrev limbo_steps : List Transition
+limbo_steps = Calls 2 (Add 9) ∷ turns 2 15 ++ Calls 2 (Remove 9) ∷ turns 2 15
+
+abbrev refused_steps : List Transition
+refused_steps = limbo_steps ++ Calls 1 (Add 3000000000000000017) ∷ turns 1 1
+
+-- what an adding's first Reserve answers then
+abbrev reserves_after : List Transition → Option Outcome
+reserves_after steps = outcome_at (play (fresh 1 2) (steps ++ Calls 2 (Add 9) ∷ turns 2 3)).state (Turn 2)
+
+refused_frees : reserves_after refused_steps ≡ Some (Slot 0)
+unfolding bucket_of
+refused_frees = refl
+
+waits_before : reserves_after limbo_steps ≡ Some (NoSlot (record { free = 0; taken = 0; limbo = 1 }))
+unfolding bucket_of
+waits_before = refl
+
+not_free_before : reserves_after limbo_steps ≡ Some (Slot 0) → ⊥
+unfolding bucket_of
+not_free_before is = absurd cc
+
+refused_pins : pins_of_state (play (fresh 1 2) refused_steps).state ≡ 0 ∷ 4 ∷ []
+unfolding bucket_of
+refused_pins = refl
+
+-- so does the answer of a call whose pass is worn: of pass 1 here, while pass 2 is inside
+abbrev worn_yard : Yard
+worn_yard =
+    let y : Yard = opened_yard (record { slots = 1; buckets = 1; passes = 2 }) (made_text One 1) in
+    record y { words = record y.words { pins = 2 ^ 62 ∷ 3 ∷ [] }; uses = Limbo (Unseen ∷ Inside 3 ∷ []) ∷ [] }
+
+worn_looks : (line worn_yard 1 AnswerIt).0.uses ≡ Limbo (Left ∷ Inside 3 ∷ []) ∷ []
+worn_looks = refl
+
+worn_stays : (line worn_yard 1 AnswerIt).0.words.pins ≡ 2 ^ 62 ∷ 3 ∷ []
+worn_stays = refl
+
+-- pass 2 goes out
+inside_leaves : ((line worn_yard 2 AnswerIt).0.uses ≡ Limbo (Unseen ∷ Left ∷ []) ∷ []) × ((line worn_yard 2 AnswerIt).0.words.pins ≡ 2 ^ 62 ∷ 4 ∷ [])
+inside_leaves = (refl, refl)

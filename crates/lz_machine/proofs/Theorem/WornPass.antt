@@ -1,5 +1,5 @@
 -- A pass that is worn: its pin word is the last one, and its call answers worn.
-use Rattle.std.proofs.Common.{◌≡◌, ◌≢◌, inl, inr, ℕ, zero, suc, ◌≤◌, ◌+◌, ◌%◌, ◌==◌, if◌then◌else◌, not, ◌&&◌, ◌||◌, nat_lt, Bool, true, false, List, [], ◌∷◌, length, Option, Some, None, refl, sym, ap, ◌∙◌, subst, arith}
+use Rattle.std.proofs.Common.{◌≡◌, ◌≢◌, ⊎_elim, inl, inr, ℕ, zero, suc, ◌≤◌, ◌+◌, ◌%◌, ◌==◌, if◌then◌else◌, not, ◌&&◌, ◌||◌, nat_lt, Bool, true, false, List, [], ◌∷◌, length, Option, Some, None, refl, sym, ap, ◌∙◌, subst, arith}
 use mathlib.Core.Bool.{false≢true}
 use Rattle.std.specs.List.{list_any}
 use Rattle.std.proofs.lemmas.Bool.{cases_Bool}
@@ -7,7 +7,7 @@ use Rattle.std.proofs.lemmas.Option.{none-some}
 use Rattle.lz_slot.specs.declared.command.Command.{Command}
 use Rattle.lz_slot.specs.declared.command.Command.TheVariants.{Add, Remove, Has}
 use Rattle.lz_slot.specs.Sets.{key_of}
-use Rattle.lz_slot.specs.Counted.{of_pass, set_of_pass}
+use Rattle.lz_slot.specs.Counted.{set_of_pass}
 use Rattle.lz_slot.specs.Histories.{History, Life, lives}
 use Rattle.lz_slot.proofs.Counted.{of_pass_same, of_pass_other}
 use Rattle.lz_disk.specs.Images.{Medium, at_rest, synced}
@@ -16,26 +16,25 @@ use Rattle.lz_list.specs.declared.walk.Look.{Look}
 use Rattle.lz_list.specs.declared.walk.Look.TheVariants.{AtHead}
 use Rattle.lz_list.specs.declared.walk.Met.{Met}
 use Rattle.lz_list.specs.declared.walk.Met.TheVariants.{Absent, Unmarked as met_unmarked, Marked as met_marked}
-use Rattle.lz_list.specs.Words.{link_to, change_flags}
 use Rattle.lz_list.specs.Walks.{Hopped, More, End, hopped}
 use Rattle.lz_list.specs.Traces.{Trace}
 use Rattle.lz_flush.specs.declared.need.Need.{Need}
 use Rattle.lz_flush.specs.declared.need.Need.TheVariants.{Now, Sync as needs_sync}
-use Rattle.lz_flush.specs.Settling.{may_answer, settle}
+use Rattle.lz_flush.specs.Settling.{may_answer}
 use Rattle.lz_machine.specs.declared.course.Course.{Course}
 use Rattle.lz_machine.specs.declared.course.Course.TheVariants.{Refused, Dies, Plays}
 use Rattle.lz_machine.specs.declared.event.Event.{Event}
-use Rattle.lz_machine.specs.declared.event.Event.TheVariants.{Pin, Link, Sync, Settle, Unlink, Answer}
+use Rattle.lz_machine.specs.declared.event.Event.TheVariants.{Pin, Sync, Answer}
 use Rattle.lz_machine.specs.declared.event.Outcome.{Outcome}
-use Rattle.lz_machine.specs.declared.event.Outcome.TheVariants.{Done, Value, Slot, NoSlot, Taken, True, False, Early, Worn, NotNow, Fault, Dead, OldFile}
+use Rattle.lz_machine.specs.declared.event.Outcome.TheVariants.{Value, Slot, NoSlot, Taken, True, False, Early, Worn, NotNow, Fault, Dead, OldFile}
 use Rattle.lz_machine.specs.declared.event.Reply.{Reply}
 use Rattle.lz_machine.specs.declared.event.Reply.TheVariants.{Yes, No, Worn as SaysWorn, OldFile as SaysOldFile, Halted}
 use Rattle.lz_machine.specs.declared.caller.Sequence.{Sequence}
 use Rattle.lz_machine.specs.declared.caller.Sequence.TheVariants.{Resting, Halting}
 use Rattle.lz_machine.specs.declared.caller.Progress.{Progress}
 use Rattle.lz_machine.specs.declared.caller.Progress.TheVariants.{Playing, LoadsHalt, Walking, Reserving, SeeingPins, Claiming, Checking, Answering}
-use Rattle.lz_machine.specs.Yards.{Shape, Yard, actor_at, cell_at, opened_yard}
-use Rattle.lz_machine.specs.Table.{last_pin, pin_of, needs, is_played_dead, is_sure, is_spent, words_after, course_alive, course, line_on, line, line_failed, is_old, stays_out}
+use Rattle.lz_machine.specs.Yards.{Shape, Yard, actor_at, opened_yard}
+use Rattle.lz_machine.specs.Table.{last_pin, pin_of, needs, is_played_dead, is_sure, is_spent, course_alive, course, line_on, line, line_failed, is_old}
 use Rattle.lz_machine.specs.Calls.{goes_on, events_of, after_event, first_progress, progress_after, follows, walked, rests, hops_on, changes, after_playing, after_halt, after_hop, after_reserve, after_see_pin, after_claim, after_check, begun}
 use Rattle.lz_machine.specs.Runs.{Start, State, Up, Down, Transition, Calls, Turn, Fails, Looks, Trips, Stops, Crashes, CrashesIn, Opens, OpenFails, Point, Service, Caller, caller_at, next_event, reply_at, moved_on, looked, state_after, after_turn, after_fault, HasTurn, HasFault, MayStep, first_point, run, IsRun, IsStart, opened_service, start_keys, invoked}
 use Rattle.lz_machine.specs.Notes.{Notes}
@@ -45,12 +44,13 @@ use Rattle.lz_machine.proofs.Steps.Trip.{point}
 use Rattle.lz_machine.proofs.Frames.ActorTable.{by_actor}
 use Rattle.lz_machine.proofs.Frames.OneActor.{caller_range, mine}
 use Rattle.lz_machine.proofs.Steps.Hop.{call_at}
-use Rattle.lz_machine.proofs.Steps.Unlink.{redirect_pins}
 use Rattle.lz_machine.proofs.Open.FoundSlots.{pass_of}
 use Rattle.lz_machine.proofs.Theorem.Reached.{reached_sound}
 use Rattle.lz_machine.proofs.Runs.CallerTable.{none_of, fault_no_reply}
-use Rattle.lz_machine.proofs.Frames.Outside.{out_even}
-use Rattle.lz_machine.proofs.Theorem.EventNeeds.{IsWornAt, is_worn, last_of, odd_of, plain}
+use Rattle.lz_machine.proofs.Frames.Outside.{answered_pin, answered_even}
+use Rattle.lz_machine.proofs.Runs.Course.{answer_plays}
+use Rattle.lz_machine.proofs.Alone.Frame.{pins_other}
+use Rattle.lz_machine.proofs.Theorem.EventNeeds.{IsWornAt, is_worn, last_of, plain}
 
 -- After its Answer an actor's pin word is even.
 module _ (y : Yard) (a : ℕ) (low : 1 ≤ a) (high : a ≤ length y.words.pins) where
@@ -58,37 +58,17 @@ module _ (y : Yard) (a : ℕ) (low : 1 ≤ a) (high : a ≤ length y.words.pins)
   QuietOn taken = (line_on taken y (actor_at y a) a Answer).1 ≢ NotNow → pin_of (line_on taken y (actor_at y a) a Answer).0 a % 2 ≡ 0
 
   pub quiet_after : QuietOn (course y a Answer)
-  quiet_after = go y.vault.dead (needs y a Answer) out refl refl
-    where
-      out : Bool
-      out = stays_out (actor_at y a) (pin_of y a)
-
-      go : (dead may refuses : Bool) → needs y a Answer ≡ may → out ≡ refuses → QuietOn (if dead && not true then Refused Dead else if may then (if refuses then Refused Done else Plays) else Refused NotNow)
-      go true false last may is now = absurd (now refl)
-      go false false last may is now = absurd (now refl)
-      go true true true may is now = out_even (actor_at y a) (pin_of y a) is
-      go false true true may is now = out_even (actor_at y a) (pin_of y a) is
-      go true true false may is now = ap (λ (q : ℕ). q % 2) (of_pass_same y.words.pins a (pin_of y a + 1) 0 low high) ∙ odd_of (pin_of y a) out may is
-      go false true false may is now = ap (λ (q : ℕ). q % 2) (of_pass_same y.words.pins a (pin_of y a + 1) 0 low high) ∙ odd_of (pin_of y a) out may is
+  quiet_after = ⊎_elim
+      (λ plays. subst QuietOn (sym plays.1) (λ now. ap (λ (q : ℕ). q % 2) (answered_pin y (actor_at y a) a low high) ∙ answered_even (actor_at y a) (pin_of y a) plays.0))
+      (λ not_yet. subst QuietOn (sym not_yet) (λ now. absurd (now refl)))
+      (answer_plays y a)
 
 -- An event changes no other actor's pin word.
 module _ (y : Yard) (a b : ℕ) (other : b ≢ a) where
-  words_other : (e : Event) → of_pass (words_after y (actor_at y a) a e).pins b 0 ≡ pin_of y b
-  words_other Pin = of_pass_other y.words.pins a b (pin_of y a + 1) 0 other
-  words_other Answer = of_pass_other y.words.pins a b (pin_of y a + 1) 0 other
-  words_other Link = ap (λ (l : List ℕ). of_pass l b 0) (redirect_pins y.words (actor_at y a).pred (link_to (actor_at y a).slot))
-  words_other Unlink = ap (λ (l : List ℕ). of_pass l b 0) (redirect_pins y.words (actor_at y a).pred _)
-  words_other (Settle s) = go (is_sure y s)
-    where
-      go : (sure : Bool) → of_pass (if sure then change_flags (settle (cell_at y s).stage) y.words s else y.words).pins b 0 ≡ pin_of y b
-      go true = refl
-      go false = refl
-  words_other e = refl
-
   on_other : (e : Event) (taken : Course) → pin_of (line_on taken y (actor_at y a) a e).0 b ≡ pin_of y b
   on_other e (Refused outcome) = refl
   on_other e Dies = refl
-  on_other e Plays = words_other e
+  on_other e Plays = pins_other y (actor_at y a) a b e other
 
   pub pin_other : (e : Event) → pin_of (line y a e).0 b ≡ pin_of y b
   pin_other e = on_other e (course y a e)
@@ -100,11 +80,6 @@ alive_worn y a Pin = go (pin_of y a == last_pin) refl
     go : (last : Bool) → (pin_of y a == last_pin) ≡ last → is_worn (line_on (if last then Refused Worn else Plays) y (actor_at y a) a Pin).1 ≡ true → pin_of (line_on (if last then Refused Worn else Plays) y (actor_at y a) a Pin).0 a ≡ last_pin
     go true same is = last_of (pin_of y a) same
     go false same is = absurd (false≢true is)
-alive_worn y a Answer = go (stays_out (actor_at y a) (pin_of y a))
-  where
-    go : (last : Bool) → is_worn (line_on (if last then Refused Done else Plays) y (actor_at y a) a Answer).1 ≡ true → pin_of (line_on (if last then Refused Done else Plays) y (actor_at y a) a Answer).0 a ≡ last_pin
-    go true is = absurd (false≢true is)
-    go false is = absurd (false≢true is)
 alive_worn y a (Sync s) = go (not (is_sure y s) && is_spent y)
   where
     go : (spent : Bool) → is_worn (line_on (if spent then Dies else Plays) y (actor_at y a) a (Sync s)).1 ≡ true → pin_of (line_on (if spent then Dies else Plays) y (actor_at y a) a (Sync s)).0 a ≡ last_pin

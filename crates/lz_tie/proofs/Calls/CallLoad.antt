@@ -32,7 +32,7 @@ use Rattle.lz_board.specs.Glances.{Changes}
 use Rattle.lz_board.specs.Plays.{loading, IsShownTo}
 use Rattle.lz_board.specs.Seats.{BoardId}
 use Rattle.lz_board.proofs.Upkeep.Address.{shared_boards, decode}
-use Rattle.lz_board.proofs.Walk.GlanceAnswer.{halt_longer}
+use Rattle.lz_board.proofs.Walk.GlanceAnswer.{halt_since}
 use Rattle.std.proofs.lemmas.List.Elements.{filter-append}
 use Rattle.lz_tie.specs.NotedRuns.{IsHopAt}
 use Rattle.lz_tie.specs.UnderWay.{IsLate, OwnAt, UnderWay}
@@ -140,7 +140,7 @@ module _ (b : BoardId) (c : Command) (format : Format) (before : Part) (at : Pro
     is_own = there.is_own;
     opened = U.opened;
     since = U.since;
-    late = λ halted. late_load (shape_of h.sizes) c at w b.sizes.buckets value seen loads event found (ap halt_word changes_now.goes_on ∙ halt_longer changes_now.since before.known halted) (U.late halted);
+    late = λ halted. late_load (shape_of h.sizes) c at w b.sizes.buckets value seen loads event found (halt_since before.known seen (changes_now.since, changes_now.goes_on) halted) (U.late halted);
     old = λ old. absurd (not_old next there.inside old);
     full = λ counts full. absurd (not_full next counts there.room full);
   }

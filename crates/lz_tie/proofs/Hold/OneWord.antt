@@ -1,7 +1,7 @@
 -- What a hold stores on the board is what its event publishes.
-use Rattle.std.proofs.Common.{◌≡◌, ◌≢◌, ℕ, Bool, true, false, [], ◌∷◌, refl, sym, ap, subst, get_or-set_other, ne_eqb}
+use Rattle.std.proofs.Common.{◌≡◌, ◌≢◌, ℕ, Bool, true, false, [], ◌∷◌, refl, sym, ap, subst, get_or-set_other, ne_eqb, ◌+◌}
 use mathlib.Core.Bool.{false≢true}
-use Rattle.std.specs.Prelude.{if◌then◌else◌, Some, None, IfSome, is_some}
+use Rattle.std.specs.Prelude.{if◌then◌else◌, Some, None, IfSome, is_some, not}
 use Rattle.lz_slot.proofs.Counted.{of_pass_other}
 use Rattle.lz_vault.specs.declared.vault.Stage.{Stage}
 use Rattle.lz_vault.specs.declared.vault.Stage.TheVariants.{Closed, KeyLoose, Keyed, Opening, Open, Closing}
@@ -19,9 +19,9 @@ use Rattle.lz_machine.specs.declared.actor.Actor.{Actor}
 use Rattle.lz_machine.specs.declared.event.Event.{Event}
 use Rattle.lz_machine.specs.declared.event.Event.TheVariants.{Invoke, Pin, Hop, Reserve, WriteKey, Claim, Check, WriteOpen, Link, WriteClose, Mark, Release, Sync, Settle, Unlink, Retire, SeePin, Answer, Halt}
 use Rattle.lz_machine.specs.Yards.{Yard, actor_at, cell_at}
-use Rattle.lz_machine.specs.Table.{course, line, line_on, line_publishes, published_on, publishes, settling, line_changes, changed_on, word_changed, words_after, is_sure, slot_of, node_of}
+use Rattle.lz_machine.specs.Table.{course, line, line_on, line_publishes, published_on, publishes, settling, line_changes, changed_on, word_changed, words_after, is_sure, slot_of, node_of, pin_of, stays_out}
 use Rattle.lz_board.specs.Notes.{own, is_for}
-use Rattle.lz_tie.proofs.Reading.PinWords.{is_pinning}
+use Rattle.lz_tie.proofs.Reading.PinWords.{is_counting}
 
 -- a word that is no pin word
 abbrev pub IsWalked : Word → Type 0
@@ -86,21 +86,29 @@ others_stay y actor a (Settle s) v away = go (is_sure y s) away
 others_stay y actor a Unlink v away = redirect_other y.words actor.pred _ v (λ is. away (ap (λ w. Some w) (sym is)))
 others_stay y actor a Retire v away = refl
 others_stay y actor a (SeePin p x) v away = refl
-others_stay y actor a Answer v away = get_other y.words (pin_at a) v _ (λ is. away (ap (λ w. Some w) (sym is)))
+others_stay y actor a Answer v away = go (stays_out actor (pin_of y a)) away
+  where
+    go : (b : Bool) → (if b then None else Some (pin_at a)) ≢ Some v → get (if b then y.words else set y.words (pin_at a) (pin_of y a + 1)) v ≡ get y.words v
+    go true away = refl
+    go false away = get_other y.words (pin_at a) v _ (λ is. away (ap (λ w. Some w) (sym is)))
 others_stay y actor a Halt v away = get_other y.words halt_word v _ (λ is. away (ap (λ w. Some w) (sym is)))
 
--- the word of an event that moves no pin word is one that walkers load
-changed_walked : (y : Yard) (actor : Actor) (a : ℕ) (e : Event) → is_pinning e ≡ false → IfSome (word_changed y actor a e) IsWalked
-changed_walked y actor a Pin not_one = absurd (false≢true (sym not_one))
-changed_walked y actor a Link not_one = place_walked actor.pred
-changed_walked y actor a (Settle s) not_one = go (is_sure y s)
+-- the word of an event that counts no pin word up is one that walkers load
+changed_walked : (y : Yard) (a : ℕ) (e : Event) → is_counting y a e ≡ false → IfSome (word_changed y (actor_at y a) a e) IsWalked
+changed_walked y a Pin not_one = absurd (false≢true (sym not_one))
+changed_walked y a Link not_one = place_walked (actor_at y a).pred
+changed_walked y a (Settle s) not_one = go (is_sure y s)
   where
     go : (b : Bool) → IfSome (if b then Some (link_at s) else None) IsWalked
     go true = tt
     go false = tt
-changed_walked y actor a Unlink not_one = place_walked actor.pred
-changed_walked y actor a Answer not_one = absurd (false≢true (sym not_one))
-changed_walked y actor a e not_one = tt
+changed_walked y a Unlink not_one = place_walked (actor_at y a).pred
+changed_walked y a Answer not_one = go (stays_out (actor_at y a) (pin_of y a)) not_one
+  where
+    go : (out : Bool) → not out ≡ false → IfSome (if out then None else Some (pin_at a)) IsWalked
+    go true not_one = tt
+    go false not_one = absurd (false≢true (sym not_one))
+changed_walked y a e not_one = tt
 
 on_others : (y : Yard) (a : ℕ) (e : Event) (v : Word) (c : Course) → changed_on c y (actor_at y a) a e ≢ Some v → get (line_on c y (actor_at y a) a e).0.words v ≡ get y.words v
 on_others y a e v (Refused o) away = refl
@@ -156,19 +164,19 @@ on_pin y a q e (Refused o) is = absurd (false≢true (ap is_some is))
 on_pin y a q e Dies is = absurd (false≢true (ap is_some is))
 on_pin y a q e Plays is = (refl, is)
 
--- an event whose line names a pin word is a Pin or an Answer that is played
-pub pin_changed : (y : Yard) (a q : ℕ) (e : Event) → line_changes y a e ≡ Some (pin_at q) → (is_pinning e ≡ true) × (course y a e ≡ Plays)
-pin_changed y a q e is = let h = on_pin y a q e (course y a e) is in (go (is_pinning e) refl h.1, h.0)
+-- an event whose line names a pin word is played, and counts its actor's pin word up
+pub pin_changed : (y : Yard) (a q : ℕ) (e : Event) → line_changes y a e ≡ Some (pin_at q) → (is_counting y a e ≡ true) × (course y a e ≡ Plays)
+pin_changed y a q e is = let h = on_pin y a q e (course y a e) is in (go (is_counting y a e) refl h.1, h.0)
   where
-    go : (b : Bool) → is_pinning e ≡ b → word_changed y (actor_at y a) a e ≡ Some (pin_at q) → is_pinning e ≡ true
+    go : (b : Bool) → is_counting y a e ≡ b → word_changed y (actor_at y a) a e ≡ Some (pin_at q) → is_counting y a e ≡ true
     go true one is = one
-    go false not_one is = absurd (subst (λ o. IfSome o IsWalked) is (changed_walked y (actor_at y a) a e not_one))
+    go false not_one is = absurd (subst (λ o. IfSome o IsWalked) is (changed_walked y a e not_one))
 
 -- and publishes nothing
-pub pinning_silent : (y : Yard) (a : ℕ) (e : Event) → is_pinning e ≡ true → line_publishes y a e ≡ []
-pinning_silent y a e is = on (course y a e)
+pub counting_silent : (y : Yard) (a : ℕ) (e : Event) → is_counting y a e ≡ true → line_publishes y a e ≡ []
+counting_silent y a e is = on (course y a e)
   where
-    none : (e : Event) → is_pinning e ≡ true → publishes y (actor_at y a) a e ≡ []
+    none : (e : Event) → is_counting y a e ≡ true → publishes y (actor_at y a) a e ≡ []
     none Pin is = refl
     none Answer is = refl
     none e is = absurd (false≢true is)

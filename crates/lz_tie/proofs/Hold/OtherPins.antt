@@ -5,7 +5,8 @@ use Rattle.lz_slot.specs.Counted.{of_pass}
 use Rattle.lz_allot.specs.Uses.{see_pin}
 use Rattle.lz_list.specs.declared.place.Place.{Place}
 use Rattle.lz_list.specs.declared.place.Place.TheVariants.{Bucket, Node}
-use Rattle.lz_list.specs.Words.{Words, redirect}
+use Rattle.lz_list.specs.declared.word.Word.TheVariants.{Pin as pin_at}
+use Rattle.lz_list.specs.Words.{Words, redirect, set}
 use Rattle.lz_list.specs.Locks.{check}
 use Rattle.lz_machine.specs.declared.course.Course.{Course}
 use Rattle.lz_machine.specs.declared.course.Course.TheVariants.{Refused, Dies, Plays}
@@ -15,7 +16,7 @@ use Rattle.lz_machine.specs.declared.event.Event.{Event}
 use Rattle.lz_machine.specs.declared.event.Event.TheVariants.{Invoke, Pin, Hop, Reserve, WriteKey, Claim, Check, WriteOpen, Link, WriteClose, Mark, Release, Sync, Settle, Unlink, Retire, SeePin, Answer, Halt}
 use Rattle.lz_machine.specs.declared.event.Outcome.TheVariants.{Dead, NotNow, True, False}
 use Rattle.lz_machine.specs.Yards.{Yard, actor_at}
-use Rattle.lz_machine.specs.Table.{course, course_alive, needs_of, is_played_dead, line, line_on, line_failed, line_call, call_on, call_of, line_publishes, published_on, publishes, yard_done, outcome_of, words_after, given_back, kept_slot, vault_failed, is_sure, set_actor, with_hold, with_slot}
+use Rattle.lz_machine.specs.Table.{course, course_alive, needs_of, is_played_dead, line, line_on, line_failed, line_call, call_on, call_of, line_publishes, published_on, publishes, yard_done, outcome_of, words_after, given_back, kept_slot, vault_failed, is_sure, set_actor, with_hold, with_slot, pin_of, stays_out, pin_answered}
 use Rattle.lz_machine.specs.Laws.{hop_of}
 use Rattle.lz_tie.specs.NotedRuns.{SameButAllPins}
 
@@ -130,7 +131,13 @@ module _ (y : Yard) (ps : List ℕ) (a : ℕ) (pin : of_pass ps a 0 ≡ of_pass 
   words_same Unlink = redirect_same y.words ps actor.pred _
   words_same Retire = record { heads = refl; links = refl; keys = refl; halt = refl }
   words_same (SeePin p v) = record { heads = refl; links = refl; keys = refl; halt = refl }
-  words_same Answer = record { heads = refl; links = refl; keys = refl; halt = refl }
+  words_same Answer = go (stays_out actor (pin_of z a)) (stays_out actor (pin_of y a))
+    where
+      go : (one other : Bool) → SameWords (if one then z.words else set z.words (pin_at a) (pin_of z a + 1)) (if other then y.words else set y.words (pin_at a) (pin_of y a + 1))
+      go true true = record { heads = refl; links = refl; keys = refl; halt = refl }
+      go true false = record { heads = refl; links = refl; keys = refl; halt = refl }
+      go false true = record { heads = refl; links = refl; keys = refl; halt = refl }
+      go false false = record { heads = refl; links = refl; keys = refl; halt = refl }
   words_same Halt = record { heads = refl; links = refl; keys = refl; halt = refl }
 
   yard_same : (e : Event) → SameButAllPins (yard_done z actor a e) (yard_done y actor a e)
@@ -152,7 +159,7 @@ module _ (y : Yard) (ps : List ℕ) (a : ℕ) (pin : of_pass ps a 0 ≡ of_pass 
   yard_same Retire = with_same _ _ (words_same Retire) _ _ refl refl refl refl refl refl refl
   yard_same (SeePin p v) = with_same _ _ (words_same (SeePin p v)) _ _ refl refl refl refl refl refl refl
   yard_same Answer = with_same _ _ (words_same Answer) _ _ refl refl refl refl refl
-      (ap (λ v. see_pin a (v + 1) (given_back z actor.slot)) pin ∙ ap (λ l. see_pin a (of_pass y.words.pins a 0 + 1) l) (given_same actor.slot))
+      (ap (λ v. see_pin a (pin_answered actor v) (given_back z actor.slot)) pin ∙ ap (λ l. see_pin a (pin_answered actor (pin_of y a)) l) (given_same actor.slot))
       (ap (λ s. set_actor y a (with_slot actor s)) (kept_same actor.slot))
   yard_same Halt = with_same _ _ (words_same Halt) _ _ refl refl refl refl refl refl refl
 

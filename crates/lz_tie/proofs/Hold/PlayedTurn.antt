@@ -2,6 +2,7 @@
 use Rattle.std.proofs.Common.{◌≡◌, ◌≢◌, ⊎_elim, ℕ, suc, ◌≤◌, ◌<◌, Bool, true, false, List, [], ◌++◌, map, length, refl, sym, ap, ◌∙◌, subst, arith, eq-eqb, ne_eqb}
 use mathlib.Core.Bool.{false≢true}
 use Rattle.std.specs.Prelude.{is_some, if◌then◌else◌, Option, Some, None, IfSome}
+use Rattle.std.proofs.lemmas.Bool.{not-true}
 use Rattle.lz_slot.proofs.Counted.{of_pass_same, length-set_of_pass}
 use Rattle.lz_disk.specs.Devices.{Device}
 use Rattle.lz_allot.specs.Uses.{Taken, use_of}
@@ -18,11 +19,12 @@ use Rattle.lz_machine.specs.declared.event.Outcome.TheVariants.{Done, Fault}
 use Rattle.lz_machine.specs.declared.course.Course.{Course}
 use Rattle.lz_machine.specs.declared.course.Course.TheVariants.{Refused, Dies, Plays}
 use Rattle.lz_machine.specs.Yards.{Shape, Yard, actor_at}
-use Rattle.lz_machine.specs.Table.{course, line, line_on, line_failed, line_publishes, published_on, outcome_of, yard_done, uses_after, actors_after, pin_of, last_pin}
+use Rattle.lz_machine.specs.Table.{course, line, line_on, line_failed, line_publishes, published_on, outcome_of, yard_done, uses_after, actors_after, pin_of, last_pin, stays_out, pin_answered}
 use Rattle.lz_machine.specs.Calls.{event_at}
 use Rattle.lz_machine.specs.Orders.{Calling, HasPass}
 use Rattle.lz_machine.specs.Ready.{IsEventOf, IsReadyFor}
 use Rattle.lz_machine.specs.Runs.{MayPlay, with_words}
+use Rattle.lz_machine.proofs.Frames.Outside.{answered_pin, worn_out}
 use Rattle.lz_machine.proofs.Runs.EventRange.{is_event}
 use Rattle.lz_machine.proofs.Theorem.Readiness.{is_invoke, ready, plays_needs}
 use Rattle.lz_yard.specs.declared.told.Told.{Told}
@@ -45,9 +47,9 @@ use Rattle.lz_tie.specs.Holds.{sizes_of, IsLocked, InHold, IsTurn, SeesPin, Turn
 use Rattle.lz_tie.specs.Reuse.{ReuseTold}
 use Rattle.lz_tie.proofs.Reuse.SightUpkeep.{noted_same}
 use Rattle.lz_tie.proofs.Reuse.EventUpkeep.{is_reusing, reusing_silent, leaves, slot_in, silent_told, plain_told, reserve_told, retired_told, seen_told, answered_told}
-use Rattle.lz_tie.proofs.Reading.PinWords.{is_pinning, line_count, own_pin, moved_pin, fault_pin}
+use Rattle.lz_tie.proofs.Reading.PinWords.{is_counting, line_count, own_pin, moved_pin, fault_pin}
 use Rattle.lz_tie.proofs.Reading.StandingCall.{still_calling}
-use Rattle.lz_tie.proofs.Hold.OneWord.{IsWalked, line_others, line_own, pin_changed, pinning_silent}
+use Rattle.lz_tie.proofs.Hold.OneWord.{IsWalked, line_others, line_own, pin_changed, counting_silent}
 use Rattle.lz_tie.proofs.Hold.NoteCondition.{listed_is, listed_none, alike_tied, tied_loose, tied_held, tied_shared, noting_writes, noting_nothing, noting_lawful}
 use Rattle.lz_tie.proofs.Hold.NextStep as holding
 
@@ -180,8 +182,8 @@ module _ (b : BoardId) (ns : List Note) (y : Yard) (dev : Device) (h : Part) (ho
           } in
           let value = ap (λ t. if t then pin_after_played e o (pin_after a rest) else pin_after a rest) (eq-eqb a a refl)
           ∙ (λ i. pin_after_played e ((played.done ok).answer i) ((pin_splice b.opened a a h.loads ns ∙ pin_now ∙ sym pin_same) i))
-          ∙ moved_pin z a in_range.0 (omega (arith, high, counted)) e (ap is_pinning same) plays_it in
-          answered_told b.sizes b.opened a h.loads ns n z hold.locked.reuse none was_loose a (suc (pin_of z a)) in_range.0 (omega (arith, high, passes)) x value (sym (ap (λ l. listed l ++ trace_of b.opened rest) none)) refl (omega arith)
+          ∙ sym (own_pin z a in_range.0 (omega (arith, high, counted)) e).own ∙ (λ i. pin_of (line_on (plays_it i) z (actor_at z a) a (same i)).0 a) ∙ answered_pin z (actor_at z a) a in_range.0 (omega (arith, high, counted)) in
+          answered_told b.sizes b.opened a h.loads ns n z hold.locked.reuse none was_loose a (pin_answered (actor_at z a) (pin_of z a)) in_range.0 (omega (arith, high, passes)) x value (sym (ap (λ l. listed l ++ trace_of b.opened rest) none)) refl refl
       by_reuse e' same reuses none = absurd (false≢true reuses)
 
       now_is : z' ≡ yard_done z (actor_at z a) a e
@@ -325,24 +327,26 @@ module _ (b : BoardId) (ns : List Note) (y : Yard) (dev : Device) (h : Part) (ho
       ok : o ≢ Fault
       ok = was_done (pin_at its_word.0) its_word.1
 
-      pins : (is_pinning e ≡ true) × (course z a e ≡ Plays)
+      pins : (is_counting z a e ≡ true) × (course z a e ≡ Plays)
       pins = pin_changed z a its_word.0 e (sym (played.done ok).word ∙ its_word.1)
 
       none : told.published ≡ None
-      none = listed_none told.published (done ok ∙ pinning_silent z a e pins.0)
+      none = listed_none told.published (done ok ∙ counting_silent z a e pins.0)
 
       below : h.pin < last_pin
       below = subst (λ m. m < last_pin) pin_same (go e pins.0 (ready z dev.honest dev.medium a e plays (λ invokes. absurd (not_both e pins.0 invokes)) asks (plays_needs z a e pins.1) pins.1).calls)
         where
-          go : (e : Event) → is_pinning e ≡ true → IsReadyFor z (actor_at z a) a e → pin_of z a < last_pin
-          go Pin pinning calls = calls
-          go Answer pinning calls = calls.0
-          go e pinning calls = absurd (false≢true pinning)
+          go : (e : Event) → is_counting z a e ≡ true → IsReadyFor z (actor_at z a) a e → pin_of z a < last_pin
+          go Pin counting calls = calls
+          go Answer counting calls =
+              let fresh : pin_of z a ≢ last_pin = λ last. false≢true (sym (not-true (stays_out (actor_at z a) (pin_of z a)) counting) ∙ worn_out (actor_at z a) (pin_of z a) last) in
+              omega (arith, calls.0, fresh)
+          go e counting calls = absurd (false≢true counting)
 
-          not_both : (e : Event) → is_pinning e ≡ true → is_invoke e ≡ true → ⊥
-          not_both Pin pinning invokes = false≢true invokes
-          not_both Answer pinning invokes = false≢true invokes
-          not_both e pinning invokes = false≢true pinning
+          not_both : (e : Event) → is_counting z a e ≡ true → is_invoke e ≡ true → ⊥
+          not_both Pin counting invokes = false≢true invokes
+          not_both Answer counting invokes = false≢true invokes
+          not_both e counting invokes = false≢true counting
 
       pub moves : MovesPin h n
       moves =

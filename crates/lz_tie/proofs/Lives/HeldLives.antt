@@ -10,11 +10,11 @@ use Rattle.lz_list.specs.Words.{set}
 use Rattle.lz_machine.specs.declared.course.Course.{Course}
 use Rattle.lz_machine.specs.declared.course.Course.TheVariants.{Refused, Dies, Plays}
 use Rattle.lz_machine.specs.declared.event.Event.{Event}
-use Rattle.lz_machine.specs.declared.event.Event.TheVariants.{Pin, Sync, Answer}
+use Rattle.lz_machine.specs.declared.event.Event.TheVariants.{Pin, Sync}
 use Rattle.lz_machine.specs.declared.event.Outcome.{Outcome}
-use Rattle.lz_machine.specs.declared.event.Outcome.TheVariants.{Done, Worn, NotNow, Dead, Fault}
+use Rattle.lz_machine.specs.declared.event.Outcome.TheVariants.{Worn, NotNow, Dead, Fault}
 use Rattle.lz_machine.specs.Yards.{Yard, actor_at}
-use Rattle.lz_machine.specs.Table.{course, course_alive, call_of, is_played_dead, is_spent, is_sure, last_pin, line_on, needs, pin_of, stays_out}
+use Rattle.lz_machine.specs.Table.{course, course_alive, call_of, is_played_dead, is_spent, is_sure, last_pin, line_on, needs, pin_of}
 use Rattle.lz_machine.specs.Runs.{with_words}
 use Rattle.lz_yard.specs.declared.told.Told.{Told}
 use Rattle.lz_yard.specs.Steps.{Played as PlayedOver}
@@ -26,11 +26,6 @@ alive_dies : (y : Yard) (a pin : ℕ) (e : Event) → course_alive y a pin e ≡
 alive_dies y a pin Pin is = go (pin == last_pin) is
   where
     go : (worn : Bool) → (if worn then Refused Worn else Plays) ≡ Dies → is_spent y ≡ true
-    go true dies = absurd cc
-    go false dies = absurd cc
-alive_dies y a pin Answer is = go (stays_out (actor_at y a) pin) is
-  where
-    go : (out : Bool) → (if out then Refused Done else Plays) ≡ Dies → is_spent y ≡ true
     go true dies = absurd cc
     go false dies = absurd cc
 alive_dies y a pin (Sync s) is = go (is_sure y s) (is_spent y) is

@@ -1,5 +1,5 @@
 -- One hold: what a crash might have left in it is left by the notes before it or by those after it.
-use Rattle.std.proofs.Common.{◌≡◌, ◌⊎◌, inl, inr, ⊎_elim, ℕ, List, [], ◌∷◌, length, refl, sym, subst}
+use Rattle.std.proofs.Common.{◌≡◌, ◌⊎◌, inl, inr, ⊎_elim, ℕ, List, [], ◌∷◌, ◌++◌, length, refl, sym, ap, ◌∙◌, subst}
 use Rattle.std.specs.Prelude.{IsTrue}
 use Rattle.lz_disk.specs.Images.{IsImage}
 use Rattle.lz_disk.specs.Devices.{Device}
@@ -16,15 +16,19 @@ use Rattle.lz_board.specs.declared.view.Sizes.{Sizes}
 use Rattle.lz_board.specs.declared.view.Load.{Load}
 use Rattle.lz_board.specs.declared.view.Note.{Note}
 use Rattle.lz_board.specs.declared.view.Part.{Part}
-use Rattle.lz_board.specs.Notes.{splice, steps_of, shape_of}
-use Rattle.lz_board.specs.Plays.{noted}
+use Rattle.lz_board.specs.Notes.{listed, splice, steps_of, shape_of}
+use Rattle.lz_board.specs.Plays.{found_note, noted}
 use Rattle.lz_board.specs.declared.board.Pen.{Pen}
 use Rattle.lz_board.specs.Seats.{BoardId, IsPenOf, notes}
+use Rattle.lz_board.proofs.Upkeep.Splice.{trace_splice}
 use Rattle.lz_tie.specs.NotedRuns.{AreNext}
 use Rattle.lz_tie.specs.Holds.{IsLocked, InHold, IsTurn, IsIdle}
 use Rattle.lz_tie.specs.RunningSets.{Explains}
-use Rattle.lz_tie.specs.Moments.{IsLeftBy, LeftSince, GoesOn, HoldExplains, ExplainsBegun, ExplainedSince}
+use Rattle.lz_tie.specs.Marks.{marks_with}
+use Rattle.lz_tie.specs.Moments.{IsLeftBy, LeftSince, GrowsTo, GoesOn, HoldExplains, ExplainsBegun, ExplainedSince}
+use Rattle.lz_tie.proofs.Marks.GrownMarks.{marks_splice}
 use Rattle.lz_tie.proofs.Marks.RunningSet.{explained, history_of, locked_sizes}
+use Rattle.lz_tie.proofs.Moments.GrownNotes.{grows_then, same_grows}
 use Rattle.lz_tie.proofs.Moments.LeftBeginnings.{more_left, splice_left}
 
 -- what may be left of the lock's disk is left by all its notes
@@ -53,8 +57,19 @@ module _ (b : BoardId) (ns : List Note) (y : Yard) (dev : Device) (h : Part) (ho
   more t l = subst (λ r. IsLeftBy b.sizes b.opened r t) (sym notes) (more_left b.sizes b.opened n (splice b.opened h.number h.loads ns) t
       (splice_left b.sizes b.opened h.number hold.knows.numbered.0 h.base (length h.known) h.loads ns t hold.knows.quiet hold.knows.least hold.knows.order hold.knows.shown next l))
 
+  grown : GrowsTo b ns ns'
+  grown =
+      let shape = shape_of b.sizes in
+      let spliced = splice b.opened h.number h.loads ns in
+      let new = marks_with shape n.by n.what spliced in
+      subst (GrowsTo b ns) (sym notes) record {
+        new = new;
+        shows = ap (λ M. new ++ M) (marks_splice b.opened shape h.number h.base (length h.known) h.loads ns hold.knows.quiet hold.knows.least hold.knows.order next);
+        trace = (listed n.published, ap (λ P. listed n.published ++ P) (trace_splice b.opened h.number h.loads ns));
+      }
+
   step_left : GoesOn b ns ns' dev dev'
-  step_left = record { honest = call.0; time = call.1; kept = more }
+  step_left = record { grows = grown; honest = call.0; time = call.1; kept = more }
 
 -- the turn of a call
 pub turn_left : (b : BoardId) (ns : List Note) (y : Yard) (dev : Device) (h : Part) → InHold b ns y dev h → (c : Calling) (e : Event) → IsTurn ns h c e → (y1 z' : Yard) (p : ℕ) (o : Outcome) (told : Told) (dev1 dev' : Device) → dev1 ≡ dev
@@ -83,15 +98,22 @@ pub since_explained : (b : BoardId) (first : Device) (ns : List Note) (dev : Dev
 since_explained b first ns dev left = λ honest. leaves_more first dev (λ t. IsImage first.medium t ⊎ IsLeftBy b.sizes b.opened ns t) (λ t. IsImage first.medium t ⊎ ExplainsBegun b ns t)
     (λ t. ⊎_elim (λ old. inl old) (λ l. inr (left_explains b ns t l))) (left honest)
 
--- notes that are the same, and notes of which one is more
-pub same_left : (b : BoardId) (ns ns' : List Note) → ns' ≡ ns → (t : List ℕ) → IsLeftBy b.sizes b.opened ns t → IsLeftBy b.sizes b.opened ns' t
-same_left b ns ns' notes t l = subst (λ r. IsLeftBy b.sizes b.opened r t) (sym notes) l
+-- The notes to which a hold's step comes: those of the lock, and maybe a look at a pin word.
+pub record ComesTo (b : BoardId) (ns was : List Note) : Type 0 where
+  pub left : (t : List ℕ) → IsLeftBy b.sizes b.opened ns t → IsLeftBy b.sizes b.opened was t
+  pub grows : GrowsTo b ns was
 
-pub found_left : (b : BoardId) (n : Note) (ns ns' : List Note) → ns' ≡ n ∷ ns → (t : List ℕ) → IsLeftBy b.sizes b.opened ns t → IsLeftBy b.sizes b.opened ns' t
-found_left b n ns ns' notes t l = same_left b (n ∷ ns) ns' notes t (more_left b.sizes b.opened n ns t l)
+pub comes : (b : BoardId) (ns ns' : List Note) → ns' ≡ ns → ComesTo b ns ns'
+comes b ns ns' notes = subst (ComesTo b ns) (sym notes) (record { left = λ t l. l; grows = same_grows b ns })
+
+pub finds : (b : BoardId) (q v : ℕ) (ns mid was : List Note) → mid ≡ ns → was ≡ found_note q v ∷ mid → ComesTo b ns was
+finds b q v ns mid was same found = subst (ComesTo b ns) (sym (found ∙ ap (λ r. found_note q v ∷ r) same)) record {
+  left = more_left b.sizes b.opened (found_note q v) ns;
+  grows = record { new = []; shows = refl; trace = ([], refl) };
+}
 
 -- What might have been left goes on over a hold, from the lock's notes ns to these.
-module _ (b : BoardId) (first dev dev' : Device) (ns was is : List Note) (y y' : Yard) (locked : IsLocked b ns y dev) (locked' : IsLocked b is y' dev') (found : (t : List ℕ) → IsLeftBy b.sizes b.opened ns t → IsLeftBy b.sizes b.opened was t) (on : GoesOn b was is dev dev') where
+module _ (b : BoardId) (first dev dev' : Device) (ns was is : List Note) (y y' : Yard) (locked : IsLocked b ns y dev) (locked' : IsLocked b is y' dev') (found : ComesTo b ns was) (on : GoesOn b was is dev dev') where
   abbrev In : List ℕ → Type 0
   In t = IsImage dev.medium t ⊎ IsImage dev'.medium t
 
@@ -100,25 +122,29 @@ module _ (b : BoardId) (first dev dev' : Device) (ns was is : List Note) (y y' :
 
   in_hold : IsTrue dev'.honest → (t : List ℕ) → In t → Left is t
   in_hold honest t image = inr (⊎_elim
-      (λ old. on.kept t (found t (now_left b ns y dev locked (subst IsTrue on.honest honest) t old)))
+      (λ old. on.kept t (found.left t (now_left b ns y dev locked (subst IsTrue on.honest honest) t old)))
       (λ new. now_left b is y' dev' locked' honest t new)
       image)
 
   gone_on : LeftSince b first ns dev → LeftSince b first is dev'
   gone_on left = λ honest. let was = subst IsTrue on.honest honest in
       leaves_then first dev dev' (Left is)
-      (leaves_more first dev (Left ns) (Left is) (λ t. ⊎_elim (λ old. inl old) (λ l. inr (on.kept t (found t l)))) (left was))
+      (leaves_more first dev (Left ns) (Left is) (λ t. ⊎_elim (λ old. inl old) (λ l. inr (on.kept t (found.left t l)))) (left was))
       (leaves_more dev dev' In (Left is) (in_hold honest) (on.time was))
 
   explains : HoldExplains b ns is dev dev'
-  explains honest = leaves_more dev dev' In (λ t. Explains b ns t ⊎ Explains b is t)
-      (λ t. ⊎_elim
-      (λ old. inl (history_of b ns y dev locked honest t old))
-      (λ new. inr (history_of b is y' dev' locked' (subst IsTrue (sym on.honest) honest) t new)))
-      (on.time honest)
+  explains = record {
+    grows = grows_then b ns was is found.grows on.grows;
+    honest = on.honest;
+    leaves = λ honest. leaves_more dev dev' In (λ t. Explains b ns t ⊎ Explains b is t)
+        (λ t. ⊎_elim
+        (λ old. inl (history_of b ns y dev locked honest t old))
+        (λ new. inr (history_of b is y' dev' locked' (subst IsTrue (sym on.honest) honest) t new)))
+        (on.time honest);
+  }
 
 -- In the words of the code that holds the lock: its invariant afterwards, and what a crash in the hold might have left.
-module _ (b board : BoardId) (same : board ≡ b) (first dev dev' : Device) (ns was is : List Note) (found : (t : List ℕ) → IsLeftBy b.sizes b.opened ns t → IsLeftBy b.sizes b.opened was t) (on : GoesOn board was is dev dev')
+module _ (b board : BoardId) (same : board ≡ b) (first dev dev' : Device) (ns was is : List Note) (found : ComesTo b ns was) (on : GoesOn board was is dev dev')
     (y y' : Yard) (locked : IsLocked b ns y dev) (locked' : IsLocked board is y' dev') (pen : Pen) (of_board : IsPenOf board pen) (noted : notes pen ≡ is) where
   went : GoesOn b was is dev dev'
   went = subst (λ (q : BoardId). GoesOn q was is dev dev') same on

@@ -1,7 +1,7 @@
 -- The pin words of a run are those that the notes give.
-use Rattle.std.proofs.Common.{◌≡◌, ◌≢◌, ◌⊎◌, inl, inr, ⊎_elim, ℕ, zero, suc, ◌+◌, ◌%◌, ◌≤◌, ◌==◌, Bool, true, false, List, [], ◌∷◌, ◌++◌, length, refl, sym, ap, ◌∙◌, subst, arith, eq-eqb, ne_eqb}
-use Rattle.std.specs.Prelude.{replicate, Option, Some, None, if◌then◌else◌}
-use Rattle.std.proofs.lemmas.Bool.{cases_eq}
+use Rattle.std.proofs.Common.{◌≡◌, ◌≢◌, ◌⊎◌, inl, inr, ⊎_elim, ℕ, zero, suc, ◌+◌, ◌≤◌, ◌==◌, Bool, true, false, List, [], ◌∷◌, ◌++◌, length, refl, sym, ap, ◌∙◌, subst, arith, eq-eqb, ne_eqb}
+use Rattle.std.specs.Prelude.{replicate, Option, Some, None, if◌then◌else◌, not, ◌||◌}
+use Rattle.std.proofs.lemmas.Bool.{cases_eq, not-true}
 use mathlib.Core.Bool.{false≢true}
 use Rattle.lz_slot.specs.Counted.{of_pass, set_of_pass}
 use Rattle.lz_slot.proofs.Counted.{of_pass_same, of_pass_other, length-set_of_pass}
@@ -19,12 +19,13 @@ use Rattle.lz_machine.specs.declared.event.Event.TheVariants.{Invoke, Pin, Hop, 
 use Rattle.lz_machine.specs.declared.event.Outcome.{Outcome}
 use Rattle.lz_machine.specs.declared.event.Outcome.TheVariants.{Done, Worn, NotNow, Fault}
 use Rattle.lz_machine.specs.Yards.{Shape, Yard, actor_at}
-use Rattle.lz_machine.specs.Table.{course, line, line_on, words_after, pin_of, last_pin, is_sure, stays_out}
+use Rattle.lz_machine.specs.Table.{course, line, line_on, words_after, pin_of, last_pin, is_sure, stays_out, needs, pin_answered}
 use Rattle.lz_machine.specs.Runs.{Start, IsStart, State, Up, Down, Service, Caller, Transition, Calls, Turn, Fails, Looks, Trips, Stops, Crashes, CrashesIn, Opens, OpenFails, Point, run, IsRun, MayStep, first_point, caller_at, next_event, state_after, after_turn, after_fault, looked}
+use Rattle.lz_machine.proofs.Runs.Course.{answer_plays}
 use Rattle.lz_machine.proofs.Theorem.Reached.{reached_sound}
 use Rattle.lz_machine.proofs.Theorem.WornPass.{up_at}
 use Rattle.lz_machine.proofs.Frames.OneActor.{caller_range}
-use Rattle.lz_machine.proofs.Frames.Outside.{out_even}
+use Rattle.lz_machine.proofs.Frames.Outside.{out_even, answered_pin, answered_other, outside_even}
 use Rattle.lz_board.specs.declared.view.What.{What}
 use Rattle.lz_board.specs.declared.view.What.TheVariants.{Called, Played, Found}
 use Rattle.lz_board.specs.declared.view.Note.{Note}
@@ -32,11 +33,17 @@ use Rattle.lz_board.specs.Notes.{pin_after_played, pin_after_what, pin_after}
 use Rattle.lz_tie.specs.NotedRuns.{TellsTurn, TellsFault, TellsStep, TellsOne, TellsOf, ReadsAs}
 use Rattle.lz_tie.proofs.Reading.CallPlaces.{place_reads, run_before}
 
--- events that change a pin word
+-- events that may change a pin word
 abbrev pub is_pinning : Event → Bool
 is_pinning Pin = true
 is_pinning Answer = true
 is_pinning e = false
+
+-- and those that do, where they are played
+abbrev pub is_counting : Yard → ℕ → Event → Bool
+is_counting y a Pin = true
+is_counting y a Answer = not (stays_out (actor_at y a) (pin_of y a))
+is_counting y a e = false
 
 redirect_pins : (w : Words) (place : Place) (next : ℕ) → (redirect w place next).pins ≡ w.pins
 redirect_pins w (Bucket b) next = refl
@@ -72,7 +79,11 @@ pub line_count : (y : Yard) (a : ℕ) (e : Event) (c : Course) → length (line_
 line_count y a e (Refused o) = refl
 line_count y a e Dies = refl
 line_count y a Pin Plays = length-set_of_pass y.words.pins a (get y.words (pin_word a) + 1)
-line_count y a Answer Plays = length-set_of_pass y.words.pins a (get y.words (pin_word a) + 1)
+line_count y a Answer Plays = go (stays_out (actor_at y a) (pin_of y a))
+  where
+    go : (out : Bool) → length (if out then y.words else set y.words (pin_word a) (pin_of y a + 1)).pins ≡ length y.words.pins
+    go true = refl
+    go false = length-set_of_pass y.words.pins a (pin_of y a + 1)
 line_count y a e Plays = ap length (words_pins y (actor_at y a) a e refl)
 
 pub line_pins : (y : Yard) (a : ℕ) (e : Event) → is_pinning e ≡ false → (c : Course) → (line_on c y (actor_at y a) a e).0.words.pins ≡ y.words.pins
@@ -155,27 +166,23 @@ module _ (y : Yard) (a : ℕ) (low : 1 ≤ a) (high : a ≤ length y.words.pins)
   pin_own = ⊎_elim (λ is. by_course Pin Plays is more rest) (λ r. ⊎_elim (λ is. by_course Pin (Refused NotNow) is refl (λ q away. refl)) (λ is. by_course Pin (Refused Worn) is refl (λ q away. refl)) r) pin_course
 
   answer_own : OwnPin Answer
-  answer_own = go y.vault.dead (is_outside (pin_of y a)) (stays_out (actor_at y a) (pin_of y a)) refl refl refl
+  answer_own = ⊎_elim
+      (λ plays. by_course Answer Plays plays.1 (answered_pin y actor a low high ∙ counts plays.0) (λ q away. answered_other y actor a q away))
+      (λ late. by_course Answer (Refused NotNow) late refl (λ q away. refl))
+      (answer_plays y a)
     where
-      -- a pass that stays out has an even pin word
-      stays : (actor : Actor) → stays_out actor (pin_of y a) ≡ true → course y a Answer ≡ Refused Done → OwnPin Answer
-      stays actor out is = by_course Answer (Refused Done) is (ap (λ b. if b then pin_of y a else suc (pin_of y a)) (sym (eq-eqb (pin_of y a % 2) 0 (out_even actor (pin_of y a) out)))) (λ q away. refl)
+      actor : Actor
+      actor = actor_at y a
 
-      plays : is_outside (pin_of y a) ≡ false → course y a Answer ≡ Plays → OwnPin Answer
-      plays inside is = by_course Answer Plays is (more ∙ ap (λ b. if b then pin_of y a else suc (pin_of y a)) (sym inside)) rest
-
-      late : course y a Answer ≡ Refused NotNow → OwnPin Answer
-      late is = by_course Answer (Refused NotNow) is refl (λ q away. refl)
-
-      go : (d o s : Bool) → y.vault.dead ≡ d → is_outside (pin_of y a) ≡ o → stays_out (actor_at y a) (pin_of y a) ≡ s → OwnPin Answer
-      go true true true d o s = stays (actor_at y a) s (rw (d, s, o) refl)
-      go true true false d o s = late (rw (d, s, o) refl)
-      go true false true d o s = stays (actor_at y a) s (rw (d, s, o) refl)
-      go true false false d o s = plays o (rw (d, s, o) refl)
-      go false true true d o s = stays (actor_at y a) s (rw (d, s, o) refl)
-      go false true false d o s = late (rw (d, s, o) refl)
-      go false false true d o s = stays (actor_at y a) s (rw (d, s, o) refl)
-      go false false false d o s = plays o (rw (d, s, o) refl)
+      -- only the pass of a call that went without a pin is outside
+      counts : needs y a Answer ≡ true → pin_answered actor (pin_of y a) ≡ pin_after_played Answer Done (pin_of y a)
+      counts = go (is_outside (pin_of y a)) (stays_out actor (pin_of y a)) refl refl
+        where
+          go : (o s : Bool) → is_outside (pin_of y a) ≡ o → stays_out actor (pin_of y a) ≡ s → (not o || s) ≡ true → (if s then pin_of y a else pin_of y a + 1) ≡ (if o then pin_of y a else suc (pin_of y a))
+          go true true o s may = refl
+          go true false o s may = absurd (false≢true may)
+          go false true o s may = absurd (false≢true (sym o ∙ outside_even (pin_of y a) (out_even actor (pin_of y a) s)))
+          go false false o s may = omega arith
 
   other_own : (e : Event) → is_pinning e ≡ false → OwnPin e
   other_own e not_one = let same = line_pins y a e not_one (course y a e) in record {
@@ -212,12 +219,12 @@ module _ (y : Yard) (a : ℕ) (low : 1 ≤ a) (high : a ≤ length y.words.pins)
       go e false is = other_own e is
 
   -- an event that is played and changes its actor's pin word counts it up
-  pub moved_pin : (e : Event) → is_pinning e ≡ true → course y a e ≡ Plays → pin_after_played e (line y a e).1 (pin_of y a) ≡ suc (pin_of y a)
+  pub moved_pin : (e : Event) → is_counting y a e ≡ true → course y a e ≡ Plays → pin_after_played e (line y a e).1 (pin_of y a) ≡ suc (pin_of y a)
   moved_pin e is plays = sym (own_pin e).own ∙ ap (λ (c : Course). pin_of (line_on c y (actor_at y a) a e).0 a) plays ∙ go e is
     where
-      go : (e : Event) → is_pinning e ≡ true → pin_of (line_on Plays y (actor_at y a) a e).0 a ≡ suc (pin_of y a)
+      go : (e : Event) → is_counting y a e ≡ true → pin_of (line_on Plays y (actor_at y a) a e).0 a ≡ suc (pin_of y a)
       go Pin is = more
-      go Answer is = more
+      go Answer is = answered_pin y (actor_at y a) a low high ∙ ap (λ (b : Bool). if b then pin_of y a else pin_of y a + 1) (not-true (stays_out (actor_at y a) (pin_of y a)) is) ∙ omega arith
       go e is = absurd (false≢true is)
 
 -- the pin words are as many as the passes, in each state of a run

@@ -1,5 +1,5 @@
 -- The turn of an Answer: it is done, publishes nothing, and leaves the pass outside.
-use Rattle.std.proofs.Common.{◌≡◌, ◌≢◌, ℕ, suc, ◌%◌, ◌==◌, ◌&&◌, not, if◌then◌else◌, Bool, true, false, List, [], length, refl, sym, ap, ◌∙◌, subst, arith, eq-eqb}
+use Rattle.std.proofs.Common.{◌≡◌, ◌≢◌, ⊎_elim, ℕ, suc, ◌%◌, ◌==◌, if◌then◌else◌, List, [], length, refl, sym, ap, ◌∙◌, subst, arith, eq-eqb}
 use Rattle.std.specs.Prelude.{Option, Some, None}
 use Rattle.std.proofs.lemmas.Bool.Decides.{nat_tests}
 use Rattle.lz_slot.specs.declared.command.Command.{Command}
@@ -10,16 +10,17 @@ use Rattle.lz_machine.specs.declared.course.Course.{Course}
 use Rattle.lz_machine.specs.declared.course.Course.TheVariants.{Refused, Dies, Plays}
 use Rattle.lz_machine.specs.declared.event.Event.TheVariants.{Answer}
 use Rattle.lz_machine.specs.declared.event.Outcome.{Outcome}
-use Rattle.lz_machine.specs.declared.event.Outcome.TheVariants.{Done, NotNow, Fault, Dead}
+use Rattle.lz_machine.specs.declared.event.Outcome.TheVariants.{Done, NotNow, Fault}
 use Rattle.lz_machine.specs.declared.event.Reply.{Reply}
 use Rattle.lz_machine.specs.declared.event.Reply.TheVariants.{Worn}
 use Rattle.lz_machine.specs.declared.caller.Progress.{Progress}
 use Rattle.lz_machine.specs.declared.caller.Progress.TheVariants.{Answering}
 use Rattle.lz_machine.specs.Yards.{Yard, actor_at, IsInside}
-use Rattle.lz_machine.specs.Table.{course, line, line_on, call_on, published_on, needs, stays_out, pin_of, last_pin}
+use Rattle.lz_machine.specs.Table.{course, line, line_on, call_on, published_on, last_pin}
 use Rattle.lz_machine.specs.Runs.{reply_at, HasTurn}
 use Rattle.lz_machine.specs.CallersSound.{Relies, View, view_of}
 use Rattle.lz_machine.specs.CallsStand.{own_change}
+use Rattle.lz_machine.proofs.Runs.Course.{answer_plays}
 use Rattle.lz_machine.proofs.Alone.Halt.{refusals_are_right}
 use Rattle.lz_machine.proofs.Theorem.Timeliness.{never_late}
 use Rattle.lz_board.specs.declared.view.What.TheVariants.{Played}
@@ -29,18 +30,10 @@ use Rattle.lz_board.specs.Notes.{listed, trace_of, pin_after_what, pin_after_pla
 use Rattle.lz_tie.specs.Holds.{Turned}
 
 done_in_time : (y : Yard) (a : ℕ) → (line y a Answer).1 ≢ NotNow → (line y a Answer).1 ≡ Done
-done_in_time y a = go y.vault.dead (needs y a Answer) (stays_out (actor_at y a) (pin_of y a))
-  where
-    taken : Bool → Bool → Bool → Course
-    taken dead may out = if dead && not true then Refused Dead else if may then (if out then Refused Done else Plays) else Refused NotNow
-
-    go : (dead may out : Bool) → (line_on (taken dead may out) y (actor_at y a) a Answer).1 ≢ NotNow → (line_on (taken dead may out) y (actor_at y a) a Answer).1 ≡ Done
-    go true false out now = absurd (now refl)
-    go false false out now = absurd (now refl)
-    go true true true now = refl
-    go true true false now = refl
-    go false true true now = refl
-    go false true false now = refl
+done_in_time y a now = ⊎_elim
+    (λ plays. ap (λ (k : Course). (line_on k y (actor_at y a) a Answer).1) plays.1)
+    (λ late. absurd (now (ap (λ (k : Course). (line_on k y (actor_at y a) a Answer).1) late)))
+    (answer_plays y a)
 
 publishes_nothing : (y : Yard) (a : ℕ) (c : Course) → published_on c y (actor_at y a) a Answer ≡ []
 publishes_nothing y a (Refused o) = refl

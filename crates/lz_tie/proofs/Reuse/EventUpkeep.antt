@@ -1,14 +1,12 @@
 -- What the notes show of slots and hands stays right through each event.
-use Rattle.std.proofs.Common.{◌≡◌, ◌≢◌, ◌⊎◌, inl, inr, ⊎_elim, ℕ, zero, suc, ◌+◌, ◌≤◌, ◌==◌, Bool, true, false, List, [], ◌∷◌, ◌++◌, length, refl, sym, ap, ◌∙◌, subst, eq-eqb}
+use Rattle.std.proofs.Common.{◌≡◌, ◌≢◌, ◌⊎◌, inl, inr, ⊎_elim, ℕ, zero, suc, ◌≤◌, Bool, true, false, List, [], ◌∷◌, ◌++◌, refl, sym, ap, ◌∙◌, subst}
 use mathlib.Core.Bool.{false≢true}
 use Rattle.std.specs.Prelude.{if◌then◌else◌, replicate, slice_set, slice_index_or, Option, Some, None, is_some}
 use Rattle.std.proofs.lemmas.List.Quantifiers.{position-Some}
 use Rattle.lz_slot.specs.Counted.{of_pass, set_of_pass}
 use Rattle.lz_allot.specs.declared.sight.Sight.{Sight}
 use Rattle.lz_allot.specs.declared.sight.Sight.TheVariants.{Unseen}
-use Rattle.lz_allot.specs.Uses.{Use, Free, Taken, Limbo, use_of, is_free, collect_at, collect, lowest_free, take_slot, give_back, see_pin_at, see_pin, retire}
-use Rattle.lz_list.specs.declared.word.Word.TheVariants.{Pin as pin_at}
-use Rattle.lz_list.specs.Words.{get}
+use Rattle.lz_allot.specs.Uses.{Use, Free, Taken, Limbo, use_of, is_free, collect_at, collect, lowest_free, give_back, see_pin_at, see_pin}
 use Rattle.lz_list.specs.Locks.{check, is_pair_free}
 use Rattle.lz_list.specs.Traces.{Trace, IsLoose}
 use Rattle.lz_machine.specs.declared.actor.Actor.{Actor}
@@ -17,8 +15,8 @@ use Rattle.lz_machine.specs.declared.course.Course.{Course}
 use Rattle.lz_machine.specs.declared.course.Course.TheVariants.{Refused, Dies, Plays}
 use Rattle.lz_machine.specs.declared.event.Event.{Event}
 use Rattle.lz_machine.specs.declared.event.Event.TheVariants.{Invoke, Pin, Hop, Reserve, WriteKey, Claim, Check, WriteOpen, Link, WriteClose, Mark, Release, Sync, Settle, Unlink, Retire, SeePin, Answer, Halt}
-use Rattle.lz_machine.specs.Yards.{Shape, Yard, actor_at, cell_at, idle_actor}
-use Rattle.lz_machine.specs.Table.{course, line_publishes, published_on, publishes, uses_after, actors_after, given_back, kept_slot, is_unused, is_old, node_of, set_actor, with_hold, with_slot, released, reserved}
+use Rattle.lz_machine.specs.Yards.{Yard, actor_at, cell_at, idle_actor}
+use Rattle.lz_machine.specs.Table.{course, line_publishes, published_on, publishes, uses_after, actors_after, given_back, kept_slot, is_unused, is_old, node_of, set_actor, with_hold, with_slot, released, reserved, pin_of, pin_answered}
 use Rattle.lz_machine.proofs.Frames.Uses.{use_map}
 use Rattle.lz_board.specs.declared.view.Sizes.{Sizes}
 use Rattle.lz_board.specs.declared.view.Note.{Note}
@@ -27,7 +25,7 @@ use Rattle.lz_board.specs.Notes.{listed, trace_of, splice, pin_after}
 use Rattle.lz_board.specs.Noting.{Sighting, AllLeft}
 use Rattle.lz_board.proofs.Upkeep.Splice.{trace_splice}
 use Rattle.lz_tie.specs.Reuse.{UseTold, ReuseTold}
-use Rattle.lz_tie.proofs.Reuse.SightUpkeep.{StaysAway, silent_stays, loose_stays, all_left_more, use_more}
+use Rattle.lz_tie.proofs.Reuse.SightUpkeep.{silent_stays, loose_stays, all_left_more, use_more}
 use Rattle.lz_tie.proofs.Reuse.UseUpkeep.{set_use, collect_told, retire_told, see_told}
 
 -- events that change what slots are used for
@@ -219,7 +217,7 @@ module _ (z : Sizes) (opened : Trace) (a : ℕ) (hs : List Load) (ns : List Note
       pub seen_told : ReuseTold z opened now (see_pin q v y.uses) y.actors
       seen_told = record { each = seen y.uses (λ s sights is. is) t.each; hands = t.hands }
 
-      pub answered_told : a ≡ q → get y.words (pin_at a) + 1 ≡ v → ReuseTold z opened now (uses_after y actor a Answer) (actors_after y actor a Answer)
+      pub answered_told : a ≡ q → pin_answered actor (pin_of y a) ≡ v → ReuseTold z opened now (uses_after y actor a Answer) (actors_after y actor a Answer)
       answered_told same pin = record {
         each = λ s. subst (λ (r : ℕ × ℕ). UseTold z opened now s (use_of (see_pin r.0 r.1 (given_back y actor.slot)) s)) (λ i. (sym same i, sym pin i)) (seen (given_back y actor.slot) (still actor.slot) (given actor.slot refl) s);
         hands = λ b s is. t.hands b s (hands_after y a Answer (λ same. absurd cc) b s is);

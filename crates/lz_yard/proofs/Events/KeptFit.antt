@@ -1,5 +1,5 @@
 -- The yard's parts fit after an event, where they did before it.
-use Rattle.std.proofs.Common.{◌≡◌, ◌≢◌, ◌⊎◌, inl, inr, ℕ, zero, suc, ◌<◌, ◌≤◌, Bool, true, false, List, [], ◌∷◌, length, refl, sym, ap, ◌∙◌, subst, arith, length-set}
+use Rattle.std.proofs.Common.{◌≡◌, ◌≢◌, ◌⊎◌, inl, inr, ℕ, zero, suc, ◌+◌, ◌<◌, ◌≤◌, Bool, true, false, List, [], ◌∷◌, length, refl, sym, ap, ◌∙◌, subst, arith, length-set}
 use Rattle.std.specs.Prelude.{Option, Some, None, IfSome, slice_get, slice_set, map, if◌then◌else◌}
 use Rattle.std.proofs.lemmas.Option.{same_Some}
 use Rattle.std.proofs.lemmas.List.{length-map}
@@ -28,7 +28,7 @@ use Rattle.lz_machine.specs.declared.actor.Hold.{Hold}
 use Rattle.lz_machine.specs.declared.actor.Hold.TheVariants.{Locks}
 use Rattle.lz_machine.specs.declared.actor.Actor.{Actor}
 use Rattle.lz_machine.specs.Yards.{Yard, actor_at, cell_at}
-use Rattle.lz_machine.specs.Table.{course, call_of, cells_after, words_after, uses_after, actors_after, given_back, reserved, kept_slot, is_unused, is_sure, is_spent, line_on, line_failed, with_hold, with_slot, yard_done}
+use Rattle.lz_machine.specs.Table.{course, call_of, cells_after, words_after, uses_after, actors_after, given_back, reserved, kept_slot, is_unused, is_sure, is_spent, line_on, line_failed, pin_of, stays_out, with_hold, with_slot, yard_done}
 use Rattle.lz_yard.specs.Steps.{Played}
 use Rattle.lz_yard.specs.declared.told.Told.{Told}
 use Rattle.lz_machine.specs.Ready.{IsEventOf}
@@ -59,9 +59,9 @@ redirect_sizes : (w : Words) (place : Place) (next : ℕ) → SameSizes w (redir
 redirect_sizes w (Bucket b) next = record { heads = length-set w.heads b _; links = refl; keys = refl; pins = refl }
 redirect_sizes w (Node s) next = record { heads = refl; links = length-set w.links s _; keys = refl; pins = refl }
 
-if_sizes : (b : Bool) (w v : Words) → SameSizes w v → SameSizes w (if b then v else w)
-if_sizes true w v same = same
-if_sizes false w v same = same_sizes w
+if_sizes : (b : Bool) (w u v : Words) → SameSizes w u → SameSizes w v → SameSizes w (if b then u else v)
+if_sizes true w u v one other = one
+if_sizes false w u v one other = other
 
 words_sizes : (y : Yard) (actor : Actor) (a : ℕ) (e : Event) → SameSizes y.words (words_after y actor a e)
 words_sizes y actor a Pin = set_sizes y.words (pin_at a) _
@@ -69,9 +69,9 @@ words_sizes y actor a (WriteKey k) = set_sizes y.words (key_at _) k
 words_sizes y actor a WriteOpen = set_sizes y.words (link_at _) _
 words_sizes y actor a Link = redirect_sizes y.words actor.pred _
 words_sizes y actor a Mark = set_sizes y.words (link_at _) _
-words_sizes y actor a (Settle s) = if_sizes (is_sure y s) y.words (change_flags (settle (cell_at y s).stage) y.words s) (set_sizes y.words (link_at s) _)
+words_sizes y actor a (Settle s) = if_sizes (is_sure y s) y.words (change_flags (settle (cell_at y s).stage) y.words s) y.words (set_sizes y.words (link_at s) _) (same_sizes y.words)
 words_sizes y actor a Unlink = redirect_sizes y.words actor.pred _
-words_sizes y actor a Answer = set_sizes y.words (pin_at a) _
+words_sizes y actor a Answer = if_sizes (stays_out actor (pin_of y a)) y.words y.words (set y.words (pin_at a) (pin_of y a + 1)) (same_sizes y.words) (set_sizes y.words (pin_at a) _)
 words_sizes y actor a Halt = set_sizes y.words halt_word 1
 words_sizes y actor a _ = same_sizes y.words
 

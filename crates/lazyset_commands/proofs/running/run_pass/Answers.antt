@@ -1,7 +1,8 @@
 use Rattle.std.proofs.Common.{sym}
 use Rattle.lz_board.specs.Notes.{trace_of}
 use Rattle.lz_board.specs.Seats.{part}
-use Rattle.lz_serve.proofs.Halting.{halt_extended, session_halts}
+use Rattle.lz_board.proofs.Walk.GlanceAnswer.{halt_since}
+use Rattle.lz_serve.proofs.Halting.{session_halts}
 use Rattle.lazyset_commands.proofs.Runs.HandedPass.{one_since, one_welcome}
 use Rattle.lz_serve.proofs.Seats.{seat_session}
 use Rattle.lazyset_commands.proofs.running.run_pass.Goals as goal
@@ -12,7 +13,7 @@ returns g c =
     let F = g.N.Named.format in
     let left = c.close_with-disk.ensures.left in
     let tells = c.session-ended.ensures in
-    let welcome = one_welcome b F left.notes c.into_pass-pass.result c.from_mut.result.now c.close_with-disk.new.passes c.from_mut.ensures.value left.seen left.welcome in
+    let welcome = one_welcome b left.notes c.into_pass-pass.result c.from_mut.result.now c.close_with-disk.new.passes c.from_mut.ensures.value left.seen left.welcome in
     let told = seat_session (λ s. s.pass) (λ s. s.halted) b F _ _ c.new-seated.result c.session-ended.new.service
     c.args.pass c.into_pass-pass.result c.session-ended.result tells.0 c.new-seated.ensures.pass (sym c.into_pass-pass.ensures.same) tells.2
     in
@@ -28,6 +29,6 @@ returns g c =
       left = left.left;
       alone = welcome.alone;
       halts = λ is.
-          left.left.over (halt_extended (part c.into_pass-pass.result).known (trace_of b.opened left.notes) since
+          left.left.over (halt_since (part c.into_pass-pass.result).known (trace_of b.opened left.notes) since
           (session_halts b F c.session-ended.result _ _ c.args.pass c.into_pass-pass.result tells.0 told is));
     }

@@ -19,6 +19,6 @@ returns g c =
     let status = c.status_of_service.ensures in
     let all = all_new b c.args.passes.items c.requires.new in
     let count : length ps + c.serve-passes.result.threadless ≡ b.sizes.passes = search rules in
-    served_passes b g.N.Named.first _ g.N.Named.format ps _ c.close_with-disk.ensures.left c.status_of_service.result c.serve-passes.result.halted c.serve-passes.result.threadless count
+    served_passes b g.N.Named.first _ ps _ c.close_with-disk.ensures.left c.status_of_service.result c.serve-passes.result.halted c.serve-passes.result.threadless count
     (λ is. subst (Any SawHalt) (sym c.as_mut_slice.ensures.value) (served.halted is))
     (λ is. subst (All (λ p. IsCalm (part p))) (sym c.as_mut_slice.ensures.value) (served.calm is)) status.done status.failed status.other

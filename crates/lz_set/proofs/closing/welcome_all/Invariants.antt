@@ -8,5 +8,5 @@ abbrev pub invariant-loop-i : goal.invariant-loop-i
 invariant-loop-i g l = record {
   same : l.locked ≡ l.fn.locked;
   here : All (λ p. IsOf g.N.Named.board p) l.passes;
-  so : Welcomed g.N.Named.board g.N.Named.format l.fn.locked.notes (trace_of g.N.Named.board.opened l.fn.locked.notes) l.i (map (λ p. part p) l.fn.passes) (map (λ p. part p) l.passes);
+  so : Welcomed g.N.Named.board l.fn.locked.notes (trace_of g.N.Named.board.opened l.fn.locked.notes) l.i (map (λ p. part p) l.fn.passes) (map (λ p. part p) l.passes);
 }

@@ -1,4 +1,5 @@
-use Rattle.std.proofs.Common.{sym, ap, ◌∙◌, subst}
+use Rattle.std.proofs.Common.{◌<◌, sym, ap, ◌∙◌, subst}
+use Rattle.lz_disk.specs.Devices.{Device}
 use Rattle.lz_board.specs.declared.board.Pen.{Pen}
 use Rattle.lz_board.specs.declared.pass.Pass.{Pass}
 use Rattle.lz_board.specs.declared.view.What.TheVariants.{Played}
@@ -89,3 +90,7 @@ pub returns-clause-life : goal.returns-clause-life
 returns-clause-life g c =
     held_keeps c.args.yard.now.yard c.note_pin.new.self.yard c.step-outcome.new.self.yard c.number-number.result c.pin.result c.note_pin.ensures.yard c.number-number.result c.args.event c.step-outcome.result c.step-outcome.new.self.told
     (g.D.Disk.device c.args.yard.now.disk) (g.D.Disk.device c.note_pin.new.self.disk) (g.D.Disk.device c.step-outcome.new.self.disk) (ap (λ d. g.D.Disk.device d) c.note_pin.ensures.rest.1) c.step-outcome.ensures.played
+
+pub returns-clause-device : goal.returns-clause-device
+returns-clause-device g c = λ fault.
+    subst (λ (d : Device). d.faults < (g.D.Disk.device c.step-outcome.new.self.disk).faults) (ap (λ d. g.D.Disk.device d) c.note_pin.ensures.rest.1) (c.step-outcome.ensures.played.failed fault).call.faults

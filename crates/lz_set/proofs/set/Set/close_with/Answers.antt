@@ -1,4 +1,4 @@
-use Rattle.std.proofs.Common.{◌≡◌, List, All, map, sym, ap, ◌∙◌, subst}
+use Rattle.std.proofs.Common.{◌≡◌, List, All, map, sym, ap, subst}
 use Rattle.lz_board.specs.declared.view.Note.{Note}
 use Rattle.lz_board.specs.declared.view.Part.{Part}
 use Rattle.lz_board.specs.Notes.{Extends, trace_of}
@@ -31,5 +31,5 @@ returns-clause-left g c =
       };
       since = subst (λ (l : List Note). All (λ (h : Part). Extends (trace_of b.opened l) h.known) (map (λ p. part p) c.args.passes.now)) (sym same) c.welcome_all.ensures.since;
       seen = subst (λ (l : List Note). map (λ p. part p) c.welcome_all.new.passes ≡ map (knowing (trace_of b.opened l)) (map (λ p. part p) c.args.passes.now)) (sym same) c.welcome_all.ensures.seen;
-      welcome = subst (λ (l : List Note). All (IsWelcome b g.N.Named.format l) (map (λ p. part p) c.welcome_all.new.passes)) (sym same) c.welcome_all.ensures.welcome;
+      welcome = subst (λ (l : List Note). All (IsWelcome b l) (map (λ p. part p) c.welcome_all.new.passes)) (sym same) c.welcome_all.ensures.welcome;
     }

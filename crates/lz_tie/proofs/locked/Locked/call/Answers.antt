@@ -1,14 +1,14 @@
-use Rattle.std.proofs.Common.{ℕ, ◌≤◌, List, ◌∷◌, sym, ap, ◌∙◌, subst}
+use Rattle.std.proofs.Common.{ℕ, ◌≤◌, ◌∷◌, sym, ap, ◌∙◌, subst}
 use Rattle.lz_board.specs.declared.view.Part.{Part}
 use Rattle.lz_board.specs.Kept.{Knows}
 use Rattle.lz_board.specs.Plays.{found_note}
 use Rattle.lz_board.specs.Seats.{BoardId, carried, id_of, notes, part}
 use Rattle.lz_tie.specs.Holds.{IsIdle}
-use Rattle.lz_tie.specs.Moments.{IsLeftBy, HoldExplains}
+use Rattle.lz_tie.specs.Moments.{HoldExplains}
 use Rattle.lz_tie.proofs.Reading.OnePass.{opened_known}
 use Rattle.lz_tie.proofs.Hold.Joining.{joined}
 use Rattle.lz_tie.proofs.Hold.PinSight.{found, own_found}
-use Rattle.lz_tie.proofs.Moments.HeldMoments.{same_left, found_left, held_again, hold_explains}
+use Rattle.lz_tie.proofs.Moments.HeldMoments.{finds, held_again, hold_explains}
 use Rattle.lz_tie.proofs.Lives.HeldLives.{life_on}
 use Rattle.lz_tie.proofs.locked.Locked.call.Goals as goal
 
@@ -25,7 +25,7 @@ pub returns-clause-moments : goal.returns-clause-moments
 returns-clause-moments g c =
     let b = g.N.Named.board in
     let was = notes c.self.inside.pen in
-    let found = λ (t : List ℕ) (l : IsLeftBy b.sizes b.opened was t). found_left b (found_note c.number-number.result c.load_pin.result) (notes c.join.new.pen) (notes c.load_pin.new.pen) c.load_pin.ensures.notes t (same_left b was (notes c.join.new.pen) c.join.ensures.notes t l) in
+    let found = finds b c.number-number.result c.load_pin.result was (notes c.join.new.pen) (notes c.load_pin.new.pen) c.join.ensures.notes c.load_pin.ensures.notes in
     let explains = hold_explains b (id_of c.args.board.now) c.requires.board g.N.Named.first (g.D.Disk.device c.self.inside.yard.disk) (g.D.Disk.device c.call_joined-outcome.new.yard.disk) was (notes c.load_pin.new.pen) (notes c.call_joined-outcome.new.pen) found c.call_joined-outcome.ensures.moments
     c.self.inside.yard.yard c.call_joined-outcome.new.yard.yard c.self.invariant.1 c.call_joined-outcome.ensures.hold.locked c.cut.new.pen c.cut.ensures.pen c.cut.ensures.notes in
     subst (λ v. HoldExplains b v.notes (notes c.cut.new.pen) (g.D.Disk.device v.disk) (g.D.Disk.device c.call_joined-outcome.new.yard.disk)) c.self.view_is explains
@@ -50,7 +50,7 @@ pub invariant_of-self : goal.invariant_of-self
 invariant_of-self g c =
     let b = g.N.Named.board in
     let was = notes c.self.inside.pen in
-    let found = λ (t : List ℕ) (l : IsLeftBy b.sizes b.opened was t). found_left b (found_note c.number-number.result c.load_pin.result) (notes c.join.new.pen) (notes c.load_pin.new.pen) c.load_pin.ensures.notes t (same_left b was (notes c.join.new.pen) c.join.ensures.notes t l) in
+    let found = finds b c.number-number.result c.load_pin.result was (notes c.join.new.pen) (notes c.load_pin.new.pen) c.join.ensures.notes c.load_pin.ensures.notes in
     let kept = held_again b (id_of c.args.board.now) c.requires.board g.N.Named.first (g.D.Disk.device c.self.inside.yard.disk) (g.D.Disk.device c.call_joined-outcome.new.yard.disk) was (notes c.load_pin.new.pen) (notes c.call_joined-outcome.new.pen) found c.call_joined-outcome.ensures.moments
     c.self.inside.yard.yard c.call_joined-outcome.new.yard.yard c.self.invariant.1 c.call_joined-outcome.ensures.hold.locked c.cut.new.pen c.cut.ensures.pen c.cut.ensures.notes c.self.invariant.2 in
     (kept.0, kept.1, kept.2, life_on g.N.Named.format g.N.Named.first c.self.inside.yard.yard c.call_joined-outcome.new.yard.yard (g.D.Disk.device c.self.inside.yard.disk) (g.D.Disk.device c.call_joined-outcome.new.yard.disk) c.call_joined-outcome.ensures.life c.self.invariant.3)

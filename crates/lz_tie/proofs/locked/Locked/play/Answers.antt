@@ -10,7 +10,7 @@ use Rattle.lz_tie.specs.Moments.{HoldExplains}
 use Rattle.lz_tie.specs.OnePass.{OnlyOwn}
 use Rattle.lz_tie.proofs.Reading.OnePass.{alone_trace, own_trace}
 use Rattle.lz_tie.proofs.Hold.Joining.{joined, joined_turn, seen_turned}
-use Rattle.lz_tie.proofs.Moments.HeldMoments.{same_left, held_again, hold_explains}
+use Rattle.lz_tie.proofs.Moments.HeldMoments.{comes, held_again, hold_explains}
 use Rattle.lz_tie.proofs.Lives.HeldLives.{life_on}
 use Rattle.lz_tie.proofs.locked.Locked.play.Goals as goal
 
@@ -38,7 +38,7 @@ pub returns-clause-moments : goal.returns-clause-moments
 returns-clause-moments g c =
     let b = g.N.Named.board in
     let was = notes c.self.inside.pen in
-    let found = same_left b was (notes c.join.new.pen) c.join.ensures.notes in
+    let found = comes b was (notes c.join.new.pen) c.join.ensures.notes in
     let explains = hold_explains b (id_of c.args.board.now) c.requires.board g.N.Named.first (g.D.Disk.device c.self.inside.yard.disk) (g.D.Disk.device c.play_joined-turn.new.yard.disk) was (notes c.join.new.pen) (notes c.play_joined-turn.new.pen) found c.play_joined-turn.ensures.moments
     c.self.inside.yard.yard c.play_joined-turn.new.yard.yard c.self.invariant.1 c.play_joined-turn.ensures.hold.locked c.cut.new.pen c.cut.ensures.pen c.cut.ensures.notes in
     subst (λ v. HoldExplains b v.notes (notes c.cut.new.pen) (g.D.Disk.device v.disk) (g.D.Disk.device c.play_joined-turn.new.yard.disk)) c.self.view_is explains
@@ -66,7 +66,7 @@ pub invariant_of-self : goal.invariant_of-self
 invariant_of-self g c =
     let b = g.N.Named.board in
     let was = notes c.self.inside.pen in
-    let found = same_left b was (notes c.join.new.pen) c.join.ensures.notes in
+    let found = comes b was (notes c.join.new.pen) c.join.ensures.notes in
     let kept = held_again b (id_of c.args.board.now) c.requires.board g.N.Named.first (g.D.Disk.device c.self.inside.yard.disk) (g.D.Disk.device c.play_joined-turn.new.yard.disk) was (notes c.join.new.pen) (notes c.play_joined-turn.new.pen) found c.play_joined-turn.ensures.moments
     c.self.inside.yard.yard c.play_joined-turn.new.yard.yard c.self.invariant.1 c.play_joined-turn.ensures.hold.locked c.cut.new.pen c.cut.ensures.pen c.cut.ensures.notes c.self.invariant.2 in
     (kept.0, kept.1, kept.2, life_on g.N.Named.format g.N.Named.first c.self.inside.yard.yard c.play_joined-turn.new.yard.yard (g.D.Disk.device c.self.inside.yard.disk) (g.D.Disk.device c.play_joined-turn.new.yard.disk) c.play_joined-turn.ensures.life c.self.invariant.3)

@@ -1,4 +1,4 @@
-use Rattle.std.proofs.Common.{◌≤◌, ℕ, List, ◌∷◌, sym, ap, ◌∙◌, subst}
+use Rattle.std.proofs.Common.{◌≤◌, ◌∷◌, sym, ap, ◌∙◌, subst}
 use Rattle.lz_machine.specs.declared.event.Event.TheVariants.{SeePin}
 use Rattle.lz_machine.specs.Calls.{event_at}
 use Rattle.lz_machine.specs.Runs.{mark_of_turn, reply_at}
@@ -9,10 +9,10 @@ use Rattle.lz_board.specs.Seats.{BoardId, carried, id_of, notes, part}
 use Rattle.lz_tie.specs.Marks.{Shows, number_of}
 use Rattle.lz_tie.proofs.Marks.GrownMarks.{hold_shows}
 use Rattle.lz_tie.specs.Holds.{Turned}
-use Rattle.lz_tie.specs.Moments.{IsLeftBy, HoldExplains}
+use Rattle.lz_tie.specs.Moments.{HoldExplains}
 use Rattle.lz_tie.proofs.Hold.Joining.{joined, seen_turned}
 use Rattle.lz_tie.proofs.Hold.PinSight.{found, found_turn, seen_range}
-use Rattle.lz_tie.proofs.Moments.HeldMoments.{same_left, found_left, held_again, hold_explains}
+use Rattle.lz_tie.proofs.Moments.HeldMoments.{finds, held_again, hold_explains}
 use Rattle.lz_tie.proofs.Lives.HeldLives.{life_on}
 use Rattle.lz_tie.proofs.locked.Locked.see.Goals as goal
 
@@ -48,7 +48,7 @@ pub returns-clause-moments : goal.returns-clause-moments
 returns-clause-moments g c =
     let b = g.N.Named.board in
     let was = notes c.self.inside.pen in
-    let found = λ (t : List ℕ) (l : IsLeftBy b.sizes b.opened was t). found_left b (found_note c.args.seen c.load_pin-value.result) (notes c.join.new.pen) (notes c.load_pin-value.new.pen) c.load_pin-value.ensures.notes t (same_left b was (notes c.join.new.pen) c.join.ensures.notes t l) in
+    let found = finds b c.args.seen c.load_pin-value.result was (notes c.join.new.pen) (notes c.load_pin-value.new.pen) c.join.ensures.notes c.load_pin-value.ensures.notes in
     let explains = hold_explains b (id_of c.args.board.now) c.requires.board g.N.Named.first (g.D.Disk.device c.self.inside.yard.disk) (g.D.Disk.device c.play_joined-turn.new.yard.disk) was (notes c.load_pin-value.new.pen) (notes c.play_joined-turn.new.pen) found c.play_joined-turn.ensures.moments
     c.self.inside.yard.yard c.play_joined-turn.new.yard.yard c.self.invariant.1 c.play_joined-turn.ensures.hold.locked c.cut.new.pen c.cut.ensures.pen c.cut.ensures.notes in
     subst (λ v. HoldExplains b v.notes (notes c.cut.new.pen) (g.D.Disk.device v.disk) (g.D.Disk.device c.play_joined-turn.new.yard.disk)) c.self.view_is explains
@@ -65,7 +65,7 @@ pub invariant_of-self : goal.invariant_of-self
 invariant_of-self g c =
     let b = g.N.Named.board in
     let was = notes c.self.inside.pen in
-    let found = λ (t : List ℕ) (l : IsLeftBy b.sizes b.opened was t). found_left b (found_note c.args.seen c.load_pin-value.result) (notes c.join.new.pen) (notes c.load_pin-value.new.pen) c.load_pin-value.ensures.notes t (same_left b was (notes c.join.new.pen) c.join.ensures.notes t l) in
+    let found = finds b c.args.seen c.load_pin-value.result was (notes c.join.new.pen) (notes c.load_pin-value.new.pen) c.join.ensures.notes c.load_pin-value.ensures.notes in
     let kept = held_again b (id_of c.args.board.now) c.requires.board g.N.Named.first (g.D.Disk.device c.self.inside.yard.disk) (g.D.Disk.device c.play_joined-turn.new.yard.disk) was (notes c.load_pin-value.new.pen) (notes c.play_joined-turn.new.pen) found c.play_joined-turn.ensures.moments
     c.self.inside.yard.yard c.play_joined-turn.new.yard.yard c.self.invariant.1 c.play_joined-turn.ensures.hold.locked c.cut.new.pen c.cut.ensures.pen c.cut.ensures.notes c.self.invariant.2 in
     (kept.0, kept.1, kept.2, life_on g.N.Named.format g.N.Named.first c.self.inside.yard.yard c.play_joined-turn.new.yard.yard (g.D.Disk.device c.self.inside.yard.disk) (g.D.Disk.device c.play_joined-turn.new.yard.disk) c.play_joined-turn.ensures.life c.self.invariant.3)

@@ -1,13 +1,11 @@
 use Rattle.std.proofs.Common.{◌∙◌, sym, subst}
-use Rattle.lz_slot.specs.declared.format.Format.{Format}
-use Rattle.lz_board.specs.declared.view.Part.{Part}
 use Rattle.lz_board.specs.Notes.{Extends, trace_of}
 use Rattle.lz_board.specs.Kept.{Knows}
 use Rattle.lz_board.specs.Seats.{BoardId, id_of, notes, part}
 use Rattle.lz_tie.specs.OwnCalls.{TellsOwn}
-use Rattle.lz_tie.specs.Sessions.{AreOn, TellsAlone}
+use Rattle.lz_tie.specs.Sessions.{TellsAlone}
 use Rattle.lz_tie.proofs.Marks.OwnCalls.{tells_own}
-use Rattle.lz_tie.proofs.Sessions.SoleNotes.{tells_alone, format_alone}
+use Rattle.lz_tie.proofs.Sessions.SoleNotes.{tells_alone}
 use Rattle.lz_tie.proofs.locked.Locked.welcome.Goals as goal
 
 pub returns-clause-since : goal.returns-clause-since
@@ -29,11 +27,3 @@ returns-clause-alone g c =
     λ one. subst (λ v. TellsAlone b v.notes (part c.cut.new.pass)) c.self.view_is
     (subst (TellsAlone b ns) (sym (c.cut.ensures.part ∙ c.join.ensures.carried))
     (tells_alone b ns c.self.inside.yard.yard (g.D.Disk.device c.self.inside.yard.disk) c.self.invariant.1 (part c.args.pass.now) knows one (trace_of (id_of c.args.board.now).opened ns)))
-
-pub returns-clause-format : goal.returns-clause-format
-returns-clause-format g c =
-    let b = g.N.Named.board in
-    let ns = notes c.self.inside.pen in
-    let knows = subst (λ (b : BoardId). Knows b.sizes b.opened ns (part c.args.pass.now)) c.requires.board c.join.ensures.knows in
-    subst (λ (x : Format × Part). AreOn x.0 x.1.steps) (λ i. (c.self.invariant.3.format i, sym (c.cut.ensures.part ∙ c.join.ensures.carried) i))
-    (format_alone b ns c.self.inside.yard.yard (g.D.Disk.device c.self.inside.yard.disk) c.self.invariant.1 (part c.args.pass.now) knows)

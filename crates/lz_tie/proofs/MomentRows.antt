@@ -1,0 +1,115 @@
+-- Worked rows of what a late crash may leave: not a text that lacks what an answered call did.
+use Rattle.std.proofs.Common.{◌≡◌, ⊎_elim, ℕ, true, List, [], ◌∷◌, ◌++◌, Some, None, refl, sym, ap, ◌∙◌, subst, append_assoc, arith}
+use mathlib.Core.Bool.{false≢true}
+use Rattle.std.proofs.lemmas.List.{append_cancel_right}
+use Rattle.lz_slot.specs.declared.command.Command.TheVariants.{Add, Has}
+use Rattle.lz_slot.specs.declared.format.Format.TheVariants.{Two}
+use Rattle.lz_slot.specs.declared.history.Mark.TheVariants.{Call, Answer as answer}
+use Rattle.lz_slot.specs.Bytes.{Holds}
+use Rattle.lz_slot.specs.Histories.{History, Fits}
+use Rattle.lz_slot.specs.Sets.{Keys}
+use Rattle.lz_list.specs.declared.publishing.Change.TheVariants.{Added as as_added}
+use Rattle.lz_list.specs.declared.publishing.Publishing.TheVariants.{Linked as linked, Settled as settled, KeyPrepared as key_prepared, LinkPrepared as link_prepared}
+use Rattle.lz_list.specs.declared.word.Word.TheVariants.{Head, Halt}
+use Rattle.lz_list.specs.declared.place.Place.TheVariants.{Bucket}
+use Rattle.lz_list.specs.Traces.{Trace}
+use Rattle.lz_machine.specs.declared.event.Event.TheVariants.{Pin, Reserve, WriteKey, Sync, Claim, Check, WriteOpen, Link, Release, Settle, Answer}
+use Rattle.lz_machine.specs.declared.event.Outcome.TheVariants.{Done, Slot, Taken, True}
+use Rattle.lz_machine.specs.Alone.{IsPlain}
+use Rattle.lz_machine.proofs.Alone.Service.{served, served_open}
+use Rattle.lz_machine.proofs.Open.FirstPoint.{one_set}
+use Rattle.lz_board.specs.declared.view.Note.{Note}
+use Rattle.lz_board.specs.declared.view.Sizes.{Sizes}
+use Rattle.lz_board.specs.declared.view.What.TheVariants.{Called, Played}
+use Rattle.lz_board.specs.Notes.{note_by, load_note, shape_of}
+use Rattle.lz_board.specs.Seats.{BoardId}
+use Rattle.lz_tie.specs.Holds.{no_board}
+use Rattle.lz_tie.specs.Marks.{marks_in}
+use Rattle.lz_tie.specs.Moments.{GrowsTo, ExplainsFrom}
+use Rattle.lz_tie.specs.RunningSets.{members_of}
+
+abbrev sizes : Sizes
+sizes = record { slots = 1; buckets = 1; passes = 1 }
+
+-- the life began with no member
+abbrev board : BoardId
+board = record { table = no_board.table; sizes = sizes; opened = [] }
+
+-- pass 1 has added 12, and was answered
+abbrev added : List Note
+added =
+    note_by 1 (Played Answer Done) None
+    ∷ note_by 1 (Played (Settle 0) Done) (Some (settled 0 as_added)) ∷ note_by 1 (Played (Sync 0) Done) None
+    ∷ note_by 1 (Played Release Done) None ∷ note_by 1 (Played Link Done) (Some (linked 12 0 1))
+    ∷ note_by 1 (Played WriteOpen Done) (Some (link_prepared 0 0)) ∷ note_by 1 (Played Check True) None
+    ∷ note_by 1 (Played (Claim (Bucket 0) None) Taken) None ∷ load_note 1 (record { word = Head 0; value = 0; at = 1 })
+    ∷ note_by 1 (Played (Sync 0) Done) None ∷ note_by 1 (Played (WriteKey 12) Done) (Some (key_prepared 0 12))
+    ∷ note_by 1 (Played Reserve (Slot 0)) None ∷ load_note 1 (record { word = Head 0; value = 0; at = 0 })
+    ∷ load_note 1 (record { word = Halt; value = 0; at = 0 }) ∷ note_by 1 (Played Pin Done) None
+    ∷ note_by 1 (Called (Add 12) Two) None ∷ []
+
+-- and has made another call since
+abbrev later : List Note
+later = note_by 1 (Called (Has 12) Two) None ∷ added
+
+abbrev answered : History
+answered = answer 1 true ∷ Call 1 1 (Add 12) ∷ []
+
+shown : marks_in (shape_of sizes) later ≡ Call 2 1 (Has 12) ∷ answered
+shown = refl
+
+-- earlier notes don't show what later ones do
+not_back : GrowsTo board later added → ⊥
+not_back h = go h.new (append_cancel_right (h.new ++ Call 2 1 (Has 12) ∷ []) [] answered (append_assoc h.new (Call 2 1 (Has 12) ∷ []) answered ∙ sym h.shows))
+  where
+    go : (new : History) → new ++ Call 2 1 (Has 12) ∷ [] ≡ [] → ⊥
+    go [] is = absurd cc
+    go (m ∷ new) is = absurd cc
+
+-- nor do notes in which something isn't that was published
+not_unlinked : GrowsTo board (note_by 1 (Played Link Done) (Some (linked 12 0 1)) ∷ []) [] → ⊥
+not_unlinked h = go h.trace.0 h.trace.1
+  where
+    go : (more : Trace) → [] ≡ more ++ linked 12 0 1 ∷ [] → ⊥
+    go [] is = absurd cc
+    go (e ∷ more) is = absurd cc
+
+abbrev S0 : Keys
+S0 = members_of board.opened
+
+-- a list of calls that fits the history has the answered one in it
+has_answered : (L : List ℕ) (T : Keys) → Fits S0 answered L T → T 12 ≡ true
+has_answered L T fits = plain (served 2 answered S0 L T (refl, omega arith, tt) refl fits)
+  where
+    plain : IsPlain S0 answered T → T 12 ≡ true
+    plain h = sym (h.2.3 12)
+
+-- so does one of the later history, in which another call is under way
+has_still : (L : List ℕ) (T : Keys) → Fits S0 (Call 2 1 (Has 12) ∷ answered) L T → T 12 ≡ true
+has_still L T fits = ⊎_elim (λ h. sym (h.2.3 12)) (λ h. sym (h.1.2 12) ∙ sym (h.1.1.2.3 12)) (served_open 2 1 (Has 12) answered S0 L T (refl, omega arith, tt) refl fits)
+
+-- what a crash leaves once the call was answered has 12
+stays : (t : List ℕ) (e : ExplainsFrom board added later t) → e.explains.found 12 ≡ true
+stays t e = go e.from.new e.upto.new e.from.shows (append_cancel_right (e.upto.new ++ e.from.new) (Call 2 1 (Has 12) ∷ []) answered (append_assoc e.upto.new e.from.new answered ∙ sym (e.upto.shows ∙ ap (λ M. e.upto.new ++ M) e.from.shows)))
+  where
+    marks : History
+    marks = marks_in (shape_of sizes) e.then
+
+    of : (M : History) → marks ≡ M → Fits S0 M e.explains.calls e.explains.found
+    of M is = subst (λ M. Fits S0 M e.explains.calls e.explains.found) is e.explains.fits
+
+    go : (x y : History) → marks ≡ x ++ answered → y ++ x ≡ Call 2 1 (Has 12) ∷ [] → e.explains.found 12 ≡ true
+    go [] y is all = has_answered e.explains.calls e.explains.found (of answered is)
+    go (m ∷ x) [] is all = has_still e.explains.calls e.explains.found (of (Call 2 1 (Has 12) ∷ answered) (is ∙ ap (λ M. M ++ answered) all))
+    go (m ∷ x) (n ∷ y) is all = absurd (none y (tail all))
+      where
+        tail : n ∷ y ++ m ∷ x ≡ Call 2 1 (Has 12) ∷ [] → y ++ m ∷ x ≡ []
+        tail same = cc
+
+        none : (y : History) → y ++ m ∷ x ≡ [] → ⊥
+        none [] same = absurd cc
+        none (k ∷ y) same = absurd cc
+
+-- a text that holds the empty set, which the life's beginning explains, is none that it explains from then on
+not_lost : (t : List ℕ) → ExplainsFrom board added later t → Holds t 1 S0 → ⊥
+not_lost t e empty = false≢true (one_set t 1 S0 e.explains.found empty e.explains.holds 12 ∙ stays t e)
