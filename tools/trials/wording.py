@@ -40,11 +40,13 @@ RENEWALS: Tuple[Tuple[bytes, Optional[bytes], str, str, str], ...] = (
     (RENEWED, RENEWED, "2", "refused new 1", "it is a set already"),
     (RENEWED, None, "0", "refused new 2", "a file has 1 to 65536 slots"),
     (RENEWED, b"", "1", "refused 9 2 1", "so many keys have no room in so many slots"),
+    (RENEWED, None, "1", "refused 9 2 1", "so many keys have no room in so many slots"),
+    (b"", None, "2", "refused old 1", "it isn't a set: never made, or its head is damaged"),
 )
 
 
 def try_refusals(program: Program, folder: str) -> None:
-    """Each refusal has its words. A making that is refused for its number of slots leaves no file where none was."""
+    """Each refusal has its words, and leaves no file where there was none."""
     file, new = os.path.join(folder, "file"), os.path.join(folder, "new")
 
     def expect_words(line: str, why: str, *words: str) -> None:
