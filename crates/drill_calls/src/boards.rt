@@ -1,10 +1,13 @@
 //! A new board.
-ghost use Rattle.std.specs.Prelude.{All, IfOk};
+ghost use Rattle.std.specs.Prelude.{◌<◌, ◌^◌, All, IfOk};
+ghost use Rattle.lz_board.specs.Addresses.{words_count};
+ghost use Rattle.lz_board.specs.Opened.{sizes_in, IsOpened};
 ghost use Rattle.drill_calls.specs.Looks.{MayLook};
 
 use crate::fault::Fault;
 use crate::file::disk;
 use lz_board::{Board, Glance, Pass};
+use lz_list::Words;
 use lz_slot::Key;
 use lz_yard::Yard;
 use std::alloc::AllocError;
@@ -28,11 +31,27 @@ fn open_board<R: Print + AllocGlobal>(rt: &R) -> Result<(Board, Vec<Pass>), Faul
     let Ok(yard) = Yard::open(rt.alloc(), disk(rt.alloc())?, 1, 2) else {
         return Err(Fault::Unready(AllocError));
     };
-    if let Some((board, _pen, passes)) = Board::new(rt.alloc(), yard.words()) {
-        return Ok((board, passes));
+    board_over(rt, yard.words())
+}
+
+fn board_over<R: Print + AllocGlobal>(rt: &R, words: &Words) -> Result<(Board, Vec<Pass>), Fault>
+    requires room { words_count (sizes_in words.now) < 2 ^ 32 }
+    requires opened { IsOpened words.now }
+    ensures { IfOk result (λ r. All (MayLook r.0) r.1.items) }
+{
+    match Board::new(rt.alloc(), words) {
+        Some((board, _pen, passes)) => Ok((board, passes)),
+        None => board_again(rt, words),
     }
+}
+
+fn board_again<R: Print + AllocGlobal>(rt: &R, words: &Words) -> Result<(Board, Vec<Pass>), Fault>
+    requires room { words_count (sizes_in words.now) < 2 ^ 32 }
+    requires opened { IsOpened words.now }
+    ensures { IfOk result (λ r. All (MayLook r.0) r.1.items) }
+{
     println!(rt; "again Board::new")?;
-    match Board::new(rt.alloc(), yard.words()) {
+    match Board::new(rt.alloc(), words) {
         Some((board, _pen, passes)) => Ok((board, passes)),
         None => Err(Fault::Wrong),
     }

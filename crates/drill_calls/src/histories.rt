@@ -14,35 +14,46 @@ pub fn drill<R: Print + AllocGlobal>(rt: &R) -> Result<(), Fault> {
     println!(rt; "judge:")?;
     for text in HISTORIES {
         let history = read(rt, text)?;
-        let verdict = match judge(rt.alloc(), &history) {
-            Ok(verdict) => verdict,
-            Err(AllocError) => {
-                println!(rt; "again judge")?;
-                let Ok(verdict) = judge(rt.alloc(), &history) else {
-                    return Err(Fault::Wrong);
-                };
-                verdict
-            }
-        };
+        let verdict = verdict_on(rt, &history)?;
         tell(rt, verdict)?;
     }
     Ok(())
 }
 
 fn read<R: Print + AllocGlobal>(rt: &R, text: &[u8]) -> Result<History, Fault> {
-    let read = match History::read(rt.alloc(), text) {
-        Ok(read) => read,
-        Err(AllocError) => {
-            println!(rt; "again History::read")?;
-            let Ok(read) = History::read(rt.alloc(), text) else {
-                return Err(Fault::Wrong);
-            };
-            read
-        }
-    };
-    match read {
-        Ok(history) => Ok(history),
-        Err(_) => Err(Fault::Wrong),
+    match History::read(rt.alloc(), text) {
+        Ok(Ok(history)) => Ok(history),
+        Ok(Err(_)) => Err(Fault::Wrong),
+        Err(AllocError) => read_again(rt, text),
+    }
+}
+
+fn read_again<R: Print + AllocGlobal>(rt: &R, text: &[u8]) -> Result<History, Fault> {
+    println!(rt; "again History::read")?;
+    match History::read(rt.alloc(), text) {
+        Ok(Ok(history)) => Ok(history),
+        _ => Err(Fault::Wrong),
+    }
+}
+
+fn verdict_on<R: Print + AllocGlobal>(
+    rt: &R,
+    history: &History,
+) -> Result<Result<(), Flaw>, Fault> {
+    match judge(rt.alloc(), history) {
+        Ok(verdict) => Ok(verdict),
+        Err(AllocError) => judge_again(rt, history),
+    }
+}
+
+fn judge_again<R: Print + AllocGlobal>(
+    rt: &R,
+    history: &History,
+) -> Result<Result<(), Flaw>, Fault> {
+    println!(rt; "again judge")?;
+    match judge(rt.alloc(), history) {
+        Ok(verdict) => Ok(verdict),
+        Err(AllocError) => Err(Fault::Wrong),
     }
 }
 

@@ -16,16 +16,7 @@ pub fn drill<R: Print + AllocGlobal>(rt: &R) -> Result<(), Fault> {
     let mut lines = Lines::new(rt.alloc());
     println!(rt; "Lines::feed:")?;
     for piece in PIECES {
-        let items = match lines.feed(piece) {
-            Ok(items) => items,
-            Err(AllocError) => {
-                println!(rt; "again Lines::feed")?;
-                let Ok(items) = lines.feed(piece) else {
-                    return Err(Fault::Wrong);
-                };
-                items
-            }
-        };
+        let items = feed(rt, &mut lines, piece)?;
         for item in items.iter() {
             tell(rt, *item)?;
         }
@@ -33,6 +24,17 @@ pub fn drill<R: Print + AllocGlobal>(rt: &R) -> Result<(), Fault> {
     match lines.end() {
         None => Ok(()),
         Some(_) => Err(Fault::Wrong),
+    }
+}
+
+fn feed<R: Print>(rt: &R, lines: &mut Lines, piece: &[u8]) -> Result<Vec<Item>, Fault> {
+    if let Ok(items) = lines.feed(piece) {
+        return Ok(items);
+    }
+    println!(rt; "again Lines::feed")?;
+    match lines.feed(piece) {
+        Ok(items) => Ok(items),
+        Err(AllocError) => Err(Fault::Wrong),
     }
 }
 

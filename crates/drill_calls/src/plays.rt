@@ -34,9 +34,18 @@ pub fn drill<R: Print + AllocGlobal>(rt: &R) -> Result<(), Fault> {
 // Plays on a new world. Whether no play was refused; one that was has to leave the world sound.
 fn play_new(alloc: Global, nine: Key, marks: &mut Vec<Mark>) -> Result<bool, Fault> {
     let mut world = World::new(alloc, 2, 1, Format::Two)?;
-    match play_all(alloc, &mut world, nine, marks)? {
+    play_on(alloc, &mut world, nine, marks)
+}
+
+fn play_on(
+    alloc: Global,
+    world: &mut World,
+    nine: Key,
+    marks: &mut Vec<Mark>,
+) -> Result<bool, Fault> {
+    match play_all(alloc, world, nine, marks)? {
         None => Ok(true),
-        Some(refused) if is_sound(alloc, &mut world, nine, refused)? => Ok(false),
+        Some(refused) if is_sound(alloc, world, nine, refused)? => Ok(false),
         Some(_) => Err(Fault::Wrong),
     }
 }
@@ -48,19 +57,38 @@ fn play_all(
     nine: Key,
     marks: &mut Vec<Mark>,
 ) -> Result<Option<Refused>, Fault> {
-    let plays: [(&[Step], bool); 5] = [
-        (&[Step::Call(1, Command::Add(nine))], false),
-        (&[Step::Turn(1); 15], false),
-        (&[Step::Crash(Pick::Old), Step::Open], true),
-        (&[Step::Call(64, Command::Has(nine))], true),
-        (&[Step::Turn(64); 6], true),
-    ];
-    for (steps, is_added) in plays {
-        if !play(alloc, world, steps, marks)? {
-            return Ok(Some(Refused { is_added }));
-        }
+    if !play_addition(alloc, world, nine, marks)? {
+        return Ok(Some(Refused { is_added: false }));
+    }
+    if !play_look(alloc, world, nine, marks)? {
+        return Ok(Some(Refused { is_added: true }));
     }
     Ok(None)
+}
+
+// Plays an addition. Whether there was memory for it.
+fn play_addition(
+    alloc: Global,
+    world: &mut World,
+    nine: Key,
+    marks: &mut Vec<Mark>,
+) -> Result<bool, Fault> {
+    let call = [Step::Call(1, Command::Add(nine))];
+    Ok(play(alloc, world, &call, marks)? && play(alloc, world, &[Step::Turn(1); 15], marks)?)
+}
+
+// Plays a crash and an open, and a look-up. Whether there was memory for it.
+fn play_look(
+    alloc: Global,
+    world: &mut World,
+    nine: Key,
+    marks: &mut Vec<Mark>,
+) -> Result<bool, Fault> {
+    if !play(alloc, world, &[Step::Crash(Pick::Old), Step::Open], marks)? {
+        return Ok(false);
+    }
+    let call = [Step::Call(64, Command::Has(nine))];
+    Ok(play(alloc, world, &call, marks)? && play(alloc, world, &[Step::Turn(64); 6], marks)?)
 }
 
 // Plays steps. Whether there was memory for it.
@@ -70,27 +98,35 @@ fn play(
     steps: &[Step],
     marks: &mut Vec<Mark>,
 ) -> Result<bool, Fault> {
-    match world.play(alloc, steps) {
-        Ok(played) => {
-            for mark in played {
-                if marks.push(mark).is_err() {
-                    return Err(Fault::Unready(AllocError));
-                }
-            }
-            Ok(true)
-        }
+    match marks_of(alloc, world, steps) {
+        Ok(played) => keep(marks, played),
         Err(PlayFault::Memory) => Ok(false),
         Err(PlayFault::NotNow(_)) => Err(Fault::Wrong),
     }
 }
 
+// The marks of a play. Nothing of what a play promises is asked here.
+fn marks_of(alloc: Global, world: &mut World, steps: &[Step]) -> Result<Vec<Mark>, PlayFault> {
+    world.play(alloc, steps)
+}
+
+// Keeps what a play told. There was memory for it.
+fn keep(marks: &mut Vec<Mark>, played: Vec<Mark>) -> Result<bool, Fault> {
+    for mark in played {
+        if marks.push(mark).is_err() {
+            return Err(Fault::Unready(AllocError));
+        }
+    }
+    Ok(true)
+}
+
 // Whether the world is as after some of its steps: stopped and opened again it has the key, or no key where that wasn't
 // surely added.
 fn is_sound(alloc: Global, world: &mut World, nine: Key, refused: Refused) -> Result<bool, Fault> {
-    if world.is_open() && world.play(alloc, &[Step::Stop]).is_err() {
+    if world.is_open() && marks_of(alloc, world, &[Step::Stop]).is_err() {
         return Ok(false);
     }
-    if world.play(alloc, &[Step::Open]).is_err() {
+    if marks_of(alloc, world, &[Step::Open]).is_err() {
         return Ok(false);
     }
     let members = world.members(alloc)?;

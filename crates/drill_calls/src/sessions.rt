@@ -1,13 +1,15 @@
 //! A session over one pass of a set.
+ghost use Rattle.std.specs.Prelude.{All};
 ghost use Rattle.lz_disk.specs.Records.{device_of};
 ghost use Rattle.lz_set.specs.Blanks.{MayBeNamed};
+ghost use Rattle.lz_set.specs.Names.{MayCall};
 
 use crate::fault::Fault;
-use crate::sets::open;
+use crate::sets::{last_pass, open};
 use lz_disk::MemoryDisk;
-use lz_proto::{End, SessionFault, session};
+use lz_proto::{End, Service, SessionFault, session};
 use lz_serve::Seated;
-use lz_set::{Blank, Named, NoGate};
+use lz_set::{Blank, Named, NoGate, Pass, Set};
 use std::io;
 use std::io::{ErrorKind, Read, Write};
 use std::marker::Brand;
@@ -89,31 +91,58 @@ fn talk<N: Named, R: Print + AllocGlobal + Wait>(
 ) -> Result<(), Fault>
     requires { MayBeNamed device_of N.board N.first N.format blank }
 {
-    let (set, mut passes) = blank.start::<N>();
-    let Some(pass) = passes.pop() else {
+    let (set, passes) = blank.start::<N>();
+    converse(rt, &set, passes)
+}
+
+fn converse<N: Named, R: Print + AllocGlobal + Wait>(
+    rt: &R,
+    set: &Set<MemoryDisk, NoGate, N>,
+    passes: Vec<Pass>,
+) -> Result<(), Fault>
+    requires { All (MayCall N.board) passes.items }
+{
+    let mut passes = passes;
+    let Some(pass) = last_pass::<N>(&mut passes) else {
         return Err(Fault::Wrong);
     };
-    let mut seated = Seated::new(rt, &set, pass);
-    let mut pieces = Pieces { given: 0 };
+    let mut seated = Seated::new(rt, set, pass);
     let mut told = Told {
         bytes: [0; 64],
         count: 0,
     };
-    let ended = match session(rt.alloc(), &mut pieces, &mut told, &mut seated) {
-        Err(SessionFault::Memory) => {
-            if !go_back(&mut pieces, &told) {
-                return Err(Fault::Wrong);
-            }
-            println!(rt; "again session")?;
-            session(rt.alloc(), &mut pieces, &mut told, &mut seated)
-        }
-        ended => ended,
-    };
-    if !matches!(ended, Ok(End::Quit)) || !told.is(Some(REPLIES.as_bytes())) {
+    if !quits(rt, &mut told, &mut seated)? || !told.is(Some(REPLIES.as_bytes())) {
         return Err(Fault::Wrong);
     }
     print!(rt; "session:\n{REPLIES}")?;
     Ok(())
+}
+
+// Whether the session ends by its `quit`.
+fn quits<R: Print + AllocGlobal, S: Service>(
+    rt: &R,
+    told: &mut Told,
+    service: &mut S,
+) -> Result<bool, Fault> {
+    let mut pieces = Pieces { given: 0 };
+    match session(rt.alloc(), &mut pieces, told, service) {
+        Err(SessionFault::Memory) => quits_again(rt, &mut pieces, told, service),
+        ended => Ok(matches!(ended, Ok(End::Quit))),
+    }
+}
+
+fn quits_again<R: Print + AllocGlobal, S: Service>(
+    rt: &R,
+    pieces: &mut Pieces,
+    told: &mut Told,
+    service: &mut S,
+) -> Result<bool, Fault> {
+    if !go_back(pieces, told) {
+        return Err(Fault::Wrong);
+    }
+    println!(rt; "again session")?;
+    let ended = session(rt.alloc(), pieces, told, service);
+    Ok(matches!(ended, Ok(End::Quit)))
 }
 
 // Gives the last piece again. Whether those before it were answered, and it wasn't.

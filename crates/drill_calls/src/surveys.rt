@@ -13,24 +13,28 @@ const DAMAGED: [u8; 80] = [
 ];
 
 pub fn drill<R: Print + AllocGlobal>(rt: &R) -> Result<(), Fault> {
-    let found = match survey(rt.alloc(), &DAMAGED) {
-        Ok(found) => found,
-        Err(AllocError) => {
-            println!(rt; "again survey")?;
-            let Ok(found) = survey(rt.alloc(), &DAMAGED) else {
-                return Err(Fault::Wrong);
-            };
-            found
-        }
-    };
-    let Survey::Found(findings) = found else {
-        return Err(Fault::Wrong);
-    };
+    let findings = find(rt)?;
     println!(rt; "survey:")?;
     for finding in findings.iter() {
         tell(rt, *finding)?;
     }
     Ok(())
+}
+
+fn find<R: Print + AllocGlobal>(rt: &R) -> Result<Vec<Finding>, Fault> {
+    match survey(rt.alloc(), &DAMAGED) {
+        Ok(Survey::Found(findings)) => Ok(findings),
+        Ok(_) => Err(Fault::Wrong),
+        Err(AllocError) => find_again(rt),
+    }
+}
+
+fn find_again<R: Print + AllocGlobal>(rt: &R) -> Result<Vec<Finding>, Fault> {
+    println!(rt; "again survey")?;
+    match survey(rt.alloc(), &DAMAGED) {
+        Ok(Survey::Found(findings)) => Ok(findings),
+        _ => Err(Fault::Wrong),
+    }
 }
 
 fn tell<R: Print>(rt: &R, finding: Finding) -> Result<(), Fault> {

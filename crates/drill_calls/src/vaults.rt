@@ -6,10 +6,18 @@ use lz_slot::Slot;
 use lz_vault::{Refused, Vault};
 
 pub fn drill<R: Print + AllocGlobal>(rt: &R) -> Result<(), Fault> {
-    let vault = match Vault::open(rt.alloc(), disk(rt.alloc())?) {
-        Ok(vault) => vault,
-        Err(refused) => open_again(rt, refused)?,
-    };
+    let vault = open(rt)?;
+    tell(rt, &vault)
+}
+
+fn open<R: Print + AllocGlobal>(rt: &R) -> Result<Vault<MemoryDisk>, Fault> {
+    match Vault::open(rt.alloc(), disk(rt.alloc())?) {
+        Ok(vault) => Ok(vault),
+        Err(refused) => open_again(rt, refused),
+    }
+}
+
+fn tell<R: Print>(rt: &R, vault: &Vault<MemoryDisk>) -> Result<(), Fault> {
     println!(rt; "Vault::open: {} slots", vault.slots())?;
     for index in 0..vault.slots() {
         if let Some(key) = vault.key_at(Slot::new(index as u16)) {
