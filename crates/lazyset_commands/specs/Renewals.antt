@@ -1,8 +1,9 @@
 -- What a renewal tells.
-use Rattle.std.specs.Prelude.{◌↔◌, ◌++◌, ◌∷◌, [], ℕ, IfErr, IfOk, IsErrOf, List, Result, Ok, Err, codes, decimal}
+use Rattle.std.specs.Prelude.{◌≡◌, ◌↔◌, ◌+◌, ◌++◌, ◌∷◌, [], ℕ, IfErr, IfOk, IsErrOf, IsTrue, OnOk, List, Result, Ok, Err, codes, decimal}
 use Rattle.lz_disk.specs.Devices.{Device}
 use Rattle.lz_vault.specs.Makes.{IsBadCount, make_fault_number}
 use Rattle.lz_vault.specs.Opens.{open_fault_number}
+use Rattle.lz_vault.specs.Scans.{calls_of_reading}
 use Rattle.lz_vault.specs.Renewals.{IsRenewFaultOf, Renews}
 use Rattle.lz_vault.specs.declared.making.MakeFault.TheVariants as making
 use Rattle.lz_vault.specs.declared.opening.OpenFault.{OpenFault}
@@ -45,3 +46,4 @@ pub record IsRenewal (old old_after new new_after : Device) (n : ℕ) (answer : 
   pub renewed : IfOk answer (Renews old new new_after n)
   pub refused : IfErr answer (IsRenewFaultOf old old_after new new_after n)
   pub count : IsErrOf answer (New making.BadCount) ↔ IsBadCount n
+  pub read : IsTrue old.honest → OnOk answer (old_after.calls ≡ old.calls + calls_of_reading old.medium.seen)

@@ -6,6 +6,7 @@ ghost use Rattle.lz_disk.specs.Images.{IsImage, synced};
 ghost use Rattle.lz_disk.specs.Devices.{LeavesOnly};
 ghost use Rattle.lz_vault.specs.Opens.{IsRefusedFor};
 ghost use Rattle.lz_vault.specs.Makes.{IsBadCount, IsUnmadeOrHolds, MayBeMade, MayBeMembers, WritesNothing, calls_of_making};
+ghost use Rattle.lz_vault.specs.Scans.{calls_of_reading};
 ghost use Rattle.lz_vault.specs.Renewals.{AreHeldBy, IsRenewFaultOf, IsToldFirst, OnlySyncs, Renews, renew_fault_number};
 
 use crate::making::{MakeFault, make_with};
@@ -56,7 +57,8 @@ pub fn renew<O: Disk, N: Disk>(
     ensures untouched { IfErr result (λ fault. IsToldFirst fault → new.new ≡ new.old) }
     ensures calls { IsTrue (N.device new.old).honest → OnOk result ((N.device new.new).calls ≡ (N.device new.old).calls + calls_of_making (N.device new.old).medium.seen n) }
 
-    // The old file is read, and what is read of it is made sure.
+    // The old file is read, and what is read of it is made sure; it is called for nothing else.
+    ensures old_calls { IsTrue (O.device old.old).honest → OnOk result ((O.device old.new).calls ≡ (O.device old.old).calls + calls_of_reading (O.device old.old).medium.seen) }
     ensures reads { OnlySyncs (O.device old.old) (O.device old.new) }
     ensures sure { IsTrue (O.device old.old).honest → OnOk result ((O.device old.new).medium ≡ synced (O.device old.old).medium) }
 
@@ -95,6 +97,7 @@ fn read_members<D: Disk>(alloc: Global, disk: &mut D) -> Result<Vec<Key>, OpenFa
     ensures held { IsTrue (D.device disk.old).honest → IfOk result (λ keys. AreHeldBy (D.device disk.old).medium.seen keys.items) }
     ensures members { IfOk result (λ keys. MayBeMembers Format.Two (length keys.items) keys.items) }
     ensures err { IfErr result (IsRefusedFor (D.device disk.old) (D.device disk.new)) }
+    ensures calls { IsTrue (D.device disk.old).honest → OnOk result ((D.device disk.new).calls ≡ (D.device disk.old).calls + calls_of_reading (D.device disk.old).medium.seen) }
 {
     let scan = scan_file(alloc, disk)?;
     match scan.keys(alloc) {
