@@ -8,3 +8,4 @@ pub mod Runs
 pub mod Services
 pub mod Verdicts
 pub mod RunRows
+pub mod CompareRows

@@ -1,7 +1,7 @@
 -- What a service leaves whose passes were handed back.
 use Rattle.std.proofs.Common.{◌≡◌, ◌⊎◌, inl, inr, ⊎_elim, All, Bool, true, false, ℕ, ◌+◌, ◌<◌, ◌≤◌, zero, suc, List, [], ◌∷◌, length, map, refl, sym, ap, ◌∙◌, subst, arith}
 use Rattle.std.proofs.lemmas.List.{get_or-map, length-map}
-use Rattle.std.proofs.lemmas.List.Elements.{All-cons, All-from_recursion, All-nil, All-tail}
+use Rattle.std.proofs.lemmas.List.Elements.{All-from_recursion, All-map}
 use Rattle.std.specs.List.{Any}
 use Rattle.lz_disk.specs.Devices.{Device}
 use Rattle.lz_vault.specs.Vaults.{last_sync}
@@ -28,11 +28,6 @@ length_parts z opened (suc n) p = ap (λ (k : ℕ). suc k) (length_parts z opene
 pub all_new : (b : BoardId) (ps : List Pass) → AreNew b ps → length ps ≡ b.sizes.passes
 all_new b ps new = sym (length-map ps (λ p. part p)) ∙ (ap (λ (l : List Part). length l) new.parts ∙ length_parts b.sizes b.opened b.sizes.passes 1)
 
--- what holds of each pass's part holds of all parts
-all_parts : (P : Part → Type 0) (ps : List Pass) → All (λ p. P (part p)) ps → All P (map (λ p. part p) ps)
-all_parts P [] all = All-nil P
-all_parts P (p ∷ ps) all = All-cons P (part p) (map (λ p. part p) ps) (all 0 p (omega arith)) (all_parts P ps (All-tail (λ p. P (part p)) p ps all))
-
 -- a new pass has made no call
 pub new_calm : (b : BoardId) (ps : List Pass) → AreNew b ps → All (λ p. IsCalm (part p)) ps
 new_calm b ps new = λ k d low. subst IsCalm (sym (new.new k d low).1) (All-from_recursion (λ call. was_cut call.1 ≡ false) [] tt)
@@ -56,7 +51,7 @@ module _ (b : BoardId) (first disk : Device) (ps : List Pass) (met : List Part) 
         ended = map (λ p. part p) ps;
         met = met;
         left = left;
-        whole = λ is. let none = (done is).1 in (omega (arith, long, count, none), all_parts IsCalm ps (calm (done is).0));
+        whole = λ is. let none = (done is).1 in (omega (arith, long, count, none), All-map IsCalm (λ p. part p) ps (calm (done is).0));
         failed = λ is. ⊎_elim (λ h. inr (halt_left (seen h))) (λ some. inl (omega (arith, long, count, some))) (failed is);
         other = other;
       }

@@ -52,7 +52,7 @@ module _ (b : BoardId) (F : Format) where
   items_halt (Asks Quit ∷ items) [] old new served halts = absurd (cc)
   items_halt (Asks Quit ∷ items) (reply ∷ replies) old new served halts = absurd served
   items_halt (Asks request ∷ items) [] old new served halts = absurd served
-  items_halt (Asks request ∷ items) (Halted ∷ replies) old new served halts = answer_word F served.0.c served.0.answer (part old) (part new) served.0.told served.0.call
+  items_halt (Asks request ∷ items) (Halted ∷ replies) old new served halts = answer_word F served.0.c served.0.answer (part served.0.middle) (part new) served.0.told served.0.last.call
   items_halt (Asks request ∷ items) (reply ∷ replies) old new served halts = items_halt items replies served.0 new served.2 halts
 
   -- so has the pass at the end of a session that halted

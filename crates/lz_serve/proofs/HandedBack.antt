@@ -1,9 +1,12 @@
 -- Passes that threads hand back, one after the other.
-use Rattle.std.proofs.Common.{◌≡◌, ◌⊎◌, ⊎_elim, Bool, true, All, List, [], ◌∷◌, ◌++◌, sym, ◌∙◌, subst, arith}
+use Rattle.std.proofs.Common.{◌≡◌, ◌⊎◌, ⊎_elim, Bool, true, All, ℕ, ◌<◌, List, [], ◌∷◌, ◌++◌, map, sym, ◌∙◌, subst, arith}
 use Rattle.std.specs.List.{Any}
-use Rattle.std.proofs.lemmas.List.{get_or_append_left, length-append}
+use Rattle.std.proofs.lemmas.List.{get_or-map, get_or_append_left, length-append, length-map}
 use Rattle.std.proofs.lemmas.List.Elements.{All-append}
 use Rattle.std.proofs.lemmas.List.Quantifiers.{Any-push}
+use Rattle.lz_board.specs.declared.pass.Pass.{Pass}
+use Rattle.lz_board.specs.declared.view.Part.{Part}
+use Rattle.lz_board.specs.Seats.{part}
 
 module _ {X : Type 0} (P : X → Type 0) (xs ys : List X) (x : X) (pushed : ys ≡ xs ++ x ∷ []) where
   -- what holds of each still does
@@ -19,3 +22,7 @@ module _ {X : Type 0} (P : X → Type 0) (xs ys : List X) (x : X) (pushed : ys �
   pub one_back : (was found now : Bool) → (was ≡ true → Any P xs) → (found ≡ true → P x) → now ≡ true → (now ≡ true → (was ≡ true) ⊎ (found ≡ true)) → Any P ys
   one_back was found now before last is or =
       subst (Any P) (sym pushed) (⊎_elim (λ w. here_or_before (before w)) (λ f. Any-push P xs x (last f)) (or is))
+
+-- what holds of all parts holds of each pass's
+pub each_part : (P : Part → Type 0) (ps : List Pass) → All P (map (λ p. part p) ps) → All (λ p. P (part p)) ps
+each_part P ps all = λ k d low. subst P (get_or-map (λ p. part p) ps k d (part d) low) (all k (part d) (subst (λ (n : ℕ). k < n) (sym (length-map ps (λ p. part p))) low))

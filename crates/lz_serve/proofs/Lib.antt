@@ -4,3 +4,4 @@ pub mod Halting
 pub mod Seats
 pub mod HaltRows
 pub mod HandedBack
+pub mod ReplyRows

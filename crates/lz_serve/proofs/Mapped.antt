@@ -14,7 +14,7 @@ use Rattle.lz_proto.specs.Sessions.{Answered, CutOff, Serves, SessionTells}
 
 module _ {X Y : Type 0} (known : X → Y) (over : X → Request → Reply → X → Type 0) (answers : Y → Request → Reply → Y → Type 0)
     (implies : (old : X) (request : Request) (reply : Reply) (new : X) → over old request reply new → answers (known old) request reply (known new)) where
-  serves : (items : List Item) (replies : List Reply) (old new : X) → Serves over old items replies new → Serves answers (known old) items replies (known new)
+  pub serves : (items : List Item) (replies : List Reply) (old new : X) → Serves over old items replies new → Serves answers (known old) items replies (known new)
   serves [] [] old new served = ap known served
   serves [] (reply ∷ replies) old new served = absurd served
   serves (Faulty bad ∷ items) replies old new served = serves items replies old new served
@@ -43,7 +43,7 @@ module _ {X Y : Type 0} (known : X → Y) (over : X → Request → Reply → X 
     text = cut.text;
   }
 
-  mapped : (input after : Option (List ℕ)) (old new : X) (r : Result End SessionFault) (written : List ℕ) → SessionTells over input after old new written r → SessionTells answers input after (known old) (known new) written r
+  pub mapped : (input after : Option (List ℕ)) (old new : X) (r : Result End SessionFault) (written : List ℕ) → SessionTells over input after old new written r → SessionTells answers input after (known old) (known new) written r
   mapped input after old new (Ok ended) written tells =
       record { text = tells.text; known = tells.known; items = tells.items; its = tells.its; answered = answered old new tells.items written ended tells.answered }
   mapped input after old new (Err Read) written (text, gone, stopped) =

@@ -1,5 +1,5 @@
 -- Sessions of a seat, which remembers whether it has ever replied that the service halted.
-use Rattle.std.proofs.Common.{◌≡◌, ℕ, All, Bool, true, false, ◌||◌, List, Option, Some, Result, Ok, Err, refl, sym, ◌∙◌, subst}
+use Rattle.std.proofs.Common.{◌≡◌, ⊎_elim, ℕ, All, Bool, true, false, ◌||◌, List, Option, Some, Result, Ok, Err, refl, sym, ap, ◌∙◌, subst}
 use mathlib.Core.Bool.{true≢false}
 use Rattle.std.proofs.lemmas.List.Elements.{All-cons, All-same}
 use Rattle.lz_slot.specs.declared.command.Command.{Command}
@@ -13,7 +13,6 @@ use Rattle.lz_proto.specs.declared.fault.SessionFault.{SessionFault}
 use Rattle.lz_proto.specs.declared.end.End.{End}
 use Rattle.lz_proto.specs.Sessions.{SessionTells}
 use Rattle.lz_board.specs.declared.pass.Pass.{Pass}
-use Rattle.lz_board.specs.declared.view.Part.{Part}
 use Rattle.lz_board.specs.declared.view.Sizes.{Sizes}
 use Rattle.lz_board.specs.Notes.{shape_of}
 use Rattle.lz_board.specs.Seats.{BoardId, part}
@@ -21,13 +20,12 @@ use Rattle.lz_board.proofs.Walk.GlanceAnswer.{halt_since}
 use Rattle.lz_set.specs.declared.fault.Fault.{Fault}
 use Rattle.lz_set.specs.declared.fault.Fault.TheVariants as fault
 use Rattle.lz_set.specs.Answers.{reply_of as given_of}
-use Rattle.lz_tie.specs.Answers.{Answers}
 use Rattle.lz_tie.specs.OwnCalls.{told}
 use Rattle.lz_tie.specs.Sessions.{cuts_off}
 use Rattle.lz_tie.proofs.Marks.ToldCalls.{answers_told}
 use Rattle.lz_tie.proofs.Replies.SeenMore.{seen_more}
 use Rattle.lz_serve.specs.Halts.{IsCalm, was_cut}
-use Rattle.lz_serve.specs.Replies.{SeatAnswers, reply_of, says_halted}
+use Rattle.lz_serve.specs.Replies.{IsAnswered, SeatAnswers, reply_of, says_halted}
 use Rattle.lz_serve.proofs.Halting.{answer_word}
 use Rattle.lz_serve.proofs.Kept.{session_keeps}
 use Rattle.lz_serve.proofs.Mapped.{known_session}
@@ -43,25 +41,39 @@ uncut (Err fault.Halted) is = absurd (true≢false is)
 uncut (Err fault.Device) is = absurd (true≢false is)
 
 -- so the pass stays calm
-calm_after : (F : Format) (c : Command) (answer : Result Bool Fault) (old new : Part) → Answers F c (given_of answer) old new → new.sizes ≡ old.sizes → says_halted (reply_of answer) ≡ false → IsCalm old → IsCalm new
-calm_after F c answer old new answers sized quiet calm =
+calm_after : (b : BoardId) (F : Format) (c : Command) (answer : Result Bool Fault) (old new : Pass) → IsAnswered b F c answer old new → (part new).sizes ≡ b.sizes → says_halted (reply_of answer) ≡ false → IsCalm (part old) → IsCalm (part new)
+calm_after b F c answer old new is sized quiet calm =
     let P = λ (call : Command × Option Given). was_cut call.1 ≡ false in
-    let newest : All P (told (shape_of old.sizes) new.steps) =
-    All-same P _ _ (answers_told F c (given_of answer) old new answers) (All-cons P (c, Some (given_of answer)) (told (shape_of old.sizes) old.steps) (uncut answer quiet) calm) in
-    subst (λ (z : Sizes). All P (told (shape_of z) new.steps)) (sym sized) newest
+    let newest : All P (told (shape_of (part old).sizes) (part new).steps) =
+    All-same P _ _ (answers_told F c (given_of answer) (part old) (part new) is.call) (All-cons P (c, Some (given_of answer)) (told (shape_of (part old).sizes) (part old).steps) (uncut answer quiet) calm) in
+    subst (λ (z : Sizes). All P (told (shape_of z) (part new).steps)) (is.sized ∙ sym sized) newest
 
 module _ (b : BoardId) (F : Format) (old new : Pass) (request : Request) (r : Reply) (answers : SeatAnswers b F old request r new) where
+  -- in a set of one pass there was no other call
+  pub only_call : b.sizes.passes ≡ 1 → IsAnswered b F answers.c answers.answer old new
+  only_call one = ⊎_elim (λ at. subst (λ (p : Pass). IsAnswered b F answers.c answers.answer p new) at.0 answers.last) (λ full. absurd (full.several one)) answers.first
+
   -- a pass that has seen the halt still has after its answer
   pub saw_before : halt_word (part old).known ≡ 1 → halt_word (part new).known ≡ 1
-  saw_before seen = halt_since (part old).known (part new).known (seen_more F answers.c (given_of answers.answer) (part old) (part new) answers.call) seen
+  saw_before seen = saw_more answers.c answers.answer answers.middle new answers.last
+      (⊎_elim (λ at. subst (λ (p : Pass). halt_word (part p).known ≡ 1) (sym at.0) seen) (λ full. saw_more answers.c full.answer old answers.middle full.answered seen) answers.first)
+    where
+      saw_more : (c : Command) (answer : Result Bool Fault) (p q : Pass) → IsAnswered b F c answer p q → halt_word (part p).known ≡ 1 → halt_word (part q).known ≡ 1
+      saw_more c answer p q is = halt_since (part p).known (part q).known (seen_more F c (given_of answer) (part p) (part q) is.call)
 
   -- and so has one that was answered so
   pub saw_now : says_halted r ≡ true → halt_word (part new).known ≡ 1
   saw_now says = told_so r answers.told says
     where
       told_so : (s : Reply) → s ≡ reply_of answers.answer → says_halted s ≡ true → halt_word (part new).known ≡ 1
-      told_so reply.Halted told says = answer_word F answers.c answers.answer (part old) (part new) told answers.call
+      told_so reply.Halted told says = answer_word F answers.c answers.answer (part answers.middle) (part new) told answers.last.call
       told_so s told says = absurd (true≢false (sym says))
+
+  -- it stays calm where it wasn't
+  stays_calm : (part new).sizes ≡ b.sizes → says_halted r ≡ false → IsCalm (part old) → IsCalm (part new)
+  stays_calm sized quiet calm =
+      calm_after b F answers.c answers.answer answers.middle new answers.last sized (subst (λ (s : Reply). says_halted s ≡ false) answers.told quiet)
+      (⊎_elim (λ at. subst (λ (p : Pass). IsCalm (part p)) (sym at.0) calm) (λ full. calm_after b F answers.c full.answer old answers.middle full.answered answers.last.sized (ap says_halted full.full) calm) answers.first)
 
 pub or_true : (a b : Bool) → b ≡ true → true ≡ (a || b)
 or_true true b is = refl
@@ -91,8 +103,7 @@ module _ {X : Type 0} (pass_of : X → Pass) (halted_of : X → Bool) (b : Board
   answer_keeps : (old : X) (request : Request) (r : Reply) (new : X) → (part (pass_of new)).sizes ≡ b.sizes → seat_answers old request r new → KeepsCalm old new
   answer_keeps old request r new sized so quiet =
       let are = neither (halted_of old) (says_halted r) (sym so.1 ∙ quiet) in
-      let not_told : says_halted (reply_of so.0.answer) ≡ false = subst (λ (s : Reply). says_halted s ≡ false) so.0.told are.1 in
-      (are.0, calm_after F so.0.c so.0.answer (part (pass_of old)) (part (pass_of new)) so.0.call (sized ∙ sym so.0.sized) not_told)
+      (are.0, stays_calm b F (pass_of old) (pass_of new) request r so.0 sized are.1)
 
   -- a pass stays calm over a session after which its seat has never replied that the service halted
   pub calm_session : ((x : X) → (part (pass_of x)).sizes ≡ b.sizes) → (input after : Option (List ℕ)) (old new : X) (r : Result End SessionFault) (written : List ℕ)

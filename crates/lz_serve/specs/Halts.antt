@@ -1,5 +1,5 @@
 -- What a pass has seen of its set's end, and what its calls were told of it.
-use Rattle.std.specs.Prelude.{◌≡◌, Bool, false, All, Option, Some, None}
+use Rattle.std.specs.Prelude.{◌≡◌, Bool, false, All, List, Option, Some, None}
 use Rattle.lz_list.specs.Traces.{halt_word}
 use Rattle.lz_machine.specs.declared.event.Reply.{Reply}
 use Rattle.lz_board.specs.declared.pass.Pass.{Pass}
@@ -21,3 +21,7 @@ was_cut (Some reply) = cuts_off reply
 -- none of the calls that the pass has made was answered so
 abbrev pub IsCalm : Part → Type 0
 IsCalm h = All (λ call. was_cut call.1 ≡ false) (told (shape_of h.sizes) h.steps)
+
+-- the pass is calm where all of these were
+abbrev pub IsCalmAfter : List Part → Pass → Type 0
+IsCalmAfter given pass = All IsCalm given → IsCalm (part pass)

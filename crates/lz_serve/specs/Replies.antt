@@ -1,12 +1,12 @@
 -- What the service of one pass replies.
-use Rattle.std.specs.Prelude.{◌≡◌, Bool, true, false, Result, Ok, Err, Option, Some, None}
+use Rattle.std.specs.Prelude.{◌≡◌, ◌≢◌, ◌⊎◌, Bool, true, false, Result, Ok, Err, Option, Some, None}
 use Rattle.lz_slot.specs.declared.command.Command.{Command}
 use Rattle.lz_slot.specs.declared.format.Format.{Format}
 use Rattle.lz_slot.specs.declared.command.Command.TheVariants as command
 use Rattle.lz_proto.specs.declared.request.Request.{Request}
 use Rattle.lz_proto.specs.declared.request.Request.TheVariants.{Add, Remove, Has, Quit}
 use Rattle.lz_proto.specs.declared.reply.Reply.{Reply}
-use Rattle.lz_proto.specs.declared.reply.Reply.TheVariants as reply
+use Rattle.lz_proto.specs.declared.reply.Reply.TheVariants as said
 use Rattle.lz_set.specs.declared.fault.Fault.{Fault}
 use Rattle.lz_set.specs.declared.fault.Fault.TheVariants.{Full, Halted, Worn, Device, OldFile}
 use Rattle.lz_board.specs.declared.pass.Pass.{Pass}
@@ -17,17 +17,17 @@ use Rattle.lz_set.specs.Answers.{reply_of as reply_told}
 
 -- the reply that tells what a call answered: of a device that failed, now or before, a client is told that the service halted
 abbrev pub reply_of : Result Bool Fault → Reply
-reply_of (Ok true) = reply.Yes
-reply_of (Ok false) = reply.No
-reply_of (Err (Full counts)) = reply.Full
-reply_of (Err Worn) = reply.Worn
-reply_of (Err OldFile) = reply.OldFile
-reply_of (Err Halted) = reply.Halted
-reply_of (Err Device) = reply.Halted
+reply_of (Ok true) = said.Yes
+reply_of (Ok false) = said.No
+reply_of (Err (Full counts)) = said.Full
+reply_of (Err Worn) = said.Worn
+reply_of (Err OldFile) = said.OldFile
+reply_of (Err Halted) = said.Halted
+reply_of (Err Device) = said.Halted
 
 -- the reply tells a client that the service halted
 abbrev pub says_halted : Reply → Bool
-says_halted reply.Halted = true
+says_halted said.Halted = true
 says_halted r = false
 
 -- the command that a request asks for; `quit` asks for none
@@ -37,13 +37,27 @@ command_of (Remove k) = Some (command.Remove k)
 command_of (Has k) = Some (command.Has k)
 command_of Quit = None
 
--- The reply tells the answer of one call of the pass, which is that of the request: the pass has what the table of answers
--- promises it, and it is a part of this board. In a set of one pass the answer is the plain set's, over a file of this format.
-pub record SeatAnswers (b : BoardId) (F : Format) (old : Pass) (request : Request) (reply : Reply) (new : Pass) : Type 0 where
-  pub c : Command
-  pub asked : command_of request ≡ Some c
-  pub answer : Result Bool Fault
+-- A call of the pass for this command was answered so: the pass, a part of this board, has what the table of answers promises it.
+-- In a set of one pass the answer is the plain set's, over a file of this format.
+pub record IsAnswered (b : BoardId) (F : Format) (c : Command) (answer : Result Bool Fault) (old new : Pass) : Type 0 where
   pub sized : (part old).sizes ≡ b.sizes
   pub call : Answers F c (reply_told answer) (part old) (part new)
   pub plain : b.sizes.passes ≡ 1 → IsPlainAnswer F b.sizes.slots c (reply_told answer) (keys_in (part old).known) (keys_in (part new).known)
+
+-- A call of one of several passes was answered that no slot is free, which the table has for addings only.
+pub record FoundFull (b : BoardId) (F : Format) (c : Command) (old new : Pass) : Type 0 where
+  pub several : b.sizes.passes ≢ 1
+  pub answer : Result Bool Fault
+  pub full : reply_of answer ≡ said.Full
+  pub answered : IsAnswered b F c answer old new
+
+-- The reply tells the answer of the pass's last call for what the request asks. That is its only one, which is told as full in a
+-- set of one pass alone; or one more was made, after one that found no slot free.
+pub record SeatAnswers (b : BoardId) (F : Format) (old : Pass) (request : Request) (reply : Reply) (new : Pass) : Type 0 where
+  pub c : Command
+  pub asked : command_of request ≡ Some c
+  pub middle : Pass
+  pub first : ((middle ≡ old) × (reply ≡ said.Full → b.sizes.passes ≡ 1)) ⊎ FoundFull b F c old middle
+  pub answer : Result Bool Fault
+  pub last : IsAnswered b F c answer middle new
   pub told : reply ≡ reply_of answer

@@ -4,6 +4,7 @@
 //! A client that goes away, sends half a line or stops reading ends its own session alone.
 #![tactic(auto)]
 
+mod given;
 mod observed;
 mod observer;
 mod pass_thread;

@@ -2,8 +2,9 @@
 ghost use Rattle.std.specs.Prelude.{◌≡◌, true, false};
 ghost use Rattle.lz_board.specs.Seats.{part};
 ghost use Rattle.lz_set.specs.Names.{MayCall};
-ghost use Rattle.lz_serve.specs.Halts.{IsCalm, SawHalt};
+ghost use Rattle.lz_serve.specs.Halts.{IsCalm, IsCalmAfter, SawHalt};
 
+use crate::given::Given;
 use crate::observed::Observed;
 use crate::observer::Observer;
 use crate::seated::Seated;
@@ -33,28 +34,30 @@ const FAREWELL: u64 = 100;
 const FAREWELLS: usize = 16;
 
 /// A pass whose thread is done, and whether a client of it was told that the service halted, which ended the thread. Where none
-/// was, no call of the pass was cut off.
+/// was, no call of the pass was cut off, if none was of the passes that B names.
 #[derive(Drop)]
-pub(crate) struct Finished<N: Named> {
+pub(crate) struct Finished<N: Named, B: Given> {
     halted: bool,
     pass: Pass,
     of: PhantomData<N>,
+    among: PhantomData<B>,
     ghost may_call: { MayCall N.board pass },
     ghost seen: { halted ≡ true → SawHalt pass },
-    ghost calm: { halted ≡ false → IsCalm (part pass) },
+    ghost calm: { halted ≡ false → IsCalmAfter B.parts pass },
 }
 
-impl<N: Named> Finished<N> {
+impl<N: Named, B: Given> Finished<N, B> {
     /// The pass, and whether a client of it was told that the service halted.
     pub(crate) fn into_parts(self) -> (Pass, bool)
         ensures may_call { MayCall N.board result.0 }
         ensures seen { result.1 ≡ true → SawHalt result.0 }
-        ensures calm { result.1 ≡ false → IsCalm (part result.0) }
+        ensures calm { result.1 ≡ false → IsCalmAfter B.parts result.0 }
     {
         let Finished {
             halted,
             pass,
             of: _,
+            among: _,
         } = self;
         (pass, halted)
     }
@@ -62,7 +65,7 @@ impl<N: Named> Finished<N> {
 
 /// Serves by this pass, until a client was told that the service halted, or it has served as many as it may. The first thread
 /// that tells so tells the observer too.
-pub(crate) fn serve_pass<D, G, N, R, O>(
+pub(crate) fn serve_pass<D, G, N, B, R, O>(
     rt: &R,
     listener: &TcpListener,
     set: &Set<D, G, N>,
@@ -70,15 +73,16 @@ pub(crate) fn serve_pass<D, G, N, R, O>(
     bounds: Bounds,
     observer: &O,
     told: &AtomicBool,
-) -> Finished<N>
+) -> Finished<N, B>
 where
     D: Disk,
     G: StepGate,
     N: Named,
+    B: Given,
     R: Wait + Clock + AllocGlobal,
     O: Observer,
     requires may_call { MayCall N.board pass }
-    requires calm { IsCalm (part pass) }
+    requires calm { IsCalmAfter B.parts pass }
 {
     let seated = Seated::new(rt, set, pass);
     let mut observed = Observed { seated, observer };
@@ -91,6 +95,7 @@ where
         halted,
         pass: observed.seated.into_pass(),
         of: PhantomData,
+        among: PhantomData,
     }
 }
 

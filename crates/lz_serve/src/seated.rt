@@ -1,8 +1,9 @@
 //! The service of one pass of a set.
-ghost use Rattle.std.specs.Prelude.{◌≡◌, ◌≢◌, true, false};
+ghost use Rattle.std.specs.Prelude.{◌≡◌, ◌≢◌, Some, true, false};
+ghost use Rattle.lz_slot.specs.declared.command.Command.{Command};
 ghost use Rattle.lz_set.specs.Names.{MayCall};
 ghost use Rattle.lz_serve.specs.Halts.{SawHalt};
-ghost use Rattle.lz_serve.specs.Replies.{SeatAnswers, reply_of, says_halted};
+ghost use Rattle.lz_serve.specs.Replies.{IsAnswered, SeatAnswers, command_of, reply_of, says_halted};
 
 use lz_disk::Disk;
 use lz_proto::{Reply, Request, Service};
@@ -90,6 +91,38 @@ fn says_halted(reply: Reply) -> bool
     matches!(reply, Reply::Halted)
 }
 
+// Whether a request was answered so. Where several passes have calls, `full` isn't told of the first one.
+fn is_final<D: Disk, G: StepGate, N: Named>(set: &Set<D, G, N>, reply: Reply) -> bool
+    ensures first { result ≡ true → reply ≡ Reply.Full → N.board.sizes.passes ≡ 1 }
+    ensures again { result ≡ false → (reply ≡ Reply.Full) × (N.board.sizes.passes ≢ 1) }
+{
+    match reply {
+        Reply::Full => set.passes() == 1,
+        _ => true,
+    }
+}
+
+// Makes one call for what the request asks, by the pass.
+fn call<D: Disk, G: StepGate, N: Named, R: Wait>(
+    rt: &R,
+    set: &Set<D, G, N>,
+    pass: &mut Pass,
+    request: &Request,
+) -> Result<bool, Fault>
+    requires may_call { MayCall N.board pass.old }
+    requires request { request.now ≢ Request.Quit }
+    ensures may_call { MayCall N.board pass.new }
+    ensures answered { (c : Command) → command_of request.now ≡ Some c → IsAnswered N.board N.format c result pass.old pass.new }
+{
+    match *request {
+        Request::Add(key) => set.add(rt, pass, key),
+        Request::Remove(key) => set.remove(rt, pass, key),
+        Request::Has(key) => set.has(rt, pass, key),
+        // A session never asks it.
+        Request::Quit => Ok(false),
+    }
+}
+
 // Does what the request asks for by the pass, and replies.
 fn reply_to<D: Disk, G: StepGate, N: Named, R: Wait>(
     rt: &R,
@@ -102,13 +135,13 @@ fn reply_to<D: Disk, G: StepGate, N: Named, R: Wait>(
     ensures may_call { MayCall N.board pass.new }
     ensures answers { SeatAnswers N.board N.format pass.old request result pass.new }
 {
-    match request {
-        Request::Add(key) => reply_of(set.add(rt, pass, key)),
-        Request::Remove(key) => reply_of(set.remove(rt, pass, key)),
-        Request::Has(key) => reply_of(set.has(rt, pass, key)),
-        // A session never asks it.
-        Request::Quit => Reply::No,
+    let first = reply_of(call(rt, set, pass, &request));
+    if is_final(set, first) {
+        return first;
     }
+    // While it looked for a slot the pass was inside, and may have held up all that wait to be free again. Its answer has shown
+    // it outside.
+    reply_of(call(rt, set, pass, &request))
 }
 
 impl<'a, D: Disk, G: StepGate, N: Named, R: Wait> Service for Seated<'a, D, G, N, R> {

@@ -3,13 +3,15 @@ ghost use Rattle.std.specs.Prelude.{◌≡◌, ◌+◌, ◌≤◌, true, false, 
 ghost use Rattle.std.specs.List.{Any};
 ghost use Rattle.lz_board.specs.Seats.{part};
 ghost use Rattle.lz_set.specs.Names.{MayCall};
-ghost use Rattle.lz_serve.specs.Halts.{IsCalm, SawHalt};
+ghost use Rattle.lz_serve.specs.Halts.{IsCalm, IsCalmAfter, SawHalt};
 
+use crate::given::Given;
 use crate::observer::Observer;
 use crate::pass_thread::{Finished, serve_pass};
 use lz_disk::Disk;
 use lz_set::{Named, Pass, Set, StepGate};
 use std::alloc::Global;
+use std::marker::Brand;
 use std::net::TcpListener;
 use std::sync::Wait;
 use std::sync::atomic::AtomicBool;
@@ -39,7 +41,7 @@ pub struct Served {
 
 /// Serves connections with a thread for each pass, which serves one connection after the other: so many of them, or
 /// without an end where `bounds.sessions` is 0. A session that ended with a fault, or because its client was idle, counts too. A thread ends as well after a session that
-/// found the set halted; the first one tells the observer. A pass of which a call was answered so before can't be served. A connection for which no thread is free waits in the listener's queue.
+/// found the set halted; the first one tells the observer. A connection for which no thread is free waits in the listener's queue.
 pub fn serve<D, G, N, R, O>(
     rt: &R,
     listener: &TcpListener,
@@ -55,18 +57,17 @@ where
     R: Threads + Wait + Clock + AllocGlobal + Sync,
     O: Observer + Sync,
     requires may_call { All (MayCall N.board) passes.items }
-    requires calm { All (λ pass. IsCalm (part pass)) passes.items }
     ensures may_call { All (MayCall N.board) result.passes.items }
     ensures count { vec_len result.passes + result.threadless ≡ vec_len passes }
     ensures halted { result.halted ≡ true → Any SawHalt result.passes.items }
-    ensures calm { result.halted ≡ false → All (λ pass. IsCalm (part pass)) result.passes.items }
+    ensures calm { All (λ pass. IsCalm (part pass)) passes.items → result.halted ≡ false → All (λ pass. IsCalm (part pass)) result.passes.items }
 {
     let told = AtomicBool::new(false);
-    serve_passes(rt, listener, set, passes, bounds, observer, &told)
+    serve_passes::<D, G, N, Brand, R, O>(rt, listener, set, passes, bounds, observer, &told)
 }
 
-// The same, where it is known whether the observer was told that the set is halted.
-fn serve_passes<D, G, N, R, O>(
+// The same, where it is known whether the observer was told that the set is halted. B names the passes.
+fn serve_passes<D, G, N, B, R, O>(
     rt: &R,
     listener: &TcpListener,
     set: &Set<D, G, N>,
@@ -79,28 +80,29 @@ where
     D: Disk + Send,
     G: StepGate + Send + Sync,
     N: Named + Send + Sync,
+    B: Given + Send + Sync,
     R: Threads + Wait + Clock + AllocGlobal + Sync,
     O: Observer + Sync,
     requires may_call { All (MayCall N.board) passes.items }
-    requires calm { All (λ pass. IsCalm (part pass)) passes.items }
+    requires calm { All (IsCalmAfter B.parts) passes.items }
     ensures may_call { All (MayCall N.board) result.passes.items }
     ensures count { vec_len result.passes + result.threadless ≡ vec_len passes }
     ensures halted { result.halted ≡ true → Any SawHalt result.passes.items }
-    ensures calm { result.halted ≡ false → All (λ pass. IsCalm (part pass)) result.passes.items }
+    ensures calm { result.halted ≡ false → All (IsCalmAfter B.parts) result.passes.items }
 {
     thread::scope(
         thread::scope_env(),
         rt,
         move |scope| -> Served
             requires may_call { All (MayCall N.board) passes.items }
-            requires calm { All (λ pass. IsCalm (part pass)) passes.items }
+            requires calm { All (IsCalmAfter B.parts) passes.items }
             ensures may_call { All (MayCall N.board) result.passes.items }
             ensures count { vec_len result.passes + result.threadless ≡ vec_len passes }
             ensures halted { result.halted ≡ true → Any SawHalt result.passes.items }
-            ensures calm { result.halted ≡ false → All (λ pass. IsCalm (part pass)) result.passes.items }
+            ensures calm { result.halted ≡ false → All (IsCalmAfter B.parts) result.passes.items }
         {
             let given = passes.len();
-            let Some((mut threads, done)) = room_for::<N>(rt.alloc(), given) else {
+            let Some((mut threads, done)) = room_for::<N, B>(rt.alloc(), given) else {
                 observer.threadless(given, given);
                 return Served {
                     passes: Vec::new(rt.alloc()),
@@ -110,9 +112,9 @@ where
             };
             for pass in passes {
                 let thread = scope.spawn(
-                    move || -> Finished<N>
+                    move || -> Finished<N, B>
                         requires may_call { MayCall N.board pass }
-                        requires calm { IsCalm (part pass) }
+                        requires calm { IsCalmAfter B.parts pass }
                     { serve_pass(rt, listener, set, pass, bounds, observer, told) },
                 );
                 let Ok(thread) = thread else {
@@ -136,10 +138,10 @@ where
     )
 }
 
-type Rooms<N> = (Vec<JoinHandle<Finished<N>>>, Vec<Pass>);
+type Rooms<N, B> = (Vec<JoinHandle<Finished<N, B>>>, Vec<Pass>);
 
 // Room for so many threads, and for the passes that they hand back.
-fn room_for<N: Named>(alloc: Global, count: usize) -> Option<Rooms<N>>
+fn room_for<N: Named, B: Given>(alloc: Global, count: usize) -> Option<Rooms<N, B>>
     ensures threads { IfSome result (λ rooms. (vec_len rooms.0 ≡ 0) × (count ≤ vec_capacity rooms.0)) }
     ensures passes { IfSome result (λ rooms. (vec_len rooms.1 ≡ 0) × (count ≤ vec_capacity rooms.1)) }
 {
@@ -149,9 +151,9 @@ fn room_for<N: Named>(alloc: Global, count: usize) -> Option<Rooms<N>>
 }
 
 // Waits for each thread, in the order of the passes. Hands these back, and says whether one of the threads found the set halted.
-fn join_all<N: Named, R: Threads>(
+fn join_all<N: Named, B: Given, R: Threads>(
     rt: &R,
-    threads: Vec<JoinHandle<Finished<N>>>,
+    threads: Vec<JoinHandle<Finished<N, B>>>,
     room: Vec<Pass>,
 ) -> (Vec<Pass>, bool)
     requires empty { vec_len room ≡ 0 }
@@ -159,7 +161,7 @@ fn join_all<N: Named, R: Threads>(
     ensures may_call { All (MayCall N.board) result.0.items }
     ensures count { vec_len result.0 ≡ vec_len threads }
     ensures halted { result.1 ≡ true → Any SawHalt result.0.items }
-    ensures calm { result.1 ≡ false → All (λ pass. IsCalm (part pass)) result.0.items }
+    ensures calm { result.1 ≡ false → All (IsCalmAfter B.parts) result.0.items }
 {
     let mut passes = room;
     let mut halted = false;

@@ -98,6 +98,13 @@ impl<D: Disk, G: StepGate, N: Named> Set<D, G, N> {
         }
     }
 
+    /// How many passes the set has.
+    pub fn passes(&self) -> usize
+        ensures { result ≡ N.board.sizes.passes }
+    {
+        self.passes
+    }
+
     /// Makes the key a member, and says whether it wasn't one. It may wait for the set or for a node.
     pub fn add<R: Wait>(&self, rt: &R, pass: &mut Pass, key: Key) -> Result<bool, Fault>
         requires pass { MayCall N.board pass.old }

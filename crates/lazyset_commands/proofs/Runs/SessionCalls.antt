@@ -19,6 +19,7 @@ use Rattle.lz_board.specs.declared.pass.Pass.{Pass}
 use Rattle.lz_board.specs.Seats.{BoardId, part}
 use Rattle.lz_set.specs.Answers.{reply_of as given_of}
 use Rattle.lz_serve.specs.Replies.{SeatAnswers, command_of}
+use Rattle.lz_serve.proofs.Seats.{only_call}
 use Rattle.lz_tie.specs.OneCaller.{IsPlainAnswer}
 use Rattle.lz_tie.specs.Sessions.{AnsweredCalls, Served, PlainRun, NoneCut, CutLast, cuts_off, MayHaveNext, HoldsAfterSome}
 use Rattle.lazyset_commands.specs.PlainReplies.{PassAnswers, PassMayAnswer}
@@ -122,7 +123,7 @@ module _ (F : Format) (N : ℕ) where
     held = found.held;
   }
 
-module _ {X : Type 0} (pass_of : X → Pass) (b : BoardId) (F : Format) where
+module _ {X : Type 0} (pass_of : X → Pass) (b : BoardId) (F : Format) (one : b.sizes.passes ≡ 1) where
   abbrev N : ℕ
   N = b.sizes.slots
 
@@ -166,6 +167,7 @@ module _ {X : Type 0} (pass_of : X → Pass) (b : BoardId) (F : Format) where
   made_last : (request : Request) (items : List Item) (replies : List Reply) (old new : X) → answers old request Halted new → replies ≡ [] → end_of (Asks request ∷ items) (Halted ∷ replies) ≡ ends.Halted
       → Made (Asks request ∷ items) (Halted ∷ replies) old new
   made_last request items replies old new asked none halts =
+      let told = only_call b F (pass_of old) (pass_of new) request Halted asked one in
       let r = given_of asked.answer in
       let is : Halted ≡ shown r = asked.told ∙ shown_of asked.answer in
       let may : (S T : Keys) → IsPlainAnswer F N asked.c r S T → PassMayAnswer F N S request Halted T = λ S T a.
@@ -173,7 +175,7 @@ module _ {X : Type 0} (pass_of : X → Pass) (b : BoardId) (F : Format) where
       in
       record {
         calls = (asked.c, r) ∷ [];
-        served = (asked.sized, (part (pass_of new), asked.call, refl));
+        served = (told.sized, (part (pass_of new), told.call, refl));
         cut = tt;
         none = λ goes. absurd (goes halts);
         run = λ S T (U, a, same). may_halt F N request S T items replies (may S T (subst (IsPlainAnswer F N asked.c r S) (sym (same_is T U same)) a)) none;
@@ -186,6 +188,7 @@ module _ {X : Type 0} (pass_of : X → Pass) (b : BoardId) (F : Format) where
   made_more : (request : Request) (reply : Reply) (items : List Item) (replies : List Reply) (old mid new : X) → reply ≢ Halted → answers old request reply mid → Made items replies mid new
       → Made (Asks request ∷ items) (reply ∷ replies) old new
   made_more request reply items replies old mid new goes asked m =
+      let told = only_call b F (pass_of old) (pass_of mid) request reply asked one in
       let r = given_of asked.answer in
       let is : reply ≡ shown r = asked.told ∙ shown_of asked.answer in
       let whole : cuts_off r ≡ false = uncut r (λ halted. goes (is ∙ halted)) in
@@ -198,7 +201,7 @@ module _ {X : Type 0} (pass_of : X → Pass) (b : BoardId) (F : Format) where
       in
       record {
         calls = (asked.c, r) ∷ m.calls;
-        served = (asked.sized, (part (pass_of mid), asked.call, m.served));
+        served = (told.sized, (part (pass_of mid), told.call, m.served));
         cut = cut_more (asked.c, r) m.calls whole m.cut;
         none = λ ended. (whole, m.none (λ halted. ended (ends_so ∙ halted)));
         run = λ S T (U, a, later). may_next F N request reply S U T items replies goes (may S U a) (m.run U T later);

@@ -12,51 +12,8 @@ use Rattle.lz_proto.specs.declared.fault.SessionFault.TheVariants.{Read, Write, 
 use Rattle.lz_proto.specs.declared.end.End.{End}
 use Rattle.lz_proto.specs.Sessions.{Answered, CutOff, Serves, SessionTells}
 use Rattle.lz_proto.proofs.FirstItems.{FirstAsked, session_asked}
+use Rattle.lz_serve.proofs.Mapped.{mapped, serves}
 use Rattle.lazyset_commands.specs.Runs.{Collects}
-
--- one service's states are seen as another's, which answers the same
-module _ {X Y : Type 0} (A : X → Request → Reply → X → Type 0) (B : Y → Request → Reply → Y → Type 0) (view : X → Y)
-    (so : (old new : X) (request : Request) (reply : Reply) → A old request reply new → B (view old) request reply (view new)) where
-  serves_as : (items : List Item) (replies : List Reply) (old new : X) → Serves A old items replies new → Serves B (view old) items replies (view new)
-  serves_as [] [] old new served = ap view served
-  serves_as [] (reply ∷ replies) old new served = absurd served
-  serves_as (Faulty bad ∷ items) replies old new served = serves_as items replies old new served
-  serves_as (Asks Quit ∷ items) [] old new served = ap view served
-  serves_as (Asks Quit ∷ items) (reply ∷ replies) old new served = absurd served
-  serves_as (Asks request ∷ items) [] old new served = absurd served
-  serves_as (Asks request ∷ items) (Halted ∷ replies) old new served = (so old new request Halted served.0, served.1)
-  serves_as (Asks request ∷ items) (reply ∷ replies) old new served = (view served.0, so old served.0 request reply served.1, serves_as items replies served.0 new served.2)
-
-  answered_as : (items : List Item) (old new : X) (written : List ℕ) (ended : End) → Answered A old items new written ended → Answered B (view old) items (view new) written ended
-  answered_as items old new written ended answered =
-      record { replies = answered.replies; served = serves_as items answered.replies old new answered.served; text = answered.text; ends = answered.ends }
-
-  cut_as : (items : List Item) (old new : X) (written : List ℕ) → CutOff A old items new written → CutOff B (view old) items (view new) written
-  cut_as items old new written cut = record {
-    done = cut.done;
-    item = cut.item;
-    rest = cut.rest;
-    whole = cut.whole;
-    mid = view cut.mid;
-    before = cut.before;
-    answered = answered_as cut.done old cut.mid cut.before _ cut.answered;
-    reply = cut.reply;
-    served = serves_as (cut.item ∷ []) cut.reply cut.mid new cut.served;
-    sent = cut.sent;
-    part = cut.part;
-    text = cut.text;
-  }
-
-  session_as : (input after : Option (List ℕ)) (old new : X) (r : Result End SessionFault) (written : List ℕ) → SessionTells A input after old new written r
-      → SessionTells B input after (view old) (view new) written r
-  session_as input after old new (Ok ended) written tells =
-      record { text = tells.text; known = tells.known; items = tells.items; its = tells.its; answered = answered_as tells.items old new written ended tells.answered }
-  session_as input after old new (Err Read) written (text, gone, stopped) =
-      (text, gone, record { items = stopped.items; left = stopped.left; its = stopped.its; answered = answered_as stopped.items old new written _ stopped.answered })
-  session_as input after old new (Err Memory) written (text, piece, gone, stopped) =
-      (text, piece, gone, record { items = stopped.items; left = stopped.left; its = stopped.its; answered = answered_as stopped.items old new written _ stopped.answered })
-  session_as input after old new (Err Write) written (text, gone, broken) =
-      (text, gone, record { items = broken.items; its = broken.its; cut = cut_as broken.items old new written broken.cut })
 
 -- the replies that were collected are those given
 collected : (items : List Item) (replies old new : List Reply) → Serves Collects old items replies new → new ≡ old ++ replies
@@ -133,9 +90,9 @@ module _ {X : Type 0} (A : X → Request → Reply → X → Type 0) where
       let (all, both) = session_collecting input after old new r written tells in
       let first = session_asked Collecting input after (old, []) (new, all) r written both in
       let given : Serves Collects [] first.done first.replies all =
-      serves_as Collecting Collects (λ (x : X × List Reply). x.1) (λ old new request reply asked. asked.1) first.done first.replies (old, []) (new, all) first.served in
+      serves (λ (x : X × List Reply). x.1) Collecting Collects (λ old request reply new asked. asked.1) first.done first.replies (old, []) (new, all) first.served in
       let told : SessionTells Collects input after [] all written r =
-      session_as Collecting Collects (λ (x : X × List Reply). x.1) (λ old new request reply asked. asked.1) input after (old, []) (new, all) r written both in (
+      mapped (λ (x : X × List Reply). x.1) Collecting Collects (λ old request reply new asked. asked.1) input after (old, []) (new, all) r written both in (
         record {
           text = first.text;
           known = first.known;
@@ -145,7 +102,7 @@ module _ {X : Type 0} (A : X → Request → Reply → X → Type 0) where
           rest = first.rest;
           whole = first.whole;
           replies = first.replies;
-          served = serves_as Collecting A (λ (x : X × List Reply). x.0) (λ old new request reply asked. asked.0) first.done first.replies (old, []) (new, all) first.served;
+          served = serves (λ (x : X × List Reply). x.0) Collecting A (λ old request reply new asked. asked.0) first.done first.replies (old, []) (new, all) first.served;
         },
         subst (λ (l : List Reply). SessionTells Collects input after [] l written r) (collected first.done first.replies [] all given) told,
       )

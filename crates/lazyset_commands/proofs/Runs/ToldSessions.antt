@@ -60,17 +60,17 @@ module _ {X : Type 0} (pass_of : X → Pass) (b : BoardId) (F : Format) (ns : Li
 
   module _ (t : List ℕ) (e : Explains b ns t) where
     -- the replies to all the items
-    told_answered : (items : List Item) (written : List ℕ) (ended : End) → Answered (answers pass_of b F) old items new written ended → Answered (PassMayAnswer F N) S0 items e.found written ended
+    told_answered : (items : List Item) (written : List ℕ) (ended : End) → Answered (answers pass_of b F one) old items new written ended → Answered (PassMayAnswer F N) S0 items e.found written ended
     told_answered items written ended answered =
-        let m = made pass_of b F items answered.replies old new answered.served in
+        let m = made pass_of b F one items answered.replies old new answered.served in
         record { replies = answered.replies; served = m.run S0 e.found (held_run m.calls m.served m.cut t e); text = answered.text; ends = answered.ends }
 
     -- those before a write failed, and the one at which it did
-    told_cut : (items : List Item) (written : List ℕ) → CutOff (answers pass_of b F) old items new written → CutOff (PassMayAnswer F N) S0 items e.found written
+    told_cut : (items : List Item) (written : List ℕ) → CutOff (answers pass_of b F one) old items new written → CutOff (PassMayAnswer F N) S0 items e.found written
     told_cut items written cut =
         let first = cut.answered in
-        let m = made pass_of b F cut.done first.replies old cut.mid first.served in
-        let l = made pass_of b F (cut.item ∷ []) cut.reply cut.mid new cut.served in
+        let m = made pass_of b F one cut.done first.replies old cut.mid first.served in
+        let l = made pass_of b F one (cut.item ∷ []) cut.reply cut.mid new cut.served in
         let goes : end_of cut.done first.replies ≢ ends.Halted = λ halted. let never : ends.Done ≡ ends.Halted = sym first.ends ∙ halted in cc in
         let served = served_then b.sizes F m.calls l.calls (part (pass_of old)) (part (pass_of cut.mid)) (part (pass_of new)) m.served l.served in
         let (M, before, last) = run_then F N m.calls l.calls S0 e.found (held_run (m.calls ++ l.calls) served (cut_then m.calls l.calls (m.none goes) l.cut) t e) in
@@ -89,7 +89,7 @@ module _ {X : Type 0} (pass_of : X → Pass) (b : BoardId) (F : Format) (ns : Li
           text = cut.text;
         }
 
-    pub told_session : (input after : Option (List ℕ)) (r : Result End SessionFault) (written : List ℕ) → SessionTells (answers pass_of b F) input after old new written r
+    pub told_session : (input after : Option (List ℕ)) (r : Result End SessionFault) (written : List ℕ) → SessionTells (answers pass_of b F one) input after old new written r
         → SessionTells (PassMayAnswer F N) input after S0 e.found written r
     told_session input after (Ok ended) written tells =
         record { text = tells.text; known = tells.known; items = tells.items; its = tells.its; answered = told_answered tells.items written ended tells.answered }
@@ -101,18 +101,18 @@ module _ {X : Type 0} (pass_of : X → Pass) (b : BoardId) (F : Format) (ns : Li
         (text, gone, record { items = broken.items; its = broken.its; cut = told_cut broken.items written broken.cut })
 
   -- a text that might have been left at any moment
-  pub told_moment : (input : Option (List ℕ)) (first : FirstAsked (answers pass_of b F) input old new) (t : List ℕ) → ExplainsBegun b ns t → FoundAfter (PassMayAnswer F N) N S0 first.items first.replies t
+  pub told_moment : (input : Option (List ℕ)) (first : FirstAsked (answers pass_of b F one) input old new) (t : List ℕ) → ExplainsBegun b ns t → FoundAfter (PassMayAnswer F N) N S0 first.items first.replies t
   told_moment input first t begun =
-      let m = made pass_of b F first.done first.replies old new first.served in
+      let m = made pass_of b F one first.done first.replies old new first.served in
       found_of_more (PassMayAnswer F N) N S0 first.items first.done first.rest first.replies t first.whole
       (m.moment S0 t (moments_are_plain b F ns m.calls (part (pass_of old)) (part (pass_of new)) (session m.calls m.served m.cut) t begun))
 
   module _ (medium : Medium) (explains : (t : List ℕ) → IsImage medium t → Explains b ns t) where
-    told_whole : (input before later : Option (List ℕ)) (written : List ℕ) (ended : End) → Whole (answers pass_of b F) input old new written ended → ended ≢ ends.Halted → Appends before later written
+    told_whole : (input before later : Option (List ℕ)) (written : List ℕ) (ended : End) → Whole (answers pass_of b F one) input old new written ended → ended ≢ ends.Halted → Appends before later written
         → RepliesOfPass F N S0 input before later medium
     told_whole input before later written ended whole unhalted appends =
         let answered = whole.answered in
-        let m = made pass_of b F whole.items answered.replies old new answered.served in
+        let m = made pass_of b F one whole.items answered.replies old new answered.served in
         let goes : end_of whole.items answered.replies ≢ ends.Halted = λ is. unhalted (sym answered.ends ∙ is) in
         let made_so = session m.calls m.served m.cut in
         let last = members_of (part (pass_of new)).known in
@@ -130,7 +130,7 @@ module _ {X : Type 0} (pass_of : X → Pass) (b : BoardId) (F : Format) (ns : Li
               holds_same_set t N e.found last ((session_is_held b F ns m.calls (part (pass_of old)) (part (pass_of new)) made_so t e).1 (m.none goes)) e.holds;
         }
 
-    pub told_plain : (input after before later : Option (List ℕ)) (r : Result End SessionFault) → status.Done ≡ session_status r → Writes before later (λ written. SessionTells (answers pass_of b F) input after old new written r)
+    pub told_plain : (input after before later : Option (List ℕ)) (r : Result End SessionFault) → status.Done ≡ session_status r → Writes before later (λ written. SessionTells (answers pass_of b F one) input after old new written r)
         → RepliesOfPass F N S0 input before later medium
     told_plain input after before later (Ok ends.Done) is (written, appends, tells) = told_whole input before later written ends.Done tells (λ same. cc) appends
     told_plain input after before later (Ok ends.Quit) is (written, appends, tells) = told_whole input before later written ends.Quit tells (λ same. cc) appends

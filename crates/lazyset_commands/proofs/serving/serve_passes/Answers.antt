@@ -5,9 +5,6 @@ use Rattle.lz_serve.specs.Halts.{IsCalm, SawHalt}
 use Rattle.lazyset_commands.proofs.Services.{all_new, new_calm, served_passes}
 use Rattle.lazyset_commands.proofs.serving.serve_passes.Goals as goal
 
-pub serve-passes-requires-clause-calm : goal.serve-passes-requires-clause-calm
-serve-passes-requires-clause-calm g c = λ κs lives. new_calm g.N.Named.board c.args.passes.items c.requires.new
-
 pub close_with-disk-requires : goal.close_with-disk-requires
 close_with-disk-requires g c = record { passes = subst (All (IsOf g.N.Named.board)) (sym c.as_mut_slice.ensures.value) (λ k d low. (c.serve-passes.ensures.may_call k d low).0) }
 
@@ -21,4 +18,4 @@ returns g c =
     let count : length ps + c.serve-passes.result.threadless ≡ b.sizes.passes = search rules in
     served_passes b g.N.Named.first _ ps _ c.close_with-disk.ensures.left c.status_of_service.result c.serve-passes.result.halted c.serve-passes.result.threadless count
     (λ is. subst (Any SawHalt) (sym c.as_mut_slice.ensures.value) (served.halted is))
-    (λ is. subst (All (λ p. IsCalm (part p))) (sym c.as_mut_slice.ensures.value) (served.calm is)) status.done status.failed status.other
+    (λ is. subst (All (λ p. IsCalm (part p))) (sym c.as_mut_slice.ensures.value) (served.calm (new_calm b c.args.passes.items c.requires.new) is)) status.done status.failed status.other

@@ -1,8 +1,7 @@
 use Rattle.std.proofs.Common.{◌≡◌, ◌⊎◌, inl, inr, true, false, rules, sym, ◌∙◌}
 use mathlib.Core.Bool.{true≢false}
-use Rattle.lz_board.specs.Seats.{part}
 use Rattle.lz_set.specs.Names.{MayCall}
-use Rattle.lz_serve.specs.Halts.{IsCalm, SawHalt}
+use Rattle.lz_serve.specs.Halts.{IsCalmAfter, SawHalt}
 use Rattle.lz_serve.proofs.HandedBack.{all_back, one_back}
 use Rattle.lz_serve.proofs.server.join_all.Goals as goal
 use Rattle.lz_serve.proofs.server.join_all.Goals.{then-halted, else-halted}
@@ -19,5 +18,5 @@ loop-thread-preserved g c =
       search rules,
       all_back (MayCall g.N.Named.board) _ _ _ c.in-Ok.ensures.items kept.2 last.may_call,
       λ is. one_back SawHalt _ _ _ c.in-Ok.ensures.items c.loop-thread.halted c.into_parts-pass.result.1 c.if-halted.halted kept.3 last.seen is either,
-      λ is. let quiet = neither is in all_back (λ pass. IsCalm (part pass)) _ _ _ c.in-Ok.ensures.items (kept.4 quiet.0) (last.calm quiet.1),
+      λ is. let quiet = neither is in all_back (IsCalmAfter g.B.Given.parts) _ _ _ c.in-Ok.ensures.items (kept.4 quiet.0) (last.calm quiet.1),
     )

@@ -1,9 +1,8 @@
 use Rattle.std.specs.Prelude.{◌≡◌, ◌+◌, ◌≤◌, true, false, All, vec_capacity, vec_items, vec_len}
 use Rattle.std.specs.List.{Any}
 use Rattle.std.specs.Vec.Iter.{into_iter_len}
-use Rattle.lz_board.specs.Seats.{part}
 use Rattle.lz_set.specs.Names.{MayCall}
-use Rattle.lz_serve.specs.Halts.{IsCalm, SawHalt}
+use Rattle.lz_serve.specs.Halts.{IsCalmAfter, SawHalt}
 use Rattle.lz_serve.proofs.server.join_all.Given as goal
 
 abbrev pub invariant-loop-thread : goal.invariant-loop-thread
@@ -12,4 +11,4 @@ invariant-loop-thread g l =
     × (vec_len l.fn.threads ≤ vec_capacity l.passes)
     × All (MayCall g.N.Named.board) (vec_items l.passes)
     × (l.halted ≡ true → Any SawHalt (vec_items l.passes))
-    × (l.halted ≡ false → All (λ pass. IsCalm (part pass)) (vec_items l.passes))
+    × (l.halted ≡ false → All (IsCalmAfter g.B.Given.parts) (vec_items l.passes))
