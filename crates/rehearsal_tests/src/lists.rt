@@ -143,17 +143,22 @@ fn a_full_table_has_each_key_until_it_is_marked(rt: HostRuntime) -> Result<(), F
         let key = Key::new(number).expect(&rt, "a key");
         assert_eq!(rt; list.member(key), number < 65_536, "at {number}");
     }
+    mark_every_third(&rt, &mut list);
+    for number in 0..65_536u64 {
+        let key = Key::new(number).expect(&rt, "a key");
+        assert_eq!(rt; list.member(key), number % 3 != 0, "at {number}");
+    }
+    Ok(())
+}
+
+// Marks every third node of the list of a full table.
+fn mark_every_third(rt: &impl Abort, list: &mut List) {
     for number in 0..65_536u32 {
         assert!(rt; list.words().slots() == 65_536);
         if number % 3 == 0 {
             list.mark(Slot::new(number as u16));
         }
     }
-    for number in 0..65_536u64 {
-        let key = Key::new(number).expect(&rt, "a key");
-        assert_eq!(rt; list.member(key), number % 3 != 0, "at {number}");
-    }
-    Ok(())
 }
 
 #[test]

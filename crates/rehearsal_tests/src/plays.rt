@@ -35,8 +35,17 @@ type Play<'a> = (&'a [Step], &'a [u8], bool, bool);
 // Whether the plays, one after another on one world, tell this and leave it so.
 fn hold(alloc: Global, plays: &[Play], nine: Key) -> Result<bool, AllocError> {
     let mut world = World::new(alloc, 2, 1, Format::One)?;
+    hold_on(alloc, &mut world, plays, nine)
+}
+
+fn hold_on(
+    alloc: Global,
+    world: &mut World,
+    plays: &[Play],
+    nine: Key,
+) -> Result<bool, AllocError> {
     for (steps, tells, is_open, is_member) in plays.iter() {
-        let told = told(&mut world, alloc, steps)?;
+        let told = told(world, alloc, steps)?;
         let members = world.members(alloc)?;
         let is_shown = match members.as_slice() {
             [] => !*is_member,

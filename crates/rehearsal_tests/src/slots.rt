@@ -1,7 +1,10 @@
 //! The allotting of slots: worked rows, and the queue beside plain records of what was seen.
+ghost use Rattle.std.specs.Prelude.{◌≤◌};
+
 use lz_allot::{Allot, Counts, Row};
 use lz_slot::Slot;
 use std::alloc::{AllocError, Global};
+use std::process::Abort;
 use std::test::Fail;
 
 // Each returns whether the call was made: the slot was taken, or there is such a pass.
@@ -42,17 +45,27 @@ fn the_lowest_free_slot_is_taken(rt: HostRuntime) -> Result<(), Fail> {
     assert_eq!(rt; allot.reserve(), Some(Slot::new(0)));
     assert_eq!(rt; allot.reserve(), Some(Slot::new(2)));
     assert_eq!(rt; allot.reserve(), None);
-    assert!(rt; retire(&mut allot, Slot::new(0)));
+    retire_one_of_three(&rt, &mut allot);
+    take_again(&rt, &mut allot);
+    Ok(())
+}
+
+// Of three taken slots one is retired.
+fn retire_one_of_three(rt: &impl Abort, allot: &mut Allot) {
+    assert!(rt; retire(allot, Slot::new(0)));
     let counts = Counts {
         free: 0,
         taken: 2,
         limbo: 1,
     };
     assert_eq!(rt; allot.counts(), counts);
-    assert!(rt; give_back(&mut allot, Slot::new(2)));
+}
+
+// Another one of them is given back, and is the one that is taken next.
+fn take_again(rt: &impl Abort, allot: &mut Allot) {
+    assert!(rt; give_back(allot, Slot::new(2)));
     assert_eq!(rt; allot.reserve(), Some(Slot::new(2)));
     assert_eq!(rt; allot.slots(), 3);
-    Ok(())
 }
 
 // Two of three slots are retired, while the first pass stays inside, with or without a second look at its pin.
@@ -274,6 +287,33 @@ fn same_slots(allot: &Allot, plain: &Vec<PlainSlot>) -> bool {
         && plain.iter().all(|slot| allot.is_taken(slot.slot) == (slot.kind == PlainKind::Taken))
 }
 
+// Makes a thousand calls on so many slots and passes.
+fn free_the_same(
+    rt: &impl Abort,
+    alloc: Global,
+    slots: u16,
+    passes: usize,
+    numbers: Numbers,
+) -> Result<(), Fail>
+    requires slots { 1 ≤ slots }
+    requires passes { (1 ≤ passes) × (passes ≤ 64) }
+{
+    let mut allot = Allot::new(alloc, slots as usize, passes, &[])?;
+    let mut plain = plain_slots(alloc, slots, passes)?;
+    let mut numbers = numbers;
+    for call in 0..1_000 {
+        assert!(rt;
+            same_call(&mut allot, &mut plain, &mut numbers, passes as u64),
+            "{slots} slots, {passes} passes, call {call}"
+        );
+        assert!(rt;
+            same_slots(&allot, &plain),
+            "{slots} slots, {passes} passes, after call {call}"
+        );
+    }
+    Ok(())
+}
+
 #[test]
 fn the_queue_frees_what_plain_records_free(rt: HostRuntime) -> Result<(), Fail> {
     for (slots, passes, seed) in [
@@ -284,19 +324,7 @@ fn the_queue_frees_what_plain_records_free(rt: HostRuntime) -> Result<(), Fail> 
         (16, 2, 5),
         (33, 5, 6),
     ] {
-        let mut allot = Allot::new(rt.alloc(), slots as usize, passes, &[])?;
-        let mut plain = plain_slots(rt.alloc(), slots, passes)?;
-        let mut numbers = Numbers { state: seed };
-        for call in 0..1_000 {
-            assert!(rt;
-                same_call(&mut allot, &mut plain, &mut numbers, passes as u64),
-                "{slots} slots, {passes} passes, call {call}"
-            );
-            assert!(rt;
-                same_slots(&allot, &plain),
-                "{slots} slots, {passes} passes, after call {call}"
-            );
-        }
+        free_the_same(&rt, rt.alloc(), slots, passes, Numbers { state: seed })?;
     }
     Ok(())
 }

@@ -1,6 +1,6 @@
 -- The traces of a board of two slots: key 9 found in slot 0, then 12 linked in slot 1, settled, and either the halt, or 12
 -- marked, settled as removed, and unlinked.
-use Rattle.std.proofs.Common.{◌≡◌, ◌≢◌, inl, inr, ℕ, zero, suc, ◌+◌, ◌^◌, ◌<◌, ◌==◌, if◌then◌else◌, Bool, true, false, [], ◌∷◌, Option, Some, Result, Ok, Err, IfOk, IfErr, refl, sym, ap, ◌∙◌, subst, arith}
+use Rattle.std.proofs.Common.{◌≡◌, ◌≢◌, inl, inr, ℕ, zero, suc, ◌+◌, ◌^◌, ◌<◌, ◌==◌, if◌then◌else◌, Bool, true, false, [], ◌∷◌, Option, Some, refl, sym, ap, ◌∙◌, subst, arith}
 use mathlib.Core.Bool.{false≢true}
 use Rattle.lz_list.specs.declared.word.Word.{Word}
 use Rattle.lz_list.specs.declared.word.Word.TheVariants.{Head, Link, Key, Pin as PinOf, Halt}
@@ -11,37 +11,15 @@ use Rattle.lz_list.specs.Pinned.{Stood}
 use Rattle.lz_list.proofs.Traces.OpeningTrace.{opening_lawful}
 use Rattle.lz_machine.specs.Limbo.{IsAway}
 use Rattle.lz_board.specs.declared.view.Sizes.{Sizes}
-use Rattle.lz_board.specs.declared.view.Part.{Part}
-use Rattle.lz_board.specs.declared.answer.Glance.{Glance}
-use Rattle.lz_board.specs.declared.answer.Glance.TheVariants.{Yes, No, Unsettled}
-use Rattle.lz_board.specs.declared.answer.GlanceFault.{GlanceFault}
-use Rattle.lz_board.specs.declared.answer.GlanceFault.TheVariants.{Halted, Worn, BusyPass}
 use Rattle.lz_board.specs.Notes.{IsShared}
-use Rattle.lz_machine.specs.Yards.{IsInside}
 use Rattle.lz_board.specs.Noting.{Writes}
-use Rattle.lz_board.specs.Opened.{shown_in, opened_by, IsOpened}
-use Rattle.lz_board.specs.Glances.{Turns}
+use Rattle.lz_board.specs.Opened.{shown_in, IsOpened}
 use Rattle.lz_board.specs.Laws.{Prepares}
-use Rattle.thread_tests.specs.NineFound.{sizes, nine_words}
+use Rattle.thread_tests.specs.NineFound.{sizes, nine_words, at_open, key_stored, link_stored, when_linked, when_settled}
 
 pub nine_opened : IsOpened nine_words
 unfolding bucket_of
 nine_opened = record { found = (omega arith, refl, refl, tt); words = refl }
-
-abbrev pub at_open : Trace
-at_open = opened_by nine_words
-
-abbrev pub key_stored : Trace
-key_stored = key_prepared 1 12 ∷ at_open
-
-abbrev pub link_stored : Trace
-link_stored = link_prepared 1 0 ∷ key_stored
-
-abbrev pub when_linked : ℕ → Trace
-when_linked p = linked 12 1 p ∷ link_stored
-
-abbrev pub when_settled : ℕ → Trace
-when_settled p = settled 1 Added ∷ when_linked p
 
 abbrev pub when_marked : ℕ → Trace
 when_marked p = marked 12 1 p ∷ when_settled p
@@ -253,12 +231,3 @@ module _ (y : Sizes) (opened P : Trace) (s k : ℕ) (sized : y ≡ sizes) (slot 
 
   pub lawful_unlinked : (p : ℕ) → P ≡ when_removed p → Lawful y.buckets y.slots (unlinked k s p ∷ P)
   lawful_unlinked p is = subst (λ (x : Sizes × Trace × ℕ × ℕ). Lawful x.0.buckets x.0.slots (unlinked x.3 x.2 p ∷ x.1)) (λ i. (sym sized i, sym is i, sym slot i, sym key i)) (may_unlink p, removed_lawful p)
-
--- a pass that was inside before a glance is inside after it
-pub inside_after : (r : Result Glance GlanceFault) (before after : Part) → Turns r before after → IsInside before.pin → IsInside after.pin
-inside_after (Ok Yes) before after turns inside = omega (arith, turns, inside)
-inside_after (Ok No) before after turns inside = omega (arith, turns, inside)
-inside_after (Ok (Unsettled s)) before after turns inside = omega (arith, turns, inside)
-inside_after (Err Halted) before after turns inside = omega (arith, turns, inside)
-inside_after (Err Worn) before after turns inside = subst (λ (h : Part). IsInside h.pin) (sym turns) inside
-inside_after (Err BusyPass) before after turns inside = subst (λ (h : Part). IsInside h.pin) (sym turns) inside

@@ -1,11 +1,11 @@
 //! What passes see of a call of another one that is held between two of its events, at a gate that gives up in the end.
-ghost use Rattle.std.specs.Prelude.{◌≡◌, ◌≤◌, IfSome};
+ghost use Rattle.std.specs.Prelude.{◌≡◌, ◌≤◌, All, IfSome};
 ghost use Rattle.lz_set.specs.Names.{MayCall};
 ghost use Rattle.lz_set.specs.Blanks.{MayBeNamed};
 ghost use Rattle.lz_disk.specs.Records.{device_of};
 
 use crate::gates::{Gate, Signals, wait_for};
-use crate::partners::{call_once, fill};
+use crate::partners::{call_once, fill, two_passes};
 use crate::plots::{Asked, Phase, Plot, addition, removal};
 use lazyset_testing::{keys_in, last_pass, made};
 use lz_disk::MemoryDisk;
@@ -168,6 +168,23 @@ struct Scene {
 }
 
 // The second pass fills the set, and then it is beside the first one, with a third one where there is one.
+fn fill_and_hold<N: Named + Send + Sync, R: Threads + Wait + Clock + Sync>(
+    rt: &R,
+    set: &Set<MemoryDisk, Gate<'_, R>, N>,
+    passes: Vec<Pass>,
+    signals: &Signals,
+    asked: Asked,
+) -> Option<Beside>
+    requires { All (MayCall N.board) passes.items }
+{
+    let mut passes = passes;
+    let (first, mut second) = two_passes::<N>(&mut passes)?;
+    let third = last_pass::<N>(&mut passes);
+    fill(rt, set, &mut second)?;
+    hold(rt, set, first, second, third, signals, asked)
+}
+
+// The same on a set that was opened.
 fn play<N: Named + Send + Sync, R: Threads + Wait + Clock + Sync>(
     rt: &R,
     blank: Blank<MemoryDisk, Gate<'_, R>>,
@@ -176,20 +193,33 @@ fn play<N: Named + Send + Sync, R: Threads + Wait + Clock + Sync>(
 ) -> Option<Scene>
     requires { MayBeNamed device_of N.board N.first N.format blank }
 {
-    let (set, mut passes) = blank.start::<N>();
-    let mut second = last_pass::<N>(&mut passes)?;
-    let first = last_pass::<N>(&mut passes)?;
-    let third = last_pass::<N>(&mut passes);
-    fill(rt, &set, &mut second)?;
-    let beside = hold(rt, &set, first, second, third, signals, asked)?;
+    let (set, passes) = blank.start::<N>();
+    let beside = fill_and_hold(rt, &set, passes, signals, asked)?;
     Some(Scene {
         beside,
         disk: set.close(),
     })
 }
 
-// The scene of a call that is held after its event of this number and kind, on a new set of eight slots and so many passes. None
-// where a wait gave up, or the event was another.
+// The same on a new set of eight slots and so many passes.
+fn play_on<R: Threads + Wait + Clock + Sync>(
+    rt: &R,
+    alloc: Global,
+    passes: usize,
+    gate: Gate<'_, R>,
+    signals: &Signals,
+    asked: Asked,
+) -> Option<Scene>
+    requires { (2 ≤ passes) × (passes ≤ 3) }
+{
+    match Set::open(alloc, made(alloc, 8)?, gate, 1, passes) {
+        Ok(blank) => play::<Brand, _>(rt, blank, signals, asked),
+        Err(_) => None,
+    }
+}
+
+// The scene of a call that is held after its event of this number and kind, where there are so many passes. None where a wait gave
+// up, or the event was another.
 fn scene_of<R: Threads + Wait + Clock + Sync>(
     rt: &R,
     alloc: Global,
@@ -208,10 +238,7 @@ fn scene_of<R: Threads + Wait + Clock + Sync>(
         kind,
         signals: &signals,
     };
-    let scene = match Set::open(alloc, made(alloc, 8)?, gate, 1, passes) {
-        Ok(blank) => play::<Brand, _>(rt, blank, &signals, asked),
-        Err(_) => None,
-    };
+    let scene = play_on(rt, alloc, passes, gate, &signals, asked);
     if signals.is_off.load(Ordering::SeqCst) {
         return None;
     }
@@ -231,6 +258,20 @@ fn wanted(plot: &Plot, phase: Phase, early: Result<Glance, GlanceFault>) -> Besi
     }
 }
 
+// What was answered and seen beside the call has to be what is wanted after its event of this number.
+fn compare(rt: &impl Abort, plot: &Plot, event: u64, step: (Kind, Phase), beside: Beside) {
+    let (kind, phase) = step;
+    assert!(rt;
+        plot.may_be_seen(phase, beside.early),
+        "event {event}, {kind:?}: {beside:?}"
+    );
+    assert_eq!(rt;
+        beside,
+        wanted(plot, phase, beside.early),
+        "event {event}, {kind:?}"
+    );
+}
+
 // Holds the call after each of its events in turn, on a set of so many passes.
 fn hold_after_each<R: Threads + Wait + Clock + Sync + Abort>(
     rt: &R,
@@ -241,22 +282,15 @@ fn hold_after_each<R: Threads + Wait + Clock + Sync + Abort>(
     requires { (2 ≤ passes) × (passes ≤ 3) }
 {
     let mut event = 0u64;
-    for (kind, phase) in plot.events.iter().take(plot.length) {
-        let Some(scene) = scene_of(rt, alloc, passes, event, *kind, plot.asked) else {
+    for step in plot.events.iter().take(plot.length) {
+        let (kind, _) = *step;
+        let Some(scene) = scene_of(rt, alloc, passes, event, kind, plot.asked) else {
             panic!(rt;
                 "event {event}, {kind:?}: no set, another answer or event, or a wait that gave up"
             )
         };
         let Scene { beside, disk } = scene;
-        assert!(rt;
-            plot.may_be_seen(*phase, beside.early),
-            "event {event}, {kind:?}: {beside:?}"
-        );
-        assert_eq!(rt;
-            beside,
-            wanted(plot, *phase, beside.early),
-            "event {event}, {kind:?}"
-        );
+        compare(rt, plot, event, *step, beside);
         let keys = keys_in(alloc, disk);
         assert!(rt;
             keys.is_some_and(|keys| plot.leaves(keys.as_slice())),

@@ -1,5 +1,5 @@
 //! Each device call of a set's commands fails in turn, and each kind of crash follows.
-ghost use Rattle.std.specs.Prelude.{◌≡◌};
+ghost use Rattle.std.specs.Prelude.{◌≡◌, All};
 ghost use Rattle.lz_set.specs.Names.{MayCall};
 ghost use Rattle.lz_set.specs.Blanks.{MayBeNamed};
 ghost use Rattle.lz_disk.specs.Records.{device_of};
@@ -47,12 +47,13 @@ fn ask_all<N: Named, R: Wait>(
     rt: &R,
     alloc: Global,
     set: &Set<MemoryDisk, NoGate, N>,
-    pass: Pass,
+    passes: Vec<Pass>,
     count: usize,
 ) -> Option<Vec<Result<bool, Fault>>>
-    requires { MayCall N.board pass }
+    requires { All (MayCall N.board) passes.items }
 {
-    let mut pass = pass;
+    let mut passes = passes;
+    let mut pass = last_pass::<N>(&mut passes)?;
     let mut answers = Vec::new(alloc);
     for command in commands(alloc)?.into_iter().take(count) {
         answers.push(ask(rt, set, &mut pass, command)).ok()?;
@@ -69,9 +70,8 @@ fn play<N: Named, R: Wait>(
 ) -> Option<Played>
     requires { MayBeNamed device_of N.board N.first N.format blank }
 {
-    let (set, mut passes) = blank.start::<N>();
-    let pass = last_pass::<N>(&mut passes)?;
-    let answers = ask_all(rt, alloc, &set, pass, count)?;
+    let (set, passes) = blank.start::<N>();
+    let answers = ask_all(rt, alloc, &set, passes, count)?;
     Some(Played {
         answers,
         disk: set.close(),
@@ -106,6 +106,28 @@ fn holds(alloc: Global, disk: MemoryDisk, failed: usize) -> bool {
     states.any(|state| *state == keys.as_slice())
 }
 
+// A device failed at the command of this number. What a stop or a crash leaves holds what was answered, with that one or without it.
+fn end_each_way(
+    rt: &impl Abort,
+    alloc: Global,
+    disk: MemoryDisk,
+    failing: Failing,
+    passes: u64,
+    failed: usize,
+) -> Result<(), Fail> {
+    let mut disk = disk;
+    for pick in ENDS.iter().flatten() {
+        let crashed = disk.crashed(*pick)?;
+        assert!(rt;
+            holds(alloc, crashed, failed),
+            "{failing:?} {passes} {pick:?}"
+        );
+    }
+    disk.stop();
+    assert!(rt; holds(alloc, disk, failed), "{failing:?} {passes}");
+    Ok(())
+}
+
 // The commands on a new set of two slots whose device fails after so many calls: the one of this number meets the fault, and
 // no call follows it. What is left holds what was answered, with that one or without it, whatever a stop or a crash leaves.
 fn drill<R: Wait + Abort>(
@@ -123,7 +145,7 @@ fn drill<R: Wait + Abort>(
     let Some(played) = play_on(rt, alloc, disk, 4) else {
         panic!(rt; "no set")
     };
-    let Played { answers, mut disk } = played;
+    let Played { answers, disk } = played;
     let is_told = answers
         .iter()
         .enumerate()
@@ -133,16 +155,7 @@ fn drill<R: Wait + Abort>(
         "{failing:?} {passes}: {answers:?}"
     );
     assert!(rt; disk.calls().wrapping_sub(before) == passes.wrapping_add(1));
-    for pick in ENDS.iter().flatten() {
-        let crashed = disk.crashed(*pick)?;
-        assert!(rt;
-            holds(alloc, crashed, failed),
-            "{failing:?} {passes} {pick:?}"
-        );
-    }
-    disk.stop();
-    assert!(rt; holds(alloc, disk, failed), "{failing:?} {passes}");
-    Ok(())
+    end_each_way(rt, alloc, disk, failing, passes, failed)
 }
 
 // The additions make four device calls each, the removal two, and the look none; each of these calls fails in turn.
@@ -164,6 +177,25 @@ const LINES: &[u8] = b"add 1\nadd 2\nremove 1\nhas 2\n";
 // What the session is told where the command of this number meets the fault.
 const TOLD: [&[u8]; 3] = [b"halted\n", b"yes\nhalted\n", b"yes\nyes\nhalted\n"];
 
+// A session on a new set of two slots whose device fails after so many calls.
+fn talk_failing<R: Wait + Abort>(
+    rt: &R,
+    alloc: Global,
+    failing: Failing,
+    passes: u64,
+    output: &mut Vec<u8>,
+) -> Talked {
+    let Some(mut disk) = made(alloc, 2) else {
+        panic!(rt; "no disk")
+    };
+    set_failing(&mut disk, failing, passes.wrapping_add(OPENING));
+    let mut reader = LINES;
+    let Some(talked) = talk_on(rt, alloc, disk, &mut reader, output) else {
+        panic!(rt; "no set")
+    };
+    talked
+}
+
 // The session ends there, and another one of the set with its first command. The disk is left as above.
 fn drill_session<R: Wait + Abort>(
     rt: &R,
@@ -172,33 +204,12 @@ fn drill_session<R: Wait + Abort>(
     passes: u64,
     failed: usize,
 ) -> Result<(), Fail> {
-    let Some(mut disk) = made(alloc, 2) else {
-        panic!(rt; "no disk")
-    };
-    set_failing(&mut disk, failing, passes.wrapping_add(OPENING));
-    let mut reader = LINES;
     let mut output: Vec<u8> = Vec::new(alloc);
-    let Some(talked) = talk_on(rt, alloc, disk, &mut reader, &mut output) else {
-        panic!(rt; "no set")
-    };
-    let Talked {
-        ended,
-        told,
-        mut disk,
-    } = talked;
+    let Talked { ended, told, disk } = talk_failing(rt, alloc, failing, passes, &mut output);
     let is_halted = ended == Ok(End::Halted) && told.as_slice() == b"halted\n".as_slice();
     let is_told = TOLD.get(failed).copied() == Some(output.as_slice());
     assert!(rt; is_halted && is_told, "{failing:?} {passes}");
-    for pick in ENDS.iter().flatten() {
-        let crashed = disk.crashed(*pick)?;
-        assert!(rt;
-            holds(alloc, crashed, failed),
-            "{failing:?} {passes} {pick:?}"
-        );
-    }
-    disk.stop();
-    assert!(rt; holds(alloc, disk, failed), "{failing:?} {passes}");
-    Ok(())
+    end_each_way(rt, alloc, disk, failing, passes, failed)
 }
 
 #[test]

@@ -1,15 +1,12 @@
 //! Threads that glance at a board while its pen links, settles, marks and unlinks a key.
-ghost use Rattle.std.specs.Prelude.{◌≡◌, ◌≤◌, ◌∷◌, All};
-ghost use Rattle.lz_list.specs.declared.publishing.Change.TheVariants as change;
-ghost use Rattle.lz_list.specs.declared.publishing.Publishing.TheVariants as publishing;
-ghost use Rattle.lz_board.specs.Opened.{opened_by};
+ghost use Rattle.std.specs.Prelude.{◌≡◌, ◌≤◌, All};
 ghost use Rattle.lz_board.specs.Seats.{id_of};
-ghost use Rattle.thread_tests.specs.NineFound.{nine_words, HasPublished, MayLook};
+ghost use Rattle.thread_tests.specs.NineFound.{at_open, link_stored, when_settled, HasPublished, MayLook};
 
-use crate::boards::{Store, key, publish};
+use crate::boards::{SETTLED, Store, key, link, new_board, prepare, publish, sees, settle};
 use lz_board::{Board, Glance, Pass, Pen};
-use lz_core::Event;
-use lz_list::{Change, Publishing, Word, Words};
+use lz_list::{Change, Publishing, Word};
+use lz_machine::Event;
 use lz_slot::{Key, Slot};
 use std::alloc::Global;
 use std::sync::Wait;
@@ -19,9 +16,7 @@ use std::thread;
 use std::thread::Threads;
 use std::time::{Duration, Instant};
 
-// The link word of a node without a successor, whose adding is settled; the marked one, and that settled as well.
-const SETTLED: u64 = 8_589_934_592;
-
+// The link word of a marked node without a successor, whose adding is settled, and that of one whose removal is settled as well.
 const MARKED: u64 = 12_884_901_888;
 
 const REMOVED: u64 = 30_064_771_072;
@@ -52,64 +47,23 @@ fn tell(signals: &Signals, stores: u64)
     }
 }
 
-// The pen prepares key 12 in slot 1.
-fn prepare(board: &Board, pen: &mut Pen, pass: &mut Pass, slot: Slot, twelve: Key)
-    requires here { HasPublished (id_of board.now) pen.old pass.old (opened_by nine_words) }
-    requires slot { slot ≡ 1 }
-    requires twelve { twelve ≡ 12 }
-    ensures here { HasPublished (id_of board.now) pen.new pass.new (publishing.LinkPrepared 1 0 ∷ publishing.KeyPrepared 1 12 ∷ opened_by nine_words) }
-    ensures number { pass.new.number ≡ pass.old.number }
-{
-    let key = Store {
-        word: Word::Key(slot),
-        old: 0,
-        new: 12,
-        event: Event::WriteKey(twelve),
-        publishing: Publishing::KeyPrepared(slot, twelve),
-    };
-    publish(board, pen, pass, key);
-    let link = Store {
-        word: Word::Link(slot),
-        old: 0,
-        new: 0,
-        event: Event::WriteOpen,
-        publishing: Publishing::LinkPrepared(slot, 0),
-    };
-    publish(board, pen, pass, link);
-}
-
 // It links the key behind key 9, and settles that.
-fn link(board: &Board, pen: &mut Pen, pass: &mut Pass, slot: Slot, twelve: Key, signals: &Signals)
-    requires here { HasPublished (id_of board.now) pen.old pass.old (publishing.LinkPrepared 1 0 ∷ publishing.KeyPrepared 1 12 ∷ opened_by nine_words) }
+fn add(board: &Board, pen: &mut Pen, pass: &mut Pass, slot: Slot, twelve: Key, signals: &Signals)
+    requires here { HasPublished (id_of board.now) pen.old pass.old link_stored }
     requires slot { slot ≡ 1 }
     requires twelve { twelve ≡ 12 }
-    ensures here { HasPublished (id_of board.now) pen.new pass.new (publishing.Settled 1 change.Added ∷ publishing.Linked 12 1 pass.old.number ∷ publishing.LinkPrepared 1 0 ∷ publishing.KeyPrepared 1 12 ∷ opened_by nine_words) }
+    ensures here { HasPublished (id_of board.now) pen.new pass.new (when_settled pass.old.number) }
     ensures number { pass.new.number ≡ pass.old.number }
 {
-    let owner = pass.number();
-    let linked = Store {
-        word: Word::Link(Slot::new(0)),
-        old: SETTLED,
-        new: SETTLED + 2,
-        event: Event::Link,
-        publishing: Publishing::Linked(twelve, slot, owner),
-    };
-    publish(board, pen, pass, linked);
+    link(board, pen, pass, slot, twelve);
     tell(signals, 1);
-    let settled = Store {
-        word: Word::Link(slot),
-        old: 0,
-        new: SETTLED,
-        event: Event::Settle(slot),
-        publishing: Publishing::Settled(slot, Change::Added),
-    };
-    publish(board, pen, pass, settled);
+    settle(board, pen, pass, slot);
     tell(signals, 2);
 }
 
 // It marks the key, settles that, and unlinks the key.
 fn unlink(board: &Board, pen: &mut Pen, pass: &mut Pass, slot: Slot, twelve: Key, signals: &Signals)
-    requires here { HasPublished (id_of board.now) pen.old pass.old (publishing.Settled 1 change.Added ∷ publishing.Linked 12 1 pass.old.number ∷ publishing.LinkPrepared 1 0 ∷ publishing.KeyPrepared 1 12 ∷ opened_by nine_words) }
+    requires here { HasPublished (id_of board.now) pen.old pass.old (when_settled pass.old.number) }
     requires slot { slot ≡ 1 }
     requires twelve { twelve ≡ 12 }
 {
@@ -167,22 +121,14 @@ fn sight_from(from: usize, slot: Slot, sight: Glance) -> Option<usize> {
     Some(at)
 }
 
-// Whether a pass sees a key so.
-fn sees(board: &Board, pass: &mut Pass, key: Key, sight: Glance) -> bool
-    requires { MayLook (id_of board.now) pass.old }
-    ensures { MayLook (id_of board.now) pass.new }
-{
-    board.glance(pass, key) == Ok(sight)
-}
-
 // Looks for each key. Says how far the key that comes and goes has come, from there on; None where something was seen that
 // isn't so.
 fn look(board: &Board, pass: &mut Pass, keys: &Keys, from: usize) -> Option<usize>
     requires { MayLook (id_of board.now) pass.old }
     ensures { MayLook (id_of board.now) pass.new }
 {
-    let is_nine = sees(board, pass, keys.nine, Glance::Yes);
-    let is_eight = !sees(board, pass, keys.eight, Glance::No);
+    let is_nine = sees(board, pass, keys.nine, Ok(Glance::Yes));
+    let is_eight = !sees(board, pass, keys.eight, Ok(Glance::No));
     let twelve = board.glance(pass, keys.twelve);
     if !is_nine || is_eight {
         return None;
@@ -235,14 +181,14 @@ fn watch(board: &Board, pass: Pass, keys: &Keys, signals: &Signals) -> bool
 
 // Once all have looked, the key comes and goes.
 fn work(board: &Board, pen: Pen, pass: Pass, keys: &Keys, signals: &Signals)
-    requires here { HasPublished (id_of board.now) pen pass (opened_by nine_words) }
+    requires here { HasPublished (id_of board.now) pen pass at_open }
     requires slot { keys.now.slot ≡ 1 }
     requires twelve { keys.now.twelve ≡ 12 }
 {
     tell(signals, 0);
     let (mut pen, mut pass) = (pen, pass);
     prepare(board, &mut pen, &mut pass, keys.slot, keys.twelve);
-    link(board, &mut pen, &mut pass, keys.slot, keys.twelve, signals);
+    add(board, &mut pen, &mut pass, keys.slot, keys.twelve, signals);
     unlink(board, &mut pen, &mut pass, keys.slot, keys.twelve, signals);
 }
 
@@ -257,7 +203,7 @@ fn meet<R: Threads + Wait + Sync>(
     keys: &Keys,
     signals: &Signals,
 ) -> bool
-    requires here { HasPublished (id_of board.now) pen pass (opened_by nine_words) }
+    requires here { HasPublished (id_of board.now) pen pass at_open }
     requires watchers { All (MayLook (id_of board.now)) watchers.items }
     requires slot { keys.now.slot ≡ 1 }
     requires twelve { keys.now.twelve ≡ 12 }
@@ -266,7 +212,7 @@ fn meet<R: Threads + Wait + Sync>(
         thread::scope_env(),
         rt,
         move |scope| -> bool
-            requires here { HasPublished (id_of board.now) pen pass (opened_by nine_words) }
+            requires here { HasPublished (id_of board.now) pen pass at_open }
             requires watchers { All (MayLook (id_of board.now)) watchers.items }
             requires slot { keys.now.slot ≡ 1 }
             requires twelve { keys.now.twelve ≡ 12 }
@@ -300,24 +246,13 @@ fn round<R: Threads + Wait + Sync>(rt: &R, alloc: Global, keys: &Keys) -> Option
     requires slot { keys.now.slot ≡ 1 }
     requires twelve { keys.now.twelve ≡ 12 }
 {
-    let Ok(mut words) = Words::new(alloc, 2, 1, 5) else {
-        return None;
-    };
-    words.set(Word::Key(Slot::new(0)), 9);
-    words.set(Word::Link(Slot::new(0)), SETTLED);
-    words.set(Word::Head(0), 1);
-    let Some((board, pen, mut passes)) = Board::new(alloc, &words) else {
-        return None;
-    };
-    let Some(pass) = passes.pop() else {
-        return None;
-    };
+    let (board, pen, pass, watchers) = new_board(alloc)?;
     let signals = Signals {
         stores: AtomicU64::new(0),
         looks: AtomicU64::new(0),
         is_given_up: AtomicBool::new(false),
     };
-    Some(meet(rt, alloc, &board, pen, pass, passes, keys, &signals))
+    Some(meet(rt, alloc, &board, pen, pass, watchers, keys, &signals))
 }
 
 // For a second, on one board after the other.

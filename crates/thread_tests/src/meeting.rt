@@ -4,7 +4,8 @@ ghost use Rattle.lz_set.specs.Names.{MayCall};
 ghost use Rattle.lz_set.specs.Blanks.{MayBeNamed};
 ghost use Rattle.lz_disk.specs.Records.{device_of};
 
-use lazyset_testing::{keys_in, last_pass, made};
+use crate::partners::two_passes;
+use lazyset_testing::{keys_in, made};
 use lz_disk::MemoryDisk;
 use lz_set::{Blank, Fault, Glance, GlanceFault, Named, NoGate, Pass, Set};
 use lz_slot::Key;
@@ -26,26 +27,25 @@ struct Turns {
 fn take_turns<N: Named, R: Wait>(
     rt: &R,
     set: &Set<MemoryDisk, NoGate, N>,
-    first: Pass,
-    second: Pass,
+    passes: Vec<Pass>,
     key: Key,
-) -> Turns
-    requires first { MayCall N.board first }
-    requires second { MayCall N.board second }
+) -> Option<Turns>
+    requires { All (MayCall N.board) passes.items }
 {
-    let (mut first, mut second) = (first, second);
+    let mut passes = passes;
+    let (mut first, mut second) = two_passes::<N>(&mut passes)?;
     let added = set.add(rt, &mut first, key);
     set.meet(&mut first, &mut second);
     let seen = set.glance(&mut second, key);
     let removed = set.remove(rt, &mut second, key);
     set.meet(&mut first, &mut second);
     let missed = set.glance(&mut first, key);
-    Turns {
+    Some(Turns {
         added,
         seen,
         removed,
         missed,
-    }
+    })
 }
 
 // The same with the passes of a set that was opened for two.
@@ -56,10 +56,8 @@ fn start_turns<N: Named, R: Wait>(
 ) -> Option<Turns>
     requires { MayBeNamed device_of N.board N.first N.format blank }
 {
-    let (set, mut passes) = blank.start::<N>();
-    let second = last_pass::<N>(&mut passes)?;
-    let first = last_pass::<N>(&mut passes)?;
-    Some(take_turns(rt, &set, first, second, key))
+    let (set, passes) = blank.start::<N>();
+    take_turns(rt, &set, passes, key)
 }
 
 // The same on a new set of two slots.
@@ -97,7 +95,32 @@ fn close_with_both<N: Named>(
     set.close_with(&mut passes)
 }
 
-// Two passes add a key each, and one removes what the other one added.
+// Two passes add a key each, and one removes what the other one added. None where a call had another answer than true.
+fn take_part<N: Named, R: Wait>(
+    rt: &R,
+    set: &Set<MemoryDisk, NoGate, N>,
+    first: &mut Pass,
+    second: &mut Pass,
+) -> Option<()>
+    requires first { MayCall N.board first.old }
+    requires second { MayCall N.board second.old }
+    ensures first { MayCall N.board first.new }
+    ensures second { MayCall N.board second.new }
+{
+    let (nine, four, large) = (Key::new(9)?, Key::new(4)?, Key::new(17)?);
+    let answers = [
+        set.add(rt, first, nine),
+        set.add(rt, second, four),
+        set.add(rt, first, large),
+        set.remove(rt, first, four),
+    ];
+    if answers.iter().any(|answer| *answer != Ok(true)) {
+        return None;
+    }
+    Some(())
+}
+
+// The same on a set that is then closed with both.
 fn leave<N: Named, R: Wait>(
     rt: &R,
     set: Set<MemoryDisk, NoGate, N>,
@@ -108,16 +131,7 @@ fn leave<N: Named, R: Wait>(
     requires second { MayCall N.board second }
 {
     let (mut first, mut second) = (first, second);
-    let (nine, four, large) = (Key::new(9)?, Key::new(4)?, Key::new(17)?);
-    let answers = [
-        set.add(rt, &mut first, nine),
-        set.add(rt, &mut second, four),
-        set.add(rt, &mut first, large),
-        set.remove(rt, &mut first, four),
-    ];
-    if answers.iter().any(|answer| *answer != Ok(true)) {
-        return None;
-    }
+    take_part(rt, &set, &mut first, &mut second)?;
     Some(close_with_both(set, first, second))
 }
 
@@ -126,8 +140,7 @@ fn start_leaving<N: Named, R: Wait>(rt: &R, blank: Blank<MemoryDisk, NoGate>) ->
     requires { MayBeNamed device_of N.board N.first N.format blank }
 {
     let (set, mut passes) = blank.start::<N>();
-    let second = last_pass::<N>(&mut passes)?;
-    let first = last_pass::<N>(&mut passes)?;
+    let (first, second) = two_passes::<N>(&mut passes)?;
     leave(rt, set, first, second)
 }
 

@@ -1,9 +1,11 @@
 //! A session of the service, and another one behind it; a reader and a writer that fail at each place of it.
+ghost use Rattle.std.specs.Prelude.{All};
 ghost use Rattle.lz_set.specs.Names.{MayCall};
 ghost use Rattle.lz_disk.specs.Records.{device_of};
 ghost use Rattle.lz_set.specs.Blanks.{MayBeNamed};
 
-use lazyset_testing::{Narrow, Slow, keys_in, last_pass, made};
+use crate::partners::two_passes;
+use lazyset_testing::{Narrow, Slow, keys_in, made};
 use lz_disk::MemoryDisk;
 use lz_proto::{End, SessionFault, session};
 use lz_serve::Seated;
@@ -11,6 +13,7 @@ use lz_set::{Blank, Named, NoGate, Pass, Set};
 use std::alloc::Global;
 use std::io::{Read, Write};
 use std::marker::Brand;
+use std::process::Abort;
 use std::sync::Wait;
 use std::test::Fail;
 
@@ -37,7 +40,28 @@ fn converse<N: Named, I: Read, O: Write, R: Wait>(
     session(alloc, reader, writer, &mut seated)
 }
 
-// A session, and behind it one of another pass, which asks which keys are members.
+// A session, and behind it one of another pass, which asks which keys are members. How the first one ended, and what the other one
+// was told.
+fn converse_twice<N: Named, I: Read, O: Write, R: Wait>(
+    rt: &R,
+    alloc: Global,
+    set: &Set<MemoryDisk, NoGate, N>,
+    passes: Vec<Pass>,
+    reader: &mut I,
+    writer: &mut O,
+) -> Option<(Result<End, SessionFault>, Vec<u8>)>
+    requires { All (MayCall N.board) passes.items }
+{
+    let mut passes = passes;
+    let (pass, other) = two_passes::<N>(&mut passes)?;
+    let ended = converse(rt, alloc, set, pass, reader, writer);
+    let mut asked = b"has 1\nhas 2\nhas 3\n".as_slice();
+    let mut told: Vec<u8> = Vec::new(alloc);
+    converse(rt, alloc, set, other, &mut asked, &mut told).ok()?;
+    Some((ended, told))
+}
+
+// The same on a set that was opened.
 fn talk<N: Named, I: Read, O: Write, R: Wait>(
     rt: &R,
     alloc: Global,
@@ -47,17 +71,8 @@ fn talk<N: Named, I: Read, O: Write, R: Wait>(
 ) -> Option<Talked>
     requires { MayBeNamed device_of N.board N.first N.format blank }
 {
-    let (set, mut passes) = blank.start::<N>();
-    let (Some(other), Some(pass)) = (last_pass::<N>(&mut passes), last_pass::<N>(&mut passes))
-    else {
-        return None;
-    };
-    let ended = converse(rt, alloc, &set, pass, reader, writer);
-    let mut asked = b"has 1\nhas 2\nhas 3\n".as_slice();
-    let mut told: Vec<u8> = Vec::new(alloc);
-    if converse(rt, alloc, &set, other, &mut asked, &mut told).is_err() {
-        return None;
-    }
+    let (set, passes) = blank.start::<N>();
+    let (ended, told) = converse_twice(rt, alloc, &set, passes, reader, writer)?;
     Some(Talked {
         ended,
         told,
@@ -102,6 +117,22 @@ fn has_left(alloc: Global, talked: Talked, fault: SessionFault, done: usize) -> 
     ended == Err(fault) && told.as_slice() == *seen && found.as_slice() == *keys
 }
 
+// A session on a new set of two slots.
+fn talk_on_new<I: Read, O: Write, R: Wait + Abort>(
+    rt: &R,
+    alloc: Global,
+    reader: &mut I,
+    writer: &mut O,
+) -> Talked {
+    let Some(disk) = made(alloc, 2) else {
+        panic!(rt; "no disk")
+    };
+    let Some(talked) = talk_on(rt, alloc, disk, reader, writer) else {
+        panic!(rt; "no session")
+    };
+    talked
+}
+
 // The lines that came whole before a read failed are answered and done, and no other.
 #[test]
 fn a_failed_read_ends_a_session(rt: HostRuntime) -> Result<(), Fail> {
@@ -115,12 +146,7 @@ fn a_failed_read_ends_a_session(rt: HostRuntime) -> Result<(), Fail> {
                 fails: true,
             };
             let mut output: Vec<u8> = Vec::new(rt.alloc());
-            let Some(disk) = made(rt.alloc(), 2) else {
-                panic!(rt; "no disk")
-            };
-            let Some(talked) = talk_on(&rt, rt.alloc(), disk, &mut reader, &mut output) else {
-                panic!(rt; "no session")
-            };
+            let talked = talk_on_new(&rt, rt.alloc(), &mut reader, &mut output);
             let is_told = Some(output.as_slice()) == REPLIES.get(..done.wrapping_mul(4));
             let has_left = has_left(rt.alloc(), talked, SessionFault::Read, done);
             assert!(rt; is_told && has_left, "after {count} bytes");
@@ -135,12 +161,7 @@ fn a_failed_write_ends_a_session(rt: HostRuntime) -> Result<(), Fail> {
     for room in 0..REPLIES.len() {
         let mut reader = LINES;
         let mut writer = Narrow::new(rt.alloc(), room);
-        let Some(disk) = made(rt.alloc(), 2) else {
-            panic!(rt; "no disk")
-        };
-        let Some(talked) = talk_on(&rt, rt.alloc(), disk, &mut reader, &mut writer) else {
-            panic!(rt; "no session")
-        };
+        let talked = talk_on_new(&rt, rt.alloc(), &mut reader, &mut writer);
         let is_told = Some(writer.taken.as_slice()) == REPLIES.get(..room);
         let done = (room / 4).wrapping_add(1);
         let has_left = has_left(rt.alloc(), talked, SessionFault::Write, done);

@@ -4,12 +4,13 @@ ghost use Rattle.lz_set.specs.Names.{MayCall};
 ghost use Rattle.lz_set.specs.Blanks.{MayBeNamed};
 ghost use Rattle.lz_disk.specs.Records.{device_of};
 
-use lazyset_testing::{ENDS, FAILINGS, end_life, keys_in, made, set_failing};
-use lz_disk::MemoryDisk;
+use lazyset_testing::{ENDS, FAILINGS, Failing, end_life, keys_in, made, set_failing};
+use lz_disk::{MemoryDisk, Pick};
 use lz_set::{Blank, Fault, Named, NoGate, Pass, Set, StepGate};
 use lz_slot::{Command, Key};
 use std::alloc::Global;
 use std::marker::Brand;
+use std::process::Abort;
 use std::sync::Wait;
 use std::test::Fail;
 use std::thread;
@@ -191,70 +192,104 @@ fn share<N: Named + Send + Sync, R: Threads + Wait + Sync>(
 }
 
 // Opens the set of a disk for so many threads, which share it.
-fn run<R: Threads + Wait + Sync>(
+fn run<R: Threads + Wait + Sync + Abort>(
     rt: &R,
     alloc: Global,
     disk: MemoryDisk,
     buckets: usize,
     threads: usize,
     rounds: u64,
-) -> Option<Shared>
+) -> Shared
     requires buckets { (1 ≤ buckets) × (buckets ≤ 4096) }
     requires threads { (1 ≤ threads) × (threads ≤ 64) }
 {
     match Set::open(alloc, disk, NoGate, buckets, threads) {
-        Ok(blank) => Some(share::<Brand, _>(rt, alloc, blank, rounds)),
-        Err(_) => None,
+        Ok(blank) => share::<Brand, _>(rt, alloc, blank, rounds),
+        Err(_) => panic!(rt; "no set"),
     }
+}
+
+// A disk with a new file.
+fn new_disk(rt: &impl Abort, alloc: Global) -> MemoryDisk {
+    let Some(disk) = made(alloc, 64) else {
+        panic!(rt; "no disk")
+    };
+    disk
+}
+
+// The keys that a disk's file holds.
+fn keys_left(rt: &impl Abort, alloc: Global, disk: MemoryDisk) -> Vec<u64> {
+    let Some(keys) = keys_in(alloc, disk) else {
+        panic!(rt; "no file")
+    };
+    keys
+}
+
+// Two threads share a new set of so many buckets.
+fn add_up<R: Threads + Wait + Sync + Abort>(rt: &R, alloc: Global, buckets: usize)
+    requires { (1 ≤ buckets) × (buckets ≤ 4096) }
+{
+    let disk = new_disk(rt, alloc);
+    let Shared { tallies, mut disk } = run(rt, alloc, disk, buckets, 2, 10_000);
+    assert!(rt; tallies.len() == 2 && tallies.iter().all(|tally| tally.cut_off.is_none()));
+    disk.stop();
+    let keys = keys_left(rt, alloc, disk);
+    assert!(rt; leads_to(&tallies, &keys), "{buckets} buckets: {keys:?}");
 }
 
 #[test]
 fn two_threads_add_up_to_a_set(rt: HostRuntime) -> Result<(), Fail> {
     for buckets in [1, 7] {
-        let Some(disk) = made(rt.alloc(), 64) else {
-            panic!(rt; "no disk")
-        };
-        let Some(shared) = run(&rt, rt.alloc(), disk, buckets, 2, 10_000) else {
-            panic!(rt; "no set")
-        };
-        let Shared { tallies, mut disk } = shared;
-        assert!(rt; tallies.len() == 2 && tallies.iter().all(|tally| tally.cut_off.is_none()));
-        disk.stop();
-        let Some(keys) = keys_in(rt.alloc(), disk) else {
-            panic!(rt; "no file")
-        };
-        assert!(rt; leads_to(&tallies, &keys), "{buckets} buckets: {keys:?}");
+        add_up(&rt, rt.alloc(), buckets);
     }
     Ok(())
 }
 
+// Four threads share a new set whose device fails.
+fn share_failing<R: Threads + Wait + Sync + Abort>(
+    rt: &R,
+    alloc: Global,
+    failing: Failing,
+) -> Shared {
+    let mut disk = new_disk(rt, alloc);
+    set_failing(&mut disk, failing, 400);
+    run(rt, alloc, disk, 1, 4, 300)
+}
+
+// How many calls were told that their device call failed.
+fn devices_of(tallies: &[Tally]) -> u64 {
+    tallies
+        .iter()
+        .fold(0u64, |sum, tally| sum.wrapping_add(tally.devices))
+}
+
 // The call whose device call failed is told, and all others that come then are halted. What was answered is there, whatever the
 // crash or the stop behind it leaves.
+fn end_failed(
+    rt: &impl Abort,
+    alloc: Global,
+    shared: Shared,
+    failing: Failing,
+    end: Option<Pick>,
+) -> Result<(), Fail> {
+    let Shared { tallies, mut disk } = shared;
+    assert_eq!(rt; devices_of(&tallies), 1);
+    assert!(rt; tallies.iter().all(|tally| tally.others == 0));
+    end_life(&mut disk, end)?;
+    let keys = keys_left(rt, alloc, disk);
+    assert!(rt;
+        tallies.len() == 4 && leads_to(&tallies, &keys),
+        "{failing:?} {end:?}: {keys:?}"
+    );
+    Ok(())
+}
+
 #[test]
 fn a_device_fails_under_four_threads(rt: HostRuntime) -> Result<(), Fail> {
     for failing in FAILINGS {
         for end in ENDS {
-            let Some(mut disk) = made(rt.alloc(), 64) else {
-                panic!(rt; "no disk")
-            };
-            set_failing(&mut disk, failing, 400);
-            let Some(shared) = run(&rt, rt.alloc(), disk, 1, 4, 300) else {
-                panic!(rt; "no set")
-            };
-            let Shared { tallies, mut disk } = shared;
-            let devices = tallies
-                .iter()
-                .fold(0u64, |sum, tally| sum.wrapping_add(tally.devices));
-            assert_eq!(rt; devices, 1);
-            assert!(rt; tallies.iter().all(|tally| tally.others == 0));
-            end_life(&mut disk, end)?;
-            let Some(keys) = keys_in(rt.alloc(), disk) else {
-                panic!(rt; "no file")
-            };
-            assert!(rt;
-                tallies.len() == 4 && leads_to(&tallies, &keys),
-                "{failing:?} {end:?}: {keys:?}"
-            );
+            let shared = share_failing(&rt, rt.alloc(), failing);
+            end_failed(&rt, rt.alloc(), shared, failing, end)?;
         }
     }
     Ok(())

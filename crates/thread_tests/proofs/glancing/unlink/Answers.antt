@@ -2,7 +2,8 @@ use Rattle.std.proofs.Common.{◌∷◌, sym, ap, ◌∙◌}
 use Rattle.lz_list.specs.declared.publishing.Change.TheVariants.{Removed}
 use Rattle.lz_list.specs.declared.publishing.Publishing.TheVariants.{Marked as marked, Settled as settled}
 use Rattle.lz_board.specs.Seats.{id_of}
-use Rattle.thread_tests.proofs.TwoSlots.{when_settled, writes_marked, lawful_marked, writes_removed, lawful_removed, writes_unlinked, lawful_unlinked}
+use Rattle.thread_tests.specs.NineFound.{when_settled}
+use Rattle.thread_tests.proofs.TwoSlots.{writes_marked, lawful_marked, writes_removed, lawful_removed, writes_unlinked, lawful_unlinked}
 use Rattle.thread_tests.proofs.glancing.unlink.Goals as goal
 
 pub publish-requires-clause-writes : goal.publish-requires-clause-writes

@@ -2,7 +2,7 @@ use Rattle.std.proofs.Common.{◌∷◌, ◌∙◌}
 use Rattle.lz_list.specs.declared.publishing.Publishing.TheVariants.{KeyPrepared as key_prepared, LinkPrepared as link_prepared}
 use Rattle.lz_board.specs.Seats.{id_of}
 use Rattle.thread_tests.proofs.TwoSlots.{writes_key, lawful_key, leaves_key, writes_link, lawful_link, leaves_link}
-use Rattle.thread_tests.proofs.glancing.prepare.Goals as goal
+use Rattle.thread_tests.proofs.boards.prepare.Goals as goal
 
 pub publish-requires-clause-writes : goal.publish-requires-clause-writes
 publish-requires-clause-writes c =

@@ -10,18 +10,18 @@ use Rattle.lz_board.specs.Opened.{sizes_in, opened_by, IsOpened}
 use Rattle.lz_board.specs.Seats.{id_of, IsNew}
 use Rattle.thread_tests.specs.NineFound.{nine_words, MayLook}
 use Rattle.thread_tests.proofs.TwoSlots.{nine_opened}
-use Rattle.thread_tests.proofs.glancing.round.Goals as goal
+use Rattle.thread_tests.proofs.boards.new_board.Goals as goal
 
 pub new-requires-4-clause-opened : goal.new-requires-4-clause-opened
-new-requires-4-clause-opened g c =
+new-requires-4-clause-opened c =
     let at_first = c.in-Ok.ensures in
     let with_key = c.set.ensures ∙ (λ i. set (at_first i) (Key (c.new-2.ensures i)) 9) in
     let with_link = c.set-2.ensures ∙ (λ i. set (with_key i) (Link (c.new-3.ensures i)) 8589934592) in
     let is : c.set-3.new.self ≡ nine_words = c.set-3.ensures ∙ (λ i. set (with_link i) (Head 0) 1) in
     subst IsOpened (sym is) nine_opened
 
-pub meet-requires-clause-here : goal.meet-requires-clause-here
-meet-requires-clause-here g c κs within =
+pub returns-clause-here : goal.returns-clause-here
+returns-clause-here c =
     let b = id_of c.in-Some.board in
     let at_first = c.in-Ok.ensures in
     let with_key = c.set.ensures ∙ (λ i. set (at_first i) (Key (c.new-2.ensures i)) 9) in
@@ -39,8 +39,8 @@ meet-requires-clause-here g c κs within =
       trace = ap (trace_of b.opened) c.in-Some.ensures.pen.1 ∙ first;
     }
 
-pub meet-requires-clause-watchers : goal.meet-requires-clause-watchers
-meet-requires-clause-watchers g c κs within =
+pub returns-clause-others : goal.returns-clause-others
+returns-clause-others c =
     let b = id_of c.in-Some.board in
     let popped = All-pop (IsNew b) c.in-Some.passes.items c.pop.new.self.items c.pop.result c.pop.ensures.items c.in-Some.ensures.passes.1 in
     All-weaker (IsNew b) (MayLook b) (λ p fresh. (fresh.0, ap (λ h. is_calling b.sizes h.steps) fresh.1)) c.pop.new.self.items popped.0
