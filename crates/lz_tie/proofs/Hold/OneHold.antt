@@ -107,7 +107,7 @@ module _ (b : BoardId) (F : Format) (ns found is : List Note) (y y' : Yard) (dev
           own = λ one. subst (OnlyOwn h.number b.opened) (sym comes.trace) (own_trace b ns y dev h locked knows one);
         };
         shows = turn_shows b found is hj h' joint.knows k e t.outcome t.published turn_j.call H
-        ∙ (λ i. mark_of_turn ((ap (λ p. number_of p found) same_number ∙ comes.number h.number) i) (reply_at k.progress) ++ comes.marks (shape_of b.sizes) i);
+            ∙ (λ i. mark_of_turn ((ap (λ p. number_of p found) same_number ∙ comes.number h.number) i) (reply_at k.progress) ++ comes.marks (shape_of b.sizes) i);
       }
 
   began : (c : Command) (t : Turn) → t ≡ record { outcome = begins_with y.vault.format c; published = None } → y.vault.format ≡ F → h.loads ≡ [] → found ≡ found_note h.number h.pin ∷ ns
@@ -119,7 +119,7 @@ module _ (b : BoardId) (F : Format) (ns found is : List Note) (y y' : Yard) (dev
       record {
         outcome = outcome;
         shows = call_shows b found is hj h' joint.knows c y.vault.format (ap (λ (q : Part). q.loads) part ∙ none) H
-        ∙ (λ i. Call (suc (comes.calls i)) (same_number i) c ∷ comes.marks (shape_of b.sizes) i);
+            ∙ (λ i. Call (suc (comes.calls i)) (same_number i) c ∷ comes.marks (shape_of b.sizes) i);
         holds = subst (λ (r : List Note). Holds b.opened r is (note_by h.number (Called c F) None) h h') at H'';
         opened = opened_known b ns h knows;
       }

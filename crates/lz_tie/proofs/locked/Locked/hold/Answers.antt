@@ -58,10 +58,12 @@ pub play_joined-turn-requires-clause-turn : goal.play_joined-turn-requires-claus
 play_joined-turn-requires-clause-turn g c =
     let next = one.asks_look g.N.Named.board.sizes (part c.args.pass.now) c.args.event c.in-SeePin.seen _ c.in-SeePin.is c.requires.asks in
     let ns = notes c.load_pin-value.new.pen in
-    let event = SeePin c.in-SeePin.seen c.load_pin-value.result in
-    (next.0, joined_turn ns ns (part c.args.pass.now) (carried c.load_pin-value.new.pen) (trace_of (id_of c.args.board.now).opened (notes c.self.inside.pen)) next.0 event
-    (found_turn (notes c.join.new.pen) ns (part c.args.pass.now) next.0 c.in-SeePin.seen _ c.load_pin-value.result next.1 c.load_pin-value.ensures.notes)
-    refl (c.load_pin-value.ensures.carried ∙ c.join.ensures.carried))
+    let event = SeePin c.in-SeePin.seen c.load_pin-value.result in (
+      next.0,
+      joined_turn ns ns (part c.args.pass.now) (carried c.load_pin-value.new.pen) (trace_of (id_of c.args.board.now).opened (notes c.self.inside.pen)) next.0 event
+          (found_turn (notes c.join.new.pen) ns (part c.args.pass.now) next.0 c.in-SeePin.seen _ c.load_pin-value.result next.1 c.load_pin-value.ensures.notes)
+          refl (c.load_pin-value.ensures.carried ∙ c.join.ensures.carried),
+    )
 
 pub play_joined-turn-requires-in_default-clause-hold : goal.play_joined-turn-requires-in_default-clause-hold
 play_joined-turn-requires-in_default-clause-hold g c =
