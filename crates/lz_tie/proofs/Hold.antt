@@ -8,3 +8,4 @@ pub mod Joining
 pub mod CallStart
 pub mod JoinedCall
 pub mod PinSight
+pub mod OneHold

@@ -21,11 +21,6 @@ use Rattle.lz_tie.specs.declared.playing.Turn.{Turn}
 use Rattle.lz_tie.specs.Holds.{Holds, Turned}
 use Rattle.lz_tie.specs.UnderWay.{UnderWay}
 
--- the pass whose pin word the event looks at
-abbrev pub seen_pass : Event → Option ℕ
-seen_pass (SeePin q v) = Some q
-seen_pass _ = None
-
 -- Where the call walks, the pass knows where its walk stands: P0 is the trace at its pin, Q what it has seen.
 abbrev pub OnWalk : Sizes → Command → Progress → Trace → Trace → Type 0
 OnWalk z c (Walking aim look) P0 Q = IsOnWalk z (key_of c) P0 Q look
@@ -42,11 +37,3 @@ pub record Counts (b : BoardId) (c : Command) (format : Format) (before : Part) 
 -- it counts some call of that pass
 abbrev pub IsCounted : BoardId → Calling → Part → Type 0
 IsCounted b k h = (c : Command) × (format : Format) × (before : Part) × Counts b c format before k h
-
--- A hold has played the next event of the call that k counts, which is no load, and this is what it gave.
-pub record Advanced (b : BoardId) (is : List Note) (k : Calling) (t : Turn) (before after : Part) : Type 0 where
-  pub was : List Note
-  pub event : Event
-  pub no_load : hop_of event ≡ None
-  pub holds : Holds b.opened was is (note_by before.number (Played event t.outcome) t.published) before after
-  pub turned : Turned b.opened was before k.command k.progress event t.outcome t.published

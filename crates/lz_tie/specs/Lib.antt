@@ -12,3 +12,4 @@ pub mod OwnCalls
 pub mod Moments
 pub mod Sessions
 pub mod Lives
+pub mod Held

@@ -7,10 +7,11 @@ ghost use Rattle.lz_tie.specs.Holds.{Holds, InHold, IsIdle, begins_with};
 ghost use Rattle.lz_tie.specs.Lives.{KeepsLife};
 ghost use Rattle.lz_tie.specs.Moments.{GoesOn};
 
+use crate::playing::Turn;
 use lz_board::{Board, Note, Pass, Pen, What};
 use lz_disk::Disk;
 use lz_list::Word;
-use lz_machine::{Event, Outcome};
+use lz_machine::Event;
 use lz_slot::Command;
 use lz_yard::Yard;
 
@@ -21,7 +22,7 @@ pub(crate) fn call_joined<D: Disk>(
     yard: &mut Yard<D>,
     pass: &Pass,
     command: Command,
-) -> Outcome
+) -> Turn
     requires carries { Carries (id_of board.now) pen.old }
     requires hold { InHold (id_of board.now) (notes pen.old) yard.old.yard (D.device yard.old.disk) (carried pen.old) }
     requires hand { IsAtHand (id_of board.now) pass.now (carried pen.old) }
@@ -31,7 +32,7 @@ pub(crate) fn call_joined<D: Disk>(
     ensures hold { InHold (id_of board.now) (notes pen.new) yard.new.yard (D.device yard.new.disk) (carried pen.new) }
     ensures hand { IsAtHand (id_of board.now) pass.now (carried pen.new) }
     ensures holds { Holds (id_of board.now).opened (notes pen.old) (notes pen.new) (note_by (carried pen.old).number (Called command yard.old.yard.vault.format) None) (carried pen.old) (carried pen.new) }
-    ensures outcome { result ≡ begins_with yard.old.yard.vault.format command }
+    ensures turn { result ≡ record { outcome = begins_with yard.old.yard.vault.format command; published = None } }
     ensures moments { GoesOn (id_of board.now) (notes pen.old) (notes pen.new) (D.device yard.old.disk) (D.device yard.new.disk) }
     ensures life { KeepsLife yard.old.yard (D.device yard.old.disk) yard.new.yard (D.device yard.new.disk) }
 {
@@ -48,5 +49,8 @@ pub(crate) fn call_joined<D: Disk>(
         published: None,
     };
     board.note(pen, Word::Halt, 2, 2, &note);
-    outcome
+    Turn {
+        outcome,
+        published: None,
+    }
 }

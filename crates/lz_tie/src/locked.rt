@@ -1,30 +1,20 @@
 //! What lies under the lock.
-ghost use Rattle.std.specs.Prelude.{◌≡◌, ◌⊎◌, ◌≤◌, ◌<◌, ◌∷◌, [], None, suc};
-ghost use Rattle.lz_slot.specs.declared.history.Mark.TheVariants.{Call};
+ghost use Rattle.std.specs.Prelude.{◌≡◌, ◌⊎◌, ◌≤◌, ◌<◌};
 ghost use Rattle.lz_vault.specs.Vaults.{last_sync};
 ghost use Rattle.lz_list.specs.Traces.{halt_word};
-ghost use Rattle.lz_machine.specs.declared.event.Event.TheVariants.{SeePin};
-ghost use Rattle.lz_machine.specs.declared.event.Outcome.TheVariants.{Fault};
-ghost use Rattle.lz_machine.specs.Calls.{event_at};
-ghost use Rattle.lz_machine.specs.Runs.{mark_of_turn, reply_at};
-ghost use Rattle.lz_board.specs.declared.view.What.TheVariants.{Called, Played};
-ghost use Rattle.lz_board.specs.Notes.{Extends, note_by, shape_of, trace_of};
-ghost use Rattle.lz_board.specs.Plays.{found_note};
-ghost use Rattle.lz_tie.specs.Marks.{Shows, calls_in, number_of};
+ghost use Rattle.lz_board.specs.Notes.{trace_of};
 ghost use Rattle.lz_board.specs.Seats.{IsOf, IsPenOf, id_of, notes, part};
-ghost use Rattle.lz_tie.specs.OnePass.{OnlyOwn};
-ghost use Rattle.lz_tie.specs.Holds.{HasCall, Holds, IsIdle, IsLocked, IsTurn, Turned, begins_with};
+ghost use Rattle.lz_tie.specs.Held.{Held, MayAsk};
+ghost use Rattle.lz_tie.specs.Holds.{IsLocked};
 ghost use Rattle.lz_tie.specs.Lives.{LivesOn};
-ghost use Rattle.lz_tie.specs.Moments.{ExplainedSince, HoldExplains, LeftSince};
+ghost use Rattle.lz_tie.specs.Moments.{ExplainedSince, LeftSince};
 
 use crate::calling::call_joined;
 use crate::named::Named;
 use crate::playing::{Turn, play_joined};
 use lz_board::{Board, Pass, Pen};
-use lz_caller::Caller;
 use lz_disk::Disk;
-use lz_machine::{Event, Outcome};
-use lz_slot::Command;
+use lz_machine::Event;
 use lz_yard::Yard;
 use std::marker::{Model, PhantomData};
 
@@ -66,76 +56,32 @@ impl<N: Named, D: Disk> Locked<N, D> {
         }
     }
 
-    /// One hold: plays the next event of the pass's call, which is no load and no look at a pin word. A fault is told only where the
-    /// device failed in this hold. In a set of one pass nothing was published that the pass hasn't seen, and nothing changed since
-    /// the life began but by it.
-    pub fn play(&mut self, board: &Board, pass: &mut Pass, caller: &Caller, event: Event) -> Turn
+    // One hold of the lock: the pass joins the pen, which finds the pin word that the event looks at, and for an Invoke the pass's
+    // own; the event is played and noted, and the pass is cut off again. A fault is told only where the device failed in this hold.
+    pub(crate) fn hold(&mut self, board: &Board, pass: &mut Pass, event: Event) -> Turn
         requires board { id_of board.now ≡ N.board }
         requires pass { IsOf N.board pass.old }
-        requires turn { IsTurn self.old.notes (part pass.old) caller.now event }
+        requires asks { MayAsk N.board.sizes (part pass.old) event }
         ensures pass { IsOf N.board pass.new }
-        ensures moments { HoldExplains N.board self.old.notes self.new.notes (D.device self.old.disk) (D.device self.new.disk) }
-        ensures shows { Shows (shape_of N.board.sizes) self.old.notes self.new.notes (mark_of_turn (number_of (part pass.old).number self.old.notes) (reply_at caller.now.progress)) }
-        ensures holds { Holds N.board.opened self.old.notes self.new.notes (note_by (part pass.old).number (Played event result.outcome) result.published) (part pass.old) (part pass.new) }
-        ensures turned { Turned N.board.opened self.old.notes (part pass.old) caller.now.command caller.now.progress event result.outcome result.published }
-        ensures device { result.outcome ≡ Fault → (D.device self.old.disk).faults < (D.device self.new.disk).faults }
-        ensures alone { N.board.sizes.passes ≡ 1 → trace_of N.board.opened self.old.notes ≡ (part pass.old).known }
-        ensures own { N.board.sizes.passes ≡ 1 → OnlyOwn (part pass.old).number N.board.opened (trace_of N.board.opened self.old.notes) }
+        ensures held { Held N.board N.format self.old.notes self.new.notes (D.device self.old.disk) (D.device self.new.disk) event result (part pass.old) (part pass.new) }
     {
+        let asked = event;
         board.join(&mut self.pen, pass);
-        let turn = play_joined(board, &mut self.pen, &mut self.yard, pass, caller, event);
+        let turn = match event {
+            Event::Invoke(command) => {
+                let number = pass.number();
+                board.load_pin(&mut self.pen, number);
+                call_joined(board, &mut self.pen, &mut self.yard, pass, command)
+            }
+            Event::SeePin(seen, _) => {
+                let value = board.load_pin(&mut self.pen, seen);
+                let found = Event::SeePin(seen, value);
+                play_joined(board, &mut self.pen, &mut self.yard, pass, found)
+            }
+            _ => play_joined(board, &mut self.pen, &mut self.yard, pass, asked),
+        };
         board.cut(&mut self.pen, pass);
         turn
-    }
-
-    /// The hold of a look at the pin word of a pass: the pen finds it, and notes what it found.
-    pub fn see(
-        &mut self,
-        board: &Board,
-        pass: &mut Pass,
-        caller: &Caller,
-        seen: usize,
-    ) -> (u64, Turn)
-        requires board { id_of board.now ≡ N.board }
-        requires pass { IsOf N.board pass.old }
-        requires call { HasCall (part pass.old) caller.now }
-        requires event { event_at (shape_of (part pass.old).sizes) caller.now.command caller.now.progress ≡ SeePin seen 0 }
-        ensures pass { IsOf N.board pass.new }
-        ensures moments { HoldExplains N.board self.old.notes self.new.notes (D.device self.old.disk) (D.device self.new.disk) }
-        ensures shows { Shows (shape_of N.board.sizes) self.old.notes self.new.notes (mark_of_turn (number_of (part pass.old).number self.old.notes) (reply_at caller.now.progress)) }
-        ensures holds { Holds N.board.opened (found_note seen result.0 ∷ self.old.notes) self.new.notes (note_by (part pass.old).number (Played (SeePin seen result.0) result.1.outcome) result.1.published) (part pass.old) (part pass.new) }
-        ensures turned { Turned N.board.opened (found_note seen result.0 ∷ self.old.notes) (part pass.old) caller.now.command caller.now.progress (SeePin seen result.0) result.1.outcome result.1.published }
-        ensures device { result.1.outcome ≡ Fault → (D.device self.old.disk).faults < (D.device self.new.disk).faults }
-    {
-        board.join(&mut self.pen, pass);
-        let value = board.load_pin(&mut self.pen, seen);
-        let event = Event::SeePin(seen, value);
-        let turn = play_joined(board, &mut self.pen, &mut self.yard, pass, caller, event);
-        board.cut(&mut self.pen, pass);
-        (value, turn)
-    }
-
-    /// The first hold of a call: the pen finds the pass's own pin word, and the call's Invoke is played and noted. The answer
-    /// is that of the Invoke: OldFile for an Add of a key that the file's format can't hold, which is answered next. The
-    /// pass had seen all that the life began with.
-    pub fn call(&mut self, board: &Board, pass: &mut Pass, command: Command) -> Outcome
-        requires board { id_of board.now ≡ N.board }
-        requires pass { IsOf N.board pass.old }
-        requires idle { IsIdle N.board.sizes (part pass.old) }
-        ensures pass { IsOf N.board pass.new }
-        ensures moments { HoldExplains N.board self.old.notes self.new.notes (D.device self.old.disk) (D.device self.new.disk) }
-        ensures shows { Shows (shape_of N.board.sizes) self.old.notes self.new.notes (Call (suc (calls_in self.old.notes)) (part pass.old).number command ∷ []) }
-        ensures holds { Holds N.board.opened (found_note (part pass.old).number (part pass.old).pin ∷ self.old.notes) self.new.notes (note_by (part pass.old).number (Called command self.old.yard.vault.format) None) (part pass.old) (part pass.new) }
-        ensures outcome { result ≡ begins_with self.old.yard.vault.format command }
-        ensures format { self.old.yard.vault.format ≡ N.format }
-        ensures opened { Extends (part pass.old).known N.board.opened }
-    {
-        board.join(&mut self.pen, pass);
-        let number = pass.number();
-        board.load_pin(&mut self.pen, number);
-        let outcome = call_joined(board, &mut self.pen, &mut self.yard, pass, command);
-        board.cut(&mut self.pen, pass);
-        outcome
     }
 
     /// What a crash at any moment of the life might have left: each such text is one that may be left in the state to which

@@ -8,7 +8,7 @@ ghost use Rattle.lz_machine.specs.declared.caller.Progress.TheVariants.{Answerin
 ghost use Rattle.lz_machine.specs.declared.event.Event.TheVariants.{Hop};
 ghost use Rattle.lz_machine.specs.declared.event.Outcome.TheVariants.{Fault, Value};
 ghost use Rattle.lz_machine.specs.Calls.{event_at, progress_after};
-ghost use Rattle.lz_machine.specs.Runs.{mark_of, mark_of_turn};
+ghost use Rattle.lz_machine.specs.Runs.{mark_of};
 ghost use Rattle.lz_machine.specs.Laws.{hop_of};
 ghost use Rattle.lz_machine.specs.Orders.{shape_with};
 ghost use Rattle.lz_machine.specs.Runs.{reply_at};
@@ -20,7 +20,8 @@ ghost use Rattle.lz_board.specs.Plays.{loading};
 ghost use Rattle.lz_board.specs.Seats.{IsOf, id_of, part};
 ghost use Rattle.lz_tie.specs.Answers.{Answers};
 ghost use Rattle.lz_tie.specs.Marks.{Shows, calls_in, number_of};
-ghost use Rattle.lz_tie.specs.Counting.{Advanced, Counts, IsCounted, seen_pass};
+ghost use Rattle.lz_tie.specs.Counting.{Counts, IsCounted};
+ghost use Rattle.lz_tie.specs.Held.{Advanced};
 ghost use Rattle.lz_tie.specs.Moments.{HoldExplains};
 ghost use Rattle.lz_tie.specs.Holds.{IsIdle, begins_with};
 ghost use Rattle.lz_tie.specs.OneCaller.{IsPlainAnswer, keys_in};
@@ -34,16 +35,6 @@ use lz_disk::Disk;
 use lz_list::Word;
 use lz_machine::{Event, Outcome, Reply};
 use lz_slot::Command;
-
-// The pass whose pin word the event looks at.
-fn seen_by(event: Event) -> Option<usize>
-    ensures { result ≡ seen_pass event }
-{
-    match event {
-        Event::SeePin(seen, _) => Some(seen),
-        _ => None,
-    }
-}
 
 /// A load of the call's next word, without the lock: its caller takes the value.
 pub fn load_next(board: &Board, pass: &mut Pass, caller: &mut Caller, word: Word) -> u64
@@ -83,31 +74,8 @@ impl<N: Named, D: Disk> Locked<N, D> {
         ensures caller { result ≡ record { command = command; buckets = buckets; passes = passes; progress = begun_after (begins_with N.format command) } }
     {
         let asked = command;
-        let outcome = self.call(board, pass, command);
-        Caller::begun(asked, buckets, passes, outcome)
-    }
-
-    // The hold of the call's next event.
-    fn hold_next(&mut self, board: &Board, pass: &mut Pass, caller: &Caller) -> Turn
-        requires board { id_of board.now ≡ N.board }
-        requires pass { IsOf N.board pass.old }
-        requires counted { IsCounted N.board caller.now (part pass.old) }
-        requires load { hop_of (event_at (shape_with caller.now) caller.now.command caller.now.progress) ≡ None }
-        ensures pass { IsOf N.board pass.new }
-        ensures moments { HoldExplains N.board self.old.notes self.new.notes (D.device self.old.disk) (D.device self.new.disk) }
-        ensures shows { Shows (shape_of N.board.sizes) self.old.notes self.new.notes (mark_of_turn (number_of (part pass.old).number self.old.notes) (reply_at caller.now.progress)) }
-        ensures advanced { Advanced N.board self.new.notes caller.now result (part pass.old) (part pass.new) }
-        ensures device { result.outcome ≡ Fault → (D.device self.old.disk).faults < (D.device self.new.disk).faults }
-    {
-        let event = caller.next();
-        let looked = event;
-        match seen_by(looked) {
-            Some(seen) => {
-                let (_, turn) = self.see(board, pass, caller, seen);
-                turn
-            }
-            None => self.play(board, pass, caller, event),
-        }
+        let turn = self.hold(board, pass, Event::Invoke(command));
+        Caller::begun(asked, buckets, passes, turn.outcome)
     }
 
     /// One more hold of a call that isn't about to answer: plays its next event, which is no load, and its caller takes the
@@ -126,7 +94,8 @@ impl<N: Named, D: Disk> Locked<N, D> {
         ensures caller { caller.new ≡ record caller.old { progress = progress_after (shape_with caller.old) caller.old.command caller.old.progress result.outcome } }
         ensures goes { (c : Asked) (format : Format) (before : Part) → Counts N.board c format before caller.old (part pass.old) → Counts N.board c format before caller.new (part pass.new) }
     {
-        let turn = self.hold_next(board, pass, caller);
+        let event = caller.next();
+        let turn = self.hold(board, pass, event);
         caller.take(turn.outcome);
         turn
     }
@@ -145,6 +114,6 @@ impl<N: Named, D: Disk> Locked<N, D> {
         ensures answers { (c : Asked) (format : Format) (before : Part) → before.sizes ≡ N.board.sizes → Counts N.board c format before caller.now (part pass.old) → Answers format c _reply before (part pass.new) }
         ensures plain { N.board.sizes.passes ≡ 1 → (c : Asked) (format : Format) (before : Part) → before.sizes ≡ N.board.sizes → Counts N.board c format before caller.now (part pass.old) → IsPlainAnswer format N.board.sizes.slots c _reply (keys_in before.known) (keys_in (part pass.new).known) }
     {
-        self.play(board, pass, caller, Event::Answer)
+        self.hold(board, pass, Event::Answer)
     }
 }

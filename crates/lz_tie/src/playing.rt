@@ -1,6 +1,7 @@
 //! One turn of a pass that has joined the pen.
 ghost use Rattle.std.specs.Prelude.{◌≡◌, ◌<◌};
 ghost use Rattle.lz_machine.specs.declared.event.Outcome.TheVariants.{Fault};
+ghost use Rattle.lz_machine.specs.Orders.{Calling};
 ghost use Rattle.lz_board.specs.declared.view.What.TheVariants.{Played};
 ghost use Rattle.lz_board.specs.Notes.{note_by};
 ghost use Rattle.lz_board.specs.Seats.{Carries, IsAtHand, carried, id_of, notes};
@@ -9,7 +10,6 @@ ghost use Rattle.lz_tie.specs.Lives.{KeepsLife};
 ghost use Rattle.lz_tie.specs.Moments.{GoesOn};
 
 use lz_board::{Board, Note, Pass, Pen, What};
-use lz_caller::Caller;
 use lz_disk::Disk;
 use lz_list::{Publishing, Word};
 use lz_machine::{Event, Outcome};
@@ -60,18 +60,17 @@ pub(crate) fn play_joined<D: Disk>(
     pen: &mut Pen,
     yard: &mut Yard<D>,
     pass: &mut Pass,
-    _caller: &Caller,
     event: Event,
 ) -> Turn
     requires carries { Carries (id_of board.now) pen.old }
     requires hold { InHold (id_of board.now) (notes pen.old) yard.old.yard (D.device yard.old.disk) (carried pen.old) }
-    requires turn { IsTurn (notes pen.old) (carried pen.old) _caller.now event }
+    requires turn { (c : Calling) × IsTurn (notes pen.old) (carried pen.old) c event }
     requires hand { IsAtHand (id_of board.now) pass.old (carried pen.old) }
     ensures carries { Carries (id_of board.now) pen.new }
     ensures hold { InHold (id_of board.now) (notes pen.new) yard.new.yard (D.device yard.new.disk) (carried pen.new) }
     ensures hand { IsAtHand (id_of board.now) pass.new (carried pen.new) }
     ensures holds { Holds (id_of board.now).opened (notes pen.old) (notes pen.new) (note_by (carried pen.old).number (Played event result.outcome) result.published) (carried pen.old) (carried pen.new) }
-    ensures turned { Turned (id_of board.now).opened (notes pen.old) (carried pen.old) _caller.now.command _caller.now.progress event result.outcome result.published }
+    ensures turned { (c : Calling) → IsTurn (notes pen.old) (carried pen.old) c event → Turned (id_of board.now).opened (notes pen.old) (carried pen.old) c.command c.progress event result.outcome result.published }
     ensures moments { GoesOn (id_of board.now) (notes pen.old) (notes pen.new) (D.device yard.old.disk) (D.device yard.new.disk) }
     ensures life { KeepsLife yard.old.yard (D.device yard.old.disk) yard.new.yard (D.device yard.new.disk) }
     ensures device { result.outcome ≡ Fault → (D.device yard.old.disk).faults < (D.device yard.new.disk).faults }

@@ -1,7 +1,7 @@
 -- A call that a caller counts goes on by each of its moves.
 use Rattle.std.proofs.Common.{◌≡◌, ℕ, zero, suc, ◌==◌, ◌+◌, nat_lt, Bool, true, false, List, [], ◌∷◌, length, refl, sym, ap, ◌∙◌, subst}
 use mathlib.Core.Bool.{false≢true}
-use Rattle.std.specs.Prelude.{if◌then◌else◌, is_some, slice_index_or, unwrap_or, Option, Some, None}
+use Rattle.std.specs.Prelude.{if◌then◌else◌, is_some, slice_index_or, Option, Some, None}
 use Rattle.lz_slot.specs.declared.command.Command.{Command}
 use Rattle.lz_slot.specs.declared.command.Command.TheVariants.{Add, Remove, Has}
 use Rattle.lz_slot.specs.declared.format.Format.{Format}
@@ -18,7 +18,7 @@ use Rattle.lz_flush.specs.declared.need.Need.{Need}
 use Rattle.lz_flush.specs.declared.need.Need.TheVariants.{Now, Sync as asks_sync}
 use Rattle.lz_flush.specs.Settling.{may_answer}
 use Rattle.lz_machine.specs.declared.event.Event.{Event}
-use Rattle.lz_machine.specs.declared.event.Event.TheVariants.{Hop, Check, SeePin, Answer}
+use Rattle.lz_machine.specs.declared.event.Event.TheVariants.{Hop, Check, Invoke, Answer}
 use Rattle.lz_machine.specs.declared.event.Outcome.{Outcome}
 use Rattle.lz_machine.specs.declared.event.Outcome.TheVariants.{Value, Slot, NoSlot, Taken, True, False, Early, Worn, OldFile, Fault, Dead}
 use Rattle.lz_machine.specs.declared.event.Reply.{Reply}
@@ -32,8 +32,9 @@ use Rattle.lz_machine.specs.Calls.{begun, event_at, events_of, first_progress, g
 use Rattle.lz_machine.specs.CallersSound.{is_before_pin, side_of}
 use Rattle.lz_machine.specs.Laws.{hop_of}
 use Rattle.lz_machine.specs.Orders.{Calling, MayTake, shape_with}
-use Rattle.lz_machine.specs.Runs.{reply_at}
+use Rattle.lz_machine.specs.Runs.{mark_of, mark_of_turn, reply_at}
 use Rattle.lz_machine.specs.Table.{is_old}
+use Rattle.lz_machine.proofs.Theorem.Readiness.{is_invoke}
 use Rattle.lz_caller.specs.Begun.{begun_after}
 use Rattle.lz_caller.proofs.BegunCall.{begins}
 use Rattle.lz_board.specs.declared.view.What.TheVariants.{Called, Played}
@@ -41,19 +42,20 @@ use Rattle.lz_board.specs.declared.view.Sizes.{Sizes}
 use Rattle.lz_board.specs.declared.view.Note.{Note}
 use Rattle.lz_board.specs.declared.view.Part.{Part}
 use Rattle.lz_board.specs.Addresses.{index, IsWalkable}
-use Rattle.lz_board.specs.Notes.{Extends, note_by, pin_after, shape_of, trace_of, IsShared}
+use Rattle.lz_board.specs.Notes.{Extends, note_by, pin_after, shape_of, IsShared}
 use Rattle.lz_board.specs.Plays.{loading, IsShownTo}
 use Rattle.lz_board.specs.Seats.{BoardId}
 use Rattle.lz_board.specs.Walkers.{Walked}
 use Rattle.lz_board.proofs.Walk.WalkerLemma.{first_look, hop_shown}
 use Rattle.lz_tie.specs.declared.playing.Turn.{Turn}
-use Rattle.lz_tie.specs.OnePass.{OnlyOwn}
 use Rattle.lz_tie.specs.Answers.{Answers}
 use Rattle.lz_tie.specs.OneCaller.{keys_in, IsPlainAnswer}
 use Rattle.lz_tie.specs.NotedRuns.{seen_event}
-use Rattle.lz_tie.specs.Holds.{HasCall, Holds, Turned, IsIdle, IsTurn, SeesPin, begins_with}
+use Rattle.lz_tie.specs.Holds.{Holds, Turned, IsIdle, begins_with}
+use Rattle.lz_tie.specs.Held.{IsNext, MayAsk, Advanced, WentOn, Gave}
+use Rattle.lz_tie.specs.Marks.{Shows, number_of}
 use Rattle.lz_tie.specs.UnderWay.{UnderWay}
-use Rattle.lz_tie.specs.Counting.{seen_pass, OnWalk, Counts, Advanced}
+use Rattle.lz_tie.specs.Counting.{OnWalk, Counts}
 use Rattle.lz_tie.proofs.Calls.CallOpening.{called}
 use Rattle.lz_tie.proofs.Calls.CallLoad.{load_place, value_in}
 use Rattle.lz_tie.proofs.Calls.CallerStep.{IsCallerOn, has_call, event_is, caller_turned, caller_loaded}
@@ -79,42 +81,43 @@ counted_new b c format before opened was is after sized idle from H o is_o bucke
       walk = subst (λ (q : Command × Progress). OnWalk b.sizes q.0 q.1 after.begun after.known) (λ i. (sym command i, at i)) (begun_walk b.sizes c after.begun after.known (is_old format c));
     }
 
--- no event of a sequence looks at a pin word, so only the place of such a look has one
-abbrev NoLooks : List Event → Type 0
-NoLooks [] = Unit {0}
-NoLooks (e ∷ es) = (seen_pass e ≡ None) × NoLooks es
+-- the next event of a call is no Invoke
+abbrev AreNoInvokes : List Event → Type 0
+AreNoInvokes [] = Unit {0}
+AreNoInvokes (e ∷ es) = (is_invoke e ≡ false) × AreNoInvokes es
 
-no_look_in : (es : List Event) (i : ℕ) → NoLooks es → seen_pass (slice_index_or es i Check) ≡ None
-no_look_in [] i none = refl
-no_look_in (e ∷ es) zero none = none.0
-no_look_in (e ∷ es) (suc i) none = no_look_in es i none.1
+no_invoke_in : (es : List Event) (i : ℕ) → AreNoInvokes es → is_invoke (slice_index_or es i Check) ≡ false
+no_invoke_in [] i none = refl
+no_invoke_in (e ∷ es) zero none = none.0
+no_invoke_in (e ∷ es) (suc i) none = no_invoke_in es i none.1
 
-no_looks : (c : Command) (sequence : Sequence) → NoLooks (events_of c sequence)
-no_looks c Pinning = (refl, tt)
-no_looks c (Resting s reply) = (refl, (refl, tt))
-no_looks c (Writing s) = (refl, (refl, tt))
-no_looks c (Adding s) = (refl, (refl, (refl, (refl, (refl, tt)))))
-no_looks c (Removing s) = (refl, (refl, (refl, (refl, (refl, (refl, (refl, tt)))))))
-no_looks c (Releasing aim) = (refl, tt)
-no_looks c (Halting reply) = (refl, tt)
+no_invokes : (c : Command) (sequence : Sequence) → AreNoInvokes (events_of c sequence)
+no_invokes c Pinning = (refl, tt)
+no_invokes c (Resting s reply) = (refl, (refl, tt))
+no_invokes c (Writing s) = (refl, (refl, tt))
+no_invokes c (Adding s) = (refl, (refl, (refl, (refl, (refl, tt)))))
+no_invokes c (Removing s) = (refl, (refl, (refl, (refl, (refl, (refl, (refl, tt)))))))
+no_invokes c (Releasing aim) = (refl, tt)
+no_invokes c (Halting reply) = (refl, tt)
 
-look_at : (shape : Shape) (c : Command) (at : Progress) (q : ℕ) → seen_pass (event_at shape c at) ≡ Some q → event_at shape c at ≡ SeePin q 0
-look_at shape c (Playing sequence i) q is = absurd (false≢true (ap is_some (sym (no_look_in (events_of c sequence) i (no_looks c sequence)) ∙ is)))
-look_at shape c (SeeingPins p) q is = ap (λ (x : Option ℕ). SeePin (unwrap_or x 0) 0) is
-look_at shape c LoadsHalt q is = absurd (false≢true (ap is_some is))
-look_at shape c (Walking aim look) q is = absurd (false≢true (ap is_some is))
-look_at shape c (Reserving again) q is = absurd (false≢true (ap is_some is))
-look_at shape c (Claiming aim pred curr) q is = absurd (false≢true (ap is_some is))
-look_at shape c (Checking aim curr) q is = absurd (false≢true (ap is_some is))
-look_at shape c (Answering reply) q is = absurd (false≢true (ap is_some is))
+goes_on_with : (shape : Shape) (c : Command) (at : Progress) → is_invoke (event_at shape c at) ≡ false
+goes_on_with shape c (Playing sequence i) = no_invoke_in (events_of c sequence) i (no_invokes c sequence)
+goes_on_with shape c LoadsHalt = refl
+goes_on_with shape c (Walking aim look) = refl
+goes_on_with shape c (Reserving again) = refl
+goes_on_with shape c (SeeingPins p) = refl
+goes_on_with shape c (Claiming aim pred curr) = refl
+goes_on_with shape c (Checking aim curr) = refl
+goes_on_with shape c (Answering reply) = refl
 
-no_sight : (ns : List Note) (e : Event) → seen_pass e ≡ None → SeesPin ns e
-no_sight ns (SeePin q v) none = absurd (false≢true (sym (ap is_some none)))
-no_sight ns e none = tt
+-- so a pass may ask for it, and a hold goes on with its call
+next_asks : (z : Sizes) (h : Part) (k : Calling) (e : Event) → IsNext h k e → is_invoke e ≡ false → MayAsk z h e
+next_asks z h k (Invoke c) next other = absurd (false≢true (sym other))
+next_asks z h k e next other = (k, next)
 
-as_it_is : (pins : ℕ → ℕ) (e : Event) → seen_pass e ≡ None → e ≡ seen_event pins e
-as_it_is pins (SeePin q v) none = absurd (false≢true (sym (ap is_some none)))
-as_it_is pins e none = refl
+next_gave : (b : BoardId) (F : Format) (was is : List Note) (t : Turn) (h h' : Part) (k : Calling) (e : Event) → IsNext h k e → is_invoke e ≡ false → Gave b F was is t h h' e → WentOn b was is k t h h'
+next_gave b F was is t h h' k (Invoke c) next other gave = absurd (false≢true (sym other))
+next_gave b F was is t h h' k e next other gave = gave k next
 
 -- what an event that is no load gave may be taken
 pub may_take : (shape : Shape) (c : Command) (at : Progress) (o : Outcome) → hop_of (event_at shape c at) ≡ None → MayTake at o
@@ -212,22 +215,20 @@ module _ (b : BoardId) (c : Command) (format : Format) (before : Part) (k : Call
   on_board : IsCallerOn b c k
   on_board = (C.command, C.buckets, C.passes)
 
-  pub open_call : HasCall h k
-  open_call = has_call b c format before k on_board h C.under
-
   event_here : event_at (shape_of h.sizes) k.command k.progress ≡ event_at (shape_with k) k.command k.progress
   event_here = (λ i. event_at (shape_of h.sizes) (C.command i) k.progress) ∙ event_is b c format before k on_board h C.under
 
-  pub sees_pin : (q : ℕ) (e : Event) → e ≡ event_at (shape_with k) k.command k.progress → seen_pass e ≡ Some q → event_at (shape_of h.sizes) k.command k.progress ≡ SeePin q 0
-  sees_pin q e is seen = event_here ∙ look_at (shape_with k) k.command k.progress q (ap seen_pass (sym is) ∙ seen)
+  pub is_next : (e : Event) → e ≡ event_at (shape_with k) k.command k.progress → hop_of (event_at (shape_with k) k.command k.progress) ≡ None → IsNext h k e
+  is_next e is no_load = record { call = has_call b c format before k on_board h C.under; event = is ∙ sym event_here; load = ap hop_of is ∙ no_load }
 
-  pub is_turn : (ns : List Note) (e : Event) → e ≡ event_at (shape_with k) k.command k.progress → hop_of (event_at (shape_with k) k.command k.progress) ≡ None → seen_pass e ≡ None → IsTurn ns h k e
-  is_turn ns e is no_load none = record {
-    call = open_call;
-    event = as_it_is (λ q. pin_after q ns) e none ∙ ap (seen_event (λ q. pin_after q ns)) (is ∙ sym event_here);
-    load = ap hop_of is ∙ no_load;
-    found = no_sight ns e none;
-  }
+  no_invoke : (e : Event) → e ≡ event_at (shape_with k) k.command k.progress → is_invoke e ≡ false
+  no_invoke e is = ap is_invoke is ∙ goes_on_with (shape_with k) k.command k.progress
+
+  pub asks_next : (e : Event) → e ≡ event_at (shape_with k) k.command k.progress → hop_of (event_at (shape_with k) k.command k.progress) ≡ None → MayAsk b.sizes h e
+  asks_next e is no_load = next_asks b.sizes h k e (is_next e is no_load) (no_invoke e is)
+
+  pub went_on : (F : Format) (was is : List Note) (t : Turn) (h' : Part) (e : Event) → e ≡ event_at (shape_with k) k.command k.progress → hop_of (event_at (shape_with k) k.command k.progress) ≡ None → Gave b F was is t h h' e → WentOn b was is k t h h'
+  went_on F was is t h' e at no_load = next_gave b F was is t h h' k e (is_next e at no_load) (no_invoke e at)
 
   pub counted_on : IsWalkable b.sizes → (is : List Note) (t : Turn) (h' : Part) → Advanced b is k t h h' → hop_of (event_at (shape_with k) k.command k.progress) ≡ None → reply_at k.progress ≡ None
       → (k' : Calling) → k' ≡ record k { progress = progress_after (shape_with k) k.command k.progress t.outcome } → Counts b c format before k' h'
@@ -236,28 +237,44 @@ module _ (b : BoardId) (c : Command) (format : Format) (before : Part) (k : Call
         command = C.command;
         buckets = C.buckets;
         passes = C.passes;
-        under = caller_turned b c format before k on_board h C.under b.opened A.was is A.event t.outcome t.published h' A.holds A.turned A.no_load going;
+        under = caller_turned b c format before k on_board h C.under b.opened A.found is A.event t.outcome t.published h' A.holds A.turned A.turn.load going;
         walk = next_walk b.sizes walkable (shape_with k) k.command h'.begun h'.known k.progress t.outcome no_load;
       })
 
+  pub no_end_shows : (was is : List Note) (t : Turn) (h' : Part) → WentOn b was is k t h h' → reply_at k.progress ≡ None → Shows (shape_of b.sizes) was is []
+  no_end_shows was is t h' went going = subst (λ (r : Option Reply). Shows (shape_of b.sizes) was is (mark_of_turn (number_of h.number was) r)) going went.shows
+
   -- its last hold
   module _ (reply : Reply) (answering : k.progress ≡ Answering reply) where
-    pub answers_next : Answer ≡ event_at (shape_with k) k.command k.progress
+    answers_next : Answer ≡ event_at (shape_with k) k.command k.progress
     answers_next = ap (event_at (shape_with k) k.command) (sym answering)
 
-    pub is_answer : (ns : List Note) → IsTurn ns h k Answer
-    is_answer ns = is_turn ns Answer answers_next (ap hop_of (sym answers_next)) refl
+    pub next_answer : IsNext h k Answer
+    next_answer = is_next Answer answers_next (ap hop_of (sym answers_next))
 
     under_now : UnderWay b c format before (Answering reply) h
     under_now = subst (λ (at : Progress). UnderWay b c format before at h) answering C.under
 
-    module _ (was is : List Note) (t : Turn) (h' : Part) (H : Holds b.opened was is (note_by h.number (Played Answer t.outcome) t.published) h h') (T : Turned b.opened was h k.command k.progress Answer t.outcome t.published) where
-      turned_now : Turned b.opened was h c (Answering reply) Answer t.outcome t.published
-      turned_now = subst (λ (q : Command × Progress). Turned b.opened was h q.0 q.1 Answer t.outcome t.published) (λ i. (C.command i, answering i)) T
+    module _ (was is : List Note) (t : Turn) (h' : Part) (went : WentOn b was is k t h h') where
+      abbrev A : Advanced b is k t h h'
+      A = went.advanced
 
-      module _ (same : before.sizes ≡ b.sizes) (alone : b.sizes.passes ≡ 1 → trace_of b.opened was ≡ h.known) (own : b.sizes.passes ≡ 1 → OnlyOwn h.number b.opened (trace_of b.opened was)) where
+      pub end_shows : Shows (shape_of b.sizes) was is (mark_of (number_of h.number was) reply ∷ [])
+      end_shows = subst (λ (at : Progress). Shows (shape_of b.sizes) was is (mark_of_turn (number_of h.number was) (reply_at at))) answering went.shows
+
+      -- the event that was played is the Answer
+      event_now : A.event ≡ Answer
+      event_now = A.turn.event ∙ ap (seen_event (λ q. pin_after q A.found)) (event_here ∙ sym answers_next)
+
+      holds_now : Holds b.opened A.found is (note_by h.number (Played Answer t.outcome) t.published) h h'
+      holds_now = subst (λ (e : Event). Holds b.opened A.found is (note_by h.number (Played e t.outcome) t.published) h h') event_now A.holds
+
+      turned_now : Turned b.opened A.found h c (Answering reply) Answer t.outcome t.published
+      turned_now = subst (λ (q : Command × Progress × Event). Turned b.opened A.found h q.0 q.1 q.2 t.outcome t.published) (λ i. (C.command i, answering i, event_now i)) A.turned
+
+      module _ (same : before.sizes ≡ b.sizes) where
         pub answers_so : Answers format c reply before h'
-        answers_so = answered b c format before reply h was is t.outcome t.published h' under_now H turned_now same alone own
+        answers_so = answered b c format before reply h A.found is t.outcome t.published h' under_now holds_now turned_now same A.alone A.own
 
         -- in a set of one pass that of the plain set
         pub plain_so : b.sizes.passes ≡ 1 → IsPlainAnswer format b.sizes.slots c reply (keys_in before.known) (keys_in h'.known)
@@ -265,7 +282,7 @@ module _ (b : BoardId) (c : Command) (format : Format) (before : Part) (k : Call
             (one_caller format c reply before h' answers_so (ap (λ (z : Sizes). z.passes) same ∙ one))
 
       pub then_idle : IsIdle b.sizes h'
-      then_idle = idle_again b c format before reply h was is t.outcome t.published h' under_now H turned_now
+      then_idle = idle_again b c format before reply h A.found is t.outcome t.published h' under_now holds_now turned_now
 
 -- A load.
 abbrev SharedIn : Sizes → Option Word → Type 0

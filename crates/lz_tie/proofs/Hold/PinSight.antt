@@ -3,23 +3,22 @@ use Rattle.std.proofs.Common.{◌≡◌, ◌≢◌, ⊎_elim, ℕ, true, List, [
 use Rattle.std.specs.Prelude.{if◌then◌else◌}
 use Rattle.std.proofs.lemmas.Bool.{cases_eq}
 use Rattle.lz_disk.specs.Devices.{Device}
-use Rattle.lz_list.specs.Traces.{Trace}
 use Rattle.lz_machine.specs.declared.event.Event.{Event}
 use Rattle.lz_machine.specs.declared.event.Event.TheVariants.{SeePin}
 use Rattle.lz_machine.specs.Yards.{Yard}
-use Rattle.lz_machine.specs.Calls.{event_at}
 use Rattle.lz_machine.specs.Orders.{Calling, HasPass}
 use Rattle.lz_board.specs.declared.view.Sizes.{Sizes}
 use Rattle.lz_board.specs.declared.view.Note.{Note}
 use Rattle.lz_board.specs.declared.view.Part.{Part}
 use Rattle.lz_board.specs.Notes.{steps_of, pin_after, shape_of}
 use Rattle.lz_board.specs.Kept.{is_calling, PinTold}
-use Rattle.lz_board.specs.Plays.{found_note, knowing}
+use Rattle.lz_board.specs.Plays.{found_note}
 use Rattle.lz_board.specs.Seats.{BoardId}
 use Rattle.lz_board.proofs.Upkeep.Splice.{other_step}
 use Rattle.lz_board.proofs.Upkeep.PartUpkeep.{knows_found}
 use Rattle.lz_tie.specs.NotedRuns.{seen_event}
-use Rattle.lz_tie.specs.Holds.{IsLocked, HasCall, InHold, IsTurn}
+use Rattle.lz_tie.specs.Held.{IsNext}
+use Rattle.lz_tie.specs.Holds.{IsLocked, InHold, IsTurn}
 use Rattle.lz_tie.proofs.Reuse.EventUpkeep.{silent_told}
 use Rattle.lz_tie.proofs.Hold.CallStart.{found_tied}
 
@@ -57,17 +56,17 @@ pub found : (b : BoardId) (ns ns' : List Note) (y : Yard) (dev : Device) (h h' :
 found b ns ns' y dev h h' hold q v range told own notes part = subst (λ (x : List Note × Part). InHold b x.0 y dev x.1) (λ i. (sym notes i, sym part i)) (found_hold b ns y dev h hold q v range.0 range.1 told own)
 
 -- and a look at that word is the next event of a call that looks at it
-pub found_turn : (ns ns' : List Note) (h h' : Part) (seen : Trace) (c : Calling) (q v : ℕ) → HasCall h c → event_at (shape_of h.sizes) c.command c.progress ≡ SeePin q 0 → ns' ≡ found_note q v ∷ ns → h' ≡ knowing seen h → IsTurn ns' h' c (SeePin q v)
-found_turn ns ns' h h' seen c q v call asked notes part = subst (λ (x : List Note × Part). IsTurn x.0 x.1 c (SeePin q v)) (λ i. (sym notes i, sym part i)) record {
-  call = record { next = call.next; at = call.at; pass = call.pass };
-  event = ap (SeePin q) (sym (ap (λ b. if b then v else pin_after q ns) (eq-eqb q q refl))) ∙ ap (seen_event (λ r. pin_after r (found_note q v ∷ ns))) (sym asked);
+pub found_turn : (ns ns' : List Note) (h : Part) (c : Calling) (q o v : ℕ) → IsNext h c (SeePin q o) → ns' ≡ found_note q v ∷ ns → IsTurn ns' h c (SeePin q v)
+found_turn ns ns' h c q o v next notes = subst (λ (x : List Note). IsTurn x h c (SeePin q v)) (sym notes) record {
+  call = next.call;
+  event = ap (SeePin q) (sym (ap (λ b. if b then v else pin_after q ns) (eq-eqb q q refl))) ∙ ap (seen_event (λ r. pin_after r (found_note q v ∷ ns))) next.event;
   load = refl;
   found = (ns, refl);
 }
 
 -- the pass that is looked at is one of the board's
-pub seen_range : (n : ℕ) (e : Event) (q v : ℕ) → HasPass n e → e ≡ SeePin q v → (1 ≤ q) × (q ≤ n)
-seen_range n e q v has is = subst (HasPass n) is has
+pub seen_range : (h : Part) (c : Calling) (q v : ℕ) → IsNext h c (SeePin q v) → (1 ≤ q) × (q ≤ h.sizes.passes)
+seen_range h c q v next = subst (HasPass h.sizes.passes) (sym next.event) next.call.pass
 
 -- the pass's own pin word, once it was found, is the notes'
 pub own_found : (ns ns' : List Note) (h h' : Part) (v : ℕ) → h.pin ≡ v → ns' ≡ found_note h.number v ∷ ns → h' ≡ h → pin_after h'.number ns' ≡ h'.pin

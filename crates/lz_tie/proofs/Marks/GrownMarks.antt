@@ -21,7 +21,6 @@ use Rattle.lz_board.specs.declared.view.Part.{Part}
 use Rattle.lz_board.specs.declared.view.Sizes.{Sizes}
 use Rattle.lz_board.specs.Notes.{steps_of, note_by, load_note, insert, splice, Quiet, InOrder, place, shape_of}
 use Rattle.lz_board.specs.Kept.{Knows}
-use Rattle.lz_board.specs.Plays.{knowing}
 use Rattle.lz_board.specs.Seats.{BoardId}
 use Rattle.lz_board.proofs.Upkeep.Splice.{at_place, other_step, steps_insert_other, steps_splice, quiet_splice}
 use Rattle.lz_tie.specs.NotedRuns.{AreNext, IsHopAt}
@@ -112,12 +111,3 @@ module _ (b : BoardId) (was is : List Note) (h h' : Part) (knows : Knows b.sizes
   call_shows c format none holds =
       ap (marks_in shape) holds.notes
       ∙ ap (λ l. marks_in shape (note_by h.number (Called c format) None ∷ splice b.opened h.number l was)) none
-
--- the same of a pass that has joined the pen for that hold
-pub hold_shows : (b board : BoardId) → board ≡ b → (was is is' : List Note) (h h' h'' : Part) (seen : Trace) (c : Calling) (e : Event) (o : Outcome) (x : Option Publishing)
-    → Knows board.sizes board.opened was h' → h' ≡ knowing seen h → HasCall h c → Holds board.opened was is (note_by h'.number (Played e o) x) h' h'' → is' ≡ is
-    → Shows (shape_of b.sizes) was is' (mark_of_turn (number_of h.number was) (reply_at c.progress))
-hold_shows b board same was is is' h h' h'' seen c e o x knows part call holds later =
-    subst (λ (q : BoardId × List Note × ℕ). Shows (shape_of q.0.sizes) was q.1 (mark_of_turn (number_of q.2 was) (reply_at c.progress)))
-    (λ i. (same i, sym later i, ap (λ (q : Part). q.number) part i))
-    (turn_shows board was is h' h'' knows c e o x (subst (λ (q : Part). HasCall q c) (sym part) (record { next = call.next; at = call.at; pass = call.pass })) holds)

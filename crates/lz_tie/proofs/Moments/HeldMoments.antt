@@ -7,7 +7,7 @@ use Rattle.lz_disk.proofs.Moments.{leaves_then, leaves_more}
 use Rattle.lz_vault.specs.Vaults.{LeavesEither}
 use Rattle.lz_machine.specs.declared.event.Event.{Event}
 use Rattle.lz_machine.specs.declared.event.Outcome.{Outcome}
-use Rattle.lz_machine.specs.Yards.{Yard}
+use Rattle.lz_machine.specs.Yards.{Shape, Yard}
 use Rattle.lz_machine.specs.Orders.{Calling}
 use Rattle.lz_yard.specs.declared.told.Told.{Told}
 use Rattle.lz_yard.specs.Steps.{Played as PlayedOver}
@@ -16,7 +16,7 @@ use Rattle.lz_board.specs.declared.view.Sizes.{Sizes}
 use Rattle.lz_board.specs.declared.view.Load.{Load}
 use Rattle.lz_board.specs.declared.view.Note.{Note}
 use Rattle.lz_board.specs.declared.view.Part.{Part}
-use Rattle.lz_board.specs.Notes.{listed, splice, steps_of, shape_of}
+use Rattle.lz_board.specs.Notes.{listed, splice, steps_of, shape_of, trace_of}
 use Rattle.lz_board.specs.Plays.{found_note, noted}
 use Rattle.lz_board.specs.declared.board.Pen.{Pen}
 use Rattle.lz_board.specs.Seats.{BoardId, IsPenOf, notes}
@@ -24,7 +24,7 @@ use Rattle.lz_board.proofs.Upkeep.Splice.{trace_splice}
 use Rattle.lz_tie.specs.NotedRuns.{AreNext}
 use Rattle.lz_tie.specs.Holds.{IsLocked, InHold, IsTurn, IsIdle}
 use Rattle.lz_tie.specs.RunningSets.{Explains}
-use Rattle.lz_tie.specs.Marks.{marks_with}
+use Rattle.lz_tie.specs.Marks.{calls_in, marks_in, marks_with, number_of}
 use Rattle.lz_tie.specs.Moments.{IsLeftBy, LeftSince, GrowsTo, GoesOn, HoldExplains, ExplainsBegun, ExplainedSince}
 use Rattle.lz_tie.proofs.Marks.GrownMarks.{marks_splice}
 use Rattle.lz_tie.proofs.Marks.RunningSet.{explained, history_of, locked_sizes}
@@ -102,14 +102,22 @@ since_explained b first ns dev left = λ honest. leaves_more first dev (λ t. Is
 pub record ComesTo (b : BoardId) (ns was : List Note) : Type 0 where
   pub left : (t : List ℕ) → IsLeftBy b.sizes b.opened ns t → IsLeftBy b.sizes b.opened was t
   pub grows : GrowsTo b ns was
+  pub trace : trace_of b.opened was ≡ trace_of b.opened ns
+  pub marks : (shape : Shape) → marks_in shape was ≡ marks_in shape ns
+  pub number : (p : ℕ) → number_of p was ≡ number_of p ns
+  pub calls : calls_in was ≡ calls_in ns
 
 pub comes : (b : BoardId) (ns ns' : List Note) → ns' ≡ ns → ComesTo b ns ns'
-comes b ns ns' notes = subst (ComesTo b ns) (sym notes) (record { left = λ t l. l; grows = same_grows b ns })
+comes b ns ns' notes = subst (ComesTo b ns) (sym notes) (record { left = λ t l. l; grows = same_grows b ns; trace = refl; marks = λ shape. refl; number = λ p. refl; calls = refl })
 
 pub finds : (b : BoardId) (q v : ℕ) (ns mid was : List Note) → mid ≡ ns → was ≡ found_note q v ∷ mid → ComesTo b ns was
 finds b q v ns mid was same found = subst (ComesTo b ns) (sym (found ∙ ap (λ r. found_note q v ∷ r) same)) record {
   left = more_left b.sizes b.opened (found_note q v) ns;
   grows = record { new = []; shows = refl; trace = ([], refl) };
+  trace = refl;
+  marks = λ shape. refl;
+  number = λ p. refl;
+  calls = refl;
 }
 
 -- What might have been left goes on over a hold, from the lock's notes ns to these.
@@ -144,20 +152,14 @@ module _ (b : BoardId) (first dev dev' : Device) (ns was is : List Note) (y y' :
   }
 
 -- In the words of the code that holds the lock: its invariant afterwards, and what a crash in the hold might have left.
-module _ (b board : BoardId) (same : board ≡ b) (first dev dev' : Device) (ns was is : List Note) (found : ComesTo b ns was) (on : GoesOn board was is dev dev')
-    (y y' : Yard) (locked : IsLocked b ns y dev) (locked' : IsLocked board is y' dev') (pen : Pen) (of_board : IsPenOf board pen) (noted : notes pen ≡ is) where
-  went : GoesOn b was is dev dev'
-  went = subst (λ (q : BoardId). GoesOn q was is dev dev') same on
-
-  kept : IsLocked b is y' dev'
-  kept = subst (λ (q : BoardId). IsLocked q is y' dev') same locked'
-
+module _ (b : BoardId) (first dev dev' : Device) (ns was is : List Note) (found : ComesTo b ns was) (on : GoesOn b was is dev dev')
+    (y y' : Yard) (locked : IsLocked b ns y dev) (locked' : IsLocked b is y' dev') (pen : Pen) (of_board : IsPenOf b pen) (noted : notes pen ≡ is) where
   pub held_again : LeftSince b first ns dev → IsPenOf b pen × IsLocked b (notes pen) y' dev' × LeftSince b first (notes pen) dev'
   held_again left = (
-    subst (λ (q : BoardId). IsPenOf q pen) same of_board,
-    subst (λ r. IsLocked b r y' dev') (sym noted) kept,
-    subst (λ r. LeftSince b first r dev') (sym noted) (gone_on b first dev dev' ns was is y y' locked kept found went left),
+    of_board,
+    subst (λ r. IsLocked b r y' dev') (sym noted) locked',
+    subst (λ r. LeftSince b first r dev') (sym noted) (gone_on b first dev dev' ns was is y y' locked locked' found on left),
   )
 
   pub hold_explains : HoldExplains b ns (notes pen) dev dev'
-  hold_explains = subst (λ r. HoldExplains b ns r dev dev') (sym noted) (explains b first dev dev' ns was is y y' locked kept found went)
+  hold_explains = subst (λ r. HoldExplains b ns r dev dev') (sym noted) (explains b first dev dev' ns was is y y' locked locked' found on)

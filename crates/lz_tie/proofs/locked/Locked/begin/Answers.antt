@@ -1,12 +1,22 @@
-use Rattle.std.proofs.Common.{subst}
-use Rattle.lz_slot.specs.declared.format.Format.{Format}
+use Rattle.std.proofs.Common.{◌≡◌, subst}
+use Rattle.lz_machine.specs.declared.event.Outcome.{Outcome}
+use Rattle.lz_caller.specs.Begun.{begun_after}
 use Rattle.lz_board.specs.Seats.{part}
-use Rattle.lz_tie.specs.Counting.{Counts}
 use Rattle.lz_tie.proofs.Calls.CountedMoves.{counted_new}
 use Rattle.lz_tie.proofs.locked.Locked.begin.Goals as goal
 
+pub returns-clause-moments : goal.returns-clause-moments
+returns-clause-moments g c = c.hold-turn.ensures.held.moments
+
+pub returns-clause-shows : goal.returns-clause-shows
+returns-clause-shows g c = c.hold-turn.ensures.held.gave.shows
+
 pub returns-clause-counts : goal.returns-clause-counts
 returns-clause-counts g c =
-    subst (λ (F : Format). Counts g.N.Named.board c.args.command F (part c.args.pass.now) c.begun.result (part c.call-outcome.new.pass)) c.call-outcome.ensures.format
-    (counted_new g.N.Named.board c.args.command _ (part c.args.pass.now) g.N.Named.board.opened _ _ (part c.call-outcome.new.pass) c.requires.pass.2.sized c.requires.idle c.call-outcome.ensures.opened c.call-outcome.ensures.holds c.call-outcome.result c.call-outcome.ensures.outcome
-    c.args.buckets c.args.passes c.requires.buckets.0 c.requires.passes.0 c.begun.result c.begun.ensures)
+    let began = c.hold-turn.ensures.held.gave in
+    counted_new g.N.Named.board c.args.command g.N.Named.format (part c.args.pass.now) g.N.Named.board.opened _ _ (part c.hold-turn.new.pass) c.requires.pass.2.sized c.requires.idle began.opened began.holds c.hold-turn.result.outcome began.outcome
+    c.args.buckets c.args.passes c.requires.buckets.0 c.requires.passes.0 c.begun.result c.begun.ensures
+
+pub returns-clause-caller : goal.returns-clause-caller
+returns-clause-caller g c =
+    subst (λ (o : Outcome). c.begun.result ≡ record { command = c.args.command; buckets = c.args.buckets; passes = c.args.passes; progress = begun_after o }) c.hold-turn.ensures.held.gave.outcome c.begun.ensures
