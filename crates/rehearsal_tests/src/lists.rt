@@ -139,16 +139,26 @@ fn full_table(rt: &impl Abort, alloc: Global) -> Result<Words, Fail> {
 #[test]
 fn a_full_table_has_each_key_until_it_is_marked(rt: HostRuntime) -> Result<(), Fail> {
     let mut list = list_of(&rt, rt.alloc(), full_table(&rt, rt.alloc())?, 4096, 65_536)?;
+    has_each(&rt, &list);
+    mark_every_third(&rt, &mut list);
+    has_the_others(&rt, &list);
+    Ok(())
+}
+
+// The list of a full table has the key of each slot, and not the next one.
+fn has_each(rt: &impl Abort, list: &List) {
     for number in 0..65_537u64 {
-        let key = Key::new(number).expect(&rt, "a key");
+        let key = Key::new(number).expect(rt, "a key");
         assert_eq!(rt; list.member(key), number < 65_536, "at {number}");
     }
-    mark_every_third(&rt, &mut list);
+}
+
+// Once every third node is marked, it has the keys of the others.
+fn has_the_others(rt: &impl Abort, list: &List) {
     for number in 0..65_536u64 {
-        let key = Key::new(number).expect(&rt, "a key");
+        let key = Key::new(number).expect(rt, "a key");
         assert_eq!(rt; list.member(key), number % 3 != 0, "at {number}");
     }
-    Ok(())
 }
 
 // Marks every third node of the list of a full table.
