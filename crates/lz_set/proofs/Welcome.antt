@@ -1,5 +1,5 @@
 -- Passes join the pen one after the other.
-use Rattle.std.proofs.Common.{◌≡◌, ◌<◌, ◌≤◌, ◌∷◌, [], arith, ℕ, zero, suc, All, List, length, map, slice_index_or, slice_set, refl, sym, ap, ◌∙◌, subst}
+use Rattle.std.proofs.Common.{◌≡◌, ◌<◌, ◌≤◌, ◌∷◌, [], arith, ℕ, zero, suc, All, List, length, map, slice_index_or, slice_set, refl, ap, ◌∙◌, subst}
 use Rattle.lz_slot.specs.declared.format.Format.{Format}
 use Rattle.lz_list.specs.Traces.{Trace}
 use Rattle.lz_board.specs.declared.pass.Pass.{Pass}
