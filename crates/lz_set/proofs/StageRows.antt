@@ -1,5 +1,5 @@
 -- Worked rows: where calls stand that stopped.
-use Rattle.std.proofs.Common.{◌≡◌, Some, None, is_some, refl, ap}
+use Rattle.std.proofs.Common.{Some, None, is_some, refl, ap}
 use mathlib.Core.Bool.{false≢true}
 use Rattle.lz_slot.specs.declared.command.Command.TheVariants.{Add}
 use Rattle.lz_list.specs.declared.place.Place.TheVariants.{Bucket}

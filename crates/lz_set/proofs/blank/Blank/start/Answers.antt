@@ -1,6 +1,6 @@
 use Rattle.std.proofs.Common.{◌≡◌, [], List, sym, ap, ◌∙◌, subst}
 use Rattle.lz_board.specs.declared.view.Note.{Note}
-use Rattle.lz_board.specs.Seats.{BoardId, id_of, notes}
+use Rattle.lz_board.specs.Seats.{BoardId, id_of}
 use Rattle.lz_tie.specs.Holds.{IsLocked}
 use Rattle.lz_tie.specs.Lives.{LivesOn}
 use Rattle.lz_tie.specs.Moments.{LeftSince}

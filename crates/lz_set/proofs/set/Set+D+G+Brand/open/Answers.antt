@@ -1,4 +1,4 @@
-use Rattle.std.proofs.Common.{◌≡◌, [], refl, sym, subst}
+use Rattle.std.proofs.Common.{[], refl, sym, subst}
 use Rattle.lz_board.specs.Opened.{IsOpened}
 use Rattle.lz_board.specs.Seats.{id_of}
 use Rattle.lz_tie.proofs.Start.OpenedYard.{words_opened}
