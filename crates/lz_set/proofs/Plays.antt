@@ -16,7 +16,7 @@ use Rattle.lz_board.specs.declared.view.What.TheVariants.{Played}
 use Rattle.lz_board.specs.Notes.{load_note, note_by}
 use Rattle.lz_board.specs.Seats.{BoardId}
 use Rattle.lz_tie.specs.declared.playing.Turn.{Turn}
-use Rattle.lz_tie.specs.Counting.{Advanced}
+use Rattle.lz_tie.specs.Held.{Advanced}
 use Rattle.lz_set.specs.Stages.{HasPlayed}
 
 -- neither a loaded pin word nor the yard's shape makes it another kind of event
