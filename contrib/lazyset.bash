@@ -14,14 +14,14 @@ _lazyset_words() {
     case "${COMP_WORDS[1]}" in
     make) options="--format --help" ;;
     run) options="--buckets --help" ;;
-    serve) options="--sessions --idle --buckets --help" ;;
+    serve) options="--connections --loops --sessions --idle --buckets --help" ;;
     check) options="--of --help" ;;
     rehearse) options="--buckets --format --help" ;;
     *) options="--help" ;;
     esac
     case "${COMP_WORDS[COMP_CWORD - 1]},$word" in
     --format,*) mapfile -t COMPREPLY < <(compgen -W "1 2" -- "$word") ;;
-    --buckets,* | --sessions,* | --idle,*) COMPREPLY=() ;;
+    --buckets,* | --connections,* | --loops,* | --sessions,* | --idle,*) COMPREPLY=() ;;
     *,-*) mapfile -t COMPREPLY < <(compgen -W "$options" -- "$word") ;;
     *) mapfile -t COMPREPLY < <(compgen -f -- "$word") ;;
     esac

@@ -2,20 +2,24 @@
 //
 //     load WHAT PORT CONNECTIONS DEPTH VERB FIRST COUNT SECONDS
 //
-// WHAT is lazyset or redis. Each connection has a thread, which sends DEPTH commands at once and waits for their replies.
-// VERB is add, remove or has; the COUNT keys from FIRST on (a power of two), in a scattered order, are dealt to the
-// connections in turn. An add or a remove takes each key once, has goes round. It ends after SECONDS, or when the keys are used up, and prints how many commands were
-// answered, how many of them changed or found something, and the seconds that it took.
+// WHAT is lazyset or redis. On each connection DEPTH commands are sent at once, and the next ones when all of them are answered. There
+// are up to 16 threads, each with a share of the connections: with fewer of them a service of many threads leaves too little processor to
+// the load, with more the load leaves too little to a service of one.
+// VERB is add, remove or has; the COUNT keys from FIRST on (a power of two), in a scattered order, are dealt to the connections in turn.
+// An add or a remove takes each key once, has goes round. It ends after SECONDS, or when the keys are used up, and prints how many
+// commands were answered, how many of them changed or found something, and the seconds that it took.
 #include <arpa/inet.h>
 #include <netinet/tcp.h>
 #include <pthread.h>
 #include <stdio.h>
 #include <stdlib.h>
 #include <string.h>
+#include <sys/epoll.h>
+#include <sys/resource.h>
 #include <time.h>
 #include <unistd.h>
 
-enum { MOST_CONNECTIONS = 64, MOST_DEPTH = 64, LINE = 96 };
+enum { MOST_CONNECTIONS = 10000, MOST_THREADS = 16, MOST_DEPTH = 64, LINE = 96, PIECE = 4096, MOST_READY = 256, SPARE = 64 };
 
 enum verb { ADD, REMOVE, HAS };
 
@@ -28,18 +32,32 @@ struct options {
     unsigned long first;
     unsigned long count;
     double seconds;
+    int threads;
 };
 
+// A connection: where it is in the order of keys, for how many replies it waits, and the beginning of a reply.
+struct connection {
+    int index;
+    int socket;
+    unsigned long place;
+    int wanted;
+    size_t kept;
+    char rest[LINE];
+};
+
+// A thread, and how many of its connections go on.
 struct worker {
     pthread_t thread;
     int index;
-    int socket;
+    int ready;
+    int running;
     unsigned long answered;
     unsigned long yes;
     int failed;
 };
 
 static struct options options;
+static struct connection *connections;
 static double ends_at;
 static pthread_barrier_t begin;
 
@@ -95,27 +113,28 @@ static int send_all(int handle, const char *bytes, size_t length) {
     return 0;
 }
 
-// Reads so many replies, each of which is one line.
-static int read_replies(struct worker *worker, int wanted) {
-    char buffer[4096];
-    size_t kept = 0;
-    while (wanted > 0) {
-        ssize_t count = read(worker->socket, buffer + kept, sizeof buffer - kept);
-        if (count <= 0) {
+// Reads what has come on a connection: replies, each of which is one line.
+static int take_replies(struct worker *worker, struct connection *it) {
+    char buffer[LINE + PIECE];
+    memcpy(buffer, it->rest, it->kept);
+    ssize_t count = read(it->socket, buffer + it->kept, PIECE);
+    if (count <= 0) {
+        return -1;
+    }
+    size_t end = it->kept + (size_t)count, start = 0;
+    for (char *feed; (feed = memchr(buffer + start, '\n', end - start)); start = (size_t)(feed - buffer) + 1) {
+        if (!is_reply(buffer[start])) {
             return -1;
         }
-        size_t end = kept + (size_t)count, start = 0;
-        for (char *feed; (feed = memchr(buffer + start, '\n', end - start)); start = (size_t)(feed - buffer) + 1) {
-            if (!is_reply(buffer[start])) {
-                return -1;
-            }
-            worker->yes += (unsigned long)is_yes(buffer[start], buffer[start + 1]);
-            worker->answered++;
-            wanted--;
-        }
-        kept = end - start;
-        memmove(buffer, buffer + start, kept);
+        worker->yes += (unsigned long)is_yes(buffer[start], buffer[start + 1]);
+        worker->answered++;
+        it->wanted--;
     }
+    it->kept = end - start;
+    if (it->kept > LINE || it->wanted < 0) {
+        return -1;
+    }
+    memcpy(it->rest, buffer + start, it->kept);
     return 0;
 }
 
@@ -125,30 +144,61 @@ static unsigned long key_at(unsigned long place) {
     return options.first + place * stride % options.count;
 }
 
+// Sends the next commands of a connection: none where the time is over, or the keys are used up.
+static int send_next(struct connection *it) {
+    char lines[MOST_DEPTH * LINE];
+    size_t length = 0;
+    if (now() >= ends_at) {
+        return 0;
+    }
+    for (; it->wanted < options.depth; it->wanted++) {
+        if (it->place >= options.count) {
+            if (options.verb != HAS) {
+                break;
+            }
+            it->place = (unsigned long)it->index;
+        }
+        length += (size_t)write_command(lines + length, key_at(it->place));
+        it->place += (unsigned long)options.connections;
+    }
+    return send_all(it->socket, lines, length);
+}
+
+// Takes what has come on a connection, and goes on with it where all is answered.
+static void go_on(struct worker *worker, struct connection *it) {
+    int failed = take_replies(worker, it) != 0 || (it->wanted == 0 && send_next(it) != 0);
+    if (failed || it->wanted == 0) {
+        worker->failed |= failed;
+        worker->running--;
+        epoll_ctl(worker->ready, EPOLL_CTL_DEL, it->socket, NULL);
+    }
+}
+
+// Begins with each connection of a thread's share.
+static void start(struct worker *worker) {
+    for (int i = worker->index; i < options.connections; i += options.threads) {
+        struct epoll_event event = {.events = EPOLLIN, .data.ptr = &connections[i]};
+        worker->failed |= epoll_ctl(worker->ready, EPOLL_CTL_ADD, connections[i].socket, &event) != 0 || send_next(&connections[i]) != 0;
+        worker->running += connections[i].wanted > 0;
+    }
+}
+
 static void *work(void *given) {
     struct worker *worker = given;
-    char lines[MOST_DEPTH * LINE];
-    unsigned long place = (unsigned long)worker->index;
+    struct epoll_event events[MOST_READY];
     pthread_barrier_wait(&begin);
-    while (now() < ends_at) {
-        size_t length = 0;
-        int sent = 0;
-        for (; sent < options.depth; sent++) {
-            if (place >= options.count) {
-                if (options.verb != HAS) {
-                    break;
-                }
-                place = (unsigned long)worker->index;
-            }
-            length += (size_t)write_command(lines + length, key_at(place));
-            place += (unsigned long)options.connections;
+    start(worker);
+    if (worker->running == 1) {
+        // A read that waits takes one call for a reply, where waiting for one of many takes two.
+        while (worker->running && !worker->failed) {
+            go_on(worker, &connections[worker->index]);
         }
-        if (sent == 0) {
-            break;
-        }
-        if (send_all(worker->socket, lines, length) != 0 || read_replies(worker, sent) != 0) {
-            worker->failed = 1;
-            break;
+        return NULL;
+    }
+    while (worker->running && !worker->failed) {
+        int count = epoll_wait(worker->ready, events, MOST_READY, -1);
+        for (int i = 0; i < count; i++) {
+            go_on(worker, events[i].data.ptr);
         }
     }
     return NULL;
@@ -163,38 +213,54 @@ static int read_options(char **words) {
     options.first = strtoul(words[6], NULL, 10);
     options.count = strtoul(words[7], NULL, 10);
     options.seconds = atof(words[8]);
+    options.threads = options.connections < MOST_THREADS ? options.connections : MOST_THREADS;
     return options.connections >= 1 && options.connections <= MOST_CONNECTIONS && options.depth >= 1 &&
            options.depth <= MOST_DEPTH && options.count >= (unsigned long)options.connections;
 }
 
+// Opens all connections, where the system lets one process have as many.
+static void connect_all(void) {
+    struct rlimit limit;
+    if (getrlimit(RLIMIT_NOFILE, &limit) == 0 && limit.rlim_cur < MOST_CONNECTIONS + SPARE) {
+        limit.rlim_cur = limit.rlim_max < MOST_CONNECTIONS + SPARE ? limit.rlim_max : MOST_CONNECTIONS + SPARE;
+        setrlimit(RLIMIT_NOFILE, &limit);
+    }
+    connections = calloc((size_t)options.connections, sizeof *connections);
+    if (connections == NULL) {
+        perror("memory");
+        exit(1);
+    }
+    for (int i = 0; i < options.connections; i++) {
+        connections[i].index = i;
+        connections[i].place = (unsigned long)i;
+        connections[i].socket = connect_to(options.port);
+    }
+}
+
 int main(int count, char **words) {
-    static struct worker workers[MOST_CONNECTIONS];
+    static struct worker workers[MOST_THREADS];
     unsigned long answered = 0, yes = 0;
     int failed = 0;
     if (count != 9 || !read_options(words)) {
         fprintf(stderr, "load WHAT PORT CONNECTIONS DEPTH VERB FIRST COUNT SECONDS\n");
         return 2;
     }
-    pthread_barrier_init(&begin, NULL, (unsigned)options.connections + 1);
-    ends_at = now() + 1e9;
-    for (int i = 0; i < options.connections; i++) {
+    pthread_barrier_init(&begin, NULL, (unsigned)options.threads + 1);
+    connect_all();
+    for (int i = 0; i < options.threads; i++) {
         workers[i].index = i;
-        workers[i].socket = connect_to(options.port);
+        workers[i].ready = epoll_create1(0);
         pthread_create(&workers[i].thread, NULL, work, &workers[i]);
     }
     double began = now();
     ends_at = began + options.seconds;
     pthread_barrier_wait(&begin);
-    for (int i = 0; i < options.connections; i++) {
+    for (int i = 0; i < options.threads; i++) {
         pthread_join(workers[i].thread, NULL);
         answered += workers[i].answered;
         yes += workers[i].yes;
         failed += workers[i].failed;
     }
-    double took = now() - began;
-    for (int i = 0; i < options.connections; i++) {
-        close(workers[i].socket);
-    }
-    printf("%lu %lu %.6f\n", answered, yes, took);
+    printf("%lu %lu %.6f\n", answered, yes, now() - began);
     return failed != 0;
 }

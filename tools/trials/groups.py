@@ -17,8 +17,9 @@ OWN_KEYS = 64
 PATIENCE = 60.0
 
 
-def try_group(program: Program, folder: str) -> None:
-    """An addition by itself takes two syncs. Those of sixteen clients together take fewer syncs than there are additions."""
+def try_group(program: Program, folder: str, *options: str) -> None:
+    """An addition by itself takes two syncs. Those of sixteen clients together take fewer syncs than there are additions. The options
+    have the service end after as many clients."""
     needs_strace()
     file, log = os.path.join(folder, "f"), os.path.join(folder, "log")
     keys = CLIENTS * OWN_KEYS
@@ -31,7 +32,7 @@ def try_group(program: Program, folder: str) -> None:
             own = [Command.add(index * OWN_KEYS + number) for number in range(OWN_KEYS)]
             added[index] = client.batch(own).count(Reply.YES)
 
-    with Service(program, file, CLIENTS, "--buckets", "64", "--sessions", "1", before=traced) as service:
+    with Service(program, file, CLIENTS, "--buckets", "64", *options, before=traced) as service:
         threads = [threading.Thread(target=add_all, args=(i, service.port)) for i in range(CLIENTS)]
         for thread in threads:
             thread.start()

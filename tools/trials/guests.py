@@ -20,11 +20,11 @@ MEGABYTE = 1 << 20
 
 
 @contextmanager
-def served(program: Program, folder: str, name: str, slots: int, passes: int) -> Iterator[Service]:
+def served(program: Program, folder: str, name: str, slots: int, passes: int, *options: str) -> Iterator[Service]:
     """A service over a new file."""
     file = os.path.join(folder, name)
     program.make(file, slots)
-    with Service(program, file, passes) as service:
+    with Service(program, file, passes, *options) as service:
         yield service
 
 
@@ -86,8 +86,12 @@ def received(connection: socket.socket) -> bytes:
 
 def resets(port: int) -> None:
     """Asks, and resets the connection without reading."""
+    send_and_reset(port, b"has 1\n" * 50)
+
+
+def send_and_reset(port: int, text: bytes) -> None:
     with connect(port) as connection:
-        connection.sendall(b"has 1\n" * 50)
+        connection.sendall(text)
         connection.setsockopt(socket.SOL_SOCKET, socket.SO_LINGER, struct.pack("ii", 1, 0))
 
 
@@ -138,10 +142,10 @@ def expect_served(port: int) -> None:
         expect(keys.has(1), False, "another client's lookup")
 
 
-def try_guest(program: Program, folder: str, guest: Callable[[int], None]) -> None:
+def try_guest(program: Program, folder: str, guest: Callable[[int], None], *options: str) -> None:
     """While a client does its worst another is served, and afterwards both passes are free."""
     name = guest.__name__
-    with served(program, folder, name, 4, 2) as service:
+    with served(program, folder, name, 4, 2, *options) as service:
         guest(service.port)
         with Lazyset(service.port, timeout=PATIENCE) as one, Lazyset(service.port, timeout=PATIENCE) as other:
             one.remove(1)
@@ -150,4 +154,5 @@ def try_guest(program: Program, folder: str, guest: Callable[[int], None]) -> No
             expect(other.has(1), False, "a lookup")
 
 
-GUESTS = (resets, sends_a_megabyte, ends_in_a_line, sends_bytes, never_reads)
+QUICK_GUESTS = (resets, sends_a_megabyte, ends_in_a_line, sends_bytes)
+GUESTS = (*QUICK_GUESTS, never_reads)

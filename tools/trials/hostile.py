@@ -87,13 +87,13 @@ def try_lines(program: Program, folder: str, drawn: Drawn) -> None:
     tell(f"{drawn.count} sessions of {sum(came.values())} lines", came)
 
 
-def try_served_lines(program: Program, folder: str, drawn: Drawn) -> None:
+def try_served_lines(program: Program, folder: str, drawn: Drawn, *options: str) -> None:
     """Sessions of a service, one behind the other on one file: the replies are those of a plain set."""
     noise = drawn.noise(2)
     file = os.path.join(folder, "served")
     plain = Plain(2, SLOTS)
     put(file, plain.file())
-    with Service(program, file, 1, "--buckets", "7") as service:
+    with Service(program, file, 1, "--buckets", "7", *options) as service:
         for number in range(drawn.count // 2):
             text = noise.lines()
             with guests.connect(service.port) as connection:

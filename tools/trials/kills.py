@@ -6,12 +6,12 @@ import os
 import random
 import tempfile
 import time
-from typing import List
+from typing import List, NamedTuple, Sequence, Tuple
 
 import lazyset
 from trials import load
 from trials.history import Call, History, Life
-from trials.program import Ended, Program, Service
+from trials.program import Ended, Key, Program, Service
 from trials.report import Wrong, expect
 
 CLIENTS = 8
@@ -19,37 +19,61 @@ CLIENTS = 8
 # Fewer slots than keys, so that some additions are refused.
 SLOTS = 20
 
+
+class Loaded(NamedTuple):
+    """How a service is started, and who loads it: so many clients for each group of keys, who ask for no others. What they saw is a
+    history of its own, since calls on different keys don't touch each other; it may have 64 clients."""
+
+    slots: int
+    passes: int
+    options: Tuple[str, ...]
+    clients: int
+    groups: Sequence[Sequence[Key]]
+
+
+EIGHT = Loaded(SLOTS, CLIENTS, (), CLIENTS, (load.KEYS,))
+
 # After so many kills, or calls, a new file and a new history are begun: a history that is judged has a limit.
 KILLS_OF_A_HISTORY = 20
 CALLS_OF_A_HISTORY = 30000
 
-# A kill comes so many seconds after the clients began.
+# A kill comes so many seconds after the clients began, and later by so many for each of them, so that each may have been answered.
 SOONEST, LATEST = 0.01, 0.12
+LATER = 0.001
 
 
-def life_until_kill(program: Program, file: str, buckets: int, seed: int) -> List[Call]:
+def life_until_kill(program: Program, file: str, loaded: Loaded, buckets: int, seed: int) -> List[Call]:
     """Serves the file, kills the service under load, and gives what the clients saw."""
-    with Service(program, file, CLIENTS, "--buckets", str(buckets)) as service:
+    with Service(program, file, loaded.passes, "--buckets", str(buckets), *loaded.options) as service:
         if not service.port:
             raise Wrong(f"the file isn't served again: {service.told!r}")
-        clients = load.start(CLIENTS, service.port, seed)
-        time.sleep(random.Random(seed).uniform(SOONEST, LATEST))
+        clients = load.start(loaded.clients, service.port, seed, loaded.groups)
+        clients_in_all = loaded.clients * len(loaded.groups)
+        time.sleep(random.Random(seed).uniform(SOONEST, LATEST) + LATER * clients_in_all)
         service.kill()
         return load.finish(clients)
 
 
-def killed_history(program: Program, folder: str, kills: int, seed: int) -> History:
-    """A history over one file, of so many lives that a kill ended, or fewer where they have many calls."""
+def killed_histories(program: Program, folder: str, loaded: Loaded, kills: int, seed: int) -> List[History]:
+    """A history of each group over one file, of so many lives that a kill ended, or fewer where they have many calls."""
     file = os.path.join(folder, f"killed-{seed}")
-    program.make(file, SLOTS)
-    history = History()
-    calls_so_far = 0
-    while len(history.lives) < kills and calls_so_far < CALLS_OF_A_HISTORY:
-        life = len(history.lives)
-        calls = life_until_kill(program, file, 1 + 6 * (life % 2), seed + life)
-        history.lives.append(Life(calls, "stop", program.members(file)))
+    program.make(file, loaded.slots)
+    histories = [History() for _ in loaded.groups]
+    calls_so_far = life = 0
+    while life < kills and calls_so_far < CALLS_OF_A_HISTORY * len(histories):
+        calls = life_until_kill(program, file, loaded, 1 + 6 * (life % 2), seed + life)
+        note_life(histories, loaded.groups, calls, program.members(file))
         calls_so_far += len(calls)
-    return history
+        life += 1
+    return histories
+
+
+def note_life(histories: Sequence[History], groups: Sequence[Sequence[Key]], calls: Sequence[Call], found: Sequence[Key]) -> None:
+    """Notes a life that was stopped in the history of each group; no key of any other was found."""
+    own = [set(keys) for keys in groups]
+    expect([key for key in found if not any(key in keys for keys in own)], [], "keys that no client added")
+    for history, keys in zip(histories, own):
+        history.lives.append(Life([it for it in calls if it.key in keys], "stop", [key for key in found if key in keys]))
 
 
 def judge(program: Program, folder: str, history: History) -> str:
@@ -98,18 +122,21 @@ def refuses(program: Program, folder: str, text: str, flaw: str) -> None:
     expect((verdict.text.split()[:2], verdict.status), (["flaw", flaw], 4), "a spoiled history")
 
 
-def try_kills(program: Program, folder: str, kills: int, seed: int) -> None:
+def try_kills(program: Program, folder: str, kills: int, seed: int, loaded: Loaded = EIGHT) -> None:
     """So many kills, in histories that are all judged good; spoiled ones aren't."""
     answered = under_way = done = 0
     while done < kills:
-        history = killed_history(program, folder, min(KILLS_OF_A_HISTORY, kills - done), seed + done)
-        done += len(history.lives)
-        text = judge(program, folder, history)
-        for life in history.lives:
-            replies = load.count_replies(life.calls)
-            answered, under_way = answered + replies[0], under_way + replies[1]
-        refuses(program, folder, turned(text), "4")
-        refuses(program, folder, lost(text), "5")
+        histories = killed_histories(program, folder, loaded, min(KILLS_OF_A_HISTORY, kills - done), seed + done)
+        done += len(histories[0].lives)
+        for history in histories:
+            text = judge(program, folder, history)
+            for life in history.lives:
+                replies = load.count_replies(life.calls)
+                answered, under_way = answered + replies[0], under_way + replies[1]
+            # On a busy machine a kill may come before a group has an answer.
+            if any(line.startswith("answer ") for line in text.splitlines()):
+                refuses(program, folder, turned(text), "4")
+            refuses(program, folder, lost(text), "5")
     if answered < 10 * kills or under_way == 0:
         raise Wrong(f"too little load: {answered} answered, {under_way} under way")
     print(f"         {kills} kills: {answered} calls answered, {under_way} cut off", flush=True)

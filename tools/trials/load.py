@@ -20,11 +20,12 @@ KEYS = [Key(room, number) for room in (0, 7) for number in range(12)]
 
 class Client(threading.Thread):
     """One client, which asks on a connection of its own until that is lost, the service halts, or it is told to stop. It begins
-    once it may, and is ready for that once it has a pass."""
+    once it may, and is ready for that once it is served."""
 
-    def __init__(self, actor: int, port: int, seed: int, may_begin: threading.Event) -> None:
+    def __init__(self, actor: int, port: int, keys: Sequence[Key], seed: int, may_begin: threading.Event) -> None:
         super().__init__(daemon=True)
         self.actor = actor
+        self.keys = keys
         self.port = port
         self.may_begin = may_begin
         self.is_ready = threading.Event()
@@ -46,7 +47,7 @@ class Client(threading.Thread):
             self.is_ready.set()
 
     def _ask(self, keys: Lazyset) -> None:
-        verb, key = self.random.choice(VERBS), self.random.choice(KEYS)
+        verb, key = self.random.choice(VERBS), self.random.choice(self.keys)
         call = Call(self.actor, verb, key, stamp())
         self.calls.append(call)
         reply = _reply(keys, verb, key)
@@ -65,10 +66,14 @@ def _reply(keys: Lazyset, verb: Verb, key: Key) -> Reply:
         return Reply.HALTED
 
 
-def start(count: int, port: int, seed: int) -> List[Client]:
-    """Starts so many clients, each of which has a pass before any begins."""
+def start(count: int, port: int, seed: int, groups: Sequence[Sequence[Key]] = (KEYS,)) -> List[Client]:
+    """Starts so many clients for each group of keys, each of which is served before any begins."""
     may_begin = threading.Event()
-    clients = [Client(actor, port, seed * 64 + actor, may_begin) for actor in range(1, count + 1)]
+    clients = [
+        Client(actor, port, keys, (seed * len(groups) + group) * 64 + actor, may_begin)
+        for group, keys in enumerate(groups)
+        for actor in range(1, count + 1)
+    ]
     for client in clients:
         client.start()
     for client in clients:

@@ -10,7 +10,7 @@ import subprocess
 import tempfile
 import time
 from contextlib import contextmanager
-from typing import IO, Iterator, List, Sequence
+from typing import IO, Callable, Iterator, List, Sequence
 
 from lazyset import Halted, Lazyset
 from trials.faults import failing, needs_strace
@@ -63,11 +63,11 @@ def try_lists(program: Program, folder: str) -> None:
             expect(service.lines(), wanted, f"the log over {members} members in {buckets} lists")
 
 
-def try_full(program: Program, folder: str) -> None:
+def try_full(program: Program, folder: str, *options: str) -> None:
     """The first `full` is told, and no other."""
     file = os.path.join(folder, "full")
     program.make(file, 1)
-    with logged(program, file, 2) as service:
+    with logged(program, file, 2, *options) as service:
         expect(service.ask("add 1", "has 1"), ["yes", "yes"], "replies")
         expect(service.lines(), [], "the log before")
         expect(service.ask("add 2", "add 3"), ["full", "full"], "replies")
@@ -91,18 +91,22 @@ CHANGES = (
 )
 
 
-def try_changes(program: Program, folder: str) -> None:
+def try_changes(program: Program, folder: str, *options: str) -> None:
     """A file that is deleted, replaced or cut under a service is told once, at the next connection."""
     for number, (change, why) in enumerate(CHANGES):
-        file = os.path.join(folder, f"file-{number}")
-        program.make(file, 4)
-        with logged(program, file, 2) as service:
-            expect(service.ask("add 1"), ["yes"], "a reply")
-            expect(service.lines(), [], "the log before")
-            change(file)
-            for key in (2, 3):
-                expect(service.ask(f"add {key}"), ["yes"], "a reply after that")
-            expect(service.lines(), [f"{why}: what is answered may be lost at the end"], "the log")
+        try_change(program, os.path.join(folder, f"file-{number}"), change, why, *options)
+
+
+def try_change(program: Program, file: str, change: Callable[[str], None], why: str, *options: str) -> None:
+    """The file is changed under a service, which says why once."""
+    program.make(file, 4)
+    with logged(program, file, 2, *options) as service:
+        expect(service.ask("add 1"), ["yes"], "a reply")
+        expect(service.lines(), [], "the log before")
+        change(file)
+        for key in (2, 3):
+            expect(service.ask(f"add {key}"), ["yes"], "a reply after that")
+        expect(service.lines(), [f"{why}: what is answered may be lost at the end"], "the log")
 
 
 def try_threads(program: Program, folder: str) -> None:

@@ -35,21 +35,25 @@ fn with_words<'a>(
 ) -> Result<Command<'a>, AllocError> {
     let mut command = command;
     for word in words {
-        command = command.arg(arg_of(alloc, *word))?;
+        command = command.arg(arg_of(alloc, *word)?)?;
     }
     Ok(command)
 }
 
-fn arg_of<'a>(alloc: Global, word: Word) -> Arg<'a> {
+fn arg_of<'a>(alloc: Global, word: Word) -> Result<Arg<'a>, AllocError> {
     let arg = parsed(Arg::new(alloc, word.id).help(word.help), word.form);
     let arg = match word.value_name {
         None => arg.required(true),
         Some(name) => arg.long(word.id).value_name(name),
     };
-    match word.default {
+    let arg = match word.beside {
+        None => arg,
+        Some(id) => arg.requires_arg(id)?,
+    };
+    Ok(match word.default {
         None => arg,
         Some(text) => arg.default_value(text),
-    }
+    })
 }
 
 fn parsed<'a>(arg: Arg<'a>, form: Form) -> Arg<'a> {

@@ -1,12 +1,12 @@
 //! What a command line asks for.
 ghost use Rattle.std.specs.Prelude.{◌≤◌, IfOk, IfSome};
 ghost use Rattle.lz_slot.specs.Limits.{most_buckets, most_passes};
-ghost use Rattle.lazyset_command_line.specs.Requests.{IsWithin};
+ghost use Rattle.lazyset_command_line.specs.Requests.{AreWithin, IsWithin};
 
 use crate::command::command_line;
 use crate::refusal::{Refusal, refusal_of};
 use clap::ArgMatches;
-use lazyset_commands::{ServeOptions, Status};
+use lazyset_commands::{Loops, MOST_CONNECTIONS, ServeOptions, Status};
 use lz_slot::{Format, MOST_BUCKETS, MOST_PASSES, MOST_REHEARSED};
 use std::alloc::{AllocError, Global};
 use std::fmt;
@@ -75,12 +75,20 @@ pub fn read<'a>(alloc: Global, words: &'a [String]) -> Result<Request<'a>, Refus
     match command.try_get_matches_from(words) {
         Ok(matches) => match request_of(&matches) {
             Some(request) => Ok(request),
-            None => Err(Refusal::Told {
-                text: String::new(alloc),
-                status: Status::CommandLine,
-            }),
+            None => Err(too_many_loops(alloc)),
         },
         Err(error) => Err(refusal_of(alloc, error)),
+    }
+}
+
+// The one fault that the table of words doesn't show: each loop needs a pass.
+fn too_many_loops(alloc: Global) -> Refusal {
+    match format!(in alloc; "error: '--loops <L>' is more than '<PASSES>'\n") {
+        Ok(text) => Refusal::Told {
+            text,
+            status: Status::CommandLine,
+        },
+        Err(_) => Refusal::Memory(AllocError),
     }
 }
 
@@ -143,17 +151,36 @@ fn serve<'a>(words: &ArgMatches<'a>) -> Option<Request<'a>>
 fn serve_options(matches: &ArgMatches<'_>) -> Option<ServeOptions>
     ensures passes { IfSome result (λ options. (1 ≤ options.passes) × (options.passes ≤ most_passes)) }
     ensures buckets { IfSome result (λ options. (1 ≤ options.buckets) × (options.buckets ≤ most_buckets)) }
+    ensures loops { IfSome result (λ options. IfSome options.loops (AreWithin options.passes)) }
 {
     let port = u16::try_from(number(matches, "PORT")?).ok()?;
     let passes = number_within(matches, "PASSES", MOST_PASSES)?;
     let buckets = number_within(matches, "buckets", MOST_BUCKETS)?;
+    let loops = match matches.get_str("connections") {
+        Some(_) => Some(loops_of(matches, passes)?),
+        None => None,
+    };
     Some(ServeOptions {
         port,
         passes,
+        loops,
         sessions: number(matches, "sessions")?,
         buckets,
         idle: number(matches, "idle")?,
     })
+}
+
+// The loops that the command line asks for, each of which needs a pass.
+fn loops_of(matches: &ArgMatches<'_>, passes: usize) -> Option<Loops>
+    requires { 1 ≤ passes }
+    ensures { IfSome result (AreWithin passes) }
+{
+    let connections = number_within(matches, "connections", MOST_CONNECTIONS)?;
+    let count = match matches.get_str("loops") {
+        Some(_) => number_within(matches, "loops", passes)?,
+        None => 1,
+    };
+    Some(Loops { count, connections })
 }
 
 fn info<'a>(words: &ArgMatches<'a>) -> Option<Request<'a>>

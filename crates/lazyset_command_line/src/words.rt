@@ -1,4 +1,5 @@
 //! The commands and their words, as a table.
+use lazyset_commands::MOST_CONNECTIONS;
 use lz_slot::{MOST_BUCKETS, MOST_PASSES, MOST_REHEARSED};
 
 /// What a word may be.
@@ -17,6 +18,8 @@ pub struct Word {
     pub value_name: Option<&'static str>,
     pub form: Form,
     pub default: Option<&'static str>,
+    /// The option without which it may not stand.
+    pub beside: Option<&'static str>,
     pub help: &'static str,
 }
 
@@ -57,8 +60,17 @@ pub const SHEETS: [Sheet; 8] = [
     Sheet {
         name: "serve",
         about: "Answers the lines of many connections at once, as `run` does",
-        notes: "Prints `listening PORT` when clients can connect, `refused N` as `run` does, or `noport`. Standard error is its log.\n\nIt needs the file for itself: with another process on it answered keys vanish. So start it under a lock.\n\nExample: flock --nonblock --no-fork f.lock lazyset serve f 7000 8 --buckets 1024 --idle 600",
-        words: &[FILE, PORT, PASSES, SESSIONS, IDLE, BUCKETS],
+        notes: "Prints `listening PORT` when clients can connect, `refused N` as `run` does, or `noport`. Standard error is its log.\n\nIt needs the file for itself: with another process on it answered keys vanish. So start it under a lock.\n\nExample: flock --nonblock --no-fork f.lock lazyset serve f 7000 8 --buckets 1024 --idle 600\n\nFor thousands of connections: lazyset serve f 7000 64 --buckets 4096 --connections 5000",
+        words: &[
+            FILE,
+            PORT,
+            PASSES,
+            CONNECTIONS,
+            LOOPS,
+            SESSIONS,
+            IDLE,
+            BUCKETS,
+        ],
     },
     Sheet {
         name: "info",
@@ -91,6 +103,7 @@ const FILE: Word = Word {
     value_name: None,
     form: Form::Text,
     default: None,
+    beside: None,
     help: "The slot file",
 };
 
@@ -99,6 +112,7 @@ const OLD: Word = Word {
     value_name: None,
     form: Form::Text,
     default: None,
+    beside: None,
     help: "The slot file whose keys are read; it is left as it is",
 };
 
@@ -107,6 +121,7 @@ const NEW: Word = Word {
     value_name: None,
     form: Form::Text,
     default: None,
+    beside: None,
     help: "The slot file that is made, of format 2",
 };
 
@@ -115,6 +130,7 @@ const HISTORY: Word = Word {
     value_name: None,
     form: Form::Text,
     default: None,
+    beside: None,
     help: "The history: the lines of a rehearsal, and `point I P` for call I",
 };
 
@@ -123,6 +139,7 @@ const OF: Word = Word {
     value_name: Some("OLD"),
     form: Form::Text,
     default: None,
+    beside: None,
     help: "A slot file from which this one was renewed: says after `good` whether both hold the same keys, `same`, or what is wrong, `flaw 8`, `flaw 9 I` or `flaw 10 I`",
 };
 
@@ -131,6 +148,7 @@ const SLOTS: Word = Word {
     value_name: None,
     form: Form::Number,
     default: None,
+    beside: None,
     help: "How many keys the file has room for, 1 to 65536",
 };
 
@@ -139,6 +157,7 @@ const REHEARSED: Word = Word {
     value_name: None,
     form: Form::Within(1, MOST_REHEARSED as i64),
     default: None,
+    beside: None,
     help: "How many keys the set has room for, 1 to 64",
 };
 
@@ -147,6 +166,7 @@ const FORMAT: Word = Word {
     value_name: Some("F"),
     form: Form::Within(1, 2),
     default: Some("2"),
+    beside: None,
     help: "The format of the file: 2, whose keys are in the rooms 0 to 15, or the older 1, whose keys are all in room 0",
 };
 
@@ -155,6 +175,7 @@ const BUCKETS: Word = Word {
     value_name: Some("B"),
     form: Form::Within(1, MOST_BUCKETS as i64),
     default: Some("1"),
+    beside: None,
     help: "The number of hash buckets, 1 to 4096: choose about the number of members",
 };
 
@@ -163,6 +184,7 @@ const PORT: Word = Word {
     value_name: None,
     form: Form::Within(0, 65_535),
     default: None,
+    beside: None,
     help: "The port of 127.0.0.1; 0 takes a free one, which is printed",
 };
 
@@ -171,7 +193,26 @@ const PASSES: Word = Word {
     value_name: None,
     form: Form::Within(1, MOST_PASSES as i64),
     default: None,
-    help: "How many connections are served at once, 1 to 64, each by a thread; further ones wait",
+    beside: None,
+    help: "How many commands are carried out at once, 1 to 64; without --connections also how many connections are served, each by a thread. Further ones wait",
+};
+
+const CONNECTIONS: Word = Word {
+    id: "connections",
+    value_name: Some("C"),
+    form: Form::Within(1, MOST_CONNECTIONS as i64),
+    default: None,
+    beside: None,
+    help: "Serves up to so many connections at once, 1 to 10000, by a few threads, in place of a thread for each pass",
+};
+
+const LOOPS: Word = Word {
+    id: "loops",
+    value_name: Some("L"),
+    form: Form::Within(1, MOST_PASSES as i64),
+    default: None,
+    beside: Some("connections"),
+    help: "How many threads serve the connections, at most PASSES; 1 unless given",
 };
 
 const SESSIONS: Word = Word {
@@ -179,7 +220,8 @@ const SESSIONS: Word = Word {
     value_name: Some("N"),
     form: Form::Within(0, 65_535),
     default: Some("0"),
-    help: "Each pass ends after so many connections; 0 for no end",
+    beside: None,
+    help: "Each pass, or each loop, ends after so many connections; 0 for no end",
 };
 
 const IDLE: Word = Word {
@@ -187,5 +229,6 @@ const IDLE: Word = Word {
     value_name: Some("SECONDS"),
     form: Form::Within(0, 86_400),
     default: Some("0"),
+    beside: None,
     help: "Closes a connection on which nothing was sent, or no reply taken, for so long; 0 for never",
 };

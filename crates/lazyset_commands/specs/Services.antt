@@ -1,4 +1,4 @@
--- What a service of a set does: its passes are served, each by a thread.
+-- What a service of a set does: its passes are served, each by a thread, or by loops.
 use Rattle.std.specs.Prelude.{◌≡◌, ◌⊎◌, ◌≤◌, ◌<◌, ℕ, zero, suc, ◌*◌, All, List, [], ◌∷◌, ◌++◌, codes, decimal, length, Option, None, IsSomeAnd}
 use Rattle.std.specs.Duration.{as_nanos}
 use Rattle.std.specs.declared.time.Duration.{Duration}
@@ -21,6 +21,10 @@ use Rattle.lazyset_commands.specs.Refusals.{refusal_text}
 use Rattle.lazyset_commands.specs.Tellings.{IsCutShort, Tells}
 use Rattle.lazyset_commands.specs.declared.status.Status.{Status}
 use Rattle.lazyset_commands.specs.declared.status.Status.TheVariants.{Done, Failed}
+
+-- the most connections that loops serve at once
+abbrev pub most_connections : ℕ
+most_connections = 10000
 
 -- so many seconds are the bound on how long a client is waited for; 0 is none
 abbrev pub IsIdleBound : ℕ → Option Duration → Type 0

@@ -1,15 +1,19 @@
 //! The command that serves a set over the network.
-ghost use Rattle.std.specs.Prelude.{◌≡◌, ◌⊎◌, ◌≤◌, ◌<◌, All, true, false};
+ghost use Rattle.std.specs.Prelude.{◌≡◌, ◌⊎◌, ◌+◌, ◌≤◌, ◌<◌, All, true, false, vec_len};
+ghost use Rattle.std.specs.List.{Any};
 ghost use Rattle.lz_slot.specs.Limits.{most_buckets, most_passes};
+ghost use Rattle.lz_board.specs.Seats.{part};
 ghost use Rattle.lz_set.specs.Blanks.{AreNew, MayBeNamed};
 ghost use Rattle.lz_set.specs.Names.{MayCall};
+ghost use Rattle.lz_serve.specs.Halts.{IsCalm, SawHalt};
 ghost use Rattle.lazyset_commands.specs.Services.{HadNoPort, HadPort, IsIdleBound, RanService, RefusedService, ServedPasses, TellsPort};
 
 use crate::refusal::{refuse, send_line};
 use crate::status::Status;
 use crate::telling::tell;
 use lz_disk::Disk;
-use lz_serve::{Bounds, Observer, Served, Serving, serve};
+use lz_loop::{LoopBounds, serve_loops};
+use lz_serve::{Bounds, Loops, Observer, Served, Serving, serve};
 use lz_set::{Blank, Named, NoGate, Pass, Set};
 use lz_vault::Refused;
 use std::io;
@@ -23,14 +27,19 @@ use std::time::{Clock, Duration};
 // What is said where the service can't listen.
 const NO_PORT: &[u8] = b"noport\n";
 
+/// The most connections that loops serve at once.
+pub const MOST_CONNECTIONS: usize = 10_000;
+
 /// How a set is served.
 #[derive(Clone, Copy, Debug, PartialEq, Eq)]
 pub struct ServeOptions {
     /// The port of the loopback interface; 0 for any that is free.
     pub port: u16,
-    /// How many connections are served at once, 1 to 64.
+    /// How many commands are carried out at once, 1 to 64; without loops each pass has a thread, and a connection.
     pub passes: usize,
-    /// After how many sessions each pass ends; 0 for no end.
+    /// The loops that serve the connections, where passes don't.
+    pub loops: Option<Loops>,
+    /// After how many sessions each pass, or each loop, ends; 0 for no end.
     pub sessions: u64,
     /// How many lists the keys are spread over, 1 to 4096.
     pub buckets: usize,
@@ -57,8 +66,8 @@ impl ServeOptions {
 }
 
 /// Opens the set that the disk holds and serves it on a port of 127.0.0.1, with a thread for each pass, each of which serves
-/// one connection after the other. The observer is told once the service stands, and where the device failed. Says `listening P` before the first connection, `refused N` of a refused open as a run does, and
-/// `noport` where it can't listen there. It ends when each pass has served its sessions, and hands the disk back: Failed where a call was
+/// one connection after the other, or with loops, each of which serves many connections. The observer is told once the service stands, and where the device failed. Says `listening P` before the first connection, `refused N` of a refused open as a run does, and
+/// `noport` where it can't listen there. It ends when each pass, or loop, has served its sessions, and hands the disk back: Failed where a call was
 /// answered that the set is halted or that the device failed, or where there was no thread for a pass.
 pub fn serve_on<R, W, O, D>(
     rt: &R,
@@ -113,6 +122,7 @@ where
         members: blank.members(),
         buckets: options.buckets,
         passes: options.passes,
+        loops: options.loops,
     };
     let (set, passes) = blank.start::<N>();
     let (listener, port) = match listen(rt, options.port) {
@@ -124,7 +134,7 @@ where
     };
     observer.serving(serving);
     tell_port(writer, port);
-    serve_passes(rt, observer, &listener, set, passes, options.bounds())
+    serve_passes(rt, observer, &listener, set, passes, options)
 }
 
 // Serves the new passes, and ends the set's life after them.
@@ -134,10 +144,10 @@ fn serve_passes<R, O, D, N>(
     listener: &TcpListener,
     set: Set<D, NoGate, N>,
     passes: Vec<Pass>,
-    bounds: Bounds,
+    options: ServeOptions,
 ) -> (Status, D)
 where
-    R: Threads + Wait + Clock + AllocGlobal + Sync,
+    R: Net + Threads + Wait + Clock + AllocGlobal + Sync,
     O: Observer + Sync,
     D: Disk + Send,
     N: Named + Send + Sync,
@@ -149,10 +159,45 @@ where
         passes,
         halted,
         threadless,
-    } = serve(rt, listener, &set, passes, bounds, observer);
+    } = serve_set(rt, listener, &set, passes, options, observer);
     let mut passes = passes;
     let disk = set.close_with(passes.as_mut_slice());
     (status_of_service(halted, threadless), disk)
+}
+
+// Serves by loops where there are any, and else by a thread for each pass.
+fn serve_set<R, O, D, N>(
+    rt: &R,
+    listener: &TcpListener,
+    set: &Set<D, NoGate, N>,
+    passes: Vec<Pass>,
+    options: ServeOptions,
+    observer: &O,
+) -> Served
+where
+    R: Net + Threads + Wait + Clock + AllocGlobal + Sync,
+    O: Observer + Sync,
+    D: Disk + Send,
+    N: Named + Send + Sync,
+    requires may_call { All (MayCall N.board) passes.items }
+    ensures may_call { All (MayCall N.board) result.passes.items }
+    ensures count { vec_len result.passes + result.threadless ≡ vec_len passes }
+    ensures halted { result.halted ≡ true → Any SawHalt result.passes.items }
+    ensures calm { All (λ pass. IsCalm (part pass)) passes.items → result.halted ≡ false → All (λ pass. IsCalm (part pass)) result.passes.items }
+{
+    let bounds = options.bounds();
+    match options.loops {
+        Some(Loops { count, connections }) => {
+            let bounds = LoopBounds {
+                connections,
+                loops: count,
+                sessions: bounds.sessions,
+                idle: bounds.idle,
+            };
+            serve_loops(rt, listener, set, passes, bounds, observer)
+        }
+        None => serve(rt, listener, set, passes, bounds, observer),
+    }
 }
 
 // The status after a service.

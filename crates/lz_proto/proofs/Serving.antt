@@ -17,7 +17,7 @@ use Rattle.lz_proto.specs.declared.end.End.TheVariants as ends
 use Rattle.lz_proto.specs.Lines.{Items}
 use Rattle.lz_proto.specs.Pieces.{Reads, Feeds, Ends, faults_of}
 use Rattle.lz_proto.specs.Sessions.{Serves, session_text, end_of, reply_text, bad_text, Answered, CutOff, Whole, Broken, IsInput, Writes}
-use Rattle.lz_proto.specs.Steps.{SendTells, FaultTells, AnswersTell, end_after}
+use Rattle.lz_proto.specs.Steps.{SendTells, FaultTells, AnswersTell, PieceTells, end_after}
 use Rattle.lz_proto.proofs.Texts.{items_end, reads_more, some_items}
 
 -- what goes on after items that didn't end the session
@@ -305,3 +305,10 @@ pub next_fails : {S : Type 0} (answers : S → Request → Reply → S → Type 
 next_fails answers old mid new a b d items i item Read h is p q = absurd q.2
 next_fails answers old mid new a b d items i item Write h is p q = next_cut answers old mid new a b d items i item h is p q
 next_fails answers old mid new a b d items i item Memory h is p q = absurd q.2
+
+-- of the items of a piece
+pub piece_fails : {S : Type 0} (answers : S → Request → Reply → S → Type 0) (old new : S) (a d : Option (List ℕ)) (kept left : Option (List ℕ)) (piece : List ℕ) (items : List Item) (fault : SessionFault)
+    → Feeds kept piece items left → Writes a d (λ written. AnswersTell answers old items new written (Err fault)) → Writes a d (λ written. PieceTells answers kept piece left old new written (Err fault))
+piece_fails answers old new a d kept left piece items Read fed q = absurd q.2
+piece_fails answers old new a d kept left piece items Write fed q = (q.0, q.1, (items, fed, q.2))
+piece_fails answers old new a d kept left piece items Memory fed q = absurd q.2

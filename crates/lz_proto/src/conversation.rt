@@ -106,21 +106,6 @@ fn end_after(reply: Reply) -> End
     }
 }
 
-fn answer_request<W: Write, S: Service>(
-    request: Request,
-    writer: &mut W,
-    service: &mut S,
-) -> Result<End, SessionFault>
-    requires { request ≢ Request.Quit }
-    ensures { Writes (W.contents writer.old) (W.contents writer.new) (λ written. AnswersTell S.answers service.old (Item.Asks request ∷ []) service.new written result) }
-{
-    let reply = service.ask(request);
-    match send(writer, reply_text(reply).as_bytes()) {
-        Ok(()) => Ok(end_after(reply)),
-        Err(fault) => Err(fault),
-    }
-}
-
 fn answer_fault<W: Write>(bad: Bad, writer: &mut W) -> Result<End, SessionFault>
     ensures { FaultTells (W.contents writer.old) (W.contents writer.new) bad result }
 {
@@ -130,6 +115,7 @@ fn answer_fault<W: Write>(bad: Bad, writer: &mut W) -> Result<End, SessionFault>
     }
 }
 
+// Answers one item.
 fn answer<W: Write, S: Service>(
     item: Item,
     writer: &mut W,
@@ -139,20 +125,30 @@ fn answer<W: Write, S: Service>(
 {
     match item {
         Item::Asks(Request::Quit) => Ok(End::Quit),
-        Item::Asks(request) => answer_request(request, writer, service),
+        Item::Asks(request) => {
+            let reply = service.ask(request);
+            match send(writer, reply_text(reply).as_bytes()) {
+                Ok(()) => Ok(end_after(reply)),
+                Err(fault) => Err(fault),
+            }
+        }
         Item::Faulty(bad) => answer_fault(bad, writer),
     }
 }
 
-// Answers each item before the service is asked the next, up to the session's end.
-fn answer_all<W: Write, S: Service>(
-    items: &[Item],
+// Answers the items of the lines that end in a piece, each before the service is asked the next, up to the session's end.
+fn answer_piece<W: Write, S: Service>(
+    lines: &mut Lines,
+    piece: &[u8],
     writer: &mut W,
     service: &mut S,
 ) -> Result<End, SessionFault>
-    ensures { Writes (W.contents writer.old) (W.contents writer.new) (λ written. AnswersTell S.answers service.old items.now service.new written result) }
+    ensures { Writes (W.contents writer.old) (W.contents writer.new) (λ written. PieceTells S.answers lines.old piece.now lines.new service.old service.new written result) }
 {
-    'items: for item in items {
+    let Ok(items) = lines.feed(piece) else {
+        return Err(SessionFault::Memory);
+    };
+    'items: for item in items.as_slice() {
         let end = match answer(*item, writer, service) {
             Ok(end) => end,
             Err(fault) => return Err(fault),
@@ -162,21 +158,6 @@ fn answer_all<W: Write, S: Service>(
         }
     }
     Ok(End::Done)
-}
-
-// Answers the items of the lines that end in a piece.
-fn answer_piece<W: Write, S: Service>(
-    lines: &mut Lines,
-    piece: &[u8],
-    writer: &mut W,
-    service: &mut S,
-) -> Result<End, SessionFault>
-    ensures { Writes (W.contents writer.old) (W.contents writer.new) (λ written. PieceTells S.answers lines.old piece.now lines.new service.old service.new written result) }
-{
-    match lines.feed(piece) {
-        Ok(items) => answer_all(items.as_slice(), writer, service),
-        Err(_) => Err(SessionFault::Memory),
-    }
 }
 
 // Answers what stands after the last line's end.

@@ -19,8 +19,8 @@ use Rattle.lz_board.specs.declared.view.Part.{Part}
 use Rattle.lz_board.specs.Seats.{BoardId, part}
 use Rattle.lz_set.specs.declared.fault.Fault.{Fault}
 use Rattle.lz_set.specs.declared.fault.Fault.TheVariants as fault
-use Rattle.lz_set.specs.Answers.{reply_of as given_of}
-use Rattle.lz_serve.specs.Replies.{SeatAnswers, reply_of}
+use Rattle.lz_set.specs.Answers.{reply_of}
+use Rattle.lz_serve.specs.Replies.{SeatAnswers, client_reply}
 use Rattle.lz_tie.specs.Answers.{Answers}
 
 -- a call that was cut off has seen it
@@ -35,7 +35,7 @@ device_word F (command.Remove k) before after answers = answers.promises.halted
 device_word F (command.Has k) before after answers = answers.promises.halted
 
 -- so has one of which a client is told that the service halted
-pub answer_word : (F : Format) (c : Command) (answer : Result Bool Fault) (before after : Part) → Halted ≡ reply_of answer → Answers F c (given_of answer) before after → halt_word after.known ≡ 1
+pub answer_word : (F : Format) (c : Command) (answer : Result Bool Fault) (before after : Part) → Halted ≡ client_reply answer → Answers F c (reply_of answer) before after → halt_word after.known ≡ 1
 answer_word F c (Ok true) before after told answers = absurd (cc)
 answer_word F c (Ok false) before after told answers = absurd (cc)
 answer_word F c (Err (fault.Full counts)) before after told answers = absurd (cc)

@@ -14,13 +14,13 @@ use Rattle.lz_board.specs.declared.view.Part.{Part}
 use Rattle.lz_board.specs.Seats.{BoardId, part}
 use Rattle.lz_set.specs.declared.fault.Fault.{Fault}
 use Rattle.lz_set.specs.declared.fault.Fault.TheVariants as fault
-use Rattle.lz_set.specs.Answers.{reply_of as given_of}
+use Rattle.lz_set.specs.Answers.{reply_of}
 use Rattle.lz_tie.specs.Answers.{Answers}
 use Rattle.lz_tie.specs.OneCaller.{IsPlainAnswer, keys_in}
-use Rattle.lz_serve.specs.Replies.{FoundFull, SeatAnswers, reply_of}
+use Rattle.lz_serve.specs.Replies.{FoundFull, SeatAnswers, client_reply}
 use Rattle.lz_serve.proofs.Seats.{only_call}
 
-yes_given : (answer : Result Bool Fault) → Yes ≡ reply_of answer → given_of answer ≡ given.Yes
+yes_given : (answer : Result Bool Fault) → Yes ≡ client_reply answer → reply_of answer ≡ given.Yes
 yes_given (Ok true) told = refl
 yes_given (Ok false) told = absurd (cc)
 yes_given (Err (fault.Full counts)) told = absurd (cc)
@@ -48,7 +48,7 @@ module _ (b : BoardId) (F : Format) (old new : Pass) where
   full_at_once two s none = ⊎_elim (λ at. let one = at.1 refl in absurd (omega (arith, one, two))) none s.first
 
 -- a lookup isn't made twice
-never_full : (F : Format) (before after : Part) (answer : Result Bool Fault) → reply_of answer ≡ Full → Answers F (command.Has 7) (given_of answer) before after → ⊥
+never_full : (F : Format) (before after : Part) (answer : Result Bool Fault) → client_reply answer ≡ Full → Answers F (command.Has 7) (reply_of answer) before after → ⊥
 never_full F before after (Ok true) full answers = absurd (cc)
 never_full F before after (Ok false) full answers = absurd (cc)
 never_full F before after (Err (fault.Full counts)) full answers = answers.promises

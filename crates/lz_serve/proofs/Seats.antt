@@ -19,19 +19,19 @@ use Rattle.lz_board.specs.Seats.{BoardId, part}
 use Rattle.lz_board.proofs.Walk.GlanceAnswer.{halt_since}
 use Rattle.lz_set.specs.declared.fault.Fault.{Fault}
 use Rattle.lz_set.specs.declared.fault.Fault.TheVariants as fault
-use Rattle.lz_set.specs.Answers.{reply_of as given_of}
+use Rattle.lz_set.specs.Answers.{reply_of}
 use Rattle.lz_tie.specs.OwnCalls.{told}
 use Rattle.lz_tie.specs.Sessions.{cuts_off}
 use Rattle.lz_tie.proofs.Marks.ToldCalls.{answers_told}
 use Rattle.lz_tie.proofs.Replies.SeenMore.{seen_more}
 use Rattle.lz_serve.specs.Halts.{IsCalm, was_cut}
-use Rattle.lz_serve.specs.Replies.{IsAnswered, SeatAnswers, reply_of, says_halted}
+use Rattle.lz_serve.specs.Replies.{IsAnswered, SeatAnswers, client_reply, says_halted}
 use Rattle.lz_serve.proofs.Halting.{answer_word}
 use Rattle.lz_serve.proofs.Kept.{session_keeps}
 use Rattle.lz_serve.proofs.Mapped.{known_session}
 
 -- an answer of which a client isn't told that the service halted doesn't cut its call off
-uncut : (answer : Result Bool Fault) → says_halted (reply_of answer) ≡ false → cuts_off (given_of answer) ≡ false
+uncut : (answer : Result Bool Fault) → says_halted (client_reply answer) ≡ false → cuts_off (reply_of answer) ≡ false
 uncut (Ok true) is = refl
 uncut (Ok false) is = refl
 uncut (Err (fault.Full counts)) is = refl
@@ -41,11 +41,11 @@ uncut (Err fault.Halted) is = absurd (true≢false is)
 uncut (Err fault.Device) is = absurd (true≢false is)
 
 -- so the pass stays calm
-calm_after : (b : BoardId) (F : Format) (c : Command) (answer : Result Bool Fault) (old new : Pass) → IsAnswered b F c answer old new → (part new).sizes ≡ b.sizes → says_halted (reply_of answer) ≡ false → IsCalm (part old) → IsCalm (part new)
+calm_after : (b : BoardId) (F : Format) (c : Command) (answer : Result Bool Fault) (old new : Pass) → IsAnswered b F c answer old new → (part new).sizes ≡ b.sizes → says_halted (client_reply answer) ≡ false → IsCalm (part old) → IsCalm (part new)
 calm_after b F c answer old new is sized quiet calm =
     let P = λ (call : Command × Option Given). was_cut call.1 ≡ false in
     let newest : All P (told (shape_of (part old).sizes) (part new).steps) =
-    All-same P _ _ (answers_told F c (given_of answer) (part old) (part new) is.call) (All-cons P (c, Some (given_of answer)) (told (shape_of (part old).sizes) (part old).steps) (uncut answer quiet) calm) in
+    All-same P _ _ (answers_told F c (reply_of answer) (part old) (part new) is.call) (All-cons P (c, Some (reply_of answer)) (told (shape_of (part old).sizes) (part old).steps) (uncut answer quiet) calm) in
     subst (λ (z : Sizes). All P (told (shape_of z) (part new).steps)) (is.sized ∙ sym sized) newest
 
 module _ (b : BoardId) (F : Format) (old new : Pass) (request : Request) (r : Reply) (answers : SeatAnswers b F old request r new) where
@@ -59,18 +59,18 @@ module _ (b : BoardId) (F : Format) (old new : Pass) (request : Request) (r : Re
       (⊎_elim (λ at. subst (λ (p : Pass). halt_word (part p).known ≡ 1) (sym at.0) seen) (λ full. saw_more answers.c full.answer old answers.middle full.answered seen) answers.first)
     where
       saw_more : (c : Command) (answer : Result Bool Fault) (p q : Pass) → IsAnswered b F c answer p q → halt_word (part p).known ≡ 1 → halt_word (part q).known ≡ 1
-      saw_more c answer p q is = halt_since (part p).known (part q).known (seen_more F c (given_of answer) (part p) (part q) is.call)
+      saw_more c answer p q is = halt_since (part p).known (part q).known (seen_more F c (reply_of answer) (part p) (part q) is.call)
 
   -- and so has one that was answered so
   pub saw_now : says_halted r ≡ true → halt_word (part new).known ≡ 1
   saw_now says = told_so r answers.told says
     where
-      told_so : (s : Reply) → s ≡ reply_of answers.answer → says_halted s ≡ true → halt_word (part new).known ≡ 1
+      told_so : (s : Reply) → s ≡ client_reply answers.answer → says_halted s ≡ true → halt_word (part new).known ≡ 1
       told_so reply.Halted told says = answer_word F answers.c answers.answer (part answers.middle) (part new) told answers.last.call
       told_so s told says = absurd (true≢false (sym says))
 
   -- it stays calm where it wasn't
-  stays_calm : (part new).sizes ≡ b.sizes → says_halted r ≡ false → IsCalm (part old) → IsCalm (part new)
+  pub stays_calm : (part new).sizes ≡ b.sizes → says_halted r ≡ false → IsCalm (part old) → IsCalm (part new)
   stays_calm sized quiet calm =
       calm_after b F answers.c answers.answer answers.middle new answers.last sized (subst (λ (s : Reply). says_halted s ≡ false) answers.told quiet)
       (⊎_elim (λ at. subst (λ (p : Pass). IsCalm (part p)) (sym at.0) calm) (λ full. calm_after b F answers.c full.answer old answers.middle full.answered answers.last.sized (ap says_halted full.full) calm) answers.first)

@@ -13,17 +13,17 @@ use Rattle.lz_board.specs.declared.pass.Pass.{Pass}
 use Rattle.lz_board.specs.Seats.{BoardId, part}
 use Rattle.lz_tie.specs.Answers.{Answers}
 use Rattle.lz_tie.specs.OneCaller.{IsPlainAnswer, keys_in}
-use Rattle.lz_set.specs.Answers.{reply_of as reply_told}
+use Rattle.lz_set.specs.Answers.{reply_of}
 
 -- the reply that tells what a call answered: of a device that failed, now or before, a client is told that the service halted
-abbrev pub reply_of : Result Bool Fault → Reply
-reply_of (Ok true) = said.Yes
-reply_of (Ok false) = said.No
-reply_of (Err (Full counts)) = said.Full
-reply_of (Err Worn) = said.Worn
-reply_of (Err OldFile) = said.OldFile
-reply_of (Err Halted) = said.Halted
-reply_of (Err Device) = said.Halted
+abbrev pub client_reply : Result Bool Fault → Reply
+client_reply (Ok true) = said.Yes
+client_reply (Ok false) = said.No
+client_reply (Err (Full counts)) = said.Full
+client_reply (Err Worn) = said.Worn
+client_reply (Err OldFile) = said.OldFile
+client_reply (Err Halted) = said.Halted
+client_reply (Err Device) = said.Halted
 
 -- the reply tells a client that the service halted
 abbrev pub says_halted : Reply → Bool
@@ -41,14 +41,14 @@ command_of Quit = None
 -- In a set of one pass the answer is the plain set's, over a file of this format.
 pub record IsAnswered (b : BoardId) (F : Format) (c : Command) (answer : Result Bool Fault) (old new : Pass) : Type 0 where
   pub sized : (part old).sizes ≡ b.sizes
-  pub call : Answers F c (reply_told answer) (part old) (part new)
-  pub plain : b.sizes.passes ≡ 1 → IsPlainAnswer F b.sizes.slots c (reply_told answer) (keys_in (part old).known) (keys_in (part new).known)
+  pub call : Answers F c (reply_of answer) (part old) (part new)
+  pub plain : b.sizes.passes ≡ 1 → IsPlainAnswer F b.sizes.slots c (reply_of answer) (keys_in (part old).known) (keys_in (part new).known)
 
 -- A call of one of several passes was answered that no slot is free, which the table has for addings only.
 pub record FoundFull (b : BoardId) (F : Format) (c : Command) (old new : Pass) : Type 0 where
   pub several : b.sizes.passes ≢ 1
   pub answer : Result Bool Fault
-  pub full : reply_of answer ≡ said.Full
+  pub full : client_reply answer ≡ said.Full
   pub answered : IsAnswered b F c answer old new
 
 -- The reply tells the answer of the pass's last call for what the request asks. That is its only one, which is told as full in a
@@ -60,4 +60,4 @@ pub record SeatAnswers (b : BoardId) (F : Format) (old : Pass) (request : Reques
   pub first : ((middle ≡ old) × (reply ≡ said.Full → b.sizes.passes ≡ 1)) ⊎ FoundFull b F c old middle
   pub answer : Result Bool Fault
   pub last : IsAnswered b F c answer middle new
-  pub told : reply ≡ reply_of answer
+  pub told : reply ≡ client_reply answer

@@ -2,7 +2,7 @@
 use std::marker::Brand;
 
 /// Names some passes by what they are as a service begins, which contracts alone see.
-pub(crate) trait Given {
+pub trait Given {
     ghost use Rattle.std.specs.Prelude.{List};
     ghost use Rattle.lz_board.specs.declared.view.Part.{Part};
 

@@ -11,6 +11,7 @@ mod pass_thread;
 mod seated;
 mod server;
 
-pub use observer::{Observer, Serving};
-pub use seated::Seated;
+pub use given::Given;
+pub use observer::{Loops, Observer, Serving};
+pub use seated::{Seated, client_reply, is_final};
 pub use server::{Bounds, Served, serve};

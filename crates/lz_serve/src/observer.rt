@@ -9,6 +9,16 @@ pub struct Serving {
     pub members: usize,
     pub buckets: usize,
     pub passes: usize,
+    /// The loops that serve, where each pass has no connection of its own.
+    pub loops: Option<Loops>,
+}
+
+/// Loops that serve a set together.
+#[derive(Clone, Copy, Debug, PartialEq, Eq)]
+pub struct Loops {
+    pub count: usize,
+    /// How many connections they serve at once, all together.
+    pub connections: usize,
 }
 
 impl fmt::Display for Serving {
@@ -23,11 +33,18 @@ impl fmt::Display for Serving {
             members,
             buckets,
             passes,
+            loops,
         } = *self;
-        write!(
-            f,
-            "slots {slots}, members {members}, buckets {buckets}, passes {passes}"
-        )
+        match loops {
+            None => write!(
+                f,
+                "slots {slots}, members {members}, buckets {buckets}, passes {passes}"
+            ),
+            Some(Loops { count, connections }) => write!(
+                f,
+                "slots {slots}, members {members}, buckets {buckets}, passes {passes}, connections {connections}, loops {count}"
+            ),
+        }
     }
 }
 

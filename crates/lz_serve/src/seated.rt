@@ -3,7 +3,7 @@ ghost use Rattle.std.specs.Prelude.{◌≡◌, ◌≢◌, Some, true, false};
 ghost use Rattle.lz_slot.specs.declared.command.Command.{Command};
 ghost use Rattle.lz_set.specs.Names.{MayCall};
 ghost use Rattle.lz_serve.specs.Halts.{SawHalt};
-ghost use Rattle.lz_serve.specs.Replies.{IsAnswered, SeatAnswers, command_of, reply_of, says_halted};
+ghost use Rattle.lz_serve.specs.Replies.{IsAnswered, SeatAnswers, command_of, client_reply, says_halted};
 
 use lz_disk::Disk;
 use lz_proto::{Reply, Request, Service};
@@ -70,9 +70,9 @@ impl<'a, D: Disk, G: StepGate, N: Named, R: Wait> Seated<'a, D, G, N, R> {
     }
 }
 
-// The reply that tells what a call answered.
-fn reply_of(answer: Result<bool, Fault>) -> Reply
-    ensures { result ≡ reply_of answer }
+/// The reply that tells what a call answered.
+pub fn client_reply(answer: Result<bool, Fault>) -> Reply
+    ensures { result ≡ client_reply answer }
 {
     match answer {
         Ok(true) => Reply::Yes,
@@ -91,8 +91,8 @@ fn says_halted(reply: Reply) -> bool
     matches!(reply, Reply::Halted)
 }
 
-// Whether a request was answered so. Where several passes have calls, `full` isn't told of the first one.
-fn is_final<D: Disk, G: StepGate, N: Named>(set: &Set<D, G, N>, reply: Reply) -> bool
+/// Whether a request was answered so. Where several passes have calls, `full` isn't told of the first one.
+pub fn is_final<D: Disk, G: StepGate, N: Named>(set: &Set<D, G, N>, reply: Reply) -> bool
     ensures first { result ≡ true → reply ≡ Reply.Full → N.board.sizes.passes ≡ 1 }
     ensures again { result ≡ false → (reply ≡ Reply.Full) × (N.board.sizes.passes ≢ 1) }
 {
@@ -135,13 +135,13 @@ fn reply_to<D: Disk, G: StepGate, N: Named, R: Wait>(
     ensures may_call { MayCall N.board pass.new }
     ensures answers { SeatAnswers N.board N.format pass.old request result pass.new }
 {
-    let first = reply_of(call(rt, set, pass, &request));
+    let first = client_reply(call(rt, set, pass, &request));
     if is_final(set, first) {
         return first;
     }
     // While it looked for a slot the pass was inside, and may have held up all that wait to be free again. Its answer has shown
     // it outside.
-    reply_of(call(rt, set, pass, &request))
+    client_reply(call(rt, set, pass, &request))
 }
 
 impl<'a, D: Disk, G: StepGate, N: Named, R: Wait> Service for Seated<'a, D, G, N, R> {

@@ -1,15 +1,23 @@
 -- Worked rows: where calls stand that stopped.
-use Rattle.std.proofs.Common.{Some, None, is_some, refl, ap}
+use Rattle.std.proofs.Common.{List, [], ◌∷◌, length, Some, None, is_some, refl, ap, arith, length-append}
 use mathlib.Core.Bool.{false≢true}
 use Rattle.lz_slot.specs.declared.command.Command.TheVariants.{Add}
 use Rattle.lz_list.specs.declared.place.Place.TheVariants.{Bucket}
 use Rattle.lz_machine.specs.declared.caller.Progress.{Progress}
 use Rattle.lz_machine.specs.declared.caller.Progress.TheVariants.{Playing, LoadsHalt, Claiming, Checking, Answering}
 use Rattle.lz_machine.specs.declared.caller.Sequence.TheVariants.{Adding}
+use Rattle.lz_machine.specs.declared.event.Event.TheVariants.{Claim}
+use Rattle.lz_machine.specs.declared.event.Outcome.TheVariants as found
 use Rattle.lz_machine.specs.declared.event.Reply.TheVariants.{No}
+use Rattle.lz_machine.specs.declared.kind.Kind.TheVariants as kind
 use Rattle.lz_machine.specs.Orders.{Calling}
+use Rattle.lz_board.specs.declared.view.Note.{Note}
+use Rattle.lz_board.specs.declared.view.Part.{Part}
+use Rattle.lz_board.specs.declared.view.What.TheVariants.{Played}
+use Rattle.lz_board.specs.Notes.{note_by}
+use Rattle.lz_board.specs.Plays.{no_sizes}
 use Rattle.lz_set.specs.declared.underway.Stage.TheVariants.{Syncs, Busy, Answers}
-use Rattle.lz_set.specs.Stages.{StandsAt}
+use Rattle.lz_set.specs.Stages.{HasPlayed, StandsAt}
 
 -- an adding of 9 in slot 1 that has come so far
 abbrev call_at : Progress → Calling
@@ -32,3 +40,18 @@ has_its_reply = (No, refl)
 
 no_reply_yet : StandsAt Answers (call_at LoadsHalt) → ⊥
 no_reply_yet h = false≢true (ap is_some h.1)
+
+-- a Claim that found its node taken
+abbrev claim : Note
+claim = note_by 1 (Played (Claim (Bucket 0) None) found.Busy) None
+
+-- a pass with these steps
+abbrev pass_with : List Note → Part
+pass_with steps = record { sizes = no_sizes; number = 1; pin = 1; begun = []; known = []; steps = steps; base = 0; loads = [] }
+
+claimed_since : HasPlayed kind.Claim (pass_with []) (pass_with (claim ∷ []))
+claimed_since = (Claim (Bucket 0) None, found.Busy, None, [], refl, refl)
+
+-- an older one doesn't count
+claimed_before : HasPlayed kind.Claim (pass_with (claim ∷ [])) (pass_with (claim ∷ [])) → ⊥
+claimed_before h = let more = length-append h.3 (claim ∷ []) in let is = ap length h.4 in absurd (omega (arith, more, is))

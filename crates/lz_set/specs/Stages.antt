@@ -1,7 +1,5 @@
 -- How a call under way is played on.
-use Rattle.std.specs.Prelude.{◌≡◌, ℕ, List, ◌∷◌, Option, Some}
-use Rattle.lz_slot.specs.declared.command.Command.{Command}
-use Rattle.lz_slot.specs.declared.format.Format.{Format}
+use Rattle.std.specs.Prelude.{◌≡◌, ℕ, List, ◌∷◌, ◌++◌, Option, Some}
 use Rattle.lz_list.specs.declared.place.Place.{Place}
 use Rattle.lz_list.specs.declared.publishing.Publishing.{Publishing}
 use Rattle.lz_machine.specs.declared.event.Event.{Event}
@@ -17,8 +15,6 @@ use Rattle.lz_board.specs.declared.view.Note.{Note}
 use Rattle.lz_board.specs.declared.view.Part.{Part}
 use Rattle.lz_board.specs.declared.view.What.TheVariants.{Played}
 use Rattle.lz_board.specs.Notes.{note_by}
-use Rattle.lz_board.specs.Seats.{BoardId}
-use Rattle.lz_tie.specs.Counting.{Counts}
 use Rattle.lz_set.specs.declared.underway.Stage.{Stage}
 use Rattle.lz_set.specs.declared.underway.Stage.TheVariants.{Syncs, Busy, Answers}
 
@@ -28,10 +24,10 @@ StandsAt Syncs k = (slot : ℕ) × (event_at (shape_with k) k.command k.progress
 StandsAt Busy k = (pred : Place) × (curr : Option ℕ) × (event_at (shape_with k) k.command k.progress ≡ Claim pred curr)
 StandsAt Answers k = (reply : Reply) × (reply_at k.progress ≡ Some reply)
 
--- the call that was counted before is counted after, on the same file, since the same part
-abbrev pub CountsOn : BoardId → Calling → Part → Calling → Part → Type 0
-CountsOn b k h k' h' = (c : Command) (format : Format) (before : Part) → Counts b c format before k h → Counts b c format before k' h'
+-- the pass has made no steps since, or some
+abbrev pub StepsOn : Part → Part → Type 0
+StepsOn h h' = (more : List Note) × (h'.steps ≡ more ++ h.steps)
 
--- the newest step of the pass is an event of this kind
-abbrev pub HasPlayed : Kind → Part → Type 0
-HasPlayed kind h = (e : Event) × (o : Outcome) × (x : Option Publishing) × (rest : List Note) × (h.steps ≡ note_by h.number (Played e o) x ∷ rest) × (kind_of e ≡ kind)
+-- its newest step since is an event of this kind
+abbrev pub HasPlayed : Kind → Part → Part → Type 0
+HasPlayed kind h h' = (e : Event) × (o : Outcome) × (x : Option Publishing) × (more : List Note) × (h'.steps ≡ note_by h'.number (Played e o) x ∷ (more ++ h.steps)) × (kind_of e ≡ kind)

@@ -10,11 +10,11 @@ ghost use Rattle.lz_machine.specs.Runs.{reply_at};
 ghost use Rattle.lz_board.specs.declared.view.Part.{Part};
 ghost use Rattle.lz_board.specs.Seats.{IsOf, part};
 ghost use Rattle.lz_tie.specs.Answers.{Answers};
-ghost use Rattle.lz_tie.specs.Counting.{Counts, IsCounted};
+ghost use Rattle.lz_tie.specs.Counting.{Counts, CountsOn, IsCounted};
 ghost use Rattle.lz_tie.specs.OneCaller.{IsPlainAnswer, keys_in};
 ghost use Rattle.lz_set.specs.Answers.{reply_of};
 ghost use Rattle.lz_set.specs.Names.{MayCall};
-ghost use Rattle.lz_set.specs.Stages.{CountsOn, HasPlayed, StandsAt};
+ghost use Rattle.lz_set.specs.Stages.{HasPlayed, StandsAt, StepsOn};
 
 use crate::fault::Fault;
 use crate::gate::StepGate;
@@ -24,7 +24,7 @@ use lz_board::Pass;
 use lz_caller::Caller;
 use lz_disk::Disk;
 use lz_list::Word;
-use lz_machine::{Event, Kind, Outcome, Reply};
+use lz_machine::{Event, Kind, Reply};
 use lz_slot::Command;
 use lz_tie::{Locked, Named, load_next};
 use std::marker::Model;
@@ -76,6 +76,7 @@ impl<D: Disk, G: StepGate, N: Named> Set<D, G, N> {
         ensures pass { IsOf N.board pass.new }
         ensures counts { CountsOn N.board call.old (part pass.old) call.new (part pass.new) }
         ensures stands { StandsAt result call.new }
+        ensures claimed { result ≡ Stage.Busy → HasPlayed Kind.Claim (part pass.old) (part pass.new) }
     {
         let (stage, _kept) = self.play(rt, pass, call, None);
         stage
@@ -88,9 +89,9 @@ impl<D: Disk, G: StepGate, N: Named> Set<D, G, N> {
         requires stands { StandsAt Stage.Syncs call.old }
         ensures pass { IsOf N.board pass.new }
         ensures counts { CountsOn N.board call.old (part pass.old) call.new (part pass.new) }
-        ensures played { HasPlayed Kind.Sync (part pass.new) }
+        ensures played { HasPlayed Kind.Sync (part pass.old) (part pass.new) }
     {
-        let (_, locked) = self.hold(rt, pass, call, Kind::Sync, None);
+        let locked = self.hold(rt, pass, call, Kind::Sync, None);
         self.unlock(rt, pass.number(), Kind::Sync, locked, &mut call.stay);
     }
 
@@ -168,6 +169,7 @@ impl<D: Disk, G: StepGate, N: Named> Set<D, G, N> {
         ensures pass { IsOf N.board pass.new }
         ensures counts { CountsOn N.board call.old (part pass.old) call.new (part pass.new) }
         ensures stands { StandsAt result.0 call.new }
+        ensures claimed { result.0 ≡ Stage.Busy → HasPlayed Kind.Claim (part pass.old) (part pass.new) }
     {
         let mut kept = kept;
         for _ in rt.forever() {
@@ -202,7 +204,8 @@ impl<D: Disk, G: StepGate, N: Named> Set<D, G, N> {
         requires going { reply_at call.old.progress ≡ None }
         ensures pass { IsOf N.board pass.new }
         ensures counts { CountsOn N.board call.old (part pass.old) call.new (part pass.new) }
-        ensures busy { IsTrue result.0 → StandsAt Stage.Busy call.new }
+        ensures steps { StepsOn (part pass.old) (part pass.new) }
+        ensures busy { IsTrue result.0 → StandsAt Stage.Busy call.new × HasPlayed Kind.Claim (part pass.old) (part pass.new) }
     {
         let looked = event;
         let kind = event.kind();
@@ -215,8 +218,8 @@ impl<D: Disk, G: StepGate, N: Named> Set<D, G, N> {
                 (false, None)
             }
             None => {
-                let (outcome, locked) = self.hold(rt, pass, call, kind, kept);
-                let is_busy = matches!(outcome, Outcome::Busy) && claims(&call.caller);
+                let locked = self.hold(rt, pass, call, kind, kept);
+                let is_busy = is_taken(kind, &call.caller);
                 let left = self.leave(rt, pass.number(), kind, locked, &mut call.stay);
                 (is_busy, left)
             }
@@ -231,7 +234,7 @@ impl<D: Disk, G: StepGate, N: Named> Set<D, G, N> {
         call: &mut Underway,
         kind: Kind,
         kept: Option<Held<'a, N, D>>,
-    ) -> (Outcome, Held<'a, N, D>)
+    ) -> Held<'a, N, D>
         requires pass { IsOf N.board pass.old }
         requires counted { IsCounted N.board call.old (part pass.old) }
         requires load { hop_of (event_at (shape_with call.old) call.old.command call.old.progress) ≡ None }
@@ -239,12 +242,12 @@ impl<D: Disk, G: StepGate, N: Named> Set<D, G, N> {
         requires going { reply_at call.old.progress ≡ None }
         ensures pass { IsOf N.board pass.new }
         ensures counts { CountsOn N.board call.old (part pass.old) call.new (part pass.new) }
-        ensures played { HasPlayed kind (part pass.new) }
+        ensures played { HasPlayed kind (part pass.old) (part pass.new) }
     {
         let mut locked = self.lock(rt, kept, &mut call.stay);
-        let turn = locked.turn_on(&self.board, pass, &mut call.caller);
+        locked.turn_on(&self.board, pass, &mut call.caller);
         self.commits.played(kind, &mut call.stay);
-        (turn.outcome, locked)
+        locked
     }
 
     // The call's Sync, for all that wait for one, once it has to wait for others no more.
@@ -265,7 +268,7 @@ impl<D: Disk, G: StepGate, N: Named> Set<D, G, N> {
         let locked = self
             .commits
             .await_sync(rt, locked, &mut call.stay, self.passes);
-        let (_, locked) = self.hold(rt, pass, call, Kind::Sync, Some(locked));
+        let locked = self.hold(rt, pass, call, Kind::Sync, Some(locked));
         self.commits.close(&mut call.stay);
         self.leave(rt, pass.number(), Kind::Sync, locked, &mut call.stay)
     }
@@ -360,11 +363,12 @@ fn loaded_by(event: Event) -> Option<Word>
     }
 }
 
-// Whether the call's next event is a Claim.
-fn claims(caller: &Caller) -> bool
-    ensures { IsTrue result → StandsAt Stage.Busy caller.now }
+// Whether the event of this kind was a Claim of a node that another call holds: the call's next event is one again.
+fn is_taken(kind: Kind, caller: &Caller) -> bool
+    ensures claimed { IsTrue result → kind ≡ Kind.Claim }
+    ensures stands { IsTrue result → StandsAt Stage.Busy caller.now }
 {
-    matches!(caller.next(), Event::Claim(_, _))
+    matches!(kind, Kind::Claim) && matches!(caller.next(), Event::Claim(_, _))
 }
 
 // The answer of a call that ended with this reply.

@@ -2,10 +2,12 @@ pub mod OtherPins
 pub mod NextStep
 pub mod OneWord
 pub mod NoteCondition
+pub mod NotedStep
 pub mod PlayedTurn
-pub mod JoinedTurn
+pub mod PreparedSlot
 pub mod Joining
 pub mod CallStart
-pub mod JoinedCall
+pub mod PlayedCall
+pub mod JoinedStep
 pub mod PinSight
 pub mod OneHold

@@ -1,24 +1,16 @@
 -- A call under way with the caller that counts its events, and one hold of it.
-use Rattle.std.specs.Prelude.{◌≡◌, ℕ, List, Option, Some, None}
+use Rattle.std.specs.Prelude.{◌≡◌}
 use Rattle.lz_slot.specs.declared.command.Command.{Command}
 use Rattle.lz_slot.specs.declared.format.Format.{Format}
 use Rattle.lz_slot.specs.Sets.{key_of}
 use Rattle.lz_list.specs.Traces.{Trace}
 use Rattle.lz_machine.specs.declared.caller.Progress.{Progress}
 use Rattle.lz_machine.specs.declared.caller.Progress.TheVariants.{Walking}
-use Rattle.lz_machine.specs.declared.event.Event.{Event}
-use Rattle.lz_machine.specs.declared.event.Event.TheVariants.{SeePin}
-use Rattle.lz_machine.specs.Laws.{hop_of}
 use Rattle.lz_machine.specs.Orders.{Calling}
 use Rattle.lz_board.specs.declared.view.Sizes.{Sizes}
-use Rattle.lz_board.specs.declared.view.What.TheVariants.{Played}
-use Rattle.lz_board.specs.declared.view.Note.{Note}
 use Rattle.lz_board.specs.declared.view.Part.{Part}
-use Rattle.lz_board.specs.Notes.{note_by}
 use Rattle.lz_board.specs.Seats.{BoardId}
 use Rattle.lz_board.specs.Walkers.{IsOnWalk}
-use Rattle.lz_tie.specs.declared.playing.Turn.{Turn}
-use Rattle.lz_tie.specs.Holds.{Holds, Turned}
 use Rattle.lz_tie.specs.UnderWay.{UnderWay}
 
 -- Where the call walks, the pass knows where its walk stands: P0 is the trace at its pin, Q what it has seen.
@@ -33,6 +25,10 @@ pub record Counts (b : BoardId) (c : Command) (format : Format) (before : Part) 
   pub passes : k.passes ≡ b.sizes.passes
   pub under : UnderWay b c format before k.progress h
   pub walk : OnWalk b.sizes k.command k.progress h.begun h.known
+
+-- the call that was counted before is counted after, on the same file, since the same part
+abbrev pub CountsOn : BoardId → Calling → Part → Calling → Part → Type 0
+CountsOn b k h k' h' = (c : Command) (format : Format) (before : Part) → Counts b c format before k h → Counts b c format before k' h'
 
 -- it counts some call of that pass
 abbrev pub IsCounted : BoardId → Calling → Part → Type 0

@@ -1,11 +1,13 @@
 -- What a pass may ask of a hold of the lock, and what the hold promises it.
-use Rattle.std.specs.Prelude.{◌≡◌, suc, ◌<◌, List, [], ◌∷◌, None}
+use Rattle.std.specs.Prelude.{◌≡◌, suc, ◌<◌, ◌≤◌, List, [], ◌∷◌, None}
 use Rattle.lz_slot.specs.declared.command.Command.{Command}
 use Rattle.lz_slot.specs.declared.format.Format.{Format}
 use Rattle.lz_slot.specs.declared.history.Mark.TheVariants.{Call}
+use Rattle.lz_slot.specs.Limits.{largest_key}
+use Rattle.lz_slot.specs.Sets.{key_of}
 use Rattle.lz_disk.specs.Devices.{Device}
 use Rattle.lz_machine.specs.declared.event.Event.{Event}
-use Rattle.lz_machine.specs.declared.event.Event.TheVariants.{Invoke}
+use Rattle.lz_machine.specs.declared.event.Event.TheVariants.{Invoke, SeePin}
 use Rattle.lz_machine.specs.declared.event.Outcome.TheVariants.{Fault}
 use Rattle.lz_machine.specs.Calls.{event_at}
 use Rattle.lz_machine.specs.Laws.{hop_of}
@@ -32,7 +34,7 @@ pub record IsNext (h : Part) (c : Calling) (e : Event) : Type 0 where
 
 -- A pass without a call may ask for an Invoke, and one with a call for its next event.
 abbrev pub MayAsk : Sizes → Part → Event → Type 0
-MayAsk z h (Invoke c) = IsIdle z h
+MayAsk z h (Invoke c) = IsIdle z h × (key_of c ≤ largest_key)
 MayAsk z h e = (c : Calling) × IsNext h c e
 
 -- A call of command c was made: the pass's pin word was found, and the Invoke noted. The pass had seen what the life began with.
@@ -42,11 +44,17 @@ pub record Began (b : BoardId) (F : Format) (was is : List Note) (c : Command) (
   pub holds : Holds b.opened (found_note before.number before.pin ∷ was) is (note_by before.number (Called c F) None) before after
   pub opened : Extends before.known b.opened
 
--- The next event of the call that k counts was played on the notes `found`, in which the pin word stands that it looks at. In a
--- set of one pass nothing was published that the pass hasn't seen, and nothing changed since the life began but by it.
-pub record Advanced (b : BoardId) (is : List Note) (k : Calling) (t : Turn) (before after : Part) : Type 0 where
-  pub found : List Note
+-- the notes on which an event is played: those of the lock, and the pin word that it looks at
+abbrev pub found_for : Event → List Note → List Note
+found_for (SeePin q v) was = found_note q v ∷ was
+found_for e was = was
+
+-- The next event of the call that k counts was played on the notes `found`. In a set of one pass nothing was published that the
+-- pass hasn't seen, and nothing changed since the life began but by it.
+pub record Advanced (b : BoardId) (was is : List Note) (k : Calling) (t : Turn) (before after : Part) : Type 0 where
   pub event : Event
+  pub found : List Note
+  pub on : found ≡ found_for event was
   pub turn : IsTurn found before k event
   pub holds : Holds b.opened found is (note_by before.number (Played event t.outcome) t.published) before after
   pub turned : Turned b.opened found before k.command k.progress event t.outcome t.published
@@ -55,7 +63,7 @@ pub record Advanced (b : BoardId) (is : List Note) (k : Calling) (t : Turn) (bef
 
 -- A hold goes on with the call that k counts, and puts its reply on the history where it is about to answer.
 pub record WentOn (b : BoardId) (was is : List Note) (k : Calling) (t : Turn) (before after : Part) : Type 0 where
-  pub advanced : Advanced b is k t before after
+  pub advanced : Advanced b was is k t before after
   pub shows : Shows (shape_of b.sizes) was is (mark_of_turn (number_of before.number was) (reply_at k.progress))
 
 abbrev pub Gave : BoardId → Format → List Note → List Note → Turn → Part → Part → Event → Type 0

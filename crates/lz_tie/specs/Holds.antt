@@ -1,8 +1,10 @@
 -- The value under the lock, and what one hold promises.
-use Rattle.std.specs.Prelude.{◌≡◌, ◌≢◌, ℕ, ◌%◌, ◌==◌, false, if◌then◌else◌, List, [], ◌∷◌, ◌++◌, map, length, Option, Some, None}
+use Rattle.std.specs.Prelude.{◌≡◌, ◌≢◌, ℕ, ◌%◌, ◌==◌, ◌≤◌, false, if◌then◌else◌, List, [], ◌∷◌, ◌++◌, map, length, Option, Some, None}
 use Rattle.lz_slot.specs.declared.command.Command.{Command}
 use Rattle.lz_slot.specs.declared.format.Format.{Format}
 use Rattle.lz_slot.specs.Histories.{History}
+use Rattle.lz_slot.specs.Limits.{largest_key}
+use Rattle.lz_slot.specs.Sets.{key_of}
 use Rattle.lz_disk.specs.Devices.{Device}
 use Rattle.lz_disk.specs.Images.{Medium}
 use Rattle.lz_vault.specs.Vaults.{NoCall}
@@ -14,7 +16,7 @@ use Rattle.lz_list.specs.Traces.{Trace, Lawful}
 use Rattle.lz_list.specs.Pinned.{IsQuiet}
 use Rattle.lz_machine.specs.declared.caller.Progress.{Progress}
 use Rattle.lz_machine.specs.declared.event.Event.{Event}
-use Rattle.lz_machine.specs.declared.event.Event.TheVariants.{SeePin}
+use Rattle.lz_machine.specs.declared.event.Event.TheVariants.{Invoke, SeePin}
 use Rattle.lz_machine.specs.declared.event.Outcome.{Outcome}
 use Rattle.lz_machine.specs.declared.event.Outcome.TheVariants.{Done, OldFile, Fault}
 use Rattle.lz_machine.specs.Yards.{Shape, Yard}
@@ -26,6 +28,8 @@ use Rattle.lz_machine.specs.Laws.{hop_of}
 use Rattle.lz_machine.specs.CallersSound.{CallerSound, view_of}
 use Rattle.lz_machine.specs.CallsStand.{own_change}
 use Rattle.lz_board.specs.declared.view.Sizes.{Sizes}
+use Rattle.lz_board.specs.declared.view.What.{What}
+use Rattle.lz_board.specs.declared.view.What.TheVariants.{Called, Played}
 use Rattle.lz_board.specs.declared.view.Note.{Note}
 use Rattle.lz_board.specs.declared.view.Part.{Part}
 use Rattle.lz_board.specs.Notes.{listed, trace_of, Since, load_note, place, shape_of, pin_after, pin_after_what}
@@ -91,6 +95,16 @@ pub record IsTurn (ns : List Note) (h : Part) (c : Calling) (e : Event) : Type 0
   pub event : e ≡ seen_event (λ q. pin_after q ns) (event_at (shape_of h.sizes) c.command c.progress)
   pub load : hop_of e ≡ None
   pub found : SeesPin ns e
+
+-- What a pass may play in a hold: an Invoke, where it has no call and its pin word was found, or the next event of its call.
+abbrev pub MayTurn : Sizes → List Note → Part → Event → Type 0
+MayTurn z ns h (Invoke c) = IsIdle z h × (pin_after h.number ns ≡ h.pin) × (key_of c ≤ largest_key)
+MayTurn z ns h e = (c : Calling) × IsTurn ns h c e
+
+-- and what its note tells, on a file of this format
+abbrev pub what_of : Format → Event → Outcome → What
+what_of format (Invoke c) o = Called c format
+what_of format e o = Played e o
 
 -- The turn of this pass was played in a state that a run of the machine reaches, with the trace of these notes: it gave what
 -- the event's line says there, or its device call failed.

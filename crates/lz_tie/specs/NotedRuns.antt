@@ -50,12 +50,12 @@ TellsOf w n (Found q v) new = (n.by ≡ 0) × (n.published ≡ None) × TellsLoo
 TellsOf w n (Called c format) new = TellsOne w n new
 TellsOf w n (Played e o) new = TellsOne w n new
 
-abbrev pub Tells : State → Note → List Transition → Type 0
-Tells w n new = TellsOf w n n.what new
+abbrev pub NoteTells : State → Note → List Transition → Type 0
+NoteTells w n new = TellsOf w n n.what new
 
 abbrev pub ReadsAs : Point → List Note → List Transition → Type 0
 ReadsAs p [] steps = steps ≡ []
-ReadsAs p (n ∷ ns) steps = (new : List Transition) × (before : List Transition) × (steps ≡ new ++ before) × Tells (run p before).state n new × ReadsAs p ns before
+ReadsAs p (n ∷ ns) steps = (new : List Transition) × (before : List Transition) × (steps ≡ new ++ before) × NoteTells (run p before).state n new × ReadsAs p ns before
 
 -- what of an open call its own steps decide: all but its number
 abbrev pub viewed : Option Caller → Option (Command × Progress)

@@ -6,7 +6,6 @@
 //! that set after the calls by then (`laws`).
 #![tactic(auto)]
 
-mod calling;
 mod history;
 pub mod laws;
 mod locked;

@@ -9,7 +9,6 @@ ghost use Rattle.lz_tie.specs.Holds.{IsLocked};
 ghost use Rattle.lz_tie.specs.Lives.{LivesOn};
 ghost use Rattle.lz_tie.specs.Moments.{ExplainedSince, LeftSince};
 
-use crate::calling::call_joined;
 use crate::named::Named;
 use crate::playing::{Turn, play_joined};
 use lz_board::{Board, Pass, Pen};
@@ -69,9 +68,10 @@ impl<N: Named, D: Disk> Locked<N, D> {
         board.join(&mut self.pen, pass);
         let turn = match event {
             Event::Invoke(command) => {
+                let call = Event::Invoke(command);
                 let number = pass.number();
                 board.load_pin(&mut self.pen, number);
-                call_joined(board, &mut self.pen, &mut self.yard, pass, command)
+                play_joined(board, &mut self.pen, &mut self.yard, pass, call)
             }
             Event::SeePin(seen, _) => {
                 let value = board.load_pin(&mut self.pen, seen);

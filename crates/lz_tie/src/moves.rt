@@ -14,16 +14,17 @@ ghost use Rattle.lz_machine.specs.Orders.{shape_with};
 ghost use Rattle.lz_machine.specs.Runs.{reply_at};
 ghost use Rattle.lz_caller.specs.Begun.{begun_after};
 ghost use Rattle.lz_board.specs.declared.view.Part.{Part};
+ghost use Rattle.lz_board.specs.declared.view.What.TheVariants.{Called};
 ghost use Rattle.lz_board.specs.Addresses.{index};
-ghost use Rattle.lz_board.specs.Notes.{shape_of};
-ghost use Rattle.lz_board.specs.Plays.{loading};
+ghost use Rattle.lz_board.specs.Notes.{note_by, shape_of};
+ghost use Rattle.lz_board.specs.Plays.{found_note, loading};
 ghost use Rattle.lz_board.specs.Seats.{IsOf, id_of, part};
 ghost use Rattle.lz_tie.specs.Answers.{Answers};
 ghost use Rattle.lz_tie.specs.Marks.{Shows, calls_in, number_of};
-ghost use Rattle.lz_tie.specs.Counting.{Counts, IsCounted};
+ghost use Rattle.lz_tie.specs.Counting.{Counts, CountsOn, IsCounted};
 ghost use Rattle.lz_tie.specs.Held.{Advanced};
 ghost use Rattle.lz_tie.specs.Moments.{HoldExplains};
-ghost use Rattle.lz_tie.specs.Holds.{IsIdle, begins_with};
+ghost use Rattle.lz_tie.specs.Holds.{Holds, IsIdle, begins_with};
 ghost use Rattle.lz_tie.specs.OneCaller.{IsPlainAnswer, keys_in};
 
 use crate::locked::Locked;
@@ -44,7 +45,7 @@ pub fn load_next(board: &Board, pass: &mut Pass, caller: &mut Caller, word: Word
     ensures pass { IsOf (id_of board.now) pass.new }
     ensures part { part pass.new ≡ loading (part pass.new).known (index (id_of board.now).sizes word) result (part pass.old) }
     ensures caller { caller.new ≡ record caller.old { progress = progress_after (shape_with caller.old) caller.old.command caller.old.progress (Value result) } }
-    ensures goes { (c : Asked) (format : Format) (before : Part) → Counts (id_of board.now) c format before caller.old (part pass.old) → Counts (id_of board.now) c format before caller.new (part pass.new) }
+    ensures goes { CountsOn (id_of board.now) caller.old (part pass.old) caller.new (part pass.new) }
 {
     let value = board.load(pass, word);
     caller.take(Outcome::Value(value));
@@ -70,10 +71,13 @@ impl<N: Named, D: Disk> Locked<N, D> {
         ensures pass { IsOf N.board pass.new }
         ensures moments { HoldExplains N.board self.old.notes self.new.notes (D.device self.old.disk) (D.device self.new.disk) }
         ensures shows { Shows (shape_of N.board.sizes) self.old.notes self.new.notes (Call (suc (calls_in self.old.notes)) (part pass.old).number command ∷ []) }
+        ensures holds { Holds N.board.opened (found_note (part pass.old).number (part pass.old).pin ∷ self.old.notes) self.new.notes (note_by (part pass.old).number (Called command N.format) None) (part pass.old) (part pass.new) }
         ensures counts { Counts N.board command N.format (part pass.old) result (part pass.new) }
         ensures caller { result ≡ record { command = command; buckets = buckets; passes = passes; progress = begun_after (begins_with N.format command) } }
     {
         let asked = command;
+        let made = command;
+        let _key = made.key().rank();
         let turn = self.hold(board, pass, Event::Invoke(command));
         Caller::begun(asked, buckets, passes, turn.outcome)
     }
@@ -89,10 +93,10 @@ impl<N: Named, D: Disk> Locked<N, D> {
         ensures pass { IsOf N.board pass.new }
         ensures moments { HoldExplains N.board self.old.notes self.new.notes (D.device self.old.disk) (D.device self.new.disk) }
         ensures shows { Shows (shape_of N.board.sizes) self.old.notes self.new.notes [] }
-        ensures advanced { Advanced N.board self.new.notes caller.old result (part pass.old) (part pass.new) }
+        ensures advanced { Advanced N.board self.old.notes self.new.notes caller.old result (part pass.old) (part pass.new) }
         ensures device { result.outcome ≡ Fault → (D.device self.old.disk).faults < (D.device self.new.disk).faults }
         ensures caller { caller.new ≡ record caller.old { progress = progress_after (shape_with caller.old) caller.old.command caller.old.progress result.outcome } }
-        ensures goes { (c : Asked) (format : Format) (before : Part) → Counts N.board c format before caller.old (part pass.old) → Counts N.board c format before caller.new (part pass.new) }
+        ensures goes { CountsOn N.board caller.old (part pass.old) caller.new (part pass.new) }
     {
         let event = caller.next();
         let turn = self.hold(board, pass, event);
@@ -110,6 +114,7 @@ impl<N: Named, D: Disk> Locked<N, D> {
         ensures pass { IsOf N.board pass.new }
         ensures moments { HoldExplains N.board self.old.notes self.new.notes (D.device self.old.disk) (D.device self.new.disk) }
         ensures shows { Shows (shape_of N.board.sizes) self.old.notes self.new.notes (mark_of (number_of (part pass.old).number self.old.notes) _reply ∷ []) }
+        ensures advanced { Advanced N.board self.old.notes self.new.notes caller.now result (part pass.old) (part pass.new) }
         ensures idle { IsIdle N.board.sizes (part pass.new) }
         ensures answers { (c : Asked) (format : Format) (before : Part) → before.sizes ≡ N.board.sizes → Counts N.board c format before caller.now (part pass.old) → Answers format c _reply before (part pass.new) }
         ensures plain { N.board.sizes.passes ≡ 1 → (c : Asked) (format : Format) (before : Part) → before.sizes ≡ N.board.sizes → Counts N.board c format before caller.now (part pass.old) → IsPlainAnswer format N.board.sizes.slots c _reply (keys_in before.known) (keys_in (part pass.new).known) }

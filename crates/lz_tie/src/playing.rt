@@ -1,11 +1,12 @@
 //! One turn of a pass that has joined the pen.
-ghost use Rattle.std.specs.Prelude.{◌≡◌, ◌<◌};
+ghost use Rattle.std.specs.Prelude.{◌≡◌, ◌<◌, None};
+ghost use Rattle.lz_slot.specs.declared.command.Command.{Command as Asked};
+ghost use Rattle.lz_machine.specs.declared.event.Event.TheVariants.{Invoke};
 ghost use Rattle.lz_machine.specs.declared.event.Outcome.TheVariants.{Fault};
 ghost use Rattle.lz_machine.specs.Orders.{Calling};
-ghost use Rattle.lz_board.specs.declared.view.What.TheVariants.{Played};
 ghost use Rattle.lz_board.specs.Notes.{note_by};
 ghost use Rattle.lz_board.specs.Seats.{Carries, IsAtHand, carried, id_of, notes};
-ghost use Rattle.lz_tie.specs.Holds.{Holds, InHold, IsExchange, IsTurn, Turned};
+ghost use Rattle.lz_tie.specs.Holds.{Holds, InHold, IsExchange, IsTurn, MayTurn, Turned, begins_with, what_of};
 ghost use Rattle.lz_tie.specs.Lives.{KeepsLife};
 ghost use Rattle.lz_tie.specs.Moments.{GoesOn};
 
@@ -13,6 +14,7 @@ use lz_board::{Board, Note, Pass, Pen, What};
 use lz_disk::Disk;
 use lz_list::{Publishing, Word};
 use lz_machine::{Event, Outcome};
+use lz_slot::Format;
 use lz_yard::Yard;
 
 /// What a turn gave: its outcome, and what it published.
@@ -54,7 +56,17 @@ fn exchange_of<D: Disk>(yard: &Yard<D>) -> Option<Exchange>
     }
 }
 
-// Plays the next event of the pass's call, notes it, and stores the word that it changes.
+// What the note of an event tells, on a file of this format.
+fn what_of(format: Format, event: Event, outcome: Outcome) -> What
+    ensures { result ≡ what_of format event outcome }
+{
+    match event {
+        Event::Invoke(command) => What::Called(command, format),
+        _ => What::Played(event, outcome),
+    }
+}
+
+// Plays an Invoke or the next event of the pass's call, notes it, and stores the word that it changes.
 pub(crate) fn play_joined<D: Disk>(
     board: &Board,
     pen: &mut Pen,
@@ -64,13 +76,14 @@ pub(crate) fn play_joined<D: Disk>(
 ) -> Turn
     requires carries { Carries (id_of board.now) pen.old }
     requires hold { InHold (id_of board.now) (notes pen.old) yard.old.yard (D.device yard.old.disk) (carried pen.old) }
-    requires turn { (c : Calling) × IsTurn (notes pen.old) (carried pen.old) c event }
+    requires may { MayTurn (id_of board.now).sizes (notes pen.old) (carried pen.old) event }
     requires hand { IsAtHand (id_of board.now) pass.old (carried pen.old) }
     ensures carries { Carries (id_of board.now) pen.new }
     ensures hold { InHold (id_of board.now) (notes pen.new) yard.new.yard (D.device yard.new.disk) (carried pen.new) }
     ensures hand { IsAtHand (id_of board.now) pass.new (carried pen.new) }
-    ensures holds { Holds (id_of board.now).opened (notes pen.old) (notes pen.new) (note_by (carried pen.old).number (Played event result.outcome) result.published) (carried pen.old) (carried pen.new) }
+    ensures holds { Holds (id_of board.now).opened (notes pen.old) (notes pen.new) (note_by (carried pen.old).number (what_of yard.old.yard.vault.format event result.outcome) result.published) (carried pen.old) (carried pen.new) }
     ensures turned { (c : Calling) → IsTurn (notes pen.old) (carried pen.old) c event → Turned (id_of board.now).opened (notes pen.old) (carried pen.old) c.command c.progress event result.outcome result.published }
+    ensures began { (c : Asked) → event ≡ Invoke c → result ≡ record { outcome = begins_with yard.old.yard.vault.format c; published = None } }
     ensures moments { GoesOn (id_of board.now) (notes pen.old) (notes pen.new) (D.device yard.old.disk) (D.device yard.new.disk) }
     ensures life { KeepsLife yard.old.yard (D.device yard.old.disk) yard.new.yard (D.device yard.new.disk) }
     ensures device { result.outcome ≡ Fault → (D.device yard.old.disk).faults < (D.device yard.new.disk).faults }
@@ -82,7 +95,7 @@ pub(crate) fn play_joined<D: Disk>(
     let told = outcome;
     let published = yard.published();
     let shown = published;
-    let what = What::Played(noted, told);
+    let what = what_of(yard.format(), noted, told);
     let note = Note {
         by: number,
         what,

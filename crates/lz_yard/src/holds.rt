@@ -3,53 +3,33 @@ ghost use Rattle.std.specs.Prelude.{◌≡◌, ◌≤◌, length};
 ghost use Rattle.lz_yard.specs.Steps.{Played};
 ghost use Rattle.lz_machine.specs.Table.{course};
 ghost use Rattle.lz_machine.specs.Ready.{IsEventOf, IsReady};
-ghost use Rattle.lz_yard.specs.Parts.{Fits};
+ghost use Rattle.lz_vault.specs.Vaults.{NoCall, Succeeds};
+ghost use Rattle.lz_yard.specs.Parts.{Does, Fits, Known};
 
 use crate::parts::Parts;
 use crate::told::nothing_told;
 use lz_disk::Disk;
 use lz_machine::{Course, Event, Outcome};
+use lz_vault::VaultFault;
 
-// One line for each kind of event, with what plays it. Of each kind the guard, the path of a device failure and what is told are
-// these.
+// One line for each kind of event, with what plays it.
 macro_rules! played {
-    ($parts:ident, $actor:ident, $event:ident; $($kind:pat => $play:ident($($part:ident),*);)*) => {{
-        let asked = $event;
-        let played = $event;
-        $parts.told = nothing_told();
-        match $parts.course($actor, asked) {
-            Course::Refused(outcome) => outcome,
-            Course::Dies => {
-                $parts.die();
-                Outcome::Dead
-            }
-            Course::Plays => {
-                let told = $parts.tell($actor, $event);
-                match played {
-                    $($kind => match $parts.$play($actor $(, $part)*) {
-                        Ok(outcome) => {
-                            $parts.told = told;
-                            outcome
-                        }
-                        Err(_) => Outcome::Fault,
-                    },)*
-                }
-            }
+    ($parts:ident, $actor:ident, $event:ident; $($kind:pat => $play:ident($($part:ident),*);)*) => {
+        match $event {
+            $($kind => $parts.$play($actor $(, $part)*),)*
         }
-    }};
+    };
 }
 
 impl<D: Disk> Parts<D> {
-    // Plays one event of an actor: the guard, the event, the path of a device failure, and what is told.
-    #[tactic(auto, using(crate::proofs::Events::PlayedLine::line_rules))]
-    pub(crate) fn step(&mut self, actor: usize, event: Event) -> Outcome
-        requires low { 1 ≤ actor }
-        requires high { actor ≤ length self.old.yard.actors }
+    // Plays an event whose course is to be played.
+    fn play(&mut self, actor: usize, event: Event) -> Result<Outcome, VaultFault>
         requires fits { Fits self.old.yard self.old.rows }
-        requires event { IsEventOf self.old.yard event }
-        requires ready { course self.old.yard actor event ≡ Course.Plays → IsReady self.old.yard actor event }
-        ensures played { Played self.old.yard actor event result self.new.yard self.new.told (D.device self.old.disk) (D.device self.new.disk) }
-        ensures rows { self.new.rows ≡ self.old.rows }
+        requires ready { IsReady self.old.yard actor event }
+        requires known { Known Course.Plays self.old.yard actor event }
+        requires quiet { Succeeds NoCall (D.device self.old.disk) (D.device self.old.disk) }
+        ensures done { Does self.old.yard actor event result self.new.yard (D.device self.old.disk) (D.device self.new.disk) }
+        ensures rest { (self.new.rows ≡ self.old.rows) × (self.new.told ≡ self.old.told) }
     {
         played! { self, actor, event;
             Event::Invoke(command) => play_invoke(command);
@@ -71,6 +51,39 @@ impl<D: Disk> Parts<D> {
             Event::SeePin(pass, value) => play_see_pin(pass, value);
             Event::Answer => play_answer();
             Event::Halt => play_halt();
+        }
+    }
+
+    // Plays one event of an actor. The guard, the path of a device failure, and what is told are the same for each kind.
+    #[tactic(auto, using(crate::proofs::Events::PlayedLine::line_rules))]
+    pub(crate) fn step(&mut self, actor: usize, event: Event) -> Outcome
+        requires low { 1 ≤ actor }
+        requires high { actor ≤ length self.old.yard.actors }
+        requires fits { Fits self.old.yard self.old.rows }
+        requires event { IsEventOf self.old.yard event }
+        requires ready { course self.old.yard actor event ≡ Course.Plays → IsReady self.old.yard actor event }
+        ensures played { Played self.old.yard actor event result self.new.yard self.new.told (D.device self.old.disk) (D.device self.new.disk) }
+        ensures rows { self.new.rows ≡ self.old.rows }
+    {
+        let asked = event;
+        let played = event;
+        self.told = nothing_told();
+        match self.course(actor, asked) {
+            Course::Refused(outcome) => outcome,
+            Course::Dies => {
+                self.die();
+                Outcome::Dead
+            }
+            Course::Plays => {
+                let told = self.tell(actor, event);
+                match self.play(actor, played) {
+                    Ok(outcome) => {
+                        self.told = told;
+                        outcome
+                    }
+                    Err(_) => Outcome::Fault,
+                }
+            }
         }
     }
 }

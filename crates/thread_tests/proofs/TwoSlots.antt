@@ -1,12 +1,12 @@
 -- The traces of a board of two slots: key 9 found in slot 0, then 12 linked in slot 1, settled, and either the halt, or 12
 -- marked, settled as removed, and unlinked.
-use Rattle.std.proofs.Common.{◌≡◌, ◌≢◌, inl, inr, ℕ, zero, suc, ◌+◌, ◌^◌, ◌<◌, ◌==◌, if◌then◌else◌, Bool, true, false, [], ◌∷◌, Option, Some, refl, sym, ap, ◌∙◌, subst, arith}
+use Rattle.std.proofs.Common.{◌≡◌, ◌≢◌, inl, inr, ℕ, zero, suc, ◌<◌, ◌==◌, if◌then◌else◌, Bool, true, false, [], ◌∷◌, Some, refl, sym, ◌∙◌, subst, arith}
 use mathlib.Core.Bool.{false≢true}
 use Rattle.lz_list.specs.declared.word.Word.{Word}
 use Rattle.lz_list.specs.declared.word.Word.TheVariants.{Head, Link, Key, Pin as PinOf, Halt}
 use Rattle.lz_list.specs.declared.publishing.Change.TheVariants.{Added, Removed}
 use Rattle.lz_list.specs.declared.publishing.Publishing.TheVariants.{Linked as linked, Marked as marked, Unlinked as unlinked, Settled as settled, KeyPrepared as key_prepared, LinkPrepared as link_prepared, Halted as halted}
-use Rattle.lz_list.specs.Traces.{Trace, insert, on, chain, bucket_of, word_after, IsLoose, MayLink, MayUnlink, Lawful}
+use Rattle.lz_list.specs.Traces.{Trace, insert, on, bucket_of, word_after, IsLoose, MayLink, MayUnlink, Lawful}
 use Rattle.lz_list.specs.Pinned.{Stood}
 use Rattle.lz_list.proofs.Traces.OpeningTrace.{opening_lawful}
 use Rattle.lz_machine.specs.Limbo.{IsAway}

@@ -1,1 +1,2 @@
 pub mod NineFound
+pub mod Plays

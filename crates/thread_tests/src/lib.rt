@@ -21,3 +21,5 @@ mod plots;
 mod talks;
 #[cfg(test)]
 mod threads;
+#[cfg(test)]
+mod values;

@@ -15,8 +15,8 @@ use Rattle.lz_proto.specs.declared.reply.Reply.{Reply}
 use Rattle.lz_proto.specs.declared.reply.Reply.TheVariants.{Yes, No, Full, Halted, Worn, OldFile}
 use Rattle.lz_set.specs.declared.fault.Fault.{Fault}
 use Rattle.lz_set.specs.declared.fault.Fault.TheVariants as fault
-use Rattle.lz_set.specs.Answers.{reply_of as given_of}
-use Rattle.lz_serve.specs.Replies.{command_of, reply_of}
+use Rattle.lz_set.specs.Answers.{reply_of}
+use Rattle.lz_serve.specs.Replies.{command_of, client_reply}
 use Rattle.lz_tie.specs.OneCaller.{HasRoom, IsPlainAnswer}
 use Rattle.lz_tie.specs.Sessions.{cuts_off}
 use Rattle.lazyset_commands.specs.PlainReplies.{PassAnswers, PassMayAnswer}
@@ -32,7 +32,7 @@ shown given.Halted = Halted
 shown given.Device = Halted
 
 -- it is the one that a pass's service gives
-pub shown_of : (answer : Result Bool Fault) → reply_of answer ≡ shown (given_of answer)
+pub shown_of : (answer : Result Bool Fault) → client_reply answer ≡ shown (reply_of answer)
 shown_of (Ok true) = refl
 shown_of (Ok false) = refl
 shown_of (Err (fault.Full counts)) = refl

@@ -230,9 +230,9 @@ module _ (b : BoardId) (c : Command) (format : Format) (before : Part) (k : Call
   pub went_on : (F : Format) (was is : List Note) (t : Turn) (h' : Part) (e : Event) → e ≡ event_at (shape_with k) k.command k.progress → hop_of (event_at (shape_with k) k.command k.progress) ≡ None → Gave b F was is t h h' e → WentOn b was is k t h h'
   went_on F was is t h' e at no_load = next_gave b F was is t h h' k e (is_next e at no_load) (no_invoke e at)
 
-  pub counted_on : IsWalkable b.sizes → (is : List Note) (t : Turn) (h' : Part) → Advanced b is k t h h' → hop_of (event_at (shape_with k) k.command k.progress) ≡ None → reply_at k.progress ≡ None
+  pub counted_on : IsWalkable b.sizes → (was is : List Note) (t : Turn) (h' : Part) → Advanced b was is k t h h' → hop_of (event_at (shape_with k) k.command k.progress) ≡ None → reply_at k.progress ≡ None
       → (k' : Calling) → k' ≡ record k { progress = progress_after (shape_with k) k.command k.progress t.outcome } → Counts b c format before k' h'
-  counted_on walkable is t h' A no_load going k' is_k = subst (λ (q : Calling). Counts b c format before q h') (sym is_k)
+  counted_on walkable was is t h' A no_load going k' is_k = subst (λ (q : Calling). Counts b c format before q h') (sym is_k)
       (record {
         command = C.command;
         buckets = C.buckets;
@@ -256,7 +256,7 @@ module _ (b : BoardId) (c : Command) (format : Format) (before : Part) (k : Call
     under_now = subst (λ (at : Progress). UnderWay b c format before at h) answering C.under
 
     module _ (was is : List Note) (t : Turn) (h' : Part) (went : WentOn b was is k t h h') where
-      abbrev A : Advanced b is k t h h'
+      abbrev A : Advanced b was is k t h h'
       A = went.advanced
 
       pub end_shows : Shows (shape_of b.sizes) was is (mark_of (number_of h.number was) reply ∷ [])

@@ -1,5 +1,5 @@
 -- The events of a call inside, its loads, its Pin and its Answer aside: none moves a pin word.
-use Rattle.std.proofs.Common.{◌≡◌, ◌≢◌, ℕ, zero, suc, true, false, List, [], ◌∷◌, refl, sym}
+use Rattle.std.proofs.Common.{◌≡◌, ℕ, zero, suc, false, List, [], ◌∷◌, refl, sym}
 use mathlib.Core.Bool.{false≢true}
 use Rattle.std.specs.Prelude.{slice_index_or, None}
 use Rattle.lz_slot.specs.declared.command.Command.{Command}

@@ -1,13 +1,17 @@
 -- One hold, from the step of the pass that has joined the pen to what the lock keeps and the pass has.
-use Rattle.std.proofs.Common.{◌≡◌, ◌≢◌, ◌<◌, ℕ, suc, Bool, true, false, List, [], ◌∷◌, ◌++◌, refl, sym, ap, ◌∙◌, subst}
-use Rattle.std.specs.Prelude.{if◌then◌else◌, None}
+use Rattle.std.proofs.Common.{◌≡◌, ◌≢◌, ◌<◌, ◌≤◌, ℕ, suc, Bool, true, false, List, [], ◌∷◌, ◌++◌, refl, sym, ap, ◌∙◌, subst}
+use Rattle.std.specs.Prelude.{if◌then◌else◌, Option, None}
 use Rattle.lz_slot.specs.declared.command.Command.{Command}
 use Rattle.lz_slot.specs.declared.format.Format.{Format}
+use Rattle.lz_slot.specs.Limits.{largest_key}
+use Rattle.lz_slot.specs.Sets.{key_of}
 use Rattle.lz_slot.specs.declared.history.Mark.TheVariants.{Call}
 use Rattle.lz_disk.specs.Devices.{Device}
+use Rattle.lz_list.specs.declared.publishing.Publishing.{Publishing}
 use Rattle.lz_list.specs.Traces.{Trace}
 use Rattle.lz_machine.specs.declared.event.Event.{Event}
 use Rattle.lz_machine.specs.declared.event.Event.TheVariants.{Invoke, SeePin}
+use Rattle.lz_machine.specs.declared.event.Outcome.{Outcome}
 use Rattle.lz_machine.specs.declared.event.Outcome.TheVariants.{Fault, OldFile, Done}
 use Rattle.lz_machine.specs.Orders.{Calling}
 use Rattle.lz_machine.specs.Runs.{mark_of_turn, reply_at}
@@ -15,6 +19,7 @@ use Rattle.lz_machine.specs.Table.{is_old}
 use Rattle.lz_machine.specs.Yards.{Yard}
 use Rattle.lz_board.specs.declared.board.Pen.{Pen}
 use Rattle.lz_board.specs.declared.view.Sizes.{Sizes}
+use Rattle.lz_board.specs.declared.view.What.{What}
 use Rattle.lz_board.specs.declared.view.What.TheVariants.{Called, Played}
 use Rattle.lz_board.specs.declared.view.Note.{Note}
 use Rattle.lz_board.specs.declared.view.Part.{Part}
@@ -23,8 +28,8 @@ use Rattle.lz_board.specs.Notes.{Since, note_by, pin_after, shape_of, trace_of}
 use Rattle.lz_board.specs.Plays.{found_note, knowing}
 use Rattle.lz_board.specs.Seats.{BoardId, IsPenOf, notes}
 use Rattle.lz_tie.specs.declared.playing.Turn.{Turn}
-use Rattle.lz_tie.specs.Held.{Began, Gave, Held, IsNext, MayAsk, WentOn}
-use Rattle.lz_tie.specs.Holds.{Holds, InHold, IsIdle, IsLocked, IsTurn, Turned, begins_with}
+use Rattle.lz_tie.specs.Held.{Began, Gave, Held, IsNext, MayAsk, WentOn, found_for}
+use Rattle.lz_tie.specs.Holds.{Holds, InHold, IsIdle, IsLocked, IsTurn, MayTurn, Turned, begins_with, what_of}
 use Rattle.lz_tie.specs.Lives.{KeepsLife, LivesOn}
 use Rattle.lz_tie.specs.Marks.{number_of}
 use Rattle.lz_tie.specs.Moments.{GoesOn, LeftSince}
@@ -62,7 +67,7 @@ no_fault F c = go (is_old F c)
     go false is = absurd cc
 
 -- what the pass asked for, by the kind of the event
-pub asks_call : (z : Sizes) (h : Part) (e : Event) (c : Command) → e ≡ Invoke c → MayAsk z h e → IsIdle z h
+pub asks_call : (z : Sizes) (h : Part) (e : Event) (c : Command) → e ≡ Invoke c → MayAsk z h e → IsIdle z h × (key_of c ≤ largest_key)
 asks_call z h e c is = subst (MayAsk z h) is
 
 pub asks_look : (z : Sizes) (h : Part) (e : Event) (q o : ℕ) → e ≡ SeePin q o → MayAsk z h e → (c : Calling) × IsNext h c (SeePin q o)
@@ -75,6 +80,19 @@ asks_other z h e away asks = asks
 pub other_turn : (ns : List Note) (h : Part) (e : Event) → ((q o : ℕ) → e ≢ SeePin q o) → (c : Calling) → IsNext h c e → IsTurn ns h c e
 other_turn ns h (SeePin q o) away c next = absurd (away q o refl)
 other_turn ns h e away c next = record { call = next.call; event = ap (seen_event (λ q. pin_after q ns)) next.event; load = next.load; found = tt }
+
+pub other_may : (z : Sizes) (ns : List Note) (h : Part) (e : Event) → ((c : Command) → e ≢ Invoke c) → (c : Calling) → IsTurn ns h c e → MayTurn z ns h e
+other_may z ns h (Invoke c) away k turn = absurd (away c refl)
+other_may z ns h e away k turn = (k, turn)
+
+-- what it notes is that it was played
+pub other_what : (F : Format) (e : Event) (o : Outcome) → ((c : Command) → e ≢ Invoke c) → what_of F e o ≡ Played e o
+other_what F (Invoke c) o away = absurd (away c refl)
+other_what F e o away = refl
+
+found_other : (e : Event) → ((q o : ℕ) → e ≢ SeePin q o) → (found ns : List Note) → found ≡ ns → found ≡ found_for e ns
+found_other (SeePin q o) away found ns is = absurd (away q o refl)
+found_other e away found ns is = is
 
 other_gave : (b : BoardId) (F : Format) (ns is : List Note) (t : Turn) (h h' : Part) (e : Event) → ((c : Command) → e ≢ Invoke c) → ((k : Calling) → IsNext h k e → WentOn b ns is k t h h') → Gave b F ns is t h h' e
 other_gave b F ns is t h h' (Invoke c) away went = absurd (away c refl)
@@ -90,16 +108,17 @@ module _ (b : BoardId) (F : Format) (ns found is : List Note) (y y' : Yard) (dev
   same_number = ap (λ (q : Part). q.number) part
 
   -- the next event of a call, on the notes in which its pin word was found
-  went : (e' e : Event) (t : Turn) → ((c : Calling) → IsNext h c e' → IsTurn found h c e) → Holds b.opened found is (note_by hj.number (Played e t.outcome) t.published) hj h'
+  went : (e' e : Event) (t : Turn) → found ≡ found_for e ns → ((c : Calling) → IsNext h c e' → IsTurn found h c e) → Holds b.opened found is (note_by hj.number (Played e t.outcome) t.published) hj h'
       → ((c : Calling) → IsTurn found hj c e → Turned b.opened found hj c.command c.progress e t.outcome t.published) → (k : Calling) → IsNext h k e' → WentOn b ns is k t h h'
-  went e' e t turns H gave k next =
+  went e' e t on turns H gave k next =
       let turn = turns k next in
       let turn_j = joined_turn found found h hj seen k e turn refl part in
       let H' = subst (λ (p : ℕ). Holds b.opened found is (note_by p (Played e t.outcome) t.published) hj h') same_number H in
       record {
         advanced = record {
-          found = found;
           event = e;
+          found = found;
+          on = on;
           turn = turn;
           holds = before_join b.opened found is (note_by h.number (Played e t.outcome) t.published) h hj h' seen part since H';
           turned = seen_turned b.opened found found h hj seen k.command k.progress e t.outcome t.published refl part (gave k turn_j);
@@ -111,8 +130,9 @@ module _ (b : BoardId) (F : Format) (ns found is : List Note) (y y' : Yard) (dev
       }
 
   began : (c : Command) (t : Turn) → t ≡ record { outcome = begins_with y.vault.format c; published = None } → y.vault.format ≡ F → h.loads ≡ [] → found ≡ found_note h.number h.pin ∷ ns
-      → Holds b.opened found is (note_by hj.number (Called c y.vault.format) None) hj h' → Began b F ns is c t h h'
-  began c t gave format none at H =
+      → Holds b.opened found is (note_by hj.number (Called c y.vault.format) t.published) hj h' → Began b F ns is c t h h'
+  began c t gave format none at told =
+      let H = subst (λ (x : Option Publishing). Holds b.opened found is (note_by hj.number (Called c y.vault.format) x) hj h') (ap (λ (q : Turn). q.published) gave) told in
       let outcome : t.outcome ≡ begins_with F c = ap (λ (q : Turn). q.outcome) gave ∙ ap (λ (q : Format). begins_with q c) format in
       let H' = subst (λ (q : ℕ × Format). Holds b.opened found is (note_by q.0 (Called c q.1) None) hj h') (λ i. (same_number i, format i)) H in
       let H'' = before_join b.opened found is (note_by h.number (Called c F) None) h hj h' seen part since H' in
@@ -132,19 +152,21 @@ module _ (b : BoardId) (F : Format) (ns found is : List Note) (y y' : Yard) (dev
 
   -- a call's first hold
   pub stepped_call : (e : Event) (c : Command) → e ≡ Invoke c → (t : Turn) → t ≡ record { outcome = begins_with y.vault.format c; published = None } → y.vault.format ≡ F → h.loads ≡ []
-      → (mid : List Note) (q v : ℕ) → mid ≡ ns → found ≡ found_note q v ∷ mid → h.number ≡ q → h.pin ≡ v → Holds b.opened found is (note_by hj.number (Called c y.vault.format) None) hj h' → After e t
+      → (mid : List Note) (q v : ℕ) → mid ≡ ns → found ≡ found_note q v ∷ mid → h.number ≡ q → h.pin ≡ v → Holds b.opened found is (note_by hj.number (Called c y.vault.format) t.published) hj h' → After e t
   stepped_call e c event t gave format none mid q v same at number pin H = subst (λ (x : Event). After x t) (sym event)
       (stepped (Invoke c) t (λ fault. absurd (no_fault y.vault.format c (ap (λ (x : Turn). x.outcome) (sym gave) ∙ fault))) (began c t gave format none (at ∙ (λ i. found_note (sym number i) (sym pin i) ∷ same i)) H))
 
   -- one of an event that looks at a pin word, and one of any other
-  pub stepped_look : (e : Event) (q o v : ℕ) → e ≡ SeePin q o → (t : Turn) → (t.outcome ≡ Fault → dev.faults < dev'.faults) → (mid : List Note) → found ≡ found_note q v ∷ mid → Holds b.opened found is (note_by hj.number (Played (SeePin q v) t.outcome) t.published) hj h'
+  pub stepped_look : (e : Event) (q o v : ℕ) → e ≡ SeePin q o → (t : Turn) → (t.outcome ≡ Fault → dev.faults < dev'.faults) → (mid : List Note) → mid ≡ ns → found ≡ found_note q v ∷ mid → Holds b.opened found is (note_by hj.number (Played (SeePin q v) t.outcome) t.published) hj h'
       → ((c : Calling) → IsTurn found hj c (SeePin q v) → Turned b.opened found hj c.command c.progress (SeePin q v) t.outcome t.published) → After e t
-  stepped_look e q o v event t device mid at H gave = subst (λ (x : Event). After x t) (sym event)
-      (stepped (SeePin q o) t device (went (SeePin q o) (SeePin q v) t (λ c next. found_turn mid found h c q o v next at) H gave))
+  stepped_look e q o v event t device mid same at H gave = subst (λ (x : Event). After x t) (sym event)
+      (stepped (SeePin q o) t device (went (SeePin q o) (SeePin q v) t (at ∙ ap (λ r. found_note q v ∷ r) same) (λ c next. found_turn mid found h c q o v next at) H gave))
 
-  pub stepped_other : (e : Event) → ((c : Command) → e ≢ Invoke c) → ((q o : ℕ) → e ≢ SeePin q o) → (t : Turn) → (t.outcome ≡ Fault → dev.faults < dev'.faults) → Holds b.opened found is (note_by hj.number (Played e t.outcome) t.published) hj h'
+  pub stepped_other : (e : Event) → ((c : Command) → e ≢ Invoke c) → ((q o : ℕ) → e ≢ SeePin q o) → (t : Turn) → (t.outcome ≡ Fault → dev.faults < dev'.faults) → found ≡ ns → Holds b.opened found is (note_by hj.number (what_of y.vault.format e t.outcome) t.published) hj h'
       → ((c : Calling) → IsTurn found hj c e → Turned b.opened found hj c.command c.progress e t.outcome t.published) → After e t
-  stepped_other e no_call no_look t device H gave = stepped e t device (other_gave b F ns is t h h' e no_call (went e e t (other_turn found h e no_look) H gave))
+  stepped_other e no_call no_look t device same told gave =
+      let H = subst (λ (w : What). Holds b.opened found is (note_by hj.number w t.published) hj h') (other_what y.vault.format e t.outcome no_call) told in
+      stepped e t device (other_gave b F ns is t h h' e no_call (went e e t (found_other e no_look found ns same) (other_turn found h e no_look) H gave))
 
 -- Cut off: what the lock keeps, and what the hold promises.
 module _ (b : BoardId) (F : Format) (first dev dev' : Device) (ns is : List Note) (y y' : Yard) (e : Event) (t : Turn) (h h' h'' : Part) (s : Stepped b F ns is y y' dev dev' e t h h')

@@ -3,14 +3,13 @@ use Rattle.std.proofs.Common.{◌≡◌, ◌≢◌, ⊎_elim, ℕ, true, List, [
 use Rattle.std.specs.Prelude.{if◌then◌else◌}
 use Rattle.std.proofs.lemmas.Bool.{cases_eq}
 use Rattle.lz_disk.specs.Devices.{Device}
-use Rattle.lz_machine.specs.declared.event.Event.{Event}
 use Rattle.lz_machine.specs.declared.event.Event.TheVariants.{SeePin}
 use Rattle.lz_machine.specs.Yards.{Yard}
 use Rattle.lz_machine.specs.Orders.{Calling, HasPass}
 use Rattle.lz_board.specs.declared.view.Sizes.{Sizes}
 use Rattle.lz_board.specs.declared.view.Note.{Note}
 use Rattle.lz_board.specs.declared.view.Part.{Part}
-use Rattle.lz_board.specs.Notes.{steps_of, pin_after, shape_of}
+use Rattle.lz_board.specs.Notes.{steps_of, pin_after}
 use Rattle.lz_board.specs.Kept.{is_calling, PinTold}
 use Rattle.lz_board.specs.Plays.{found_note}
 use Rattle.lz_board.specs.Seats.{BoardId}

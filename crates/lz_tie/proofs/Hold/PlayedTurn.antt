@@ -1,5 +1,5 @@
 -- One turn of a pass that has joined the pen: what it asks of the yard, what its note tells, and what it leaves.
-use Rattle.std.proofs.Common.{◌≡◌, ◌≢◌, ⊎_elim, ℕ, suc, ◌≤◌, ◌<◌, Bool, true, false, List, [], ◌++◌, map, length, refl, sym, ap, ◌∙◌, subst, arith, eq-eqb, ne_eqb}
+use Rattle.std.proofs.Common.{◌≡◌, ◌≢◌, ⊎_elim, ℕ, suc, ◌≤◌, ◌<◌, Bool, true, false, List, [], ◌++◌, map, length, refl, sym, ap, ◌∙◌, subst, arith, eq-eqb}
 use mathlib.Core.Bool.{false≢true}
 use Rattle.std.specs.Prelude.{is_some, if◌then◌else◌, Option, Some, None, IfSome}
 use Rattle.std.proofs.lemmas.Bool.{not-true}
@@ -11,7 +11,6 @@ use Rattle.lz_list.specs.declared.word.Word.TheVariants.{Head as head_at, Link a
 use Rattle.lz_list.specs.Words.{get, set}
 use Rattle.lz_list.specs.Lists.{IsWord}
 use Rattle.lz_list.specs.Traces.{Trace, Lawful, IsLoose}
-use Rattle.lz_list.specs.Pinned.{IsQuiet}
 use Rattle.lz_machine.specs.declared.event.Event.{Event}
 use Rattle.lz_machine.specs.declared.event.Event.TheVariants.{Pin, Answer, Reserve, Retire, SeePin}
 use Rattle.lz_machine.specs.declared.event.Outcome.{Outcome}
@@ -37,13 +36,12 @@ use Rattle.lz_board.specs.declared.view.Part.{Part}
 use Rattle.lz_board.specs.Notes.{note_by, listed, own, trace_of, steps_of, load_note, splice, AllShown, place, pin_after, pin_after_what, pin_after_played, shape_of}
 use Rattle.lz_board.specs.Kept.{is_calling, shows_played}
 use Rattle.lz_board.specs.Noting.{Sighting, MayNote, MayPrepare, KeepsPin, MovesPin, Writes}
-use Rattle.lz_board.specs.Plays.{noted, noted_part, moved_part, found_note}
+use Rattle.lz_board.specs.Plays.{noted, found_note}
 use Rattle.lz_board.specs.Seats.{BoardId}
 use Rattle.lz_board.proofs.Upkeep.Splice.{trace_splice, pin_splice}
-use Rattle.lz_board.proofs.Upkeep.PartUpkeep.{trace_noted, knows_noted, knows_moved, told_own}
 use Rattle.lz_tie.specs.declared.playing.Exchange.{Exchange}
 use Rattle.lz_tie.specs.NotedRuns.{AreNext, SameButAllPins, IsTied, seen_event}
-use Rattle.lz_tie.specs.Holds.{sizes_of, IsLocked, InHold, IsTurn, SeesPin, Turned, IsExchange, Holds}
+use Rattle.lz_tie.specs.Holds.{sizes_of, IsLocked, InHold, IsTurn, SeesPin, Turned, IsExchange}
 use Rattle.lz_tie.specs.Reuse.{ReuseTold}
 use Rattle.lz_tie.proofs.Reuse.SightUpkeep.{noted_same}
 use Rattle.lz_tie.proofs.Reuse.EventUpkeep.{is_reusing, reusing_silent, leaves, slot_in, silent_told, plain_told, reserve_told, retired_told, seen_told, answered_told}
@@ -52,6 +50,8 @@ use Rattle.lz_tie.proofs.Reading.StandingCall.{still_calling}
 use Rattle.lz_tie.proofs.Hold.OneWord.{IsWalked, line_others, line_own, pin_changed, counting_silent}
 use Rattle.lz_tie.proofs.Hold.NoteCondition.{listed_is, listed_none, alike_tied, tied_loose, tied_held, tied_shared, noting_writes, noting_nothing, noting_lawful}
 use Rattle.lz_tie.proofs.Hold.NextStep as holding
+use Rattle.lz_tie.proofs.Hold.NotedStep.{NotedStep}
+use Rattle.lz_tie.proofs.Hold.PreparedSlot.{prepared, prepared_hand, prepares_left}
 
 module _ (b : BoardId) (ns : List Note) (y : Yard) (dev : Device) (h : Part) (hold : InHold b ns y dev h) (c : Calling) (e : Event) (turn : IsTurn ns h c e) where
   abbrev a : ℕ
@@ -74,7 +74,7 @@ module _ (b : BoardId) (ns : List Note) (y : Yard) (dev : Device) (h : Part) (ho
   alike = record { shape = refl; heads = refl; links = refl; keys = refl; halt = refl; locks = refl; vault = refl; uses = refl; actors = refl }
 
   -- the pass is one of the yard's
-  pub in_range : (1 ≤ a) × (a ≤ y.shape.passes)
+  in_range : (1 ≤ a) × (a ≤ y.shape.passes)
   in_range = let high = hold.knows.numbered.1 in let passes = ap (λ (s : Sizes). s.passes) hold.locked.sizes in (hold.knows.numbered.0, omega (arith, high, passes))
 
   pin_same : pin_of z a ≡ h.pin
@@ -102,7 +102,7 @@ module _ (b : BoardId) (ns : List Note) (y : Yard) (dev : Device) (h : Part) (ho
   pub plays : MayPlay z dev.honest dev.medium a e
   plays = holding.may_play b.opened ns y dev hold.locked.tied h in_range.0 hold.knows.quiet hold.knows.least hold.knows.order shown next c.command c.progress place_is z alike (pin_same ∙ sym pin_now) e event_is pass_is
 
-  pub asks : IsEventOf z e
+  asks : IsEventOf z e
   asks = is_event z dev.honest dev.medium a e plays
 
   z_tied : IsTied b.opened ns z dev.honest dev.medium
@@ -113,10 +113,10 @@ module _ (b : BoardId) (ns : List Note) (y : Yard) (dev : Device) (h : Part) (ho
     abbrev n : Note
     n = note_by a (Played e o) told.published
 
-    pub done : o ≢ Fault → listed told.published ≡ line_publishes z a e
+    done : o ≢ Fault → listed told.published ≡ line_publishes z a e
     done ok = listed_is told.published ∙ (played.done ok).published
 
-    pub failed : o ≡ Fault → told.published ≡ None
+    failed : o ≡ Fault → told.published ≡ None
     failed bad = ap (λ (t : Told). t.published) (played.failed bad).nothing
 
     tied : IsTied b.opened (noted b.opened ns h n) z' dev'.honest dev'.medium
@@ -230,8 +230,14 @@ module _ (b : BoardId) (ns : List Note) (y : Yard) (dev : Device) (h : Part) (ho
         (λ ok. ap (own q) (done ok) ∙ line_own z a q e away)
         (fault_or_not o)
 
-    pub may_note : MayPrepare b.sizes b.opened ns told.published → MayNote b.sizes b.opened ns h n
-    may_note prepares = record { by = refl; step = tt; pin = pin_now; inside = λ _. calling; lawful = lawful; made = made; prepares = prepares }
+    prepares : MayPrepare b.sizes b.opened ns told.published
+    prepares = ⊎_elim
+        (λ bad. subst (MayPrepare b.sizes b.opened ns) (sym (failed bad)) tt)
+        (λ ok. prepares_left b.sizes b.opened ns told.published (λ s is. hold.locked.reuse.hands a s (prepared_hand z a e s (sym (ap prepared (done ok)) ∙ is))))
+        (fault_or_not o)
+
+    may_note : MayNote b.sizes b.opened ns h n
+    may_note = record { by = refl; step = tt; pin = pin_now; inside = λ _. calling; lawful = lawful; made = made; prepares = prepares }
 
     -- what the own pin word becomes, as the note tells
     own_is : o ≢ Fault → pin_of z' a ≡ pin_after_played e o h.pin
@@ -247,7 +253,7 @@ module _ (b : BoardId) (ns : List Note) (y : Yard) (dev : Device) (h : Part) (ho
       no_pin : told.changed ≢ Some (pin_at a)
       no_pin at = subst (λ w. IsExchange z'.words w told.before (Some x)) at is
 
-      pub keeps : KeepsPin h n
+      keeps : KeepsPin h n
       keeps = by_itself h.pin (⊎_elim
           (λ bad. ap (λ r. pin_after_played e r h.pin) bad ∙ fault_pin e h.pin)
           (λ ok. sym (own_is ok) ∙ stays (pin_at a) no_pin ∙ pin_same)
@@ -277,7 +283,7 @@ module _ (b : BoardId) (ns : List Note) (y : Yard) (dev : Device) (h : Part) (ho
           subst (λ (q : Word × ℕ × ℕ). Writes (sizes_of z.shape) (trace_of b.opened ns) q.0 q.1 q.2 told.published) (λ i. (sym fields.0 i, sym fields.1 i, sym fields.2 i))
           (noting_nothing b.opened ns z z' dev.honest dev'.honest dev.medium dev'.medium a h.loads n 2 z_tied tied shape (λ v shared. stays v (λ here. absurd (false≢true (ap is_some (sym at ∙ here))))))
 
-      pub writes : Writes b.sizes (trace_of b.opened ns) x.word x.before x.after told.published
+      writes : Writes b.sizes (trace_of b.opened ns) x.word x.before x.after told.published
       writes = as_sizes (go told.changed refl is)
         where
           go : (w : Option Word) → told.changed ≡ w → IsExchange z'.words w told.before (Some x) → Writes (sizes_of z.shape) (trace_of b.opened ns) x.word x.before x.after told.published
@@ -287,29 +293,6 @@ module _ (b : BoardId) (ns : List Note) (y : Yard) (dev : Device) (h : Part) (ho
           go (Some (link_at i)) at f = of_word (link_at i) tt at f
           go (Some (key_at i)) at f = of_word (key_at i) tt at f
           go (Some halt_word) at f = of_word halt_word tt at f
-
-      module _ (prepares : MayPrepare b.sizes b.opened ns told.published) where
-        pub hold_noted : InHold b (noted b.opened ns h n) z' dev' (noted_part b.opened ns n h)
-        hold_noted = record {
-          locked = locked;
-          knows = knows_noted b.sizes b.opened ns h n hold.knows (may_note prepares) keeps;
-          told = told_own b.sizes b.opened ns h n hold.knows (may_note prepares) h.pin keeps hold.told.worn;
-        }
-
-        pub holds_noted : Holds b.opened ns (noted b.opened ns h n) n h (noted_part b.opened ns n h)
-        holds_noted = record {
-          notes = refl;
-          sizes = refl;
-          number = refl;
-          steps = refl;
-          no_loads = refl;
-          known = refl;
-          since = hold.knows.since;
-          pin = sym keeps;
-          begun = ap (λ t. if t then h.begun else trace_of b.opened (noted b.opened ns h n)) (sym (eq-eqb h.pin h.pin refl));
-          lawful = subst (λ (q : Sizes × Trace). Lawful q.0.buckets q.0.slots q.1) (λ i. (sym hold.knows.sized i, sym (trace_noted b.sizes b.opened ns h n hold.knows (may_note prepares)) i)) lawful;
-          kept = λ inside. subst (λ (s : Sizes). IsQuiet s.buckets h.begun (trace_of b.opened (noted b.opened ns h n))) (sym hold.knows.sized) (hold_noted.knows.kept inside);
-        }
 
     -- The pass's own pin word was changed.
     module _ (is : IsExchange z'.words told.changed told.before None) where
@@ -348,36 +331,11 @@ module _ (b : BoardId) (ns : List Note) (y : Yard) (dev : Device) (h : Part) (ho
           not_both Answer counting invokes = false≢true invokes
           not_both e counting invokes = false≢true counting
 
-      pub moves : MovesPin h n
+      moves : MovesPin h n
       moves =
           let high = in_range.1 in
           let more = moved_pin z a in_range.0 (omega (arith, high, counted)) e pins.0 pins.1 in
           (by_itself (suc h.pin) ((λ i. pin_after_played e ((played.done ok).answer i) (sym pin_same i)) ∙ more ∙ ap suc pin_same), below, none)
 
-      prepares : MayPrepare b.sizes b.opened ns told.published
-      prepares = subst (MayPrepare b.sizes b.opened ns) (sym none) tt
-
-      pub may_shift : MayNote b.sizes b.opened ns h n
-      may_shift = may_note prepares
-
-      pub hold_moved : InHold b (noted b.opened ns h n) z' dev' (moved_part b.opened ns n h)
-      hold_moved = let worn = below in record {
-        locked = locked;
-        knows = knows_moved b.sizes b.opened ns h n hold.knows may_shift moves;
-        told = told_own b.sizes b.opened ns h n hold.knows may_shift (suc h.pin) moves.0 worn;
-      }
-
-      pub holds_moved : Holds b.opened ns (noted b.opened ns h n) n h (moved_part b.opened ns n h)
-      holds_moved = record {
-        notes = refl;
-        sizes = refl;
-        number = refl;
-        steps = refl;
-        no_loads = refl;
-        known = refl;
-        since = hold.knows.since;
-        pin = sym moves.0;
-        begun = ap (λ t. if t then h.begun else trace_of b.opened (noted b.opened ns h n)) (sym (ne_eqb (suc h.pin) h.pin (λ same. absurd (omega (arith, same)))));
-        lawful = subst (λ (q : Sizes × Trace). Lawful q.0.buckets q.0.slots q.1) (λ i. (sym hold.knows.sized i, sym (trace_noted b.sizes b.opened ns h n hold.knows may_shift) i)) lawful;
-        kept = λ inside. subst (λ (s : Sizes). IsQuiet s.buckets (trace_of b.opened (noted b.opened ns h n)) (trace_of b.opened (noted b.opened ns h n))) (sym hold.knows.sized) (hold_moved.knows.kept inside);
-      }
+    pub noted_turn : NotedStep b ns h z' told dev' n
+    noted_turn = record { may = may_note; locked = locked; keeps = keeps; writes = writes; moves = moves }

@@ -6,9 +6,9 @@ use Rattle.lz_disk.specs.Devices.{Device}
 use Rattle.lz_disk.proofs.Moments.{leaves_then, leaves_more}
 use Rattle.lz_vault.specs.Vaults.{LeavesEither}
 use Rattle.lz_machine.specs.declared.event.Event.{Event}
+use Rattle.lz_machine.specs.declared.event.Event.TheVariants.{Invoke}
 use Rattle.lz_machine.specs.declared.event.Outcome.{Outcome}
 use Rattle.lz_machine.specs.Yards.{Shape, Yard}
-use Rattle.lz_machine.specs.Orders.{Calling}
 use Rattle.lz_yard.specs.declared.told.Told.{Told}
 use Rattle.lz_yard.specs.Steps.{Played as PlayedOver}
 use Rattle.lz_yard.proofs.Events.KeptFit.{fault_or_not}
@@ -22,7 +22,7 @@ use Rattle.lz_board.specs.declared.board.Pen.{Pen}
 use Rattle.lz_board.specs.Seats.{BoardId, IsPenOf, notes}
 use Rattle.lz_board.proofs.Upkeep.Splice.{trace_splice}
 use Rattle.lz_tie.specs.NotedRuns.{AreNext}
-use Rattle.lz_tie.specs.Holds.{IsLocked, InHold, IsTurn, IsIdle}
+use Rattle.lz_tie.specs.Holds.{IsLocked, InHold, MayTurn}
 use Rattle.lz_tie.specs.RunningSets.{Explains}
 use Rattle.lz_tie.specs.Marks.{calls_in, marks_in, marks_with, number_of}
 use Rattle.lz_tie.specs.Moments.{IsLeftBy, LeftSince, GrowsTo, GoesOn, HoldExplains, ExplainsBegun, ExplainedSince}
@@ -43,10 +43,18 @@ now_left b ns y dev l honest t image =
       leaves = subst (λ d. IsImage d t) (tie.device honest) image;
     }
 
--- Any step of the yard for a pass in a hold, noted behind its loads.
-module _ (b : BoardId) (ns : List Note) (y : Yard) (dev : Device) (h : Part) (hold : InHold b ns y dev h) (next : AreNext (shape_of b.sizes) h.number h.loads (steps_of h.number ns))
-    (y1 z' : Yard) (p : ℕ) (e : Event) (o : Outcome) (told : Told) (dev1 dev' : Device) (same : dev1 ≡ dev) (played : PlayedOver y1 p e o z' told dev1 dev')
+-- A step of the yard for a pass in a hold, noted behind its loads.
+module _ (b : BoardId) (ns : List Note) (y : Yard) (dev : Device) (h : Part) (hold : InHold b ns y dev h) (e : Event) (may : MayTurn b.sizes ns h e)
+    (y1 z' : Yard) (p : ℕ) (o : Outcome) (told : Told) (dev1 dev' : Device) (same : dev1 ≡ dev) (played : PlayedOver y1 p e o z' told dev1 dev')
     (n : Note) (ns' : List Note) (notes : ns' ≡ noted b.opened ns h n) (locked : IsLocked b ns' z' dev') where
+  -- before an Invoke the pass has made no loads
+  next : AreNext (shape_of b.sizes) h.number h.loads (steps_of h.number ns)
+  next = go e may
+    where
+      go : (e : Event) → MayTurn b.sizes ns h e → AreNext (shape_of b.sizes) h.number h.loads (steps_of h.number ns)
+      go (Invoke c) may = subst (λ (hs : List Load). AreNext (shape_of b.sizes) h.number hs (steps_of h.number ns)) (sym may.0.no_loads) tt
+      go e may = subst (λ (x : Sizes × List Note). AreNext (shape_of x.0) h.number h.loads x.1) (λ i. (hold.knows.sized i, sym hold.knows.noted i)) may.1.call.next
+
   call : (dev'.honest ≡ dev.honest) × (IsTrue dev.honest → LeavesEither dev dev')
   call = subst (λ (d : Device). (dev'.honest ≡ d.honest) × (IsTrue d.honest → LeavesEither d dev')) same (⊎_elim
       (λ bad. let d = (played.failed bad).call in (d.honest, d.time))
@@ -68,22 +76,8 @@ module _ (b : BoardId) (ns : List Note) (y : Yard) (dev : Device) (h : Part) (ho
         trace = (listed n.published, ap (λ P. listed n.published ++ P) (trace_splice b.opened h.number h.loads ns));
       }
 
-  step_left : GoesOn b ns ns' dev dev'
+  pub step_left : GoesOn b ns ns' dev dev'
   step_left = record { grows = grown; honest = call.0; time = call.1; kept = more }
-
--- the turn of a call
-pub turn_left : (b : BoardId) (ns : List Note) (y : Yard) (dev : Device) (h : Part) → InHold b ns y dev h → (c : Calling) (e : Event) → IsTurn ns h c e → (y1 z' : Yard) (p : ℕ) (o : Outcome) (told : Told) (dev1 dev' : Device) → dev1 ≡ dev
-    → PlayedOver y1 p e o z' told dev1 dev' → (n : Note) (ns' : List Note) → ns' ≡ noted b.opened ns h n → IsLocked b ns' z' dev' → GoesOn b ns ns' dev dev'
-turn_left b ns y dev h hold c e turn y1 z' p o told dev1 dev' same played n ns' is locked =
-    step_left b ns y dev h hold (subst (λ (x : Sizes × List Note). AreNext (shape_of x.0) h.number h.loads x.1) (λ i. (hold.knows.sized i, sym hold.knows.noted i)) turn.call.next)
-    y1 z' p e o told dev1 dev' same played n ns' is locked
-
--- the first step of a call, before which its pass has made no loads
-pub call_left : (b : BoardId) (ns : List Note) (y : Yard) (dev : Device) (h : Part) → InHold b ns y dev h → IsIdle b.sizes h → (e : Event) (y1 z' : Yard) (p : ℕ) (o : Outcome) (told : Told) (dev1 dev' : Device) → dev1 ≡ dev
-    → PlayedOver y1 p e o z' told dev1 dev' → (n : Note) (ns' : List Note) → ns' ≡ noted b.opened ns h n → IsLocked b ns' z' dev' → GoesOn b ns ns' dev dev'
-call_left b ns y dev h hold idle e y1 z' p o told dev1 dev' same played n ns' is locked =
-    step_left b ns y dev h hold (subst (λ (hs : List Load). AreNext (shape_of b.sizes) h.number hs (steps_of h.number ns)) (sym idle.no_loads) tt)
-    y1 z' p e o told dev1 dev' same played n ns' is locked
 
 -- what a beginning of the notes leaves explains it
 left_explains : (b : BoardId) (ns : List Note) (t : List ℕ) → IsLeftBy b.sizes b.opened ns t → ExplainsBegun b ns t

@@ -7,7 +7,7 @@ use Rattle.lz_board.specs.declared.view.What.{What}
 use Rattle.lz_board.specs.declared.view.What.TheVariants.{Called, Played, Found}
 use Rattle.lz_board.specs.declared.view.Note.{Note}
 use Rattle.lz_board.specs.Notes.{listed, trace_of}
-use Rattle.lz_tie.specs.NotedRuns.{TellsTurn, TellsFault, TellsStep, TellsOne, TellsOf, Tells, ReadsAs}
+use Rattle.lz_tie.specs.NotedRuns.{TellsTurn, TellsFault, TellsStep, TellsOne, TellsOf, NoteTells, ReadsAs}
 
 -- looks publish nothing
 pub looks_trace : (p : Point) (k q : ℕ) (before : List Transition) → (run p (replicate k (Looks q) ++ before)).trace ≡ (run p before).trace
@@ -48,7 +48,7 @@ step_trace (Down shape disk) P n (CrashesIn a x) t = absurd t
 step_trace (Down shape disk) P n Opens t = absurd t
 step_trace (Down shape disk) P n (OpenFails why done) t = absurd t
 
-note_trace : (p : Point) (n : Note) (new before : List Transition) → Tells (run p before).state n new → (run p (new ++ before)).trace ≡ listed n.published ++ (run p before).trace
+note_trace : (p : Point) (n : Note) (new before : List Transition) → NoteTells (run p before).state n new → (run p (new ++ before)).trace ≡ listed n.published ++ (run p before).trace
 note_trace p n new before t = go n.what t
   where
     one : TellsOne (run p before).state n new → (run p (new ++ before)).trace ≡ listed n.published ++ (run p before).trace

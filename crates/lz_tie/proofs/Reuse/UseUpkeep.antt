@@ -1,7 +1,7 @@
 -- What the notes show of slots stays right as the uses of the slots change.
 use Rattle.std.proofs.Common.{◌≡◌, ◌≢◌, ◌⊎◌, inl, inr, ⊎_elim, ℕ, zero, suc, ◌%◌, ◌≤◌, ◌==◌, Bool, true, false, List, [], ◌∷◌, ◌++◌, length, refl, sym, ap, ◌∙◌, subst, arith, le_refl, length-append, true≢false, eq-eqb}
 use mathlib.Core.Bool.{false≢true}
-use Rattle.std.specs.Prelude.{if◌then◌else◌, replicate, slice_set, Option, Some, None}
+use Rattle.std.specs.Prelude.{if◌then◌else◌, replicate, slice_set}
 use Rattle.std.specs.List.{list_all}
 use Rattle.std.proofs.lemmas.Bool.{cases_eq}
 use Rattle.std.proofs.lemmas.Bool.Decides.{eqb_tells}
@@ -10,15 +10,15 @@ use Rattle.lz_slot.specs.Counted.{of_pass, set_of_pass}
 use Rattle.lz_slot.proofs.Counted.{of_pass_same, of_pass_other, length-set_of_pass}
 use Rattle.lz_allot.specs.declared.sight.Sight.{Sight}
 use Rattle.lz_allot.specs.declared.sight.Sight.TheVariants.{Unseen, Inside, Left}
-use Rattle.lz_allot.specs.Uses.{Use, Free, Taken, Limbo, use_of, has_left, collect_at, collect, see_pin_at, see_pin, sight_after, is_outside, retire, give_back, take_slot}
+use Rattle.lz_allot.specs.Uses.{Use, Free, Taken, Limbo, use_of, has_left, collect_at, see_pin_at, sight_after, is_outside}
 use Rattle.lz_list.specs.Traces.{Trace, IsLoose}
 use Rattle.lz_machine.specs.Limbo.{IsAway}
 use Rattle.lz_machine.proofs.Frames.Limbo.{away_new}
-use Rattle.lz_machine.proofs.Frames.Uses.{use_map, limbo_same, free_limbo, left_of}
+use Rattle.lz_machine.proofs.Frames.Uses.{left_of}
 use Rattle.lz_board.specs.declared.view.Sizes.{Sizes}
 use Rattle.lz_board.specs.declared.view.Note.{Note}
 use Rattle.lz_board.specs.Notes.{listed, trace_of, pin_after}
-use Rattle.lz_board.specs.Noting.{Sighting, HasLeft, AllLeft}
+use Rattle.lz_board.specs.Noting.{Sighting}
 use Rattle.lz_tie.specs.Reuse.{SightTold, UseTold}
 
 -- the use of a slot after one was set

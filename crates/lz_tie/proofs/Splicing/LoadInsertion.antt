@@ -31,7 +31,7 @@ use Rattle.lz_board.specs.declared.view.Note.{Note}
 use Rattle.lz_board.specs.declared.view.Load.{Load}
 use Rattle.lz_board.specs.Notes.{listed, trace_of, steps_of, Extends, load_note, insert, Quiet, IsShared, Shown, place}
 use Rattle.lz_board.proofs.Upkeep.Splice.{at_place, other_step}
-use Rattle.lz_tie.specs.NotedRuns.{TellsTurn, TellsFault, TellsStep, TellsLooks, TellsOf, Tells, ReadsAs, viewed, IsHopAt}
+use Rattle.lz_tie.specs.NotedRuns.{TellsTurn, TellsFault, TellsStep, TellsLooks, TellsOf, NoteTells, ReadsAs, viewed, IsHopAt}
 use Rattle.lz_tie.proofs.Reading.TraceNotes.{trace_reads}
 use Rattle.lz_tie.proofs.Reading.CallPlaces.{place_reads, run_before}
 
@@ -131,7 +131,7 @@ same_looks a q v (Down shape disk) (Down shape' disk') new same t = record {
   found = λ service medium is. absurd (subst IsUp (sym is) tt);
 }
 
-tells_same : (a : ℕ) (w w' : State) (n : Note) (new : List Transition) → n.by ≢ a → SameBut a w w' → Tells w n new → Tells w' n new
+tells_same : (a : ℕ) (w w' : State) (n : Note) (new : List Transition) → n.by ≢ a → SameBut a w w' → NoteTells w n new → NoteTells w' n new
 tells_same a w w' n new away same t = go n.what t
   where
     go : (what : What) → TellsOf w n what new → TellsOf w' n what new
@@ -259,7 +259,7 @@ module _ (start : Start) (starts : IsStart start) (a : ℕ) (low : 1 ≤ a) (h :
           let calls : IsSome (caller_at pl.service.callers a) = some_call (caller_at pl.service.callers a) (subst (IsHopAt start.shape h) (sym (pl.places a low)) hop') in
           let none = any_append (is_of a) new r.later (others x.what pl.service pl.disk pl.state calls runs' away tells) r.none in
           let all : steps ≡ (new ++ r.later) ++ r.before = is ∙ ap (λ l. new ++ l) r.splits ∙ sym (append_assoc new r.later r.before) in
-          let tells' = tells_same a (run p (r.later ++ r.before)).state (run p (r.later ++ Turn a ∷ r.before)).state x new away r.keeps.state (subst (λ l. Tells (run p l).state x new) r.splits tells) in
+          let tells' = tells_same a (run p (r.later ++ r.before)).state (run p (r.later ++ Turn a ∷ r.before)).state x new away r.keeps.state (subst (λ l. NoteTells (run p l).state x new) r.splits tells) in
           record {
             later = new ++ r.later;
             before = r.before;

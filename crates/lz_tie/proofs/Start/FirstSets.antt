@@ -17,7 +17,7 @@ use Rattle.lz_board.specs.Opened.{sizes_in, opened_by}
 use Rattle.lz_board.specs.Seats.{BoardId}
 use Rattle.lz_board.proofs.Start.FirstWords.{opens_text}
 use Rattle.lz_tie.specs.Holds.{sizes_of}
-use Rattle.lz_tie.specs.RunningSets.{Explains, HasHistory}
+use Rattle.lz_tie.specs.RunningSets.{Explains}
 use Rattle.lz_tie.specs.Moments.{ExplainsBegun, ExplainedSince}
 use Rattle.lz_tie.proofs.Marks.RunningSet.{explained}
 use Rattle.lz_tie.proofs.Start.OpenedYard.{opened_sizes}

@@ -1,16 +1,12 @@
 -- What a crash might have left since the disk was handed to an open, as the lock's invariant asks where nothing was noted yet.
-use Rattle.std.proofs.Common.{◌⊎◌, inl, inr, ⊎_elim, ℕ, List, subst}
+use Rattle.std.proofs.Common.{◌⊎◌, inl, List}
 use Rattle.std.specs.Prelude.{IsTrue}
 use Rattle.lz_disk.specs.Devices.{Device, IsTimely}
 use Rattle.lz_disk.specs.Images.{IsImage}
-use Rattle.lz_disk.proofs.Moments.{leaves_more, quiet}
-use Rattle.lz_machine.specs.Yards.{Yard}
-use Rattle.lz_yard.specs.Filling.{OpensYard}
+use Rattle.lz_disk.proofs.Moments.{quiet}
 use Rattle.lz_board.specs.declared.view.Note.{Note}
 use Rattle.lz_board.specs.Seats.{BoardId}
-use Rattle.lz_tie.specs.Holds.{IsLocked}
 use Rattle.lz_tie.specs.Moments.{IsLeftBy, LeftSince}
-use Rattle.lz_tie.proofs.Moments.HeldMoments.{now_left}
 
 -- since the disk is as it is now there was no other moment
 pub now_since : (b : BoardId) (ns : List Note) (dev : Device) → (IsTrue dev.honest → IsTimely dev) → LeftSince b dev ns dev

@@ -23,7 +23,7 @@ returns-then-is_final-clause-answers g c =
       first = inl (refl, c.is_final.ensures.first c.if-is_final.true);
       answer = c.call.result;
       last = c.call.ensures.answered d asked;
-      told = c.reply_of-first.ensures;
+      told = c.client_reply-first.ensures;
     }
 
 pub returns-clause-answers : goal.returns-clause-answers
@@ -34,8 +34,8 @@ returns-clause-answers g c =
       c = d;
       asked = asked;
       middle = c.call.new.pass;
-      first = inr (record { several = again.1; answer = c.call.result; full = sym c.reply_of-first.ensures ∙ again.0; answered = c.call.ensures.answered d asked });
+      first = inr (record { several = again.1; answer = c.call.result; full = sym c.client_reply-first.ensures ∙ again.0; answered = c.call.ensures.answered d asked });
       answer = c.call-2.result;
       last = c.call-2.ensures.answered d asked;
-      told = c.reply_of.ensures;
+      told = c.client_reply.ensures;
     }

@@ -4,16 +4,17 @@ use Rattle.lz_machine.specs.Calls.{event_at}
 use Rattle.lz_machine.specs.Kinds.{kind_of}
 use Rattle.lz_machine.specs.Orders.{Calling, shape_with}
 use Rattle.lz_board.specs.Seats.{part}
-use Rattle.lz_set.specs.Stages.{CountsOn, HasPlayed}
+use Rattle.lz_tie.specs.Counting.{CountsOn}
+use Rattle.lz_set.specs.Stages.{HasPlayed}
 use Rattle.lz_set.proofs.Plays.{has_played}
 use Rattle.lz_set.proofs.set.Set.hold.Goals as goal
 
 pub returns-clause-counts : goal.returns-clause-counts
 returns-clause-counts g c =
-    subst (λ (k : Calling). CountsOn g.N.Named.board k (part c.args.pass.now) c.turn_on-turn.new.caller (part c.turn_on-turn.new.pass)) c.call.view_is c.turn_on-turn.ensures.goes
+    subst (λ (k : Calling). CountsOn g.N.Named.board k (part c.args.pass.now) c.turn_on.new.caller (part c.turn_on.new.pass)) c.call.view_is c.turn_on.ensures.goes
 
 pub returns-clause-played : goal.returns-clause-played
 returns-clause-played g c =
-    subst (λ (kind : Kind). HasPlayed kind (part c.turn_on-turn.new.pass))
+    subst (λ (kind : Kind). HasPlayed kind (part c.args.pass.now) (part c.turn_on.new.pass))
     (ap (λ (k : Calling). kind_of (event_at (shape_with k) k.command k.progress)) c.call.view_is ∙ sym c.requires.kind)
-    (has_played _ _ _ _ _ _ c.turn_on-turn.ensures.advanced)
+    (has_played _ _ _ _ _ _ _ c.turn_on.ensures.advanced)

@@ -2,7 +2,7 @@ use Rattle.std.proofs.Common.{sym, ap, subst}
 use Rattle.lz_machine.specs.Kinds.{kind_of}
 use Rattle.lz_machine.specs.Orders.{Calling}
 use Rattle.lz_board.specs.Seats.{part}
-use Rattle.lz_set.specs.Stages.{CountsOn}
+use Rattle.lz_tie.specs.Counting.{CountsOn}
 use Rattle.lz_set.proofs.set.Set.sync.Goals as goal
 
 pub hold-locked-requires-clause-kind : goal.hold-locked-requires-clause-kind

@@ -3,7 +3,7 @@ use Rattle.lz_machine.specs.Calls.{event_at}
 use Rattle.lz_machine.specs.Kinds.{kind_of}
 use Rattle.lz_machine.specs.Orders.{Calling, shape_with}
 use Rattle.lz_board.specs.Seats.{part}
-use Rattle.lz_set.specs.Stages.{CountsOn}
+use Rattle.lz_tie.specs.Counting.{CountsOn}
 use Rattle.lz_set.proofs.set.Set.sync_for_all.Goals as goal
 
 pub hold-locked-requires-clause-kind : goal.hold-locked-requires-clause-kind

@@ -16,6 +16,12 @@ returns-clause-shows g c =
     let went = c.hold.ensures.held.gave c.args.caller.now (next_answer g.N.Named.board n.0 n.1 n.2 c.args.caller.now (part c.args.pass.now) n.3 c.args._reply c.requires.reply) in
     end_shows g.N.Named.board n.0 n.1 n.2 c.args.caller.now (part c.args.pass.now) n.3 c.args._reply c.requires.reply _ _ c.hold.result (part c.hold.new.pass) went
 
+pub returns-clause-advanced : goal.returns-clause-advanced
+returns-clause-advanced g c =
+    let n = c.requires.counted in
+    let went = c.hold.ensures.held.gave c.args.caller.now (next_answer g.N.Named.board n.0 n.1 n.2 c.args.caller.now (part c.args.pass.now) n.3 c.args._reply c.requires.reply) in
+    went.advanced
+
 pub returns-clause-idle : goal.returns-clause-idle
 returns-clause-idle g c =
     let n = c.requires.counted in

@@ -1,15 +1,22 @@
-use Rattle.std.proofs.Common.{◌≡◌, subst}
+use Rattle.std.proofs.Common.{◌≡◌, ◌≤◌, ◌∙◌, subst}
+use Rattle.lz_slot.specs.Limits.{largest_key}
 use Rattle.lz_machine.specs.declared.event.Outcome.{Outcome}
 use Rattle.lz_caller.specs.Begun.{begun_after}
 use Rattle.lz_board.specs.Seats.{part}
 use Rattle.lz_tie.proofs.Calls.CountedMoves.{counted_new}
 use Rattle.lz_tie.proofs.locked.Locked.begin.Goals as goal
 
+pub hold-turn-requires-clause-asks : goal.hold-turn-requires-clause-asks
+hold-turn-requires-clause-asks g c = (c.requires.idle, subst (λ n. n ≤ largest_key) (c.rank-key.ensures.value ∙ c.key.ensures) c.rank-key.ensures.range)
+
 pub returns-clause-moments : goal.returns-clause-moments
 returns-clause-moments g c = c.hold-turn.ensures.held.moments
 
 pub returns-clause-shows : goal.returns-clause-shows
 returns-clause-shows g c = c.hold-turn.ensures.held.gave.shows
+
+pub returns-clause-holds : goal.returns-clause-holds
+returns-clause-holds g c = c.hold-turn.ensures.held.gave.holds
 
 pub returns-clause-counts : goal.returns-clause-counts
 returns-clause-counts g c =

@@ -17,8 +17,8 @@ use Rattle.lz_tie.proofs.locked.Locked.hold.Given.{Over}
 use Rattle.lz_tie.proofs.locked.Locked.hold.Goals.{After-cut, in-Invoke, in-SeePin, in_default}
 use Rattle.lz_tie.proofs.locked.Locked.hold.Goals as goal
 
-pub call_joined-turn-requires-clause-hold : goal.call_joined-turn-requires-clause-hold
-call_joined-turn-requires-clause-hold g c =
+pub play_joined-turn-requires-clause-hold : goal.play_joined-turn-requires-clause-hold
+play_joined-turn-requires-clause-hold g c =
     let board = id_of c.args.board.now in
     let hold = joined g.N.Named.board (id_of c.args.board.now) c.requires.board (notes c.self.inside.pen) (notes c.join.new.pen) c.self.inside.yard.yard (g.D.Disk.device c.self.inside.yard.disk) (part c.args.pass.now) (carried c.join.new.pen)
     c.self.invariant.1 c.join.ensures.knows c.join.ensures.told c.join.ensures.notes c.join.ensures.carried in
@@ -26,17 +26,15 @@ call_joined-turn-requires-clause-hold g c =
     found board (notes c.join.new.pen) (notes c.load_pin.new.pen) c.self.inside.yard.yard (g.D.Disk.device c.self.inside.yard.disk) (carried c.join.new.pen) (carried c.load_pin.new.pen) hold c.number-number.result c.load_pin.result range
     c.load_pin.ensures.told c.load_pin.ensures.own c.load_pin.ensures.notes c.load_pin.ensures.carried
 
-pub call_joined-turn-requires-clause-idle : goal.call_joined-turn-requires-clause-idle
-call_joined-turn-requires-clause-idle g c =
-    let idle = one.asks_call g.N.Named.board.sizes (part c.args.pass.now) c.args.event c.in-Invoke.command c.in-Invoke.is c.requires.asks in
-    subst (λ (x : BoardId × Part). IsIdle x.0.sizes x.1) (λ i. (sym c.requires.board i, sym (c.load_pin.ensures.carried ∙ c.join.ensures.carried) i))
-    (record { idle = idle.idle; no_loads = idle.no_loads; outside = idle.outside })
-
-pub call_joined-turn-requires-clause-found : goal.call_joined-turn-requires-clause-found
-call_joined-turn-requires-clause-found g c =
+pub play_joined-turn-requires-clause-may : goal.play_joined-turn-requires-clause-may
+play_joined-turn-requires-clause-may g c =
     let number = ap (λ (h : Part). h.number) c.join.ensures.carried ∙ sym c.requires.pass.2.number ∙ sym c.join.ensures.same.0 ∙ sym c.number-number.ensures in
-    own_found (notes c.join.new.pen) (notes c.load_pin.new.pen) (carried c.join.new.pen) (carried c.load_pin.new.pen) c.load_pin.result (c.load_pin.ensures.own number)
-    (c.load_pin.ensures.notes ∙ ap (λ n. found_note n c.load_pin.result ∷ notes c.join.new.pen) (sym number)) c.load_pin.ensures.carried
+    let found = own_found (notes c.join.new.pen) (notes c.load_pin.new.pen) (carried c.join.new.pen) (carried c.load_pin.new.pen) c.load_pin.result (c.load_pin.ensures.own number)
+    (c.load_pin.ensures.notes ∙ ap (λ n. found_note n c.load_pin.result ∷ notes c.join.new.pen) (sym number)) c.load_pin.ensures.carried in
+    let asks = one.asks_call g.N.Named.board.sizes (part c.args.pass.now) c.args.event c.in-Invoke.command c.in-Invoke.is c.requires.asks in
+    let idle = subst (λ (x : BoardId × Part). IsIdle x.0.sizes x.1) (λ i. (sym c.requires.board i, sym (c.load_pin.ensures.carried ∙ c.join.ensures.carried) i))
+    (record { idle = asks.0.idle; no_loads = asks.0.no_loads; outside = asks.0.outside }) in
+    (idle, found, asks.1)
 
 pub load_pin-value-requires-clause-number : goal.load_pin-value-requires-clause-number
 load_pin-value-requires-clause-number g c =
@@ -44,8 +42,8 @@ load_pin-value-requires-clause-number g c =
     subst (λ (s : Sizes). (1 ≤ c.in-SeePin.seen) × (c.in-SeePin.seen ≤ s.passes)) (c.requires.pass.2.sized ∙ ap (λ (b : BoardId). b.sizes) (sym c.requires.board))
     (seen_range (part c.args.pass.now) next.0 c.in-SeePin.seen _ next.1)
 
-pub play_joined-turn-requires-clause-hold : goal.play_joined-turn-requires-clause-hold
-play_joined-turn-requires-clause-hold g c =
+pub play_joined-turn-requires-in-SeePin-clause-hold : goal.play_joined-turn-requires-in-SeePin-clause-hold
+play_joined-turn-requires-in-SeePin-clause-hold g c =
     let hold = joined g.N.Named.board (id_of c.args.board.now) c.requires.board (notes c.self.inside.pen) (notes c.join.new.pen) c.self.inside.yard.yard (g.D.Disk.device c.self.inside.yard.disk) (part c.args.pass.now) (carried c.join.new.pen)
     c.self.invariant.1 c.join.ensures.knows c.join.ensures.told c.join.ensures.notes c.join.ensures.carried in
     let next = one.asks_look g.N.Named.board.sizes (part c.args.pass.now) c.args.event c.in-SeePin.seen _ c.in-SeePin.is c.requires.asks in
@@ -54,8 +52,8 @@ play_joined-turn-requires-clause-hold g c =
     found (id_of c.args.board.now) (notes c.join.new.pen) (notes c.load_pin-value.new.pen) c.self.inside.yard.yard (g.D.Disk.device c.self.inside.yard.disk) (carried c.join.new.pen) (carried c.load_pin-value.new.pen) hold c.in-SeePin.seen c.load_pin-value.result range
     c.load_pin-value.ensures.told c.load_pin-value.ensures.own c.load_pin-value.ensures.notes c.load_pin-value.ensures.carried
 
-pub play_joined-turn-requires-clause-turn : goal.play_joined-turn-requires-clause-turn
-play_joined-turn-requires-clause-turn g c =
+pub play_joined-turn-requires-in-SeePin-clause-may : goal.play_joined-turn-requires-in-SeePin-clause-may
+play_joined-turn-requires-in-SeePin-clause-may g c =
     let next = one.asks_look g.N.Named.board.sizes (part c.args.pass.now) c.args.event c.in-SeePin.seen _ c.in-SeePin.is c.requires.asks in
     let ns = notes c.load_pin-value.new.pen in
     let event = SeePin c.in-SeePin.seen c.load_pin-value.result in (
@@ -70,12 +68,13 @@ play_joined-turn-requires-in_default-clause-hold g c =
     joined g.N.Named.board (id_of c.args.board.now) c.requires.board (notes c.self.inside.pen) (notes c.join.new.pen) c.self.inside.yard.yard (g.D.Disk.device c.self.inside.yard.disk) (part c.args.pass.now) (carried c.join.new.pen)
     c.self.invariant.1 c.join.ensures.knows c.join.ensures.told c.join.ensures.notes c.join.ensures.carried
 
-pub play_joined-turn-requires-in_default-clause-turn : goal.play_joined-turn-requires-in_default-clause-turn
-play_joined-turn-requires-in_default-clause-turn g c =
+pub play_joined-turn-requires-in_default-clause-may : goal.play_joined-turn-requires-in_default-clause-may
+play_joined-turn-requires-in_default-clause-may g c =
     let h = part c.args.pass.now in
     let ns = notes c.join.new.pen in
     let next = one.asks_other g.N.Named.board.sizes h c.args.event c.in_default.not-Invoke c.requires.asks in
-    (next.0, joined_turn ns ns h (carried c.join.new.pen) (trace_of (id_of c.args.board.now).opened (notes c.self.inside.pen)) next.0 c.args.event (one.other_turn ns h c.args.event c.in_default.not-SeePin next.0 next.1) refl c.join.ensures.carried)
+    one.other_may (id_of c.args.board.now).sizes ns (carried c.join.new.pen) c.args.event c.in_default.not-Invoke next.0
+    (joined_turn ns ns h (carried c.join.new.pen) (trace_of (id_of c.args.board.now).opened (notes c.self.inside.pen)) next.0 c.args.event (one.other_turn ns h c.args.event c.in_default.not-SeePin next.0 next.1) refl c.join.ensures.carried)
 
 -- what the hold has played before the pass is cut off
 stepped : (g : Over) (c : After-cut g) → one.Stepped g.N.Named.board g.N.Named.format (notes c.self.inside.pen) (notes c.match-event.self-inside.pen) c.self.inside.yard.yard c.match-event.self-inside.yard.yard
@@ -93,7 +92,7 @@ stepped g c =
     subst (λ (b : BoardId). one.Stepped b F ns (notes c.match-event.self-inside.pen) y c.match-event.self-inside.yard.yard dev (g.D.Disk.device c.match-event.self-inside.yard.disk) c.args.event c.match-event.turn h (carried c.match-event.self-inside.pen)) c.requires.board
     (elim c.match-event.branch [
       | in-Invoke w ↦
-          let x = w.call_joined-turn in
+          let x = w.play_joined-turn in
           let ns' = notes w.load_pin.new.pen in
           let number = sym c.requires.pass.2.number ∙ sym c.join.ensures.same.0 ∙ sym w.number-number.ensures in
           let joined_number = ap (λ (q : Part). q.number) c.join.ensures.carried ∙ number in
@@ -104,9 +103,9 @@ stepped g c =
           let idle = one.asks_call g.N.Named.board.sizes h c.args.event w.in-Invoke.command w.in-Invoke.is c.requires.asks in
           subst (λ (q : Inside g.row.N.Denot g.row.D.Denot × Turn). one.Stepped board F ns (notes q.0.pen) y q.0.yard.yard dev (g.D.Disk.device q.0.yard.disk) c.args.event q.1 h (carried q.0.pen)) (λ i. (sym w.self-inside-is i, sym w.turn-is i))
           (one.stepped_call board F ns ns' (notes x.new.pen) y x.new.yard.yard dev (g.D.Disk.device x.new.yard.disk) h (carried w.load_pin.new.pen) (carried x.new.pen) seen locked c.join.ensures.knows comes hold (w.load_pin.ensures.carried ∙ c.join.ensures.carried) x.ensures.hold x.ensures.moments x.ensures.life
-          c.args.event w.in-Invoke.command w.in-Invoke.is x.result x.ensures.turn c.self.invariant.3.format idle.no_loads (notes c.join.new.pen) w.number-number.result w.load_pin.result c.join.ensures.notes w.load_pin.ensures.notes number pin x.ensures.holds)
+          c.args.event w.in-Invoke.command w.in-Invoke.is x.result (x.ensures.began w.in-Invoke.command refl) c.self.invariant.3.format idle.0.no_loads (notes c.join.new.pen) w.number-number.result w.load_pin.result c.join.ensures.notes w.load_pin.ensures.notes number pin x.ensures.holds)
       | in-SeePin w ↦
-          let x = w.play_joined-turn in
+          let x = w.play_joined-turn-in-SeePin in
           let ns' = notes w.load_pin-value.new.pen in
           let look = w.in-SeePin.seen in
           let next = one.asks_look g.N.Named.board.sizes h c.args.event look _ w.in-SeePin.is c.requires.asks in
@@ -115,13 +114,13 @@ stepped g c =
           let comes = finds board look w.load_pin-value.result ns (notes c.join.new.pen) ns' c.join.ensures.notes w.load_pin-value.ensures.notes in
           subst (λ (q : Inside g.row.N.Denot g.row.D.Denot × Turn). one.Stepped board F ns (notes q.0.pen) y q.0.yard.yard dev (g.D.Disk.device q.0.yard.disk) c.args.event q.1 h (carried q.0.pen)) (λ i. (sym w.self-inside-is i, sym w.turn-is i))
           (one.stepped_look board F ns ns' (notes x.new.pen) y x.new.yard.yard dev (g.D.Disk.device x.new.yard.disk) h (carried w.load_pin-value.new.pen) (carried x.new.pen) seen locked c.join.ensures.knows comes hold (w.load_pin-value.ensures.carried ∙ c.join.ensures.carried) x.ensures.hold x.ensures.moments x.ensures.life
-          c.args.event look _ w.load_pin-value.result w.in-SeePin.is x.result x.ensures.device (notes c.join.new.pen) w.load_pin-value.ensures.notes x.ensures.holds x.ensures.turned)
+          c.args.event look _ w.load_pin-value.result w.in-SeePin.is x.result x.ensures.device (notes c.join.new.pen) c.join.ensures.notes w.load_pin-value.ensures.notes x.ensures.holds x.ensures.turned)
       | in_default w ↦
           let x = w.play_joined-turn-in_default in
           let comes = comes board ns (notes c.join.new.pen) c.join.ensures.notes in
           subst (λ (q : Inside g.row.N.Denot g.row.D.Denot × Turn). one.Stepped board F ns (notes q.0.pen) y q.0.yard.yard dev (g.D.Disk.device q.0.yard.disk) c.args.event q.1 h (carried q.0.pen)) (λ i. (sym w.self-inside-is i, sym w.turn-is i))
           (one.stepped_other board F ns (notes c.join.new.pen) (notes x.new.pen) y x.new.yard.yard dev (g.D.Disk.device x.new.yard.disk) h (carried c.join.new.pen) (carried x.new.pen) seen locked c.join.ensures.knows comes joint c.join.ensures.carried x.ensures.hold x.ensures.moments x.ensures.life
-          c.args.event w.in_default.not-Invoke w.in_default.not-SeePin x.result x.ensures.device x.ensures.holds x.ensures.turned)
+          c.args.event w.in_default.not-Invoke w.in_default.not-SeePin x.result x.ensures.device c.join.ensures.notes x.ensures.holds x.ensures.turned)
     ])
 
 pub returns-clause-held : goal.returns-clause-held

@@ -30,4 +30,4 @@ returns-clause-shows g c =
 pub returns-clause-goes : goal.returns-clause-goes
 returns-clause-goes g c = λ asked format before C.
     counted_on g.N.Named.board asked format before c.args.caller.now (part c.args.pass.now) C
-    (subst (λ (b : BoardId). IsWalkable b.sizes) c.requires.board c.args.board.now.walkable) _ c.hold-turn.result (part c.hold-turn.new.pass) (returns-clause-advanced g c) c.requires.load c.requires.going c.take.new.self c.take.ensures
+    (subst (λ (b : BoardId). IsWalkable b.sizes) c.requires.board c.args.board.now.walkable) _ _ c.hold-turn.result (part c.hold-turn.new.pass) (returns-clause-advanced g c) c.requires.load c.requires.going c.take.new.self c.take.ensures

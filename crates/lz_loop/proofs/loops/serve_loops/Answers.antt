@@ -1,0 +1,11 @@
+use Rattle.std.proofs.lemmas.List.Elements.{All-map}
+use Rattle.lz_board.specs.Seats.{part}
+use Rattle.lz_serve.specs.Halts.{IsCalm}
+use Rattle.lz_serve.proofs.HandedBack.{each_part}
+use Rattle.lz_loop.proofs.loops.serve_loops.Goals as goal
+
+pub serve_shares-requires-clause-calm : goal.serve_shares-requires-clause-calm
+serve_shares-requires-clause-calm g c = λ κs lives k d low calm. each_part IsCalm c.args.passes.items calm k d low
+
+pub returns-then-len-gt1-clause-calm : goal.returns-then-len-gt1-clause-calm
+returns-then-len-gt1-clause-calm g c = λ calm quiet k d low. c.serve_shares.ensures.calm quiet k d low (All-map IsCalm (λ p. part p) c.args.passes.items calm)

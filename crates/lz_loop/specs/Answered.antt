@@ -1,0 +1,16 @@
+-- What became of a call that was answered.
+use Rattle.lz_proto.specs.declared.reply.Reply.{Reply}
+use Rattle.lz_board.specs.declared.pass.Pass.{Pass}
+use Rattle.lz_loop.specs.declared.asking.Answered.{Answered}
+use Rattle.lz_loop.specs.declared.asking.Answered.TheVariants.{Replied, Again}
+use Rattle.lz_loop.specs.Askings.{Asked}
+
+-- so it is where the request has its reply
+abbrev pub IfReplied : {N B : Type 0} → Answered N B → (Pass → Reply → Type 0) → Type 0
+IfReplied (Replied pass reply) P = P pass reply
+IfReplied (Again next) P = Unit {0}
+
+-- so it is where a second call is under way
+abbrev pub IfAgain : {N B : Type 0} → Answered N B → (Asked → Type 0) → Type 0
+IfAgain (Replied pass reply) P = Unit {0}
+IfAgain (Again next) P = P next

@@ -1,0 +1,6 @@
+pub mod Conversations
+pub mod Streams
+pub mod Askings
+pub mod Answered
+pub mod PassReplies
+pub mod Shares

@@ -1,0 +1,158 @@
+//! The place of one connection.
+ghost use Rattle.std.specs.Prelude.{◌≡◌, ◌≢◌, IfSome, Some};
+
+use crate::client::Client;
+use crate::stream::Stream;
+use lz_proto::Request;
+
+/// How many pieces of one client are read in a turn, at most.
+const MOST_READS: usize = 16;
+
+/// What the client of a place wants.
+#[derive(Clone, Copy, PartialEq, Eq)]
+pub(crate) enum Wish {
+    /// Nothing, until it can be read or written again.
+    Nothing,
+    /// Its turn: it has a request, or there may be more to read.
+    Turn,
+    /// Nothing more: its connection is to be closed.
+    Close,
+}
+
+/// The place of one connection. Its client is elsewhere while a pass answers it.
+#[derive(Drop)]
+pub(crate) struct Place<S: Stream> {
+    client: Option<Client<S>>,
+    /// There may be something to read.
+    readable: bool,
+    /// It waits for its turn.
+    queued: bool,
+    /// Its session is over, and what it still sends is thrown away.
+    leaves: bool,
+    /// In which second something came or went last.
+    moved: u64,
+}
+
+impl<S: Stream> Place<S> {
+    pub(crate) fn empty() -> Place<S> {
+        Place {
+            client: None,
+            readable: false,
+            queued: false,
+            leaves: false,
+            moved: 0,
+        }
+    }
+
+    /// Takes a client in that is new, in this second.
+    pub(crate) fn admit(&mut self, client: Client<S>, second: u64) {
+        self.client = Some(client);
+        self.readable = true;
+        self.queued = false;
+        self.leaves = false;
+        self.moved = second;
+    }
+
+    /// Takes a client back that a pass has answered.
+    pub(crate) fn take_back(&mut self, client: Client<S>, second: u64) {
+        self.client = Some(client);
+        self.moved = second;
+    }
+
+    /// Its connection can be read or written. One whose session is over is waited for no longer because of that.
+    pub(crate) fn hear(&mut self, second: u64) {
+        self.readable = true;
+        if !self.leaves {
+            self.moved = second;
+        }
+    }
+
+    /// Notes that it waits for its turn, and says whether it didn't.
+    pub(crate) fn queue(&mut self) -> bool {
+        let was_queued = self.queued;
+        self.queued = true;
+        !was_queued
+    }
+
+    /// Hands its client out with the request whose turn it is, if it has one.
+    pub(crate) fn take_turn(&mut self) -> Option<(Client<S>, Request)>
+        ensures { IfSome result (λ turn. (turn.0.asked ≡ Some turn.1) × (turn.1 ≢ Request.Quit)) }
+    {
+        self.queued = false;
+        let mut client = self.client.take()?;
+        if !client.has_unsent() {
+            if let Some(request) = client.ask() {
+                return Some((client, request));
+            }
+        }
+        self.client = Some(client);
+        None
+    }
+
+    /// Does for its client what needs no pass.
+    pub(crate) fn tend(&mut self, buffer: &mut [u8]) -> Wish {
+        let Some(client) = &mut self.client else {
+            return Wish::Nothing;
+        };
+        if self.leaves {
+            return see_off(client, buffer);
+        }
+        client.write();
+        for _ in 0..MOST_READS {
+            if !self.readable || client.is_occupied() {
+                break;
+            }
+            self.readable = client.read(buffer);
+        }
+        if client.is_over() {
+            self.leaves = true;
+            client.leave();
+            return see_off(client, buffer);
+        }
+        if !client.has_unsent() && (self.readable || client.waits()) {
+            return Wish::Turn;
+        }
+        Wish::Nothing
+    }
+
+    /// Sends once what is unsent, and ends the session.
+    pub(crate) fn part(&mut self, buffer: &mut [u8]) {
+        if let Some(client) = &mut self.client {
+            client.write();
+            client.leave();
+            let _ = see_off(client, buffer);
+        }
+    }
+
+    /// Whether its client is to be closed since nothing came or went for so many seconds. One whose session is over isn't waited for
+    /// so long.
+    pub(crate) fn is_idle(&self, second: u64, idle: Option<u64>) -> bool {
+        if self.client.is_none() || self.queued {
+            return false;
+        }
+        let still = second.saturating_sub(self.moved);
+        match idle {
+            Some(most) if still > most => true,
+            _ => self.leaves && still > 1,
+        }
+    }
+
+    /// Closes its connection.
+    pub(crate) fn close(&mut self) {
+        self.client = None;
+        self.queued = false;
+    }
+}
+
+// Throws away what a client sends after its session's end: a connection that is closed over unread bytes is reset, and the client
+// may lose its last replies.
+fn see_off<S: Stream>(client: &mut Client<S>, buffer: &mut [u8]) -> Wish {
+    for _ in 0..MOST_READS {
+        match client.pass_over(buffer) {
+            Some(true) => {}
+            Some(false) => return Wish::Nothing,
+            None => return Wish::Close,
+        }
+    }
+    Wish::Close
+}

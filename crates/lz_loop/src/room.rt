@@ -1,0 +1,283 @@
+//! The passes of the loop, and what they answer.
+ghost use Rattle.std.specs.Prelude.{◌≡◌, ◌+◌, ◌≤◌, ◌<◌, IfOk, true, false, All, vec_capacity, vec_len};
+ghost use Rattle.std.specs.List.{Any};
+ghost use Rattle.lz_proto.specs.declared.request.Request.{Request as Asked};
+ghost use Rattle.lz_proto.specs.declared.reply.Reply.{Reply as Said};
+ghost use Rattle.lz_set.specs.Names.{MayCall};
+ghost use Rattle.lz_serve.specs.Halts.{IsCalmAfter, SawHalt};
+ghost use Rattle.lz_loop.specs.PassReplies.{Promised};
+
+use crate::crowd::Crowd;
+use crate::free_pass::FreePass;
+use crate::stream::Stream;
+use crate::working::{Played, Working};
+use lz_disk::Disk;
+use lz_serve::{Given, Observer};
+use lz_set::{Named, Pass, Set, StepGate};
+use std::alloc::{AllocError, Global};
+use std::mem::swap;
+use std::sync::Wait;
+
+/// The passes of the loop: those that are free, and those that answer a request. No pass is lost.
+#[derive(Drop)]
+pub(crate) struct Room<S: Stream, N: Named, B: Given> {
+    pub(crate) crowd: Crowd<S>,
+    free: Vec<FreePass<N, B>>,
+    /// The calls that are to be played on.
+    working: Vec<Working<S, N, B>>,
+    /// Those that stand before a Sync, or at a node that another call holds.
+    standing: Vec<Working<S, N, B>>,
+    /// For how many passes there is room, and how many were taken in.
+    most: usize,
+    given: usize,
+    halted: bool,
+    /// No further request is begun.
+    ends: bool,
+    ghost fit: { given ≤ most },
+    ghost count: { vec_len free + vec_len working + vec_len standing ≡ given },
+    ghost free_room: { most ≤ vec_capacity free },
+    ghost working_room: { most ≤ vec_capacity working },
+    ghost standing_room: { most ≤ vec_capacity standing },
+}
+
+impl<S: Stream, N: Named, B: Given> Room<S, N, B> {
+    /// Room for so many passes and clients, where there is none yet.
+    pub(crate) fn new(
+        alloc: Global,
+        passes: usize,
+        clients: usize,
+    ) -> Result<Room<S, N, B>, AllocError>
+        ensures { IfOk result (λ room. (room.given ≡ 0) × (room.most ≡ passes)) }
+    {
+        Ok(Room {
+            crowd: Crowd::new(alloc, clients)?,
+            free: Vec::with_capacity(alloc, passes)?,
+            working: Vec::with_capacity(alloc, passes)?,
+            standing: Vec::with_capacity(alloc, passes)?,
+            most: passes,
+            given: 0,
+            halted: false,
+            ends: false,
+        })
+    }
+
+    /// Takes a pass in, which is free.
+    pub(crate) fn take_in(&mut self, pass: Pass)
+        requires room { self.old.given < self.old.most }
+        requires may_call { MayCall N.board pass }
+        requires calm { IsCalmAfter B.parts pass }
+        ensures given { self.new.given ≡ self.old.given + 1 }
+        ensures most { self.new.most ≡ self.old.most }
+    {
+        let Ok(()) = self.free.push(FreePass::new(pass, false)) else {
+            unreachable!()
+        };
+        self.given += 1;
+    }
+
+    /// The passes, and whether a reply of one told that the service halted.
+    pub(crate) fn into_passes(self, room: Vec<Pass>) -> (Vec<Pass>, bool)
+        requires rests { vec_len self.free ≡ self.given }
+        requires empty { vec_len room ≡ 0 }
+        requires room { self.given ≤ vec_capacity room }
+        ensures may_call { All (MayCall N.board) result.0.items }
+        ensures count { vec_len result.0 ≡ self.given }
+        ensures halted { result.1 ≡ true → Any SawHalt result.0.items }
+        ensures calm { result.1 ≡ false → All (IsCalmAfter B.parts) result.0.items }
+    {
+        let Room {
+            crowd: _,
+            free,
+            working: _,
+            standing: _,
+            most: _,
+            given: _,
+            halted: _,
+            ends: _,
+        } = self;
+        hand_back(free, room)
+    }
+
+    /// Begins to answer requests that wait, by the passes that are free.
+    pub(crate) fn begin_all<D: Disk, G: StepGate, R: Wait>(
+        &mut self,
+        rt: &R,
+        set: &Set<D, G, N>,
+        buffer: &mut [u8],
+    )
+        ensures { self.new.given ≡ self.old.given }
+    {
+        'queue: for _ in 0..self.crowd.waiting() {
+            if self.ends {
+                return;
+            }
+            let Some(free) = self.free.pop() else {
+                return;
+            };
+            match begin_next(rt, set, &mut self.crowd, free, buffer) {
+                Ok(working) => {
+                    let Ok(()) = self.working.push(working) else {
+                        unreachable!()
+                    };
+                }
+                Err(free) => {
+                    let Ok(()) = self.free.push(free) else {
+                        unreachable!()
+                    };
+                }
+            }
+        }
+    }
+
+    /// Plays each call on, up to a Sync or a taken node.
+    pub(crate) fn play_all<D, G, R, O>(
+        &mut self,
+        rt: &R,
+        set: &Set<D, G, N>,
+        observer: &O,
+        buffer: &mut [u8],
+    )
+    where
+        D: Disk,
+        G: StepGate,
+        R: Wait,
+        O: Observer,
+        requires { (request : Asked) (reply : Said) → Promised N.board N.format request reply → S.promised request reply }
+        ensures { self.new.given ≡ self.old.given }
+    {
+        'calls: for _ in rt.forever() {
+            let Some(working) = self.working.pop() else {
+                return;
+            };
+            match working.play(rt, set, observer, self.ends) {
+                Played::Stands(working) => {
+                    let Ok(()) = self.standing.push(working) else {
+                        unreachable!()
+                    };
+                }
+                Played::GoesOn(working) => {
+                    let Ok(()) = self.working.push(working) else {
+                        unreachable!()
+                    };
+                }
+                Played::Rests(token, client, free) => {
+                    if free.halted() {
+                        self.halted = true;
+                        self.ends = true;
+                    }
+                    let Ok(()) = self.free.push(free) else {
+                        unreachable!()
+                    };
+                    self.crowd.take_back(token, client, buffer);
+                }
+            }
+        }
+    }
+
+    /// Plays the Sync of each call that stands before one. The first calls the device, and the others find their slots covered.
+    pub(crate) fn sync_all<D: Disk, G: StepGate, R: Wait>(&mut self, rt: &R, set: &Set<D, G, N>)
+        ensures { self.new.given ≡ self.old.given }
+    {
+        for working in self.standing.iter_mut() {
+            working.sync(rt, set);
+        }
+        swap(&mut self.working, &mut self.standing);
+    }
+
+    /// Plays each call to its answer, sends once what is unsent then, and ends each session.
+    pub(crate) fn finish<D, G, R, O>(
+        &mut self,
+        rt: &R,
+        set: &Set<D, G, N>,
+        observer: &O,
+        buffer: &mut [u8],
+    )
+    where
+        D: Disk,
+        G: StepGate,
+        R: Wait,
+        O: Observer,
+        requires { (request : Asked) (reply : Said) → Promised N.board N.format request reply → S.promised request reply }
+        ensures given { self.new.given ≡ self.old.given }
+        ensures rests { vec_len self.new.free ≡ self.new.given }
+    {
+        self.ends = true;
+        'plays: for _ in rt.forever() {
+            if self.rests() {
+                break;
+            }
+            self.play_all(rt, set, observer, buffer);
+            self.sync_all(rt, set);
+        }
+        self.crowd.part_all(buffer);
+    }
+
+    /// Whether there is something to do, with nothing heard of the connections.
+    pub(crate) fn is_busy(&self) -> bool {
+        !self.rests() || !self.free.is_empty() && !self.crowd.is_quiet()
+    }
+
+    /// Whether a client was told that the service halted, or so many connections were served; 0 for no end.
+    pub(crate) fn is_done(&self, sessions: u64) -> bool {
+        self.ends || sessions != 0 && self.crowd.admitted() >= sessions && self.crowd.is_empty()
+    }
+
+    /// Whether a reply has told that the service halted.
+    pub(crate) fn halted(&self) -> bool {
+        self.halted
+    }
+
+    /// Whether no pass answers a request.
+    pub(crate) fn rests(&self) -> bool
+        ensures { result ≡ true → vec_len self.now.free ≡ self.now.given }
+    {
+        self.working.is_empty() && self.standing.is_empty()
+    }
+}
+
+// The passes, in their order, and whether a reply of one told that the service halted.
+fn hand_back<N: Named, B: Given>(free: Vec<FreePass<N, B>>, room: Vec<Pass>) -> (Vec<Pass>, bool)
+    requires empty { vec_len room ≡ 0 }
+    requires room { vec_len free ≤ vec_capacity room }
+    ensures may_call { All (MayCall N.board) result.0.items }
+    ensures count { vec_len result.0 ≡ vec_len free }
+    ensures halted { result.1 ≡ true → Any SawHalt result.0.items }
+    ensures calm { result.1 ≡ false → All (IsCalmAfter B.parts) result.0.items }
+{
+    let mut passes = room;
+    let mut halted = false;
+    for pass in free {
+        let (pass, found) = pass.into_parts();
+        halted = halted || found;
+        let Ok(()) = passes.push(pass) else {
+            unreachable!()
+        };
+    }
+    (passes, halted)
+}
+
+// Begins to answer the request whose turn it is, if there is one.
+fn begin_next<S, D, G, N, B, R>(
+    rt: &R,
+    set: &Set<D, G, N>,
+    crowd: &mut Crowd<S>,
+    free: FreePass<N, B>,
+    buffer: &mut [u8],
+) -> Result<Working<S, N, B>, FreePass<N, B>>
+where
+    S: Stream,
+    D: Disk,
+    G: StepGate,
+    N: Named,
+    B: Given,
+    R: Wait,
+{
+    if free.halted() {
+        return Err(free);
+    }
+    let Some((token, client, request)) = crowd.take_turn(buffer) else {
+        return Err(free);
+    };
+    let (pass, _) = free.into_parts();
+    Ok(Working::begin(rt, set, pass, token, client, request))
+}

@@ -1,0 +1,142 @@
+//! The connections of a loop, as the system's sockets.
+use crate::poller::Poller;
+use crate::stream::{Received, Stream, Taken};
+use mio::net::{TcpListener as Listener, TcpStream};
+use mio::{Events, Interest, Poll, Token};
+use std::io::{ErrorKind, Read, Write};
+use std::net::{Net, Shutdown, TcpListener};
+use std::time::{Clock, Duration};
+use std::{io, thread};
+
+/// How many connections are found ready at once, at most.
+const EVENTS: usize = 1_024;
+
+/// The token of the listener, which no connection has.
+const LISTENER: Token = Token(usize::MAX);
+
+/// For how many milliseconds a loop waits before it tries again where it can't ask what is ready.
+const PAUSE: u64 = 20;
+
+/// What a loop waits for: a listener, which it may share with others, and the connections that it took there.
+#[derive(Drop)]
+pub struct Sockets<'a, R: Clock> {
+    rt: &'a R,
+    poll: Poll,
+    events: Events,
+    listener: Listener,
+    /// A connection may wait at the listener.
+    has_come: bool,
+}
+
+/// A connection whose calls don't wait.
+#[derive(Drop)]
+pub struct Socket {
+    stream: TcpStream,
+}
+
+impl<'a, R: Net + Clock + AllocGlobal> Sockets<'a, R> {
+    /// Waits for the connections of the listener, at which accepting doesn't wait any more from now on.
+    pub fn new(rt: &'a R, listener: &TcpListener) -> io::Result<Sockets<'a, R>> {
+        listener.set_nonblocking(true)?;
+        let mut listener = Listener::from_std(listener.try_clone()?);
+        let poll = Poll::new(rt)?;
+        poll.registry()
+            .register(&mut listener, LISTENER, Interest::READABLE)?;
+        let Ok(events) = Events::with_capacity(rt.alloc(), EVENTS) else {
+            return Err(io::Error::from(ErrorKind::OutOfMemory));
+        };
+        Ok(Sockets {
+            rt,
+            poll,
+            events,
+            listener,
+            has_come: true,
+        })
+    }
+}
+
+impl<'a, R: Clock> Poller for Sockets<'a, R> {
+    type Stream = Socket;
+
+    fn poll(&mut self, patience: Duration, ready: &mut Vec<usize>) {
+        // The system tells of a change once, so it isn't asked before there is room for what it tells.
+        if ready.reserve(EVENTS).is_err()
+            || self.poll.poll(&mut self.events, Some(patience)).is_err()
+        {
+            thread::sleep(self.rt, Duration::from_millis(PAUSE));
+            return;
+        }
+        for event in self.events.iter() {
+            if event.token() == LISTENER {
+                self.has_come = true;
+            } else {
+                let _ = ready.push(event.token().0);
+            }
+        }
+    }
+
+    #[tactic(auto, unfolding(crate::specs::Streams::IsFresh))]
+    fn accept(&mut self, token: usize) -> Option<Socket> {
+        if !self.has_come {
+            return None;
+        }
+        let mut stream = match self.listener.accept() {
+            Ok((stream, _)) => stream,
+            Err(error) => {
+                // After another error, as where no descriptor is left, the loop's next turn tries again.
+                self.has_come = error.kind() != ErrorKind::WouldBlock;
+                return None;
+            }
+        };
+        // A reply goes out at once; where that can't be asked for it may go out later.
+        let _ = stream.set_nodelay(true);
+        let both = Interest::READABLE | Interest::WRITABLE;
+        self.poll
+            .registry()
+            .register(&mut stream, Token(token), both)
+            .ok()?;
+        Some(Socket { stream })
+    }
+}
+
+impl Stream for Socket {
+    ghost use Rattle.std.specs.Prelude.{None, ⊤};
+
+    ghost traffic = { λ _. None };
+
+    ghost promised = { λ _ _. ⊤ };
+
+    fn receive(&mut self, buffer: &mut [u8]) -> Received {
+        'tries: for _ in 0..u64::MAX {
+            match self.stream.read(buffer) {
+                Ok(0) => return Received::Over,
+                Ok(count) => return Received::Count(count),
+                Err(error) => match error.kind() {
+                    ErrorKind::WouldBlock => return Received::Later,
+                    ErrorKind::Interrupted => {}
+                    _ => return Received::Failed,
+                },
+            }
+        }
+        Received::Failed
+    }
+
+    fn take(&mut self, text: &[u8]) -> Taken {
+        'tries: for _ in 0..u64::MAX {
+            match self.stream.write(text) {
+                Ok(0) => return Taken::Failed,
+                Ok(count) => return Taken::Count(count),
+                Err(error) => match error.kind() {
+                    ErrorKind::WouldBlock => return Taken::Later,
+                    ErrorKind::Interrupted => {}
+                    _ => return Taken::Failed,
+                },
+            }
+        }
+        Taken::Failed
+    }
+
+    fn leave(&mut self) {
+        let _ = self.stream.shutdown(Shutdown::Write);
+    }
+}

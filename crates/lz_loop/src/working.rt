@@ -1,0 +1,166 @@
+//! A client's request that a pass is answering.
+ghost use Rattle.std.specs.Prelude.{◌≡◌, ◌≢◌, Some, true, false};
+ghost use Rattle.lz_proto.specs.declared.request.Request.{Request as Asked};
+ghost use Rattle.lz_proto.specs.declared.reply.Reply.{Reply as Said};
+ghost use Rattle.lz_set.specs.Names.{MayCall};
+ghost use Rattle.lz_serve.specs.Halts.{IsCalmAfter};
+ghost use Rattle.lz_loop.specs.PassReplies.{Promised};
+
+use crate::asking::{Answered, Asking};
+use crate::client::Client;
+use crate::free_pass::FreePass;
+use crate::stream::Stream;
+use lz_disk::Disk;
+use lz_proto::{Reply, Request};
+use lz_serve::{Given, Observer};
+use lz_set::{Named, Pass, Set, Stage, StepGate};
+use std::marker::Model;
+use std::sync::Wait;
+
+/// A client with the request that a pass answers for it.
+#[derive(Drop)]
+pub(crate) struct Working<S: Stream, N: Named, B: Given> {
+    client: Client<S>,
+    token: usize,
+    asking: Asking<N, B>,
+    /// The call stands before a Sync.
+    syncs: bool,
+}
+
+impl<S: Stream, N: Named, B: Given> Model for Working<S, N, B> {
+    ghost use Rattle.std.specs.Prelude.{◌≡◌, Bool, Some, true};
+    ghost use Rattle.lz_set.specs.declared.underway.Stage.TheVariants.{Syncs};
+    ghost use Rattle.lz_set.specs.Stages.{StandsAt};
+
+    ghost Value = { Bool };
+
+    ghost view = { λ w. w.syncs };
+
+    ghost invariant = { λ w. (w.client.asked ≡ Some w.asking.request) × (w.syncs ≡ true → StandsAt Syncs w.asking.call) };
+}
+
+/// What became of a call that was played on.
+#[derive(Drop)]
+pub(crate) enum Played<S: Stream, N: Named, B: Given> {
+    /// It stands before a Sync, or at a node that another call holds.
+    Stands(Working<S, N, B>),
+    /// Another call of the same client is under way.
+    GoesOn(Working<S, N, B>),
+    /// The client of this token has no request that may be answered, and the pass is free.
+    Rests(usize, Client<S>, FreePass<N, B>),
+}
+
+impl<S: Stream, N: Named, B: Given> Working<S, N, B> {
+    /// Begins to answer the request that the client was asked for.
+    pub(crate) fn begin<D: Disk, G: StepGate, R: Wait>(
+        rt: &R,
+        set: &Set<D, G, N>,
+        pass: Pass,
+        token: usize,
+        client: Client<S>,
+        request: Request,
+    ) -> Working<S, N, B>
+        requires may_call { MayCall N.board pass }
+        requires calm { IsCalmAfter B.parts pass }
+        requires asked { client.asked ≡ Some request }
+        requires request { request ≢ Request.Quit }
+    {
+        let asking = Asking::begin(rt, set, pass, request);
+        Working {
+            client,
+            token,
+            asking,
+            syncs: false,
+        }
+    }
+
+    /// Plays the call on. Where it has its reply, that is told, and the same pass begins the client's next request, unless the
+    /// service halted.
+    pub(crate) fn play<D, G, R, O>(
+        self,
+        rt: &R,
+        set: &Set<D, G, N>,
+        observer: &O,
+        halted: bool,
+    ) -> Played<S, N, B>
+    where
+        D: Disk,
+        G: StepGate,
+        R: Wait,
+        O: Observer,
+        requires { (request : Asked) (reply : Said) → Promised N.board N.format request reply → S.promised request reply }
+    {
+        let Working {
+            client,
+            token,
+            asking,
+            syncs: _,
+        } = self;
+        let mut asking = asking;
+        let stage = asking.go_on(rt, set);
+        if stage != Stage::Answers {
+            let syncs = stage == Stage::Syncs;
+            return Played::Stands(Working {
+                client,
+                token,
+                asking,
+                syncs,
+            });
+        }
+        match asking.answer(rt, set) {
+            Answered::Again(asking) => Played::GoesOn(Working {
+                client,
+                token,
+                asking,
+                syncs: false,
+            }),
+            Answered::Replied(pass, reply) => {
+                if matches!(reply, Reply::Full) {
+                    observer.full();
+                }
+                let mut client = client;
+                client.reply(reply);
+                let ends = matches!(reply, Reply::Halted);
+                go_on(rt, set, token, client, FreePass::new(pass, ends), halted)
+            }
+        }
+    }
+
+    /// Plays the Sync, if the call stands before one.
+    pub(crate) fn sync<D: Disk, G: StepGate, R: Wait>(&mut self, rt: &R, set: &Set<D, G, N>) {
+        if self.syncs {
+            self.asking.sync(rt, set);
+            self.syncs = false;
+        }
+    }
+}
+
+// Begins the client's next request by this pass, if there is one that may be answered.
+fn go_on<S, D, G, N, B, R>(
+    rt: &R,
+    set: &Set<D, G, N>,
+    token: usize,
+    client: Client<S>,
+    free: FreePass<N, B>,
+    halted: bool,
+) -> Played<S, N, B>
+where
+    S: Stream,
+    D: Disk,
+    G: StepGate,
+    N: Named,
+    B: Given,
+    R: Wait,
+{
+    if halted || free.halted() {
+        return Played::Rests(token, client, free);
+    }
+    let mut client = client;
+    match client.ask() {
+        Some(request) => {
+            let (pass, _) = free.into_parts();
+            Played::GoesOn(Working::begin(rt, set, pass, token, client, request))
+        }
+        None => Played::Rests(token, client, free),
+    }
+}

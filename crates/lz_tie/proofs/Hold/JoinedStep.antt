@@ -1,0 +1,107 @@
+-- The step of a pass that has joined the pen, in the words of the code that plays it: its number and its pin word are read at run time.
+use Rattle.std.proofs.Common.{◌≡◌, ℕ, List, refl, sym, ap, ◌∙◌, subst}
+use Rattle.std.specs.Prelude.{Option, None}
+use Rattle.lz_slot.specs.declared.command.Command.{Command}
+use Rattle.lz_slot.specs.declared.format.Format.{Format}
+use Rattle.lz_disk.specs.Devices.{Device}
+use Rattle.lz_list.specs.declared.publishing.Publishing.{Publishing}
+use Rattle.lz_list.specs.declared.word.Word.TheVariants.{Pin as pin_at}
+use Rattle.lz_list.specs.Words.{set}
+use Rattle.lz_machine.specs.declared.event.Event.{Event}
+use Rattle.lz_machine.specs.declared.event.Event.TheVariants.{Invoke}
+use Rattle.lz_machine.specs.declared.event.Outcome.{Outcome}
+use Rattle.lz_machine.specs.Yards.{Yard}
+use Rattle.lz_machine.specs.Orders.{Calling}
+use Rattle.lz_machine.specs.Ready.{IsEventOf}
+use Rattle.lz_machine.specs.Runs.{MayPlay, with_words}
+use Rattle.lz_machine.proofs.Runs.EventRange.{is_event}
+use Rattle.lz_yard.specs.declared.told.Told.{Told}
+use Rattle.lz_yard.specs.Steps.{Played as PlayedOver}
+use Rattle.lz_board.specs.declared.view.Note.{Note}
+use Rattle.lz_board.specs.declared.view.Part.{Part}
+use Rattle.lz_board.specs.declared.view.What.{What}
+use Rattle.lz_board.specs.Notes.{note_by}
+use Rattle.lz_board.specs.Noting.{KeepsPin, MovesPin}
+use Rattle.lz_board.specs.Plays.{noted, noted_part, moved_part}
+use Rattle.lz_board.specs.Seats.{BoardId}
+use Rattle.lz_tie.specs.declared.playing.Turn.{Turn}
+use Rattle.lz_tie.specs.Holds.{InHold, IsTurn, MayTurn, Turned, Holds, begins_with, what_of}
+use Rattle.lz_tie.proofs.Hold.NotedStep as step
+use Rattle.lz_tie.proofs.Hold.NotedStep.{NotedStep}
+use Rattle.lz_tie.proofs.Hold.PlayedCall as call
+use Rattle.lz_tie.proofs.Hold.PlayedTurn as turn_of
+
+module _ (b : BoardId) (ns : List Note) (y : Yard) (dev : Device) (h : Part) (hold : InHold b ns y dev h) (e : Event) (may : MayTurn b.sizes ns h e)
+    (p pin : ℕ) (number : p ≡ h.number) (pin_is : pin ≡ h.pin) (y1 : Yard) (told_of : y1 ≡ with_words y (set y.words (pin_at p) pin)) (dev1 : Device) (same : dev1 ≡ dev) where
+  abbrev z : Yard
+  z = with_words y (set y.words (pin_at h.number) h.pin)
+
+  there : y1 ≡ z
+  there = told_of ∙ (λ i. with_words y (set y.words (pin_at (number i)) (pin_is i)))
+
+  plays : MayPlay z dev.honest dev.medium h.number e
+  plays = go e may
+    where
+      go : (e : Event) → MayTurn b.sizes ns h e → MayPlay z dev.honest dev.medium h.number e
+      go (Invoke c) may = call.plays b ns y dev h hold c may
+      go e may = turn_of.plays b ns y dev h hold may.0 e may.1
+
+  pub asks : IsEventOf y1 e
+  asks = subst (λ q. IsEventOf q e) (sym there) (is_event z dev.honest dev.medium h.number e plays)
+
+  pub may_play : MayPlay y1 dev1.honest dev1.medium p e
+  may_play = subst (λ (q : Yard × Device × ℕ). MayPlay q.0 q.1.honest q.1.medium q.2 e) (λ i. (sym there i, sym same i, sym number i)) plays
+
+  module _ (o : Outcome) (z' : Yard) (told : Told) (dev' : Device) (played : PlayedOver y1 p e o z' told dev1 dev') (shape : z'.shape ≡ y1.shape) (x : Option Publishing) (shown : x ≡ told.published)
+      (what : What) (tells : what ≡ what_of z'.vault.format e o) where
+    gave : PlayedOver z h.number e o z' told dev dev'
+    gave = subst (λ (q : Yard × ℕ × Device). PlayedOver q.0 q.1 e o z' told q.2 dev') (λ i. (there i, number i, same i)) played
+
+    same_shape : z'.shape ≡ z.shape
+    same_shape = shape ∙ ap (λ (q : Yard). q.shape) there
+
+    abbrev n : Note
+    n = note_by h.number (what_of y.vault.format e o) x
+
+    same_what : what ≡ what_of y.vault.format e o
+    same_what = tells ∙ go e may gave
+      where
+        go : (e : Event) → MayTurn b.sizes ns h e → PlayedOver z h.number e o z' told dev dev' → what_of z'.vault.format e o ≡ what_of y.vault.format e o
+        go (Invoke c) may done = ap (λ (f : Format). what_of f (Invoke c) o) (call.same_format b ns y dev h hold c may o z' told dev' done)
+        go e may done = refl
+
+    noted_so : NotedStep b ns h z' told dev' (note_by h.number (what_of y.vault.format e o) told.published)
+    noted_so = go e may gave
+      where
+        go : (e : Event) → MayTurn b.sizes ns h e → PlayedOver z h.number e o z' told dev dev' → NotedStep b ns h z' told dev' (note_by h.number (what_of y.vault.format e o) told.published)
+        go (Invoke c) may done = call.noted_call b ns y dev h hold c may o z' told dev' done
+        go e may done = turn_of.noted_turn b ns y dev h hold may.0 e may.1 o z' told dev' done same_shape
+
+    -- the note as the code has it
+    pub noting : NotedStep b ns h z' told dev' (note_by p what x)
+    noting = subst (NotedStep b ns h z' told dev') (λ i. note_by (sym number i) (sym same_what i) (sym shown i)) noted_so
+
+    pub turned : (c : Calling) → IsTurn ns h c e → Turned b.opened ns h c.command c.progress e o x
+    turned c turn = subst (Turned b.opened ns h c.command c.progress e o) (sym shown) (turn_of.turned b ns y dev h hold c e turn o z' told dev' gave same_shape)
+
+    pub began : (c : Command) → e ≡ Invoke c → (t : Turn) → t ≡ record { outcome = o; published = x } → t ≡ record { outcome = begins_with y.vault.format c; published = None }
+    began c is t turn = turn ∙ go (subst (MayTurn b.sizes ns h) is may) (subst (λ (e : Event). PlayedOver z h.number e o z' told dev dev') is gave)
+      where
+        go : MayTurn b.sizes ns h (Invoke c) → PlayedOver z h.number (Invoke c) o z' told dev dev' → ◌≡◌ {A = Turn} (record { outcome = o; published = x }) (record { outcome = begins_with y.vault.format c; published = None })
+        go may done = λ i. record { outcome = call.outcome_is b ns y dev h hold c may o z' told dev' done i; published = (shown ∙ call.nothing b ns y dev h hold c may o z' told dev' done) i }
+
+    -- the notes and the part after it
+    module _ (ns' : List Note) (h' : Part) (notes : ns' ≡ noted b.opened ns h (note_by p what x)) where
+      abbrev After : List Note → Part → Type 0
+      After r q = InHold b r z' dev' q × Holds b.opened ns r n h q
+
+      as_told : (r : List Note) (q : Part) → Holds b.opened ns r (note_by p what x) h q → Holds b.opened ns r n h q
+      as_told r q H = subst (λ (m : Note). Holds b.opened ns r m h q) (λ i. note_by (number i) (same_what i) x) H
+
+      pub after_note : h' ≡ noted_part b.opened ns (note_by p what x) h → KeepsPin h (note_by p what x) → After ns' h'
+      after_note part keeps = subst (λ (q : List Note × Part). After q.0 q.1) (λ i. (sym notes i, sym part i))
+          (step.hold_noted b ns y dev h hold z' told dev' (note_by p what x) noting keeps, as_told _ _ (step.holds_noted b ns y dev h hold z' told dev' (note_by p what x) noting keeps))
+
+      pub after_move : h' ≡ moved_part b.opened ns (note_by p what x) h → MovesPin h (note_by p what x) → After ns' h'
+      after_move part moves = subst (λ (q : List Note × Part). After q.0 q.1) (λ i. (sym notes i, sym part i))
+          (step.hold_moved b ns y dev h hold z' told dev' (note_by p what x) noting moves, as_told _ _ (step.holds_moved b ns y dev h hold z' told dev' (note_by p what x) noting moves))

@@ -1,0 +1,78 @@
+-- What a hold has once the step of its pass is noted, whichever event that plays.
+use Rattle.std.proofs.Common.{suc, List, refl, sym, ap, subst, arith, eq-eqb, ne_eqb}
+use Rattle.std.specs.Prelude.{if◌then◌else◌, Some, None}
+use Rattle.lz_disk.specs.Devices.{Device}
+use Rattle.lz_list.specs.Traces.{Trace, Lawful}
+use Rattle.lz_list.specs.Pinned.{IsQuiet}
+use Rattle.lz_machine.specs.Yards.{Yard}
+use Rattle.lz_yard.specs.declared.told.Told.{Told}
+use Rattle.lz_board.specs.declared.view.Sizes.{Sizes}
+use Rattle.lz_board.specs.declared.view.Note.{Note}
+use Rattle.lz_board.specs.declared.view.Part.{Part}
+use Rattle.lz_board.specs.Notes.{trace_of}
+use Rattle.lz_board.specs.Noting.{MayNote, KeepsPin, MovesPin, Writes}
+use Rattle.lz_board.specs.Plays.{noted, noted_part, moved_part}
+use Rattle.lz_board.specs.Seats.{BoardId}
+use Rattle.lz_board.proofs.Upkeep.PartUpkeep.{trace_noted, knows_noted, knows_moved, told_own}
+use Rattle.lz_tie.specs.declared.playing.Exchange.{Exchange}
+use Rattle.lz_tie.specs.Holds.{IsLocked, InHold, IsExchange, Holds}
+
+-- The step may be noted with its exchange, and the lock keeps its invariant with the note.
+pub record NotedStep (b : BoardId) (ns : List Note) (h : Part) (z' : Yard) (told : Told) (dev' : Device) (n : Note) : Type 0 where
+  pub may : MayNote b.sizes b.opened ns h n
+  pub locked : IsLocked b (noted b.opened ns h n) z' dev'
+  pub keeps : (x : Exchange) → IsExchange z'.words told.changed told.before (Some x) → KeepsPin h n
+  pub writes : (x : Exchange) → IsExchange z'.words told.changed told.before (Some x) → Writes b.sizes (trace_of b.opened ns) x.word x.before x.after n.published
+  pub moves : IsExchange z'.words told.changed told.before None → MovesPin h n
+
+module _ (b : BoardId) (ns : List Note) (y : Yard) (dev : Device) (h : Part) (hold : InHold b ns y dev h) (z' : Yard) (told : Told) (dev' : Device) (n : Note) (s : NotedStep b ns h z' told dev' n) where
+  lawful : Lawful h.sizes.buckets h.sizes.slots (trace_of b.opened (noted b.opened ns h n))
+  lawful = subst (λ (q : Sizes × Trace). Lawful q.0.buckets q.0.slots q.1) (λ i. (sym hold.knows.sized i, sym (trace_noted b.sizes b.opened ns h n hold.knows s.may) i)) s.may.lawful
+
+  -- it leaves the pass's pin word
+  module _ (keeps : KeepsPin h n) where
+    pub hold_noted : InHold b (noted b.opened ns h n) z' dev' (noted_part b.opened ns n h)
+    hold_noted = record {
+      locked = s.locked;
+      knows = knows_noted b.sizes b.opened ns h n hold.knows s.may keeps;
+      told = told_own b.sizes b.opened ns h n hold.knows s.may h.pin keeps hold.told.worn;
+    }
+
+    pub holds_noted : Holds b.opened ns (noted b.opened ns h n) n h (noted_part b.opened ns n h)
+    holds_noted = record {
+      notes = refl;
+      sizes = refl;
+      number = refl;
+      steps = refl;
+      no_loads = refl;
+      known = refl;
+      since = hold.knows.since;
+      pin = sym keeps;
+      begun = ap (λ t. if t then h.begun else trace_of b.opened (noted b.opened ns h n)) (sym (eq-eqb h.pin h.pin refl));
+      lawful = lawful;
+      kept = λ inside. subst (λ (q : Sizes). IsQuiet q.buckets h.begun (trace_of b.opened (noted b.opened ns h n))) (sym hold.knows.sized) (hold_noted.knows.kept inside);
+    }
+
+  -- it counts it up
+  module _ (moves : MovesPin h n) where
+    pub hold_moved : InHold b (noted b.opened ns h n) z' dev' (moved_part b.opened ns n h)
+    hold_moved = let worn = moves.1 in record {
+      locked = s.locked;
+      knows = knows_moved b.sizes b.opened ns h n hold.knows s.may moves;
+      told = told_own b.sizes b.opened ns h n hold.knows s.may (suc h.pin) moves.0 worn;
+    }
+
+    pub holds_moved : Holds b.opened ns (noted b.opened ns h n) n h (moved_part b.opened ns n h)
+    holds_moved = record {
+      notes = refl;
+      sizes = refl;
+      number = refl;
+      steps = refl;
+      no_loads = refl;
+      known = refl;
+      since = hold.knows.since;
+      pin = sym moves.0;
+      begun = ap (λ t. if t then h.begun else trace_of b.opened (noted b.opened ns h n)) (sym (ne_eqb (suc h.pin) h.pin (λ same. absurd (omega (arith, same)))));
+      lawful = lawful;
+      kept = λ inside. subst (λ (q : Sizes). IsQuiet q.buckets (trace_of b.opened (noted b.opened ns h n)) (trace_of b.opened (noted b.opened ns h n))) (sym hold.knows.sized) (hold_moved.knows.kept inside);
+    }

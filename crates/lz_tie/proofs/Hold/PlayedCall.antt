@@ -1,0 +1,157 @@
+-- The Invoke of a pass that has joined the pen, and the call that its note tells.
+use Rattle.std.proofs.Common.{◌≡◌, ◌≢◌, ℕ, ◌%◌, ◌≤◌, ◌==◌, Bool, true, false, List, [], ◌∷◌, length, refl, sym, ap, ◌∙◌, subst, arith, eq-eqb}
+use Rattle.std.specs.Prelude.{if◌then◌else◌, ◌&&◌, Some, None, IsTrue}
+use Rattle.lz_slot.specs.declared.command.Command.{Command}
+use Rattle.lz_slot.proofs.Counted.{of_pass_same, length-set_of_pass}
+use Rattle.lz_disk.specs.Devices.{Device}
+use Rattle.lz_vault.specs.Vaults.{medium_after}
+use Rattle.lz_list.specs.declared.word.Word.{Word}
+use Rattle.lz_list.specs.declared.word.Word.TheVariants.{Pin as pin_at, Halt as halt_word}
+use Rattle.lz_list.specs.Words.{get, set}
+use Rattle.lz_list.specs.Traces.{Lawful}
+use Rattle.lz_machine.specs.declared.course.Course.{Course}
+use Rattle.lz_machine.specs.declared.course.Course.TheVariants.{Plays, Refused}
+use Rattle.lz_machine.specs.declared.event.Event.TheVariants.{Invoke}
+use Rattle.lz_machine.specs.declared.event.Outcome.{Outcome}
+use Rattle.lz_machine.specs.declared.event.Outcome.TheVariants.{Fault, Dead}
+use Rattle.lz_machine.specs.Yards.{Shape, Yard, actor_at}
+use Rattle.lz_machine.specs.Table.{changed_on, course, line_on, call_on, pin_of, published_on}
+use Rattle.lz_machine.specs.Runs.{MayPlay, with_words, invoked}
+use Rattle.lz_yard.specs.declared.told.Told.{Told}
+use Rattle.lz_yard.specs.Steps.{Played as PlayedOver}
+use Rattle.lz_board.specs.declared.view.Sizes.{Sizes}
+use Rattle.lz_board.specs.declared.view.What.TheVariants.{Called}
+use Rattle.lz_board.specs.declared.view.Note.{Note}
+use Rattle.lz_board.specs.declared.view.Part.{Part}
+use Rattle.lz_board.specs.Notes.{note_by, trace_of, steps_of, splice, pin_after}
+use Rattle.lz_board.specs.Kept.{is_calling}
+use Rattle.lz_board.specs.Noting.{MayNote, Writes}
+use Rattle.lz_board.specs.Plays.{noted}
+use Rattle.lz_board.specs.Seats.{BoardId}
+use Rattle.lz_tie.specs.NotedRuns.{SameButAllPins, IsTied}
+use Rattle.lz_tie.specs.declared.playing.Exchange.{Exchange}
+use Rattle.lz_tie.specs.Holds.{sizes_of, IsExchange, IsLocked, InHold, MayTurn, begins_with}
+use Rattle.lz_tie.specs.Reuse.{ReuseTold}
+use Rattle.lz_tie.proofs.Reuse.EventUpkeep.{silent_told, hands_after}
+use Rattle.lz_tie.proofs.Hold.NotedStep.{NotedStep}
+use Rattle.lz_tie.proofs.Hold.NoteCondition.{listed_is, listed_none, alike_tied, tied_lawful, noting_nothing}
+use Rattle.lz_tie.proofs.Hold.CallStart as starting
+
+invoke_course : (y : Yard) (a : ℕ) (c : Command) → course y a (Invoke c) ≡ Plays
+invoke_course y a c = go y.vault.dead
+  where
+    go : (dead : Bool) → (if dead && false then Refused Dead else Plays) ≡ Plays
+    go true = refl
+    go false = refl
+
+module _ (b : BoardId) (ns : List Note) (y : Yard) (dev : Device) (h : Part) (hold : InHold b ns y dev h) (c : Command) (may : MayTurn b.sizes ns h (Invoke c)) where
+  abbrev a : ℕ
+  a = h.number
+
+  abbrev z : Yard
+  z = with_words y (set y.words (pin_at a) h.pin)
+
+  alike : SameButAllPins z y
+  alike = record { shape = refl; heads = refl; links = refl; keys = refl; halt = refl; locks = refl; vault = refl; uses = refl; actors = refl }
+
+  z_tied : IsTied b.opened ns z dev.honest dev.medium
+  z_tied = alike_tied b.opened ns y z dev hold.locked.tied alike
+
+  in_range : (1 ≤ a) × (a ≤ y.shape.passes)
+  in_range = let high = hold.knows.numbered.1 in let passes = ap (λ (s : Sizes). s.passes) hold.locked.sizes in (hold.knows.numbered.0, omega (arith, high, passes))
+
+  pin_same : pin_of z a ≡ pin_after a ns
+  pin_same = let high = in_range.1 in let pins = hold.locked.pins in of_pass_same y.words.pins a h.pin 0 in_range.0 (omega (arith, high, pins)) ∙ sym may.1
+
+  not_calling : is_calling (sizes_of y.shape) (steps_of a ns) ≡ false
+  not_calling = subst (λ (x : Sizes × List Note). is_calling x.0 x.1 ≡ false) (λ i. (hold.locked.sizes i, sym hold.knows.noted i)) may.0.idle
+
+  pub plays : MayPlay z dev.honest dev.medium a (Invoke c)
+  plays = starting.may_invoke b.opened ns z dev.honest dev.medium z_tied a c in_range.0 in_range.1 not_calling pin_same
+
+  module _ (o : Outcome) (z' : Yard) (told : Told) (dev' : Device) (gave : PlayedOver z a (Invoke c) o z' told dev dev') where
+    in_play : course z a (Invoke c) ≡ Plays
+    in_play = invoke_course z a c
+
+    -- its Invoke makes no call of the device
+    no_fault : o ≢ Fault
+    no_fault bad = absurd ((gave.failed bad).asked (ap (λ (k : Course). call_on k z (actor_at z a) (Invoke c)) in_play))
+
+    yard_is : z' ≡ invoked z a c
+    yard_is = (gave.done no_fault).yard ∙ ap (λ (k : Course). (line_on k z (actor_at z a) a (Invoke c)).0) in_play
+
+    pub outcome_is : o ≡ begins_with y.vault.format c
+    outcome_is = (gave.done no_fault).answer ∙ ap (λ (k : Course). (line_on k z (actor_at z a) a (Invoke c)).1) in_play
+
+    pub same_format : z'.vault.format ≡ y.vault.format
+    same_format = ap (λ (q : Yard). q.vault.format) yard_is
+
+    pub nothing : told.published ≡ None
+    nothing = listed_none told.published (listed_is told.published ∙ (gave.done no_fault).published ∙ ap (λ (k : Course). published_on k z (actor_at z a) a (Invoke c)) in_play)
+
+    unchanged : told.changed ≡ None
+    unchanged = (gave.done no_fault).word ∙ ap (λ (k : Course). changed_on k z (actor_at z a) a (Invoke c)) in_play
+
+    abbrev n : Note
+    n = note_by a (Called c y.vault.format) None
+
+    notes_are : noted b.opened ns h n ≡ n ∷ ns
+    notes_are = ap (λ hs. n ∷ splice b.opened a hs ns) may.0.no_loads
+
+    tied : IsTied b.opened (n ∷ ns) z' dev'.honest dev'.medium
+    tied =
+        let t = starting.called_tied b.opened ns z dev.honest dev.medium z_tied a c in_range.0 in_range.1 not_calling (subst (λ (m : ℕ). IsTrue (m % 2 == 0)) (sym may.1) (eq-eqb (h.pin % 2) 0 may.0.outside)) may.2 in
+        let d = (gave.done no_fault).call in
+        let call = ap (λ (k : Course). call_on k z (actor_at z a) (Invoke c)) in_play in
+        subst (λ (q : Yard). IsTied b.opened (n ∷ ns) q dev'.honest dev'.medium) (sym yard_is) record {
+          start = t.start;
+          steps = t.steps;
+          service = t.service;
+          medium = t.medium;
+          starts = t.starts;
+          runs = t.runs;
+          reads = t.reads;
+          begins = t.begins;
+          state = t.state;
+          yard = t.yard;
+          device = λ honest. let before = subst IsTrue d.honest honest in d.medium before ∙ ap (λ k. medium_after k dev.medium) call ∙ t.device before;
+        }
+
+    -- no use changes, and no hand
+    reuse : ReuseTold b.sizes b.opened (n ∷ ns) (invoked z a c).uses (invoked z a c).actors
+    reuse = let silent = silent_told b.sizes b.opened a [] ns n z hold.locked.reuse refl in record { each = silent.each; hands = λ d s is. silent.hands d s (hands_after z a (Invoke c) (λ same. absurd cc) d s is) }
+
+    shape : z'.shape ≡ y.shape
+    shape = ap (λ (q : Yard). q.shape) yard_is
+
+    locked : IsLocked b (noted b.opened ns h n) z' dev'
+    locked = subst (λ l. IsLocked b l z' dev') (sym notes_are) record {
+      sizes = hold.locked.sizes ∙ ap sizes_of (sym shape);
+      pins = ap (λ (q : Yard). length q.words.pins) yard_is ∙ length-set_of_pass y.words.pins a h.pin ∙ hold.locked.pins ∙ ap (λ (s : Shape). s.passes) (sym shape);
+      tied = tied;
+      reuse = subst (λ (q : Yard). ReuseTold b.sizes b.opened (n ∷ ns) q.uses q.actors) (sym yard_is) reuse;
+    }
+
+    lawful : Lawful b.sizes.buckets b.sizes.slots (trace_of b.opened ns)
+    lawful = subst (λ (s : Sizes). Lawful s.buckets s.slots (trace_of b.opened ns)) (sym hold.locked.sizes) (tied_lawful b.opened ns y dev.honest dev.medium hold.locked.tied)
+
+    may_note : MayNote b.sizes b.opened ns h n
+    may_note = record { by = refl; step = tt; pin = may.1; inside = λ inside. let even = may.0.outside in absurd (omega (arith, even, inside)); lawful = lawful; made = λ q away. refl; prepares = tt }
+
+    halt_writes : Writes b.sizes (trace_of b.opened ns) halt_word 2 2 None
+    halt_writes = subst (λ (s : Sizes). Writes s (trace_of b.opened ns) halt_word 2 2 None) (sym hold.locked.sizes)
+        (noting_nothing b.opened ns z z' dev.honest dev'.honest dev.medium dev'.medium a [] n 2 z_tied tied (ap (λ (q : Yard). q.shape) yard_is) (λ v shared. ap (λ (q : Yard). get q.words v) yard_is))
+
+    writes : (x : Exchange) → IsExchange z'.words told.changed told.before (Some x) → Writes b.sizes (trace_of b.opened ns) x.word x.before x.after None
+    writes x is =
+        let fields = subst (λ w. IsExchange z'.words w told.before (Some x)) unchanged is in
+        subst (λ (q : Word × ℕ × ℕ). Writes b.sizes (trace_of b.opened ns) q.0 q.1 q.2 None) (λ i. (sym fields.0 i, sym fields.1 i, sym fields.2 i)) halt_writes
+
+    pub noted_call : NotedStep b ns h z' told dev' (note_by a (Called c y.vault.format) told.published)
+    noted_call = subst (λ x. NotedStep b ns h z' told dev' (note_by a (Called c y.vault.format) x)) (sym nothing) record {
+      may = may_note;
+      locked = locked;
+      keeps = λ x is. refl;
+      writes = writes;
+      moves = λ is. absurd (subst (λ w. IsExchange z'.words w told.before None) unchanged is);
+    }

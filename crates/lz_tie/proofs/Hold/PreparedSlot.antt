@@ -1,0 +1,72 @@
+-- The slot that an event prepares is the one in its actor's hand.
+use Rattle.std.proofs.Common.{◌≡◌, ℕ, Bool, true, false, List, ◌∷◌, refl, ap}
+use mathlib.Core.Bool.{false≢true}
+use Rattle.std.specs.Prelude.{◌&&◌, Option, Some, None, is_some, unwrap_or}
+use Rattle.lz_vault.specs.declared.vault.Stage.{Stage}
+use Rattle.lz_vault.specs.declared.vault.Stage.TheVariants.{Closed, KeyLoose, Keyed, Opening, Open, Closing}
+use Rattle.lz_list.specs.declared.publishing.Publishing.{Publishing}
+use Rattle.lz_list.specs.declared.publishing.Publishing.TheVariants.{Linked as linked, Settled as settled, Marked as marked, Unlinked as unlinked, KeyPrepared as key_prepared, LinkPrepared as link_prepared, Halted as halted}
+use Rattle.lz_list.specs.Traces.{Trace}
+use Rattle.lz_machine.specs.declared.course.Course.{Course}
+use Rattle.lz_machine.specs.declared.course.Course.TheVariants.{Refused, Dies, Plays}
+use Rattle.lz_machine.specs.declared.event.Event.{Event}
+use Rattle.lz_machine.specs.declared.event.Event.TheVariants.{WriteKey, WriteOpen, Settle}
+use Rattle.lz_machine.specs.Yards.{Yard, actor_at, cell_at}
+use Rattle.lz_machine.specs.Table.{course, needs, published_on, publishes, settling, line_publishes}
+use Rattle.lz_machine.proofs.Theorem.Readiness.{plays_needs}
+use Rattle.lz_board.specs.declared.view.Sizes.{Sizes}
+use Rattle.lz_board.specs.declared.view.Note.{Note}
+use Rattle.lz_board.specs.Notes.{listed}
+use Rattle.lz_board.specs.Noting.{AllLeft, MayPrepare}
+
+-- the slot that is prepared
+abbrev pub prepared : List Publishing → Option ℕ
+prepared (key_prepared s v ∷ rest) = Some s
+prepared (link_prepared s v ∷ rest) = Some s
+prepared _ = None
+
+none_some : (s : ℕ) → None ≡ Some s → ⊥
+none_some s is = false≢true (ap is_some is)
+
+-- it is the one in the actor's hand
+pub prepared_hand : (y : Yard) (a : ℕ) (e : Event) (s : ℕ) → prepared (line_publishes y a e) ≡ Some s → (actor_at y a).slot ≡ Some s
+prepared_hand y a e s is = on (course y a e) refl is
+  where
+    settles : (stage : Stage) (t : ℕ) → prepared (settling stage t) ≡ Some s → ⊥
+    settles Open t is = none_some s is
+    settles Closed t is = none_some s is
+    settles KeyLoose t is = none_some s is
+    settles Keyed t is = none_some s is
+    settles Opening t is = none_some s is
+    settles Closing t is = none_some s is
+
+    keyed : (slot : Option ℕ) (c : Bool) → (is_some slot && c) ≡ true → Some (unwrap_or slot 0) ≡ Some s → slot ≡ Some s
+    keyed None c needs is = absurd (false≢true needs)
+    keyed (Some t) c needs is = is
+
+    opens : (checked : Bool) (slot : Option ℕ) (c : Bool) → (checked && is_some slot && c) ≡ true → Some (unwrap_or slot 0) ≡ Some s → slot ≡ Some s
+    opens true None c needs is = absurd (false≢true needs)
+    opens false None c needs is = absurd (false≢true needs)
+    opens checked (Some t) c needs is = is
+
+    go : (e : Event) → needs y a e ≡ true → prepared (publishes y (actor_at y a) a e) ≡ Some s → (actor_at y a).slot ≡ Some s
+    go (WriteKey k) has is = keyed (actor_at y a).slot _ has is
+    go WriteOpen has is = opens _ (actor_at y a).slot _ has is
+    go (Settle t) has is = absurd (settles (cell_at y t).stage t is)
+    go e has is = absurd (none_some s is)
+
+    on : (c : Course) → course y a e ≡ c → prepared (published_on c y (actor_at y a) a e) ≡ Some s → (actor_at y a).slot ≡ Some s
+    on (Refused o) at is = absurd (none_some s is)
+    on Dies at is = absurd (none_some s is)
+    on Plays at is = go e (plays_needs y a e at) is
+
+-- a slot that each pass has left may be prepared
+pub prepares_left : (z : Sizes) (opened : Trace) (ns : List Note) (x : Option Publishing) → ((s : ℕ) → prepared (listed x) ≡ Some s → AllLeft z opened ns s) → MayPrepare z opened ns x
+prepares_left z opened ns None left = tt
+prepares_left z opened ns (Some (key_prepared s v)) left = left s refl
+prepares_left z opened ns (Some (link_prepared s v)) left = left s refl
+prepares_left z opened ns (Some (linked k s p)) left = tt
+prepares_left z opened ns (Some (marked k s p)) left = tt
+prepares_left z opened ns (Some (unlinked k s p)) left = tt
+prepares_left z opened ns (Some (settled s c)) left = tt
+prepares_left z opened ns (Some halted) left = tt

@@ -1,0 +1,185 @@
+"""The services that are measured, and the load."""
+
+from __future__ import annotations
+
+import contextlib
+import os
+import resource
+import shutil
+import signal
+import socket
+import subprocess
+import tempfile
+import time
+from dataclasses import dataclass
+from typing import Iterator, List, NamedTuple, Sequence
+
+HERE = os.path.dirname(os.path.abspath(__file__))
+
+SLOTS = 65536
+BUCKETS = 4096
+MOST_PASSES = 64
+
+# How much longer a sync takes on the slow device, in microseconds, and by what: each call waits before it begins.
+DELAY = 1000
+SLOWED = ("-e", "trace=fdatasync", "-e", f"inject=fdatasync:delay_enter={DELAY}")
+
+
+class Served(NamedTuple):
+    """A service that runs: its port, and the process that was started."""
+
+    port: int
+    pid: int
+
+
+class Told(NamedTuple):
+    """What a load told of its end."""
+
+    answered: int
+    yes: int
+    seconds: float
+
+    def done(self, verb: str) -> int:
+        """How many commands count: of changes those that changed something."""
+        return self.answered if verb == "has" else self.yes
+
+
+@dataclass(frozen=True)
+class Bench:
+    """Where the programs and the files lie, for how long each rate is taken, and how many loops a service of loops has."""
+
+    program: str
+    folder: str
+    seconds: float
+    loops: int = 1
+
+    def path(self, name: str) -> str:
+        return os.path.join(self.folder, name)
+
+    def build(self) -> None:
+        for name in ("load", "floor"):
+            source = os.path.join(HERE, f"{name}.c")
+            subprocess.run(["cc", "-O2", "-pthread", "-o", self.path(name), source], check=True)
+
+    def has_loops(self) -> bool:
+        """Whether the program serves many connections by few threads."""
+        told = subprocess.run([self.program, "help", "serve"], stdout=subprocess.PIPE, stderr=subprocess.DEVNULL, text=True)
+        return "--connections" in told.stdout
+
+    def load(self, target: str, port: int, verb: str, connections: int, depth: int, count: int, seconds: float) -> Told:
+        return told_by(self.start_load(target, port, verb, connections, depth, 0, count, seconds))
+
+    def start_load(
+        self, target: str, port: int, verb: str, connections: int, depth: int, first: int, count: int, seconds: float
+    ) -> "subprocess.Popen[str]":
+        what = "redis" if target == "redis" else "lazyset"
+        words = [what, str(port), str(connections), str(depth), verb, str(first), str(count), str(seconds)]
+        return subprocess.Popen([self.path("load"), *words], stdout=subprocess.PIPE, text=True)
+
+    def slowed(self) -> List[str]:
+        """The words behind which each sync of a program takes longer, and is noted."""
+        return ["strace", "-f", "-qq", "-o", self.path("syncs"), "--seccomp-bpf", *SLOWED]
+
+    def syncs(self) -> int:
+        """How many syncs were noted, of the program that was started last."""
+        with open(self.path("syncs"), encoding="ascii", errors="replace") as noted:
+            return sum("fdatasync(" in line for line in noted)
+
+
+def told_by(load: "subprocess.Popen[str]") -> Told:
+    """What a load that was started tells, once it has ended."""
+    told, _ = load.communicate()
+    if load.returncode != 0:
+        raise SystemExit("the load failed")
+    answered, yes, took = told.split()
+    return Told(int(answered), int(yes), float(took))
+
+
+def may_have_descriptors() -> None:
+    """Lets what is started have as many connections as this machine allows."""
+    _, hard = resource.getrlimit(resource.RLIMIT_NOFILE)
+    resource.setrlimit(resource.RLIMIT_NOFILE, (hard, hard))
+
+
+def switches(pid: int) -> int:
+    """How often the threads of a process have left the processor."""
+    count = 0
+    for thread in os.listdir(f"/proc/{pid}/task"):
+        with contextlib.suppress(OSError), open(f"/proc/{pid}/task/{thread}/status", encoding="ascii", errors="replace") as status:
+            count += sum(int(line.split()[1]) for line in status if "ctxt_switches" in line)
+    return count
+
+
+def serves(target: str, connections: int) -> bool:
+    """Whether a target serves so many connections at once: one with a thread for each has few."""
+    return target != "threads" or connections <= MOST_PASSES
+
+
+def service(bench: Bench, target: str, members: int, connections: int, before: Sequence[str] = ()) -> "contextlib.AbstractContextManager[Served]":
+    """The target's service, with so many members, which serves so many connections at once, started behind these words."""
+    if target == "redis":
+        return redis(bench, members, before)
+    passes = min(connections, MOST_PASSES)
+    loop = ["--connections", str(connections), "--loops", str(bench.loops)] if target == "loop" else []
+    return lazyset(bench, SLOTS, members, passes, BUCKETS, loop, before)
+
+
+def write_file(path: str, slots: int, members: int) -> None:
+    """A slot file with the keys below so many."""
+    head = b"\xa5LZYSET2" + slots.to_bytes(8, "big")
+    held = b"".join(b"\xa5" + bytes(7) + number.to_bytes(8, "big") for number in range(members))
+    with open(path, "wb") as file:
+        file.write(head + held + bytes(16 * (slots - members)))
+        file.flush()
+        os.fsync(file.fileno())
+
+
+@contextlib.contextmanager
+def lazyset(
+    bench: Bench, slots: int, members: int, passes: int, buckets: int, options: Sequence[str] = (), before: Sequence[str] = ()
+) -> Iterator[Served]:
+    """A service over a file with so many members."""
+    file = bench.path("f")
+    write_file(file, slots, members)
+    words = [*before, bench.program, "serve", file, "0", str(passes), "--buckets", str(buckets), *options]
+    started = subprocess.Popen(words, stdout=subprocess.PIPE, stderr=subprocess.DEVNULL, text=True, start_new_session=True)
+    assert started.stdout is not None
+    try:
+        yield Served(int(started.stdout.readline().split()[1]), started.pid)
+    finally:
+        os.killpg(started.pid, signal.SIGKILL)
+        started.wait()
+        started.stdout.close()
+        os.remove(file)
+
+
+def free_port() -> int:
+    with socket.create_server(("127.0.0.1", 0)) as listener:
+        return int(listener.getsockname()[1])
+
+
+@contextlib.contextmanager
+def redis(bench: Bench, members: int, before: Sequence[str] = ()) -> Iterator[Served]:
+    """A Redis that syncs each write before it answers, with so many members in its set."""
+    folder = tempfile.mkdtemp(dir=bench.folder)
+    port = free_port()
+    options = {"port": str(port), "bind": "127.0.0.1", "dir": folder, "save": "", "appendonly": "yes", "appendfsync": "always"}
+    words = [word for name, value in options.items() for word in (f"--{name}", value)]
+    started = subprocess.Popen([*before, "redis-server", *words], stdout=subprocess.DEVNULL, start_new_session=True)
+    try:
+        wait_for(port)
+        if members:
+            bench.load("redis", port, "add", 16, 64, members, 60)
+        yield Served(port, started.pid)
+    finally:
+        os.killpg(started.pid, signal.SIGKILL)
+        started.wait()
+        shutil.rmtree(folder, ignore_errors=True)
+
+
+def wait_for(port: int) -> None:
+    for _ in range(200):
+        with contextlib.suppress(OSError), socket.create_connection(("127.0.0.1", port), 1):
+            return
+        time.sleep(0.05)
+    raise SystemExit("redis-server doesn't listen")
