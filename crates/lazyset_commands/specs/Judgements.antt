@@ -1,7 +1,7 @@
 -- What a judgement of a history tells.
 use Rattle.std.specs.Prelude.{◌⊎◌, ℕ, Option, List, [], ◌∷◌, ◌++◌, codes, decimal}
 use Rattle.lz_slot.specs.Sets.{Keys, members}
-use Rattle.lz_slot.specs.Histories.{Chain, lives}
+use Rattle.lz_slot.specs.Histories.{AreChain, lives}
 use Rattle.lz_judge.specs.Records.{IsPoint, Record}
 use Rattle.lz_judge.specs.TextsRead.{IsFirstUnread, Reads}
 use Rattle.lz_judge.specs.Flaws.{IsFirstKind, IsFlaw, OrderedChain, flaw_number, flaw_subject}
@@ -30,7 +30,7 @@ IsOrdered history = (T : Keys) × OrderedChain (IsPoint history.points) (lives (
 pub record FoundGood (history : Record) (status : Status) (before after : Option (List ℕ)) : Type 0 where
   pub ordered : IsOrdered history
   pub flawless : (flaw : Flaw) → ¬ IsFlaw history flaw
-  pub chain : Chain (members []) history.marks
+  pub chain : AreChain (members []) history.marks
   pub told : Tells before after good_text Done status
 
 -- The history has this flaw and none of an earlier kind, and the flaw was told.

@@ -19,12 +19,12 @@ use Rattle.lz_board.specs.declared.view.What.TheVariants.{Called, Played, Found}
 use Rattle.lz_board.specs.declared.view.Note.{Note}
 use Rattle.lz_board.specs.declared.view.Part.{Part}
 use Rattle.lz_board.specs.declared.view.View.{View}
-use Rattle.lz_board.specs.Notes.{trace_of, steps_of, Extends, Since, Quiet, InOrder, IsShared, AllShown, place, shape_of, pin_after, turned_at}
+use Rattle.lz_board.specs.Notes.{trace_of, steps_of, Extends, Since, Quiet, InOrder, IsShared, AllShown, place, shape_of_sizes, pin_after, turned_at}
 use Rattle.lz_board.specs.Addresses.{index, words_count}
 
 -- by these steps of a pass it has a call open: they lead to a place of one
 abbrev pub is_calling : Sizes → List Note → Bool
-is_calling z steps = is_some (place (shape_of z) steps)
+is_calling z steps = is_some (place (shape_of_sizes z) steps)
 
 -- an event with this outcome shows the pin word of the pass that played it
 abbrev pub shows_played : Event → Outcome → Bool
@@ -81,7 +81,7 @@ Apart [] = Unit {0}
 Apart (h ∷ hs) = ((g : Part) → IsPart hs g → ¬ (g.number ≡ h.number)) × Apart hs
 
 -- The view at seat i: the pen's has all notes, and each part that it holds fits.
-pub record Fits (z : Sizes) (opened : Trace) (ns : List Note) (pen : ℕ) (owner : ℕ → ℕ) (words : List ℕ) (i : ℕ) (v : View) : Type 0 where
+pub record ViewFits (z : Sizes) (opened : Trace) (ns : List Note) (pen : ℕ) (owner : ℕ → ℕ) (words : List ℕ) (i : ℕ) (v : View) : Type 0 where
   pub whole : v.pen ≡ true → (i ≡ pen) × (v.sizes ≡ z) × (v.opened ≡ opened) × (v.notes ≡ ns)
   pub parts : (h : Part) → IsPart v.held h → PartFits z opened ns owner words i h
   pub apart : Apart v.held
@@ -101,4 +101,4 @@ pub record Keeps (z : Sizes) (opened : Trace) (s : State Note View) : Type 0 whe
   pub long : length s.words ≡ words_count z
   pub words : (w : Word) → IsShared z w → slice_index s.words (index z w) ≡ word_after z.buckets (trace_of opened notes) w
   pub pins : (q : ℕ) → 1 ≤ q → q ≤ z.passes → PinTold z notes q (slice_index s.words (index z (PinOf q)))
-  pub views : (i : ℕ) (v : View) → get_elem? s.views i ≡ some v → Fits z opened notes pen owner s.words i v
+  pub views : (i : ℕ) (v : View) → get_elem? s.views i ≡ some v → ViewFits z opened notes pen owner s.words i v

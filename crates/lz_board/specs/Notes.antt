@@ -27,14 +27,14 @@ abbrev pub note_by : ℕ → What → Option Publishing → Note
 note_by p what published = record { by = p; what = what; published = published }
 
 -- what was published, as a list
-abbrev pub listed : Option Publishing → List Publishing
-listed None = []
-listed (Some x) = x ∷ []
+abbrev pub as_list : Option Publishing → List Publishing
+as_list None = []
+as_list (Some x) = x ∷ []
 
 -- the trace after the notes, of a life that began with the trace `opened`
 abbrev pub trace_of : Trace → List Note → Trace
 trace_of opened [] = opened
-trace_of opened (n ∷ ns) = listed n.published ++ trace_of opened ns
+trace_of opened (n ∷ ns) = as_list n.published ++ trace_of opened ns
 
 -- the steps of pass p
 abbrev pub steps_of : ℕ → List Note → List Note
@@ -64,15 +64,15 @@ abbrev pub load_note : ℕ → Load → Note
 load_note p h = note_by p (Played (Hop h.word) (Value h.value)) None
 
 -- a load among the notes, behind the newest place where the trace has the length that it saw
-abbrev pub insert : Trace → ℕ → Load → List Note → List Note
-insert opened p h [] = load_note p h ∷ []
-insert opened p h (n ∷ ns) =
-    if nat_lt h.at (length (trace_of opened (n ∷ ns))) then n ∷ insert opened p h ns else load_note p h ∷ n ∷ ns
+abbrev pub insert_load : Trace → ℕ → Load → List Note → List Note
+insert_load opened p h [] = load_note p h ∷ []
+insert_load opened p h (n ∷ ns) =
+    if nat_lt h.at (length (trace_of opened (n ∷ ns))) then n ∷ insert_load opened p h ns else load_note p h ∷ n ∷ ns
 
 -- all loads of a pass, the newest first
 abbrev pub splice : Trace → ℕ → List Load → List Note → List Note
 splice opened p [] ns = ns
-splice opened p (h ∷ hs) ns = insert opened p h (splice opened p hs ns)
+splice opened p (h ∷ hs) ns = insert_load opened p h (splice opened p hs ns)
 
 -- no step of p stands where the trace is longer than n
 abbrev pub Quiet : Trace → ℕ → ℕ → List Note → Type 0
@@ -106,19 +106,19 @@ AllShown z P [] = Unit {0}
 AllShown z P (h ∷ hs) = Shown z P h × AllShown z P hs
 
 -- The place of a pass's call is a function of its own steps alone.
-abbrev pub shape_of : Sizes → Shape
-shape_of z = record { slots = z.slots; buckets = z.buckets; passes = z.passes }
+abbrev pub shape_of_sizes : Sizes → Shape
+shape_of_sizes z = record { slots = z.slots; buckets = z.buckets; passes = z.passes }
 
 -- a call that has its reply has no place any more
-abbrev pub goes_on : Option Reply → Command → Progress → Option (Command × Progress)
-goes_on (Some reply) c at = None
-goes_on None c at = Some (c, at)
+abbrev pub unless_replied : Option Reply → Command → Progress → Option (Command × Progress)
+unless_replied (Some reply) c at = None
+unless_replied None c at = Some (c, at)
 
 -- the place after one more step
 abbrev pub placed : Shape → What → Option (Command × Progress) → Option (Command × Progress)
 placed shape (Called c format) at = Some (c, begun format c)
 placed shape (Played e o) None = None
-placed shape (Played e o) (Some call) = goes_on (reply_at call.1) call.0 (progress_after shape call.0 call.1 o)
+placed shape (Played e o) (Some call) = unless_replied (reply_at call.1) call.0 (progress_after shape call.0 call.1 o)
 placed shape (Found q v) at = at
 
 -- the place after the steps, where a call is open

@@ -11,7 +11,7 @@ use Rattle.lz_board.specs.declared.view.What.{What}
 use Rattle.lz_board.specs.declared.view.What.TheVariants.{Called, Played, Found}
 use Rattle.lz_board.specs.declared.view.Note.{Note}
 use Rattle.lz_board.specs.declared.view.Part.{Part}
-use Rattle.lz_board.specs.Notes.{listed, trace_of, own, IsShared, pin_after, pin_after_what}
+use Rattle.lz_board.specs.Notes.{as_list, trace_of, own, IsShared, pin_after, pin_after_what}
 use Rattle.lz_board.specs.Kept.{is_calling, shows}
 use Rattle.lz_machine.specs.Yards.{IsInside}
 
@@ -42,8 +42,8 @@ MayPrepare z opened ns _ = Unit {0}
 -- Where the word w has the value `old` it becomes `new`, and that is just what is published.
 pub record Writes (z : Sizes) (P : Trace) (w : Word) (old «new» : ℕ) (x : Option Publishing) : Type 0 where
   pub shared : IsShared z w
-  pub word : (if word_after z.buckets P w == old then «new» else word_after z.buckets P w) ≡ word_after z.buckets (listed x ++ P) w
-  pub others : (v : Word) → IsShared z v → v ≢ w → word_after z.buckets (listed x ++ P) v ≡ word_after z.buckets P v
+  pub word : (if word_after z.buckets P w == old then «new» else word_after z.buckets P w) ≡ word_after z.buckets (as_list x ++ P) w
+  pub others : (v : Word) → IsShared z v → v ≢ w → word_after z.buckets (as_list x ++ P) v ≡ word_after z.buckets P v
 
 -- a step of a pass, and no pin word that was found
 abbrev pub IsStep : What → Type 0
@@ -60,9 +60,9 @@ pub record MayNote (z : Sizes) (opened : Trace) (ns : List Note) (h : Part) (n :
   -- a pass that is inside without a call makes none
   pub inside : IsInside h.pin → is_calling z h.steps ≡ true
   -- the trace stays lawful
-  pub lawful : Lawful z.buckets z.slots (listed n.published ++ trace_of opened ns)
+  pub lawful : Lawful z.buckets z.slots (as_list n.published ++ trace_of opened ns)
   -- what is published is made for no other pass
-  pub made : (q : ℕ) → q ≢ h.number → own q (listed n.published) ≡ []
+  pub made : (q : ℕ) → q ≢ h.number → own q (as_list n.published) ≡ []
   pub prepares : MayPrepare z opened ns n.published
 
 -- the step leaves the pass's pin word as it is

@@ -10,7 +10,7 @@ use Rattle.lz_list.specs.declared.walk.Met.TheVariants.{Absent, Unmarked, Marked
 use Rattle.lz_list.specs.Words.{link_to, place_number}
 use Rattle.lz_list.specs.Walks.{Hopped, More, End, wants, hopped}
 use Rattle.lz_list.specs.Hops.{LeadsOn}
-use Rattle.lz_list.specs.Traces.{Trace, bucket_of, key_word, rank, flags_after}
+use Rattle.lz_list.specs.Traces.{Trace, bucket_of, key_word, rank_at, flags_after}
 use Rattle.lz_list.specs.Pinned.{Stood}
 use Rattle.lz_list.specs.Laws.{IsHigh}
 use Rattle.lz_machine.specs.Stands.{WasBetween}
@@ -51,7 +51,7 @@ Walked z k P0 P (End pred curr met) = Ended z.buckets k P0 P pred curr met
 
 -- how far the walk is from its key, at most: keys rise along it
 abbrev pub keys_left : ℕ → Trace → Place → ℕ
-keys_left k P pred = suc k - rank (λ t. key_word t P) (place_number pred)
+keys_left k P pred = suc k - rank_at (λ t. key_word t P) (place_number pred)
 
 -- and how many loads it has still to make, at most
 abbrev pub hops_left : ℕ → Trace → Look → ℕ
@@ -79,8 +79,8 @@ pub record IsHop (z : Sizes) (k : ℕ) (h : Part) (P seen : Trace) (look : Look)
   pub nearer : IsNearer k seen (hops_left k P look) (hopped z.buckets k look value)
 
 -- A walk has met this at its end.
-abbrev pub HasMet : Sizes → ℕ → Part → Trace → Met → Type 0
-HasMet z k h seen met = (pred : Place) × (curr : Option ℕ) × Ended z.buckets k h.begun seen pred curr met
+abbrev pub MeetsAtEnd : Sizes → ℕ → Part → Trace → Met → Type 0
+MeetsAtEnd z k h seen met = (pred : Place) × (curr : Option ℕ) × Ended z.buckets k h.begun seen pred curr met
 
 -- the answer, or the slot in which the change isn't sure
 abbrev pub sure_or : Need → Glance → ℕ → Glance

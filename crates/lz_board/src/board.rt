@@ -29,14 +29,14 @@ pub struct Pen {
 impl Board {
     ghost use Rattle.std.specs.Prelude.{◌≡◌, ◌+◌, ◌<◌, ◌≤◌, ◌^◌, [], IfOk, IfSome, All, length, map};
     ghost use Rattle.lz_board.specs.Addresses.{words_count};
-    ghost use Rattle.lz_board.specs.Opened.{sizes_in, opened_by, IsOpened};
+    ghost use Rattle.lz_board.specs.Opened.{sizes_in, opened_by, AreOpened};
     ghost use Rattle.lz_board.specs.Plays.{fresh, parts_from};
     ghost use Rattle.lz_board.specs.Seats.{id_of, part, IsOf, IsNew, notes, IsPenOf, HasParts};
 
     /// The board of these words, its pen, and a pass for each pin word. `None` only for want of memory.
     pub fn new(alloc: Global, words: &Words) -> Option<(Board, Pen, Vec<Pass>)>
         requires room { words_count (sizes_in words.now) < 2 ^ 32 }
-        requires opened { IsOpened words.now }
+        requires opened { AreOpened words.now }
         ensures board { IfSome result (λ r. ((id_of r.0).sizes ≡ sizes_in words.now) × ((id_of r.0).opened ≡ opened_by words.now)) }
         ensures pen { IfSome result (λ r. IsPenOf (id_of r.0) r.1 × (notes r.1 ≡ [])) }
         ensures passes { IfSome result (λ r. (length r.2.items ≡ length words.now.pins) × All (λ p. IsNew (id_of r.0) p) r.2.items × (map (λ p. part p) r.2.items ≡ parts_from (id_of r.0).sizes (id_of r.0).opened (length words.now.pins) 1)) }

@@ -1,6 +1,6 @@
 -- Where a device fails that may be tripped.
 use Rattle.std.specs.Prelude.{◌≡◌, ◌↔◌, ℕ, Bool, true, false, IsTrue, IsSomeAnd, List, [], ◌∷◌}
-use Rattle.lz_vault.specs.Vaults.{IsMade}
+use Rattle.lz_vault.specs.Vaults.{IsDeviceCalled}
 use Rattle.lz_vault.specs.Opens.{open_fault_number}
 use Rattle.lz_vault.specs.declared.opening.OpenFault.TheVariants.{Device}
 use Rattle.lz_machine.specs.Table.{line_call}
@@ -8,7 +8,7 @@ use Rattle.lz_machine.specs.Runs.{State, Up, Down, Transition, Calls, Turn, Fail
 
 -- an actor's next event calls the device
 abbrev pub CallsDevice : State → ℕ → Type 0
-CallsDevice (Up service disk) a = IsSomeAnd (caller_at service.callers a) (λ caller. IsMade (line_call service.yard a (next_event service.yard caller)))
+CallsDevice (Up service disk) a = IsSomeAnd (caller_at service.callers a) (λ caller. IsDeviceCalled (line_call service.yard a (next_event service.yard caller)))
 CallsDevice (Down shape disk) a = ⊥
 
 -- In a step the device fails where it is called and was tripped, and nowhere else.

@@ -27,13 +27,13 @@ use Rattle.lz_machine.specs.Orders.{shape_with}
 use Rattle.lz_machine.specs.Calls.{event_at, loaded, progress_after}
 use Rattle.lz_machine.specs.Ready.{IsEventOf}
 use Rattle.lz_yard.specs.Steps.{Played}
-use Rattle.lz_machine.specs.Runs.{Start, IsStart, start_keys, first_point, Service, Caller, State, Up, Down, Transition, Turn, Fails, MayStep, state_after, calls_after, marks_of, caller_at, next_event, reply_at, moved_on, MayPlay, IsActor, MayLeave, Point, run}
+use Rattle.lz_machine.specs.Runs.{Start, IsStart, start_keys, first_point, Service, Caller, State, Up, Down, Transition, Turn, Fails, MayStep, state_after, calls_made_after, marks_of, caller_at, next_event, reply_at, moved_on, MayPlay, IsActor, MayLeave, Point, run}
 use Rattle.std.specs.List.{All}
 use Rattle.lz_list.specs.declared.word.Word.TheVariants.{Key}
 use Rattle.lz_list.specs.Words.{Words, get}
 use Rattle.lz_list.specs.Lists.{IsMember}
 use Rattle.lz_slot.specs.Limits.{largest_key}
-use Rattle.lz_machine.specs.Points.{IsQuiet, IsReached}
+use Rattle.lz_machine.specs.Points.{IsBetweenLooks, IsReached}
 use Rattle.lz_judge.specs.MarkLines.{AreMarksOfRun, IsCallNumber}
 use Rattle.lz_core.specs.Plays.{IsPlayOf, PlaysTo}
 use Rattle.lz_core.specs.Trips.{CallsDevice, GoAsTripped, IsFailure, tripped_by}
@@ -96,7 +96,7 @@ pub record HasRun (its_shape : Shape) (w : State) (calls : ℕ) : Type 0 where
   pub point : Point
   pub reached : IsReached start point
   pub at : IsAt w calls point
-  pub quiet : IsQuiet w
+  pub quiet : IsBetweenLooks w
 
 -- an open call is one on a yard of this shape, with a number
 abbrev pub IsCallOn : Shape → Option OpenCall → Type 0
@@ -163,7 +163,7 @@ pub record Goes (old : WorldOver) (play : PlayStep) (step : Transition) (marks :
   pub is : IsPlayOf old.state play step
   pub may : MayStep old.state step
   pub to : state_after (suc old.calls) old.state step ≡ new.state
-  pub counts : calls_after old.calls step ≡ new.calls
+  pub counts : calls_made_after old.calls step ≡ new.calls
   pub told : marks_of (suc old.calls) old.state step ≡ reverse marks
 
 -- A turn was taken: it was done, with no device call where the device was tripped, or its device call failed.

@@ -1,7 +1,7 @@
 //! The judge of a history.
 ghost use Rattle.std.specs.Prelude.{◌≡◌, ◌≢◌, ℕ, Bool, IfOk, IfErr, IfSome, OnOk, None, Some, reverse, []};
 ghost use Rattle.lz_slot.specs.Sets.{Keys, members};
-ghost use Rattle.lz_slot.specs.Histories.{Chain, lives};
+ghost use Rattle.lz_slot.specs.Histories.{AreChain, lives};
 ghost use Rattle.lz_judge.specs.Records.{ArePlaces, IsLawful, IsPoint};
 ghost use Rattle.lz_judge.specs.Flaws.{IsFirstKind, IsFlaw, OrderedChain};
 ghost use Rattle.lz_judge.specs.Passes.{HasPlaces, IsCensus, Ordered};
@@ -23,7 +23,7 @@ use std::collections::BTreeMap;
 /// Misordered, WrongReply, WrongSet. Of one kind the least is told.
 pub fn judge(alloc: Global, history: &History) -> Result<Result<(), Flaw>, AllocError>
     ensures ordered { IfOk result (λ verdict. OnOk verdict ((T : Keys) × OrderedChain (IsPoint history.now.points) (lives (members []) history.now.marks) T)) }
-    ensures chain { IfOk result (λ verdict. OnOk verdict (Chain (members []) history.now.marks)) }
+    ensures chain { IfOk result (λ verdict. OnOk verdict (AreChain (members []) history.now.marks)) }
     ensures flaw { IfOk result (λ verdict. IfErr verdict (IsFlaw history.now)) }
     ensures first { IfOk result (λ verdict. IfErr verdict (IsFirstKind history.now)) }
     ensures flawless { IfOk result (λ verdict. OnOk verdict ((flaw : AFlaw) → ¬ IsFlaw history.now flaw)) }

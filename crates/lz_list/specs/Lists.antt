@@ -7,7 +7,7 @@ use Rattle.lz_list.specs.declared.word.Word.{Word}
 use Rattle.lz_list.specs.declared.word.Word.TheVariants.{Head, Link, Key, Pin, Halt}
 use Rattle.lz_list.specs.Words.{Words, get, word_of, place_number, next_of, flags_of, next_at, is_marked_at}
 use Rattle.lz_list.specs.Locks.{NodeLocks}
-use Rattle.lz_list.specs.Traces.{Chain, bucket_of, on, rank, Shows, IsWithin}
+use Rattle.lz_list.specs.Traces.{Chain, bucket_of, on, rank_at, WordsShow, KeysBelong}
 
 -- The words, and who has each node lock.
 pub record Listed : Type 0 where
@@ -69,8 +69,8 @@ AreSlots slots (n ∷ c) = (n.1 < slots) × AreSlots slots c
 
 -- The words of bucket b show this chain: its keys ascend strictly and belong in the bucket.
 pub record ShowsChain (w : Words) (b : ℕ) (c : Chain) : Type 0 where
-  pub shows : Shows (next_in w b) (λ s. get w (Key s)) 0 c
-  pub within : IsWithin (length w.heads) b c
+  pub shows : WordsShow (next_in w b) (λ s. get w (Key s)) 0 c
+  pub within : KeysBelong (length w.heads) b c
   pub in_range : AreSlots (length w.links) c
 
 -- each bucket shows such a chain
@@ -110,20 +110,20 @@ IsOfBucket b (Bucket c) = c ≡ b
 IsOfBucket b (Node s) = Unit {0}
 
 -- The place stands on the chain of the bucket in which key k belongs, and its own key, if it has one, is below k.
-pub record IsBefore (w : Words) (pred : Place) (k : ℕ) : Type 0 where
+pub record IsPredecessor (w : Words) (pred : Place) (k : ℕ) : Type 0 where
   pub bucket : IsOfBucket (home w k) pred
   pub chain : Chain
   pub shown : ShowsChain w (home w k) chain
   pub stands : on 0 chain (place_number pred) ≡ true
-  pub below : rank (λ s. get w (Key s)) (place_number pred) ≤ k
+  pub below : rank_at (λ s. get w (Key s)) (place_number pred) ≤ k
 
 -- the place leads to the end, or to a node whose key isn't below k
 abbrev pub IsLast : Words → Place → ℕ → Type 0
-IsLast w place k = (next_at w place ≡ 0) ⊎ (k < rank (λ s. get w (Key s)) (next_at w place))
+IsLast w place k = (next_at w place ≡ 0) ⊎ (k < rank_at (λ s. get w (Key s)) (next_at w place))
 
 -- the first place is of a smaller key than the second; a head is below all
 abbrev pub IsBelow : Words → Place → Place → Type 0
-IsBelow w first second = rank (λ s. get w (Key s)) (place_number first) < rank (λ s. get w (Key s)) (place_number second)
+IsBelow w first second = rank_at (λ s. get w (Key s)) (place_number first) < rank_at (λ s. get w (Key s)) (place_number second)
 
 -- Slot s may stand behind a place on the chain of bucket b: the place leads to it, and its key is above the place's and
 -- belongs in b.
@@ -137,13 +137,13 @@ pub record Follows (w : Words) (b : ℕ) (place : Place) (s : ℕ) : Type 0 wher
 -- place's does. So the slot itself is on no chain.
 pub record MayLinkAt (w : Words) (pred : Place) (s : ℕ) : Type 0 where
   pub slot : IsWord w (Link s)
-  pub before : IsBefore w pred (get w (Key s))
-  pub above : (next_at w pred ≡ 0) ⊎ (suc (get w (Key s)) < rank (λ t. get w (Key t)) (next_at w pred))
+  pub before : IsPredecessor w pred (get w (Key s))
+  pub above : (next_at w pred ≡ 0) ⊎ (suc (get w (Key s)) < rank_at (λ t. get w (Key t)) (next_at w pred))
   pub next : next_at w (Node s) ≡ next_at w pred
 
 -- A node may be unlinked from the place that leads to it.
 pub record MayUnlinkAt (w : Words) (pred : Place) (s : ℕ) : Type 0 where
-  pub before : IsBefore w pred (get w (Key s))
+  pub before : IsPredecessor w pred (get w (Key s))
   pub next : next_at w pred ≡ suc s
 
 -- the word keeps its next link and its mark

@@ -197,13 +197,13 @@ pub record SettledNo (R Q : Trace) (k : ℕ) : Type 0 where
   pub settled : (linking k R ≡ 0) ⊎ (is_removed (linking k R) Q ≡ true)
 
 -- words by place show the chain that begins at place x
-abbrev pub rank : (ℕ → ℕ) → ℕ → ℕ
-rank keys zero = 0
-rank keys (suc t) = suc (keys t)
+abbrev pub rank_at : (ℕ → ℕ) → ℕ → ℕ
+rank_at keys zero = 0
+rank_at keys (suc t) = suc (keys t)
 
-abbrev pub Shows : (ℕ → ℕ) → (ℕ → ℕ) → ℕ → Chain → Type 0
-Shows next keys x [] = next x ≡ 0
-Shows next keys x (n ∷ c) = (next x ≡ suc n.1) × (keys n.1 ≡ n.0) × (rank keys x ≤ n.0) × Shows next keys (suc n.1) c
+abbrev pub WordsShow : (ℕ → ℕ) → (ℕ → ℕ) → ℕ → Chain → Type 0
+WordsShow next keys x [] = next x ≡ 0
+WordsShow next keys x (n ∷ c) = (next x ≡ suc n.1) × (keys n.1 ≡ n.0) × (rank_at keys x ≤ n.0) × WordsShow next keys (suc n.1) c
 
 -- link n stands behind place x on the chain that begins at place w
 abbrev pub Adjacent : ℕ → Chain → ℕ → ℕ → Type 0
@@ -211,14 +211,14 @@ Adjacent w [] x n = (x ≡ w) × (n ≡ 0)
 Adjacent w (m ∷ c) x n = ((x ≡ w) × (n ≡ suc m.1)) ⊎ Adjacent (suc m.1) c x n
 
 -- each key of the chain belongs in bucket b
-abbrev pub IsWithin : ℕ → ℕ → Chain → Type 0
-IsWithin buckets b [] = Unit {0}
-IsWithin buckets b (n ∷ c) = (bucket_of buckets n.0 ≡ b) × IsWithin buckets b c
+abbrev pub KeysBelong : ℕ → ℕ → Chain → Type 0
+KeysBelong buckets b [] = Unit {0}
+KeysBelong buckets b (n ∷ c) = (bucket_of buckets n.0 ≡ b) × KeysBelong buckets b c
 
 -- the words of bucket b show its chain
 pub record IsShown (buckets b : ℕ) (P : Trace) : Type 0 where
-  pub shows : Shows (next_link buckets b P) (λ t. key_word t P) 0 (chain buckets b P)
-  pub within : IsWithin buckets b (chain buckets b P)
+  pub shows : WordsShow (next_link buckets b P) (λ t. key_word t P) 0 (chain buckets b P)
+  pub within : KeysBelong buckets b (chain buckets b P)
 
 -- slot s is the node of key k: its bits tell of k
 pub record IsNode (k s : ℕ) (P : Trace) : Type 0 where
@@ -256,8 +256,8 @@ table zero f = []
 table (suc n) f = table n f ++ f n ∷ []
 
 -- the words after a trace, where every pass is outside and was never inside
-abbrev pub words_after : ℕ → ℕ → ℕ → Trace → Words
-words_after slots buckets passes P =
+abbrev pub words_of_trace : ℕ → ℕ → ℕ → Trace → Words
+words_of_trace slots buckets passes P =
     record {
       heads = table buckets (λ b. word_after buckets P (Head b));
       links = table slots (λ s. word_after buckets P (Link s));

@@ -31,7 +31,7 @@ impl Model for List {
 impl List {
     ghost use Rattle.lz_list.specs.Words.{change_flags, get, is_marked_at, link_to, marked_flags, next_at, redirect, set};
     ghost use Rattle.lz_list.specs.Locks.{check, is_marked_node, is_pair_free, pair_owned};
-    ghost use Rattle.lz_list.specs.Lists.{AllStay, IsBefore, IsBelow, IsCurr, IsLast, IsList, IsMember, IsNodeOf, IsPlace, IsSorted, IsWord, KeepsList, MayLinkAt, MayUnlinkAt, OthersStay, free_locks, home};
+    ghost use Rattle.lz_list.specs.Lists.{AllStay, IsPredecessor, IsBelow, IsCurr, IsLast, IsList, IsMember, IsNodeOf, IsPlace, IsSorted, IsWord, KeepsList, MayLinkAt, MayUnlinkAt, OthersStay, free_locks, home};
 
     /// The list of these words, with all locks free. Where memory is refused the words are dropped.
     pub fn new(alloc: Global, words: Words) -> Result<List, AllocError>
@@ -169,7 +169,7 @@ impl List {
 
     // The last place before a key.
     fn place_before(&self, key: u64) -> Place
-        ensures before { IsBefore self.now.words result key }
+        ensures before { IsPredecessor self.now.words result key }
         ensures last { IsLast self.now.words result key }
     {
         let mut place = Place::Bucket(self.words.home(key));
@@ -181,8 +181,8 @@ impl List {
 
     // The node behind a place that is before a key, where it is before the key too.
     fn next_below(&self, place: &Place, key: u64) -> Option<Slot>
-        requires { IsBefore self.now.words place.now key }
-        ensures some { IfSome result (λ slot. IsBefore self.now.words (Place.Node slot) key × IsBelow self.now.words place.now (Place.Node slot)) }
+        requires { IsPredecessor self.now.words place.now key }
+        ensures some { IfSome result (λ slot. IsPredecessor self.now.words (Place.Node slot) key × IsBelow self.now.words place.now (Place.Node slot)) }
         ensures none { IfNone result (IsLast self.now.words place.now key) }
     {
         let words = &self.words;

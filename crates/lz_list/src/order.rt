@@ -9,7 +9,7 @@ use lz_slot::Slot;
 
 impl Words {
     ghost use Rattle.lz_list.specs.Words.{get, next_at, place_number};
-    ghost use Rattle.lz_list.specs.Traces.{Chain, rank};
+    ghost use Rattle.lz_list.specs.Traces.{Chain, rank_at};
     ghost use Rattle.lz_list.specs.Lists.{Follows, IsPlace, IsSorted, IsTable, ShowsChain, home};
 
     /// Whether these are the words of a list: in each bucket the keys ascend strictly along the links, and belong there. It
@@ -70,7 +70,7 @@ impl Words {
     fn is_above(&self, key: u64, place: &Place) -> bool
         requires table { IsTable self.now }
         requires place { IsPlace self.now place.now }
-        ensures { IsTrue result ↔ (rank (λ s. get self.now (Word.Key s)) (place_number place.now) < suc key) }
+        ensures { IsTrue result ↔ (rank_at (λ s. get self.now (Word.Key s)) (place_number place.now) < suc key) }
     {
         match place {
             Place::Bucket(_) => true,

@@ -17,7 +17,7 @@ use Rattle.lz_set.specs.declared.fault.Fault.{Fault}
 use Rattle.lz_set.specs.Answers.{reply_of}
 use Rattle.lz_set.specs.Names.{MayCall}
 use Rattle.lz_serve.specs.Halts.{IsCalmAfter, SawHalt}
-use Rattle.lz_serve.specs.Replies.{IsAnswered, SeatAnswers, client_reply, command_of, says_halted}
+use Rattle.lz_serve.specs.Replies.{IsCallAnswered, SeatAnswers, client_reply, command_of, says_halted}
 use Rattle.lz_serve.proofs.Seats.{saw_now, stays_calm}
 use Rattle.lz_loop.specs.Askings.{Asked, IsAsking}
 
@@ -46,14 +46,14 @@ module _ (b : BoardId) (F : Format) (given : List Part) where
     pub call_answered : ((c : Command) (format : Format) (before : Part) → before.sizes ≡ b.sizes → Counts b c format before a.call (part a.pass) → Answers format c (reply_of answer) before (part new))
         → (b.sizes.passes ≡ 1 → (c : Command) (format : Format) (before : Part) → before.sizes ≡ b.sizes → Counts b c format before a.call (part a.pass)
         → IsPlainAnswer format b.sizes.slots c (reply_of answer) (keys_in before.known) (keys_in (part new).known))
-        → IsAnswered b F is.c answer is.middle new
+        → IsCallAnswered b F is.c answer is.middle new
     call_answered answers plain = record {
       sized = is.sized;
       call = answers is.c F (part is.middle) is.sized is.counts;
       plain = λ one. plain one is.c F (part is.middle) is.sized is.counts;
     }
 
-    module _ (last : IsAnswered b F is.c answer is.middle new) (reply : Reply) (told : reply ≡ client_reply answer) where
+    module _ (last : IsCallAnswered b F is.c answer is.middle new) (reply : Reply) (told : reply ≡ client_reply answer) where
       -- the reply that tells it is a seat's, where it is told
       pub seat_answers : (a.again ≡ true) ⊎ ((a.again ≡ false) × (reply ≡ Full → b.sizes.passes ≡ 1)) → SeatAnswers b F a.before a.request reply new
       seat_answers final = record {
@@ -79,7 +79,7 @@ module _ (b : BoardId) (F : Format) (given : List Part) where
           several = full.1;
           answer = answer;
           full = sym told ∙ full.0;
-          answered = subst (λ (p : Pass). IsAnswered b F is.c answer p new) (is.first once) last;
+          answered = subst (λ (p : Pass). IsCallAnswered b F is.c answer p new) (is.first once) last;
         };
         sized = may_call.0.2.sized;
         counts = let asks = is.asked in let same : c ≡ is.c = cc in subst (λ (d : Command). Counts b d F (part new) call (part pass)) same counts;

@@ -9,7 +9,7 @@ use Rattle.lz_board.specs.declared.view.Part.{Part}
 use Rattle.lz_board.specs.Seats.{BoardId, IsOf, part}
 use Rattle.lz_tie.specs.Counting.{Counts}
 use Rattle.lz_serve.specs.Halts.{IsCalmAfter}
-use Rattle.lz_serve.specs.Replies.{FoundFull, command_of}
+use Rattle.lz_serve.specs.Replies.{IsToldFull, command_of}
 
 -- The request, the pass as it was before it and as it is now, the call under way, and whether it is the second one, after one that
 -- was answered full.
@@ -29,7 +29,7 @@ pub record IsAsking (b : BoardId) (F : Format) (given : List Part) (a : Asked) :
   -- the pass as it was when the call was made
   pub middle : Pass
   pub first : a.again ≡ false → middle ≡ a.before
-  pub second : a.again ≡ true → FoundFull b F c a.before middle
+  pub second : a.again ≡ true → IsToldFull b F c a.before middle
   pub sized : (part middle).sizes ≡ b.sizes
   pub counts : Counts b c F (part middle) a.call (part a.pass)
   pub calm : IsCalmAfter given a.before

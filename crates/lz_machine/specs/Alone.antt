@@ -69,15 +69,15 @@ IsFull N (Add k) S = (S k ≡ false) × HasMembers S N
 IsFull N _ S = ⊥
 
 -- a key is added only to a set of fewer than N members
-abbrev pub HasRoom : ℕ → Command → Bool → Keys → Type 0
-HasRoom N (Add k) true S = (n : ℕ) × HasMembers S n × (n < N)
-HasRoom N _ _ S = Unit {0}
+abbrev pub HasRoomFor : ℕ → Command → Bool → Keys → Type 0
+HasRoomFor N (Add k) true S = (n : ℕ) × HasMembers S n × (n < N)
+HasRoomFor N _ _ S = Unit {0}
 
 -- Where the set before a call was T: an adding is answered yes only with room in it, and is full only without. A call is told
 -- of an old file exactly where it adds a key that the file's format can't hold, and comes to no answer then.
 abbrev pub IsSized : Format → ℕ → Keys → History → Type 0
 IsSized F N S [] = Unit {0}
-IsSized F N S (Answer i answer ∷ Call j a c ∷ M) = (is_old F c ≡ false) × ((T : Keys) → IsPlain S M T → HasRoom N c answer T) × IsSized F N S M
+IsSized F N S (Answer i answer ∷ Call j a c ∷ M) = (is_old F c ≡ false) × ((T : Keys) → IsPlain S M T → HasRoomFor N c answer T) × IsSized F N S M
 IsSized F N S (Refused i Full ∷ Call j a c ∷ M) = (is_old F c ≡ false) × ((T : Keys) → IsPlain S M T → IsFull N c T) × IsSized F N S M
 IsSized F N S (Refused i OldFile ∷ Call j a c ∷ M) = (is_old F c ≡ true) × IsSized F N S M
 IsSized F N S (m ∷ M) = IsSized F N S M

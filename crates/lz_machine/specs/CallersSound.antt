@@ -144,7 +144,7 @@ MayRest buckets (Remove k) No s P0 P = HasMet buckets k s true P0 P
 MayRest buckets c _ s P0 P = ⊥
 
 -- its locks are let go, and nothing is changed yet
-pub record IsFresh (v : View) (changed : Option ℕ) : Type 0 where
+pub record HasLetGo (v : View) (changed : Option ℕ) : Type 0 where
   pub hold : v.actor.hold ≡ Nothing
   pub none : changed ≡ None
 
@@ -155,8 +155,8 @@ IsCut Device = Unit {0}
 IsCut _ = ⊥
 
 -- it has nothing in hand, or the service is halted and it keeps what it had
-abbrev pub IsIdle : Actor → Trace → Type 0
-IsIdle actor P = ((actor.hold ≡ Nothing) × (actor.slot ≡ None)) ⊎ (halt_word P ≡ 1)
+abbrev pub IsEmptyHanded : Actor → Trace → Type 0
+IsEmptyHanded actor P = ((actor.hold ≡ Nothing) × (actor.slot ≡ None)) ⊎ (halt_word P ≡ 1)
 
 abbrev pub IsKeyed : Stage → Type 0
 IsKeyed stage = (stage ≡ KeyLoose) ⊎ (stage ≡ Keyed)
@@ -172,9 +172,9 @@ MayAim c (Some s) = IsAdder c
 
 -- Before its first event: the slot is reserved. Before its sync: the key is written.
 abbrev pub ReliesWriting : View → Command → ℕ → ℕ → Trace → Option ℕ → Type 0
-ReliesWriting v c s zero P changed = IsFresh v changed × (v.actor.slot ≡ Some s) × IsAdder c
+ReliesWriting v c s zero P changed = HasLetGo v changed × (v.actor.slot ≡ Some s) × IsAdder c
 ReliesWriting v c s (suc zero) P changed =
-    IsFresh v changed × (v.actor.slot ≡ Some s) × ((cell_in v.cells s).key ≡ key_of c) × (key_word s P ≡ key_of c) × IsKeyed (stage_in v.cells s) × IsAdder c
+    HasLetGo v changed × (v.actor.slot ≡ Some s) × ((cell_in v.cells s).key ≡ key_of c) × (key_word s P ≡ key_of c) × IsKeyed (stage_in v.cells s) × IsAdder c
 ReliesWriting v c s _ P changed = ⊥
 
 -- Before opening the gate, before linking, before the release, before the sync and the settling.
@@ -201,9 +201,9 @@ ReliesRemoving v k s _ P changed = ⊥
 
 -- before the event of a sequence with this index
 abbrev pub ReliesOn : View → Command → Sequence → ℕ → Trace → Trace → Option ℕ → Type 0
-ReliesOn v c Pinning zero P0 P changed = IsIdle v.actor P × (changed ≡ None) × (is_old v.format c ≡ false)
-ReliesOn v c (Resting s reply) zero P0 P changed = IsFresh v changed × MayRest v.buckets c reply s P0 P
-ReliesOn v c (Resting s reply) (suc zero) P0 P changed = IsFresh v changed × MayRest v.buckets c reply s P0 P
+ReliesOn v c Pinning zero P0 P changed = IsEmptyHanded v.actor P × (changed ≡ None) × (is_old v.format c ≡ false)
+ReliesOn v c (Resting s reply) zero P0 P changed = HasLetGo v changed × MayRest v.buckets c reply s P0 P
+ReliesOn v c (Resting s reply) (suc zero) P0 P changed = HasLetGo v changed × MayRest v.buckets c reply s P0 P
 ReliesOn v c (Writing s) i P0 P changed = ReliesWriting v c s i P changed
 ReliesOn v (Add k) (Adding s) i P0 P changed = ReliesAdding v k s i P0 P changed
 ReliesOn v (Remove k) (Removing s) i P0 P changed = (v.actor.curr ≡ Some s) × (v.actor.slot ≡ None) × ReliesRemoving v k s i P changed
@@ -213,19 +213,19 @@ ReliesOn v c _ _ P0 P changed = ⊥
 
 abbrev pub Relies : View → Command → Progress → Trace → Trace → Option ℕ → Type 0
 Relies v c (Playing sequence i) P0 P changed = ReliesOn v c sequence i P0 P changed
-Relies v c LoadsHalt P0 P changed = IsIdle v.actor P × (changed ≡ None)
+Relies v c LoadsHalt P0 P changed = IsEmptyHanded v.actor P × (changed ≡ None)
 Relies v c (Walking aim look) P0 P changed =
-    IsFresh v changed × IsAimed v (key_of c) P aim × IsLooking v.buckets (key_of c) P0 P look × MayAim c aim
-Relies v c (Reserving again) P0 P changed = IsFresh v changed × (v.actor.slot ≡ None) × IsAdder c × WasAbsent (key_of c) P0 P
+    HasLetGo v changed × IsAimed v (key_of c) P aim × IsLooking v.buckets (key_of c) P0 P look × MayAim c aim
+Relies v c (Reserving again) P0 P changed = HasLetGo v changed × (v.actor.slot ≡ None) × IsAdder c × WasAbsent (key_of c) P0 P
 Relies v c (SeeingPins p) P0 P changed =
-    IsFresh v changed × (v.actor.slot ≡ None) × (1 ≤ p) × (p ≤ v.passes) × IsAdder c × WasAbsent (key_of c) P0 P
+    HasLetGo v changed × (v.actor.slot ≡ None) × (1 ≤ p) × (p ≤ v.passes) × IsAdder c × WasAbsent (key_of c) P0 P
 Relies v c (Claiming aim pred curr) P0 P changed =
-    IsFresh v changed × IsAimed v (key_of c) P aim × HasEnded c aim v.buckets P0 P pred curr
+    HasLetGo v changed × IsAimed v (key_of c) P aim × HasEnded c aim v.buckets P0 P pred curr
 Relies v c (Checking aim curr) P0 P changed =
     (changed ≡ None) × (v.actor.hold ≡ Locks) × (v.actor.curr ≡ curr) × IsAimed v (key_of c) P aim
     × HasEnded c aim v.buckets P0 P v.actor.pred curr
-Relies v c (Answering SaysWorn) P0 P changed = IsIdle v.actor P × (changed ≡ None) × (is_old v.format c ≡ false)
-Relies v c (Answering SaysOldFile) P0 P changed = IsIdle v.actor P × (changed ≡ None) × (is_old v.format c ≡ true) × (v.actor.refused ≡ true)
+Relies v c (Answering SaysWorn) P0 P changed = IsEmptyHanded v.actor P × (changed ≡ None) × (is_old v.format c ≡ false)
+Relies v c (Answering SaysOldFile) P0 P changed = IsEmptyHanded v.actor P × (changed ≡ None) × (is_old v.format c ≡ true) × (v.actor.refused ≡ true)
 Relies v c (Answering reply) P0 P changed = MayAnswer c reply P0 P changed × ((v.actor.hold ≡ Nothing) ⊎ (halt_word P ≡ 1))
 
 -- a call is outside before its Pin, and where that was worn, or where the file can't hold the key that it adds
@@ -241,7 +241,7 @@ side_of false = 1
 
 -- a call that is inside adds only a key that the file can hold
 abbrev pub IsCaller : View → ℕ → Option Caller → Trace → Trace → Option ℕ → Type 0
-IsCaller v pin None P0 P changed = IsIdle v.actor P × (changed ≡ None)
+IsCaller v pin None P0 P changed = IsEmptyHanded v.actor P × (changed ≡ None)
 IsCaller v pin (Some caller) P0 P changed =
     (pin % 2 ≡ side_of (is_before_pin caller.progress)) × (IsInside pin → is_old v.format caller.command ≡ false)
     × Relies v caller.command caller.progress P0 P changed

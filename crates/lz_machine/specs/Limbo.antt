@@ -10,7 +10,7 @@ abbrev pub IsAway : ℕ → Trace → Trace → ℕ → Type 0
 IsAway buckets P0 P t = (b : ℕ) → Stood buckets b P0 P (suc t) → ⊥
 
 -- the sight of the pass is right
-abbrev pub IsSeen : ℕ → ℕ → Trace → Trace → ℕ → Sight → Type 0
-IsSeen buckets v P0 P t Unseen = Unit {0}
-IsSeen buckets v P0 P t (Inside u) = (u % 2 ≡ 1) × (u ≤ v) × (u < v → v % 2 ≡ 1 → IsAway buckets P0 P t)
-IsSeen buckets v P0 P t Left = v % 2 ≡ 1 → IsAway buckets P0 P t
+abbrev pub IsRightSight : ℕ → ℕ → Trace → Trace → ℕ → Sight → Type 0
+IsRightSight buckets v P0 P t Unseen = Unit {0}
+IsRightSight buckets v P0 P t (Inside u) = (u % 2 ≡ 1) × (u ≤ v) × (u < v → v % 2 ≡ 1 → IsAway buckets P0 P t)
+IsRightSight buckets v P0 P t Left = v % 2 ≡ 1 → IsAway buckets P0 P t

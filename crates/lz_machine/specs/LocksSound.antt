@@ -8,7 +8,7 @@ use Rattle.lz_machine.specs.declared.actor.Actor.{Actor}
 use Rattle.lz_machine.specs.declared.actor.Hold.{Hold}
 use Rattle.lz_machine.specs.declared.actor.Hold.TheVariants.{Nothing, Checked, GateOpened, GateClosed, Marked, Released}
 use Rattle.lz_machine.specs.Yards.{Shape, actor_in}
-use Rattle.lz_machine.specs.Stands.{IsReady, IsRound, InBucket, FacesNode}
+use Rattle.lz_machine.specs.Stands.{IsLinkable, IsRound, InBucket, FacesNode}
 
 -- An actor has the locks of what it claimed from Claim to Release.
 abbrev pub has_locks : Hold → Bool
@@ -31,24 +31,24 @@ pub record IsBeside (buckets k : ℕ) (pred : Place) (curr : Option ℕ) (P : Tr
   pub bucket : InBucket buckets k pred
   pub round : IsRound buckets k (place_number pred) (link_to curr) P
 
-pub record IsBefore (buckets : ℕ) (pred : Place) (t : ℕ) (P : Trace) : Type 0 where
+pub record IsRightBefore (buckets : ℕ) (pred : Place) (t : ℕ) (P : Trace) : Type 0 where
   pub bucket : InBucket buckets (key_word t P) pred
   pub faces : FacesNode buckets (key_word t P) (place_number pred) t P
 
 pub record IsChecked (buckets : ℕ) (actor : Actor) (P : Trace) : Type 0 where
   pub beside : (s : ℕ) → actor.slot ≡ Some s → IsBeside buckets (key_word s P) actor.pred actor.curr P
-  pub before : (t : ℕ) → actor.curr ≡ Some t → IsBefore buckets actor.pred t P × (is_marked t P ≡ false)
+  pub before : (t : ℕ) → actor.curr ≡ Some t → IsRightBefore buckets actor.pred t P × (is_marked t P ≡ false)
 
 pub record HasOpened (buckets : ℕ) (actor : Actor) (P : Trace) : Type 0 where
   pub own : ℕ
   pub slot : actor.slot ≡ Some own
   pub beside : IsBeside buckets (key_word own P) actor.pred actor.curr P
-  pub ready : IsReady buckets (key_word own P) (link_to actor.curr) own P
+  pub ready : IsLinkable buckets (key_word own P) (link_to actor.curr) own P
 
 pub record HasClosed (buckets : ℕ) (mark : Bool) (actor : Actor) (P : Trace) : Type 0 where
   pub node : ℕ
   pub curr : actor.curr ≡ Some node
-  pub before : IsBefore buckets actor.pred node P
+  pub before : IsRightBefore buckets actor.pred node P
   pub marked : is_marked node P ≡ mark
 
 abbrev pub RestsOn : ℕ → Hold → Actor → Trace → Type 0

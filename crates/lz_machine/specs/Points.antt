@@ -12,6 +12,6 @@ pub record IsReached (start : Start) (p : Point) : Type 0 where
   pub point : run (first_point start) steps ≡ p
 
 -- no look is half done: the pin word of an actor without a call is even
-abbrev pub IsQuiet : State → Type 0
-IsQuiet (Up service disk) = (a : ℕ) → IsNone (caller_at service.callers a) → IsTrue (is_outside (pin_of service.yard a))
-IsQuiet (Down shape disk) = Unit {0}
+abbrev pub IsBetweenLooks : State → Type 0
+IsBetweenLooks (Up service disk) = (a : ℕ) → IsNone (caller_at service.callers a) → IsTrue (is_outside (pin_of service.yard a))
+IsBetweenLooks (Down shape disk) = Unit {0}

@@ -243,9 +243,9 @@ pub record Point : Type 0 where
   pub trace : Trace
   pub calls : ℕ
 
-abbrev pub calls_after : ℕ → Transition → ℕ
-calls_after n (Calls a c) = suc n
-calls_after n _ = n
+abbrev pub calls_made_after : ℕ → Transition → ℕ
+calls_made_after n (Calls a c) = suc n
+calls_made_after n _ = n
 
 abbrev pub point_after : Point → Transition → Point
 point_after p step =
@@ -253,7 +253,7 @@ point_after p step =
       state = state_after (suc p.calls) p.state step;
       marks = marks_of (suc p.calls) p.state step ++ p.marks;
       trace = trace_after p.state p.trace step;
-      calls = calls_after p.calls step;
+      calls = calls_made_after p.calls step;
     }
 
 -- where these steps lead; the newest stands first

@@ -22,7 +22,7 @@ use Rattle.lz_machine.specs.Table.{last_pin}
 use Rattle.lz_machine.specs.Runs.{Caller, Service, State, Up, Down, Start, Point, caller_at, shape_of, start_keys}
 use Rattle.lz_machine.specs.Ledgers.{Row, HasRow}
 use Rattle.lz_machine.specs.Kept.{upto}
-use Rattle.lz_machine.specs.Limbo.{IsAway, IsSeen}
+use Rattle.lz_machine.specs.Limbo.{IsAway, IsRightSight}
 use Rattle.lz_machine.specs.Lasts.{Lasts}
 use Rattle.lz_machine.specs.SlotsSound.{SlotsSound}
 use Rattle.lz_machine.specs.LocksSound.{LocksSound}
@@ -52,7 +52,7 @@ pub record DiskSound (shape : Shape) (vault : Vaulted) (disk : Medium) : Type 0 
 pub record ReuseSound (shape : Shape) (pins : List ℕ) (uses : List Use) (actors : List Actor) (P : Trace) (begun : ℕ → Trace) : Type 0 where
   pub worn : (a : ℕ) → pin_in pins a ≤ last_pin
   pub sights : (s : ℕ) (seen : List Sight) → use_of uses s ≡ Limbo seen → length seen ≡ shape.passes
-  pub seen : (a s : ℕ) (seen : List Sight) → use_of uses s ≡ Limbo seen → IsSeen shape.buckets (pin_in pins a) (begun a) P s (of_pass seen a Left)
+  pub seen : (a s : ℕ) (seen : List Sight) → use_of uses s ≡ Limbo seen → IsRightSight shape.buckets (pin_in pins a) (begun a) P s (of_pass seen a Left)
   pub free : (a s : ℕ) → use_of uses s ≡ Free → IsInside (pin_in pins a) → IsAway shape.buckets (begun a) P s
   pub reserved : (a b s : ℕ) → (actor_in actors b).slot ≡ Some s → IsInside (pin_in pins a) → IsAway shape.buckets (begun a) P s
 

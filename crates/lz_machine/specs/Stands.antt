@@ -8,7 +8,7 @@ use Rattle.lz_list.specs.Pinned.{Once, Stood}
 use Rattle.lz_list.specs.Laws.{IsLow, IsHigh}
 
 -- a slot that is ready to be linked before link n
-pub record IsReady (buckets k n s : ℕ) (P : Trace) : Type 0 where
+pub record IsLinkable (buckets k n s : ℕ) (P : Trace) : Type 0 where
   pub loose : IsLoose buckets s P
   pub key : key_word s P ≡ k
   pub link : node_next buckets s P ≡ n

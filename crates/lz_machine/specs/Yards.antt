@@ -13,7 +13,7 @@ use Rattle.lz_allot.specs.Uses.{Use, Free, Taken}
 use Rattle.lz_list.specs.declared.place.Place.TheVariants.{Bucket}
 use Rattle.lz_list.specs.Words.{Words}
 use Rattle.lz_list.specs.Locks.{NodeLocks}
-use Rattle.lz_list.specs.Traces.{words_after, opening, Trace}
+use Rattle.lz_list.specs.Traces.{words_of_trace, opening, Trace}
 use Rattle.lz_machine.specs.declared.actor.Actor.{Actor}
 use Rattle.lz_machine.specs.declared.actor.Hold.TheVariants.{Nothing}
 
@@ -80,7 +80,7 @@ abbrev pub opened_yard : Shape → List ℕ → Yard
 opened_yard shape t =
     record {
       shape = shape;
-      words = words_after shape.slots shape.buckets shape.passes (first_trace shape t);
+      words = words_of_trace shape.slots shape.buckets shape.passes (first_trace shape t);
       locks = record { heads = replicate shape.buckets 0; nodes = replicate shape.slots 0 };
       vault = record { format = format_of t; cells = map cell_read (slots_read t shape.slots); syncs = 0; dead = false };
       uses = map use_read (slots_read t shape.slots);

@@ -13,7 +13,7 @@ use Rattle.lz_board.specs.declared.view.Note.{Note}
 use Rattle.lz_board.specs.declared.view.Part.{Part}
 use Rattle.lz_board.specs.declared.view.Sizes.{Sizes}
 use Rattle.lz_board.specs.declared.view.What.TheVariants.{Called, Played}
-use Rattle.lz_board.specs.Notes.{note_by, load_note, shape_of}
+use Rattle.lz_board.specs.Notes.{note_by, load_note, shape_of_sizes}
 use Rattle.lz_board.specs.Plays.{fresh}
 use Rattle.lz_tie.specs.OwnCalls.{told}
 use Rattle.lz_serve.specs.Halts.{IsCalm, was_cut}
@@ -39,10 +39,10 @@ halted =
     note_by 1 (Played Answer Done) None ∷ load_note 1 (record { word = Halt; value = 1; at = 4 })
     ∷ note_by 1 (Played Pin Done) None ∷ note_by 1 (Called (Has 9) Two) None ∷ []
 
-told_yes : told (shape_of sizes) answered ≡ (Has 9, Some Yes) ∷ []
+told_yes : told (shape_of_sizes sizes) answered ≡ (Has 9, Some Yes) ∷ []
 told_yes = refl
 
-told_halted : told (shape_of sizes) halted ≡ (Has 9, Some Halted) ∷ []
+told_halted : told (shape_of_sizes sizes) halted ≡ (Has 9, Some Halted) ∷ []
 told_halted = refl
 
 -- a pass that has made no call is calm

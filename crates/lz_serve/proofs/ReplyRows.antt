@@ -17,7 +17,7 @@ use Rattle.lz_set.specs.declared.fault.Fault.TheVariants as fault
 use Rattle.lz_set.specs.Answers.{reply_of}
 use Rattle.lz_tie.specs.Answers.{Answers}
 use Rattle.lz_tie.specs.OneCaller.{IsPlainAnswer, keys_in}
-use Rattle.lz_serve.specs.Replies.{FoundFull, SeatAnswers, client_reply}
+use Rattle.lz_serve.specs.Replies.{IsToldFull, SeatAnswers, client_reply}
 use Rattle.lz_serve.proofs.Seats.{only_call}
 
 yes_given : (answer : Result Bool Fault) → Yes ≡ client_reply answer → reply_of answer ≡ given.Yes
@@ -44,7 +44,7 @@ module _ (b : BoardId) (F : Format) (old new : Pass) where
   other_command reply s other = let asked = s.asked in absurd (cc)
 
   -- with two passes `full` isn't told of a first call
-  full_at_once : b.sizes.passes ≡ 2 → (s : SeatAnswers b F old (Add 8) Full new) → (FoundFull b F s.c old s.middle → ⊥) → ⊥
+  full_at_once : b.sizes.passes ≡ 2 → (s : SeatAnswers b F old (Add 8) Full new) → (IsToldFull b F s.c old s.middle → ⊥) → ⊥
   full_at_once two s none = ⊎_elim (λ at. let one = at.1 refl in absurd (omega (arith, one, two))) none s.first
 
 -- a lookup isn't made twice
@@ -57,9 +57,9 @@ never_full F before after (Err fault.OldFile) full answers = absurd (cc)
 never_full F before after (Err fault.Halted) full answers = absurd (cc)
 never_full F before after (Err fault.Device) full answers = absurd (cc)
 
-has_twice : (b : BoardId) (F : Format) (old middle : Pass) → FoundFull b F (command.Has 7) old middle → ⊥
+has_twice : (b : BoardId) (F : Format) (old middle : Pass) → IsToldFull b F (command.Has 7) old middle → ⊥
 has_twice b F old middle full = never_full F (part old) (part middle) full.answer full.full full.answered.call
 
 -- nor is an adding made again in a set of one pass
-alone_twice : (b : BoardId) (F : Format) (old middle : Pass) → b.sizes.passes ≡ 1 → FoundFull b F (command.Add 8) old middle → ⊥
+alone_twice : (b : BoardId) (F : Format) (old middle : Pass) → b.sizes.passes ≡ 1 → IsToldFull b F (command.Add 8) old middle → ⊥
 alone_twice b F old middle one full = full.several one

@@ -14,7 +14,7 @@ use Rattle.lz_proto.specs.declared.end.End.{End}
 use Rattle.lz_proto.specs.Sessions.{SessionTells}
 use Rattle.lz_board.specs.declared.pass.Pass.{Pass}
 use Rattle.lz_board.specs.declared.view.Sizes.{Sizes}
-use Rattle.lz_board.specs.Notes.{shape_of}
+use Rattle.lz_board.specs.Notes.{shape_of_sizes}
 use Rattle.lz_board.specs.Seats.{BoardId, part}
 use Rattle.lz_board.proofs.Walk.GlanceAnswer.{halt_since}
 use Rattle.lz_set.specs.declared.fault.Fault.{Fault}
@@ -25,7 +25,7 @@ use Rattle.lz_tie.specs.Sessions.{cuts_off}
 use Rattle.lz_tie.proofs.Marks.ToldCalls.{answers_told}
 use Rattle.lz_tie.proofs.Replies.SeenMore.{seen_more}
 use Rattle.lz_serve.specs.Halts.{IsCalm, was_cut}
-use Rattle.lz_serve.specs.Replies.{IsAnswered, SeatAnswers, client_reply, says_halted}
+use Rattle.lz_serve.specs.Replies.{IsCallAnswered, SeatAnswers, client_reply, says_halted}
 use Rattle.lz_serve.proofs.Halting.{answer_word}
 use Rattle.lz_serve.proofs.Kept.{session_keeps}
 use Rattle.lz_serve.proofs.Mapped.{known_session}
@@ -41,24 +41,24 @@ uncut (Err fault.Halted) is = absurd (true≢false is)
 uncut (Err fault.Device) is = absurd (true≢false is)
 
 -- so the pass stays calm
-calm_after : (b : BoardId) (F : Format) (c : Command) (answer : Result Bool Fault) (old new : Pass) → IsAnswered b F c answer old new → (part new).sizes ≡ b.sizes → says_halted (client_reply answer) ≡ false → IsCalm (part old) → IsCalm (part new)
+calm_after : (b : BoardId) (F : Format) (c : Command) (answer : Result Bool Fault) (old new : Pass) → IsCallAnswered b F c answer old new → (part new).sizes ≡ b.sizes → says_halted (client_reply answer) ≡ false → IsCalm (part old) → IsCalm (part new)
 calm_after b F c answer old new is sized quiet calm =
     let P = λ (call : Command × Option Given). was_cut call.1 ≡ false in
-    let newest : All P (told (shape_of (part old).sizes) (part new).steps) =
-    All-same P _ _ (answers_told F c (reply_of answer) (part old) (part new) is.call) (All-cons P (c, Some (reply_of answer)) (told (shape_of (part old).sizes) (part old).steps) (uncut answer quiet) calm) in
-    subst (λ (z : Sizes). All P (told (shape_of z) (part new).steps)) (is.sized ∙ sym sized) newest
+    let newest : All P (told (shape_of_sizes (part old).sizes) (part new).steps) =
+    All-same P _ _ (answers_told F c (reply_of answer) (part old) (part new) is.call) (All-cons P (c, Some (reply_of answer)) (told (shape_of_sizes (part old).sizes) (part old).steps) (uncut answer quiet) calm) in
+    subst (λ (z : Sizes). All P (told (shape_of_sizes z) (part new).steps)) (is.sized ∙ sym sized) newest
 
 module _ (b : BoardId) (F : Format) (old new : Pass) (request : Request) (r : Reply) (answers : SeatAnswers b F old request r new) where
   -- in a set of one pass there was no other call
-  pub only_call : b.sizes.passes ≡ 1 → IsAnswered b F answers.c answers.answer old new
-  only_call one = ⊎_elim (λ at. subst (λ (p : Pass). IsAnswered b F answers.c answers.answer p new) at.0 answers.last) (λ full. absurd (full.several one)) answers.first
+  pub only_call : b.sizes.passes ≡ 1 → IsCallAnswered b F answers.c answers.answer old new
+  only_call one = ⊎_elim (λ at. subst (λ (p : Pass). IsCallAnswered b F answers.c answers.answer p new) at.0 answers.last) (λ full. absurd (full.several one)) answers.first
 
   -- a pass that has seen the halt still has after its answer
   pub saw_before : halt_word (part old).known ≡ 1 → halt_word (part new).known ≡ 1
   saw_before seen = saw_more answers.c answers.answer answers.middle new answers.last
       (⊎_elim (λ at. subst (λ (p : Pass). halt_word (part p).known ≡ 1) (sym at.0) seen) (λ full. saw_more answers.c full.answer old answers.middle full.answered seen) answers.first)
     where
-      saw_more : (c : Command) (answer : Result Bool Fault) (p q : Pass) → IsAnswered b F c answer p q → halt_word (part p).known ≡ 1 → halt_word (part q).known ≡ 1
+      saw_more : (c : Command) (answer : Result Bool Fault) (p q : Pass) → IsCallAnswered b F c answer p q → halt_word (part p).known ≡ 1 → halt_word (part q).known ≡ 1
       saw_more c answer p q is = halt_since (part p).known (part q).known (seen_more F c (reply_of answer) (part p) (part q) is.call)
 
   -- and so has one that was answered so

@@ -4,7 +4,7 @@ use Rattle.lz_list.specs.Traces.{halt_word}
 use Rattle.lz_machine.specs.declared.event.Reply.{Reply}
 use Rattle.lz_board.specs.declared.pass.Pass.{Pass}
 use Rattle.lz_board.specs.declared.view.Part.{Part}
-use Rattle.lz_board.specs.Notes.{shape_of}
+use Rattle.lz_board.specs.Notes.{shape_of_sizes}
 use Rattle.lz_board.specs.Seats.{part}
 use Rattle.lz_tie.specs.OwnCalls.{told}
 use Rattle.lz_tie.specs.Sessions.{cuts_off}
@@ -20,7 +20,7 @@ was_cut (Some reply) = cuts_off reply
 
 -- none of the calls that the pass has made was answered so
 abbrev pub IsCalm : Part → Type 0
-IsCalm h = All (λ call. was_cut call.1 ≡ false) (told (shape_of h.sizes) h.steps)
+IsCalm h = All (λ call. was_cut call.1 ≡ false) (told (shape_of_sizes h.sizes) h.steps)
 
 -- the pass is calm where all of these were
 abbrev pub IsCalmAfter : List Part → Pass → Type 0

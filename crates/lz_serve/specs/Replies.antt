@@ -39,17 +39,17 @@ command_of Quit = None
 
 -- A call of the pass for this command was answered so: the pass, a part of this board, has what the table of answers promises it.
 -- In a set of one pass the answer is the plain set's, over a file of this format.
-pub record IsAnswered (b : BoardId) (F : Format) (c : Command) (answer : Result Bool Fault) (old new : Pass) : Type 0 where
+pub record IsCallAnswered (b : BoardId) (F : Format) (c : Command) (answer : Result Bool Fault) (old new : Pass) : Type 0 where
   pub sized : (part old).sizes ≡ b.sizes
   pub call : Answers F c (reply_of answer) (part old) (part new)
   pub plain : b.sizes.passes ≡ 1 → IsPlainAnswer F b.sizes.slots c (reply_of answer) (keys_in (part old).known) (keys_in (part new).known)
 
 -- A call of one of several passes was answered that no slot is free, which the table has for addings only.
-pub record FoundFull (b : BoardId) (F : Format) (c : Command) (old new : Pass) : Type 0 where
+pub record IsToldFull (b : BoardId) (F : Format) (c : Command) (old new : Pass) : Type 0 where
   pub several : b.sizes.passes ≢ 1
   pub answer : Result Bool Fault
   pub full : client_reply answer ≡ said.Full
-  pub answered : IsAnswered b F c answer old new
+  pub answered : IsCallAnswered b F c answer old new
 
 -- The reply tells the answer of the pass's last call for what the request asks. That is its only one, which is told as full in a
 -- set of one pass alone; or one more was made, after one that found no slot free.
@@ -57,7 +57,7 @@ pub record SeatAnswers (b : BoardId) (F : Format) (old : Pass) (request : Reques
   pub c : Command
   pub asked : command_of request ≡ Some c
   pub middle : Pass
-  pub first : ((middle ≡ old) × (reply ≡ said.Full → b.sizes.passes ≡ 1)) ⊎ FoundFull b F c old middle
+  pub first : ((middle ≡ old) × (reply ≡ said.Full → b.sizes.passes ≡ 1)) ⊎ IsToldFull b F c old middle
   pub answer : Result Bool Fault
-  pub last : IsAnswered b F c answer middle new
+  pub last : IsCallAnswered b F c answer middle new
   pub told : reply ≡ client_reply answer

@@ -3,7 +3,7 @@ ghost use Rattle.std.specs.Prelude.{◌≡◌, ◌≢◌, Some, true, false};
 ghost use Rattle.lz_slot.specs.declared.command.Command.{Command};
 ghost use Rattle.lz_set.specs.Names.{MayCall};
 ghost use Rattle.lz_serve.specs.Halts.{SawHalt};
-ghost use Rattle.lz_serve.specs.Replies.{IsAnswered, SeatAnswers, command_of, client_reply, says_halted};
+ghost use Rattle.lz_serve.specs.Replies.{IsCallAnswered, SeatAnswers, command_of, client_reply, says_halted};
 
 use lz_disk::Disk;
 use lz_proto::{Reply, Request, Service};
@@ -112,7 +112,7 @@ fn call<D: Disk, G: StepGate, N: Named, R: Wait>(
     requires may_call { MayCall N.board pass.old }
     requires request { request.now ≢ Request.Quit }
     ensures may_call { MayCall N.board pass.new }
-    ensures answered { (c : Command) → command_of request.now ≡ Some c → IsAnswered N.board N.format c result pass.old pass.new }
+    ensures answered { (c : Command) → command_of request.now ≡ Some c → IsCallAnswered N.board N.format c result pass.old pass.new }
 {
     match *request {
         Request::Add(key) => set.add(rt, pass, key),

@@ -7,7 +7,7 @@ use Rattle.lz_machine.specs.Marks.{IsTold}
 use Rattle.lz_machine.specs.Yards.{Yard}
 use Rattle.lz_board.specs.declared.view.Note.{Note}
 use Rattle.lz_board.specs.declared.view.Part.{Part}
-use Rattle.lz_board.specs.Notes.{Extends, shape_of, trace_of}
+use Rattle.lz_board.specs.Notes.{Extends, shape_of_sizes, trace_of}
 use Rattle.lz_board.specs.Plays.{knowing}
 use Rattle.lz_board.specs.Seats.{BoardId}
 use Rattle.lz_tie.specs.Holds.{IsLocked}
@@ -26,8 +26,8 @@ pub record IsLeft (b : BoardId) (first : Device) (ns : List Note) (disk : Device
   pub ever : ExplainedSince b first ns disk
   pub honest : disk.honest ≡ first.honest
   pub faults : first.faults ≤ disk.faults
-  pub told : IsTold (marks_in (shape_of b.sizes) ns)
-  pub passes : AreOfPasses b.sizes.passes (marks_in (shape_of b.sizes) ns)
+  pub told : IsTold (marks_in (shape_of_sizes b.sizes) ns)
+  pub passes : AreOfPasses b.sizes.passes (marks_in (shape_of_sizes b.sizes) ns)
   pub yard : Yard
   pub locked : IsLocked b ns yard disk
   pub over : halt_word (trace_of b.opened ns) ≡ 1 → (last_sync ≤ yard.vault.syncs) ⊎ (first.faults < disk.faults)

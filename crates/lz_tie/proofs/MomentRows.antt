@@ -21,7 +21,7 @@ use Rattle.lz_machine.proofs.Open.FirstPoint.{one_set}
 use Rattle.lz_board.specs.declared.view.Note.{Note}
 use Rattle.lz_board.specs.declared.view.Sizes.{Sizes}
 use Rattle.lz_board.specs.declared.view.What.TheVariants.{Called, Played}
-use Rattle.lz_board.specs.Notes.{note_by, load_note, shape_of}
+use Rattle.lz_board.specs.Notes.{note_by, load_note, shape_of_sizes}
 use Rattle.lz_board.specs.Seats.{BoardId}
 use Rattle.lz_tie.specs.Holds.{no_board}
 use Rattle.lz_tie.specs.Marks.{marks_in}
@@ -55,7 +55,7 @@ later = note_by 1 (Called (Has 12) Two) None ∷ added
 abbrev answered : History
 answered = answer 1 true ∷ Call 1 1 (Add 12) ∷ []
 
-shown : marks_in (shape_of sizes) later ≡ Call 2 1 (Has 12) ∷ answered
+shown : marks_in (shape_of_sizes sizes) later ≡ Call 2 1 (Has 12) ∷ answered
 shown = refl
 
 -- earlier notes don't show what later ones do
@@ -93,7 +93,7 @@ stays : (t : List ℕ) (e : ExplainsFrom board added later t) → e.explains.fou
 stays t e = go e.from.new e.upto.new e.from.shows (append_cancel_right (e.upto.new ++ e.from.new) (Call 2 1 (Has 12) ∷ []) answered (append_assoc e.upto.new e.from.new answered ∙ sym (e.upto.shows ∙ ap (λ M. e.upto.new ++ M) e.from.shows)))
   where
     marks : History
-    marks = marks_in (shape_of sizes) e.then
+    marks = marks_in (shape_of_sizes sizes) e.then
 
     of : (M : History) → marks ≡ M → Fits S0 M e.explains.calls e.explains.found
     of M is = subst (λ M. Fits S0 M e.explains.calls e.explains.found) is e.explains.fits

@@ -20,7 +20,7 @@ use Rattle.lz_board.specs.declared.view.What.{What}
 use Rattle.lz_board.specs.declared.view.What.TheVariants.{Called, Played, Found}
 use Rattle.lz_board.specs.declared.view.Note.{Note}
 use Rattle.lz_board.specs.declared.view.Part.{Part}
-use Rattle.lz_board.specs.Notes.{note_by, own, place, shape_of}
+use Rattle.lz_board.specs.Notes.{note_by, own, place, shape_of_sizes}
 use Rattle.lz_board.specs.Glances.{Changes, Between}
 use Rattle.lz_board.specs.Plays.{knowing}
 use Rattle.lz_board.specs.Ways.{Rests}
@@ -122,8 +122,8 @@ pub record Answers (format : Format) (c : Command) (reply : Reply) (before after
   pub number : after.number ≡ before.number
   pub new : List Note
   pub steps : after.steps ≡ new ++ before.steps
-  pub one_call : IsOneCall (shape_of before.sizes) before.number format c reply new
-  pub promises : Promises (shape_of before.sizes) before.number format c reply after.pin new before.known after.known
+  pub one_call : IsOneCall (shape_of_sizes before.sizes) before.number format c reply new
+  pub promises : Promises (shape_of_sizes before.sizes) before.number format c reply after.pin new before.known after.known
   -- what it has seen was lawful; in a set of one pass nothing was changed but by its calls
   pub lawful : Lawful before.sizes.buckets before.sizes.slots after.known
   pub alone : before.sizes.passes ≡ 1 → OnlyOwn before.number before.known after.known

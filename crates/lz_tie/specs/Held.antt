@@ -17,31 +17,31 @@ use Rattle.lz_board.specs.declared.view.Sizes.{Sizes}
 use Rattle.lz_board.specs.declared.view.What.TheVariants.{Called, Played}
 use Rattle.lz_board.specs.declared.view.Note.{Note}
 use Rattle.lz_board.specs.declared.view.Part.{Part}
-use Rattle.lz_board.specs.Notes.{Extends, note_by, shape_of, trace_of}
+use Rattle.lz_board.specs.Notes.{Extends, note_by, shape_of_sizes, trace_of}
 use Rattle.lz_board.specs.Plays.{found_note}
 use Rattle.lz_board.specs.Seats.{BoardId}
 use Rattle.lz_tie.specs.declared.playing.Turn.{Turn}
 use Rattle.lz_tie.specs.OnePass.{OnlyOwn}
-use Rattle.lz_tie.specs.Marks.{Shows, calls_in, number_of}
-use Rattle.lz_tie.specs.Holds.{HasCall, Holds, IsIdle, IsTurn, Turned, begins_with}
+use Rattle.lz_tie.specs.Marks.{Shows, calls_in, last_call_number}
+use Rattle.lz_tie.specs.Holds.{HasCall, HoldNotes, IsIdle, IsTurn, Turned, begins_with}
 use Rattle.lz_tie.specs.Moments.{HoldExplains}
 
 -- The event is the next one of the pass's call c, and no load.
-pub record IsNext (h : Part) (c : Calling) (e : Event) : Type 0 where
+pub record IsNextOf (h : Part) (c : Calling) (e : Event) : Type 0 where
   pub call : HasCall h c
-  pub event : e ≡ event_at (shape_of h.sizes) c.command c.progress
+  pub event : e ≡ event_at (shape_of_sizes h.sizes) c.command c.progress
   pub load : hop_of e ≡ None
 
 -- A pass without a call may ask for an Invoke, and one with a call for its next event.
 abbrev pub MayAsk : Sizes → Part → Event → Type 0
 MayAsk z h (Invoke c) = IsIdle z h × (key_of c ≤ largest_key)
-MayAsk z h e = (c : Calling) × IsNext h c e
+MayAsk z h e = (c : Calling) × IsNextOf h c e
 
 -- A call of command c was made: the pass's pin word was found, and the Invoke noted. The pass had seen what the life began with.
 pub record Began (b : BoardId) (F : Format) (was is : List Note) (c : Command) (t : Turn) (before after : Part) : Type 0 where
   pub outcome : t.outcome ≡ begins_with F c
-  pub shows : Shows (shape_of b.sizes) was is (Call (suc (calls_in was)) before.number c ∷ [])
-  pub holds : Holds b.opened (found_note before.number before.pin ∷ was) is (note_by before.number (Called c F) None) before after
+  pub shows : Shows (shape_of_sizes b.sizes) was is (Call (suc (calls_in was)) before.number c ∷ [])
+  pub holds : HoldNotes b.opened (found_note before.number before.pin ∷ was) is (note_by before.number (Called c F) None) before after
   pub opened : Extends before.known b.opened
 
 -- the notes on which an event is played: those of the lock, and the pin word that it looks at
@@ -56,7 +56,7 @@ pub record Advanced (b : BoardId) (was is : List Note) (k : Calling) (t : Turn) 
   pub found : List Note
   pub on : found ≡ found_for event was
   pub turn : IsTurn found before k event
-  pub holds : Holds b.opened found is (note_by before.number (Played event t.outcome) t.published) before after
+  pub holds : HoldNotes b.opened found is (note_by before.number (Played event t.outcome) t.published) before after
   pub turned : Turned b.opened found before k.command k.progress event t.outcome t.published
   pub alone : b.sizes.passes ≡ 1 → trace_of b.opened found ≡ before.known
   pub own : b.sizes.passes ≡ 1 → OnlyOwn before.number b.opened (trace_of b.opened found)
@@ -64,11 +64,11 @@ pub record Advanced (b : BoardId) (was is : List Note) (k : Calling) (t : Turn) 
 -- A hold goes on with the call that k counts, and puts its reply on the history where it is about to answer.
 pub record WentOn (b : BoardId) (was is : List Note) (k : Calling) (t : Turn) (before after : Part) : Type 0 where
   pub advanced : Advanced b was is k t before after
-  pub shows : Shows (shape_of b.sizes) was is (mark_of_turn (number_of before.number was) (reply_at k.progress))
+  pub shows : Shows (shape_of_sizes b.sizes) was is (mark_of_turn (last_call_number before.number was) (reply_at k.progress))
 
 abbrev pub Gave : BoardId → Format → List Note → List Note → Turn → Part → Part → Event → Type 0
 Gave b F was is t before after (Invoke c) = Began b F was is c t before after
-Gave b F was is t before after e = (k : Calling) → IsNext before k e → WentOn b was is k t before after
+Gave b F was is t before after e = (k : Calling) → IsNextOf before k e → WentOn b was is k t before after
 
 -- One hold, for a pass that asked for this event. A fault is told only where the device failed in it.
 pub record Held (b : BoardId) (F : Format) (was is : List Note) (old new : Device) (e : Event) (t : Turn) (before after : Part) : Type 0 where

@@ -32,7 +32,7 @@ use Rattle.lz_board.specs.declared.view.What.{What}
 use Rattle.lz_board.specs.declared.view.What.TheVariants.{Called, Played}
 use Rattle.lz_board.specs.declared.view.Note.{Note}
 use Rattle.lz_board.specs.declared.view.Part.{Part}
-use Rattle.lz_board.specs.Notes.{listed, trace_of, Since, load_note, place, shape_of, pin_after, pin_after_what}
+use Rattle.lz_board.specs.Notes.{as_list, trace_of, Since, load_note, place, shape_of_sizes, pin_after, pin_after_what}
 use Rattle.lz_board.specs.Kept.{is_calling, Knows, PinTold}
 use Rattle.lz_machine.specs.Yards.{IsInside}
 use Rattle.lz_board.specs.Plays.{no_sizes, noted, found_note}
@@ -64,9 +64,9 @@ pub record IsLocked (b : BoardId) (ns : List Note) (y : Yard) (disk : Device) : 
 
 -- The pass has this call open: it is the place to which its own steps lead, and its loads since are the call's.
 pub record HasCall (h : Part) (c : Calling) : Type 0 where
-  pub next : AreNext (shape_of h.sizes) h.number h.loads h.steps
-  pub at : place (shape_of h.sizes) (map (load_note h.number) h.loads ++ h.steps) ≡ Some (c.command, c.progress)
-  pub pass : HasPass h.sizes.passes (event_at (shape_of h.sizes) c.command c.progress)
+  pub next : AreNext (shape_of_sizes h.sizes) h.number h.loads h.steps
+  pub at : place (shape_of_sizes h.sizes) (map (load_note h.number) h.loads ++ h.steps) ≡ Some (c.command, c.progress)
+  pub pass : HasPass h.sizes.passes (event_at (shape_of_sizes h.sizes) c.command c.progress)
 
 -- In a hold, while the pass with this part has joined the pen: the notes, the yard and the disk are as the lock keeps them.
 pub record InHold (b : BoardId) (ns : List Note) (y : Yard) (disk : Device) (h : Part) : Type 0 where
@@ -92,7 +92,7 @@ SeesPin ns e = Unit {0}
 -- This is the next event of the pass's call, and no load: a pin word that it looks at has the value that the notes give it.
 pub record IsTurn (ns : List Note) (h : Part) (c : Calling) (e : Event) : Type 0 where
   pub call : HasCall h c
-  pub event : e ≡ seen_event (λ q. pin_after q ns) (event_at (shape_of h.sizes) c.command c.progress)
+  pub event : e ≡ seen_event (λ q. pin_after q ns) (event_at (shape_of_sizes h.sizes) c.command c.progress)
   pub load : hop_of e ≡ None
   pub found : SeesPin ns e
 
@@ -114,13 +114,13 @@ pub record Turned (opened : Trace) (ns : List Note) (h : Part) (c : Command) (at
   pub medium : Medium
   pub history : History
   pub reached : Reached start (Up service medium) history (trace_of opened ns)
-  pub shape : shape_of h.sizes ≡ service.yard.shape
+  pub shape : shape_of_sizes h.sizes ≡ service.yard.shape
   pub caller : Caller
   pub call : caller_at service.callers h.number ≡ Some caller
   pub command : caller.command ≡ c
   pub progress : caller.progress ≡ at
   pub next : next_event service.yard caller ≡ e
-  pub done : o ≢ Fault → (o ≡ (line service.yard h.number e).1) × (listed x ≡ line_publishes service.yard h.number e)
+  pub done : o ≢ Fault → (o ≡ (line service.yard h.number e).1) × (as_list x ≡ line_publishes service.yard h.number e)
   pub failed : o ≡ Fault → (x ≡ None) × (line_call service.yard h.number e ≢ NoCall)
   pub pin : pin_of service.yard h.number ≡ h.pin
   -- where the pass is inside, what its call may rely on since it went in, with the change that was made for it since
@@ -139,7 +139,7 @@ IsExchange words (Some w) before (Some x) = (x.word ≡ w) × (x.before ≡ befo
 
 -- One hold of the lock, for a pass: the notes got its loads and then its event, the pass's own steps the same, and it has
 -- seen all that was published until then. What came since it last looked was not published for it.
-pub record Holds (opened : Trace) (was is : List Note) (n : Note) (before after : Part) : Type 0 where
+pub record HoldNotes (opened : Trace) (was is : List Note) (n : Note) (before after : Part) : Type 0 where
   pub notes : is ≡ noted opened was before n
   pub sizes : after.sizes ≡ before.sizes
   pub number : after.number ≡ before.number

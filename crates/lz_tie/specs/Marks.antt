@@ -28,9 +28,9 @@ number_with p by (Called c format) calls number = if by == p then suc calls else
 number_with p by _ calls number = number
 
 -- the number of pass p's last call, 0 where it made none
-abbrev pub number_of : ℕ → List Note → ℕ
-number_of p [] = 0
-number_of p (n ∷ ns) = number_with p n.by n.what (calls_in ns) (number_of p ns)
+abbrev pub last_call_number : ℕ → List Note → ℕ
+last_call_number p [] = 0
+last_call_number p (n ∷ ns) = number_with p n.by n.what (calls_in ns) (last_call_number p ns)
 
 -- the reply that a call at this place is about to give
 abbrev pub reply_in : Option (Command × Progress) → Option Reply
@@ -40,7 +40,7 @@ reply_in (Some call) = reply_at call.1
 -- what a step of pass p shows, behind these notes: a call that is made, or the reply with which its last one ends
 abbrev pub marks_with : Shape → ℕ → What → List Note → History
 marks_with shape p (Called c format) ns = Call (suc (calls_in ns)) p c ∷ []
-marks_with shape p (Played e o) ns = mark_of_turn (number_of p ns) (reply_in (place shape (steps_of p ns)))
+marks_with shape p (Played e o) ns = mark_of_turn (last_call_number p ns) (reply_in (place shape (steps_of p ns)))
 marks_with shape p (Found q v) ns = []
 
 -- what the notes show

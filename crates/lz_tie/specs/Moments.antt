@@ -8,7 +8,7 @@ use Rattle.lz_list.specs.Traces.{Trace}
 use Rattle.lz_machine.specs.Runs.{Start, IsStart, Up, Service, Transition, run, IsRun, first_point}
 use Rattle.lz_board.specs.declared.view.Sizes.{Sizes}
 use Rattle.lz_board.specs.declared.view.Note.{Note}
-use Rattle.lz_board.specs.Notes.{Extends, shape_of, trace_of}
+use Rattle.lz_board.specs.Notes.{Extends, shape_of_sizes, trace_of}
 use Rattle.lz_board.specs.Seats.{BoardId}
 use Rattle.lz_tie.specs.NotedRuns.{ReadsAs}
 use Rattle.lz_tie.specs.Holds.{LockedOver, sizes_of}
@@ -49,12 +49,12 @@ LeftSince b first ns disk = IsTrue disk.honest → LeavesOnly first disk (λ t. 
 -- needn't begin with the earlier ones, since a load is put where its word was seen.
 pub record GrowsTo (b : BoardId) (was is : List Note) : Type 0 where
   pub new : History
-  pub shows : Shows (shape_of b.sizes) was is new
+  pub shows : Shows (shape_of_sizes b.sizes) was is new
   pub trace : Extends (trace_of b.opened is) (trace_of b.opened was)
 
 -- One hold, of the notes and of the disk: the notes grow, at each moment each image is one of before it or of after it, and what a
 -- beginning of the notes left is left by one of those after it too.
-pub record GoesOn (b : BoardId) (was is : List Note) (old new : Device) : Type 0 where
+pub record MomentsGoOn (b : BoardId) (was is : List Note) (old new : Device) : Type 0 where
   pub grows : GrowsTo b was is
   pub honest : new.honest ≡ old.honest
   pub time : IsTrue old.honest → LeavesEither old new

@@ -15,14 +15,14 @@ use Rattle.lz_board.specs.declared.view.What.{What}
 use Rattle.lz_board.specs.declared.view.What.TheVariants.{Called, Played, Found}
 use Rattle.lz_board.specs.declared.view.Note.{Note}
 use Rattle.lz_board.specs.declared.view.Load.{Load}
-use Rattle.lz_board.specs.Notes.{listed, place, load_note}
+use Rattle.lz_board.specs.Notes.{as_list, place, load_note}
 
 -- In this state the note says of the step what the table says of it: the event, the outcome and what is published.
 abbrev pub TellsTurn : Service → ℕ → Option Caller → Note → Type 0
 TellsTurn service a None n = ⊥
 TellsTurn service a (Some caller) n =
     (n.what ≡ Played (next_event service.yard caller) (line service.yard a (next_event service.yard caller)).1)
-    × (listed n.published ≡ line_publishes service.yard a (next_event service.yard caller))
+    × (as_list n.published ≡ line_publishes service.yard a (next_event service.yard caller))
 
 abbrev pub TellsFault : Service → Option Caller → Note → Type 0
 TellsFault service None n = ⊥

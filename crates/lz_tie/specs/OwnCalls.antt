@@ -14,7 +14,7 @@ use Rattle.lz_board.specs.declared.view.What.{What}
 use Rattle.lz_board.specs.declared.view.What.TheVariants.{Called, Played}
 use Rattle.lz_board.specs.declared.view.Note.{Note}
 use Rattle.lz_board.specs.declared.view.Part.{Part}
-use Rattle.lz_board.specs.Notes.{place, shape_of}
+use Rattle.lz_board.specs.Notes.{place, shape_of_sizes}
 use Rattle.lz_board.specs.Seats.{BoardId}
 use Rattle.lz_tie.specs.Marks.{marks_in, reply_in}
 
@@ -86,4 +86,4 @@ shown call = (call.0, ending_in call.1)
 
 -- The pass's calls in the history of the notes are those that it has made itself, with the replies that it got.
 abbrev pub TellsOwn : BoardId → List Note → Part → Type 0
-TellsOwn b ns h = map unnumbered (calls_of h.number (marks_in (shape_of b.sizes) ns)) ≡ map shown (told (shape_of b.sizes) h.steps)
+TellsOwn b ns h = map unnumbered (calls_of h.number (marks_in (shape_of_sizes b.sizes) ns)) ≡ map shown (told (shape_of_sizes b.sizes) h.steps)

@@ -8,7 +8,7 @@ use Rattle.lz_disk.specs.Images.{IsImage}
 use Rattle.lz_list.specs.Traces.{Trace, member}
 use Rattle.lz_machine.specs.Lasts.{Lasts}
 use Rattle.lz_board.specs.declared.view.Note.{Note}
-use Rattle.lz_board.specs.Notes.{shape_of, trace_of}
+use Rattle.lz_board.specs.Notes.{shape_of_sizes, trace_of}
 use Rattle.lz_board.specs.Seats.{BoardId}
 use Rattle.lz_tie.specs.Marks.{marks_in}
 
@@ -22,8 +22,8 @@ pub record Explains (b : BoardId) (ns : List Note) (t : List ℕ) : Type 0 where
   pub found : Keys
   pub holds : Holds t b.sizes.slots found
   pub calls : List ℕ
-  pub fits : Fits (members_of b.opened) (marks_in (shape_of b.sizes) ns) calls found
-  pub lasts : Lasts (trace_of b.opened ns) (marks_in (shape_of b.sizes) ns) found
+  pub fits : Fits (members_of b.opened) (marks_in (shape_of_sizes b.sizes) ns) calls found
+  pub lasts : Lasts (trace_of b.opened ns) (marks_in (shape_of_sizes b.sizes) ns) found
 
 -- Whatever a crash leaves of an honest device's disk now explains what the notes show of calls and answers.
 abbrev pub HasHistory : BoardId → List Note → Device → Type 0

@@ -13,7 +13,7 @@ use Rattle.lz_machine.specs.Runs.{mark_of_turn}
 use Rattle.lz_board.specs.declared.view.Sizes.{Sizes}
 use Rattle.lz_board.specs.declared.view.Note.{Note}
 use Rattle.lz_board.specs.declared.view.Part.{Part}
-use Rattle.lz_board.specs.Notes.{shape_of}
+use Rattle.lz_board.specs.Notes.{shape_of_sizes}
 use Rattle.lz_board.specs.Seats.{BoardId}
 use Rattle.lz_tie.specs.Answers.{Answers}
 use Rattle.lz_tie.specs.Marks.{marks_in}
@@ -62,7 +62,7 @@ marks_alone p (call ∷ calls) =
 
 -- The history of the notes is that of the pass's own calls.
 abbrev pub TellsAlone : BoardId → List Note → Part → Type 0
-TellsAlone b ns h = marks_in (shape_of b.sizes) ns ≡ marks_alone h.number (told (shape_of b.sizes) h.steps)
+TellsAlone b ns h = marks_in (shape_of_sizes b.sizes) ns ≡ marks_alone h.number (told (shape_of_sizes b.sizes) h.steps)
 
 -- A set of one pass, on a file of format F: since its life began the pass has made these calls and no other, and only the last
 -- may have been cut off.

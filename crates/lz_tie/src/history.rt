@@ -5,7 +5,7 @@ ghost use Rattle.lz_slot.specs.declared.format.Format.{Format};
 ghost use Rattle.lz_machine.specs.declared.event.Reply.{Reply};
 ghost use Rattle.lz_machine.specs.Marks.{IsTold};
 ghost use Rattle.lz_board.specs.declared.view.Part.{Part};
-ghost use Rattle.lz_board.specs.Notes.{Extends, shape_of, trace_of};
+ghost use Rattle.lz_board.specs.Notes.{Extends, shape_of_sizes, trace_of};
 ghost use Rattle.lz_board.specs.Plays.{knowing};
 ghost use Rattle.lz_board.specs.Seats.{IsOf, id_of, part};
 ghost use Rattle.lz_tie.specs.Answers.{Answers};
@@ -26,8 +26,8 @@ impl<N: Named, D: Disk> Locked<N, D> {
     /// pass that had none open, and has ended once at most. The notes are a run of the machine, which led to this yard.
     pub fn holds(&self)
         ensures history { HasHistory N.board self.now.notes (D.device self.now.disk) }
-        ensures told { IsTold (marks_in (shape_of N.board.sizes) self.now.notes) }
-        ensures passes { AreOfPasses N.board.sizes.passes (marks_in (shape_of N.board.sizes) self.now.notes) }
+        ensures told { IsTold (marks_in (shape_of_sizes N.board.sizes) self.now.notes) }
+        ensures passes { AreOfPasses N.board.sizes.passes (marks_in (shape_of_sizes N.board.sizes) self.now.notes) }
         ensures locked { IsLocked N.board self.now.notes self.now.yard (D.device self.now.disk) }
     {
         let _ = &self.yard;
@@ -53,5 +53,5 @@ impl<N: Named, D: Disk> Locked<N, D> {
 
 /// A call that a pass has made and that was answered is the newest of its own calls, with its reply.
 pub fn answers_are_told()
-    ensures { (F : Format) (c : Asked) (reply : Reply) (before after : Part) → Answers F c reply before after → told (shape_of before.sizes) after.steps ≡ (c, Some reply) ∷ told (shape_of before.sizes) before.steps }
+    ensures { (F : Format) (c : Asked) (reply : Reply) (before after : Part) → Answers F c reply before after → told (shape_of_sizes before.sizes) after.steps ≡ (c, Some reply) ∷ told (shape_of_sizes before.sizes) before.steps }
 {}

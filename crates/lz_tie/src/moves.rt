@@ -16,15 +16,15 @@ ghost use Rattle.lz_caller.specs.Begun.{begun_after};
 ghost use Rattle.lz_board.specs.declared.view.Part.{Part};
 ghost use Rattle.lz_board.specs.declared.view.What.TheVariants.{Called};
 ghost use Rattle.lz_board.specs.Addresses.{index};
-ghost use Rattle.lz_board.specs.Notes.{note_by, shape_of};
+ghost use Rattle.lz_board.specs.Notes.{note_by, shape_of_sizes};
 ghost use Rattle.lz_board.specs.Plays.{found_note, loading};
 ghost use Rattle.lz_board.specs.Seats.{IsOf, id_of, part};
 ghost use Rattle.lz_tie.specs.Answers.{Answers};
-ghost use Rattle.lz_tie.specs.Marks.{Shows, calls_in, number_of};
+ghost use Rattle.lz_tie.specs.Marks.{Shows, calls_in, last_call_number};
 ghost use Rattle.lz_tie.specs.Counting.{Counts, CountsOn, IsCounted};
 ghost use Rattle.lz_tie.specs.Held.{Advanced};
 ghost use Rattle.lz_tie.specs.Moments.{HoldExplains};
-ghost use Rattle.lz_tie.specs.Holds.{Holds, IsIdle, begins_with};
+ghost use Rattle.lz_tie.specs.Holds.{HoldNotes, IsIdle, begins_with};
 ghost use Rattle.lz_tie.specs.OneCaller.{IsPlainAnswer, keys_in};
 
 use crate::locked::Locked;
@@ -70,8 +70,8 @@ impl<N: Named, D: Disk> Locked<N, D> {
         requires passes { (passes ≡ N.board.sizes.passes) × (1 ≤ passes) × (passes ≤ most_passes) }
         ensures pass { IsOf N.board pass.new }
         ensures moments { HoldExplains N.board self.old.notes self.new.notes (D.device self.old.disk) (D.device self.new.disk) }
-        ensures shows { Shows (shape_of N.board.sizes) self.old.notes self.new.notes (Call (suc (calls_in self.old.notes)) (part pass.old).number command ∷ []) }
-        ensures holds { Holds N.board.opened (found_note (part pass.old).number (part pass.old).pin ∷ self.old.notes) self.new.notes (note_by (part pass.old).number (Called command N.format) None) (part pass.old) (part pass.new) }
+        ensures shows { Shows (shape_of_sizes N.board.sizes) self.old.notes self.new.notes (Call (suc (calls_in self.old.notes)) (part pass.old).number command ∷ []) }
+        ensures holds { HoldNotes N.board.opened (found_note (part pass.old).number (part pass.old).pin ∷ self.old.notes) self.new.notes (note_by (part pass.old).number (Called command N.format) None) (part pass.old) (part pass.new) }
         ensures counts { Counts N.board command N.format (part pass.old) result (part pass.new) }
         ensures caller { result ≡ record { command = command; buckets = buckets; passes = passes; progress = begun_after (begins_with N.format command) } }
     {
@@ -92,7 +92,7 @@ impl<N: Named, D: Disk> Locked<N, D> {
         requires going { reply_at caller.old.progress ≡ None }
         ensures pass { IsOf N.board pass.new }
         ensures moments { HoldExplains N.board self.old.notes self.new.notes (D.device self.old.disk) (D.device self.new.disk) }
-        ensures shows { Shows (shape_of N.board.sizes) self.old.notes self.new.notes [] }
+        ensures shows { Shows (shape_of_sizes N.board.sizes) self.old.notes self.new.notes [] }
         ensures advanced { Advanced N.board self.old.notes self.new.notes caller.old result (part pass.old) (part pass.new) }
         ensures device { result.outcome ≡ Fault → (D.device self.old.disk).faults < (D.device self.new.disk).faults }
         ensures caller { caller.new ≡ record caller.old { progress = progress_after (shape_with caller.old) caller.old.command caller.old.progress result.outcome } }
@@ -113,7 +113,7 @@ impl<N: Named, D: Disk> Locked<N, D> {
         requires reply { caller.now.progress ≡ Answering _reply }
         ensures pass { IsOf N.board pass.new }
         ensures moments { HoldExplains N.board self.old.notes self.new.notes (D.device self.old.disk) (D.device self.new.disk) }
-        ensures shows { Shows (shape_of N.board.sizes) self.old.notes self.new.notes (mark_of (number_of (part pass.old).number self.old.notes) _reply ∷ []) }
+        ensures shows { Shows (shape_of_sizes N.board.sizes) self.old.notes self.new.notes (mark_of (last_call_number (part pass.old).number self.old.notes) _reply ∷ []) }
         ensures advanced { Advanced N.board self.old.notes self.new.notes caller.now result (part pass.old) (part pass.new) }
         ensures idle { IsIdle N.board.sizes (part pass.new) }
         ensures answers { (c : Asked) (format : Format) (before : Part) → before.sizes ≡ N.board.sizes → Counts N.board c format before caller.now (part pass.old) → Answers format c _reply before (part pass.new) }

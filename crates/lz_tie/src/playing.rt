@@ -6,9 +6,9 @@ ghost use Rattle.lz_machine.specs.declared.event.Outcome.TheVariants.{Fault};
 ghost use Rattle.lz_machine.specs.Orders.{Calling};
 ghost use Rattle.lz_board.specs.Notes.{note_by};
 ghost use Rattle.lz_board.specs.Seats.{Carries, IsAtHand, carried, id_of, notes};
-ghost use Rattle.lz_tie.specs.Holds.{Holds, InHold, IsExchange, IsTurn, MayTurn, Turned, begins_with, what_of};
+ghost use Rattle.lz_tie.specs.Holds.{HoldNotes, InHold, IsExchange, IsTurn, MayTurn, Turned, begins_with, what_of};
 ghost use Rattle.lz_tie.specs.Lives.{KeepsLife};
-ghost use Rattle.lz_tie.specs.Moments.{GoesOn};
+ghost use Rattle.lz_tie.specs.Moments.{MomentsGoOn};
 
 use lz_board::{Board, Note, Pass, Pen, What};
 use lz_disk::Disk;
@@ -81,10 +81,10 @@ pub(crate) fn play_joined<D: Disk>(
     ensures carries { Carries (id_of board.now) pen.new }
     ensures hold { InHold (id_of board.now) (notes pen.new) yard.new.yard (D.device yard.new.disk) (carried pen.new) }
     ensures hand { IsAtHand (id_of board.now) pass.new (carried pen.new) }
-    ensures holds { Holds (id_of board.now).opened (notes pen.old) (notes pen.new) (note_by (carried pen.old).number (what_of yard.old.yard.vault.format event result.outcome) result.published) (carried pen.old) (carried pen.new) }
+    ensures holds { HoldNotes (id_of board.now).opened (notes pen.old) (notes pen.new) (note_by (carried pen.old).number (what_of yard.old.yard.vault.format event result.outcome) result.published) (carried pen.old) (carried pen.new) }
     ensures turned { (c : Calling) → IsTurn (notes pen.old) (carried pen.old) c event → Turned (id_of board.now).opened (notes pen.old) (carried pen.old) c.command c.progress event result.outcome result.published }
     ensures began { (c : Asked) → event ≡ Invoke c → result ≡ record { outcome = begins_with yard.old.yard.vault.format c; published = None } }
-    ensures moments { GoesOn (id_of board.now) (notes pen.old) (notes pen.new) (D.device yard.old.disk) (D.device yard.new.disk) }
+    ensures moments { MomentsGoOn (id_of board.now) (notes pen.old) (notes pen.new) (D.device yard.old.disk) (D.device yard.new.disk) }
     ensures life { KeepsLife yard.old.yard (D.device yard.old.disk) yard.new.yard (D.device yard.new.disk) }
     ensures device { result.outcome ≡ Fault → (D.device yard.old.disk).faults < (D.device yard.new.disk).faults }
 {

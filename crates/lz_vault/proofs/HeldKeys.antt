@@ -15,7 +15,7 @@ use Rattle.lz_slot.specs.declared.slot.SlotRead.TheVariants as read
 use Rattle.lz_slot.proofs.Files.HeldSets.{holds_same_set}
 use Rattle.lz_disk.specs.Devices.{Device}
 use Rattle.lz_vault.specs.Stages.{Cell}
-use Rattle.lz_vault.specs.Vaults.{cell_at, cells_at}
+use Rattle.lz_vault.specs.Vaults.{cell_after, cells_at}
 use Rattle.lz_vault.specs.Members.{AreDistinct, keys_in, member_at, member_in, no_cell}
 use Rattle.lz_vault.specs.Makes.{MayBeMembers}
 use Rattle.lz_vault.specs.Opens.{IsCellOf, is_open, keys_of}
@@ -29,16 +29,16 @@ use Rattle.lz_vault.proofs.OpeningFinds.{found}
 
 -- one slot more
 module _ (entries : List Entry) (i : ℕ) (d : Entry) (low : i < length entries) where
-  more : keys_in (cells_at 0 (take (i + 1) entries)) ≡ keys_in (cells_at 0 (take i entries)) ++ cons_option (member_in (cell_at 0 (get_or entries i d))) []
+  more : keys_in (cells_at 0 (take (i + 1) entries)) ≡ keys_in (cells_at 0 (take i entries)) ++ cons_option (member_in (cell_after 0 (get_or entries i d))) []
   more =
       ap (λ (es : List Entry). keys_in (cells_at 0 es)) (take_more entries i d low)
-      ∙ ap keys_in (map-append (cell_at 0) (take i entries) (get_or entries i d ∷ []))
-      ∙ filter_map-append member_in (cells_at 0 (take i entries)) (cell_at 0 (get_or entries i d) ∷ [])
+      ∙ ap keys_in (map-append (cell_after 0) (take i entries) (get_or entries i d ∷ []))
+      ∙ filter_map-append member_in (cells_at 0 (take i entries)) (cell_after 0 (get_or entries i d) ∷ [])
 
-  pub key_more : (k : ℕ) → member_in (cell_at 0 (get_or entries i d)) ≡ Some k → keys_in (cells_at 0 (take (i + 1) entries)) ≡ keys_in (cells_at 0 (take i entries)) ++ k ∷ []
+  pub key_more : (k : ℕ) → member_in (cell_after 0 (get_or entries i d)) ≡ Some k → keys_in (cells_at 0 (take (i + 1) entries)) ≡ keys_in (cells_at 0 (take i entries)) ++ k ∷ []
   key_more k is = more ∙ ap (λ (m : Option ℕ). keys_in (cells_at 0 (take i entries)) ++ cons_option m []) is
 
-  pub no_more : member_in (cell_at 0 (get_or entries i d)) ≡ None → keys_in (cells_at 0 (take (i + 1) entries)) ≡ keys_in (cells_at 0 (take i entries))
+  pub no_more : member_in (cell_after 0 (get_or entries i d)) ≡ None → keys_in (cells_at 0 (take (i + 1) entries)) ≡ keys_in (cells_at 0 (take i entries))
   no_more is = more ∙ ap (λ (m : Option ℕ). keys_in (cells_at 0 (take i entries)) ++ cons_option m []) is ∙ append-nil _
 
 pub all_keys : (entries : List Entry) (n : ℕ) → length entries ≤ n → keys_in (cells_at 0 (take n entries)) ≡ keys_in (cells_at 0 entries)
@@ -113,12 +113,12 @@ key_of_member Closing key k is = absurd cc
 no_entry : Entry
 no_entry = record { stage = Closed; key = 0; written = 0 }
 
-module _ (t : List ℕ) (entries : List Entry) (each : (i : ℕ) (entry : Entry) → slice_get entries i ≡ Some entry → IsCellOf (slot_at t i) (cell_at 0 entry)) where
+module _ (t : List ℕ) (entries : List Entry) (each : (i : ℕ) (entry : Entry) → slice_get entries i ≡ Some entry → IsCellOf (slot_at t i) (cell_after 0 entry)) where
   first_held : (n : ℕ) → n ≤ length entries → keys_in (cells_at 0 (take n entries)) ≡ map (λ (node : ℕ × ℕ). node.0) (held t n)
   first_held zero le = refl
   first_held (suc n) le =
       let low : n < length entries = omega (arith, le) in
-      let cell = cell_at 0 (get_or entries n no_entry) in
+      let cell = cell_after 0 (get_or entries n no_entry) in
       let next : suc n ≡ n + 1 = omega arith in
       ap (λ (m : ℕ). keys_in (cells_at 0 (take m entries))) next
       ∙ more entries n no_entry low
@@ -136,7 +136,7 @@ module _ (before after : Device) (format : Format) (entries : List Entry) (finds
   are_held honest =
       let t = before.medium.seen in
       let whole = found t entries (finds.bytes honest) (finds.size honest) finds.count (finds.head honest) (finds.read honest) in
-      let count : length (cells_at 0 entries) ≡ length entries = length-map entries (cell_at 0) in (
+      let count : length (cells_at 0 entries) ≡ length entries = length-map entries (cell_after 0) in (
         length entries,
         holds_same_set t (length entries) (keys_of (cells_at 0 entries)) (members (keys_in (cells_at 0 entries))) (same_keys (cells_at 0 entries))
             (subst (λ (n : ℕ). Holds t n (keys_of (cells_at 0 entries))) count whole.held),
@@ -152,6 +152,6 @@ module _ (before after : Device) (format : Format) (entries : List Entry) (finds
           let k = get_or (keys_in (cells_at 0 entries)) i 0 in
           let at = slot_of (cells_at 0 entries) i lt in
           let cell = get_or (cells_at 0 entries) at.0 no_cell in
-          let from = from_mapped (cell_at 0) entries at.0 cell (slice_get-get_or (cells_at 0 entries) at.0 no_cell at.1) in
+          let from = from_mapped (cell_after 0) entries at.0 cell (slice_get-get_or (cells_at 0 entries) at.0 no_cell at.1) in
           let key : cell.key ≡ k = key_of_member cell.stage cell.key k at.2 in
           subst (λ (q : ℕ). q ≤ largest_of Two) (sym (ap (λ (c : Cell). c.key) from.2) ∙ key) (fits_two format from.0.key (finds.fresh at.0 from.0 from.1).1)

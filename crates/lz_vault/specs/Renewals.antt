@@ -24,8 +24,8 @@ abbrev pub AreHeldBy : List ℕ → List ℕ → Type 0
 AreHeldBy t ks = (N : ℕ) × Holds t N (members ks) × (ks ≡ map (λ node. node.0) (held t N))
 
 -- a device, if it is honest, has a file of so many members
-abbrev pub HasMembers : Device → ℕ → Type 0
-HasMembers disk m = IsTrue disk.honest → (ks : List ℕ) × AreHeldBy disk.medium.seen ks × (length ks ≡ m)
+abbrev pub HoldsSoMany : Device → ℕ → Type 0
+HoldsSoMany disk m = IsTrue disk.honest → (ks : List ℕ) × AreHeldBy disk.medium.seen ks × (length ks ≡ m)
 
 -- the m members of the old file stand in a new one of n slots, which is on the disk at rest
 abbrev pub Renews : Device → Device → Device → ℕ → ℕ → Type 0
@@ -42,9 +42,9 @@ IsToldFirst (TooSmall m n) = Unit {0}
 -- why a file isn't renewed: it isn't opened, or has more members than n, or else no new file of n slots is made
 abbrev pub IsRenewFaultOf : Device → Device → Device → Device → ℕ → RenewFault → Type 0
 IsRenewFaultOf old old_after new new_after n (Old fault) = IsRefusedFor old old_after fault
-IsRenewFaultOf old old_after new new_after n (TooSmall m slots) = (slots ≡ n) × (n < m) × HasMembers old m
+IsRenewFaultOf old old_after new new_after n (TooSmall m slots) = (slots ≡ n) × (n < m) × HoldsSoMany old m
 IsRenewFaultOf old old_after new new_after n (New fault) =
-    IsMakeFaultOf new new_after n fault × (fault ≢ BadCount → (m : ℕ) × (m ≤ n) × HasMembers old m)
+    IsMakeFaultOf new new_after n fault × (fault ≢ BadCount → (m : ℕ) × (m ≤ n) × HoldsSoMany old m)
 
 -- the number by which a program tells a fault
 abbrev pub renew_fault_number : RenewFault → ℕ

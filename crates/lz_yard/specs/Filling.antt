@@ -11,7 +11,7 @@ use Rattle.lz_list.specs.declared.place.Place.TheVariants.{Bucket}
 use Rattle.lz_list.specs.declared.word.Word.TheVariants.{Head, Link, Key}
 use Rattle.lz_list.specs.Words.{Words, set, link_with, next_at}
 use Rattle.lz_list.specs.Lists.{Listed, free_locks}
-use Rattle.lz_list.specs.Traces.{Chain, bucket_of, has_slot, opening, words_after}
+use Rattle.lz_list.specs.Traces.{Chain, bucket_of, has_slot, opening, words_of_trace}
 use Rattle.lz_machine.specs.declared.actor.Actor.{Actor}
 use Rattle.lz_machine.specs.Runs.{IsStart}
 use Rattle.lz_machine.specs.Yards.{Yard, opened_yard, idle_actor}
@@ -31,7 +31,7 @@ with_members (f ∷ found) w = with_first (with_members found w) f.0 f.1
 pub record AreTables (cells : List Cell) (buckets passes : ℕ) (list : Listed) (allot : Allotted) (actors : List Actor) : Type 0 where
   pub members : Chain
   pub found : AreMembers cells (length cells) members
-  pub words : list.words ≡ words_after (length cells) buckets passes (opening buckets members)
+  pub words : list.words ≡ words_of_trace (length cells) buckets passes (opening buckets members)
   pub locks : list.locks ≡ free_locks list.words
   pub uses : allot.uses ≡ map (λ s. if has_slot s members then Taken else Free) (range_with_len 0 (length cells))
   pub rows : length allot.rows ≡ passes

@@ -32,7 +32,7 @@ pub record HasInRange (slots : ℕ) (actor : Actor) : Type 0 where
   pub curr : IfSome actor.curr (λ s. s < slots)
 
 -- The parts fit: each table is as long as the shape says, actors have slots in hand, and no sync was made beyond the last.
-pub record Fits (y : Yard) (known : ℕ) : Type 0 where
+pub record PartsFit (y : Yard) (known : ℕ) : Type 0 where
   pub cells : length y.vault.cells ≡ y.shape.slots
   pub heads : length y.words.heads ≡ y.shape.buckets
   pub links : length y.words.links ≡ y.shape.slots

@@ -4,7 +4,7 @@ ghost use Rattle.lz_yard.specs.Steps.{Played};
 ghost use Rattle.lz_machine.specs.Table.{course};
 ghost use Rattle.lz_machine.specs.Ready.{IsEventOf, IsReady};
 ghost use Rattle.lz_vault.specs.Vaults.{NoCall, Succeeds};
-ghost use Rattle.lz_yard.specs.Parts.{Does, Fits, Known};
+ghost use Rattle.lz_yard.specs.Parts.{Does, PartsFit, Known};
 
 use crate::parts::Parts;
 use crate::told::nothing_told;
@@ -24,7 +24,7 @@ macro_rules! played {
 impl<D: Disk> Parts<D> {
     // Plays an event whose course is to be played.
     fn play(&mut self, actor: usize, event: Event) -> Result<Outcome, VaultFault>
-        requires fits { Fits self.old.yard self.old.rows }
+        requires fits { PartsFit self.old.yard self.old.rows }
         requires ready { IsReady self.old.yard actor event }
         requires known { Known Course.Plays self.old.yard actor event }
         requires quiet { Succeeds NoCall (D.device self.old.disk) (D.device self.old.disk) }
@@ -59,7 +59,7 @@ impl<D: Disk> Parts<D> {
     pub(crate) fn step(&mut self, actor: usize, event: Event) -> Outcome
         requires low { 1 ≤ actor }
         requires high { actor ≤ length self.old.yard.actors }
-        requires fits { Fits self.old.yard self.old.rows }
+        requires fits { PartsFit self.old.yard self.old.rows }
         requires event { IsEventOf self.old.yard event }
         requires ready { course self.old.yard actor event ≡ Course.Plays → IsReady self.old.yard actor event }
         ensures played { Played self.old.yard actor event result self.new.yard self.new.told (D.device self.old.disk) (D.device self.new.disk) }

@@ -3,7 +3,7 @@ ghost use Rattle.std.specs.Prelude.{◌≡◌, ◌≢◌, ◌≤◌, length};
 ghost use Rattle.lz_vault.specs.Vaults.{NoCall, Succeeds};
 ghost use Rattle.lz_machine.specs.Table.{course, needs};
 ghost use Rattle.lz_machine.specs.Ready.{IsEventOf};
-ghost use Rattle.lz_yard.specs.Parts.{Fits, Known};
+ghost use Rattle.lz_yard.specs.Parts.{PartsFit, Known};
 
 use crate::hold::{
     has_checked, has_closed, has_marked, has_opened, is_played_dead, may_check, may_claim,
@@ -19,7 +19,7 @@ impl<D: Disk> Parts<D> {
     fn needs(&self, actor: usize, event: Event) -> bool
         requires low { 1 ≤ actor }
         requires high { actor ≤ length self.now.yard.actors }
-        requires fits { Fits self.now.yard self.now.rows }
+        requires fits { PartsFit self.now.yard self.now.rows }
         ensures { result ≡ needs self.now.yard actor event }
     {
         let hand = self.actor(actor);
@@ -58,7 +58,7 @@ impl<D: Disk> Parts<D> {
     pub(crate) fn course(&self, actor: usize, event: Event) -> Course
         requires low { 1 ≤ actor }
         requires high { actor ≤ length self.now.yard.actors }
-        requires fits { Fits self.now.yard self.now.rows }
+        requires fits { PartsFit self.now.yard self.now.rows }
         requires event { IsEventOf self.now.yard event }
         ensures course { result ≡ course self.now.yard actor event }
         ensures known { Known result self.now.yard actor event }

@@ -8,7 +8,7 @@ ghost use Rattle.lz_machine.specs.Yards.{actor_at, cell_at};
 ghost use Rattle.lz_machine.specs.Runs.{with_words};
 ghost use Rattle.lz_machine.specs.Table.{given_back, is_unused, kept_slot, last_pin, pin_answered, pin_of, set_actor, with_slot, with_vault, words_after};
 ghost use Rattle.lz_machine.specs.Ready.{IsReady};
-ghost use Rattle.lz_yard.specs.Parts.{Does, Fits, Known, with_actors, with_uses};
+ghost use Rattle.lz_yard.specs.Parts.{Does, PartsFit, Known, with_actors, with_uses};
 
 use crate::hold::{is_old, released, stays_out};
 use crate::parts::Parts;
@@ -88,7 +88,7 @@ impl<D: Disk> Parts<D> {
         actor: usize,
         command: Command,
     ) -> Result<Outcome, VaultFault>
-        requires fits { Fits self.old.yard self.old.rows }
+        requires fits { PartsFit self.old.yard self.old.rows }
         requires ready { IsReady self.old.yard actor (Event.Invoke command) }
         requires known { Known Course.Plays self.old.yard actor (Event.Invoke command) }
         requires quiet { Succeeds NoCall (D.device self.old.disk) (D.device self.old.disk) }
@@ -106,7 +106,7 @@ impl<D: Disk> Parts<D> {
     }
 
     pub(crate) fn play_pin(&mut self, actor: usize) -> Result<Outcome, VaultFault>
-        requires fits { Fits self.old.yard self.old.rows }
+        requires fits { PartsFit self.old.yard self.old.rows }
         requires ready { IsReady self.old.yard actor Event.Pin }
         requires known { Known Course.Plays self.old.yard actor Event.Pin }
         requires quiet { Succeeds NoCall (D.device self.old.disk) (D.device self.old.disk) }
@@ -119,7 +119,7 @@ impl<D: Disk> Parts<D> {
     }
 
     pub(crate) fn play_hop(&mut self, actor: usize, word: Word) -> Result<Outcome, VaultFault>
-        requires fits { Fits self.old.yard self.old.rows }
+        requires fits { PartsFit self.old.yard self.old.rows }
         requires ready { IsReady self.old.yard actor (Event.Hop word) }
         requires known { Known Course.Plays self.old.yard actor (Event.Hop word) }
         requires quiet { Succeeds NoCall (D.device self.old.disk) (D.device self.old.disk) }
@@ -130,7 +130,7 @@ impl<D: Disk> Parts<D> {
     }
 
     pub(crate) fn play_reserve(&mut self, actor: usize) -> Result<Outcome, VaultFault>
-        requires fits { Fits self.old.yard self.old.rows }
+        requires fits { PartsFit self.old.yard self.old.rows }
         requires ready { IsReady self.old.yard actor Event.Reserve }
         requires known { Known Course.Plays self.old.yard actor Event.Reserve }
         requires quiet { Succeeds NoCall (D.device self.old.disk) (D.device self.old.disk) }
@@ -147,7 +147,7 @@ impl<D: Disk> Parts<D> {
     }
 
     pub(crate) fn play_write_key(&mut self, actor: usize, key: Key) -> Result<Outcome, VaultFault>
-        requires fits { Fits self.old.yard self.old.rows }
+        requires fits { PartsFit self.old.yard self.old.rows }
         requires ready { IsReady self.old.yard actor (Event.WriteKey key) }
         requires known { Known Course.Plays self.old.yard actor (Event.WriteKey key) }
         ensures done { Does self.old.yard actor (Event.WriteKey key) result self.new.yard (D.device self.old.disk) (D.device self.new.disk) }
@@ -165,7 +165,7 @@ impl<D: Disk> Parts<D> {
         pred: Place,
         curr: Option<Slot>,
     ) -> Result<Outcome, VaultFault>
-        requires fits { Fits self.old.yard self.old.rows }
+        requires fits { PartsFit self.old.yard self.old.rows }
         requires ready { IsReady self.old.yard actor (Event.Claim pred curr) }
         requires known { Known Course.Plays self.old.yard actor (Event.Claim pred curr) }
         requires quiet { Succeeds NoCall (D.device self.old.disk) (D.device self.old.disk) }
@@ -188,7 +188,7 @@ impl<D: Disk> Parts<D> {
     }
 
     pub(crate) fn play_check(&mut self, actor: usize) -> Result<Outcome, VaultFault>
-        requires fits { Fits self.old.yard self.old.rows }
+        requires fits { PartsFit self.old.yard self.old.rows }
         requires ready { IsReady self.old.yard actor Event.Check }
         requires known { Known Course.Plays self.old.yard actor Event.Check }
         requires quiet { Succeeds NoCall (D.device self.old.disk) (D.device self.old.disk) }
@@ -206,7 +206,7 @@ impl<D: Disk> Parts<D> {
     }
 
     pub(crate) fn play_write_open(&mut self, actor: usize) -> Result<Outcome, VaultFault>
-        requires fits { Fits self.old.yard self.old.rows }
+        requires fits { PartsFit self.old.yard self.old.rows }
         requires ready { IsReady self.old.yard actor Event.WriteOpen }
         requires known { Known Course.Plays self.old.yard actor Event.WriteOpen }
         ensures done { Does self.old.yard actor Event.WriteOpen result self.new.yard (D.device self.old.disk) (D.device self.new.disk) }
@@ -221,7 +221,7 @@ impl<D: Disk> Parts<D> {
     }
 
     pub(crate) fn play_link(&mut self, actor: usize) -> Result<Outcome, VaultFault>
-        requires fits { Fits self.old.yard self.old.rows }
+        requires fits { PartsFit self.old.yard self.old.rows }
         requires ready { IsReady self.old.yard actor Event.Link }
         requires known { Known Course.Plays self.old.yard actor Event.Link }
         requires quiet { Succeeds NoCall (D.device self.old.disk) (D.device self.old.disk) }
@@ -240,7 +240,7 @@ impl<D: Disk> Parts<D> {
     }
 
     pub(crate) fn play_write_close(&mut self, actor: usize) -> Result<Outcome, VaultFault>
-        requires fits { Fits self.old.yard self.old.rows }
+        requires fits { PartsFit self.old.yard self.old.rows }
         requires ready { IsReady self.old.yard actor Event.WriteClose }
         requires known { Known Course.Plays self.old.yard actor Event.WriteClose }
         ensures done { Does self.old.yard actor Event.WriteClose result self.new.yard (D.device self.old.disk) (D.device self.new.disk) }
@@ -253,7 +253,7 @@ impl<D: Disk> Parts<D> {
     }
 
     pub(crate) fn play_mark(&mut self, actor: usize) -> Result<Outcome, VaultFault>
-        requires fits { Fits self.old.yard self.old.rows }
+        requires fits { PartsFit self.old.yard self.old.rows }
         requires ready { IsReady self.old.yard actor Event.Mark }
         requires known { Known Course.Plays self.old.yard actor Event.Mark }
         requires quiet { Succeeds NoCall (D.device self.old.disk) (D.device self.old.disk) }
@@ -267,7 +267,7 @@ impl<D: Disk> Parts<D> {
     }
 
     pub(crate) fn play_release(&mut self, actor: usize) -> Result<Outcome, VaultFault>
-        requires fits { Fits self.old.yard self.old.rows }
+        requires fits { PartsFit self.old.yard self.old.rows }
         requires ready { IsReady self.old.yard actor Event.Release }
         requires known { Known Course.Plays self.old.yard actor Event.Release }
         requires quiet { Succeeds NoCall (D.device self.old.disk) (D.device self.old.disk) }
@@ -281,7 +281,7 @@ impl<D: Disk> Parts<D> {
     }
 
     pub(crate) fn play_sync(&mut self, actor: usize, slot: Slot) -> Result<Outcome, VaultFault>
-        requires fits { Fits self.old.yard self.old.rows }
+        requires fits { PartsFit self.old.yard self.old.rows }
         requires ready { IsReady self.old.yard actor (Event.Sync slot) }
         requires known { Known Course.Plays self.old.yard actor (Event.Sync slot) }
         requires quiet { Succeeds NoCall (D.device self.old.disk) (D.device self.old.disk) }
@@ -295,7 +295,7 @@ impl<D: Disk> Parts<D> {
     }
 
     pub(crate) fn play_settle(&mut self, actor: usize, slot: Slot) -> Result<Outcome, VaultFault>
-        requires fits { Fits self.old.yard self.old.rows }
+        requires fits { PartsFit self.old.yard self.old.rows }
         requires ready { IsReady self.old.yard actor (Event.Settle slot) }
         requires known { Known Course.Plays self.old.yard actor (Event.Settle slot) }
         requires quiet { Succeeds NoCall (D.device self.old.disk) (D.device self.old.disk) }
@@ -310,7 +310,7 @@ impl<D: Disk> Parts<D> {
     }
 
     pub(crate) fn play_unlink(&mut self, actor: usize) -> Result<Outcome, VaultFault>
-        requires fits { Fits self.old.yard self.old.rows }
+        requires fits { PartsFit self.old.yard self.old.rows }
         requires ready { IsReady self.old.yard actor Event.Unlink }
         requires known { Known Course.Plays self.old.yard actor Event.Unlink }
         requires quiet { Succeeds NoCall (D.device self.old.disk) (D.device self.old.disk) }
@@ -325,7 +325,7 @@ impl<D: Disk> Parts<D> {
     }
 
     pub(crate) fn play_retire(&mut self, actor: usize) -> Result<Outcome, VaultFault>
-        requires fits { Fits self.old.yard self.old.rows }
+        requires fits { PartsFit self.old.yard self.old.rows }
         requires ready { IsReady self.old.yard actor Event.Retire }
         requires known { Known Course.Plays self.old.yard actor Event.Retire }
         requires quiet { Succeeds NoCall (D.device self.old.disk) (D.device self.old.disk) }
@@ -344,7 +344,7 @@ impl<D: Disk> Parts<D> {
         pass: usize,
         value: u64,
     ) -> Result<Outcome, VaultFault>
-        requires fits { Fits self.old.yard self.old.rows }
+        requires fits { PartsFit self.old.yard self.old.rows }
         requires ready { IsReady self.old.yard actor (Event.SeePin pass value) }
         requires known { Known Course.Plays self.old.yard actor (Event.SeePin pass value) }
         requires quiet { Succeeds NoCall (D.device self.old.disk) (D.device self.old.disk) }
@@ -356,7 +356,7 @@ impl<D: Disk> Parts<D> {
     }
 
     pub(crate) fn play_answer(&mut self, actor: usize) -> Result<Outcome, VaultFault>
-        requires fits { Fits self.old.yard self.old.rows }
+        requires fits { PartsFit self.old.yard self.old.rows }
         requires ready { IsReady self.old.yard actor Event.Answer }
         requires known { Known Course.Plays self.old.yard actor Event.Answer }
         requires quiet { Succeeds NoCall (D.device self.old.disk) (D.device self.old.disk) }
@@ -372,7 +372,7 @@ impl<D: Disk> Parts<D> {
     }
 
     pub(crate) fn play_halt(&mut self, actor: usize) -> Result<Outcome, VaultFault>
-        requires fits { Fits self.old.yard self.old.rows }
+        requires fits { PartsFit self.old.yard self.old.rows }
         requires ready { IsReady self.old.yard actor Event.Halt }
         requires known { Known Course.Plays self.old.yard actor Event.Halt }
         requires quiet { Succeeds NoCall (D.device self.old.disk) (D.device self.old.disk) }

@@ -6,7 +6,7 @@ ghost use Rattle.lz_list.specs.Lists.{IsWord};
 ghost use Rattle.lz_machine.specs.Table.{is_sure, pin_of, publishes, settling, stays_out, word_changed};
 ghost use Rattle.lz_machine.specs.Ready.{IsReady};
 ghost use Rattle.lz_machine.specs.Yards.{actor_at, cell_at};
-ghost use Rattle.lz_yard.specs.Parts.{Fits, Known};
+ghost use Rattle.lz_yard.specs.Parts.{PartsFit, Known};
 ghost use Rattle.lz_yard.specs.Steps.{Tells, value_of};
 
 use crate::hold::stays_out;
@@ -50,7 +50,7 @@ impl<D: Disk> Parts<D> {
     fn word_changed(&self, actor: usize, event: Event) -> Option<Word>
         requires low { 1 ≤ actor }
         requires high { actor ≤ length self.now.yard.actors }
-        requires fits { Fits self.now.yard self.now.rows }
+        requires fits { PartsFit self.now.yard self.now.rows }
         requires ready { IsReady self.now.yard actor event }
         requires known { Known Course.Plays self.now.yard actor event }
         ensures word { result ≡ word_changed self.now.yard (actor_at self.now.yard actor) actor event }
@@ -105,7 +105,7 @@ impl<D: Disk> Parts<D> {
     fn publishing(&self, actor: usize, event: Event) -> Option<Publishing>
         requires low { 1 ≤ actor }
         requires high { actor ≤ length self.now.yard.actors }
-        requires fits { Fits self.now.yard self.now.rows }
+        requires fits { PartsFit self.now.yard self.now.rows }
         requires ready { IsReady self.now.yard actor event }
         ensures { option_to_list result ≡ publishes self.now.yard (actor_at self.now.yard actor) actor event }
     {
@@ -140,7 +140,7 @@ impl<D: Disk> Parts<D> {
     pub(crate) fn tell(&self, actor: usize, event: Event) -> Told
         requires low { 1 ≤ actor }
         requires high { actor ≤ length self.now.yard.actors }
-        requires fits { Fits self.now.yard self.now.rows }
+        requires fits { PartsFit self.now.yard self.now.rows }
         requires ready { IsReady self.now.yard actor event }
         requires known { Known Course.Plays self.now.yard actor event }
         ensures { Tells self.now.yard (actor_at self.now.yard actor) actor event result }

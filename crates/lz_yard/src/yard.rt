@@ -33,13 +33,13 @@ pub struct Yard<D: Disk> {
 impl<D: Disk> Model for Yard<D> {
     ghost use Rattle.std.specs.Prelude.{IfSome};
     ghost use Rattle.lz_list.specs.Lists.{IsWord};
-    ghost use Rattle.lz_yard.specs.Parts.{Fits, YardOver};
+    ghost use Rattle.lz_yard.specs.Parts.{PartsFit, YardOver};
 
     ghost Value = { YardOver D };
 
     ghost view = { λ y. record { yard = y.parts.yard; told = y.parts.told; disk = y.parts.disk } };
 
-    ghost invariant = { λ y. Fits y.parts.yard y.parts.rows × IfSome y.parts.told.changed (IsWord y.parts.yard.words) };
+    ghost invariant = { λ y. PartsFit y.parts.yard y.parts.rows × IfSome y.parts.told.changed (IsWord y.parts.yard.words) };
 }
 
 impl<D: Disk> Yard<D> {

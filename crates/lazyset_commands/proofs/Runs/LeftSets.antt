@@ -10,7 +10,7 @@ use Rattle.lz_machine.proofs.Open.FirstPoint.{one_set}
 use Rattle.lz_board.specs.declared.view.Note.{Note}
 use Rattle.lz_board.specs.declared.view.Part.{Part}
 use Rattle.lz_board.specs.declared.view.Sizes.{Sizes}
-use Rattle.lz_board.specs.Notes.{shape_of}
+use Rattle.lz_board.specs.Notes.{shape_of_sizes}
 use Rattle.lz_board.specs.Seats.{BoardId, part}
 use Rattle.lz_serve.specs.Replies.{SeatAnswers}
 use Rattle.lz_tie.specs.Moments.{ExplainsBegun}
@@ -91,7 +91,7 @@ module _ {D : Type 0} (device : D → Device) (buckets : ℕ) (state : Status) (
       no_steps = no_steps;
       served = refl;
       cut = tt;
-      tells = subst (λ (l : List Note). [] ≡ marks_alone (part seat.begun).number (told (shape_of b.sizes) l)) (sym no_steps) refl;
+      tells = subst (λ (l : List Note). [] ≡ marks_alone (part seat.begun).number (told (shape_of_sizes b.sizes) l)) (sym no_steps) refl;
     }
 
     begins : S0 ≡ S

@@ -10,14 +10,14 @@ use Rattle.lz_slot.specs.declared.slot.SlotRead.TheVariants.{Closed, Member, Bad
 use Rattle.lz_slot.specs.Bytes.{slot_at, held, held_key}
 use Rattle.lz_list.specs.declared.word.Word.TheVariants.{Head, Link, Key}
 use Rattle.lz_list.specs.Words.{Words, bit_of, link_with}
-use Rattle.lz_list.specs.Traces.{Trace, Chain, has_slot, on, place_before, bucket_of, chain_of, node_next, is_marked, has_added, has_removed, word_after, words_after, opening, IsFound}
+use Rattle.lz_list.specs.Traces.{Trace, Chain, has_slot, on, place_before, bucket_of, chain_of, node_next, is_marked, has_added, has_removed, word_after, words_of_trace, opening, IsFound}
 use Rattle.lz_list.proofs.Chains.PlaceRank.{before_on}
 use Rattle.lz_list.proofs.Tables.WordTable.{table_at, length-table}
 use Rattle.lz_list.proofs.Chains.ChainNode.{has_slot_append, has_node_append, node_slot}
 use Rattle.lz_machine.specs.Yards.{Shape, first_trace}
 use Rattle.lz_slot.specs.Nodes.{has_node}
 use Rattle.lz_machine.proofs.Open.FirstNodes.{off_chains, node_key, none_marked, held_found}
-use Rattle.lz_board.specs.Opened.{node_if, shown_in, opened_by, IsOpened}
+use Rattle.lz_board.specs.Opened.{node_if, shown_in, opened_by, AreOpened}
 
 -- the members by slots, the lowest first
 abbrev pub node_of : Option ℕ → ℕ → Chain
@@ -87,7 +87,7 @@ module _ (N B S : ℕ) (m : ℕ → Option ℕ) (found : IsFound N (members_by m
   P = opening B (members_by m N)
 
   abbrev W : Words
-  W = words_after N B S P
+  W = words_of_trace N B S P
 
   node_shown : (s : ℕ) → s < N → (o : Option ℕ) → m s ≡ o → node_if (nat_lt 0 (word_after B P (Link s))) (word_after B P (Key s)) s ≡ node_of o s
   node_shown s lt None is = ap (λ x. node_if (nat_lt 0 x) (word_after B P (Key s)) s) (link_closed B s (members_by m N) (no_member m N s is))
@@ -114,10 +114,10 @@ module _ (N B S : ℕ) (m : ℕ → Option ℕ) (found : IsFound N (members_by m
   pub opened_is : opened_by W ≡ P
   opened_is = λ i. opening (heads_long i) (shown i)
 
-  pub is_opened : IsOpened W
+  pub is_opened : AreOpened W
   is_opened = record {
     found = subst (λ (x : ℕ × Chain). IsFound x.0 x.1) (λ i. (sym links_long i, sym shown i)) found;
-    words = λ i. words_after (sym links_long i) (sym heads_long i) (sym (length-replicate {A = ℕ} S 0) i) (sym opened_is i);
+    words = λ i. words_of_trace (sym links_long i) (sym heads_long i) (sym (length-replicate {A = ℕ} S 0) i) (sym opened_is i);
   }
 
 -- the members that a text holds
@@ -137,12 +137,12 @@ held_by t (suc n) = λ i. held_by t n i ++ held_node (slot_at t n) n i
 
 -- A life that read this text begins with the words of a board, whose trace at the start is the life's.
 pub opens_text : (shape : Shape) (t : List ℕ) (w : Words) → ((i j k : ℕ) → i < shape.slots → j < shape.slots → slot_at t i ≡ Member k → slot_at t j ≡ Member k → i ≡ j)
-    → w ≡ words_after shape.slots shape.buckets shape.passes (first_trace shape t) → IsOpened w × (opened_by w ≡ first_trace shape t)
+    → w ≡ words_of_trace shape.slots shape.buckets shape.passes (first_trace shape t) → AreOpened w × (opened_by w ≡ first_trace shape t)
 opens_text shape t w once is =
     let m : ℕ → Option ℕ = λ s. key_read (slot_at t s) in
     let N = shape.slots in
     let same = held_by t N in
     let found : IsFound N (members_by m N) = subst (IsFound N) same (held_found t N N once (omega arith)) in
     let first : opening shape.buckets (members_by m N) ≡ first_trace shape t = ap (opening shape.buckets) (sym same) in
-    let words : w ≡ words_after N shape.buckets shape.passes (opening shape.buckets (members_by m N)) = is ∙ ap (words_after N shape.buckets shape.passes) (sym first) in
-    (subst IsOpened (sym words) (is_opened N shape.buckets shape.passes m found), ap opened_by words ∙ opened_is N shape.buckets shape.passes m found ∙ first)
+    let words : w ≡ words_of_trace N shape.buckets shape.passes (opening shape.buckets (members_by m N)) = is ∙ ap (words_of_trace N shape.buckets shape.passes) (sym first) in
+    (subst AreOpened (sym words) (is_opened N shape.buckets shape.passes m found), ap opened_by words ∙ opened_is N shape.buckets shape.passes m found ∙ first)

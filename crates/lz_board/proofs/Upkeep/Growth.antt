@@ -12,7 +12,7 @@ use Rattle.lz_board.specs.declared.view.Sizes.{Sizes}
 use Rattle.lz_board.specs.declared.view.Note.{Note}
 use Rattle.lz_board.specs.declared.view.Load.{Load}
 use Rattle.lz_board.specs.declared.view.Part.{Part}
-use Rattle.lz_board.specs.Notes.{listed, trace_of, own, is_for, Extends, Since, load_note, insert, splice, AllShown, pin_after, pin_after_what}
+use Rattle.lz_board.specs.Notes.{as_list, trace_of, own, is_for, Extends, Since, load_note, insert_load, splice, AllShown, pin_after, pin_after_what}
 use Rattle.lz_machine.specs.Yards.{IsInside}
 use Rattle.lz_board.specs.Kept.{shows, FoundSince, Knows}
 use Rattle.lz_board.specs.Noting.{HasLeft, AllLeft, MayPrepare}
@@ -66,7 +66,7 @@ stood_longer buckets b P0 P1 P x e h =
     once_from P0 r.0 P _ (begins_of P0 r.0 (extends_trans P0 P1 r.0 e (extends_of P1 r.0 r.1))) r.2 r.3
 
 -- what is published for no pass of this number
-own_listed : (q : ℕ) (x : Option Publishing) (more : Trace) → own q (listed x) ≡ [] → own q more ≡ [] → own q (listed x ++ more) ≡ []
+own_listed : (q : ℕ) (x : Option Publishing) (more : Trace) → own q (as_list x) ≡ [] → own q more ≡ [] → own q (as_list x ++ more) ≡ []
 own_listed q None more one rest = rest
 own_listed q (Some e) more one rest = go (is_for q e) refl
   where
@@ -77,8 +77,8 @@ own_listed q (Some e) more one rest = go (is_for q e) refl
         cons eq = absurd cc
     go false is = ap (λ b. if b then e ∷ own q more else own q more) is ∙ rest
 
-pub since_more : (q : ℕ) (x : Option Publishing) (t known : Trace) → own q (listed x) ≡ [] → Since q t known → Since q (listed x ++ t) known
-since_more q x t known none (more, is, none') = (listed x ++ more, ap (λ l. listed x ++ l) is ∙ sym (append_assoc (listed x) more known), own_listed q x more none none')
+pub since_more : (q : ℕ) (x : Option Publishing) (t known : Trace) → own q (as_list x) ≡ [] → Since q t known → Since q (as_list x ++ t) known
+since_more q x t known none (more, is, none') = (as_list x ++ more, ap (λ l. as_list x ++ l) is ∙ sym (append_assoc (as_list x) more known), own_listed q x more none none')
 
 pub shown_more : (z : Sizes) (a t : Trace) (hs : List Load) → AllShown z t hs → AllShown z (a ++ t) hs
 shown_more z a t [] s = tt
@@ -93,7 +93,7 @@ module _ (opened : Trace) where
       go true = refl
       go false = refl
 
-  pub found_insert : (p : ℕ) (h : Load) (ns : List Note) (g : Part) → FoundSince opened ns g → FoundSince opened (insert opened p h ns) g
+  pub found_insert : (p : ℕ) (h : Load) (ns : List Note) (g : Part) → FoundSince opened ns g → FoundSince opened (insert_load opened p h ns) g
   found_insert p h [] g f = ((λ is. absurd (true≢false (sym is ∙ hop_shows g.number p h))), tt)
   found_insert p h (x ∷ xs) g f = at_place opened (λ r. FoundSince opened r g) p h x xs
       (λ _. (subst (λ (y : ℕ × Trace). shows g.number x.by x.what ≡ true → (g.pin ≡ pin_after_what g.number x.by x.what y.0) ⊎ (length y.1 ≤ length g.begun)) (λ i. (sym (pin_insert opened g.number p h xs) i, sym (trace_insert opened p h xs) i)) f.0, found_insert p h xs g f.1))
@@ -106,7 +106,7 @@ module _ (opened : Trace) where
   -- a part that has stored its pin word since all of them
   pub found_all : (ns : List Note) (g : Part) → length (trace_of opened ns) ≤ length g.begun → FoundSince opened ns g
   found_all [] g le = tt
-  found_all (n ∷ ns) g le = let l = length-append (listed n.published) (trace_of opened ns) in ((λ is. inr (omega arith)), found_all ns g (omega arith))
+  found_all (n ∷ ns) g le = let l = length-append (as_list n.published) (trace_of opened ns) in ((λ is. inr (omega arith)), found_all ns g (omega arith))
 
   -- another part of the same pass with the same pin word
   pub found_same : (ns : List Note) (g h : Part) → h.number ≡ g.number → h.pin ≡ g.pin → h.begun ≡ g.begun → FoundSince opened ns g → FoundSince opened ns h
@@ -123,8 +123,8 @@ module _ (opened : Trace) where
       at (m ∷ more) f = at more f.1
 
   trace_rest : (more rest : List Note) (n : Note) → Extends (trace_of opened (more ++ n ∷ rest)) (trace_of opened rest)
-  trace_rest [] rest n = (listed n.published, refl)
-  trace_rest (m ∷ more) rest n = extends_more (listed m.published) (trace_of opened rest) (trace_of opened (more ++ n ∷ rest)) (trace_rest more rest n)
+  trace_rest [] rest n = (as_list n.published, refl)
+  trace_rest (m ∷ more) rest n = extends_more (as_list m.published) (trace_of opened rest) (trace_of opened (more ++ n ∷ rest)) (trace_rest more rest n)
 
 -- A slot that all passes have left stood on no chain since the pin of a pass that is inside.
 pub left_away : (z : Sizes) (opened : Trace) (ns : List Note) (g : Part) (s : ℕ) → Knows z opened ns g → AllLeft z opened ns s → IsInside g.pin → IsAway z.buckets g.begun (trace_of opened ns) s
@@ -153,7 +153,7 @@ left_away z opened ns g s k (inr left) inside = λ b stood. l.away b (stood_long
         parity n even odd = let e : 0 ≡ 1 = sym even ∙ odd in absurd (omega (arith, e))
 
 -- so what walkers rely on since their pin isn't prepared anew
-pub quiet_more_by : (z : Sizes) (opened : Trace) (ns : List Note) (g : Part) (x : Option Publishing) → Knows z opened ns g → MayPrepare z opened ns x → IsInside g.pin → IsQuiet z.buckets g.begun (listed x ++ trace_of opened ns)
+pub quiet_more_by : (z : Sizes) (opened : Trace) (ns : List Note) (g : Part) (x : Option Publishing) → Knows z opened ns g → MayPrepare z opened ns x → IsInside g.pin → IsQuiet z.buckets g.begun (as_list x ++ trace_of opened ns)
 quiet_more_by z opened ns g None k may inside = k.kept inside
 quiet_more_by z opened ns g (Some (key_prepared s v)) k may inside = (left_away z opened ns g s k may inside, k.kept inside)
 quiet_more_by z opened ns g (Some (link_prepared s v)) k may inside = (left_away z opened ns g s k may inside, k.kept inside)

@@ -9,7 +9,7 @@ use Rattle.lz_board.specs.declared.view.Sizes.{Sizes}
 use Rattle.lz_board.specs.declared.view.Note.{Note}
 use Rattle.lz_board.specs.declared.view.Part.{Part}
 use Rattle.lz_board.specs.declared.view.View.{View}
-use Rattle.lz_board.specs.Kept.{PartFits, Fits, Keeps}
+use Rattle.lz_board.specs.Kept.{PartFits, ViewFits, Keeps}
 use Rattle.lz_board.specs.Plays.{alone, nobody, together, kept_back, handed}
 use Rattle.lz_board.proofs.Upkeep.SeatTable.{replaced, one_part, at_end, moved, moved_same, moved_other, part_of_both, apart_both, given, given_moved, given_kept}
 
@@ -28,7 +28,7 @@ module _ (z : Sizes) (opened : Trace) where
       let top = mine.parts h (0, refl) in
       let here : ℕ = length s.views in
       let owner' = moved h.number here k.owner in
-      let F : ℕ → View → Type 0 = Fits z opened k.notes k.pen owner' s.words in
+      let F : ℕ → View → Type 0 = ViewFits z opened k.notes k.pen owner' s.words in
       let fits_left : F id left = record {
         whole = mine.whole;
         parts = λ g is. let f = mine.parts g (suc is.0, is.1) in owned_by k.notes k.owner owner' s.words id id g (moved_other h.number here k.owner g.number (mine.apart.0 g is) ∙ f.owned) f;
@@ -68,7 +68,7 @@ module _ (z : Sizes) (opened : Trace) where
       let theirs = k.views other u there in
       let both = together v u in
       let owner' = given other id k.owner in
-      let F : ℕ → View → Type 0 = Fits z opened k.notes k.pen owner' s.words in
+      let F : ℕ → View → Type 0 = ViewFits z opened k.notes k.pen owner' s.words in
       let fits_both : F id both = record {
         whole = mine.whole;
         parts = λ g is. ⊎_elim

@@ -17,7 +17,7 @@ use Rattle.lz_board.specs.declared.view.View.{View}
 use Rattle.lz_board.specs.Notes.{trace_of, steps_of, IsShared, pin_after}
 use Rattle.lz_board.specs.Addresses.{index, word_at}
 use Rattle.lz_machine.specs.Yards.{IsInside}
-use Rattle.lz_board.specs.Kept.{is_calling, Knows, PartFits, IsPart, Fits, PinTold, Keeps}
+use Rattle.lz_board.specs.Kept.{is_calling, Knows, PartFits, IsPart, ViewFits, PinTold, Keeps}
 use Rattle.lz_board.specs.Plays as plays
 use Rattle.lz_board.specs.Plays.{pen_view, with_parts, knowing, loading, found_note, found_view, IsShownTo}
 use Rattle.lz_board.proofs.Upkeep.Address.{shared_boards, decode}
@@ -41,7 +41,7 @@ module _ (z : Sizes) (opened : Trace) where
     pub keeps_parts : Keeps z opened record { words = s.words; homes = s.homes; views = set s.views id (with_parts f v) }
     keeps_parts =
         let mine = k.views id v at in
-        let fits : Fits z opened k.notes k.pen k.owner s.words id (with_parts f v) = record {
+        let fits : ViewFits z opened k.notes k.pen k.owner s.words id (with_parts f v) = record {
           whole = mine.whole;
           parts = λ g is. let r = from_map f v.held g is in let q = mine.parts r.0 r.1 in subst (PartFits z opened k.notes k.owner s.words id) (sym r.2) record {
             owned = ap k.owner (number r.0) ∙ q.owned;
@@ -58,7 +58,7 @@ module _ (z : Sizes) (opened : Trace) where
           long = k.long;
           words = k.words;
           pins = k.pins;
-          views = replaced (Fits z opened k.notes k.pen k.owner s.words) s.views id (with_parts f v) fits (λ j u _ e. k.views j u e);
+          views = replaced (ViewFits z opened k.notes k.pen k.owner s.words) s.views id (with_parts f v) fits (λ j u _ e. k.views j u e);
         }
 
   pub looks : (slots id : ℕ) (w : Word) (me : Me Note View) → IsShared z w → Allows (Keeps z opened) slots id me (index z w) (λ n. n) (plays.Looked (step slots (index z w) 0 0 none) me)
@@ -132,7 +132,7 @@ module _ (z : Sizes) (opened : Trace) where
         pinned = g.pinned;
         knows = knows_found z opened k.notes q found h g.knows (pin_is j h g) (told_pin j h g);
       } in
-      let F = Fits z opened now k.pen k.owner s.words in
+      let F = ViewFits z opened now k.pen k.owner s.words in
       let fits : F id v = record {
         whole = λ _. (whole.0, refl, refl, ap (λ l. found_note q found ∷ l) same);
         parts = λ h is. more id h (mine.parts h is);

@@ -13,7 +13,7 @@ use Rattle.lz_board.specs.declared.view.What.TheVariants.{Called, Played, Found}
 use Rattle.lz_board.specs.declared.view.Note.{Note}
 use Rattle.lz_board.specs.declared.view.Load.{Load}
 use Rattle.lz_board.specs.declared.view.Part.{Part}
-use Rattle.lz_board.specs.Notes.{listed, trace_of, steps_of, Extends, Since, load_note, splice, Quiet, InOrder, IsShared, AllShown, pin_after_played, pin_after, pin_after_what, turned_at}
+use Rattle.lz_board.specs.Notes.{as_list, trace_of, steps_of, Extends, Since, load_note, splice, Quiet, InOrder, IsShared, AllShown, pin_after_played, pin_after, pin_after_what, turned_at}
 use Rattle.lz_board.specs.Addresses.{word_at}
 use Rattle.lz_board.specs.Kept.{is_calling, shows_played, shows, Knows, PinTold}
 use Rattle.lz_board.specs.Noting.{IsStep, MayNote, KeepsPin, MovesPin}
@@ -133,8 +133,8 @@ module _ (z : Sizes) (opened : Trace) (ns : List Note) where
     abbrev t' : Trace
     t' = trace_of opened now
 
-    pub trace_noted : t' ≡ listed n.published ++ t
-    trace_noted = ap (λ l. listed n.published ++ l) (trace_splice opened h.number h.loads ns)
+    pub trace_noted : t' ≡ as_list n.published ++ t
+    trace_noted = ap (λ l. as_list n.published ++ l) (trace_splice opened h.number h.loads ns)
 
     steps_noted : steps_of h.number now ≡ n ∷ (map (load_note h.number) h.loads ++ h.steps)
     steps_noted = own_step opened h.number n (splice opened h.number h.loads ns) may.by
@@ -143,13 +143,13 @@ module _ (z : Sizes) (opened : Trace) (ns : List Note) where
     quiet_noted : Quiet opened h.number (length t') now
     quiet_noted =
         let below = since_length h.number t h.known k.since in
-        let long = ap length trace_noted ∙ length-append (listed n.published) t in
+        let long = ap length trace_noted ∙ length-append (as_list n.published) t in
         ((λ over. absurd (omega arith)), quiet_more opened h.number (length h.known) (length t') (splice opened h.number h.loads ns) (quiet_splice opened h.number h.base (length h.known) h.loads ns k.quiet k.least k.order) (omega (arith, below, long)))
 
     least_noted : length opened ≤ length t'
     least_noted =
         let a = extends_length opened h.begun k.began in let b = extends_length h.begun t k.from in
-        let long = ap length trace_noted ∙ length-append (listed n.published) t in omega (arith, a, b, long)
+        let long = ap length trace_noted ∙ length-append (as_list n.published) t in omega (arith, a, b, long)
 
     pin_noted : pin_after h.number (splice opened h.number h.loads ns) ≡ h.pin
     pin_noted = pin_splice opened h.number h.number h.loads ns ∙ may.pin
@@ -164,7 +164,7 @@ module _ (z : Sizes) (opened : Trace) (ns : List Note) where
     -- one that counts it up is the last change
     turned_moved : MovesPin h n → turned_at h.number opened now ≡ t'
     turned_moved moves = ap (λ b. if b then turned_at h.number opened (splice opened h.number h.loads ns) else trace_of opened (splice opened h.number h.loads ns)) (ne_eqb (pin_after h.number now) (pin_after h.number (splice opened h.number h.loads ns)) (λ same. let now_is = pin_now (suc h.pin) moves.0 in let was_is = pin_noted in absurd (omega (arith, same, now_is, was_is))))
-        ∙ ap (λ x. listed x ++ trace_of opened (splice opened h.number h.loads ns)) (sym moves.2)
+        ∙ ap (λ x. as_list x ++ trace_of opened (splice opened h.number h.loads ns)) (sym moves.2)
 
     pub knows_noted : KeepsPin h n → Knows z opened now (noted_part opened ns n h)
     knows_noted keeps = record {
@@ -178,7 +178,7 @@ module _ (z : Sizes) (opened : Trace) (ns : List Note) where
       shown = tt;
       found = ((λ is. inl (sym (pin_now h.pin keeps))), found_splice opened h.number h.loads ns (noted_part opened ns n h) (found_same opened ns h (noted_part opened ns n h) refl refl refl k.found));
       began = k.began;
-      from = subst (λ l. Extends l h.begun) (sym trace_noted) (extends_more (listed n.published) h.begun t k.from);
+      from = subst (λ l. Extends l h.begun) (sym trace_noted) (extends_more (as_list n.published) h.begun t k.from);
       kept = λ inside. subst (IsQuiet z.buckets h.begun) (sym trace_noted) (quiet_more_by z opened ns h n.published k may.prepares inside);
       turned = λ inside calling. k.turned inside (may.inside inside) ∙ sym (turned_noted h.number (pin_now h.pin keeps ∙ sym pin_noted));
     }
@@ -194,7 +194,7 @@ module _ (z : Sizes) (opened : Trace) (ns : List Note) where
       order = le_refl (length t');
       shown = tt;
       found = found_all opened now (moved_part opened ns n h) (le_refl (length t'));
-      began = subst (λ l. Extends l opened) (sym trace_noted) (extends_more (listed n.published) opened t (extends_trans opened h.begun t k.began k.from));
+      began = subst (λ l. Extends l opened) (sym trace_noted) (extends_more (as_list n.published) opened t (extends_trans opened h.begun t k.began k.from));
       from = extends_refl t';
       kept = λ inside. quiet_new z.buckets t' t' (le_refl (length t'));
       turned = λ inside calling. sym (turned_moved moves);
@@ -211,10 +211,10 @@ module _ (z : Sizes) (opened : Trace) (ns : List Note) where
           quiet = ((λ over. other), quiet_splice_other opened g.number h.number g.base h.loads ns away f.quiet);
           least = f.least;
           order = f.order;
-          shown = subst (λ l. AllShown z l g.loads) (sym trace_noted) (shown_more z (listed n.published) t g.loads f.shown);
+          shown = subst (λ l. AllShown z l g.loads) (sym trace_noted) (shown_more z (as_list n.published) t g.loads f.shown);
           found = ((λ is. absurd (false≢true (sym (shows_other g.number n.by n.what may.step other) ∙ is))), found_splice opened h.number h.loads ns g f.found);
           began = f.began;
-          from = subst (λ l. Extends l g.begun) (sym trace_noted) (extends_more (listed n.published) g.begun t f.from);
+          from = subst (λ l. Extends l g.begun) (sym trace_noted) (extends_more (as_list n.published) g.begun t f.from);
           kept = λ inside. subst (IsQuiet z.buckets g.begun) (sym trace_noted) (quiet_more_by z opened ns g n.published f may.prepares inside);
           turned = λ inside calling. f.turned inside calling ∙ sym (turned_noted g.number (pin_other g.number n.by n.what (pin_after g.number (splice opened h.number h.loads ns)) may.step other));
         }

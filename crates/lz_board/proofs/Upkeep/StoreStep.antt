@@ -14,9 +14,9 @@ use Rattle.lz_board.specs.declared.view.Sizes.{Sizes}
 use Rattle.lz_board.specs.declared.view.Note.{Note}
 use Rattle.lz_board.specs.declared.view.Part.{Part}
 use Rattle.lz_board.specs.declared.view.View.{View}
-use Rattle.lz_board.specs.Notes.{listed, trace_of, IsShared}
+use Rattle.lz_board.specs.Notes.{as_list, trace_of, IsShared}
 use Rattle.lz_board.specs.Addresses.{index, word_at, words_count, IsBoards}
-use Rattle.lz_board.specs.Kept.{is_calling, Knows, PartFits, Fits, PinTold, Keeps}
+use Rattle.lz_board.specs.Kept.{is_calling, Knows, PartFits, ViewFits, PinTold, Keeps}
 use Rattle.lz_board.specs.Noting.{MayNote, KeepsPin, MovesPin, Writes}
 use Rattle.lz_board.specs.Plays as plays
 use Rattle.lz_board.specs.Plays.{alone, pen_view, with_parts, entering, noted, noted_part, moved_part, noted_view, IsShownTo}
@@ -41,12 +41,12 @@ module _ (z : Sizes) (opened : Trace) where
       let m = either (slice_index s.words i == old) new (slice_index s.words i) in
       let ws = set s.words i m in
       let own_knows : Knows z opened ns h = subst (λ l. Knows z opened l h) same own_part.knows in
-      let trace' : trace_of opened now ≡ listed n.published ++ trace_of opened ns = trace_noted z opened ns h n own_knows may in
+      let trace' : trace_of opened now ≡ as_list n.published ++ trace_of opened ns = trace_noted z opened ns h n own_knows may in
       let board_w = shared_boards z w writes.shared in
       let inside : i < length s.words = let l = k.long in let r = in_range z w board_w in omega arith in
       let other_word : (u : Word) → IsBoards z u → u ≢ w → slice_index ws (index z u) ≡ slice_index s.words (index z u) = λ u board ne. get_or-set_other s.words i (index z u) m 0 (places_apart z u w board board_w ne) in
       let pin_word : (p : ℕ) → 1 ≤ p → p ≤ z.passes → slice_index ws (index z (PinOf p)) ≡ slice_index s.words (index z (PinOf p)) = λ p one most. other_word (PinOf p) (one, most) (not_pin w p writes.shared) in
-      let F = Fits z opened now k.pen k.owner ws in
+      let F = ViewFits z opened now k.pen k.owner ws in
       let fits : F id v = record {
         whole = λ _. (whole.0, refl, refl, refl);
         parts = λ g is. subst (PartFits z opened now k.owner ws id) (one_part (noted_part opened ns n h) g is) record {
@@ -139,9 +139,9 @@ module _ (z : Sizes) (opened : Trace) where
       let is : m ≡ suc h.pin = ap (λ b. either b (suc h.pin) (slice_index s.words i)) (eq-eqb (slice_index s.words i) h.pin own_part.pinned) in
       let ws = set s.words i m in
       let own_knows : Knows z opened ns h = subst (λ l. Knows z opened l h) same own_part.knows in
-      let trace' : trace_of opened now ≡ listed n.published ++ trace_of opened ns = trace_noted z opened ns h n own_knows may in
-      let quiet : listed n.published ++ trace_of opened ns ≡ trace_of opened ns = ap (λ x. listed x ++ trace_of opened ns) moves.2 in
-      let F = Fits z opened now k.pen k.owner ws in
+      let trace' : trace_of opened now ≡ as_list n.published ++ trace_of opened ns = trace_noted z opened ns h n own_knows may in
+      let quiet : as_list n.published ++ trace_of opened ns ≡ trace_of opened ns = ap (λ x. as_list x ++ trace_of opened ns) moves.2 in
+      let F = ViewFits z opened now k.pen k.owner ws in
       let fits : F id v = record {
         whole = λ _. (whole.0, refl, refl, refl);
         parts = λ g is'. subst (PartFits z opened now k.owner ws id) (one_part (moved_part opened ns n h) g is') record {
@@ -188,7 +188,7 @@ module _ (z : Sizes) (opened : Trace) where
       let p = h.number in
       let i = index z (PinOf p) in
       let ws = set s.words i m in
-      let F = Fits z opened k.notes k.pen k.owner ws in
+      let F = ViewFits z opened k.notes k.pen k.owner ws in
       let fits : F id v = record {
         whole = λ is. absurd (true≢false (sym is));
         parts = λ g is. subst (PartFits z opened k.notes k.owner ws id) (one_part (entering t m h) g is) record {

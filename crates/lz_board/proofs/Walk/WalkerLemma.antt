@@ -15,7 +15,7 @@ use Rattle.lz_list.specs.declared.walk.Met.TheVariants.{Absent, Unmarked, Marked
 use Rattle.lz_list.specs.Words.{flags_of, next_of, place_number}
 use Rattle.lz_list.specs.Walks.{Hopped, More, End, wants, hopped, reaches, met}
 use Rattle.lz_list.specs.Hops.{LeadsOn}
-use Rattle.lz_list.specs.Traces.{Trace, Begins, Lawful, Adjacent, on, chain, chain_of, bucket_of, key_word, head_word, node_next, next_link, rank, flags_after, word_after}
+use Rattle.lz_list.specs.Traces.{Trace, Begins, Lawful, Adjacent, on, chain, chain_of, bucket_of, key_word, head_word, node_next, next_link, rank_at, flags_after, word_after}
 use Rattle.lz_list.specs.Pinned.{Stood, IsQuiet}
 use Rattle.lz_list.proofs.Chains.PlaceRank.{on_start, adjacent_on, adjacent_next}
 use Rattle.lz_list.proofs.Traces.Absence.{begins_itself}
@@ -154,7 +154,7 @@ module _ (z : Sizes) (walkable : IsWalkable z) (P0 P : Trace) (law : Lawful z.bu
   hop (AtBelow s) h = subst (λ (n : ℕ). GoneOn buckets k P0 P (reaches (Node s) n)) (sym (link_next s h.stood)) (reached (Node s) (node_next buckets s P) (record { bucket = tt; low = h.low; were = hindsight buckets slots P0 b (suc s) P law quiet h.stood }))
 
   -- keys rise along a walk
-  rises : (pred : Place) (s : ℕ) → WasBetween buckets k pred (suc s) P0 P → rank (λ t. key_word t P) (place_number pred) ≤ key_word s P
+  rises : (pred : Place) (s : ℕ) → WasBetween buckets k pred (suc s) P0 P → rank_at (λ t. key_word t P) (place_number pred) ≤ key_word s P
   rises pred s h =
       let r = once_some P0 P (λ R. Adjacent 0 (chain_of buckets k R) (place_number pred) (suc s)) h.were in
       let shown = words_show_chain buckets slots r.0 (lawful_begins buckets slots r.0 P r.2 law) b in

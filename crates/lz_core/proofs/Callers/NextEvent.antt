@@ -13,7 +13,7 @@ use Rattle.lz_core.specs.declared.open_calls.OpenCall.{OpenCall}
 use Rattle.lz_machine.specs.Yards.{Shape}
 use Rattle.lz_machine.specs.Ready.{IsEventOf}
 use Rattle.lz_machine.specs.Runs.{Transition, Caller, Service, State, Up, MayPlay, caller_at, state_after}
-use Rattle.lz_machine.specs.Points.{IsQuiet}
+use Rattle.lz_machine.specs.Points.{IsBetweenLooks}
 use Rattle.lz_yard.specs.Parts.{YardOver}
 use Rattle.lz_machine.proofs.Runs.CallerEvent.{Next}
 use Rattle.lz_machine.proofs.Theorem.Timing.{is_event, quiet_step}
@@ -59,9 +59,9 @@ module _ (shape : Shape) (over : YardOver Past) (disk : Option Past) (callers : 
   }
 
 -- where no look was half done, none is after a step of a play
-pub quiet_goes : (shape : Shape) (old new : WorldOver) (play : PlayStep) (step : Transition) (marks : List Mark) → HasRun shape old.state old.calls → Goes old play step marks new → is_look step ≡ false → IsQuiet new.state
+pub quiet_goes : (shape : Shape) (old new : WorldOver) (play : PlayStep) (step : Transition) (marks : List Mark) → HasRun shape old.state old.calls → Goes old play step marks new → is_look step ≡ false → IsBetweenLooks new.state
 quiet_goes shape old new play step marks ran goes other =
-    subst IsQuiet (ap (λ (w : State). state_after (suc old.calls) w step) ran.at.state ∙ goes.to)
+    subst IsBetweenLooks (ap (λ (w : State). state_after (suc old.calls) w step) ran.at.state ∙ goes.to)
     (quiet_step ran.start ran.point ran.reached (suc old.calls) step (rw ran.at.state goes.may) other (rw ran.at.state ran.quiet))
 
 pub called_on : (shape : Shape) (over : YardOver Past) (disk : Option Past) (callers : List (Option OpenCall)) (calls a : ℕ) (world : IsWorld shape (Some over) disk callers calls) (e : Event) (is : next_of (state_shown shape (Some over) disk callers) a ≡ Some e)

@@ -5,7 +5,7 @@ use Rattle.lz_slot.specs.Counted.{of_pass, set_of_pass}
 use Rattle.lz_disk.specs.Images.{Medium}
 use Rattle.lz_disk.specs.Devices.{Device}
 use Rattle.lz_disk.specs.Records.{Past, after, device_of}
-use Rattle.lz_vault.specs.Vaults.{IsMade}
+use Rattle.lz_vault.specs.Vaults.{IsDeviceCalled}
 use Rattle.lz_machine.specs.declared.event.Event.{Event}
 use Rattle.lz_machine.specs.declared.event.Outcome.{Outcome}
 use Rattle.lz_machine.specs.declared.event.Outcome.TheVariants.{Fault}
@@ -140,7 +140,7 @@ module _ (shape : Shape) (over : YardOver Past) (disk : Option Past) (callers : 
   -- where the device was tripped, an event that doesn't fail calls no device
   no_call_made : outcome ≢ Fault → IsTrue tripped → ¬ CallsDevice old.state a
   no_call_made other is_tripped device =
-      let made = subst (λ (o : Option Caller). IsSomeAnd o (λ caller. IsMade (line_call over.yard a (next_event over.yard caller)))) asks.at device in
+      let made = subst (λ (o : Option Caller). IsSomeAnd o (λ caller. IsDeviceCalled (line_call over.yard a (next_event over.yard caller)))) asks.at device in
       (event_here.done other).call.free made (inr (ap (λ (b : Bool). if b then Some 0 else over.disk.trip) is_tripped))
 
   world_by : (step : Transition) (marks : List Mark) → IsCallOn shape call' → HasOne (Some over') disk → Goes old (TurnOf a) step marks new → is_look step ≡ false → IsWorld shape (Some over') disk (slice_set callers (a - 1) call') calls

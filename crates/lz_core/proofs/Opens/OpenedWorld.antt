@@ -16,7 +16,7 @@ use Rattle.lz_yard.specs.Filling.{OpensYard}
 use Rattle.lz_yard.specs.Parts.{YardOver}
 use Rattle.lz_machine.specs.Runs.{Caller, Start, IsStart, start_keys, State, Up, Down, Opens, Point, first_point, opened_service, keys_found}
 use Rattle.lz_machine.specs.Sound.{StateSound, PointSound, IsSound}
-use Rattle.lz_machine.specs.Points.{IsQuiet}
+use Rattle.lz_machine.specs.Points.{IsBetweenLooks}
 use Rattle.lz_judge.specs.MarkLines.{AscendFrom}
 use Rattle.lz_core.specs.Worlds.{WorldOver, Goes, IsNew, IsWorld, HasOne, HasRun, IsCallOn, PlaysOn, armed, call_shown, state_shown, world_shown}
 use Rattle.lz_machine.proofs.Theorem.Reached.{reached_sound}
@@ -42,7 +42,7 @@ no_call_on shape (suc n) zero None is = tt
 no_call_on shape (suc n) zero (Some call) is = absurd cc
 no_call_on shape (suc n) (suc i) call is = no_call_on shape n i call is
 
-quiet_at_first : (shape : Shape) (t : List ℕ) (disk : Medium) → IsQuiet (Up (opened_service shape t) disk)
+quiet_at_first : (shape : Shape) (t : List ℕ) (disk : Medium) → IsBetweenLooks (Up (opened_service shape t) disk)
 quiet_at_first shape t disk a none = ap (λ (q : ℕ). q % 2 == 0) (pass_of shape.passes a 0)
 
 -- the disk of a world without a service holds a set of as many slots as its shape has
@@ -106,10 +106,10 @@ module _ (shape : Shape) (before : Past) (over : YardOver Past) (opens : OpensYa
           told = ap (λ (ks : List ℕ). opened ks ∷ []) (ap (keys_found disk.seen) (sym slots) ∙ sym found);
         }
 
-    open_quiet : HasRun shape (Down shape disk) calls → IsQuiet new.state
+    open_quiet : HasRun shape (Down shape disk) calls → IsBetweenLooks new.state
     open_quiet ran =
         let holds = run_holds shape disk calls ran in
-        subst IsQuiet (sym (state_opened holds.0 left callers holds.1 none)) (quiet_at_first shape disk.seen (synced disk))
+        subst IsBetweenLooks (sym (state_opened holds.0 left callers holds.1 none)) (quiet_at_first shape disk.seen (synced disk))
 
     pub open_world : (keys : List ℕ) → keys ≡ keys_found disk.seen over.yard.shape.slots → HasOne (Some over) left → HasRun shape (Down shape disk) calls → IsWorld shape (Some over) left callers calls
     open_world keys found one ran = record {
@@ -153,7 +153,7 @@ module _ (shape : Shape) (before : Past) (over : YardOver Past) (opens : OpensYa
         point = first_point first;
         reached = record { steps = []; starts = starts; runs = tt; point = refl };
         at = record { state = sym first_state; calls = refl };
-        quiet = subst IsQuiet (sym first_state) (quiet_at_first shape disk.seen (at_rest disk.seen));
+        quiet = subst IsBetweenLooks (sym first_state) (quiet_at_first shape disk.seen (at_rest disk.seen));
       };
     }
 

@@ -11,7 +11,7 @@ use Rattle.lz_core.specs.declared.play.Step.TheVariants.{Trip, Stop, Crash}
 use Rattle.lz_core.specs.declared.open_calls.OpenCall.{OpenCall}
 use Rattle.lz_machine.specs.Yards.{Shape}
 use Rattle.lz_machine.specs.Runs.{State, Up, Down, Transition, Trips, Stops, Crashes, MayStep, disk_of, state_after, marks_of, shape_of}
-use Rattle.lz_machine.specs.Points.{IsQuiet}
+use Rattle.lz_machine.specs.Points.{IsBetweenLooks}
 use Rattle.lz_yard.specs.Parts.{YardOver}
 use Rattle.lz_core.specs.Worlds.{WorldOver, Goes, HasRun, HasOne, IsWorld, state_shown, world_shown, disk_shown}
 use Rattle.lz_core.proofs.Runs.PlayedStep.{runs_on, shape_is}
@@ -91,7 +91,7 @@ crashes shape old new pick ran image down calls = record {
 module _ (shape : Shape) (yard : Option (YardOver Past)) (disk : Option Past) (callers : List (Option OpenCall)) (calls : ℕ) (tripped : Bool) (world : IsWorld shape yard disk callers calls) where
   pub now_at : (play : PlayStep) (step : Transition) (marks : List Mark) (yard' : Option (YardOver Past)) (disk' : Option Past) (now : Bool)
       → HasOne yard' disk' → Goes (world_shown shape yard disk callers calls tripped) play step marks (world_shown shape yard' disk' callers calls now)
-      → IsQuiet (state_shown shape yard' disk' callers) → IsWorld shape yard' disk' callers calls
+      → IsBetweenLooks (state_shown shape yard' disk' callers) → IsWorld shape yard' disk' callers calls
   now_at play step marks yard' disk' now one goes quiet = record {
     one = one;
     count = world.count;

@@ -4,7 +4,7 @@ use Rattle.lz_slot.specs.declared.history.Mark.{Mark}
 use Rattle.lz_core.specs.declared.play.Step.{Step as PlayStep}
 use Rattle.lz_machine.specs.Yards.{Shape}
 use Rattle.lz_machine.specs.Runs.{State, Transition, shape_of, point_after}
-use Rattle.lz_machine.specs.Points.{IsQuiet}
+use Rattle.lz_machine.specs.Points.{IsBetweenLooks}
 use Rattle.lz_machine.proofs.Runs.ReachedPoint.{reach, shape_kept}
 use Rattle.lz_judge.specs.MarkLines.{AreMarksOfRun}
 use Rattle.lz_core.specs.Trips.{GoesAsTripped, tripped_after}
@@ -28,7 +28,7 @@ leads old new play step marks goes of_run as_tripped tripped p at = record {
 }
 
 -- so the world has a run to where it is now
-pub runs_on : (shape : Shape) (old new : WorldOver) (play : PlayStep) (step : Transition) (marks : List Mark) → HasRun shape old.state old.calls → Goes old play step marks new → IsQuiet new.state → HasRun shape new.state new.calls
+pub runs_on : (shape : Shape) (old new : WorldOver) (play : PlayStep) (step : Transition) (marks : List Mark) → HasRun shape old.state old.calls → Goes old play step marks new → IsBetweenLooks new.state → HasRun shape new.state new.calls
 runs_on shape old new play step marks ran goes quiet = record {
   start = ran.start;
   shape = ran.shape;

@@ -6,7 +6,7 @@ use Rattle.lz_list.specs.declared.place.Place.{Place}
 use Rattle.lz_list.specs.declared.place.Place.TheVariants.{Bucket, Node}
 use Rattle.lz_list.specs.declared.word.Word.TheVariants.{Key}
 use Rattle.lz_list.specs.Words.{Words, get, next_at, place_number}
-use Rattle.lz_list.specs.Traces.{Chain, insert, without, on, rank, Shows, bucket_of}
+use Rattle.lz_list.specs.Traces.{Chain, insert, without, on, rank_at, WordsShow, bucket_of}
 use Rattle.lz_list.specs.Lists.{next_in, home, AreSlots, ShowsChain, IsNodeIn, IsOfBucket, IsTable}
 use Rattle.lz_list.proofs.Chains.PlaceRank.{apart, on_start}
 use Rattle.lz_list.proofs.Chains.TraceChain.{bucket_on}
@@ -16,14 +16,14 @@ pub same_pair : (n m : ℕ × ℕ) → n.0 ≡ m.0 → n.1 ≡ m.1 → n ≡ m
 same_pair n m first second = ap (λ (a : ℕ). (a, n.1)) first ∙ ap (λ (b : ℕ). (m.0, b)) second
 
 -- one chain is shown
-pub same_chain : (next keys : ℕ → ℕ) (x : ℕ) (c d : Chain) → Shows next keys x c → Shows next keys x d → c ≡ d
+pub same_chain : (next keys : ℕ → ℕ) (x : ℕ) (c d : Chain) → WordsShow next keys x c → WordsShow next keys x d → c ≡ d
 same_chain next keys x [] [] h g = refl
 same_chain next keys x [] (m ∷ d) h g = absurd (omega (arith, h, g.0))
 same_chain next keys x (n ∷ c) [] h g = absurd (omega (arith, h.0, g))
 same_chain next keys x (n ∷ c) (m ∷ d) h g =
     let slot : n.1 ≡ m.1 = omega (arith, h.0, g.0) in
     let key : n.0 ≡ m.0 = sym h.1 ∙ ap keys slot ∙ g.1 in
-    let rest : c ≡ d = same_chain next keys (suc n.1) c d h.3 (subst (λ (s : ℕ). Shows next keys (suc s) d) (sym slot) g.3) in
+    let rest : c ≡ d = same_chain next keys (suc n.1) c d h.3 (subst (λ (s : ℕ). WordsShow next keys (suc s) d) (sym slot) g.3) in
     ap (λ (p : ℕ × ℕ). p ∷ c) (same_pair n m key slot) ∙ ap (λ (e : Chain). m ∷ e) rest
 
 pub slot_on : (slots x : ℕ) (c : Chain) → AreSlots slots c → (s : ℕ) → on x c (suc s) ≡ true → suc s ≢ x → s < slots
@@ -48,10 +48,10 @@ slots_without slots k (n ∷ c) h = elim (eqb_tells n.0 k) [
 ]
 
 -- a node of another key stays where one is put in or taken out
-pub on_without_other : (next keys : ℕ → ℕ) (k x y : ℕ) (c : Chain) → Shows next keys x c → on x c y ≡ true → rank keys y ≢ suc k → on x (without k c) y ≡ true
+pub on_without_other : (next keys : ℕ → ℕ) (k x y : ℕ) (c : Chain) → WordsShow next keys x c → on x c y ≡ true → rank_at keys y ≢ suc k → on x (without k c) y ≡ true
 on_without_other next keys k x y [] h there other = there
-on_without_other next keys k x y (n ∷ []) h there other = grind (arith, nat_tests, h.1, ap (rank keys), on_start x [])
-on_without_other next keys k x y (n ∷ m ∷ c) h there other = grind (arith, nat_tests, h.1, ap (rank keys), on_without_other next keys k (suc n.1) y (m ∷ c) h.3)
+on_without_other next keys k x y (n ∷ []) h there other = grind (arith, nat_tests, h.1, ap (rank_at keys), on_start x [])
+on_without_other next keys k x y (n ∷ m ∷ c) h there other = grind (arith, nat_tests, h.1, ap (rank_at keys), on_without_other next keys k (suc n.1) y (m ∷ c) h.3)
 
 pub bucket_below : (w : Words) (k : ℕ) → IsTable w → home w k < length w.heads
 unfolding bucket_of

@@ -2,18 +2,18 @@
 use Rattle.std.proofs.Common.{◌≡◌, ◌≢◌, inl, inr, ℕ, zero, suc, true, false, ◌==◌, [], ◌∷◌, refl, sym, ap, ◌∙◌, subst, arith}
 use Rattle.std.proofs.lemmas.Bool.Decides.{nat_tests, leb_tells, eqb_tells}
 use Rattle.lz_list.specs.declared.publishing.Publishing.TheVariants.{Linked as linked, Marked as marked, Unlinked as unlinked, Settled as settled, KeyPrepared as key_prepared, LinkPrepared as link_prepared, Halted as halted}
-use Rattle.lz_list.specs.Traces.{Trace, Chain, insert, without, on, rank, Shows, bucket_of, chain, chain_of, place_of, key_word, node_next, next_link, IsLoose, MayLink, MayUnlink, Lawful, IsWithin, IsShown}
+use Rattle.lz_list.specs.Traces.{Trace, Chain, insert, without, on, rank_at, WordsShow, bucket_of, chain, chain_of, place_of, key_word, node_next, next_link, IsLoose, MayLink, MayUnlink, Lawful, KeysBelong, IsShown}
 use Rattle.lz_list.proofs.Chains.PlaceRank.{before_on, shows_frame, shows_keys, shows_insert, shows_without, next_is_above, has_on}
 
 module _ (buckets : ℕ) where
-  pub within_insert : (b k s : ℕ) (c : Chain) → bucket_of buckets k ≡ b → IsWithin buckets b c → IsWithin buckets b (insert k s c)
+  pub within_insert : (b k s : ℕ) (c : Chain) → bucket_of buckets k ≡ b → KeysBelong buckets b c → KeysBelong buckets b (insert k s c)
   within_insert b k s [] here h = (here, tt)
   within_insert b k s (n ∷ c) here h = elim (leb_tells (suc n.0) k) [
     | inl t ↦ rw t.0 (h.0, within_insert b k s c here h.1)
     | inr f ↦ rw f.0 (here, h)
   ]
 
-  pub within_without : (b k : ℕ) (c : Chain) → IsWithin buckets b c → IsWithin buckets b (without k c)
+  pub within_without : (b k : ℕ) (c : Chain) → KeysBelong buckets b c → KeysBelong buckets b (without k c)
   within_without b k [] h = tt
   within_without b k (n ∷ c) h = elim (eqb_tells n.0 k) [
     | inl t ↦ rw t.0 h.1
@@ -21,7 +21,7 @@ module _ (buckets : ℕ) where
   ]
 
   -- the key of a node is of the chain's bucket
-  pub bucket_on : (next keys : ℕ → ℕ) (b x : ℕ) (c : Chain) → Shows next keys x c → IsWithin buckets b c → (t : ℕ) → on x c (suc t) ≡ true → suc t ≢ x → bucket_of buckets (keys t) ≡ b
+  pub bucket_on : (next keys : ℕ → ℕ) (b x : ℕ) (c : Chain) → WordsShow next keys x c → KeysBelong buckets b c → (t : ℕ) → on x c (suc t) ≡ true → suc t ≢ x → bucket_of buckets (keys t) ≡ b
   bucket_on next keys b x [] h in' t there other = absurd (other (grind (arith, nat_tests)))
   bucket_on next keys b x (n ∷ c) h in' t there other = elim (eqb_tells t n.1) [
     | inl e ↦ rw e.1 (rw h.1 in'.0)
@@ -105,7 +105,7 @@ module _ (buckets : ℕ) where
     within = h.within;
   }
     where
-      same : (y : ℕ) → on 0 (chain buckets b P) y ≡ true → rank (λ t. key_word t (key_prepared s v ∷ P)) y ≡ rank (λ t. key_word t P) y
+      same : (y : ℕ) → on 0 (chain buckets b P) y ≡ true → rank_at (λ t. key_word t (key_prepared s v ∷ P)) y ≡ rank_at (λ t. key_word t P) y
       same zero there = refl
       same (suc t) there = grind (arith, nat_tests, loose b, λ (e : s ≡ t). ap (λ (q : ℕ). on 0 (chain buckets b P) (suc q)) e)
 

@@ -3,7 +3,7 @@ use Rattle.std.proofs.Common.{◌≡◌, ◌↔◌, ℕ, zero, suc, ◌<◌, tru
 use Rattle.lz_list.specs.declared.place.Place.TheVariants.{Node}
 use Rattle.lz_list.specs.declared.word.Word.TheVariants.{Key}
 use Rattle.lz_list.specs.Words.{Words, get, is_marked_at}
-use Rattle.lz_list.specs.Traces.{Chain, on, rank, IsWithin, bucket_of}
+use Rattle.lz_list.specs.Traces.{Chain, on, rank_at, KeysBelong, bucket_of}
 use Rattle.lz_list.specs.Lists.{next_in, home, AreSlots, ShowsChain, IsSorted, IsNodeIn, IsMember, IsTable}
 use Rattle.lz_list.proofs.Chains.PlaceRank.{shows_frame, shows_keys}
 use Rattle.lz_list.proofs.Chains.SortedChain.{bucket_below, node_on}
@@ -50,11 +50,11 @@ module _ (Stays : ℕ → Type 0) (w new : Words) (b : ℕ) (c : Chain) (h : Sho
       → ShowsChain new b c
   frame_shown heads links nexts keys = record {
     shows = shows_keys (next_in new b) (next_in new b) (λ s. get w (Key s)) (λ s. get new (Key s)) 0 c (shows_frame (next_in w b) (next_in new b) (λ s. get w (Key s)) 0 c h.shows nexts) ranks;
-    within = subst (λ (n : ℕ). IsWithin n b c) (sym heads) h.within;
+    within = subst (λ (n : ℕ). KeysBelong n b c) (sym heads) h.within;
     in_range = subst (λ (n : ℕ). AreSlots n c) (sym links) h.in_range;
   }
     where
-      ranks : (y : ℕ) → on 0 c y ≡ true → rank (λ s. get new (Key s)) y ≡ rank (λ s. get w (Key s)) y
+      ranks : (y : ℕ) → on 0 c y ≡ true → rank_at (λ s. get new (Key s)) y ≡ rank_at (λ s. get w (Key s)) y
       ranks zero there = refl
       ranks (suc t) there = ap suc (keys t there)
 

@@ -1,11 +1,11 @@
 -- What Check found is where the machine's change goes.
 use Rattle.std.proofs.Common.{ap, ◌≡◌, ◌⊎◌, inl, inr, ℕ, suc, ◌<◌, ◌≤◌, [], ◌∷◌, sym, arith}
 use Rattle.std.proofs.lemmas.Bool.Decides.{nat_tests}
-use Rattle.lz_list.specs.Traces.{Chain, place_before, link_above, rank, Shows, Adjacent}
+use Rattle.lz_list.specs.Traces.{Chain, place_before, link_above, rank_at, WordsShow, Adjacent}
 use Rattle.lz_list.proofs.Chains.PlaceRank.{rank_on, adjacent_on}
 
 module _ (next keys : ℕ → ℕ) where
-  pub place_between : (k x : ℕ) (c : Chain) → Shows next keys x c → (y n : ℕ) → Adjacent x c y n → rank keys y ≤ k → (n ≡ 0) ⊎ (suc k < rank keys n) → (place_before k x c ≡ y) × (link_above k c ≡ n)
+  pub place_between : (k x : ℕ) (c : Chain) → WordsShow next keys x c → (y n : ℕ) → Adjacent x c y n → rank_at keys y ≤ k → (n ≡ 0) ⊎ (suc k < rank_at keys n) → (place_before k x c ≡ y) × (link_above k c ≡ n)
   place_between k x [] h y n adj low high = (sym adj.0, sym adj.1)
   place_between k x (m ∷ c) h y n (inl here) low high = (grind (arith, nat_tests, here.0, here.1, h.1), grind (arith, nat_tests, here.1, h.1))
   place_between k x (m ∷ c) h y n (inr later) low high =
@@ -14,7 +14,7 @@ module _ (next keys : ℕ → ℕ) where
       (grind (arith, nat_tests, rest.0, h.1), grind (arith, nat_tests, rest.1, h.1))
 
   -- a place that leads to the node of key k is the one before k
-  pub place_to : (k s x : ℕ) (c : Chain) → Shows next keys x c → (y : ℕ) → Adjacent x c y (suc s) → rank keys y ≤ k → keys s ≡ k → place_before k x c ≡ y
+  pub place_to : (k s x : ℕ) (c : Chain) → WordsShow next keys x c → (y : ℕ) → Adjacent x c y (suc s) → rank_at keys y ≤ k → keys s ≡ k → place_before k x c ≡ y
   place_to k s x [] h y adj low key = sym adj.0
-  place_to k s x (m ∷ c) h y (inl here) low key = grind (arith, nat_tests, here.0, here.1, h.1, ap (rank keys) here.1)
+  place_to k s x (m ∷ c) h y (inl here) low key = grind (arith, nat_tests, here.0, here.1, h.1, ap (rank_at keys) here.1)
   place_to k s x (m ∷ c) h y (inr later) low key = grind (arith, nat_tests, place_to k s (suc m.1) c h.3 y later low key, h.1, rank_on next keys (suc m.1) c h.3 y (adjacent_on (suc m.1) c y (suc s) later))

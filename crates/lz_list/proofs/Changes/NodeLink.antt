@@ -7,8 +7,8 @@ use Rattle.lz_list.specs.declared.place.Place.{Place}
 use Rattle.lz_list.specs.declared.place.Place.TheVariants.{Bucket, Node}
 use Rattle.lz_list.specs.declared.word.Word.TheVariants.{Key}
 use Rattle.lz_list.specs.Words.{Words, get, redirect, place_number, next_at, is_marked_at}
-use Rattle.lz_list.specs.Traces.{Chain, insert, has_key, on, place_before, link_above, rank, Shows, Adjacent, IsWithin, bucket_of}
-use Rattle.lz_list.specs.Lists.{next_in, home, AreSlots, ShowsChain, IsSorted, IsNodeIn, IsMember, IsTable, IsPlace, IsBefore, MayLinkAt, OthersStay}
+use Rattle.lz_list.specs.Traces.{Chain, insert, has_key, on, place_before, link_above, rank_at, WordsShow, Adjacent, KeysBelong, bucket_of}
+use Rattle.lz_list.specs.Lists.{next_in, home, AreSlots, ShowsChain, IsSorted, IsNodeIn, IsMember, IsTable, IsPlace, IsPredecessor, MayLinkAt, OthersStay}
 use Rattle.lz_list.proofs.Chains.PlaceRank.{adjacent, adjacent_none, shows_insert}
 use Rattle.lz_list.proofs.Chains.TraceChain.{bucket_on, within_insert}
 use Rattle.lz_list.proofs.Traces.NodeBits.{on_insert_other}
@@ -19,7 +19,7 @@ use Rattle.lz_list.proofs.Changes.ChainMove.{Moved, moved_sorted, members_stay, 
 use Rattle.lz_list.proofs.Tables.Redirect.{heads_redirect, links_redirect, keys_redirect, next_at_place, next_off_place, head_elsewhere, mark_stays}
 
 -- a place before a key is one of the table
-pub place_in : (w : Words) (k : ℕ) → IsTable w → (place : Place) → IsBefore w place k → IsPlace w place
+pub place_in : (w : Words) (k : ℕ) → IsTable w → (place : Place) → IsPredecessor w place k → IsPlace w place
 place_in w k table (Bucket b) h = subst (λ (c : ℕ). c < length w.heads) (sym h.bucket) (bucket_below w k table)
 place_in w k table (Node t) h = slot_on (length w.links) 0 h.chain h.shown.in_range t h.stands (λ e. grind arith)
 
@@ -28,7 +28,7 @@ pub inserted_on : (k s x : ℕ) (c : Chain) → on x (insert k s c) (suc s) ≡ 
 inserted_on k s x [] = grind (arith, nat_tests)
 inserted_on k s x (n ∷ c) = grind (arith, nat_tests, inserted_on k s (suc n.1) c)
 
-module _ (w : Words) (k n : ℕ) (pred : Place) (in_it : IsPlace w pred) (small : n < 2 ^ 32) (h : IsBefore w pred k) where
+module _ (w : Words) (k n : ℕ) (pred : Place) (in_it : IsPlace w pred) (small : n < 2 ^ 32) (h : IsPredecessor w pred k) where
   same_key : (t : ℕ) → get (redirect w pred n) (Key t) ≡ get w (Key t)
   same_key t = ap (λ (ks : List ℕ). slice_index ks t) (keys_redirect w n pred)
 
@@ -48,10 +48,10 @@ module _ (w : Words) (k n : ℕ) (pred : Place) (in_it : IsPlace w pred) (small 
       nexts (suc t) there = next_off_place w n b (suc t) pred (apart t there)
 
   -- what is shown in the key's own bucket
-  pub shown_there : (d : Chain) → Shows (next_in (redirect w pred n) (home w k)) (λ t. get w (Key t)) 0 d → IsWithin (length w.heads) (home w k) d → AreSlots (length w.links) d → ShowsChain (redirect w pred n) (home w k) d
+  pub shown_there : (d : Chain) → WordsShow (next_in (redirect w pred n) (home w k)) (λ t. get w (Key t)) 0 d → KeysBelong (length w.heads) (home w k) d → AreSlots (length w.links) d → ShowsChain (redirect w pred n) (home w k) d
   shown_there d shows within slots = record {
-    shows = subst (λ (ks : List ℕ). Shows (next_in (redirect w pred n) (home w k)) (λ t. slice_index ks t) 0 d) (sym (keys_redirect w n pred)) shows;
-    within = subst (λ (m : ℕ). IsWithin m (home w k) d) (sym (heads_redirect w n pred)) within;
+    shows = subst (λ (ks : List ℕ). WordsShow (next_in (redirect w pred n) (home w k)) (λ t. slice_index ks t) 0 d) (sym (keys_redirect w n pred)) shows;
+    within = subst (λ (m : ℕ). KeysBelong m (home w k) d) (sym (heads_redirect w n pred)) within;
     in_range = subst (λ (m : ℕ). AreSlots m d) (sym (links_redirect w n pred)) slots;
   }
 
@@ -94,8 +94,8 @@ module _ (w : Words) (pred : Place) (s : ℕ) (table : IsTable w) (sorted : IsSo
   stands_behind : Adjacent 0 may.before.chain (place_number pred) (nexts (place_number pred))
   stands_behind = adjacent nexts keys 0 may.before.chain may.before.shown.shows (place_number pred) may.before.stands
 
-  high : (nexts (place_number pred) ≡ 0) ⊎ (suc key < rank keys (nexts (place_number pred)))
-  high = subst (λ (m : ℕ). (m ≡ 0) ⊎ (suc key < rank keys m)) leads may.above
+  high : (nexts (place_number pred) ≡ 0) ⊎ (suc key < rank_at keys (nexts (place_number pred)))
+  high = subst (λ (m : ℕ). (m ≡ 0) ⊎ (suc key < rank_at keys m)) leads may.above
 
   none : has_key key may.before.chain ≡ false
   none = adjacent_none nexts keys key 0 may.before.chain may.before.shown.shows (place_number pred) (nexts (place_number pred)) stands_behind may.before.below high

@@ -5,7 +5,7 @@ use Rattle.lz_list.specs.declared.place.Place.{Place}
 use Rattle.lz_list.specs.declared.place.Place.TheVariants.{Bucket, Node}
 use Rattle.lz_list.specs.declared.word.Word.TheVariants.{Key}
 use Rattle.lz_list.specs.Words.{Words, get, next_at, place_number}
-use Rattle.lz_list.specs.Traces.{Chain, on, Shows, Adjacent, IsWithin}
+use Rattle.lz_list.specs.Traces.{Chain, on, WordsShow, Adjacent, KeysBelong}
 use Rattle.lz_list.specs.Lists.{next_in, AreSlots, ShowsChain, IsPlace, IsOfBucket, Follows}
 use Rattle.lz_list.proofs.Chains.PlaceRank.{on_start, adjacent, adjacent_next}
 use Rattle.lz_list.proofs.Chains.TraceChain.{bucket_on}
@@ -14,8 +14,8 @@ use Rattle.lz_list.proofs.Searches.KeySearch.{next_rank}
 
 -- the words of bucket b show this chain from place x on
 pub record Tail (w : Words) (b x : ℕ) (c : Chain) : Type 0 where
-  pub shows : Shows (next_in w b) (λ s. get w (Key s)) x c
-  pub within : IsWithin (length w.heads) b c
+  pub shows : WordsShow (next_in w b) (λ s. get w (Key s)) x c
+  pub within : KeysBelong (length w.heads) b c
   pub in_range : AreSlots (length w.links) c
 
 -- The place was reached: a chain from there on makes one of the bucket, and the bucket's chain leads over the place.

@@ -8,24 +8,24 @@ use Rattle.lz_list.specs.declared.place.Place.{Place}
 use Rattle.lz_list.specs.declared.place.Place.TheVariants.{Bucket, Node}
 use Rattle.lz_list.specs.declared.word.Word.TheVariants.{Key}
 use Rattle.lz_list.specs.Words.{Words, get, next_at, place_number, is_marked_at}
-use Rattle.lz_list.specs.Traces.{Chain, on, rank, Shows, Adjacent}
-use Rattle.lz_list.specs.Lists.{next_in, home, IsSorted, IsNodeOf, IsMember, IsTable, IsBefore, IsBelow}
+use Rattle.lz_list.specs.Traces.{Chain, on, rank_at, WordsShow, Adjacent}
+use Rattle.lz_list.specs.Lists.{next_in, home, IsSorted, IsNodeOf, IsMember, IsTable, IsPredecessor, IsBelow}
 use Rattle.lz_list.proofs.Chains.PlaceRank.{on_start, adjacent, adjacent_next, adjacent_none, has_on}
 use Rattle.lz_list.proofs.Chains.SortedChain.{slot_on, bucket_below, node_on, same_node, next_of_place}
 
 -- what a place leads to is of a higher key
-pub next_rank : (next keys : ℕ → ℕ) (x : ℕ) (c : Chain) → Shows next keys x c → (y s : ℕ) → Adjacent x c y (suc s) → rank keys y ≤ keys s
+pub next_rank : (next keys : ℕ → ℕ) (x : ℕ) (c : Chain) → WordsShow next keys x c → (y s : ℕ) → Adjacent x c y (suc s) → rank_at keys y ≤ keys s
 next_rank next keys x [] h y s adj = absurd (omega (arith, adj.1))
-next_rank next keys x (n ∷ c) h y s (inl here) = grind (arith, nat_tests, here.0, here.1, h.1, h.2, ap (rank keys) here.0)
+next_rank next keys x (n ∷ c) h y s (inl here) = grind (arith, nat_tests, here.0, here.1, h.1, h.2, ap (rank_at keys) here.0)
 next_rank next keys x (n ∷ c) h y s (inr later) = next_rank next keys (suc n.1) c h.3 y s later
 
 module _ (w : Words) (table : IsTable w) (k : ℕ) where
-  pub head_before : IsSorted w → IsBefore w (Bucket (home w k)) k
+  pub head_before : IsSorted w → IsPredecessor w (Bucket (home w k)) k
   head_before sorted =
       let c = sorted (home w k) (bucket_below w k table) in
       record { bucket = refl; chain = c.0; shown = c.1; stands = on_start 0 c.0; below = omega arith }
 
-  module _ (place : Place) (h : IsBefore w place k) where
+  module _ (place : Place) (h : IsPredecessor w place k) where
     abbrev keys : ℕ → ℕ
     keys t = get w (Key t)
 
@@ -48,7 +48,7 @@ module _ (w : Words) (table : IsTable w) (k : ℕ) where
       pub next_slot : s < length w.links
       next_slot = slot_on (length w.links) 0 h.chain h.shown.in_range s stands (λ e. grind arith)
 
-      pub next_before : get w (Key s) < k → IsBefore w (Node s) k
+      pub next_before : get w (Key s) < k → IsPredecessor w (Node s) k
       next_before below = record { bucket = tt; chain = h.chain; shown = h.shown; stands = stands; below = omega arith }
 
       pub next_higher : IsBelow w place (Node s)
@@ -58,9 +58,9 @@ module _ (w : Words) (table : IsTable w) (k : ℕ) where
       pub found : get w (Key s) ≡ k → IsNodeOf w k s
       found key = record { chain = h.chain; shown = h.shown; stands = stands; key = key }
 
-      pub passed : get w (Key s) ≢ k → (next_at w place ≡ 0) ⊎ (k < rank keys (next_at w place)) → (next_at w place ≡ 0) ⊎ (suc k < rank keys (next_at w place))
+      pub passed : get w (Key s) ≢ k → (next_at w place ≡ 0) ⊎ (k < rank_at keys (next_at w place)) → (next_at w place ≡ 0) ⊎ (suc k < rank_at keys (next_at w place))
       passed other (inl none) = inl none
-      passed other (inr up) = inr (subst (λ (m : ℕ). suc k < rank keys m) next (omega (arith, other, subst (λ (m : ℕ). k < rank keys m) (sym next) up)))
+      passed other (inr up) = inr (subst (λ (m : ℕ). suc k < rank_at keys m) next (omega (arith, other, subst (λ (m : ℕ). k < rank_at keys m) (sym next) up)))
 
     pub next_in_range : next_at w place ≤ most_slots
     next_in_range = reaches (next_at w place) refl
@@ -69,9 +69,9 @@ module _ (w : Words) (table : IsTable w) (k : ℕ) where
         reaches zero is = omega arith
         reaches (suc s) is = omega (arith, next_slot s is, table.slots)
 
-    pub none_there : (next_at w place ≡ 0) ⊎ (suc k < rank keys (next_at w place)) → (s : ℕ) → IsNodeOf w k s → ⊥
+    pub none_there : (next_at w place ≡ 0) ⊎ (suc k < rank_at keys (next_at w place)) → (s : ℕ) → IsNodeOf w k s → ⊥
     none_there high s node =
-        let up : (nexts (place_number place) ≡ 0) ⊎ (suc k < rank keys (nexts (place_number place))) = subst (λ (m : ℕ). (m ≡ 0) ⊎ (suc k < rank keys m)) leads high in
+        let up : (nexts (place_number place) ≡ 0) ⊎ (suc k < rank_at keys (nexts (place_number place))) = subst (λ (m : ℕ). (m ≡ 0) ⊎ (suc k < rank_at keys m)) leads high in
         let none = adjacent_none nexts keys k 0 h.chain h.shown.shows (place_number place) (nexts (place_number place)) behind h.below up in
         let there = node_on w (home w k) k s h.chain h.shown node in
         false≢true (sym none ∙ has_on nexts keys k s 0 h.chain h.shown.shows (omega arith) node.key there)

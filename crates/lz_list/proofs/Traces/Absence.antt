@@ -4,7 +4,7 @@ use mathlib.Core.Bool.{false≢true}
 use Rattle.std.proofs.lemmas.Bool.Decides.{nat_tests, eqb_tells}
 use Rattle.lz_list.specs.declared.publishing.Change.{Change}
 use Rattle.lz_list.specs.declared.publishing.Publishing.TheVariants.{Linked as linked, Marked as marked, Unlinked as unlinked, Settled as settled, KeyPrepared as key_prepared, LinkPrepared as link_prepared, Halted as halted}
-use Rattle.lz_list.specs.Traces.{Trace, Begins, Chain, insert, without, has_key, rank, Adjacent, bucket_of, chain_of, key_word, next_link, member, linking, is_removed, MayUnlink, Lawful, SettledNo}
+use Rattle.lz_list.specs.Traces.{Trace, Begins, Chain, insert, without, has_key, rank_at, Adjacent, bucket_of, chain_of, key_word, next_link, member, linking, is_removed, MayUnlink, Lawful, SettledNo}
 use Rattle.lz_list.proofs.Chains.PlaceRank.{adjacent_none}
 use Rattle.lz_list.proofs.Chains.TraceChain.{words_show_chain}
 
@@ -57,7 +57,7 @@ module _ (buckets k : ℕ) where
   unlinked_is_settled slots (halted ∷ P) law none = unlinked_is_settled slots P law.1 none
 
   -- between two places that stand next to each other
-  pub adjacent_is_absent : (slots : ℕ) (P : Trace) → Lawful buckets slots P → (x n : ℕ) → Adjacent 0 (chain_of buckets k P) x n → rank (λ t. key_word t P) x ≤ k → (n ≡ 0) ⊎ (suc k < rank (λ t. key_word t P) n) → SettledNo P P k
+  pub adjacent_is_absent : (slots : ℕ) (P : Trace) → Lawful buckets slots P → (x n : ℕ) → Adjacent 0 (chain_of buckets k P) x n → rank_at (λ t. key_word t P) x ≤ k → (n ≡ 0) ⊎ (suc k < rank_at (λ t. key_word t P) n) → SettledNo P P k
   adjacent_is_absent slots P law x n adj low high =
       let shown = words_show_chain buckets slots P law (bucket_of buckets k) in
       let gone = unlinked_is_settled slots P law (adjacent_none (next_link buckets (bucket_of buckets k) P) (λ t. key_word t P) k 0 (chain_of buckets k P) shown.shows x n adj low high) in

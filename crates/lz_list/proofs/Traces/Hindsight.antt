@@ -4,7 +4,7 @@ use mathlib.Core.Bool.{false≢true}
 use Rattle.std.proofs.lemmas.Bool.Decides.{nat_tests, eqb_tells}
 use Rattle.lz_list.specs.declared.publishing.Publishing.{Publishing}
 use Rattle.lz_list.specs.declared.publishing.Publishing.TheVariants.{Linked as linked, Unlinked as unlinked, KeyPrepared as key_prepared, LinkPrepared as link_prepared}
-use Rattle.lz_list.specs.Traces.{Trace, Begins, Chain, insert, without, on, place_before, rank, Adjacent, bucket_of, chain, chain_of, place_of, key_word, node_next, next_link, Lawful, SettledNo}
+use Rattle.lz_list.specs.Traces.{Trace, Begins, Chain, insert, without, on, place_before, rank_at, Adjacent, bucket_of, chain, chain_of, place_of, key_word, node_next, next_link, Lawful, SettledNo}
 use Rattle.lz_list.specs.Pinned.{Once, Stood, IsKept, IsQuiet}
 use Rattle.lz_list.proofs.Chains.PlaceRank.{before_on, on_start, adjacent, adjacent_on, adjacent_next}
 use Rattle.lz_list.proofs.Chains.TraceChain.{bucket_on, words_show_chain}
@@ -106,7 +106,7 @@ module _ (buckets slots : ℕ) (P0 : Trace) where
   next_stood b x n P once more = once_weaker P0 P (λ R. Adjacent 0 (chain buckets b R) x n) (λ R. on 0 (chain buckets b R) n ≡ true) (λ R from to adj. adjacent_next 0 (chain buckets b R) x n adj more) once
 
   -- the key word of a node that stood on the chain at R is still the same
-  pub key_since : (b x : ℕ) (R P : Trace) → IsQuiet buckets P0 P → Begins P0 R → Begins R P → on 0 (chain buckets b R) x ≡ true → rank (λ t. key_word t P) x ≡ rank (λ t. key_word t R) x
+  pub key_since : (b x : ℕ) (R P : Trace) → IsQuiet buckets P0 P → Begins P0 R → Begins R P → on 0 (chain buckets b R) x ≡ true → rank_at (λ t. key_word t P) x ≡ rank_at (λ t. key_word t R) x
   key_since b zero R P quiet from to there = refl
   key_since b (suc t) R [] quiet from to there = rw to
   key_since b (suc t) R (e ∷ P) quiet from (inl here) there = rw here
@@ -114,10 +114,10 @@ module _ (buckets slots : ℕ) (P0 : Trace) where
       ap suc (key_stays b t e P quiet.0 (once_from P0 R P (λ S. on 0 (chain buckets b S) (suc t) ≡ true) from to there)) ∙ key_since b (suc t) R P quiet.1 from to there
 
   -- a walk that passed k's place: k's absence was settled in a state since the pin
-  pub absent_since : (k x n : ℕ) (P : Trace) → Lawful buckets slots P → IsQuiet buckets P0 P → Once P0 P (λ R. Adjacent 0 (chain_of buckets k R) x n) → rank (λ t. key_word t P) x ≤ k → (n ≡ 0) ⊎ (suc k < rank (λ t. key_word t P) n) → Once P0 P (λ R. SettledNo R R k)
+  pub absent_since : (k x n : ℕ) (P : Trace) → Lawful buckets slots P → IsQuiet buckets P0 P → Once P0 P (λ R. Adjacent 0 (chain_of buckets k R) x n) → rank_at (λ t. key_word t P) x ≤ k → (n ≡ 0) ⊎ (suc k < rank_at (λ t. key_word t P) n) → Once P0 P (λ R. SettledNo R R k)
   absent_since k x n P law quiet once low high = once_weaker P0 P (λ R. Adjacent 0 (chain_of buckets k R) x n) (λ R. SettledNo R R k) at once
     where
-      above : (R : Trace) → Begins P0 R → Begins R P → Adjacent 0 (chain_of buckets k R) x n → (m : ℕ) → n ≡ m → (n ≡ 0) ⊎ (suc k < rank (λ t. key_word t R) n)
+      above : (R : Trace) → Begins P0 R → Begins R P → Adjacent 0 (chain_of buckets k R) x n → (m : ℕ) → n ≡ m → (n ≡ 0) ⊎ (suc k < rank_at (λ t. key_word t R) n)
       above R from to adj zero is = inl is
       above R from to adj (suc m) is = inr (grind (arith, high, key_since (bucket_of buckets k) n R P quiet from to (adjacent_next 0 (chain_of buckets k R) x n adj (λ e. grind arith))))
 

@@ -5,7 +5,7 @@ use Rattle.std.proofs.lemmas.Bool.{cases_eq}
 use Rattle.std.proofs.lemmas.Bool.Decides.{nat_tests, eqb_tells}
 use Rattle.lz_list.specs.declared.publishing.Change.{Change}
 use Rattle.lz_list.specs.declared.publishing.Publishing.TheVariants.{Linked as linked, Marked as marked, Unlinked as unlinked, Settled as settled, KeyPrepared as key_prepared, LinkPrepared as link_prepared, Halted as halted}
-use Rattle.lz_list.specs.Traces.{Trace, Chain, insert, without, has_key, on, rank, Shows, bucket_of, chain_of, key_word, next_link, linking, linking_in, is_settled, is_removed, IsLoose, MayLink, Lawful, IsNode}
+use Rattle.lz_list.specs.Traces.{Trace, Chain, insert, without, has_key, on, rank_at, WordsShow, bucket_of, chain_of, key_word, next_link, linking, linking_in, is_settled, is_removed, IsLoose, MayLink, Lawful, IsNode}
 use Rattle.lz_list.proofs.Chains.PlaceRank.{apart, rank_on, no_key_below, has_on}
 use Rattle.lz_list.proofs.Chains.TraceChain.{words_show_chain}
 
@@ -26,11 +26,11 @@ on_insert_other k s x y (n ∷ c) there other = grind (arith, nat_tests, on_inse
 
 module _ (next keys : ℕ → ℕ) where
   -- one node has a key
-  pub one_node : (x : ℕ) (c : Chain) → Shows next keys x c → (y z : ℕ) → on x c y ≡ true → on x c z ≡ true → rank keys y ≡ rank keys z → y ≡ z
+  pub one_node : (x : ℕ) (c : Chain) → WordsShow next keys x c → (y z : ℕ) → on x c y ≡ true → on x c z ≡ true → rank_at keys y ≡ rank_at keys z → y ≡ z
   one_node x [] h y z at_y at_z same = grind (arith, nat_tests)
   one_node x (n ∷ c) h y z at_y at_z same = grind (arith, nat_tests, one_node (suc n.1) c h.3 y z, rank_on next keys (suc n.1) c h.3 y, rank_on next keys (suc n.1) c h.3 z, h.1, h.2)
 
-  pub none_without : (k x : ℕ) (c : Chain) → Shows next keys x c → has_key k (without k c) ≡ false
+  pub none_without : (k x : ℕ) (c : Chain) → WordsShow next keys x c → has_key k (without k c) ≡ false
   none_without k x [] h = refl
   none_without k x (n ∷ c) h = grind (arith, nat_tests, none_without k (suc n.1) c h.3, no_key_below next keys k (suc n.1) c h.3, h.1)
 

@@ -5,7 +5,7 @@ use Rattle.lz_list.specs.declared.publishing.Publishing.TheVariants.{Linked as l
 use Rattle.lz_list.specs.declared.place.Place.TheVariants.{Node}
 use Rattle.lz_list.specs.Words.{Words, redirect}
 use Rattle.lz_list.specs.Lists.{MayLinkAt, MayUnlinkAt}
-use Rattle.lz_list.specs.Traces.{Trace, Lawful, bucket_of, SettledYes, SettledNo, words_after, opening, keys_shown}
+use Rattle.lz_list.specs.Traces.{Trace, Lawful, bucket_of, SettledYes, SettledNo, words_of_trace, opening, keys_shown}
 
 abbrev one_key : Trace
 one_key = settled 0 Added ∷ linked 5 0 1 ∷ link_prepared 0 0 ∷ key_prepared 0 5 ∷ []
@@ -37,12 +37,12 @@ gone_settled = record { begins = inl refl; no_member = refl; settled = inr refl 
 abbrev three_words : Words → List (List ℕ)
 three_words w = w.heads ∷ w.links ∷ w.keys ∷ []
 
-gone_words : three_words (words_after 2 1 1 gone) ≡ (0 ∷ []) ∷ ((2 ^ 32 + 2 ^ 33 + 2 ^ 34) ∷ 0 ∷ []) ∷ (5 ∷ 0 ∷ []) ∷ []
+gone_words : three_words (words_of_trace 2 1 1 gone) ≡ (0 ∷ []) ∷ ((2 ^ 32 + 2 ^ 33 + 2 ^ 34) ∷ 0 ∷ []) ∷ (5 ∷ 0 ∷ []) ∷ []
 unfolding bucket_of
 gone_words = refl
 
 -- three keys in two buckets, as an open finds them: 8 and 4 in the first, 5 in the second
-opened_words : three_words (words_after 3 2 1 (opening 2 ((8, 0) ∷ (5, 1) ∷ (4, 2) ∷ [])))
+opened_words : three_words (words_of_trace 3 2 1 (opening 2 ((8, 0) ∷ (5, 1) ∷ (4, 2) ∷ [])))
     ≡ (3 ∷ 2 ∷ []) ∷ ((2 ^ 33) ∷ (2 ^ 33) ∷ (1 + 2 ^ 33) ∷ []) ∷ (8 ∷ 5 ∷ 4 ∷ []) ∷ []
 unfolding bucket_of
 opened_words = refl

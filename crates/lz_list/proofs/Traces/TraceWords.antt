@@ -11,9 +11,9 @@ use Rattle.lz_list.specs.declared.place.Place.TheVariants.{Node}
 use Rattle.lz_list.specs.declared.word.Word.TheVariants.{Head, Link, Key}
 use Rattle.lz_list.specs.declared.publishing.Publishing.TheVariants.{Linked as linked, Marked as marked, Unlinked as unlinked, Settled as settled, KeyPrepared as key_prepared, LinkPrepared as link_prepared, Halted as halted}
 use Rattle.lz_list.specs.Words.{Words, get, is_marked_at, link_with, next_of, flags_of, next_at, place_number}
-use Rattle.lz_list.specs.Traces.{Trace, Chain, on, rank, Shows, has_key, IsWithin, Lawful, chain, bucket_of, next_link, node_next, key_word, is_marked, member, flags_after, word_after, words_after, table}
-use Rattle.lz_list.specs.Lists.{next_in, home, AreSlots, ShowsChain, IsSorted, IsMember, IsMemberIn, IsNodeIn, IsTable, IsOfBucket, IsBefore, MayLinkAt, MayUnlinkAt}
-use Rattle.lz_list.specs.Members.{changes}
+use Rattle.lz_list.specs.Traces.{Trace, Chain, on, rank_at, WordsShow, has_key, KeysBelong, Lawful, chain, bucket_of, next_link, node_next, key_word, is_marked, member, flags_after, word_after, words_of_trace, table}
+use Rattle.lz_list.specs.Lists.{next_in, home, AreSlots, ShowsChain, IsSorted, IsMember, IsMemberIn, IsNodeIn, IsTable, IsOfBucket, IsPredecessor, MayLinkAt, MayUnlinkAt}
+use Rattle.lz_list.specs.Members.{key_changes}
 use Rattle.lz_list.proofs.Chains.PlaceRank.{adjacent, adjacent_next, shows_frame, shows_keys, on_start}
 use Rattle.lz_list.proofs.Chains.TraceChain.{words_show_chain}
 use Rattle.lz_list.proofs.Traces.NodeBits.{node}
@@ -40,7 +40,7 @@ module _ (buckets slots b : ℕ) where
   chain_slots (halted ∷ P) law = chain_slots P law.1
 
 -- a key of a chain has a node there
-pub node_of_key : (next keys : ℕ → ℕ) (k x : ℕ) (c : Chain) → Shows next keys x c → has_key k c ≡ true → (s : ℕ) × (on x c (suc s) ≡ true) × (keys s ≡ k)
+pub node_of_key : (next keys : ℕ → ℕ) (k x : ℕ) (c : Chain) → WordsShow next keys x c → has_key k c ≡ true → (s : ℕ) × (on x c (suc s) ≡ true) × (keys s ≡ k)
 node_of_key next keys k x [] h has = absurd (false≢true has)
 node_of_key next keys k x (n ∷ c) h has = elim (cases_eq n.0 k) [
   | inl same ↦ (n.1, grind (arith, nat_tests, on_start (suc n.1) c), h.1 ∙ same)
@@ -101,7 +101,7 @@ module _ (slots buckets : ℕ) (P : Trace) (few : slots ≤ most_slots) (law : L
     mark_is : (t : ℕ) → on 0 (chain buckets b P) (suc t) ≡ true → is_marked_at words (Node t) ≡ is_marked t P
     mark_is t there = ap (λ (v : ℕ). (flags_of v).mark) (link_is t (slot_there t there)) ∙ mark_of_link (node_next buckets t P) (small_next (suc t) there) (flags_after t P)
 
-    rank_is : (y : ℕ) → on 0 (chain buckets b P) y ≡ true → rank (λ t. get words (Key t)) y ≡ rank keys y
+    rank_is : (y : ℕ) → on 0 (chain buckets b P) y ≡ true → rank_at (λ t. get words (Key t)) y ≡ rank_at keys y
     rank_is zero there = refl
     rank_is (suc t) there = ap suc (key_is t (slot_there t there))
 
@@ -109,7 +109,7 @@ module _ (slots buckets : ℕ) (P : Trace) (few : slots ≤ most_slots) (law : L
     shown_after lt = record {
       shows = shows_keys (next_in words b) (next_in words b) keys (λ t. get words (Key t)) 0 (chain buckets b P)
           (shows_frame (next_link buckets b P) (next_in words b) keys 0 (chain buckets b P) (words_show_chain buckets slots P law b).shows (next_is lt)) rank_is;
-      within = subst (λ (n : ℕ). IsWithin n b (chain buckets b P)) (sym heads_are) (words_show_chain buckets slots P law b).within;
+      within = subst (λ (n : ℕ). KeysBelong n b (chain buckets b P)) (sym heads_are) (words_show_chain buckets slots P law b).within;
       in_range = subst (λ (n : ℕ). AreSlots n (chain buckets b P)) (sym links_are) (chain_slots buckets slots b P law);
     }
 
@@ -152,8 +152,8 @@ module _ (slots buckets : ℕ) (P : Trace) (few : slots ≤ most_slots) (law : L
     members_after = (is_then, then_is)
 
     -- a place of the key's bucket from there on to the key
-    module _ (pred : Place) (bucket_is : IsOfBucket bucket pred) (there : on 0 (chain buckets bucket P) (place_number pred) ≡ true) (low : rank keys (place_number pred) ≤ k) where
-      pub before_after : IsBefore words pred k
+    module _ (pred : Place) (bucket_is : IsOfBucket bucket pred) (there : on 0 (chain buckets bucket P) (place_number pred) ≡ true) (low : rank_at keys (place_number pred) ≤ k) where
+      pub before_after : IsPredecessor words pred k
       before_after = record {
         bucket = subst (λ (b : ℕ). IsOfBucket b pred) (sym at_home) bucket_is;
         chain = chain buckets bucket P;
@@ -166,29 +166,29 @@ module _ (slots buckets : ℕ) (P : Trace) (few : slots ≤ most_slots) (law : L
       leads_to = next_of_place words bucket pred bucket_is ∙ next_is bucket in_table (place_number pred) there
 
       module _ (n : ℕ) (next : next_link buckets bucket P (place_number pred) ≡ n) where
-        pub above_after : (m : ℕ) → m ≡ n → (n ≡ 0) ⊎ (suc k < rank keys n) → (next_at words pred ≡ 0) ⊎ (suc k < rank (λ t. get words (Key t)) (next_at words pred))
+        pub above_after : (m : ℕ) → m ≡ n → (n ≡ 0) ⊎ (suc k < rank_at keys n) → (next_at words pred ≡ 0) ⊎ (suc k < rank_at (λ t. get words (Key t)) (next_at words pred))
         above_after m is (inl none) = inl (leads_to ∙ next ∙ none)
         above_after zero is (inr high) = inl (leads_to ∙ next ∙ sym is)
         above_after (suc t) is (inr high) =
             let adj = adjacent (next_link buckets bucket P) keys 0 (chain buckets bucket P) (words_show_chain buckets slots P law bucket).shows (place_number pred) there in
             let on_it : on 0 (chain buckets bucket P) n ≡ true = ap (on 0 (chain buckets bucket P)) (sym next) ∙ adjacent_next 0 (chain buckets bucket P) (place_number pred) (next_link buckets bucket P (place_number pred)) adj (λ e. omega arith) in
-            inr (subst (λ (q : ℕ). suc k < rank (λ r. get words (Key r)) q) (sym (leads_to ∙ next)) (omega (arith, rank_is bucket n on_it)))
+            inr (subst (λ (q : ℕ). suc k < rank_at (λ r. get words (Key r)) q) (sym (leads_to ∙ next)) (omega (arith, rank_is bucket n on_it)))
 
         -- what the conditions of linking and unlinking come to after a trace
-        pub may_link_after : (s : ℕ) → s < slots → key_word s P ≡ k → node_next buckets s P ≡ n → (n ≡ 0) ⊎ (suc k < rank keys n) → MayLinkAt words pred s
+        pub may_link_after : (s : ℕ) → s < slots → key_word s P ≡ k → node_next buckets s P ≡ n → (n ≡ 0) ⊎ (suc k < rank_at keys n) → MayLinkAt words pred s
         may_link_after s lt key link high =
             let key_here : k ≡ get words (Key s) = sym key ∙ sym (key_is s lt) in
             let small : node_next buckets s P < 2 ^ 32 = omega (arith, small_next bucket (place_number pred) there) in
             record {
               slot = omega (arith, links_are);
-              before = subst (IsBefore words pred) key_here before_after;
-              above = subst (λ (j : ℕ). (next_at words pred ≡ 0) ⊎ (suc j < rank (λ t. get words (Key t)) (next_at words pred))) key_here (above_after n refl high);
+              before = subst (IsPredecessor words pred) key_here before_after;
+              above = subst (λ (j : ℕ). (next_at words pred ≡ 0) ⊎ (suc j < rank_at (λ t. get words (Key t)) (next_at words pred))) key_here (above_after n refl high);
               next = ap next_of (link_is s lt) ∙ next_of_link (node_next buckets s P) small (flags_after s P) ∙ link ∙ sym next ∙ sym leads_to;
             }
 
       pub may_unlink_after : (s : ℕ) → s < slots → key_word s P ≡ k → next_link buckets bucket P (place_number pred) ≡ suc s → MayUnlinkAt words pred s
       may_unlink_after s lt key next = record {
-        before = subst (IsBefore words pred) (sym key ∙ sym (key_is s lt)) before_after;
+        before = subst (IsPredecessor words pred) (sym key ∙ sym (key_is s lt)) before_after;
         next = leads_to ∙ next;
       }
 
@@ -197,7 +197,7 @@ member_of : ℕ → List (ℕ × Bool) → Bool
 member_of k [] = false
 member_of k (c ∷ cs) = if c.0 == k then c.1 else member_of k cs
 
-member_is : (k : ℕ) (P : Trace) → member k P ≡ member_of k (changes P)
+member_is : (k : ℕ) (P : Trace) → member k P ≡ member_of k (key_changes P)
 unfolding member_of
 member_is k [] = refl
 member_is k (linked j s p ∷ P) = ap (λ (m : Bool). if j == k then true else m) (member_is k P)
@@ -208,11 +208,11 @@ member_is k (key_prepared s v ∷ P) = member_is k P
 member_is k (link_prepared s v ∷ P) = member_is k P
 member_is k (halted ∷ P) = member_is k P
 
-pub one_list : (slots buckets passes : ℕ) (P Q : Trace) → slots ≤ most_slots → 0 < buckets → Lawful buckets slots P → Lawful 1 slots Q → changes P ≡ changes Q
-    → (k : ℕ) → IsMember (words_after slots buckets passes P) k ↔ IsMember (words_after slots 1 passes Q) k
+pub one_list : (slots buckets passes : ℕ) (P Q : Trace) → slots ≤ most_slots → 0 < buckets → Lawful buckets slots P → Lawful 1 slots Q → key_changes P ≡ key_changes Q
+    → (k : ℕ) → IsMember (words_of_trace slots buckets passes P) k ↔ IsMember (words_of_trace slots 1 passes Q) k
 one_list slots buckets passes P Q few some law law1 same k =
-    let many = members_after slots buckets P few law (words_after slots buckets passes P) refl refl refl some k in
-    let one = members_after slots 1 Q few law1 (words_after slots 1 passes Q) refl refl refl (omega arith) k in
+    let many = members_after slots buckets P few law (words_of_trace slots buckets passes P) refl refl refl some k in
+    let one = members_after slots 1 Q few law1 (words_of_trace slots 1 passes Q) refl refl refl (omega arith) k in
     let agree : member k P ≡ member k Q = member_is k P ∙ ap (member_of k) same ∙ sym (member_is k Q) in
     ((λ is. one.1 (sym agree ∙ many.0 is)), (λ is. many.1 (agree ∙ one.0 is)))
 

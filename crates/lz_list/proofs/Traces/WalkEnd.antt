@@ -5,7 +5,7 @@ use Rattle.std.proofs.lemmas.Bool.{cases_eq, cases_Bool}
 use Rattle.std.proofs.lemmas.Bool.Decides.{nat_tests, eqb_tells}
 use Rattle.lz_list.specs.declared.publishing.Publishing.{Publishing}
 use Rattle.lz_list.specs.declared.publishing.Publishing.TheVariants.{Linked as linked, Marked as marked, Unlinked as unlinked, Settled as settled, LinkPrepared as link_prepared}
-use Rattle.lz_list.specs.Traces.{Trace, Begins, Chain, insert, without, on, Shows, bucket_of, chain_of, key_word, next_link, member, linking, linking_in, is_settled, is_removed, is_marked, has_added, has_removed, Lawful, IsNode, SettledYes, SettledNo}
+use Rattle.lz_list.specs.Traces.{Trace, Begins, Chain, insert, without, on, WordsShow, bucket_of, chain_of, key_word, next_link, member, linking, linking_in, is_settled, is_removed, is_marked, has_added, has_removed, Lawful, IsNode, SettledYes, SettledNo}
 use Rattle.lz_list.specs.Pinned.{Once, Stood, IsKept, IsQuiet}
 use Rattle.lz_list.proofs.Chains.PlaceRank.{on_start}
 use Rattle.lz_list.proofs.Chains.TraceChain.{words_show_chain}
@@ -21,7 +21,7 @@ on_move : (w x y : ℕ) (c : Chain) → on w c y ≡ true → y ≢ w → on x c
 on_move w x y [] there other = grind (arith, nat_tests)
 on_move w x y (n ∷ c) there other = grind (arith, nat_tests)
 
-pub on_without_other : (next keys : ℕ → ℕ) (j s x : ℕ) (c : Chain) → Shows next keys x c → keys s ≢ j → on x c (suc s) ≡ true → on x (without j c) (suc s) ≡ true
+pub on_without_other : (next keys : ℕ → ℕ) (j s x : ℕ) (c : Chain) → WordsShow next keys x c → keys s ≢ j → on x c (suc s) ≡ true → on x (without j c) (suc s) ≡ true
 on_without_other next keys j s x [] h other there = there
 on_without_other next keys j s x (n ∷ c) h other there = elim (eqb_tells n.0 j) [
   | inl t ↦ rw t.0 (grind (arith, nat_tests, on_start x c, on_move (suc n.1) x (suc s) c, h.1, ap keys))

@@ -32,7 +32,7 @@ use Rattle.lz_machine.specs.Runs.{Start, IsStart, Caller, Service, State, Up, Do
 use Rattle.lz_machine.specs.Notes.{Notes}
 use Rattle.lz_machine.specs.CallersSound.{view_of, CallerSound}
 use Rattle.lz_machine.specs.Sound.{Sound, PointSound, IsSound}
-use Rattle.lz_machine.specs.Alone.{IsOwn, IsAlone, IsPlain, IsFull, HasRoom, IsSized, AreSized, FullIsRight}
+use Rattle.lz_machine.specs.Alone.{IsOwn, IsAlone, IsPlain, IsFull, HasRoomFor, IsSized, AreSized, FullIsRight}
 use Rattle.lz_machine.proofs.Steps.Trip.{point}
 use Rattle.lz_machine.proofs.Open.FoundSlots.{pass_of}
 use Rattle.lz_machine.proofs.Frames.OneActor.{caller_range}
@@ -172,7 +172,7 @@ reached_full start (step ∷ steps) a is runs alone =
     full_step start a p.state p.marks p.trace p.calls step alone.0 runs.0 (lives (start_keys start) p.marks) (reached_sound start steps is runs.1) (reached_full start steps a is runs.1 alone.1)
 
 -- a mark that says nothing of room
-room_no : (N : ℕ) (c : Command) (T : Keys) → HasRoom N c false T
+room_no : (N : ℕ) (c : Command) (T : Keys) → HasRoomFor N c false T
 room_no N (Add k) T = tt
 room_no N (Remove k) T = tt
 room_no N (Has k) T = tt

@@ -19,7 +19,7 @@ use Rattle.lz_slot.specs.Sets.{Keys, Same, members, HasMembers}
 use Rattle.lz_slot.specs.Bytes.{Holds, slot_at}
 use Rattle.lz_slot.specs.Histories.{History}
 use Rattle.lz_slot.proofs.Sets.{members_among, after_same}
-use Rattle.lz_machine.specs.Alone.{has_cut, IsPlain, HasRoom, IsFull}
+use Rattle.lz_machine.specs.Alone.{has_cut, IsPlain, HasRoomFor, IsFull}
 use Rattle.lz_machine.proofs.Crash.ImageSlots.{found, found_in, in_found, reads_key}
 use Rattle.lz_machine.proofs.Alone.Service.{Ended}
 
@@ -188,7 +188,7 @@ plain_once n (Call i b d ∷ Opened keys ∷ M) S T U h clean one other = absurd
 plain_once n (Call i b d ∷ OpenFailed reason ∷ M) S T U h clean one other = absurd h
 
 -- after an adding that was answered yes the text holds its key too
-pub has_room : (N n i j a : ℕ) (c : Command) (M : History) (S T : Keys) (t : List ℕ) (new : Keys) → Ended n M → Holds t N new → IsPlain S (Answer i true ∷ Call j a c ∷ M) new → IsPlain S M T → HasRoom N c true T
+pub has_room : (N n i j a : ℕ) (c : Command) (M : History) (S T : Keys) (t : List ℕ) (new : Keys) → Ended n M → Holds t N new → IsPlain S (Answer i true ∷ Call j a c ∷ M) new → IsPlain S M T → HasRoomFor N c true T
 has_room N n i j a (Remove k) M S T t new h holds plain was = tt
 has_room N n i j a (Has k) M S T t new h holds plain was = tt
 has_room N n i j a (Add k) M S T t new h holds plain was =

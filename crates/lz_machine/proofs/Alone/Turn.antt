@@ -41,7 +41,7 @@ use Rattle.lz_machine.specs.Runs.{Caller, caller_at, reply_at, next_event, moved
 use Rattle.lz_machine.specs.CallersSound.{IsAdder, view_of, Relies}
 use Rattle.lz_machine.specs.Notes.{Notes}
 use Rattle.lz_machine.specs.Sound.{Sound}
-use Rattle.lz_machine.specs.Limbo.{IsSeen}
+use Rattle.lz_machine.specs.Limbo.{IsRightSight}
 use Rattle.lz_machine.proofs.Steps.Hop.{call_at, own}
 use Rattle.lz_machine.proofs.Alone.Sights.{HasLeft, IsSeenOdd, set_cases, left_set, left_seen, seen_outside}
 use Rattle.lz_machine.proofs.Alone.Frame.{idle_on, none_on, left_on, is_use_event, course_is, cell_cases, synced_none, is_opening_event}
@@ -239,7 +239,7 @@ module _ (n calls : ℕ) (y : Yard) (callers : List (Option Caller)) (disk : Med
 
   -- the sights of a pass are right
   seen_odd : (p : ℕ) → IsSeenOdd y.uses p
-  seen_odd p s seen u limbo inside = (subst (λ (x : Sight). IsSeen y.shape.buckets (pin_in y.words.pins p) (notes.begun p) P s x) inside (sound.reuse.seen p s seen limbo)).0
+  seen_odd p s seen u limbo inside = (subst (λ (x : Sight). IsRightSight y.shape.buckets (pin_in y.words.pins p) (notes.begun p) P s x) inside (sound.reuse.seen p s seen limbo)).0
 
   -- looking at a pin
   seeing : (p : ℕ) → AloneFull a y (Some (call_at i c (SeeingPins p))) P → (line y a (SeePin p (pin_in y.words.pins p))).1 ≢ NotNow → After (SeeingPins p) (SeePin p (pin_in y.words.pins p)) (course y a (SeePin p (pin_in y.words.pins p)))

@@ -18,7 +18,7 @@ use Rattle.lz_vault.specs.Stages.{MayRead}
 use Rattle.lz_vault.proofs.Reading.{image_reads}
 use Rattle.lz_list.specs.Words.{place_number, link_to}
 use Rattle.lz_list.specs.Locks.{owner}
-use Rattle.lz_list.specs.Traces.{Trace, Shows, has_key, on, chain_of, bucket_of, key_word, next_link, member, IsLoose}
+use Rattle.lz_list.specs.Traces.{Trace, WordsShow, has_key, on, chain_of, bucket_of, key_word, next_link, member, IsLoose}
 use Rattle.lz_list.proofs.Chains.PlaceRank.{has_on}
 use Rattle.lz_list.proofs.Chains.TraceChain.{words_show_chain}
 use Rattle.lz_list.proofs.Traces.Absence.{unlinked_is_settled}
@@ -117,7 +117,7 @@ abbrev pub IsNodeOf : Yard → Trace → ℕ → ℕ → Type 0
 IsNodeOf y P s k = (on 0 (chain_of y.shape.buckets k P) (suc s) ≡ true) × (key_word s P ≡ k)
 
 module _ (n calls : ℕ) (y : Yard) (callers : List (Option Caller)) (disk : Medium) (M : History) (P : Trace) (notes : Notes) (sound : Sound n calls y callers disk M P notes) where
-  shown : (k : ℕ) → Shows (next_link y.shape.buckets (bucket_of y.shape.buckets k) P) (λ s. key_word s P) 0 (chain_of y.shape.buckets k P)
+  shown : (k : ℕ) → WordsShow (next_link y.shape.buckets (bucket_of y.shape.buckets k) P) (λ s. key_word s P) 0 (chain_of y.shape.buckets k P)
   shown k = (words_show_chain y.shape.buckets y.shape.slots P sound.trace.lawful (bucket_of y.shape.buckets k)).shows
 
   pub node_has_key : (s k : ℕ) → IsNodeOf y P s k → has_key k (chain_of y.shape.buckets k P) ≡ true

@@ -21,7 +21,7 @@ use Rattle.lz_machine.specs.Yards.{Shape, actor_in, pin_in, stage_in}
 use Rattle.lz_machine.specs.Ledgers.{Row}
 use Rattle.lz_machine.specs.Stands.{Faces}
 use Rattle.lz_machine.specs.SlotsSound.{SlotStands, is_node, is_held, is_out, is_free, is_limbo, SlotsSound}
-use Rattle.lz_machine.specs.LocksSound.{IsBeside, IsBefore, HasClosed, RestsOn, LocksSound}
+use Rattle.lz_machine.specs.LocksSound.{IsBeside, IsRightBefore, HasClosed, RestsOn, LocksSound}
 use Rattle.lz_machine.specs.LedgerSound.{TailsSound}
 use Rattle.lz_machine.specs.Sound.{ReuseSound}
 use Rattle.lz_machine.proofs.Frames.Limbo.{seen_step, away_stays}
@@ -49,7 +49,7 @@ module _ (shape : Shape) (cells : List Cell) (dead : Bool) (uses : List Use) (ac
   beside_halted : (k : ℕ) (pred : Place) (curr : Option ℕ) → IsBeside shape.buckets k pred curr P → IsBeside shape.buckets k pred curr (halted ∷ P)
   beside_halted k pred curr h = record { bucket = h.bucket; round = record { faces = faces_halted k (place_number pred) (link_to curr) h.round.faces; low = low_halted k (place_number pred) h.round.low; high = high_halted k (link_to curr) h.round.high } }
 
-  before_halted : (pred : Place) (t : ℕ) → IsBefore shape.buckets pred t P → IsBefore shape.buckets pred t (halted ∷ P)
+  before_halted : (pred : Place) (t : ℕ) → IsRightBefore shape.buckets pred t P → IsRightBefore shape.buckets pred t (halted ∷ P)
   before_halted pred t h = record { bucket = h.bucket; faces = record { faces = faces_halted (key_word t P) (place_number pred) (suc t) h.faces.faces; low = low_halted (key_word t P) (place_number pred) h.faces.low; key = h.faces.key } }
 
   closed_halted : (mark : Bool) (actor : Actor) → HasClosed shape.buckets mark actor P → HasClosed shape.buckets mark actor (halted ∷ P)
@@ -132,7 +132,7 @@ module _ (s0 : ℕ) (c0 : Change) (shape : Shape) (cells : List Cell) (dead : Bo
   beside_settled : (k : ℕ) (pred : Place) (curr : Option ℕ) → IsBeside shape.buckets k pred curr P → IsBeside shape.buckets k pred curr (settled s0 c0 ∷ P)
   beside_settled k pred curr h = record { bucket = h.bucket; round = record { faces = faces_settled k (place_number pred) (link_to curr) h.round.faces; low = low_settled k (place_number pred) h.round.low; high = high_settled k (link_to curr) h.round.high } }
 
-  before_settled : (pred : Place) (t : ℕ) → IsBefore shape.buckets pred t P → IsBefore shape.buckets pred t (settled s0 c0 ∷ P)
+  before_settled : (pred : Place) (t : ℕ) → IsRightBefore shape.buckets pred t P → IsRightBefore shape.buckets pred t (settled s0 c0 ∷ P)
   before_settled pred t h = record { bucket = h.bucket; faces = record { faces = faces_settled (key_word t P) (place_number pred) (suc t) h.faces.faces; low = low_settled (key_word t P) (place_number pred) h.faces.low; key = h.faces.key } }
 
   closed_settled : (mark : Bool) (actor : Actor) → HasClosed shape.buckets mark actor P → HasClosed shape.buckets mark actor (settled s0 c0 ∷ P)

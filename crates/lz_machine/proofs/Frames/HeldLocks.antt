@@ -6,13 +6,13 @@ use Rattle.lz_list.specs.declared.place.Place.TheVariants.{Bucket, Node}
 use Rattle.lz_list.specs.declared.publishing.Publishing.{Publishing}
 use Rattle.lz_list.specs.declared.publishing.Publishing.TheVariants.{Linked as linked, Marked as marked, Unlinked as unlinked, KeyPrepared as key_prepared, LinkPrepared as link_prepared}
 use Rattle.lz_list.specs.Words.{place_number, link_to}
-use Rattle.lz_list.specs.Traces.{Trace, Lawful, place_of, bucket_of, key_word, next_link, is_marked, rank}
+use Rattle.lz_list.specs.Traces.{Trace, Lawful, place_of, bucket_of, key_word, next_link, is_marked, rank_at}
 use Rattle.lz_list.specs.Laws.{IsLow, IsHigh}
 use Rattle.lz_machine.specs.declared.actor.Actor.{Actor}
 use Rattle.lz_machine.specs.declared.actor.Hold.{Hold}
 use Rattle.lz_machine.specs.declared.actor.Hold.TheVariants.{Nothing, Locks, Checked, GateOpened, Linked, GateClosed, Marked, Unlinked, Released}
-use Rattle.lz_machine.specs.Stands.{IsReady, Faces, InBucket, IsLeaving}
-use Rattle.lz_machine.specs.LocksSound.{IsBeside, IsBefore, HasClosed, RestsOn}
+use Rattle.lz_machine.specs.Stands.{IsLinkable, Faces, InBucket, IsLeaving}
+use Rattle.lz_machine.specs.LocksSound.{IsBeside, IsRightBefore, HasClosed, RestsOn}
 use Rattle.lz_machine.proofs.Frames.OtherLink as links
 use Rattle.lz_machine.proofs.Frames.OtherUnlink as unlinks
 
@@ -20,10 +20,10 @@ use Rattle.lz_machine.proofs.Frames.OtherUnlink as unlinks
 pub record LeavesPair (buckets : ℕ) (e : Publishing) (actor : Actor) (P : Trace) : Type 0 where
   pub own_word : (s : ℕ) → actor.slot ≡ Some s → key_word s (e ∷ P) ≡ key_word s P
   pub node_word : (t : ℕ) → actor.curr ≡ Some t → key_word t (e ∷ P) ≡ key_word t P
-  pub place_rank : rank (λ t. key_word t (e ∷ P)) (place_number actor.pred) ≡ rank (λ t. key_word t P) (place_number actor.pred)
+  pub place_rank : rank_at (λ t. key_word t (e ∷ P)) (place_number actor.pred) ≡ rank_at (λ t. key_word t P) (place_number actor.pred)
   pub mark : (t : ℕ) → actor.curr ≡ Some t → is_marked t (e ∷ P) ≡ is_marked t P
   pub faces : (j n : ℕ) → InBucket buckets j actor.pred → Faces buckets j (place_number actor.pred) n P → Faces buckets j (place_number actor.pred) n (e ∷ P)
-  pub ready : (j n s : ℕ) → actor.slot ≡ Some s → IsReady buckets j n s P → IsReady buckets j n s (e ∷ P)
+  pub ready : (j n s : ℕ) → actor.slot ≡ Some s → IsLinkable buckets j n s P → IsLinkable buckets j n s (e ∷ P)
 
 -- the actor rests on its pair
 abbrev pub rests_on_pair : Hold → Bool
@@ -50,7 +50,7 @@ module _ (buckets : ℕ) (e : Publishing) (actor : Actor) (P : Trace) (leaves : 
   beside_stays k h = record { bucket = h.bucket; round = record { faces = leaves.faces k (link_to actor.curr) h.bucket h.round.faces; low = low_stays k h.round.low; high = high_stays k h.round.high } }
 
   -- and right before its node
-  pub before_stays : (t : ℕ) → actor.curr ≡ Some t → IsBefore buckets actor.pred t P → IsBefore buckets actor.pred t (e ∷ P)
+  pub before_stays : (t : ℕ) → actor.curr ≡ Some t → IsRightBefore buckets actor.pred t P → IsRightBefore buckets actor.pred t (e ∷ P)
   before_stays t is h =
       let same = sym (leaves.node_word t is) in
       record {
@@ -74,7 +74,7 @@ module _ (buckets : ℕ) (e : Publishing) (actor : Actor) (P : Trace) (leaves : 
     own = h.own;
     slot = h.slot;
     beside = subst (λ (k : ℕ). IsBeside buckets k actor.pred actor.curr (e ∷ P)) (sym (leaves.own_word h.own h.slot)) (beside_stays (key_word h.own P) h.beside);
-    ready = subst (λ (k : ℕ). IsReady buckets k (link_to actor.curr) h.own (e ∷ P)) (sym (leaves.own_word h.own h.slot)) (leaves.ready (key_word h.own P) (link_to actor.curr) h.own h.slot h.ready);
+    ready = subst (λ (k : ℕ). IsLinkable buckets k (link_to actor.curr) h.own (e ∷ P)) (sym (leaves.own_word h.own h.slot)) (leaves.ready (key_word h.own P) (link_to actor.curr) h.own h.slot h.ready);
   }
   pair_stays GateClosed h = closed_stays false h
   pair_stays Marked h = closed_stays true h
@@ -107,7 +107,7 @@ linked_leaves buckets slots k s p actor P law apart other = record {
   ready = λ j n t slot h. links.ready_stays buckets slots P law k s p j n t (other t slot) h;
 }
   where
-    rank_same : (x : ℕ) → rank (λ t. key_word t (linked k s p ∷ P)) x ≡ rank (λ t. key_word t P) x
+    rank_same : (x : ℕ) → rank_at (λ t. key_word t (linked k s p ∷ P)) x ≡ rank_at (λ t. key_word t P) x
     rank_same zero = refl
     rank_same (suc t) = refl
 
@@ -131,7 +131,7 @@ unlinked_leaves buckets slots k x s p actor P law leaving apart = record {
   };
 }
   where
-    rank_same : (z : ℕ) → rank (λ t. key_word t (unlinked k s p ∷ P)) z ≡ rank (λ t. key_word t P) z
+    rank_same : (z : ℕ) → rank_at (λ t. key_word t (unlinked k s p ∷ P)) z ≡ rank_at (λ t. key_word t P) z
     rank_same zero = refl
     rank_same (suc t) = refl
 
@@ -146,7 +146,7 @@ marked_leaves buckets k s p actor P other apart = record {
   ready = λ j n t slot h. record { loose = h.loose; key = h.key; link = h.link; no_mark = grind (arith, nat_tests, apart t slot, h.no_mark); not_added = h.not_added; not_removed = h.not_removed };
 }
   where
-    rank_same : (z : ℕ) → rank (λ t. key_word t (marked k s p ∷ P)) z ≡ rank (λ t. key_word t P) z
+    rank_same : (z : ℕ) → rank_at (λ t. key_word t (marked k s p ∷ P)) z ≡ rank_at (λ t. key_word t P) z
     rank_same zero = refl
     rank_same (suc t) = refl
 
@@ -165,7 +165,7 @@ key_leaves buckets s v actor P own node place = record {
   ready = λ j n t slot h. record { loose = h.loose; key = grind (arith, nat_tests, own t slot, h.key); link = h.link; no_mark = h.no_mark; not_added = h.not_added; not_removed = h.not_removed };
 }
   where
-    rank_same : (z : ℕ) → place_number actor.pred ≡ z → rank (λ t. key_word t (key_prepared s v ∷ P)) z ≡ rank (λ t. key_word t P) z
+    rank_same : (z : ℕ) → place_number actor.pred ≡ z → rank_at (λ t. key_word t (key_prepared s v ∷ P)) z ≡ rank_at (λ t. key_word t P) z
     rank_same zero is = refl
     rank_same (suc t) is = let apart = place t is in grind (arith, nat_tests, apart)
 
@@ -183,7 +183,7 @@ link_leaves buckets s v actor P own node place = record {
   ready = λ j n t slot h. record { loose = h.loose; key = h.key; link = grind (arith, nat_tests, own t slot, h.link); no_mark = grind (arith, nat_tests, own t slot, h.no_mark); not_added = grind (arith, nat_tests, own t slot, h.not_added); not_removed = grind (arith, nat_tests, own t slot, h.not_removed) };
 }
   where
-    rank_same : (z : ℕ) → rank (λ t. key_word t (link_prepared s v ∷ P)) z ≡ rank (λ t. key_word t P) z
+    rank_same : (z : ℕ) → rank_at (λ t. key_word t (link_prepared s v ∷ P)) z ≡ rank_at (λ t. key_word t P) z
     rank_same zero = refl
     rank_same (suc t) = refl
 

@@ -26,7 +26,7 @@ use Rattle.lz_vault.specs.Members.{no_cell}
 use Rattle.lz_machine.specs.Yards.{Shape, cell_in, stage_in}
 use Rattle.lz_machine.specs.Stands.{Faces}
 use Rattle.lz_machine.specs.SlotsSound.{IsGateClosed}
-use Rattle.lz_machine.specs.LocksSound.{IsBefore, RestsOn}
+use Rattle.lz_machine.specs.LocksSound.{IsRightBefore, RestsOn}
 use Rattle.lz_machine.specs.Sound.{DiskSound}
 use Rattle.lz_machine.proofs.Frames.HeldLocks.{LeavesPair, pair_stays}
 use Rattle.lz_machine.proofs.Open.Texts.{key_small}
@@ -94,7 +94,7 @@ module _ (buckets slots s : ℕ) (e : Publishing) (actor : Actor) (P : Trace) (l
           let adj = subst (Adjacent 0 (chain_of buckets j P) (place_number actor.pred)) (h.next ∙ ap link_to is) (stands buckets slots P (bucket_of buckets j) (place_number actor.pred) P law h.there) in
           adjacent_next 0 (chain_of buckets j P) (place_number actor.pred) (suc t) adj (λ none. grind arith)
 
-  before_leave : (t : ℕ) → actor.curr ≡ Some t → IsBefore buckets actor.pred t P → LeavesPair buckets e actor P
+  before_leave : (t : ℕ) → actor.curr ≡ Some t → IsRightBefore buckets actor.pred t P → LeavesPair buckets e actor P
   before_leave t is h = faces_leave (key_word t P) (subst (λ (q : ℕ). Faces buckets (key_word t P) (place_number actor.pred) q P) (sym (ap link_to is)) h.faces.faces)
 
   -- a pair that was checked without a slot and without a node says nothing of its place, which may be loose by now

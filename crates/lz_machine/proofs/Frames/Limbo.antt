@@ -8,7 +8,7 @@ use Rattle.lz_allot.specs.Uses.{sight_after}
 use Rattle.lz_list.specs.declared.publishing.Publishing.{Publishing}
 use Rattle.lz_list.specs.Traces.{Trace, Begins, on, chain, IsLoose}
 use Rattle.lz_list.proofs.Traces.Hindsight.{once_begins}
-use Rattle.lz_machine.specs.Limbo.{IsAway, IsSeen}
+use Rattle.lz_machine.specs.Limbo.{IsAway, IsRightSight}
 
 -- a trace is as long as each that it goes on from, or longer
 pub shorter : (R P : Trace) → Begins R P → length R ≤ length P
@@ -28,22 +28,22 @@ away_stays buckets t P0 e P loose away b (inl now) = false≢true (sym (loose b)
 away_stays buckets t P0 e P loose away b (inr before) = away b before
 
 module _ (buckets t : ℕ) where
-  pub seen_step : (v : ℕ) (P0 : Trace) (e : Publishing) (P : Trace) (seen : Sight) → IsLoose buckets t (e ∷ P) → IsSeen buckets v P0 P t seen → IsSeen buckets v P0 (e ∷ P) t seen
+  pub seen_step : (v : ℕ) (P0 : Trace) (e : Publishing) (P : Trace) (seen : Sight) → IsLoose buckets t (e ∷ P) → IsRightSight buckets v P0 P t seen → IsRightSight buckets v P0 (e ∷ P) t seen
   seen_step v P0 e P Unseen loose h = tt
   seen_step v P0 e P (Inside u) loose h = (h.0, h.1, λ lt odd. away_stays buckets t P0 e P loose (h.2 lt odd))
   seen_step v P0 e P Left loose h = λ odd. away_stays buckets t P0 e P loose (h odd)
 
-  pub seen_pin : (v : ℕ) (P0 P : Trace) (seen : Sight) → IsLoose buckets t P → IsSeen buckets v P0 P t seen → IsSeen buckets (suc v) P P t seen
+  pub seen_pin : (v : ℕ) (P0 P : Trace) (seen : Sight) → IsLoose buckets t P → IsRightSight buckets v P0 P t seen → IsRightSight buckets (suc v) P P t seen
   seen_pin v P0 P Unseen loose h = tt
   seen_pin v P0 P (Inside u) loose h = (h.0, omega (arith, h.1), λ lt odd. away_new buckets t P loose)
   seen_pin v P0 P Left loose h = λ odd. away_new buckets t P loose
 
-  pub seen_leave : (v : ℕ) (P0 P : Trace) (seen : Sight) → v % 2 ≡ 1 → IsSeen buckets v P0 P t seen → IsSeen buckets (suc v) P0 P t seen
+  pub seen_leave : (v : ℕ) (P0 P : Trace) (seen : Sight) → v % 2 ≡ 1 → IsRightSight buckets v P0 P t seen → IsRightSight buckets (suc v) P0 P t seen
   seen_leave v P0 P Unseen inside h = tt
   seen_leave v P0 P (Inside u) inside h = (h.0, omega (arith, h.1), λ lt odd. absurd (omega arith))
   seen_leave v P0 P Left inside h = λ odd. absurd (omega arith)
 
-  pub seen_see : (v : ℕ) (P0 P : Trace) (seen : Sight) → IsSeen buckets v P0 P t seen → IsSeen buckets v P0 P t (sight_after v seen)
+  pub seen_see : (v : ℕ) (P0 P : Trace) (seen : Sight) → IsRightSight buckets v P0 P t seen → IsRightSight buckets v P0 P t (sight_after v seen)
   seen_see v P0 P Unseen h = elim (eqb_tells (v % 2) 0) [
     | inl even ↦ rw even.0 (λ odd. absurd (omega (arith, even.1)))
     | inr odd ↦ rw odd.0 (omega (arith, odd.1), omega arith, λ lt. absurd (omega arith))

@@ -33,7 +33,7 @@ use Rattle.lz_machine.specs.Yards.{Yard, actor_in, pin_in, cell_in, stage_in}
 use Rattle.lz_machine.specs.Table.{with_vault}
 use Rattle.lz_machine.specs.Calls.{halts}
 use Rattle.lz_machine.specs.Runs.{Caller, caller_at}
-use Rattle.lz_machine.specs.Stands.{IsReady}
+use Rattle.lz_machine.specs.Stands.{IsLinkable}
 use Rattle.lz_machine.proofs.Frames.Ranges.{on_range}
 use Rattle.lz_machine.specs.Notes.{Notes, entries}
 use Rattle.lz_machine.specs.SlotsSound.{opens, shuts, unlocks, closes, has_removed_node, IsGateClosed, IsGateOpened, IsGateWritten, IsOut, IsCloser, IsNodeStage, IsHandStage, SlotStands, is_node, is_held, is_out, is_free, is_limbo, SlotsSound}
@@ -390,7 +390,7 @@ module _ (n calls : ℕ) (y : Yard) (callers : List (Option Caller)) (disk : Med
   }
 
   -- the slot is ready: its link is written, without bits
-  pub ready_published : IsReady y.shape.buckets (key_word s P') v s P'
+  pub ready_published : IsLinkable y.shape.buckets (key_word s P') v s P'
   ready_published =
       let same : (s == s) ≡ true = grind (arith, nat_tests) in
       record { loose = loose; key = refl; link = rw same refl; no_mark = rw same refl; not_added = rw same refl; not_removed = rw same refl }

@@ -12,7 +12,7 @@ use Rattle.lz_list.proofs.Traces.Hindsight.{stands}
 use Rattle.lz_list.proofs.Traces.NodeBits.{on_insert_other}
 use Rattle.lz_list.proofs.Traces.WalkEnd.{on_insert}
 use Rattle.lz_list.proofs.Changes.CheckedPlace.{place_between}
-use Rattle.lz_machine.specs.Stands.{IsReady, IsRound, Faces}
+use Rattle.lz_machine.specs.Stands.{IsLinkable, IsRound, Faces}
 
 module _ (buckets slots : ℕ) (P : Trace) (law : Lawful buckets slots P) where
   -- what Check found, in words of the chain
@@ -24,7 +24,7 @@ module _ (buckets slots : ℕ) (P : Trace) (law : Lawful buckets slots P) where
       (between.0, between.1, adjacent_none (next_link buckets (bucket_of buckets k) P) (λ t. key_word t P) k 0 (chain_of buckets k P) shown.shows x n adj h.low h.high)
 
   -- so the linking is lawful
-  pub may_link : (k x n s : ℕ) → s < slots → IsRound buckets k x n P → IsReady buckets k n s P → MayLink buckets slots k s P
+  pub may_link : (k x n s : ℕ) → s < slots → IsRound buckets k x n P → IsLinkable buckets k n s P → MayLink buckets slots k s P
   may_link k x n s in_range round ready =
       let place = round_place k x n round in
       record {
@@ -50,7 +50,7 @@ module _ (buckets slots : ℕ) (P : Trace) (law : Lawful buckets slots P) where
     pub loose_place : (t : ℕ) → IsLoose buckets t P → place_of buckets k P ≢ suc t
     loose_place t loose is = false≢true (sym (loose (bucket_of buckets k)) ∙ ap (on 0 (chain_of buckets k P)) (sym is) ∙ before_on k 0 (chain_of buckets k P))
 
-    pub ready_stays : (j n t : ℕ) → t ≢ s → IsReady buckets j n t P → IsReady buckets j n t (linked k s p ∷ P)
+    pub ready_stays : (j n t : ℕ) → t ≢ s → IsLinkable buckets j n t P → IsLinkable buckets j n t (linked k s p ∷ P)
     ready_stays j n t other h = record {
       loose = loose_stays t other h.loose;
       key = h.key;

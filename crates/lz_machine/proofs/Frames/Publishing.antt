@@ -14,7 +14,7 @@ use Rattle.lz_list.specs.declared.publishing.Publishing.TheVariants.{Linked as l
 use Rattle.lz_list.specs.declared.walk.Look.{Look}
 use Rattle.lz_list.specs.declared.walk.Look.TheVariants.{AtHead, AtKey, AtMet, AtBelow}
 use Rattle.lz_list.specs.Words.{place_number, link_to}
-use Rattle.lz_list.specs.Traces.{Trace, May, has_key, Lawful, Adjacent, on, chain, chain_of, bucket_of, key_word, linking, linking_in, is_removed, halt_word, member, rank, next_link}
+use Rattle.lz_list.specs.Traces.{Trace, May, has_key, Lawful, Adjacent, on, chain, chain_of, bucket_of, key_word, linking, linking_in, is_removed, halt_word, member, rank_at, next_link}
 use Rattle.lz_list.specs.Pinned.{Stood, IsKept, IsQuiet}
 use Rattle.lz_list.specs.Laws.{IsHigh}
 use Rattle.lz_list.proofs.Chains.PlaceRank.{adjacent_on, has_on}
@@ -35,7 +35,7 @@ use Rattle.lz_machine.specs.Runs.{Caller}
 use Rattle.lz_machine.specs.Kept.{upto}
 use Rattle.lz_machine.specs.Stands.{IsWalking, WasBetween}
 use Rattle.lz_machine.specs.Yards.{IsInside}
-use Rattle.lz_machine.specs.CallersSound.{View, IsWritten, IsAimed, IsBeyond, HasEnded, IsLooking, IsSince, HasMet, RestsYes, RestsNo, WasAbsent, IsSettledChange, MayAnswer, HasAdded, HasMarked, MayRest, IsIdle, ReliesWriting, ReliesAdding, ReliesRemoving, ReliesOn, Relies, IsCaller, CallerSound, is_before_pin, side_of}
+use Rattle.lz_machine.specs.CallersSound.{View, IsWritten, IsAimed, IsBeyond, HasEnded, IsLooking, IsSince, HasMet, RestsYes, RestsNo, WasAbsent, IsSettledChange, MayAnswer, HasAdded, HasMarked, MayRest, IsEmptyHanded, ReliesWriting, ReliesAdding, ReliesRemoving, ReliesOn, Relies, IsCaller, CallerSound, is_before_pin, side_of}
 use Rattle.lz_machine.specs.SlotsSound.{shuts}
 use Rattle.lz_machine.proofs.Ledger.Growth.{upto_more, yes_stays, no_stays}
 
@@ -111,7 +111,7 @@ module _ (buckets slots : ℕ) (e : Publishing) (P : Trace) (law : Lawful bucket
 
   module _ (P0 : Trace) (kept : IsKept buckets P0 e P) (quiet : IsQuiet buckets P0 P) where
     -- a place of a chain keeps its rank
-    pub rank_stays : (b x : ℕ) → Stood buckets b P0 P x → rank (λ t. key_word t (e ∷ P)) x ≡ rank (λ t. key_word t P) x
+    pub rank_stays : (b x : ℕ) → Stood buckets b P0 P x → rank_at (λ t. key_word t (e ∷ P)) x ≡ rank_at (λ t. key_word t P) x
     rank_stays b zero stood = refl
     rank_stays b (suc t) stood = ap suc (key_stays buckets slots P0 b t e P kept stood)
 
@@ -217,7 +217,7 @@ module _ (buckets slots : ℕ) (e : Publishing) (P : Trace) (law : Lawful bucket
   answer_stays (Remove k) (Full counts) P0 changed h = (h.0, absent_stays k P0 h.1)
   answer_stays _ _ _ changed h = h
 
-  idle_stays : (actor : Actor) → IsIdle actor P → IsIdle actor (e ∷ P)
+  idle_stays : (actor : Actor) → IsEmptyHanded actor P → IsEmptyHanded actor (e ∷ P)
   idle_stays actor (inl none) = inl none
   idle_stays actor (inr halt) = inr (halt_stays e P halt)
 

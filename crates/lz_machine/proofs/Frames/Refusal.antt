@@ -16,7 +16,7 @@ use Rattle.lz_machine.specs.Table.{is_old}
 use Rattle.lz_machine.specs.Calls.{begun, first_progress}
 use Rattle.lz_machine.specs.Runs.{Caller, caller_at, invoked}
 use Rattle.lz_machine.specs.Notes.{Notes, entries}
-use Rattle.lz_machine.specs.CallersSound.{View, IsIdle, Relies, is_before_pin, view_of, CallerSound, CallersSound}
+use Rattle.lz_machine.specs.CallersSound.{View, IsEmptyHanded, Relies, is_before_pin, view_of, CallerSound, CallersSound}
 use Rattle.lz_machine.specs.LocksSound.{HasLock, RestsOn}
 use Rattle.lz_machine.specs.LedgerSound.{TailsSound}
 use Rattle.lz_machine.specs.Sound.{Sound, UpSound}
@@ -32,7 +32,7 @@ begun_outside true = refl
 begun_outside false = refl
 
 -- what it relies on, where its actor has noted whether it was refused
-pub begun_relies : (v : View) (c : Command) (P0 P : Trace) (changed : Option ℕ) → v.actor.refused ≡ is_old v.format c → IsIdle v.actor P → changed ≡ None → Relies v c (begun v.format c) P0 P changed
+pub begun_relies : (v : View) (c : Command) (P0 P : Trace) (changed : Option ℕ) → v.actor.refused ≡ is_old v.format c → IsEmptyHanded v.actor P → changed ≡ None → Relies v c (begun v.format c) P0 P changed
 begun_relies v c P0 P changed noted idle none = go (is_old v.format c) refl
   where
     go : (b : Bool) → is_old v.format c ≡ b → Relies v c (if b then Answering SaysOldFile else first_progress) P0 P changed
@@ -82,7 +82,7 @@ module _ (n calls : ℕ) (y : Yard) (callers : List (Option Caller)) (disk : Med
   idle_caller : CallerSound (view_of y.shape y.vault actors' a) (pin_in y.words.pins a) None (notes.begun a) P (notes.changed a)
   idle_caller =
       let old = subst (λ (q : Option Caller). CallerSound (view_of y.shape y.vault y.actors a) (pin_in y.words.pins a) q (notes.begun a) P (notes.changed a)) none (sound.callers.each a) in
-      record { quiet = old.quiet; begins = old.begins; stands = (subst (λ (q : Actor). IsIdle q P) (sym same_hand) old.stands.0, old.stands.1) }
+      record { quiet = old.quiet; begins = old.begins; stands = (subst (λ (q : Actor). IsEmptyHanded q P) (sym same_hand) old.stands.0, old.stands.1) }
 
   invoked_callers : CallersSound y.shape y.vault y.words.pins actors' callers P notes
   invoked_callers = record {

@@ -13,7 +13,7 @@ use Rattle.lz_allot.specs.Uses.{Use, Free, Taken, Limbo, use_of, collect_at, col
 use Rattle.lz_list.specs.Traces.{Trace}
 use Rattle.lz_machine.specs.declared.actor.Actor.{Actor}
 use Rattle.lz_machine.specs.Yards.{Shape, IsInside, pin_in}
-use Rattle.lz_machine.specs.Limbo.{IsSeen}
+use Rattle.lz_machine.specs.Limbo.{IsRightSight}
 use Rattle.lz_machine.specs.SlotsSound.{SlotStands, is_node, is_held, is_out, is_free, is_limbo, SlotsSound}
 use Rattle.lz_machine.specs.Sound.{ReuseSound}
 use Rattle.lz_machine.proofs.Frames.Limbo.{seen_see}
@@ -102,11 +102,11 @@ module _ (p v : ℕ) where
     seen = λ a s seen is.
         let was = see_at (use_of uses s) seen (sym (use_map (see_pin_at p v) uses s refl) ∙ is) in
         let count = h.sights s was.0 was.1 in
-        subst (λ (l : List Sight). IsSeen shape.buckets (pin_in pins a) (begun a) P s (of_pass l a Left)) (sym was.2) (elim (cases_eq a p) [
-          | inl same ↦ subst (λ (q : Sight). IsSeen shape.buckets (pin_in pins a) (begun a) P s q) (sym (ap (λ (q : ℕ). of_pass (set_of_pass was.0 p (sight_after v (of_pass was.0 p Left))) q Left) same ∙ of_pass_same was.0 p (sight_after v (of_pass was.0 p Left)) Left low (omega (arith, high, count))))
-              (subst (λ (q : ℕ). IsSeen shape.buckets (pin_in pins a) (begun a) P s (sight_after q (of_pass was.0 p Left))) (ap (pin_in pins) same ∙ sym value)
-              (seen_see shape.buckets s (pin_in pins a) (begun a) P (of_pass was.0 p Left) (subst (λ (q : ℕ). IsSeen shape.buckets (pin_in pins a) (begun a) P s (of_pass was.0 q Left)) same (h.seen a s was.0 was.1))))
-          | inr other ↦ subst (λ (q : Sight). IsSeen shape.buckets (pin_in pins a) (begun a) P s q) (sym (of_pass_other was.0 p a (sight_after v (of_pass was.0 p Left)) Left other)) (h.seen a s was.0 was.1)
+        subst (λ (l : List Sight). IsRightSight shape.buckets (pin_in pins a) (begun a) P s (of_pass l a Left)) (sym was.2) (elim (cases_eq a p) [
+          | inl same ↦ subst (λ (q : Sight). IsRightSight shape.buckets (pin_in pins a) (begun a) P s q) (sym (ap (λ (q : ℕ). of_pass (set_of_pass was.0 p (sight_after v (of_pass was.0 p Left))) q Left) same ∙ of_pass_same was.0 p (sight_after v (of_pass was.0 p Left)) Left low (omega (arith, high, count))))
+              (subst (λ (q : ℕ). IsRightSight shape.buckets (pin_in pins a) (begun a) P s (sight_after q (of_pass was.0 p Left))) (ap (pin_in pins) same ∙ sym value)
+              (seen_see shape.buckets s (pin_in pins a) (begun a) P (of_pass was.0 p Left) (subst (λ (q : ℕ). IsRightSight shape.buckets (pin_in pins a) (begun a) P s (of_pass was.0 q Left)) same (h.seen a s was.0 was.1))))
+          | inr other ↦ subst (λ (q : Sight). IsRightSight shape.buckets (pin_in pins a) (begun a) P s q) (sym (of_pass_other was.0 p a (sight_after v (of_pass was.0 p Left)) Left other)) (h.seen a s was.0 was.1)
         ]);
     free = λ a s is inside. h.free a s (see_free (use_of uses s) (sym (use_map (see_pin_at p v) uses s refl) ∙ is)) inside;
     reserved = h.reserved;
@@ -162,7 +162,7 @@ collect_reuse shape pins uses actors P begun h = record {
   seen = λ a s seen is. h.seen a s seen (collected_limbo (use_of uses s) seen (sym (use_map collect_at uses s refl) ∙ is));
   free = λ a s is inside. elim (collected_free (use_of uses s) (sym (use_map collect_at uses s refl) ∙ is)) [
     | inl free ↦ h.free a s free inside
-    | inr left ↦ subst (λ (q : Sight). IsSeen shape.buckets (pin_in pins a) (begun a) P s q) (left_of left.0 a left.2) (h.seen a s left.0 left.1) inside
+    | inr left ↦ subst (λ (q : Sight). IsRightSight shape.buckets (pin_in pins a) (begun a) P s q) (left_of left.0 a left.2) (h.seen a s left.0 left.1) inside
   ];
   reserved = h.reserved;
 }

@@ -28,7 +28,7 @@ use Rattle.lz_machine.specs.Table.{last_pin, stays_out, pin_of, needs, course, l
 use Rattle.lz_machine.specs.Runs.{Caller, caller_at, mark_of, played}
 use Rattle.lz_machine.specs.LocksSound.{HasLock, RestsOn, LocksSound}
 use Rattle.lz_machine.specs.Notes.{Notes, entries}
-use Rattle.lz_machine.specs.CallersSound.{view_of, is_before_pin, side_of, IsIdle, MayAnswer, Relies, CallerSound, CallersSound}
+use Rattle.lz_machine.specs.CallersSound.{view_of, is_before_pin, side_of, IsEmptyHanded, MayAnswer, Relies, CallerSound, CallersSound}
 use Rattle.lz_machine.specs.SlotsSound.{opens, SlotsSound}
 use Rattle.lz_machine.specs.LedgerSound.{TailsSound}
 use Rattle.lz_machine.specs.Sound.{TraceSound, ReuseSound, IsAfter, Sound, UpSound}
@@ -121,7 +121,7 @@ module _ (n calls : ℕ) (y : Yard) (callers : List (Option Caller)) (disk : Med
     left_yard uses actors' = record { shape = y.shape; words = words'; locks = y.locks; vault = y.vault; uses = see_pin a to uses; actors = actors' }
 
     left_sound : (uses : List Use) (actors' : List Actor) → length actors' ≡ length y.actors → ((b : ℕ) → b ≢ a → actor_in actors' b ≡ actor_in y.actors b)
-        → ((b t : ℕ) → (actor_in actors' b).slot ≡ Some t → (actor_in y.actors b).slot ≡ Some t) → IsIdle (actor_in actors' a) P
+        → ((b t : ℕ) → (actor_in actors' b).slot ≡ Some t → (actor_in y.actors b).slot ≡ Some t) → IsEmptyHanded (actor_in actors' a) P
         → SlotsSound y.shape y.vault.cells y.vault.dead uses actors' P → LocksSound y.shape y.locks actors' P → ReuseSound y.shape words'.pins uses actors' P notes.begun
         → Sound n calls (left_yard uses actors') (ending callers a) disk (m ∷ M) P notes'
     left_sound uses actors' count others slot_then idle slots locks reuse = record {
@@ -143,9 +143,9 @@ module _ (n calls : ℕ) (y : Yard) (callers : List (Option Caller)) (disk : Med
       all_same : (b : ℕ) → actor_in actors' b ≡ actor_in y.actors b
       all_same = by_actor (λ b. actor_in actors' b ≡ actor_in y.actors b) a (of_pass_same y.actors a x idle_actor low in_actors ∙ same) (λ b other. of_pass_other y.actors a b x idle_actor other)
 
-      kept_sound : IsIdle (actor_in y.actors a) P → Sound n calls (left_yard y.uses actors') (ending callers a) disk (m ∷ M) P notes'
+      kept_sound : IsEmptyHanded (actor_in y.actors a) P → Sound n calls (left_yard y.uses actors') (ending callers a) disk (m ∷ M) P notes'
       kept_sound idle = left_sound y.uses actors' (length-set_of_pass y.actors a x) (λ b other. all_same b) (λ b t slot. ap (λ (q : Actor). q.slot) (sym (all_same b)) ∙ slot)
-          (subst (λ (q : Actor). IsIdle q P) (sym (all_same a)) idle)
+          (subst (λ (q : Actor). IsEmptyHanded q P) (sym (all_same a)) idle)
           (slots_turn y.shape y.vault.cells y.vault.dead y.vault.dead y.uses y.actors actors' P (λ b. keeps_itself y.vault.dead y.vault.dead (actor_in y.actors b) (actor_in actors' b) (λ e. e) (all_same b)) sound.slots)
           (held_locks y.shape y.locks y.actors actors' P a (λ b other. all_same b) sound.locks
           (λ place lock. subst (λ (q : Actor). HasLock q place) (all_same a) lock)
@@ -193,7 +193,7 @@ rests_of c SaysOldFile a y P0 P changed inside h = absurd (false≢true (sym ins
 rests_of c _ a y _ _ changed inside h = h
 
 -- and outside, where it was refused
-out_rests : (c : Command) (says : Reply) (a : ℕ) (y : Yard) (P0 P : Trace) (changed : Option ℕ) → is_before_pin (Answering says) ≡ true → Relies (view_of y.shape y.vault y.actors a) c (Answering says) P0 P changed → IsIdle (actor_in y.actors a) P × MayAnswer c says P0 P changed
+out_rests : (c : Command) (says : Reply) (a : ℕ) (y : Yard) (P0 P : Trace) (changed : Option ℕ) → is_before_pin (Answering says) ≡ true → Relies (view_of y.shape y.vault y.actors a) c (Answering says) P0 P changed → IsEmptyHanded (actor_in y.actors a) P × MayAnswer c says P0 P changed
 out_rests (Add k) SaysWorn a y P0 P changed outside h = (h.0, h.1)
 out_rests (Remove k) SaysWorn a y P0 P changed outside h = (h.0, h.1)
 out_rests (Has k) SaysWorn a y P0 P changed outside h = (h.0, h.1)

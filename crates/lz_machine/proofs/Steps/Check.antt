@@ -34,7 +34,7 @@ use Rattle.lz_machine.specs.Runs.{Caller, caller_at}
 use Rattle.lz_machine.specs.Stands.{Faces, WasBetween, InBucket}
 use Rattle.lz_machine.specs.Notes.{Notes}
 use Rattle.lz_machine.specs.SlotsSound.{closes, opens, shuts, unlocks, has_removed_node}
-use Rattle.lz_machine.specs.LocksSound.{HasLock, has_locks, RestsOn, IsBeside, IsBefore, IsChecked}
+use Rattle.lz_machine.specs.LocksSound.{HasLock, has_locks, RestsOn, IsBeside, IsRightBefore, IsChecked}
 use Rattle.lz_machine.specs.CallersSound.{side_of, IsBeyond, HasEnded, MayAim, IsAimed, IsWritten, View, CallerSound}
 use Rattle.lz_machine.specs.Sound.{TraceSound, Sound}
 use Rattle.lz_machine.proofs.Frames.OneActor.{moving}
@@ -96,7 +96,7 @@ module _ (shape : Shape) (words : Words) (P : Trace) (trace : TraceSound shape w
     beside_now (inr (t, is, key, mark)) = absurd (false≢true (sym (curr_clear curr t is (node_was buckets shape.slots k P0 P pred curr t is between) clear_node) ∙ mark))
 
     -- a node behind the place is a node of its bucket, and not marked
-    pub before_now : (t : ℕ) → curr ≡ Some t → k ≤ key_word t P → IsBefore buckets pred t P × (is_marked t P ≡ false)
+    pub before_now : (t : ℕ) → curr ≡ Some t → k ≤ key_word t P → IsRightBefore buckets pred t P × (is_marked t P ≡ false)
     before_now t is le =
         let stood = node_was buckets shape.slots k P0 P pred curr t is between in
         let same : bucket_of buckets (key_word t P) ≡ bucket_of buckets k = stood_bucket buckets shape.slots P0 (bucket_of buckets k) t P trace.lawful quiet stood in (

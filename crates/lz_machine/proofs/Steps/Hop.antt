@@ -20,7 +20,7 @@ use Rattle.lz_machine.specs.Yards.{Yard, IsInside, actor_in, pin_in}
 use Rattle.lz_machine.specs.Calls.{progress_after, halts, halt_loaded}
 use Rattle.lz_machine.specs.Runs.{Caller, caller_at}
 use Rattle.lz_machine.specs.Notes.{Notes}
-use Rattle.lz_machine.specs.CallersSound.{view_of, IsIdle, MayAnswer, CallerSound, is_before_pin, side_of}
+use Rattle.lz_machine.specs.CallersSound.{view_of, IsEmptyHanded, MayAnswer, CallerSound, is_before_pin, side_of}
 use Rattle.lz_machine.specs.Sound.{Sound}
 use Rattle.lz_machine.proofs.Frames.OneActor.{moving, mine}
 use Rattle.lz_machine.proofs.Frames.SameYard.{KeepsTail, going_keeps}
@@ -65,7 +65,7 @@ module _ (n calls : ℕ) (y : Yard) (callers : List (Option Caller)) (disk : Med
   halts_now (Remove k) is = is
   halts_now (Has k) is = is
 
-  walks_now : halt_word P ≢ 1 → IsIdle (actor_in y.actors a) P → notes.changed a ≡ None → GoesOn (view_of y.shape y.vault y.actors a) c (Walking None AtHead) (notes.begun a) P (notes.changed a)
+  walks_now : halt_word P ≢ 1 → IsEmptyHanded (actor_in y.actors a) P → notes.changed a ≡ None → GoesOn (view_of y.shape y.vault y.actors a) c (Walking None AtHead) (notes.begun a) P (notes.changed a)
   walks_now goes (inl idle) none = record { relies = (record { hold = idle.0; none = none }, idle.1, tt, tt); inside = refl }
   walks_now goes (inr halted) none = absurd (goes halted)
 

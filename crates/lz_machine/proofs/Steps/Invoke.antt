@@ -23,7 +23,7 @@ use Rattle.lz_machine.specs.Runs.{Start, Service, Caller, Up, Calls, MayStep, in
 use Rattle.lz_machine.specs.Yards.{Yard, pin_in, actor_in, cell_in, IsInside}
 use Rattle.lz_machine.specs.Table.{pin_of, is_old as is_old_file}
 use Rattle.lz_machine.specs.Notes.{Notes, pending_row, pending, entries}
-use Rattle.lz_machine.specs.CallersSound.{side_of, is_before_pin, IsIdle, Relies, view_of, CallerSound, CallersSound}
+use Rattle.lz_machine.specs.CallersSound.{side_of, is_before_pin, IsEmptyHanded, Relies, view_of, CallerSound, CallersSound}
 use Rattle.lz_machine.specs.LedgerSound.{LedgerSound, HasTail, TailsSound}
 use Rattle.lz_machine.specs.Sound.{Sound, IsAfter, UpSound, PointSound, IsSound}
 use Rattle.lz_machine.proofs.Frames.ActorTable.{by_actor}
@@ -196,7 +196,7 @@ tail_still M calls a c d first callers rows rows' same low high below h = record
 }
 
 module _ (n calls a : ℕ) (c : Command) (y : Yard) (callers : List (Option Caller)) (disk : Medium) (P : Trace) (M : History) (notes : Notes) (low : 1 ≤ a) (high : a ≤ length callers) (none : caller_at callers a ≡ None) (even : pin_in y.words.pins a % 2 ≡ 0) (first : Progress) (outside : is_before_pin first ≡ true)
-    (relies : IsIdle (actor_in y.actors a) P → notes.changed a ≡ None → Relies (view_of y.shape y.vault y.actors a) c first (notes.begun a) P (notes.changed a)) where
+    (relies : IsEmptyHanded (actor_in y.actors a) P → notes.changed a ≡ None → Relies (view_of y.shape y.vault y.actors a) c first (notes.begun a) P (notes.changed a)) where
   new_caller : CallersSound y.shape y.vault y.words.pins y.actors callers P notes → CallerSound (view_of y.shape y.vault y.actors a) (pin_in y.words.pins a) (Some (started (suc calls) c first)) (notes.begun a) P (notes.changed a)
   new_caller h =
       let old = subst (λ (q : Option Caller). CallerSound (view_of y.shape y.vault y.actors a) (pin_in y.words.pins a) q (notes.begun a) P (notes.changed a)) none (h.each a) in

@@ -34,7 +34,7 @@ use Rattle.lz_machine.specs.Yards.{Yard, actor_at, actor_in, pin_in, cell_in, st
 use Rattle.lz_machine.specs.Table.{slot_of, yard_done, publishes}
 use Rattle.lz_machine.specs.Runs.{Caller, caller_at}
 use Rattle.lz_machine.specs.Kept.{upto}
-use Rattle.lz_machine.specs.Stands.{IsReady, InBucket}
+use Rattle.lz_machine.specs.Stands.{IsLinkable, InBucket}
 use Rattle.lz_machine.specs.Notes.{Notes, entries}
 use Rattle.lz_machine.specs.SlotsSound.{closes, opens, shuts, unlocks, has_removed_node, IsOut, IsCloser, IsNodeStage, IsHandStage, IsGateOpened, IsGateWritten, SlotStands, is_node, is_held, is_out, is_free, is_limbo, SlotsSound}
 use Rattle.lz_machine.specs.LocksSound.{has_locks, HasPlace, HasLock, IsBeside, HasOpened, RestsOn, LocksSound}
@@ -97,8 +97,8 @@ module _ (n calls : ℕ) (y : Yard) (callers : List (Option Caller)) (disk : Med
   beside : IsBeside y.shape.buckets k (actor_at y a).pred (actor_at y a).curr P
   beside = subst (λ (q : ℕ). IsBeside y.shape.buckets q (actor_at y a).pred (actor_at y a).curr P) own_key rests.beside
 
-  ready : IsReady y.shape.buckets k (link_to (actor_at y a).curr) s P
-  ready = subst (λ (q : ℕ). IsReady y.shape.buckets k (link_to (actor_at y a).curr) q P) own_slot (subst (λ (q : ℕ). IsReady y.shape.buckets q (link_to (actor_at y a).curr) rests.own P) own_key rests.ready)
+  ready : IsLinkable y.shape.buckets k (link_to (actor_at y a).curr) s P
+  ready = subst (λ (q : ℕ). IsLinkable y.shape.buckets k (link_to (actor_at y a).curr) q P) own_slot (subst (λ (q : ℕ). IsLinkable y.shape.buckets q (link_to (actor_at y a).curr) rests.own P) own_key rests.ready)
 
   abbrev spot : ℕ
   spot = place_number (actor_at y a).pred

@@ -34,7 +34,7 @@ use Rattle.lz_machine.specs.Runs.{Caller, caller_at}
 use Rattle.lz_machine.specs.Notes.{Notes, entries}
 use Rattle.lz_machine.specs.CallersSound.{HasMarked, Relies, view_of, CallerSound, CallersSound}
 use Rattle.lz_machine.specs.SlotsSound.{IsGateWritten, opens, shuts, unlocks, has_removed_node, IsOut, IsCloser, IsNodeStage, IsHandStage, SlotStands, is_node, is_held, is_out, is_free, is_limbo, SlotsSound}
-use Rattle.lz_machine.specs.LocksSound.{has_locks, HasPlace, HasLock, IsBefore, HasClosed, RestsOn, LocksSound}
+use Rattle.lz_machine.specs.LocksSound.{has_locks, HasPlace, HasLock, IsRightBefore, HasClosed, RestsOn, LocksSound}
 use Rattle.lz_machine.specs.LedgerSound.{TailsSound}
 use Rattle.lz_machine.specs.Sound.{ReuseSound, Sound}
 use Rattle.lz_machine.proofs.Frames.ActorTable.{by_actor}
@@ -86,8 +86,8 @@ module _ (n calls : ℕ) (y : Yard) (callers : List (Option Caller)) (disk : Med
   own_node : rests.node ≡ s
   own_node = same_Some _ _ (sym rests.curr ∙ h.0)
 
-  before : IsBefore y.shape.buckets (actor_at y a).pred s P
-  before = subst (λ (q : ℕ). IsBefore y.shape.buckets (actor_at y a).pred q P) own_node rests.before
+  before : IsRightBefore y.shape.buckets (actor_at y a).pred s P
+  before = subst (λ (q : ℕ). IsRightBefore y.shape.buckets (actor_at y a).pred q P) own_node rests.before
 
   clear : is_marked s P ≡ false
   clear = ap (λ (q : ℕ). is_marked q P) (sym own_node) ∙ rests.marked

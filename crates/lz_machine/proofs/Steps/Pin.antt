@@ -30,7 +30,7 @@ use Rattle.lz_machine.specs.Yards.{Yard, Shape, actor_at, IsInside, actor_in, pi
 use Rattle.lz_machine.specs.Table.{last_pin, yard_done}
 use Rattle.lz_machine.specs.Calls.{progress_after}
 use Rattle.lz_machine.specs.Runs.{Caller, caller_at, with_words}
-use Rattle.lz_machine.specs.Limbo.{IsAway, IsSeen}
+use Rattle.lz_machine.specs.Limbo.{IsAway, IsRightSight}
 use Rattle.lz_machine.specs.Notes.{Notes}
 use Rattle.lz_machine.specs.CallersSound.{view_of, CallerSound, CallersSound}
 use Rattle.lz_machine.specs.SlotsSound.{SlotStands, is_node, is_held, is_out, is_free, is_limbo, SlotsSound}
@@ -140,15 +140,15 @@ module _ (shape : Shape) (cells : List Cell) (dead : Bool) (pins : List ℕ) (us
   entered_reuse even fresh = record {
     worn = by_actor (λ b. pin_in pins' b ≤ last_pin) a (omega (arith, pin_same, reuse.worn a, fresh)) (λ b other. omega (arith, pin_other b other, reuse.worn b));
     sights = reuse.sights;
-    seen = by_actor (λ b. (s : ℕ) (seen : List Sight) → use_of uses s ≡ Limbo seen → IsSeen shape.buckets (pin_in pins' b) ((begins_now notes a P).begun b) P s (of_pass seen b Left)) a
+    seen = by_actor (λ b. (s : ℕ) (seen : List Sight) → use_of uses s ≡ Limbo seen → IsRightSight shape.buckets (pin_in pins' b) ((begins_now notes a P).begun b) P s (of_pass seen b Left)) a
         (λ s seen limbo.
-        subst (λ (q : ℕ). IsSeen shape.buckets q ((begins_now notes a P).begun a) P s (of_pass seen a Left)) (sym pin_same)
-        (subst (λ (q : Trace). IsSeen shape.buckets (v + 1) q P s (of_pass seen a Left)) (sym (begun_same notes a P))
-        (subst (λ (q : ℕ). IsSeen shape.buckets q P P s (of_pass seen a Left)) next_is
+        subst (λ (q : ℕ). IsRightSight shape.buckets q ((begins_now notes a P).begun a) P s (of_pass seen a Left)) (sym pin_same)
+        (subst (λ (q : Trace). IsRightSight shape.buckets (v + 1) q P s (of_pass seen a Left)) (sym (begun_same notes a P))
+        (subst (λ (q : ℕ). IsRightSight shape.buckets q P P s (of_pass seen a Left)) next_is
         (seen_pin shape.buckets s v (notes.begun a) P (of_pass seen a Left) (limbo_loose shape cells dead uses actors P s seen slots limbo) (reuse.seen a s seen limbo)))))
         (λ b other s seen limbo.
-        subst (λ (q : ℕ). IsSeen shape.buckets q ((begins_now notes a P).begun b) P s (of_pass seen b Left)) (sym (pin_other b other))
-        (subst (λ (q : Trace). IsSeen shape.buckets (pin_in pins b) q P s (of_pass seen b Left)) (sym (begun_other notes a P b other)) (reuse.seen b s seen limbo)));
+        subst (λ (q : ℕ). IsRightSight shape.buckets q ((begins_now notes a P).begun b) P s (of_pass seen b Left)) (sym (pin_other b other))
+        (subst (λ (q : Trace). IsRightSight shape.buckets (pin_in pins b) q P s (of_pass seen b Left)) (sym (begun_other notes a P b other)) (reuse.seen b s seen limbo)));
     free = by_actor (λ b. (s : ℕ) → use_of uses s ≡ Free → IsInside (pin_in pins' b) → IsAway shape.buckets ((begins_now notes a P).begun b) P s) a
         (λ s free inside. subst (λ (q : Trace). IsAway shape.buckets q P s) (sym (begun_same notes a P)) (away_new shape.buckets s P (free_loose shape cells dead uses actors P s slots free)))
         (λ b other s free inside. subst (λ (q : Trace). IsAway shape.buckets q P s) (sym (begun_other notes a P b other)) (reuse.free b s free (ap (λ (q : ℕ). q % 2) (sym (pin_other b other)) ∙ inside)));
@@ -161,9 +161,9 @@ module _ (shape : Shape) (cells : List Cell) (dead : Bool) (pins : List ℕ) (us
   left_reuse odd fresh = record {
     worn = by_actor (λ b. pin_in pins' b ≤ last_pin) a (omega (arith, pin_same, reuse.worn a, fresh)) (λ b other. omega (arith, pin_other b other, reuse.worn b));
     sights = reuse.sights;
-    seen = by_actor (λ b. (s : ℕ) (seen : List Sight) → use_of uses s ≡ Limbo seen → IsSeen shape.buckets (pin_in pins' b) (notes.begun b) P s (of_pass seen b Left)) a
-        (λ s seen limbo. subst (λ (q : ℕ). IsSeen shape.buckets q (notes.begun a) P s (of_pass seen a Left)) (sym pin_same) (subst (λ (q : ℕ). IsSeen shape.buckets q (notes.begun a) P s (of_pass seen a Left)) next_is (seen_leave shape.buckets s v (notes.begun a) P (of_pass seen a Left) odd (reuse.seen a s seen limbo))))
-        (λ b other s seen limbo. subst (λ (q : ℕ). IsSeen shape.buckets q (notes.begun b) P s (of_pass seen b Left)) (sym (pin_other b other)) (reuse.seen b s seen limbo));
+    seen = by_actor (λ b. (s : ℕ) (seen : List Sight) → use_of uses s ≡ Limbo seen → IsRightSight shape.buckets (pin_in pins' b) (notes.begun b) P s (of_pass seen b Left)) a
+        (λ s seen limbo. subst (λ (q : ℕ). IsRightSight shape.buckets q (notes.begun a) P s (of_pass seen a Left)) (sym pin_same) (subst (λ (q : ℕ). IsRightSight shape.buckets q (notes.begun a) P s (of_pass seen a Left)) next_is (seen_leave shape.buckets s v (notes.begun a) P (of_pass seen a Left) odd (reuse.seen a s seen limbo))))
+        (λ b other s seen limbo. subst (λ (q : ℕ). IsRightSight shape.buckets q (notes.begun b) P s (of_pass seen b Left)) (sym (pin_other b other)) (reuse.seen b s seen limbo));
     free = by_actor (λ b. (s : ℕ) → use_of uses s ≡ Free → IsInside (pin_in pins' b) → IsAway shape.buckets (notes.begun b) P s) a
         (λ s free inside. absurd (omega (arith, inside, odd, pin_same)))
         (λ b other s free inside. reuse.free b s free (ap (λ (q : ℕ). q % 2) (sym (pin_other b other)) ∙ inside));

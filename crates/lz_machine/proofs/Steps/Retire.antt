@@ -26,7 +26,7 @@ use Rattle.lz_machine.specs.Yards.{Yard, actor_at, IsInside, actor_in, pin_in}
 use Rattle.lz_machine.specs.Table.{with_hold, yard_done}
 use Rattle.lz_machine.specs.Calls.{progress_after}
 use Rattle.lz_machine.specs.Runs.{Caller, caller_at}
-use Rattle.lz_machine.specs.Limbo.{IsSeen}
+use Rattle.lz_machine.specs.Limbo.{IsRightSight}
 use Rattle.lz_machine.specs.Notes.{Notes}
 use Rattle.lz_machine.specs.SlotsSound.{closes, opens, shuts, unlocks, has_removed_node, IsOut, IsCloser, IsNodeStage, IsHandStage, SlotStands, is_node, is_held, is_out, is_free, is_limbo, SlotsSound}
 use Rattle.lz_machine.specs.LocksSound.{HasLock, RestsOn}
@@ -159,7 +159,7 @@ module _ (n calls : ℕ) (y : Yard) (callers : List (Option Caller)) (disk : Med
     | inr past ↦ inr (λ r. omega (arith, r.1, past))
   ]
 
-  seen_new : (b : ℕ) (sight : Sight) → (sight ≡ Unseen) ⊎ (IsInside (pin_in y.words.pins b) → ⊥) → (sight ≡ Unseen) ⊎ (sight ≡ Left) → IsSeen y.shape.buckets (pin_in y.words.pins b) (notes.begun b) P s sight
+  seen_new : (b : ℕ) (sight : Sight) → (sight ≡ Unseen) ⊎ (IsInside (pin_in y.words.pins b) → ⊥) → (sight ≡ Unseen) ⊎ (sight ≡ Left) → IsRightSight y.shape.buckets (pin_in y.words.pins b) (notes.begun b) P s sight
   seen_new b Unseen why one = tt
   seen_new b Left (inr never) one = λ inside. absurd (never inside)
   seen_new b Left (inl no_sight) one = absurd cc
@@ -175,8 +175,8 @@ module _ (n calls : ℕ) (y : Yard) (callers : List (Option Caller)) (disk : Med
     ];
     seen = λ b t seen limbo. elim (cases_eq t s) [
       | inl same ↦
-          subst (λ (q : ℕ). IsSeen y.shape.buckets (pin_in y.words.pins b) (notes.begun b) P q (of_pass seen b Left)) (sym same)
-          (subst (λ (l : List Sight). IsSeen y.shape.buckets (pin_in y.words.pins b) (notes.begun b) P s (of_pass l b Left)) (sym (limbo_same (sym limbo ∙ ap (use_of uses') same ∙ use_same)))
+          subst (λ (q : ℕ). IsRightSight y.shape.buckets (pin_in y.words.pins b) (notes.begun b) P q (of_pass seen b Left)) (sym same)
+          (subst (λ (l : List Sight). IsRightSight y.shape.buckets (pin_in y.words.pins b) (notes.begun b) P s (of_pass l b Left)) (sym (limbo_same (sym limbo ∙ ap (use_of uses') same ∙ use_same)))
           (fresh b))
       | inr other ↦ sound.reuse.seen b t seen (sym (use_other t other) ∙ limbo)
     ];
@@ -187,9 +187,9 @@ module _ (n calls : ℕ) (y : Yard) (callers : List (Option Caller)) (disk : Med
     reserved = λ b d t slot inside. sound.reuse.reserved b d t (held_then d t slot).1 inside;
   }
     where
-      fresh : (b : ℕ) → IsSeen y.shape.buckets (pin_in y.words.pins b) (notes.begun b) P s (of_pass (replicate y.shape.passes Unseen) b Left)
+      fresh : (b : ℕ) → IsRightSight y.shape.buckets (pin_in y.words.pins b) (notes.begun b) P s (of_pass (replicate y.shape.passes Unseen) b Left)
       fresh b = elim (unseen b y.shape.passes) [
-        | inl none ↦ subst (IsSeen y.shape.buckets (pin_in y.words.pins b) (notes.begun b) P s) (sym none) tt
+        | inl none ↦ subst (IsRightSight y.shape.buckets (pin_in y.words.pins b) (notes.begun b) P s) (sym none) tt
         | inr outside ↦ never b (λ inside. let r = inside_range y.words.pins b inside in outside (r.0, omega (arith, r.1, sound.trace.pins)))
       ]
         where
@@ -202,7 +202,7 @@ module _ (n calls : ℕ) (y : Yard) (callers : List (Option Caller)) (disk : Med
           either zero = inr refl
           either (suc j) = all_unseen j y.shape.passes
 
-          never : (d : ℕ) → (IsInside (pin_in y.words.pins d) → ⊥) → IsSeen y.shape.buckets (pin_in y.words.pins d) (notes.begun d) P s (of_pass (replicate y.shape.passes Unseen) d Left)
+          never : (d : ℕ) → (IsInside (pin_in y.words.pins d) → ⊥) → IsRightSight y.shape.buckets (pin_in y.words.pins d) (notes.begun d) P s (of_pass (replicate y.shape.passes Unseen) d Left)
           never d no_inside = seen_new d (of_pass (replicate y.shape.passes Unseen) d Left) (inr no_inside) (either d)
 
   pub retire_keeps : Sound n calls (yard_done y (actor_at y a) a Retire) (moving callers a (call_at i (Remove k) at) (progress_after y.shape (Remove k) at Done)) disk M P notes

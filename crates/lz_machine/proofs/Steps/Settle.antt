@@ -35,7 +35,7 @@ use Rattle.lz_machine.specs.Table.{is_sure, settling, yard_done, outcome_of, pub
 use Rattle.lz_machine.specs.Calls.{progress_after}
 use Rattle.lz_machine.specs.Runs.{Caller, caller_at, with_words}
 use Rattle.lz_machine.specs.Notes.{Notes}
-use Rattle.lz_machine.specs.CallersSound.{view_of, Relies, HasAdded, HasMarked, HasMet, MayRest, IsSettledChange, RestsYes, RestsNo, IsFresh, is_before_pin}
+use Rattle.lz_machine.specs.CallersSound.{view_of, Relies, HasAdded, HasMarked, HasMet, MayRest, IsSettledChange, RestsYes, RestsNo, HasLetGo, is_before_pin}
 use Rattle.lz_machine.specs.SlotsSound.{IsNodeStage, IsOnChain, IsGateOpened, IsGateWritten, SlotStands, is_node, is_held, is_out, is_free, is_limbo}
 use Rattle.lz_machine.specs.LocksSound.{HasClosed, RestsOn}
 use Rattle.lz_machine.specs.Sound.{Sound}
@@ -269,7 +269,7 @@ module _ (n calls : ℕ) (y : Yard) (callers : List (Option Caller)) (disk : Med
     | inr loose ↦ rest_early i 0 c reply is loose
   ]
     where
-      now : (d : Command) (told : Reply) → caller_at callers a ≡ Some (call_at i d (Playing (Resting s told) 1)) → is_sure y s ≡ true → IsFresh (view_of y.shape y.vault y.actors a) (notes.changed a) → MayRest y.shape.buckets d told s (notes.begun a) P
+      now : (d : Command) (told : Reply) → caller_at callers a ≡ Some (call_at i d (Playing (Resting s told) 1)) → is_sure y s ≡ true → HasLetGo (view_of y.shape y.vault y.actors a) (notes.changed a) → MayRest y.shape.buckets d told s (notes.begun a) P
           → then i d (Playing (Resting s told) 1) (outcome_of y (actor_at y a) (Settle s))
       now (Has k) Yes at sure fresh m = rest_now i k (Has k) Yes at false m sure (λ change allows only. record { relies = ((fresh.none, met_settled_yes k change (in_it i k (Has k) Yes at) m), inl fresh.hold); inside = refl })
       now (Has k) No at sure fresh m = rest_now i k (Has k) No at true m sure (λ change allows only. record { relies = ((fresh.none, subst (λ (q : Change). RestsNo k (notes.begun a) (settled s q ∷ P)) (sym (only refl)) (met_settled_no k (in_it i k (Has k) No at) m)), inl fresh.hold); inside = refl })

@@ -36,7 +36,7 @@ use Rattle.lz_machine.specs.declared.caller.Progress.TheVariants.{Answering}
 use Rattle.lz_machine.specs.Yards.{Shape}
 use Rattle.lz_machine.specs.Calls.{walked, hops_on, rests}
 use Rattle.lz_machine.specs.Stands.{WasBetween}
-use Rattle.lz_machine.specs.CallersSound.{View, IsFresh, IsAimed, MayAim, IsLooking, HasMet, RestsYes, RestsNo, WasAbsent, MayRest, Relies, is_before_pin}
+use Rattle.lz_machine.specs.CallersSound.{View, HasLetGo, IsAimed, MayAim, IsLooking, HasMet, RestsYes, RestsNo, WasAbsent, MayRest, Relies, is_before_pin}
 use Rattle.lz_machine.specs.Sound.{TraceSound}
 use Rattle.lz_machine.proofs.Frames.Ranges.{stood_range, added_tells, removed_tells}
 use Rattle.lz_machine.proofs.Frames.LoadedWord.{bucket_range, head_next, link_next, link_mark, link_added, link_removed, key_load}
@@ -83,17 +83,17 @@ module _ (shape : Shape) (words : Words) (P : Trace) (trace : TraceSound shape w
     abbrev v : View
     v = record { buckets = buckets; passes = passes; format = format; cells = cells; dead = dead; actor = actor }
 
-    answers : (c : Command) (reply : Reply) → IsFresh v changed → is_before_pin (Answering reply) ≡ false → Relies v c (Answering reply) P0 P changed → GoesOn v c (Answering reply) P0 P changed
+    answers : (c : Command) (reply : Reply) → HasLetGo v changed → is_before_pin (Answering reply) ≡ false → Relies v c (Answering reply) P0 P changed → GoesOn v c (Answering reply) P0 P changed
     answers c reply fresh inside h = record { relies = h; inside = inside }
 
-    answers_no : (k : ℕ) → IsFresh v changed → RestsNo k P0 P → (GoesOn v (Has k) (Answering No) P0 P changed) × (GoesOn v (Remove k) (Answering No) P0 P changed)
+    answers_no : (k : ℕ) → HasLetGo v changed → RestsNo k P0 P → (GoesOn v (Has k) (Answering No) P0 P changed) × (GoesOn v (Remove k) (Answering No) P0 P changed)
     answers_no k fresh gone = (record { relies = ((fresh.none, gone), inl fresh.hold); inside = refl }, record { relies = ((fresh.none, gone), inl fresh.hold); inside = refl })
 
-    answers_yes : (k : ℕ) → IsFresh v changed → RestsYes k P0 P → (GoesOn v (Has k) (Answering Yes) P0 P changed) × (GoesOn v (Add k) (Answering No) P0 P changed)
+    answers_yes : (k : ℕ) → HasLetGo v changed → RestsYes k P0 P → (GoesOn v (Has k) (Answering Yes) P0 P changed) × (GoesOn v (Add k) (Answering No) P0 P changed)
     answers_yes k fresh there = (record { relies = ((fresh.none, there), inl fresh.hold); inside = refl }, record { relies = ((fresh.none, there), inl fresh.hold); inside = refl })
 
     -- it has passed the key's place
-    absent_after : (c : Command) (aim : Option ℕ) (pred : Place) (curr : Option ℕ) → IsFresh v changed → IsAimed v (key_of c) P aim → MayAim c aim → WasBetween buckets (key_of c) pred (link_to curr) P0 P → IsHigh (key_of c) (link_to curr) P → GoesOn v c (walked c aim pred curr Absent) P0 P changed
+    absent_after : (c : Command) (aim : Option ℕ) (pred : Place) (curr : Option ℕ) → HasLetGo v changed → IsAimed v (key_of c) P aim → MayAim c aim → WasBetween buckets (key_of c) pred (link_to curr) P0 P → IsHigh (key_of c) (link_to curr) P → GoesOn v c (walked c aim pred curr Absent) P0 P changed
     absent_after (Has k) aim pred curr fresh aimed may between high = (answers_no k fresh (absent_rests k P0 P (absent_since buckets slots P0 k (place_number pred) (link_to curr) P trace.lawful quiet between.were between.low high))).0
     absent_after (Remove k) aim pred curr fresh aimed may between high = (answers_no k fresh (absent_rests k P0 P (absent_since buckets slots P0 k (place_number pred) (link_to curr) P trace.lawful quiet between.were between.low high))).1
     absent_after (Add k) None pred curr fresh aimed may between high = record {
@@ -103,7 +103,7 @@ module _ (shape : Shape) (words : Words) (P : Trace) (trace : TraceSound shape w
     absent_after (Add k) (Some s) pred curr fresh aimed may between high = record { relies = (fresh, aimed, (between, inl high)); inside = refl }
 
     -- it goes along a next link
-    reached : (c : Command) (aim : Option ℕ) (pred : Place) (n : ℕ) → IsFresh v changed → IsAimed v (key_of c) P aim → MayAim c aim → WasBetween buckets (key_of c) pred n P0 P → GoesOn v c (hops_on c aim (reaches pred n)) P0 P changed
+    reached : (c : Command) (aim : Option ℕ) (pred : Place) (n : ℕ) → HasLetGo v changed → IsAimed v (key_of c) P aim → MayAim c aim → WasBetween buckets (key_of c) pred n P0 P → GoesOn v c (hops_on c aim (reaches pred n)) P0 P changed
     reached c aim pred zero fresh aimed may between = absent_after c aim pred None fresh aimed may between (inl refl)
     reached c aim pred (suc s) fresh aimed may between = record { relies = (fresh, aimed, between, may); inside = refl }
 
@@ -114,11 +114,11 @@ module _ (shape : Shape) (words : Words) (P : Trace) (trace : TraceSound shape w
     met_now k s mark stood key is = record { then = P; since = record { from = begins; upto = begins_itself P }; stood = stood; key = key; met = is }
 
     -- it rests on the node that it met
-    rests_on : (c : Command) (reply : Reply) (s : ℕ) → IsFresh v changed → MayRest buckets c reply s P0 P → GoesOn v c (Answering reply) P0 P changed → (need : Need) → GoesOn v c (rests s need reply) P0 P changed
+    rests_on : (c : Command) (reply : Reply) (s : ℕ) → HasLetGo v changed → MayRest buckets c reply s P0 P → GoesOn v c (Answering reply) P0 P changed → (need : Need) → GoesOn v c (rests s need reply) P0 P changed
     rests_on c reply s fresh rest now Now = now
     rests_on c reply s fresh rest now needs_sync = record { relies = (fresh, rest); inside = refl }
 
-    module _ (k s : ℕ) (stood : Stood buckets (bucket_of buckets k) P0 P (suc s)) (key : key_word s P ≡ k) (flags : Flags) (fresh : IsFresh v changed) where
+    module _ (k s : ℕ) (stood : Stood buckets (bucket_of buckets k) P0 P (suc s)) (key : key_word s P ≡ k) (flags : Flags) (fresh : HasLetGo v changed) where
       -- a settled node tells at once
       unmarked_now : is_marked s P ≡ false → has_added s P ≡ true → RestsYes k P0 P
       unmarked_now mark added = record { then = P; since = record { from = begins; upto = begins_itself P }; settled = unmarked_rests buckets slots P0 k s P P trace.lawful quiet stood key (begins_itself P) mark (added_tells buckets slots s P trace.lawful added) }
@@ -156,7 +156,7 @@ module _ (shape : Shape) (words : Words) (P : Trace) (trace : TraceSound shape w
     ]
 
     -- it has met the key's node, unmarked or marked
-    unmarked_after : (c : Command) (aim : Option ℕ) (pred : Place) (s : ℕ) (flags : Flags) → IsFresh v changed → IsAimed v (key_of c) P aim → MayAim c aim → WasBetween buckets (key_of c) pred (suc s) P0 P → key_word s P ≡ key_of c
+    unmarked_after : (c : Command) (aim : Option ℕ) (pred : Place) (s : ℕ) (flags : Flags) → HasLetGo v changed → IsAimed v (key_of c) P aim → MayAim c aim → WasBetween buckets (key_of c) pred (suc s) P0 P → key_word s P ≡ key_of c
         → is_marked s P ≡ false → flags.mark ≡ false → flags.add_settled ≡ has_added s P → GoesOn v c (walked c aim pred (Some s) (Unmarked s flags)) P0 P changed
     unmarked_after (Has k) aim pred s flags fresh aimed may between key mark flag added =
         let stood = there_since k pred s between in
@@ -167,7 +167,7 @@ module _ (shape : Shape) (words : Words) (P : Trace) (trace : TraceSound shape w
     unmarked_after (Remove k) None pred s flags fresh aimed may between key mark flag added = record { relies = (fresh, aimed, (between, (s, refl, key))); inside = refl }
     unmarked_after (Remove k) (Some t) pred s flags fresh aimed may between key mark flag added = absurd may
 
-    marked_after : (c : Command) (aim : Option ℕ) (pred : Place) (s : ℕ) (flags : Flags) → IsFresh v changed → IsAimed v (key_of c) P aim → MayAim c aim → WasBetween buckets (key_of c) pred (suc s) P0 P → key_word s P ≡ key_of c
+    marked_after : (c : Command) (aim : Option ℕ) (pred : Place) (s : ℕ) (flags : Flags) → HasLetGo v changed → IsAimed v (key_of c) P aim → MayAim c aim → WasBetween buckets (key_of c) pred (suc s) P0 P → key_word s P ≡ key_of c
         → is_marked s P ≡ true → flags.mark ≡ true → flags.remove_settled ≡ has_removed s P → GoesOn v c (walked c aim pred (Some s) (Marked s flags)) P0 P changed
     marked_after (Has k) aim pred s flags fresh aimed may between key mark flag removed =
         let stood = there_since k pred s between in
@@ -178,7 +178,7 @@ module _ (shape : Shape) (words : Words) (P : Trace) (trace : TraceSound shape w
     marked_after (Add k) None pred s flags fresh aimed may between key mark flag removed = record { relies = (fresh, aimed, tt, marked_gone k s (there_since k pred s between) key mark); inside = refl }
     marked_after (Add k) (Some t) pred s flags fresh aimed may between key mark flag removed = record { relies = (fresh, aimed, (between, inr (s, refl, key, mark))); inside = refl }
 
-    met_after : (c : Command) (aim : Option ℕ) (pred : Place) (s : ℕ) (flags : Flags) → IsFresh v changed → IsAimed v (key_of c) P aim → MayAim c aim → WasBetween buckets (key_of c) pred (suc s) P0 P → key_word s P ≡ key_of c
+    met_after : (c : Command) (aim : Option ℕ) (pred : Place) (s : ℕ) (flags : Flags) → HasLetGo v changed → IsAimed v (key_of c) P aim → MayAim c aim → WasBetween buckets (key_of c) pred (suc s) P0 P → key_word s P ≡ key_of c
         → flags.mark ≡ is_marked s P → flags.add_settled ≡ has_added s P → flags.remove_settled ≡ has_removed s P → GoesOn v c (walked c aim pred (Some s) (met s flags)) P0 P changed
     met_after c aim pred s flags fresh aimed may between key mark added removed = go (is_marked s P) refl
       where
@@ -191,7 +191,7 @@ module _ (shape : Shape) (words : Words) (P : Trace) (trace : TraceSound shape w
             subst (λ (q : Met). GoesOn v c (walked c aim pred (Some s) q) P0 P changed) (sym m) (unmarked_after c aim pred s flags fresh aimed may between key is (mark ∙ is) added)
 
     -- a node's key tells which way to go
-    key_after : (c : Command) (aim : Option ℕ) (pred : Place) (s word : ℕ) → IsFresh v changed → IsAimed v (key_of c) P aim → MayAim c aim → WasBetween buckets (key_of c) pred (suc s) P0 P → key_word s P ≡ word → GoesOn v c (hops_on c aim (hopped buckets (key_of c) (AtKey pred s) word)) P0 P changed
+    key_after : (c : Command) (aim : Option ℕ) (pred : Place) (s word : ℕ) → HasLetGo v changed → IsAimed v (key_of c) P aim → MayAim c aim → WasBetween buckets (key_of c) pred (suc s) P0 P → key_word s P ≡ word → GoesOn v c (hops_on c aim (hopped buckets (key_of c) (AtKey pred s) word)) P0 P changed
     key_after c aim pred s word fresh aimed may between is = elim (eqb_tells word (key_of c)) [
       | inl same ↦ rw same.0 (record { relies = (fresh, aimed, (between, is ∙ same.1), may); inside = refl })
       | inr other ↦ rw other.0 (go (nat_lt word (key_of c)) refl other.1)
@@ -202,7 +202,7 @@ module _ (shape : Shape) (words : Words) (P : Trace) (trace : TraceSound shape w
         go false ge other = absent_after c aim pred (Some s) fresh aimed may between (inr (grind (arith, nat_tests, ge, other, is)))
 
     -- what follows a load
-    pub hop_after : (c : Command) (aim : Option ℕ) (look : Look) → IsFresh v changed → IsAimed v (key_of c) P aim → MayAim c aim → IsLooking buckets (key_of c) P0 P look → GoesOn v c (hops_on c aim (hopped buckets (key_of c) look (get words (wants buckets (key_of c) look)))) P0 P changed
+    pub hop_after : (c : Command) (aim : Option ℕ) (look : Look) → HasLetGo v changed → IsAimed v (key_of c) P aim → MayAim c aim → IsLooking buckets (key_of c) P0 P look → GoesOn v c (hops_on c aim (hopped buckets (key_of c) look (get words (wants buckets (key_of c) look)))) P0 P changed
     hop_after c aim AtHead fresh aimed may h =
         let b : ℕ = bucket_of buckets (key_of c) in
         let head = head_next shape words P trace few b (bucket_range shape words P trace few (key_of c)) in

@@ -32,7 +32,7 @@ use Rattle.lz_machine.specs.Table.{with_hold, node_of, yard_done}
 use Rattle.lz_machine.specs.Runs.{Caller, caller_at}
 use Rattle.lz_machine.specs.Notes.{Notes, entries}
 use Rattle.lz_machine.specs.SlotsSound.{IsGateWritten, opens, shuts, unlocks, has_removed_node, IsOut, IsCloser, IsNodeStage, IsHandStage, SlotStands, is_node, is_held, is_out, is_free, is_limbo, SlotsSound, IsGateOpened, IsGateClosed, closes, IsOnChain}
-use Rattle.lz_machine.specs.LocksSound.{has_locks, HasPlace, HasLock, IsBefore, RestsOn, IsChecked}
+use Rattle.lz_machine.specs.LocksSound.{has_locks, HasPlace, HasLock, IsRightBefore, RestsOn, IsChecked}
 use Rattle.lz_machine.specs.CallersSound.{Relies, view_of, CallerSound, CallersSound, IsKeyed}
 use Rattle.lz_machine.specs.LedgerSound.{HasTail}
 use Rattle.lz_machine.specs.Sound.{Sound}
@@ -92,7 +92,7 @@ module _ (n calls : ℕ) (y : Yard) (callers : List (Option Caller)) (disk : Med
   checked : IsChecked y.shape.buckets (actor_in y.actors a) P
   checked = subst (λ (q : Hold). RestsOn y.shape.buckets q (actor_in y.actors a) P) h.2.0 (sound.locks.rests a)
 
-  before : IsBefore y.shape.buckets (actor_at y a).pred s P × (is_marked s P ≡ false)
+  before : IsRightBefore y.shape.buckets (actor_at y a).pred s P × (is_marked s P ≡ false)
   before = checked.before s h.0
 
   there : on 0 (chain_of y.shape.buckets (key_word s P) P) (suc s) ≡ true

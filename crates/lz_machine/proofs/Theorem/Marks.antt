@@ -17,7 +17,7 @@ use Rattle.lz_machine.specs.declared.event.Reply.TheVariants.{Yes}
 use Rattle.lz_machine.specs.Yards.{Yard, Shape, actor_at}
 use Rattle.lz_machine.specs.Table.{course, line, line_failed}
 use Rattle.lz_machine.specs.Calls.{progress_after}
-use Rattle.lz_machine.specs.Runs.{Caller, Service, State, Up, Down, Start, Transition, Calls, Turn, Fails, Looks, Trips, Stops, Crashes, CrashesIn, Opens, OpenFails, caller_at, next_event, reply_at, moved_on, after_turn, after_fault, opened_service, state_after, HasTurn, HasFault, MayStep, IsActor, mark_of, mark_of_turn, marks_of_turn, marks_of, calls_after, run, IsRun, first_point}
+use Rattle.lz_machine.specs.Runs.{Caller, Service, State, Up, Down, Start, Transition, Calls, Turn, Fails, Looks, Trips, Stops, Crashes, CrashesIn, Opens, OpenFails, caller_at, next_event, reply_at, moved_on, after_turn, after_fault, opened_service, state_after, HasTurn, HasFault, MayStep, IsActor, mark_of, mark_of_turn, marks_of_turn, marks_of, calls_made_after, run, IsRun, first_point}
 use Rattle.lz_machine.specs.Marks.{IsOpenCall, MayFollow, IsTold, MarksTell}
 use Rattle.lz_machine.proofs.Frames.OneActor.{caller_range}
 use Rattle.lz_machine.proofs.Runs.Shape.{line_keeps_shape}
@@ -198,7 +198,7 @@ module _ (calls : ℕ) (y : Yard) (callers : List (Option Caller)) (disk : Mediu
       numbered_now i d (b, inl new) = omega (arith, ap number_of new)
       numbered_now i d (b, inr there) = omega (arith, h.numbered i d (b, there))
 
-  up_tells : (step : Transition) → MayStep (Up serving disk) step → Tells (calls_after calls step) (state_after (suc calls) (Up serving disk) step) (marks_of (suc calls) (Up serving disk) step ++ M)
+  up_tells : (step : Transition) → MayStep (Up serving disk) step → Tells (calls_made_after calls step) (state_after (suc calls) (Up serving disk) step) (marks_of (suc calls) (Up serving disk) step ++ M)
   up_tells (Calls a c) may = call_tells a c may.0 (none_of (caller_at callers a) may.1)
   up_tells (Turn a) may = done_tells a (caller_at callers a) refl may
   up_tells (Fails a new) may = fault_tells new a (caller_at callers a) refl may
@@ -218,7 +218,7 @@ opens_open shape t M none = record {
 }
 
 module _ (calls : ℕ) (shape : Shape) (disk : Medium) (M : History) (h : Tells calls (Down shape disk) M) where
-  down_tells : (step : Transition) → MayStep (Down shape disk) step → Tells (calls_after calls step) (state_after (suc calls) (Down shape disk) step) (marks_of (suc calls) (Down shape disk) step ++ M)
+  down_tells : (step : Transition) → MayStep (Down shape disk) step → Tells (calls_made_after calls step) (state_after (suc calls) (Down shape disk) step) (marks_of (suc calls) (Down shape disk) step ++ M)
   down_tells Trips may = h
   down_tells Stops may = ended calls Stop _ M refl tt h.told h.numbered (λ a i is. is)
   down_tells (Crashes t) may = ended calls Crash _ M refl tt h.told h.numbered (λ a i is. is)
@@ -227,7 +227,7 @@ module _ (calls : ℕ) (shape : Shape) (disk : Medium) (M : History) (h : Tells 
   down_tells (OpenFails why false) may = ended calls (OpenFailed why) _ M refl tt h.told h.numbered (λ a i is. is)
   down_tells _ may = absurd may
 
-step_tells : (calls : ℕ) (w : State) (M : History) (step : Transition) → MayStep w step → Tells calls w M → Tells (calls_after calls step) (state_after (suc calls) w step) (marks_of (suc calls) w step ++ M)
+step_tells : (calls : ℕ) (w : State) (M : History) (step : Transition) → MayStep w step → Tells calls w M → Tells (calls_made_after calls step) (state_after (suc calls) w step) (marks_of (suc calls) w step ++ M)
 step_tells calls (Up service disk) M step may h = up_tells calls service.yard service.callers disk M h step may
 step_tells calls (Down shape disk) M step may h = down_tells calls shape disk M h step may
 

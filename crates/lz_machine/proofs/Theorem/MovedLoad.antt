@@ -29,7 +29,7 @@ use Rattle.lz_machine.specs.declared.caller.Progress.TheVariants.{Playing, Loads
 use Rattle.lz_machine.specs.Yards.{Yard, Shape, actor_at}
 use Rattle.lz_machine.specs.Table.{pin_of, course, line, line_on, line_call, call_on, published_on, line_publishes}
 use Rattle.lz_machine.specs.Calls.{event_of, event_at, loaded, progress_after}
-use Rattle.lz_machine.specs.Runs.{Caller, Service, State, Up, Down, Start, IsStart, start_keys, Transition, Turn, Point, point_after, run, IsRun, first_point, played, caller_at, next_event, reply_at, moved_on, after_turn, state_after, HasTurn, MayStep, mark_of_turn, marks_of_turn, marks_of, turn_publishes, trace_after, calls_after}
+use Rattle.lz_machine.specs.Runs.{Caller, Service, State, Up, Down, Start, IsStart, start_keys, Transition, Turn, Point, point_after, run, IsRun, first_point, played, caller_at, next_event, reply_at, moved_on, after_turn, state_after, HasTurn, MayStep, mark_of_turn, marks_of_turn, marks_of, turn_publishes, trace_after, calls_made_after}
 use Rattle.lz_machine.specs.Laws.{is_of, outcome_at, outcomes, hop_of, hop_of_caller, next_hop, SameBut, call_in, ends_life, WalksMove}
 use Rattle.lz_machine.specs.CallersSound.{is_before_pin, side_of}
 use Rattle.lz_machine.specs.Sound.{StateSound, PointSound, IsSound}
@@ -184,7 +184,7 @@ steps_beside a one other step apart_from may h =
         right_is = f.right_is ∙ ap (λ (w : State). state_after n w step) h.right_is ∙ ap (λ (m : ℕ). state_after (suc m) other.state step) (sym h.calls);
         marks = λ i. marks i ++ h.marks i;
         trace = ap (λ (P : Trace). trace_after other.state P step) h.trace ∙ ap (λ (w : State). trace_after w one.trace step) (sym h.right_is) ∙ sym f.trace ∙ ap (λ (w : State). trace_after w one.trace step) h.left_is;
-        calls = ap (λ (m : ℕ). calls_after m step) h.calls;
+        calls = ap (λ (m : ℕ). calls_made_after m step) h.calls;
       };
     }
 

@@ -9,9 +9,9 @@ use Rattle.lz_list.specs.declared.place.Place.{Place}
 use Rattle.lz_list.specs.declared.place.Place.TheVariants.{Bucket, Node}
 use Rattle.lz_list.specs.declared.word.Word.TheVariants.{Head, Link, Key}
 use Rattle.lz_list.specs.Words.{Words, get, next_of, flags_of, next_at, is_marked_at, place_number, link_to}
-use Rattle.lz_list.specs.Lists.{next_in, home, AreSlots, ShowsChain, IsSorted, IsNodeOf, IsTable, IsOfBucket, IsPlace, IsCurr, IsBefore, MayLinkAt, MayUnlinkAt, KeepsList}
+use Rattle.lz_list.specs.Lists.{next_in, home, AreSlots, ShowsChain, IsSorted, IsNodeOf, IsTable, IsOfBucket, IsPlace, IsCurr, IsPredecessor, MayLinkAt, MayUnlinkAt, KeepsList}
 use Rattle.lz_list.specs.Locks.{NodeLocks, owner}
-use Rattle.lz_list.specs.Traces.{Trace, Adjacent, IsLoose, IsWithin, on, rank, chain, chain_of, bucket_of, key_word, node_next, head_word, next_link, is_marked, word_after}
+use Rattle.lz_list.specs.Traces.{Trace, Adjacent, IsLoose, KeysBelong, on, rank_at, chain, chain_of, bucket_of, key_word, node_next, head_word, next_link, is_marked, word_after}
 use Rattle.lz_list.specs.Laws.{IsLow, IsHigh}
 use Rattle.lz_list.proofs.Chains.PlaceRank.{adjacent_next, shows_frame, shows_keys}
 use Rattle.lz_list.proofs.Traces.Hindsight.{stands}
@@ -20,8 +20,8 @@ use Rattle.lz_list.proofs.Chains.SortedChain.{node_on}
 use Rattle.lz_list.proofs.Tables.WordTable.{length-table}
 use Rattle.lz_list.proofs.Traces.TraceWords.{chain_slots}
 use Rattle.lz_machine.specs.Yards.{Shape}
-use Rattle.lz_machine.specs.Stands.{IsReady, InBucket}
-use Rattle.lz_machine.specs.LocksSound.{IsBeside, IsBefore as StandsBefore}
+use Rattle.lz_machine.specs.Stands.{IsLinkable, InBucket}
+use Rattle.lz_machine.specs.LocksSound.{IsBeside, IsRightBefore as StandsBefore}
 use Rattle.lz_machine.specs.Sound.{TraceSound}
 use Rattle.lz_machine.proofs.Frames.Ranges.{on_range}
 use Rattle.lz_machine.proofs.Frames.LoadedWord.{bucket_range, head_next, link_next, link_mark, key_load}
@@ -70,7 +70,7 @@ module _ (shape : Shape) (words : Words) (P : Trace) (trace : TraceSound shape w
   next_is b lt zero there = head_is b lt
   next_is b lt (suc t) there = link_is t (node_slot b t there)
 
-  rank_is : (b x : ℕ) → on 0 (chain shape.buckets b P) x ≡ true → rank keys_here x ≡ rank keys_then x
+  rank_is : (b x : ℕ) → on 0 (chain shape.buckets b P) x ≡ true → rank_at keys_here x ≡ rank_at keys_then x
   rank_is b zero there = refl
   rank_is b (suc t) there = ap suc (key_is t (node_slot b t there))
 
@@ -80,7 +80,7 @@ module _ (shape : Shape) (words : Words) (P : Trace) (trace : TraceSound shape w
       let shown = words_show_chain shape.buckets shape.slots P trace.lawful b in
       record {
         shows = shows_keys (next_in w b) (next_in w b) keys_then keys_here 0 (chain shape.buckets b P) (shows_frame (next_link shape.buckets b P) (next_in w b) keys_then 0 (chain shape.buckets b P) shown.shows (next_is b lt)) (rank_is b);
-        within = subst (λ (n : ℕ). IsWithin n b (chain shape.buckets b P)) (sym heads_are) shown.within;
+        within = subst (λ (n : ℕ). KeysBelong n b (chain shape.buckets b P)) (sym heads_are) shown.within;
         in_range = subst (λ (n : ℕ). AreSlots n (chain shape.buckets b P)) (sym links_are) (chain_slots shape.buckets shape.slots b P trace.lawful);
       }
 
@@ -103,7 +103,7 @@ module _ (shape : Shape) (words : Words) (P : Trace) (trace : TraceSound shape w
   keeps_link s v loose node = absurd (no_node (get w (Key s)) s loose node)
 
   -- a place on k's chain, no key above k
-  pub is_before : (k : ℕ) (pred : Place) → InBucket shape.buckets k pred → on 0 (chain_of shape.buckets k P) (place_number pred) ≡ true → IsLow k (place_number pred) P → IsBefore w pred k
+  pub is_before : (k : ℕ) (pred : Place) → InBucket shape.buckets k pred → on 0 (chain_of shape.buckets k P) (place_number pred) ≡ true → IsLow k (place_number pred) P → IsPredecessor w pred k
   is_before k pred bucket there low = record {
     bucket = of_bucket pred bucket;
     chain = chain_of shape.buckets k P;
@@ -122,21 +122,21 @@ module _ (shape : Shape) (words : Words) (P : Trace) (trace : TraceSound shape w
   leads_to k (Node s) bucket there = link_is s (node_slot (bucket_of shape.buckets k) s there)
 
   -- a slot that is ready for the place round which its actor has the locks may be linked there
-  pub may_link_at : (pred : Place) (curr : Option ℕ) (s : ℕ) → s < shape.slots → IsBeside shape.buckets (key_word s P) pred curr P → IsReady shape.buckets (key_word s P) (link_to curr) s P → MayLinkAt w pred s
+  pub may_link_at : (pred : Place) (curr : Option ℕ) (s : ℕ) → s < shape.slots → IsBeside shape.buckets (key_word s P) pred curr P → IsLinkable shape.buckets (key_word s P) (link_to curr) s P → MayLinkAt w pred s
   may_link_at pred curr s lt beside ready =
       let leads : next_at w pred ≡ link_to curr = leads_to (key_word s P) pred beside.bucket beside.round.faces.there ∙ beside.round.faces.next in
       record {
         slot = omega (arith, lt, links_are);
-        before = subst (IsBefore w pred) (sym (key_is s lt)) (is_before (key_word s P) pred beside.bucket beside.round.faces.there beside.round.low);
-        above = subst (λ (n : ℕ). (n ≡ 0) ⊎ (suc (get w (Key s)) < rank keys_here n)) (sym leads) (above (link_to curr) beside.round.faces.next beside.round.high);
+        before = subst (IsPredecessor w pred) (sym (key_is s lt)) (is_before (key_word s P) pred beside.bucket beside.round.faces.there beside.round.low);
+        above = subst (λ (n : ℕ). (n ≡ 0) ⊎ (suc (get w (Key s)) < rank_at keys_here n)) (sym leads) (above (link_to curr) beside.round.faces.next beside.round.high);
         next = link_is s lt ∙ ready.link ∙ sym leads;
       }
     where
-      above : (n : ℕ) → next_link shape.buckets (bucket_of shape.buckets (key_word s P)) P (place_number pred) ≡ n → IsHigh (key_word s P) n P → (n ≡ 0) ⊎ (suc (get w (Key s)) < rank keys_here n)
+      above : (n : ℕ) → next_link shape.buckets (bucket_of shape.buckets (key_word s P)) P (place_number pred) ≡ n → IsHigh (key_word s P) n P → (n ≡ 0) ⊎ (suc (get w (Key s)) < rank_at keys_here n)
       above n is (inl none) = inl none
       above n is (inr greater) =
           let adj = subst (Adjacent 0 (chain_of shape.buckets (key_word s P) P) (place_number pred)) is (stands shape.buckets shape.slots P (bucket_of shape.buckets (key_word s P)) (place_number pred) P trace.lawful beside.round.faces.there) in
-          let there = adjacent_next 0 (chain_of shape.buckets (key_word s P) P) (place_number pred) n adj (λ none. absurd (omega (arith, greater, ap (rank keys_then) none))) in
+          let there = adjacent_next 0 (chain_of shape.buckets (key_word s P) P) (place_number pred) n adj (λ none. absurd (omega (arith, greater, ap (rank_at keys_then) none))) in
           inr (omega (arith, greater, key_is s lt, rank_is (bucket_of shape.buckets (key_word s P)) n there))
 
   -- a node may be unlinked from the place that leads to it
@@ -144,7 +144,7 @@ module _ (shape : Shape) (words : Words) (P : Trace) (trace : TraceSound shape w
   may_unlink_at pred s before =
       let lt = node_slot (bucket_of shape.buckets (key_word s P)) s (faces_on shape.buckets shape.slots (key_word s P) (place_number pred) s P trace.lawful before.faces) in
       record {
-        before = subst (IsBefore w pred) (sym (key_is s lt)) (is_before (key_word s P) pred before.bucket before.faces.faces.there before.faces.low);
+        before = subst (IsPredecessor w pred) (sym (key_is s lt)) (is_before (key_word s P) pred before.bucket before.faces.faces.there before.faces.low);
         next = leads_to (key_word s P) pred before.bucket before.faces.faces.there ∙ before.faces.faces.next;
       }
 

@@ -10,7 +10,7 @@ use Rattle.lz_machine.specs.Table.{line, pin_of}
 use Rattle.lz_machine.specs.Ready.{IsEventOf}
 use Rattle.lz_machine.specs.Orders.{MayTake}
 use Rattle.lz_machine.specs.Runs.{Start, Service, Caller, State, Up, Down, Transition, Point, MayStep, state_after, caller_at, next_event}
-use Rattle.lz_machine.specs.Points.{IsQuiet, IsReached}
+use Rattle.lz_machine.specs.Points.{IsBetweenLooks, IsReached}
 use Rattle.lz_machine.specs.Sound.{IsSound}
 use Rattle.lz_machine.proofs.Theorem.Reached.{reached_sound}
 use Rattle.lz_machine.proofs.Theorem.WornPass.{Fits, AllFit, is_look, step_fits}
@@ -43,11 +43,11 @@ module _ (start : Start) (p : Point) (reached : IsReached start p) where
     pub may_take : MayTake caller.progress (line service.yard a (next_event service.yard caller)).1
     may_take = may_take_there start p service disk sound_at up a caller at
 
-  fits_one : (service : Service) (disk : Medium) → p.state ≡ Up service disk → IsQuiet (Up service disk) → (a : ℕ) (o : Option Caller) → caller_at service.callers a ≡ o → Fits false o (pin_of service.yard a)
+  fits_one : (service : Service) (disk : Medium) → p.state ≡ Up service disk → IsBetweenLooks (Up service disk) → (a : ℕ) (o : Option Caller) → caller_at service.callers a ≡ o → Fits false o (pin_of service.yard a)
   fits_one service disk up quiet a None at = λ same. even_of (pin_of service.yard a) (quiet a (rw at refl))
   fits_one service disk up quiet a (Some caller) at = worn_there start reached.steps reached.starts reached.runs service disk (ap (λ (q : Point). q.state) reached.point ∙ up) a caller at
 
-  all_fit : (w : State) → p.state ≡ w → IsQuiet w → AllFit false w
+  all_fit : (w : State) → p.state ≡ w → IsBetweenLooks w → AllFit false w
   all_fit (Up service disk) up quiet = λ a. fits_one service disk up quiet a (caller_at service.callers a) refl
   all_fit (Down shape disk) up quiet = tt
 
@@ -55,12 +55,12 @@ module _ (start : Start) (p : Point) (reached : IsReached start p) where
   quiet_one None pin fits at = fits refl
   quiet_one (Some caller) pin fits at = absurd (none-some _ (sym at))
 
-  all_quiet : (w : State) → AllFit false w → IsQuiet w
+  all_quiet : (w : State) → AllFit false w → IsBetweenLooks w
   all_quiet (Up service disk) fits = λ a none. ap (λ (q : ℕ). q == 0) (quiet_one (caller_at service.callers a) (pin_of service.yard a) (fits a) (is_none (caller_at service.callers a) none))
   all_quiet (Down shape disk) fits = tt
 
   -- where no look was half done, none is after a step that isn't a look
-  pub quiet_step : (i : ℕ) (step : Transition) → MayStep p.state step → is_look step ≡ false → IsQuiet p.state → IsQuiet (state_after i p.state step)
+  pub quiet_step : (i : ℕ) (step : Transition) → MayStep p.state step → is_look step ≡ false → IsBetweenLooks p.state → IsBetweenLooks (state_after i p.state step)
   quiet_step i step may other quiet =
       all_quiet (state_after i p.state step)
       (subst (λ (b : Bool). AllFit b (state_after i p.state step)) (ap (λ (b : Bool). b || false) other)

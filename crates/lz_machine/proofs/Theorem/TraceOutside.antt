@@ -18,7 +18,7 @@ use Rattle.lz_machine.specs.declared.caller.Progress.{Progress}
 use Rattle.lz_machine.specs.declared.caller.Progress.TheVariants.{Playing, LoadsHalt, Walking, Reserving, SeeingPins, Claiming, Checking, Answering}
 use Rattle.lz_machine.specs.Yards.{Shape, IsInside, pin_in, stage_in}
 use Rattle.lz_machine.specs.CallsStand.{is_out, trace_outside, own_change, CallsStand, MarkedIsClosed}
-use Rattle.lz_machine.specs.Runs.{Start, IsStart, Caller, Service, State, Up, Down, Transition, Calls, Turn, Fails, Looks, Trips, Stops, Crashes, CrashesIn, Opens, OpenFails, Point, MayStep, HasTurn, HasFault, IsRun, run, first_point, point_after, caller_at, state_after, trace_after, calls_after, after_turn, after_fault, turn_publishes, reply_at, opened_service, marks_of, mark_of}
+use Rattle.lz_machine.specs.Runs.{Start, IsStart, Caller, Service, State, Up, Down, Transition, Calls, Turn, Fails, Looks, Trips, Stops, Crashes, CrashesIn, Opens, OpenFails, Point, MayStep, HasTurn, HasFault, IsRun, run, first_point, point_after, caller_at, state_after, trace_after, calls_made_after, after_turn, after_fault, turn_publishes, reply_at, opened_service, marks_of, mark_of}
 use Rattle.lz_machine.specs.Notes.{Notes}
 use Rattle.lz_machine.specs.CallersSound.{CallerSound, view_of}
 use Rattle.lz_machine.specs.SlotsSound.{SlotStands, is_node, is_held, is_out as is_gone, is_free, is_limbo, IsNodeStage}
@@ -126,7 +126,7 @@ module _ (calls : ℕ) (service : Service) (disk : Medium) (P : Trace) (B : ℕ 
 
 -- a step of an open service
 up_next : (calls : ℕ) (service : Service) (disk : Medium) (P : Trace) (B : ℕ → Trace) (h : IsTied calls service disk P B) (step : Transition) → MayStep (Up service disk) step
-    → NextAt (calls_after calls step) service.yard.words.pins P h.notes (state_after (suc calls) (Up service disk) step) (trace_after (Up service disk) P step)
+    → NextAt (calls_made_after calls step) service.yard.words.pins P h.notes (state_after (suc calls) (Up service disk) step) (trace_after (Up service disk) P step)
 up_next calls service disk P B h (Calls a c) may = call_next calls service disk P B h a c may
 up_next calls service disk P B h (Turn a) may = turn_next calls service disk P B h a (caller_at service.callers a) refl may
 up_next calls service disk P B h (Fails a new) may = fault_next calls service disk P B h a new (caller_at service.callers a) refl may
@@ -190,9 +190,9 @@ opened_tied start p shape t disk B sound is =
 
 step_tied : (start : Start) (w : State) (p : Point) (step : Transition) (B : ℕ → Trace) → p.state ≡ w → MayStep w step → ((b : ℕ) → is_out w b ≡ true → B b ≡ p.trace) → TiedAt p.calls p.trace w B
     → IsSound start (point_after p step)
-    → TiedAt (calls_after p.calls step) (trace_after w p.trace step) (state_after (suc p.calls) w step) (λ b. if is_out (state_after (suc p.calls) w step) b then trace_after w p.trace step else B b)
+    → TiedAt (calls_made_after p.calls step) (trace_after w p.trace step) (state_after (suc p.calls) w step) (λ b. if is_out (state_after (suc p.calls) w step) b then trace_after w p.trace step else B b)
 step_tied start (Up service disk) p step B at may out h sound =
-    tie p.calls service disk p.trace (trace_after (Up service disk) p.trace step) B h out (calls_after p.calls step) (state_after (suc p.calls) (Up service disk) step)
+    tie p.calls service disk p.trace (trace_after (Up service disk) p.trace step) B h out (calls_made_after p.calls step) (state_after (suc p.calls) (Up service disk) step)
     (up_next p.calls service disk p.trace B h step may)
 step_tied start (Down shape disk) p Opens B at may out h sound =
     opened_here (subst (λ (w : State). IsSound start (point (state_after (suc p.calls) w Opens) (marks_of (suc p.calls) w Opens ++ p.marks) (trace_after w p.trace Opens) p.calls)) at sound)

@@ -14,7 +14,7 @@ use Rattle.lz_machine.specs.declared.event.Event.TheVariants.{Pin, Hop, Reserve,
 use Rattle.lz_list.specs.declared.publishing.Publishing.TheVariants.{Linked as linked, Settled as settled, Marked as marked, Unlinked as unlinked, KeyPrepared as key_prepared, LinkPrepared as link_prepared}
 use Rattle.lz_list.specs.declared.publishing.Change.TheVariants.{Added, Removed}
 use Rattle.lz_list.specs.Words.{Words}
-use Rattle.lz_list.specs.Traces.{is_removed, linking, Trace, SettledYes, SettledNo, words_after, bucket_of}
+use Rattle.lz_list.specs.Traces.{is_removed, linking, Trace, SettledYes, SettledNo, words_of_trace, bucket_of}
 use Rattle.lz_machine.specs.Runs.{Start, State, Up, Down, Transition, Calls, Turn, Fails, Trips, Stops, Crashes, CrashesIn, Opens, Point, first_point, point_after, run, made_text, caller_at, next_event, disk_of}
 
 abbrev pub fresh : ℕ → ℕ → Start
@@ -198,7 +198,7 @@ reader_words_are : words_of_state (play (fresh 2 64) reader_steps).state ≡ rea
 unfolding bucket_of
 reader_words_are = refl
 
-reader_words_after : four_words (words_after 2 1 64 reader_trace) ≡ reader_words
+reader_words_after : four_words (words_of_trace 2 1 64 reader_trace) ≡ reader_words
 unfolding bucket_of
 reader_words_after = refl
 

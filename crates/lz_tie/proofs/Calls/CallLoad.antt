@@ -26,7 +26,7 @@ use Rattle.lz_board.specs.declared.view.Sizes.{Sizes}
 use Rattle.lz_board.specs.declared.view.What.TheVariants.{Played}
 use Rattle.lz_board.specs.declared.view.Load.{Load}
 use Rattle.lz_board.specs.declared.view.Part.{Part}
-use Rattle.lz_board.specs.Notes.{is_for, IsShared, placed, goes_on, shape_of}
+use Rattle.lz_board.specs.Notes.{is_for, IsShared, placed, unless_replied, shape_of_sizes}
 use Rattle.lz_board.specs.Addresses.{index, word_at}
 use Rattle.lz_board.specs.Glances.{Changes}
 use Rattle.lz_board.specs.Plays.{loading, IsShownTo}
@@ -98,22 +98,22 @@ load_place shape c (Claiming aim pred curr) w is = absurd (false≢true (ap is_s
 load_place shape c (Checking aim curr) w is = absurd (false≢true (ap is_some (ap hop_of is)))
 load_place shape c (Answering reply) w is = absurd (false≢true (ap is_some (ap hop_of is)))
 
-module _ (b : BoardId) (c : Command) (format : Format) (before : Part) (at : Progress) (h : Part) (U : UnderWay b c format before at h) (w : Word) (event : event_at (shape_of h.sizes) c at ≡ Hop w) (shared : IsShared b.sizes w)
+module _ (b : BoardId) (c : Command) (format : Format) (before : Part) (at : Progress) (h : Part) (U : UnderWay b c format before at h) (w : Word) (event : event_at (shape_of_sizes h.sizes) c at ≡ Hop w) (shared : IsShared b.sizes w)
     (seen : Trace) (value : ℕ) (shown : IsShownTo seen h) (found : value ≡ word_after b.sizes.buckets seen w) where
   abbrev h1 : Part
   h1 = loading seen (index h.sizes w) value h
 
   abbrev next : Progress
-  next = progress_after (shape_of h.sizes) c at (Value value)
+  next = progress_after (shape_of_sizes h.sizes) c at (Value value)
 
   abbrev x : Load
   x = record { word = word_at h.sizes (index h.sizes w); value = value; at = length seen }
 
   loads : IsLoading at
-  loads = load_place (shape_of h.sizes) c at w event
+  loads = load_place (shape_of_sizes h.sizes) c at w event
 
-  there : Onward (shape_of h.sizes) h.number c next U.own
-  there = load_onward (shape_of h.sizes) h.number c at value U.own loads U.is_own
+  there : Onward (shape_of_sizes h.sizes) h.number c next U.own
+  there = load_onward (shape_of_sizes h.sizes) h.number c at value U.own loads U.is_own
 
   changes_now : Changes h.number before.known seen U.own
   changes_now = record {
@@ -130,8 +130,8 @@ module _ (b : BoardId) (c : Command) (format : Format) (before : Part) (at : Pro
     steps = U.steps;
     only = U.only;
     call = record {
-      next = (subst (IsHopAt (shape_of h.sizes) x) (sym U.call.at) (event ∙ ap Hop (sym (decode h.sizes w (shared_boards h.sizes w (subst (λ (z : Sizes). IsShared z w) (sym U.sizes) shared))))), U.call.next);
-      at = ap (placed (shape_of h.sizes) (Played (Hop x.word) (Value value))) U.call.at ∙ ap (λ (r : Option Reply). goes_on r c next) (loading_going at loads);
+      next = (subst (IsHopAt (shape_of_sizes h.sizes) x) (sym U.call.at) (event ∙ ap Hop (sym (decode h.sizes w (shared_boards h.sizes w (subst (λ (z : Sizes). IsShared z w) (sym U.sizes) shared))))), U.call.next);
+      at = ap (placed (shape_of_sizes h.sizes) (Played (Hop x.word) (Value value))) U.call.at ∙ ap (λ (r : Option Reply). unless_replied r c next) (loading_going at loads);
       pass = there.pass;
     };
     side = U.side ∙ ap side_of (loading_inside at loads ∙ sym there.inside);
@@ -140,7 +140,7 @@ module _ (b : BoardId) (c : Command) (format : Format) (before : Part) (at : Pro
     is_own = there.is_own;
     opened = U.opened;
     since = U.since;
-    late = λ halted. late_load (shape_of h.sizes) c at w b.sizes.buckets value seen loads event found (halt_since before.known seen (changes_now.since, changes_now.goes_on) halted) (U.late halted);
+    late = λ halted. late_load (shape_of_sizes h.sizes) c at w b.sizes.buckets value seen loads event found (halt_since before.known seen (changes_now.since, changes_now.goes_on) halted) (U.late halted);
     old = λ old. absurd (not_old next there.inside old);
     full = λ counts full. absurd (not_full next counts there.room full);
   }

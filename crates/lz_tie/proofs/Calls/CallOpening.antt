@@ -17,10 +17,10 @@ use Rattle.lz_board.specs.declared.view.What.TheVariants.{Called}
 use Rattle.lz_board.specs.declared.view.Note.{Note}
 use Rattle.lz_board.specs.declared.view.Load.{Load}
 use Rattle.lz_board.specs.declared.view.Part.{Part}
-use Rattle.lz_board.specs.Notes.{Extends, note_by, load_note, place, shape_of}
+use Rattle.lz_board.specs.Notes.{Extends, note_by, load_note, place, shape_of_sizes}
 use Rattle.lz_board.specs.Glances.{Changes}
 use Rattle.lz_board.specs.Seats.{BoardId}
-use Rattle.lz_tie.specs.Holds.{IsIdle, Holds}
+use Rattle.lz_tie.specs.Holds.{IsIdle, HoldNotes}
 use Rattle.lz_tie.specs.NotedRuns.{AreNext}
 use Rattle.lz_tie.specs.UnderWay.{IsLate, OwnAt, UnderWay}
 use Rattle.lz_tie.proofs.Calls.OwnChanges.{calm, old_none}
@@ -42,10 +42,10 @@ opening shape p c true = record { outside = refl; pass = tt; is_own = old_none p
 opening shape p c false = record { outside = refl; pass = tt; is_own = calm p c first_progress [] refl refl; says = λ is. absurd (false≢true (ap says_old is)); room = refl; late = tt }
 
 pub called : (b : BoardId) (c : Command) (format : Format) (before : Part) (opened : Trace) (was is : List Note) (after : Part) → before.sizes ≡ b.sizes → IsIdle b.sizes before → Extends before.known b.opened
-    → Holds opened was is (note_by before.number (Called c format) None) before after → UnderWay b c format before (begun format c) after
+    → HoldNotes opened was is (note_by before.number (Called c format) None) before after → UnderWay b c format before (begun format c) after
 called b c format before opened was is after sized idle from H =
     let n = note_by before.number (Called c format) None in
-    let o = opening (shape_of after.sizes) after.number c (is_old format c) in
+    let o = opening (shape_of_sizes after.sizes) after.number c (is_old format c) in
     let steps : after.steps ≡ n ∷ before.steps = H.steps ∙ ap (λ (l : List Load). n ∷ (map (load_note before.number) l ++ before.steps)) idle.no_loads in
     let pin : after.pin % 2 ≡ 0 = ap (λ (q : ℕ). q % 2) H.pin ∙ idle.outside in
     record {
@@ -55,8 +55,8 @@ called b c format before opened was is after sized idle from H =
       steps = steps ∙ ap (λ (p : ℕ). note_by p (Called c format) None ∷ before.steps) (sym H.number);
       only = tt;
       call = record {
-        next = subst (λ (l : List Load). AreNext (shape_of after.sizes) after.number l after.steps) (sym H.no_loads) tt;
-        at = ap (λ (q : List Load × List Note). place (shape_of after.sizes) (map (load_note after.number) q.0 ++ q.1)) (λ i. (H.no_loads i, steps i));
+        next = subst (λ (l : List Load). AreNext (shape_of_sizes after.sizes) after.number l after.steps) (sym H.no_loads) tt;
+        at = ap (λ (q : List Load × List Note). place (shape_of_sizes after.sizes) (map (load_note after.number) q.0 ++ q.1)) (λ i. (H.no_loads i, steps i));
         pass = o.pass;
       };
       side = pin ∙ ap side_of (sym o.outside);

@@ -37,10 +37,10 @@ use Rattle.lz_board.specs.declared.view.Sizes.{Sizes}
 use Rattle.lz_board.specs.declared.view.What.TheVariants.{Played}
 use Rattle.lz_board.specs.declared.view.Note.{Note}
 use Rattle.lz_board.specs.declared.view.Part.{Part}
-use Rattle.lz_board.specs.Notes.{note_by, listed, own, trace_of, load_note, shape_of, pin_after_played}
+use Rattle.lz_board.specs.Notes.{note_by, as_list, own, trace_of, load_note, shape_of_sizes, pin_after_played}
 use Rattle.lz_board.specs.Seats.{BoardId}
 use Rattle.lz_tie.specs.Answers.{IsWithin, last_reserve, reserved_by}
-use Rattle.lz_tie.specs.Holds.{Holds, Turned}
+use Rattle.lz_tie.specs.Holds.{HoldNotes, Turned}
 use Rattle.lz_tie.specs.UnderWay.{IsLate, OwnAt, FoundFull, UnderWay}
 use Rattle.lz_tie.proofs.Reading.PinWords.{is_pinning}
 use Rattle.lz_tie.proofs.Calls.OwnChanges.{calm, calm_none, worn_none, full_none}
@@ -71,7 +71,7 @@ abbrev IsCutOff : Outcome → Type 0
 IsCutOff o = (o ≡ Fault) ⊎ (o ≡ Dead)
 
 module _ (b : BoardId) (c : Command) (format : Format) (before : Part) (at : Progress) (h : Part) (U : UnderWay b c format before at h) (opened : Trace) (was is : List Note) (e : Event) (o : Outcome) (x : Option Publishing) (h' : Part)
-    (H : Holds opened was is (note_by h.number (Played e o) x) h h') (T : Turned opened was h c at e o x) where
+    (H : HoldNotes opened was is (note_by h.number (Played e o) x) h h') (T : Turned opened was h c at e o x) where
   abbrev a : ℕ
   a = h.number
 
@@ -79,7 +79,7 @@ module _ (b : BoardId) (c : Command) (format : Format) (before : Part) (at : Pro
   y = T.service.yard
 
   abbrev next : Progress
-  next = progress_after (shape_of h.sizes) c at o
+  next = progress_after (shape_of_sizes h.sizes) c at o
 
   event_is : loaded y.words (event_at y.shape c at) ≡ e
   event_is = (λ i. loaded y.words (event_at y.shape (sym T.command i) (sym T.progress i))) ∙ T.next
@@ -104,16 +104,16 @@ module _ (b : BoardId) (c : Command) (format : Format) (before : Part) (at : Pro
   some = let range = caller_range T.service.callers a T.caller T.call in let count = there.up.sound.callers.count in let low = range.0 in let high = range.1 in omega (arith, low, high, count)
 
   -- an event that moves no pin word was played, or cut off
-  gave : is_pinning e ≡ false → (IsCutOff o × (own a (listed x) ≡ [])) ⊎ ((o ≡ outcome_of y (actor_at y a) e) × (listed x ≡ publishes y (actor_at y a) a e))
+  gave : is_pinning e ≡ false → (IsCutOff o × (own a (as_list x) ≡ [])) ⊎ ((o ≡ outcome_of y (actor_at y a) e) × (as_list x ≡ publishes y (actor_at y a) a e))
   gave plain = ⊎_elim
-      (λ (bad : o ≡ Fault). inl (inl bad, ap (λ (q : Option Publishing). own a (listed q)) (T.failed bad).0))
+      (λ (bad : o ≡ Fault). inl (inl bad, ap (λ (q : Option Publishing). own a (as_list q)) (T.failed bad).0))
       (λ (ok : o ≢ Fault). let d = T.done ok in ⊎_elim
       (λ (plays : course y a e ≡ Plays). inr (d.0 ∙ ap (λ (k : Course). (line_on k y (actor_at y a) a e).1) plays, d.1 ∙ ap (λ (k : Course). published_on k y (actor_at y a) a e) plays))
       (λ (refused : IsRefused y a e). inl (inr (d.0 ∙ refused.0), ap (own a) (d.1 ∙ refused.1)))
       (played_or_refused y a e plain in_time))
       (fault_or_not o)
 
-  cut_onward : IsCutOff o → own a (listed x) ≡ [] → Onward y.shape a c (progress_after y.shape c at o) (own a (listed x) ++ U.own)
+  cut_onward : IsCutOff o → own a (as_list x) ≡ [] → Onward y.shape a c (progress_after y.shape c at o) (own a (as_list x) ++ U.own)
   cut_onward cut none = subst (λ (l : Trace). Onward y.shape a c (progress_after y.shape c at o) (l ++ U.own)) (sym none) (⊎_elim
       (λ fault. subst (λ (q : Outcome). Onward y.shape a c (progress_after y.shape c at q) U.own) (sym fault) (halting_onward y.shape a c U.own Device at own_at))
       (λ dead. subst (λ (q : Outcome). Onward y.shape a c (progress_after y.shape c at q) U.own) (sym dead) (halting_onward y.shape a c U.own Halted at own_at))
@@ -123,9 +123,9 @@ module _ (b : BoardId) (c : Command) (format : Format) (before : Part) (at : Pro
       own_at = U.is_own
 
   -- where it comes to another place inside
-  comes_onward : is_pinning e ≡ false → reply_at at ≡ None → is_before_pin at ≡ false → ¬ IsLate at → Onward y.shape a c (progress_after y.shape c at o) (own a (listed x) ++ U.own) → UnderWay b c format before next h'
+  comes_onward : is_pinning e ≡ false → reply_at at ≡ None → is_before_pin at ≡ false → ¬ IsLate at → Onward y.shape a c (progress_after y.shape c at o) (own a (as_list x) ++ U.own) → UnderWay b c format before next h'
   comes_onward plain going inside unlate f =
-      let g : Onward (shape_of h.sizes) a c next (own a (listed x) ++ U.own) = subst (λ (s : Shape). Onward s a c (progress_after s c at o) (own a (listed x) ++ U.own)) (sym T.shape) f in
+      let g : Onward (shape_of_sizes h.sizes) a c next (own a (as_list x) ++ U.own) = subst (λ (s : Shape). Onward s a c (progress_after s c at o) (own a (as_list x) ++ U.own)) (sym T.shape) f in
       goes b c format before at h U opened was is e o x h' H going (plain_within e o plain) g.pass (side plain inside g.inside) g.is_own (λ halted. absurd (unlate (U.late halted)))
       (λ old. absurd (not_old next g.inside old)) (λ counts full. absurd (not_full next counts g.room full))
     where
@@ -145,14 +145,14 @@ module _ (b : BoardId) (c : Command) (format : Format) (before : Part) (at : Pro
       (gave still))
 
   -- Where it comes to the place k.
-  comes_to : (k : Progress) → next ≡ k → reply_at at ≡ None → IsWithin (Played e o) → HasPass h.sizes.passes (event_at (shape_of h.sizes) c k) → h'.pin % 2 ≡ side_of (is_before_pin k) → OwnAt a c k (own a (listed x) ++ U.own)
+  comes_to : (k : Progress) → next ≡ k → reply_at at ≡ None → IsWithin (Played e o) → HasPass h.sizes.passes (event_at (shape_of_sizes h.sizes) c k) → h'.pin % 2 ≡ side_of (is_before_pin k) → OwnAt a c k (own a (as_list x) ++ U.own)
       → (halt_word before.known ≡ 1 → IsLate k) → k ≢ Answering OldFile → ((counts : Counts) → k ≡ Answering (Full counts) → FoundFull b.sizes.slots b.sizes.passes counts (steps_since b c format before at h U opened was is e o x h' H) h'.known)
       → UnderWay b c format before next h'
   comes_to k is_k going inside pass side is_own late old full =
       goes b c format before at h U opened was is e o x h' H going inside
-      (subst (λ (q : Progress). HasPass h.sizes.passes (event_at (shape_of h.sizes) c q)) (sym is_k) pass)
+      (subst (λ (q : Progress). HasPass h.sizes.passes (event_at (shape_of_sizes h.sizes) c q)) (sym is_k) pass)
       (side ∙ ap (λ (q : Progress). side_of (is_before_pin q)) (sym is_k))
-      (subst (λ (q : Progress). OwnAt a c q (own a (listed x) ++ U.own)) (sym is_k) is_own)
+      (subst (λ (q : Progress). OwnAt a c q (own a (as_list x) ++ U.own)) (sym is_k) is_own)
       (λ halted. subst IsLate (sym is_k) (late halted))
       (λ same. absurd (old (sym is_k ∙ same)))
       (λ counts same. full counts (sym is_k ∙ same))
@@ -168,13 +168,13 @@ module _ (b : BoardId) (c : Command) (format : Format) (before : Part) (at : Pro
       gives : (((line y a Pin).1 ≡ Done) ⊎ ((line y a Pin).1 ≡ Worn)) × (line_publishes y a Pin ≡ []) × (line_call y a Pin ≡ NoCall)
       gives = pin_gives y a (subst (λ (q : Event). (line y a q).1 ≢ NotNow) (sym e_is) in_time)
 
-      done : (o ≡ (line y a e).1) × (listed x ≡ line_publishes y a e)
+      done : (o ≡ (line y a e).1) × (as_list x ≡ line_publishes y a e)
       done = T.done (λ bad. (T.failed bad).1 (ap (line_call y a) (sym e_is) ∙ gives.2))
 
       answer : o ≡ (line y a Pin).1
       answer = done.0 ∙ ap (λ (q : Event). (line y a q).1) (sym e_is)
 
-      none : own a (listed x) ++ U.own ≡ []
+      none : own a (as_list x) ++ U.own ≡ []
       none = (λ i. own a ((done.1 ∙ ap (line_publishes y a) (sym e_is) ∙ gives.1) i) ++ U.own) ∙ calm_none a c (Playing Pinning 0) U.own refl (subst (λ (q : Progress). OwnAt a c q U.own) same U.is_own)
 
       pin_is : h'.pin ≡ pin_after_played Pin o h.pin
@@ -189,13 +189,13 @@ module _ (b : BoardId) (c : Command) (format : Format) (before : Part) (at : Pro
       pinned : (line y a Pin).1 ≡ Done → UnderWay b c format before next h'
       pinned is =
           let pin = pin_is ∙ ap (λ (q : Outcome). pin_after_played Pin q h.pin) (answer ∙ is) in
-          comes_to LoadsHalt (λ i. progress_after (shape_of h.sizes) c (same i) ((answer ∙ is) i)) (ap reply_at same) within tt (omega (arith, pin, outside)) (calm a c LoadsHalt (own a (listed x) ++ U.own) refl none)
+          comes_to LoadsHalt (λ i. progress_after (shape_of_sizes h.sizes) c (same i) ((answer ∙ is) i)) (ap reply_at same) within tt (omega (arith, pin, outside)) (calm a c LoadsHalt (own a (as_list x) ++ U.own) refl none)
           (λ halted. tt) (not_old LoadsHalt refl) (λ counts full. absurd (not_full LoadsHalt counts refl full))
 
       worn : (line y a Pin).1 ≡ Worn → UnderWay b c format before next h'
       worn is =
-          comes_to (Answering SaysWorn) (λ i. progress_after (shape_of h.sizes) c (same i) ((answer ∙ is) i)) (ap reply_at same) within tt
-          (ap (λ (q : ℕ). q % 2) (pin_is ∙ ap (λ (q : Outcome). pin_after_played Pin q h.pin) (answer ∙ is)) ∙ outside) (worn_none a c (own a (listed x) ++ U.own) none)
+          comes_to (Answering SaysWorn) (λ i. progress_after (shape_of_sizes h.sizes) c (same i) ((answer ∙ is) i)) (ap reply_at same) within tt
+          (ap (λ (q : ℕ). q % 2) (pin_is ∙ ap (λ (q : Outcome). pin_after_played Pin q h.pin) (answer ∙ is)) ∙ outside) (worn_none a c (own a (as_list x) ++ U.own) none)
           (λ halted. tt) (λ old. absurd (false≢true (ap says_old old))) (λ counts full. absurd (not_full (Answering SaysWorn) counts refl full))
 
   -- its second Reserve
@@ -232,7 +232,7 @@ module _ (b : BoardId) (c : Command) (format : Format) (before : Part) (at : Pro
       passes_are : y.shape.passes ≡ b.sizes.passes
       passes_are = ap (λ (s : Shape). s.passes) (sym T.shape) ∙ ap (λ (s : Sizes). s.passes) U.sizes
 
-      found_full : (found : Option ℕ) → lowest_free (collect y.uses) ≡ found → found ≡ None → o ≡ NoSlot (counts (collect y.uses)) → o ≢ Fault → listed x ≡ [] → (told : Counts) → Answering (Full (counts (collect y.uses))) ≡ Answering (Full told)
+      found_full : (found : Option ℕ) → lowest_free (collect y.uses) ≡ found → found ≡ None → o ≡ NoSlot (counts (collect y.uses)) → o ≢ Fault → as_list x ≡ [] → (told : Counts) → Answering (Full (counts (collect y.uses))) ≡ Answering (Full told)
           → FoundFull b.sizes.slots b.sizes.passes told (steps_since b c format before at h U opened was is e o x h' H) h'.known
       found_full found lowest none answer ok nothing told full =
           let is_told : counts (collect y.uses) ≡ told = ap (told_in (counts (collect y.uses))) full in
@@ -246,18 +246,18 @@ module _ (b : BoardId) (c : Command) (format : Format) (before : Part) (at : Pro
                 (full_of_one_pass T.start T.service T.medium T.history (trace_of opened was) a T.caller T.reached (passes_are ∙ one) T.call (T.progress ∙ same) (lowest ∙ none));
           }
 
-      reserved : (found : Option ℕ) → lowest_free (collect y.uses) ≡ found → o ≡ outcome_of y (actor_at y a) e → listed x ≡ publishes y (actor_at y a) a e → UnderWay b c format before next h'
+      reserved : (found : Option ℕ) → lowest_free (collect y.uses) ≡ found → o ≡ outcome_of y (actor_at y a) e → as_list x ≡ publishes y (actor_at y a) a e → UnderWay b c format before next h'
       reserved (Some s) lowest answer published =
           let o_is : o ≡ Slot s = answer ∙ ap (outcome_of y (actor_at y a)) (sym e_is) ∙ ap (λ (q : Option ℕ). slot_found q (collect y.uses)) lowest in
           let none = (λ i. own a ((published ∙ ap (publishes y (actor_at y a) a) (sym e_is)) i) ++ U.own) ∙ calm_now in
-          comes_to (Playing (Writing s) 0) (λ i. progress_after (shape_of h.sizes) c (same i) (o_is i)) going (plain_within e o plain) tt pin_same (calm a c (Playing (Writing s) 0) (own a (listed x) ++ U.own) refl none)
+          comes_to (Playing (Writing s) 0) (λ i. progress_after (shape_of_sizes h.sizes) c (same i) (o_is i)) going (plain_within e o plain) tt pin_same (calm a c (Playing (Writing s) 0) (own a (as_list x) ++ U.own) refl none)
           (λ halted. absurd (unlate (U.late halted))) (not_old (Playing (Writing s) 0) refl) (λ counts full. absurd (not_full (Playing (Writing s) 0) counts refl full))
       reserved None lowest answer published =
           let told = counts (collect y.uses) in
           let o_is : o ≡ NoSlot told = answer ∙ ap (outcome_of y (actor_at y a)) (sym e_is) ∙ ap (λ (q : Option ℕ). slot_found q (collect y.uses)) lowest in
-          let nothing : listed x ≡ [] = published ∙ ap (publishes y (actor_at y a) a) (sym e_is) in
+          let nothing : as_list x ≡ [] = published ∙ ap (publishes y (actor_at y a) a) (sym e_is) in
           let none = (λ i. own a (nothing i) ++ U.own) ∙ calm_now in
-          comes_to (Answering (Full told)) (λ i. progress_after (shape_of h.sizes) c (same i) (o_is i)) going (plain_within e o plain) tt pin_same (full_none a c told (own a (listed x) ++ U.own) none)
+          comes_to (Answering (Full told)) (λ i. progress_after (shape_of_sizes h.sizes) c (same i) (o_is i)) going (plain_within e o plain) tt pin_same (full_none a c told (own a (as_list x) ++ U.own) none)
           (λ halted. absurd (unlate (U.late halted))) (λ old. absurd (false≢true (ap says_old old))) (found_full None lowest refl o_is (λ bad. no_fault (sym o_is ∙ bad)) nothing)
         where
           no_fault : {told : Counts} → NoSlot told ≡ Fault → ⊥
@@ -265,7 +265,7 @@ module _ (b : BoardId) (c : Command) (format : Format) (before : Part) (at : Pro
 
 -- A call that is under way goes on by a turn of its pass, its loads and its Answer aside.
 pub turned : (b : BoardId) (c : Command) (format : Format) (before : Part) (at : Progress) (h : Part) → UnderWay b c format before at h → (opened : Trace) (was is : List Note) (e : Event) (o : Outcome) (x : Option Publishing) (h' : Part)
-    → Holds opened was is (note_by h.number (Played e o) x) h h' → Turned opened was h c at e o x → hop_of e ≡ None → reply_at at ≡ None → UnderWay b c format before (progress_after (shape_of h.sizes) c at o) h'
+    → HoldNotes opened was is (note_by h.number (Played e o) x) h h' → Turned opened was h c at e o x → hop_of e ≡ None → reply_at at ≡ None → UnderWay b c format before (progress_after (shape_of_sizes h.sizes) c at o) h'
 turned b c format before (Playing Pinning i) h U opened was is e o x h' H T no_load going = pin_turn b c format before (Playing Pinning i) h U opened was is e o x h' H T i refl
 turned b c format before (Reserving true) h U opened was is e o x h' H T no_load going = reserve_turn b c format before (Reserving true) h U opened was is e o x h' H T refl
 turned b c format before (Answering reply) h U opened was is e o x h' H T no_load going = absurd (false≢true (sym (ap is_some going)))

@@ -20,11 +20,11 @@ use Rattle.lz_board.specs.declared.view.What.TheVariants.{Played}
 use Rattle.lz_board.specs.declared.view.Sizes.{Sizes}
 use Rattle.lz_board.specs.declared.view.Note.{Note}
 use Rattle.lz_board.specs.declared.view.Part.{Part}
-use Rattle.lz_board.specs.Notes.{note_by, shape_of, IsShared}
+use Rattle.lz_board.specs.Notes.{note_by, shape_of_sizes, IsShared}
 use Rattle.lz_board.specs.Addresses.{index}
 use Rattle.lz_board.specs.Plays.{loading, IsShownTo}
 use Rattle.lz_board.specs.Seats.{BoardId}
-use Rattle.lz_tie.specs.Holds.{HasCall, Holds, Turned}
+use Rattle.lz_tie.specs.Holds.{HasCall, HoldNotes, Turned}
 use Rattle.lz_tie.specs.UnderWay.{UnderWay}
 use Rattle.lz_tie.proofs.Calls.CallLoad.{loaded}
 use Rattle.lz_tie.proofs.Calls.CallTurn.{turned}
@@ -39,21 +39,21 @@ module _ (b : BoardId) (c : Command) (format : Format) (before : Part) (k : Call
   has_call = record {
     next = U.call.next;
     at = U.call.at ∙ ap (λ (q : Command). Some (q, k.progress)) (sym on.0);
-    pass = subst (λ (q : Command). HasPass h.sizes.passes (event_at (shape_of h.sizes) q k.progress)) (sym on.0) U.call.pass;
+    pass = subst (λ (q : Command). HasPass h.sizes.passes (event_at (shape_of_sizes h.sizes) q k.progress)) (sym on.0) U.call.pass;
   }
 
   -- how many slots there are plays no part in it
   same_shape : shaped 0 h.sizes.buckets h.sizes.passes ≡ shape_with k
   same_shape = λ i. shaped 0 ((ap (λ (z : Sizes). z.buckets) U.sizes ∙ sym on.1) i) ((ap (λ (z : Sizes). z.passes) U.sizes ∙ sym on.2) i)
 
-  next_is : (o : Outcome) → progress_after (shape_of h.sizes) c k.progress o ≡ progress_after (shape_with k) k.command k.progress o
+  next_is : (o : Outcome) → progress_after (shape_of_sizes h.sizes) c k.progress o ≡ progress_after (shape_with k) k.command k.progress o
   next_is o = same_follows h.sizes.slots 0 h.sizes.buckets h.sizes.passes c k.progress o ∙ (λ i. progress_after (same_shape i) (sym on.0 i) k.progress o)
 
-  pub event_is : event_at (shape_of h.sizes) c k.progress ≡ event_at (shape_with k) k.command k.progress
+  pub event_is : event_at (shape_of_sizes h.sizes) c k.progress ≡ event_at (shape_with k) k.command k.progress
   event_is = same_event h.sizes.slots 0 h.sizes.buckets h.sizes.passes c k.progress ∙ (λ i. event_at (same_shape i) (sym on.0 i) k.progress)
 
   -- after it has taken the outcome of a turn, or the value of a load
-  pub caller_turned : (opened : Trace) (was is : List Note) (e : Event) (o : Outcome) (x : Option Publishing) (h' : Part) → Holds opened was is (note_by h.number (Played e o) x) h h' → Turned opened was h k.command k.progress e o x → hop_of e ≡ None → reply_at k.progress ≡ None
+  pub caller_turned : (opened : Trace) (was is : List Note) (e : Event) (o : Outcome) (x : Option Publishing) (h' : Part) → HoldNotes opened was is (note_by h.number (Played e o) x) h h' → Turned opened was h k.command k.progress e o x → hop_of e ≡ None → reply_at k.progress ≡ None
       → UnderWay b c format before (progress_after (shape_with k) k.command k.progress o) h'
   caller_turned opened was is e o x h' H T no_load going =
       subst (λ (at : Progress). UnderWay b c format before at h') (next_is o)

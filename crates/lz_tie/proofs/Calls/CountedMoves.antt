@@ -42,7 +42,7 @@ use Rattle.lz_board.specs.declared.view.Sizes.{Sizes}
 use Rattle.lz_board.specs.declared.view.Note.{Note}
 use Rattle.lz_board.specs.declared.view.Part.{Part}
 use Rattle.lz_board.specs.Addresses.{index, IsWalkable}
-use Rattle.lz_board.specs.Notes.{Extends, note_by, pin_after, shape_of, IsShared}
+use Rattle.lz_board.specs.Notes.{Extends, note_by, pin_after, shape_of_sizes, IsShared}
 use Rattle.lz_board.specs.Plays.{loading, IsShownTo}
 use Rattle.lz_board.specs.Seats.{BoardId}
 use Rattle.lz_board.specs.Walkers.{Walked}
@@ -51,9 +51,9 @@ use Rattle.lz_tie.specs.declared.playing.Turn.{Turn}
 use Rattle.lz_tie.specs.Answers.{Answers}
 use Rattle.lz_tie.specs.OneCaller.{keys_in, IsPlainAnswer}
 use Rattle.lz_tie.specs.NotedRuns.{seen_event}
-use Rattle.lz_tie.specs.Holds.{Holds, Turned, IsIdle, begins_with}
-use Rattle.lz_tie.specs.Held.{IsNext, MayAsk, Advanced, WentOn, Gave}
-use Rattle.lz_tie.specs.Marks.{Shows, number_of}
+use Rattle.lz_tie.specs.Holds.{HoldNotes, Turned, IsIdle, begins_with}
+use Rattle.lz_tie.specs.Held.{IsNextOf, MayAsk, Advanced, WentOn, Gave}
+use Rattle.lz_tie.specs.Marks.{Shows, last_call_number}
 use Rattle.lz_tie.specs.UnderWay.{UnderWay}
 use Rattle.lz_tie.specs.Counting.{OnWalk, Counts}
 use Rattle.lz_tie.proofs.Calls.CallOpening.{called}
@@ -68,7 +68,7 @@ begun_walk z c P0 Q true = tt
 begun_walk z c P0 Q false = tt
 
 pub counted_new : (b : BoardId) (c : Command) (format : Format) (before : Part) (opened : Trace) (was is : List Note) (after : Part) → before.sizes ≡ b.sizes → IsIdle b.sizes before → Extends before.known b.opened
-    → Holds opened was is (note_by before.number (Called c format) None) before after → (o : Outcome) → o ≡ begins_with format c
+    → HoldNotes opened was is (note_by before.number (Called c format) None) before after → (o : Outcome) → o ≡ begins_with format c
     → (buckets passes : ℕ) → buckets ≡ b.sizes.buckets → passes ≡ b.sizes.passes → (k : Calling) → k ≡ record { command = c; buckets = buckets; passes = passes; progress = begun_after o } → Counts b c format before k after
 counted_new b c format before opened was is after sized idle from H o is_o buckets passes same_buckets same_passes k is_k =
     let at : begun format c ≡ k.progress = begins (is_old format c) ∙ ap begun_after (sym is_o) ∙ ap (λ (q : Calling). q.progress) (sym is_k) in
@@ -111,11 +111,11 @@ goes_on_with shape c (Checking aim curr) = refl
 goes_on_with shape c (Answering reply) = refl
 
 -- so a pass may ask for it, and a hold goes on with its call
-next_asks : (z : Sizes) (h : Part) (k : Calling) (e : Event) → IsNext h k e → is_invoke e ≡ false → MayAsk z h e
+next_asks : (z : Sizes) (h : Part) (k : Calling) (e : Event) → IsNextOf h k e → is_invoke e ≡ false → MayAsk z h e
 next_asks z h k (Invoke c) next other = absurd (false≢true (sym other))
 next_asks z h k e next other = (k, next)
 
-next_gave : (b : BoardId) (F : Format) (was is : List Note) (t : Turn) (h h' : Part) (k : Calling) (e : Event) → IsNext h k e → is_invoke e ≡ false → Gave b F was is t h h' e → WentOn b was is k t h h'
+next_gave : (b : BoardId) (F : Format) (was is : List Note) (t : Turn) (h h' : Part) (k : Calling) (e : Event) → IsNextOf h k e → is_invoke e ≡ false → Gave b F was is t h h' e → WentOn b was is k t h h'
 next_gave b F was is t h h' k (Invoke c) next other gave = absurd (false≢true (sym other))
 next_gave b F was is t h h' k e next other gave = gave k next
 
@@ -215,10 +215,10 @@ module _ (b : BoardId) (c : Command) (format : Format) (before : Part) (k : Call
   on_board : IsCallerOn b c k
   on_board = (C.command, C.buckets, C.passes)
 
-  event_here : event_at (shape_of h.sizes) k.command k.progress ≡ event_at (shape_with k) k.command k.progress
-  event_here = (λ i. event_at (shape_of h.sizes) (C.command i) k.progress) ∙ event_is b c format before k on_board h C.under
+  event_here : event_at (shape_of_sizes h.sizes) k.command k.progress ≡ event_at (shape_with k) k.command k.progress
+  event_here = (λ i. event_at (shape_of_sizes h.sizes) (C.command i) k.progress) ∙ event_is b c format before k on_board h C.under
 
-  pub is_next : (e : Event) → e ≡ event_at (shape_with k) k.command k.progress → hop_of (event_at (shape_with k) k.command k.progress) ≡ None → IsNext h k e
+  pub is_next : (e : Event) → e ≡ event_at (shape_with k) k.command k.progress → hop_of (event_at (shape_with k) k.command k.progress) ≡ None → IsNextOf h k e
   is_next e is no_load = record { call = has_call b c format before k on_board h C.under; event = is ∙ sym event_here; load = ap hop_of is ∙ no_load }
 
   no_invoke : (e : Event) → e ≡ event_at (shape_with k) k.command k.progress → is_invoke e ≡ false
@@ -241,15 +241,15 @@ module _ (b : BoardId) (c : Command) (format : Format) (before : Part) (k : Call
         walk = next_walk b.sizes walkable (shape_with k) k.command h'.begun h'.known k.progress t.outcome no_load;
       })
 
-  pub no_end_shows : (was is : List Note) (t : Turn) (h' : Part) → WentOn b was is k t h h' → reply_at k.progress ≡ None → Shows (shape_of b.sizes) was is []
-  no_end_shows was is t h' went going = subst (λ (r : Option Reply). Shows (shape_of b.sizes) was is (mark_of_turn (number_of h.number was) r)) going went.shows
+  pub no_end_shows : (was is : List Note) (t : Turn) (h' : Part) → WentOn b was is k t h h' → reply_at k.progress ≡ None → Shows (shape_of_sizes b.sizes) was is []
+  no_end_shows was is t h' went going = subst (λ (r : Option Reply). Shows (shape_of_sizes b.sizes) was is (mark_of_turn (last_call_number h.number was) r)) going went.shows
 
   -- its last hold
   module _ (reply : Reply) (answering : k.progress ≡ Answering reply) where
     answers_next : Answer ≡ event_at (shape_with k) k.command k.progress
     answers_next = ap (event_at (shape_with k) k.command) (sym answering)
 
-    pub next_answer : IsNext h k Answer
+    pub next_answer : IsNextOf h k Answer
     next_answer = is_next Answer answers_next (ap hop_of (sym answers_next))
 
     under_now : UnderWay b c format before (Answering reply) h
@@ -259,15 +259,15 @@ module _ (b : BoardId) (c : Command) (format : Format) (before : Part) (k : Call
       abbrev A : Advanced b was is k t h h'
       A = went.advanced
 
-      pub end_shows : Shows (shape_of b.sizes) was is (mark_of (number_of h.number was) reply ∷ [])
-      end_shows = subst (λ (at : Progress). Shows (shape_of b.sizes) was is (mark_of_turn (number_of h.number was) (reply_at at))) answering went.shows
+      pub end_shows : Shows (shape_of_sizes b.sizes) was is (mark_of (last_call_number h.number was) reply ∷ [])
+      end_shows = subst (λ (at : Progress). Shows (shape_of_sizes b.sizes) was is (mark_of_turn (last_call_number h.number was) (reply_at at))) answering went.shows
 
       -- the event that was played is the Answer
       event_now : A.event ≡ Answer
       event_now = A.turn.event ∙ ap (seen_event (λ q. pin_after q A.found)) (event_here ∙ sym answers_next)
 
-      holds_now : Holds b.opened A.found is (note_by h.number (Played Answer t.outcome) t.published) h h'
-      holds_now = subst (λ (e : Event). Holds b.opened A.found is (note_by h.number (Played e t.outcome) t.published) h h') event_now A.holds
+      holds_now : HoldNotes b.opened A.found is (note_by h.number (Played Answer t.outcome) t.published) h h'
+      holds_now = subst (λ (e : Event). HoldNotes b.opened A.found is (note_by h.number (Played e t.outcome) t.published) h h') event_now A.holds
 
       turned_now : Turned b.opened A.found h c (Answering reply) Answer t.outcome t.published
       turned_now = subst (λ (q : Command × Progress × Event). Turned b.opened A.found h q.0 q.1 q.2 t.outcome t.published) (λ i. (C.command i, answering i, event_now i)) A.turned

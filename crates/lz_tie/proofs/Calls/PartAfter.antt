@@ -25,24 +25,24 @@ use Rattle.lz_board.specs.declared.view.What.TheVariants.{Called, Played}
 use Rattle.lz_board.specs.declared.view.Note.{Note}
 use Rattle.lz_board.specs.declared.view.Load.{Load}
 use Rattle.lz_board.specs.declared.view.Part.{Part}
-use Rattle.lz_board.specs.Notes.{note_by, listed, own, is_for, trace_of, load_note, place, placed, goes_on, shape_of}
+use Rattle.lz_board.specs.Notes.{note_by, as_list, own, is_for, trace_of, load_note, place, placed, unless_replied, shape_of_sizes}
 use Rattle.lz_board.specs.Glances.{Changes}
 use Rattle.lz_board.specs.Seats.{BoardId}
 use Rattle.lz_board.proofs.Upkeep.Growth.{begins_of}
 use Rattle.lz_board.proofs.Upkeep.Splice.{trace_splice}
 use Rattle.lz_tie.specs.Answers.{IsWithin, AreWithin}
-use Rattle.lz_tie.specs.Holds.{HasCall, Holds}
+use Rattle.lz_tie.specs.Holds.{HasCall, HoldNotes}
 use Rattle.lz_tie.specs.NotedRuns.{AreNext}
 use Rattle.lz_tie.specs.UnderWay.{IsLate, OwnAt, FoundFull, UnderWay}
 
 -- it has seen all that was published, and last what the hold published
-pub known_after : (opened : Trace) (was is : List Note) (n : Note) (h h' : Part) → Holds opened was is n h h' → h'.known ≡ listed n.published ++ trace_of opened was
-known_after opened was is n h h' H = H.known ∙ ap (trace_of opened) H.notes ∙ ap (λ (l : Trace). listed n.published ++ l) (trace_splice opened h.number h.loads was)
+pub known_after : (opened : Trace) (was is : List Note) (n : Note) (h h' : Part) → HoldNotes opened was is n h h' → h'.known ≡ as_list n.published ++ trace_of opened was
+known_after opened was is n h h' H = H.known ∙ ap (trace_of opened) H.notes ∙ ap (λ (l : Trace). as_list n.published ++ l) (trace_splice opened h.number h.loads was)
 
 -- a hold adds what it published to what was published for the pass
-pub changes_after : (opened : Trace) (was is : List Note) (n : Note) (h h' : Part) (P changed : Trace) → Holds opened was is n h h' → Changes h.number P h.known changed → Changes h.number P h'.known (own h.number (listed n.published) ++ changed)
+pub changes_after : (opened : Trace) (was is : List Note) (n : Note) (h h' : Part) (P changed : Trace) → HoldNotes opened was is n h h' → Changes h.number P h.known changed → Changes h.number P h'.known (own h.number (as_list n.published) ++ changed)
 changes_after opened was is n h h' P changed H C =
-    let new = listed n.published in
+    let new = as_list n.published in
     let more = H.since.0 in
     record {
       since = new ++ (more ++ C.since);
@@ -55,7 +55,7 @@ changes_after opened was is n h h' P changed H C =
     }
 
 -- a pass that is inside went in since then
-pub begins_after : (opened : Trace) (was is : List Note) (n : Note) (h h' : Part) (P : Trace) → Holds opened was is n h h' → Begins P h'.known → (IsInside h.pin → Begins P h.begun) → IsInside h'.pin → Begins P h'.begun
+pub begins_after : (opened : Trace) (was is : List Note) (n : Note) (h h' : Part) (P : Trace) → HoldNotes opened was is n h h' → Begins P h'.known → (IsInside h.pin → Begins P h.begun) → IsInside h'.pin → Begins P h'.begun
 begins_after opened was is n h h' P H now before inside = ⊎_elim
     (λ (same : h'.pin ≡ h.pin). subst (Begins P) (sym (H.begun ∙ ap (λ (t : Bool). if t then h.begun else h'.known) (eq-eqb h'.pin h.pin same))) (before (subst IsInside same inside)))
     (λ (away : h'.pin ≢ h.pin). subst (Begins P) (sym (H.begun ∙ ap (λ (t : Bool). if t then h.begun else h'.known) (ne_eqb h'.pin h.pin away))) now)
@@ -70,9 +70,9 @@ loads_within p [] ns are = are
 loads_within p (g ∷ hs) ns are = (tt, loads_within p hs ns are)
 
 module _ (b : BoardId) (c : Command) (format : Format) (before : Part) (at : Progress) (h : Part) (U : UnderWay b c format before at h) (opened : Trace) (was is : List Note) (e : Event) (o : Outcome) (x : Option Publishing) (h' : Part)
-    (H : Holds opened was is (note_by h.number (Played e o) x) h h') where
+    (H : HoldNotes opened was is (note_by h.number (Played e o) x) h h') where
   abbrev next : Progress
-  next = progress_after (shape_of h.sizes) c at o
+  next = progress_after (shape_of_sizes h.sizes) c at o
 
   -- its noted steps since the call was made
   abbrev pub steps_since : List Note
@@ -84,17 +84,17 @@ module _ (b : BoardId) (c : Command) (format : Format) (before : Part) (at : Pro
       ∙ sym (append_assoc (note_by h.number (Played e o) x ∷ map (load_note h.number) h.loads) U.within (note_by h.number (Called c format) None ∷ before.steps))
       ∙ ap (λ (p : ℕ). steps_since ++ (note_by p (Called c format) None ∷ before.steps)) (sym H.number)
 
-  call_is : reply_at at ≡ None → HasPass h.sizes.passes (event_at (shape_of h.sizes) c next) → HasCall h' record { command = c; buckets = b.sizes.buckets; passes = b.sizes.passes; progress = next }
+  call_is : reply_at at ≡ None → HasPass h.sizes.passes (event_at (shape_of_sizes h.sizes) c next) → HasCall h' record { command = c; buckets = b.sizes.buckets; passes = b.sizes.passes; progress = next }
   call_is going pass = record {
-    next = subst (λ (l : List Load). AreNext (shape_of h'.sizes) h'.number l h'.steps) (sym H.no_loads) tt;
+    next = subst (λ (l : List Load). AreNext (shape_of_sizes h'.sizes) h'.number l h'.steps) (sym H.no_loads) tt;
     at =
-        ap (λ (q : Sizes × List Load × List Note). place (shape_of q.0) (map (load_note h'.number) q.1 ++ q.2)) (λ i. (H.sizes i, H.no_loads i, H.steps i))
-        ∙ ap (placed (shape_of h.sizes) (Played e o)) U.call.at ∙ ap (λ (r : Option Reply). goes_on r c next) going;
-    pass = subst (λ (s : Sizes). HasPass s.passes (event_at (shape_of s) c next)) (sym H.sizes) pass;
+        ap (λ (q : Sizes × List Load × List Note). place (shape_of_sizes q.0) (map (load_note h'.number) q.1 ++ q.2)) (λ i. (H.sizes i, H.no_loads i, H.steps i))
+        ∙ ap (placed (shape_of_sizes h.sizes) (Played e o)) U.call.at ∙ ap (λ (r : Option Reply). unless_replied r c next) going;
+    pass = subst (λ (s : Sizes). HasPass s.passes (event_at (shape_of_sizes s) c next)) (sym H.sizes) pass;
   }
 
   -- The call is under way where it has come to by its event.
-  pub goes : reply_at at ≡ None → IsWithin (Played e o) → HasPass h.sizes.passes (event_at (shape_of h.sizes) c next) → h'.pin % 2 ≡ side_of (is_before_pin next) → OwnAt h.number c next (own h.number (listed x) ++ U.own)
+  pub goes : reply_at at ≡ None → IsWithin (Played e o) → HasPass h.sizes.passes (event_at (shape_of_sizes h.sizes) c next) → h'.pin % 2 ≡ side_of (is_before_pin next) → OwnAt h.number c next (own h.number (as_list x) ++ U.own)
       → (halt_word before.known ≡ 1 → IsLate next) → (next ≡ Answering OldFile → is_old format c ≡ true) → ((counts : Counts) → next ≡ Answering (Full counts) → FoundFull b.sizes.slots b.sizes.passes counts steps_since h'.known)
       → UnderWay b c format before next h'
   goes going inside pass side is_own late old full =
@@ -107,11 +107,11 @@ module _ (b : BoardId) (c : Command) (format : Format) (before : Part) (at : Pro
         only = (inside, loads_within h.number h.loads U.within U.only);
         call = call_is going pass;
         side = side;
-        own = own h.number (listed x) ++ U.own;
-        changes = subst (λ (p : ℕ). Changes p before.known h'.known (own h.number (listed x) ++ U.own)) (sym H.number) C;
-        is_own = subst (λ (p : ℕ). OwnAt p c next (own h.number (listed x) ++ U.own)) (sym H.number) is_own;
+        own = own h.number (as_list x) ++ U.own;
+        changes = subst (λ (p : ℕ). Changes p before.known h'.known (own h.number (as_list x) ++ U.own)) (sym H.number) C;
+        is_own = subst (λ (p : ℕ). OwnAt p c next (own h.number (as_list x) ++ U.own)) (sym H.number) is_own;
         opened = U.opened;
-        since = begins_after opened was is (note_by h.number (Played e o) x) h h' before.known H (begins_changed h.number before.known h'.known (own h.number (listed x) ++ U.own) C) U.since;
+        since = begins_after opened was is (note_by h.number (Played e o) x) h h' before.known H (begins_changed h.number before.known h'.known (own h.number (as_list x) ++ U.own) C) U.since;
         late = late;
         old = old;
         full = full;

@@ -25,7 +25,7 @@ use Rattle.lz_board.specs.Noting.{KeepsPin, MovesPin}
 use Rattle.lz_board.specs.Plays.{noted, noted_part, moved_part}
 use Rattle.lz_board.specs.Seats.{BoardId}
 use Rattle.lz_tie.specs.declared.playing.Turn.{Turn}
-use Rattle.lz_tie.specs.Holds.{InHold, IsTurn, MayTurn, Turned, Holds, begins_with, what_of}
+use Rattle.lz_tie.specs.Holds.{InHold, IsTurn, MayTurn, Turned, HoldNotes, begins_with, what_of}
 use Rattle.lz_tie.proofs.Hold.NotedStep as step
 use Rattle.lz_tie.proofs.Hold.NotedStep.{NotedStep}
 use Rattle.lz_tie.proofs.Hold.PlayedCall as call
@@ -93,10 +93,10 @@ module _ (b : BoardId) (ns : List Note) (y : Yard) (dev : Device) (h : Part) (ho
     -- the notes and the part after it
     module _ (ns' : List Note) (h' : Part) (notes : ns' ≡ noted b.opened ns h (note_by p what x)) where
       abbrev After : List Note → Part → Type 0
-      After r q = InHold b r z' dev' q × Holds b.opened ns r n h q
+      After r q = InHold b r z' dev' q × HoldNotes b.opened ns r n h q
 
-      as_told : (r : List Note) (q : Part) → Holds b.opened ns r (note_by p what x) h q → Holds b.opened ns r n h q
-      as_told r q H = subst (λ (m : Note). Holds b.opened ns r m h q) (λ i. note_by (number i) (same_what i) x) H
+      as_told : (r : List Note) (q : Part) → HoldNotes b.opened ns r (note_by p what x) h q → HoldNotes b.opened ns r n h q
+      as_told r q H = subst (λ (m : Note). HoldNotes b.opened ns r m h q) (λ i. note_by (number i) (same_what i) x) H
 
       pub after_note : h' ≡ noted_part b.opened ns (note_by p what x) h → KeepsPin h (note_by p what x) → After ns' h'
       after_note part keeps = subst (λ (q : List Note × Part). After q.0 q.1) (λ i. (sym notes i, sym part i))

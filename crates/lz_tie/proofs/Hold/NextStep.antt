@@ -33,7 +33,7 @@ use Rattle.lz_board.specs.declared.view.What.TheVariants.{Played}
 use Rattle.lz_board.specs.declared.view.Note.{Note}
 use Rattle.lz_board.specs.declared.view.Load.{Load}
 use Rattle.lz_board.specs.declared.view.Part.{Part}
-use Rattle.lz_board.specs.Notes.{listed, trace_of, steps_of, load_note, splice, Quiet, InOrder, AllShown, place, pin_after, shape_of, turned_at}
+use Rattle.lz_board.specs.Notes.{as_list, trace_of, steps_of, load_note, splice, Quiet, InOrder, AllShown, place, pin_after, shape_of_sizes, turned_at}
 use Rattle.lz_board.proofs.Upkeep.Splice.{steps_splice, pin_splice, trace_splice, turned_splice}
 use Rattle.lz_tie.specs.NotedRuns.{TellsTurn, TellsFault, TellsStep, TellsOf, ReadsAs, viewed, AreNext, SameButAllPins, IsTied, seen_event}
 use Rattle.lz_tie.specs.Holds.{Turned}
@@ -231,7 +231,7 @@ module _ (opened : Trace) (ns : List Note) (y : Yard) (dev : Device) (t : IsTied
 
     -- and what it plays is a step of the run
     module _ (none : hop_of e ≡ None) (o : Outcome) (z' : Yard) (told : Told) (dev' : Device) (played : PlayedOver z a e o z' told dev dev')
-        (n : Note) (by : n.by ≡ a) (what : n.what ≡ Played e o) (done : o ≢ Fault → listed n.published ≡ line_publishes z a e) (failed : o ≡ Fault → n.published ≡ None) where
+        (n : Note) (by : n.by ≡ a) (what : n.what ≡ Played e o) (done : o ≢ Fault → as_list n.published ≡ line_publishes z a e) (failed : o ≡ Fault → n.published ≡ None) where
       pa : PlaysAlike z s a e
       pa = plays_alike z s a e same none
 
@@ -242,7 +242,7 @@ module _ (opened : Trace) (ns : List Note) (y : Yard) (dev : Device) (t : IsTied
       noted = n ∷ splice opened a hs ns
 
       -- what it gave, in a state that is reached
-      pub turned : shape_of h.sizes ≡ y.shape → pin_after a ns ≡ h.pin → (IsInside h.pin → h.begun ≡ turned_at a opened ns) → Turned opened ns h command at e o n.published
+      pub turned : shape_of_sizes h.sizes ≡ y.shape → pin_after a ns ≡ h.pin → (IsInside h.pin → h.begun ≡ turned_at a opened ns) → Turned opened ns h command at e o n.published
       turned sized pinned began = record {
         start = t.start;
         service = pl.service;
@@ -270,7 +270,7 @@ module _ (opened : Trace) (ns : List Note) (y : Yard) (dev : Device) (t : IsTied
       goes_on : o ≢ Fault → IsTied opened noted z' dev'.honest dev'.medium
       goes_on ok =
           let d = played.done ok in
-          let tells : TellsTurn pl.service a (Some call.caller) n = subst (λ q. (n.what ≡ Played q (line s a q).1) × (listed n.published ≡ line_publishes s a q)) (sym event_is)
+          let tells : TellsTurn pl.service a (Some call.caller) n = subst (λ q. (n.what ≡ Played q (line s a q).1) × (as_list n.published ≡ line_publishes s a q)) (sym event_is)
           (what ∙ ap (Played e) (d.answer ∙ pa.outcome), done ok ∙ pa.published) in
           let told : TellsStep (Up pl.service pl.disk) n (Turn a) = (by, subst (λ q. TellsTurn pl.service a q n) (sym call.is) tells) in
           let may : MayStep (Up pl.service pl.disk) (Turn a) = subst (HasTurn pl.service a) (sym call.is) (never_late t.start pl.service pl.disk (run p spl.all).marks (run p spl.all).trace a call.caller reached call.is) in

@@ -27,7 +27,7 @@ use Rattle.lz_machine.proofs.Theorem.WornPass.{up_at}
 use Rattle.lz_board.specs.declared.view.Sizes.{Sizes}
 use Rattle.lz_board.specs.declared.view.Note.{Note}
 use Rattle.lz_board.specs.declared.view.Load.{Load}
-use Rattle.lz_board.specs.Notes.{listed, trace_of, splice, IsShared}
+use Rattle.lz_board.specs.Notes.{as_list, trace_of, splice, IsShared}
 use Rattle.lz_board.specs.Noting.{Writes}
 use Rattle.lz_board.proofs.Upkeep.Splice.{trace_splice}
 use Rattle.lz_tie.specs.NotedRuns.{SameButAllPins, IsTied}
@@ -37,11 +37,11 @@ use Rattle.lz_tie.proofs.Splicing.LoadInsertion.{words_shown}
 use Rattle.lz_tie.proofs.Hold.OneWord.{IsWalked}
 
 -- what was told of a publishing, as a list
-pub listed_is : (x : Option Publishing) → listed x ≡ option_to_list x
+pub listed_is : (x : Option Publishing) → as_list x ≡ option_to_list x
 listed_is None = refl
 listed_is (Some x) = refl
 
-pub listed_none : (x : Option Publishing) → listed x ≡ [] → x ≡ None
+pub listed_none : (x : Option Publishing) → as_list x ≡ [] → x ≡ None
 listed_none None is = refl
 listed_none (Some x) is = absurd (false≢true (sym (ap is_cons is)))
   where
@@ -147,10 +147,10 @@ noting_writes opened ns y y' honest honest' disk disk' a hs n t t' shape w share
     before : (v : Word) → IsShared (sizes_of y.shape) v → get y.words v ≡ word_after y.shape.buckets P v
     before v h = tied_words opened ns y honest disk t v h
 
-    grown : trace_of opened (n ∷ splice opened a hs ns) ≡ listed n.published ++ P
-    grown = ap (λ l. listed n.published ++ l) (trace_splice opened a hs ns)
+    grown : trace_of opened (n ∷ splice opened a hs ns) ≡ as_list n.published ++ P
+    grown = ap (λ l. as_list n.published ++ l) (trace_splice opened a hs ns)
 
-    after : (v : Word) → IsShared (sizes_of y.shape) v → get y'.words v ≡ word_after y.shape.buckets (listed n.published ++ P) v
+    after : (v : Word) → IsShared (sizes_of y.shape) v → get y'.words v ≡ word_after y.shape.buckets (as_list n.published ++ P) v
     after v h = tied_words opened (n ∷ splice opened a hs ns) y' honest' disk' t' v (subst (λ s. IsShared (sizes_of s) v) (sym shape) h)
         ∙ ap (λ (x : Shape × Trace). word_after x.0.buckets x.1 v) (λ i. (shape i, grown i))
 
@@ -168,10 +168,10 @@ noting_nothing opened ns y y' honest honest' disk disk' a hs n m t t' shape othe
     P : Trace
     P = trace_of opened ns
 
-    grown : trace_of opened (n ∷ splice opened a hs ns) ≡ listed n.published ++ P
-    grown = ap (λ l. listed n.published ++ l) (trace_splice opened a hs ns)
+    grown : trace_of opened (n ∷ splice opened a hs ns) ≡ as_list n.published ++ P
+    grown = ap (λ l. as_list n.published ++ l) (trace_splice opened a hs ns)
 
-    same : (v : Word) → IsShared (sizes_of y.shape) v → word_after y.shape.buckets (listed n.published ++ P) v ≡ word_after y.shape.buckets P v
+    same : (v : Word) → IsShared (sizes_of y.shape) v → word_after y.shape.buckets (as_list n.published ++ P) v ≡ word_after y.shape.buckets P v
     same v h =
         ap (λ (x : Shape × Trace). word_after x.0.buckets x.1 v) (λ i. (sym shape i, sym grown i))
         ∙ sym (tied_words opened (n ∷ splice opened a hs ns) y' honest' disk' t' v (subst (λ s. IsShared (sizes_of s) v) (sym shape) h))
@@ -185,6 +185,6 @@ noting_nothing opened ns y y' honest honest' disk disk' a hs n m t t' shape othe
 
 -- and what was noted could be published
 pub noting_lawful : (opened : Trace) (ns : List Note) (y' : Yard) (honest : Bool) (disk : Medium) (a : ℕ) (hs : List Load) (n : Note)
-    → IsTied opened (n ∷ splice opened a hs ns) y' honest disk → Lawful y'.shape.buckets y'.shape.slots (listed n.published ++ trace_of opened ns)
+    → IsTied opened (n ∷ splice opened a hs ns) y' honest disk → Lawful y'.shape.buckets y'.shape.slots (as_list n.published ++ trace_of opened ns)
 noting_lawful opened ns y' honest disk a hs n t =
-    subst (Lawful y'.shape.buckets y'.shape.slots) (ap (λ l. listed n.published ++ l) (trace_splice opened a hs ns)) (tied_lawful opened (n ∷ splice opened a hs ns) y' honest disk t)
+    subst (Lawful y'.shape.buckets y'.shape.slots) (ap (λ l. as_list n.published ++ l) (trace_splice opened a hs ns)) (tied_lawful opened (n ∷ splice opened a hs ns) y' honest disk t)

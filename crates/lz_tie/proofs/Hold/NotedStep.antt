@@ -15,7 +15,7 @@ use Rattle.lz_board.specs.Plays.{noted, noted_part, moved_part}
 use Rattle.lz_board.specs.Seats.{BoardId}
 use Rattle.lz_board.proofs.Upkeep.PartUpkeep.{trace_noted, knows_noted, knows_moved, told_own}
 use Rattle.lz_tie.specs.declared.playing.Exchange.{Exchange}
-use Rattle.lz_tie.specs.Holds.{IsLocked, InHold, IsExchange, Holds}
+use Rattle.lz_tie.specs.Holds.{IsLocked, InHold, IsExchange, HoldNotes}
 
 -- The step may be noted with its exchange, and the lock keeps its invariant with the note.
 pub record NotedStep (b : BoardId) (ns : List Note) (h : Part) (z' : Yard) (told : Told) (dev' : Device) (n : Note) : Type 0 where
@@ -38,7 +38,7 @@ module _ (b : BoardId) (ns : List Note) (y : Yard) (dev : Device) (h : Part) (ho
       told = told_own b.sizes b.opened ns h n hold.knows s.may h.pin keeps hold.told.worn;
     }
 
-    pub holds_noted : Holds b.opened ns (noted b.opened ns h n) n h (noted_part b.opened ns n h)
+    pub holds_noted : HoldNotes b.opened ns (noted b.opened ns h n) n h (noted_part b.opened ns n h)
     holds_noted = record {
       notes = refl;
       sizes = refl;
@@ -62,7 +62,7 @@ module _ (b : BoardId) (ns : List Note) (y : Yard) (dev : Device) (h : Part) (ho
       told = told_own b.sizes b.opened ns h n hold.knows s.may (suc h.pin) moves.0 worn;
     }
 
-    pub holds_moved : Holds b.opened ns (noted b.opened ns h n) n h (moved_part b.opened ns n h)
+    pub holds_moved : HoldNotes b.opened ns (noted b.opened ns h n) n h (moved_part b.opened ns n h)
     holds_moved = record {
       notes = refl;
       sizes = refl;

@@ -24,15 +24,15 @@ use Rattle.lz_board.specs.declared.view.What.TheVariants.{Called, Played}
 use Rattle.lz_board.specs.declared.view.Note.{Note}
 use Rattle.lz_board.specs.declared.view.Part.{Part}
 use Rattle.lz_board.specs.Kept.{Knows}
-use Rattle.lz_board.specs.Notes.{Since, note_by, pin_after, shape_of, trace_of}
+use Rattle.lz_board.specs.Notes.{Since, note_by, pin_after, shape_of_sizes, trace_of}
 use Rattle.lz_board.specs.Plays.{found_note, knowing}
 use Rattle.lz_board.specs.Seats.{BoardId, IsPenOf, notes}
 use Rattle.lz_tie.specs.declared.playing.Turn.{Turn}
-use Rattle.lz_tie.specs.Held.{Began, Gave, Held, IsNext, MayAsk, WentOn, found_for}
-use Rattle.lz_tie.specs.Holds.{Holds, InHold, IsIdle, IsLocked, IsTurn, MayTurn, Turned, begins_with, what_of}
+use Rattle.lz_tie.specs.Held.{Began, Gave, Held, IsNextOf, MayAsk, WentOn, found_for}
+use Rattle.lz_tie.specs.Holds.{HoldNotes, InHold, IsIdle, IsLocked, IsTurn, MayTurn, Turned, begins_with, what_of}
 use Rattle.lz_tie.specs.Lives.{KeepsLife, LivesOn}
-use Rattle.lz_tie.specs.Marks.{number_of}
-use Rattle.lz_tie.specs.Moments.{GoesOn, LeftSince}
+use Rattle.lz_tie.specs.Marks.{last_call_number}
+use Rattle.lz_tie.specs.Moments.{MomentsGoOn, LeftSince}
 use Rattle.lz_tie.specs.NotedRuns.{seen_event}
 use Rattle.lz_tie.specs.OnePass.{OnlyOwn}
 use Rattle.lz_tie.proofs.Hold.Joining.{joined_turn, seen_turned}
@@ -46,17 +46,17 @@ use Rattle.lz_tie.proofs.Reading.OnePass.{alone_trace, opened_known, own_trace}
 pub record Stepped (b : BoardId) (F : Format) (ns is : List Note) (y y' : Yard) (dev dev' : Device) (e : Event) (t : Turn) (h h' : Part) : Type 0 where
   pub found : List Note
   pub comes : ComesTo b ns found
-  pub on : GoesOn b found is dev dev'
+  pub on : MomentsGoOn b found is dev dev'
   pub locked : IsLocked b is y' dev'
   pub life : KeepsLife y dev y' dev'
   pub device : t.outcome ≡ Fault → dev.faults < dev'.faults
   pub gave : Gave b F ns is t h h' e
 
 -- of what a hold notes only one thing rests on what the pass has seen
-before_join : (opened : Trace) (found is : List Note) (n : Note) (h hj h' : Part) (seen : Trace) → hj ≡ knowing seen h → Since h.number (trace_of opened found) h.known → Holds opened found is n hj h' → Holds opened found is n h h'
-before_join opened found is n h hj h' seen part since H = go (subst (λ (q : Part). Holds opened found is n q h') part H)
+before_join : (opened : Trace) (found is : List Note) (n : Note) (h hj h' : Part) (seen : Trace) → hj ≡ knowing seen h → Since h.number (trace_of opened found) h.known → HoldNotes opened found is n hj h' → HoldNotes opened found is n h h'
+before_join opened found is n h hj h' seen part since H = go (subst (λ (q : Part). HoldNotes opened found is n q h') part H)
   where
-    go : Holds opened found is n (knowing seen h) h' → Holds opened found is n h h'
+    go : HoldNotes opened found is n (knowing seen h) h' → HoldNotes opened found is n h h'
     go k = record { notes = k.notes; sizes = k.sizes; number = k.number; steps = k.steps; no_loads = k.no_loads; known = k.known; since = since; pin = k.pin; begun = k.begun; lawful = k.lawful; kept = k.kept }
 
 no_fault : (F : Format) (c : Command) → begins_with F c ≡ Fault → ⊥
@@ -70,14 +70,14 @@ no_fault F c = go (is_old F c)
 pub asks_call : (z : Sizes) (h : Part) (e : Event) (c : Command) → e ≡ Invoke c → MayAsk z h e → IsIdle z h × (key_of c ≤ largest_key)
 asks_call z h e c is = subst (MayAsk z h) is
 
-pub asks_look : (z : Sizes) (h : Part) (e : Event) (q o : ℕ) → e ≡ SeePin q o → MayAsk z h e → (c : Calling) × IsNext h c (SeePin q o)
+pub asks_look : (z : Sizes) (h : Part) (e : Event) (q o : ℕ) → e ≡ SeePin q o → MayAsk z h e → (c : Calling) × IsNextOf h c (SeePin q o)
 asks_look z h e q o is = subst (MayAsk z h) is
 
-pub asks_other : (z : Sizes) (h : Part) (e : Event) → ((c : Command) → e ≢ Invoke c) → MayAsk z h e → (c : Calling) × IsNext h c e
+pub asks_other : (z : Sizes) (h : Part) (e : Event) → ((c : Command) → e ≢ Invoke c) → MayAsk z h e → (c : Calling) × IsNextOf h c e
 asks_other z h (Invoke c) away asks = absurd (away c refl)
 asks_other z h e away asks = asks
 
-pub other_turn : (ns : List Note) (h : Part) (e : Event) → ((q o : ℕ) → e ≢ SeePin q o) → (c : Calling) → IsNext h c e → IsTurn ns h c e
+pub other_turn : (ns : List Note) (h : Part) (e : Event) → ((q o : ℕ) → e ≢ SeePin q o) → (c : Calling) → IsNextOf h c e → IsTurn ns h c e
 other_turn ns h (SeePin q o) away c next = absurd (away q o refl)
 other_turn ns h e away c next = record { call = next.call; event = ap (seen_event (λ q. pin_after q ns)) next.event; load = next.load; found = tt }
 
@@ -94,13 +94,13 @@ found_other : (e : Event) → ((q o : ℕ) → e ≢ SeePin q o) → (found ns :
 found_other (SeePin q o) away found ns is = absurd (away q o refl)
 found_other e away found ns is = is
 
-other_gave : (b : BoardId) (F : Format) (ns is : List Note) (t : Turn) (h h' : Part) (e : Event) → ((c : Command) → e ≢ Invoke c) → ((k : Calling) → IsNext h k e → WentOn b ns is k t h h') → Gave b F ns is t h h' e
+other_gave : (b : BoardId) (F : Format) (ns is : List Note) (t : Turn) (h h' : Part) (e : Event) → ((c : Command) → e ≢ Invoke c) → ((k : Calling) → IsNextOf h k e → WentOn b ns is k t h h') → Gave b F ns is t h h' e
 other_gave b F ns is t h h' (Invoke c) away went = absurd (away c refl)
 other_gave b F ns is t h h' e away went = went
 
 module _ (b : BoardId) (F : Format) (ns found is : List Note) (y y' : Yard) (dev dev' : Device) (h hj h' : Part) (seen : Trace)
     (locked : IsLocked b ns y dev) (knows : Knows b.sizes b.opened ns h) (comes : ComesTo b ns found) (joint : InHold b found y dev hj) (part : hj ≡ knowing seen h)
-    (hold : InHold b is y' dev' h') (on : GoesOn b found is dev dev') (life : KeepsLife y dev y' dev') where
+    (hold : InHold b is y' dev' h') (on : MomentsGoOn b found is dev dev') (life : KeepsLife y dev y' dev') where
   since : Since h.number (trace_of b.opened found) h.known
   since = subst (λ (P : Trace). Since h.number P h.known) (sym comes.trace) knows.since
 
@@ -108,12 +108,12 @@ module _ (b : BoardId) (F : Format) (ns found is : List Note) (y y' : Yard) (dev
   same_number = ap (λ (q : Part). q.number) part
 
   -- the next event of a call, on the notes in which its pin word was found
-  went : (e' e : Event) (t : Turn) → found ≡ found_for e ns → ((c : Calling) → IsNext h c e' → IsTurn found h c e) → Holds b.opened found is (note_by hj.number (Played e t.outcome) t.published) hj h'
-      → ((c : Calling) → IsTurn found hj c e → Turned b.opened found hj c.command c.progress e t.outcome t.published) → (k : Calling) → IsNext h k e' → WentOn b ns is k t h h'
+  went : (e' e : Event) (t : Turn) → found ≡ found_for e ns → ((c : Calling) → IsNextOf h c e' → IsTurn found h c e) → HoldNotes b.opened found is (note_by hj.number (Played e t.outcome) t.published) hj h'
+      → ((c : Calling) → IsTurn found hj c e → Turned b.opened found hj c.command c.progress e t.outcome t.published) → (k : Calling) → IsNextOf h k e' → WentOn b ns is k t h h'
   went e' e t on turns H gave k next =
       let turn = turns k next in
       let turn_j = joined_turn found found h hj seen k e turn refl part in
-      let H' = subst (λ (p : ℕ). Holds b.opened found is (note_by p (Played e t.outcome) t.published) hj h') same_number H in
+      let H' = subst (λ (p : ℕ). HoldNotes b.opened found is (note_by p (Played e t.outcome) t.published) hj h') same_number H in
       record {
         advanced = record {
           event = e;
@@ -126,21 +126,21 @@ module _ (b : BoardId) (F : Format) (ns found is : List Note) (y y' : Yard) (dev
           own = λ one. subst (OnlyOwn h.number b.opened) (sym comes.trace) (own_trace b ns y dev h locked knows one);
         };
         shows = turn_shows b found is hj h' joint.knows k e t.outcome t.published turn_j.call H
-            ∙ (λ i. mark_of_turn ((ap (λ p. number_of p found) same_number ∙ comes.number h.number) i) (reply_at k.progress) ++ comes.marks (shape_of b.sizes) i);
+            ∙ (λ i. mark_of_turn ((ap (λ p. last_call_number p found) same_number ∙ comes.number h.number) i) (reply_at k.progress) ++ comes.marks (shape_of_sizes b.sizes) i);
       }
 
   began : (c : Command) (t : Turn) → t ≡ record { outcome = begins_with y.vault.format c; published = None } → y.vault.format ≡ F → h.loads ≡ [] → found ≡ found_note h.number h.pin ∷ ns
-      → Holds b.opened found is (note_by hj.number (Called c y.vault.format) t.published) hj h' → Began b F ns is c t h h'
+      → HoldNotes b.opened found is (note_by hj.number (Called c y.vault.format) t.published) hj h' → Began b F ns is c t h h'
   began c t gave format none at told =
-      let H = subst (λ (x : Option Publishing). Holds b.opened found is (note_by hj.number (Called c y.vault.format) x) hj h') (ap (λ (q : Turn). q.published) gave) told in
+      let H = subst (λ (x : Option Publishing). HoldNotes b.opened found is (note_by hj.number (Called c y.vault.format) x) hj h') (ap (λ (q : Turn). q.published) gave) told in
       let outcome : t.outcome ≡ begins_with F c = ap (λ (q : Turn). q.outcome) gave ∙ ap (λ (q : Format). begins_with q c) format in
-      let H' = subst (λ (q : ℕ × Format). Holds b.opened found is (note_by q.0 (Called c q.1) None) hj h') (λ i. (same_number i, format i)) H in
+      let H' = subst (λ (q : ℕ × Format). HoldNotes b.opened found is (note_by q.0 (Called c q.1) None) hj h') (λ i. (same_number i, format i)) H in
       let H'' = before_join b.opened found is (note_by h.number (Called c F) None) h hj h' seen part since H' in
       record {
         outcome = outcome;
         shows = call_shows b found is hj h' joint.knows c y.vault.format (ap (λ (q : Part). q.loads) part ∙ none) H
-            ∙ (λ i. Call (suc (comes.calls i)) (same_number i) c ∷ comes.marks (shape_of b.sizes) i);
-        holds = subst (λ (r : List Note). Holds b.opened r is (note_by h.number (Called c F) None) h h') at H'';
+            ∙ (λ i. Call (suc (comes.calls i)) (same_number i) c ∷ comes.marks (shape_of_sizes b.sizes) i);
+        holds = subst (λ (r : List Note). HoldNotes b.opened r is (note_by h.number (Called c F) None) h h') at H'';
         opened = opened_known b ns h knows;
       }
 
@@ -152,20 +152,20 @@ module _ (b : BoardId) (F : Format) (ns found is : List Note) (y y' : Yard) (dev
 
   -- a call's first hold
   pub stepped_call : (e : Event) (c : Command) → e ≡ Invoke c → (t : Turn) → t ≡ record { outcome = begins_with y.vault.format c; published = None } → y.vault.format ≡ F → h.loads ≡ []
-      → (mid : List Note) (q v : ℕ) → mid ≡ ns → found ≡ found_note q v ∷ mid → h.number ≡ q → h.pin ≡ v → Holds b.opened found is (note_by hj.number (Called c y.vault.format) t.published) hj h' → After e t
+      → (mid : List Note) (q v : ℕ) → mid ≡ ns → found ≡ found_note q v ∷ mid → h.number ≡ q → h.pin ≡ v → HoldNotes b.opened found is (note_by hj.number (Called c y.vault.format) t.published) hj h' → After e t
   stepped_call e c event t gave format none mid q v same at number pin H = subst (λ (x : Event). After x t) (sym event)
       (stepped (Invoke c) t (λ fault. absurd (no_fault y.vault.format c (ap (λ (x : Turn). x.outcome) (sym gave) ∙ fault))) (began c t gave format none (at ∙ (λ i. found_note (sym number i) (sym pin i) ∷ same i)) H))
 
   -- one of an event that looks at a pin word, and one of any other
-  pub stepped_look : (e : Event) (q o v : ℕ) → e ≡ SeePin q o → (t : Turn) → (t.outcome ≡ Fault → dev.faults < dev'.faults) → (mid : List Note) → mid ≡ ns → found ≡ found_note q v ∷ mid → Holds b.opened found is (note_by hj.number (Played (SeePin q v) t.outcome) t.published) hj h'
+  pub stepped_look : (e : Event) (q o v : ℕ) → e ≡ SeePin q o → (t : Turn) → (t.outcome ≡ Fault → dev.faults < dev'.faults) → (mid : List Note) → mid ≡ ns → found ≡ found_note q v ∷ mid → HoldNotes b.opened found is (note_by hj.number (Played (SeePin q v) t.outcome) t.published) hj h'
       → ((c : Calling) → IsTurn found hj c (SeePin q v) → Turned b.opened found hj c.command c.progress (SeePin q v) t.outcome t.published) → After e t
   stepped_look e q o v event t device mid same at H gave = subst (λ (x : Event). After x t) (sym event)
       (stepped (SeePin q o) t device (went (SeePin q o) (SeePin q v) t (at ∙ ap (λ r. found_note q v ∷ r) same) (λ c next. found_turn mid found h c q o v next at) H gave))
 
-  pub stepped_other : (e : Event) → ((c : Command) → e ≢ Invoke c) → ((q o : ℕ) → e ≢ SeePin q o) → (t : Turn) → (t.outcome ≡ Fault → dev.faults < dev'.faults) → found ≡ ns → Holds b.opened found is (note_by hj.number (what_of y.vault.format e t.outcome) t.published) hj h'
+  pub stepped_other : (e : Event) → ((c : Command) → e ≢ Invoke c) → ((q o : ℕ) → e ≢ SeePin q o) → (t : Turn) → (t.outcome ≡ Fault → dev.faults < dev'.faults) → found ≡ ns → HoldNotes b.opened found is (note_by hj.number (what_of y.vault.format e t.outcome) t.published) hj h'
       → ((c : Calling) → IsTurn found hj c e → Turned b.opened found hj c.command c.progress e t.outcome t.published) → After e t
   stepped_other e no_call no_look t device same told gave =
-      let H = subst (λ (w : What). Holds b.opened found is (note_by hj.number w t.published) hj h') (other_what y.vault.format e t.outcome no_call) told in
+      let H = subst (λ (w : What). HoldNotes b.opened found is (note_by hj.number w t.published) hj h') (other_what y.vault.format e t.outcome no_call) told in
       stepped e t device (other_gave b F ns is t h h' e no_call (went e e t (found_other e no_look found ns same) (other_turn found h e no_look) H gave))
 
 -- Cut off: what the lock keeps, and what the hold promises.

@@ -16,7 +16,7 @@ use Rattle.lz_board.specs.Seats.{BoardId}
 use Rattle.lz_board.proofs.Upkeep.Splice.{other_step}
 use Rattle.lz_board.proofs.Upkeep.PartUpkeep.{knows_found}
 use Rattle.lz_tie.specs.NotedRuns.{seen_event}
-use Rattle.lz_tie.specs.Held.{IsNext}
+use Rattle.lz_tie.specs.Held.{IsNextOf}
 use Rattle.lz_tie.specs.Holds.{IsLocked, InHold, IsTurn}
 use Rattle.lz_tie.proofs.Reuse.EventUpkeep.{silent_told}
 use Rattle.lz_tie.proofs.Hold.CallStart.{found_tied}
@@ -55,7 +55,7 @@ pub found : (b : BoardId) (ns ns' : List Note) (y : Yard) (dev : Device) (h h' :
 found b ns ns' y dev h h' hold q v range told own notes part = subst (λ (x : List Note × Part). InHold b x.0 y dev x.1) (λ i. (sym notes i, sym part i)) (found_hold b ns y dev h hold q v range.0 range.1 told own)
 
 -- and a look at that word is the next event of a call that looks at it
-pub found_turn : (ns ns' : List Note) (h : Part) (c : Calling) (q o v : ℕ) → IsNext h c (SeePin q o) → ns' ≡ found_note q v ∷ ns → IsTurn ns' h c (SeePin q v)
+pub found_turn : (ns ns' : List Note) (h : Part) (c : Calling) (q o v : ℕ) → IsNextOf h c (SeePin q o) → ns' ≡ found_note q v ∷ ns → IsTurn ns' h c (SeePin q v)
 found_turn ns ns' h c q o v next notes = subst (λ (x : List Note). IsTurn x h c (SeePin q v)) (sym notes) record {
   call = next.call;
   event = ap (SeePin q) (sym (ap (λ b. if b then v else pin_after q ns) (eq-eqb q q refl))) ∙ ap (seen_event (λ r. pin_after r (found_note q v ∷ ns))) next.event;
@@ -64,7 +64,7 @@ found_turn ns ns' h c q o v next notes = subst (λ (x : List Note). IsTurn x h c
 }
 
 -- the pass that is looked at is one of the board's
-pub seen_range : (h : Part) (c : Calling) (q v : ℕ) → IsNext h c (SeePin q v) → (1 ≤ q) × (q ≤ h.sizes.passes)
+pub seen_range : (h : Part) (c : Calling) (q v : ℕ) → IsNextOf h c (SeePin q v) → (1 ≤ q) × (q ≤ h.sizes.passes)
 seen_range h c q v next = subst (HasPass h.sizes.passes) (sym next.event) next.call.pass
 
 -- the pass's own pin word, once it was found, is the notes'

@@ -33,7 +33,7 @@ use Rattle.lz_board.specs.declared.view.Sizes.{Sizes}
 use Rattle.lz_board.specs.declared.view.What.TheVariants.{Played}
 use Rattle.lz_board.specs.declared.view.Note.{Note}
 use Rattle.lz_board.specs.declared.view.Part.{Part}
-use Rattle.lz_board.specs.Notes.{note_by, listed, own, trace_of, steps_of, load_note, splice, AllShown, place, pin_after, pin_after_what, pin_after_played, shape_of}
+use Rattle.lz_board.specs.Notes.{note_by, as_list, own, trace_of, steps_of, load_note, splice, AllShown, place, pin_after, pin_after_what, pin_after_played, shape_of_sizes}
 use Rattle.lz_board.specs.Kept.{is_calling, shows_played}
 use Rattle.lz_board.specs.Noting.{Sighting, MayNote, MayPrepare, KeepsPin, MovesPin, Writes}
 use Rattle.lz_board.specs.Plays.{noted, found_note}
@@ -61,11 +61,11 @@ module _ (b : BoardId) (ns : List Note) (y : Yard) (dev : Device) (h : Part) (ho
   abbrev z : Yard
   z = with_words y (set y.words (pin_at a) h.pin)
 
-  shape_is : shape_of h.sizes ≡ y.shape
-  shape_is = ap shape_of (hold.knows.sized ∙ hold.locked.sizes)
+  shape_is : shape_of_sizes h.sizes ≡ y.shape
+  shape_is = ap shape_of_sizes (hold.knows.sized ∙ hold.locked.sizes)
 
   calling : is_calling b.sizes h.steps ≡ true
-  calling = subst (λ (s : Sizes). is_calling s h.steps ≡ true) hold.knows.sized (still_calling (shape_of h.sizes) h.number h.loads h.steps (ap is_some turn.call.at))
+  calling = subst (λ (s : Sizes). is_calling s h.steps ≡ true) hold.knows.sized (still_calling (shape_of_sizes h.sizes) h.number h.loads h.steps (ap is_some turn.call.at))
 
   pin_now : pin_after a ns ≡ h.pin
   pin_now = hold.told.calling (subst (λ l. is_calling b.sizes l ≡ true) (sym hold.knows.noted) calling)
@@ -113,7 +113,7 @@ module _ (b : BoardId) (ns : List Note) (y : Yard) (dev : Device) (h : Part) (ho
     abbrev n : Note
     n = note_by a (Played e o) told.published
 
-    done : o ≢ Fault → listed told.published ≡ line_publishes z a e
+    done : o ≢ Fault → as_list told.published ≡ line_publishes z a e
     done ok = listed_is told.published ∙ (played.done ok).published
 
     failed : o ≡ Fault → told.published ≡ None
@@ -168,7 +168,7 @@ module _ (b : BoardId) (ns : List Note) (y : Yard) (dev : Device) (h : Part) (ho
           (there.trace ∙ sym (ap (trace_of b.opened) f.1) ∙ sym (same_trace none))
         where
           same_trace : told.published ≡ None → trace_of b.opened (noted b.opened ns h n) ≡ trace_of b.opened ns
-          same_trace none = ap (λ l. listed l ++ trace_of b.opened (splice b.opened a h.loads ns)) none ∙ trace_splice b.opened a h.loads ns
+          same_trace none = ap (λ l. as_list l ++ trace_of b.opened (splice b.opened a h.loads ns)) none ∙ trace_splice b.opened a h.loads ns
       by_reuse Answer same reuses none =
           let high = in_range.1 in
           let passes = ap (λ (s : Sizes). s.passes) hold.locked.sizes in
@@ -183,14 +183,14 @@ module _ (b : BoardId) (ns : List Note) (y : Yard) (dev : Device) (h : Part) (ho
           let value = ap (λ t. if t then pin_after_played e o (pin_after a rest) else pin_after a rest) (eq-eqb a a refl)
           ∙ (λ i. pin_after_played e ((played.done ok).answer i) ((pin_splice b.opened a a h.loads ns ∙ pin_now ∙ sym pin_same) i))
           ∙ sym (own_pin z a in_range.0 (omega (arith, high, counted)) e).own ∙ (λ i. pin_of (line_on (plays_it i) z (actor_at z a) a (same i)).0 a) ∙ answered_pin z (actor_at z a) a in_range.0 (omega (arith, high, counted)) in
-          answered_told b.sizes b.opened a h.loads ns n z hold.locked.reuse none was_loose a (pin_answered (actor_at z a) (pin_of z a)) in_range.0 (omega (arith, high, passes)) x value (sym (ap (λ l. listed l ++ trace_of b.opened rest) none)) refl refl
+          answered_told b.sizes b.opened a h.loads ns n z hold.locked.reuse none was_loose a (pin_answered (actor_at z a) (pin_of z a)) in_range.0 (omega (arith, high, passes)) x value (sym (ap (λ l. as_list l ++ trace_of b.opened rest) none)) refl refl
       by_reuse e' same reuses none = absurd (false≢true reuses)
 
       now_is : z' ≡ yard_done z (actor_at z a) a e
       now_is = (played.done ok).yard ∙ ap (λ (k : Course). (line_on k z (actor_at z a) a e).0) plays_it
 
-      as_board : (s : ℕ) → IsLoose z'.shape.buckets s (trace_of b.opened (noted b.opened ns h n)) → IsLoose b.sizes.buckets s (listed told.published ++ trace_of b.opened ns)
-      as_board s loose = subst (λ (q : Sizes × Trace). IsLoose q.0.buckets s q.1) (λ i. ((ap sizes_of shape ∙ sym hold.locked.sizes) i, ap (λ l. listed told.published ++ l) (trace_splice b.opened a h.loads ns) i)) loose
+      as_board : (s : ℕ) → IsLoose z'.shape.buckets s (trace_of b.opened (noted b.opened ns h n)) → IsLoose b.sizes.buckets s (as_list told.published ++ trace_of b.opened ns)
+      as_board s loose = subst (λ (q : Sizes × Trace). IsLoose q.0.buckets s q.1) (λ i. ((ap sizes_of shape ∙ sym hold.locked.sizes) i, ap (λ l. as_list told.published ++ l) (trace_splice b.opened a h.loads ns) i)) loose
 
       played_reuse : ReuseTold b.sizes b.opened (noted b.opened ns h n) (uses_after z (actor_at z a) a e) (actors_after z (actor_at z a) a e)
       played_reuse = go (is_reusing e) refl
@@ -221,12 +221,12 @@ module _ (b : BoardId) (ns : List Note) (y : Yard) (dev : Device) (h : Part) (ho
     locked : IsLocked b (noted b.opened ns h n) z' dev'
     locked = record { sizes = hold.locked.sizes ∙ ap sizes_of (sym shape); pins = pins_counted ∙ ap (λ (s : Shape). s.passes) (sym shape); tied = tied; reuse = reuse }
 
-    lawful : Lawful b.sizes.buckets b.sizes.slots (listed told.published ++ trace_of b.opened ns)
-    lawful = subst (λ (s : Sizes). Lawful s.buckets s.slots (listed told.published ++ trace_of b.opened ns)) (ap sizes_of shape ∙ sym hold.locked.sizes) (noting_lawful b.opened ns z' dev'.honest dev'.medium a h.loads n tied)
+    lawful : Lawful b.sizes.buckets b.sizes.slots (as_list told.published ++ trace_of b.opened ns)
+    lawful = subst (λ (s : Sizes). Lawful s.buckets s.slots (as_list told.published ++ trace_of b.opened ns)) (ap sizes_of shape ∙ sym hold.locked.sizes) (noting_lawful b.opened ns z' dev'.honest dev'.medium a h.loads n tied)
 
-    made : (q : ℕ) → q ≢ a → own q (listed told.published) ≡ []
+    made : (q : ℕ) → q ≢ a → own q (as_list told.published) ≡ []
     made q away = ⊎_elim
-        (λ bad. ap (λ x. own q (listed x)) (failed bad))
+        (λ bad. ap (λ x. own q (as_list x)) (failed bad))
         (λ ok. ap (own q) (done ok) ∙ line_own z a q e away)
         (fault_or_not o)
 

@@ -16,7 +16,7 @@ use Rattle.lz_machine.specs.Table.{course, needs, published_on, publishes, settl
 use Rattle.lz_machine.proofs.Theorem.Readiness.{plays_needs}
 use Rattle.lz_board.specs.declared.view.Sizes.{Sizes}
 use Rattle.lz_board.specs.declared.view.Note.{Note}
-use Rattle.lz_board.specs.Notes.{listed}
+use Rattle.lz_board.specs.Notes.{as_list}
 use Rattle.lz_board.specs.Noting.{AllLeft, MayPrepare}
 
 -- the slot that is prepared
@@ -61,7 +61,7 @@ prepared_hand y a e s is = on (course y a e) refl is
     on Plays at is = go e (plays_needs y a e at) is
 
 -- a slot that each pass has left may be prepared
-pub prepares_left : (z : Sizes) (opened : Trace) (ns : List Note) (x : Option Publishing) → ((s : ℕ) → prepared (listed x) ≡ Some s → AllLeft z opened ns s) → MayPrepare z opened ns x
+pub prepares_left : (z : Sizes) (opened : Trace) (ns : List Note) (x : Option Publishing) → ((s : ℕ) → prepared (as_list x) ≡ Some s → AllLeft z opened ns s) → MayPrepare z opened ns x
 prepares_left z opened ns None left = tt
 prepares_left z opened ns (Some (key_prepared s v)) left = left s refl
 prepares_left z opened ns (Some (link_prepared s v)) left = left s refl

@@ -19,13 +19,13 @@ use Rattle.lz_board.specs.declared.view.Note.{Note}
 use Rattle.lz_board.specs.declared.view.Load.{Load}
 use Rattle.lz_board.specs.declared.view.Part.{Part}
 use Rattle.lz_board.specs.declared.view.Sizes.{Sizes}
-use Rattle.lz_board.specs.Notes.{steps_of, note_by, load_note, insert, splice, Quiet, InOrder, place, shape_of}
+use Rattle.lz_board.specs.Notes.{steps_of, note_by, load_note, insert_load, splice, Quiet, InOrder, place, shape_of_sizes}
 use Rattle.lz_board.specs.Kept.{Knows}
 use Rattle.lz_board.specs.Seats.{BoardId}
 use Rattle.lz_board.proofs.Upkeep.Splice.{at_place, other_step, steps_insert_other, steps_splice, quiet_splice}
 use Rattle.lz_tie.specs.NotedRuns.{AreNext, IsHopAt}
-use Rattle.lz_tie.specs.Holds.{HasCall, Holds}
-use Rattle.lz_tie.specs.Marks.{calls_with, calls_in, number_with, number_of, reply_in, marks_with, marks_in, Shows}
+use Rattle.lz_tie.specs.Holds.{HasCall, HoldNotes}
+use Rattle.lz_tie.specs.Marks.{calls_with, calls_in, number_with, last_call_number, reply_in, marks_with, marks_in, Shows}
 
 -- a call that loads next isn't about to reply
 load_replies : (shape : Shape) (h : Load) (at : Option (Command × Progress)) → IsHopAt shape h at → reply_in at ≡ None
@@ -34,25 +34,25 @@ load_replies shape h (Some (c, Answering reply)) is = absurd cc
 load_replies shape h (Some (c, at)) is = refl
 
 module _ (opened : Trace) (shape : Shape) (p : ℕ) where
-  calls_insert : (h : Load) (ns : List Note) → calls_in (insert opened p h ns) ≡ calls_in ns
+  calls_insert : (h : Load) (ns : List Note) → calls_in (insert_load opened p h ns) ≡ calls_in ns
   calls_insert h [] = refl
   calls_insert h (x ∷ xs) = at_place opened (λ r. calls_in r ≡ calls_in (x ∷ xs)) p h x xs (λ _. ap (calls_with x.what) (calls_insert h xs)) (λ _. refl)
 
-  number_insert : (q : ℕ) (h : Load) (ns : List Note) → number_of q (insert opened p h ns) ≡ number_of q ns
+  number_insert : (q : ℕ) (h : Load) (ns : List Note) → last_call_number q (insert_load opened p h ns) ≡ last_call_number q ns
   number_insert q h [] = refl
-  number_insert q h (x ∷ xs) = at_place opened (λ r. number_of q r ≡ number_of q (x ∷ xs)) p h x xs
+  number_insert q h (x ∷ xs) = at_place opened (λ r. last_call_number q r ≡ last_call_number q (x ∷ xs)) p h x xs
       (λ _ i. number_with q x.by x.what (calls_insert h xs i) (number_insert q h xs i)) (λ _. refl)
 
   -- another pass's step shows the same behind the load
-  with_insert : (by : ℕ) (what : What) (h : Load) (ns : List Note) → p ≢ by → marks_with shape by what (insert opened p h ns) ≡ marks_with shape by what ns
+  with_insert : (by : ℕ) (what : What) (h : Load) (ns : List Note) → p ≢ by → marks_with shape by what (insert_load opened p h ns) ≡ marks_with shape by what ns
   with_insert by (Called c format) h ns other = ap (λ k. Call (suc k) by c ∷ []) (calls_insert h ns)
   with_insert by (Played e o) h ns other = λ i. mark_of_turn (number_insert by h ns i) (reply_in (place shape (steps_insert_other opened by p h ns other i)))
   with_insert by (Found q v) h ns other = refl
 
   shows_no_load : (h : Load) (ns : List Note) → IsHopAt shape h (place shape (steps_of p ns)) → marks_in shape (load_note p h ∷ ns) ≡ marks_in shape ns
-  shows_no_load h ns next = ap (λ r. mark_of_turn (number_of p ns) r ++ marks_in shape ns) (load_replies shape h (place shape (steps_of p ns)) next)
+  shows_no_load h ns next = ap (λ r. mark_of_turn (last_call_number p ns) r ++ marks_in shape ns) (load_replies shape h (place shape (steps_of p ns)) next)
 
-  marks_insert : (h : Load) (ns : List Note) → Quiet opened p h.at ns → IsHopAt shape h (place shape (steps_of p ns)) → marks_in shape (insert opened p h ns) ≡ marks_in shape ns
+  marks_insert : (h : Load) (ns : List Note) → Quiet opened p h.at ns → IsHopAt shape h (place shape (steps_of p ns)) → marks_in shape (insert_load opened p h ns) ≡ marks_in shape ns
   marks_insert h [] quiet next = absurd next
   marks_insert h (x ∷ xs) quiet next = at_place opened (λ r. marks_in shape r ≡ marks_in shape (x ∷ xs)) p h x xs
       (λ over.
@@ -66,7 +66,7 @@ module _ (opened : Trace) (shape : Shape) (p : ℕ) where
   calls_splice [] ns = refl
   calls_splice (h ∷ hs) ns = calls_insert h (splice opened p hs ns) ∙ calls_splice hs ns
 
-  pub number_splice : (q : ℕ) (hs : List Load) (ns : List Note) → number_of q (splice opened p hs ns) ≡ number_of q ns
+  pub number_splice : (q : ℕ) (hs : List Load) (ns : List Note) → last_call_number q (splice opened p hs ns) ≡ last_call_number q ns
   number_splice q [] ns = refl
   number_splice q (h ∷ hs) ns = number_insert q h (splice opened p hs ns) ∙ number_splice q hs ns
 
@@ -81,20 +81,20 @@ module _ (opened : Trace) (shape : Shape) (p : ℕ) where
 -- a hold of a pass whose loads come next
 module _ (b : BoardId) (was is : List Note) (h h' : Part) (knows : Knows b.sizes b.opened was h) where
   abbrev shape : Shape
-  shape = shape_of b.sizes
+  shape = shape_of_sizes b.sizes
 
   abbrev spliced : List Note
   spliced = splice b.opened h.number h.loads was
 
   -- it puts the reply that was next before all that was shown
-  pub turn_shows : (c : Calling) (e : Event) (o : Outcome) (x : Option Publishing) → HasCall h c → Holds b.opened was is (note_by h.number (Played e o) x) h h'
-      → Shows shape was is (mark_of_turn (number_of h.number was) (reply_at c.progress))
+  pub turn_shows : (c : Calling) (e : Event) (o : Outcome) (x : Option Publishing) → HasCall h c → HoldNotes b.opened was is (note_by h.number (Played e o) x) h h'
+      → Shows shape was is (mark_of_turn (last_call_number h.number was) (reply_at c.progress))
   turn_shows c e o x call holds =
       ap (marks_in shape) holds.notes
       ∙ (λ i. mark_of_turn (number_splice b.opened shape h.number h.number h.loads was i) (reply_in (at i)) ++ rest i)
     where
       next : AreNext shape h.number h.loads (steps_of h.number was)
-      next = subst (λ (z : Sizes). AreNext (shape_of z) h.number h.loads (steps_of h.number was)) knows.sized (subst (AreNext (shape_of h.sizes) h.number h.loads) (sym knows.noted) call.next)
+      next = subst (λ (z : Sizes). AreNext (shape_of_sizes z) h.number h.loads (steps_of h.number was)) knows.sized (subst (AreNext (shape_of_sizes h.sizes) h.number h.loads) (sym knows.noted) call.next)
 
       rest : marks_in shape spliced ≡ marks_in shape was
       rest = marks_splice b.opened shape h.number h.base (length h.known) h.loads was knows.quiet knows.least knows.order next
@@ -103,10 +103,10 @@ module _ (b : BoardId) (was is : List Note) (h h' : Part) (knows : Knows b.sizes
       at =
           ap (place shape) (steps_splice b.opened h.number h.base (length h.known) h.loads was knows.quiet knows.least knows.order)
           ∙ ap (λ l. place shape (map (load_note h.number) h.loads ++ l)) knows.noted
-          ∙ subst (λ (z : Sizes). place (shape_of z) (map (load_note h.number) h.loads ++ h.steps) ≡ Some (c.command, c.progress)) knows.sized call.at
+          ∙ subst (λ (z : Sizes). place (shape_of_sizes z) (map (load_note h.number) h.loads ++ h.steps) ≡ Some (c.command, c.progress)) knows.sized call.at
 
   -- and the hold that makes a call puts that call there
-  pub call_shows : (c : Command) (format : Format) → h.loads ≡ [] → Holds b.opened was is (note_by h.number (Called c format) None) h h'
+  pub call_shows : (c : Command) (format : Format) → h.loads ≡ [] → HoldNotes b.opened was is (note_by h.number (Called c format) None) h h'
       → Shows shape was is (Call (suc (calls_in was)) h.number c ∷ [])
   call_shows c format none holds =
       ap (marks_in shape) holds.notes

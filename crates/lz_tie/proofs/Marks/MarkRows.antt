@@ -13,7 +13,7 @@ use Rattle.lz_machine.specs.Yards.{Shape}
 use Rattle.lz_board.specs.declared.view.What.TheVariants.{Called, Played, Found}
 use Rattle.lz_board.specs.declared.view.Note.{Note}
 use Rattle.lz_board.specs.Notes.{note_by, load_note, steps_of}
-use Rattle.lz_tie.specs.Marks.{calls_in, number_of, marks_in, Shows, AreOfPasses}
+use Rattle.lz_tie.specs.Marks.{calls_in, last_call_number, marks_in, Shows, AreOfPasses}
 use Rattle.lz_tie.specs.OwnCalls.{AsAnswered, AsRefused, SeenCall, calls_of, told}
 
 abbrev shape : Shape
@@ -56,7 +56,7 @@ not_of_one are = let high = are.2.1 in absurd (omega (arith, high))
 calls_count : calls_in answered ≡ 2
 calls_count = refl
 
-number_is : number_of 2 answered ≡ 1
+number_is : last_call_number 2 answered ≡ 1
 number_is = refl
 
 -- an Answer without a call shows nothing

@@ -12,7 +12,7 @@ use Rattle.lz_board.specs.declared.view.What.{What}
 use Rattle.lz_board.specs.declared.view.What.TheVariants.{Called, Played, Found}
 use Rattle.lz_board.specs.declared.view.Note.{Note}
 use Rattle.lz_board.specs.Notes.{place, steps_of}
-use Rattle.lz_tie.specs.Marks.{calls_in, number_of, reply_in, marks_with, marks_in}
+use Rattle.lz_tie.specs.Marks.{calls_in, last_call_number, reply_in, marks_with, marks_in}
 
 abbrev only_life : Keys → History → List Life
 only_life S M = record { start = S; history = M } ∷ []
@@ -34,7 +34,7 @@ module _ (S : Keys) (M : History) (same : lives S M ≡ only_life S M) where
 
   of_note : (shape : Shape) (p : ℕ) (what : What) (ns : List Note) → lives S (marks_with shape p what ns ++ M) ≡ only_life S (marks_with shape p what ns ++ M)
   of_note shape p (Called c format) ns = ap (with_mark (Call (suc (calls_in ns)) p c)) same
-  of_note shape p (Played e o) ns = of_turn (number_of p ns) (reply_in (place shape (steps_of p ns)))
+  of_note shape p (Played e o) ns = of_turn (last_call_number p ns) (reply_in (place shape (steps_of p ns)))
   of_note shape p (Found q v) ns = same
 
 pub one_life : (shape : Shape) (S : Keys) (ns : List Note) → lives S (marks_in shape ns) ≡ only_life S (marks_in shape ns)

@@ -17,11 +17,11 @@ use Rattle.lz_board.specs.declared.view.What.{What}
 use Rattle.lz_board.specs.declared.view.What.TheVariants.{Called, Played, Found}
 use Rattle.lz_board.specs.declared.view.Note.{Note}
 use Rattle.lz_board.specs.declared.view.Part.{Part}
-use Rattle.lz_board.specs.Notes.{place, shape_of, steps_of}
+use Rattle.lz_board.specs.Notes.{place, shape_of_sizes, steps_of}
 use Rattle.lz_board.specs.Plays.{knowing}
 use Rattle.lz_board.specs.Seats.{BoardId}
 use Rattle.lz_board.proofs.Upkeep.Splice.{own_step, other_step}
-use Rattle.lz_tie.specs.Marks.{calls_with, calls_in, number_with, number_of, reply_in, marks_in}
+use Rattle.lz_tie.specs.Marks.{calls_with, calls_in, number_with, last_call_number, reply_in, marks_in}
 use Rattle.lz_tie.specs.OwnCalls.{Ending, SeenCall, ended, calls_of, replied, told_with, told, ending_of, unnumbered, shown, TellsOwn}
 use Rattle.lz_tie.proofs.Marks.RunMarks.{other_number}
 
@@ -95,15 +95,15 @@ reply_ends p i Halted M = refl
 reply_ends p i Device M = refl
 
 -- no call has a number above the count
-number_within : (p : ℕ) (ns : List Note) → number_of p ns ≤ calls_in ns
+number_within : (p : ℕ) (ns : List Note) → last_call_number p ns ≤ calls_in ns
 number_within p [] = omega arith
 number_within p (n ∷ ns) = go n.what (number_within p ns)
   where
-    of_made : number_of p ns ≤ calls_in ns → (b : Bool) → (if b then suc (calls_in ns) else number_of p ns) ≤ suc (calls_in ns)
+    of_made : last_call_number p ns ≤ calls_in ns → (b : Bool) → (if b then suc (calls_in ns) else last_call_number p ns) ≤ suc (calls_in ns)
     of_made high true = omega arith
     of_made high false = omega (arith, high)
 
-    go : (what : What) → number_of p ns ≤ calls_in ns → number_with p n.by what (calls_in ns) (number_of p ns) ≤ calls_with what (calls_in ns)
+    go : (what : What) → last_call_number p ns ≤ calls_in ns → number_with p n.by what (calls_in ns) (last_call_number p ns) ≤ calls_with what (calls_in ns)
     go (Called c format) high = of_made high (n.by == p)
     go (Played e o) high = high
     go (Found q v) high = high
@@ -114,11 +114,11 @@ module _ (shape : Shape) (p : ℕ) where
 
   -- a number of a call of this pass: no other pass's last call has it
   abbrev IsOwn : List Note → ℕ → Type 0
-  IsOwn ns i = (i ≤ calls_in ns) × ((q : ℕ) → q ≢ p → i ≢ number_of q ns)
+  IsOwn ns i = (i ≤ calls_in ns) × ((q : ℕ) → q ≢ p → i ≢ last_call_number q ns)
 
   record Own (ns : List Note) : Type 0 where
     same : map unnumbered (calls_at ns) ≡ map shown (told shape (steps_of p ns))
-    head : HeadIs (number_of p ns) (calls_at ns)
+    head : HeadIs (last_call_number p ns) (calls_at ns)
     apart : AllNumbers (IsOwn ns) (calls_at ns)
 
   module _ (by : ℕ) (published : Option Publishing) (ns : List Note) (h : Own ns) where
@@ -147,7 +147,7 @@ module _ (shape : Shape) (p : ℕ) where
       still_own : AllNumbers (IsOwn (with_step what)) (calls_at ns)
       still_own = all_numbers (IsOwn ns) (IsOwn (with_step what)) (λ i own. let low = own.0 in (omega (arith, low), λ q away. later q (by == q) i own.0 (own.1 q away))) (calls_at ns) h.apart
         where
-          later : (q : ℕ) (b : Bool) (i : ℕ) → i ≤ calls_in ns → i ≢ number_of q ns → i ≢ (if b then suc (calls_in ns) else number_of q ns)
+          later : (q : ℕ) (b : Bool) (i : ℕ) → i ≤ calls_in ns → i ≢ last_call_number q ns → i ≢ (if b then suc (calls_in ns) else last_call_number q ns)
           later q true i low other same = absurd (omega (arith, low, same))
           later q false i low other same = other same
 
@@ -157,26 +157,26 @@ module _ (shape : Shape) (p : ℕ) where
       own_called : by ≡ p → Own (with_step what)
       own_called is = record {
         same = ap (map unnumbered) grown ∙ ap (λ l. (c, None) ∷ l) h.same ∙ ap (map shown) (sym (own_told what is));
-        head = subst (HeadIs (number_of p (with_step what))) (sym grown) (sym number);
+        head = subst (HeadIs (last_call_number p (with_step what))) (sym grown) (sym number);
         apart = subst (AllNumbers (IsOwn (with_step what))) (sym grown) ((omega arith, fresh), still_own);
       }
         where
           grown : calls_at (with_step what) ≡ new ∷ calls_at ns
           grown = ap (λ b. if b then new ∷ calls_at ns else calls_at ns) (eq-eqb by p is)
 
-          number : number_of p (with_step what) ≡ suc (calls_in ns)
-          number = ap (λ b. if b then suc (calls_in ns) else number_of p ns) (eq-eqb by p is)
+          number : last_call_number p (with_step what) ≡ suc (calls_in ns)
+          number = ap (λ b. if b then suc (calls_in ns) else last_call_number p ns) (eq-eqb by p is)
 
-          fresh : (q : ℕ) → q ≢ p → suc (calls_in ns) ≢ number_of q (with_step what)
+          fresh : (q : ℕ) → q ≢ p → suc (calls_in ns) ≢ last_call_number q (with_step what)
           fresh q away same =
               let high = number_within q ns in
-              let over : suc (calls_in ns) ≡ number_of q ns = same ∙ other_number q (step_note what) ns (λ so. away (sym so ∙ is)) in
+              let over : suc (calls_in ns) ≡ last_call_number q ns = same ∙ other_number q (step_note what) ns (λ so. away (sym so ∙ is)) in
               absurd (omega (arith, high, over))
 
       other_called : by ≢ p → Own (with_step what)
       other_called away = record {
         same = ap (map unnumbered) kept ∙ h.same ∙ ap (map shown) (sym (other_told what away));
-        head = subst (HeadIs (number_of p (with_step what))) (sym kept) (subst (λ i. HeadIs i (calls_at ns)) (sym (other_number p (step_note what) ns away)) h.head);
+        head = subst (HeadIs (last_call_number p (with_step what))) (sym kept) (subst (λ i. HeadIs i (calls_at ns)) (sym (other_number p (step_note what) ns away)) h.head);
         apart = subst (AllNumbers (IsOwn (with_step what))) (sym kept) still_own;
       }
         where
@@ -187,11 +187,11 @@ module _ (shape : Shape) (p : ℕ) where
       called = ⊎_elim own_called other_called (cases_eq by p)
 
     -- a step that ends none of the pass's calls
-    stays : (what : What) → calls_in (with_step what) ≡ calls_in ns → ((q : ℕ) → number_of q (with_step what) ≡ number_of q ns) → calls_at (with_step what) ≡ calls_at ns
+    stays : (what : What) → calls_in (with_step what) ≡ calls_in ns → ((q : ℕ) → last_call_number q (with_step what) ≡ last_call_number q ns) → calls_at (with_step what) ≡ calls_at ns
         → told shape (steps_of p (with_step what)) ≡ told_at → Own (with_step what)
     stays what count number calls own = record {
       same = ap (map unnumbered) calls ∙ h.same ∙ ap (map shown) (sym own);
-      head = subst (HeadIs (number_of p (with_step what))) (sym calls) (subst (λ i. HeadIs i (calls_at ns)) (sym (number p)) h.head);
+      head = subst (HeadIs (last_call_number p (with_step what))) (sym calls) (subst (λ i. HeadIs i (calls_at ns)) (sym (number p)) h.head);
       apart = subst (AllNumbers (IsOwn (with_step what))) (sym calls)
           (all_numbers (IsOwn ns) (IsOwn (with_step what)) (λ i own. (subst (λ k. i ≤ k) (sym count) own.0, λ q away same. own.1 q away (same ∙ number q))) (calls_at ns) h.apart);
     }
@@ -202,7 +202,7 @@ module _ (shape : Shape) (p : ℕ) where
 
       -- an event before the reply
       goes_on : reply_in (place shape (steps_of by ns)) ≡ None → Own (with_step event)
-      goes_on none = stays event refl (λ q. refl) (ap (λ r. calls_of p (mark_of_turn (number_of by ns) r ++ marks_in shape ns)) none)
+      goes_on none = stays event refl (λ q. refl) (ap (λ r. calls_of p (mark_of_turn (last_call_number by ns) r ++ marks_in shape ns)) none)
           (⊎_elim
           (λ (is : by ≡ p). own_told event is ∙ ap (λ r. told_with event r told_at) (ap (λ q. reply_in (place shape (steps_of q ns))) (sym is) ∙ none))
           (other_told event)
@@ -210,22 +210,22 @@ module _ (shape : Shape) (p : ℕ) where
 
       -- and the one that gives it
       module _ (reply : Reply) (some : reply_in (place shape (steps_of by ns)) ≡ Some reply) where
-        ends : calls_at (with_step event) ≡ ended (number_of by ns) (ending_of reply) (calls_at ns)
-        ends = ap (λ r. calls_of p (mark_of_turn (number_of by ns) r ++ marks_in shape ns)) some ∙ reply_ends p (number_of by ns) reply (marks_in shape ns)
+        ends : calls_at (with_step event) ≡ ended (last_call_number by ns) (ending_of reply) (calls_at ns)
+        ends = ap (λ r. calls_of p (mark_of_turn (last_call_number by ns) r ++ marks_in shape ns)) some ∙ reply_ends p (last_call_number by ns) reply (marks_in shape ns)
 
         own_ends : by ≡ p → Own (with_step event)
         own_ends is = record {
           same =
               ap (map unnumbered) ends
-              ∙ hit (number_of by ns) reply (calls_at ns) told_at (subst (λ q. HeadIs (number_of q ns) (calls_at ns)) (sym is) h.head) h.same
+              ∙ hit (last_call_number by ns) reply (calls_at ns) told_at (subst (λ q. HeadIs (last_call_number q ns) (calls_at ns)) (sym is) h.head) h.same
               ∙ ap (map shown) (sym (own_told event is ∙ ap (λ r. told_with event r told_at) (ap (λ q. reply_in (place shape (steps_of q ns))) (sym is) ∙ some)));
-          head = subst (HeadIs (number_of p ns)) (sym ends) (ended_head (number_of by ns) (ending_of reply) (number_of p ns) (calls_at ns) h.head);
-          apart = subst (AllNumbers (IsOwn ns)) (sym ends) (ended_numbers (number_of by ns) (ending_of reply) (IsOwn ns) (calls_at ns) h.apart);
+          head = subst (HeadIs (last_call_number p ns)) (sym ends) (ended_head (last_call_number by ns) (ending_of reply) (last_call_number p ns) (calls_at ns) h.head);
+          apart = subst (AllNumbers (IsOwn ns)) (sym ends) (ended_numbers (last_call_number by ns) (ending_of reply) (IsOwn ns) (calls_at ns) h.apart);
         }
 
         other_ends : by ≢ p → Own (with_step event)
         other_ends away = stays event refl (λ q. refl)
-            (ends ∙ missed (number_of by ns) (ending_of reply) (calls_at ns) (all_numbers (IsOwn ns) (λ j. j ≢ number_of by ns) (λ i own. own.1 by away) (calls_at ns) h.apart))
+            (ends ∙ missed (last_call_number by ns) (ending_of reply) (calls_at ns) (all_numbers (IsOwn ns) (λ j. j ≢ last_call_number by ns) (λ i own. own.1 by away) (calls_at ns) h.apart))
             (other_told event away)
 
       played : (r : Option Reply) → reply_in (place shape (steps_of by ns)) ≡ r → Own (with_step event)
@@ -247,4 +247,4 @@ module _ (shape : Shape) (p : ℕ) where
 
 -- and so those of the steps that the pass has at hand, also once it has seen more
 pub tells_own : (b : BoardId) (ns : List Note) (h h' : Part) (seen : Trace) → steps_of h.number ns ≡ h.steps → h' ≡ knowing seen h → TellsOwn b ns h'
-tells_own b ns h h' seen noted is = subst (TellsOwn b ns) (sym is) (calls_own (shape_of b.sizes) h.number ns ∙ ap (λ l. map shown (told (shape_of b.sizes) l)) noted)
+tells_own b ns h h' seen noted is = subst (TellsOwn b ns) (sym is) (calls_own (shape_of_sizes b.sizes) h.number ns ∙ ap (λ l. map shown (told (shape_of_sizes b.sizes) l)) noted)

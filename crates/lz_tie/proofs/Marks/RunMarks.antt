@@ -12,7 +12,7 @@ use Rattle.lz_machine.specs.declared.event.Event.{Event}
 use Rattle.lz_machine.specs.declared.event.Outcome.{Outcome}
 use Rattle.lz_machine.specs.declared.event.Reply.{Reply}
 use Rattle.lz_machine.specs.declared.caller.Progress.{Progress}
-use Rattle.lz_machine.specs.Runs.{Start, State, Up, Down, Service, Caller, Transition, Calls, Turn, Fails, Looks, Trips, Stops, Crashes, CrashesIn, Opens, OpenFails, Point, run, IsRun, MayStep, HasFault, first_point, caller_at, next_event, state_after, calls_after, marks_of, marks_of_turn, mark_of_turn, reply_at, moved_on, after_turn, after_fault}
+use Rattle.lz_machine.specs.Runs.{Start, State, Up, Down, Service, Caller, Transition, Calls, Turn, Fails, Looks, Trips, Stops, Crashes, CrashesIn, Opens, OpenFails, Point, run, IsRun, MayStep, HasFault, first_point, caller_at, next_event, state_after, calls_made_after, marks_of, marks_of_turn, mark_of_turn, reply_at, moved_on, after_turn, after_fault}
 use Rattle.lz_machine.specs.Table.{line, line_failed}
 use Rattle.lz_machine.specs.Calls.{progress_after}
 use Rattle.lz_machine.specs.Yards.{Shape}
@@ -23,21 +23,21 @@ use Rattle.lz_board.specs.declared.view.What.TheVariants.{Called, Played, Found}
 use Rattle.lz_board.specs.declared.view.Note.{Note}
 use Rattle.lz_board.specs.Notes.{place, steps_of}
 use Rattle.lz_tie.specs.NotedRuns.{TellsTurn, TellsFault, TellsStep, TellsOne, TellsOf, ReadsAs, viewed}
-use Rattle.lz_tie.specs.Marks.{calls_with, calls_in, number_with, number_of, reply_in, marks_with, marks_in}
+use Rattle.lz_tie.specs.Marks.{calls_with, calls_in, number_with, last_call_number, reply_in, marks_with, marks_in}
 use Rattle.lz_tie.proofs.Reading.CallPlaces.{Placed, place_reads, run_before}
 
 -- a step of another pass, or one that begins no call, leaves a pass's number
-pub other_number : (p : ℕ) (n : Note) (ns : List Note) → n.by ≢ p → number_of p (n ∷ ns) ≡ number_of p ns
+pub other_number : (p : ℕ) (n : Note) (ns : List Note) → n.by ≢ p → last_call_number p (n ∷ ns) ≡ last_call_number p ns
 other_number p n ns away = go n.what
   where
-    go : (what : What) → number_with p n.by what (calls_in ns) (number_of p ns) ≡ number_of p ns
-    go (Called c format) = ap (λ b. if b then suc (calls_in ns) else number_of p ns) (ne_eqb n.by p away)
+    go : (what : What) → number_with p n.by what (calls_in ns) (last_call_number p ns) ≡ last_call_number p ns
+    go (Called c format) = ap (λ b. if b then suc (calls_in ns) else last_call_number p ns) (ne_eqb n.by p away)
     go (Played e o) = refl
     go (Found q v) = refl
 
 -- the open calls have the numbers that the notes give them
 abbrev HasNumbers : State → List Note → Type 0
-HasNumbers (Up service disk) ns = (a : ℕ) (caller : Caller) → caller_at service.callers a ≡ Some caller → caller.number ≡ number_of a ns
+HasNumbers (Up service disk) ns = (a : ℕ) (caller : Caller) → caller_at service.callers a ≡ Some caller → caller.number ≡ last_call_number a ns
 HasNumbers (Down shape disk) ns = Unit {0}
 
 -- the run has shown what the notes show
@@ -47,23 +47,23 @@ record Marked (start : Start) (p : Point) (ns : List Note) : Type 0 where
   numbers : HasNumbers p.state ns
 
 -- the numbers after one of the calls has changed
-set_numbers : (callers : List (Option Caller)) (n : Note) (ns : List Note) → ((a : ℕ) (caller : Caller) → caller_at callers a ≡ Some caller → caller.number ≡ number_of a ns)
-    → (b : ℕ) (x : Option Caller) → n.by ≡ b → 1 ≤ b → b ≤ length callers → ((caller : Caller) → x ≡ Some caller → caller.number ≡ number_of b (n ∷ ns))
-    → (a : ℕ) (caller : Caller) → caller_at (set_of_pass callers b x) a ≡ Some caller → caller.number ≡ number_of a (n ∷ ns)
+set_numbers : (callers : List (Option Caller)) (n : Note) (ns : List Note) → ((a : ℕ) (caller : Caller) → caller_at callers a ≡ Some caller → caller.number ≡ last_call_number a ns)
+    → (b : ℕ) (x : Option Caller) → n.by ≡ b → 1 ≤ b → b ≤ length callers → ((caller : Caller) → x ≡ Some caller → caller.number ≡ last_call_number b (n ∷ ns))
+    → (a : ℕ) (caller : Caller) → caller_at (set_of_pass callers b x) a ≡ Some caller → caller.number ≡ last_call_number a (n ∷ ns)
 set_numbers callers n ns numbers b x by low high new a caller at = ⊎_elim
     (λ (same : a ≡ b).
     let there : x ≡ Some caller = sym (of_pass_same callers b x None low high) ∙ ap (caller_at (set_of_pass callers b x)) (sym same) ∙ at in
-    new caller there ∙ ap (λ q. number_of q (n ∷ ns)) (sym same))
+    new caller there ∙ ap (λ q. last_call_number q (n ∷ ns)) (sym same))
     (λ (away : a ≢ b). numbers a caller (sym (of_pass_other callers b a x None away) ∙ at) ∙ sym (other_number a n ns (λ same. away (sym same ∙ by))))
     (cases_eq a b)
 
 -- a step that a note tells
 module _ (start : Start) (service : Service) (disk : Medium) (n : Note) (ns : List Note) (count : length service.callers ≡ service.yard.shape.passes)
     (places : (a : ℕ) → 1 ≤ a → viewed (caller_at service.callers a) ≡ place start.shape (steps_of a ns))
-    (numbers : (a : ℕ) (caller : Caller) → caller_at service.callers a ≡ Some caller → caller.number ≡ number_of a ns) where
+    (numbers : (a : ℕ) (caller : Caller) → caller_at service.callers a ≡ Some caller → caller.number ≡ last_call_number a ns) where
   record Stepped (i : ℕ) (step : Transition) : Type 0 where
     shown : marks_of i (Up service disk) step ≡ marks_with start.shape n.by n.what ns
-    made : calls_after (calls_in ns) step ≡ calls_in (n ∷ ns)
+    made : calls_made_after (calls_in ns) step ≡ calls_in (n ∷ ns)
     now : HasNumbers (state_after i (Up service disk) step) (n ∷ ns)
 
   -- the place of an open call
@@ -75,7 +75,7 @@ module _ (start : Start) (service : Service) (disk : Medium) (n : Note) (ns : Li
       → mark_of_turn caller.number (reply_at caller.progress) ≡ marks_with start.shape n.by n.what ns
   event_shows b caller e o is by what =
       ap (λ i. mark_of_turn i (reply_at caller.progress)) (numbers b caller is)
-      ∙ ap (mark_of_turn (number_of b ns)) (sym (placed_call b caller is))
+      ∙ ap (mark_of_turn (last_call_number b ns)) (sym (placed_call b caller is))
       ∙ ap (λ (x : ℕ × What). marks_with start.shape x.0 x.1 ns) (λ i. (sym by i, sym what i))
 
   event_made : (e : Event) (o : Outcome) → n.what ≡ Played e o → calls_in ns ≡ calls_in (n ∷ ns)
@@ -83,15 +83,15 @@ module _ (start : Start) (service : Service) (disk : Medium) (n : Note) (ns : Li
 
   -- and the numbers after it
   event_open : (b : ℕ) (caller : Caller) (e : Event) (o : Outcome) (reply : Option Reply) (at : Progress) → caller_at service.callers b ≡ Some caller → n.by ≡ b → n.what ≡ Played e o
-      → (a : ℕ) (other : Caller) → caller_at (set_of_pass service.callers b (moved_on reply caller at)) a ≡ Some other → other.number ≡ number_of a (n ∷ ns)
+      → (a : ℕ) (other : Caller) → caller_at (set_of_pass service.callers b (moved_on reply caller at)) a ≡ Some other → other.number ≡ last_call_number a (n ∷ ns)
   event_open b caller e o reply at is by what =
       let range = caller_range service.callers b caller is in
       set_numbers service.callers n ns numbers b (moved_on reply caller at) by range.0 range.1 (new reply)
     where
-      kept : number_of b ns ≡ number_of b (n ∷ ns)
-      kept = ap (λ w. number_with b n.by w (calls_in ns) (number_of b ns)) (sym what)
+      kept : last_call_number b ns ≡ last_call_number b (n ∷ ns)
+      kept = ap (λ w. number_with b n.by w (calls_in ns) (last_call_number b ns)) (sym what)
 
-      new : (reply : Option Reply) (other : Caller) → moved_on reply caller at ≡ Some other → other.number ≡ number_of b (n ∷ ns)
+      new : (reply : Option Reply) (other : Caller) → moved_on reply caller at ≡ Some other → other.number ≡ last_call_number b (n ∷ ns)
       new (Some r) other same = absurd (none-some _ same)
       new None other same = ap (λ (k : Caller). k.number) (sym (same_Some _ _ same)) ∙ numbers b caller is ∙ kept
 
@@ -127,10 +127,10 @@ module _ (start : Start) (service : Service) (disk : Medium) (n : Note) (ns : Li
             (λ caller same. ap (λ (k : Caller). k.number) (sym (same_Some _ _ same)) ∙ next ∙ sym (own b t.0 t.1));
       }
     where
-      own : (b : ℕ) → n.by ≡ b → n.what ≡ Called c service.yard.vault.format → number_of b (n ∷ ns) ≡ suc (calls_in ns)
+      own : (b : ℕ) → n.by ≡ b → n.what ≡ Called c service.yard.vault.format → last_call_number b (n ∷ ns) ≡ suc (calls_in ns)
       own b by what =
-          ap (λ w. number_with b n.by w (calls_in ns) (number_of b ns)) what
-          ∙ ap (λ x. if x then suc (calls_in ns) else number_of b ns) (eq-eqb n.by b by)
+          ap (λ w. number_with b n.by w (calls_in ns) (last_call_number b ns)) what
+          ∙ ap (λ x. if x then suc (calls_in ns) else last_call_number b ns) (eq-eqb n.by b by)
 
   step_marks : (i : ℕ) (step : Transition) → i ≡ suc (calls_in ns) → MayStep (Up service disk) step → TellsStep (Up service disk) n step → Stepped i step
   step_marks i (Calls b c) next may t = call_steps i b c next may t
@@ -173,7 +173,7 @@ found_marked start p n ns q v what h = record {
 }
   where
     go : (w : State) → HasNumbers w ns → HasNumbers w (n ∷ ns)
-    go (Up service disk) h = λ a caller is. h a caller is ∙ ap (λ w. number_with a n.by w (calls_in ns) (number_of a ns)) (sym what)
+    go (Up service disk) h = λ a caller is. h a caller is ∙ ap (λ w. number_with a n.by w (calls_in ns) (last_call_number a ns)) (sym what)
     go (Down shape disk) h = h
 
 first_none : (n a : ℕ) → caller_at (replicate n None) a ≡ None
@@ -204,7 +204,7 @@ reads_marked start (n ∷ ns) steps runs (new, before, is, tells, rest) =
         let count = h.count ∙ ap (λ (s : Shape). s.passes) (sym h.shape) in
         let r = step_marks start h.service h.disk n ns count h.places numbers (suc here.calls) t.step (ap suc m.calls) may told in
         subst (λ (l : List Transition). Marked start (run p (l ++ before)) (n ∷ ns)) (sym t.steps) record {
-          calls = ap (λ k. calls_after k t.step) m.calls ∙ r.made;
+          calls = ap (λ k. calls_made_after k t.step) m.calls ∙ r.made;
           marks =
               ap (λ w. marks_of (suc here.calls) w t.step ++ here.marks) h.state
               ∙ ap (λ M. M ++ here.marks) r.shown

@@ -16,7 +16,7 @@ use Rattle.lz_machine.proofs.Open.FirstState.{opened_up}
 use Rattle.lz_machine.proofs.Runs.Shape.{run_keeps_shape}
 use Rattle.lz_machine.proofs.Theorem.Reached.{every_history, what_lasts}
 use Rattle.lz_board.specs.declared.view.Note.{Note}
-use Rattle.lz_board.specs.Notes.{shape_of, trace_of}
+use Rattle.lz_board.specs.Notes.{shape_of_sizes, trace_of}
 use Rattle.lz_board.specs.Seats.{BoardId}
 use Rattle.lz_tie.specs.NotedRuns.{ReadsAs}
 use Rattle.lz_tie.specs.Holds.{sizes_of, IsLocked}
@@ -47,10 +47,10 @@ fits_from M L S T U same fits = record { once = fits.once; answered = fits.answe
 module _ (b : BoardId) (ns : List Note) (start : Start) (steps : List Transition) (sizes : b.sizes ≡ sizes_of start.shape) (starts : IsStart start) (runs : IsRun (first_point start) steps) (reads : ReadsAs (first_point start) ns steps)
     (begins : b.opened ≡ (first_point start).trace) (service : Service) (medium : Medium) (state : (run (first_point start) steps).state ≡ Up service medium) where
   abbrev marks : History
-  marks = marks_in (shape_of b.sizes) ns
+  marks = marks_in (shape_of_sizes b.sizes) ns
 
-  shape_is : shape_of b.sizes ≡ start.shape
-  shape_is = ap shape_of sizes
+  shape_is : shape_of_sizes b.sizes ≡ start.shape
+  shape_is = ap shape_of_sizes sizes
 
   reached : Reached start (Up service medium) marks (trace_of b.opened ns)
   reached = record {
@@ -75,7 +75,7 @@ module _ (b : BoardId) (ns : List Note) (start : Start) (steps : List Transition
       let w = Up service medium in
       let every = every_history start w marks (trace_of b.opened ns) t reached (inl image) in
       let lasting = what_lasts start w marks (trace_of b.opened ns) t reached (inl image) in
-      let life = one_life (shape_of b.sizes) (start_keys start) ns in
+      let life = one_life (shape_of_sizes b.sizes) (start_keys start) ns in
       let chain = subst (λ (l : List Life). ChainTo l every.0) life every.2 in
       record {
         found = every.0;

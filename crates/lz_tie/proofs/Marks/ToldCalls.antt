@@ -17,7 +17,7 @@ use Rattle.lz_board.specs.declared.view.What.{What}
 use Rattle.lz_board.specs.declared.view.What.TheVariants.{Called, Played, Found}
 use Rattle.lz_board.specs.declared.view.Note.{Note}
 use Rattle.lz_board.specs.declared.view.Part.{Part}
-use Rattle.lz_board.specs.Notes.{note_by, goes_on, place, placed, shape_of}
+use Rattle.lz_board.specs.Notes.{note_by, unless_replied, place, placed, shape_of_sizes}
 use Rattle.lz_tie.specs.Answers.{IsWithin, AreWithin, IsOneCall, Answers}
 use Rattle.lz_tie.specs.Marks.{reply_in}
 use Rattle.lz_tie.specs.OwnCalls.{told_with, told}
@@ -28,7 +28,7 @@ unreplied : (shape : Shape) (e : Event) (o : Outcome) (at : Option (Command × P
 unreplied shape e o None call is = absurd cc
 unreplied shape e o (Some was) call is = (go (reply_at was.1) is, (was, refl))
   where
-    go : (r : Option Reply) → goes_on r was.0 (progress_after shape was.0 was.1 o) ≡ Some call → r ≡ None
+    go : (r : Option Reply) → unless_replied r was.0 (progress_after shape was.0 was.1 o) ≡ Some call → r ≡ None
     go None is = refl
     go (Some reply) is = absurd cc
 
@@ -60,6 +60,6 @@ module _ (shape : Shape) (p : ℕ) (format : Format) (c : Command) (rest : List 
       ∙ ap (λ l. told_with (Played Answer Done) (Some reply) l) (going one.within one.only (c, Answering reply) at)
 
 pub answers_told : (F : Format) (c : Command) (reply : Reply) (before after : Part) → Answers F c reply before after
-    → told (shape_of before.sizes) after.steps ≡ (c, Some reply) ∷ told (shape_of before.sizes) before.steps
+    → told (shape_of_sizes before.sizes) after.steps ≡ (c, Some reply) ∷ told (shape_of_sizes before.sizes) before.steps
 answers_told F c reply before after a =
-    ap (told (shape_of before.sizes)) a.steps ∙ told_call (shape_of before.sizes) before.number F c before.steps reply a.new a.one_call
+    ap (told (shape_of_sizes before.sizes)) a.steps ∙ told_call (shape_of_sizes before.sizes) before.number F c before.steps reply a.new a.one_call

@@ -14,11 +14,11 @@ use Rattle.lz_machine.proofs.Theorem.Marks.{marks_tell}
 use Rattle.lz_board.specs.declared.view.What.{What}
 use Rattle.lz_board.specs.declared.view.What.TheVariants.{Called, Played, Found}
 use Rattle.lz_board.specs.declared.view.Note.{Note}
-use Rattle.lz_board.specs.Notes.{place, shape_of, steps_of}
+use Rattle.lz_board.specs.Notes.{place, shape_of_sizes, steps_of}
 use Rattle.lz_board.specs.Seats.{BoardId}
 use Rattle.lz_tie.specs.NotedRuns.{TellsTurn, TellsFault, TellsStep, TellsOne, TellsOf, ReadsAs}
 use Rattle.lz_tie.specs.Holds.{IsLocked}
-use Rattle.lz_tie.specs.Marks.{number_of, reply_in, marks_with, marks_in, AreOfPasses}
+use Rattle.lz_tie.specs.Marks.{last_call_number, reply_in, marks_with, marks_in, AreOfPasses}
 use Rattle.lz_tie.proofs.Reading.CallPlaces.{Placed, place_reads, run_before}
 use Rattle.lz_tie.proofs.Marks.RunMarks.{marks_read}
 use Rattle.lz_tie.proofs.Marks.RunningSet.{locked_sizes}
@@ -88,15 +88,15 @@ passes_read start (n ∷ ns) steps runs (new, before, is, tells, rest) =
     go : (what : What) → Placed start (run (first_point start) before) ns → AreOfPasses start.shape.passes (marks_in start.shape ns) → TellsOf (run (first_point start) before).state n what new
         → AreOfPasses start.shape.passes (marks_with start.shape n.by what ns ++ marks_in start.shape ns)
     go (Called c format) h are t = let range = made h t in (range.0, range.1, are)
-    go (Played e o) h are t = turn_of_passes start.shape.passes (marks_in start.shape ns) are (number_of n.by ns) (reply_in (place start.shape (steps_of n.by ns)))
+    go (Played e o) h are t = turn_of_passes start.shape.passes (marks_in start.shape ns) are (last_call_number n.by ns) (reply_in (place start.shape (steps_of n.by ns)))
     go (Found q v) h are t = are
 
 module _ (b : BoardId) (ns : List Note) (y : Yard) (dev : Device) (locked : IsLocked b ns y dev) where
-  shape_is : locked.tied.start.shape ≡ shape_of b.sizes
-  shape_is = ap shape_of (sym (locked_sizes b ns y dev locked))
+  shape_is : locked.tied.start.shape ≡ shape_of_sizes b.sizes
+  shape_is = ap shape_of_sizes (sym (locked_sizes b ns y dev locked))
 
   -- the marks stand in the order of a run
-  pub history_told : IsTold (marks_in (shape_of b.sizes) ns)
+  pub history_told : IsTold (marks_in (shape_of_sizes b.sizes) ns)
   history_told =
       let tie = locked.tied in
       let p = run (first_point tie.start) tie.steps in
@@ -104,7 +104,7 @@ module _ (b : BoardId) (ns : List Note) (y : Yard) (dev : Device) (locked : IsLo
       (marks_tell tie.start p.state p.marks p.trace record { steps = tie.steps; starts = tie.starts; runs = tie.runs; state = refl; marks = refl; trace = refl })
 
   -- and each call is one of a pass
-  pub history_passes : AreOfPasses b.sizes.passes (marks_in (shape_of b.sizes) ns)
+  pub history_passes : AreOfPasses b.sizes.passes (marks_in (shape_of_sizes b.sizes) ns)
   history_passes =
       let tie = locked.tied in
       subst (λ (s : Shape). AreOfPasses s.passes (marks_in s ns)) shape_is (passes_read tie.start ns tie.steps tie.runs tie.reads)

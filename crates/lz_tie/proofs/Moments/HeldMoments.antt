@@ -16,7 +16,7 @@ use Rattle.lz_board.specs.declared.view.Sizes.{Sizes}
 use Rattle.lz_board.specs.declared.view.Load.{Load}
 use Rattle.lz_board.specs.declared.view.Note.{Note}
 use Rattle.lz_board.specs.declared.view.Part.{Part}
-use Rattle.lz_board.specs.Notes.{listed, splice, steps_of, shape_of, trace_of}
+use Rattle.lz_board.specs.Notes.{as_list, splice, steps_of, shape_of_sizes, trace_of}
 use Rattle.lz_board.specs.Plays.{found_note, noted}
 use Rattle.lz_board.specs.declared.board.Pen.{Pen}
 use Rattle.lz_board.specs.Seats.{BoardId, IsPenOf, notes}
@@ -24,8 +24,8 @@ use Rattle.lz_board.proofs.Upkeep.Splice.{trace_splice}
 use Rattle.lz_tie.specs.NotedRuns.{AreNext}
 use Rattle.lz_tie.specs.Holds.{IsLocked, InHold, MayTurn}
 use Rattle.lz_tie.specs.RunningSets.{Explains}
-use Rattle.lz_tie.specs.Marks.{calls_in, marks_in, marks_with, number_of}
-use Rattle.lz_tie.specs.Moments.{IsLeftBy, LeftSince, GrowsTo, GoesOn, HoldExplains, ExplainsBegun, ExplainedSince}
+use Rattle.lz_tie.specs.Marks.{calls_in, marks_in, marks_with, last_call_number}
+use Rattle.lz_tie.specs.Moments.{IsLeftBy, LeftSince, GrowsTo, MomentsGoOn, HoldExplains, ExplainsBegun, ExplainedSince}
 use Rattle.lz_tie.proofs.Marks.GrownMarks.{marks_splice}
 use Rattle.lz_tie.proofs.Marks.RunningSet.{explained, history_of, locked_sizes}
 use Rattle.lz_tie.proofs.Moments.GrownNotes.{grows_then, same_grows}
@@ -48,12 +48,12 @@ module _ (b : BoardId) (ns : List Note) (y : Yard) (dev : Device) (h : Part) (ho
     (y1 z' : Yard) (p : ℕ) (o : Outcome) (told : Told) (dev1 dev' : Device) (same : dev1 ≡ dev) (played : PlayedOver y1 p e o z' told dev1 dev')
     (n : Note) (ns' : List Note) (notes : ns' ≡ noted b.opened ns h n) (locked : IsLocked b ns' z' dev') where
   -- before an Invoke the pass has made no loads
-  next : AreNext (shape_of b.sizes) h.number h.loads (steps_of h.number ns)
+  next : AreNext (shape_of_sizes b.sizes) h.number h.loads (steps_of h.number ns)
   next = go e may
     where
-      go : (e : Event) → MayTurn b.sizes ns h e → AreNext (shape_of b.sizes) h.number h.loads (steps_of h.number ns)
-      go (Invoke c) may = subst (λ (hs : List Load). AreNext (shape_of b.sizes) h.number hs (steps_of h.number ns)) (sym may.0.no_loads) tt
-      go e may = subst (λ (x : Sizes × List Note). AreNext (shape_of x.0) h.number h.loads x.1) (λ i. (hold.knows.sized i, sym hold.knows.noted i)) may.1.call.next
+      go : (e : Event) → MayTurn b.sizes ns h e → AreNext (shape_of_sizes b.sizes) h.number h.loads (steps_of h.number ns)
+      go (Invoke c) may = subst (λ (hs : List Load). AreNext (shape_of_sizes b.sizes) h.number hs (steps_of h.number ns)) (sym may.0.no_loads) tt
+      go e may = subst (λ (x : Sizes × List Note). AreNext (shape_of_sizes x.0) h.number h.loads x.1) (λ i. (hold.knows.sized i, sym hold.knows.noted i)) may.1.call.next
 
   call : (dev'.honest ≡ dev.honest) × (IsTrue dev.honest → LeavesEither dev dev')
   call = subst (λ (d : Device). (dev'.honest ≡ d.honest) × (IsTrue d.honest → LeavesEither d dev')) same (⊎_elim
@@ -67,16 +67,16 @@ module _ (b : BoardId) (ns : List Note) (y : Yard) (dev : Device) (h : Part) (ho
 
   grown : GrowsTo b ns ns'
   grown =
-      let shape = shape_of b.sizes in
+      let shape = shape_of_sizes b.sizes in
       let spliced = splice b.opened h.number h.loads ns in
       let new = marks_with shape n.by n.what spliced in
       subst (GrowsTo b ns) (sym notes) record {
         new = new;
         shows = ap (λ M. new ++ M) (marks_splice b.opened shape h.number h.base (length h.known) h.loads ns hold.knows.quiet hold.knows.least hold.knows.order next);
-        trace = (listed n.published, ap (λ P. listed n.published ++ P) (trace_splice b.opened h.number h.loads ns));
+        trace = (as_list n.published, ap (λ P. as_list n.published ++ P) (trace_splice b.opened h.number h.loads ns));
       }
 
-  pub step_left : GoesOn b ns ns' dev dev'
+  pub step_left : MomentsGoOn b ns ns' dev dev'
   step_left = record { grows = grown; honest = call.0; time = call.1; kept = more }
 
 -- what a beginning of the notes leaves explains it
@@ -98,7 +98,7 @@ pub record ComesTo (b : BoardId) (ns was : List Note) : Type 0 where
   pub grows : GrowsTo b ns was
   pub trace : trace_of b.opened was ≡ trace_of b.opened ns
   pub marks : (shape : Shape) → marks_in shape was ≡ marks_in shape ns
-  pub number : (p : ℕ) → number_of p was ≡ number_of p ns
+  pub number : (p : ℕ) → last_call_number p was ≡ last_call_number p ns
   pub calls : calls_in was ≡ calls_in ns
 
 pub comes : (b : BoardId) (ns ns' : List Note) → ns' ≡ ns → ComesTo b ns ns'
@@ -115,7 +115,7 @@ finds b q v ns mid was same found = subst (ComesTo b ns) (sym (found ∙ ap (λ 
 }
 
 -- What might have been left goes on over a hold, from the lock's notes ns to these.
-module _ (b : BoardId) (first dev dev' : Device) (ns was is : List Note) (y y' : Yard) (locked : IsLocked b ns y dev) (locked' : IsLocked b is y' dev') (found : ComesTo b ns was) (on : GoesOn b was is dev dev') where
+module _ (b : BoardId) (first dev dev' : Device) (ns was is : List Note) (y y' : Yard) (locked : IsLocked b ns y dev) (locked' : IsLocked b is y' dev') (found : ComesTo b ns was) (on : MomentsGoOn b was is dev dev') where
   abbrev In : List ℕ → Type 0
   In t = IsImage dev.medium t ⊎ IsImage dev'.medium t
 
@@ -146,7 +146,7 @@ module _ (b : BoardId) (first dev dev' : Device) (ns was is : List Note) (y y' :
   }
 
 -- In the words of the code that holds the lock: its invariant afterwards, and what a crash in the hold might have left.
-module _ (b : BoardId) (first dev dev' : Device) (ns was is : List Note) (found : ComesTo b ns was) (on : GoesOn b was is dev dev')
+module _ (b : BoardId) (first dev dev' : Device) (ns was is : List Note) (found : ComesTo b ns was) (on : MomentsGoOn b was is dev dev')
     (y y' : Yard) (locked : IsLocked b ns y dev) (locked' : IsLocked b is y' dev') (pen : Pen) (of_board : IsPenOf b pen) (noted : notes pen ≡ is) where
   pub held_again : LeftSince b first ns dev → IsPenOf b pen × IsLocked b (notes pen) y' dev' × LeftSince b first (notes pen) dev'
   held_again left = (

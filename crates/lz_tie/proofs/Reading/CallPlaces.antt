@@ -21,11 +21,11 @@ use Rattle.lz_machine.proofs.Frames.OneActor.{caller_range}
 use Rattle.lz_board.specs.declared.view.What.{What}
 use Rattle.lz_board.specs.declared.view.What.TheVariants.{Called, Played, Found}
 use Rattle.lz_board.specs.declared.view.Note.{Note}
-use Rattle.lz_board.specs.Notes.{steps_of, place, placed, goes_on}
+use Rattle.lz_board.specs.Notes.{steps_of, place, placed, unless_replied}
 use Rattle.lz_board.proofs.Upkeep.Splice.{own_step, other_step}
 use Rattle.lz_tie.specs.NotedRuns.{TellsTurn, TellsFault, TellsStep, TellsOne, TellsOf, ReadsAs, viewed}
 
-goes_viewed : (r : Option Reply) (caller : Caller) (at : Progress) → viewed (moved_on r caller at) ≡ goes_on r caller.command at
+goes_viewed : (r : Option Reply) (caller : Caller) (at : Progress) → viewed (moved_on r caller at) ≡ unless_replied r caller.command at
 goes_viewed None caller at = refl
 goes_viewed (Some reply) caller at = refl
 
@@ -68,7 +68,7 @@ module _ (start : Start) (service : Service) (disk : Medium) (n : Note) (ns : Li
       → viewed (moved_on (reply_at caller.progress) caller (progress_after y.shape caller.command caller.progress o)) ≡ placed start.shape n.what (place start.shape (steps_of b ns))
   after_outcome b caller y e o is same low what =
       goes_viewed (reply_at caller.progress) caller (progress_after y.shape caller.command caller.progress o)
-      ∙ ap (λ s. goes_on (reply_at caller.progress) caller.command (progress_after s caller.command caller.progress o)) same
+      ∙ ap (λ s. unless_replied (reply_at caller.progress) caller.command (progress_after s caller.command caller.progress o)) same
       ∙ ap (placed start.shape (Played e o)) (ap viewed (sym is) ∙ places b low)
       ∙ ap (λ w. placed start.shape w (place start.shape (steps_of b ns))) (sym what)
 

@@ -22,7 +22,7 @@ use Rattle.lz_board.specs.declared.view.What.{What}
 use Rattle.lz_board.specs.declared.view.What.TheVariants.{Called, Played, Found}
 use Rattle.lz_board.specs.declared.view.Note.{Note}
 use Rattle.lz_board.specs.declared.view.Part.{Part}
-use Rattle.lz_board.specs.Notes.{Extends, listed, trace_of, Quiet}
+use Rattle.lz_board.specs.Notes.{Extends, as_list, trace_of, Quiet}
 use Rattle.lz_board.specs.Kept.{Knows}
 use Rattle.lz_board.specs.Seats.{BoardId}
 use Rattle.lz_board.proofs.Upkeep.Growth.{extends_both, extends_trans}
@@ -35,7 +35,7 @@ use Rattle.lz_tie.proofs.Reading.OwnTraces.{own_append}
 
 -- the note publishes nothing, or is by one of these passes and publishes for it
 abbrev IsByPass : ℕ → Note → Type 0
-IsByPass passes n = (n.published ≡ None) ⊎ ((1 ≤ n.by) × (n.by ≤ passes) × AreOwn n.by (listed n.published))
+IsByPass passes n = (n.published ≡ None) ⊎ ((1 ≤ n.by) × (n.by ≤ passes) × AreOwn n.by (as_list n.published))
 
 abbrev AreByPasses : ℕ → List Note → Type 0
 AreByPasses passes [] = Unit {0}
@@ -70,8 +70,8 @@ step_by service disk n (Turn a) t = go (caller_at service.callers a) refl t.1
     go None is t = absurd t
     go (Some caller) is u =
         let range = caller_range service.callers a caller is in
-        let own : AreOwn a (listed n.published) = subst (AreOwn a) (sym u.1) (line_own service.yard a (next_event service.yard caller)) in
-        inr (subst (λ (p : ℕ). (1 ≤ p) × (p ≤ length service.callers) × AreOwn p (listed n.published)) (sym t.0) (range.0, range.1, own))
+        let own : AreOwn a (as_list n.published) = subst (AreOwn a) (sym u.1) (line_own service.yard a (next_event service.yard caller)) in
+        inr (subst (λ (p : ℕ). (1 ≤ p) × (p ≤ length service.callers) × AreOwn p (as_list n.published)) (sym t.0) (range.0, range.1, own))
 step_by service disk n (Fails a new) t = go (caller_at service.callers a) t.1
   where
     go : (q : Option Caller) → TellsFault service q n → IsByPass (length service.callers) n
@@ -105,8 +105,8 @@ passes_read start (n ∷ ns) steps runs (new, before, is, tells, rest) = (one n.
 one_long : (opened : Trace) (n : ℕ) (ns : List Note) → AreByPasses 1 ns → Quiet opened 1 n ns → length opened ≤ n → length (trace_of opened ns) ≤ n
 one_long opened n [] are quiet least = least
 one_long opened n (x ∷ xs) are quiet least = ⊎_elim
-    (λ (none : x.published ≡ None). subst (λ (p : Option Publishing). length (listed p ++ trace_of opened xs) ≤ n) (sym none) (one_long opened n xs are.1 quiet.1 least))
-    (λ (range : (1 ≤ x.by) × (x.by ≤ 1) × AreOwn x.by (listed x.published)). let low = range.0 in let high = range.1 in ⊎_elim
+    (λ (none : x.published ≡ None). subst (λ (p : Option Publishing). length (as_list p ++ trace_of opened xs) ≤ n) (sym none) (one_long opened n xs are.1 quiet.1 least))
+    (λ (range : (1 ≤ x.by) × (x.by ≤ 1) × AreOwn x.by (as_list x.published)). let low = range.0 in let high = range.1 in ⊎_elim
     (λ over. absurd (quiet.0 over.1 (omega (arith, low, high))))
     (λ within. within.1)
     (low_or_not n (length (trace_of opened (x ∷ xs)))))
@@ -123,14 +123,14 @@ only_own opened [] are = record { since = []; goes_on = refl; own = tt }
 only_own opened (n ∷ ns) are =
     let rest = only_own opened ns are.1 in
     record {
-      since = listed n.published ++ rest.since;
-      goes_on = ap (λ (P : Trace). listed n.published ++ P) rest.goes_on ∙ sym (append_assoc (listed n.published) rest.since opened);
-      own = own_append 1 (listed n.published) rest.since (published are.0) rest.own;
+      since = as_list n.published ++ rest.since;
+      goes_on = ap (λ (P : Trace). as_list n.published ++ P) rest.goes_on ∙ sym (append_assoc (as_list n.published) rest.since opened);
+      own = own_append 1 (as_list n.published) rest.since (published are.0) rest.own;
     }
   where
-    published : IsByPass 1 n → AreOwn 1 (listed n.published)
-    published (inl none) = subst (λ (x : Option Publishing). AreOwn 1 (listed x)) (sym none) tt
-    published (inr range) = let low = range.0 in let high = range.1 in let is : n.by ≡ 1 = omega (arith, low, high) in subst (λ (p : ℕ). AreOwn p (listed n.published)) is range.2
+    published : IsByPass 1 n → AreOwn 1 (as_list n.published)
+    published (inl none) = subst (λ (x : Option Publishing). AreOwn 1 (as_list x)) (sym none) tt
+    published (inr range) = let low = range.0 in let high = range.1 in let is : n.by ≡ 1 = omega (arith, low, high) in subst (λ (p : ℕ). AreOwn p (as_list n.published)) is range.2
 
 -- the one pass is the first, and all is published for it
 abbrev IsOne : BoardId → List Note → Part → Type 0

@@ -6,7 +6,7 @@ use Rattle.lz_machine.specs.Runs.{State, Up, Down, Service, Caller, Transition, 
 use Rattle.lz_board.specs.declared.view.What.{What}
 use Rattle.lz_board.specs.declared.view.What.TheVariants.{Called, Played, Found}
 use Rattle.lz_board.specs.declared.view.Note.{Note}
-use Rattle.lz_board.specs.Notes.{listed, trace_of}
+use Rattle.lz_board.specs.Notes.{as_list, trace_of}
 use Rattle.lz_tie.specs.NotedRuns.{TellsTurn, TellsFault, TellsStep, TellsOne, TellsOf, NoteTells, ReadsAs}
 
 -- looks publish nothing
@@ -18,20 +18,20 @@ looks_trace p (suc k) q before = one (run p (replicate k (Looks q) ++ before)).s
     one (Up service disk) P = refl
     one (Down shape disk) P = refl
 
-turn_trace : (service : Service) (a : ℕ) (caller : Option Caller) (n : Note) → TellsTurn service a caller n → turn_publishes service a caller ≡ listed n.published
+turn_trace : (service : Service) (a : ℕ) (caller : Option Caller) (n : Note) → TellsTurn service a caller n → turn_publishes service a caller ≡ as_list n.published
 turn_trace service a None n t = absurd t
 turn_trace service a (Some caller) n t = sym t.1
 
-step_trace : (w : State) (P : Trace) (n : Note) (step : Transition) → TellsStep w n step → trace_after w P step ≡ listed n.published ++ P
-step_trace (Up service disk) P n (Calls a c) t = ap (λ x. listed x ++ P) (sym t.2)
+step_trace : (w : State) (P : Trace) (n : Note) (step : Transition) → TellsStep w n step → trace_after w P step ≡ as_list n.published ++ P
+step_trace (Up service disk) P n (Calls a c) t = ap (λ x. as_list x ++ P) (sym t.2)
 step_trace (Down shape disk) P n (Calls a c) t = absurd t
 step_trace (Up service disk) P n (Turn a) t = ap (λ l. l ++ P) (turn_trace service a (caller_at service.callers a) n t.1)
 step_trace (Down shape disk) P n (Turn a) t = absurd t
 step_trace (Up service disk) P n (Fails a new) t = none (caller_at service.callers a) t.1
   where
-    none : (caller : Option Caller) → TellsFault service caller n → P ≡ listed n.published ++ P
+    none : (caller : Option Caller) → TellsFault service caller n → P ≡ as_list n.published ++ P
     none None f = absurd f
-    none (Some caller) f = ap (λ x. listed x ++ P) (sym f.1)
+    none (Some caller) f = ap (λ x. as_list x ++ P) (sym f.1)
 step_trace (Down shape disk) P n (Fails a new) t = absurd t
 step_trace (Up service disk) P n (Looks a) t = absurd t
 step_trace (Up service disk) P n Trips t = absurd t
@@ -48,18 +48,18 @@ step_trace (Down shape disk) P n (CrashesIn a x) t = absurd t
 step_trace (Down shape disk) P n Opens t = absurd t
 step_trace (Down shape disk) P n (OpenFails why done) t = absurd t
 
-note_trace : (p : Point) (n : Note) (new before : List Transition) → NoteTells (run p before).state n new → (run p (new ++ before)).trace ≡ listed n.published ++ (run p before).trace
+note_trace : (p : Point) (n : Note) (new before : List Transition) → NoteTells (run p before).state n new → (run p (new ++ before)).trace ≡ as_list n.published ++ (run p before).trace
 note_trace p n new before t = go n.what t
   where
-    one : TellsOne (run p before).state n new → (run p (new ++ before)).trace ≡ listed n.published ++ (run p before).trace
+    one : TellsOne (run p before).state n new → (run p (new ++ before)).trace ≡ as_list n.published ++ (run p before).trace
     one t = ap (λ l. (run p (l ++ before)).trace) t.steps ∙ step_trace (run p before).state (run p before).trace n t.step t.tells
 
-    go : (what : What) → TellsOf (run p before).state n what new → (run p (new ++ before)).trace ≡ listed n.published ++ (run p before).trace
+    go : (what : What) → TellsOf (run p before).state n what new → (run p (new ++ before)).trace ≡ as_list n.published ++ (run p before).trace
     go (Called c format) t = one t
     go (Played e o) t = one t
-    go (Found q v) t = ap (λ l. (run p (l ++ before)).trace) t.2.steps ∙ looks_trace p t.2.looks q before ∙ ap (λ x. listed x ++ (run p before).trace) (sym t.1)
+    go (Found q v) t = ap (λ l. (run p (l ++ before)).trace) t.2.steps ∙ looks_trace p t.2.looks q before ∙ ap (λ x. as_list x ++ (run p before).trace) (sym t.1)
 
 -- the trace of the run is that of the notes
 pub trace_reads : (p : Point) (ns : List Note) (steps : List Transition) → ReadsAs p ns steps → (run p steps).trace ≡ trace_of p.trace ns
 trace_reads p [] steps r = ap (λ l. (run p l).trace) r
-trace_reads p (n ∷ ns) steps (new, before, is, tells, rest) = ap (λ l. (run p l).trace) is ∙ note_trace p n new before tells ∙ ap (λ P. listed n.published ++ P) (trace_reads p ns before rest)
+trace_reads p (n ∷ ns) steps (new, before, is, tells, rest) = ap (λ l. (run p l).trace) is ∙ note_trace p n new before tells ∙ ap (λ P. as_list n.published ++ P) (trace_reads p ns before rest)

@@ -25,14 +25,14 @@ use Rattle.lz_board.specs.declared.view.What.TheVariants.{Played}
 use Rattle.lz_board.specs.declared.view.Sizes.{Sizes}
 use Rattle.lz_board.specs.declared.view.Note.{Note}
 use Rattle.lz_board.specs.declared.view.Part.{Part}
-use Rattle.lz_board.specs.Notes.{listed, trace_of, note_by, load_note, own, is_for, splice, place, placed, shape_of, pin_after_what}
+use Rattle.lz_board.specs.Notes.{as_list, trace_of, note_by, load_note, own, is_for, splice, place, placed, shape_of_sizes, pin_after_what}
 use Rattle.lz_board.specs.Glances.{Changes}
 use Rattle.lz_board.specs.Seats.{BoardId}
 use Rattle.lz_board.proofs.Upkeep.Splice.{trace_splice}
 use Rattle.lz_tie.specs.OnePass.{OnlyOwn}
 use Rattle.lz_tie.proofs.Reading.OwnTraces.{own_since}
 use Rattle.lz_tie.specs.Answers.{Promises, WasFull, IsOneCall, Answers}
-use Rattle.lz_tie.specs.Holds.{Holds, Turned, IsIdle}
+use Rattle.lz_tie.specs.Holds.{HoldNotes, Turned, IsIdle}
 use Rattle.lz_tie.specs.UnderWay.{UnderWay, OwnAt, FoundFull}
 use Rattle.lz_tie.proofs.Replies.CallSteps.{call_steps, one_call, steps_since, same_reserve}
 use Rattle.lz_tie.proofs.Replies.FullReply.{full_adds}
@@ -95,7 +95,7 @@ worn_side : (pin : ℕ) (reply : Reply) → pin % 2 ≡ side_of (is_before_pin (
 worn_side pin reply side is = side ∙ ap (λ r. side_of (is_before_pin (Answering r))) is
 
 module _ (b : BoardId) (c : Command) (format : Format) (before : Part) (reply : Reply) (h : Part) (was is : List Note) (o : Outcome) (x : Option Publishing) (after : Part)
-    (under : UnderWay b c format before (Answering reply) h) (holds : Holds b.opened was is (note_by h.number (Played Answer o) x) h after) (turned : Turned b.opened was h c (Answering reply) Answer o x) where
+    (under : UnderWay b c format before (Answering reply) h) (holds : HoldNotes b.opened was is (note_by h.number (Played Answer o) x) h after) (turned : Turned b.opened was h c (Answering reply) Answer o x) where
   -- the trace is as it was
   abbrev now : Trace
   now = trace_of b.opened was
@@ -107,7 +107,7 @@ module _ (b : BoardId) (c : Command) (format : Format) (before : Part) (reply : 
   is_silent = answer_silent b.opened was h c reply o x turned
 
   knows_now : after.known ≡ now
-  knows_now = holds.known ∙ ap (trace_of b.opened) holds.notes ∙ ap (λ l. listed l ++ trace_of b.opened (splice b.opened h.number h.loads was)) is_silent ∙ trace_splice b.opened h.number h.loads was
+  knows_now = holds.known ∙ ap (trace_of b.opened) holds.notes ∙ ap (λ l. as_list l ++ trace_of b.opened (splice b.opened h.number h.loads was)) is_silent ∙ trace_splice b.opened h.number h.loads was
 
   pin_now : after.pin ≡ (if h.pin % 2 == 0 then h.pin else suc h.pin)
   pin_now = holds.pin ∙ ap (λ o. pin_after_what h.number h.number (Played Answer o) h.pin) is_done ∙ answer_pin h.number h.pin
@@ -120,11 +120,11 @@ module _ (b : BoardId) (c : Command) (format : Format) (before : Part) (reply : 
       holds.steps ∙ ap (λ (q : Outcome × Option Publishing). note_by h.number (Played Answer q.0) q.1 ∷ (map (load_note h.number) h.loads ++ h.steps)) (λ i. (is_done i, is_silent i))
       ∙ ap (λ l. note_by h.number (Played Answer Done) None ∷ (map (load_note h.number) h.loads ++ l)) under.steps ∙ steps_since h.number format c h.loads under.within before.steps
 
-  at_answer : place (shape_of b.sizes) (map (load_note h.number) h.loads ++ h.steps) ≡ Some (c, Answering reply)
-  at_answer = subst (λ (z : Sizes). place (shape_of z) (map (load_note h.number) h.loads ++ h.steps) ≡ Some (c, Answering reply)) under.sizes under.call.at
+  at_answer : place (shape_of_sizes b.sizes) (map (load_note h.number) h.loads ++ h.steps) ≡ Some (c, Answering reply)
+  at_answer = subst (λ (z : Sizes). place (shape_of_sizes z) (map (load_note h.number) h.loads ++ h.steps) ≡ Some (c, Answering reply)) under.sizes under.call.at
 
-  is_call : IsOneCall (shape_of b.sizes) h.number format c reply new
-  is_call = one_call h.number format c (shape_of b.sizes) reply h.loads under.within before.steps under.only (subst (λ l. place (shape_of b.sizes) (map (load_note h.number) h.loads ++ l) ≡ Some (c, Answering reply)) under.steps at_answer)
+  is_call : IsOneCall (shape_of_sizes b.sizes) h.number format c reply new
+  is_call = one_call h.number format c (shape_of_sizes b.sizes) reply h.loads under.within before.steps under.only (subst (λ l. place (shape_of_sizes b.sizes) (map (load_note h.number) h.loads ++ l) ≡ Some (c, Answering reply)) under.steps at_answer)
 
   made : Changes h.number before.known now under.own
   made =
@@ -150,7 +150,7 @@ module _ (b : BoardId) (c : Command) (format : Format) (before : Part) (reply : 
   found : (b.sizes.passes ≡ 1 → now ≡ h.known) → (counts : Counts) → reply ≡ Full counts → IsAdder c × FoundFull b.sizes.slots b.sizes.passes counts new now
   found alone counts full =
       let f = under.full counts (ap Answering full) in (
-        full_adds (shape_of b.sizes) h.number format c counts is_call.within is_call.only (is_call.answers ∙ ap (λ r. Some (c, Answering r)) full),
+        full_adds (shape_of_sizes b.sizes) h.number format c counts is_call.within is_call.only (is_call.answers ∙ ap (λ r. Some (c, Answering r)) full),
         record {
           reserve = same_reserve h.number format c h.loads under.within ∙ f.reserve;
           free = f.free;
@@ -159,7 +159,7 @@ module _ (b : BoardId) (c : Command) (format : Format) (before : Part) (reply : 
         },
       )
 
-  kept : (b.sizes.passes ≡ 1 → now ≡ h.known) → Promises (shape_of b.sizes) h.number format c reply after.pin new before.known now
+  kept : (b.sizes.passes ≡ 1 → now ≡ h.known) → Promises (shape_of_sizes b.sizes) h.number format c reply after.pin new before.known now
   kept alone =
       rows b.sizes.slots b.sizes.buckets b.sizes.passes h.number (their_view b.opened was h c reply o x turned) format after.pin new before.known h.begun now law c reply under.own stands made under.is_own
       (λ worn. pin_now ∙ stays_outside h.pin (worn_side h.pin reply under.side worn) ∙ worn_pin b.opened was h c reply o x turned worn) (λ old. under.old (ap Answering old)) (found alone)
@@ -176,8 +176,8 @@ module _ (b : BoardId) (c : Command) (format : Format) (before : Part) (reply : 
         number = holds.number ∙ under.number;
         new = new;
         steps = steps_now;
-        one_call = subst (λ (q : Sizes × ℕ). IsOneCall (shape_of q.0) q.1 format c reply new) (λ i. (sym same i, under.number i)) is_call;
-        promises = subst (λ (q : Sizes × ℕ × Trace). Promises (shape_of q.0) q.1 format c reply after.pin new before.known q.2) (λ i. (sym same i, under.number i, sym knows_now i)) (kept alone);
+        one_call = subst (λ (q : Sizes × ℕ). IsOneCall (shape_of_sizes q.0) q.1 format c reply new) (λ i. (sym same i, under.number i)) is_call;
+        promises = subst (λ (q : Sizes × ℕ × Trace). Promises (shape_of_sizes q.0) q.1 format c reply after.pin new before.known q.2) (λ i. (sym same i, under.number i, sym knows_now i)) (kept alone);
         lawful = subst (λ (q : Sizes × Trace). Lawful q.0.buckets q.0.slots q.1) (λ i. (sym same i, sym knows_now i)) law;
         alone = λ one. subst (λ (q : ℕ × Trace). OnlyOwn q.0 before.known q.1) (λ i. (under.number i, sym knows_now i)) (changed_alone (own (sym (ap (λ (z : Sizes). z.passes) same) ∙ one)));
         late = under.late;
@@ -186,7 +186,7 @@ module _ (b : BoardId) (c : Command) (format : Format) (before : Part) (reply : 
   -- and the pass may make the next call
   pub idle_again : IsIdle b.sizes after
   idle_again = record {
-    idle = ap (λ l. is_some (place (shape_of b.sizes) l)) holds.steps ∙ ap (λ q. is_some (placed (shape_of b.sizes) (Played Answer o) q)) at_answer;
+    idle = ap (λ l. is_some (place (shape_of_sizes b.sizes) l)) holds.steps ∙ ap (λ q. is_some (placed (shape_of_sizes b.sizes) (Played Answer o) q)) at_answer;
     no_loads = holds.no_loads;
     outside = ap (λ n. n % 2) pin_now ∙ goes_outside h.pin;
   }

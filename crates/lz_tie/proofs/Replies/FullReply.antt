@@ -31,7 +31,7 @@ use Rattle.lz_machine.specs.Runs.{reply_at}
 use Rattle.lz_board.specs.declared.view.What.{What}
 use Rattle.lz_board.specs.declared.view.What.TheVariants.{Called, Played, Found}
 use Rattle.lz_board.specs.declared.view.Note.{Note}
-use Rattle.lz_board.specs.Notes.{note_by, place, placed, goes_on as call_goes_on}
+use Rattle.lz_board.specs.Notes.{note_by, place, placed, unless_replied as call_goes_on}
 use Rattle.lz_tie.specs.Answers.{IsWithin, AreWithin}
 
 abbrev is_full : Reply → Bool

@@ -26,7 +26,7 @@ use Rattle.lz_machine.proofs.Theorem.Timeliness.{never_late}
 use Rattle.lz_board.specs.declared.view.What.TheVariants.{Played}
 use Rattle.lz_board.specs.declared.view.Note.{Note}
 use Rattle.lz_board.specs.declared.view.Part.{Part}
-use Rattle.lz_board.specs.Notes.{listed, trace_of, pin_after_what, pin_after_played}
+use Rattle.lz_board.specs.Notes.{as_list, trace_of, pin_after_what, pin_after_played}
 use Rattle.lz_tie.specs.Holds.{Turned}
 
 done_in_time : (y : Yard) (a : ℕ) → (line y a Answer).1 ≢ NotNow → (line y a Answer).1 ≡ Done
@@ -45,7 +45,7 @@ makes_no_call y a (Refused o) = refl
 makes_no_call y a Dies = refl
 makes_no_call y a Plays = refl
 
-nothing_listed : (x : Option Publishing) → listed x ≡ [] → x ≡ None
+nothing_listed : (x : Option Publishing) → as_list x ≡ [] → x ≡ None
 nothing_listed None is = refl
 nothing_listed (Some e) is = absurd cc
 

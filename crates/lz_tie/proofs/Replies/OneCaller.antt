@@ -26,7 +26,7 @@ use Rattle.lz_machine.specs.Yards.{Shape}
 use Rattle.lz_board.specs.declared.view.What.{What}
 use Rattle.lz_board.specs.declared.view.What.TheVariants.{Called, Played, Found}
 use Rattle.lz_board.specs.declared.view.Note.{Note}
-use Rattle.lz_board.specs.Notes.{note_by, own, is_for, place, placed, shape_of}
+use Rattle.lz_board.specs.Notes.{note_by, own, is_for, place, placed, shape_of_sizes}
 use Rattle.lz_board.specs.Glances.{Changes, Between}
 use Rattle.lz_board.specs.Ways.{Rests}
 use Rattle.lz_board.proofs.Upkeep.Growth.{extends_of}
@@ -244,7 +244,7 @@ module _ (shape : Shape) (p : ℕ) (F : Format) (pin : ℕ) (new : List Note) (P
 
 pub one_caller : OneCallerIsPlain
 one_caller F c told before after answers one =
-    let shape = shape_of before.sizes in
+    let shape = shape_of_sizes before.sizes in
     let p = before.number in
     record {
       old = both_ways (tells_old told) (is_old F c)

@@ -21,7 +21,7 @@ use Rattle.lz_machine.proofs.Frames.Uses.{use_map}
 use Rattle.lz_board.specs.declared.view.Sizes.{Sizes}
 use Rattle.lz_board.specs.declared.view.Note.{Note}
 use Rattle.lz_board.specs.declared.view.Load.{Load}
-use Rattle.lz_board.specs.Notes.{listed, trace_of, splice, pin_after}
+use Rattle.lz_board.specs.Notes.{as_list, trace_of, splice, pin_after}
 use Rattle.lz_board.specs.Noting.{Sighting, AllLeft}
 use Rattle.lz_board.proofs.Upkeep.Splice.{trace_splice}
 use Rattle.lz_tie.specs.Reuse.{UseTold, ReuseTold}
@@ -151,8 +151,8 @@ module _ (z : Sizes) (opened : Trace) (a : ℕ) (hs : List Load) (ns : List Note
 
   -- an event that leaves the uses: no slot that is free, in limbo or in a hand comes to a chain
   pub plain_told : (e : Event) → is_reusing e ≡ false
-      → ((s : ℕ) → use_of y.uses s ≢ Taken → IsLoose z.buckets s (listed n.published ++ trace_of opened ns))
-      → ((b s : ℕ) → slot_in (actors_after y actor a e) b ≡ Some s → IsLoose z.buckets s (listed n.published ++ trace_of opened ns))
+      → ((s : ℕ) → use_of y.uses s ≢ Taken → IsLoose z.buckets s (as_list n.published ++ trace_of opened ns))
+      → ((b s : ℕ) → slot_in (actors_after y actor a e) b ≡ Some s → IsLoose z.buckets s (as_list n.published ++ trace_of opened ns))
       → ReuseTold z opened now (uses_after y actor a e) (actors_after y actor a e)
   plain_told e plain loose held = record {
     each = λ s. subst (λ us. UseTold z opened now s (use_of us s)) (sym (leaves y a e plain)) (by_use s (use_of y.uses s) refl (told.each s));
@@ -208,7 +208,7 @@ module _ (z : Sizes) (opened : Trace) (a : ℕ) (hs : List Load) (ns : List Note
     module _ (loose : (s : ℕ) → use_of y.uses s ≢ Taken → IsLoose z.buckets s (trace_of opened ns)) (q v : ℕ) (low : 1 ≤ q) (high : q ≤ z.passes)
         (x : Sighting opened now q) (value : pin_after q (x.note ∷ x.rest) ≡ v) (at : trace_of opened x.rest ≡ trace_of opened now) where
       same_trace : trace_of opened now ≡ trace_of opened ns
-      same_trace = ap (λ l. listed l ++ trace_of opened (splice opened a hs ns)) none ∙ trace_splice opened a hs ns
+      same_trace = ap (λ l. as_list l ++ trace_of opened (splice opened a hs ns)) none ∙ trace_splice opened a hs ns
 
       seen : (us : List Use) → ((s : ℕ) (sights : List Sight) → use_of us s ≡ Limbo sights → use_of y.uses s ≡ Limbo sights) → ((s : ℕ) → UseTold z opened now s (use_of us s)) → (s : ℕ) → UseTold z opened now s (use_of (see_pin q v us) s)
       seen us limbo each s = subst (UseTold z opened now s) (sym (use_map (see_pin_at q v) us s refl))

@@ -11,7 +11,7 @@ use Rattle.lz_machine.specs.Limbo.{IsAway}
 use Rattle.lz_board.specs.declared.view.Sizes.{Sizes}
 use Rattle.lz_board.specs.declared.view.Note.{Note}
 use Rattle.lz_board.specs.declared.view.Load.{Load}
-use Rattle.lz_board.specs.Notes.{listed, trace_of, load_note, insert, splice, pin_after, pin_after_what}
+use Rattle.lz_board.specs.Notes.{as_list, trace_of, load_note, insert_load, splice, pin_after, pin_after_what}
 use Rattle.lz_board.specs.Kept.{shows}
 use Rattle.lz_board.specs.Noting.{Sighting, HasLeft, AllLeft}
 use Rattle.lz_board.proofs.Upkeep.Splice.{at_place, trace_insert, trace_splice, pin_insert}
@@ -29,16 +29,16 @@ more_notes opened ns q n x = record { seen = record { note = x.note; rest = x.re
 
 -- a load put in
 in_insert : (opened : Trace) (q p : ℕ) (h : Load) (more rest : List Note) (n : Note) → shows q n.by n.what ≡ true → (ns : List Note) → ns ≡ more ++ n ∷ rest
-    → (ms : List Note) × (note : Note) × (rest' : List Note) × ((more' : List Note) × (insert opened p h ns ≡ more' ++ note ∷ rest')) × (shows q note.by note.what ≡ true) × (trace_of opened rest' ≡ trace_of opened rest) × (pin_after q (note ∷ rest') ≡ pin_after q (n ∷ rest))
+    → (ms : List Note) × (note : Note) × (rest' : List Note) × ((more' : List Note) × (insert_load opened p h ns ≡ more' ++ note ∷ rest')) × (shows q note.by note.what ≡ true) × (trace_of opened rest' ≡ trace_of opened rest) × (pin_after q (note ∷ rest') ≡ pin_after q (n ∷ rest))
 in_insert opened q p h [] rest n shown ns is = subst At (sym is) (at_place opened Goes p h n rest
-    (λ over. (insert opened p h rest, n, insert opened p h rest, ([], refl), shown, trace_insert opened p h rest, ap (pin_after_what q n.by n.what) (pin_insert opened q p h rest)))
+    (λ over. (insert_load opened p h rest, n, insert_load opened p h rest, ([], refl), shown, trace_insert opened p h rest, ap (pin_after_what q n.by n.what) (pin_insert opened q p h rest)))
     (λ here. (rest, n, rest, (load_note p h ∷ [], refl), shown, refl, refl)))
   where
     Goes : List Note → Type 0
     Goes r = (ms : List Note) × (note : Note) × (rest' : List Note) × ((more' : List Note) × (r ≡ more' ++ note ∷ rest')) × (shows q note.by note.what ≡ true) × (trace_of opened rest' ≡ trace_of opened rest) × (pin_after q (note ∷ rest') ≡ pin_after q (n ∷ rest))
 
     At : List Note → Type 0
-    At l = Goes (insert opened p h l)
+    At l = Goes (insert_load opened p h l)
 in_insert opened q p h (m ∷ more) rest n shown ns is = subst At (sym is) (at_place opened Goes p h m (more ++ n ∷ rest)
     (λ over. let r = in_insert opened q p h more rest n shown (more ++ n ∷ rest) refl in (r.0, r.1, r.2, (m ∷ r.3.0, ap (λ l. m ∷ l) r.3.1), r.4, r.5, r.6))
     (λ here. (rest, n, rest, (load_note p h ∷ m ∷ more, refl), shown, refl, refl)))
@@ -47,9 +47,9 @@ in_insert opened q p h (m ∷ more) rest n shown ns is = subst At (sym is) (at_p
     Goes r = (ms : List Note) × (note : Note) × (rest' : List Note) × ((more' : List Note) × (r ≡ more' ++ note ∷ rest')) × (shows q note.by note.what ≡ true) × (trace_of opened rest' ≡ trace_of opened rest) × (pin_after q (note ∷ rest') ≡ pin_after q (n ∷ rest))
 
     At : List Note → Type 0
-    At l = Goes (insert opened p h l)
+    At l = Goes (insert_load opened p h l)
 
-insert_same : (opened : Trace) (p : ℕ) (h : Load) (ns : List Note) (q : ℕ) (x : Sighting opened ns q) → Same opened ns (insert opened p h ns) q x
+insert_same : (opened : Trace) (p : ℕ) (h : Load) (ns : List Note) (q : ℕ) (x : Sighting opened ns q) → Same opened ns (insert_load opened p h ns) q x
 insert_same opened p h ns q x =
     let r = in_insert opened q p h x.within.0 x.rest x.note x.shown ns x.within.1 in
     record { seen = record { note = r.1; rest = r.2; within = r.3; shown = r.4 }; trace = r.5; value = r.6 }
@@ -69,26 +69,26 @@ noted_same opened p hs ns n q x =
     record { seen = s.seen; trace = s.trace ∙ r.trace; value = s.value ∙ r.value }
 
 -- a slot that stays loose stays away
-away_more : (buckets : ℕ) (P0 P : Trace) (x : Option Publishing) (s : ℕ) → IsLoose buckets s (listed x ++ P) → IsAway buckets P0 P s → IsAway buckets P0 (listed x ++ P) s
+away_more : (buckets : ℕ) (P0 P : Trace) (x : Option Publishing) (s : ℕ) → IsLoose buckets s (as_list x ++ P) → IsAway buckets P0 P s → IsAway buckets P0 (as_list x ++ P) s
 away_more buckets P0 P None s loose away = away
 away_more buckets P0 P (Some e) s loose away = λ b stood. ⊎_elim (λ now. absurd (true≢false (sym now.1 ∙ loose b))) (λ before. away b before) stood
 
 -- a slot that was on no chain since some trace is on none after what was published now
 abbrev pub StaysAway : ℕ → Trace → Option Publishing → ℕ → Type 0
-StaysAway buckets P x s = (P0 : Trace) → IsAway buckets P0 P s → IsAway buckets P0 (listed x ++ P) s
+StaysAway buckets P x s = (P0 : Trace) → IsAway buckets P0 P s → IsAway buckets P0 (as_list x ++ P) s
 
 pub silent_stays : (buckets : ℕ) (P : Trace) (x : Option Publishing) (s : ℕ) → x ≡ None → StaysAway buckets P x s
-silent_stays buckets P x s none P0 away = subst (λ y. IsAway buckets P0 (listed y ++ P) s) (sym none) away
+silent_stays buckets P x s none P0 away = subst (λ y. IsAway buckets P0 (as_list y ++ P) s) (sym none) away
 
-pub loose_stays : (buckets : ℕ) (P : Trace) (x : Option Publishing) (s : ℕ) → IsLoose buckets s (listed x ++ P) → StaysAway buckets P x s
+pub loose_stays : (buckets : ℕ) (P : Trace) (x : Option Publishing) (s : ℕ) → IsLoose buckets s (as_list x ++ P) → StaysAway buckets P x s
 loose_stays buckets P x s loose P0 away = away_more buckets P0 P x s loose away
 
 module _ (z : Sizes) (opened : Trace) (p : ℕ) (hs : List Load) (ns : List Note) (n : Note) (s : ℕ) (stays : StaysAway z.buckets (trace_of opened ns) n.published s) where
   abbrev now : List Note
   now = n ∷ splice opened p hs ns
 
-  trace_now : trace_of opened now ≡ listed n.published ++ trace_of opened ns
-  trace_now = ap (λ l. listed n.published ++ l) (trace_splice opened p hs ns)
+  trace_now : trace_of opened now ≡ as_list n.published ++ trace_of opened ns
+  trace_now = ap (λ l. as_list n.published ++ l) (trace_splice opened p hs ns)
 
   away_now : (P0 P0' : Trace) → P0' ≡ P0 → IsAway z.buckets P0 (trace_of opened ns) s → IsAway z.buckets P0' (trace_of opened now) s
   away_now P0 P0' same away = subst (λ (x : Trace × Trace). IsAway z.buckets x.0 x.1 s) (λ i. (sym same i, sym trace_now i)) (stays P0 away)

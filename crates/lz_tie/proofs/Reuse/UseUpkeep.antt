@@ -17,7 +17,7 @@ use Rattle.lz_machine.proofs.Frames.Limbo.{away_new}
 use Rattle.lz_machine.proofs.Frames.Uses.{left_of}
 use Rattle.lz_board.specs.declared.view.Sizes.{Sizes}
 use Rattle.lz_board.specs.declared.view.Note.{Note}
-use Rattle.lz_board.specs.Notes.{listed, trace_of, pin_after}
+use Rattle.lz_board.specs.Notes.{as_list, trace_of, pin_after}
 use Rattle.lz_board.specs.Noting.{Sighting}
 use Rattle.lz_tie.specs.Reuse.{SightTold, UseTold}
 
@@ -39,7 +39,7 @@ unseen (suc n) (suc (suc i)) low high = unseen n (suc i) (omega arith) (omega (a
 -- the notes before others show a shorter trace
 shorter_rest : (opened : Trace) (more rest : List Note) → length (trace_of opened rest) ≤ length (trace_of opened (more ++ rest))
 shorter_rest opened [] rest = le_refl (length (trace_of opened rest))
-shorter_rest opened (m ∷ more) rest = let l = length-append (listed m.published) (trace_of opened (more ++ rest)) in let s = shorter_rest opened more rest in omega (arith, l, s)
+shorter_rest opened (m ∷ more) rest = let l = length-append (as_list m.published) (trace_of opened (more ++ rest)) in let s = shorter_rest opened more rest in omega (arith, l, s)
 
 module _ (z : Sizes) (opened : Trace) (ms : List Note) (s : ℕ) where
   -- a slot in limbo that every pass has left is free

@@ -17,9 +17,9 @@ use Rattle.lz_machine.specs.Yards.{Shape}
 use Rattle.lz_board.specs.declared.view.What.{What}
 use Rattle.lz_board.specs.declared.view.What.TheVariants.{Called, Played, Found}
 use Rattle.lz_board.specs.declared.view.Note.{Note}
-use Rattle.lz_board.specs.Notes.{goes_on, place, placed, steps_of}
+use Rattle.lz_board.specs.Notes.{unless_replied, place, placed, steps_of}
 use Rattle.lz_board.proofs.Upkeep.Splice.{own_step, other_step}
-use Rattle.lz_tie.specs.Marks.{calls_in, number_of, reply_in, marks_with, marks_in}
+use Rattle.lz_tie.specs.Marks.{calls_in, last_call_number, reply_in, marks_with, marks_in}
 use Rattle.lz_tie.specs.OwnCalls.{replied, told_with, told}
 use Rattle.lz_tie.specs.Sessions.{marks_alone}
 
@@ -45,11 +45,11 @@ module _ (shape : Shape) (p : ℕ) where
   record Alone (ns : List Note) : Type 0 where
     marks : marks_in shape ns ≡ marks_alone p (told_at ns)
     count : calls_in ns ≡ length (told_at ns)
-    number : number_of p ns ≡ length (told_at ns)
+    number : last_call_number p ns ≡ length (told_at ns)
     opens : (call : Command × Progress) → place_at ns ≡ Some call → IsOpen (told_at ns)
 
   -- what a reply of the open call shows
-  shows : (ns : List Note) (h : Alone ns) (reply : Reply) → IsOpen (told_at ns) → mark_of_turn (number_of p ns) (Some reply) ++ marks_in shape ns ≡ marks_alone p (replied reply (told_at ns))
+  shows : (ns : List Note) (h : Alone ns) (reply : Reply) → IsOpen (told_at ns) → mark_of_turn (last_call_number p ns) (Some reply) ++ marks_in shape ns ≡ marks_alone p (replied reply (told_at ns))
   shows ns h reply (c, rest, is) =
       (λ i. mark_of_turn (h.number i) (Some reply) ++ h.marks i)
       ∙ ap (λ l. mark_of_turn (length l) (Some reply) ++ marks_alone p l) is
@@ -68,7 +68,7 @@ module _ (shape : Shape) (p : ℕ) where
 
     -- from what its own steps are
     alone_from : (what : What) → marks_with shape p what ns ++ marks_in shape ns ≡ marks_alone p (told_with what (reply_in (place_at ns)) (told_at ns))
-        → calls_in (note_of p what ∷ ns) ≡ length (told_with what (reply_in (place_at ns)) (told_at ns)) → number_of p (note_of p what ∷ ns) ≡ length (told_with what (reply_in (place_at ns)) (told_at ns))
+        → calls_in (note_of p what ∷ ns) ≡ length (told_with what (reply_in (place_at ns)) (told_at ns)) → last_call_number p (note_of p what ∷ ns) ≡ length (told_with what (reply_in (place_at ns)) (told_at ns))
         → ((call : Command × Progress) → placed shape what (place_at ns) ≡ Some call → IsOpen (told_with what (reply_in (place_at ns)) (told_at ns))) → Alone (note_of p what ∷ ns)
     alone_from what marks count number opens =
         let steps = sym (own_steps what) in
@@ -81,7 +81,7 @@ module _ (shape : Shape) (p : ℕ) where
 
     -- a new call
     called : (c : Command) (format : Format) → Alone (note_of p (Called c format) ∷ ns)
-    called c format = alone_from (Called c format) (λ i. Call (suc (h.count i)) p c ∷ h.marks i) (ap suc h.count) (ap (λ b. if b then suc (calls_in ns) else number_of p ns) (eq-eqb p p refl) ∙ ap suc h.count)
+    called c format = alone_from (Called c format) (λ i. Call (suc (h.count i)) p c ∷ h.marks i) (ap suc h.count) (ap (λ b. if b then suc (calls_in ns) else last_call_number p ns) (eq-eqb p p refl) ∙ ap suc h.count)
         (λ call at. (c, told_at ns, refl))
 
     -- what an event makes of it, by the place of the call before it
@@ -90,11 +90,11 @@ module _ (shape : Shape) (p : ℕ) where
       event = Played e o
 
       record After (r : Option Reply) (at : Option (Command × Progress)) : Type 0 where
-        marks : mark_of_turn (number_of p ns) r ++ marks_in shape ns ≡ marks_alone p (told_with event r (told_at ns))
+        marks : mark_of_turn (last_call_number p ns) r ++ marks_in shape ns ≡ marks_alone p (told_with event r (told_at ns))
         long : length (told_at ns) ≡ length (told_with event r (told_at ns))
         opens : (call : Command × Progress) → at ≡ Some call → IsOpen (told_with event r (told_at ns))
 
-      answering : (c : Command) (at : Progress) (r : Option Reply) → IsOpen (told_at ns) → After r (goes_on r c (progress_after shape c at o))
+      answering : (c : Command) (at : Progress) (r : Option Reply) → IsOpen (told_at ns) → After r (unless_replied r c (progress_after shape c at o))
       answering c at None opens = record { marks = h.marks; long = refl; opens = λ call is. opens }
       answering c at (Some reply) opens = record { marks = shows ns h reply opens; long = same_length reply (told_at ns); opens = λ call is. absurd (none-some call is) }
 

@@ -12,7 +12,7 @@ use Rattle.lz_machine.proofs.Alone.Answered.{reply_ends, served_reply}
 use Rattle.lz_machine.proofs.Alone.Service.{Ended, served}
 use Rattle.lz_board.specs.declared.view.Sizes.{Sizes}
 use Rattle.lz_board.specs.declared.view.Part.{Part}
-use Rattle.lz_board.specs.Notes.{shape_of}
+use Rattle.lz_board.specs.Notes.{shape_of_sizes}
 use Rattle.lz_tie.specs.Answers.{Answers}
 use Rattle.lz_tie.specs.OneCaller.{IsPlainAnswer, PlainRow, keys_in}
 use Rattle.lz_tie.specs.OwnCalls.{told}
@@ -31,11 +31,11 @@ told_append [] calls rest = refl
 told_append (call ∷ done) calls rest = told_append done calls ((call.0, Some call.1) ∷ rest)
 
 -- its steps tell them
-pub served_told : (z : Sizes) (F : Format) (calls : AnsweredCalls) (old new : Part) → Served z F calls old new → told (shape_of z) new.steps ≡ told_after calls (told (shape_of z) old.steps)
-served_told z F [] old new is = ap (λ (h : Part). told (shape_of z) h.steps) is
+pub served_told : (z : Sizes) (F : Format) (calls : AnsweredCalls) (old new : Part) → Served z F calls old new → told (shape_of_sizes z) new.steps ≡ told_after calls (told (shape_of_sizes z) old.steps)
+served_told z F [] old new is = ap (λ (h : Part). told (shape_of_sizes z) h.steps) is
 served_told z F (call ∷ calls) old new (size, (mid, answers, rest)) =
     served_told z F calls mid new rest
-    ∙ ap (told_after calls) (subst (λ (z : Sizes). told (shape_of z) mid.steps ≡ (call.0, Some call.1) ∷ told (shape_of z) old.steps) size (answers_told F call.0 call.1 old mid answers))
+    ∙ ap (told_after calls) (subst (λ (z : Sizes). told (shape_of_sizes z) mid.steps ≡ (call.0, Some call.1) ∷ told (shape_of_sizes z) old.steps) size (answers_told F call.0 call.1 old mid answers))
 
 -- the first of them
 pub served_first : (z : Sizes) (F : Format) (done calls : AnsweredCalls) (old new : Part) → Served z F (done ++ calls) old new → (mid : Part) × Served z F done old mid × Served z F calls mid new

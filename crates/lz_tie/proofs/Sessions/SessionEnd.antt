@@ -7,7 +7,7 @@ use Rattle.lz_machine.specs.Alone.{IsPlain}
 use Rattle.lz_list.specs.Traces.{Trace}
 use Rattle.lz_board.specs.declared.view.Note.{Note}
 use Rattle.lz_board.specs.declared.view.Part.{Part}
-use Rattle.lz_board.specs.Notes.{shape_of}
+use Rattle.lz_board.specs.Notes.{shape_of_sizes}
 use Rattle.lz_board.specs.Seats.{BoardId}
 use Rattle.lz_tie.specs.Marks.{marks_in}
 use Rattle.lz_tie.specs.OneCaller.{keys_in}
@@ -29,11 +29,11 @@ cut_last (call ∷ next ∷ calls) none = (none.0, cut_last (next ∷ calls) non
 
 module _ (b : BoardId) (F : Format) (ns : List Note) (calls : AnsweredCalls) (before after : Part) (session : IsSession b F ns calls before after) where
   -- the history of the notes
-  pub session_marks : marks_in (shape_of b.sizes) ns ≡ marks_alone after.number (told_after calls [])
+  pub session_marks : marks_in (shape_of_sizes b.sizes) ns ≡ marks_alone after.number (told_after calls [])
   session_marks =
       session.tells
       ∙ ap (marks_alone after.number) (served_told b.sizes F calls before after session.served)
-      ∙ ap (λ l. marks_alone after.number (told_after calls (told (shape_of b.sizes) l))) session.no_steps
+      ∙ ap (λ l. marks_alone after.number (told_after calls (told (shape_of_sizes b.sizes) l))) session.no_steps
 
   session_plain : PlainRun F b.sizes.slots calls (members_of b.opened) (members_of after.known)
   session_plain =

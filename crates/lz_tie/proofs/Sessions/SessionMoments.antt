@@ -16,7 +16,7 @@ use Rattle.lz_machine.proofs.Alone.Service.{served_open}
 use Rattle.lz_list.specs.Traces.{Trace}
 use Rattle.lz_board.specs.declared.view.Note.{Note}
 use Rattle.lz_board.specs.declared.view.Part.{Part}
-use Rattle.lz_board.specs.Notes.{shape_of}
+use Rattle.lz_board.specs.Notes.{shape_of_sizes}
 use Rattle.lz_board.specs.Seats.{BoardId}
 use Rattle.lz_tie.specs.Marks.{marks_with, marks_in}
 use Rattle.lz_tie.specs.Moments.{ExplainsBegun}
@@ -101,11 +101,11 @@ module _ (b : BoardId) (F : Format) (ns : List Note) (calls : AnsweredCalls) (be
   S0 = members_of b.opened
 
   -- the calls of that beginning
-  firsts : FirstOnes p calls [] (marks_in (shape_of b.sizes) begun.before)
+  firsts : FirstOnes p calls [] (marks_in (shape_of_sizes b.sizes) begun.before)
   firsts =
-      let r = marks_later (shape_of b.sizes) begun.later begun.before in
-      first_ones p (marks_in (shape_of b.sizes) begun.before) calls r.0
-      (sym r.1 ∙ ap (marks_in (shape_of b.sizes)) (sym begun.splits) ∙ session_marks b F ns calls before after session)
+      let r = marks_later (shape_of_sizes b.sizes) begun.later begun.before in
+      first_ones p (marks_in (shape_of_sizes b.sizes) begun.before) calls r.0
+      (sym r.1 ∙ ap (marks_in (shape_of_sizes b.sizes)) (sym begun.splits) ∙ session_marks b F ns calls before after session)
 
   module _ (done left : AnsweredCalls) (splits : calls ≡ done ++ left) where
     cut : CutLast (done ++ left)
@@ -114,14 +114,14 @@ module _ (b : BoardId) (F : Format) (ns : List Note) (calls : AnsweredCalls) (be
     parts : (mid : Part) × Served b.sizes F done before mid × Served b.sizes F left mid after
     parts = served_first b.sizes F done left before after (subst (λ l. Served b.sizes F l before after) splits session.served)
 
-    fits : (M : History) → marks_in (shape_of b.sizes) begun.before ≡ M → Fits S0 M e.calls e.found
+    fits : (M : History) → marks_in (shape_of_sizes b.sizes) begun.before ≡ M → Fits S0 M e.calls e.found
     fits M is = subst (λ M. Fits S0 M e.calls e.found) is e.fits
 
     first : LeadsTo S0 (marks_alone p []) (keys_in before.known)
     first = leads_none p b.opened before session.known
 
     -- each of them has ended
-    ended : marks_in (shape_of b.sizes) begun.before ≡ marks_alone p (told_after done []) → HoldsAfterSome F b.sizes.slots calls S0 t
+    ended : marks_in (shape_of_sizes b.sizes) begun.before ≡ marks_alone p (told_after done []) → HoldsAfterSome F b.sizes.slots calls S0 t
     ended is =
         let last = cut_first done left cut in
         let plain : IsPlain S0 (marks_alone p (told_after done [])) e.found = fits_plain p S0 e.found e.calls done [] last (whole_none p) (fits (marks_alone p (told_after done [])) is) in
@@ -137,7 +137,7 @@ module _ (b : BoardId) (F : Format) (ns : List Note) (calls : AnsweredCalls) (be
         }
 
     -- the next one has begun
-    begins : (c : Command) (reply : Reply) (more : AnsweredCalls) → left ≡ (c, reply) ∷ more → marks_in (shape_of b.sizes) begun.before ≡ marks_alone p ((c, None) ∷ told_after done []) → HoldsAfterSome F b.sizes.slots calls S0 t
+    begins : (c : Command) (reply : Reply) (more : AnsweredCalls) → left ≡ (c, reply) ∷ more → marks_in (shape_of_sizes b.sizes) begun.before ≡ marks_alone p ((c, None) ∷ told_after done []) → HoldsAfterSome F b.sizes.slots calls S0 t
     begins c reply more next is =
         let none = none_before done (c, reply) more (subst (λ l. CutLast (done ++ l)) next cut) in
         let rest = told_after done [] in

@@ -11,7 +11,7 @@ use Rattle.lz_board.specs.declared.view.What.{What}
 use Rattle.lz_board.specs.declared.view.What.TheVariants.{Called, Played, Found}
 use Rattle.lz_board.specs.declared.view.Note.{Note}
 use Rattle.lz_board.specs.declared.view.Part.{Part}
-use Rattle.lz_board.specs.Notes.{shape_of}
+use Rattle.lz_board.specs.Notes.{shape_of_sizes}
 use Rattle.lz_board.specs.Kept.{Knows}
 use Rattle.lz_board.specs.Plays.{knowing}
 use Rattle.lz_board.specs.Seats.{BoardId}
@@ -103,4 +103,4 @@ module _ (b : BoardId) (ns : List Note) (y : Yard) (dev : Device) (locked : IsLo
       let number : h.number ≡ 1 = omega (arith, low, high, one) in
       let passes : t.start.shape.passes ≡ 1 = ap (λ (z : Sizes). z.passes) (sym (locked_sizes b ns y dev locked)) ∙ one in
       let sole = subst (λ (p : ℕ). AreSole p ns) (sym number) (are_sole t.start t.starts passes ns locked_read) in
-      alone_marks (shape_of b.sizes) h.number ns sole ∙ ap (λ l. marks_alone h.number (told (shape_of b.sizes) l)) knows.noted
+      alone_marks (shape_of_sizes b.sizes) h.number ns sole ∙ ap (λ l. marks_alone h.number (told (shape_of_sizes b.sizes) l)) knows.noted

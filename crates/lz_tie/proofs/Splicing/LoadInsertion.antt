@@ -29,7 +29,7 @@ use Rattle.lz_board.specs.declared.view.What.{What}
 use Rattle.lz_board.specs.declared.view.What.TheVariants.{Called, Played, Found}
 use Rattle.lz_board.specs.declared.view.Note.{Note}
 use Rattle.lz_board.specs.declared.view.Load.{Load}
-use Rattle.lz_board.specs.Notes.{listed, trace_of, steps_of, Extends, load_note, insert, Quiet, IsShared, Shown, place}
+use Rattle.lz_board.specs.Notes.{as_list, trace_of, steps_of, Extends, load_note, insert_load, Quiet, IsShared, Shown, place}
 use Rattle.lz_board.proofs.Upkeep.Splice.{at_place, other_step}
 use Rattle.lz_tie.specs.NotedRuns.{TellsTurn, TellsFault, TellsStep, TellsLooks, TellsOf, NoteTells, ReadsAs, viewed, IsHopAt}
 use Rattle.lz_tie.proofs.Reading.TraceNotes.{trace_reads}
@@ -61,7 +61,7 @@ abbrev tail_or : Trace → Trace → Trace
 tail_or d [] = d
 tail_or d (z ∷ zs) = zs
 
-pub shorter : (x : Option Publishing) (t seen : Trace) → Extends (listed x ++ t) seen → length seen < length (listed x ++ t) → Extends t seen
+pub shorter : (x : Option Publishing) (t seen : Trace) → Extends (as_list x ++ t) seen → length seen < length (as_list x ++ t) → Extends t seen
 shorter None t seen e lt = e
 shorter (Some z) t seen ([], e) lt = let n = ap length e in absurd (omega arith)
 shorter (Some z) t seen (y ∷ ys, e) lt = (ys, ap (tail_or t) e)
@@ -78,7 +78,7 @@ any_append f (x ∷ xs) ys none rest = go (λ n. any_append f xs ys n rest) (f x
 same_turn : (a : ℕ) (one other : Service) (b : ℕ) (n : Note) (q q' : Option Caller) → one.yard ≡ other.yard → q ≡ q' → TellsTurn one b q n → TellsTurn other b q' n
 same_turn a one other b n None q' yard same t = absurd t
 same_turn a one other b n (Some caller) q' yard same t = subst (λ (q : Option Caller). TellsTurn other b q n) same
-    (subst (λ (y : Yard). (n.what ≡ Played (next_event y caller) (line y b (next_event y caller)).1) × (listed n.published ≡ line_publishes y b (next_event y caller))) yard t)
+    (subst (λ (y : Yard). (n.what ≡ Played (next_event y caller) (line y b (next_event y caller)).1) × (as_list n.published ≡ line_publishes y b (next_event y caller))) yard t)
 
 same_fault : (one other : Service) (n : Note) (q q' : Option Caller) → one.yard ≡ other.yard → q ≡ q' → TellsFault one q n → TellsFault other q' n
 same_fault one other n None q' yard same t = absurd t
@@ -242,12 +242,12 @@ module _ (start : Start) (starts : IsStart start) (a : ℕ) (low : 1 ≤ a) (h :
         reads = (Turn a ∷ [], steps, refl, record { step = Turn a; steps = refl; tells = subst (λ (w : State). TellsStep w (load_note a h) (Turn a)) (sym pl.state) (refl, turn_tells service call is pl.shape may value) }, reads);
       }
 
-  pub insert_reads : (ns : List Note) (steps : List Transition) → IsRun p steps → ReadsAs p ns steps → Quiet opened a h.at ns → length opened ≤ h.at → Shown z (trace_of opened ns) h → IsHopAt start.shape h (place start.shape (steps_of a ns)) → Inserted steps (insert opened a h ns)
+  pub insert_reads : (ns : List Note) (steps : List Transition) → IsRun p steps → ReadsAs p ns steps → Quiet opened a h.at ns → length opened ≤ h.at → Shown z (trace_of opened ns) h → IsHopAt start.shape h (place start.shape (steps_of a ns)) → Inserted steps (insert_load opened a h ns)
   insert_reads [] steps runs reads quiet least shown hop = here [] steps runs reads shown least hop
   insert_reads (x ∷ xs) steps runs (new, before, is, tells, rest) quiet least shown hop = at_place opened (Inserted steps) a h x xs (over (insert_reads xs before)) (λ at. here (x ∷ xs) steps runs (new, before, is, tells, rest) shown at hop)
     where
-      over : (IsRun p before → ReadsAs p xs before → Quiet opened a h.at xs → length opened ≤ h.at → Shown z (trace_of opened xs) h → IsHopAt start.shape h (place start.shape (steps_of a xs)) → Inserted before (insert opened a h xs))
-          → h.at < length (trace_of opened (x ∷ xs)) → Inserted steps (x ∷ insert opened a h xs)
+      over : (IsRun p before → ReadsAs p xs before → Quiet opened a h.at xs → length opened ≤ h.at → Shown z (trace_of opened xs) h → IsHopAt start.shape h (place start.shape (steps_of a xs)) → Inserted before (insert_load opened a h xs))
+          → h.at < length (trace_of opened (x ∷ xs)) → Inserted steps (x ∷ insert_load opened a h xs)
       over next past =
           let away = quiet.0 past in
           let runs' = subst (IsRun p) is runs in

@@ -18,7 +18,7 @@ use Rattle.lz_machine.proofs.Frames.Limbo.{away_new}
 use Rattle.lz_yard.specs.Filling.{OpensYard}
 use Rattle.lz_board.specs.declared.view.Sizes.{Sizes}
 use Rattle.lz_board.specs.declared.view.Note.{Note}
-use Rattle.lz_board.specs.Opened.{sizes_in, opened_by, IsOpened}
+use Rattle.lz_board.specs.Opened.{sizes_in, opened_by, AreOpened}
 use Rattle.lz_board.specs.Seats.{BoardId}
 use Rattle.lz_board.proofs.Start.FirstWords.{opens_text}
 use Rattle.lz_tie.specs.NotedRuns.{IsTied}
@@ -27,11 +27,11 @@ use Rattle.lz_tie.specs.Reuse.{UseTold, ReuseTold}
 use Rattle.lz_tie.proofs.Hold.NoteCondition.{sound, tied_loose}
 
 module _ (y : Yard) (t : List ℕ) (starts : IsStart (record { shape = y.shape; text = t })) (is : y ≡ opened_yard y.shape t) where
-  opens : IsOpened y.words × (opened_by y.words ≡ first_trace y.shape t)
+  opens : AreOpened y.words × (opened_by y.words ≡ first_trace y.shape t)
   opens = opens_text y.shape t y.words starts.text.no_key_twice (ap (λ (x : Yard). x.words) is)
 
   -- a board may start from its words
-  pub words_opened : IsOpened y.words
+  pub words_opened : AreOpened y.words
   words_opened = opens.0
 
   pub first_tied : (honest : Bool) (disk : Medium) → (IsTrue honest → disk ≡ at_rest t) → IsTied (opened_by y.words) [] y honest disk

@@ -4,12 +4,12 @@ use Rattle.std.specs.Prelude.{Option, Some, IfSome, slice_index_or}
 use Rattle.std.proofs.lemmas.Option.{slice_get-get_or}
 use Rattle.lz_machine.specs.declared.actor.Actor.{Actor}
 use Rattle.lz_machine.specs.Yards.{Yard, actor_at, idle_actor}
-use Rattle.lz_yard.specs.Parts.{Fits, HasInRange}
+use Rattle.lz_yard.specs.Parts.{PartsFit, HasInRange}
 
 if_some : (o : Option ℕ) (s : ℕ) (P : ℕ → Type 0) → o ≡ Some s → IfSome o P → P s
 if_some o s P is has = subst (λ (q : Option ℕ). IfSome q P) is has
 
-module _ (y : Yard) (known : ℕ) (fits : Fits y known) where
+module _ (y : Yard) (known : ℕ) (fits : PartsFit y known) where
   -- what an actor has in hand is in range
   pub hand_fits : (a : ℕ) → 1 ≤ a → a ≤ length y.actors → HasInRange y.shape.slots (actor_at y a)
   hand_fits zero low high = absurd (omega (arith, low))

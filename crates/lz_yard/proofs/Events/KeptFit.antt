@@ -33,7 +33,7 @@ use Rattle.lz_yard.specs.Steps.{Played}
 use Rattle.lz_yard.specs.declared.told.Told.{Told}
 use Rattle.lz_machine.specs.Ready.{IsEventOf}
 use Rattle.lz_machine.specs.Runs.{with_words}
-use Rattle.lz_yard.specs.Parts.{Fits, HasInRange}
+use Rattle.lz_yard.specs.Parts.{PartsFit, HasInRange}
 use Rattle.lz_yard.proofs.Events.HandRange.{hand_fits}
 use Rattle.lz_yard.proofs.Events.VaultCalls.{sync_left, sync_more}
 use Rattle.lz_machine.proofs.Runs.Shape.{line_keeps_shape}
@@ -130,7 +130,7 @@ record AreHands (slots : ℕ) (old new : List Actor) : Type 0 where
   count : length new ≡ length old
   hands : Hands slots new
 
-module _ (y : Yard) (known : ℕ) (fits : Fits y known) (a : ℕ) (low : 1 ≤ a) (high : a ≤ length y.actors) where
+module _ (y : Yard) (known : ℕ) (fits : PartsFit y known) (a : ℕ) (low : 1 ≤ a) (high : a ≤ length y.actors) where
   abbrev N : ℕ
   N = y.shape.slots
 
@@ -197,7 +197,7 @@ module _ (y : Yard) (known : ℕ) (fits : Fits y known) (a : ℕ) (low : 1 ≤ a
   syncs_kept _ plays = fits.syncs
 
   -- of an event that is done, of each course, and of a device failure
-  done_fits : (e : Event) → IsEventOf y e → course y a e ≡ Plays → Fits (yard_done y mine a e) known
+  done_fits : (e : Event) → IsEventOf y e → course y a e ≡ Plays → PartsFit (yard_done y mine a e) known
   done_fits e is plays =
       let words = words_sizes y mine a e in
       let actors = actors_kept e is in
@@ -214,12 +214,12 @@ module _ (y : Yard) (known : ℕ) (fits : Fits y known) (a : ℕ) (low : 1 ≤ a
         hands = actors.hands;
       }
 
-  line_fits : (c : Course) (e : Event) → IsEventOf y e → course y a e ≡ c → Fits (line_on c y mine a e).0 known
+  line_fits : (c : Course) (e : Event) → IsEventOf y e → course y a e ≡ c → PartsFit (line_on c y mine a e).0 known
   line_fits (Refused outcome) e is course_is = fits
   line_fits Dies e is course_is = record { cells = fits.cells; heads = fits.heads; links = fits.links; keys = fits.keys; pins = fits.pins; uses = fits.uses; rows = fits.rows; actors = fits.actors; syncs = fits.syncs; hands = fits.hands }
   line_fits Plays e is course_is = done_fits e is course_is
 
-  failed_fits : (e : Event) → Fits (line_failed y a e).0 known
+  failed_fits : (e : Event) → PartsFit (line_failed y a e).0 known
   failed_fits e = record {
     cells = failed_size (call_of y mine e) y.vault.cells (cells_after y mine e) (cells_size y mine e) ∙ fits.cells;
     heads = fits.heads;
@@ -269,20 +269,20 @@ line_sizes Plays y actor a e = words_sizes y actor a e
 
 -- What holds of a yard and of what its last step told: the parts fit, and the word is one of the yard's.
 abbrev pub Stands : Yard → ℕ → Told → Type 0
-Stands y known told = Fits y known × IfSome told.changed (IsWord y.words)
+Stands y known told = PartsFit y known × IfSome told.changed (IsWord y.words)
 
 -- it holds after a step
 pub played_fits : (y : Yard) (known : ℕ) (a : ℕ) (e : Event) (outcome : Outcome) (new : Yard) (rows : ℕ) (told : Told) (before after : Device)
-    → Fits y known → (1 ≤ a) × (a ≤ y.shape.passes) → IsEventOf y e → Played y a e outcome new told before after → rows ≡ known → Stands new rows told
+    → PartsFit y known → (1 ≤ a) × (a ≤ y.shape.passes) → IsEventOf y e → Played y a e outcome new told before after → rows ≡ known → Stands new rows told
 played_fits y known a e outcome new rows told before after fits actor is played same =
     let high : a ≤ length y.actors = omega (arith, actor.1, fits.actors) in
     subst (λ (n : ℕ). Stands new n told) (sym same) (elim (fault_or_not outcome) [
       | inl fault ↦ (
-        subst (λ (q : Yard). Fits q known) (sym (played.failed fault).yard) (failed_fits y known fits a actor.0 high e),
+        subst (λ (q : Yard). PartsFit q known) (sym (played.failed fault).yard) (failed_fits y known fits a actor.0 high e),
         subst (λ (t : Told). IfSome t.changed (IsWord new.words)) (sym (played.failed fault).nothing) tt,
       )
       | inr other ↦ (
-        subst (λ (q : Yard). Fits q known) (sym (played.done other).yard) (line_fits y known fits a actor.0 high (course y a e) e is refl),
+        subst (λ (q : Yard). PartsFit q known) (sym (played.done other).yard) (line_fits y known fits a actor.0 high (course y a e) e is refl),
         subst (λ (q : Yard). IfSome told.changed (IsWord q.words)) (sym (played.done other).yard)
             (some_there y.words (line_on (course y a e) y (actor_at y a) a e).0.words (line_sizes (course y a e) y (actor_at y a) a e) told.changed (played.done other).there),
       )

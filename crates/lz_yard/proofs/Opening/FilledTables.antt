@@ -15,13 +15,13 @@ use Rattle.lz_allot.specs.Allots.{Allotted, first_uses}
 use Rattle.lz_list.specs.Words.{Words}
 use Rattle.lz_list.specs.Lists.{Listed, IsSorted, new_words, free_locks}
 use Rattle.lz_list.specs.declared.word.Word.TheVariants.{Head, Link, Key}
-use Rattle.lz_list.specs.Traces.{Chain, IsFound, has_slot, word_after, words_after, opening}
+use Rattle.lz_list.specs.Traces.{Chain, IsFound, has_slot, word_after, words_of_trace, opening}
 use Rattle.lz_list.proofs.Traces.OpeningTrace.{opening_lawful}
 use Rattle.lz_list.proofs.Tables.WordTable.{length-table}
 use Rattle.lz_list.proofs.Traces.TraceWords.{sorted_after}
 use Rattle.lz_machine.specs.declared.actor.Actor.{Actor}
 use Rattle.lz_machine.specs.Yards.{Yard, idle_actor}
-use Rattle.lz_yard.specs.Parts.{Fits, HasInRange}
+use Rattle.lz_yard.specs.Parts.{PartsFit, HasInRange}
 use Rattle.lz_slot.specs.Nodes.{has_node}
 use Rattle.lz_vault.specs.Members.{AreMembers}
 use Rattle.lz_yard.specs.Filling.{AreTables, with_members}
@@ -61,11 +61,11 @@ module _ (cells : List Cell) (B S : ℕ) (few : length cells ≤ most_slots) (so
       let size : length w.links ≡ N = ap (λ (v : Words). length v.links) new ∙ length-replicate N 0 in
       omega (arith, node.0, size)
 
-  pub words_filled : (w v : Words) → v ≡ new_words N B S → w ≡ with_members es v → w ≡ words_after N B S (opening B es)
+  pub words_filled : (w v : Words) → v ≡ new_words N B S → w ≡ with_members es v → w ≡ words_of_trace N B S (opening B es)
   words_filled w v new is = is ∙ ap (with_members es) new ∙ filled_words N B S few some es found are.ascend
 
   pub words_sorted : (w v : Words) → v ≡ new_words N B S → w ≡ with_members es v → IsSorted w
-  words_sorted w v new is = subst IsSorted (sym (words_filled w v new is)) (sorted_after N B (opening B es) few (opening_lawful B N es found) (words_after N B S (opening B es)) refl refl refl)
+  words_sorted w v new is = subst IsSorted (sym (words_filled w v new is)) (sorted_after N B (opening B es) few (opening_lawful B N es found) (words_of_trace N B S (opening B es)) refl refl refl)
 
   abbrev slots : List ℕ
   slots = map (λ f. f.1) es
@@ -113,7 +113,7 @@ module _ (vault : Vaulted) (B S slots : ℕ) (list : Listed) (allot : Allotted) 
   opened = record { shape = record { slots = slots; buckets = B; passes = S }; words = list.words; locks = list.locks; vault = vault; uses = allot.uses; actors = actors }
 
   -- the parts of a yard that was opened fit
-  pub opened_fits : vault.syncs ≡ 0 → Fits opened (length allot.rows)
+  pub opened_fits : vault.syncs ≡ 0 → PartsFit opened (length allot.rows)
   opened_fits fresh = record {
     cells = sym count;
     heads = ap (λ (w : Words). length w.heads) are.words ∙ length-table B (λ b. word_after B (opening B are.members) (Head b));

@@ -27,7 +27,7 @@ use Rattle.lz_list.specs.Words.{Words}
 use Rattle.lz_list.specs.Locks.{NodeLocks}
 use Rattle.lz_list.specs.Lists.{Listed}
 use Rattle.lz_list.specs.declared.word.Word.TheVariants.{Head, Link}
-use Rattle.lz_list.specs.Traces.{Chain, IsFound, has_slot, word_after, words_after, opening}
+use Rattle.lz_list.specs.Traces.{Chain, IsFound, has_slot, word_after, words_of_trace, opening}
 use Rattle.lz_list.proofs.Tables.WordTable.{length-table}
 use Rattle.lz_machine.specs.declared.actor.Actor.{Actor}
 use Rattle.lz_machine.specs.Yards.{Yard, Shape, cell_read, use_read, slots_read, opened_yard}
@@ -133,14 +133,14 @@ module _ (t : List ℕ) where
     found : IsFound N es
     found = are_found cells N es are.found.ascend are.found.each
 
-    words_are : list.words ≡ words_after N B S (opening B (held t N))
+    words_are : list.words ≡ words_of_trace N B S (opening B (held t N))
     words_are = are.words ∙ same_words_after N B S es (held t N) found (held_found t N N no_key_twice (omega arith)) without within
 
     locks_are : list.locks ≡ record { heads = replicate B 0; nodes = replicate N 0 }
     locks_are =
         are.locks
         ∙ ap (λ (w : Words). record { heads = replicate (length w.heads) 0; nodes = replicate (length w.links) 0 }) are.words
-        ∙ ap (λ (n : ℕ). record { heads = replicate n 0; nodes = replicate (length (words_after N B S (opening B es)).links) 0 }) (length-table B (λ b. word_after B (opening B es) (Head b)))
+        ∙ ap (λ (n : ℕ). record { heads = replicate n 0; nodes = replicate (length (words_of_trace N B S (opening B es)).links) 0 }) (length-table B (λ b. word_after B (opening B es) (Head b)))
         ∙ ap (λ (n : ℕ). record { heads = replicate B 0; nodes = replicate n 0 }) (length-table N (λ s. word_after B (opening B es) (Link s)))
 
     vault_is : vault ≡ record { format = format_of t; cells = map cell_read (slots_read t N); syncs = 0; dead = false }

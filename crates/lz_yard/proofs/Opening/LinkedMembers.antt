@@ -9,7 +9,7 @@ use Rattle.lz_list.specs.declared.word.Word.TheVariants.{Head, Link, Key}
 use Rattle.lz_list.specs.declared.flags.Flags.{Flags}
 use Rattle.lz_list.specs.Words.{Words, set, link_with, next_at, next_of}
 use Rattle.lz_list.specs.Lists.{new_words}
-use Rattle.lz_list.specs.Traces.{Trace, Chain, Lawful, Shows, IsFound, insert, place_before, link_above, bucket_of, chain, chain_of, place_of, head_word, node_next, next_link, key_word, flags_after, words_after, halt_word, table, opening}
+use Rattle.lz_list.specs.Traces.{Trace, Chain, Lawful, WordsShow, IsFound, insert, place_before, link_above, bucket_of, chain, chain_of, place_of, head_word, node_next, next_link, key_word, flags_after, words_of_trace, halt_word, table, opening}
 use Rattle.lz_list.proofs.Traces.OpeningTrace.{opening_lawful}
 use Rattle.lz_list.proofs.Chains.TraceChain.{words_show_chain}
 use Rattle.lz_list.proofs.Tables.WordTable.{table_at, table_set, length-table}
@@ -45,7 +45,7 @@ first_place : (k : ℕ) (c : Chain) → AllAbove k c → place_before k 0 c ≡ 
 first_place k [] all = refl
 first_place k (n ∷ c) all = grind (arith, nat_tests, all.0)
 
-first_link : (next keys : ℕ → ℕ) (k : ℕ) (c : Chain) → AllAbove k c → Shows next keys 0 c → link_above k c ≡ next 0
+first_link : (next keys : ℕ → ℕ) (k : ℕ) (c : Chain) → AllAbove k c → WordsShow next keys 0 c → link_above k c ≡ next 0
 first_link next keys k [] all shows = sym shows
 first_link next keys k (n ∷ c) all shows = grind (arith, nat_tests, all.0, shows.0)
 
@@ -65,7 +65,7 @@ module _ (N B S : ℕ) (few : N ≤ most_slots) (some : 1 ≤ B) (es : Chain) (k
   Q = opening B ((k, s) ∷ es)
 
   abbrev W : Words
-  W = words_after N B S P
+  W = words_of_trace N B S P
 
   abbrev b : ℕ
   b = bucket_of B k
@@ -125,7 +125,7 @@ module _ (N B S : ℕ) (few : N ≤ most_slots) (some : 1 ≤ B) (es : Chain) (k
   keys_are : slice_set W.keys s k ≡ table N (λ t. key_word t Q)
   keys_are = table_set N (λ t. key_word t P) (λ t. key_word t Q) s k found.0 key_here key_other
 
-  pub first_words : with_first W k s ≡ words_after N B S Q
+  pub first_words : with_first W k s ≡ words_of_trace N B S Q
   first_words =
       ap (λ (n : ℕ). set (set (set W (Key s) k) (Link s) (link_with (next_at W (Bucket (bucket_of n k))) added)) (Head (bucket_of n k)) (suc s)) (length-table B (λ c. head_word B c P))
       ∙ same_words (slice_set W.heads b (suc s)) (table B (λ c. head_word B c Q)) (slice_set W.links s (link_with (next_at W (Bucket b)) added)) (table N (λ t. link_with (node_next B t Q) (flags_after t Q)))
@@ -141,7 +141,7 @@ table_of (suc n) x = push n ∙ ap (λ (l : List ℕ). l ++ x ∷ []) (table_of 
     push (suc m) = ap (λ (l : List ℕ). x ∷ l) (push m)
 
 -- all of them
-pub filled_words : (N B S : ℕ) → N ≤ most_slots → 1 ≤ B → (es : Chain) → IsFound N es → Ascends es → with_members es (new_words N B S) ≡ words_after N B S (opening B es)
+pub filled_words : (N B S : ℕ) → N ≤ most_slots → 1 ≤ B → (es : Chain) → IsFound N es → Ascends es → with_members es (new_words N B S) ≡ words_of_trace N B S (opening B es)
 filled_words N B S few some [] found up =
     same_words (replicate B 0) (table B (λ c. 0)) (replicate N 0) (table N (λ t. link_with 0 (record { mark = false; add_settled = false; remove_settled = false }))) (replicate N 0) (table N (λ t. 0)) (replicate S 0) 0
     (table_of B 0) (table_of N 0) (table_of N 0)

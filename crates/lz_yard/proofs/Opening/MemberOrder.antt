@@ -4,7 +4,7 @@ use mathlib.Core.Bool.{false≢true}
 use Rattle.std.proofs.lemmas.Bool.{cases_eq, cases_Bool}
 use Rattle.std.proofs.lemmas.Bool.Decides.{nat_tests, leb_tells, eqb_tells}
 use Rattle.lz_list.specs.Words.{link_with}
-use Rattle.lz_list.specs.Traces.{Trace, Chain, Shows, rank, on, IsFound, insert, bucket_of, chain, chain_of, place_of, has_slot, head_word, node_next, next_link, key_word, has_added, has_removed, flags_after, words_after, halt_word, opening}
+use Rattle.lz_list.specs.Traces.{Trace, Chain, WordsShow, rank_at, on, IsFound, insert, bucket_of, chain, chain_of, place_of, has_slot, head_word, node_next, next_link, key_word, has_added, has_removed, flags_after, words_of_trace, halt_word, opening}
 use Rattle.lz_list.proofs.Chains.PlaceRank.{before_on, on_start}
 use Rattle.lz_list.proofs.Traces.OpeningTrace.{opening_lawful}
 use Rattle.lz_list.proofs.Chains.SortedChain.{same_pair}
@@ -41,14 +41,14 @@ same_list (n ∷ c) (m ∷ d) up up' in' out = elim (node_cases n.0 n.1 m d (in'
     ]
 
 -- a chain that is shown ascends
-shown_above : (next keys : ℕ → ℕ) (x : ℕ) (c : Chain) → Shows next keys x c → (k s : ℕ) → has_node k s c ≡ true → rank keys x ≤ k
+shown_above : (next keys : ℕ → ℕ) (x : ℕ) (c : Chain) → WordsShow next keys x c → (k s : ℕ) → has_node k s c ≡ true → rank_at keys x ≤ k
 shown_above next keys x [] shows k s there = absurd (false≢true there)
 shown_above next keys x (n ∷ c) shows k s there = elim (node_cases k s n c there) [
   | inl first ↦ omega (arith, shows.2, first.0)
   | inr later ↦ let high : suc (keys n.1) ≤ k = shown_above next keys (suc n.1) c shows.3 k s later in omega (arith, shows.1, shows.2, high)
 ]
 
-shown_ascends : (next keys : ℕ → ℕ) (x : ℕ) (c : Chain) → Shows next keys x c → Ascends c
+shown_ascends : (next keys : ℕ → ℕ) (x : ℕ) (c : Chain) → WordsShow next keys x c → Ascends c
 shown_ascends next keys x [] shows = tt
 shown_ascends next keys x (n ∷ c) shows = (
   (λ k s there. let high : suc (keys n.1) ≤ k = shown_above next keys (suc n.1) c shows.3 k s there in omega (arith, shows.1, high)),
@@ -87,7 +87,7 @@ insert_old k s j t (n ∷ c) there = elim (leb_tells (suc n.0) j) [
 ]
 
 -- a chain's next links are told by it
-same_next : (next keys other keys' : ℕ → ℕ) (x : ℕ) (c : Chain) → Shows next keys x c → Shows other keys' x c → (y : ℕ) → on x c y ≡ true → next y ≡ other y
+same_next : (next keys other keys' : ℕ → ℕ) (x : ℕ) (c : Chain) → WordsShow next keys x c → WordsShow other keys' x c → (y : ℕ) → on x c y ≡ true → next y ≡ other y
 same_next next keys other keys' x [] shows shows' y there =
     let at : y ≡ x = grind (arith, nat_tests, there) in
     ap next at ∙ shows ∙ sym shows' ∙ ap other (sym at)
@@ -176,10 +176,10 @@ module _ (N B S : ℕ) (F G : Chain) (found : IsFound N F) (found' : IsFound N G
   abbrev Q : Trace
   Q = opening B G
 
-  shows : (b : ℕ) → Shows (next_link B b P) (λ t. key_word t P) 0 (chain B b P)
+  shows : (b : ℕ) → WordsShow (next_link B b P) (λ t. key_word t P) 0 (chain B b P)
   shows b = (words_show_chain B N P (opening_lawful B N F found) b).shows
 
-  shows' : (b : ℕ) → Shows (next_link B b Q) (λ t. key_word t Q) 0 (chain B b Q)
+  shows' : (b : ℕ) → WordsShow (next_link B b Q) (λ t. key_word t Q) 0 (chain B b Q)
   shows' b = (words_show_chain B N Q (opening_lawful B N G found') b).shows
 
   chains : (b : ℕ) → chain B b P ≡ chain B b Q
@@ -188,7 +188,7 @@ module _ (N B S : ℕ) (F G : Chain) (found : IsFound N F) (found' : IsFound N G
       (λ k s there. let was = chain_has B b k s G there in has_chain B b k s F was.0 (out k s was.1))
 
   nexts : (b y : ℕ) → on 0 (chain B b P) y ≡ true → next_link B b P y ≡ next_link B b Q y
-  nexts b y there = same_next (next_link B b P) (λ t. key_word t P) (next_link B b Q) (λ t. key_word t Q) 0 (chain B b P) (shows b) (subst (Shows (next_link B b Q) (λ t. key_word t Q) 0) (sym (chains b)) (shows' b)) y there
+  nexts b y there = same_next (next_link B b P) (λ t. key_word t P) (next_link B b Q) (λ t. key_word t Q) 0 (chain B b P) (shows b) (subst (WordsShow (next_link B b Q) (λ t. key_word t Q) 0) (sym (chains b)) (shows' b)) y there
 
   heads : (b : ℕ) → head_word B b P ≡ head_word B b Q
   heads b = nexts b 0 (on_start 0 (chain B b P))
@@ -221,7 +221,7 @@ module _ (N B S : ℕ) (F G : Chain) (found : IsFound N F) (found' : IsFound N G
   halted [] = refl
   halted (f ∷ H) = halted H
 
-  pub same_words_after : words_after N B S P ≡ words_after N B S Q
+  pub same_words_after : words_of_trace N B S P ≡ words_of_trace N B S Q
   same_words_after = cc (
     table_same B (λ b. head_word B b Q) (λ b. head_word B b P) heads,
     table_same N (λ s. link_with (node_next B s Q) (flags_after s Q)) (λ s. link_with (node_next B s P) (flags_after s P)) (λ s. cc (links s, flags s)),

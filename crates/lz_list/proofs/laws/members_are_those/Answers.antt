@@ -1,7 +1,7 @@
 use Rattle.std.proofs.Common.{refl}
-use Rattle.lz_list.specs.Traces.{words_after}
+use Rattle.lz_list.specs.Traces.{words_of_trace}
 use Rattle.lz_list.proofs.Traces.TraceWords.{members_after}
 use Rattle.lz_list.proofs.laws.members_are_those.Goals as goal
 
 pub returns : goal.returns
-returns c slots buckets passes P few some law k = members_after slots buckets P few law (words_after slots buckets passes P) refl refl refl some k
+returns c slots buckets passes P few some law k = members_after slots buckets P few law (words_of_trace slots buckets passes P) refl refl refl some k

@@ -6,13 +6,13 @@ use Rattle.lz_proto.specs.declared.request.Request.{Request}
 use Rattle.lz_board.specs.declared.pass.Pass.{Pass}
 use Rattle.lz_board.specs.Seats.{BoardId}
 use Rattle.lz_set.specs.declared.fault.Fault.{Fault}
-use Rattle.lz_serve.specs.Replies.{IsAnswered, command_of}
+use Rattle.lz_serve.specs.Replies.{IsCallAnswered, command_of}
 use Rattle.lz_serve.proofs.seated.call.Goals as goal
 
 -- a request asks for one command
-of_asked : (b : BoardId) (F : Format) (request : Request) (d : Command) (answer : Result Bool Fault) (old new : Pass) → command_of request ≡ Some d → IsAnswered b F d answer old new
-    → (c : Command) → command_of request ≡ Some c → IsAnswered b F c answer old new
-of_asked b F request d answer old new is answered c asked = let same : d ≡ c = cc in subst (λ (e : Command). IsAnswered b F e answer old new) same answered
+of_asked : (b : BoardId) (F : Format) (request : Request) (d : Command) (answer : Result Bool Fault) (old new : Pass) → command_of request ≡ Some d → IsCallAnswered b F d answer old new
+    → (c : Command) → command_of request ≡ Some c → IsCallAnswered b F c answer old new
+of_asked b F request d answer old new is answered c asked = let same : d ≡ c = cc in subst (λ (e : Command). IsCallAnswered b F e answer old new) same answered
 
 pub returns-in-Add-clause-answered : goal.returns-in-Add-clause-answered
 returns-in-Add-clause-answered g c =

@@ -4,7 +4,7 @@ use Rattle.lz_board.specs.declared.board.Pen.{Pen}
 use Rattle.lz_board.specs.declared.pass.Pass.{Pass}
 use Rattle.lz_board.specs.Notes.{note_by}
 use Rattle.lz_board.specs.Seats.{IsAtHand, carried, id_of, notes}
-use Rattle.lz_tie.specs.Holds.{InHold, IsExchange, Holds, what_of}
+use Rattle.lz_tie.specs.Holds.{InHold, IsExchange, HoldNotes, what_of}
 use Rattle.lz_tie.proofs.Hold.Joining.{hand_noted, hand_moved}
 use Rattle.lz_tie.proofs.Hold.JoinedStep as joined
 use Rattle.lz_tie.proofs.Moments.HeldMoments.{step_left}
@@ -58,7 +58,7 @@ returns-clause-began g c = λ asked is.
 abbrev Left : (g : Over) (c : Joined-exchange_of g) → Pen → Pass → Type 0
 Left g c pen pass =
     InHold (id_of c.args.board.now) (notes pen) c.step-outcome.new.self.yard (g.D.Disk.device c.step-outcome.new.self.disk) (carried pen)
-    × Holds (id_of c.args.board.now).opened (notes c.args.pen.now) (notes pen) (note_by (carried c.args.pen.now).number (what_of c.args.yard.now.yard.vault.format c.args.event c.step-outcome.result) c.published-published.result) (carried c.args.pen.now) (carried pen)
+    × HoldNotes (id_of c.args.board.now).opened (notes c.args.pen.now) (notes pen) (note_by (carried c.args.pen.now).number (what_of c.args.yard.now.yard.vault.format c.args.event c.step-outcome.result) c.published-published.result) (carried c.args.pen.now) (carried pen)
     × IsAtHand (id_of c.args.board.now) pass (carried pen)
 
 left : (g : Over) (c : Joined-exchange_of g) → Left g c c.match-exchange_of.pen c.match-exchange_of.pass

@@ -9,7 +9,7 @@ use Rattle.lz_core.specs.declared.open_calls.OpenCall.{OpenCall}
 use Rattle.lz_machine.specs.Yards.{Shape}
 use Rattle.lz_yard.specs.Parts.{YardOver}
 use Rattle.lz_machine.specs.Runs.{Down, Crashes, disk_of}
-use Rattle.lz_machine.specs.Points.{IsQuiet}
+use Rattle.lz_machine.specs.Points.{IsBetweenLooks}
 use Rattle.lz_core.specs.Worlds.{Goes, WorldOver, IsWorld, HasOne, state_shown, world_shown, disk_shown}
 use Rattle.lz_core.proofs.Runs.PlayedStep.{leads}
 use Rattle.lz_core.proofs.Runs.Endings.{crashes, now_at, disk_is}
@@ -37,7 +37,7 @@ module _ (shape : Shape) (yard yard' : Option (YardOver Past)) (disk disk' : Opt
       refl
 
   pub crashed_world : IsWorld shape yard disk callers calls → HasOne yard' disk' → IsDown → HasImage → IsWorld shape yard' disk' callers calls
-  crashed_world world one down image = now_at shape yard disk callers calls tripped world _ _ _ yard' disk' now one (goes world down image) (subst IsQuiet (sym (down shape callers)) tt)
+  crashed_world world one down image = now_at shape yard disk callers calls tripped world _ _ _ yard' disk' now one (goes world down image) (subst IsBetweenLooks (sym (down shape callers)) tt)
 
   same_world : IsWorld shape yard disk callers calls → (yard' ≡ yard) × (disk' ≡ disk) → IsWorld shape yard' disk' callers calls
   same_world world same =

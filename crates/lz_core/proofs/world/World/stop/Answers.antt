@@ -5,7 +5,7 @@ use Rattle.lz_core.specs.declared.open_calls.OpenCall.{OpenCall}
 use Rattle.lz_machine.specs.Yards.{Shape}
 use Rattle.lz_yard.specs.Parts.{YardOver}
 use Rattle.lz_machine.specs.Runs.{Down, disk_of}
-use Rattle.lz_machine.specs.Points.{IsQuiet}
+use Rattle.lz_machine.specs.Points.{IsBetweenLooks}
 use Rattle.lz_core.specs.Worlds.{state_shown, disk_shown}
 use Rattle.lz_core.proofs.Runs.PlayedStep.{leads}
 use Rattle.lz_core.proofs.Runs.Endings.{stops, now_at, disk_is}
@@ -22,7 +22,7 @@ invariant_of-self c =
     let down = c.stop_disk.ensures.down (record { slots = c.self.inside.slots; buckets = c.self.inside.buckets; passes = 64 }) c.self.inside.callers.items in
     now_at _ _ _ _ _ c.self.inside.tripped c.self.invariant _ _ _ _ _ c.self.inside.tripped c.stop_disk.ensures.one
     (stops _ _ _ c.self.invariant.ran (down_by _ c.self.inside.yard _ c.self.inside.disk _ _ down) refl)
-    (subst IsQuiet (sym down) tt)
+    (subst IsBetweenLooks (sym down) tt)
 
 pub returns : goal.returns
 returns c =

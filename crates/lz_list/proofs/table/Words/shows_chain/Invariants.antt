@@ -1,7 +1,7 @@
 use Rattle.std.proofs.Common.{◌-◌, ◌^◌}
 use Rattle.lz_list.specs.declared.word.Word.TheVariants.{Key}
 use Rattle.lz_list.specs.Words.{get, place_number}
-use Rattle.lz_list.specs.Traces.{rank}
+use Rattle.lz_list.specs.Traces.{rank_at}
 use Rattle.lz_list.proofs.Searches.ChainSearch.{Reached}
 use Rattle.lz_list.proofs.table.Words.shows_chain.Given as goal
 
@@ -9,4 +9,4 @@ abbrev pub invariant-loop-slot : goal.invariant-loop-slot
 invariant-loop-slot l = Reached l.self l.bucket l.place
 
 abbrev pub decreases-loop-slot : goal.decreases-loop-slot
-decreases-loop-slot l = 2 ^ 64 - rank (λ s. get l.self (Key s)) (place_number l.place)
+decreases-loop-slot l = 2 ^ 64 - rank_at (λ s. get l.self (Key s)) (place_number l.place)

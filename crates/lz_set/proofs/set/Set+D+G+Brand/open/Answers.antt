@@ -1,5 +1,5 @@
 use Rattle.std.proofs.Common.{[], refl, sym, subst}
-use Rattle.lz_board.specs.Opened.{IsOpened}
+use Rattle.lz_board.specs.Opened.{AreOpened}
 use Rattle.lz_board.specs.Seats.{id_of}
 use Rattle.lz_tie.proofs.Start.OpenedYard.{words_opened}
 use Rattle.lz_tie.proofs.Start.OpenedMoments.{now_since}
@@ -10,7 +10,7 @@ use Rattle.lz_set.proofs.set.Set+D+G+Brand.open.Goals as goal
 pub new-requires-clause-opened : goal.new-requires-clause-opened
 new-requires-clause-opened g c =
     let first = c.in_ok-yard.ensures.ok.first in
-    subst IsOpened (sym c.words.ensures) (words_opened c.in_ok-yard.yard.yard first.0 first.2 first.3)
+    subst AreOpened (sym c.words.ensures) (words_opened c.in_ok-yard.yard.yard first.0 first.2 first.3)
 
 pub invariant_of-result : goal.invariant_of-result
 invariant_of-result g c =

@@ -1,6 +1,6 @@
 use Rattle.std.proofs.Common.{subst}
 use Rattle.lz_machine.specs.Marks.{IsTold}
-use Rattle.lz_board.specs.Notes.{shape_of}
+use Rattle.lz_board.specs.Notes.{shape_of_sizes}
 use Rattle.lz_board.specs.Seats.{notes}
 use Rattle.lz_tie.specs.Holds.{IsLocked}
 use Rattle.lz_tie.specs.Marks.{AreOfPasses, marks_in}
@@ -16,12 +16,12 @@ returns-clause-history g c =
 
 pub returns-clause-told : goal.returns-clause-told
 returns-clause-told g c =
-    subst (λ v. IsTold (marks_in (shape_of g.N.Named.board.sizes) v.notes)) c.self.view_is
+    subst (λ v. IsTold (marks_in (shape_of_sizes g.N.Named.board.sizes) v.notes)) c.self.view_is
     (history_told g.N.Named.board (notes c.self.inside.pen) c.self.inside.yard.yard (g.D.Disk.device c.self.inside.yard.disk) c.self.invariant.1)
 
 pub returns-clause-passes : goal.returns-clause-passes
 returns-clause-passes g c =
-    subst (λ v. AreOfPasses g.N.Named.board.sizes.passes (marks_in (shape_of g.N.Named.board.sizes) v.notes)) c.self.view_is
+    subst (λ v. AreOfPasses g.N.Named.board.sizes.passes (marks_in (shape_of_sizes g.N.Named.board.sizes) v.notes)) c.self.view_is
     (history_passes g.N.Named.board (notes c.self.inside.pen) c.self.inside.yard.yard (g.D.Disk.device c.self.inside.yard.disk) c.self.invariant.1)
 
 pub returns-clause-locked : goal.returns-clause-locked

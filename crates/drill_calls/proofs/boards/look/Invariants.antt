@@ -1,5 +1,0 @@
-use Rattle.drill_calls.specs.Looks.{MayLook}
-use Rattle.drill_calls.proofs.boards.look.Given as goal
-
-abbrev pub invariant-loop-number : goal.invariant-loop-number
-invariant-loop-number g l = MayLook l.board l.pass

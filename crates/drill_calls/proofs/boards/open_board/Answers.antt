@@ -1,7 +1,0 @@
-use Rattle.std.proofs.Common.{sym, subst}
-use Rattle.lz_board.specs.Opened.{IsOpened}
-use Rattle.drill_calls.proofs.OpenedWords.{begins}
-use Rattle.drill_calls.proofs.boards.open_board.Goals as goal
-
-pub board_over-requires-clause-opened : goal.board_over-requires-clause-opened
-board_over-requires-clause-opened g c = subst IsOpened (sym c.words.ensures) (begins _ _ _ _ _ c.in-Ok.ensures.ok)

@@ -1,5 +1,0 @@
-use Rattle.lz_set.specs.Names.{MayCall}
-use Rattle.glance_rates.proofs.threads.change_until.Given as goal
-
-abbrev pub invariant-loop : goal.invariant-loop
-invariant-loop g l = MayCall g.N.Named.board l.pass

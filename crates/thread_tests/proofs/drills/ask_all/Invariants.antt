@@ -1,5 +1,0 @@
-use Rattle.lz_set.specs.Names.{MayCall}
-use Rattle.thread_tests.proofs.drills.ask_all.Given as goal
-
-abbrev pub invariant-loop-command : goal.invariant-loop-command
-invariant-loop-command g l = MayCall g.N.Named.board l.pass

@@ -1,6 +1,0 @@
-use Rattle.lz_board.specs.Seats.{id_of}
-use Rattle.thread_tests.specs.NineFound.{MayLook}
-use Rattle.thread_tests.proofs.glancing.look_until.Given as goal
-
-abbrev pub invariant-loop : goal.invariant-loop
-invariant-loop l = MayLook (id_of l.board) l.pass

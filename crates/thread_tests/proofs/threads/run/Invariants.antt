@@ -1,5 +1,0 @@
-use Rattle.lz_disk.specs.Records.{device_of}
-use Rattle.thread_tests.proofs.threads.run.Given as goal
-
-abbrev pub ghosts-share : goal.ghosts-share
-ghosts-share g a = record { board = a.blank.board; first = device_of a.blank.disk; format = a.blank.yard.vault.format }

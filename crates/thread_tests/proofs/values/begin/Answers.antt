@@ -1,5 +1,0 @@
-use Rattle.lz_board.specs.Seats.{part}
-use Rattle.thread_tests.proofs.values.begin.Goals as goal
-
-pub returns : goal.returns
-returns g c = (c.begin-call.ensures.pass, (c.args.command, g.N.Named.format, part c.args.pass, c.begin-call.ensures.counts))
