@@ -34,6 +34,10 @@ SESSION = (
 
 # The calls of the system by which the program writes and syncs a file, and what they fail with.
 FAILURES = {"pwrite64": "ENOSPC", "fdatasync": "EIO"}
+CAUSES = {"pwrite64": "No space left on device (os error 28)", "fdatasync": "Input/output error (os error 5)"}
+
+# The line of a service's log, but for its file.
+DEVICE_FAILED = "the device failed: nothing is answered until the file is opened again"
 
 # A sync of the open comes first; one that fails is a refused open.
 REFUSED_DEVICE = Ended("refused 7\n", 1)
@@ -123,15 +127,14 @@ def failed_life(program: Program, file: str, call: str, number: int, seed: int) 
         log.seek(0)
         # The set may have been full before.
         said = log.read().replace(f"{file}: full: no slot was free for a new key\n", "")
-        expect(said, log_text(file, kills.SLOTS, members, kills.CLIENTS), "what the service says on standard error")
+        expect(said, log_text(file, kills.SLOTS, members, kills.CLIENTS, call), "what the service says on standard error")
     return calls, status
 
 
-def log_text(file: str, slots: int, members: int, passes: int) -> str:
-    """What a service says on standard error whose device fails."""
+def log_text(file: str, slots: int, members: int, passes: int, call: str) -> str:
+    """What a service says on standard error whose device fails in a call of the system."""
     serving = f"serving: slots {slots}, members {members}, buckets 1, passes {passes}"
-    failed = "the device failed: nothing is answered until the file is opened again"
-    return f"{file}: {serving}\n{file}: {failed}\n"
+    return f"{file}: {serving}\n{file}: {DEVICE_FAILED}\nlazyset: {file}: {CAUSES[call]}\n"
 
 
 def try_service(program: Program, folder: str, seed: int) -> None:
@@ -166,4 +169,4 @@ def try_untold(program: Program, folder: str) -> None:
                 expect(client.recv(16), b"", "what the client is told")
             expect(service.wait(), 1, "the status of a service whose device failed")
         log.seek(0)
-        expect(log.read(), log_text(file, SLOTS, 0, 1), "what the service says on standard error")
+        expect(log.read(), log_text(file, SLOTS, 0, 1, "fdatasync"), "what the service says on standard error")

@@ -13,7 +13,7 @@ from contextlib import contextmanager
 from typing import IO, Callable, Iterator, List, Sequence
 
 from lazyset import Halted, Lazyset
-from trials.faults import failing, needs_strace
+from trials.faults import CAUSES, DEVICE_FAILED, failing, needs_strace
 from trials.files import put
 from trials.plain import head_of, slot_of
 from trials.program import PATIENCE, Key, Program, Service
@@ -137,7 +137,7 @@ def try_end(program: Program, folder: str) -> None:
         began = time.monotonic()
         expect(service.service.wait(), 1, "the status of a service whose device failed")
         expect(time.monotonic() - began < 10, True, "that it ends at once")
-        expect(service.lines(), ["the device failed: nothing is answered until the file is opened again"], "the log")
+        expect(service.lines(), [DEVICE_FAILED, f"lazyset: {CAUSES['fdatasync']}"], "the log")
 
 
 def try_pauses(program: Program, folder: str) -> None:

@@ -6,7 +6,7 @@ import os
 import socket
 from typing import Optional, Tuple
 
-from trials.faults import failing, needs_strace
+from trials.faults import CAUSES, failing, needs_strace
 from trials.files import ONE_SLOT, RENEWED, SEVENTEEN, TWO_SLOTS, changed, put
 from trials.program import Ended, Program
 from trials.report import expect
@@ -117,11 +117,16 @@ def try_devices(program: Program, folder: str) -> None:
     file, new = os.path.join(folder, "file"), os.path.join(folder, "new")
     put(file, TWO_SLOTS[:32] + SEVENTEEN)
     put(new, b"")
-    for words, path, number, line, why in (
-        (("make", new, "2"), new, 1, "refused 3", "the device failed"),
-        (("run", file), file, 1, "refused 7", "the device failed"),
-        (("run", file), file, 2, "halted", "the device failed: open the file again"),
+    for words, path, call, number, line, why in (
+        (("make", new, "2"), new, "fdatasync", 1, "refused 3", "the device failed"),
+        (("make", new, "2"), new, "pwrite64", 1, "refused 3", "the device failed"),
+        (("renew", file, new, "2"), file, "fdatasync", 1, "refused old 7", "the device failed"),
+        (("renew", file, new, "2"), new, "pwrite64", 1, "refused new 3", "the device failed"),
+        (("run", file), file, "fdatasync", 1, "refused 7", "the device failed"),
+        (("run", file), file, "fdatasync", 2, "halted", "the device failed: open the file again"),
+        (("run", file), file, "pwrite64", 1, "halted", "the device failed: open the file again"),
     ):
-        ended, said = program.run_loud(*words, lines="add 5\n", before=failing(path, "fdatasync", number))
-        expect(ended, Ended(f"{line}\n", 1), f"{words} whose sync {number} fails")
-        expect(said, f"lazyset: {words[0]} {path}: {line}: {why}\n", "what it says")
+        ended, said = program.run_loud(*words, lines="add 5\n", before=failing(path, call, number))
+        expect(ended, Ended(f"{line}\n", 1), f"{words} whose {call} {number} fails")
+        named = f"{file} {new}" if words[0] == "renew" else path
+        expect(said, f"lazyset: {path}: {CAUSES[call]}\nlazyset: {words[0]} {named}: {line}: {why}\n", "what it says")

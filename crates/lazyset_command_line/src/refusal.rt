@@ -11,7 +11,7 @@ pub enum Refusal {
     Told { text: String, status: Status },
 }
 
-/// What the parser's error says: help is no fault, and want of memory none of the command line's.
+/// What the parser's error says: help is no fault, and lack of memory none of the command line's.
 pub fn refusal_of(alloc: Global, error: Error) -> Refusal {
     let status = match error.kind() {
         ErrorKind::DisplayHelp | ErrorKind::DisplayVersion => Status::Done,

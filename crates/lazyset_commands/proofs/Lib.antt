@@ -1,11 +1,4 @@
-pub mod SentTexts
-pub mod TwoNumbers
-pub mod LineTexts
-pub mod MakeFaults
-pub mod RehearsalEnds
 pub mod Openings
 pub mod Runs
 pub mod Services
-pub mod Verdicts
 pub mod RunRows
-pub mod CompareRows

@@ -11,11 +11,11 @@ use Rattle.lz_vault.specs.Vaults.{LeavesEither}
 use Rattle.lz_vault.specs.declared.opening.OpenFault.{OpenFault}
 use Rattle.lz_vault.specs.declared.opening.OpenFault.TheVariants as opening
 use Rattle.lz_machine.proofs.Open.OpenFailures.{held_is_opened}
-use Rattle.lazyset_commands.specs.Ends.{open_status}
-use Rattle.lazyset_commands.specs.Refusals.{FailedOpen, refusal_text}
-use Rattle.lazyset_commands.specs.Tellings.{Tells}
-use Rattle.lazyset_commands.specs.declared.status.Status.{Status}
-use Rattle.lazyset_commands.specs.declared.status.Status.TheVariants as status
+use Rattle.lazyset_offline.specs.Ends.{open_status}
+use Rattle.lazyset_offline.specs.Refusals.{FailedOpen, refusal_text}
+use Rattle.lazyset_offline.specs.Tellings.{Tells}
+use Rattle.lazyset_offline.specs.declared.status.Status.{Status}
+use Rattle.lazyset_offline.specs.declared.status.Status.TheVariants as status
 
 -- what a sync makes sure was an image before
 synced_was : (old : Device) → IsTimely old → (t : List ℕ) → IsImage (synced old.medium) t → IsImage old.medium t
@@ -38,7 +38,7 @@ unwritten old new timely (inr after_sync) t image = synced_was old timely t (sub
 pub opening_leaves : (old new : Device) → IsTimely old → (new.medium ≡ old.medium) ⊎ (new.medium ≡ synced old.medium) → LeavesEither old new → LeavesOnly old new (λ t. IsImage old.medium t)
 opening_leaves old new timely same time = leaves_more old new _ _ (λ t either. ⊎_elim (λ image. image) (λ image. unwritten old new timely same t image) either) time
 
--- an open that was refused over what holds a set failed for the device or for want of memory
+-- an open that was refused over what holds a set failed for the device or for lack of memory
 pub failed_open : (old new : Device) (fault : OpenFault) → IsRefusedFor old new fault → (state : Status) (before after : Option (List ℕ)) (N : ℕ) (S : Keys) → IsTrue old.honest → IsTimely old
     → Holds old.medium.seen N S → Tells before after (refusal_text fault) (open_status fault) state → FailedOpen state before after old new
 failed_open old new fault refused state before after N S honest timely held told =

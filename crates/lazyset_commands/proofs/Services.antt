@@ -17,8 +17,8 @@ use Rattle.lz_set.specs.Blanks.{AreNew}
 use Rattle.lz_set.specs.Left.{IsLeftWith}
 use Rattle.lz_serve.specs.Halts.{IsCalm, SawHalt, was_cut}
 use Rattle.lazyset_commands.specs.Services.{ServedPasses}
-use Rattle.lazyset_commands.specs.declared.status.Status.{Status}
-use Rattle.lazyset_commands.specs.declared.status.Status.TheVariants.{Done, Failed}
+use Rattle.lazyset_offline.specs.declared.status.Status.{Status}
+use Rattle.lazyset_offline.specs.declared.status.Status.TheVariants.{Done, Failed}
 
 length_parts : (z : Sizes) (opened : Trace) (n p : ℕ) → length (parts_from z opened n p) ≡ n
 length_parts z opened zero p = refl

@@ -1,13 +1,3 @@
-pub mod Ends
-pub mod Tellings
-pub mod Makings
-pub mod Refusals
 pub mod PlainReplies
 pub mod Runs
-pub mod Checks
-pub mod Infos
-pub mod Comparisons
-pub mod Judgements
-pub mod Rehearsals
-pub mod Renewals
 pub mod Services

@@ -26,9 +26,9 @@ use Rattle.lz_tie.specs.Sessions.{TellsAlone}
 use Rattle.lz_set.specs.Blanks.{BlankOver}
 use Rattle.lz_set.specs.Left.{IsLeft}
 use Rattle.lz_serve.specs.Replies.{SeatAnswers}
-use Rattle.lazyset_commands.specs.Ends.{session_status}
+use Rattle.lazyset_offline.specs.Ends.{session_status}
 use Rattle.lazyset_commands.specs.PlainReplies.{PassAnswers}
-use Rattle.lazyset_commands.specs.declared.status.Status.{Status}
+use Rattle.lazyset_offline.specs.declared.status.Status.{Status}
 
 -- each image of the disk is a file of N slots that holds the set S
 abbrev pub EachHolds : Medium → ℕ → Keys → Type 0

@@ -16,11 +16,11 @@ use Rattle.lz_tie.specs.Holds.{sizes_of}
 use Rattle.lz_set.specs.Blanks.{BlankOver}
 use Rattle.lz_set.specs.Left.{IsLeft, IsLeftWith}
 use Rattle.lz_serve.specs.Halts.{IsCalm}
-use Rattle.lazyset_commands.specs.Ends.{open_status}
-use Rattle.lazyset_commands.specs.Refusals.{refusal_text}
-use Rattle.lazyset_commands.specs.Tellings.{IsCutShort, Tells}
-use Rattle.lazyset_commands.specs.declared.status.Status.{Status}
-use Rattle.lazyset_commands.specs.declared.status.Status.TheVariants.{Done, Failed}
+use Rattle.lazyset_offline.specs.Ends.{open_status}
+use Rattle.lazyset_offline.specs.Refusals.{refusal_text}
+use Rattle.lazyset_offline.specs.Tellings.{IsCutShort, Tells}
+use Rattle.lazyset_offline.specs.declared.status.Status.{Status}
+use Rattle.lazyset_offline.specs.declared.status.Status.TheVariants.{Done, Failed}
 
 -- the most connections that loops serve at once
 abbrev pub most_connections : ℕ

@@ -6,13 +6,12 @@ ghost use Rattle.lz_slot.specs.Sets.{Keys};
 ghost use Rattle.lz_board.specs.Seats.{IsNew};
 ghost use Rattle.lz_set.specs.Blanks.{MayBeNamed};
 ghost use Rattle.lz_set.specs.Names.{MayCall};
-ghost use Rattle.lazyset_commands.specs.Ends.{session_status};
+ghost use Rattle.lazyset_offline.specs.Ends.{session_status};
 ghost use Rattle.lazyset_commands.specs.PlainReplies.{PassMayAnswer};
-ghost use Rattle.lazyset_commands.specs.Refusals.{FailedOpen, RefusedOpen};
+ghost use Rattle.lazyset_offline.specs.Refusals.{FailedOpen, RefusedOpen};
 ghost use Rattle.lazyset_commands.specs.Runs.{RanSeat, RepliesOfPass, ServedSeat, SessionOfSet};
 
-use crate::refusal::refuse;
-use crate::status::Status;
+use lazyset_offline::{Status, refuse};
 use lz_disk::Disk;
 use lz_proto::{End, SessionFault, session};
 use lz_serve::Seated;

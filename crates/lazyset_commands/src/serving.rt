@@ -8,9 +8,7 @@ ghost use Rattle.lz_set.specs.Names.{MayCall};
 ghost use Rattle.lz_serve.specs.Halts.{IsCalm, SawHalt};
 ghost use Rattle.lazyset_commands.specs.Services.{HadNoPort, HadPort, IsIdleBound, RanService, RefusedService, ServedPasses, TellsPort};
 
-use crate::refusal::{refuse, send_line};
-use crate::status::Status;
-use crate::telling::tell;
+use lazyset_offline::{Status, refuse, send_line, tell};
 use lz_disk::Disk;
 use lz_loop::{LoopBounds, serve_loops};
 use lz_serve::{Bounds, Loops, Observer, Served, Serving, serve};

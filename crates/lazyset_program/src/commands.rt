@@ -4,7 +4,7 @@ ghost use Rattle.lz_slot.specs.Limits.{most_buckets, most_passes, most_rehearsed
 ghost use Rattle.lazyset_command_line.specs.Requests.{IsWithin};
 
 use crate::fault::Fault;
-use crate::files::{create, is_absent, open, read_front, stand_in, take_away_empty};
+use crate::files::{create, is_absent, open, read_front, say_cause, stand_in, take_away_empty};
 use crate::heard::Heard;
 use crate::log::Log;
 use crate::watched::Watched;
@@ -109,6 +109,7 @@ where
     let was_absent = is_absent(rt, file);
     let mut disk = create(rt, file)?;
     let status = make_on(writer, &mut disk, slots, format);
+    say_cause(rt, file, &disk);
     Ok(after_making(rt, file, was_absent, status))
 }
 
@@ -117,10 +118,12 @@ where
     R: Files<File = File> + Eprint + AllocGlobal,
     W: Write + Drop,
 {
-    let mut old = open(rt, old)?;
+    let mut old_disk = open(rt, old)?;
     let was_absent = is_absent(rt, new);
     let mut disk = create(rt, new)?;
-    let status = renew_on(rt.alloc(), writer, &mut old, &mut disk, slots);
+    let status = renew_on(rt.alloc(), writer, &mut old_disk, &mut disk, slots);
+    say_cause(rt, old, &old_disk);
+    say_cause(rt, new, &disk);
     Ok(after_making(rt, new, was_absent, status))
 }
 
@@ -131,7 +134,8 @@ where
     requires { (1 ≤ buckets) × (buckets ≤ most_buckets) }
 {
     let disk = open(rt, file)?;
-    let (status, _disk) = run_on(rt, &mut rt.reader(), writer, disk, buckets);
+    let (status, disk) = run_on(rt, &mut rt.reader(), writer, disk, buckets);
+    say_cause(rt, file, &disk);
     Ok(status)
 }
 
@@ -146,7 +150,8 @@ where
     let disk = open(rt, file)?;
     let watched = File::open(rt, file).ok().and_then(Watched::new);
     let log = Log::new(rt, file, watched);
-    let (status, _disk) = serve_on(rt, writer, &log, disk, options);
+    let (status, disk) = serve_on(rt, writer, &log, disk, options);
+    say_cause(rt, file, &disk);
     Ok(status)
 }
 

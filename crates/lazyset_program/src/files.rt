@@ -61,6 +61,13 @@ where
     }
 }
 
+/// Says why the disk of this file failed, where the system said so.
+pub fn say_cause<R: Eprint>(rt: &R, path: &str, disk: &FileDisk) {
+    if let Some(error) = disk.cause() {
+        let _ = eprintln!(rt; "lazyset: {path}: {error}");
+    }
+}
+
 /// Takes away a file into which nothing was written, itself and not a link to it.
 pub fn take_away_empty<R: Files<File = File> + AllocGlobal>(rt: &R, path: &str) {
     let Ok(itself) = rt.canonicalize(rt.alloc(), path) else {

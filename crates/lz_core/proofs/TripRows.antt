@@ -54,7 +54,7 @@ module _ (p : Point) (a b : ℕ) (c : Command) (new later : Medium) where
   not_refused_twice : GoAsTripped p false (OpenFails 7 false ∷ OpenFails 7 false ∷ Trips ∷ []) → ⊥
   not_refused_twice h = false≢true (h.0.0 refl)
 
-  -- for want of memory, which is number 8, an open is refused only where the device isn't tripped
+  -- for lack of memory, which is number 8, an open is refused only where the device isn't tripped
   no_memory : GoAsTripped p false (OpenFails 8 true ∷ [])
   no_memory = ((λ number. absurd cc, λ tripped. absurd (false≢true tripped)), tt)
 

@@ -269,7 +269,7 @@ pub record MayStepOn (over : YardOver Past) (a : ℕ) (e : Event) : Type 0 where
 abbrev pub MayCall : Option (YardOver Past) → List (Option OpenCall) → ℕ → Type 0
 MayCall yard callers a = IsSome yard × (1 ≤ a) × (a ≤ 64) × IsNone (slice_index_or callers (a - 1) None)
 
--- The number with which a refused open is told. Want of memory isn't told, which a device tells as a failure too.
+-- The number with which a refused open is told. Lack of memory isn't told, which a device tells as a failure too.
 abbrev pub fault_told : OpenFault → Bool → Option ℕ
 fault_told Memory tripped = None
 fault_told Device false = None

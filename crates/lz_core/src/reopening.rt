@@ -1,4 +1,4 @@
-//! A disk that is opened anew.
+//! A disk that is opened again.
 ghost use Rattle.std.specs.Prelude.{◌≡◌, ◌≤◌, IfOk, IfErr};
 ghost use Rattle.lz_disk.specs.Records.{device_of};
 ghost use Rattle.lz_slot.specs.Limits.{most_buckets};
@@ -45,7 +45,7 @@ pub(crate) fn open_anew(
     }
 }
 
-// The number with which a refused open is told. Want of memory isn't, and a device that wasn't tripped fails for nothing else.
+// The number with which a refused open is told. Lack of memory isn't, and a device that wasn't tripped fails for nothing else.
 pub(crate) fn fault_told(fault: OpenFault, tripped: bool) -> Option<u8>
     ensures { result ≡ fault_told fault tripped }
 {

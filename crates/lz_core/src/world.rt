@@ -149,7 +149,7 @@ impl World {
     }
 
     /// Plays the steps in their order, and answers their marks. After Memory the world is as after some of the first steps,
-    /// the last of which may be an open that was refused for want of memory, or a turn or an open whose device call found none.
+    /// the last of which may be an open that was refused for lack of memory, or a turn or an open whose device call found none.
     pub fn play(&mut self, alloc: Global, steps: &[Step]) -> Result<Vec<Mark>, PlayFault>
         ensures ok { IfOk result (λ marks. PlaysOn self.old steps.now marks.items self.new) }
         ensures chain { IfOk result (λ marks. IsChain self.old marks.items self.new) }
@@ -310,7 +310,7 @@ impl World {
         }
     }
 
-    // Opens the disk anew, whose next call fails where it was tripped. Where there is no room for the keys that were found, the
+    // Opens the disk again, whose next call fails where it was tripped. Where there is no room for the keys that were found, the
     // open is refused.
     #[tactic(auto, using(crate::proofs::Runs::PlayedStep::early))]
     fn reopen(&mut self, alloc: Global, number: usize) -> Result<Option<Mark>, PlayFault>

@@ -6,7 +6,7 @@ use Rattle.lz_rehearsal.specs.declared.script.ScriptFault.TheVariants.{Line as B
 use Rattle.lz_rehearsal.specs.Scripts.{FailsAt, line_read}
 use Rattle.lz_rehearsal.specs.Limits.{most_lines}
 
--- a fault that reading a text may have: the number of its first line that doesn't read, or want of memory
+-- a fault that reading a text may have: the number of its first line that doesn't read, or lack of memory
 abbrev pub IsFaultOf : List ℕ → ScriptFault → Type 0
 IsFaultOf text (BadLine number) = FailsAt text number
 IsFaultOf text Read = ⊥

@@ -1,4 +1,4 @@
--- Why a slot may be prepared anew: what the notes show of pin words since the slot stood on a chain last.
+-- Why a slot may be prepared again: what the notes show of pin words since the slot stood on a chain last.
 use Rattle.std.specs.Prelude.{◌≡◌, ℕ, ◌≤◌, List, ◌∷◌, length, Some}
 use Rattle.lz_slot.specs.Counted.{of_pass}
 use Rattle.lz_allot.specs.declared.sight.Sight.{Sight}

@@ -1,10 +1,10 @@
 //! A reader and a writer that fail at each place of the commands.
 use crate::commands::{HELD, TWO_SLOTS, disk_with};
 use lazyset_commands::{check_of_on, check_on, judge_on, make_on, rehearse_on, renew_on};
-use test_support::{Narrow, Slow, keys_in};
 use lz_slot::Format;
 use std::alloc::Global;
 use std::test::Fail;
+use test_support::{Narrow, Slow, keys_in};
 
 // Whether a command that ends with this code, and writes this to a writer that works, wrote so many bytes of it to one that
 // took no more, and failed where that isn't all.

@@ -1,11 +1,11 @@
 //! Each device call of a making, of an open and of a short run fails in turn, and each kind of end follows.
 use crate::commands::{HELD, Ran, TWO_SLOTS, disk_with, make, run};
-use test_support::{ENDS, FAILINGS, Failing, end_life, set_failing};
 use lz_disk::{Disk, MemoryDisk, Pick};
 use lz_slot::Format;
 use std::alloc::{AllocError, Global};
 use std::sync::Wait;
 use std::test::Fail;
+use test_support::{ENDS, FAILINGS, Failing, end_life, set_failing};
 
 // What a fresh run answers to whether 17 and 18 are members, once a life has ended so.
 fn found<R: Wait + AllocGlobal>(

@@ -1,10 +1,10 @@
 //! A renewal whose device calls fail in turn.
 use crate::commands::disk_with;
 use lazyset_commands::{check_on, renew_on};
-use test_support::{ENDS, FAILINGS, Failing, set_failing};
 use lz_disk::MemoryDisk;
 use std::alloc::{AllocError, Global};
 use std::test::Fail;
+use test_support::{ENDS, FAILINGS, Failing, set_failing};
 
 // A file of format 1 with three slots, which held 4 between 17 and 5.
 const OLD: [u8; 64] = [

@@ -1,12 +1,12 @@
 //! Where a reader or a writer of a run fails, or is interrupted.
 use crate::commands::{TWO_SLOTS, disk_with};
 use lazyset_commands::run_on;
-use test_support::{Narrow, Slow};
 use std::alloc::AllocError;
 use std::io;
 use std::io::{ErrorKind, Read, Write};
 use std::sync::Wait;
 use std::test::Fail;
+use test_support::{Narrow, Slow};
 
 const LINES: &[u8] = b"add 17\nhas 17\nadd 17\nhas 18\n";
 

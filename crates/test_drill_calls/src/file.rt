@@ -16,7 +16,7 @@ pub fn disk(alloc: Global) -> Result<MemoryDisk, AllocError> {
     MemoryDisk::new(alloc, FILE.to_vec(alloc)?)
 }
 
-/// Whether an open was refused for want of memory, its own or the device's, and left the file.
+/// Whether an open was refused for lack of memory, its own or the device's, and left the file.
 pub fn is_as_before(fault: OpenFault, disk: &MemoryDisk) -> bool {
     matches!(fault, OpenFault::Memory | OpenFault::Device) && disk.bytes() == FILE.as_slice()
 }

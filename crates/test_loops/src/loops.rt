@@ -6,7 +6,6 @@ ghost use Rattle.lz_set.specs.Blanks.{MayBeNamed};
 
 use crate::network::{Network, Switch, side_of};
 use crate::scripts::{Script, script_of};
-use test_support::{keys_in, made};
 use lz_disk::MemoryDisk;
 use lz_loop::{RoomBounds, serve_room};
 use lz_serve::{Observer, Serving};
@@ -20,6 +19,7 @@ use std::sync::Wait;
 use std::sync::atomic::AtomicBool;
 use std::test::Fail;
 use std::time::Clock;
+use test_support::{keys_in, made};
 
 /// How many clients there are, how many at once, and by how many passes they are served.
 const CLIENTS: usize = 12;

@@ -7,7 +7,6 @@ ghost use Rattle.lz_disk.specs.Records.{device_of};
 use crate::gates::{Gate, Signals, wait_for};
 use crate::partners::{call_once, fill, two_passes};
 use crate::plots::{Asked, Phase, Plot, addition, removal};
-use test_support::{keys_in, last_pass, made};
 use lz_disk::MemoryDisk;
 use lz_machine::Kind;
 use lz_set::{Blank, Fault, Glance, GlanceFault, Named, Pass, Set};
@@ -20,6 +19,7 @@ use std::test::Fail;
 use std::thread;
 use std::thread::Threads;
 use std::time::Clock;
+use test_support::{keys_in, last_pass, made};
 
 /// What was answered and seen while the first pass was held: the second one calls, and it or a third one glances.
 #[derive(Clone, Copy, Debug, PartialEq)]

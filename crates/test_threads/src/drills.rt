@@ -6,7 +6,6 @@ ghost use Rattle.lz_disk.specs.Records.{device_of};
 
 use crate::talks::{Talked, talk_on};
 use crate::threads::ask;
-use test_support::{ENDS, FAILINGS, Failing, keys_in, last_pass, made, set_failing};
 use lz_disk::MemoryDisk;
 use lz_proto::End;
 use lz_set::{Blank, Fault, Named, NoGate, Pass, Set};
@@ -16,6 +15,7 @@ use std::marker::Brand;
 use std::process::Abort;
 use std::sync::Wait;
 use std::test::Fail;
+use test_support::{ENDS, FAILINGS, Failing, keys_in, last_pass, made, set_failing};
 
 /// How many device calls an open makes.
 const OPENING: u64 = 4;

@@ -5,7 +5,6 @@ ghost use Rattle.lz_set.specs.Blanks.{MayBeNamed};
 ghost use Rattle.lz_disk.specs.Records.{device_of};
 
 use crate::partners::two_passes;
-use test_support::{keys_in, made};
 use lz_disk::MemoryDisk;
 use lz_set::{Blank, Fault, Glance, GlanceFault, Named, NoGate, Pass, Set};
 use lz_slot::Key;
@@ -13,6 +12,7 @@ use std::alloc::Global;
 use std::marker::Brand;
 use std::sync::Wait;
 use std::test::Fail;
+use test_support::{keys_in, made};
 
 /// What two passes were answered that took turns with a key.
 #[derive(Clone, Copy)]

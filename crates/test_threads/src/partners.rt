@@ -3,11 +3,11 @@ ghost use Rattle.std.specs.Prelude.{All, IfSome};
 ghost use Rattle.lz_set.specs.Names.{MayCall};
 
 use crate::threads::ask;
-use test_support::last_pass;
 use lz_disk::MemoryDisk;
 use lz_set::{Fault, Named, Pass, Set, StepGate};
 use lz_slot::{Command, Key};
 use std::sync::Wait;
+use test_support::last_pass;
 
 /// The last two of a set's passes that are left.
 pub fn two_passes<N: Named>(passes: &mut Vec<Pass>) -> Option<(Pass, Pass)>

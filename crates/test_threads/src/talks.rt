@@ -5,7 +5,6 @@ ghost use Rattle.lz_disk.specs.Records.{device_of};
 ghost use Rattle.lz_set.specs.Blanks.{MayBeNamed};
 
 use crate::partners::two_passes;
-use test_support::{Narrow, Slow, keys_in, made};
 use lz_disk::MemoryDisk;
 use lz_proto::{End, SessionFault, session};
 use lz_serve::Seated;
@@ -16,6 +15,7 @@ use std::marker::Brand;
 use std::process::Abort;
 use std::sync::Wait;
 use std::test::Fail;
+use test_support::{Narrow, Slow, keys_in, made};
 
 /// How a session ended, what another one of the same set was then told, and the disk that was left.
 #[derive(Drop)]

@@ -4,7 +4,6 @@ ghost use Rattle.lz_set.specs.Names.{MayCall};
 ghost use Rattle.lz_set.specs.Blanks.{MayBeNamed};
 ghost use Rattle.lz_disk.specs.Records.{device_of};
 
-use test_support::{ENDS, FAILINGS, Failing, end_life, keys_in, made, set_failing};
 use lz_disk::{MemoryDisk, Pick};
 use lz_set::{Blank, Fault, Named, NoGate, Pass, Set, StepGate};
 use lz_slot::{Command, Key};
@@ -15,6 +14,7 @@ use std::sync::Wait;
 use std::test::Fail;
 use std::thread;
 use std::thread::Threads;
+use test_support::{ENDS, FAILINGS, Failing, end_life, keys_in, made, set_failing};
 
 /// What a thread was answered.
 #[derive(Drop)]

@@ -6,7 +6,6 @@ ghost use Rattle.lz_disk.specs.Records.{device_of};
 ghost use Rattle.test_threads.specs.Plays.{IsPlay};
 
 use crate::partners::two_passes;
-use test_support::{keys_in, made};
 use lz_disk::MemoryDisk;
 use lz_set::{Blank, Fault, Named, NoGate, Pass, Set, Stage, Underway};
 use lz_slot::{Command, Key};
@@ -14,6 +13,7 @@ use std::alloc::Global;
 use std::marker::Brand;
 use std::sync::Wait;
 use std::test::Fail;
+use test_support::{keys_in, made};
 
 type Shared<N> = Set<MemoryDisk, NoGate, N>;
 

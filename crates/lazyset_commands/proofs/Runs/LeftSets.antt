@@ -22,8 +22,8 @@ use Rattle.lz_tie.proofs.Start.FirstSets.{same_set_explains}
 use Rattle.lz_tie.proofs.Start.OpenedYard.{opened_sizes}
 use Rattle.lazyset_commands.specs.PlainReplies.{PassMayAnswer}
 use Rattle.lazyset_commands.specs.Runs.{RanSeat, RepliesOfPass, ServedSeat, SessionOfSet}
-use Rattle.lazyset_commands.specs.declared.status.Status.{Status}
-use Rattle.lazyset_commands.specs.declared.status.Status.TheVariants as status
+use Rattle.lazyset_offline.specs.declared.status.Status.{Status}
+use Rattle.lazyset_offline.specs.declared.status.Status.TheVariants as status
 use Rattle.lazyset_commands.proofs.Openings.{opening_leaves, unwritten}
 use Rattle.lazyset_commands.proofs.Runs.PlainRows.{same_is}
 use Rattle.lazyset_commands.proofs.Runs.SessionCalls.{none_made}

@@ -23,9 +23,9 @@ use Rattle.lz_tie.specs.Sessions.{AnsweredCalls, Served, PlainRun, NoneCut, CutL
 use Rattle.lz_tie.proofs.Sessions.SessionEnd.{session_is_held, session_is_plain}
 use Rattle.lz_tie.proofs.Sessions.SessionMoments.{moments_are_plain}
 use Rattle.lazyset_commands.specs.PlainReplies.{PassMayAnswer}
-use Rattle.lazyset_commands.specs.Ends.{session_status}
+use Rattle.lazyset_offline.specs.Ends.{session_status}
 use Rattle.lazyset_commands.specs.Runs.{FoundAfter, RepliesOfPass}
-use Rattle.lazyset_commands.specs.declared.status.Status.TheVariants as status
+use Rattle.lazyset_offline.specs.declared.status.Status.TheVariants as status
 use Rattle.lazyset_commands.proofs.Runs.FoundSets.{found_of_more}
 use Rattle.lazyset_commands.proofs.Runs.SessionCalls.{answers, made}
 

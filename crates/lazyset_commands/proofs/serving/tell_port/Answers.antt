@@ -1,6 +1,6 @@
 use Rattle.std.proofs.Common.{◌<◌, arith}
 use Rattle.lazyset_commands.specs.Services.{port_text}
-use Rattle.lazyset_commands.proofs.SentTexts.{sent_flushed}
+use Rattle.lazyset_offline.proofs.SentTexts.{sent_flushed}
 use Rattle.lazyset_commands.proofs.serving.tell_port.Goals as goal
 
 pub returns : goal.returns

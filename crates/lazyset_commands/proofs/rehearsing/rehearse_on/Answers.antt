@@ -1,5 +1,0 @@
-use Rattle.std.proofs.Common.{inr}
-use Rattle.lazyset_commands.proofs.rehearsing.rehearse_on.Goals as goal
-
-pub returns-in-Err-Memory-clause-told : goal.returns-in-Err-Memory-clause-told
-returns-in-Err-Memory-clause-told g c = inr (inr (inr c.tell-in-Err-Memory.ensures.tells))

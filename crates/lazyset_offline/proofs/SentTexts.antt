@@ -1,0 +1,86 @@
+-- What was sent of texts, one after the other.
+use Rattle.std.proofs.Common.{◌≡◌, ◌⊎◌, inl, inr, ⊎_elim, ℕ, ◌+◌, List, [], ◌∷◌, ◌++◌, codes, decimal, length, take, Option, Result, Ok, Err, refl, sym, ◌∙◌, subst, arith, append_assoc, length-append}
+use Rattle.std.proofs.Math.Seq.{take-append-add}
+use Rattle.std.proofs.lemmas.List.{take-append-le}
+use Rattle.std.specs.Io.KnownBytes.{Appends, Keeps}
+use Rattle.std.proofs.KnownBytes.{Appends-kept, Appends-trans}
+use Rattle.lz_proto.specs.Steps.{SendTells}
+use Rattle.lz_proto.specs.declared.fault.SessionFault.{SessionFault}
+use Rattle.lz_proto.specs.declared.fault.SessionFault.TheVariants.{Read, Write, Memory}
+use Rattle.lazyset_offline.specs.Tellings.{IsCutShort, Tells, status_sent}
+use Rattle.lz_vault.specs.declared.opening.OpenFault.{OpenFault}
+use Rattle.lz_vault.specs.declared.opening.OpenFault.TheVariants as opening
+use Rattle.lazyset_offline.specs.Ends.{open_status}
+use Rattle.lazyset_offline.specs.Makings.{refused_text}
+use Rattle.lazyset_offline.specs.Refusals.{refusal_text}
+use Rattle.lazyset_offline.specs.declared.status.Status.{Status}
+use Rattle.lazyset_offline.specs.declared.status.Status.TheVariants as status
+
+-- a text was sent whole, and then another one, or a part of it
+pub sent_more : (old mid new : Option (List ℕ)) (first second : List ℕ) (r : Result (Unit {0}) SessionFault) → Appends old mid first → SendTells mid new second r → SendTells old new (first ++ second) r
+sent_more old mid new first second (Ok done) p q = Appends-trans old mid new first second p q
+sent_more old mid new first second (Err Read) p q = absurd q
+sent_more old mid new first second (Err Memory) p q = absurd q
+sent_more old mid new first second (Err Write) p (n, less, q) = (
+  length first + n,
+  omega (arith, length-append first second),
+  subst (λ (t : List ℕ). Appends old new t) (sym (take-append-add first second n)) (Appends-trans old mid new first (take n second) p q),
+)
+
+-- a part of a text was sent, and nothing of what follows it
+pub sent_less : (old new : Option (List ℕ)) (first second : List ℕ) (fault : SessionFault) → SendTells old new first (Err fault) → SendTells old new (first ++ second) (Err fault)
+sent_less old new first second Read q = absurd q
+sent_less old new first second Memory q = absurd q
+sent_less old new first second Write (n, less, q) = (
+  n,
+  omega (arith, length-append first second),
+  subst (λ (t : List ℕ). Appends old new t) (sym (take-append-le n first second (omega arith))) q,
+)
+
+-- a text was sent whole, and then one that is this, or a part of it
+pub sent_after : (old mid new : Option (List ℕ)) (first second text : List ℕ) (r : Result (Unit {0}) SessionFault) → Appends old mid first → text ≡ second → SendTells mid new text r → SendTells old new (first ++ second) r
+sent_after old mid new first second text r p is q = sent_more old mid new first second r p (subst (λ (t : List ℕ). SendTells mid new t r) is q)
+
+-- the status of a command that sent its text so
+pub sent_tells : (old new : Option (List ℕ)) (text : List ℕ) (told : Status) (r : Result (Unit {0}) SessionFault) → SendTells old new text r → Tells old new text told (status_sent r told)
+sent_tells old new text told (Ok done) p = inl (p, refl)
+sent_tells old new text told (Err Read) p = absurd p
+sent_tells old new text told (Err Write) p = inr (p, refl)
+sent_tells old new text told (Err Memory) p = absurd p
+
+-- a text that couldn't be told whole fails the command
+pub told_either : (old new : Option (List ℕ)) (text : List ℕ) (told state : Status) → Tells old new text told state → (state ≡ status.Failed) ⊎ ((state ≡ told) × Appends old new text)
+told_either old new text told state tells = ⊎_elim (λ whole. inr (whole.1, whole.0)) (λ part. inl part.1) tells
+
+-- how a command ends that told a text
+pub told_ends : (old new : Option (List ℕ)) (text : List ℕ) (told state : Status) → Tells old new text told state → (state ≡ told) ⊎ (state ≡ status.Failed)
+told_ends old new text told state tells = ⊎_elim (λ whole. inl whole.1) (λ part. inr part.1) tells
+
+-- one that failed in any case
+pub only_failed : {P : Type 0} (state : Status) → (state ≡ status.Failed) ⊎ ((state ≡ status.Failed) × P) → state ≡ status.Failed
+only_failed state ends = ⊎_elim (λ failed. failed) (λ told. told.0) ends
+
+-- one that tells a refusal told it whole
+pub told_refused : (old new : Option (List ℕ)) (text : List ℕ) (told state : Status) → Tells old new text told state → state ≡ status.Refused → Appends old new text × (told ≡ status.Refused)
+told_refused old new text told state tells is = ⊎_elim (λ whole. (whole.0, sym whole.1 ∙ is)) (λ part. absurd (let never : status.Failed ≡ status.Refused = sym part.1 ∙ is in cc)) tells
+
+open_ends : (fault : OpenFault) → (open_status fault ≡ status.Refused) ⊎ (open_status fault ≡ status.Failed)
+open_ends opening.Device = inr refl
+open_ends opening.Memory = inr refl
+open_ends fault = inl refl
+
+-- how a refused open ends
+pub refusal_ends : (old new : Option (List ℕ)) (text : List ℕ) (fault : OpenFault) (state : Status) → Tells old new text (open_status fault) state → (state ≡ status.Refused) ⊎ (state ≡ status.Failed)
+refusal_ends old new text fault state tells = ⊎_elim (λ whole. ⊎_elim (λ is. inl (whole.1 ∙ is)) (λ is. inr (whole.1 ∙ is)) (open_ends fault)) (λ part. inr part.1) tells
+
+-- the line of a refusal by its number
+pub number_tells : (old new : Option (List ℕ)) (told : Status) (r : Result (Unit {0}) SessionFault) (n number : ℕ) → n ≡ number → SendTells old new (codes "refused " ++ decimal n ++ 10 ∷ []) r
+    → Tells old new (refused_text number) told (status_sent r told)
+number_tells old new told r n number is sent = sent_tells old new (refused_text number) told r (subst (λ (i : ℕ). SendTells old new (refused_text i) r) is sent)
+
+-- what was sent before a flush is all of the text, or a part
+pub sent_flushed : (old mid new : Option (List ℕ)) (text : List ℕ) (r : Result (Unit {0}) SessionFault) → SendTells old mid text r → Keeps mid new → Appends old new text ⊎ IsCutShort old new text
+sent_flushed old mid new text (Ok done) p kept = inl (Appends-kept old mid new text p kept)
+sent_flushed old mid new text (Err Read) p kept = absurd p
+sent_flushed old mid new text (Err Write) (n, less, p) kept = inr (n, less, Appends-kept old mid new (take n text) p kept)
+sent_flushed old mid new text (Err Memory) p kept = absurd p

@@ -1,0 +1,15 @@
+use Rattle.std.proofs.Common.{codes, ◌∙◌}
+use Rattle.lz_judge.specs.Flaws.{flaw_number, flaw_subject}
+use Rattle.lazyset_offline.specs.Judgements.{flaw_text}
+use Rattle.lazyset_offline.specs.declared.status.Status.TheVariants.{Damaged}
+use Rattle.lazyset_offline.proofs.SentTexts.{sent_tells}
+use Rattle.lazyset_offline.proofs.TwoNumbers.{two_same}
+use Rattle.lazyset_offline.proofs.judging.tell_flaw.Goals as goal
+
+pub returns : goal.returns
+returns g c =
+    let flaw = c.args.flaw in
+    let sent = two_same (codes "flaw ") c.from-number.result c.subject.result (flaw_number flaw) (flaw_subject flaw) _ _ c.send_two-sent.result
+    (c.from-number.ensures ∙ c.number.ensures) c.subject.ensures c.send_two-sent.ensures
+    in
+    rw c.status_sent.ensures (sent_tells _ _ (flaw_text flaw) Damaged c.send_two-sent.result sent)

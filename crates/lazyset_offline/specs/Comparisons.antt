@@ -1,0 +1,38 @@
+-- What a check of a file against another tells.
+use Rattle.std.specs.Prelude.{◌≢◌, ◌⊎◌, ℕ, Option, List, [], ◌∷◌, ◌++◌, codes, decimal, Result, Ok, Err}
+use Rattle.lz_judge.specs.Renewals.{IsVerdictOn}
+use Rattle.lz_judge.specs.declared.renewing.RenewFlaw.{RenewFlaw}
+use Rattle.lz_judge.specs.declared.renewing.RenewFlaw.TheVariants.{NotHeld, Missing, Extra}
+use Rattle.lazyset_offline.specs.Checks.{IsChecked}
+use Rattle.lazyset_offline.specs.Judgements.{numbers_text}
+use Rattle.lazyset_offline.specs.Tellings.{LacksMemory, Tells}
+use Rattle.lazyset_offline.specs.declared.status.Status.{Status}
+use Rattle.lazyset_offline.specs.declared.status.Status.TheVariants.{Done, Damaged}
+
+-- the line of a flaw that names no slot
+abbrev pub alone_text : ℕ → List ℕ
+alone_text number = codes "flaw " ++ decimal number ++ 10 ∷ []
+
+-- the line of a verdict: each flaw has its number, and its slot if it names one
+abbrev pub verdict_text : Result (Unit {0}) RenewFlaw → List ℕ
+verdict_text (Ok same) = codes "same" ++ 10 ∷ []
+verdict_text (Err NotHeld) = alone_text 8
+verdict_text (Err (Missing i)) = numbers_text 9 i
+verdict_text (Err (Extra j)) = numbers_text 10 j
+
+-- how a check ends with this verdict
+abbrev pub verdict_status : Result (Unit {0}) RenewFlaw → Status
+verdict_status (Ok same) = Done
+verdict_status (Err flaw) = Damaged
+
+-- a comparison of two files ended with this status, and told its verdict
+pub record IsCompared (old new : List ℕ) (status : Status) (before after : Option (List ℕ)) : Type 0 where
+  pub verdict : Result (Unit {0}) RenewFlaw
+  pub of_files : IsVerdictOn old new verdict
+  pub told : Tells before after (verdict_text verdict) (verdict_status verdict) status
+
+-- The file was checked, and behind `good`, and only there, compared with the older one.
+abbrev pub IsCheckedOf : List ℕ → List ℕ → Status → Option (List ℕ) → Option (List ℕ) → Type 0
+IsCheckedOf old new status before after =
+    ((status ≢ Done) × (IsChecked new status before after ⊎ LacksMemory before after status))
+    ⊎ ((middle : Option (List ℕ)) × IsChecked new Done before middle × (IsCompared old new status middle after ⊎ LacksMemory middle after status))

@@ -1,0 +1,10 @@
+pub mod Ends
+pub mod Tellings
+pub mod Makings
+pub mod Refusals
+pub mod Checks
+pub mod Infos
+pub mod Comparisons
+pub mod Judgements
+pub mod Rehearsals
+pub mod Renewals

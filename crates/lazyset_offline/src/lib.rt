@@ -1,0 +1,25 @@
+//! The commands that need no set in memory: each reads or writes a file, a history or a script, over any reader, writer and disk. And
+//! how every command ends: its status, and the lines that say why it was refused.
+#![tactic(auto)]
+
+mod checking;
+mod comparing;
+mod informing;
+mod judging;
+mod making;
+mod refusal;
+mod rehearsing;
+mod renewing;
+mod status;
+mod telling;
+
+pub use checking::{MOST_SURVEYED, check_on};
+pub use comparing::check_of_on;
+pub use informing::info_on;
+pub use judging::{MOST_JUDGED, judge_on};
+pub use making::make_on;
+pub use refusal::{refuse, send_line};
+pub use rehearsing::rehearse_on;
+pub use renewing::renew_on;
+pub use status::Status;
+pub use telling::tell;
