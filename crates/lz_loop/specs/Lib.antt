@@ -1,5 +1,3 @@
-pub mod Conversations
-pub mod Streams
 pub mod Askings
 pub mod Answered
 pub mod PassReplies

@@ -7,7 +7,7 @@ ghost use Rattle.lz_serve.specs.Halts.{IsCalm, IsCalmAfter, SawHalt};
 
 use crate::serving::{RoomBounds, serve_room};
 use crate::shares::{Finished, Group, Share, join_all, shares_of};
-use crate::sockets::Sockets;
+use lz_clients::Sockets;
 use lz_disk::Disk;
 use lz_serve::{Given, Observer, Served};
 use lz_set::{Named, Pass, Set, StepGate};

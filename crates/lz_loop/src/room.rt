@@ -7,10 +7,9 @@ ghost use Rattle.lz_set.specs.Names.{MayCall};
 ghost use Rattle.lz_serve.specs.Halts.{IsCalmAfter, SawHalt};
 ghost use Rattle.lz_loop.specs.PassReplies.{Promised};
 
-use crate::crowd::Crowd;
 use crate::free_pass::FreePass;
-use crate::stream::Stream;
 use crate::working::{Played, Working};
+use lz_clients::{Crowd, Stream};
 use lz_disk::Disk;
 use lz_serve::{Given, Observer};
 use lz_set::{Named, Pass, Set, StepGate};

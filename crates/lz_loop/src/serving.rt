@@ -8,10 +8,8 @@ ghost use Rattle.lz_set.specs.Names.{MayCall};
 ghost use Rattle.lz_serve.specs.Halts.{IsCalm, IsCalmAfter, SawHalt};
 ghost use Rattle.lz_loop.specs.PassReplies.{Promised};
 
-use crate::client::Client;
-use crate::poller::Poller;
 use crate::room::Room;
-use crate::stream::Stream;
+use lz_clients::{Client, Poller, Stream};
 use lz_disk::Disk;
 use lz_proto::MOST_PIECE;
 use lz_serve::{Given, Observer, Served};

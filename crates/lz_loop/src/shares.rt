@@ -5,7 +5,7 @@ ghost use Rattle.lz_set.specs.Names.{MayCall};
 ghost use Rattle.lz_serve.specs.Halts.{IsCalmAfter, SawHalt};
 ghost use Rattle.lz_loop.specs.Shares.{saw_halt};
 
-use crate::sockets::Sockets;
+use lz_clients::Sockets;
 use lz_serve::{Given, Served};
 use lz_set::{Named, Pass};
 use std::alloc::Global;

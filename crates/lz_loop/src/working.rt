@@ -7,9 +7,8 @@ ghost use Rattle.lz_serve.specs.Halts.{IsCalmAfter};
 ghost use Rattle.lz_loop.specs.PassReplies.{Promised};
 
 use crate::asking::{Answered, Asking};
-use crate::client::Client;
 use crate::free_pass::FreePass;
-use crate::stream::Stream;
+use lz_clients::{Client, Stream};
 use lz_disk::Disk;
 use lz_proto::{Reply, Request};
 use lz_serve::{Given, Observer};
