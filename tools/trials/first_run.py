@@ -77,6 +77,8 @@ class Copy:
             stderr=subprocess.STDOUT,
             text=True,
             start_new_session=True,
+            # What was started in the background ignores an interruption, and a shell that ignores it can't heed it.
+            preexec_fn=lambda: signal.signal(signal.SIGINT, signal.SIG_DFL),
         )
 
     def run(self, *words: str, status: int = 0) -> List[str]:
