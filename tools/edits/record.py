@@ -1,8 +1,8 @@
 """The record: of each crate the hash under which all of its edits were last refused.
 
 The hash is of what a refusal rests on: the crate's sources, specs and edits, what the crates below it promise (their specs, and
-their sources without comments and bodies), and the kit's logic. A body or a proof of a lower crate isn't in it, no proof of its own,
-and no release of the kit: where its logic is the same, what has no proof has none.
+their sources without bodies), and the kit's logic. No comment is in it, no body or proof of a lower crate, no proof of its own, and
+no release of the kit: where its logic is the same, what has no proof has none.
 """
 
 from __future__ import annotations
@@ -59,7 +59,7 @@ class Hashes:
         """The hash of what the refusals of a crate's edits rest on."""
         found = hashlib.sha256(repr((kit.logic(), settings(crate))).encode())
         for path in files(crate.folder, ("src", "specs")):
-            found.update(repr((path, bytes_of(crate, path))).encode())
+            found.update(repr((path, words_of(crate, path))).encode())
         # In which of the two folders an edit stands is nothing to its refusal.
         for path in sorted(files(crate.folder, edit.FOLDERS), key=os.path.basename):
             found.update(repr((os.path.basename(path), bytes_of(crate, path))).encode())
@@ -71,18 +71,21 @@ class Hashes:
 
 
 def promises(library: kit.Crate) -> str:
-    """The hash of what the crates above can know of a library. A file that can't be read as tokens counts whole."""
+    """The hash of what the crates above can know of a library."""
     found = hashlib.sha256(repr(settings(library)).encode())
     for path in files(library.folder, ("src", "specs")):
-        rows = kit.tokens([f"{library.folder}/{path}"])
-        if rows is None:
-            known = bytes_of(library, path)
-        elif path.endswith(".rt"):
-            known = repr(source_of(rows[0]).without(frozenset())).encode()
-        else:
-            known = repr(tokens_of(rows[0])).encode()
-        found.update(repr((path, known)).encode())
+        found.update(repr((path, words_of(library, path, are_bodies_left_out=True))).encode())
     return found.hexdigest()
+
+
+def words_of(crate: kit.Crate, path: str, are_bodies_left_out: bool = False) -> bytes:
+    """The tokens of a file, comments left out. A file that can't be read as tokens counts whole."""
+    rows = kit.tokens([f"{crate.folder}/{path}"])
+    if rows is None:
+        return bytes_of(crate, path)
+    if are_bodies_left_out and path.endswith(".rt"):
+        return repr(source_of(rows[0]).without(frozenset())).encode()
+    return repr(tokens_of(rows[0])).encode()
 
 
 def settings(crate: kit.Crate) -> List[Tuple[str, object]]:

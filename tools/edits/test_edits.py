@@ -265,11 +265,12 @@ class RecordTest(EditsTest):
             "crates/low/src/lib.rt": LOW.replace("next(next(x))", "next(x) + 1").replace("/// Two more.", "/// Two added."),
             "crates/low/proofs/lower/Answers.antt": LOWER + "\n",
             "crates/high/proofs/third/Answers.antt": "\n",
+            "crates/high/src/lib.rt": HIGH + "\n// No more.\n",
         }
         others = {
             "crates/low/src/lib.rt": LOW.replace("x < 900", "x < 901"),
             "crates/low/specs/Lib.antt": "pub mod More\n",
-            "crates/high/src/lib.rt": HIGH + "\n",
+            "crates/high/src/lib.rt": HIGH + "\nfn more() {}\n",
             "crates/high/wrong-bodies/another.edit": "file: src/lib.rt\n",
         }
         for path, text in same.items():

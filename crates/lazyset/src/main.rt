@@ -1,10 +1,19 @@
-//! The command line of the set service.
+//! The command line of the set service: it reads the words, opens the files, and hands over to the library of commands.
 #![tactic(auto)]
 
+mod commands;
+mod fault;
+mod files;
+mod heard;
+mod log;
+mod watched;
+mod words;
+
+use crate::commands::run;
 use std::process::ExitCode;
 
 fn main(rt: HostRuntime) -> ExitCode {
-    match lazyset_program::run(&rt) {
+    match run(&rt) {
         Ok(status) => ExitCode::from(status.code()),
         Err(fault) => {
             // Where standard output fails too, the status alone is left to tell.

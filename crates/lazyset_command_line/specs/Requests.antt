@@ -2,7 +2,7 @@
 use Rattle.std.specs.Prelude.{◌≤◌, ℕ, IfSome, Option}
 use Rattle.lz_slot.specs.Limits.{most_buckets, most_passes, most_rehearsed}
 use Rattle.lz_serve.specs.declared.observer.Loops.{Loops}
-use Rattle.lazyset_commands.specs.Services.{most_connections}
+use Rattle.lz_serve.specs.Options.{most_connections}
 use Rattle.lazyset_command_line.specs.declared.request.Request.{Request}
 use Rattle.lazyset_command_line.specs.declared.request.Request.TheVariants.{Run, Serve, Rehearse}
 

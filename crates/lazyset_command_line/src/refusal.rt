@@ -1,7 +1,7 @@
 //! Why a command line asks for nothing that can be done.
 use clap::Error;
 use clap::error::ErrorKind;
-use lazyset_commands::Status;
+use lazyset_offline::Status;
 use std::alloc::{AllocError, Global};
 
 #[derive(Debug, Drop)]

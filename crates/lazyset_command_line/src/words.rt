@@ -1,5 +1,5 @@
 //! The commands and their words, as a table.
-use lazyset_commands::MOST_CONNECTIONS;
+use lz_serve::MOST_CONNECTIONS;
 use lz_slot::{MOST_BUCKETS, MOST_PASSES, MOST_REHEARSED};
 
 /// What a word may be.

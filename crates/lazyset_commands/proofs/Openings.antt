@@ -17,7 +17,7 @@ use Rattle.lazyset_offline.specs.Tellings.{Tells}
 use Rattle.lazyset_offline.specs.declared.status.Status.{Status}
 use Rattle.lazyset_offline.specs.declared.status.Status.TheVariants as status
 
--- what a sync makes sure was an image before
+-- what a sync makes durable was an image before
 synced_was : (old : Device) → IsTimely old → (t : List ℕ) → IsImage (synced old.medium) t → IsImage old.medium t
 synced_was old timely t image =
     let is = synced_image old.medium t image in

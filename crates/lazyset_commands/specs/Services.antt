@@ -1,7 +1,5 @@
 -- What a service of a set does: its passes are served, each by a thread, or by loops.
-use Rattle.std.specs.Prelude.{◌≡◌, ◌⊎◌, ◌≤◌, ◌<◌, ℕ, zero, suc, ◌*◌, All, List, [], ◌∷◌, ◌++◌, codes, decimal, length, Option, None, IsSomeAnd}
-use Rattle.std.specs.Duration.{as_nanos}
-use Rattle.std.specs.declared.time.Duration.{Duration}
+use Rattle.std.specs.Prelude.{◌≡◌, ◌⊎◌, ◌≤◌, ◌<◌, ℕ, All, List, [], ◌∷◌, ◌++◌, codes, decimal, length, Option}
 use Rattle.std.specs.Io.KnownBytes.{Appends}
 use Rattle.lz_disk.specs.Devices.{Device}
 use Rattle.lz_vault.specs.Opens.{IsRefusedFor}
@@ -21,15 +19,6 @@ use Rattle.lazyset_offline.specs.Refusals.{refusal_text}
 use Rattle.lazyset_offline.specs.Tellings.{IsCutShort, Tells}
 use Rattle.lazyset_offline.specs.declared.status.Status.{Status}
 use Rattle.lazyset_offline.specs.declared.status.Status.TheVariants.{Done, Failed}
-
--- the most connections that loops serve at once
-abbrev pub most_connections : ℕ
-most_connections = 10000
-
--- so many seconds are the bound on how long a client is waited for; 0 is none
-abbrev pub IsIdleBound : ℕ → Option Duration → Type 0
-IsIdleBound zero idle = idle ≡ None
-IsIdleBound (suc n) idle = IsSomeAnd idle (λ d. as_nanos d ≡ (suc n) * 1_000_000_000)
 
 -- Passes of a set were served, and have ended with these parts: what is left of the disk tells a history, in which their calls are those
 -- that they made, with the replies that they got. It is done only where each pass was served, and no call of theirs was answered that the

@@ -9,6 +9,6 @@ pub use lazyset_offline::{
     MOST_JUDGED, MOST_SURVEYED, Status, check_of_on, check_on, info_on, judge_on, make_on,
     rehearse_on, renew_on,
 };
-pub use lz_serve::Loops;
+pub use lz_serve::ServeOptions;
 pub use running::run_on;
-pub use serving::{MOST_CONNECTIONS, ServeOptions, serve_on};
+pub use serving::serve_on;

@@ -6,12 +6,12 @@ ghost use Rattle.lz_board.specs.Seats.{part};
 ghost use Rattle.lz_set.specs.Blanks.{AreNew, MayBeNamed};
 ghost use Rattle.lz_set.specs.Names.{MayCall};
 ghost use Rattle.lz_serve.specs.Halts.{IsCalm, SawHalt};
-ghost use Rattle.lazyset_commands.specs.Services.{HadNoPort, HadPort, IsIdleBound, RanService, RefusedService, ServedPasses, TellsPort};
+ghost use Rattle.lazyset_commands.specs.Services.{HadNoPort, HadPort, RanService, RefusedService, ServedPasses, TellsPort};
 
 use lazyset_offline::{Status, refuse, send_line, tell};
 use lz_disk::Disk;
 use lz_loop::{LoopBounds, serve_loops};
-use lz_serve::{Bounds, Loops, Observer, Served, Serving, serve};
+use lz_serve::{Loops, Observer, ServeOptions, Served, Serving, serve};
 use lz_set::{Blank, Named, NoGate, Pass, Set};
 use lz_vault::Refused;
 use std::io;
@@ -20,48 +20,10 @@ use std::marker::Brand;
 use std::net::{Net, TcpListener, TcpStream};
 use std::sync::Wait;
 use std::thread::Threads;
-use std::time::{Clock, Duration};
+use std::time::Clock;
 
 // What is said where the service can't listen.
 const NO_PORT: &[u8] = b"noport\n";
-
-/// The most connections that loops serve at once.
-pub const MOST_CONNECTIONS: usize = 10_000;
-
-/// How a set is served.
-#[derive(Clone, Copy, Debug, PartialEq, Eq)]
-pub struct ServeOptions {
-    /// The port of the loopback interface; 0 for any that is free.
-    pub port: u16,
-    /// How many commands are carried out at once, 1 to 64; without loops each pass has a thread, and a connection.
-    pub passes: usize,
-    /// The loops that serve the connections, where passes don't.
-    pub loops: Option<Loops>,
-    /// After how many sessions each pass, or each loop, ends; 0 for no end.
-    pub sessions: u64,
-    /// How many lists the keys are spread over, 1 to 4096.
-    pub buckets: usize,
-    /// After how many seconds a client's session ends, in which it sent nothing or took none of its replies; 0 for no end.
-    pub idle: u64,
-}
-
-impl ServeOptions {
-    // When its sessions and passes end.
-    fn bounds(&self) -> Bounds
-        ensures sessions { result.sessions ≡ self.now.sessions }
-        ensures idle { IsIdleBound self.now.idle result.idle }
-    {
-        let idle = if self.idle == 0 {
-            None
-        } else {
-            Some(Duration::from_secs(self.idle))
-        };
-        Bounds {
-            sessions: self.sessions,
-            idle,
-        }
-    }
-}
 
 /// Opens the set that the disk holds and serves it on a port of 127.0.0.1, with a thread for each pass, each of which serves
 /// one connection after the other, or with loops, each of which serves many connections. The observer is told once the service stands, and where the device failed. Says `listening P` before the first connection, `refused N` of a refused open as a run does, and

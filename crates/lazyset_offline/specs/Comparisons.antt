@@ -31,7 +31,7 @@ pub record IsCompared (old new : List ℕ) (status : Status) (before after : Opt
   pub of_files : IsVerdictOn old new verdict
   pub told : Tells before after (verdict_text verdict) (verdict_status verdict) status
 
--- The file was checked, and behind `good`, and only there, compared with the older one.
+-- The file was checked, and after `good`, and only there, compared with the older one.
 abbrev pub IsCheckedOf : List ℕ → List ℕ → Status → Option (List ℕ) → Option (List ℕ) → Type 0
 IsCheckedOf old new status before after =
     ((status ≢ Done) × (IsChecked new status before after ⊎ LacksMemory before after status))

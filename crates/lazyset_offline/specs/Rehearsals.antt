@@ -20,7 +20,7 @@ pub record RehearsedAll (shape : Shape) (format : Format) (lines : List Line) (s
   pub rehearses : Rehearses first lines last before after
   pub done : status ≡ Done
 
--- the lines before this one were, and the line itself isn't lawful there, which was told behind their text
+-- the lines before this one were, and the line itself isn't lawful there, which was told after their text
 pub record RehearsedTo (shape : Shape) (format : Format) (lines : List Line) (status : Status) (before after : Option (List ℕ)) : Type 0 where
   pub first : WorldOver
   pub new : IsNew shape format first
@@ -30,7 +30,7 @@ pub record RehearsedTo (shape : Shape) (format : Format) (lines : List Line) (st
   pub ends : EndsAt first lines number last before middle
   pub told : Tells middle after (line_text number) Refused status
 
--- some first lines were, and for the next one there was no memory, which was told behind their text
+-- some first lines were, and for the next one there was no memory, which was told after their text
 pub record RehearsedWithin (shape : Shape) (format : Format) (lines : List Line) (status : Status) (before after : Option (List ℕ)) : Type 0 where
   pub first : WorldOver
   pub new : IsNew shape format first
@@ -38,7 +38,7 @@ pub record RehearsedWithin (shape : Shape) (format : Format) (lines : List Line)
   pub ends : EndsWithin first lines before middle
   pub told : LacksMemory middle after status
 
--- some first lines were, and behind their text a part was written of that of the next one, and no more
+-- some first lines were, and after their text a part was written of that of the next one, and no more
 pub record RehearsedInto (shape : Shape) (format : Format) (lines : List Line) (status : Status) (before after : Option (List ℕ)) : Type 0 where
   pub first : WorldOver
   pub new : IsNew shape format first
@@ -70,7 +70,7 @@ IsRehearsed shape format input status before after =
     ⊎ LacksInput before after status
     ⊎ LacksMemory before after status
 
--- what is told of a rehearsal that ended before its script did, behind what was written
+-- what is told of a rehearsal that ended before its script did, after what was written
 abbrev pub fault_text : RehearsalFault → List ℕ
 fault_text (rehearsal.Line number) = line_text number
 fault_text rehearsal.Write = []

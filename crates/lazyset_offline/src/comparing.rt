@@ -16,7 +16,7 @@ use lz_slot::Slot;
 use std::alloc::{AllocError, Global};
 use std::io::Write;
 
-/// Says what the file with these bytes holds, as `check_on` does, and behind `good` whether the older file held the same set:
+/// Says what the file with these bytes holds, as `check_on` does, and after `good` whether the older file held the same set:
 /// `same`, `flaw 8` where the older file holds no set, `flaw 9 I` where its slot I holds a key that the new one lacks, and
 /// `flaw 10 I` where the new one's slot I holds a key that the older one lacks. Damaged at a flaw.
 pub fn check_of_on<W: Write + Drop>(

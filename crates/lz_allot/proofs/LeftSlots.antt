@@ -125,7 +125,7 @@ module _ (kinds : List Kind) (queue : List ℕ) (rows : List Row) (uses : List U
   plain_kind : (s : ℕ) → kind_at kinds s ≢ kind.Limbo → kind_at (set_each kinds (take k queue) kind.Free) s ≡ kind_at kinds s
   plain_kind s plain = kind_other s (λ i low. not_queued kinds queue rows is s i plain (omega (arith, few)))
 
-  -- a slot in limbo stands in the queue before the place up to which all have left, or behind it
+  -- a slot in limbo stands in the queue before the place up to which all have left, or after it
   where_is : (s : ℕ) → s < length kinds → kind_at kinds s ≡ kind.Limbo → ((i : ℕ) × (i < k) × (get_or queue i 0 ≡ s)) ⊎ ((i : ℕ) × (k ≤ i) × (i < length queue) × (get_or queue i 0 ≡ s))
   where_is s low limbo =
       let place = is.found s low limbo in

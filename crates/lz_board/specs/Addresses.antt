@@ -34,7 +34,7 @@ IsBoards z (Key s) = s < z.slots
 IsBoards z (PinOf p) = (1 ≤ p) × (p ≤ z.passes)
 IsBoards z Halt = Unit {0}
 
--- a walk finds a bucket, and a slot behind each link
+-- a walk finds a bucket, and a slot after each link
 pub record IsWalkable (z : Sizes) : Type 0 where
   pub some : 1 ≤ z.buckets
   pub few : z.slots ≤ most_slots

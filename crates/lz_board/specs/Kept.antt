@@ -60,7 +60,7 @@ pub record Knows (z : Sizes) (opened : Trace) (ns : List Note) (h : Part) : Type
   pub found : FoundSince opened ns h
   pub began : Extends h.begun opened
   pub from : Extends (trace_of opened ns) h.begun
-  -- since its last pin no slot that stood on a chain was prepared anew
+  -- since its last pin no slot that stood on a chain was prepared again
   pub kept : IsInside h.pin → IsQuiet z.buckets h.begun (trace_of opened ns)
   -- a call that is inside went in with a note
   pub turned : IsInside h.pin → is_calling z h.steps ≡ true → h.begun ≡ turned_at h.number opened ns

@@ -56,7 +56,7 @@ Prepares s (key_prepared t v) = t ≡ s
 Prepares s (link_prepared t v) = t ≡ s
 Prepares s _ = ⊥
 
--- A slot isn't prepared anew behind an unlinking from it that came since the trace P0: U is the trace at the unlinking,
+-- A slot isn't prepared again after an unlinking from it that came since the trace P0: U is the trace at the unlinking,
 -- R that at the preparing.
 abbrev pub LeavesFirst : Trace → Trace → Type 0
 LeavesFirst P0 P =
@@ -75,7 +75,7 @@ PassesSeeBeginnings =
     → holds_of o s
     → (ns : List Note) × IsPublished o.sizes (opened_by o.words.value) s ns × ((h : Part) → IsPass s h → SeesBeginning o.sizes (opened_by o.words.value) ns s.words h)
 
--- and a slot isn't prepared anew while a pass is inside since before its last unlinking
+-- and a slot isn't prepared again while a pass is inside since before its last unlinking
 abbrev pub SlotsAreLeftFirst : Type 0
 SlotsAreLeftFirst =
     (o : Opening) (s : State Note View)

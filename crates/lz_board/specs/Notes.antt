@@ -59,11 +59,11 @@ Extends Q P = (more : Trace) × (Q ≡ more ++ P)
 abbrev pub Since : ℕ → Trace → Trace → Type 0
 Since p Q P = (more : Trace) × (Q ≡ more ++ P) × (own p more ≡ [])
 
--- A call's load, as a step. It is put behind the newest place where the trace has the length that it saw.
+-- A call's load, as a step. It is put after the newest place where the trace has the length that it saw.
 abbrev pub load_note : ℕ → Load → Note
 load_note p h = note_by p (Played (Hop h.word) (Value h.value)) None
 
--- a load among the notes, behind the newest place where the trace has the length that it saw
+-- a load among the notes, after the newest place where the trace has the length that it saw
 abbrev pub insert_load : Trace → ℕ → Load → List Note → List Note
 insert_load opened p h [] = load_note p h ∷ []
 insert_load opened p h (n ∷ ns) =

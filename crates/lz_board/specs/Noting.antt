@@ -33,7 +33,7 @@ pub record HasLeft (z : Sizes) (opened : Trace) (ns : List Note) (q s : ℕ) : T
 abbrev pub AllLeft : Sizes → Trace → List Note → ℕ → Type 0
 AllLeft z opened ns s = IsAway z.buckets opened (trace_of opened ns) s ⊎ ((q : ℕ) → 1 ≤ q → q ≤ z.passes → HasLeft z opened ns q s)
 
--- a slot is prepared anew only where each pass has left it
+-- a slot is prepared again only where each pass has left it
 abbrev pub MayPrepare : Sizes → Trace → List Note → Option Publishing → Type 0
 MayPrepare z opened ns (Some (key_prepared s v)) = AllLeft z opened ns s
 MayPrepare z opened ns (Some (link_prepared s v)) = AllLeft z opened ns s

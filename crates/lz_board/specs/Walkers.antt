@@ -33,7 +33,7 @@ pub record MetNode (buckets k s : ℕ) (flags : Flags) (mark : Bool) (P0 P : Tra
   pub shown : flags ≡ flags_after s P
   pub marked : flags.mark ≡ mark
 
--- A walk has ended behind the place pred, with what it met.
+-- A walk has ended after the place pred, with what it met.
 abbrev pub Ended : ℕ → ℕ → Trace → Trace → Place → Option ℕ → Met → Type 0
 Ended buckets k P0 P pred curr Absent = WasBetween buckets k pred (link_to curr) P0 P × IsHigh k (link_to curr) P
 Ended buckets k P0 P pred curr (Unmarked s flags) = (curr ≡ Some s) × WasBetween buckets k pred (suc s) P0 P × MetNode buckets k s flags false P0 P
@@ -82,7 +82,7 @@ pub record IsHop (z : Sizes) (k : ℕ) (h : Part) (P seen : Trace) (look : Look)
 abbrev pub MeetsAtEnd : Sizes → ℕ → Part → Trace → Met → Type 0
 MeetsAtEnd z k h seen met = (pred : Place) × (curr : Option ℕ) × Ended z.buckets k h.begun seen pred curr met
 
--- the answer, or the slot in which the change isn't sure
+-- the answer, or the slot in which the change isn't durable
 abbrev pub sure_or : Need → Glance → ℕ → Glance
 sure_or Now answer s = answer
 sure_or asks_sync answer s = Unsettled s

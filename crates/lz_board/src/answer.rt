@@ -9,7 +9,7 @@ use lz_slot::Slot;
 pub enum Glance {
     Yes,
     No,
-    /// The key's last change isn't sure yet; its node is in this slot.
+    /// The key's last change isn't durable yet; its node is in this slot.
     Unsettled(Slot),
 }
 

@@ -33,7 +33,7 @@ impl Board {
     ghost use Rattle.lz_board.specs.Plays.{fresh, parts_from};
     ghost use Rattle.lz_board.specs.Seats.{id_of, part, IsOf, IsNew, notes, IsPenOf, HasParts};
 
-    /// The board of these words, its pen, and a pass for each pin word. `None` only for want of memory.
+    /// The board of these words, its pen, and a pass for each pin word. `None` only when out of memory.
     pub fn new(alloc: Global, words: &Words) -> Option<(Board, Pen, Vec<Pass>)>
         requires room { words_count (sizes_in words.now) < 2 ^ 32 }
         requires opened { AreOpened words.now }

@@ -31,7 +31,7 @@ impl Board {
         self.table.shared.load::<Looks>(&mut pen.seat, at);
     }
 
-    /// Notes a step of the pass that has joined the pen, behind the loads of its call, and stores the word that it changes:
+    /// Notes a step of the pass that has joined the pen, after the loads of its call, and stores the word that it changes:
     /// the word becomes `new` where it was `old`.
     pub fn note(&self, pen: &mut Pen, word: Word, old: u64, new: u64, note: &Note)
         requires carries { Carries (id_of self.now) pen.old }

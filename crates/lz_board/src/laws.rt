@@ -13,7 +13,7 @@ pub fn passes_see_beginnings()
     ensures { PassesSeeBeginnings }
 {}
 
-/// While a pass is inside, no slot is prepared anew that was unlinked since the pass went inside.
+/// While a pass is inside, no slot is prepared again that was unlinked since the pass went inside.
 pub fn slots_are_left_first()
     ensures { SlotsAreLeftFirst }
 {}

@@ -52,7 +52,7 @@ impl Model for Caller {
 }
 
 impl Caller {
-    /// A call that was just made: its Invoke is behind it, unless that answered OldFile, which it is still to take.
+    /// A call that was just made: its Invoke was played, unless that answered OldFile, which it is still to take.
     pub fn new(command: Command, buckets: usize, passes: usize) -> Caller
         requires buckets { (1 ≤ buckets) × (buckets ≤ most_buckets) }
         requires passes { (1 ≤ passes) × (passes ≤ most_passes) }

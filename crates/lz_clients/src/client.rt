@@ -46,7 +46,7 @@ impl<S: Stream> Client<S> {
     }
 
     /// Reads a piece, if there is one, and says whether there may be more. The buffer has room for one.
-    pub fn read(&mut self, buffer: &mut [u8]) -> bool {
+    pub(crate) fn read(&mut self, buffer: &mut [u8]) -> bool {
         if self.lost || self.ended {
             return false;
         }
@@ -75,7 +75,7 @@ impl<S: Stream> Client<S> {
     }
 
     /// Sends what is unsent, until the connection takes no more.
-    pub fn write(&mut self) {
+    pub(crate) fn write(&mut self) {
         'tries: for _ in 0..u64::MAX {
             if !self.send() {
                 return;
@@ -129,33 +129,33 @@ impl<S: Stream> Client<S> {
     }
 
     /// Whether something is still to be sent.
-    pub fn has_unsent(&self) -> bool {
+    pub(crate) fn has_unsent(&self) -> bool {
         !self.lost && !self.talk.unsent().is_empty()
     }
 
     /// Whether something has come that wasn't carried out yet.
-    pub fn waits(&self) -> bool {
+    pub(crate) fn waits(&self) -> bool {
         !self.lost && self.talk.waits()
     }
 
     /// Whether nothing more is to be told.
-    pub fn is_over(&self) -> bool {
+    pub(crate) fn is_over(&self) -> bool {
         self.lost || self.talk.is_over() && self.talk.unsent().is_empty()
     }
 
     /// Whether there is more to do for it before it is read again.
-    pub fn is_occupied(&self) -> bool {
+    pub(crate) fn is_occupied(&self) -> bool {
         self.is_over() || self.has_unsent() || self.waits()
     }
 
     /// Tells nothing more.
-    pub fn leave(&mut self) {
+    pub(crate) fn leave(&mut self) {
         self.lost = true;
         self.stream.leave();
     }
 
     /// Throws a piece away that came after the end, and says whether there may be more at once; none where nothing more will come.
-    pub fn pass_over(&mut self, buffer: &mut [u8]) -> Option<bool> {
+    pub(crate) fn pass_over(&mut self, buffer: &mut [u8]) -> Option<bool> {
         self.lost = true;
         match self.stream.receive(buffer) {
             Received::Count(_) => Some(true),

@@ -1,5 +1,5 @@
 //! A connection as the loop sees it.
-ghost use Rattle.std.specs.Prelude.{◌≡◌, ◌≤◌, length};
+ghost use Rattle.std.specs.Prelude.{◌≡◌, ◌≢◌, ◌≤◌, length};
 ghost use Rattle.lz_clients.specs.Streams.{MayTake, Receives, Takes, counted, sent};
 
 /// What a receiving gave.
@@ -43,12 +43,14 @@ pub trait Stream: Drop {
     fn receive(&mut self, buffer: &mut [u8]) -> Received
         ensures length { length buffer.new ≡ length buffer.old }
         ensures bound { counted result ≤ length buffer.new }
+        ensures some { result ≢ Received.Count 0 }
         ensures received { Receives (traffic self.old) (traffic self.new) result buffer.new };
 
     /// Sends a beginning of the text.
     fn take(&mut self, text: &[u8]) -> Taken
         requires { MayTake promised (traffic self.old) text.now }
         ensures bound { sent result ≤ length text.now }
+        ensures some { result ≢ Taken.Count 0 }
         ensures taken { Takes (traffic self.old) (traffic self.new) result text.now };
 
     /// Says that nothing more will be sent.

@@ -181,7 +181,7 @@ pub record LacksMemory (old : WorldOver) (play : PlayStep) (new : WorldOver) : T
   pub goes : Goes old play step marks new
   pub untripped : (old.tripped ≡ false) × (new.tripped ≡ false)
 
--- the next step of a play behind the first so many is one that lacked memory
+-- the next step of a play after the first so many is one that lacked memory
 abbrev pub LacksNext : WorldOver → List PlayStep → ℕ → WorldOver → Type 0
 LacksNext old plays count new = IsSomeAnd (slice_get plays count) (λ play. LacksMemory old play new)
 

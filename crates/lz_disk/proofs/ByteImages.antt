@@ -36,7 +36,7 @@ pub none_loose : (h i : ℕ) (t : List ℕ) → with_loose [] h i t ≡ t
 none_loose h i [] = refl
 none_loose h i (b ∷ t) = ap (λ (l : List ℕ). b ∷ l) (none_loose h (i + 1) t)
 
--- the sure text with the first loose bytes as read
+-- the durable text with the first loose bytes as read
 module _ (ranges : List (ℕ × ℕ)) where
   first_not_shorter : (n i : ℕ) (sure seen : List ℕ) → length sure ≤ length (with_first ranges n i sure seen)
   first_not_shorter n i sure [] = omega arith

@@ -54,7 +54,7 @@ not_before h = let first : ◌≡◌ {A = ℕ} 4 1 = ap (λ (t : List ℕ). slic
 not_after : WriteFailed two 0 1 (record { sure = 1 ∷ 2 ∷ []; seen = 9 ∷ 3 ∷ []; loose = (0, 1) ∷ [] }) → ⊥
 not_after h = let second : ◌≡◌ {A = ℕ} 3 2 = ap (λ (t : List ℕ). slice_index t 0) h.after in absurd (omega (arith, second))
 
--- its range is loose, and what was sure stays so
+-- its range is loose, and what was durable stays so
 not_kept : WriteFailed two 1 3 (at_rest (1 ∷ 2 ∷ [])) → ⊥
 not_kept h = let loose = h.loose in absurd cc
 

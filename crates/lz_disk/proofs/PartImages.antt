@@ -1,4 +1,4 @@
--- How the first loose bytes are put into the sure text, one position after another.
+-- How the first loose bytes are put into the durable text, one position after another.
 use Rattle.std.proofs.Common.{◌≡◌, ◌⊎◌, inl, inr, ℕ, zero, suc, ◌+◌, ◌≤◌, ◌<◌, Bool, true, false, List, [], ◌∷◌, ◌++◌, length, get_or, drop, set, replicate, if◌then◌else◌, sym, refl, ◌∙◌, ap, arith, length-append, drop-cons}
 use Rattle.std.proofs.lemmas.List.{get_or-replicate, get_or_default, length-replicate, drop_all}
 use Rattle.lz_disk.specs.Images.{Medium, is_loose}
@@ -73,7 +73,7 @@ module _ (disk : Medium) (count at : ℕ) (text text' : List ℕ) (lt : at < len
   grown : (xs : List ℕ) (b : ℕ) → length xs ≡ at → length (xs ++ b ∷ []) ≡ at + 1
   grown xs b is = omega (arith, length-append xs (b ∷ []), is)
 
-  -- behind the sure end each position is taken
+  -- after the durable end each position is taken
   pub taking_pushes : (left : ℕ) → IsTaking disk count (suc left) at text → length text ≤ at → text' ≡ text ++ byte ∷ [] → IsTaking disk count left (at + 1) text'
   taking_pushes left held long is =
       let none : held.rest ≡ [] = none_of held.rest (omega (arith, held.here, ap length held.parts, length-append held.done held.rest)) in
@@ -92,7 +92,7 @@ module _ (disk : Medium) (count at : ℕ) (text text' : List ℕ) (lt : at < len
   rest_here : (left : ℕ) (held : IsTaking disk count left at text) → at < length text → (a : ℕ) × (ys : List ℕ) × (held.rest ≡ a ∷ ys)
   rest_here left held low = first_of held.rest (omega (arith, low, held.here, ap length held.parts, length-append held.done held.rest))
 
-  -- within the sure text a loose position is taken
+  -- within the durable text a loose position is taken
   pub taking_sets : (left : ℕ) → IsTaking disk count (suc left) at text → at < length text → is_loose disk.loose at ≡ true → text' ≡ set text at byte → IsTaking disk count left (at + 1) text'
   taking_sets left held low loose is =
       let r = rest_here (suc left) held low in
@@ -137,6 +137,6 @@ taking_ends disk count left at text held (inr past) =
     let ended : [] ≡ drop at disk.seen = sym (drop_all at disk.seen past) in
     held.parts ∙ ap (λ (l : List ℕ). held.done ++ with_first disk.loose left at held.rest l) ended ∙ held.same
 
--- what is read within a list is there whatever stands behind its end
+-- what is read within a list is there whatever stands after its end
 pub read_at : (xs : List ℕ) (i x : ℕ) → i < length xs → x ≡ get_or xs i x → x ≡ get_or xs i 0
 read_at xs i x lt is = is ∙ get_or_default xs i x 0 lt

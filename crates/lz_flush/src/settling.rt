@@ -1,4 +1,4 @@
-//! Flags of changes that are sure.
+//! Flags of changes that are durable.
 ghost use Rattle.std.specs.Prelude.{◌≡◌, ◌⊎◌, true};
 ghost use Rattle.lz_flush.specs.Settling.{may_answer, settle};
 

@@ -29,7 +29,7 @@ impl Ticket {
     }
 }
 
-/// Whether what was written at a ticket is sure, where so many syncs have succeeded now.
+/// Whether what was written at a ticket is durable, where so many syncs have succeeded now.
 pub fn covered(ticket: Ticket, syncs: u64) -> bool
     ensures { result ≡ covered ticket syncs }
 {

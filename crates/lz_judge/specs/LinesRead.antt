@@ -21,7 +21,7 @@ use Rattle.lz_judge.specs.Limits.{largest_place, most_actors, most_faults}
 abbrev pub words_of : List ℕ → List (List ℕ)
 words_of text = slice_split (λ b. b == 32) text
 
--- the words behind a space, or none where there is no space
+-- the words after a space, or none where there is no space
 abbrev pub words_behind : Option (Bor (List ℕ)) → List (List ℕ)
 words_behind None = []
 words_behind (Some text) = words_of text.now
@@ -30,12 +30,12 @@ words_behind (Some text) = words_of text.now
 abbrev pub is_word : List ℕ → List ℕ → Bool
 is_word word text = pointwise nat_eq word text
 
--- what is read of the first word, and the words behind it
+-- what is read of the first word, and the words after it
 abbrev pub take_word : {A : Type 0} → (List ℕ → Option A) → List (List ℕ) → Option (A × List (List ℕ))
 take_word read [] = None
 take_word read (word ∷ words) = option_map (λ a. (a, words)) (read word)
 
--- what is read of the first word, and the words behind it, go on to a reading
+-- what is read of the first word, and the words after it, go on to a reading
 abbrev pub with_word : {A B : Type 0} → (List ℕ → Option A) → List (List ℕ) → (A → List (List ℕ) → Option B) → Option B
 with_word read words go = option_and_then (λ taken. go taken.0 taken.1) (take_word read words)
 
@@ -138,7 +138,7 @@ open_read (word ∷ words) = if is_word word (codes "fault") then fault_read wor
 abbrev pub show_read : List (List ℕ) → Option Line
 show_read words = option_map (λ keys. Other) (keys_from 0 words)
 
--- what a line of this kind says with the words behind, where it is no call's and no call's end
+-- what a line of this kind says with the words after, where it is no call's and no call's end
 abbrev pub other_read : List ℕ → List (List ℕ) → Option Line
 other_read kind words =
     if is_word kind (codes "stop") then at_end (Seen mark.Stop) words
@@ -149,7 +149,7 @@ other_read kind words =
     else if is_word kind (codes "point") then point_read words
     else None
 
--- what a line of this kind says with the words behind
+-- what a line of this kind says with the words after
 abbrev pub kind_read : List ℕ → List (List ℕ) → Option Line
 kind_read kind words =
     if is_word kind (codes "call") then call_read words

@@ -1,4 +1,4 @@
-//! Two judges of what a set service leaves behind: what a slot file holds, and whether a history with a given order of
+//! Two judges of what a set service leaves after: what a slot file holds, and whether a history with a given order of
 //! its calls is that of one set through stops and crashes.
 //!
 //! The order is Herlihy and Wing's for one life, and that of Izraelevitz, Mendes and Scott over crashes: a history that is

@@ -62,7 +62,7 @@ fn read_other(alloc: Global, kind: &[u8], text: Option<&[u8]>) -> Result<Option<
     }
 }
 
-// The first word of a text, and what stands behind the space after it, if there is one.
+// The first word of a text, and what stands after the space that follows it, if there is one.
 fn split_word(text: &[u8]) -> (&[u8], Option<&[u8]>)
     ensures { words_of text.now ≡ result.0.now ∷ words_behind result.1 }
 {
@@ -78,7 +78,7 @@ fn is_word(word: &[u8], name: &[u8]) -> bool
     word == name
 }
 
-// The next word, and what stands behind it.
+// The next word, and what stands after it.
 fn next_word(text: Option<&[u8]>) -> Option<(&[u8], Option<&[u8]>)>
     ensures { option_map (λ r. (r.0.now, words_behind r.1)) result ≡ take_word (λ word. Some word) (words_behind text.entry) }
 {
@@ -267,7 +267,7 @@ fn read_show(alloc: Global, text: Option<&[u8]>) -> Result<Option<Line>, AllocEr
     }
 }
 
-// The line, where nothing stands behind it.
+// The line, where nothing stands after it.
 fn read_end(text: Option<&[u8]>, line: Line) -> Option<Line>
     requires { IsLow line }
     ensures low { IfSome result IsLow }
@@ -279,14 +279,14 @@ fn read_end(text: Option<&[u8]>, line: Line) -> Option<Line>
     }
 }
 
-// A call's number, and what stands behind it.
+// A call's number, and what stands after it.
 fn read_call_number(text: Option<&[u8]>) -> Option<(u64, Option<&[u8]>)>
     ensures { option_map (λ r. (r.0, words_behind r.1)) result ≡ take_word (number_in 1 largest_read) (words_behind text.entry) }
 {
     read_number(text, 1, u64::MAX)
 }
 
-// The number from low up to high that the next word is, and what stands behind it.
+// The number from low up to high that the next word is, and what stands after it.
 fn read_number(text: Option<&[u8]>, low: u64, high: u64) -> Option<(u64, Option<&[u8]>)>
     ensures words { option_map (λ r. (r.0, words_behind r.1)) result ≡ take_word (number_in low high) (words_behind text.entry) }
     ensures range { IfSome result (λ r. r.0 ≤ high) }

@@ -125,7 +125,7 @@ IsLast w place k = (next_at w place ≡ 0) ⊎ (k < rank_at (λ s. get w (Key s)
 abbrev pub IsBelow : Words → Place → Place → Type 0
 IsBelow w first second = rank_at (λ s. get w (Key s)) (place_number first) < rank_at (λ s. get w (Key s)) (place_number second)
 
--- Slot s may stand behind a place on the chain of bucket b: the place leads to it, and its key is above the place's and
+-- Slot s may stand after a place on the chain of bucket b: the place leads to it, and its key is above the place's and
 -- belongs in b.
 pub record Follows (w : Words) (b : ℕ) (place : Place) (s : ℕ) : Type 0 where
   pub next : next_at w place ≡ suc s
@@ -133,7 +133,7 @@ pub record Follows (w : Words) (b : ℕ) (place : Place) (s : ℕ) : Type 0 wher
   pub above : IsBelow w place (Node s)
   pub bucket : home w (get w (Key s)) ≡ b
 
--- A slot may be linked behind a place before its key, where the next key is above it and where its next link leads as the
+-- A slot may be linked after a place before its key, where the next key is above it and where its next link leads as the
 -- place's does. So the slot itself is on no chain.
 pub record MayLinkAt (w : Words) (pred : Place) (s : ℕ) : Type 0 where
   pub slot : IsWord w (Link s)

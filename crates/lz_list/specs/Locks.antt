@@ -23,7 +23,7 @@ abbrev pub with_owner : NodeLocks → Place → ℕ → NodeLocks
 with_owner locks (Bucket b) a = record { heads = slice_set locks.heads b a; nodes = locks.nodes }
 with_owner locks (Node s) a = record { heads = locks.heads; nodes = slice_set locks.nodes s a }
 
--- both locks of a pair, or the first alone where there is no node behind it
+-- both locks of a pair, or the first alone where there is no node after it
 abbrev pub is_pair_free : NodeLocks → Place → Option ℕ → Bool
 is_pair_free locks pred None = owner locks pred == 0
 is_pair_free locks pred (Some s) = (owner locks pred == 0) && (owner locks (Node s) == 0)

@@ -13,7 +13,7 @@ Once P0 (e ∷ P) A = (Begins P0 (e ∷ P) × A (e ∷ P)) ⊎ Once P0 P A
 abbrev pub Stood : ℕ → ℕ → Trace → Trace → ℕ → Type 0
 Stood buckets b P0 P x = Once P0 P (λ R. on 0 (chain buckets b R) x ≡ true)
 
--- a slot that stood on a chain since P0 isn't prepared anew
+-- a slot that stood on a chain since P0 isn't prepared again
 abbrev pub IsKept : ℕ → Trace → Publishing → Trace → Type 0
 IsKept buckets P0 (key_prepared s v) P = (b : ℕ) → Stood buckets b P0 P (suc s) → ⊥
 IsKept buckets P0 (link_prepared s v) P = (b : ℕ) → Stood buckets b P0 P (suc s) → ⊥

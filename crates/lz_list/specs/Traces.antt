@@ -205,7 +205,7 @@ abbrev pub WordsShow : (ℕ → ℕ) → (ℕ → ℕ) → ℕ → Chain → Typ
 WordsShow next keys x [] = next x ≡ 0
 WordsShow next keys x (n ∷ c) = (next x ≡ suc n.1) × (keys n.1 ≡ n.0) × (rank_at keys x ≤ n.0) × WordsShow next keys (suc n.1) c
 
--- link n stands behind place x on the chain that begins at place w
+-- link n stands after place x on the chain that begins at place w
 abbrev pub Adjacent : ℕ → Chain → ℕ → ℕ → Type 0
 Adjacent w [] x n = (x ≡ w) × (n ≡ 0)
 Adjacent w (m ∷ c) x n = ((x ≡ w) × (n ≡ suc m.1)) ⊎ Adjacent (suc m.1) c x n

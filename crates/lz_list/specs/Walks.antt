@@ -12,7 +12,7 @@ use Rattle.lz_list.specs.declared.walk.Met.TheVariants.{Absent, Unmarked, Marked
 use Rattle.lz_list.specs.Words.{next_of, flags_of}
 use Rattle.lz_list.specs.Traces.{bucket_of}
 
--- A walk goes on, or ends with the place before the key, the slot behind that place, and what it met.
+-- A walk goes on, or ends with the place before the key, the slot after that place, and what it met.
 pub data Hopped : Type 0 where
   More : Look → Hopped
   End : Place → Option ℕ → Met → Hopped

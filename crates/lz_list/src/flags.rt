@@ -5,8 +5,8 @@
 pub struct Flags {
     /// The node's key is no member any more.
     pub mark: bool,
-    /// The node's adding is sure.
+    /// The node's adding is durable.
     pub add_settled: bool,
-    /// The node's removal is sure.
+    /// The node's removal is durable.
     pub remove_settled: bool,
 }

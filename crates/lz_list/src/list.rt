@@ -62,7 +62,7 @@ impl List {
         self.words.set(word, value);
     }
 
-    /// Takes the locks of a place and of the node behind it, if there is one, for an actor: both or neither. Actors count
+    /// Takes the locks of a place and of the node after it, if there is one, for an actor: both or neither. Actors count
     /// from 1.
     pub fn claim(&mut self, actor: usize, pred: Place, curr: Option<Slot>) -> bool
         requires pred { IsPlace self.old.words pred }
@@ -103,7 +103,7 @@ impl List {
         }
     }
 
-    /// Links a slot's node behind a place.
+    /// Links a slot's node after a place.
     pub fn link(&mut self, pred: Place, slot: Slot)
         requires { MayLinkAt self.old.words pred slot }
         ensures list { self.new ≡ record { words = redirect self.old.words pred (link_to (Some slot)); locks = self.old.locks } }
@@ -123,7 +123,7 @@ impl List {
         self.words.mark(slot);
     }
 
-    /// Unlinks the node behind a place. The node's own next link stays, so a walk that stands on it goes on.
+    /// Unlinks the node after a place. The node's own next link stays, so a walk that stands on it goes on.
     pub fn unlink(&mut self, pred: Place, curr: Slot)
         requires { MayUnlinkAt self.old.words pred curr }
         ensures list { self.new ≡ record { words = redirect self.old.words pred (next_at self.old.words (Place.Node curr)); locks = self.old.locks } }
@@ -179,7 +179,7 @@ impl List {
         place
     }
 
-    // The node behind a place that is before a key, where it is before the key too.
+    // The node after a place that is before a key, where it is before the key too.
     fn next_below(&self, place: &Place, key: u64) -> Option<Slot>
         requires { IsPredecessor self.now.words place.now key }
         ensures some { IfSome result (λ slot. IsPredecessor self.now.words (Place.Node slot) key × IsBelow self.now.words place.now (Place.Node slot)) }
@@ -194,7 +194,7 @@ impl List {
         }
     }
 
-    // The node behind a place.
+    // The node after a place.
     fn behind(&self, place: Place) -> Option<Slot>
         requires place { IsPlace self.now.words place }
         requires leads { next_at self.now.words place ≤ most_slots }

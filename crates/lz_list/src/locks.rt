@@ -54,7 +54,7 @@ impl Locks {
         }
     }
 
-    // Whether both locks of a pair are free, or the first one where there is no node behind it.
+    // Whether both locks of a pair are free, or the first one where there is no node after it.
     pub(crate) fn is_free(&self, pred: Place, curr: Option<Slot>) -> bool
         requires pred { IsLock self.now pred }
         requires curr { IsCurrLock self.now curr }

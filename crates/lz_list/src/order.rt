@@ -36,7 +36,7 @@ impl Words {
         self.next(place) == 0
     }
 
-    // The node behind a place, where it may stand there on a bucket's chain.
+    // The node after a place, where it may stand there on a bucket's chain.
     fn follower(&self, bucket: usize, place: &Place) -> Option<Slot>
         requires { IsPlace self.now place.now }
         ensures some { IfSome result (λ slot. Follows self.now bucket place.now slot) }

@@ -28,7 +28,7 @@ own_change a n (linked k s p ∷ P) = if nat_le n (length P) && (p == a) then So
 own_change a n (marked k s p ∷ P) = if nat_le n (length P) && (p == a) then Some (length P) else own_change a n P
 own_change a n (_ ∷ P) = own_change a n P
 
--- Where a pass is inside, no slot that stood on a chain since it went in was prepared anew; and its call, if it has one, may
+-- Where a pass is inside, no slot that stood on a chain since it went in was prepared again; and its call, if it has one, may
 -- rely on what `Relies` says of how far it has come, with the trace at which the pass went in: what its walk has met, the
 -- change that was published for the pass since then, and what its answer rests on.
 abbrev pub CallsStand : Type 0
@@ -40,7 +40,7 @@ CallsStand =
     (trace_outside (first_point start) steps a) (run (first_point start) steps).trace
     (own_change a (length (trace_outside (first_point start) steps a)) (run (first_point start) steps).trace)
 
--- A slot that stood on a chain since a pass went in, and is marked with its last write sure, is closed: its settling is a
+-- A slot that stood on a chain since a pass went in, and is marked with its last write durable, is closed: its settling is a
 -- removal's.
 abbrev pub MarkedIsClosed : Type 0
 MarkedIsClosed =

@@ -85,7 +85,7 @@ ends_life (Crashes t) = true
 ends_life (CrashesIn a t) = true
 ends_life _ = false
 
--- Put behind the steps before, a turn of the actor may be taken, and the later steps stay steps, with their outcomes, marks
+-- Put after the steps before, a turn of the actor may be taken, and the later steps stay steps, with their outcomes, marks
 -- and trace. The actor's call is as the turn left it, until the life ends; after that nothing differs.
 pub record KeepsRun (p : Point) (a : ℕ) (later before : List Transition) : Type 0 where
   pub may : MayStep (run p before).state (Turn a)
@@ -97,7 +97,7 @@ pub record KeepsRun (p : Point) (a : ℕ) (later before : List Transition) : Typ
   pub call : list_any ends_life later ≡ false → call_in (run p (later ++ Turn a ∷ before)).state a ≡ call_in (run p (Turn a ∷ before)).state a
   pub over : list_any ends_life later ≡ true → (run p (later ++ Turn a ∷ before)).state ≡ (run p (later ++ before)).state
 
--- A load may be put into a run behind its actor's last step: the other steps stay steps, with their outcomes, marks and
+-- A load may be put into a run after its actor's last step: the other steps stay steps, with their outcomes, marks and
 -- trace. The newest step stands first.
 abbrev pub WalksMove : Type 0
 WalksMove =

@@ -6,7 +6,7 @@ use Rattle.lz_vault.specs.Opens.{IsFaultOf, open_fault_number}
 use Rattle.lz_vault.specs.declared.opening.OpenFault.{OpenFault}
 use Rattle.lz_vault.specs.declared.opening.OpenFault.TheVariants.{Device, Memory}
 
--- the number of an open that was refused because of the device or for want of memory
+-- the number of an open that was refused because of the device or when out of memory
 abbrev pub IsOpenFailure : ℕ → Type 0
 IsOpenFailure why = (why ≡ open_fault_number Device) ⊎ (why ≡ open_fault_number Memory)
 

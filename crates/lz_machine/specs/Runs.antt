@@ -154,7 +154,7 @@ abbrev pub keys_found : List ℕ → ℕ → List ℕ
 keys_found t N = map (λ f. f.0) (by_key (held t N))
 
 -- A step may be taken in a state. An open succeeds where what it reads holds a set, and is refused because of the device or
--- for want of memory; a call begins where the actor's pin word is even, so that no look is half done; its key is one of
+-- when out of memory; a call begins where the actor's pin word is even, so that no look is half done; its key is one of
 -- some format.
 abbrev pub HasTurn : Service → ℕ → Option Caller → Type 0
 HasTurn service a None = ⊥
@@ -226,7 +226,7 @@ marks_of n (Down shape disk) Opens = Opened (keys_found disk.seen shape.slots) �
 marks_of n w (OpenFails why done) = OpenFailed why ∷ []
 marks_of n w _ = []
 
--- The trace of the life after a step: an open that succeeds begins it anew, and after a stop or a crash it stays until then.
+-- The trace of the life after a step: an open that succeeds begins it again, and after a stop or a crash it stays until then.
 abbrev pub turn_publishes : Service → ℕ → Option Caller → List Publishing
 turn_publishes service a None = []
 turn_publishes service a (Some caller) = line_publishes service.yard a (next_event service.yard caller)

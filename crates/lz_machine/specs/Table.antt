@@ -63,7 +63,7 @@ may_claim Nothing = true
 may_claim Released = true
 may_claim _ = false
 
--- nothing may have been done under the locks yet, so that a test can't be made again behind a gate
+-- nothing may have been done under the locks yet, so that a test can't be made again after a gate
 abbrev pub may_check : Hold → Bool
 may_check Locks = true
 may_check Checked = true
@@ -135,7 +135,7 @@ is_played_dead Answer = true
 is_played_dead Halt = true
 is_played_dead _ = false
 
--- a slot's last write is sure, as its stage tells
+-- a slot's last write is durable, as its stage tells
 abbrev pub is_sure : Yard → ℕ → Bool
 is_sure y s = is_covered (cell_at y s).stage
 

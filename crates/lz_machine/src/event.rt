@@ -13,7 +13,7 @@ pub enum Event {
     /// Takes the lowest free slot.
     Reserve,
     WriteKey(Key),
-    /// Takes the node locks of a place and of the node behind it, if there is one.
+    /// Takes the node locks of a place and of the node after it, if there is one.
     Claim(Place, Option<Slot>),
     /// Tests that neither is marked and that the place leads to the node.
     Check,
@@ -22,7 +22,7 @@ pub enum Event {
     WriteClose,
     Mark,
     Release,
-    /// Makes sure what was written into this slot last.
+    /// Makes durable what was written into this slot last.
     Sync(Slot),
     Settle(Slot),
     Unlink,
@@ -44,7 +44,7 @@ pub enum Outcome {
     Busy,
     True,
     False,
-    /// The slot's last write isn't sure yet.
+    /// The slot's last write isn't durable yet.
     Early,
     /// The pass can't be pinned any more.
     Worn,

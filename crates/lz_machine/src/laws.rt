@@ -33,7 +33,7 @@ pub fn what_lasts()
     ensures { WhatLasts }
 {}
 
-/// A load may be put into a run behind its actor's last step; all other steps stay steps, with their outcomes, marks and
+/// A load may be put into a run after its actor's last step; all other steps stay steps, with their outcomes, marks and
 /// trace, and the actor's call is as the load left it.
 pub fn walks_move()
     ensures { WalksMove }
@@ -98,7 +98,7 @@ pub fn leaves_text()
     ensures { LeavesText }
 {}
 
-/// An open of a text that holds a set is refused only because of the device or for want of memory.
+/// An open of a text that holds a set is refused only because of the device or when out of memory.
 pub fn held_is_opened()
     ensures { HeldIsOpened }
 {}
@@ -135,7 +135,7 @@ pub fn walk_ends()
     ensures { WalkEnds }
 {}
 
-/// A marked slot on which a pass that is inside may stand is closed once its last write is sure.
+/// A marked slot on which a pass that is inside may stand is closed once its last write is durable.
 pub fn marked_is_closed()
     ensures { MarkedIsClosed }
 {}

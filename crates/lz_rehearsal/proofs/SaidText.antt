@@ -19,7 +19,7 @@ pub data Says : List Mark → List ℕ → Type 0 where
   mark : (marks : List Mark) (text : List ℕ) (m : Mark) → Says marks text → IsMarkOfRun m → Says (marks ++ m ∷ []) (text ++ mark_line m)
   silence : (marks : List Mark) (text t : List ℕ) → Says marks text → IsSilent t → Says marks (text ++ (t ++ 10 ∷ []))
 
--- one text behind another
+-- one text after another
 pub says_join : (ms ns : List Mark) (t u : List ℕ) → Says ms t → Says ns u → Says (ms ++ ns) (t ++ u)
 says_join ms _ t _ one nothing = subst (λ (x : List Mark). Says x (t ++ [])) (sym (append-nil ms)) (subst (Says ms) (sym (append-nil t)) one)
 says_join ms _ t _ one (mark marks text m other of_run) =

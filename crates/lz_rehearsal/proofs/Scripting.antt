@@ -67,7 +67,7 @@ fails_next text rest e number lines h first is why =
       ];
     }
 
--- what is left behind a line feed
+-- what is left after a line feed
 pub ended_rest : (rest ended : List ℕ) (e : ℕ) → IsFirstByte (is_byte 10) rest (Some e) → ended ≡ drop e rest → take (length ended - 1) (drop 1 ended) ≡ drop (e + 1) rest
 ended_rest rest ended e first back = take_rest ended 1 ∙ ap (λ (x : List ℕ). drop 1 x) (back ∙ drop_more rest e 0 first.0.high)
 

@@ -12,7 +12,7 @@ IsFaultOf text (BadLine number) = FailsAt text number
 IsFaultOf text Read = ⊥
 IsFaultOf text Memory = Unit {0}
 
--- the line of a text was added behind these lines
+-- the line of a text was added after these lines
 pub record AddsLine (text : List ℕ) (old new : List Line) : Type 0 where
   pub line : Line
   pub reads : line_read text ≡ Some line

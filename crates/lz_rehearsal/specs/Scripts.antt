@@ -23,7 +23,7 @@ abbrev pub actor_before : Option (List ℕ × List ℕ) → Option (ℕ × List 
 actor_before None = None
 actor_before (Some p) = option_map (λ a. (a, p.1)) (number_in 1 most_actors p.0)
 
--- the actor that a text begins with, and what follows the space behind it
+-- the actor that a text begins with, and what follows the space after it
 abbrev pub actor_read : List ℕ → Option (ℕ × List ℕ)
 actor_read text = actor_before (parted space text)
 
@@ -150,7 +150,7 @@ pub data Reads : List ℕ → List Line → Type 0 where
 abbrev pub HasNoLine : List ℕ → Type 0
 HasNoLine text = (t rest : List ℕ) → has_line_feed t ≡ false → text ≡ t ++ line_feed ∷ rest → line_read t ≡ None
 
--- The text doesn't read: this is the number of the first line that doesn't. Bytes behind the last line feed are such a
+-- The text doesn't read: this is the number of the first line that doesn't. Bytes after the last line feed are such a
 -- line, and so is each line past the most.
 pub record FailsAt (text : List ℕ) (number : ℕ) : Type 0 where
   pub lines : List Line

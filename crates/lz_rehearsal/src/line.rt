@@ -103,7 +103,7 @@ fn read_crash(text: &[u8]) -> Option<Line>
     Some(Line::Crash(pick))
 }
 
-// The actor that a text begins with, and what follows the space behind it.
+// The actor that a text begins with, and what follows the space after it.
 fn read_actor(text: &[u8]) -> Option<(usize, &[u8])>
     ensures { option_map (λ p. (p.0, p.1.now)) result ≡ actor_read text.now }
 {
@@ -112,7 +112,7 @@ fn read_actor(text: &[u8]) -> Option<(usize, &[u8])>
     Some((actor as usize, rest))
 }
 
-// The part of a text before its first space, and the part behind it.
+// The part of a text before its first space, and the part after it.
 fn split_word(text: &[u8]) -> Option<(&[u8], &[u8])>
     ensures { option_map (λ p. (p.0.now, p.1.now)) result ≡ parted space text.now }
 {

@@ -1,3 +1,4 @@
 pub mod Replies
 pub mod Halts
+pub mod Options
 pub mod Texts

@@ -7,11 +7,13 @@
 mod given;
 mod observed;
 mod observer;
+mod options;
 mod pass_thread;
 mod seated;
 mod server;
 
 pub use given::Given;
 pub use observer::{Loops, Observer, Serving};
+pub use options::{MOST_CONNECTIONS, ServeOptions};
 pub use seated::{Seated, client_reply, is_final};
 pub use server::{Bounds, Served, serve};

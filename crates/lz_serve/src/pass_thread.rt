@@ -27,7 +27,7 @@ const PAUSE: u64 = 20;
 
 const LONGEST_PAUSE: u64 = 1_000;
 
-/// For how many milliseconds, and how often, what a client still sends behind a session's end is read and thrown away: a
+/// For how many milliseconds, and how often, what a client still sends after a session's end is read and thrown away: a
 /// connection that is closed over unread bytes is reset, and the client may lose its last replies.
 const FAREWELL: u64 = 100;
 

@@ -23,7 +23,7 @@ impl<D: Disk, G: StepGate, N: Named> Set<D, G, N> {
         locked.close()
     }
 
-    /// Ends the life behind the calls of these passes, whose threads are done: in the history that explains what is left,
+    /// Ends the life after the calls of these passes, whose threads are done: in the history that explains what is left,
     /// their calls are those that they made, with the replies that they got.
     pub fn close_with(self, passes: &mut [Pass]) -> D
         requires passes { All (λ p. IsOf N.board p) passes.old }

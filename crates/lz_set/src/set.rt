@@ -125,7 +125,7 @@ impl<D: Disk, G: StepGate, N: Named> Set<D, G, N> {
         self.call(rt, pass, Command::Remove(key))
     }
 
-    /// Whether the key is a member, where that is sure. It may wait for the set.
+    /// Whether the key is a member, where that is durable. It may wait for the set.
     pub fn has<R: Wait>(&self, rt: &R, pass: &mut Pass, key: Key) -> Result<bool, Fault>
         requires pass { MayCall N.board pass.old }
         ensures pass { MayCall N.board pass.new }
@@ -135,7 +135,7 @@ impl<D: Disk, G: StepGate, N: Named> Set<D, G, N> {
         self.call(rt, pass, Command::Has(key))
     }
 
-    /// Whether the key is a member, as far as that is sure. It waits for nobody.
+    /// Whether the key is a member, as far as that is durable. It waits for nobody.
     pub fn glance(&self, pass: &mut Pass, key: Key) -> Result<Glance, GlanceFault>
         requires pass { MayCall N.board pass.old }
         ensures pass { MayCall N.board pass.new }

@@ -29,7 +29,7 @@ abbrev pub cut_word : Cut → List ℕ
 cut_word Halted = codes "halted"
 cut_word Device = codes "device"
 
--- the keys of a line, each behind a space
+-- the keys of a line, each after a space
 abbrev pub keys_text : List ℕ → List ℕ
 keys_text [] = []
 keys_text (k ∷ ks) = codes " " ++ key_text k ++ keys_text ks

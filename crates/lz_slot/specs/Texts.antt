@@ -1,4 +1,4 @@
--- Keys as texts: a number, behind its room and a colon or, in room 0, alone.
+-- Keys as texts: a number, after its room and a colon or, in room 0, alone.
 use Rattle.std.specs.Prelude.{◌≡◌, ◌⊎◌, ◌↔◌, ℕ, ◌≤◌, ◌==◌, nat_eq, if◌then◌else◌, List, [], ◌∷◌, ◌++◌, decimal, Option, None, Some, option_map, Result, Ok, Err}
 use Rattle.lz_slot.specs.Limits.{largest_key, largest_number, last_room}
 use Rattle.lz_slot.specs.Rooms.{rank, room_of, number_of}
@@ -22,7 +22,7 @@ key_text k = if room_of k == 0 then decimal (number_of k) else text_with_room k
 abbrev pub Spells : List ℕ → ℕ → Type 0
 Spells text k = (text ≡ text_with_room k) ⊎ ((room_of k ≡ 0) × (text ≡ decimal (number_of k)))
 
--- the part of a text before the first of these bytes, and the part behind it
+-- the part of a text before the first of these bytes, and the part after it
 abbrev pub parted : ℕ → List ℕ → Option (List ℕ × List ℕ)
 parted byte [] = None
 parted byte (b ∷ t) = if nat_eq byte b then Some ([], t) else option_map (λ p. (b ∷ p.0, p.1)) (parted byte t)
@@ -58,7 +58,7 @@ abbrev pub fault_of_parts : List ℕ → Option (List ℕ × List ℕ) → KeyFa
 fault_of_parts text None = fault_in text
 fault_of_parts text (Some p) = fault_behind (number_in 0 last_room p.0) p.1
 
--- why a text spells no key: no room before its first colon, no number behind it or, without a colon, in the whole text, and
+-- why a text spells no key: no room before its first colon, no number after it or, without a colon, in the whole text, and
 -- last a number that is too large
 abbrev pub key_fault : List ℕ → KeyFault
 key_fault text = fault_of_parts text (parted colon text)

@@ -20,7 +20,7 @@ pub enum KeyFault {
     TooLarge,
 }
 
-/// The key that a text spells: its number, behind its room and a `:` or, in room 0, alone. Both are plain decimals.
+/// The key that a text spells: its number, after its room and a `:` or, in room 0, alone. Both are plain decimals.
 pub fn read_key(text: &[u8]) -> Result<Key, KeyFault>
     ensures { result ≡ key_read text.now }
 {

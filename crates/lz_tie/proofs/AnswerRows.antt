@@ -75,7 +75,7 @@ one_call = record {
   answers = refl;
 }
 
--- the loads of that call go behind its Pin, before what another pass has published since
+-- the loads of that call go after its Pin, before what another pass has published since
 abbrev later : List Note
 later = note_by 2 (Played Reserve Done) (Some (key_prepared 1 12)) ∷ note_by 2 (Played Reserve Done) None ∷ pinned
 

@@ -37,7 +37,7 @@ abbrev pub reply_in : Option (Command × Progress) → Option Reply
 reply_in None = None
 reply_in (Some call) = reply_at call.1
 
--- what a step of pass p shows, behind these notes: a call that is made, or the reply with which its last one ends
+-- what a step of pass p shows, after these notes: a call that is made, or the reply with which its last one ends
 abbrev pub marks_with : Shape → ℕ → What → List Note → History
 marks_with shape p (Called c format) ns = Call (suc (calls_in ns)) p c ∷ []
 marks_with shape p (Played e o) ns = mark_of_turn (last_call_number p ns) (reply_in (place shape (steps_of p ns)))

@@ -32,13 +32,13 @@ HasLinked p k own = (s : ℕ) × (own ≡ linked k s p ∷ [])
 abbrev pub HasUnlinked : ℕ → ℕ → Trace → Type 0
 HasUnlinked p k own = (s : ℕ) × (own ≡ unlinked k s p ∷ marked k s p ∷ [])
 
--- before WriteOpen and Link, and behind them
+-- before WriteOpen and Link, and after them
 abbrev pub OwnAdding : ℕ → ℕ → ℕ → ℕ → Trace → Type 0
 OwnAdding p k s zero own = own ≡ []
 OwnAdding p k s (suc zero) own = own ≡ []
 OwnAdding p k s _ own = own ≡ linked k s p ∷ []
 
--- before WriteClose and Mark; before Sync, Settle and Unlink; and behind them
+-- before WriteClose and Mark; before Sync, Settle and Unlink; and after them
 abbrev pub OwnRemoving : ℕ → ℕ → ℕ → ℕ → Trace → Type 0
 OwnRemoving p k s zero own = own ≡ []
 OwnRemoving p k s (suc zero) own = own ≡ []

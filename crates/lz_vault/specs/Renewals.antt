@@ -12,7 +12,7 @@ use Rattle.lz_vault.specs.declared.making.MakeFault.TheVariants.{BadCount}
 use Rattle.lz_vault.specs.declared.renewing.RenewFault.{RenewFault}
 use Rattle.lz_vault.specs.declared.renewing.RenewFault.TheVariants.{Old, New, TooSmall}
 
--- The device was read, and what is read was made sure, and nothing else.
+-- The device was read, and what is read was made durable, and nothing else.
 pub record OnlySyncs (before after : Device) : Type 0 where
   pub honest : after.honest ≡ before.honest
   pub medium : IsTrue before.honest → (after.medium ≡ before.medium) ⊎ (after.medium ≡ synced before.medium)

@@ -57,7 +57,7 @@ pub fn renew<O: Disk, N: Disk>(
     ensures untouched { IfErr result (λ fault. IsToldFirst fault → new.new ≡ new.old) }
     ensures calls { IsTrue (N.device new.old).honest → OnOk result ((N.device new.new).calls ≡ (N.device new.old).calls + calls_of_making (N.device new.old).medium.seen n) }
 
-    // The old file is read, and what is read of it is made sure; it is called for nothing else.
+    // The old file is read, and what is read of it is made durable; it is called for nothing else.
     ensures old_calls { IsTrue (O.device old.old).honest → OnOk result ((O.device old.new).calls ≡ (O.device old.old).calls + calls_of_reading (O.device old.old).medium.seen) }
     ensures reads { OnlySyncs (O.device old.old) (O.device old.new) }
     ensures sure { IsTrue (O.device old.old).honest → OnOk result ((O.device old.new).medium ≡ synced (O.device old.old).medium) }

@@ -77,7 +77,7 @@ fn link_members(
     Ok(taken)
 }
 
-// Links a node before the others of its bucket. It counts as settled: an open has made sure what it read.
+// Links a node before the others of its bucket. It counts as settled: an open has made durable what it read.
 #[tactic(auto, unfolding(lz_list::specs::Traces::bucket_of))]
 fn link_first(words: &mut Words, key: u64, slot: Slot)
     requires { slot < length words.old.links }

@@ -141,7 +141,7 @@ impl<D: Disk> Parts<D> {
         self.vault.stage(slot)
     }
 
-    // Whether a slot's last write is sure.
+    // Whether a slot's last write is durable.
     pub(crate) fn is_sure(&self, slot: Slot) -> bool
         requires { slot < length self.now.yard.vault.cells }
         ensures { result ≡ is_sure self.now.yard slot }

@@ -114,7 +114,7 @@ fn each_device_call_of_a_run_fails(rt: HostRuntime) -> Result<(), Fail> {
     Ok(())
 }
 
-// An open whose device call fails leaves the members as they were, whatever comes behind it.
+// An open whose device call fails leaves the members as they were, whatever comes after it.
 #[test]
 fn each_device_call_of_an_open_fails(rt: HostRuntime) -> Result<(), Fail> {
     for failing in FAILINGS {
@@ -137,7 +137,7 @@ fn make_until(alloc: Global, failing: Failing, passes: u64) -> Result<Ran, Alloc
     Ok(make(alloc, disk, Format::One))
 }
 
-// A making that was not acknowledged leaves no made file, or the empty set, whatever comes behind it.
+// A making that was not acknowledged leaves no made file, or the empty set, whatever comes after it.
 #[test]
 fn each_device_call_of_a_making_fails(rt: HostRuntime) -> Result<(), Fail> {
     for failing in FAILINGS {

@@ -4,7 +4,7 @@ use lz_proto::{Item, Lines, Request, bad_text};
 use lz_slot::Key;
 use std::alloc::AllocError;
 
-/// Lines within a piece and over several, one that asks for nothing, and one behind `quit`.
+/// Lines within a piece and over several, one that asks for nothing, and one after `quit`.
 const PIECES: [&[u8]; 4] = [
     b"add 1",
     b"7\nhas 3:9\nre",

@@ -47,12 +47,12 @@ impl Layout {
         look.wrapping_mul(1201).checked_rem(all).unwrap_or(0)
     }
 
-    /// The key that is added and removed beside the looks: a number behind all that are looked for.
+    /// The key that is added and removed beside the looks: a number after all that are looked for.
     pub fn changed(self) -> u64 {
         (self.keys as u64).wrapping_mul(2).wrapping_add(1)
     }
 
-    /// A file that holds the members, with some free slots behind them.
+    /// A file that holds the members, with some free slots after them.
     pub fn file(self, alloc: Global) -> Result<Vec<u8>, AllocError> {
         let mut bytes = vec![in alloc; OPEN_GATE]?;
         let slots = (self.keys as u64).wrapping_add(SPARE as u64);

@@ -2,7 +2,7 @@
 use crate::layout::Layout;
 use std::alloc::{AllocError, Global};
 
-/// A node, and the one behind it in its list: one more than its place, or 0 at the end.
+/// A node, and the one after it in its list: one more than its place, or 0 at the end.
 #[derive(Clone, Copy)]
 struct Node {
     key: u64,

@@ -1,5 +1,5 @@
 //! Connections in memory. A seed says when one can be read or written, and in which pieces.
-ghost use Rattle.std.specs.Prelude.{◌≡◌, ◌≤◌, ◌<◌, length};
+ghost use Rattle.std.specs.Prelude.{◌≡◌, ◌≢◌, ◌≤◌, ◌<◌, length};
 ghost use Rattle.lz_clients.specs.Streams.{counted, sent};
 
 use lz_clients::{Poller, Received, Stream, Taken};
@@ -37,7 +37,8 @@ impl Network {
     }
 
     fn receive(&mut self, index: usize, buffer: &mut [u8]) -> Received
-        ensures { counted result ≤ length buffer.new }
+        ensures bound { counted result ≤ length buffer.new }
+        ensures some { result ≢ Received.Count 0 }
     {
         let most = self.chance(12) as usize;
         let Some(side) = self.sides.get_mut(index) else {
@@ -57,7 +58,8 @@ impl Network {
     }
 
     fn take(&mut self, index: usize, text: &[u8]) -> Taken
-        ensures { sent result ≤ length text.now }
+        ensures bound { sent result ≤ length text.now }
+        ensures some { result ≢ Taken.Count 0 }
     {
         let most = self.chance(9) as usize;
         let Some(side) = self.sides.get_mut(index) else {

@@ -41,7 +41,7 @@ fn store(rt: &impl Abort, words: &mut Words, word: Word, value: u64) {
     }
 }
 
-// A linked node: its key, and the next link behind it.
+// A linked node: its key, and the next link after it.
 fn store_node(rt: &impl Abort, words: &mut Words, slot: u16, key: u64, next: u32) {
     store(rt, words, Word::Key(Slot::new(slot)), key);
     let link = LinkWord { next, flags: ADDED };

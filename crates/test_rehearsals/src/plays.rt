@@ -88,7 +88,7 @@ fn a_play_tells_its_marks_in_order(rt: HostRuntime) -> Result<(), Fail> {
     Ok(())
 }
 
-// The steps before the one that isn't lawful are played, those with a mark and those without one, and none behind it. An
+// The steps before the one that isn't lawful are played, those with a mark and those without one, and none after it. An
 // addition to the empty set has fifteen turns, and one of a member six.
 #[test]
 fn a_play_ends_where_a_step_is_not_lawful(rt: HostRuntime) -> Result<(), Fail> {

@@ -1,8 +1,8 @@
-//! Devices that are made to fail, and how a life ends behind it.
+//! Devices that are made to fail, and how a life ends after it.
 use lz_disk::{MemoryDisk, Pick};
 use std::alloc::AllocError;
 
-/// How a life ends: the process stops, or the device crashes, and picks what becomes of the bytes that aren't sure.
+/// How a life ends: the process stops, or the device crashes, and picks what becomes of the bytes that aren't durable.
 pub const ENDS: [Option<Pick>; 7] = [
     None,
     Some(Pick::Old),

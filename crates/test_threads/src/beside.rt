@@ -31,7 +31,7 @@ struct Beside {
     glanced: Result<Glance, GlanceFault>,
     fresh: Result<Glance, GlanceFault>,
     looked: Result<bool, Fault>,
-    // And after a look, which made sure of what it found.
+    // And after a look, which made certain of what it found.
     settled: Result<Glance, GlanceFault>,
     absent: Result<Glance, GlanceFault>,
 }

@@ -113,7 +113,7 @@ pub fn prepare(board: &Board, pen: &mut Pen, pass: &mut Pass, slot: Slot, twelve
     publish(board, pen, pass, link);
 }
 
-/// It links the key behind key 9.
+/// It links the key after key 9.
 pub fn link(board: &Board, pen: &mut Pen, pass: &mut Pass, slot: Slot, twelve: Key)
     requires here { HasPublished (id_of board.now) pen.old pass.old link_stored }
     requires slot { slot ≡ 1 }

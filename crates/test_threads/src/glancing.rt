@@ -47,7 +47,7 @@ fn tell(signals: &Signals, stores: u64)
     }
 }
 
-// It links the key behind key 9, and settles that.
+// It links the key after key 9, and settles that.
 fn add(board: &Board, pen: &mut Pen, pass: &mut Pass, slot: Slot, twelve: Key, signals: &Signals)
     requires here { HasPublished (id_of board.now) pen.old pass.old link_stored }
     requires slot { slot ≡ 1 }

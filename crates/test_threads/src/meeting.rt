@@ -82,7 +82,7 @@ fn two_passes_take_turns(rt: HostRuntime) -> Result<(), Fail> {
     Ok(())
 }
 
-// Ends the set's life behind the calls of two passes.
+// Ends the set's life after the calls of two passes.
 fn close_with_both<N: Named>(
     set: Set<MemoryDisk, NoGate, N>,
     first: Pass,

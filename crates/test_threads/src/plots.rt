@@ -12,7 +12,7 @@ pub struct Asked {
     pub absent: Key,
 }
 
-/// How far a call has come that changes a key: nothing is to be seen of it, or the change is, but isn't sure, or it is sure.
+/// How far a call has come that changes a key: nothing is to be seen of it, or the change is, but isn't durable, or it is durable.
 #[derive(Clone, Copy, Debug, PartialEq)]
 pub enum Phase {
     Before,
@@ -65,7 +65,7 @@ impl Plot {
         Some(keys) == self.keys.get(..self.count)
     }
 
-    /// What a glance answers that sees the call at this phase, once a look has made sure of it.
+    /// What a glance answers that sees the call at this phase, once a look has made certain of it.
     pub fn settled_sight(&self, phase: Phase) -> Glance {
         self.sight(match phase {
             Phase::Before => Phase::Before,
@@ -86,7 +86,7 @@ fn asked_beside(rt: &impl Abort, command: Option<Command>) -> Asked {
     }
 }
 
-/// 15 is added to 10, 20 and 30, and takes the slot behind theirs.
+/// 15 is added to 10, 20 and 30, and takes the slot after theirs.
 pub fn addition(rt: &impl Abort) -> Plot {
     Plot {
         asked: asked_beside(rt, Key::new(15).map(Command::Add)),
@@ -120,7 +120,7 @@ pub fn addition(rt: &impl Abort) -> Plot {
     }
 }
 
-/// 20 is removed, which was the second of three keys. Rows behind the last event stand for none.
+/// 20 is removed, which was the second of three keys. Rows after the last event stand for none.
 pub fn removal(rt: &impl Abort) -> Plot {
     Plot {
         asked: asked_beside(rt, Key::new(20).map(Command::Remove)),

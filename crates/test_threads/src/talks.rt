@@ -1,4 +1,4 @@
-//! A session of the service, and another one behind it; a reader and a writer that fail at each place of it.
+//! A session of the service, and another one after it; a reader and a writer that fail at each place of it.
 ghost use Rattle.std.specs.Prelude.{All};
 ghost use Rattle.lz_set.specs.Names.{MayCall};
 ghost use Rattle.lz_disk.specs.Records.{device_of};
@@ -40,7 +40,7 @@ fn converse<N: Named, I: Read, O: Write, R: Wait>(
     session(alloc, reader, writer, &mut seated)
 }
 
-// A session, and behind it one of another pass, which asks which keys are members. How the first one ended, and what the other one
+// A session, and after it one of another pass, which asks which keys are members. How the first one ended, and what the other one
 // was told.
 fn converse_twice<N: Named, I: Read, O: Write, R: Wait>(
     rt: &R,
@@ -155,7 +155,7 @@ fn a_failed_read_ends_a_session(rt: HostRuntime) -> Result<(), Fail> {
     Ok(())
 }
 
-// The command whose reply couldn't be written was done, and none behind it.
+// The command whose reply couldn't be written was done, and none after it.
 #[test]
 fn a_failed_write_ends_a_session(rt: HostRuntime) -> Result<(), Fail> {
     for room in 0..REPLIES.len() {

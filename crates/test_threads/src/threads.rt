@@ -264,7 +264,7 @@ fn devices_of(tallies: &[Tally]) -> u64 {
 }
 
 // The call whose device call failed is told, and all others that come then are halted. What was answered is there, whatever the
-// crash or the stop behind it leaves.
+// crash or the stop after it leaves.
 fn end_failed(
     rt: &impl Abort,
     alloc: Global,

@@ -48,7 +48,7 @@ head_is x y xs ys same = cc
 tail_is : (x y : Command × Given) (xs ys : AnsweredCalls) → x ∷ xs ≡ y ∷ ys → xs ≡ ys
 tail_is x y xs ys same = cc
 
--- the session goes on behind an answer
+-- the session goes on after an answer
 end_more : (request : Request) (c : Command) (reply : Reply) (items : List Item) (replies : List Reply) → command_of request ≡ Some c → reply ≢ Halted → end_of (Asks request ∷ items) (reply ∷ replies) ≡ end_of items replies
 end_more Quit c reply items replies asked goes = absurd (let never = asked in cc)
 end_more request c Halted items replies asked goes = absurd (goes refl)

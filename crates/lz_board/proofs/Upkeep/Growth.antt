@@ -1,4 +1,4 @@
--- What the rule says of a pass's part stays so when another pass's step is noted, and comes anew when its own is.
+-- What the rule says of a pass's part stays so when another pass's step is noted, and comes again when its own is.
 use Rattle.std.proofs.Common.{◌≡◌, ◌⊎◌, inl, inr, ⊎_elim, ℕ, suc, ◌%◌, ◌≤◌, ◌==◌, Bool, true, false, List, [], ◌∷◌, ◌++◌, length, refl, sym, ap, ◌∙◌, subst, arith, append_assoc, length-append, true≢false}
 use Rattle.std.specs.Prelude.{if◌then◌else◌, Option, Some, None}
 use Rattle.lz_list.specs.declared.publishing.Publishing.{Publishing}
@@ -152,7 +152,7 @@ left_away z opened ns g s k (inr left) inside = λ b stood. l.away b (stood_long
         parity : (n : ℕ) → n % 2 ≡ 0 → n % 2 ≡ 1 → ⊥
         parity n even odd = let e : 0 ≡ 1 = sym even ∙ odd in absurd (omega (arith, e))
 
--- so what walkers rely on since their pin isn't prepared anew
+-- so what walkers rely on since their pin isn't prepared again
 pub quiet_more_by : (z : Sizes) (opened : Trace) (ns : List Note) (g : Part) (x : Option Publishing) → Knows z opened ns g → MayPrepare z opened ns x → IsInside g.pin → IsQuiet z.buckets g.begun (as_list x ++ trace_of opened ns)
 quiet_more_by z opened ns g None k may inside = k.kept inside
 quiet_more_by z opened ns g (Some (key_prepared s v)) k may inside = (left_away z opened ns g s k may inside, k.kept inside)

@@ -1,4 +1,4 @@
--- What the rule says between any two steps: of the words, of what passes have seen, and of slots that are prepared anew.
+-- What the rule says between any two steps: of the words, of what passes have seen, and of slots that are prepared again.
 use Rattle.std.proofs.Common.{◌≡◌, inr, ℕ, suc, ◌∷◌, true, sym, subst}
 use Rattle.atomic_table.specs.Table.{State}
 use Rattle.lz_list.specs.declared.publishing.Publishing.{Publishing}

@@ -33,7 +33,7 @@ first_stranger h i (Misordered j) is = omega arith
 first_stranger h i (WrongReply j) is = omega arith
 first_stranger h i (WrongSet j) is = omega arith
 
--- behind the strangers
+-- after the strangers
 pub first_twin : (h : Record) (i : ℕ) → AreMade h → IsFirstKind h (ListedTwice i)
 first_twin h i made (NeverCalled j) ((p, is), unmade) = absurd (unmade (made j p is))
 first_twin h i made (ListedTwice j) is = omega arith
@@ -43,7 +43,7 @@ first_twin h i made (Misordered j) is = omega arith
 first_twin h i made (WrongReply j) is = omega arith
 first_twin h i made (WrongSet j) is = omega arith
 
--- and behind the calls with two points
+-- and after the calls with two points
 pub first_refused : (h : Record) (i : ℕ) → AreMade h → AreSingle h → IsFirstKind h (RefusedListed i)
 first_refused h i made once (NeverCalled j) ((p, is), unmade) = absurd (unmade (made j p is))
 first_refused h i made once (ListedTwice j) twice = let single = once j in absurd (omega (arith, single, twice))
@@ -53,7 +53,7 @@ first_refused h i made once (Misordered j) is = omega arith
 first_refused h i made once (WrongReply j) is = omega arith
 first_refused h i made once (WrongSet j) is = omega arith
 
--- and behind the refused calls
+-- and after the refused calls
 pub first_unlisted : (h : Record) (i : ℕ) → AreMade h → AreSingle h → AreUnrefused h → IsFirstKind h (Unlisted i)
 first_unlisted h i made once unrefused (NeverCalled j) ((p, is), unmade) = absurd (unmade (made j p is))
 first_unlisted h i made once unrefused (ListedTwice j) twice = let single = once j in absurd (omega (arith, single, twice))
@@ -68,7 +68,7 @@ module _ (h : Record) (places : BTreeMap ℕ ℕ) (listed : AreListed h.marks h.
   unrefused : AreUnrefused h
   unrefused i p refused is = let e : None ≡ Some p = sym (listed.refused i refused) ∙ listed.placed i p is in cc
 
-  -- a flaw behind those of the points' calls
+  -- a flaw after those of the points' calls
   pub behind_points : (flaw : Flaw) → IsFlaw h flaw → 5 ≤ flaw_turn flaw
   behind_points (NeverCalled j) ((p, is), unmade) = absurd (unmade (called.made j p is))
   behind_points (ListedTwice j) twice = let single = called.once j in absurd (omega (arith, single, twice))
@@ -78,7 +78,7 @@ module _ (h : Record) (places : BTreeMap ℕ ℕ) (listed : AreListed h.marks h.
   behind_points (WrongReply j) is = omega arith
   behind_points (WrongSet j) is = omega arith
 
-  -- and behind those of their order
+  -- and after those of their order
   pub behind_order : (answers : BTreeMap ℕ Bool) → IsKnown places answers h.marks → (flaw : Flaw) → IsFlaw h flaw → 6 ≤ flaw_turn flaw
   behind_order answers known (Misordered j) (i, p, q, is, is', (before, why)) = absurd (⊎_elim
       (λ equal. known.apart i j p q ((same i p).1 is) ((same j q).1 is') before equal)

@@ -49,7 +49,7 @@ earlier_right : (i j : ℕ) (L R : List ℕ) → IsEarlier i j R → IsEarlier i
 earlier_right i j [] R is = is
 earlier_right i j (k ∷ L) R is = inr (earlier_right i j L R is)
 
--- the list up to a call, and behind it
+-- the list up to a call, and after it
 record Split (i : ℕ) (L : List ℕ) : Type 0 where
   front : List ℕ
   rest : List ℕ

@@ -30,7 +30,7 @@ Among x (y ∷ ys) = (y ≡ x) ⊎ Among x ys
 abbrev pub calls_of : List Listed → List ℕ
 calls_of calls = map (λ l. l.call) calls
 
--- each call lies below those behind it
+-- each call lies below those after it
 abbrev pub Rises : BTreeMap ℕ ℕ → List Listed → Type 0
 Rises places [] = Unit {0}
 Rises places (l ∷ calls) = ((m : Listed) (p q : ℕ) → Among m calls → IsAt places l.call p → IsAt places m.call q → p < q) × Rises places calls
@@ -118,7 +118,7 @@ module _ (places : BTreeMap ℕ ℕ) where
   abbrev pub HavePlaces : List Listed → Type 0
   HavePlaces calls = (l : Listed) → Among l calls → (p : ℕ) × IsAt places l.call p
 
-  -- a call below those behind it is none of them
+  -- a call below those after it is none of them
   not_behind : (l : Listed) (calls : List Listed) (i : ℕ) → HavePlaces (l ∷ calls) → Rises places (l ∷ calls) → l.call ≡ i → IsListed i (calls_of calls) → ⊥
   not_behind l calls i have rise same is =
       let (m, at, same') = listed_among calls i is in

@@ -11,7 +11,7 @@ no_end : (line : Line) (words : List (List ℕ)) → 1 ≤ length words → at_e
 no_end line [] some = absurd (omega (arith, some))
 no_end line (word ∷ words) some = refl
 
--- behind a space there is a word
+-- after a space there is a word
 pub some_words : (line : Line) (text : List ℕ) → None ≡ at_end line (words_of text)
 some_words line text = sym (no_end line (words_of text) (omega (arith, length-slice_split (λ b. b == 32) text)))
 

@@ -68,7 +68,7 @@ named k small = ap key_told (spelled_read (key_text k) k small (written_keys_are
 key_lacks : (k : ℕ) → k ≤ largest_key → Lacks 32 (key_text k)
 key_lacks k small = key_text_lacks 32 k refl refl small
 
--- the readings behind a call's number, its actor, and its command's word
+-- the readings after a call's number, its actor, and its command's word
 abbrev keyed_from : ℕ → ℕ → List ℕ → ℕ → List (List ℕ) → Option Line
 keyed_from i a name k words = option_and_then (λ command. at_end (Seen (Call i a command)) words) (command_named name k)
 
@@ -110,7 +110,7 @@ call_reads i a c ((some, few), one, low, small) =
     ∙ goes_on key_named (key_text (key_of c)) [] (key_of c) (keyed_from i a (command_word c)) (named (key_of c) small)
     ∙ command_is i a c
 
--- a call's number behind the kind of a line, and one word more
+-- a call's number after the kind of a line, and one word more
 two_words : (kind word : List ℕ) (i : ℕ) → i ≤ largest_read → Lacks 32 kind → Lacks 32 word → words_of (kind ++ (codes " " ++ (decimal i ++ (codes " " ++ word)))) ≡ kind ∷ decimal i ∷ word ∷ []
 two_words kind word i few clear plain =
     first_word kind (decimal i ++ (codes " " ++ word)) clear

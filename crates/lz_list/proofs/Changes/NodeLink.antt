@@ -1,4 +1,4 @@
--- A node is linked behind a place, or unlinked from it.
+-- A node is linked after a place, or unlinked from it.
 use Rattle.std.proofs.Common.{◌≡◌, ◌≢◌, ◌⊎◌, ◌↔◌, inl, inr, ℕ, zero, suc, ◌<◌, ◌^◌, true, false, [], ◌∷◌, length, refl, sym, ap, ◌∙◌, subst, arith}
 use Rattle.std.specs.Prelude.{slice_index, List}
 use Rattle.std.proofs.lemmas.Bool.{cases_eq}

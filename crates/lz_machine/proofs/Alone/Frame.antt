@@ -1,4 +1,4 @@
--- What an event leaves of the other actors, where one actor is alone, and of the slots whose gate isn't sure to be open.
+-- What an event leaves of the other actors, where one actor is alone, and of the slots whose gate isn't durable to be open.
 use Rattle.std.proofs.Common.{◌≡◌, ◌≢◌, ◌⊎◌, ⊎_elim, inl, inr, ℕ, zero, suc, ◌%◌, ◌&&◌, not, Bool, true, false, List, [], ◌∷◌, length, map, Option, Some, None, refl, sym, ap, ◌∙◌, subst, arith, length-set, get_or-set_same, get_or-set_other}
 use Rattle.std.specs.Prelude.{if◌then◌else◌, slice_set}
 use mathlib.Core.Bool.{false≢true}

@@ -124,7 +124,7 @@ earlier_before j l i [] other (inr at) = absurd at
 earlier_before j l i (x ∷ L) other (inl (is, at)) = inl (is, listed_before l i L other at)
 earlier_before j l i (x ∷ L) other (inr at) = inr (earlier_before j l i L other at)
 
--- behind which all others stand, stands last
+-- after which all others stand, stands last
 stands_last : (i : ℕ) (L : List ℕ) → IsListed i L → ((j : ℕ) → count_of j L ≤ 1) → ((j : ℕ) → IsListed j L → j ≢ i → IsEarlier j i L) → (R : List ℕ) × (L ≡ R ++ i ∷ [])
 stands_last i [] at once before = absurd at
 stands_last i (l ∷ L) at once before = elim (cases_eq l i) [

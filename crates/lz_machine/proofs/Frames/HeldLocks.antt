@@ -111,7 +111,7 @@ linked_leaves buckets slots k s p actor P law apart other = record {
     rank_same zero = refl
     rank_same (suc t) = refl
 
--- An unlinking of another node, behind another place.
+-- An unlinking of another node, after another place.
 pub unlinked_leaves : (buckets slots k x s p : ℕ) (actor : Actor) (P : Trace) → Lawful buckets slots P → IsLeaving buckets k x s P
     → ((j : ℕ) → InBucket buckets j actor.pred → bucket_of buckets j ≡ bucket_of buckets k → (place_number actor.pred ≢ x) × (place_number actor.pred ≢ suc s))
     → LeavesPair buckets (unlinked k s p) actor P

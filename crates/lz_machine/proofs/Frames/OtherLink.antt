@@ -74,7 +74,7 @@ module _ (buckets slots : ℕ) (P : Trace) (law : Lawful buckets slots P) where
         elsewhere zero there other = grind (arith, nat_tests, other)
         elsewhere (suc t) there other = linked_off buckets k s p P (bucket_of buckets j) (suc t) (apart_bucket buckets k s p P (words_show_chain buckets slots P law) (bucket_of buckets j) t other there)
 
-  -- a key behind a place that leads to its node is on the chain
+  -- a key after a place that leads to its node is on the chain
   pub has_behind : (j y t : ℕ) → Faces buckets j y (suc t) P → key_word t P ≡ j → has_key j (chain_of buckets j P) ≡ true
   has_behind j y t h key =
       let shown = words_show_chain buckets slots P law (bucket_of buckets j) in

@@ -1,4 +1,4 @@
--- A settling that is sure keeps the invariant of all actors.
+-- A settling that is durable keeps the invariant of all actors.
 use Rattle.std.proofs.Common.{◌≡◌, ◌≢◌, ◌⊎◌, inl, inr, ℕ, suc, ◌<◌, ◌≤◌, ◌==◌, true, false, List, ◌∷◌, Option, Some, refl, sym, ap, ◌∙◌, arith}
 use mathlib.Core.Bool.{false≢true}
 use Rattle.std.proofs.lemmas.Bool.{cases_Bool}

@@ -125,7 +125,7 @@ module _ (shape : Shape) (words : Words) (P : Trace) (trace : TraceSound shape w
         pins = trace.pins;
       }
 
-  -- a node is linked behind the place before its key
+  -- a node is linked after the place before its key
   pub trace_linked : (k s p : ℕ) (pred : Place) → May shape.buckets shape.slots (linked k s p) P → InBucket buckets k pred → ((t : ℕ) → pred ≡ Node t → t < shape.slots) → place_of buckets k P ≡ place_number pred
       → TraceSound shape (redirect words pred (suc s)) (linked k s p ∷ P)
   trace_linked k s p pred may bucket range at =
@@ -139,7 +139,7 @@ module _ (shape : Shape) (words : Words) (P : Trace) (trace : TraceSound shape w
       head_off b (inl other) = grind (arith, nat_tests, other)
       head_off b (inr more) = grind (arith, nat_tests, more, at)
 
-  -- a node is taken out from behind the place before its key
+  -- a node is taken out from after the place before its key
   pub trace_unlinked : (k s p : ℕ) (pred : Place) → May shape.buckets shape.slots (unlinked k s p) P → InBucket buckets k pred → ((t : ℕ) → pred ≡ Node t → t < shape.slots) → place_of buckets k P ≡ place_number pred
       → TraceSound shape (redirect words pred (node_next buckets s P)) (unlinked k s p ∷ P)
   trace_unlinked k s p pred may bucket range at =

@@ -1,4 +1,4 @@
--- The ledger where a call ends: its pending row, if it has one, leaves, and its last row, if it has one, is put behind those
+-- The ledger where a call ends: its pending row, if it has one, leaves, and its last row, if it has one, is put after those
 -- that ended.
 use Rattle.std.proofs.Common.{◌≡◌, ◌≢◌, ◌⊎◌, ⊎_elim, inl, inr, ℕ, ◌<◌, ◌≤◌, ◌+◌, Bool, true, false, List, [], ◌∷◌, ◌++◌, length, Option, Some, None, refl, sym, ap, ◌∙◌, subst, arith}
 use Rattle.std.proofs.lemmas.Bool.{cases_eq}

@@ -95,7 +95,7 @@ module _ (shape : Shape) (words : Words) (P : Trace) (trace : TraceSound shape w
     beside_now (inl high) = record { bucket = between.bucket; round = record { faces = faces; low = between.low; high = high } }
     beside_now (inr (t, is, key, mark)) = absurd (false≢true (sym (curr_clear curr t is (node_was buckets shape.slots k P0 P pred curr t is between) clear_node) ∙ mark))
 
-    -- a node behind the place is a node of its bucket, and not marked
+    -- a node after the place is a node of its bucket, and not marked
     pub before_now : (t : ℕ) → curr ≡ Some t → k ≤ key_word t P → IsRightBefore buckets pred t P × (is_marked t P ≡ false)
     before_now t is le =
         let stood = node_was buckets shape.slots k P0 P pred curr t is between in

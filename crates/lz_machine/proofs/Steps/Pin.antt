@@ -45,7 +45,7 @@ use Rattle.lz_machine.proofs.Steps.Hop.{call_at, own}
 use Rattle.lz_machine.proofs.Frames.Uses.{free_limbo}
 use mathlib.Core.Bool.{false≢true}
 
--- at its pin nothing that stood since was prepared anew
+-- at its pin nothing that stood since was prepared again
 pub quiet_new : (buckets : ℕ) (P0 Q : Trace) → length Q ≤ length P0 → IsQuiet buckets P0 Q
 quiet_new buckets P0 [] le = tt
 quiet_new buckets P0 (e ∷ Q) le = (kept e, quiet_new buckets P0 Q (omega (arith, le)))

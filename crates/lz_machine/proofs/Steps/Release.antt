@@ -1,4 +1,4 @@
--- A release keeps the invariant: after a test that failed, behind a linking, and behind an unlinking.
+-- A release keeps the invariant: after a test that failed, after a linking, and after an unlinking.
 use Rattle.std.proofs.Common.{◌≡◌, ℕ, Bool, true, false, List, Option, Some, refl, sym, ap, ◌∙◌, subst}
 use mathlib.Core.Bool.{false≢true}
 use Rattle.lz_slot.specs.declared.command.Command.{Command}
@@ -80,7 +80,7 @@ module _ (n calls : ℕ) (y : Yard) (callers : List (Option Caller)) (disk : Med
       (fresh_grip y.vault.dead (actor_at y a) (with_hold (actor_at y a) Nothing) (ap (closes y.vault.dead) h.0) (ap (opens y.vault.dead) h.0) (ap has_removed_node h.0) refl refl refl refl) refl (λ none is. absurd (false≢true is))
       (record { relies = (record { hold = refl; none = h.2 }, aimed_same y.shape.buckets y.shape.passes y.vault.format y.vault.cells y.vault.dead (actor_at y a) (with_hold (actor_at y a) Nothing) (key_of c) P aim refl h.1, tt, h.3); inside = refl })
 
-  -- behind a linking
+  -- after a linking
   pub linked_release_keeps : (k s : ℕ) → caller_at callers a ≡ Some (call_at i (Add k) (Playing (Adding s) 2))
       → Sound n calls (yard_done y (actor_at y a) a Release) (moving callers a (call_at i (Add k) (Playing (Adding s) 2)) (progress_after y.shape (Add k) (Playing (Adding s) 2) Done)) disk M P notes
   linked_release_keeps k s is =
@@ -89,7 +89,7 @@ module _ (n calls : ℕ) (y : Yard) (callers : List (Option Caller)) (disk : Med
       (fresh_grip y.vault.dead (actor_at y a) (with_hold (actor_at y a) Nothing) (ap (closes y.vault.dead) h.0) (ap (opens y.vault.dead) h.0) (ap has_removed_node h.0) refl refl refl refl) refl (λ none is. refl)
       (record { relies = (refl, h.1); inside = refl })
 
-  -- behind an unlinking
+  -- after an unlinking
   pub unlinked_release_keeps : (k s : ℕ) → caller_at callers a ≡ Some (call_at i (Remove k) (Playing (Removing s) 5))
       → Sound n calls (yard_done y (actor_at y a) a Release) (moving callers a (call_at i (Remove k) (Playing (Removing s) 5)) (progress_after y.shape (Remove k) (Playing (Removing s) 5) Done)) disk M P notes
   unlinked_release_keeps k s is =

@@ -49,7 +49,7 @@ use Rattle.lz_machine.proofs.Steps.Halt.{held_node}
 use Rattle.lz_machine.proofs.Frames.OtherSettling.{Allows, stored, settled_keeps, stood_stands}
 use Rattle.lz_machine.proofs.Frames.SameYard.{KeepsTail}
 
--- the change that a sure stage of a node settles
+-- the change that a durable stage of a node settles
 opened_sure : (stage : Stage) → IsGateOpened stage → is_covered stage ≡ true → stage ≡ Open
 opened_sure stage (inl e) sure = absurd (false≢true (ap is_covered (sym e) ∙ sure))
 opened_sure stage (inr e) sure = e
@@ -80,7 +80,7 @@ mark_since buckets slots P0 b s R (e ∷ P) quiet (inr to) stood mark =
     (mark_stays buckets slots P0 b s e P quiet.0 before.1 before.0, inr before.1)
 
 module _ (n calls : ℕ) (y : Yard) (callers : List (Option Caller)) (disk : Medium) (M : History) (P : Trace) (notes : Notes) (sound : Sound n calls y callers disk M P notes) (a s : ℕ) where
-  -- the event, where the slot's last write is sure, and where it isn't
+  -- the event, where the slot's last write is durable, and where it isn't
   done_form : (c : Change) → Allows c (stage_in y.vault.cells s) → (lt : s < y.shape.slots) → (callers' : List (Option Caller))
       → Sound n calls (with_words y (stored y.shape y.words P sound.trace sound.images.slots.1 s lt c)) callers' disk M (settled s c ∷ P) notes
       → Sound n calls (yard_done y (actor_at y a) a (Settle s)) callers' disk M (publishes y (actor_at y a) a (Settle s) ++ P) notes

@@ -154,7 +154,7 @@ abbrev pub synced_yard : Yard → ℕ → Yard
 synced_yard y syncs = with_vault y (record y.vault { cells = map cell_synced y.vault.cells; syncs = syncs })
 
 module _ (n calls : ℕ) (y : Yard) (callers : List (Option Caller)) (disk : Medium) (M : History) (P : Trace) (notes : Notes) (sound : Sound n calls y callers disk M P notes) where
-  -- a sync makes sure what was written, while the vault lives
+  -- a sync makes durable what was written, while the vault lives
   pub synced_keeps : (syncs : ℕ) → y.vault.dead ≡ false → Sound n calls (synced_yard y syncs) callers (synced disk) M P notes
   synced_keeps syncs alive = record {
     trace = sound.trace;
@@ -184,7 +184,7 @@ module _ (n calls : ℕ) (y : Yard) (callers : List (Option Caller)) (disk : Med
       go true sure = rw sure sound
       go false loose = rw loose (synced_keeps (syncs_after SyncAll y.vault.syncs) alive)
 
-  -- the slot's last write is sure then
+  -- the slot's last write is durable then
   sure_then : (a s : ℕ) → IsKeyed (stage_in y.vault.cells s) → stage_in (yard_done y (actor_at y a) a (Sync s)).vault.cells s ≡ Keyed
   sure_then a s keyed = go (is_sure y s) refl
     where
@@ -207,7 +207,7 @@ module _ (n calls : ℕ) (y : Yard) (callers : List (Option Caller)) (disk : Med
       go true sure = rw sure refl
       go false loose = rw loose (key_map y.vault.cells t)
 
-  -- behind the write of a key
+  -- after the write of a key
   pub sync_written_keeps : (a i : ℕ) (c : Command) (s : ℕ) → y.vault.dead ≡ false → caller_at callers a ≡ Some (call_at i c (Playing (Writing s) 1))
       → Sound n calls (yard_done y (actor_at y a) a (Sync s)) (moving callers a (call_at i c (Playing (Writing s) 1)) (progress_after y.shape c (Playing (Writing s) 1) Done)) (medium_after (call_of y (actor_at y a) (Sync s)) disk) M P notes
   sync_written_keeps a i c s alive is =
@@ -215,14 +215,14 @@ module _ (n calls : ℕ) (y : Yard) (callers : List (Option Caller)) (disk : Med
       goes_on_keeps n calls (yard_done y (actor_at y a) a (Sync s)) callers (medium_after (call_of y (actor_at y a) (Sync s)) disk) M P notes a i c (Playing (Writing s) 1) is (sync_done a s alive) (Walking (Some s) AtHead) refl (λ none is. absurd (false≢true is))
       (record { relies = (record { hold = h.0.hold; none = h.0.none }, record { slot = h.1; stage = sure_then a s h.4; key = same_key a s s ∙ h.2; word = h.3 }, tt, h.5); inside = refl })
 
-  -- behind a linking
+  -- after a linking
   pub sync_added_keeps : (a i k s : ℕ) → y.vault.dead ≡ false → caller_at callers a ≡ Some (call_at i (Add k) (Playing (Adding s) 3))
       → Sound n calls (yard_done y (actor_at y a) a (Sync s)) (moving callers a (call_at i (Add k) (Playing (Adding s) 3)) (progress_after y.shape (Add k) (Playing (Adding s) 3) Done)) (medium_after (call_of y (actor_at y a) (Sync s)) disk) M P notes
   sync_added_keeps a i k s alive is =
       let h = (own n calls y callers disk M P notes a i (Add k) (Playing (Adding s) 3) is sound).stands.2 in
       goes_on_keeps n calls (yard_done y (actor_at y a) a (Sync s)) callers (medium_after (call_of y (actor_at y a) (Sync s)) disk) M P notes a i (Add k) (Playing (Adding s) 3) is (sync_done a s alive) (Playing (Adding s) 4) refl (λ none is. refl) (record { relies = h; inside = refl })
 
-  -- behind a marking
+  -- after a marking
   pub sync_marked_keeps : (a i k s : ℕ) → y.vault.dead ≡ false → caller_at callers a ≡ Some (call_at i (Remove k) (Playing (Removing s) 2))
       → Sound n calls (yard_done y (actor_at y a) a (Sync s)) (moving callers a (call_at i (Remove k) (Playing (Removing s) 2)) (progress_after y.shape (Remove k) (Playing (Removing s) 2) Done)) (medium_after (call_of y (actor_at y a) (Sync s)) disk) M P notes
   sync_marked_keeps a i k s alive is =

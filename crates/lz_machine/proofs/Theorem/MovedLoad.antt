@@ -1,4 +1,4 @@
--- A load may be put into a run behind its actor's last step: the later steps don't look at it.
+-- A load may be put into a run after its actor's last step: the later steps don't look at it.
 use Rattle.std.proofs.Common.{◌≡◌, ◌≢◌, inl, inr, ℕ, zero, suc, ◌%◌, Bool, true, false, List, [], ◌∷◌, ◌++◌, Option, Some, None, refl, sym, ap, ◌∙◌, subst, arith}
 use mathlib.Core.Bool.{false≢true}
 use Rattle.std.specs.Prelude.{◌||◌, IsSome}

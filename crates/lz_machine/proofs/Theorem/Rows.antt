@@ -162,7 +162,7 @@ row_old_halted : marks_after (fresh 2 64) (until_release ++ Trips ∷ Fails 1 (d
 unfolding bucket_of
 row_old_halted = refl
 
--- the reader's sync made the closing sure
+-- the reader's sync made the closing durable
 removal_found : marks_crashed Old (fresh 2 64) removal_steps
     ≡ Call 1 1 (Add 9) ∷ Call 2 2 (Remove 9) ∷ Call 3 3 (Has 9) ∷ Answer 3 false ∷ Crash ∷ Opened [] ∷ []
 unfolding bucket_of
@@ -176,7 +176,7 @@ full_counts : reply_of (play (fresh 2 64) until_full).state 4 ≡ Some (SaysFull
 unfolding bucket_of
 full_counts = refl
 
--- after a sync that failed: a stop keeps the gate, a crash that leaves the sure bytes doesn't
+-- after a sync that failed: a stop keeps the gate, a crash that leaves the durable bytes doesn't
 abbrev halted_steps : List Transition
 halted_steps = until_release ++ Trips ∷ Fails 1 (disk_of (play (fresh 2 64) until_release).state) ∷ turns 1 2 ++ Calls 2 (Has 9) ∷ turns 2 3
 
@@ -192,7 +192,7 @@ halted_crash_shown : shown_after (fresh 2 64) (crashed Old (fresh 2 64) halted_s
 unfolding bucket_of
 halted_crash_shown = refl
 
--- the open's sync made the gate sure
+-- the open's sync made the gate durable
 abbrev reopened_steps : List Transition
 reopened_steps = gate_steps ++ Stops ∷ Opens ∷ Calls 1 (Has 9) ∷ turns 1 6
 
@@ -225,7 +225,7 @@ closing_left_open : marks_crashed Old (fresh 1 64) closing_steps ≡ Call 1 1 (A
 unfolding bucket_of
 closing_left_open = refl
 
--- an adder's second sync makes the closing sure
+-- an adder's second sync makes the closing durable
 early_found : marks_crashed Old (fresh 1 64) (Calls 1 (Add 9) ∷ turns 1 13 ++ Calls 2 (Remove 9) ∷ turns 2 8 ++ turns 1 4)
     ≡ Call 1 1 (Add 9) ∷ Call 2 2 (Remove 9) ∷ Answer 1 true ∷ Crash ∷ Opened [] ∷ []
 unfolding bucket_of
@@ -240,13 +240,13 @@ nine_turns : marks_crashed (Byte 0xa5) (fresh 1 64) (Calls 1 (Add 9) ∷ turns 1
 unfolding bucket_of
 nine_turns = refl
 
--- a reader answers no only when its sync has made the closing sure
+-- a reader answers no only when its sync has made the closing durable
 reader_syncs : marks_crashed Old (fresh 2 64) (Calls 1 (Add 9) ∷ turns 1 15 ++ Calls 2 (Remove 9) ∷ turns 2 9 ++ Calls 3 (Has 9) ∷ turns 3 8)
     ≡ Call 1 1 (Add 9) ∷ Answer 1 true ∷ Call 2 2 (Remove 9) ∷ Call 3 3 (Has 9) ∷ Answer 3 false ∷ Crash ∷ Opened [] ∷ []
 unfolding bucket_of
 reader_syncs = refl
 
--- the event after the mark makes the closing sure, and the node is still linked then
+-- the event after the mark makes the closing durable, and the node is still linked then
 mark_then_sync : marks_crashed Old (fresh 2 64) (Calls 1 (Add 9) ∷ turns 1 15 ++ Calls 2 (Remove 9) ∷ turns 2 10 ++ Calls 3 (Has 9) ∷ turns 3 8)
     ≡ Call 1 1 (Add 9) ∷ Answer 1 true ∷ Call 2 2 (Remove 9) ∷ Call 3 3 (Has 9) ∷ Answer 3 false ∷ Crash ∷ Opened [] ∷ []
 unfolding bucket_of

@@ -1,4 +1,4 @@
--- Worked rows that the machine computes: its marks, what is sure, and its traces.
+-- Worked rows that the machine computes: its marks, what is durable, and its traces.
 use Rattle.std.proofs.Common.{◌≡◌, inl, inr, reverse, ℕ, ◌+◌, ◌^◌, true, false, List, [], ◌∷◌, ◌++◌, replicate, refl, Some, None, drop}
 use Rattle.lz_slot.specs.declared.format.Format.TheVariants.{One, Two}
 use Rattle.lz_slot.specs.Bytes.{slot_body, open_byte, header_body}
@@ -94,7 +94,7 @@ row_no_gate_within : marks_after (fresh 2 64) (Calls 1 (Add 9) ∷ turns 1 9 ++ 
 unfolding bucket_of
 row_no_gate_within = refl
 
--- actor 3 meets a node whose removal isn't sure, and its sync makes it so
+-- actor 3 meets a node whose removal isn't durable, and its sync makes it so
 abbrev pub removal_steps : List Transition
 removal_steps = Calls 1 (Add 9) ∷ turns 1 12 ++ Calls 2 (Remove 9) ∷ turns 2 9 ++ Calls 3 (Has 9) ∷ turns 3 8
 
@@ -148,7 +148,7 @@ row_sync_fails : marks_after (fresh 2 64) failed_sync_steps
 unfolding bucket_of
 row_sync_fails = refl
 
--- a stop keeps loose bytes, and the open's sync makes them sure
+-- a stop keeps loose bytes, and the open's sync makes them durable
 row_open_syncs : marks_after (fresh 2 64)
     (Calls 1 (Add 9) ∷ turns 1 10 ++ Stops ∷ Opens ∷ Calls 1 (Has 9) ∷ turns 1 6 ++ Crashes (head_2 ++ (0xa5 ∷ slot_body 9) ++ replicate 16 0) ∷ Opens ∷ [])
     ≡ Call 1 1 (Add 9) ∷ Stop ∷ Opened (9 ∷ []) ∷ Call 2 1 (Has 9) ∷ Answer 2 true ∷ Crash ∷ Opened (9 ∷ []) ∷ []

@@ -43,7 +43,7 @@ module _ (opened : Trace) (shape : Shape) (p : ℕ) where
   number_insert q h (x ∷ xs) = at_place opened (λ r. last_call_number q r ≡ last_call_number q (x ∷ xs)) p h x xs
       (λ _ i. number_with q x.by x.what (calls_insert h xs i) (number_insert q h xs i)) (λ _. refl)
 
-  -- another pass's step shows the same behind the load
+  -- another pass's step shows the same after the load
   with_insert : (by : ℕ) (what : What) (h : Load) (ns : List Note) → p ≢ by → marks_with shape by what (insert_load opened p h ns) ≡ marks_with shape by what ns
   with_insert by (Called c format) h ns other = ap (λ k. Call (suc k) by c ∷ []) (calls_insert h ns)
   with_insert by (Played e o) h ns other = λ i. mark_of_turn (number_insert by h ns i) (reply_in (place shape (steps_insert_other opened by p h ns other i)))

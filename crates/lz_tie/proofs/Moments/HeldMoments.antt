@@ -43,7 +43,7 @@ now_left b ns y dev l honest t image =
       leaves = subst (λ d. IsImage d t) (tie.device honest) image;
     }
 
--- A step of the yard for a pass in a hold, noted behind its loads.
+-- A step of the yard for a pass in a hold, noted after its loads.
 module _ (b : BoardId) (ns : List Note) (y : Yard) (dev : Device) (h : Part) (hold : InHold b ns y dev h) (e : Event) (may : MayTurn b.sizes ns h e)
     (y1 z' : Yard) (p : ℕ) (o : Outcome) (told : Told) (dev1 dev' : Device) (same : dev1 ≡ dev) (played : PlayedOver y1 p e o z' told dev1 dev')
     (n : Note) (ns' : List Note) (notes : ns' ≡ noted b.opened ns h n) (locked : IsLocked b ns' z' dev') where

@@ -37,7 +37,7 @@ module _ (z : Sizes) (opened : Trace) (a : ℕ) (h : Load) where
     shown : Shown z (trace_of opened before) h
     hop : IsHopAt (shape_of_sizes z) h (place (shape_of_sizes z) (steps_of a before))
 
-  -- of notes that begin with these, with the load put in: it goes behind them, or into them
+  -- of notes that begin with these, with the load put in: it goes after them, or into them
   record Sunk (before ns : List Note) : Type 0 where
     later : List Note
     now : List Note

@@ -61,7 +61,7 @@ splice_same opened p (h ∷ hs) ns q x =
     let s = insert_same opened p h (splice opened p hs ns) q r.seen in
     record { seen = s.seen; trace = s.trace ∙ r.trace; value = s.value ∙ r.value }
 
--- a step of another pass or of this one, behind the loads
+-- a step of another pass or of this one, after the loads
 pub noted_same : (opened : Trace) (p : ℕ) (hs : List Load) (ns : List Note) (n : Note) (q : ℕ) (x : Sighting opened ns q) → Same opened ns (n ∷ splice opened p hs ns) q x
 noted_same opened p hs ns n q x =
     let r = splice_same opened p hs ns q x in

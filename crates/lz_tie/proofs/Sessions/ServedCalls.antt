@@ -87,7 +87,7 @@ module _ (p : ℕ) where
       served_reply (suc n) n p call.0 call.1 (marks_alone p rest) S L T (omega arith) whole.ended whole.clean fits
   fits_plain S T L (call ∷ next ∷ calls) rest cut whole fits = fits_plain S T L (next ∷ calls) ((call.0, Some call.1) ∷ rest) cut.1 (whole_more call.0 call.1 rest cut.0 whole) fits
 
-  -- The set to which the history leads, behind these calls, is the one that the pass has seen.
+  -- The set to which the history leads, after these calls, is the one that the pass has seen.
   module _ (z : Sizes) (F : Format) (one : z.passes ≡ 1) (S0 : Keys) where
     leads_more : (c : Command) (reply : Reply) (rest : List (Command × Option Reply)) (old mid : Part) → cuts_off reply ≡ false → IsPlainAnswer F z.slots c reply (keys_in old.known) (keys_in mid.known)
         → LeadsTo S0 (marks_alone p rest) (keys_in old.known) → LeadsTo S0 (marks_alone p ((c, Some reply) ∷ rest)) (keys_in mid.known)

@@ -178,7 +178,7 @@ looks_away p service disk a (suc k) q before at calls runs = ⊎_elim
     first_look zero runs = (subst (λ (w : State). MayStep w (Looks q)) at runs.0).1
     first_look (suc k) runs = first_look k runs.1
 
--- The load is put in behind these steps.
+-- The load is put in after these steps.
 module _ (start : Start) (starts : IsStart start) (a : ℕ) (low : 1 ≤ a) (h : Load) where
   abbrev p : Point
   p = first_point start

@@ -29,7 +29,7 @@ pub lives : (dead : Bool) → (dead && true) ≡ false → dead ≡ false
 lives true h = h
 lives false h = refl
 
--- a sync that is played finds one left, unless the slot is sure
+-- a sync that is played finds one left, unless the slot is durable
 pub sync_left : (y : Yard) (a s : ℕ) → course y a (Sync s) ≡ Plays → is_sure y s ≡ false → is_spent y ≡ false
 sync_left y a s = go y.vault.dead (is_sure y s) (is_spent y)
   where

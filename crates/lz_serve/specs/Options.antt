@@ -1,0 +1,13 @@
+-- The numbers with which a set is served.
+use Rattle.std.specs.Prelude.{◌≡◌, ℕ, zero, suc, ◌*◌, Option, None, IsSomeAnd}
+use Rattle.std.specs.Duration.{as_nanos}
+use Rattle.std.specs.declared.time.Duration.{Duration}
+
+-- the most connections that loops serve at once
+abbrev pub most_connections : ℕ
+most_connections = 10000
+
+-- so many seconds are the bound on how long a client is waited for; 0 is none
+abbrev pub IsIdleBound : ℕ → Option Duration → Type 0
+IsIdleBound zero idle = idle ≡ None
+IsIdleBound (suc n) idle = IsSomeAnd idle (λ d. as_nanos d ≡ (suc n) * 1_000_000_000)
