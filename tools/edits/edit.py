@@ -53,6 +53,11 @@ def files_of(crate: kit.Crate, folders: Sequence[str]) -> List[str]:
     return [os.path.relpath(it, crate.folder) for it in found]
 
 
+def fault_of(folder: str, path: str) -> str:
+    """Why an edit can't be applied to the crate in a folder, in the kit's words; empty where it can."""
+    return kit.rt().read_edit(f"{folder}/{path}", folder)[1] or ""
+
+
 def pairs_of(text: str) -> List[Pair]:
     """The pairs of an edit, as `rt must-fail` reads them."""
     found, file, old = [], "", ""
@@ -101,9 +106,8 @@ class Sources:
         """Reads an edit of the crate."""
         with open(f"{self.folder}/{path}", encoding="utf-8", errors="replace") as file:
             edit = Edit(path, pairs_of(file.read()))
-        # The kit's own reading says what is wrong with an edit.
-        texts, fault = kit.rt().read_edit(f"{self.folder}/{path}", self.folder)
-        edit.fault = fault or ""
+        edit.fault = fault_of(self.folder, path)
+        texts, _ = kit.rt().read_edit(f"{self.folder}/{path}", self.folder)
         changes = [self.changes(file, text) for file, text in (texts or {}).items()]
         if all(bodies for bodies, _ in changes):
             edit.functions = frozenset(place for bodies, _ in changes for place in bodies)

@@ -6,7 +6,7 @@ from typing import Dict, List, NamedTuple, Sequence
 
 from edits import kit, record
 from edits.crate import length
-from edits.edit import WRONG_BODIES, files_of
+from edits.edit import WRONG_BODIES, fault_of, files_of
 
 TURNS = 8
 
@@ -28,10 +28,16 @@ def turns(crates: Sequence[kit.Crate], lines: Dict[str, record.Line]) -> List[Li
     return parts
 
 
+def is_recorded(crate: kit.Crate, lines: Dict[str, record.Line], hashes: record.Hashes) -> bool:
+    """Whether nothing changed since all of a crate's edits were refused. No comment is in the hash, but an edit may quote one."""
+    is_known = crate.name in lines and lines[crate.name].hash == hashes.of(crate)
+    return is_known and not any(fault_of(crate.folder, it) for it in files_of(crate, (WRONG_BODIES,)))
+
+
 def choose(top: str, crates: Sequence[kit.Crate], turn: int) -> Choice:
     lines, hashes = record.read(top), record.Hashes()
     with_edits = [it for it in crates if files_of(it, (WRONG_BODIES,))]
-    changed = [it for it in with_edits if it.name not in lines or lines[it.name].hash != hashes.of(it)]
+    changed = [it for it in with_edits if not is_recorded(it, lines, hashes)]
     others = [it for it in with_edits if it not in changed]
     part = turns(with_edits, lines)[turn % TURNS]
     return Choice(changed, [it for it in others if it in part], [it for it in others if it not in part])

@@ -92,9 +92,7 @@ class Trial:
             self.judge_one(group[0], said, texts)
             return []
         edited = {item for it in group for item in self.items_of(it.functions | it.added, said)}
-        # An impl is refused with a method of it.
-        impls = {item.rpartition("::")[0] for item in edited & said.unproved().keys()}
-        others = sorted(said.refused().keys() - edited - impls)
+        others = sorted(said.refused().keys() - edited)
         if not said.is_judged() or others:
             why = said.unread or " ".join(others) or said.lines[-1]
             kit.say(f"  {self.crate.name}: {len(group)} in one check, which isn't clear: {why[:200]}")

@@ -21,8 +21,8 @@ Crate = Any
 
 # What a check says of an item: `fn lz_slot::slot::key: proved`.
 ITEM = re.compile(r"^(?:fn|struct|enum|impl|trait) (\S+): (.*)$", re.M)
-# Said of a function that may be right: what it calls is refused.
-OF_A_CALL = re.compile(r"(not proved;|no proof:) it calls ")
+# Said of a function that may be right, as what it calls is refused; and of an impl, as one of its methods is.
+OF_ANOTHER = re.compile(r"(not proved;|no proof:) it (calls|waits for the proof of) ")
 # Said of an item on whose proof the prover came to no end.
 NO_VERDICT = "could not tell"
 # A place that a check names, and what it says there.
@@ -123,8 +123,8 @@ class Check:
         return {it: said for it, said in self.said.items() if not re.match(r"proved\b", said)}
 
     def refused(self) -> Dict[str, str]:
-        """What is refused for itself, and not since it calls what is refused."""
-        return {it: said for it, said in self.unproved().items() if not OF_A_CALL.match(said) and said != NO_VERDICT}
+        """What is refused for itself, and not with what it calls or has as a method."""
+        return {it: said for it, said in self.unproved().items() if not OF_ANOTHER.match(said) and said != NO_VERDICT}
 
 
 def check(crate: Crate, texts: Dict[str, str], kept: str) -> Check:

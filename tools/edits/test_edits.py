@@ -56,6 +56,13 @@ pub fn lower(x: usize, y: usize) -> usize
     least(x, y)
 }
 
+/// Three.
+pub fn corners() -> usize
+    ensures { result ≡ 3 }
+{
+    3
+}
+
 /// What has sides.
 pub trait Shape {
     /// How many.
@@ -69,7 +76,7 @@ pub struct Triangle {}
 
 impl Shape for Triangle {
     fn sides(&self) -> usize {
-        3
+        corners()
     }
 }
 """
@@ -121,12 +128,19 @@ NEXT_IS_TWO_MORE = ("    x + 1", "    x + 1 + 1")
 SECOND_IS_ITSELF = ("next(next(x))", "next(x) + 1")
 LEAST_IS_THE_SECOND = ("if x < y { x } else { y }", "y")
 LOWER_IS_TURNED = ("    least(x, y)", "    least(y, x)")
-TRIANGLE_OF_FOUR = ("        3", "        4")
+CORNERS_ARE_FOUR = ("    3", "    4")
+TRIANGLE_OF_FOUR = ("        corners()", "        4")
 LOWER_WITHOUT_A_CALL = ("    least(x, y)", "    if x < y { x } else { y }")
 # A wrong body before the right one, which has another name then.
 NEXT = "pub fn next(x: usize) -> usize requires { x < 1000 } ensures { result ≡ x + 1 }"
 NO_SUCH_TEXT = ("x - 1", "x - 2")
 THIRD_IS_SECOND = ("low::next(low::second(x))", "low::second(x)")
+QUOTES_A_COMMENT = """file: src/lib.rt
+old: /// Three more.
+new: /// Two more.
+old: low::next(low::second(x))
+new: low::second(x)
+"""
 
 
 class Repository:
@@ -193,10 +207,7 @@ class VerdictTest(EditsTest):
     """What is said of edits."""
 
     def test_group(self) -> None:
-        """Of a group the right body fails, and a wrong caller of a wrong function is found in a later check.
-
-        An impl is refused with its method.
-        """
+        """Of a group the right body fails, and a wrong caller of a wrong function is found in a later check."""
         self.repository.put_edits("low", {
             "least_is_the_second": LEAST_IS_THE_SECOND,
             "lower_is_turned": LOWER_IS_TURNED,
@@ -211,6 +222,13 @@ class VerdictTest(EditsTest):
         self.assertEqual(told[:3], first)
         self.assertEqual(sorted(told[3:]), ["NOT REFUSED low/second_is_itself", "refused low/lower_is_turned"])
         self.assertEqual(record.read(self.repository.top), {})
+
+    def test_impl(self) -> None:
+        """An impl is refused with its method, and a method with what it calls: one check will do."""
+        self.repository.put_edits("low", {"corners_are_four": CORNERS_ARE_FOUR, "next_is_two_more": NEXT_IS_TWO_MORE})
+        outcome, lines = self.tried("low")
+        self.assertEqual((outcome.refused, outcome.failed), (2, 0), lines)
+        self.assert_said("low: 2 refused, 0 failed, in 1 checks", lines)
 
     def test_vanished_name(self) -> None:
         """A right body that is refused as a proof cites what isn't there any more."""
@@ -254,6 +272,12 @@ class RecordTest(EditsTest):
         chosen = [gate.choose(top, crates, turn) for turn in range(gate.TURNS)]
         self.assertEqual([it.changed for it in chosen], [[]] * gate.TURNS)
         self.assertEqual(sorted(len(it.in_turn) for it in chosen), [0] * (gate.TURNS - 1) + [1])
+        self.repository.write("crates/high/wrong-bodies/third_is_second.edit", QUOTES_A_COMMENT)
+        record.write(top, "high", record.Line(self.repository.hash("high"), 1, 1))
+        self.assertEqual(gate.choose(top, crates, 0).changed, [])
+        self.repository.write("crates/high/src/lib.rt", HIGH.replace("/// Three more.", "/// Three added."))
+        self.assertEqual(gate.choose(top, crates, 0).changed, crates, "the edit can't be applied")
+        self.repository.write("crates/high/src/lib.rt", HIGH)
         self.repository.write("crates/low/src/lib.rt", LOW.replace("x < 900", "x < 901"))
         self.assertEqual(gate.choose(top, crates, 0).changed, crates)
 

@@ -21,6 +21,10 @@ import shutil
 import time
 
 
+class Crate:
+    compile_by = None
+
+
 def processors():
     return 1
 

@@ -250,8 +250,8 @@ def ends_at_once(port: int) -> None:
 
 def try_leavers(program: Program, folder: str) -> None:
     """Clients that reset their connections amid commands, or leave at once, again and again: others are served all the while, and afterwards
-    as many as at first. There are five keys at most, and four slots more for each pass, so none is told `full`."""
-    with served(program, folder, "leavers", 5 + 4 * PASSES, PASSES, *at_once(8)) as service:
+    as many as at first. There are five keys at most, and so many slots more that none is told `full`, however long a command takes."""
+    with served(program, folder, "leavers", 5 + 100 * PASSES, PASSES, *at_once(8)) as service:
         with Crowd(service.port, 4) as staying:
             for leaver in (guests.resets, sends_changes, leaves, ends_at_once):
                 for turn in range(20):

@@ -18,9 +18,11 @@ pub enum Fault {
     NoArguments(io::Error),
     #[error("an argument isn't UTF-8\n")]
     NotText,
-    /// The command line was not understood, or asked for help: the text says which.
-    #[error("{text}")]
-    CommandLine { text: String, status: Status },
+    /// The command line asked for help, or for the version.
+    #[error("{0}")]
+    Help(String),
+    #[error("{0}")]
+    NotUnderstood(String),
 }
 
 impl Fault {
@@ -37,17 +39,18 @@ impl Fault {
     pub fn of_refusal(refusal: Refusal) -> Fault {
         match refusal {
             Refusal::Memory(error) => Fault::Memory(error),
-            Refusal::Told { text, status } => Fault::CommandLine { text, status },
+            Refusal::Help(text) => Fault::Help(text),
+            Refusal::NotUnderstood(text) => Fault::NotUnderstood(text),
         }
     }
 
     /// How the command ended.
     pub fn status(&self) -> Status {
         match self {
+            Fault::Help(_) => Status::Done,
             Fault::NoFile => Status::Refused,
-            Fault::NotText => Status::CommandLine,
+            Fault::NotText | Fault::NotUnderstood(_) => Status::CommandLine,
             Fault::NoRead | Fault::Memory(_) | Fault::NoArguments(_) => Status::Failed,
-            Fault::CommandLine { status, .. } => *status,
         }
     }
 

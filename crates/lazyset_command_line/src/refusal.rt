@@ -1,25 +1,28 @@
 //! Why a command line asks for nothing that can be done.
 use clap::Error;
 use clap::error::ErrorKind;
-use lazyset_offline::Status;
 use std::alloc::{AllocError, Global};
 
 #[derive(Debug, Drop)]
 pub enum Refusal {
     Memory(AllocError),
-    /// The command line was not understood, or asked for help: the text says which.
-    Told { text: String, status: Status },
+    /// It asked for help, or for the version: this is what it gets.
+    Help(String),
+    /// It was not understood: the text says why.
+    NotUnderstood(String),
 }
 
 /// What the parser's error says: help is no fault, and lack of memory none of the command line's.
 pub fn refusal_of(alloc: Global, error: Error) -> Refusal {
-    let status = match error.kind() {
-        ErrorKind::DisplayHelp | ErrorKind::DisplayVersion => Status::Done,
-        ErrorKind::OutOfMemory => return Refusal::Memory(AllocError),
-        _ => Status::CommandLine,
+    let kind = error.kind();
+    if kind == ErrorKind::OutOfMemory {
+        return Refusal::Memory(AllocError);
+    }
+    let Ok(text) = format!(in alloc; "{error}") else {
+        return Refusal::Memory(AllocError);
     };
-    match format!(in alloc; "{error}") {
-        Ok(text) => Refusal::Told { text, status },
-        Err(_) => Refusal::Memory(AllocError),
+    match kind {
+        ErrorKind::DisplayHelp | ErrorKind::DisplayVersion => Refusal::Help(text),
+        _ => Refusal::NotUnderstood(text),
     }
 }

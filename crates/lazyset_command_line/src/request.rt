@@ -6,7 +6,6 @@ ghost use Rattle.lazyset_command_line.specs.Requests.{AreWithin, IsWithin};
 use crate::command::command_line;
 use crate::refusal::{Refusal, refusal_of};
 use clap::ArgMatches;
-use lazyset_offline::Status;
 use lz_serve::{Loops, MOST_CONNECTIONS, ServeOptions};
 use lz_slot::{Format, MOST_BUCKETS, MOST_PASSES, MOST_REHEARSED};
 use std::alloc::{AllocError, Global};
@@ -85,10 +84,7 @@ pub fn read<'a>(alloc: Global, words: &'a [String]) -> Result<Request<'a>, Refus
 // The one fault that the table of words doesn't show: each loop needs a pass.
 fn too_many_loops(alloc: Global) -> Refusal {
     match format!(in alloc; "error: '--loops <L>' is more than '<PASSES>'\n") {
-        Ok(text) => Refusal::Told {
-            text,
-            status: Status::CommandLine,
-        },
+        Ok(text) => Refusal::NotUnderstood(text),
         Err(_) => Refusal::Memory(AllocError),
     }
 }
