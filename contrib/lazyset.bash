@@ -15,7 +15,7 @@ _lazyset_words() {
     make) options="--format --help" ;;
     run) options="--buckets --help" ;;
     serve) options="--connections --loops --sessions --idle --buckets --help" ;;
-    check) options="--of --help" ;;
+    check) options="--of --keys --help" ;;
     rehearse) options="--buckets --format --help" ;;
     *) options="--help" ;;
     esac

@@ -138,16 +138,25 @@ def try_counts(program: Program, folder: str) -> None:
         expect(program.run("info", file), Ended(*Survey(text).counted()), f"an info of {text!r}")
 
 
+def keys_of(checked: str) -> str:
+    """What a check of the keys alone prints, by what a check prints."""
+    kept = [line.rpartition(" ")[2] for line in checked.splitlines(True) if " key " in line or line == "damaged\n"]
+    return checked if checked.startswith("refused") else "".join(kept)
+
+
 def try_surveys(program: Program, folder: str) -> None:
-    """A check and a run say this of each file, and write nothing there."""
+    """A check, one of the keys alone and a run say this of each file, and write nothing there."""
     file = os.path.join(folder, "surveyed")
     for text, checked, refused in (*SURVEYED, *cut_files()):
         put(file, text)
         status = 0 if checked.endswith("good\n") else 4 if checked.endswith("damaged\n") else 3
         expect(program.run("check", file), Ended(checked, status), f"a check of {text!r}")
+        expect(program.run("check", file, "--keys"), Ended(keys_of(checked), status), f"the keys of {text!r}")
         expect(program.run("run", file), Ended(refused, 3 if refused else 0), f"a run on {text!r}")
         expect(bytes_in(file), text, "a file behind a check and a run")
         expect(Survey(text).checked(), (checked, status), f"the model's check of {text!r}")
+        expect(Survey(text).listed(), (keys_of(checked), status), f"the model's keys of {text!r}")
+    expect(program.run("check", file, "--keys", "--of", file).status, 2, "the status of a check of keys beside another file")
 
 
 def full_file(last: int) -> bytes:

@@ -115,6 +115,7 @@ def try_files(program: Program, folder: str, drawn: Drawn) -> None:
         put(old, text)
         what = f"file {number}, {text[:400]!r}"
         expect(program.run("check", old), Ended(*survey.checked()), f"a check of {what}")
+        expect(program.run("check", old, "--keys"), Ended(*survey.listed()), f"the keys of {what}")
         expect(program.run("info", old), Ended(*survey.counted()), f"an info of {what}")
         expect(program.run("run", old), Ended(*survey.opened()), f"a run on {what}")
         if before is not None and number % 4 == 0:

@@ -162,6 +162,13 @@ class Survey:
             return f"refused {self.refusal}\n", 3
         return "".join(self.lines) + ("damaged\n" if self.flaws else "good\n"), 4 if self.flaws else 0
 
+    def listed(self) -> Tuple[str, int]:
+        """What a check of the keys alone prints, and its status."""
+        told, status = self.checked()
+        if self.refusal:
+            return told, status
+        return "".join(f"{key}\n" for key in self.members) + "damaged\n" * bool(self.flaws), status
+
     def counted(self) -> Tuple[str, int]:
         """What an info prints, and its status."""
         told, status = self.checked()

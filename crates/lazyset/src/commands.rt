@@ -12,7 +12,7 @@ use crate::words::words_of;
 use lazyset_command_line::{Request, read};
 use lazyset_commands::{
     MOST_JUDGED, MOST_SURVEYED, ServeOptions, Status, check_of_on, check_on, info_on, judge_on,
-    make_on, rehearse_on, renew_on, run_on, serve_on,
+    keys_on, make_on, rehearse_on, renew_on, run_on, serve_on,
 };
 use lz_slot::Format;
 use std::fs::File;
@@ -75,6 +75,7 @@ where
         Request::Serve { file, options } => serve(rt, writer, file, options),
         Request::Info { file } => info(rt, writer, file),
         Request::Check { file, of } => check(rt, writer, file, of),
+        Request::Keys { file } => keys(rt, writer, file),
         Request::Judge { file } => judge(rt, writer, file),
         Request::Rehearse {
             slots,
@@ -175,6 +176,15 @@ where
     };
     let old = read_front(rt, old, MOST_SURVEYED)?;
     Ok(check_of_on(rt.alloc(), bytes.as_slice(), old.as_slice(), writer))
+}
+
+fn keys<R, W>(rt: &R, writer: &mut W, file: &str) -> Result<Status, Fault>
+where
+    R: Files<File = File> + Eprint + AllocGlobal,
+    W: Write + Drop,
+{
+    let bytes = read_front(rt, file, MOST_SURVEYED)?;
+    Ok(keys_on(rt.alloc(), bytes.as_slice(), writer))
 }
 
 fn judge<R, W>(rt: &R, writer: &mut W, file: &str) -> Result<Status, Fault>

@@ -1,6 +1,6 @@
 //! The command line that the program understands, made of the table.
-use crate::words::{Form, SHEETS, STATUSES, Sheet, Word};
-use clap::{Arg, Command, value_parser};
+use crate::words::{Beside, Form, SHEETS, STATUSES, Sheet, Word};
+use clap::{Arg, ArgAction, Command, value_parser};
 use std::alloc::{AllocError, Global};
 
 // The program's version, and the kit that proved and built it, as `rt version` names it.
@@ -42,13 +42,15 @@ fn with_words<'a>(
 
 fn arg_of<'a>(alloc: Global, word: Word) -> Result<Arg<'a>, AllocError> {
     let arg = parsed(Arg::new(alloc, word.id).help(word.help), word.form);
-    let arg = match word.value_name {
-        None => arg.required(true),
-        Some(name) => arg.long(word.id).value_name(name),
+    let arg = match (word.form, word.value_name) {
+        (Form::Flag, _) => arg.long(word.id),
+        (_, None) => arg.required(true),
+        (_, Some(name)) => arg.long(word.id).value_name(name),
     };
     let arg = match word.beside {
-        None => arg,
-        Some(id) => arg.requires_arg(id)?,
+        Beside::Anything => arg,
+        Beside::Needs(id) => arg.requires_arg(id)?,
+        Beside::Excludes(id) => arg.conflicts_with(id)?,
     };
     Ok(match word.default {
         None => arg,
@@ -58,6 +60,7 @@ fn arg_of<'a>(alloc: Global, word: Word) -> Result<Arg<'a>, AllocError> {
 
 fn parsed<'a>(arg: Arg<'a>, form: Form) -> Arg<'a> {
     match form {
+        Form::Flag => arg.action(ArgAction::SetTrue),
         Form::Text => arg,
         Form::Number => arg.value_parser(value_parser!(u64)),
         Form::Within(least, most) => arg.value_parser(value_parser!(u64).range(least..=most)),

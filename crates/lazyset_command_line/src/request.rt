@@ -39,6 +39,10 @@ pub enum Request<'a> {
         file: &'a str,
         of: Option<&'a str>,
     },
+    /// A check that prints the keys alone.
+    Keys {
+        file: &'a str,
+    },
     Judge {
         file: &'a str,
     },
@@ -58,7 +62,7 @@ impl fmt::Display for Request<'_> {
             Request::Run { file, .. } => write!(f, "run {file}"),
             Request::Serve { file, .. } => write!(f, "serve {file}"),
             Request::Info { file } => write!(f, "info {file}"),
-            Request::Check { file, .. } => write!(f, "check {file}"),
+            Request::Check { file, .. } | Request::Keys { file } => write!(f, "check {file}"),
             Request::Judge { file } => write!(f, "judge {file}"),
             Request::Rehearse { .. } => f.write_str("rehearse"),
         }
@@ -191,9 +195,12 @@ fn info<'a>(words: &ArgMatches<'a>) -> Option<Request<'a>>
 fn check<'a>(words: &ArgMatches<'a>) -> Option<Request<'a>>
     ensures { IfSome result IsWithin }
 {
-    Some(Request::Check {
-        file: text(words, "FILE")?,
-        of: text(words, "of"),
+    let file = text(words, "FILE")?;
+    Some(if words.get_flag("keys") {
+        Request::Keys { file }
+    } else {
+        let of = text(words, "of");
+        Request::Check { file, of }
     })
 }
 

@@ -5,9 +5,21 @@ use lz_slot::{MOST_BUCKETS, MOST_PASSES, MOST_REHEARSED};
 /// What a word may be.
 #[derive(Clone, Copy)]
 pub enum Form {
+    /// It stands there or not.
+    Flag,
     Text,
     Number,
     Within(i64, i64),
+}
+
+/// What else may stand with an option.
+#[derive(Clone, Copy)]
+pub enum Beside {
+    Anything,
+    /// It needs this one.
+    Needs(&'static str),
+    /// It stands without this one.
+    Excludes(&'static str),
 }
 
 /// A word of a command.
@@ -18,8 +30,7 @@ pub struct Word {
     pub value_name: Option<&'static str>,
     pub form: Form,
     pub default: Option<&'static str>,
-    /// The option without which it may not stand.
-    pub beside: Option<&'static str>,
+    pub beside: Beside,
     pub help: &'static str,
 }
 
@@ -81,8 +92,8 @@ pub const SHEETS: [Sheet; 8] = [
     Sheet {
         name: "check",
         about: "Says what each open slot of a file holds, and `good` or `damaged`",
-        notes: "Prints `slot I key K`, `slot I badkey` or `slot J twice I` for each open slot. A head that can't be read is `refused N`, as by `run`. It writes nothing.\n\nExample: lazyset check f",
-        words: &[FILE, OF],
+        notes: "Prints `slot I key K`, `slot I badkey` or `slot J twice I` for each open slot. A head that can't be read is `refused N`, as by `run`. It writes nothing.\n\nWith --keys it prints the keys alone, one a line, and after those of a damaged file `damaged`.\n\nExample: lazyset check f",
+        words: &[FILE, OF, KEYS],
     },
     Sheet {
         name: "judge",
@@ -103,7 +114,7 @@ const FILE: Word = Word {
     value_name: None,
     form: Form::Text,
     default: None,
-    beside: None,
+    beside: Beside::Anything,
     help: "The slot file",
 };
 
@@ -112,7 +123,7 @@ const OLD: Word = Word {
     value_name: None,
     form: Form::Text,
     default: None,
-    beside: None,
+    beside: Beside::Anything,
     help: "The slot file whose keys are read; it is left as it is",
 };
 
@@ -121,7 +132,7 @@ const NEW: Word = Word {
     value_name: None,
     form: Form::Text,
     default: None,
-    beside: None,
+    beside: Beside::Anything,
     help: "The slot file that is made, of format 2",
 };
 
@@ -130,7 +141,7 @@ const HISTORY: Word = Word {
     value_name: None,
     form: Form::Text,
     default: None,
-    beside: None,
+    beside: Beside::Anything,
     help: "The history: the lines of a rehearsal, and `point I P` for call I",
 };
 
@@ -139,8 +150,17 @@ const OF: Word = Word {
     value_name: Some("OLD"),
     form: Form::Text,
     default: None,
-    beside: None,
+    beside: Beside::Anything,
     help: "A slot file from which this one was renewed: says after `good` whether both hold the same keys, `same`, or what is wrong, `flaw 8`, `flaw 9 I` or `flaw 10 I`",
+};
+
+const KEYS: Word = Word {
+    id: "keys",
+    value_name: None,
+    form: Form::Flag,
+    default: None,
+    beside: Beside::Excludes("of"),
+    help: "Prints the keys alone, one a line, in the order of their slots",
 };
 
 const SLOTS: Word = Word {
@@ -148,7 +168,7 @@ const SLOTS: Word = Word {
     value_name: None,
     form: Form::Number,
     default: None,
-    beside: None,
+    beside: Beside::Anything,
     help: "How many keys the file has room for, 1 to 65536",
 };
 
@@ -157,7 +177,7 @@ const REHEARSED: Word = Word {
     value_name: None,
     form: Form::Within(1, MOST_REHEARSED as i64),
     default: None,
-    beside: None,
+    beside: Beside::Anything,
     help: "How many keys the set has room for, 1 to 64",
 };
 
@@ -166,7 +186,7 @@ const FORMAT: Word = Word {
     value_name: Some("F"),
     form: Form::Within(1, 2),
     default: Some("2"),
-    beside: None,
+    beside: Beside::Anything,
     help: "The format of the file: 2, whose keys are in the rooms 0 to 15, or the older 1, whose keys are all in room 0",
 };
 
@@ -175,7 +195,7 @@ const BUCKETS: Word = Word {
     value_name: Some("B"),
     form: Form::Within(1, MOST_BUCKETS as i64),
     default: Some("1"),
-    beside: None,
+    beside: Beside::Anything,
     help: "The number of hash buckets, 1 to 4096: choose about the number of members",
 };
 
@@ -184,7 +204,7 @@ const PORT: Word = Word {
     value_name: None,
     form: Form::Within(0, 65_535),
     default: None,
-    beside: None,
+    beside: Beside::Anything,
     help: "The port of 127.0.0.1; 0 takes a free one, which is printed",
 };
 
@@ -193,7 +213,7 @@ const PASSES: Word = Word {
     value_name: None,
     form: Form::Within(1, MOST_PASSES as i64),
     default: None,
-    beside: None,
+    beside: Beside::Anything,
     help: "How many commands are carried out at once, 1 to 64; without --connections also how many connections are served, each by a thread. Further ones wait",
 };
 
@@ -202,7 +222,7 @@ const CONNECTIONS: Word = Word {
     value_name: Some("C"),
     form: Form::Within(1, MOST_CONNECTIONS as i64),
     default: None,
-    beside: None,
+    beside: Beside::Anything,
     help: "Serves up to so many connections at once, 1 to 10000, by a few threads, in place of a thread for each pass",
 };
 
@@ -211,7 +231,7 @@ const LOOPS: Word = Word {
     value_name: Some("L"),
     form: Form::Within(1, MOST_PASSES as i64),
     default: None,
-    beside: Some("connections"),
+    beside: Beside::Needs("connections"),
     help: "How many threads serve the connections, at most PASSES; 1 unless given",
 };
 
@@ -220,7 +240,7 @@ const SESSIONS: Word = Word {
     value_name: Some("N"),
     form: Form::Within(0, 65_535),
     default: Some("0"),
-    beside: None,
+    beside: Beside::Anything,
     help: "Each pass, or each loop, ends after so many connections; 0 for no end",
 };
 
@@ -229,6 +249,6 @@ const IDLE: Word = Word {
     value_name: Some("SECONDS"),
     form: Form::Within(0, 86_400),
     default: Some("0"),
-    beside: None,
+    beside: Beside::Anything,
     help: "Closes a connection on which nothing was sent, or no reply taken, for so long; 0 for never",
 };

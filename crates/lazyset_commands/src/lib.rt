@@ -6,7 +6,7 @@ mod running;
 mod serving;
 
 pub use lazyset_offline::{
-    MOST_JUDGED, MOST_SURVEYED, Status, check_of_on, check_on, info_on, judge_on, make_on,
+    MOST_JUDGED, MOST_SURVEYED, Status, check_of_on, check_on, info_on, judge_on, keys_on, make_on,
     rehearse_on, renew_on,
 };
 pub use lz_serve::ServeOptions;

@@ -28,6 +28,18 @@ abbrev pub survey_text : Survey → List ℕ
 survey_text (survey.Refused fault) = refused_text (header_fault_number fault)
 survey_text (survey.Found findings) = flat_map finding_text findings.items ++ state_text (survey.Found findings)
 
+-- the line of a key that was found
+abbrev pub key_line : Finding → List ℕ
+key_line (Key i k) = key_text k ++ 10 ∷ []
+key_line (BadKey i) = []
+key_line (Twice i first) = []
+
+-- the keys of a survey, and `damaged` where it isn't good
+abbrev pub keys_text : Survey → List ℕ
+keys_text (survey.Refused fault) = refused_text (header_fault_number fault)
+keys_text (survey.Found findings) =
+    flat_map key_line findings.items ++ (if is_good (survey.Found findings) then [] else state_text (survey.Found findings))
+
 -- how a check ends
 abbrev pub survey_status : Survey → Status
 survey_status (survey.Refused fault) = Refused
@@ -38,3 +50,9 @@ pub record IsChecked (t : List ℕ) (status : Status) (before after : Option (Li
   pub survey : Survey
   pub of_file : IsSurveyOf t survey
   pub told : Tells before after (survey_text survey) (survey_status survey) status
+
+-- the same of the keys alone
+pub record IsListed (t : List ℕ) (status : Status) (before after : Option (List ℕ)) : Type 0 where
+  pub survey : Survey
+  pub of_file : IsSurveyOf t survey
+  pub told : Tells before after (keys_text survey) (survey_status survey) status

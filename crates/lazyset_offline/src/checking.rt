@@ -6,7 +6,7 @@ ghost use Rattle.lz_slot.specs.Sets.{Keys};
 ghost use Rattle.lz_slot.specs.Bytes.{Holds};
 ghost use Rattle.lz_judge.specs.Surveys.{IsSurveyOf};
 ghost use Rattle.lazyset_offline.specs.Makings.{refused_text};
-ghost use Rattle.lazyset_offline.specs.Checks.{IsChecked, finding_text, state_text, survey_status, survey_text};
+ghost use Rattle.lazyset_offline.specs.Checks.{IsChecked, IsListed, finding_text, key_line, keys_text, state_text, survey_status, survey_text};
 ghost use Rattle.lazyset_offline.specs.Tellings.{LacksMemory, Tells};
 
 use crate::status::Status;
@@ -36,6 +36,22 @@ pub fn check_on<W: Write + Drop>(alloc: Global, bytes: &[u8], writer: &mut W) ->
 {
     match survey(alloc, bytes) {
         Ok(survey) => tell_survey(&survey, text_of(alloc, &survey), writer),
+        Err(AllocError) => tell(writer, Status::Failed, NO_MEMORY),
+    }
+}
+
+/// Prints the keys of the file with these bytes, one a line, in the order of its slots, and nothing else. Where the file is damaged
+/// the line `damaged` follows, and where its head has a fault there is `refused N` alone: so what is printed reads as a list of keys
+/// only where the file holds a set. Failed as `check_on` is.
+pub fn keys_on<W: Write + Drop>(alloc: Global, bytes: &[u8], writer: &mut W) -> Status
+    ensures told { IsListed bytes.now result (W.contents writer.old) (W.contents writer.new) ⊎ LacksMemory (W.contents writer.old) (W.contents writer.new) result }
+
+    // It is done exactly where the file holds a set.
+    ensures done { result ≡ Status.Done → (N : ℕ) × (S : Keys) × Holds bytes.now N S }
+    ensures damaged { (result ≡ Status.Refused) ⊎ (result ≡ Status.Damaged) → (N : ℕ) (S : Keys) → ¬ Holds bytes.now N S }
+{
+    match survey(alloc, bytes) {
+        Ok(survey) => tell_survey(&survey, keys_of(alloc, &survey), writer),
         Err(AllocError) => tell(writer, Status::Failed, NO_MEMORY),
     }
 }
@@ -77,6 +93,34 @@ fn text_of(alloc: Global, survey: &Survey) -> Result<String, AllocError>
             Ok(text)
         }
     }
+}
+
+fn keys_of(alloc: Global, survey: &Survey) -> Result<String, AllocError>
+    ensures { IfOk result (λ text. string_bytes text ≡ keys_text survey.now) }
+{
+    match survey {
+        Survey::Refused(fault) => refused_line(alloc, fault.number()),
+        Survey::Found(findings) => {
+            let mut text = key_lines(alloc, findings.as_slice())?;
+            if !survey.is_good() {
+                add_state(&mut text, survey)?;
+            }
+            Ok(text)
+        }
+    }
+}
+
+// The lines of the keys that were found.
+fn key_lines(alloc: Global, findings: &[Finding]) -> Result<String, AllocError>
+    ensures { IfOk result (λ text. string_bytes text ≡ flat_map key_line findings.now) }
+{
+    let mut text = String::new(alloc);
+    for finding in findings {
+        if let Finding::Key(_, key) = *finding {
+            write!(text, "{key}\n")?;
+        }
+    }
+    Ok(text)
 }
 
 /// Says whether the file is damaged.

@@ -13,7 +13,7 @@ mod renewing;
 mod status;
 mod telling;
 
-pub use checking::{MOST_SURVEYED, check_on};
+pub use checking::{MOST_SURVEYED, check_on, keys_on};
 pub use comparing::check_of_on;
 pub use informing::info_on;
 pub use judging::{MOST_JUDGED, judge_on};
