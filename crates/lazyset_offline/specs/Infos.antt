@@ -2,7 +2,7 @@
 use Rattle.std.specs.Prelude.{ℕ, ◌-◌, Option, List, [], ◌∷◌, ◌++◌, codes, count_by, decimal, length, Result, Ok, Err}
 use Rattle.lz_slot.specs.Bytes.{format_of, header_fault_number, header_read}
 use Rattle.lz_slot.specs.declared.format.Format.{Format}
-use Rattle.lz_slot.specs.declared.format.Format.TheVariants.{One, Two}
+use Rattle.lz_slot.specs.declared.format.Format.TheVariants.{One, Two, Three}
 use Rattle.lz_slot.specs.declared.header.HeaderFault.{HeaderFault}
 use Rattle.lz_judge.specs.Surveys.{IsSurveyOf, is_sound}
 use Rattle.lz_judge.specs.declared.finding.Finding.{Finding}
@@ -17,6 +17,7 @@ use Rattle.lazyset_offline.specs.declared.status.Status.{Status}
 abbrev pub format_number : Format → ℕ
 format_number One = 1
 format_number Two = 2
+format_number Three = 3
 
 -- the slots that a head tells of, none where it is refused
 abbrev pub slots_in : Result ℕ HeaderFault → ℕ

@@ -20,12 +20,12 @@ made_text slots = codes "made " ++ decimal slots ++ 10 ∷ []
 abbrev pub refused_text : ℕ → List ℕ
 refused_text number = codes "refused " ++ decimal number ++ 10 ∷ []
 
--- Why no file of so many slots was made: each fault says what is there, or what was asked for, or that the device failed.
-abbrev pub IsMakeFault : MakeFault → ℕ → Disk → Disk → Type 0
-IsMakeFault AlreadyMade slots old new = IsTrue old.honest → IsMade old.medium.seen × (new.medium ≡ synced old.medium)
-IsMakeFault BadCount slots old new = IsBadCount slots × (new.medium ≡ old.medium) × (new.calls ≡ old.calls)
-IsMakeFault TooLong slots old new = IsTrue old.honest → (IsMade old.medium.seen → ⊥) × (16 + 16 * slots < length old.medium.seen) × (new.medium ≡ synced old.medium)
-IsMakeFault Device slots old new = old.faults < new.faults
+-- Why no file of this format with so many slots was made: each fault says what is there, or what was asked for, or that the device failed.
+abbrev pub IsMakeFault : MakeFault → Format → ℕ → Disk → Disk → Type 0
+IsMakeFault AlreadyMade format slots old new = IsTrue old.honest → IsMade old.medium.seen × (new.medium ≡ synced old.medium)
+IsMakeFault BadCount format slots old new = IsBadCount format slots × (new.medium ≡ old.medium) × (new.calls ≡ old.calls)
+IsMakeFault TooLong format slots old new = IsTrue old.honest → (IsMade old.medium.seen → ⊥) × (16 + 16 * slots < length old.medium.seen) × (new.medium ≡ synced old.medium)
+IsMakeFault Device format slots old new = old.faults < new.faults
 
 -- A file of this format was made, and this was told.
 pub record MadeFile (format : Format) (slots : ℕ) (status : Status) (before after : Option (List ℕ)) (old new : Disk) : Type 0 where
@@ -33,7 +33,7 @@ pub record MadeFile (format : Format) (slots : ℕ) (status : Status) (before af
   pub told : Tells before after (made_text slots) Done status
 
 -- No file was made for a fault, and this was told.
-pub record RefusedMaking (slots : ℕ) (status : Status) (before after : Option (List ℕ)) (old new : Disk) : Type 0 where
+pub record RefusedMaking (format : Format) (slots : ℕ) (status : Status) (before after : Option (List ℕ)) (old new : Disk) : Type 0 where
   pub fault : MakeFault
-  pub why : IsMakeFault fault slots old new
+  pub why : IsMakeFault fault format slots old new
   pub told : Tells before after (refused_text (make_fault_number fault)) (make_status fault) status

@@ -1,5 +1,6 @@
 -- What a renewal tells.
 use Rattle.std.specs.Prelude.{◌≡◌, ◌↔◌, ◌+◌, ◌++◌, ◌∷◌, [], ℕ, IfErr, IfOk, IsErrOf, IsTrue, OnOk, List, Result, Ok, Err, codes, decimal}
+use Rattle.lz_slot.specs.declared.format.Format.{Format}
 use Rattle.lz_disk.specs.Devices.{Device}
 use Rattle.lz_vault.specs.Makes.{IsBadCount, make_fault_number}
 use Rattle.lz_vault.specs.Opens.{open_fault_number}
@@ -41,9 +42,9 @@ renewal_status (Err (Old fault)) = open_status fault
 renewal_status (Err (New fault)) = make_status fault
 renewal_status (Err (TooSmall members slots)) = Refused
 
--- A renewal with n slots answered so: the new device has the old one's members, or the fault is true and is the first one.
-pub record IsRenewal (old old_after new new_after : Device) (n : ℕ) (answer : Result ℕ RenewFault) : Type 0 where
-  pub renewed : IfOk answer (Renews old new new_after n)
-  pub refused : IfErr answer (IsRenewFaultOf old old_after new new_after n)
-  pub count : IsErrOf answer (New making.BadCount) ↔ IsBadCount n
+-- A renewal into this format with n slots answered so: the new device has the old one's members, or the fault is true and is the first one.
+pub record IsRenewal (old old_after new new_after : Device) (format : Format) (n : ℕ) (answer : Result ℕ RenewFault) : Type 0 where
+  pub renewed : IfOk answer (Renews old new new_after format n)
+  pub refused : IfErr answer (IsRenewFaultOf old old_after new new_after format n)
+  pub count : IsErrOf answer (New making.BadCount) ↔ IsBadCount format n
   pub read : IsTrue old.honest → OnOk answer (old_after.calls ≡ old.calls + calls_of_reading old.medium.seen)

@@ -80,5 +80,6 @@ fn number_of(format: Format) -> u64
     match format {
         Format::One => 1,
         Format::Two => 2,
+        Format::Three => 3,
     }
 }

@@ -26,7 +26,7 @@ pub fn make_on<W: Write + Drop, D: Disk>(
 ) -> Status
     // Either the file was made, or there was a fault; which of the two, and the status by it, is what was told.
     ensures made { MadeFile format slots result (W.contents writer.old) (W.contents writer.new) (D.device disk.old) (D.device disk.new)
-        ⊎ RefusedMaking slots result (W.contents writer.old) (W.contents writer.new) (D.device disk.old) (D.device disk.new) }
+        ⊎ RefusedMaking format slots result (W.contents writer.old) (W.contents writer.new) (D.device disk.old) (D.device disk.new) }
 
     // Where no file can be made, as over a made one, nothing is written at any moment.
     ensures safe { IsTrue (D.device disk.old).honest → (MayBeMade (D.device disk.old).medium.seen slots → ⊥) → WritesNothing (D.device disk.old) (D.device disk.new) }

@@ -2,6 +2,8 @@
 ghost use Rattle.std.specs.Prelude.{◌≡◌, ◌≤◌, ℕ, List, Result as Answer, Ok, Err, IfErr, IsTrue};
 ghost use Rattle.lz_proto.specs.Steps.{SendTells};
 ghost use Rattle.lz_slot.specs.Bytes.{Holds};
+ghost use Rattle.lz_slot.specs.Limits.{last_room};
+ghost use Rattle.lz_slot.specs.Rooms.{last_room_of};
 ghost use Rattle.lz_slot.specs.Sets.{Keys};
 ghost use Rattle.lz_disk.specs.Images.{IsImage};
 ghost use Rattle.lz_disk.specs.Devices.{LeavesOnly};
@@ -16,11 +18,12 @@ use crate::telling::status_sent;
 use crate::{making, refusal};
 use lz_disk::Disk;
 use lz_proto::SessionFault;
+use lz_slot::Format;
 use lz_vault::{MakeFault, OpenFault, RenewFault, renew};
 use std::alloc::Global;
 use std::io::Write;
 
-/// Makes a file of format 2 with so many slots that holds the members of the old one, and says so: `renewed M`, `refused old N`
+/// Makes a file of this format with so many slots that holds the members of the old one, and says so: `renewed M`, `refused old N`
 /// with the fault of an open and its slots where it has any, `refused new N` with the fault of a making, or `refused 9 M S`
 /// where M members have no room in S slots. Failed where a device failed or there was no memory, and where the line could not
 /// be written.
@@ -29,12 +32,14 @@ pub fn renew_on<W: Write + Drop, O: Disk, N: Disk>(
     writer: &mut W,
     old: &mut O,
     new: &mut N,
+    format: Format,
     slots: u64,
 ) -> Status
-    ensures told { (answer : Answer ℕ RenewFault) × IsRenewal (O.device old.old) (O.device old.new) (N.device new.old) (N.device new.new) slots answer
+    requires rooms { last_room_of format ≡ last_room }
+    ensures told { (answer : Answer ℕ RenewFault) × IsRenewal (O.device old.old) (O.device old.new) (N.device new.old) (N.device new.new) format slots answer
         × IfErr answer (λ fault. IsToldFirst fault → new.new ≡ new.old)
         × Tells (W.contents writer.old) (W.contents writer.new) (renewal_text answer) (renewal_status answer) result }
-    ensures uncalled { IsBadCount slots → (old.new ≡ old.old) × (new.new ≡ new.old) }
+    ensures uncalled { IsBadCount format slots → (old.new ≡ old.old) × (new.new ≡ new.old) }
     ensures reads { OnlySyncs (O.device old.old) (O.device old.new) }
     ensures safe { IsTrue (N.device new.old).honest → (MayBeMade (N.device new.old).medium.seen slots → ⊥) → WritesNothing (N.device new.old) (N.device new.new) }
 
@@ -46,7 +51,7 @@ pub fn renew_on<W: Write + Drop, O: Disk, N: Disk>(
     ensures faults { (N.device new.old).faults ≤ (N.device new.new).faults }
     ensures honest { (N.device new.new).honest ≡ (N.device new.old).honest }
 {
-    let answer = renew(alloc, old, new, slots);
+    let answer = renew(alloc, old, new, format, slots);
     tell_answer(writer, &answer)
 }
 

@@ -70,7 +70,7 @@ impl FreeSlots {
                 node += 1;
             }
         }
-        Some(Slot::new((node - self.width) as u16))
+        Some(Slot::new((node - self.width) as u32))
     }
 }
 
@@ -81,7 +81,7 @@ pub(crate) fn free_of(alloc: Global, kinds: &[Kind]) -> Result<FreeSlots, AllocE
 {
     let mut free = FreeSlots::new(alloc, kinds.len())?;
     for (index, kind) in kinds.iter().enumerate() {
-        free.set(Slot::new(index as u16), is_free(kind));
+        free.set(Slot::new(index as u32), is_free(kind));
     }
     Ok(free)
 }

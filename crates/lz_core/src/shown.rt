@@ -16,7 +16,7 @@ pub(crate) fn members_of(alloc: Global, yard: &Yard<MemoryDisk>) -> Result<Vec<K
 {
     let mut keys: Vec<Key> = Vec::new(alloc);
     for index in 0..yard.words().slots() {
-        if let Some(key) = member_at(yard, Slot::new(index as u16)) {
+        if let Some(key) = member_at(yard, Slot::new(index as u32)) {
             insert_key(&mut keys, key)?;
         }
     }

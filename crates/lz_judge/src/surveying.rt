@@ -38,7 +38,7 @@ fn find_all(alloc: Global, bytes: &[u8], header: Header) -> Result<Vec<Finding>,
         let at = 16 + 16 * index as usize;
         let mut slot = [0; 16];
         slot.copy_from_slice(&bytes[at..at + 16]);
-        scan.note(Slot::new(index as u16), read_slot(header.format, &slot))?;
+        scan.note(Slot::new(index as u32), read_slot(header.format, &slot))?;
     }
     Ok(scan.findings)
 }

@@ -62,7 +62,7 @@ pub(crate) fn slot_behind(next: u32) -> Option<Slot>
     if next == 0 {
         None
     } else {
-        Some(Slot::new((next - 1) as u16))
+        Some(Slot::new(next - 1))
     }
 }
 
@@ -72,6 +72,6 @@ pub fn next_to(slot: Option<Slot>) -> u32
 {
     match slot {
         None => 0,
-        Some(slot) => slot.index() as u32 + 1,
+        Some(slot) => slot.index() + 1,
     }
 }

@@ -1,7 +1,7 @@
 -- The invariant of the machine: what holds of each state that is reached, with its trace. Each field is a record of its own,
 -- over those parts of the state that it speaks of, so that a step shows only what it touches.
 use Rattle.std.specs.Prelude.{◌≡◌, ℕ, ◌<◌, ◌≤◌, true, false, List, [], ◌∷◌, length, slice_get, Option, Some}
-use Rattle.lz_slot.specs.Limits.{most_slots}
+use Rattle.lz_slot.specs.Limits.{most_slots_of}
 use Rattle.lz_slot.specs.Rooms.{largest_of}
 use Rattle.lz_slot.specs.Sets.{Keys}
 use Rattle.lz_slot.specs.Bytes.{Holds}
@@ -43,7 +43,7 @@ pub record TraceSound (shape : Shape) (words : Words) (P : Trace) : Type 0 where
 
 -- The vault keeps the disk: each image holds at each slot what its stage says.
 pub record DiskSound (shape : Shape) (vault : Vaulted) (disk : Medium) : Type 0 where
-  pub slots : (1 ≤ shape.slots) × (shape.slots ≤ most_slots)
+  pub slots : (1 ≤ shape.slots) × (shape.slots ≤ most_slots_of vault.format)
   pub count : length vault.cells ≡ shape.slots
   pub keys : (s : ℕ) (cell : Cell) → slice_get vault.cells s ≡ Some cell → cell.key ≤ largest_of vault.format
   pub keeps : Keeps vault.format vault.cells vault.dead disk

@@ -1,10 +1,10 @@
 //! The limits of the whole. Contracts and definitions take the same numbers from `specs/Limits.antt`.
 
-/// The most slots of a file.
-pub const MOST_SLOTS: u64 = 65_536;
+/// The most slots of a file of any format: `Format::most_slots` gives those of one.
+pub const MOST_SLOTS: u64 = 16_777_216;
 
-/// The most buckets over which the keys of an open set are spread.
-pub const MOST_BUCKETS: usize = 4_096;
+/// The most buckets over which the keys of an open set are spread: `Format::most_buckets` gives those of one format.
+pub const MOST_BUCKETS: usize = 1_048_576;
 
 /// The most passes of an open set, so the most calls at once.
 pub const MOST_PASSES: usize = 64;

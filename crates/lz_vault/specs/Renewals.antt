@@ -2,7 +2,7 @@
 use Rattle.std.specs.Prelude.{◌≡◌, ◌≢◌, ◌⊎◌, ℕ, ◌≤◌, ◌<◌, IsTrue, List, length, map}
 use Rattle.lz_slot.specs.Sets.{members}
 use Rattle.lz_slot.specs.Bytes.{Holds, held}
-use Rattle.lz_slot.specs.declared.format.Format.TheVariants.{Two}
+use Rattle.lz_slot.specs.declared.format.Format.{Format}
 use Rattle.lz_disk.specs.Images.{synced}
 use Rattle.lz_disk.specs.Devices.{Device}
 use Rattle.lz_vault.specs.Vaults.{LeavesEither}
@@ -27,11 +27,11 @@ AreHeldBy t ks = (N : ℕ) × Holds t N (members ks) × (ks ≡ map (λ node. no
 abbrev pub HoldsSoMany : Device → ℕ → Type 0
 HoldsSoMany disk m = IsTrue disk.honest → (ks : List ℕ) × AreHeldBy disk.medium.seen ks × (length ks ≡ m)
 
--- the m members of the old file stand in a new one of n slots, which is on the disk at rest
-abbrev pub Renews : Device → Device → Device → ℕ → ℕ → Type 0
-Renews old before after n m =
+-- the m members of the old file stand in a new one of this format with n slots, which is on the disk at rest
+abbrev pub Renews : Device → Device → Device → Format → ℕ → ℕ → Type 0
+Renews old before after format n m =
     (ks : List ℕ) × (length ks ≡ m) × (m ≤ n) × (IsTrue old.honest → AreHeldBy old.medium.seen ks)
-    × (IsTrue before.honest → IsRenewed after.medium Two n ks × MayBeMade before.medium.seen n)
+    × (IsTrue before.honest → IsRenewed after.medium format n ks × MayBeMade before.medium.seen n)
 
 -- a fault that is told with no call on the new device
 abbrev pub IsToldFirst : RenewFault → Type 0
@@ -39,12 +39,12 @@ IsToldFirst (Old fault) = Unit {0}
 IsToldFirst (New fault) = fault ≡ BadCount
 IsToldFirst (TooSmall m n) = Unit {0}
 
--- why a file isn't renewed: it isn't opened, or has more members than n, or else no new file of n slots is made
-abbrev pub IsRenewFaultOf : Device → Device → Device → Device → ℕ → RenewFault → Type 0
-IsRenewFaultOf old old_after new new_after n (Old fault) = IsRefusedFor old old_after fault
-IsRenewFaultOf old old_after new new_after n (TooSmall m slots) = (slots ≡ n) × (n < m) × HoldsSoMany old m
-IsRenewFaultOf old old_after new new_after n (New fault) =
-    IsMakeFaultOf new new_after n fault × (fault ≢ BadCount → (m : ℕ) × (m ≤ n) × HoldsSoMany old m)
+-- why a file isn't renewed: it isn't opened, or has more members than n, or else no new file of this format with n slots is made
+abbrev pub IsRenewFaultOf : Device → Device → Device → Device → Format → ℕ → RenewFault → Type 0
+IsRenewFaultOf old old_after new new_after format n (Old fault) = IsRefusedFor old old_after fault
+IsRenewFaultOf old old_after new new_after format n (TooSmall m slots) = (slots ≡ n) × (n < m) × HoldsSoMany old m
+IsRenewFaultOf old old_after new new_after format n (New fault) =
+    IsMakeFaultOf new new_after format n fault × (fault ≢ BadCount → (m : ℕ) × (m ≤ n) × HoldsSoMany old m)
 
 -- the number by which a program tells a fault
 abbrev pub renew_fault_number : RenewFault → ℕ

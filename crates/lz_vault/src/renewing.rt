@@ -1,5 +1,7 @@
 //! Renewal: the members of a file in a new one, with room for more or for fewer.
 ghost use Rattle.std.specs.Prelude.{◌≡◌, ◌↔◌, ◌≤◌, ◌+◌, ℕ, List, length, IsErrOf, IsTrue, OnOk, IfErr, IfOk};
+ghost use Rattle.lz_slot.specs.Limits.{last_room};
+ghost use Rattle.lz_slot.specs.Rooms.{last_room_of};
 ghost use Rattle.lz_slot.specs.Sets.{Keys};
 ghost use Rattle.lz_slot.specs.Bytes.{Holds};
 ghost use Rattle.lz_disk.specs.Images.{IsImage, synced};
@@ -12,7 +14,7 @@ ghost use Rattle.lz_vault.specs.Renewals.{AreHeldBy, IsRenewFaultOf, IsToldFirst
 use crate::making::{MakeFault, make_with};
 use crate::opening::{OpenFault, scan_file};
 use lz_disk::Disk;
-use lz_slot::{Format, Key, MOST_SLOTS};
+use lz_slot::{Format, Key};
 use std::alloc::{AllocError, Global};
 
 /// Why a file was not renewed.
@@ -39,8 +41,9 @@ impl RenewFault {
     }
 }
 
-/// Makes a new file of format 2 with n slots that hold the members of an old one, in the order of its slots, and says how many
-/// they are. The old file, of either format, is read and not written. Like a making, it opens the head's gate last.
+/// Makes a new file of this format with n slots that hold the members of an old one, in the order of its slots, and says how many
+/// they are. The new format has all rooms; the old file, of any format, is read and not written. Like a making, it opens the head's
+/// gate last.
 ///
 /// The faults are looked for in the order New(BadCount), those of the old file as an open tells them, TooSmall, and the others of
 /// a making. The new device is first called once the members are known and there is room for them.
@@ -48,11 +51,13 @@ pub fn renew<O: Disk, N: Disk>(
     alloc: Global,
     old: &mut O,
     new: &mut N,
+    format: Format,
     n: u64,
 ) -> Result<u64, RenewFault>
-    ensures renewed { IfOk result (Renews (O.device old.old) (N.device new.old) (N.device new.new) n) }
-    ensures refused { IfErr result (IsRenewFaultOf (O.device old.old) (O.device old.new) (N.device new.old) (N.device new.new) n) }
-    ensures count { IsErrOf result (RenewFault.New MakeFault.BadCount) ↔ IsBadCount n }
+    requires rooms { last_room_of format ≡ last_room }
+    ensures renewed { IfOk result (Renews (O.device old.old) (N.device new.old) (N.device new.new) format n) }
+    ensures refused { IfErr result (IsRenewFaultOf (O.device old.old) (O.device old.new) (N.device new.old) (N.device new.new) format n) }
+    ensures count { IsErrOf result (RenewFault.New MakeFault.BadCount) ↔ IsBadCount format n }
     ensures uncalled { IsErrOf result (RenewFault.New MakeFault.BadCount) → old.new ≡ old.old }
     ensures untouched { IfErr result (λ fault. IsToldFirst fault → new.new ≡ new.old) }
     ensures calls { IsTrue (N.device new.old).honest → OnOk result ((N.device new.new).calls ≡ (N.device new.old).calls + calls_of_making (N.device new.old).medium.seen n) }
@@ -73,7 +78,7 @@ pub fn renew<O: Disk, N: Disk>(
     ensures faults { (N.device new.old).faults ≤ (N.device new.new).faults }
     ensures honest { (N.device new.new).honest ≡ (N.device new.old).honest }
 {
-    if n == 0 || n > MOST_SLOTS {
+    if n == 0 || n > format.most_slots() {
         return Err(RenewFault::New(MakeFault::BadCount));
     }
     let keys = match read_members(alloc, old) {
@@ -84,7 +89,7 @@ pub fn renew<O: Disk, N: Disk>(
     if n < members {
         return Err(RenewFault::TooSmall(members, n));
     }
-    match make_with(new, Format::Two, n, &keys) {
+    match make_with(new, format, n, &keys) {
         Ok(()) => Ok(members),
         Err(fault) => Err(RenewFault::New(fault)),
     }
@@ -95,7 +100,7 @@ fn read_members<D: Disk>(alloc: Global, disk: &mut D) -> Result<Vec<Key>, OpenFa
     ensures reads { OnlySyncs (D.device disk.old) (D.device disk.new) }
     ensures sure { IsTrue (D.device disk.old).honest → OnOk result ((D.device disk.new).medium ≡ synced (D.device disk.old).medium) }
     ensures held { IsTrue (D.device disk.old).honest → IfOk result (λ keys. AreHeldBy (D.device disk.old).medium.seen keys.items) }
-    ensures members { IfOk result (λ keys. MayBeMembers Format.Two (length keys.items) keys.items) }
+    ensures members { IfOk result (λ keys. MayBeMembers Format.Three (length keys.items) keys.items) }
     ensures err { IfErr result (IsRefusedFor (D.device disk.old) (D.device disk.new)) }
     ensures calls { IsTrue (D.device disk.old).honest → OnOk result ((D.device disk.new).calls ≡ (D.device disk.old).calls + calls_of_reading (D.device disk.old).medium.seen) }
 {

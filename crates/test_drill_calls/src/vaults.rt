@@ -20,7 +20,7 @@ fn open<R: Print + AllocGlobal>(rt: &R) -> Result<Vault<MemoryDisk>, Fault> {
 fn tell<R: Print>(rt: &R, vault: &Vault<MemoryDisk>) -> Result<(), Fault> {
     println!(rt; "Vault::open: {} slots", vault.slots())?;
     for index in 0..vault.slots() {
-        if let Some(key) = vault.key_at(Slot::new(index as u16)) {
+        if let Some(key) = vault.key_at(Slot::new(index as u32)) {
             println!(rt; "slot {index} key {key}")?;
         }
     }

@@ -42,7 +42,7 @@ fn store(rt: &impl Abort, words: &mut Words, word: Word, value: u64) {
 }
 
 // A linked node: its key, and the next link after it.
-fn store_node(rt: &impl Abort, words: &mut Words, slot: u16, key: u64, next: u32) {
+fn store_node(rt: &impl Abort, words: &mut Words, slot: u32, key: u64, next: u32) {
     store(rt, words, Word::Key(Slot::new(slot)), key);
     let link = LinkWord { next, flags: ADDED };
     store(rt, words, Word::Link(Slot::new(slot)), link.word());
@@ -131,7 +131,7 @@ fn full_table(rt: &impl Abort, alloc: Global) -> Result<Words, Fail> {
     }
     for slot in 0..65_536u32 {
         let next = if slot < 61_440 { slot + 4097 } else { 0 };
-        store_node(rt, &mut words, slot as u16, slot as u64, next);
+        store_node(rt, &mut words, slot, slot as u64, next);
     }
     Ok(words)
 }
@@ -166,7 +166,7 @@ fn mark_every_third(rt: &impl Abort, list: &mut List) {
     for number in 0..65_536u32 {
         assert!(rt; list.words().slots() == 65_536);
         if number % 3 == 0 {
-            list.mark(Slot::new(number as u16));
+            list.mark(Slot::new(number));
         }
     }
 }

@@ -186,7 +186,7 @@ impl PlainSlot {
     }
 }
 
-fn plain_slots(alloc: Global, slots: u16, passes: usize) -> Result<Vec<PlainSlot>, AllocError> {
+fn plain_slots(alloc: Global, slots: u32, passes: usize) -> Result<Vec<PlainSlot>, AllocError> {
     let mut plain = Vec::new(alloc);
     for index in 0..slots {
         plain.push(PlainSlot {
@@ -291,7 +291,7 @@ fn same_slots(allot: &Allot, plain: &Vec<PlainSlot>) -> bool {
 fn free_the_same(
     rt: &impl Abort,
     alloc: Global,
-    slots: u16,
+    slots: u32,
     passes: usize,
     numbers: Numbers,
 ) -> Result<(), Fail>
@@ -317,7 +317,7 @@ fn free_the_same(
 #[test]
 fn the_queue_frees_what_plain_records_free(rt: HostRuntime) -> Result<(), Fail> {
     for (slots, passes, seed) in [
-        (1u16, 1usize, 1u64),
+        (1u32, 1usize, 1u64),
         (2, 2, 2),
         (5, 1, 3),
         (7, 3, 4),

@@ -25,7 +25,7 @@ pub enum Phase {
 #[derive(Clone, Copy)]
 pub struct Plot {
     pub asked: Asked,
-    slot: u16,
+    slot: u32,
     pub events: [(Kind, Phase); 21],
     pub length: usize,
     keys: [u64; 5],

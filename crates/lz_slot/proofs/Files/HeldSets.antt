@@ -1,7 +1,8 @@
 -- What a text holds that differs from another in one slot at most.
-use Rattle.std.proofs.Common.{◌∷◌, ◌≡◌, ◌≢◌, ◌⊎◌, inl, inr, ⊎_elim, ℕ, ◌<◌, List, length, take, IsTrue, sym, ap, ◌∙◌, subst, arith}
+use Rattle.std.proofs.Common.{◌∷◌, ◌≡◌, ◌≢◌, ◌⊎◌, inl, inr, ⊎_elim, ℕ, ◌<◌, ◌≤◌, List, length, take, IsTrue, sym, ap, ◌∙◌, subst, arith}
 use Rattle.std.proofs.lemmas.Bool.{cases_eq}
 use Rattle.std.proofs.lemmas.Bool.Decides.{nat_tests}
+use Rattle.lz_slot.specs.Limits.{most_slots_of}
 use Rattle.lz_slot.specs.Sets.{Keys, Same, after}
 use Rattle.lz_slot.specs.Bytes.{Holds, open_byte, header_body, format_of, slot_at}
 use Rattle.lz_slot.proofs.Files.HeadBytes.{format_alike}
@@ -52,10 +53,13 @@ module _ (t d : List ℕ) (N : ℕ) (S : Keys) (alike : AreAlike t d) (holds : H
   head_alike : take 16 t ≡ open_byte ∷ header_body (format_of t) N
   head_alike = alike.head ∙ holds.head ∙ ap (λ F. open_byte ∷ header_body F N) (sym (format_alike t d alike.head))
 
+  count_alike : (1 ≤ N) × (N ≤ most_slots_of (format_of t))
+  count_alike = subst (λ F. (1 ≤ N) × (N ≤ most_slots_of F)) (sym (format_alike t d alike.head)) holds.count
+
   -- no slot differs
   pub holds_same : ((i : ℕ) → i < N → slot_at t i ≡ slot_at d i) → Holds t N S
   holds_same same = record {
-    count = holds.count;
+    count = count_alike;
     size = alike.size ∙ holds.size;
     head = head_alike;
     no_bad_key = λ i low is. holds.no_bad_key i low (sym (same i low) ∙ is);
@@ -74,7 +78,7 @@ module _ (t d : List ℕ) (N : ℕ) (S : Keys) (alike : AreAlike t d) (holds : H
     -- a closed slot now has a key that was no member
     pub holds_added : slot_at d s ≡ Closed → slot_at t s ≡ Member k → (IsTrue (S k) → ⊥) → Holds t N (after (Add k) S)
     holds_added shut is new = record {
-      count = holds.count;
+      count = count_alike;
       size = alike.size ∙ holds.size;
       head = head_alike;
       no_bad_key = λ i below bad. ⊎_elim
@@ -109,7 +113,7 @@ module _ (t d : List ℕ) (N : ℕ) (S : Keys) (alike : AreAlike t d) (holds : H
     -- a slot that had a key is closed now
     pub holds_removed : slot_at d s ≡ Member k → slot_at t s ≡ Closed → Holds t N (after (Remove k) S)
     holds_removed had shut = record {
-      count = holds.count;
+      count = count_alike;
       size = alike.size ∙ holds.size;
       head = head_alike;
       no_bad_key = λ i below bad. ⊎_elim
