@@ -26,7 +26,7 @@ use Rattle.lazyset_offline.specs.declared.list.ListFault.TheVariants.{Line, Twic
 pub spelled_by : (format : Format) (line : List ℕ) (k : ℕ) → key_read (without_return line) ≡ Ok k → k ≤ largest_of format → SpellsKey format line k
 spelled_by format line k is fits = (fits, (read_spelled (without_return line) k is).1)
 
-read_of : (format : Format) (line : List ℕ) (k : ℕ) → SpellsKey format line k → key_read (without_return line) ≡ Ok k
+pub read_of : (format : Format) (line : List ℕ) (k : ℕ) → SpellsKey format line k → key_read (without_return line) ≡ Ok k
 read_of format line k spells = spelled_read (without_return line) k (key_of_format format k spells.0) spells.1
 
 pub spelled_not : (format : Format) (line : List ℕ) (fault : KeyFault) → key_read (without_return line) ≡ Err fault → (k : ℕ) → ¬ SpellsKey format line k
@@ -57,7 +57,7 @@ pub record Leaves (format : Format) (text rest ks : List ℕ) : Type 0 where
   pub whole : text ≡ above ++ rest
   pub lists : Lists format above ks
 
-none_twice : IsDistinct nat_eq []
+pub none_twice : IsDistinct nat_eq []
 unfolding IsDistinct
 none_twice = tt
 
@@ -146,7 +146,7 @@ spelled_fit format _ _ (more line rest k ks clear spells spelled) (suc i) lt = s
 unequal : (a b : ℕ) → nat_eq a b ≡ false → a ≡ b → ⊥
 unequal a b other same = grind (arith, nat_tests)
 
-same_place : (ks : List ℕ) (i j : ℕ) → IsDistinct nat_eq ks → i < length ks → j < length ks → get_or ks i 0 ≡ get_or ks j 0 → i ≡ j
+pub same_place : (ks : List ℕ) (i j : ℕ) → IsDistinct nat_eq ks → i < length ks → j < length ks → get_or ks i 0 ≡ get_or ks j 0 → i ≡ j
 same_place ks i j once low high same = ⊎_elim
     (λ (below : i < j). absurd (unequal _ _ (apart_from_distinct nat_eq ks i j 0 once below high) same))
     (λ (le : j ≤ i). ⊎_elim
