@@ -150,9 +150,9 @@ pub same_place : (ks : List ℕ) (i j : ℕ) → IsDistinct nat_eq ks → i < le
 same_place ks i j once low high same = ⊎_elim
     (λ (below : i < j). absurd (unequal _ _ (apart_from_distinct nat_eq ks i j 0 once below high) same))
     (λ (le : j ≤ i). ⊎_elim
-      (λ (below : j < i). absurd (unequal _ _ (apart_from_distinct nat_eq ks j i 0 once below low) (sym same)))
-      (λ (ge : i ≤ j). omega arith)
-      (cases_lt j i))
+    (λ (below : j < i). absurd (unequal _ _ (apart_from_distinct nat_eq ks j i 0 once below low) (sym same)))
+    (λ (ge : i ≤ j). omega arith)
+    (cases_lt j i))
     (cases_lt i j)
 
 are_members : (format : Format) (text ks : List ℕ) → Lists format text ks → MayBeMembers format (length ks) ks
