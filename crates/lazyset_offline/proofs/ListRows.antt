@@ -15,7 +15,7 @@ use Rattle.lz_slot.specs.declared.format.Format.TheVariants.{One, Two}
 use Rattle.lz_slot.specs.declared.spelling.KeyFault.TheVariants.{NoNumber}
 use Rattle.lz_slot.proofs.Texts.Cuts.{first_cut, stands}
 use Rattle.lz_proto.specs.Lines.{has_line_feed, line_feed, without_return}
-use Rattle.lazyset_offline.specs.Lists.{BeginsWith, FailsAt, HasKeyOf, HasNoKey, IsListFaultOf, Lists, Spelled, nothing, more, SpellsKey}
+use Rattle.lazyset_offline.specs.Lists.{HasFirstLine, FailsAt, HasKeyOf, HasNoKey, IsListFaultOf, Lists, Spelled, nothing, more, SpellsKey}
 use Rattle.lazyset_offline.specs.declared.list.ListFault.{ListFault}
 use Rattle.lazyset_offline.specs.declared.list.ListFault.TheVariants.{Line, Twice}
 use Rattle.lazyset_offline.proofs.Listed.{none_twice, read_of, same_place, spelled_by, spelled_not, spelled_other}

@@ -18,7 +18,7 @@ use Rattle.lz_slot.proofs.Texts.Cuts.{cut_at, first_cut, lacks_all, lacks_first,
 use Rattle.lz_slot.proofs.Texts.Spellings.{read_spelled, spelled_read}
 use Rattle.lz_proto.specs.Lines.{has_line_feed, line_feed, without_return}
 use Rattle.lz_vault.specs.Makes.{MayBeMembers}
-use Rattle.lazyset_offline.specs.Lists.{AddsKey, BeginsWith, FailsAt, HasKeyOf, HasNoKey, IsLineFaultOf, IsListFaultOf, Lists, Spelled, nothing, more, SpellsKey}
+use Rattle.lazyset_offline.specs.Lists.{AddsKey, HasFirstLine, FailsAt, HasKeyOf, HasNoKey, IsLineFaultOf, IsListFaultOf, Lists, Spelled, nothing, more, SpellsKey}
 use Rattle.lazyset_offline.specs.declared.list.ListFault.{ListFault}
 use Rattle.lazyset_offline.specs.declared.list.ListFault.TheVariants.{Line, Twice, Read, Memory}
 
@@ -82,13 +82,13 @@ leaves_next format text rest left e old new h first is adds =
     }
 
 -- the first line of what is left
-begins : (rest : List ℕ) (e : ℕ) → IsFirstByte (is_byte 10) rest (Some e) → BeginsWith rest (take e rest)
+begins : (rest : List ℕ) (e : ℕ) → IsFirstByte (is_byte 10) rest (Some e) → HasFirstLine rest (take e rest)
 begins rest e first = (lacks_first 10 rest e first, (drop (e + 1) rest, cut_at 10 rest e first))
 
-only_line : (rest line : List ℕ) (e : ℕ) → IsFirstByte (is_byte 10) rest (Some e) → BeginsWith rest line → take e rest ≡ line
+only_line : (rest line : List ℕ) (e : ℕ) → IsFirstByte (is_byte 10) rest (Some e) → HasFirstLine rest line → take e rest ≡ line
 only_line rest line e first (clear, (others, is)) = first_cut 10 (take e rest) line (drop (e + 1) rest) others (lacks_first 10 rest e first) clear (sym (cut_at 10 rest e first) ∙ is)
 
-not_empty : (rest line : List ℕ) → BeginsWith rest line → rest ≢ []
+not_empty : (rest line : List ℕ) → HasFirstLine rest line → rest ≢ []
 not_empty [] [] (clear, (others, is)) empty = cc
 not_empty [] (b ∷ line) (clear, (others, is)) empty = cc
 not_empty (b ∷ rest) line begins empty = cc
