@@ -27,6 +27,10 @@ memory_text = codes "nomemory" ++ 10 ∷ []
 abbrev pub LacksMemory : Option (List ℕ) → Option (List ℕ) → Status → Type 0
 LacksMemory before after status = Tells before after memory_text Failed status
 
+-- what is said where a read failed
+abbrev pub unread_text : List ℕ
+unread_text = codes "noread" ++ 10 ∷ []
+
 -- a read failed, which was told
 abbrev pub LacksInput : Option (List ℕ) → Option (List ℕ) → Status → Type 0
-LacksInput before after status = Tells before after (codes "noread" ++ 10 ∷ []) Failed status
+LacksInput before after status = Tells before after unread_text Failed status
