@@ -1,6 +1,7 @@
 //! The files that a command names, and the process's own.
 use crate::fault::Fault;
-use lz_disk::FileDisk;
+use lz_disk::{Disk, FileDisk};
+use lz_slot::{Format, read_header};
 use std::fs::{File, OpenOptions};
 use std::io::{ErrorKind, Read};
 use std::os::fd::{AsRawFd, RawFd};
@@ -59,6 +60,17 @@ where
         Ok(itself) => open_or_create(rt, itself.as_str(), true),
         Err(error) => Err(no_file(rt, path, error)),
     }
+}
+
+/// The format of the file on this disk, where its head tells one. What is wrong with another file is told by its open.
+pub fn format_on(disk: &mut FileDisk) -> Option<Format> {
+    let mut head = [0; 16];
+    let size = disk.size().ok()?;
+    if size < 16 {
+        return None;
+    }
+    disk.read(0, &mut head).ok()?;
+    Some(read_header(&head, size).ok()?.format)
 }
 
 /// Says why the disk of this file failed, where the system said so.
