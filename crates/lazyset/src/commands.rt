@@ -6,7 +6,8 @@ ghost use Rattle.lazyset_command_line.specs.Requests.{IsWithin};
 
 use crate::fault::Fault;
 use crate::files::{
-    create, format_on, is_absent, open, read_front, say_cause, stand_in, take_away_empty,
+    create, format_on, is_absent, open, open_source, read_front, say_cause, stand_in,
+    take_away_empty,
 };
 use crate::heard::Heard;
 use crate::log::Log;
@@ -14,8 +15,8 @@ use crate::watched::Watched;
 use crate::words::words_of;
 use lazyset_command_line::{Request, read, too_many_buckets};
 use lazyset_commands::{
-    MOST_JUDGED, MOST_SURVEYED, ServeOptions, Status, check_of_on, check_on, info_on, judge_on,
-    keys_on, make_keys_on, make_on, rehearse_on, renew_on, run_on, serve_on,
+    MOST_JUDGED, ServeOptions, Shown, Status, check_of_on, judge_on, make_keys_on, make_on,
+    rehearse_on, renew_on, run_on, serve_on, survey_on,
 };
 use lz_disk::FileDisk;
 use lz_slot::Format;
@@ -87,9 +88,9 @@ where
         } => renew(rt, writer, old, new, slots, format),
         Request::Run { file, buckets } => run_file(rt, writer, file, buckets),
         Request::Serve { file, options } => serve(rt, writer, file, options),
-        Request::Info { file } => info(rt, writer, file),
+        Request::Info { file } => survey(rt, writer, file, Shown::Counts),
         Request::Check { file, of } => check(rt, writer, file, of),
-        Request::Keys { file } => keys(rt, writer, file),
+        Request::Keys { file } => survey(rt, writer, file, Shown::Keys),
         Request::Judge { file } => judge(rt, writer, file),
         Request::Rehearse {
             slots,
@@ -124,7 +125,7 @@ where
     let was_absent = is_absent(rt, file);
     let mut disk = create(rt, file)?;
     let status = make_on(writer, &mut disk, slots, format);
-    say_cause(rt, file, &disk);
+    say_cause(rt, file, disk.cause());
     Ok(after_making(rt, file, was_absent, status))
 }
 
@@ -149,7 +150,7 @@ where
         slots,
         format,
     );
-    say_cause(rt, file, &disk);
+    say_cause(rt, file, disk.cause());
     Ok(after_making(rt, file, was_absent, status))
 }
 
@@ -170,12 +171,13 @@ where
     let was_absent = is_absent(rt, new);
     let mut disk = create(rt, new)?;
     let status = renew_on(rt.alloc(), writer, &mut old_disk, &mut disk, format, slots);
-    say_cause(rt, old, &old_disk);
-    say_cause(rt, new, &disk);
+    say_cause(rt, old, old_disk.cause());
+    say_cause(rt, new, disk.cause());
     Ok(after_making(rt, new, was_absent, status))
 }
 
-// The file as a disk, where its format takes so many buckets. Only its head tells that, so what each format takes isn't asked of it.
+// The file as a disk. More buckets than its format allows are refused as the command line refuses a number that is out of range; its
+// head is asked only for more than each format allows.
 fn open_for<R>(rt: &R, file: &str, buckets: usize) -> Result<FileDisk, Fault>
 where
     R: Files<File = File> + Eprint + AllocGlobal,
@@ -199,7 +201,7 @@ where
 {
     let disk = open_for(rt, file, buckets)?;
     let (status, disk) = run_on(rt, &mut rt.reader(), writer, disk, buckets);
-    say_cause(rt, file, &disk);
+    say_cause(rt, file, disk.cause());
     Ok(status)
 }
 
@@ -215,17 +217,19 @@ where
     let watched = File::open(rt, file).ok().and_then(Watched::new);
     let log = Log::new(rt, file, watched);
     let (status, disk) = serve_on(rt, writer, &log, disk, options);
-    say_cause(rt, file, &disk);
+    say_cause(rt, file, disk.cause());
     Ok(status)
 }
 
-fn info<R, W>(rt: &R, writer: &mut W, file: &str) -> Result<Status, Fault>
+fn survey<R, W>(rt: &R, writer: &mut W, file: &str, shown: Shown) -> Result<Status, Fault>
 where
     R: Files<File = File> + Eprint + AllocGlobal,
     W: Write + Drop,
 {
-    let bytes = read_front(rt, file, MOST_SURVEYED)?;
-    Ok(info_on(rt.alloc(), bytes.as_slice(), writer))
+    let mut source = open_source(rt, file)?;
+    let status = survey_on(rt.alloc(), &mut source, writer, shown);
+    say_cause(rt, file, source.cause());
+    Ok(status)
 }
 
 fn check<R, W>(rt: &R, writer: &mut W, file: &str, of: Option<&str>) -> Result<Status, Fault>
@@ -233,21 +237,15 @@ where
     R: Files<File = File> + Eprint + AllocGlobal,
     W: Write + Drop,
 {
-    let bytes = read_front(rt, file, MOST_SURVEYED)?;
     let Some(old) = of else {
-        return Ok(check_on(rt.alloc(), bytes.as_slice(), writer));
+        return survey(rt, writer, file, Shown::Findings);
     };
-    let old = read_front(rt, old, MOST_SURVEYED)?;
-    Ok(check_of_on(rt.alloc(), bytes.as_slice(), old.as_slice(), writer))
-}
-
-fn keys<R, W>(rt: &R, writer: &mut W, file: &str) -> Result<Status, Fault>
-where
-    R: Files<File = File> + Eprint + AllocGlobal,
-    W: Write + Drop,
-{
-    let bytes = read_front(rt, file, MOST_SURVEYED)?;
-    Ok(keys_on(rt.alloc(), bytes.as_slice(), writer))
+    let mut source = open_source(rt, file)?;
+    let mut older = open_source(rt, old)?;
+    let status = check_of_on(rt.alloc(), &mut source, &mut older, writer);
+    say_cause(rt, file, source.cause());
+    say_cause(rt, old, older.cause());
+    Ok(status)
 }
 
 fn judge<R, W>(rt: &R, writer: &mut W, file: &str) -> Result<Status, Fault>

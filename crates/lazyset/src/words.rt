@@ -79,9 +79,17 @@ fn words_of_end(request: Request<'_>, line: &str) -> Option<&'static str> {
     match line {
         "halted" => Some("the device failed: open the file again"),
         "nomemory" => Some("out of memory"),
-        "noread" => Some("a read of the input failed"),
+        "noread" => words_of_read(request),
         _ if line.starts_with("line ") => Some(words_of_line(request)),
         _ if line.starts_with("twice ") => Some("this line's key stands in a line above"),
+        _ => None,
+    }
+}
+
+// Why a read failed. Of a file the system's own reason was told.
+fn words_of_read(request: Request<'_>) -> Option<&'static str> {
+    match request {
+        Request::MakeKeys { .. } | Request::Rehearse { .. } => Some("a read of the input failed"),
         _ => None,
     }
 }
