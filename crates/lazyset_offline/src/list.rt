@@ -11,7 +11,7 @@ use std::collections::HashSet;
 use std::io::{ErrorKind, Read};
 
 /// Why no list of keys was read.
-#[derive(Clone, Copy, Debug, PartialEq, Eq)]
+#[derive(Clone, Copy)]
 pub enum ListFault {
     /// The first line at fault, from 1, is this one: it doesn't read as a key of the format.
     Line(u64),
