@@ -13,7 +13,7 @@ use crate::refusal::{send_line, send_two};
 use crate::shown::Shown;
 use crate::status::Status;
 use crate::telling::{NO_MEMORY, status_sent, tell};
-use lz_judge::{RenewFlaw, Survey, renewed, survey_of};
+use lz_judge::{RenewFlaw, Survey, compare, survey_of};
 use lz_proto::SessionFault;
 use lz_slot::Slot;
 use std::alloc::{AllocError, Global};
@@ -86,7 +86,7 @@ fn compare_surveys<W: Write + Drop>(
     ensures done { (t u : List ℕ) → IsSurveyed t old.now → IsSurveyed u new.now → result ≡ Status.Done → HoldOneSet t u }
     ensures apart { (t u : List ℕ) → IsSurveyed t old.now → IsSurveyed u new.now → (result ≡ Status.Refused) ⊎ (result ≡ Status.Damaged) → ¬ HoldOneSet t u }
 {
-    match renewed(alloc, old, new) {
+    match compare(alloc, old, new) {
         Ok(verdict) => tell_verdict(writer, verdict),
         Err(AllocError) => tell(writer, Status::Failed, NO_MEMORY),
     }
