@@ -45,6 +45,7 @@ use Rattle.lz_machine.proofs.Theorem.WornPass.{up_at}
 use Rattle.lz_machine.proofs.Theorem.Reached.{reached_sound}
 use Rattle.lz_yard.proofs.Opening.SlotReads.{read_length}
 use Rattle.lz_machine.proofs.Open.ListedKeys.{any_key, key_by}
+use Rattle.lz_machine.proofs.Frames.Ranges.{few_slots}
 
 -- in a sound open service
 module _ (n calls : ℕ) (service : Service) (disk : Medium) (life : Life) (P : Trace) (notes : Notes) (up : UpSound n calls service disk life P notes) where
@@ -55,7 +56,7 @@ module _ (n calls : ℕ) (service : Service) (disk : Medium) (life : Life) (P : 
   words = service.yard.words
 
   few : at.shape.slots ≤ most_slots
-  few = up.sound.images.slots.1
+  few = few_slots up.sound.images
 
   -- a member is the key of one of the slots
   is_among : (k : ℕ) → IsMember words k → IsAmong words (length words.links) k
