@@ -5,3 +5,4 @@ pub mod MakeFaults
 pub mod RehearsalEnds
 pub mod Verdicts
 pub mod CompareRows
+pub mod SurveyEnds
