@@ -1,5 +1,5 @@
 -- A list of keys that is read a line at a time.
-use Rattle.std.proofs.Common.{◌≡◌, ◌≢◌, ℕ, zero, suc, ◌+◌, ◌-◌, ◌<◌, ◌≤◌, List, [], ◌∷◌, ◌++◌, length, take, drop, get_or, true, false, Option, Some, None, Result, Ok, Err, IsTrue, IfSome, refl, sym, ap, subst, ◌∙◌, ⊎_elim, arith, append_assoc, length-append}
+use Rattle.std.proofs.Common.{◌≡◌, ◌≢◌, ℕ, zero, suc, ◌+◌, ◌-◌, ◌<◌, ◌≤◌, List, [], ◌∷◌, ◌++◌, length, take, drop, get_or, true, false, Some, None, Result, Ok, Err, refl, sym, ap, subst, ◌∙◌, ⊎_elim, arith, append_assoc}
 use Rattle.std.specs.Prelude.{nat_eq, IfOk}
 use Rattle.std.specs.Cmp.{nat_eq_equiv}
 use Rattle.std.specs.List.{IsDistinct, list_any}
@@ -18,7 +18,7 @@ use Rattle.lz_slot.proofs.Texts.Cuts.{cut_at, first_cut, lacks_all, lacks_first,
 use Rattle.lz_slot.proofs.Texts.Spellings.{read_spelled, spelled_read}
 use Rattle.lz_proto.specs.Lines.{has_line_feed, line_feed, without_return}
 use Rattle.lz_vault.specs.Makes.{MayBeMembers}
-use Rattle.lazyset_offline.specs.Lists.{AddsKey, HasFirstLine, FailsAt, HasKeyOf, HasNoKey, IsLineFaultOf, IsListFaultOf, Lists, Spelled, nothing, more, SpellsKey}
+use Rattle.lazyset_offline.specs.Lists.{AddsKey, HasFirstLine, IsLineFaultOf, IsListFaultOf, Lists, Spelled, nothing, more, SpellsKey}
 use Rattle.lazyset_offline.specs.declared.list.ListFault.{ListFault}
 use Rattle.lazyset_offline.specs.declared.list.ListFault.TheVariants.{Line, Twice, Read, Memory}
 
