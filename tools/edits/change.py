@@ -93,7 +93,7 @@ class Steps:
             return False
         line = record.read(self.top).get(crate.name)
         if files_of(crate, FOLDERS) and not (line and line.hash == record.Hashes().of(crate)):
-            self.tell(f"{crate.name}: edits", lambda: not one.try_edits(self.top, crate, FOLDERS).failed)
+            self.tell(f"{crate.name}: edits", lambda: not one.try_edits(self.top, crate, FOLDERS, kit.Lanes(0)).failed)
         return True
 
     def test(self, crate: kit.Crate) -> None:

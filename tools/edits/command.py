@@ -3,9 +3,9 @@
 from __future__ import annotations
 
 import argparse
-import functools
 import sys
 import time
+from concurrent.futures import ThreadPoolExecutor
 from typing import List, Sequence
 
 from edits import crate as one
@@ -19,7 +19,7 @@ SECONDS_OF_A_DAY = 86400
 def read_words(words: Sequence[str]) -> argparse.Namespace:
     parser = argparse.ArgumentParser(prog="tools/try-edits", description="Tries wrong bodies, many in one check.")
     parser.add_argument("--of", choices=list(OF), default="all", help="whose edits (all)")
-    parser.add_argument("--lanes", type=int, default=0, help="crates side by side (a processor less than there are, at most 3)")
+    parser.add_argument("--lanes", type=int, default=0, help="checks side by side (a processor less than there are, at most 3)")
     parser.add_argument("--plan", action="store_true", help="say what would be tried, and try nothing")
     parser.add_argument("--gate", action="store_true", help="after rt ci: the wrong bodies of what changed, and others by turns")
     parser.add_argument("--turn", type=int, default=None, help="with --gate, whose turn it is (the day's number)")
@@ -39,21 +39,17 @@ def named(crates: List[kit.Crate], names: Sequence[str], folders: Sequence[str])
 
 
 def try_all(top: str, crates: Sequence[kit.Crate], folders: Sequence[str], lanes: int, is_after_ci: bool) -> int:
-    """Tries the edits of crates side by side, and returns how many failed."""
+    """Tries the edits of crates, so many checks side by side, and returns how many failed."""
     below = list(dict.fromkeys(library for it in crates for library in it.below()))
-    unproved = kit.built(below, is_after_ci)
+    unproved = kit.built(below, lanes, is_after_ci)
     if unproved:
         sys.exit(f"the library {unproved.name} isn't proved, so no edit was tried")
-    lines = record.read(top)
-
-    def task(crate: kit.Crate) -> kit.Task:
-        call = functools.partial(one.try_edits, top, crate, folders, is_after_ci)
-        return kit.Task(one.length(crate, folders, lines), kit.rt().need(crate), call)
-
-    outcomes = kit.in_lanes({it.name: task(it) for it in crates}, lanes)
-    failed = sum(it.failed for it in outcomes.values())
+    shared = kit.Lanes(lanes)
+    with ThreadPoolExecutor(max(len(crates), 1)) as pool, shared.opened():
+        outcomes = [*pool.map(lambda it: one.try_edits(top, it, folders, shared, is_after_ci), crates)]
+    failed = sum(it.failed for it in outcomes)
     kit.say(f"processor time: {kit.processor_seconds() / 60:.1f} minutes")
-    kit.say(f"{sum(it.refused for it in outcomes.values())} refused, {failed} failed")
+    kit.say(f"{sum(it.refused for it in outcomes)} refused, {failed} failed")
     return failed
 
 

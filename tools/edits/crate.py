@@ -5,7 +5,6 @@ from __future__ import annotations
 import dataclasses
 import os
 import tempfile
-import time
 from typing import Dict, Sequence
 
 from edits import kit, record
@@ -18,7 +17,7 @@ SECONDS_OF_A_LINE, SECONDS_OF_AN_EDIT = 0.1, 12.0
 
 @dataclasses.dataclass
 class Outcome:
-    """How many edits of a crate were refused, how many failed, and the seconds that this took."""
+    """How many edits of a crate were refused, how many failed, and the seconds of all checks in sum."""
 
     refused: int
     failed: int
@@ -36,21 +35,21 @@ def plan(crate: kit.Crate, folders: Sequence[str]) -> None:
     """Says the groups of a crate's edits, as they are where all is refused at once."""
     sources = Sources(crate.folder)
     edits = [sources.edit(it) for it in files_of(crate, folders)]
-    for group in Trial(crate, sources, "").groups(edits):
+    for group in Trial(crate, sources, "", kit.Lanes(1), 0).groups(edits):
         kit.say(f"{crate.name} {len(group)}: {' '.join(it.name for it in group)}")
 
 
-def try_edits(top: str, crate: kit.Crate, folders: Sequence[str], is_after_ci: bool = False) -> Outcome:
+def try_edits(top: str, crate: kit.Crate, folders: Sequence[str], lanes: kit.Lanes, is_after_ci: bool = False) -> Outcome:
     """Tries the edits in these folders of a crate. It writes the record where they are all and were refused.
 
     After `rt ci` the crate is known to be proved, and the record is left alone.
     """
-    start, known = time.monotonic(), record.Hashes().of(crate)
+    known = record.Hashes().of(crate)
     sources = Sources(crate.folder)
     edits = [sources.edit(it) for it in files_of(crate, folders)]
     kept = f"{crate.folder}/out/incremental"
     with tempfile.TemporaryDirectory(prefix="try-edits-") as room:
-        trial = Trial(crate, sources, room)
+        trial = Trial(crate, sources, room, lanes, length(crate, folders, record.read(top)))
         if os.path.isdir(kept):
             kit.link_kept(kept, room)
         # One group from nothing proves what is left of the crate on its way.
@@ -58,8 +57,8 @@ def try_edits(top: str, crate: kit.Crate, folders: Sequence[str], is_after_ci: b
         if is_proved or trial.prove():
             trial.run(edits)
     refused, failed = len(trial.refused), len(edits) - len(trial.refused)
-    outcome = Outcome(refused, failed, time.monotonic() - start)
-    kit.say(f"{crate.name}: {refused} refused, {failed} failed, in {trial.checks} checks and {outcome.seconds:.0f} s")
+    outcome = Outcome(refused, failed, sum(trial.checks))
+    kit.say(f"{crate.name}: {refused} refused, {failed} failed, in {len(trial.checks)} checks and {outcome.seconds:.0f} s")
     if refused and not failed and not is_after_ci and set(folders) == set(FOLDERS):
         if record.Hashes().of(crate) == known:
             record.write(top, crate.name, record.Line(known, refused, round(outcome.seconds)))

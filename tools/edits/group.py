@@ -2,10 +2,13 @@
 
 from __future__ import annotations
 
+import contextlib
 import os
 import re
 import tempfile
-from typing import Dict, FrozenSet, List, Sequence, Set
+import time
+from concurrent.futures import ThreadPoolExecutor
+from typing import Dict, FrozenSet, Iterator, List, Sequence, Set
 
 from edits import kit
 from edits.edit import Edit, Place, Sources, read_source
@@ -34,30 +37,34 @@ def is_of(item: str, crate: str, place: Place) -> bool:
 class Trial:
     """The edits of one crate, tried over the work that a check of the crate itself kept in a folder."""
 
-    def __init__(self, crate: kit.Crate, sources: Sources, room: str) -> None:
+    def __init__(self, crate: kit.Crate, sources: Sources, room: str, lanes: kit.Lanes, length: float) -> None:
+        """Of crates that share lanes the longest comes first."""
         self.crate, self.sources, self.room = crate, sources, room
+        self.lanes, self.length = lanes, length
         self.refused: List[str] = []
         self.failed: List[str] = []
-        self.checks = 0
+        # The seconds of each check.
+        self.checks: List[float] = []
 
     def prove(self) -> bool:
         """Proves the crate itself, and keeps its work."""
-        said = kit.check(self.crate, {}, self.room)
+        with self.lane(kit.rt().need(self.crate)):
+            said = kit.check(self.crate, {}, self.room)
         if not said.is_proved():
             refused = [f"{it}: {why}" for it, why in said.unproved().items()] or said.lines
             kit.say(f"{self.crate.name} NOT PROVED, so no edit was tried: {refused[0][:200]}")
         return said.is_proved()
 
     def run(self, edits: Sequence[Edit]) -> None:
-        """Tries all edits. What is unclear in a group comes again, after those that weren't tried yet."""
+        """Tries all edits, their groups side by side. What is unclear in a group comes again after them."""
         for edit in edits:
             if edit.fault:
                 self.tell("BAD EDIT", edit, edit.fault)
         waiting = [it for it in edits if not it.fault]
         while waiting:
-            group = self.group_of(waiting)
-            again = self.judge(group)
-            waiting = [it for it in waiting if it not in group] + again
+            groups = self.groups(waiting)
+            with ThreadPoolExecutor(len(groups)) as pool:
+                waiting = [edit for again in pool.map(self.judge, groups) for edit in again]
 
     def groups(self, edits: Sequence[Edit]) -> List[List[Edit]]:
         """The groups, as they are where all is refused at once."""
@@ -101,12 +108,23 @@ class Trial:
 
     def check(self, texts: Dict[str, str]) -> kit.Check:
         """Checks the crate with these texts. What it keeps isn't for the checks after it, but where they have nothing."""
-        self.checks += 1
+        needs = kit.rt().need(self.crate)
         if not os.listdir(self.room):
-            return kit.check(self.crate, texts, self.room)
-        with tempfile.TemporaryDirectory(prefix="try-edits-") as kept:
+            with self.lane(needs):
+                return kit.check(self.crate, texts, self.room)
+        with self.lane(kit.OVER_KEPT * needs), tempfile.TemporaryDirectory(prefix="try-edits-") as kept:
             kit.link_kept(self.room, kept)
             return kit.check(self.crate, texts, kept)
+
+    @contextlib.contextmanager
+    def lane(self, memory: float) -> Iterator[None]:
+        """Waits for a lane for a check, and notes the check's seconds."""
+        with self.lanes.lane(self.length, memory):
+            start = time.monotonic()
+            try:
+                yield
+            finally:
+                self.checks.append(time.monotonic() - start)
 
     def halved(self, group: List[Edit]) -> List[Edit]:
         for edit in group:

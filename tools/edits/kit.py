@@ -2,10 +2,13 @@
 
 from __future__ import annotations
 
+import contextlib
 import dataclasses
 import functools
+import heapq
 import importlib.machinery
 import importlib.util
+import itertools
 import os
 import re
 import resource
@@ -14,7 +17,7 @@ import subprocess
 import sys
 import threading
 import types
-from typing import Any, Callable, Dict, List, NamedTuple, Optional, Sequence
+from typing import Any, Dict, Iterator, List, Optional, Sequence, Tuple
 
 # A crate as the kit reads it (rtlib.Crate): name, folder, deps, below(), is_built(), build_rlib().
 Crate = Any
@@ -29,6 +32,8 @@ NO_VERDICT = "could not tell"
 PLACE = re.compile(r"(?:note: )?(?:\./)?((?:src|specs|proofs)/\S+?):(\d+):\d+: ?(.*)")
 # Said of a proof file that names what an edit took away: it tells nothing of a contract.
 OF_A_NAME = re.compile(r"has no field|is not in scope|has no `|was not admitted")
+# What a check over kept work takes of the memory of one from nothing; how much of the free memory checks may take.
+OVER_KEPT, OF_FREE = 0.7, 0.85
 PRINTING = threading.Lock()
 
 
@@ -83,8 +88,8 @@ def tokens(paths: Sequence[str]) -> Optional[List[str]]:
     return None if ran.returncode or len(found) != len(paths) else found
 
 
-def built(libraries: Sequence[Crate], is_after_ci: bool) -> Optional[Crate]:
-    """Builds the libraries that aren't built, lowest first, and returns the first that isn't proved.
+def built(libraries: Sequence[Crate], lanes: int, is_after_ci: bool) -> Optional[Crate]:
+    """Builds the libraries that aren't built, in lanes as below, and returns the first that isn't proved.
 
     `rt ci` leaves libraries with their statements alone, and no stamp: those fit each other, and are taken as they are.
     """
@@ -92,12 +97,70 @@ def built(libraries: Sequence[Crate], is_after_ci: bool) -> Optional[Crate]:
         return None
     if all(it.is_built() for it in libraries):
         return None
+
+    def build(library: Crate, given: Dict[Any, bool], jobs: int) -> bool:
+        is_above_proved = all(given[it.name, "proof"] for it in library.below())
+        return is_above_proved and not library.build_rlib(["--jobs", str(jobs)], anew=False)
+
+    def task(library: Crate) -> Tuple[Any, ...]:
+        waits = [(it.name, "proof") for it in library.below()]
+        return waits, library.count(rb"\n"), rt().need(library), functools.partial(build, library)
+
+    if lanes:
+        os.environ["RT_JOBS"] = str(lanes)
     held = rt().rtlib.lock(libraries)
     try:
-        return next((it for it in libraries if it.build_rlib(["--jobs", "1"], anew=False)), None)
+        given = rt().in_lanes({(it.name, "proof"): task(it) for it in libraries})
     finally:
         for it in held:
             os.close(it)
+    return next((it for it in libraries if not given[it.name, "proof"]), None)
+
+
+class Lanes:
+    """Lanes in which checks go side by side: each takes one, as memory allows, and those of the longest crate come first."""
+
+    def __init__(self, lanes: int) -> None:
+        """So many lanes, or (0) one a processor."""
+        self.idle, self.memory = lanes or rt().processors(), OF_FREE * rt().free()
+        self.running, self.is_closed = 0, False
+        self.changed = threading.Condition()
+        self.tickets = itertools.count()
+        self.waiting: List[Tuple[float, int]] = []
+
+    @contextlib.contextmanager
+    def opened(self) -> Iterator[None]:
+        """Has those who wait for a lane give up at the end, however it comes."""
+        try:
+            yield
+        finally:
+            with self.changed:
+                self.is_closed = True
+                self.changed.notify_all()
+
+    @contextlib.contextmanager
+    def lane(self, length: float, memory: float) -> Iterator[None]:
+        """Waits for a lane. A check that takes more memory than there is goes by itself."""
+        with self.changed:
+            ticket = (-length, next(self.tickets))
+            heapq.heappush(self.waiting, ticket)
+            self.changed.wait_for(lambda: self.is_closed or self.waiting[0] == ticket and self.has_room(memory))
+            if self.is_closed:
+                raise InterruptedError
+            heapq.heappop(self.waiting)
+            self.take(1, memory)
+        try:
+            yield
+        finally:
+            with self.changed:
+                self.take(-1, -memory)
+
+    def has_room(self, memory: float) -> bool:
+        return self.idle > 0 and (not self.running or memory <= self.memory)
+
+    def take(self, lanes: int, memory: float) -> None:
+        self.idle, self.memory, self.running = self.idle - lanes, self.memory - memory, self.running + lanes
+        self.changed.notify_all()
 
 
 @dataclasses.dataclass
@@ -146,22 +209,3 @@ def link_kept(start: str, end: str) -> None:
             shutil.copy2(old, new)
 
     shutil.copytree(start, end, copy_function=link, dirs_exist_ok=True)
-
-
-class Task(NamedTuple):
-    """How long a call takes, compared with others, the memory that it needs, and the call."""
-
-    length: float
-    memory: int
-    call: Callable[[], Any]
-
-
-def in_lanes(tasks: Dict[str, Task], lanes: int) -> Dict[str, Any]:
-    """Runs calls side by side, the longest first, as `rt ci` does: so many, or (0) one a processor, as memory allows."""
-    if lanes:
-        os.environ["RT_JOBS"] = str(lanes)
-    given = rt().in_lanes({
-        (name, "edits"): ([], task.length, task.memory, lambda _given, _jobs, task=task: task.call())
-        for name, task in tasks.items()
-    })
-    return {name: result for (name, _), result in given.items()}

@@ -9,13 +9,15 @@ import re
 import shutil
 import sys
 import tempfile
+import time
 import unittest
+from concurrent.futures import ThreadPoolExecutor
 from typing import Dict, List, Optional, Tuple
 
 sys.dont_write_bytecode = True
 sys.path.insert(0, os.path.dirname(os.path.dirname(os.path.abspath(__file__))))
 
-from edits import change, gate, kit, record  # noqa: E402
+from edits import change, command, gate, kit, record  # noqa: E402
 from edits.crate import Outcome, try_edits  # noqa: E402
 from edits.edit import FOLDERS, MUST_FAIL, WRONG_BODIES, Place, Sources, read_source  # noqa: E402
 from edits.group import is_of  # noqa: E402
@@ -180,7 +182,7 @@ def setUpModule() -> None:
     folder = tempfile.TemporaryDirectory(prefix="test-edits-")
     unittest.addModuleCleanup(folder.cleanup)
     BUILT.append(Repository(folder.name))
-    kit.built([BUILT[0].crate("low")], is_after_ci=False)
+    kit.built([BUILT[0].crate("low")], 1, is_after_ci=False)
 
 
 class EditsTest(unittest.TestCase):
@@ -194,9 +196,9 @@ class EditsTest(unittest.TestCase):
     def tried(self, crate: str, folders: Tuple[str, ...] = FOLDERS) -> Tuple[Outcome, List[str]]:
         """What came of a crate's edits, and the lines that were printed."""
         found = self.repository.crate(crate)
-        self.assertIsNone(kit.built(found.below(), is_after_ci=False))
+        self.assertIsNone(kit.built(found.below(), 1, is_after_ci=False))
         with contextlib.redirect_stdout(io.StringIO()) as said:
-            outcome = try_edits(self.repository.top, found, folders)
+            outcome = try_edits(self.repository.top, found, folders, kit.Lanes(2))
         return outcome, said.getvalue().split("\n")
 
     def assert_said(self, start: str, lines: List[str]) -> None:
@@ -253,6 +255,51 @@ class VerdictTest(EditsTest):
         outcome, lines = self.tried("high")
         self.assertEqual((outcome.refused, outcome.failed), (0, 1), lines)
         self.assert_said("high NOT PROVED", lines)
+
+
+class LanesTest(EditsTest):
+    """Checks side by side."""
+
+    def test_lanes(self) -> None:
+        """So many go at once as there are lanes and memory for, the longest first, and at the end nobody waits any more."""
+        lanes = kit.Lanes(2)
+        lanes.memory = 10
+        told: List[str] = []
+
+        def takes(name: str, length: float, memory: float) -> None:
+            with lanes.lane(length, memory):
+                told.append(f"{name} begins")
+                time.sleep(0.05)
+                told.append(f"{name} ends")
+
+        def waits(count: int) -> None:
+            while len(lanes.waiting) < count:
+                time.sleep(0.01)
+
+        with ThreadPoolExecutor(8) as pool:
+            with lanes.lane(0, 1), lanes.lane(0, 1):
+                for call in (("short", 1, 3), ("long", 4, 3), ("large", 2, 11), ("other", 3, 3)):
+                    pool.submit(takes, *call)
+                waits(4)
+            pool.shutdown()
+        self.assertEqual(sorted(told[:2]), ["long begins", "other begins"])
+        self.assertEqual(sorted(told[2:4]), ["long ends", "other ends"])
+        self.assertEqual(told[4:], ["large begins", "large ends", "short begins", "short ends"])
+        with ThreadPoolExecutor(1) as pool, lanes.lane(0, 1), lanes.lane(0, 1):
+            late = pool.submit(takes, "late", 1, 1)
+            waits(1)
+            with lanes.opened():
+                pass
+            self.assertIsInstance(late.exception(), InterruptedError)
+
+    def test_crates(self) -> None:
+        """The edits of two crates are tried, and each has its line in the record."""
+        self.repository.put_edits("low", {"next_is_two_more": NEXT_IS_TWO_MORE, "corners_are_four": CORNERS_ARE_FOUR})
+        self.repository.put_edits("high", {"third_is_second": THIRD_IS_SECOND})
+        with contextlib.redirect_stdout(io.StringIO()) as said:
+            status = command.main(self.repository.top, ["--lanes", "2"])
+        self.assertEqual((status, said.getvalue().split("\n")[-2]), (0, "3 refused, 0 failed"))
+        self.assertEqual([(name, it.edits) for name, it in record.read(self.repository.top).items()], [("high", 1), ("low", 2)])
 
 
 class RecordTest(EditsTest):

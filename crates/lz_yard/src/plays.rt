@@ -215,7 +215,7 @@ impl<D: Disk> Parts<D> {
         let slot = self.slot(actor);
         self.vault.open_gate(slot)?;
         let hand = self.actor(actor);
-        self.list.set(Word::Link(slot), next_to(hand.curr) as u64);
+        self.list.set(Word::Link(slot), next_to(hand.curr));
         self.set_hold(actor, Hold::GateOpened);
         Ok(Outcome::Done)
     }

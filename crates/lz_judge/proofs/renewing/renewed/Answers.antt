@@ -1,33 +1,41 @@
-use Rattle.std.proofs.Common.{refl}
-use Rattle.lz_judge.specs.Surveys.{found_keys}
+use Rattle.std.proofs.Common.{List, ℕ, refl}
+use Rattle.lz_judge.specs.Surveys.{IsSurveyed, found_keys}
 use Rattle.lz_judge.specs.declared.renewing.RenewFlaw.TheVariants.{Missing, Extra}
 use Rattle.lz_judge.proofs.OneSet.{extra, flaw_parts, missing, none_extra, none_missing}
 use Rattle.lz_judge.proofs.renewing.renewed.Goals as goal
 
+pub returns-in_default-clause-same : goal.returns-in_default-clause-same
+returns-in_default-clause-same c = λ before after old new. (λ never. absurd (cc), λ (S, (N, one), other). absurd (c.in_default.ensures before old (N, S, one)))
+
+pub returns-in_default-held_findings-clause-same : goal.returns-in_default-held_findings-clause-same
+returns-in_default-held_findings-clause-same c = λ before after old new. (λ never. absurd (cc), λ (S, one, (N, other)). absurd (c.in_default-held_findings.ensures after new (N, S, other)))
+
 pub returns-in-Some-first_outside : goal.returns-in-Some-first_outside
 returns-in-Some-first_outside c =
-    let kept = rw c.in-Some.is at c.in_ok-before.ensures in
-    let given = rw c.in-Some-2.is at c.in_ok-after.ensures in
-    let first = c.in-Some-first_outside.ensures (found_keys c.as_slice.result.now) c.in_ok-kept.ensures in
-    let flaw = missing c.args.old.now c.args.new.now c.in-Some.before.items c.in-Some-2.after.items kept given c.as_slice-2.result.now c.as_slice.result.now c.as_slice-2.ensures.value c.as_slice.ensures.value c.in-Some-first_outside.slot first in
-    record { same = (λ never. absurd (cc), λ one. absurd (flaw_parts c.args.old.now c.args.new.now (Missing c.in-Some-first_outside.slot) flaw one)); flaw = flaw }
+    let first = c.in-Some-first_outside.ensures (found_keys c.in-Some-held_findings.after.now) c.in_ok-kept.ensures in
+    let flaw = λ (before : List ℕ) (after : List ℕ) (old : IsSurveyed before c.args.old.now) (new : IsSurveyed after c.args.new.now).
+    missing before after c.in-Some.before.now c.in-Some-held_findings.after.now (c.in-Some.ensures before old) (c.in-Some-held_findings.ensures after new) c.in-Some-first_outside.slot first in
+    record { same = λ before after old new. (λ never. absurd (cc), λ one. absurd (flaw_parts before after (Missing c.in-Some-first_outside.slot) (flaw before after old new) one)); flaw = flaw }
 
 pub returns-in-Some-first_outside-2 : goal.returns-in-Some-first_outside-2
 returns-in-Some-first_outside-2 c =
-    let kept = rw c.in-Some.is at c.in_ok-before.ensures in
-    let given = rw c.in-Some-2.is at c.in_ok-after.ensures in
-    let inside = none_missing c.args.old.now c.args.new.now c.in-Some.before.items c.in-Some-2.after.items kept given c.as_slice-2.result.now c.as_slice.result.now c.as_slice-2.ensures.value c.as_slice.ensures.value
-    (c.in_default-first_outside.ensures (found_keys c.as_slice.result.now) c.in_ok-kept.ensures) in
-    let first = c.in-Some-first_outside-2.ensures (found_keys c.as_slice-3.result.now) c.in_ok-given.ensures in
-    let flaw = extra c.args.old.now c.args.new.now c.in-Some.before.items c.in-Some-2.after.items kept given c.as_slice-3.result.now c.as_slice-4.result.now c.as_slice-3.ensures.value c.as_slice-4.ensures.value inside c.in-Some-first_outside-2.slot first in
-    record { same = (λ never. absurd (cc), λ one. absurd (flaw_parts c.args.old.now c.args.new.now (Extra c.in-Some-first_outside-2.slot) flaw one)); flaw = flaw }
+    let within = c.in_default-first_outside.ensures (found_keys c.in-Some-held_findings.after.now) c.in_ok-kept.ensures in
+    let first = c.in-Some-first_outside-2.ensures (found_keys c.in-Some.before.now) c.in_ok-given.ensures in
+    let flaw = λ (before : List ℕ) (after : List ℕ) (old : IsSurveyed before c.args.old.now) (new : IsSurveyed after c.args.new.now).
+    let kept = c.in-Some.ensures before old in
+    let given = c.in-Some-held_findings.ensures after new in
+    extra before after c.in-Some.before.now c.in-Some-held_findings.after.now kept given (none_missing before after c.in-Some.before.now c.in-Some-held_findings.after.now kept given within) c.in-Some-first_outside-2.slot first in
+    record { same = λ before after old new. (λ never. absurd (cc), λ one. absurd (flaw_parts before after (Extra c.in-Some-first_outside-2.slot) (flaw before after old new) one)); flaw = flaw }
 
 pub returns : goal.returns
 returns c =
-    let kept = rw c.in-Some.is at c.in_ok-before.ensures in
-    let given = rw c.in-Some-2.is at c.in_ok-after.ensures in
-    let inside = none_missing c.args.old.now c.args.new.now c.in-Some.before.items c.in-Some-2.after.items kept given c.as_slice-2.result.now c.as_slice.result.now c.as_slice-2.ensures.value c.as_slice.ensures.value
-    (c.in_default-first_outside.ensures (found_keys c.as_slice.result.now) c.in_ok-kept.ensures) in
-    let one = none_extra c.args.old.now c.args.new.now c.in-Some.before.items c.in-Some-2.after.items kept given c.as_slice-3.result.now c.as_slice-4.result.now c.as_slice-3.ensures.value c.as_slice-4.ensures.value inside
-    (c.in_default-first_outside-2.ensures (found_keys c.as_slice-3.result.now) c.in_ok-given.ensures) in
-    record { same = (λ done. one, λ held. refl); flaw = tt }
+    let within = c.in_default-first_outside.ensures (found_keys c.in-Some-held_findings.after.now) c.in_ok-kept.ensures in
+    let inside = c.in_default-first_outside-2.ensures (found_keys c.in-Some.before.now) c.in_ok-given.ensures in
+    record {
+      same = λ before after old new.
+          let kept = c.in-Some.ensures before old in
+          let given = c.in-Some-held_findings.ensures after new in
+          let all = none_missing before after c.in-Some.before.now c.in-Some-held_findings.after.now kept given within in
+          (λ done. none_extra before after c.in-Some.before.now c.in-Some-held_findings.after.now kept given all inside, λ held. refl);
+      flaw = λ before after old new. tt;
+    }
