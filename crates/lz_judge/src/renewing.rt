@@ -5,6 +5,7 @@ ghost use Rattle.lz_judge.specs.Renewals.{AreHeld, AreKeys, HoldOneSet, IsFirstO
 ghost use Rattle.lz_judge.specs.Surveys.{HoldsASet, IsSurveyed, found_keys, is_key};
 
 use crate::finding::{Finding, Survey};
+use crate::surveying::survey;
 use lz_slot::Slot;
 use std::alloc::{AllocError, Global};
 use std::collections::HashSet;
@@ -35,8 +36,18 @@ impl RenewFlaw {
     }
 }
 
+/// Whether these are the bytes of two files that hold one set: what `compare` says of their surveys.
+pub fn renewed(alloc: Global, old: &[u8], new: &[u8]) -> Result<Result<(), RenewFlaw>, AllocError>
+    ensures same { IfOk result (λ verdict. IsOk verdict ↔ HoldOneSet old.now new.now) }
+    ensures flaw { IfOk result (λ verdict. IfErr verdict (IsRenewFlaw old.now new.now)) }
+{
+    let before = survey(alloc, old)?;
+    let after = survey(alloc, new)?;
+    compare(alloc, &before, &after)
+}
+
 /// Whether the files of which these are surveys hold one set. The flaws are looked for in the order NotHeld, Missing, Extra.
-pub fn renewed(
+pub fn compare(
     alloc: Global,
     old: &Survey,
     new: &Survey,
