@@ -141,6 +141,22 @@ def try_port(program: Program, folder: str) -> None:
     expect(found, (Ended("noport\n", 1), said), "a service whose port is taken")
 
 
+def try_reads(program: Program, folder: str) -> None:
+    """A file whose first read or second one fails has the system's reason alone, also where it is the older one of two."""
+    needs_strace()
+    file, new = os.path.join(folder, "file"), os.path.join(folder, "new")
+    put(file, RENEWED)
+    put(new, RENEWED)
+    for words, number in (
+        *((words, number) for words in (("check", file), ("check", file, "--keys"), ("info", file), ("judge", file)) for number in (1, 2)),
+        *((("check", file, "--of", new), 1), (("check", new, "--of", file), 1)),
+    ):
+        before = ["strace", "-f", "-qq", "-o", os.devnull, "-P", file, "-e", "trace=read", "-e", f"inject=read:error=EIO:when={number}"]
+        ended, said = program.run_loud(*words, before=before)
+        expect((ended.text.splitlines()[-1:], ended.status), (["noread"], 1), f"{words} whose read {number} fails")
+        expect(said, f"lazyset: {file}: Input/output error (os error 5)\n", f"what {words} says whose read {number} fails")
+
+
 def try_devices(program: Program, folder: str) -> None:
     """A device that fails under a making, an open and a run."""
     needs_strace()

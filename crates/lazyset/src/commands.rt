@@ -257,6 +257,7 @@ where
     Ok(judge_on(rt.alloc(), bytes.as_slice(), writer))
 }
 
+#[tactic(auto, using(crate::proofs::Buckets::buckets_of_format))]
 fn rehearse<R, W>(rt: &R, writer: &mut W, slots: usize, buckets: usize, format: Format) -> Status
 where
     R: Input + AllocGlobal,

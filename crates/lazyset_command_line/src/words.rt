@@ -52,7 +52,7 @@ pub const STATUSES: &str =
 pub const SHEETS: [Sheet; 8] = [
     Sheet {
         name: "make",
-        about: "Makes a file that holds the empty set. It overwrites any file that isn't a set, unless that is longer",
+        about: "Makes a file that holds the empty set, or the keys of standard input. It overwrites any file that isn't a set, unless that is longer",
         notes: "Prints `made SLOTS`, or `refused N`: 1 it is a set already, 2 bad number of slots, 3 the device failed, 4 the file is longer than the new one. A file that can't be had, or isn't a regular one, is `nofile`.\n\nWith --keys the file holds the keys of standard input, one a line, as `17` or `3:17`: what `check FILE --keys` prints. Where line L holds no key that the format has it prints `line L`, where its key stands in a line above `twice L`, and `refused 9 M S` where M keys have no room in S slots. Nothing is made then.\n\nExample: lazyset make f 1000",
         words: &[FILE, SLOTS, FORMAT, LIST],
     },

@@ -10,8 +10,7 @@ use Rattle.std.proofs.lemmas.Option.{slice_get-get_or}
 use Rattle.lz_slot.specs.Limits.{largest_key, most_slots}
 use Rattle.lz_slot.specs.Sets.{Keys, members}
 use Rattle.lz_slot.specs.Histories.{Life}
-use Rattle.lz_slot.specs.Bytes.{Holds, format_of, held}
-use Rattle.lz_slot.proofs.Files.ExactBytes.{slots_of_format}
+use Rattle.lz_slot.specs.Bytes.{Holds, held}
 use Rattle.lz_slot.proofs.Files.ExactBytes.{key_of_format}
 use Rattle.lz_disk.specs.Images.{Medium, IsImage, AreBytes, at_rest}
 use Rattle.lz_disk.specs.Devices.{Device}
@@ -199,7 +198,7 @@ module _ (shape : Shape) (t : List ℕ) (found : Keys) (some : 1 ≤ shape.bucke
   found_among : (k : ℕ) → IsAmong first_words (length first_words.links) k ↔ (members (keys_found t shape.slots) k ≡ true)
   found_among k =
       let among = among_members (length first) 0 (opened_service shape t) (at_rest t) (record { start = found; history = [] }) first (first_notes shape t) first_up k in
-      let tells = members_after shape.slots shape.buckets first (slots_of_format (format_of t) shape.slots holds.count.1) first_up.sound.trace.lawful first_words refl refl refl some k in
+      let tells = members_after shape.slots shape.buckets first (few_slots first_up.sound.images) first_up.sound.trace.lawful first_words refl refl refl some k in
       ((λ is. sym (found_here k) ∙ tells.0 (among.0 is)), (λ is. among.1 (tells.1 (found_here k ∙ is))))
 
   keys_here : (keys : List ℕ) → ((k : ℕ) → (members keys k ≡ true) ↔ IsAmong first_words (length first_words.links) k) → Ascend keys → keys ≡ keys_found t shape.slots
