@@ -10,9 +10,10 @@ _lazyset() {
 
 # The words of a command.
 _lazyset_words() {
-    local word=$1 options
+    local word=$1 options formats="1 2 3"
     case "${COMP_WORDS[1]}" in
-    make) options="--format --help" ;;
+    make) options="--format --keys --help" ;;
+    renew) options="--format --help" formats="2 3" ;;
     run) options="--buckets --help" ;;
     serve) options="--connections --loops --sessions --idle --buckets --help" ;;
     check) options="--of --keys --help" ;;
@@ -20,7 +21,7 @@ _lazyset_words() {
     *) options="--help" ;;
     esac
     case "${COMP_WORDS[COMP_CWORD - 1]},$word" in
-    --format,*) mapfile -t COMPREPLY < <(compgen -W "1 2" -- "$word") ;;
+    --format,*) mapfile -t COMPREPLY < <(compgen -W "$formats" -- "$word") ;;
     --buckets,* | --connections,* | --loops,* | --sessions,* | --idle,*) COMPREPLY=() ;;
     *,-*) mapfile -t COMPREPLY < <(compgen -W "$options" -- "$word") ;;
     *) mapfile -t COMPREPLY < <(compgen -f -- "$word") ;;

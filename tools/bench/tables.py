@@ -8,7 +8,7 @@ import subprocess
 import sys
 from typing import Callable, Dict, List, Optional, Sequence
 
-FIRST_MARK, LAST_MARK = "<!-- measured -->", "<!-- end of what was measured -->"
+MEASURED = ("<!-- measured -->", "<!-- end of what was measured -->")
 
 
 def table(heads: Sequence[str], rows: Sequence[Sequence[str]]) -> List[str]:
@@ -55,11 +55,11 @@ def plot_all(plots: Dict[str, Dict[str, Dict[int, float]]], page: str) -> List[s
     return [f"![{verb}: commands a second by connections](bench-{verb}.svg)" for verb in plots] + [""]
 
 
-def lay_into(page: str, lines: Sequence[str]) -> None:
-    """Puts the lines between the two marks of a page."""
+def lay_into(page: str, lines: Sequence[str], first_mark: str, last_mark: str) -> None:
+    """Puts the lines between two marks of a page."""
     with open(page, encoding="utf-8") as file:
         text = file.read()
-    before, _, rest = text.partition(FIRST_MARK)
-    _, _, after = rest.partition(LAST_MARK)
+    before, _, rest = text.partition(first_mark)
+    _, _, after = rest.partition(last_mark)
     with open(page, "w", encoding="utf-8") as file:
-        file.write("\n".join([before + FIRST_MARK, "", *lines]) + LAST_MARK + after)
+        file.write("\n".join([before + first_mark, "", *lines]) + last_mark + after)

@@ -5,7 +5,7 @@ from __future__ import annotations
 import os
 from typing import Iterator, Optional, Tuple
 
-from trials.plain import MOST_SLOTS, Survey, head_of, slot_of
+from trials.plain import FORMATS, MOST_SLOTS, Survey, head_of, renewed, slot_of
 from trials.program import Ended, Key, Program
 from trials.report import expect
 
@@ -27,6 +27,10 @@ LARGEST = bytes.fromhex("a5 00 00 00 00 00 00 00 0d e0 b6 b3 a7 63 ff ff")
 
 CLOSED = bytes(16)
 
+# Byte 7 of a head names the format.
+FORMAT_PLACE = 7
+FORMAT_BYTES = {1: 0x31, 2: 0x32, 3: 0x33}
+
 # A file of format 2 with two slots that hold 17 and 5.
 RENEWED = bytes.fromhex("a5 4c 5a 59 53 45 54 32 00 00 00 00 00 00 00 02") + SEVENTEEN + FIVE
 
@@ -34,6 +38,11 @@ RENEWED = bytes.fromhex("a5 4c 5a 59 53 45 54 32 00 00 00 00 00 00 00 02") + SEV
 def changed(text: bytes, place: int, byte: int) -> bytes:
     """The bytes with this one at this place."""
     return text[:place] + bytes([byte]) + text[place + 1 :]
+
+
+def of_format(form: int, text: bytes) -> bytes:
+    """The bytes of a file with this format in its head."""
+    return changed(text, FORMAT_PLACE, FORMAT_BYTES[form])
 
 
 def put(file: str, text: Optional[bytes]) -> None:
@@ -54,21 +63,29 @@ def bytes_in(file: str) -> bytes:
 # A file of so many bytes or none, the slots and the format that are asked for, what is printed, and the bytes that are left.
 MAKINGS: Tuple[Tuple[Optional[bytes], str, str, str, bytes], ...] = (
     (None, "2", "1", "made 2\n", TWO_SLOTS),
-    (None, "2", "2", "made 2\n", changed(TWO_SLOTS, 7, 0x32)),
+    (None, "2", "2", "made 2\n", of_format(2, TWO_SLOTS)),
+    (None, "2", "3", "made 2\n", of_format(3, TWO_SLOTS)),
     (b"", "1", "1", "made 1\n", ONE_SLOT),
     # The file that a crash in a making's first write may leave.
     (b"\xa5", "2", "1", "made 2\n", TWO_SLOTS),
     (bytes(48), "2", "1", "made 2\n", TWO_SLOTS),
     (TWO_SLOTS, "1", "1", "refused 1\n", TWO_SLOTS),
     (TWO_SLOTS, "3", "2", "refused 1\n", TWO_SLOTS),
+    (of_format(3, TWO_SLOTS), "3", "2", "refused 1\n", of_format(3, TWO_SLOTS)),
+    (RENEWED, "2", "3", "refused 1\n", RENEWED),
     (b"", "0", "2", "refused 2\n", b""),
+    (b"", "0", "3", "refused 2\n", b""),
+    (b"", "65537", "1", "refused 2\n", b""),
     (b"", "65537", "2", "refused 2\n", b""),
+    (b"", "16777217", "3", "refused 2\n", b""),
+    (b"", "18446744073709551615", "3", "refused 2\n", b""),
     (bytes(49), "2", "1", "refused 4\n", bytes(49)),
+    (bytes(49), "2", "3", "refused 4\n", bytes(49)),
 )
 
 
 def try_makings(program: Program, folder: str) -> None:
-    """Each making leaves these bytes. That of format 2, which is made where none is named, differs in byte 7 alone."""
+    """Each making leaves these bytes. The formats, of which 2 is made where none is named, differ in byte 7 alone."""
     file = os.path.join(folder, "made")
     for before, slots, form, told, after in MAKINGS:
         put(file, before)
@@ -77,7 +94,9 @@ def try_makings(program: Program, folder: str) -> None:
         expect(bytes_in(file), after, f"the file behind making {slots} slots over {before!r}")
     put(file, None)
     program.make(file, 2)
-    expect(bytes_in(file), changed(TWO_SLOTS, 7, 0x32), "a file whose format isn't named")
+    expect(bytes_in(file), of_format(2, TWO_SLOTS), "a file whose format isn't named")
+    for form in ("0", "4"):
+        expect(program.run("make", file, "2", "--format", form).status, 2, f"the status of a making of format {form}")
 
 
 # Files, what a check says of each, and what a run without lines says.
@@ -92,30 +111,38 @@ SURVEYED: Tuple[Tuple[bytes, str, str], ...] = (
     # A slot that isn't open says no key, whatever its bytes are.
     (ONE_SLOT[:16] + changed(TOO_LARGE, 0, 0x37), "good\n", ""),
     (ONE_SLOT[:16] + IN_ROOM_3, "slot 0 badkey\ndamaged\n", "refused 5 0\n"),
-    (changed(ONE_SLOT, 7, 0x32)[:16] + IN_ROOM_3, "slot 0 key 3:17\ngood\n", ""),
-    (changed(ONE_SLOT, 7, 0x32)[:16] + changed(IN_ROOM_3, 1, 16), "slot 0 badkey\ndamaged\n", "refused 5 0\n"),
+    (of_format(2, ONE_SLOT[:16]) + IN_ROOM_3, "slot 0 key 3:17\ngood\n", ""),
+    (of_format(3, ONE_SLOT[:16]) + IN_ROOM_3, "slot 0 key 3:17\ngood\n", ""),
+    (of_format(2, ONE_SLOT[:16]) + changed(IN_ROOM_3, 1, 16), "slot 0 badkey\ndamaged\n", "refused 5 0\n"),
+    (of_format(3, ONE_SLOT[:16]) + changed(IN_ROOM_3, 1, 16), "slot 0 badkey\ndamaged\n", "refused 5 0\n"),
+    (of_format(3, TWO_SLOTS[:16]) + SEVENTEEN * 2, "slot 0 key 17\nslot 1 twice 0\ndamaged\n", "refused 6 0 1\n"),
     (changed(TWO_SLOTS, 0, 0), "refused 1\n", "refused 1\n"),
     (b"\xa5", "refused 1\n", "refused 1\n"),
     (changed(TWO_SLOTS, 7, 0x39), "refused 2\n", "refused 2\n"),
+    (changed(TWO_SLOTS, 7, 0x34), "refused 2\n", "refused 2\n"),
+    (changed(TWO_SLOTS, 7, 0x30), "refused 2\n", "refused 2\n"),
     (TWO_SLOTS[:47], "refused 3\n", "refused 3\n"),
     (TWO_SLOTS + b"\0", "refused 3\n", "refused 3\n"),
 )
 
 
 def cut_files() -> Iterator[Tuple[bytes, str, str]]:
-    """A made file that is cut to each length; one with a wrong number of slots is refused for that at any length."""
+    """A made file that is cut to each length; one with a number of slots that its format hasn't is refused for that at any length."""
     for length in range(48):
         told = "refused 1\n" if length < 16 else "refused 3\n"
-        yield TWO_SLOTS[:length], told, told
-    for wrong in (changed(TWO_SLOTS, 15, 0), changed(changed(TWO_SLOTS, 13, 1), 15, 1)):
+        yield of_format(1 + length % 3, TWO_SLOTS)[:length], told, told
+    for form, slots in ((1, 0), (1, 65_537), (2, 65_537), (3, 0), (3, 16_777_217), (3, 1 << 63)):
         for length in range(16, 65):
-            yield (wrong + bytes(16))[:length], "refused 4\n", "refused 4\n"
+            yield (head_of(form, slots) + bytes(48))[:length], "refused 4\n", "refused 4\n"
+    for slots in (65_537, 16_777_216):
+        yield head_of(3, slots) + bytes(48), "refused 3\n", "refused 3\n"
 
 
 # Files, and what an info says of each.
 COUNTED: Tuple[Tuple[bytes, str, int], ...] = (
     (TWO_SLOTS, "format 1\nslots 2\nmembers 0\nfree 2\ngood\n", 0),
     (RENEWED, "format 2\nslots 2\nmembers 2\nfree 0\ngood\n", 0),
+    (of_format(3, RENEWED), "format 3\nslots 2\nmembers 2\nfree 0\ngood\n", 0),
     (TWO_SLOTS[:32] + SEVENTEEN, "format 1\nslots 2\nmembers 1\nfree 1\ngood\n", 0),
     # What is damaged is no member, and its slot isn't free.
     (TWO_SLOTS[:16] + SEVENTEEN * 2, "format 1\nslots 2\nmembers 1\nfree 0\ndamaged\n", 4),
@@ -160,9 +187,9 @@ def try_surveys(program: Program, folder: str) -> None:
 
 
 def full_file(last: int) -> bytes:
-    """A file of as many slots as there may be: slot i holds the key i, but the last one this key."""
-    keys = (*range(MOST_SLOTS - 1), last)
-    return head_of(1, MOST_SLOTS) + b"".join(slot_of(Key(0, key)) for key in keys)
+    """A file of as many slots as the older formats have: slot i holds the key i, but the last one this key."""
+    keys = (*range(MOST_SLOTS[1] - 1), last)
+    return head_of(1, MOST_SLOTS[1]) + b"".join(slot_of(Key(0, key)) for key in keys)
 
 
 def try_largest(program: Program, folder: str) -> None:
@@ -170,10 +197,10 @@ def try_largest(program: Program, folder: str) -> None:
     file = os.path.join(folder, "largest")
     lines, told = "has 0\nhas 65535\nhas 65536\nadd 65536\n", "yes\nyes\nno\nfull\n"
     for text, checked, opened in (
-        (full_file(MOST_SLOTS - 1), ("slot 0 key 0\n", "slot 65535 key 65535\ngood\n", 0), (told, 0)),
+        (full_file(MOST_SLOTS[1] - 1), ("slot 0 key 0\n", "slot 65535 key 65535\ngood\n", 0), (told, 0)),
         (full_file(7), ("slot 0 key 0\n", "slot 65535 twice 7\ndamaged\n", 4), ("refused 6 7 65535\n", 3)),
         (
-            head_of(1, MOST_SLOTS) + FIVE * MOST_SLOTS,
+            head_of(1, MOST_SLOTS[1]) + FIVE * MOST_SLOTS[1],
             ("slot 0 key 5\nslot 1 twice 0\nslot 2 twice 0\n", "slot 65535 twice 0\ndamaged\n", 4),
             ("refused 6 0 1\n", 3),
         ),
@@ -188,12 +215,30 @@ def try_largest(program: Program, folder: str) -> None:
         expect(bytes_in(file), text, "the largest file")
 
 
+def try_limits(program: Program, folder: str) -> None:
+    """Each format makes a file of 65,536 slots, and only format 3 one of 65,537. So many are read by the head's format alone."""
+    file = os.path.join(folder, "limits")
+    for form in FORMATS:
+        put(file, None)
+        program.make(file, 65_536, form)
+        expect(program.run("info", file), Ended(f"format {form}\nslots 65536\nmembers 0\nfree 65536\ngood\n", 0), "65,536 slots")
+        put(file, None)
+        ended = program.run("make", file, "65537", "--format", str(form))
+        expect(ended, Ended("made 65537\n", 0) if form == 3 else Ended("refused 2\n", 3), f"making 65,537 slots of format {form}")
+        put(file, head_of(form, 65_537) + bytes(16 * 65_537))
+        for command in ("check", "run"):
+            told = {"check": "good\n", "run": ""}[command] if form == 3 else "refused 4\n"
+            expect(program.run(command, file), Ended(told, 0 if form == 3 else 3), f"a {command} of 65,537 slots of format {form}")
+
+
 # An old file, a new one, the slots that are asked for, and how a renewal is refused.
 REFUSED_RENEWALS: Tuple[Tuple[bytes, Optional[bytes], str, str], ...] = (
     (RENEWED, RENEWED, "2", "refused new 1\n"),
     (RENEWED, None, "1", "refused 9 2 1\n"),
     (RENEWED, b"", "0", "refused new 2\n"),
     (RENEWED, b"", "65537", "refused new 2\n"),
+    (of_format(3, RENEWED), b"", "65537", "refused new 2\n"),
+    (RENEWED, of_format(3, RENEWED), "2", "refused new 1\n"),
     (RENEWED, bytes(49), "2", "refused new 4\n"),
     (b"", b"", "2", "refused old 1\n"),
     (changed(RENEWED, 7, 0x39), b"", "2", "refused old 2\n"),
@@ -242,3 +287,37 @@ def try_renewals(program: Program, folder: str) -> None:
         put(new, given)
         expect(program.run("check", new, "--of", old), Ended(told, status), f"{given!r} beside {before!r}")
         expect(Survey(given).compared(Survey(before)), (told, status), "the model's comparison")
+
+
+# An old file's format, the new one's, the slots that are asked for, and what a renewal prints.
+INTO_FORMATS: Tuple[Tuple[int, int, str, str], ...] = (
+    (1, 3, "2", "renewed 2\n"),
+    (2, 3, "65537", "renewed 2\n"),
+    (3, 3, "65537", "renewed 2\n"),
+    (3, 2, "65536", "renewed 2\n"),
+    (3, 2, "65537", "refused new 2\n"),
+    (2, 3, "0", "refused new 2\n"),
+    (2, 3, "1", "refused 9 2 1\n"),
+    (2, 3, "16777217", "refused new 2\n"),
+)
+
+
+def try_formats(program: Program, folder: str) -> None:
+    """Files are renewed into the formats 2 and 3, and into no other one."""
+    old, new = os.path.join(folder, "old"), os.path.join(folder, "new")
+    for before, after, slots, told in INTO_FORMATS:
+        text = of_format(before, RENEWED)
+        put(old, text)
+        put(new, b"")
+        what = f"renewing format {before} into {slots} slots of format {after}"
+        ended = program.run("renew", old, new, slots, "--format", str(after))
+        expect(ended, Ended(told, 0 if told.startswith("renewed") else 3), what)
+        expect((told, bytes_in(new)), renewed(text, b"", int(slots), after), f"the new file behind {what}")
+        expect(bytes_in(old), text, f"the old file behind {what}")
+        if told.startswith("renewed"):
+            same = "slot 0 key 17\nslot 1 key 5\ngood\nsame\n"
+            expect(program.run("check", new, "--of", old), Ended(same, 0), f"a check behind {what}")
+    put(new, None)
+    for form in ("0", "1", "4"):
+        expect(program.run("renew", old, new, "2", "--format", form).status, 2, f"the status of a renewal into format {form}")
+        expect(os.path.exists(new), False, f"that a renewal into format {form} leaves a file")

@@ -1,4 +1,4 @@
-"""Lines, files, scripts and histories of every length and byte pattern. Each has the answer that docs/FORMATS.md says."""
+"""Lines, files, lists, scripts and histories of every length and byte pattern. Each has the answer that docs/FORMATS.md says."""
 
 from __future__ import annotations
 
@@ -15,7 +15,7 @@ from trials.explained import story_of, unexplained
 from trials.files import bytes_in, put
 from trials.noise import KINDS as NOISE_KINDS
 from trials.noise import Noise
-from trials.plain import MOST_LINE, VERBS, Plain, Survey, read_key, read_range, renewed
+from trials.plain import FORMATS, MOST_LINE, VERBS, Plain, Survey, head_of, made_of_list, read_key, read_range, renewed
 from trials.program import Ended, Program, Service
 from trials.report import Wrong, expect
 from trials.verdicts import MOST_ACTORS, judged
@@ -73,7 +73,7 @@ def try_lines(program: Program, folder: str, drawn: Drawn) -> None:
     came: Count[str] = Counter()
     file = os.path.join(folder, "lines")
     for number in range(drawn.count):
-        form, buckets = noise.draw.choice((1, 2)), noise.draw.choice((1, 7))
+        form, buckets = noise.draw.choice(FORMATS), noise.draw.choice((1, 7))
         batch = [noise.ended_lines() for _ in range(BATCH - 1)] if number % 8 else []
         text = b"".join([*batch, noise.lines()])
         plain = Plain(form, SLOTS)
@@ -122,16 +122,40 @@ def try_files(program: Program, folder: str, drawn: Drawn) -> None:
             put(new, before)
             compared = Survey(before).compared(survey)
             expect(program.run("check", new, "--of", old), Ended(*compared), f"{before!r} beside {what}")
-            slots = str(noise.draw.randrange(6))
-            told, left = renewed(text, before, int(slots))
-            status = 0 if told.startswith("renewed") else 3
-            expect(program.run("renew", old, new, slots), Ended(told, status), f"renewing {what} onto {before!r}")
+            slots, form = noise.draw.randrange(6), noise.draw.choice((2, 3))
+            told, left = renewed(text, before, slots, form)
+            ended = program.run("renew", old, new, str(slots), "--format", str(form))
+            expect(ended, Ended(told, 0 if told.startswith("renewed") else 3), f"renewing {what} onto {before!r}")
             expect(bytes_in(new), left, f"the new file behind renewing {what}")
         expect(bytes_in(old), text, f"{what} behind the commands")
         came[survey.checked()[0].splitlines()[-1].replace(" ", "_")] += 1
         before = text if noise.one_in(2) else b""
     expect_all(came, "good damaged refused_1 refused_2 refused_3 refused_4", drawn.count)
     tell(f"{drawn.count} files", came)
+
+
+# What a making may find, beside no file: nothing, a first byte that was written, zeros, a longer file, and a set.
+FOUND = (b"", b"\xa5", bytes(48), bytes(1000), head_of(2, 1) + bytes(16))
+
+
+def try_lists(program: Program, folder: str, drawn: Drawn) -> None:
+    """Each list makes a file of its keys, or is refused and makes none, as an independent reader says."""
+    noise = drawn.noise(6)
+    came: Count[str] = Counter()
+    file = os.path.join(folder, "listed")
+    for number in range(drawn.count):
+        listed, form, slots = noise.list(), noise.draw.choice(FORMATS), noise.draw.randrange(12)
+        before = noise.draw.choice(FOUND) if noise.one_in(4) else None
+        put(file, before)
+        told, left = made_of_list(before or b"", form, slots, listed)
+        ended = program.run("make", file, str(slots), "--format", str(form), "--keys", lines=listed)
+        what = f"list {number}, {listed!r}, in {slots} slots of format {form} over {before!r}"
+        expect(ended, Ended(told, 0 if told.startswith("made") else 3), what)
+        is_there = before is not None or ended.status == 0
+        expect(bytes_in(file) if os.path.exists(file) else None, left if is_there else None, f"the file behind {what}")
+        came["_".join(told.split()[: 2 if told.startswith("refused") else 1])] += 1
+    expect_all(came, "made line twice refused_1 refused_2 refused_4 refused_9", drawn.count)
+    tell(f"{drawn.count} lists", came)
 
 
 def reads(line: bytes) -> bool:
@@ -192,7 +216,7 @@ def try_scripts(program: Program, drawn: Drawn) -> None:
         script = noise.script()
         if not first_unread(script):
             script += b"stop\nopen\n"
-        size = (noise.draw.choice("12"), "--buckets", noise.draw.choice("12"), "--format", noise.draw.choice("12"))
+        size = (noise.draw.choice("12"), "--buckets", noise.draw.choice("12"), "--format", noise.draw.choice("123"))
         ended = program.run("rehearse", *size, lines=script)
         came[expect_rehearsed(script, ended, f"script {number}, {size}, {script!r}")] += 1
     expect_all(came, "played unlawful unread", drawn.count)

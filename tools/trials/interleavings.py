@@ -8,10 +8,11 @@ import random
 from dataclasses import dataclass
 from typing import Iterator, NamedTuple, Tuple
 
+from trials.plain import FORMATS
 from trials.program import Program
 from trials.rehearsals import rehearse, try_whole
 from trials.report import Wrong
-from trials.transcripts import FORMATS, Transcript
+from trials.transcripts import Transcript
 
 # What a crash picks for a loose gate: the byte that is sure, the one that is read, an open gate, or a closed one.
 PICKS = ("old", "new", "a5", "37")

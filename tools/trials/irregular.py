@@ -40,6 +40,7 @@ def expect_refused(program: Program, old: str, path: str) -> None:
     """A making and a renewal over it are refused, for this reason."""
     told: Tuple[Ended, str] = (NO_FILE, f"lazyset: {path}: it isn't a regular file\n")
     expect(program.run_loud("make", path, "2"), told, f"making {path}")
+    expect(program.run_loud("make", path, "2", "--keys"), told, f"making {path} of a list")
     expect(program.run_loud("renew", old, path, "2"), told, f"renewing into {path}")
 
 

@@ -55,9 +55,9 @@ def life_until_kill(program: Program, file: str, loaded: Loaded, buckets: int, s
 
 
 def killed_histories(program: Program, folder: str, loaded: Loaded, kills: int, seed: int) -> List[History]:
-    """A history of each group over one file, of so many lives that a kill ended, or fewer where they have many calls."""
+    """A history of each group over one file with rooms, of so many lives that a kill ended, or fewer where they have many calls."""
     file = os.path.join(folder, f"killed-{seed}")
-    program.make(file, loaded.slots)
+    program.make(file, loaded.slots, random.Random(seed).choice((2, 3)))
     histories = [History() for _ in loaded.groups]
     calls_so_far = life = 0
     while life < kills and calls_so_far < CALLS_OF_A_HISTORY * len(histories):

@@ -1,4 +1,4 @@
-"""Noise that a seed determines: lines, files, scripts and histories, as bytes of all kinds, as the words of a form in any order,
+"""Noise that a seed determines: lines, files, lists, scripts and histories, as bytes of all kinds, as the words of a form in any order,
 and in the form itself, whole and spoiled."""
 
 from __future__ import annotations
@@ -6,7 +6,7 @@ from __future__ import annotations
 import random
 from typing import Sequence
 
-from trials.plain import HEAD_SIZE, OPEN, SLOT_SIZE, head_of
+from trials.plain import FORMATS, HEAD_SIZE, OPEN, SLOT_SIZE, head_of
 
 COMMANDS = ("add", "remove", "has")
 
@@ -39,7 +39,9 @@ HISTORY_WORDS = (
     *("add ", " yes", " full", " ", "1", "2", "\n", "\n"),
 )
 
-FILE_WORDS = ("\0", "LZYSET", "1", "2", "\0\0\0\0\0\0\0")
+FILE_WORDS = ("\0", "LZYSET", "1", "2", "3", "\0\0\0\0\0\0\0")
+
+LIST_WORDS = ("1", "17", "0:", "2:", "16:", " ", "\r", "\n", "\n", "\n")
 
 
 class Noise:
@@ -102,6 +104,18 @@ class Noise:
         """Lines of a session that doesn't end with them."""
         text = b"\n".join(line for line in self.lines().split(b"\n") if line.rstrip(b"\r") != b"quit")
         return text if text.endswith(b"\n") or not text else text + b"\n"
+
+    def list(self) -> bytes:
+        """Keys, one a line, most of which stand there once."""
+        keys = [self._listed_key(number) for number in self.draw.sample(range(99), self.draw.randrange(9))]
+        if keys and self.one_in(4):
+            keys.append(self.draw.choice(keys))
+        return self.text(LIST_WORDS, "".join(f"{key}{self.draw.choice(ENDINGS[:5])}" for key in keys).encode())
+
+    def _listed_key(self, number: int) -> str:
+        if self.one_in(32):
+            return self._key()
+        return f"{self.draw.randrange(16)}:{number}" if self.one_in(4) else str(number)
 
     def formed_script(self) -> str:
         """A script, of which most lines are lawful."""
@@ -181,5 +195,5 @@ class Noise:
     def file(self) -> bytes:
         """A file: of a few slots or of many, whole or spoiled, or bytes of all kinds."""
         slots = self.draw.randrange(1024) if self.one_in(64) else self.draw.randrange(5)
-        formed = head_of(self.draw.choice((1, 2)), slots) + b"".join(self._slot(index) for index in range(slots))
+        formed = head_of(self.draw.choice(FORMATS), slots) + b"".join(self._slot(index) for index in range(slots))
         return self.text(FILE_WORDS, formed if len(formed) > HEAD_SIZE or self.one_in(4) else formed + self._slot(0))

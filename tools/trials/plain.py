@@ -2,18 +2,21 @@
 
 from __future__ import annotations
 
-from typing import Dict, List, NamedTuple, Optional, Tuple, Union
+from typing import Dict, List, NamedTuple, Optional, Sequence, Tuple, Union
 
 from trials.program import Key
 
 MOST_NUMBER = 10**18 - 1
 MOST_ROOM = 15
-MOST_SLOTS = 65536
 MOST_LINE = 64
+
+FORMATS = (1, 2, 3)
+MOST_SLOTS = {1: 65_536, 2: 65_536, 3: 16_777_216}
+MOST_BUCKETS = {1: 4_096, 2: 4_096, 3: 1_048_576}
 
 HEAD_SIZE = SLOT_SIZE = 16
 OPEN = 0xA5
-NAMES = {b"LZYSET1": 1, b"LZYSET2": 2}
+NAMES = {b"LZYSET%d" % form: form for form in FORMATS}
 
 VERBS = (b"add", b"remove", b"has")
 
@@ -26,7 +29,8 @@ def read_decimal(text: bytes) -> Optional[int]:
     """A plain decimal number: digits, with no zero in front of another one."""
     if not text or text.strip(b"0123456789") or (text[:1] == b"0" and len(text) > 1):
         return None
-    return int(text)
+    # So many digits are above each limit.
+    return int(text[:99])
 
 
 def read_range(text: bytes, low: int, high: int) -> Optional[int]:
@@ -88,7 +92,7 @@ class Plain:
         return self._add(key) if verb == "add" else self._remove(key)
 
     def _add(self, key: Key) -> str:
-        if self.form == 1 and key.room:
+        if not has_room(self.form, key.room):
             return "oldfile"
         if key in self.places:
             return "no"
@@ -216,41 +220,76 @@ def refusal_of(text: bytes) -> int:
     if text[1:8] not in NAMES:
         return 2
     slots = int.from_bytes(text[8:16], "big")
-    if not 1 <= slots <= MOST_SLOTS:
+    if not 1 <= slots <= MOST_SLOTS[NAMES[text[1:8]]]:
         return 4
     return 0 if len(text) == HEAD_SIZE + SLOT_SIZE * slots else 3
+
+
+def has_room(form: int, room: int) -> bool:
+    """Whether a file of this format knows the room."""
+    return room <= (0 if form == 1 else MOST_ROOM)
 
 
 def key_in(form: int, slot: bytes) -> Optional[Key]:
     """The key of an open slot, if its bytes are one's."""
     room, number = slot[1], int.from_bytes(slot[8:], "big")
-    is_key = room <= (MOST_ROOM if form == 2 else 0) and not any(slot[2:8]) and number <= MOST_NUMBER
+    is_key = has_room(form, room) and not any(slot[2:8]) and number <= MOST_NUMBER
     return Key(room, number) if is_key else None
 
 
-def made(text: bytes, form: int, slots: int) -> Tuple[str, bytes]:
+def held(form: int, slots: int, keys: Sequence[Key]) -> bytes:
+    """A file of so many slots, the first of which hold these keys."""
+    return head_of(form, slots) + b"".join(slot_of(key) for key in keys) + bytes(SLOT_SIZE * (slots - len(keys)))
+
+
+def made(text: bytes, form: int, slots: int, keys: Sequence[Key] = ()) -> Tuple[str, bytes]:
     """What a making on a file prints, and the file that it leaves."""
-    if not 1 <= slots <= MOST_SLOTS:
+    if not 1 <= slots <= MOST_SLOTS[form]:
         return "refused 2\n", text
     if len(text) >= HEAD_SIZE and text[0] == OPEN:
         return "refused 1\n", text
     if len(text) > HEAD_SIZE + SLOT_SIZE * slots:
         return "refused 4\n", text
-    return f"made {slots}\n", Plain(form, slots).file()
+    return f"made {slots}\n", held(form, slots, keys)
 
 
-def renewed(old: bytes, new: bytes, slots: int) -> Tuple[str, bytes]:
-    """What a renewal prints, and the new file that it leaves."""
+def read_list(listed: bytes, form: int) -> Union[List[Key], str]:
+    """The keys of a list, one a line, or what is printed of its first line at fault."""
+    *lines, rest = listed.split(b"\n")
+    keys: Dict[Key, int] = {}
+    for number, line in enumerate(lines, 1):
+        key = read_key(line[:-1] if line.endswith(b"\r") else line)
+        if isinstance(key, int) or not has_room(form, key.room):
+            return f"line {number}\n"
+        if key in keys:
+            return f"twice {number}\n"
+        keys[key] = number
+    return f"line {len(lines) + 1}\n" if rest else list(keys)
+
+
+def made_of_list(text: bytes, form: int, slots: int, listed: bytes) -> Tuple[str, bytes]:
+    """What a making of a list's keys on a file prints, and the file that it leaves."""
+    keys = read_list(listed, form)
+    if not 1 <= slots <= MOST_SLOTS[form]:
+        return "refused 2\n", text
+    if isinstance(keys, str):
+        return keys, text
+    if slots < len(keys):
+        return f"refused 9 {len(keys)} {slots}\n", text
+    return made(text, form, slots, keys)
+
+
+def renewed(old: bytes, new: bytes, slots: int, form: int = 2) -> Tuple[str, bytes]:
+    """What a renewal into a format prints, and the new file that it leaves."""
     survey = Survey(old)
-    members = sorted(survey.members.items(), key=lambda item: item[1])
-    told, made_file = made(new, 2, slots)
-    if not 1 <= slots <= MOST_SLOTS:
+    members = sorted(survey.members, key=survey.members.__getitem__)
+    if not 1 <= slots <= MOST_SLOTS[form]:
         return "refused new 2\n", new
     if not survey.holds():
         return f"refused old {survey.opened()[0][len('refused '):]}", new
     if slots < len(members):
         return f"refused 9 {len(members)} {slots}\n", new
+    told, left = made(new, form, slots, members)
     if told.startswith("refused"):
         return f"refused new {told[len('refused '):]}", new
-    held = b"".join(slot_of(key) for key, _ in members)
-    return f"renewed {len(members)}\n", head_of(2, slots) + held + bytes(len(made_file) - HEAD_SIZE - len(held))
+    return f"renewed {len(members)}\n", left

@@ -42,23 +42,27 @@ class Program:
 
     path: str
 
-    def run(self, *words: str, lines: Union[str, bytes] = "", before: Sequence[str] = ()) -> Ended:
+    def run(self, *words: str, lines: Union[str, bytes] = "", before: Sequence[str] = (), patience: float = PATIENCE) -> Ended:
         """Runs a command to its end, behind the words of another program where some are given."""
-        return self.run_loud(*words, lines=lines, before=before)[0]
+        return self.run_loud(*words, lines=lines, before=before, patience=patience)[0]
 
-    def run_loud(self, *words: str, lines: Union[str, bytes] = "", before: Sequence[str] = ()) -> Tuple[Ended, str]:
+    def run_loud(
+        self, *words: str, lines: Union[str, bytes] = "", before: Sequence[str] = (), patience: float = PATIENCE
+    ) -> Tuple[Ended, str]:
         """The same, and what the command says on standard error."""
         ended = subprocess.run(
             [*before, self.path, *words],
             input=lines.encode("ascii") if isinstance(lines, str) else lines,
             stdout=subprocess.PIPE,
             stderr=subprocess.PIPE,
-            timeout=PATIENCE,
+            timeout=patience,
         )
         return Ended(ended.stdout.decode("ascii"), ended.returncode), os.fsdecode(ended.stderr)
 
-    def make(self, file: str, slots: int) -> None:
-        expect(self.run("make", file, str(slots)), Ended(f"made {slots}\n", 0), "make")
+    def make(self, file: str, slots: int, form: Optional[int] = None) -> None:
+        """Makes a file, of the format that stands where none is named, or of this one."""
+        words = ("--format", str(form)) if form else ()
+        expect(self.run("make", file, str(slots), *words), Ended(f"made {slots}\n", 0), "make")
 
     def members(self, file: str) -> List[Key]:
         """The keys that a file holds, ascending."""

@@ -7,8 +7,10 @@ from typing import Iterator, Sequence, Tuple
 
 from trials import transcripts
 from trials.program import Ended, Program
+from trials.plain import FORMATS
 from trials.report import expect
-from trials.transcripts import FORMATS, Transcript
+from trials.sessions import no_buckets
+from trials.transcripts import Transcript
 
 STORED = ("turns", "crashes", "failures", "lawful", "limits", "reuse")
 
@@ -163,13 +165,18 @@ def try_reading(program: Program) -> None:
         expect_rehearsed(program, (1, 1, form), "trip\n" * MOST_LINES, "", "as many lines as a script may have")
         more = f"line {MOST_LINES + 1}\n"
         expect_rehearsed(program, (1, 1, form), "trip\n" * (MOST_LINES + 1), more, "a line more than a script may have")
-    for slots, buckets in ((0, 1), (65, 1), (1, 0), (1, 4097)):
-        expect(rehearse(program, (slots, buckets, 2), "").status, 2, f"a rehearsal of {slots} slots in {buckets} lists")
+    for size in ((0, 1, 2), (65, 1, 2), (65, 1, 3), (1, 0, 2), (1, 4097, 1), (1, 4097, 2), (1, 1_048_577, 3)):
+        expect(rehearse(program, size, "").status, 2, f"the status of a rehearsal of so many slots and lists, of a format: {size}")
+    for buckets, form in ((4097, 1), (4097, 2), (1_048_576, 2)):
+        expect(rehearse(program, (1, buckets, form), ""), no_buckets(buckets, 4096), f"a rehearsal of {buckets} lists, format {form}")
+    for buckets in (4097, 1_048_576):
+        expect(rehearse(program, (1, buckets, 3), "show\n"), Ended("show\n", 0), f"a rehearsal of {buckets} lists, format 3")
 
 
 def try_rooms(program: Program) -> None:
     """Keys are shown by room and then by number; a key of another room than 0 is refused in a file of format 1."""
     script = "call 1 add 1:0\nfinish 1\ncall 1 add 999999999999999999\nfinish 1\nshow\n"
-    for form, answer, shown in ((2, "answer 1 yes", "999999999999999999 1:0"), (1, "refused 1 oldfile", "999999999999999999")):
+    both, one = ("answer 1 yes", "999999999999999999 1:0"), ("refused 1 oldfile", "999999999999999999")
+    for form, (answer, shown) in ((3, both), (2, both), (1, one)):
         told = f"call 1 1 add 1:0\n{answer}\ncall 2 1 add 999999999999999999\nanswer 2 yes\nshow {shown}\n"
         expect_rehearsed(program, (2, 1, form), script, told, "rooms")

@@ -9,12 +9,16 @@ from contextlib import suppress
 from typing import List, Tuple
 
 from trials import transcripts
-from trials.plain import Plain, Survey
-from trials.program import PATIENCE, Ended, Program
+from trials.files import bytes_in, changed, put
+from trials.plain import FORMATS, MOST_BUCKETS, Plain, Survey
+from trials.program import PATIENCE, Ended, Program, Service
 from trials.report import Skip, expect
 from trials.transcripts import Transcript
 
 MILLION = 10**6
+
+# A made file of one slot.
+EMPTY = Plain(2, 1).file()
 
 # Texts that aren't lines of words each, and what they are answered.
 TEXTS = (
@@ -40,7 +44,7 @@ def run_in_pieces(program: Program, words: List[str], text: bytes, step: int, fo
         raise Skip("no pipe keeps writes apart here")
     into, out_of = os.pipe2(os.O_DIRECT | os.O_CLOEXEC)
     with open(os.path.join(folder, "printed"), "w+b") as printed:
-        with subprocess.Popen([program.path, *words], stdin=into, stdout=printed) as process:
+        with subprocess.Popen([program.path, *words], stdin=into, stdout=printed, stderr=subprocess.DEVNULL) as process:
             os.close(into)
             with os.fdopen(out_of, "wb", buffering=0) as pipe, suppress(BrokenPipeError):
                 for start in range(0, len(text), step):
@@ -87,7 +91,7 @@ def try_sessions(program: Program, folder: str, seed: int) -> None:
     for transcript in transcripts.stored("sessions"):
         try_transcript(program, folder, transcript, draw)
     for text, told in TEXTS:
-        for form in transcripts.FORMATS:
+        for form in FORMATS:
             expect_answered(program, folder, (form, 2), text, told)
 
 
@@ -100,5 +104,37 @@ def try_other_lists(program: Program, folder: str) -> None:
     for buckets in (1, 2, 4, 7, 4095, 4096):
         found = program.run("run", file, "--buckets", str(buckets), lines="has 3\nhas 4\nhas 7\nhas 8\n")
         expect(found, Ended("yes\nyes\nyes\nno\n", 0), f"look-ups over {buckets} lists")
-    for buckets in (0, 4097):
-        expect(program.run("run", file, "--buckets", str(buckets)).status, 2, f"a run over {buckets} lists")
+
+
+def no_buckets(buckets: int, most: int) -> Ended:
+    """What is said of more lists than there may be, or of none."""
+    why = f"invalid value '{buckets}' for '--buckets <B>': {buckets} is not in 1..={most}"
+    return Ended(f"error: {why}\n\nFor more information, try '--help'.\n", 2)
+
+
+def try_most_lists(program: Program, folder: str) -> None:
+    """A file of format 3 may have a million lists, the others 4,096. More are refused as the command line refuses a number, once
+    the file is open, and nothing is answered; a file with a fault in its head is refused for that."""
+    file = os.path.join(folder, "most-lists")
+    lines, told = "add 17\nhas 17\nhas 1048593\n", "yes\nyes\nno\n"
+    for form, buckets in ((form, buckets) for form in FORMATS for buckets in (0, 4_096, 4_097, 1_048_576, 1_048_577)):
+        plain = Plain(form, 2)
+        wanted = Ended(told, 0)
+        if not 1 <= buckets <= MOST_BUCKETS[3]:
+            wanted = no_buckets(buckets, MOST_BUCKETS[3])
+        elif buckets > MOST_BUCKETS[form]:
+            wanted = no_buckets(buckets, MOST_BUCKETS[form])
+        else:
+            plain.replies(lines.encode())
+        put(file, Plain(form, 2).file())
+        what = f"{buckets} lists over a file of format {form}"
+        expect(program.run("run", file, "--buckets", str(buckets), lines=lines), wanted, f"a run with {what}")
+        expect(bytes_in(file), plain.file(), f"the file behind a run with {what}")
+        if wanted.status:
+            expect(program.run("serve", file, "0", "2", "--buckets", str(buckets)), wanted, f"a service with {what}")
+        else:
+            with Service(program, file, 2, "--buckets", str(buckets)) as service:
+                expect(service.told.split()[:1], ["listening"], f"a service with {what}")
+    for text in (b"", changed(EMPTY, 7, 0x39), EMPTY + b"\0", changed(EMPTY, 15, 0), changed(EMPTY, 0, 0)):
+        put(file, text)
+        expect(program.run("run", file, "--buckets", "4097"), Ended(*Survey(text).opened()), f"a run with 4,097 lists on {text!r}")

@@ -10,11 +10,11 @@ import re
 from dataclasses import dataclass, field
 from typing import Iterator, List, Optional, Tuple
 
+from trials.plain import FORMATS
+
 FOLDER = os.path.join(os.path.dirname(os.path.abspath(__file__)), "transcripts")
 
-HEAD = re.compile(r"== slots (\d+)(?:, buckets (\d+))?(?:, format (\d))?: (.+)")
-
-FORMATS = (1, 2)
+HEAD = re.compile(r"== slots (\d+)(?:, buckets (\d+))?(?:, formats? (\d)(?: and (\d))?)?: (.+)")
 
 
 @dataclass
@@ -41,12 +41,12 @@ def _begun(head: str) -> Transcript:
     found = HEAD.fullmatch(head)
     if not found:
         raise ValueError(f"no head of a transcript: {head!r}")
-    slots, buckets, form, name = found.groups()
+    slots, buckets, *forms, name = found.groups()
     transcript = Transcript(name, int(slots))
     if buckets:
         transcript.buckets = (int(buckets),)
-    if form:
-        transcript.formats = (int(form),)
+    if forms[0]:
+        transcript.formats = tuple(int(form) for form in forms if form)
     return transcript
 
 

@@ -15,7 +15,7 @@ from typing import IO, Callable, Iterator, List, Sequence
 from lazyset import Halted, Lazyset
 from trials.faults import CAUSES, DEVICE_FAILED, failing, needs_strace
 from trials.files import put
-from trials.plain import head_of, slot_of
+from trials.plain import held
 from trials.program import PATIENCE, Key, Program, Service
 from trials.report import Skip, expect
 
@@ -48,19 +48,22 @@ class Logged:
             return client.makefile().read().split()
 
 
-def members_file(file: str, count: int) -> None:
-    put(file, head_of(2, count) + b"".join(slot_of(Key(0, key)) for key in range(count)))
+def members_file(file: str, form: int, count: int) -> None:
+    put(file, held(form, count, [Key(0, key) for key in range(count)]))
 
 
 def try_lists(program: Program, folder: str) -> None:
-    """Lists of more than 64 members are told, and how to make them shorter."""
+    """Lists of more than 64 members are told, and how to make them shorter: by as many buckets as the file's format allows."""
     file = os.path.join(folder, "long")
     hint = "long lists make commands slow: give it --buckets {} at the next start"
-    for members, buckets, advised in ((64, 1, None), (65, 1, 65), (200, 3, 200), (200, 4, None), (5000, 70, 4096)):
-        members_file(file, members)
+    for form, members, buckets, advised in (
+        *((2, 64, 1, None), (2, 65, 1, 65), (1, 200, 3, 200), (2, 200, 4, None), (2, 5000, 70, 4096), (1, 5000, 70, 4096)),
+        *((3, 5000, 70, 5000), (3, 5000, 4096, None)),
+    ):
+        members_file(file, form, members)
         with logged(program, file, 1, "--buckets", str(buckets)) as service:
             wanted = [hint.format(advised)] if advised else []
-            expect(service.lines(), wanted, f"the log over {members} members in {buckets} lists")
+            expect(service.lines(), wanted, f"the log over {members} members of format {form} in {buckets} lists")
 
 
 def try_full(program: Program, folder: str, *options: str) -> None:

@@ -24,24 +24,45 @@ OPENED: Tuple[Tuple[bytes, str, bool, str], ...] = (
     (TWICE, "refused 6 0 1", False, "these slots hold the same key"),
 )
 
-# A file's bytes or none, the slots that are asked for, what is printed, and the words.
-MADE: Tuple[Tuple[Optional[bytes], str, str, str], ...] = (
-    (TWO_SLOTS, "2", "refused 1", "it is a set already"),
-    (b"", "0", "refused 2", "a file has 1 to 65536 slots"),
-    (None, "0", "refused 2", "a file has 1 to 65536 slots"),
-    (None, "65537", "refused 2", "a file has 1 to 65536 slots"),
-    (bytes(49), "2", "refused 4", "it is longer than the new file would be"),
+# How many slots a file may have.
+FEW = "a file has 1 to 65536 slots"
+MILLIONS = "a file of format 3 has 1 to 16777216 slots"
+NO_ROOM = "so many keys have no room in so many slots"
+
+# A file's bytes or none, the slots and the format that are asked for, what is printed, and the words.
+MADE: Tuple[Tuple[Optional[bytes], str, str, str, str], ...] = (
+    (TWO_SLOTS, "2", "1", "refused 1", "it is a set already"),
+    (TWO_SLOTS, "2", "3", "refused 1", "it is a set already"),
+    (b"", "0", "1", "refused 2", FEW),
+    (None, "0", "1", "refused 2", FEW),
+    (None, "65537", "1", "refused 2", FEW),
+    (None, "65537", "2", "refused 2", FEW),
+    (None, "0", "3", "refused 2", MILLIONS),
+    (b"", "16777217", "3", "refused 2", MILLIONS),
+    (bytes(49), "2", "1", "refused 4", "it is longer than the new file would be"),
 )
 
-# An old file, a new one, the slots that are asked for, what is printed, and the words.
-RENEWALS: Tuple[Tuple[bytes, Optional[bytes], str, str, str], ...] = (
-    (b"", b"", "2", "refused old 1", "it isn't a set: never made, or its head is damaged"),
-    (BAD_KEY, b"", "2", "refused old 5 0", "this slot is open and holds no key"),
-    (RENEWED, RENEWED, "2", "refused new 1", "it is a set already"),
-    (RENEWED, None, "0", "refused new 2", "a file has 1 to 65536 slots"),
-    (RENEWED, b"", "1", "refused 9 2 1", "so many keys have no room in so many slots"),
-    (RENEWED, None, "1", "refused 9 2 1", "so many keys have no room in so many slots"),
-    (b"", None, "2", "refused old 1", "it isn't a set: never made, or its head is damaged"),
+# A list of keys, the slots and the format that are asked for, what is printed, and the words.
+LISTED: Tuple[Tuple[str, str, str, str, str], ...] = (
+    ("1\nx\n", "2", "2", "line 2", "this line holds no key that the format has"),
+    ("1\n1:1\n", "2", "1", "line 2", "this line holds no key that the format has"),
+    ("1", "2", "2", "line 1", "this line holds no key that the format has"),
+    ("1\n0:1\n", "2", "2", "twice 2", "this line's key stands in a line above"),
+    ("1\n2\n3\n", "2", "2", "refused 9 3 2", NO_ROOM),
+    ("1\n", "65537", "2", "refused 2", FEW),
+    ("1\n", "16777217", "3", "refused 2", MILLIONS),
+)
+
+# An old file, a new one, the slots and the format that are asked for, what is printed, and the words.
+RENEWALS: Tuple[Tuple[bytes, Optional[bytes], str, str, str, str], ...] = (
+    (b"", b"", "2", "2", "refused old 1", "it isn't a set: never made, or its head is damaged"),
+    (BAD_KEY, b"", "2", "3", "refused old 5 0", "this slot is open and holds no key"),
+    (RENEWED, RENEWED, "2", "2", "refused new 1", "it is a set already"),
+    (RENEWED, None, "0", "2", "refused new 2", FEW),
+    (RENEWED, None, "16777217", "3", "refused new 2", MILLIONS),
+    (RENEWED, b"", "1", "2", "refused 9 2 1", NO_ROOM),
+    (RENEWED, None, "1", "3", "refused 9 2 1", NO_ROOM),
+    (b"", None, "2", "2", "refused old 1", "it isn't a set: never made, or its head is damaged"),
 )
 
 
@@ -49,8 +70,8 @@ def try_refusals(program: Program, folder: str) -> None:
     """Each refusal has its words, and leaves no file where there was none."""
     file, new = os.path.join(folder, "file"), os.path.join(folder, "new")
 
-    def expect_words(line: str, why: str, *words: str) -> None:
-        found = program.run_loud(*words, *({"run": (), "serve": ("0", "1")}.get(words[0], ())))
+    def expect_words(line: str, why: str, *words: str, lines: str = "") -> None:
+        found = program.run_loud(*words, *({"run": (), "serve": ("0", "1")}.get(words[0], ())), lines=lines)
         named = " ".join(words if words[0] == "renew" else words[:2]).replace(f"{file} {new} ", f"{file} {new}\n").split("\n")[0]
         expect(found, (Ended(f"{line}\n", 3), f"lazyset: {named}: {line}: {why}\n"), " ".join(words))
 
@@ -58,25 +79,32 @@ def try_refusals(program: Program, folder: str) -> None:
         put(file, text)
         for command in ("run", "serve", "check", "info") if is_checked else ("run", "serve"):
             expect_words(line, why, command, file)
-    for before, slots, line, why in MADE:
+    for before, slots, form, line, why in MADE:
         put(file, before)
-        expect_words(line, why, "make", file, slots, "--format", "1")
+        expect_words(line, why, "make", file, slots, "--format", form)
         expect(os.path.exists(file), before is not None, "that the file is there")
-    for old, given, slots, line, why in RENEWALS:
+    for listed, slots, form, line, why in LISTED:
+        put(file, None)
+        expect_words(line, why, "make", file, slots, "--format", form, "--keys", lines=listed)
+        expect(os.path.exists(file), False, "that the file is there")
+    for old, given, slots, form, line, why in RENEWALS:
         put(file, old)
         put(new, given)
-        expect_words(line, why, "renew", file, new, slots)
+        expect_words(line, why, "renew", file, new, slots, "--format", form)
         expect(os.path.exists(new), given is not None, "that the new file is there")
 
 
 def try_lines(program: Program, folder: str) -> None:
-    """A line of a history or of a script that is refused."""
+    """A line of a history or of a script that is refused, and a list that can't be read."""
     file, why = os.path.join(folder, "file"), "this line doesn't read, or may not stand there"
     put(file, b"call 1 1 add 9\nanswer\n")
     found = program.run_loud("judge", file)
     expect(found, (Ended("line 2\n", 3), f"lazyset: judge {file}: line 2: {why}\n"), "a history that doesn't read")
     found = program.run_loud("rehearse", "2", lines="open\nturn\n")
     expect(found, (Ended("line 2\n", 3), f"lazyset: rehearse: line 2: {why}\n"), "a script that doesn't read")
+    found = program.run_loud("make", file, "2", "--keys", before=("sh", "-c", 'exec "$0" "$@" < /'))
+    said = f"lazyset: make {file}: noread: a read of the input failed\n"
+    expect(found, (Ended("noread\n", 1), said), "a list that can't be read")
 
 
 def try_files(program: Program, folder: str) -> None:
@@ -93,6 +121,8 @@ def try_files(program: Program, folder: str) -> None:
         (("judge", absent), absent, missing),
         (("renew", absent, inner, "2"), absent, missing),
         (("make", deep, "2"), deep, missing),
+        (("make", deep, "2", "--keys"), deep, missing),
+        (("run", absent, "--buckets", "4097"), absent, missing),
         (("make", long, "2"), long, too_long),
         (("run", inner), inner, "Is a directory (os error 21)"),
         (("check", inner), inner, "it is a directory"),
@@ -111,6 +141,22 @@ def try_port(program: Program, folder: str) -> None:
     expect(found, (Ended("noport\n", 1), said), "a service whose port is taken")
 
 
+def try_reads(program: Program, folder: str) -> None:
+    """A file whose first read or second one fails has the system's reason alone, also where it is the older one of two."""
+    needs_strace()
+    file, new = os.path.join(folder, "file"), os.path.join(folder, "new")
+    put(file, RENEWED)
+    put(new, RENEWED)
+    for words, number in (
+        *((words, number) for words in (("check", file), ("check", file, "--keys"), ("info", file), ("judge", file)) for number in (1, 2)),
+        *((("check", file, "--of", new), 1), (("check", new, "--of", file), 1)),
+    ):
+        before = ["strace", "-f", "-qq", "-o", os.devnull, "-P", file, "-e", "trace=read", "-e", f"inject=read:error=EIO:when={number}"]
+        ended, said = program.run_loud(*words, before=before)
+        expect((ended.text.splitlines()[-1:], ended.status), (["noread"], 1), f"{words} whose read {number} fails")
+        expect(said, f"lazyset: {file}: Input/output error (os error 5)\n", f"what {words} says whose read {number} fails")
+
+
 def try_devices(program: Program, folder: str) -> None:
     """A device that fails under a making, an open and a run."""
     needs_strace()
@@ -120,13 +166,15 @@ def try_devices(program: Program, folder: str) -> None:
     for words, path, call, number, line, why in (
         (("make", new, "2"), new, "fdatasync", 1, "refused 3", "the device failed"),
         (("make", new, "2"), new, "pwrite64", 1, "refused 3", "the device failed"),
+        (("make", new, "2", "--keys"), new, "pwrite64", 1, "refused 3", "the device failed"),
         (("renew", file, new, "2"), file, "fdatasync", 1, "refused old 7", "the device failed"),
         (("renew", file, new, "2"), new, "pwrite64", 1, "refused new 3", "the device failed"),
         (("run", file), file, "fdatasync", 1, "refused 7", "the device failed"),
         (("run", file), file, "fdatasync", 2, "halted", "the device failed: open the file again"),
         (("run", file), file, "pwrite64", 1, "halted", "the device failed: open the file again"),
     ):
-        ended, said = program.run_loud(*words, lines="add 5\n", before=failing(path, call, number))
+        lines = "5\n" if "--keys" in words else "add 5\n"
+        ended, said = program.run_loud(*words, lines=lines, before=failing(path, call, number))
         expect(ended, Ended(f"{line}\n", 1), f"{words} whose {call} {number} fails")
         named = f"{file} {new}" if words[0] == "renew" else path
         expect(said, f"lazyset: {path}: {CAUSES[call]}\nlazyset: {words[0]} {named}: {line}: {why}\n", "what it says")

@@ -1,19 +1,24 @@
 //! One function for each command: it opens what the command works on.
-ghost use Rattle.std.specs.Prelude.{◌≤◌};
-ghost use Rattle.lz_slot.specs.Limits.{most_buckets, most_passes, most_rehearsed};
+ghost use Rattle.std.specs.Prelude.{◌≡◌, ◌≤◌};
+ghost use Rattle.lz_slot.specs.Limits.{last_room, most_buckets, most_buckets_of, most_passes, most_rehearsed};
+ghost use Rattle.lz_slot.specs.Rooms.{last_room_of};
 ghost use Rattle.lazyset_command_line.specs.Requests.{IsWithin};
 
 use crate::fault::Fault;
-use crate::files::{create, is_absent, open, read_front, say_cause, stand_in, take_away_empty};
+use crate::files::{
+    create, format_on, is_absent, open, open_source, read_front, say_cause, stand_in,
+    take_away_empty,
+};
 use crate::heard::Heard;
 use crate::log::Log;
 use crate::watched::Watched;
 use crate::words::words_of;
-use lazyset_command_line::{Request, read};
+use lazyset_command_line::{Request, read, too_many_buckets};
 use lazyset_commands::{
-    MOST_JUDGED, MOST_SURVEYED, ServeOptions, Status, check_of_on, check_on, info_on, judge_on,
-    keys_on, make_on, rehearse_on, renew_on, run_on, serve_on,
+    MOST_JUDGED, ServeOptions, Shown, Status, check_of_on, judge_on, make_keys_on, make_on,
+    rehearse_on, renew_on, run_on, serve_on, survey_on,
 };
+use lz_disk::FileDisk;
 use lz_slot::Format;
 use std::fs::File;
 use std::io::Write;
@@ -70,12 +75,22 @@ where
             slots,
             format,
         } => make(rt, writer, file, slots, format),
-        Request::Renew { old, new, slots } => renew(rt, writer, old, new, slots),
+        Request::MakeKeys {
+            file,
+            slots,
+            format,
+        } => make_keys(rt, writer, file, slots, format),
+        Request::Renew {
+            old,
+            new,
+            slots,
+            format,
+        } => renew(rt, writer, old, new, slots, format),
         Request::Run { file, buckets } => run_file(rt, writer, file, buckets),
         Request::Serve { file, options } => serve(rt, writer, file, options),
-        Request::Info { file } => info(rt, writer, file),
+        Request::Info { file } => survey(rt, writer, file, Shown::Counts),
         Request::Check { file, of } => check(rt, writer, file, of),
-        Request::Keys { file } => keys(rt, writer, file),
+        Request::Keys { file } => survey(rt, writer, file, Shown::Keys),
         Request::Judge { file } => judge(rt, writer, file),
         Request::Rehearse {
             slots,
@@ -110,22 +125,72 @@ where
     let was_absent = is_absent(rt, file);
     let mut disk = create(rt, file)?;
     let status = make_on(writer, &mut disk, slots, format);
-    say_cause(rt, file, &disk);
+    say_cause(rt, file, disk.cause());
     Ok(after_making(rt, file, was_absent, status))
 }
 
-fn renew<R, W>(rt: &R, writer: &mut W, old: &str, new: &str, slots: u64) -> Result<Status, Fault>
+fn make_keys<R, W>(
+    rt: &R,
+    writer: &mut W,
+    file: &str,
+    slots: u64,
+    format: Format,
+) -> Result<Status, Fault>
+where
+    R: Files<File = File> + Input + Eprint + AllocGlobal,
+    W: Write + Drop,
+{
+    let was_absent = is_absent(rt, file);
+    let mut disk = create(rt, file)?;
+    let status = make_keys_on(
+        rt.alloc(),
+        &mut rt.reader(),
+        writer,
+        &mut disk,
+        slots,
+        format,
+    );
+    say_cause(rt, file, disk.cause());
+    Ok(after_making(rt, file, was_absent, status))
+}
+
+fn renew<R, W>(
+    rt: &R,
+    writer: &mut W,
+    old: &str,
+    new: &str,
+    slots: u64,
+    format: Format,
+) -> Result<Status, Fault>
 where
     R: Files<File = File> + Eprint + AllocGlobal,
     W: Write + Drop,
+    requires { last_room_of format ≡ last_room }
 {
     let mut old_disk = open(rt, old)?;
     let was_absent = is_absent(rt, new);
     let mut disk = create(rt, new)?;
-    let status = renew_on(rt.alloc(), writer, &mut old_disk, &mut disk, slots);
-    say_cause(rt, old, &old_disk);
-    say_cause(rt, new, &disk);
+    let status = renew_on(rt.alloc(), writer, &mut old_disk, &mut disk, format, slots);
+    say_cause(rt, old, old_disk.cause());
+    say_cause(rt, new, disk.cause());
     Ok(after_making(rt, new, was_absent, status))
+}
+
+// The file as a disk. More buckets than its format allows are refused as the command line refuses a number that is out of range; its
+// head is asked only for more than each format allows.
+fn open_for<R>(rt: &R, file: &str, buckets: usize) -> Result<FileDisk, Fault>
+where
+    R: Files<File = File> + Eprint + AllocGlobal,
+{
+    let mut disk = open(rt, file)?;
+    if buckets > Format::Two.most_buckets()
+        && let Some(format) = format_on(&mut disk)
+        && buckets > format.most_buckets()
+    {
+        let refusal = too_many_buckets(rt.alloc(), buckets as u64, format);
+        return Err(Fault::of_refusal(refusal));
+    }
+    Ok(disk)
 }
 
 fn run_file<R, W>(rt: &R, writer: &mut W, file: &str, buckets: usize) -> Result<Status, Fault>
@@ -134,9 +199,9 @@ where
     W: Write + Drop,
     requires { (1 ≤ buckets) × (buckets ≤ most_buckets) }
 {
-    let disk = open(rt, file)?;
+    let disk = open_for(rt, file, buckets)?;
     let (status, disk) = run_on(rt, &mut rt.reader(), writer, disk, buckets);
-    say_cause(rt, file, &disk);
+    say_cause(rt, file, disk.cause());
     Ok(status)
 }
 
@@ -148,21 +213,23 @@ where
     requires passes { (1 ≤ options.passes) × (options.passes ≤ most_passes) }
     requires buckets { (1 ≤ options.buckets) × (options.buckets ≤ most_buckets) }
 {
-    let disk = open(rt, file)?;
+    let disk = open_for(rt, file, options.buckets)?;
     let watched = File::open(rt, file).ok().and_then(Watched::new);
     let log = Log::new(rt, file, watched);
     let (status, disk) = serve_on(rt, writer, &log, disk, options);
-    say_cause(rt, file, &disk);
+    say_cause(rt, file, disk.cause());
     Ok(status)
 }
 
-fn info<R, W>(rt: &R, writer: &mut W, file: &str) -> Result<Status, Fault>
+fn survey<R, W>(rt: &R, writer: &mut W, file: &str, shown: Shown) -> Result<Status, Fault>
 where
     R: Files<File = File> + Eprint + AllocGlobal,
     W: Write + Drop,
 {
-    let bytes = read_front(rt, file, MOST_SURVEYED)?;
-    Ok(info_on(rt.alloc(), bytes.as_slice(), writer))
+    let mut source = open_source(rt, file)?;
+    let status = survey_on(rt.alloc(), &mut source, writer, shown);
+    say_cause(rt, file, source.cause());
+    Ok(status)
 }
 
 fn check<R, W>(rt: &R, writer: &mut W, file: &str, of: Option<&str>) -> Result<Status, Fault>
@@ -170,21 +237,15 @@ where
     R: Files<File = File> + Eprint + AllocGlobal,
     W: Write + Drop,
 {
-    let bytes = read_front(rt, file, MOST_SURVEYED)?;
     let Some(old) = of else {
-        return Ok(check_on(rt.alloc(), bytes.as_slice(), writer));
+        return survey(rt, writer, file, Shown::Findings);
     };
-    let old = read_front(rt, old, MOST_SURVEYED)?;
-    Ok(check_of_on(rt.alloc(), bytes.as_slice(), old.as_slice(), writer))
-}
-
-fn keys<R, W>(rt: &R, writer: &mut W, file: &str) -> Result<Status, Fault>
-where
-    R: Files<File = File> + Eprint + AllocGlobal,
-    W: Write + Drop,
-{
-    let bytes = read_front(rt, file, MOST_SURVEYED)?;
-    Ok(keys_on(rt.alloc(), bytes.as_slice(), writer))
+    let mut source = open_source(rt, file)?;
+    let mut older = open_source(rt, old)?;
+    let status = check_of_on(rt.alloc(), &mut source, &mut older, writer);
+    say_cause(rt, file, source.cause());
+    say_cause(rt, old, older.cause());
+    Ok(status)
 }
 
 fn judge<R, W>(rt: &R, writer: &mut W, file: &str) -> Result<Status, Fault>
@@ -196,12 +257,13 @@ where
     Ok(judge_on(rt.alloc(), bytes.as_slice(), writer))
 }
 
+#[tactic(auto, using(crate::proofs::Buckets::buckets_of_format))]
 fn rehearse<R, W>(rt: &R, writer: &mut W, slots: usize, buckets: usize, format: Format) -> Status
 where
     R: Input + AllocGlobal,
     W: Write + Drop,
     requires slots { (1 ≤ slots) × (slots ≤ most_rehearsed) }
-    requires buckets { (1 ≤ buckets) × (buckets ≤ most_buckets) }
+    requires buckets { (1 ≤ buckets) × (buckets ≤ most_buckets_of format) }
 {
     rehearse_on(rt.alloc(), &mut rt.reader(), writer, slots, buckets, format)
 }

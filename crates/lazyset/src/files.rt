@@ -1,6 +1,8 @@
 //! The files that a command names, and the process's own.
 use crate::fault::Fault;
-use lz_disk::FileDisk;
+use crate::source::Source;
+use lz_disk::{Disk, FileDisk};
+use lz_slot::{Format, read_header};
 use std::fs::{File, OpenOptions};
 use std::io::{ErrorKind, Read};
 use std::os::fd::{AsRawFd, RawFd};
@@ -61,9 +63,20 @@ where
     }
 }
 
-/// Says why the disk of this file failed, where the system said so.
-pub fn say_cause<R: Eprint>(rt: &R, path: &str, disk: &FileDisk) {
-    if let Some(error) = disk.cause() {
+/// The format of the file on this disk, where its head tells one. What is wrong with another file is told by its open.
+pub fn format_on(disk: &mut FileDisk) -> Option<Format> {
+    let mut head = [0; 16];
+    let size = disk.size().ok()?;
+    if size < 16 {
+        return None;
+    }
+    disk.read(0, &mut head).ok()?;
+    Some(read_header(&head, size).ok()?.format)
+}
+
+/// Says why this file failed, where the system said so.
+pub fn say_cause<R: Eprint>(rt: &R, path: &str, cause: Option<io::Error>) {
+    if let Some(error) = cause {
         let _ = eprintln!(rt; "lazyset: {path}: {error}");
     }
 }
@@ -109,7 +122,6 @@ fn why_not<R: Files<File = File>>(rt: &R, path: &str, create: bool) -> Option<io
     how.open(rt, path).err()
 }
 
-// The file, for reading. A directory is none.
 fn open_readable<R: Files<File = File> + Eprint>(rt: &R, path: &str) -> Result<File, Fault> {
     let file = match File::open(rt, path) {
         Ok(file) => file,
@@ -119,6 +131,14 @@ fn open_readable<R: Files<File = File> + Eprint>(rt: &R, path: &str) -> Result<F
         Ok(metadata) if metadata.is_dir() => Err(no_file(rt, path, "it is a directory")),
         _ => Ok(file),
     }
+}
+
+/// The file, for reading from its beginning to its end. A directory is none.
+pub fn open_source<R>(rt: &R, path: &str) -> Result<Source, Fault>
+where
+    R: Files<File = File> + Eprint,
+{
+    Ok(Source::new(open_readable(rt, path)?))
 }
 
 /// The file's bytes, up to so many.

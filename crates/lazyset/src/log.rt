@@ -1,7 +1,7 @@
 //! What the service says on standard error.
 use crate::watched::Watched;
 use lz_serve::{Observer, Serving};
-use lz_slot::MOST_BUCKETS;
+use lz_slot::Format;
 use std::io;
 use std::sync::atomic::{AtomicBool, Ordering};
 
@@ -31,6 +31,15 @@ impl<'a, R: Eprint> Log<'a, R> {
         }
     }
 
+    // The most buckets that the file may be given. Where its format can't be read, as many as each format allows.
+    fn most_buckets(&self) -> usize {
+        self.watched
+            .as_ref()
+            .and_then(Watched::format)
+            .unwrap_or(Format::Two)
+            .most_buckets()
+    }
+
     // Says what was done to the file.
     fn tell_change(&self, change: &str) {
         if !self.was_changed.swap(true, Ordering::SeqCst) {
@@ -50,7 +59,7 @@ impl<'a, R: Eprint> Observer for Log<'a, R> {
             ..
         } = serving;
         if members.checked_div(buckets).unwrap_or(0) > LONG_LIST {
-            let more = members.min(MOST_BUCKETS);
+            let more = members.min(self.most_buckets());
             let _ = eprintln!(self.rt;
                 "{file}: long lists make commands slow: give it --buckets {more} at the next start"
             );

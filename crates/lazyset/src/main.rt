@@ -6,6 +6,7 @@ mod fault;
 mod files;
 mod heard;
 mod log;
+mod source;
 mod watched;
 mod words;
 

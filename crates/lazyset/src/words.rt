@@ -1,6 +1,7 @@
 //! What the lines that refuse say in words, for standard error.
 
 use lazyset_command_line::Request;
+use lz_slot::Format;
 
 // What stands before the number of a fault.
 const REFUSED: &str = "refused ";
@@ -14,14 +15,26 @@ pub fn words_of(request: Request<'_>, line: &str) -> Option<&'static str> {
     if let Some(number) = number_after(REFUSED_OLD, line) {
         return words_of_opening(number);
     }
-    if let Some(number) = number_after(REFUSED_NEW, line) {
-        return words_of_making(number);
+    match (made_format(request), number_of_fault(line)) {
+        (Some(format), Some(number)) => words_of_making(number, format),
+        (None, Some(number)) => words_of_opening(number),
+        (_, None) => words_of_end(request, line),
     }
-    match (request, number_after(REFUSED, line)) {
-        (Request::Make { .. } | Request::Renew { .. }, Some(number)) => words_of_making(number),
-        (_, Some(number)) => words_of_opening(number),
-        (_, None) => words_of_end(line),
+}
+
+// The format of the file that a command makes, if it makes one.
+fn made_format(request: Request<'_>) -> Option<Format> {
+    match request {
+        Request::Make { format, .. }
+        | Request::MakeKeys { format, .. }
+        | Request::Renew { format, .. } => Some(format),
+        _ => None,
     }
+}
+
+// The number of a fault, of the new file where a line names one.
+fn number_of_fault(line: &str) -> Option<u8> {
+    number_after(REFUSED_NEW, line).or(number_after(REFUSED, line))
 }
 
 // The digit that follows this beginning of the line.
@@ -29,14 +42,22 @@ fn number_after(beginning: &str, line: &str) -> Option<u8> {
     line.strip_prefix(beginning)?.as_bytes().first().copied()
 }
 
-fn words_of_making(number: u8) -> Option<&'static str> {
+fn words_of_making(number: u8, format: Format) -> Option<&'static str> {
     match number {
         b'1' => Some("it is a set already"),
-        b'2' => Some("a file has 1 to 65536 slots"),
+        b'2' => Some(words_of_slots(format)),
         b'3' => Some("the device failed"),
         b'4' => Some("it is longer than the new file would be"),
         b'9' => Some("so many keys have no room in so many slots"),
         _ => None,
+    }
+}
+
+// How many slots a file of this format has.
+fn words_of_slots(format: Format) -> &'static str {
+    match format {
+        Format::One | Format::Two => "a file has 1 to 65536 slots",
+        Format::Three => "a file of format 3 has 1 to 16777216 slots",
     }
 }
 
@@ -54,12 +75,29 @@ fn words_of_opening(number: u8) -> Option<&'static str> {
     }
 }
 
-fn words_of_end(line: &str) -> Option<&'static str> {
+fn words_of_end(request: Request<'_>, line: &str) -> Option<&'static str> {
     match line {
         "halted" => Some("the device failed: open the file again"),
         "nomemory" => Some("out of memory"),
-        "noread" => Some("a read of the input failed"),
-        _ if line.starts_with("line ") => Some("this line doesn't read, or may not stand there"),
+        "noread" => words_of_read(request),
+        _ if line.starts_with("line ") => Some(words_of_line(request)),
+        _ if line.starts_with("twice ") => Some("this line's key stands in a line above"),
         _ => None,
+    }
+}
+
+// Why a read failed. Of a file the system's own reason was told.
+fn words_of_read(request: Request<'_>) -> Option<&'static str> {
+    match request {
+        Request::MakeKeys { .. } | Request::Rehearse { .. } => Some("a read of the input failed"),
+        _ => None,
+    }
+}
+
+// Why a line of the input is refused.
+fn words_of_line(request: Request<'_>) -> &'static str {
+    match request {
+        Request::MakeKeys { .. } => "this line holds no key that the format has",
+        _ => "this line doesn't read, or may not stand there",
     }
 }

@@ -6,5 +6,5 @@ mod refusal;
 mod request;
 mod words;
 
-pub use refusal::Refusal;
+pub use refusal::{Refusal, too_many_buckets};
 pub use request::{Request, read};

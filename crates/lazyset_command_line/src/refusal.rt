@@ -1,6 +1,7 @@
 //! Why a command line asks for nothing that can be done.
 use clap::Error;
 use clap::error::ErrorKind;
+use lz_slot::Format;
 use std::alloc::{AllocError, Global};
 
 #[derive(Debug, Drop)]
@@ -24,5 +25,26 @@ pub fn refusal_of(alloc: Global, error: Error) -> Refusal {
     match kind {
         ErrorKind::DisplayHelp | ErrorKind::DisplayVersion => Refusal::Help(text),
         _ => Refusal::NotUnderstood(text),
+    }
+}
+
+/// So many buckets are more than a set in a file of this format may have. Where the command line itself knows the most, it says the same.
+pub fn too_many_buckets(alloc: Global, buckets: u64, format: Format) -> Refusal {
+    let most = format.most_buckets();
+    let text = format!(in alloc;
+        "error: invalid value '{buckets}' for '--buckets <B>': {buckets} is not in 1..={most}\n\nFor more information, try '--help'.\n"
+    );
+    not_understood(text)
+}
+
+/// Each loop needs a pass.
+pub fn too_many_loops(alloc: Global) -> Refusal {
+    not_understood(format!(in alloc; "error: '--loops <L>' is more than '<PASSES>'\n"))
+}
+
+fn not_understood(text: Result<String, AllocError>) -> Refusal {
+    match text {
+        Ok(text) => Refusal::NotUnderstood(text),
+        Err(error) => Refusal::Memory(error),
     }
 }

@@ -1,13 +1,14 @@
 //! What a command line asks for.
-ghost use Rattle.std.specs.Prelude.{◌≤◌, IfOk, IfSome};
-ghost use Rattle.lz_slot.specs.Limits.{most_buckets, most_passes};
+ghost use Rattle.std.specs.Prelude.{◌≡◌, ◌≤◌, IfOk, IfSome};
+ghost use Rattle.lz_slot.specs.Limits.{last_room, most_buckets, most_passes};
+ghost use Rattle.lz_slot.specs.Rooms.{last_room_of};
 ghost use Rattle.lazyset_command_line.specs.Requests.{AreWithin, IsWithin};
 
 use crate::command::command_line;
-use crate::refusal::{Refusal, refusal_of};
+use crate::refusal::{Refusal, refusal_of, too_many_buckets, too_many_loops};
 use clap::ArgMatches;
 use lz_serve::{Loops, MOST_CONNECTIONS, ServeOptions};
-use lz_slot::{Format, MOST_BUCKETS, MOST_PASSES, MOST_REHEARSED};
+use lz_slot::{Format, LAST_ROOM, MOST_BUCKETS, MOST_PASSES, MOST_REHEARSED};
 use std::alloc::{AllocError, Global};
 use std::fmt;
 
@@ -19,10 +20,17 @@ pub enum Request<'a> {
         slots: u64,
         format: Format,
     },
+    /// A making of a file that holds the keys of standard input.
+    MakeKeys {
+        file: &'a str,
+        slots: u64,
+        format: Format,
+    },
     Renew {
         old: &'a str,
         new: &'a str,
         slots: u64,
+        format: Format,
     },
     Run {
         file: &'a str,
@@ -57,7 +65,7 @@ pub enum Request<'a> {
 impl fmt::Display for Request<'_> {
     fn fmt<W: fmt::Write>(&self, f: &mut fmt::Formatter<W>) -> fmt::Result {
         match *self {
-            Request::Make { file, .. } => write!(f, "make {file}"),
+            Request::Make { file, .. } | Request::MakeKeys { file, .. } => write!(f, "make {file}"),
             Request::Renew { old, new, .. } => write!(f, "renew {old} {new}"),
             Request::Run { file, .. } => write!(f, "run {file}"),
             Request::Serve { file, .. } => write!(f, "serve {file}"),
@@ -79,17 +87,25 @@ pub fn read<'a>(alloc: Global, words: &'a [String]) -> Result<Request<'a>, Refus
     match command.try_get_matches_from(words) {
         Ok(matches) => match request_of(&matches) {
             Some(request) => Ok(request),
-            None => Err(too_many_loops(alloc)),
+            None => Err(misfit(alloc, &matches)),
         },
         Err(error) => Err(refusal_of(alloc, error)),
     }
 }
 
-// The one fault that the table of words doesn't show: each loop needs a pass.
-fn too_many_loops(alloc: Global) -> Refusal {
-    match format!(in alloc; "error: '--loops <L>' is more than '<PASSES>'\n") {
-        Ok(text) => Refusal::NotUnderstood(text),
-        Err(_) => Refusal::Memory(AllocError),
+// The faults that the table of words doesn't show: a format has its own most buckets, and each loop needs a pass.
+fn misfit(alloc: Global, matches: &ArgMatches<'_>) -> Refusal {
+    match rehearsed(matches) {
+        Some((buckets, format)) => too_many_buckets(alloc, buckets, format),
+        None => too_many_loops(alloc),
+    }
+}
+
+// The buckets and the format of a rehearsal.
+fn rehearsed(matches: &ArgMatches<'_>) -> Option<(u64, Format)> {
+    match matches.subcommand()? {
+        ("rehearse", words) => Some((number(words, "buckets")?, format_of(words)?)),
+        _ => None,
     }
 }
 
@@ -111,10 +127,21 @@ fn request_of<'a>(matches: &ArgMatches<'a>) -> Option<Request<'a>>
 fn make<'a>(words: &ArgMatches<'a>) -> Option<Request<'a>>
     ensures { IfSome result IsWithin }
 {
-    Some(Request::Make {
-        file: text(words, "FILE")?,
-        slots: number(words, "SLOTS")?,
-        format: format_of(words)?,
+    let file = text(words, "FILE")?;
+    let slots = number(words, "SLOTS")?;
+    let format = format_of(words)?;
+    Some(if words.get_flag("keys") {
+        Request::MakeKeys {
+            file,
+            slots,
+            format,
+        }
+    } else {
+        Request::Make {
+            file,
+            slots,
+            format,
+        }
     })
 }
 
@@ -125,6 +152,7 @@ fn renew<'a>(words: &ArgMatches<'a>) -> Option<Request<'a>>
         old: text(words, "OLD")?,
         new: text(words, "NEW")?,
         slots: number(words, "SLOTS")?,
+        format: format_with_rooms(words)?,
     })
 }
 
@@ -216,11 +244,12 @@ fn rehearse<'a>(words: &ArgMatches<'a>) -> Option<Request<'a>>
     ensures { IfSome result IsWithin }
 {
     let slots = number_within(words, "SLOTS", MOST_REHEARSED)?;
-    let buckets = number_within(words, "buckets", MOST_BUCKETS)?;
+    let format = format_of(words)?;
+    let buckets = number_within(words, "buckets", format.most_buckets())?;
     Some(Request::Rehearse {
         slots,
         buckets,
-        format: format_of(words)?,
+        format,
     })
 }
 
@@ -229,8 +258,20 @@ fn format_of(matches: &ArgMatches<'_>) -> Option<Format> {
     match number(matches, "format")? {
         1 => Some(Format::One),
         2 => Some(Format::Two),
+        3 => Some(Format::Three),
         _ => None,
     }
+}
+
+// The format that the command line names, where it has all rooms.
+fn format_with_rooms(matches: &ArgMatches<'_>) -> Option<Format>
+    ensures { IfSome result (λ format. last_room_of format ≡ last_room) }
+{
+    let format = format_of(matches)?;
+    if format.last_room() != LAST_ROOM {
+        return None;
+    }
+    Some(format)
 }
 
 // A text of the command line.

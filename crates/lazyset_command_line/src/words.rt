@@ -52,15 +52,15 @@ pub const STATUSES: &str =
 pub const SHEETS: [Sheet; 8] = [
     Sheet {
         name: "make",
-        about: "Makes a file that holds the empty set. It overwrites any file that isn't a set, unless that is longer",
-        notes: "Prints `made SLOTS`, or `refused N`: 1 it is a set already, 2 bad number of slots, 3 the device failed, 4 the file is longer than the new one. A file that can't be had, or isn't a regular one, is `nofile`.\n\nExample: lazyset make f 1000",
-        words: &[FILE, SLOTS, FORMAT],
+        about: "Makes a file that holds the empty set, or the keys of standard input. It overwrites any file that isn't a set, unless that is longer",
+        notes: "Prints `made SLOTS`, or `refused N`: 1 it is a set already, 2 bad number of slots, 3 the device failed, 4 the file is longer than the new one. A file that can't be had, or isn't a regular one, is `nofile`.\n\nWith --keys the file holds the keys of standard input, one a line, as `17` or `3:17`: what `check FILE --keys` prints. Where line L holds no key that the format has it prints `line L`, where its key stands in a line above `twice L`, and `refused 9 M S` where M keys have no room in S slots. Nothing is made then.\n\nExample: lazyset make f 1000",
+        words: &[FILE, SLOTS, FORMAT, LIST],
     },
     Sheet {
         name: "renew",
         about: "Makes a file that holds the keys of another one, with room for more or fewer. It overwrites as make does",
         notes: "Prints `renewed M`, `refused old N` with what `run` would say of OLD, `refused new N` with what `make` would say of NEW, or `refused 9 M S` where M keys have no room in S slots.\n\nExample: lazyset renew f g 2000",
-        words: &[OLD, NEW, SLOTS],
+        words: &[OLD, NEW, SLOTS, ROOMY_FORMAT],
     },
     Sheet {
         name: "run",
@@ -133,7 +133,7 @@ const NEW: Word = Word {
     form: Form::Text,
     default: None,
     beside: Beside::Anything,
-    help: "The slot file that is made, of format 2",
+    help: "The slot file that is made",
 };
 
 const HISTORY: Word = Word {
@@ -163,13 +163,22 @@ const KEYS: Word = Word {
     help: "Prints the keys alone, one a line, in the order of their slots",
 };
 
+const LIST: Word = Word {
+    id: "keys",
+    value_name: None,
+    form: Form::Flag,
+    default: None,
+    beside: Beside::Anything,
+    help: "Makes a file that holds the keys of standard input, one a line",
+};
+
 const SLOTS: Word = Word {
     id: "SLOTS",
     value_name: None,
     form: Form::Number,
     default: None,
     beside: Beside::Anything,
-    help: "How many keys the file has room for, 1 to 65536",
+    help: "How many keys the file has room for, 1 to 65536, or to 16777216 with format 3",
 };
 
 const REHEARSED: Word = Word {
@@ -184,10 +193,19 @@ const REHEARSED: Word = Word {
 const FORMAT: Word = Word {
     id: "format",
     value_name: Some("F"),
-    form: Form::Within(1, 2),
+    form: Form::Within(1, 3),
     default: Some("2"),
     beside: Beside::Anything,
-    help: "The format of the file: 2, whose keys are in the rooms 0 to 15, or the older 1, whose keys are all in room 0",
+    help: "The format of the file: 2, whose keys are in the rooms 0 to 15, 3, which is the same with more slots, or the older 1, whose keys are all in room 0",
+};
+
+const ROOMY_FORMAT: Word = Word {
+    id: "format",
+    value_name: Some("F"),
+    form: Form::Within(2, 3),
+    default: Some("2"),
+    beside: Beside::Anything,
+    help: "The format of the new file: 2, or 3, which has more slots",
 };
 
 const BUCKETS: Word = Word {
@@ -196,7 +214,7 @@ const BUCKETS: Word = Word {
     form: Form::Within(1, MOST_BUCKETS as i64),
     default: Some("1"),
     beside: Beside::Anything,
-    help: "The number of hash buckets, 1 to 4096: choose about the number of members",
+    help: "The number of hash buckets, 1 to 4096, or to 1048576 with format 3: choose about the number of members",
 };
 
 const PORT: Word = Word {

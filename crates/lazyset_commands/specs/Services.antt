@@ -16,7 +16,8 @@ use Rattle.lz_set.specs.Left.{IsLeft, IsLeftWith}
 use Rattle.lz_serve.specs.Halts.{IsCalm}
 use Rattle.lazyset_offline.specs.Ends.{open_status}
 use Rattle.lazyset_offline.specs.Refusals.{refusal_text}
-use Rattle.lazyset_offline.specs.Tellings.{IsCutShort, Tells}
+use Rattle.lz_proto.specs.Steps.{IsCutShort}
+use Rattle.lazyset_offline.specs.Tellings.{Tells}
 use Rattle.lazyset_offline.specs.declared.status.Status.{Status}
 use Rattle.lazyset_offline.specs.declared.status.Status.TheVariants.{Done, Failed}
 

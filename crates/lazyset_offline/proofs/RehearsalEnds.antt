@@ -38,9 +38,7 @@ cut_still first last lines before middle after h none = record {
     seen = h.cut.seen;
     text = h.cut.text;
     does = h.cut.does;
-    sent = h.cut.sent;
-    less = h.cut.less;
-    written = still h.middle middle after (take h.cut.sent h.cut.text) h.cut.written none;
+    cut = (h.cut.cut.0, h.cut.cut.1, still h.middle middle after (take h.cut.cut.0 h.cut.text) h.cut.cut.2 none);
   };
 }
 

@@ -7,7 +7,7 @@ use Rattle.std.proofs.KnownBytes.{Appends-kept, Appends-trans}
 use Rattle.lz_proto.specs.Steps.{SendTells}
 use Rattle.lz_proto.specs.declared.fault.SessionFault.{SessionFault}
 use Rattle.lz_proto.specs.declared.fault.SessionFault.TheVariants.{Read, Write, Memory}
-use Rattle.lazyset_offline.specs.Tellings.{IsCutShort, Tells, status_sent}
+use Rattle.lazyset_offline.specs.Tellings.{Tells, status_sent}
 use Rattle.lz_vault.specs.declared.opening.OpenFault.{OpenFault}
 use Rattle.lz_vault.specs.declared.opening.OpenFault.TheVariants as opening
 use Rattle.lazyset_offline.specs.Ends.{open_status}

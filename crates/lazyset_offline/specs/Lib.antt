@@ -8,3 +8,5 @@ pub mod Comparisons
 pub mod Judgements
 pub mod Rehearsals
 pub mod Renewals
+pub mod Lists
+pub mod Listings

@@ -20,6 +20,10 @@ made_text slots = codes "made " ++ decimal slots ++ 10 ∷ []
 abbrev pub refused_text : ℕ → List ℕ
 refused_text number = codes "refused " ++ decimal number ++ 10 ∷ []
 
+-- the line of a refusal of so many members in so many slots
+abbrev pub room_text : ℕ → ℕ → List ℕ
+room_text members slots = codes "refused 9 " ++ decimal members ++ codes " " ++ decimal slots ++ 10 ∷ []
+
 -- Why no file of this format with so many slots was made: each fault says what is there, or what was asked for, or that the device failed.
 abbrev pub IsMakeFault : MakeFault → Format → ℕ → Disk → Disk → Type 0
 IsMakeFault AlreadyMade format slots old new = IsTrue old.honest → IsMade old.medium.seen × (new.medium ≡ synced old.medium)

@@ -12,6 +12,7 @@ use Rattle.lz_vault.specs.declared.opening.OpenFault.TheVariants.{BadKey, Twice}
 use Rattle.lz_vault.specs.declared.renewing.RenewFault.{RenewFault}
 use Rattle.lz_vault.specs.declared.renewing.RenewFault.TheVariants.{Old, New, TooSmall}
 use Rattle.lazyset_offline.specs.Ends.{make_status, open_status}
+use Rattle.lazyset_offline.specs.Makings.{room_text}
 use Rattle.lazyset_offline.specs.declared.status.Status.{Status}
 use Rattle.lazyset_offline.specs.declared.status.Status.TheVariants.{Done, Refused}
 
@@ -33,7 +34,7 @@ abbrev pub renewal_text : Result ℕ RenewFault → List ℕ
 renewal_text (Ok members) = codes "renewed " ++ decimal members ++ 10 ∷ []
 renewal_text (Err (Old fault)) = old_text fault
 renewal_text (Err (New fault)) = new_number_text (make_fault_number fault)
-renewal_text (Err (TooSmall members slots)) = codes "refused 9 " ++ decimal members ++ codes " " ++ decimal slots ++ 10 ∷ []
+renewal_text (Err (TooSmall members slots)) = room_text members slots
 
 -- how a renewal ends, where that could be told
 abbrev pub renewal_status : Result ℕ RenewFault → Status

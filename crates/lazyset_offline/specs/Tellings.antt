@@ -1,6 +1,7 @@
 -- What is written with which a command ends.
-use Rattle.std.specs.Prelude.{◌≡◌, ◌⊎◌, ℕ, ◌<◌, List, [], ◌∷◌, ◌++◌, codes, length, take, decimal, Option, Result, Ok, Err}
+use Rattle.std.specs.Prelude.{◌≡◌, ◌⊎◌, ℕ, List, [], ◌∷◌, ◌++◌, codes, decimal, Option, Result, Ok, Err}
 use Rattle.std.specs.Io.KnownBytes.{Appends}
+use Rattle.lz_proto.specs.Steps.{IsCutShort}
 use Rattle.lz_proto.specs.declared.fault.SessionFault.{SessionFault}
 use Rattle.lazyset_offline.specs.declared.status.Status.{Status}
 use Rattle.lazyset_offline.specs.declared.status.Status.TheVariants.{Failed}
@@ -8,10 +9,6 @@ use Rattle.lazyset_offline.specs.declared.status.Status.TheVariants.{Failed}
 -- the line that names a line of the input, from 1
 abbrev pub line_text : ℕ → List ℕ
 line_text line = codes "line " ++ decimal line ++ 10 ∷ []
-
--- of the text a part was written that isn't all
-abbrev pub IsCutShort : Option (List ℕ) → Option (List ℕ) → List ℕ → Type 0
-IsCutShort before after text = (sent : ℕ) × (sent < length text) × Appends before after (take sent text)
 
 -- the text was written, and the command ends with its status; or not all of it was, and the command failed
 abbrev pub Tells : Option (List ℕ) → Option (List ℕ) → List ℕ → Status → Status → Type 0
@@ -30,6 +27,10 @@ memory_text = codes "nomemory" ++ 10 ∷ []
 abbrev pub LacksMemory : Option (List ℕ) → Option (List ℕ) → Status → Type 0
 LacksMemory before after status = Tells before after memory_text Failed status
 
+-- what is said where a read failed
+abbrev pub unread_text : List ℕ
+unread_text = codes "noread" ++ 10 ∷ []
+
 -- a read failed, which was told
 abbrev pub LacksInput : Option (List ℕ) → Option (List ℕ) → Status → Type 0
-LacksInput before after status = Tells before after (codes "noread" ++ 10 ∷ []) Failed status
+LacksInput before after status = Tells before after unread_text Failed status

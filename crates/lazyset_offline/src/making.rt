@@ -43,13 +43,15 @@ pub fn make_on<W: Write + Drop, D: Disk>(
     }
 }
 
-fn tell_made<W: Write + Drop>(writer: &mut W, slots: u64) -> Status
+// Says that a file was made.
+pub(crate) fn tell_made<W: Write + Drop>(writer: &mut W, slots: u64) -> Status
     ensures { Tells (W.contents writer.old) (W.contents writer.new) (made_text slots) Status.Done result }
 {
     status_sent(send_line(writer, b"made ", slots), Status::Done)
 }
 
-fn tell_fault<W: Write + Drop>(writer: &mut W, fault: MakeFault) -> Status
+// Says why none was.
+pub(crate) fn tell_fault<W: Write + Drop>(writer: &mut W, fault: MakeFault) -> Status
     ensures { Tells (W.contents writer.old) (W.contents writer.new) (refused_text (make_fault_number fault)) (make_status fault) result }
 {
     let told = fault;

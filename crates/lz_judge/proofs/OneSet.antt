@@ -65,43 +65,35 @@ held_found t found N head findings M S held = record {
 
 -- what a search of the findings of two files tells
 module _ (old new : List ℕ) (before after : List Finding) (kept : AreHeld old before) (given : AreHeld new after) where
-  within : (t : List ℕ) (found : List Finding) → AreHeld t found → (T : Keys) (found' : List Finding) → found' ≡ found → All (IsWithin T) found' → (k : ℕ) → IsTrue (found_keys found k) → IsTrue (T k)
-  within t found held T found' same each = all_within t found held T (subst (λ (l : List Finding). All (IsWithin T) l) same each)
+  pub missing : (slot : ℕ) → IsFirstOutside (found_keys after) before slot → IsRenewFlaw old new (Missing slot)
+  missing slot first = (
+    kept.slots,
+    given.slots,
+    found_keys before,
+    found_keys after,
+    kept.held,
+    given.held,
+    lowest_outside old before kept (found_keys after) slot first,
+  )
 
-  lowest : (t : List ℕ) (found : List Finding) (held : AreHeld t found) (T : Keys) (found' : List Finding) → found' ≡ found → (slot : ℕ) → IsFirstOutside T found' slot → IsLowestOutside t held.slots T slot
-  lowest t found held T found' same slot first = lowest_outside t found held T slot (subst (λ (l : List Finding). IsFirstOutside T l slot) same first)
+  -- each key of the old file is in the new one
+  pub none_missing : All (IsWithin (found_keys after)) before → (k : ℕ) → IsTrue (found_keys before k) → IsTrue (found_keys after k)
+  none_missing each = all_within old before kept (found_keys after) each
 
-  module _ (before' after' : List Finding) (same_before : before' ≡ before) (same_after : after' ≡ after) where
-    pub missing : (slot : ℕ) → IsFirstOutside (found_keys after') before' slot → IsRenewFlaw old new (Missing slot)
-    missing slot first = (
-      kept.slots,
-      given.slots,
-      found_keys before,
-      found_keys after,
-      kept.held,
-      given.held,
-      lowest old before kept (found_keys after) before' same_before slot (subst (λ (l : List Finding). IsFirstOutside (found_keys l) before' slot) same_after first),
-    )
+  pub extra : ((k : ℕ) → IsTrue (found_keys before k) → IsTrue (found_keys after k)) → (slot : ℕ) → IsFirstOutside (found_keys before) after slot → IsRenewFlaw old new (Extra slot)
+  extra inside slot first = (
+    kept.slots,
+    given.slots,
+    found_keys before,
+    found_keys after,
+    kept.held,
+    given.held,
+    inside,
+    lowest_outside new after given (found_keys before) slot first,
+  )
 
-    -- each key of the old file is in the new one
-    pub none_missing : All (IsWithin (found_keys after')) before' → (k : ℕ) → IsTrue (found_keys before k) → IsTrue (found_keys after k)
-    none_missing each = within old before kept (found_keys after) before' same_before (subst (λ (l : List Finding). All (IsWithin (found_keys l)) before') same_after each)
-
-    pub extra : ((k : ℕ) → IsTrue (found_keys before k) → IsTrue (found_keys after k)) → (slot : ℕ) → IsFirstOutside (found_keys before') after' slot → IsRenewFlaw old new (Extra slot)
-    extra inside slot first = (
-      kept.slots,
-      given.slots,
-      found_keys before,
-      found_keys after,
-      kept.held,
-      given.held,
-      inside,
-      lowest new after given (found_keys before) after' same_after slot (subst (λ (l : List Finding). IsFirstOutside (found_keys l) after' slot) same_before first),
-    )
-
-    pub none_extra : ((k : ℕ) → IsTrue (found_keys before k) → IsTrue (found_keys after k)) → All (IsWithin (found_keys before')) after' → HoldOneSet old new
-    none_extra inside each = one_set old new kept.slots given.slots (found_keys before) (found_keys after) kept.held given.held inside
-        (within new after given (found_keys before) after' same_after (subst (λ (l : List Finding). All (IsWithin (found_keys l)) after') same_before each))
+  pub none_extra : ((k : ℕ) → IsTrue (found_keys before k) → IsTrue (found_keys after k)) → All (IsWithin (found_keys before)) after → HoldOneSet old new
+  none_extra inside each = one_set old new kept.slots given.slots (found_keys before) (found_keys after) kept.held given.held inside (all_within new after given (found_keys before) each)
 
 -- One verdict alone
 lowest_alone : (t : List ℕ) (N M : ℕ) (T U : Keys) (i j : ℕ) → ((k : ℕ) → IsTrue (T k) → IsTrue (U k)) → ((k : ℕ) → IsTrue (U k) → IsTrue (T k)) → IsLowestOutside t N T i → IsLowestOutside t M U j → i ≡ j

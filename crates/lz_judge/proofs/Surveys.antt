@@ -1,2 +1,3 @@
 pub mod SlotFinding
 pub mod SoundFile
+pub mod PieceReads

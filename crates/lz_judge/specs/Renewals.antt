@@ -1,17 +1,14 @@
 -- What is told of two files, the second of which is to hold the set of the first.
-use Rattle.std.specs.Prelude.{◌≡◌, ℕ, ◌<◌, List, length, take, slice_index_or, All, IsTrue, false, Result, Ok, Err}
+use Rattle.std.specs.Prelude.{◌≡◌, ℕ, ◌<◌, nat_eq, List, length, take, slice_index_or, All, IsTrue, false, Result, Ok, Err}
+use Rattle.std.specs.HashSet.{HashSet, contains}
 use Rattle.lz_slot.specs.Bytes.{Holds, slot_at}
 use Rattle.lz_slot.specs.Sets.{Keys}
 use Rattle.lz_slot.specs.declared.slot.SlotRead.TheVariants.{Member}
-use Rattle.lz_judge.specs.Surveys.{AreFindings, found_keys}
+use Rattle.lz_judge.specs.Surveys.{AreFindings, HoldsASet, found_keys}
 use Rattle.lz_judge.specs.declared.finding.Finding.{Finding}
 use Rattle.lz_judge.specs.declared.finding.Finding.TheVariants.{Key, BadKey, Twice}
 use Rattle.lz_judge.specs.declared.renewing.RenewFlaw.{RenewFlaw}
 use Rattle.lz_judge.specs.declared.renewing.RenewFlaw.TheVariants.{NotHeld, Missing, Extra}
-
--- the file holds some set
-abbrev pub HoldsASet : List ℕ → Type 0
-HoldsASet t = (N : ℕ) × (S : Keys) × Holds t N S
 
 -- both files hold one set
 abbrev pub HoldOneSet : List ℕ → List ℕ → Type 0
@@ -49,6 +46,10 @@ pub record AreHeld (t : List ℕ) (found : List Finding) : Type 0 where
   pub slots : ℕ
   pub findings : AreFindings (slot_at t) slots found
   pub held : Holds t slots (found_keys found)
+
+-- the keys are those of S
+abbrev pub AreKeys : {H : Type 0} → HashSet ℕ H → Keys → Type 0
+AreKeys keys S = (k : ℕ) → contains nat_eq keys k ≡ S k
 
 -- what was found is no key outside the set
 abbrev pub IsWithin : Keys → Finding → Type 0

@@ -1,25 +1,64 @@
 -- What a scan of slots knows when it has come to slot n.
-use Rattle.std.specs.Prelude.{◌≡◌, ℕ, ◌+◌, ◌<◌, List, Some}
-use Rattle.std.specs.BTreeMap as tree
-use Rattle.std.specs.BTreeMap.{BTreeMap}
-use Rattle.std.specs.Ordering.{nat_cmp}
+use Rattle.std.specs.Prelude.{◌≡◌, ℕ, ◌+◌, ◌*◌, ◌/◌, ◌<◌, ◌≤◌, Bool, true, false, List, [], ◌∷◌, ◌++◌, length, take, nat_eq, Option, Some, Ok}
+use Rattle.std.specs.HashMap.{get}
+use Rattle.std.specs.Io.KnownBytes.{Consumes, IsAtEnd}
+use Rattle.lz_slot.specs.Bytes.{format_of, header_body, header_read, of_size, open_byte, slot_at}
+use Rattle.lz_slot.specs.declared.format.Format.{Format}
+use Rattle.lz_slot.specs.declared.header.Header.{Header}
 use Rattle.lz_slot.specs.declared.slot.SlotRead.{SlotRead}
 use Rattle.lz_slot.specs.declared.slot.SlotRead.TheVariants as read
 use Rattle.lz_judge.specs.declared.finding.Finding.{Finding}
+use Rattle.lz_judge.specs.declared.scan.Scan.{Scan}
 use Rattle.lz_judge.specs.Surveys.{AreFindings, IsFinding, IsFirst, slot_of}
 
 -- the map has the lowest slot below n of each key that one of these slots holds
-pub record KnowsFirsts (says : ℕ → SlotRead) (n : ℕ) (places : BTreeMap ℕ ℕ) : Type 0 where
-  pub found : (k i : ℕ) → tree.get nat_cmp places k ≡ Some i → (i < n) × IsFirst says i k
-  pub placed : (k i : ℕ) → i < n → says i ≡ read.Member k → (first : ℕ) × (tree.get nat_cmp places k ≡ Some first)
+pub record KnowsFirsts (says : ℕ → SlotRead) (n : ℕ) (place_of : ℕ → Option ℕ) : Type 0 where
+  pub found : (k i : ℕ) → place_of k ≡ Some i → (i < n) × IsFirst says i k
+  pub placed : (k i : ℕ) → i < n → says i ≡ read.Member k → (first : ℕ) × (place_of k ≡ Some first)
 
 -- the slots below n were taken
-pub record Scanned (says : ℕ → SlotRead) (n : ℕ) (found : List Finding) (places : BTreeMap ℕ ℕ) : Type 0 where
-  pub findings : AreFindings says n found
-  pub firsts : KnowsFirsts says n places
+pub record Scanned (says : ℕ → SlotRead) (n : ℕ) (scan : Scan) : Type 0 where
+  pub findings : AreFindings says n scan.findings.items
+  pub firsts : KnowsFirsts says n (get nat_eq scan.places)
 
 -- what was found at slot n, and the map that knows it too
-pub record Places (says : ℕ → SlotRead) (n : ℕ) (finding : Finding) (places : BTreeMap ℕ ℕ) : Type 0 where
+pub record Places (says : ℕ → SlotRead) (n : ℕ) (finding : Finding) (place_of : ℕ → Option ℕ) : Type 0 where
   pub true_of : IsFinding says finding
   pub slot : slot_of finding ≡ n
-  pub firsts : KnowsFirsts says (n + 1) places
+  pub firsts : KnowsFirsts says (n + 1) place_of
+
+-- the piece is what a file has from slot n on, as far as it goes
+pub record IsPieceAt (t : List ℕ) (n : ℕ) (piece : List ℕ) : Type 0 where
+  pub front : List ℕ
+  pub rest : List ℕ
+  pub whole : t ≡ (front ++ piece) ++ rest
+  pub size : length front ≡ 16 + 16 * n
+
+-- the text begins with a head that says this
+pub record BeginsWith (header : Header) (text : List ℕ) : Type 0 where
+  pub long : 16 ≤ length text
+  pub bytes : take 16 text ≡ open_byte ∷ header_body header.format header.slots
+  pub format : header.format ≡ format_of text
+  pub slots : (size : ℕ) → 16 ≤ size → header_read text size ≡ of_size size (Ok header.slots)
+
+-- The reader gave the whole piece, and what its slots say was taken.
+pub record GivesPiece (format : Format) (first : ℕ) (piece : List ℕ) (old new : Scan) (before after : Option (List ℕ)) : Type 0 where
+  pub given : Consumes before after piece
+  pub taken : (t : List ℕ) → format ≡ format_of t → IsPieceAt t first piece → Scanned (slot_at t) first old → Scanned (slot_at t) (first + length piece / 16) new
+
+-- The reader ended before a piece of this length did.
+pub record EndsWithin (size : ℕ) (before after : Option (List ℕ)) : Type 0 where
+  pub part : List ℕ
+  pub short : length part < size
+  pub given : Consumes before after part
+  pub ended : IsAtEnd after
+
+-- a piece was taken, or there was no whole one
+abbrev pub TakesPiece : Bool → Format → ℕ → List ℕ → Scan → Scan → Option (List ℕ) → Option (List ℕ) → Type 0
+TakesPiece true format first piece old new before after = GivesPiece format first piece old new before after
+TakesPiece false format first piece old new before after = EndsWithin (length piece) before after
+
+-- whether the reader had another byte
+abbrev pub HadMore : Bool → Option (List ℕ) → Option (List ℕ) → Type 0
+HadMore true before after = (byte : ℕ) × Consumes before after (byte ∷ [])
+HadMore false before after = IsAtEnd before

@@ -1,7 +1,7 @@
 -- What a survey says of a file. Slot i says `says i`.
-use Rattle.std.specs.Prelude.{◌≡◌, ◌≢◌, ℕ, zero, suc, ◌<◌, ◌==◌, List, [], ◌∷◌, ◌++◌, map, length, All, Ok, Err, Bool, true, false}
+use Rattle.std.specs.Prelude.{◌≡◌, ◌≢◌, ◌↔◌, ℕ, zero, suc, ◌<◌, ◌==◌, List, [], ◌∷◌, ◌++◌, map, length, All, IfSome, IsTrue, Ok, Err, Option, Bool, true, false}
 use Rattle.std.specs.List.{list_all, list_any}
-use Rattle.lz_slot.specs.Bytes.{header_read, slot_at}
+use Rattle.lz_slot.specs.Bytes.{Holds, format_of, header_read, slot_at}
 use Rattle.lz_slot.specs.Sets.{Keys}
 use Rattle.lz_slot.specs.declared.slot.SlotRead.{SlotRead}
 use Rattle.lz_slot.specs.declared.slot.SlotRead.TheVariants as read
@@ -46,7 +46,8 @@ pub record AreFindings (says : ℕ → SlotRead) (n : ℕ) (findings : List Find
 -- what a survey says is so of the file
 abbrev pub IsSurveyOf : List ℕ → Survey → Type 0
 IsSurveyOf t (Refused fault) = header_read t (length t) ≡ Err fault
-IsSurveyOf t (Found findings) = (N : ℕ) × (header_read t (length t) ≡ Ok N) × AreFindings (slot_at t) N findings.items
+IsSurveyOf t (Found header findings) =
+    (header_read t (length t) ≡ Ok header.slots) × (header.format ≡ format_of t) × AreFindings (slot_at t) header.slots findings.items
 
 -- the finding is no damage
 abbrev pub is_sound : Finding → Bool
@@ -57,7 +58,20 @@ is_sound (Twice i first) = false
 -- the survey found no fault of the head and no damage
 abbrev pub is_good : Survey → Bool
 is_good (Refused fault) = false
-is_good (Found findings) = list_all is_sound findings.items
+is_good (Found header findings) = list_all is_sound findings.items
+
+-- the file holds some set
+abbrev pub HoldsASet : List ℕ → Type 0
+HoldsASet t = (N : ℕ) × (S : Keys) × Holds t N S
+
+-- the survey is one of the file, and good exactly where the file holds a set
+pub record IsSurveyed (t : List ℕ) (survey : Survey) : Type 0 where
+  pub told : IsSurveyOf t survey
+  pub good : IsTrue (is_good survey) ↔ HoldsASet t
+
+-- this holds of the text that a reader has left, where it tells which that is
+abbrev pub OfText : (List ℕ → Type 0) → Option (List ℕ) → Type 0
+OfText P input = (t : List ℕ) × IfSome input (λ bytes. t ≡ bytes) × P t
 
 -- the finding tells that a slot holds k
 abbrev pub is_key : ℕ → Finding → Bool

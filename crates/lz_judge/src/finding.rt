@@ -2,7 +2,7 @@
 ghost use Rattle.std.specs.Prelude.{◌≡◌};
 ghost use Rattle.std.specs.List.{list_all};
 
-use lz_slot::{HeaderFault, Key, Slot};
+use lz_slot::{Header, HeaderFault, Key, Slot};
 
 /// What was found at a slot that isn't closed.
 #[derive(Clone, Copy, Debug, PartialEq, Eq)]
@@ -35,8 +35,8 @@ impl Finding {
 #[derive(Drop)]
 pub enum Survey {
     Refused(HeaderFault),
-    /// One finding for each slot that isn't closed, upwards.
-    Found(Vec<Finding>),
+    /// What the head says, and one finding for each slot that isn't closed, upwards.
+    Found(Header, Vec<Finding>),
 }
 
 impl Survey {
@@ -48,7 +48,7 @@ impl Survey {
     {
         match self {
             Survey::Refused(_) => false,
-            Survey::Found(findings) => Finding::are_sound(findings.as_slice()),
+            Survey::Found(_, findings) => Finding::are_sound(findings.as_slice()),
         }
     }
 }

@@ -19,6 +19,7 @@ mod ordering;
 mod playing;
 mod reading;
 mod renewing;
+mod scan;
 mod surveying;
 
 pub use finding::{Finding, Survey};
@@ -26,5 +27,5 @@ pub use flaw::Flaw;
 pub use history::{History, Point};
 pub use judging::judge;
 pub use limits::{MAX_PLACE, MOST_BYTES, MOST_CALLS};
-pub use renewing::{RenewFlaw, renewed};
-pub use surveying::survey;
+pub use renewing::{RenewFlaw, compare, renewed};
+pub use surveying::{SurveyFault, survey, survey_of};

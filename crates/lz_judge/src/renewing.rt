@@ -1,15 +1,14 @@
 //! Whether a file holds the set of another, as it does after a renewal.
-ghost use Rattle.std.specs.Prelude.{◌≡◌, ◌↔◌, ◌||◌, ℕ, All, IfErr, IfOk, IsOk, MatchOption, OnOk, false};
+ghost use Rattle.std.specs.Prelude.{◌≡◌, ◌↔◌, ◌||◌, ℕ, List, All, IfErr, IfOk, IsOk, MatchOption, OnOk, false};
 ghost use Rattle.lz_slot.specs.Sets.{Keys};
-ghost use Rattle.lz_judge.specs.Plays.{IsSet};
-ghost use Rattle.lz_judge.specs.Renewals.{AreHeld, HoldOneSet, HoldsASet, IsFirstOutside, IsRenewFlaw, IsWithin};
-ghost use Rattle.lz_judge.specs.Surveys.{found_keys, is_key};
+ghost use Rattle.lz_judge.specs.Renewals.{AreHeld, AreKeys, HoldOneSet, IsFirstOutside, IsRenewFlaw, IsWithin};
+ghost use Rattle.lz_judge.specs.Surveys.{HoldsASet, IsSurveyed, found_keys, is_key};
 
 use crate::finding::{Finding, Survey};
 use crate::surveying::survey;
 use lz_slot::Slot;
 use std::alloc::{AllocError, Global};
-use std::collections::BTreeSet;
+use std::collections::HashSet;
 
 /// Why two files don't hold one set.
 #[derive(Clone, Copy, Debug, PartialEq, Eq)]
@@ -37,55 +36,65 @@ impl RenewFlaw {
     }
 }
 
-/// Whether these are the bytes of two files that hold one set. The flaws are looked for in the order NotHeld, Missing, Extra.
+/// Whether these are the bytes of two files that hold one set: what `compare` says of their surveys.
 pub fn renewed(alloc: Global, old: &[u8], new: &[u8]) -> Result<Result<(), RenewFlaw>, AllocError>
     ensures same { IfOk result (λ verdict. IsOk verdict ↔ HoldOneSet old.now new.now) }
     ensures flaw { IfOk result (λ verdict. IfErr verdict (IsRenewFlaw old.now new.now)) }
 {
-    let Some(before) = held_findings(alloc, old)? else {
+    let before = survey(alloc, old)?;
+    let after = survey(alloc, new)?;
+    compare(alloc, &before, &after)
+}
+
+/// Whether the files of which these are surveys hold one set. The flaws are looked for in the order NotHeld, Missing, Extra.
+pub fn compare(
+    alloc: Global,
+    old: &Survey,
+    new: &Survey,
+) -> Result<Result<(), RenewFlaw>, AllocError>
+    ensures same { (before after : List ℕ) → IsSurveyed before old.now → IsSurveyed after new.now → IfOk result (λ verdict. IsOk verdict ↔ HoldOneSet before after) }
+    ensures flaw { (before after : List ℕ) → IsSurveyed before old.now → IsSurveyed after new.now → IfOk result (λ verdict. IfErr verdict (IsRenewFlaw before after)) }
+{
+    let Some(before) = held_findings(old) else {
         return Ok(Err(RenewFlaw::NotHeld));
     };
-    let Some(after) = held_findings(alloc, new)? else {
+    let Some(after) = held_findings(new) else {
         return Ok(Err(RenewFlaw::NotHeld));
     };
-    let kept = keys_of(alloc, after.as_slice())?;
-    if let Some(slot) = first_outside(before.as_slice(), &kept) {
+    let kept = keys_of(alloc, after)?;
+    if let Some(slot) = first_outside(before, &kept) {
         return Ok(Err(RenewFlaw::Missing(slot)));
     }
-    let given = keys_of(alloc, before.as_slice())?;
-    if let Some(slot) = first_outside(after.as_slice(), &given) {
+    let given = keys_of(alloc, before)?;
+    if let Some(slot) = first_outside(after, &given) {
         return Ok(Err(RenewFlaw::Extra(slot)));
     }
     Ok(Ok(()))
 }
 
-// What is found in a file, where it holds a set.
-fn held_findings(alloc: Global, bytes: &[u8]) -> Result<Option<Vec<Finding>>, AllocError>
-    ensures { IfOk result (λ found. MatchOption found (¬ HoldsASet bytes.now) (λ findings. AreHeld bytes.now findings.items)) }
+// What was found in a file, where it holds a set.
+fn held_findings(survey: &Survey) -> Option<&[Finding]>
+    ensures { (t : List ℕ) → IsSurveyed t survey.now → MatchOption result (¬ HoldsASet t) (λ findings. AreHeld t findings.now) }
 {
-    let survey = survey(alloc, bytes)?;
-    if !survey.is_good() {
-        return Ok(None);
-    }
     match survey {
-        Survey::Found(findings) => Ok(Some(findings)),
-        Survey::Refused(_) => Ok(None),
+        Survey::Found(_, findings) if survey.is_good() => Some(findings.as_slice()),
+        _ => None,
     }
 }
 
 // The keys that were found.
-fn keys_of(alloc: Global, findings: &[Finding]) -> Result<BTreeSet<u64>, AllocError>
-    ensures { IfOk result (λ keys. IsSet keys (found_keys findings.now)) }
+fn keys_of(alloc: Global, findings: &[Finding]) -> Result<HashSet<u64>, AllocError>
+    ensures { IfOk result (λ keys. AreKeys keys (found_keys findings.now)) }
 {
-    let mut keys = BTreeSet::new(alloc);
+    let mut keys = HashSet::new(alloc);
     for finding in findings {
         add_key(&mut keys, *finding)?;
     }
     Ok(keys)
 }
 
-fn add_key(keys: &mut BTreeSet<u64>, finding: Finding) -> Result<(), AllocError>
-    ensures { (S : Keys) → IsSet keys.old S → OnOk result (IsSet keys.new (λ k. S k || is_key k finding)) }
+fn add_key(keys: &mut HashSet<u64>, finding: Finding) -> Result<(), AllocError>
+    ensures { (S : Keys) → AreKeys keys.old S → OnOk result (AreKeys keys.new (λ k. S k || is_key k finding)) }
 {
     if let Finding::Key(_, key) = finding {
         keys.insert(key.rank())?;
@@ -94,8 +103,8 @@ fn add_key(keys: &mut BTreeSet<u64>, finding: Finding) -> Result<(), AllocError>
 }
 
 // The slot of the first finding whose key isn't among these.
-fn first_outside(findings: &[Finding], keys: &BTreeSet<u64>) -> Option<Slot>
-    ensures { (S : Keys) → IsSet keys.now S → MatchOption result (All (IsWithin S) findings.now) (IsFirstOutside S findings.now) }
+fn first_outside(findings: &[Finding], keys: &HashSet<u64>) -> Option<Slot>
+    ensures { (S : Keys) → AreKeys keys.now S → MatchOption result (All (IsWithin S) findings.now) (IsFirstOutside S findings.now) }
 {
     for finding in findings {
         let outside = slot_outside(*finding, keys);
@@ -107,8 +116,8 @@ fn first_outside(findings: &[Finding], keys: &BTreeSet<u64>) -> Option<Slot>
 }
 
 // The slot of a finding whose key isn't among these.
-fn slot_outside(finding: Finding, keys: &BTreeSet<u64>) -> Option<Slot>
-    ensures { (S : Keys) → IsSet keys.now S → MatchOption result (IsWithin S finding) (λ slot. (k : ℕ) × (finding ≡ Finding.Key slot k) × (S k ≡ false)) }
+fn slot_outside(finding: Finding, keys: &HashSet<u64>) -> Option<Slot>
+    ensures { (S : Keys) → AreKeys keys.now S → MatchOption result (IsWithin S finding) (λ slot. (k : ℕ) × (finding ≡ Finding.Key slot k) × (S k ≡ false)) }
 {
     match finding {
         Finding::Key(slot, key) if !keys.contains(&key.rank()) => Some(slot),

@@ -67,11 +67,11 @@ pub(crate) fn slot_behind(next: u32) -> Option<Slot>
 }
 
 /// The next link that leads to a slot, or to the end.
-pub fn next_to(slot: Option<Slot>) -> u32
+pub fn next_to(slot: Option<Slot>) -> u64
     ensures { result ≡ link_to slot }
 {
     match slot {
         None => 0,
-        Some(slot) => slot.index() + 1,
+        Some(slot) => slot.index() as u64 + 1,
     }
 }

@@ -90,7 +90,7 @@ impl List {
         let node = curr;
         !self.words.is_marked(place)
             && !self.is_curr_marked(node)
-            && self.words.next(pred) == next_to(curr)
+            && self.words.next(pred) as u64 == next_to(curr)
     }
 
     fn is_curr_marked(&self, curr: Option<Slot>) -> bool
@@ -110,7 +110,7 @@ impl List {
         ensures key { IsMember self.new.words (get self.old.words (Word.Key slot)) ↔ (is_marked_at self.old.words (Place.Node slot) ≡ false) }
         ensures others { OthersStay (get self.old.words (Word.Key slot)) self.old.words self.new.words }
     {
-        self.words.redirect(pred, next_to(Some(slot)));
+        self.words.redirect(pred, next_to(Some(slot)) as u32);
     }
 
     /// Marks a node: its key is no member any more.

@@ -1,5 +1,6 @@
 -- Runs may follow on one another: each begins with a text that the one before it may leave, with buckets and passes of its own.
 use Rattle.std.specs.Prelude.{◌≤◌, ℕ, List, [], ◌∷◌, ◌++◌}
+use Rattle.lz_slot.specs.Limits.{most_buckets, most_passes}
 use Rattle.lz_slot.specs.Bytes.{Holds}
 use Rattle.lz_slot.specs.Histories.{History, Life, ChainTo, lives}
 use Rattle.lz_slot.specs.Sets.{Keys}
@@ -10,7 +11,7 @@ use Rattle.lz_machine.specs.Runs.{Start, IsStart, State, Reached, MayLeave, star
 abbrev pub LeftIsStart : Type 0
 LeftIsStart =
     (start : Start) (w : State) (M : History) (P : Trace) (t : List ℕ) (buckets passes : ℕ)
-    → Reached start w M P → MayLeave w t → (1 ≤ buckets) × (buckets ≤ 4096) → (1 ≤ passes) × (passes ≤ 64)
+    → Reached start w M P → MayLeave w t → (1 ≤ buckets) × (buckets ≤ most_buckets) → (1 ≤ passes) × (passes ≤ most_passes)
     → IsStart (record { shape = record { slots = start.shape.slots; buckets = buckets; passes = passes }; text = t })
 
 -- One run, as far as it has come.

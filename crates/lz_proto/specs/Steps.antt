@@ -18,11 +18,15 @@ abbrev pub end_after : Reply → End
 end_after Halted = ends.Halted
 end_after reply = ends.Done
 
--- a text was sent whole, or a part of it that isn't all, and then a write failed
+-- of the text a part was written that isn't all
+abbrev pub IsCutShort : Option (List ℕ) → Option (List ℕ) → List ℕ → Type 0
+IsCutShort before after text = (sent : ℕ) × (sent < length text) × Appends before after (take sent text)
+
+-- a text was sent whole, or it was cut short, and then a write failed
 abbrev pub SendTells : Option (List ℕ) → Option (List ℕ) → List ℕ → Result (Unit {0}) SessionFault → Type 0
 SendTells old new text (Ok done) = Appends old new text
 SendTells old new text (Err Read) = ⊥
-SendTells old new text (Err Write) = (sent : ℕ) × (sent < length text) × Appends old new (take sent text)
+SendTells old new text (Err Write) = IsCutShort old new text
 SendTells old new text (Err Memory) = ⊥
 
 -- what was written for a fault, as the result tells

@@ -22,7 +22,7 @@ pub use end::End;
 pub use fault::{Bad, SessionFault};
 pub use item::Item;
 pub use limits::{MOST_KEPT, MOST_LINE, MOST_PIECE};
-pub use line::parse;
+pub use line::{parse, without_return};
 pub use lines::Lines;
 pub use reply::{Reply, bad_text, reply_text};
 pub use request::Request;

@@ -15,8 +15,8 @@ pub fn parse(line: &[u8]) -> Result<Request, Bad>
     read_request(without_return(line))
 }
 
-// The line less one carriage return at its end.
-fn without_return(line: &[u8]) -> &[u8]
+/// The line less one carriage return at its end.
+pub fn without_return(line: &[u8]) -> &[u8]
     ensures { result.now ≡ without_return line.now }
 {
     match line {

@@ -1,7 +1,8 @@
 -- What the rehearsal of a script does.
-use Rattle.std.specs.Prelude.{◌≡◌, ◌≢◌, ℕ, suc, ◌<◌, Option, None, Some, List, [], ◌∷◌, ◌++◌, length, take}
+use Rattle.std.specs.Prelude.{◌≡◌, ◌≢◌, ℕ, suc, Option, None, Some, List, [], ◌∷◌, ◌++◌, length}
 use Rattle.std.specs.Io.KnownBytes.{Appends}
 use Rattle.lz_slot.specs.declared.history.Mark.{Mark}
+use Rattle.lz_proto.specs.Steps.{IsCutShort}
 use Rattle.lz_machine.specs.declared.event.Outcome.{Outcome}
 use Rattle.lz_machine.specs.declared.event.Outcome.TheVariants.{Busy}
 use Rattle.lz_machine.specs.declared.kind.Kind.{Kind}
@@ -86,14 +87,12 @@ pub record Adds (old : WorldOver) (line : Line) (new : WorldOver) (before after 
   pub does : Does old line seen text new
   pub written : Appends before after text
 
--- A line was rehearsed, and of its text a part was written that isn't all.
+-- A line was rehearsed, and its text was cut short.
 pub record AddsPart (old : WorldOver) (line : Line) (new : WorldOver) (before after : Option (List ℕ)) : Type 0 where
   pub seen : List Mark
   pub text : List ℕ
   pub does : Does old line seen text new
-  pub sent : ℕ
-  pub less : sent < length text
-  pub written : Appends before after (take sent text)
+  pub cut : IsCutShort before after text
 
 -- The lines were rehearsed, and their text written. What was seen is a chain of lives, and its marks are those of a run, so that
 -- the line of each reads as that mark.

@@ -20,7 +20,7 @@ pub struct ServeOptions {
     pub loops: Option<Loops>,
     /// After how many sessions each pass, or each loop, ends; 0 for no end.
     pub sessions: u64,
-    /// How many lists the keys are spread over, 1 to 4096.
+    /// How many lists the keys are spread over, 1 to `MOST_BUCKETS`.
     pub buckets: usize,
     /// After how many seconds a client's session ends, in which it sent nothing or took none of its replies; 0 for no end.
     pub idle: u64,

@@ -7,7 +7,7 @@ use Rattle.std.proofs.lemmas.List.Elements.{filter_map-append}
 use Rattle.std.proofs.lemmas.Option.{slice_get-get_or, same_Some}
 use Rattle.lz_slot.specs.Rooms.{largest_of}
 use Rattle.lz_slot.specs.declared.format.Format.{Format}
-use Rattle.lz_slot.specs.declared.format.Format.TheVariants.{One, Two}
+use Rattle.lz_slot.specs.declared.format.Format.TheVariants.{One, Two, Three}
 use Rattle.lz_slot.specs.Sets.{Same, members}
 use Rattle.lz_slot.specs.Bytes.{Holds, held, held_key, slot_at}
 use Rattle.lz_slot.specs.declared.slot.SlotRead.{SlotRead}
@@ -25,7 +25,7 @@ use Rattle.lz_vault.specs.declared.vault.Entry.{Entry}
 use Rattle.lz_vault.specs.declared.vault.Stage.{Stage}
 use Rattle.lz_vault.specs.declared.vault.Stage.TheVariants.{Closed, KeyLoose, Keyed, Opening, Open, Closing}
 use Rattle.lz_vault.proofs.Changes.{from_mapped}
-use Rattle.lz_vault.proofs.OpeningFinds.{found}
+use Rattle.lz_vault.proofs.OpeningFinds.{counted, found}
 
 -- one slot more
 module _ (entries : List Entry) (i : ℕ) (d : Entry) (low : i < length entries) where
@@ -125,17 +125,18 @@ module _ (t : List ℕ) (entries : List Entry) (each : (i : ℕ) (entry : Entry)
       ∙ (λ i. first_held n (omega (arith, le)) i ++ read_key (slot_at t n) cell.stage cell.key n (each n (get_or entries n no_entry) (slice_get-get_or entries n no_entry low)) i)
       ∙ sym (map-append (λ (node : ℕ × ℕ). node.0) (held t n) (held_key (slot_at t n) n))
 
--- largest keys of the formats
-fits_two : (format : Format) (k : ℕ) → k ≤ largest_of format → k ≤ largest_of Two
-fits_two One k fits = omega (arith, fits)
-fits_two Two k fits = fits
+-- a key of any format is one of the widest
+fits_three : (format : Format) (k : ℕ) → k ≤ largest_of format → k ≤ largest_of Three
+fits_three One k fits = omega (arith, fits)
+fits_three Two k fits = fits
+fits_three Three k fits = fits
 
 module _ (before after : Device) (format : Format) (entries : List Entry) (finds : Finds before after format entries) where
   -- what is read holds these keys
   pub are_held : IsTrue before.honest → AreHeldBy before.medium.seen (keys_in (cells_at 0 entries))
   are_held honest =
       let t = before.medium.seen in
-      let whole = found t entries (finds.bytes honest) (finds.size honest) finds.count (finds.head honest) (finds.read honest) in
+      let whole = found t entries (finds.bytes honest) (finds.size honest) (counted before after format entries finds honest) (finds.head honest) (finds.read honest) in
       let count : length (cells_at 0 entries) ≡ length entries = length-map entries (cell_after 0) in (
         length entries,
         holds_same_set t (length entries) (keys_of (cells_at 0 entries)) (members (keys_in (cells_at 0 entries))) (same_keys (cells_at 0 entries))
@@ -143,15 +144,15 @@ module _ (before after : Device) (format : Format) (entries : List Entry) (finds
         sym (all_keys entries (length entries) (omega arith)) ∙ first_held t entries (finds.read honest).each (length entries) (omega arith),
       )
 
-  -- and they can be the members of a file of format 2
-  pub are_members : MayBeMembers Two (length (keys_in (cells_at 0 entries))) (keys_in (cells_at 0 entries))
+  -- and they can be the members of a file of format 3
+  pub are_members : MayBeMembers Three (length (keys_in (cells_at 0 entries))) (keys_in (cells_at 0 entries))
   are_members = record { few = omega arith; fit = fit; apart = apart (cells_at 0 entries) finds.distinct }
     where
-      fit : (i : ℕ) → i < length (keys_in (cells_at 0 entries)) → get_or (keys_in (cells_at 0 entries)) i 0 ≤ largest_of Two
+      fit : (i : ℕ) → i < length (keys_in (cells_at 0 entries)) → get_or (keys_in (cells_at 0 entries)) i 0 ≤ largest_of Three
       fit i lt =
           let k = get_or (keys_in (cells_at 0 entries)) i 0 in
           let at = slot_of (cells_at 0 entries) i lt in
           let cell = get_or (cells_at 0 entries) at.0 no_cell in
           let from = from_mapped (cell_after 0) entries at.0 cell (slice_get-get_or (cells_at 0 entries) at.0 no_cell at.1) in
           let key : cell.key ≡ k = key_of_member cell.stage cell.key k at.2 in
-          subst (λ (q : ℕ). q ≤ largest_of Two) (sym (ap (λ (c : Cell). c.key) from.2) ∙ key) (fits_two format from.0.key (finds.fresh at.0 from.0 from.1).1)
+          subst (λ (q : ℕ). q ≤ largest_of Three) (sym (ap (λ (c : Cell). c.key) from.2) ∙ key) (fits_three format from.0.key (finds.fresh at.0 from.0 from.1).1)

@@ -1,5 +1,6 @@
 -- Worked rows: which faults of a renewal are told with no call on the new device, and what is told of too small a file.
 use Rattle.std.proofs.Common.{◌≡◌, ◌<◌, ℕ, refl, arith}
+use Rattle.lz_slot.specs.declared.format.Format.TheVariants.{Two, Three}
 use Rattle.lz_disk.specs.Devices.{Device}
 use Rattle.lz_vault.specs.Renewals.{IsToldFirst, IsRenewFaultOf, renew_fault_number}
 use Rattle.lz_vault.specs.declared.making.MakeFault.TheVariants.{AlreadyMade, BadCount, Device as DeviceFailed, TooLong}
@@ -28,10 +29,10 @@ device_not_first : IsToldFirst (New DeviceFailed) → ⊥
 device_not_first h = absurd cc
 
 -- what is told of too small a file is the number of slots that were asked for, and more members than that
-other_slots : (old old_after new new_after : Device) → IsRenewFaultOf old old_after new new_after 4 (TooSmall 5 2) → ⊥
+other_slots : (old old_after new new_after : Device) → IsRenewFaultOf old old_after new new_after Two 4 (TooSmall 5 2) → ⊥
 other_slots old old_after new new_after h = let asked : ◌≡◌ {A = ℕ} 2 4 = h.0 in absurd (omega (arith, asked))
 
-enough_slots : (old old_after new new_after : Device) → IsRenewFaultOf old old_after new new_after 3 (TooSmall 3 3) → ⊥
+enough_slots : (old old_after new new_after : Device) → IsRenewFaultOf old old_after new new_after Three 3 (TooSmall 3 3) → ⊥
 enough_slots old old_after new new_after h = let more : 3 < 3 = h.1 in absurd (omega (arith, more))
 
 -- a program tells it by a number of its own

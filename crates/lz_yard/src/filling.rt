@@ -92,5 +92,5 @@ fn link_first(words: &mut Words, key: u64, slot: Slot)
     };
     words.set(Word::Key(slot), key);
     words.set(Word::Link(slot), LinkWord { next, flags }.word());
-    words.set(Word::Head(bucket), next_to(Some(slot)) as u64);
+    words.set(Word::Head(bucket), next_to(Some(slot)));
 }

@@ -112,7 +112,7 @@ impl<D: Disk> Parts<D> {
         match event {
             Event::WriteKey(key) => Some(Publishing::KeyPrepared(self.slot(actor), key)),
             Event::WriteOpen => {
-                let link = next_to(self.actor(actor).curr) as u64;
+                let link = next_to(self.actor(actor).curr);
                 Some(Publishing::LinkPrepared(self.slot(actor), link))
             }
             Event::Link => {

@@ -111,7 +111,7 @@ fn a_failed_write_ends_a_renewal(rt: HostRuntime) -> Result<(), Fail> {
         let mut old = disk_with(rt.alloc(), &HELD)?;
         let mut new = disk_with(rt.alloc(), &[])?;
         let mut writer = Narrow::new(rt.alloc(), room);
-        let status = renew_on(rt.alloc(), &mut writer, &mut old, &mut new, 3);
+        let status = renew_on(rt.alloc(), &mut writer, &mut old, &mut new, Format::Two, 3);
         let is_told = is_cut_off(status.code(), &writer, room, 0, b"renewed 1\n");
         assert!(rt; is_told, "after {room} bytes");
         assert!(rt; old.bytes() == HELD.as_slice(), "after {room} bytes");

@@ -8,6 +8,8 @@ mod commands;
 #[cfg(test)]
 mod crashes;
 #[cfg(test)]
+mod lists;
+#[cfg(test)]
 mod renewals;
 #[cfg(test)]
 mod sessions;

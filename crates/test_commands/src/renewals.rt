@@ -2,6 +2,7 @@
 use crate::commands::disk_with;
 use lazyset_commands::{check_on, renew_on};
 use lz_disk::MemoryDisk;
+use lz_slot::Format;
 use std::alloc::{AllocError, Global};
 use std::test::Fail;
 use test_support::{ENDS, FAILINGS, Failing, set_failing};
@@ -34,7 +35,7 @@ fn renew(alloc: Global, old: MemoryDisk, new: MemoryDisk) -> Renewed {
     let mut old = old;
     let mut new = new;
     let mut printed: Vec<u8> = Vec::new(alloc);
-    let status = renew_on(alloc, &mut printed, &mut old, &mut new, 2);
+    let status = renew_on(alloc, &mut printed, &mut old, &mut new, Format::Two, 2);
     Renewed {
         code: status.code(),
         printed,

@@ -4,7 +4,7 @@ use Rattle.lz_slot.specs.Sets.{Keys, Same, after}
 use Rattle.lz_slot.specs.declared.command.Command.{Command}
 use Rattle.lz_slot.specs.declared.history.Mark.{Mark}
 use Rattle.lz_slot.specs.declared.history.Mark.TheVariants.{Call, Answer, Refused, Cut, Stop, Crash, Opened, OpenFailed}
-use Rattle.lz_slot.specs.Histories.{HasMark, IsCalled, IsEarlier, IsListed}
+use Rattle.lz_slot.specs.Histories.{HasMark, IsCalled}
 use Rattle.lz_judge.specs.Records.{IsMade}
 use Rattle.lz_judge.specs.Flaws.{IsLifeBefore, IsPast, Leads}
 use Rattle.lz_judge.specs.Plays.{Follows, past_of, this_life}

@@ -1,11 +1,8 @@
 -- One slot more in a survey, and what a survey without damage says.
 use Rattle.std.proofs.Common.{◌≡◌, ◌≢◌, ⊎_elim, ◌↔◌, ℕ, zero, suc, ◌+◌, ◌<◌, Bool, true, List, [], ◌∷◌, ◌++◌, get_or, sym, refl, ◌∙◌, ap, subst, arith, Some, None, IsTrue, add-one, rules}
-use Rattle.std.specs.Prelude.{All, map, ◌==◌, ◌||◌, Contains}
+use Rattle.std.specs.Prelude.{All, map, nat_eq, ◌==◌, ◌||◌, if◌then◌else◌, Contains, Option}
 use Rattle.std.specs.List.{list_any}
-use Rattle.std.specs.BTreeMap as tree
-use Rattle.std.specs.BTreeMap.{BTreeMap}
-use Rattle.std.specs.Ordering.{nat_cmp}
-use Rattle.std.proofs.lemmas.Grind.{common_steps}
+use Rattle.std.specs.HashMap.{get}
 use Rattle.std.proofs.lemmas.List.{map-append}
 use Rattle.std.proofs.lemmas.List.Elements.{All-push, All-nil, All-contains, Contains-get_or}
 use Rattle.std.proofs.lemmas.List.Folds.{list_any_at}
@@ -16,29 +13,32 @@ use Rattle.lz_slot.specs.declared.slot.SlotRead.{SlotRead}
 use Rattle.lz_slot.specs.declared.slot.SlotRead.TheVariants as read
 use Rattle.lz_judge.specs.declared.finding.Finding.{Finding}
 use Rattle.lz_judge.specs.declared.finding.Finding.TheVariants.{Key, BadKey, Twice}
+use Rattle.lz_judge.specs.declared.scan.Scan.{Scan}
 use Rattle.lz_judge.specs.Surveys.{AreFindings, IsFinding, IsFirst, found_keys, is_key, is_sound, open_slot, open_slots, slot_of}
 use Rattle.lz_judge.specs.Scans.{KnowsFirsts, Places, Scanned}
 
 pub same_member : (j k : ℕ) → read.Member j ≡ read.Member k → j ≡ k
 same_member j k is = cc
 
--- nothing was taken
-pub scanned_none : (says : ℕ → SlotRead) (places : BTreeMap ℕ ℕ) → places.entries ≡ [] → Scanned says 0 [] places
-scanned_none says places none = record {
-  findings = record { each = All-nil (IsFinding says); slots = refl };
-  firsts = record {
-    found = λ k i is. absurd (let e : None ≡ Some i = sym (empty k) ∙ is in cc);
+module _ (says : ℕ → SlotRead) where
+  -- no key was placed
+  pub firsts_none : (place_of : ℕ → Option ℕ) → ((k : ℕ) → place_of k ≡ None) → KnowsFirsts says 0 place_of
+  firsts_none place_of none = record {
+    found = λ k i is. absurd (let e : None ≡ Some i = sym (none k) ∙ is in cc);
     placed = λ k i lt is. absurd (omega (arith, lt));
-  };
-}
-  where
-    empty : (k : ℕ) → tree.get nat_cmp places k ≡ None
-    empty k = rw none refl
+  }
+
+  -- nothing was taken
+  pub scanned_none : (scan : Scan) → scan.findings.items ≡ [] → scan.places.entries ≡ [] → Scanned says 0 scan
+  scanned_none scan nothing none = record {
+    findings = rw nothing (record { each = All-nil (IsFinding says); slots = refl });
+    firsts = firsts_none (get nat_eq scan.places) (λ k. rw none refl);
+  }
 
 module _ (says : ℕ → SlotRead) (n : ℕ) where
   -- a slot without a key of its own
-  pub firsts_kept : (places : BTreeMap ℕ ℕ) → ((k : ℕ) → says n ≡ read.Member k → (first : ℕ) × (tree.get nat_cmp places k ≡ Some first)) → KnowsFirsts says n places → KnowsFirsts says (n + 1) places
-  firsts_kept places there knows = record {
+  pub firsts_kept : (place_of : ℕ → Option ℕ) → ((k : ℕ) → says n ≡ read.Member k → (first : ℕ) × (place_of k ≡ Some first)) → KnowsFirsts says n place_of → KnowsFirsts says (n + 1) place_of
+  firsts_kept place_of there knows = record {
     found = λ k i is. let at = knows.found k i is in (omega (arith, at.0), at.1);
     placed = λ k i lt is. ⊎_elim
         (λ here. there k (ap says (sym here) ∙ is))
@@ -47,47 +47,48 @@ module _ (says : ℕ → SlotRead) (n : ℕ) where
   }
 
   -- the first slot with its key
-  pub firsts_more : (places places' : BTreeMap ℕ ℕ) (k : ℕ) → says n ≡ read.Member k → tree.get nat_cmp places k ≡ None → tree.Updates nat_cmp places places' k (Some n)
-      → KnowsFirsts says n places → IsFirst says n k × KnowsFirsts says (n + 1) places'
-  firsts_more places places' k is none updates knows = (
+  pub firsts_more : (place_of place_of' : ℕ → Option ℕ) (k : ℕ) → says n ≡ read.Member k → place_of k ≡ None
+      → ((q : ℕ) → place_of' q ≡ (if nat_eq k q then Some n else place_of q)) → KnowsFirsts says n place_of → IsFirst says n k × KnowsFirsts says (n + 1) place_of'
+  firsts_more place_of place_of' k is none updates knows = (
     first,
     record {
       found = λ q i at. ⊎_elim
           (λ same.
-          let here : tree.get nat_cmp places' q ≡ Some n = grind (arith, common_steps, updates.0 q) in
+          let here : place_of' q ≡ Some n = new q same in
           let last : i ≡ n = same_Some _ _ (sym at ∙ here) in
           (omega (arith, last), subst (λ (j : ℕ). IsFirst says j q) (sym last) (subst (λ (j : ℕ). IsFirst says n j) same first)))
           (λ apart.
-          let old : tree.get nat_cmp places q ≡ Some i = grind (arith, common_steps, updates.0 q) in
-          let f = knows.found q i old in (omega (arith, f.0), f.1))
+          let f = knows.found q i (sym (old q apart) ∙ at) in (omega (arith, f.0), f.1))
           (cases_eq k q);
       placed = λ q i lt there. ⊎_elim
-          (λ same. let here : tree.get nat_cmp places' q ≡ Some n = grind (arith, common_steps, updates.0 q) in (n, here))
+          (λ same. (n, new q same))
           (λ apart. ⊎_elim
           (λ last. absurd (apart (same_member k q (sym is ∙ ap says (sym last) ∙ there))))
           (λ other.
-          let old = knows.placed q i (omega (arith, lt, other)) there in
-          let same : tree.get nat_cmp places' q ≡ tree.get nat_cmp places q = grind (arith, common_steps, updates.0 q) in
-          (old.0, same ∙ old.1))
+          let f = knows.placed q i (omega (arith, lt, other)) there in
+          (f.0, old q apart ∙ f.1))
           (cases_eq i n))
           (cases_eq k q);
     },
   )
     where
+      new : (q : ℕ) → k ≡ q → place_of' q ≡ Some n
+      new q same = let at = updates q in grind (arith, nat_tests, at)
+
+      old : (q : ℕ) → k ≢ q → place_of' q ≡ place_of q
+      old q apart = let at = updates q in grind (arith, nat_tests, at)
+
       first : IsFirst says n k
       first = record {
         holds = is;
-        lowest = λ j low there. let old = knows.placed k j low there in let e : None ≡ Some old.0 = sym none ∙ old.1 in absurd (cc);
+        lowest = λ j low there. let f = knows.placed k j low there in let e : None ≡ Some f.0 = sym none ∙ f.1 in absurd (cc);
       }
 
   -- a closed slot has no finding
-  pub scanned_closed : (found : List Finding) (places : BTreeMap ℕ ℕ) → says n ≡ read.Closed → Scanned says n found places → Scanned says (n + 1) found places
-  scanned_closed found places shut scan = record {
-    findings = record {
-      each = scan.findings.each;
-      slots = rw add-one (scan.findings.slots ∙ none (ap (λ r. open_slot r n) shut));
-    };
-    firsts = firsts_kept places (λ k is. let e : read.Closed ≡ read.Member k = sym shut ∙ is in absurd cc) scan.firsts;
+  pub findings_closed : (found : List Finding) → says n ≡ read.Closed → AreFindings says n found → AreFindings says (n + 1) found
+  findings_closed found shut before = record {
+    each = before.each;
+    slots = rw add-one (before.slots ∙ none (ap (λ r. open_slot r n) shut));
   }
     where
       none : open_slot (says n) n ≡ [] → open_slots says n ≡ open_slots says n ++ open_slot (says n) n
@@ -101,16 +102,23 @@ module _ (says : ℕ → SlotRead) (n : ℕ) where
     slots = rw add-one (map-append slot_of found (finding ∷ []) ∙ (λ i. before.slots i ++ (at i ∷ [])) ∙ ap (λ (l : List ℕ). open_slots says n ++ l) (sym opened));
   }
 
-  pub scanned_bad : (found : List Finding) (places : BTreeMap ℕ ℕ) → says n ≡ read.BadKey → Scanned says n found places → Scanned says (n + 1) (found ++ BadKey n ∷ []) places
-  scanned_bad found places bad scan = record {
-    findings = findings_more found (BadKey n) (ap (λ r. open_slot r n) bad) refl bad scan.findings;
-    firsts = firsts_kept places (λ k is. let e : read.BadKey ≡ read.Member k = sym bad ∙ is in absurd cc) scan.firsts;
+  -- one slot more was taken
+  pub scanned_closed : (scan : Scan) → says n ≡ read.Closed → Scanned says n scan → Scanned says (n + 1) scan
+  scanned_closed scan shut before = record {
+    findings = findings_closed scan.findings.items shut before.findings;
+    firsts = firsts_kept (get nat_eq scan.places) (λ k is. let e : read.Closed ≡ read.Member k = sym shut ∙ is in absurd cc) before.firsts;
   }
 
-  pub scanned_placed : (found : List Finding) (finding : Finding) (k : ℕ) (places places' : BTreeMap ℕ ℕ) → says n ≡ read.Member k → Places says n finding places' → Scanned says n found places
-      → Scanned says (n + 1) (found ++ finding ∷ []) places'
-  scanned_placed found finding k places places' is placed scan = record {
-    findings = findings_more found finding (ap (λ r. open_slot r n) is) placed.slot placed.true_of scan.findings;
+  pub scanned_bad : (old new : Scan) → new.findings.items ≡ old.findings.items ++ BadKey n ∷ [] → new.places ≡ old.places → says n ≡ read.BadKey → Scanned says n old → Scanned says (n + 1) new
+  scanned_bad old new grows same bad before = record {
+    findings = rw grows (findings_more old.findings.items (BadKey n) (ap (λ r. open_slot r n) bad) refl bad before.findings);
+    firsts = rw same (firsts_kept (get nat_eq old.places) (λ k is. let e : read.BadKey ≡ read.Member k = sym bad ∙ is in absurd cc) before.firsts);
+  }
+
+  pub scanned_placed : (old new : Scan) (finding : Finding) (k : ℕ) → new.findings.items ≡ old.findings.items ++ finding ∷ [] → says n ≡ read.Member k → Places says n finding (get nat_eq new.places)
+      → Scanned says n old → Scanned says (n + 1) new
+  scanned_placed old new finding k grows is placed before = record {
+    findings = rw grows (findings_more old.findings.items finding (ap (λ r. open_slot r n) is) placed.slot placed.true_of before.findings);
     firsts = placed.firsts;
   }
 

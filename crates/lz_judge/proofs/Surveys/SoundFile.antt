@@ -1,16 +1,18 @@
 -- A survey without damage is one of a file that holds a set.
-use Rattle.std.proofs.Common.{◌≡◌, ◌↔◌, ℕ, ◌+◌, ◌*◌, ◌<◌, ◌≤◌, List, [], ◌∷◌, length, get_or, refl, ◌∙◌, ap, subst, arith, Ok, true}
+use Rattle.std.proofs.Common.{◌≡◌, ◌↔◌, ℕ, ◌+◌, ◌*◌, ◌≤◌, List, [], ◌∷◌, length, take, refl, sym, ◌∙◌, ap, subst, arith, Ok, Err, true}
 use Rattle.std.specs.List.{list_all}
 use Rattle.std.specs.Prelude.{All, IsTrue}
 use Rattle.std.proofs.lemmas.List.Elements.{All-nil, All-cons, All-head, All-tail}
 use Rattle.std.proofs.lemmas.Bool.{and_parts, and_from}
-use Rattle.lz_slot.specs.Limits.{most_slots}
+use Rattle.lz_slot.specs.Limits.{most_slots_of}
+use Rattle.lz_slot.specs.declared.header.HeaderFault.{HeaderFault}
 use Rattle.lz_slot.specs.Sets.{Keys}
 use Rattle.lz_slot.specs.Bytes.{Holds, format_of, header_read, header_body, open_byte, slot_at}
 use Rattle.lz_slot.proofs.Files.HeadBytes.{head_alone}
-use Rattle.lz_slot.proofs.Files.ExactBytes.{header_counts, header_is_of_its_count, header_reads_back}
+use Rattle.lz_slot.proofs.Files.ExactBytes.{header_counts, header_reads_back}
 use Rattle.lz_judge.specs.declared.finding.Finding.{Finding}
-use Rattle.lz_judge.specs.Surveys.{AreFindings, found_keys, is_sound}
+use Rattle.lz_judge.specs.declared.finding.Survey.TheVariants.{Refused}
+use Rattle.lz_judge.specs.Surveys.{AreFindings, IsSurveyed, found_keys, is_sound}
 use Rattle.lz_judge.proofs.Surveys.SlotFinding.{no_bad_key, no_key_twice, set_found, sound_where}
 
 -- a file that holds a set has no fault of the head
@@ -19,11 +21,16 @@ held_head t N S holds =
     head_alone t (length t) ∙ ap (λ (l : List ℕ). header_read l (length t)) holds.head ∙ ap (header_read (open_byte ∷ header_body (format_of t) N)) holds.size
     ∙ (header_reads_back (format_of t) N holds.count.0 holds.count.1).0
 
-pub sound_holds : (t : List ℕ) (N : ℕ) (found : List Finding) → ((i : ℕ) → get_or t i 0 < 256) → header_read t (length t) ≡ Ok N → AreFindings (slot_at t) N found
+-- a file whose head has a fault
+pub refused_surveyed : (t : List ℕ) (fault : HeaderFault) → header_read t (length t) ≡ Err fault → IsSurveyed t (Refused fault)
+refused_surveyed t fault is = record { told = is; good = (λ never. absurd (cc), λ (N, S, holds). absurd (let e : Err fault ≡ Ok N = sym is ∙ held_head t N S holds in cc)) }
+
+-- a survey of a file with its head
+pub sound_holds : (t : List ℕ) (N : ℕ) (found : List Finding) → take 16 t ≡ open_byte ∷ header_body (format_of t) N → header_read t (length t) ≡ Ok N → AreFindings (slot_at t) N found
     → IsTrue (list_all is_sound found) ↔ ((n : ℕ) × (S : Keys) × Holds t n S)
 sound_holds t N found bytes head findings = (holds, sound)
   where
-    range : (1 ≤ N) × (N ≤ most_slots) × (length t ≡ 16 + 16 * N)
+    range : (1 ≤ N) × (N ≤ most_slots_of (format_of t)) × (length t ≡ 16 + 16 * N)
     range = header_counts t (length t) N head
 
     pass : IsTrue (list_all is_sound found) → All (λ f. IsTrue (is_sound f)) found
@@ -47,7 +54,7 @@ sound_holds t N found bytes head findings = (holds, sound)
       record {
         count = (range.0, range.1);
         size = range.2;
-        head = (header_is_of_its_count t (length t) N (omega (arith, range.2)) bytes head).3;
+        head = bytes;
         no_bad_key = no_bad_key (slot_at t) N found findings sound;
         no_key_twice = no_key_twice (slot_at t) N found findings sound;
         set = set_found (slot_at t) N found findings sound;

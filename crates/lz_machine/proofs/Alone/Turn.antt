@@ -51,6 +51,7 @@ use Rattle.lz_machine.proofs.Frames.Uses.{free_limbo}
 use Rattle.lz_machine.proofs.Runs.Course.{course_dead, answer_plays}
 use Rattle.lz_machine.proofs.Frames.Outside.{answered_even}
 use Rattle.lz_machine.proofs.Alone.CalmEvent.{IsCalm, calm_adds, calm_sequence, is_calm_sequence, sequence_goes}
+use Rattle.lz_machine.proofs.Frames.Ranges.{few_slots}
 
 module _ (n calls : ℕ) (y : Yard) (callers : List (Option Caller)) (disk : Medium) (M : History) (P : Trace) (notes : Notes) (sound : Sound n calls y callers disk M P notes) (a i : ℕ) (c : Command) where
   abbrev actor : Actor
@@ -113,12 +114,12 @@ module _ (n calls : ℕ) (y : Yard) (callers : List (Option Caller)) (disk : Med
     others = h.others;
     left = λ _. h.left refl;
     opening = λ lives s opens. absurd (h.opening lives s opens);
-    stands = stands_hops y P y.words sound.trace sound.images.slots.1 c aim (hopped y.shape.buckets (key_of c) look (get y.words (wants y.shape.buckets (key_of c) look))) (finds c aim (relies (Walking aim look) is) h.stands);
+    stands = stands_hops y P y.words sound.trace (few_slots sound.images) c aim (hopped y.shape.buckets (key_of c) look (get y.words (wants y.shape.buckets (key_of c) look))) (finds c aim (relies (Walking aim look) is) h.stands);
   })
     where
       finds : (d : Command) (aim : Option ℕ) → Relies (view_of y.shape y.vault y.actors a) d (Walking aim look) (notes.begun a) P (notes.changed a) → WalkStands y P (Walking aim look) d
-          → AsksToAdd d aim (λ k. Finds y.shape y.words P sound.trace sound.images.slots.1 k (hopped y.shape.buckets (key_of d) look (get y.words (wants y.shape.buckets (key_of d) look))))
-      finds (Add k) None rely stands = walk_finds y.shape y.words P sound.trace sound.images.slots.1 y.shape.passes y.vault.format y.vault.cells y.vault.dead (actor_in y.actors a) rely.0.hold rely.1 k look stands
+          → AsksToAdd d aim (λ k. Finds y.shape y.words P sound.trace (few_slots sound.images) k (hopped y.shape.buckets (key_of d) look (get y.words (wants y.shape.buckets (key_of d) look))))
+      finds (Add k) None rely stands = walk_finds y.shape y.words P sound.trace (few_slots sound.images) y.shape.passes y.vault.format y.vault.cells y.vault.dead (actor_in y.actors a) rely.0.hold rely.1 k look stands
       finds (Add k) (Some s) rely stands = tt
       finds (Remove k) None rely stands = tt
       finds (Remove k) (Some s) rely stands = tt

@@ -4,6 +4,8 @@ use Rattle.std.specs.Prelude.{if◌then◌else◌}
 use mathlib.Core.Bool.{false≢true}
 use Rattle.std.proofs.lemmas.Bool.{cases_Bool, cases_lt, and_parts, not-true}
 use Rattle.std.proofs.lemmas.Bool.Decides.{nat_tests}
+use Rattle.lz_slot.specs.Limits.{most_slots_of}
+use Rattle.lz_slot.specs.declared.format.Format.{Format}
 use Rattle.lz_slot.specs.declared.command.Command.{Command}
 use Rattle.lz_slot.specs.declared.command.Command.TheVariants.{Add, Remove}
 use Rattle.lz_slot.specs.Sets.{Keys, Same, key_of, after, reply}
@@ -227,7 +229,7 @@ module _ (n calls : ℕ) (service : Service) (disk : Medium) (life : Life) (P : 
       sym (image_format service.yard.vault.format service.yard.vault.cells disk vouches t (omega (arith, count, up.sound.images.slots.0)) (omega (arith, count, up.sound.images.slots.1)) image)
       in
       record {
-        count = up.sound.images.slots;
+        count = subst (λ (F : Format). (1 ≤ N) × (N ≤ most_slots_of F)) names up.sound.images.slots;
         size = vouches.size t image ∙ ap (λ (q : ℕ). 16 + 16 * q) count;
         head = vouches.head t image
             ∙ (λ i. open_byte ∷ header_body (names i) (count i));

@@ -34,7 +34,7 @@ use Rattle.lz_machine.specs.Table.{with_vault}
 use Rattle.lz_machine.specs.Calls.{halts}
 use Rattle.lz_machine.specs.Runs.{Caller, caller_at}
 use Rattle.lz_machine.specs.Stands.{IsLinkable}
-use Rattle.lz_machine.proofs.Frames.Ranges.{on_range}
+use Rattle.lz_machine.proofs.Frames.Ranges.{on_range, few_slots}
 use Rattle.lz_machine.specs.Notes.{Notes, entries}
 use Rattle.lz_machine.specs.SlotsSound.{opens, shuts, unlocks, closes, has_removed_node, IsGateClosed, IsGateOpened, IsGateWritten, IsOut, IsCloser, IsNodeStage, IsHandStage, SlotStands, is_node, is_held, is_out, is_free, is_limbo, SlotsSound}
 use Rattle.lz_machine.specs.LocksSound.{IsBeside, IsChecked, RestsOn, LocksSound}
@@ -376,7 +376,7 @@ module _ (n calls : ℕ) (y : Yard) (callers : List (Option Caller)) (disk : Med
   -- all of it
   pub published_sound : Sound n calls yard_linked callers disk M P' notes
   published_sound = record {
-    trace = trace_link y.shape y.words P sound.trace sound.images.slots.1 s v lt loose short;
+    trace = trace_link y.shape y.words P sound.trace (few_slots sound.images) s v lt loose short;
     images = sound.images;
     slots = published_slots;
     locks = published_locks;

@@ -29,6 +29,7 @@ use Rattle.lz_machine.proofs.Frames.Publishing.{LeavesCaller, caller_published}
 use Rattle.lz_machine.proofs.Frames.Flags.{locks_settled, slots_settled, reuse_settled, tails_settled}
 use Rattle.lz_machine.proofs.Ledger.QuietPublishing.{ledger_published}
 use Rattle.lz_machine.proofs.Steps.Halt.{held_node}
+use Rattle.lz_machine.proofs.Frames.Ranges.{few_slots}
 
 -- what a settled flag makes of a slot's flags
 abbrev pub flags_then : Change → Flags → Flags
@@ -127,9 +128,9 @@ module _ (n calls : ℕ) (y : Yard) (callers : List (Option Caller)) (disk : Med
       node = held_node y.shape P (actor_in y.actors b).hold (actor_in y.actors b) sound.trace.lawful (sound.locks.rests b);
     }
 
-    pub settled_keeps : Sound n calls (with_words y (stored y.shape y.words P sound.trace sound.images.slots.1 s lt c)) callers disk M (settled s c ∷ P) notes
+    pub settled_keeps : Sound n calls (with_words y (stored y.shape y.words P sound.trace (few_slots sound.images) s lt c)) callers disk M (settled s c ∷ P) notes
     settled_keeps = record {
-      trace = trace_settled y.shape y.words P sound.trace sound.images.slots.1 s lt c;
+      trace = trace_settled y.shape y.words P sound.trace (few_slots sound.images) s lt c;
       images = sound.images;
       slots = slots_settled s c y.shape y.vault.cells y.vault.dead y.uses y.actors P sound.slots is_added is_removed_then;
       locks = locks_settled s c y.shape y.vault.cells y.vault.dead y.uses y.actors P y.locks apart sound.locks;

@@ -1,8 +1,12 @@
--- Nodes and links lie in the table, and a slot's flags tell of its last linking.
+-- Nodes and links lie in the table, no table has more slots than the largest, and a slot's flags tell of its last linking.
 use Rattle.std.proofs.Common.{◌≡◌, inl, inr, ℕ, zero, suc, ◌<◌, ◌≤◌, true, [], ◌∷◌, refl, sym, ap, ◌∙◌, arith}
 use mathlib.Core.Bool.{false≢true}
 use Rattle.std.proofs.lemmas.Bool.{cases_eq}
 use Rattle.std.proofs.lemmas.Bool.Decides.{nat_tests, eqb_tells}
+use Rattle.lz_slot.specs.Limits.{most_slots}
+use Rattle.lz_slot.proofs.Files.ExactBytes.{slots_of_format}
+use Rattle.lz_disk.specs.Images.{Medium}
+use Rattle.lz_vault.specs.Vaults.{Vaulted}
 use Rattle.lz_list.specs.declared.publishing.Publishing.{Publishing}
 use Rattle.lz_list.specs.declared.publishing.Publishing.TheVariants.{Linked as linked, Marked as marked, Unlinked as unlinked, Settled as settled, KeyPrepared as key_prepared, LinkPrepared as link_prepared, Halted as halted}
 use Rattle.lz_list.proofs.Traces.OpeningTrace.{opening_lawful}
@@ -11,6 +15,12 @@ use Rattle.lz_list.specs.Pinned.{Stood}
 use Rattle.lz_list.proofs.Chains.PlaceRank.{adjacent_next, on_start}
 use Rattle.lz_list.proofs.Traces.NodeBits.{on_insert_other, on_without}
 use Rattle.lz_list.proofs.Traces.Hindsight.{stands}
+use Rattle.lz_machine.specs.Yards.{Shape}
+use Rattle.lz_machine.specs.Sound.{DiskSound}
+
+-- a table has no more slots than the largest of all formats
+pub few_slots : {shape : Shape} {vault : Vaulted} {disk : Medium} → DiskSound shape vault disk → shape.slots ≤ most_slots
+few_slots {shape} {vault} images = slots_of_format vault.format shape.slots images.slots.1
 
 -- a node on a chain lies in the table
 pub on_range : (buckets slots : ℕ) (P : Trace) (b s : ℕ) → Lawful buckets slots P → on 0 (chain buckets b P) (suc s) ≡ true → s < slots

@@ -1,7 +1,7 @@
 -- The keys that are listed of a text which holds a set.
 use Rattle.std.proofs.Common.{◌≡◌, ◌≢◌, ◌≤◌, ◌<◌, ◌+◌, ◌*◌, ℕ, Bool, ◌==◌, ◌||◌, List, [], ◌∷◌, length, map, take, refl, sym, ap, ◌∙◌}
 use Rattle.lz_slot.specs.declared.slot.SlotRead.TheVariants.{Member, BadKey}
-use Rattle.lz_slot.specs.Limits.{most_slots}
+use Rattle.lz_slot.specs.Limits.{most_slots_of}
 use Rattle.lz_slot.specs.Sets.{Keys, members}
 use Rattle.lz_slot.specs.Bytes.{Holds, open_byte, format_of, header_body, slot_at, held}
 use Rattle.lz_list.specs.Traces.{Chain, has_key}
@@ -21,7 +21,7 @@ key_by k [] = refl
 key_by k (f ∷ c) = has_insert k f.0 f.1 (by_key c) ∙ ap (λ (b : Bool). (f.0 == k) || b) (key_by k c)
 
 -- a text that says what distinct cells do holds the set that is listed of it
-pub holds_listed : (t : List ℕ) (N : ℕ) → 1 ≤ N → N ≤ most_slots → length t ≡ 16 + 16 * N → take 16 t ≡ open_byte ∷ header_body (format_of t) N
+pub holds_listed : (t : List ℕ) (N : ℕ) → 1 ≤ N → N ≤ most_slots_of (format_of t) → length t ≡ 16 + 16 * N → take 16 t ≡ open_byte ∷ header_body (format_of t) N
     → ((i : ℕ) → i < N → slot_at t i ≢ BadKey) → ((i j k : ℕ) → i < N → j < N → slot_at t i ≡ Member k → slot_at t j ≡ Member k → i ≡ j)
     → Holds t N (members (keys_found t N))
 holds_listed t N low high size head fine once = record {

@@ -11,7 +11,7 @@ use Rattle.std.proofs.lemmas.Grind.{same_number_lists}
 use Rattle.lz_slot.specs.Limits.{largest_key}
 use Rattle.lz_slot.specs.Rooms.{largest_of, number_of}
 use Rattle.lz_slot.specs.declared.format.Format.{Format}
-use Rattle.lz_slot.specs.declared.format.Format.TheVariants.{One, Two}
+use Rattle.lz_slot.specs.declared.format.Format.TheVariants.{One, Two, Three}
 use Rattle.lz_slot.specs.Bytes.{open_byte, magic, format_byte, format_of, header_body, slot_body, slot_bytes, slot_read, slot_at}
 use Rattle.lz_slot.proofs.Files.ExactBytes.{key_of_format, slot_reads_back}
 use Rattle.lz_vault.specs.declared.vault.Stage.{Stage}
@@ -85,6 +85,7 @@ slot_says F _ k fits steady = absurd steady
 pub text_format : (F : Format) (cells : List Cell) → format_of (text_of F cells) ≡ F
 text_format One cells = refl
 text_format Two cells = refl
+text_format Three cells = refl
 
 -- the text says of each slot what its cell does
 pub text_says : (F : Format) (cells : List Cell) → ((i : ℕ) (cell : Cell) → slice_get cells i ≡ Some cell → cell.key ≤ largest_of F) → AreSteady cells
@@ -122,6 +123,7 @@ high_small (suc n) x (suc i) = high_small n x i
 letter_small : (F : Format) → format_byte F < 256
 letter_small One = omega arith
 letter_small Two = omega arith
+letter_small Three = omega arith
 
 magic_small : (F : Format) → AreBytes (magic F)
 magic_small F zero = omega arith

@@ -35,7 +35,7 @@ use Rattle.lz_machine.specs.LocksSound.{RestsOn}
 use Rattle.lz_machine.specs.Sound.{Sound}
 use Rattle.lz_machine.specs.Ready.{IsEventOf}
 use Rattle.lz_machine.proofs.Frames.OneActor.{mine}
-use Rattle.lz_machine.proofs.Frames.Ranges.{on_range, stood_range}
+use Rattle.lz_machine.proofs.Frames.Ranges.{on_range, stood_range, few_slots}
 use Rattle.lz_machine.proofs.Steps.Halt.{held_node}
 use Rattle.lz_machine.proofs.Frames.LoadedWord.{bucket_range}
 use Rattle.lz_machine.proofs.Steps.Claim.{ended_between, pred_was, node_was}
@@ -61,13 +61,13 @@ module _ (n calls : ℕ) (y : Yard) (callers : List (Option Caller)) (disk : Med
   stood_lt k s stood = stood_range y.shape.buckets y.shape.slots P0 P (bucket_of y.shape.buckets k) s sound.trace.lawful stood
 
   head_word : IsWord w (wants y.shape.buckets (key_of c) AtHead)
-  head_word = omega (arith, bucket_range y.shape y.words P sound.trace sound.images.slots.1 (key_of c), heads_are y.shape y.words P sound.trace sound.images.slots.1 w heads links keys)
+  head_word = omega (arith, bucket_range y.shape y.words P sound.trace (few_slots sound.images) (key_of c), heads_are y.shape y.words P sound.trace (few_slots sound.images) w heads links keys)
 
   link_lt : (s : ℕ) → s < y.shape.slots → s < length w.links
-  link_lt s lt = omega (arith, lt, links_are y.shape y.words P sound.trace sound.images.slots.1 w heads links keys)
+  link_lt s lt = omega (arith, lt, links_are y.shape y.words P sound.trace (few_slots sound.images) w heads links keys)
 
   key_lt : (s : ℕ) → s < y.shape.slots → s < length w.keys
-  key_lt s lt = omega (arith, lt, keys_are y.shape y.words P sound.trace sound.images.slots.1 w heads links keys)
+  key_lt s lt = omega (arith, lt, keys_are y.shape y.words P sound.trace (few_slots sound.images) w heads links keys)
 
   -- a walk's words
   looks : (look : Look) → IsLooking y.shape.buckets (key_of c) P0 P look → IsWord w (wants y.shape.buckets (key_of c) look)
@@ -80,7 +80,7 @@ module _ (n calls : ℕ) (y : Yard) (callers : List (Option Caller)) (disk : Med
   claims : (pred : Place) (curr : Option ℕ) → WasBetween y.shape.buckets (key_of c) pred (link_to curr) P0 P → IsEventOf z (event_at y.shape c (Claiming None pred curr))
   claims pred curr h = (
     place pred h.bucket (pred_was y.shape.buckets (key_of c) P0 P pred (link_to curr) h),
-    is_curr y.shape y.words P sound.trace sound.images.slots.1 w heads links keys curr (λ s is. link_lt s (stood_lt (key_of c) s (node_was y.shape.buckets y.shape.slots (key_of c) P0 P pred curr s is h))),
+    is_curr y.shape y.words P sound.trace (few_slots sound.images) w heads links keys curr (λ s is. link_lt s (stood_lt (key_of c) s (node_was y.shape.buckets y.shape.slots (key_of c) P0 P pred curr s is h))),
   )
     where
       place : (q : Place) → InBucket y.shape.buckets (key_of c) q → Stood y.shape.buckets (bucket_of y.shape.buckets (key_of c)) P0 P (place_number q) → IsPlace w q

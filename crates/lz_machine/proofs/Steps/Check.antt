@@ -40,7 +40,7 @@ use Rattle.lz_machine.specs.Sound.{TraceSound, Sound}
 use Rattle.lz_machine.proofs.Frames.OneActor.{moving}
 use Rattle.lz_machine.proofs.Frames.Grip.{fresh_grip}
 use Rattle.lz_machine.proofs.Frames.NodeLocks.{held_locks}
-use Rattle.lz_machine.proofs.Frames.Ranges.{stood_range}
+use Rattle.lz_machine.proofs.Frames.Ranges.{stood_range, few_slots}
 use Rattle.lz_machine.proofs.Frames.LoadedWord.{bucket_range, head_next, link_next, link_mark}
 use Rattle.lz_machine.proofs.Steps.Walk.{GoesOn}
 use Rattle.lz_machine.proofs.Steps.Hop.{call_at, own, own_inside}
@@ -167,11 +167,11 @@ module _ (n calls : ℕ) (y : Yard) (callers : List (Option Caller)) (disk : Med
 
     true_adds : (k s : ℕ) → notes.changed a ≡ None → IsWritten (v Locks) k s P → HasEnded (Add k) (Some s) y.shape.buckets (notes.begun a) P actor.pred actor.curr → then (Add k) (Some s) actor.curr
     true_adds k s none written h =
-        let round = beside_now y.shape y.words P sound.trace sound.images.slots.1 (notes.begun a) quiet k actor.pred actor.curr h.0 clear clear_node leads h.1 in (
+        let round = beside_now y.shape y.words P sound.trace (few_slots sound.images) (notes.begun a) quiet k actor.pred actor.curr h.0 clear clear_node leads h.1 in (
           record { relies = (refl, record { slot = written.slot; stage = written.stage; key = written.key; word = written.word }, none); inside = refl },
           record {
             beside = λ t slot. subst (λ (q : ℕ). IsBeside y.shape.buckets q actor.pred actor.curr P) (sym written.word ∙ ap (λ (q : ℕ). key_word q P) (some_slot (sym written.slot ∙ slot))) round;
-            before = λ t node. before_now y.shape y.words P sound.trace sound.images.slots.1 (notes.begun a) quiet k actor.pred actor.curr h.0 clear clear_node leads t node (above t node round.round.high);
+            before = λ t node. before_now y.shape y.words P sound.trace (few_slots sound.images) (notes.begun a) quiet k actor.pred actor.curr h.0 clear clear_node leads t node (above t node round.round.high);
           },
         )
       where
@@ -189,7 +189,7 @@ module _ (n calls : ℕ) (y : Yard) (callers : List (Option Caller)) (disk : Med
         let s = h.1.0 in
         let checked : IsChecked y.shape.buckets (with_hold actor Checked) P = record {
           beside = λ t hand. absurd (no_slot (sym slot ∙ hand));
-          before = λ t node. before_now y.shape y.words P sound.trace sound.images.slots.1 (notes.begun a) quiet k actor.pred actor.curr h.0 clear clear_node leads t node (omega (arith, h.1.2, ap (λ (q : ℕ). key_word q P) (some_slot (sym h.1.1 ∙ node))));
+          before = λ t node. before_now y.shape y.words P sound.trace (few_slots sound.images) (notes.begun a) quiet k actor.pred actor.curr h.0 clear clear_node leads t node (omega (arith, h.1.2, ap (λ (q : ℕ). key_word q P) (some_slot (sym h.1.1 ∙ node))));
         } in (
           subst (λ (q : Option ℕ). GoesOn (v Checked) (Remove k) (changes (Remove k) None q) (notes.begun a) P (notes.changed a)) (sym h.1.1) (record { relies = (h.1.1, slot, (refl, h.1.2, none)); inside = refl }),
           checked,

@@ -31,7 +31,7 @@ use Rattle.lz_machine.specs.Sound.{Sound}
 use Rattle.lz_machine.proofs.Frames.OneActor.{moving}
 use Rattle.lz_machine.proofs.Frames.Grip.{fresh_grip}
 use Rattle.lz_machine.proofs.Frames.NodeLocks.{IsPlaceIn, claimed_locks}
-use Rattle.lz_machine.proofs.Frames.Ranges.{stood_range}
+use Rattle.lz_machine.proofs.Frames.Ranges.{stood_range, few_slots}
 use Rattle.lz_machine.proofs.Frames.LoadedWord.{bucket_range}
 use Rattle.lz_list.proofs.Chains.PlaceRank.{adjacent_on}
 use Rattle.lz_list.proofs.Traces.Hindsight.{once_weaker, next_stood}
@@ -69,7 +69,7 @@ module _ (n calls : ℕ) (y : Yard) (callers : List (Option Caller)) (disk : Med
   pred_in = go pred
     where
       go : (q : Place) → InBucket y.shape.buckets (key_of c) q → Stood y.shape.buckets (bucket_of y.shape.buckets (key_of c)) (notes.begun a) P (place_number q) → IsPlaceIn y.locks q
-      go (Bucket b) bucket stood = omega (arith, bucket, bucket_range y.shape y.words P sound.trace sound.images.slots.1 (key_of c), sound.locks.heads)
+      go (Bucket b) bucket stood = omega (arith, bucket, bucket_range y.shape y.words P sound.trace (few_slots sound.images) (key_of c), sound.locks.heads)
       go (Node s) bucket stood = omega (arith, sound.locks.nodes, stood_range y.shape.buckets y.shape.slots (notes.begun a) P (bucket_of y.shape.buckets (key_of c)) s sound.trace.lawful stood)
 
   -- both locks were free

@@ -46,7 +46,7 @@ use Rattle.lz_machine.proofs.Frames.OneActor.{caller_range, moving, moved_same, 
 use Rattle.lz_machine.proofs.Frames.Limbo.{seen_step, away_stays}
 use Rattle.lz_machine.proofs.Frames.Publishing.{LeavesCaller, caller_published, key_linking}
 use Rattle.lz_machine.proofs.Steps.Pin.{limbo_loose, free_loose}
-use Rattle.lz_machine.proofs.Frames.Ranges.{on_range}
+use Rattle.lz_machine.proofs.Frames.Ranges.{on_range, few_slots}
 use Rattle.lz_machine.proofs.Frames.LoadedWord.{key_load}
 use Rattle.lz_machine.proofs.Steps.Halt.{held_node}
 use Rattle.lz_machine.proofs.Steps.Hop.{call_at, own}
@@ -365,7 +365,7 @@ module _ (n calls : ℕ) (y : Yard) (callers : List (Option Caller)) (disk : Med
   linked_sound =
       let same = sym (redirect_pins y.words (actor_at y a).pred (suc s)) in
       record {
-        trace = trace_linked y.shape y.words P sound.trace sound.images.slots.1 k s a (actor_at y a).pred law.0 beside.bucket node_range place;
+        trace = trace_linked y.shape y.words P sound.trace (few_slots sound.images) k s a (actor_at y a).pred law.0 beside.bucket node_range place;
         images = sound.images;
         slots = linked_slots;
         locks = linked_locks;
@@ -378,7 +378,7 @@ module _ (n calls : ℕ) (y : Yard) (callers : List (Option Caller)) (disk : Med
   pub link_keeps : Sound n calls (yard_done y (actor_at y a) a Link) callers' disk M (publishes y (actor_at y a) a Link ++ P) notes'
   link_keeps =
       let hand : s ≡ slot_of (actor_at y a) = sym (ap (λ (q : Option ℕ). unwrap_or q 0) h.1) in
-      let key : k ≡ get y.words (key_at s) = sym (key_load y.shape y.words P sound.trace sound.images.slots.1 s lt ∙ h.2) in
+      let key : k ≡ get y.words (key_at s) = sym (key_load y.shape y.words P sound.trace (few_slots sound.images) s lt ∙ h.2) in
       subst (λ (q : Option ℕ). Sound n calls (yard' (link_to q)) callers' disk M (linked (get y.words (key_at (slot_of (actor_at y a)))) (slot_of (actor_at y a)) a ∷ P) notes') (sym h.1)
       (subst (λ (q : ℕ). Sound n calls (yard' (suc s)) callers' disk M (linked (get y.words (key_at q)) q a ∷ P) notes') hand
       (subst (λ (q : ℕ). Sound n calls (yard' (suc s)) callers' disk M (linked q s a ∷ P) notes') key linked_sound))

@@ -42,7 +42,7 @@ use Rattle.lz_machine.proofs.Frames.OneActor.{caller_range, moving, moved_same, 
 use Rattle.lz_machine.proofs.Frames.Limbo.{seen_step, away_stays}
 use Rattle.lz_machine.proofs.Frames.Publishing.{LeavesCaller, caller_published}
 use Rattle.lz_machine.proofs.Steps.Pin.{limbo_loose, free_loose}
-use Rattle.lz_machine.proofs.Frames.Ranges.{on_range}
+use Rattle.lz_machine.proofs.Frames.Ranges.{on_range, few_slots}
 use Rattle.lz_machine.proofs.Frames.LoadedWord.{key_load}
 use Rattle.lz_machine.proofs.Steps.Halt.{held_node}
 use Rattle.lz_machine.proofs.Steps.Hop.{call_at, own}
@@ -343,7 +343,7 @@ module _ (n calls : ℕ) (y : Yard) (callers : List (Option Caller)) (disk : Med
 
   marked_sound : Sound n calls (record { shape = y.shape; words = change_flags marked_flags y.words s; locks = y.locks; vault = y.vault; uses = y.uses; actors = actors' }) callers' disk M P' notes'
   marked_sound = record {
-    trace = trace_marked y.shape y.words P sound.trace sound.images.slots.1 k s a lt law.0;
+    trace = trace_marked y.shape y.words P sound.trace (few_slots sound.images) k s a lt law.0;
     images = sound.images;
     slots = marked_slots;
     locks = marked_locks;
@@ -356,6 +356,6 @@ module _ (n calls : ℕ) (y : Yard) (callers : List (Option Caller)) (disk : Med
   pub mark_keeps : Sound n calls (yard_done y (actor_at y a) a Mark) callers' disk M (publishes y (actor_at y a) a Mark ++ P) notes'
   mark_keeps =
       let claimed : s ≡ node_of (actor_at y a) = sym (ap (λ (q : Option ℕ). unwrap_or q 0) h.0) in
-      let key : k ≡ get y.words (key_at s) = sym (key_load y.shape y.words P sound.trace sound.images.slots.1 s lt ∙ h.2.1) in
+      let key : k ≡ get y.words (key_at s) = sym (key_load y.shape y.words P sound.trace (few_slots sound.images) s lt ∙ h.2.1) in
       subst (λ (q : ℕ). Sound n calls (record { shape = y.shape; words = change_flags marked_flags y.words q; locks = y.locks; vault = y.vault; uses = y.uses; actors = actors' }) callers' disk M (marked (get y.words (key_at q)) q a ∷ P) notes') claimed
       (subst (λ (q : ℕ). Sound n calls (record { shape = y.shape; words = change_flags marked_flags y.words s; locks = y.locks; vault = y.vault; uses = y.uses; actors = actors' }) callers' disk M (marked q s a ∷ P) notes') key marked_sound)

@@ -42,7 +42,7 @@ use Rattle.lz_machine.specs.Sound.{Sound}
 use Rattle.lz_machine.proofs.Frames.OneActor.{moving}
 use Rattle.lz_machine.proofs.Ledger.Membership.{upto_begins}
 use Rattle.lz_machine.proofs.Ledger.Growth.{upto_more}
-use Rattle.lz_machine.proofs.Frames.Ranges.{on_range, stood_range}
+use Rattle.lz_machine.proofs.Frames.Ranges.{on_range, stood_range, few_slots}
 use Rattle.lz_machine.proofs.Steps.Walk.{GoesOn, once_some}
 use Rattle.lz_machine.proofs.Steps.Hop.{call_at, own, own_inside, goes_on_keeps}
 use Rattle.lz_machine.proofs.Steps.Halt.{held_node}
@@ -82,7 +82,7 @@ mark_since buckets slots P0 b s R (e ∷ P) quiet (inr to) stood mark =
 module _ (n calls : ℕ) (y : Yard) (callers : List (Option Caller)) (disk : Medium) (M : History) (P : Trace) (notes : Notes) (sound : Sound n calls y callers disk M P notes) (a s : ℕ) where
   -- the event, where the slot's last write is durable, and where it isn't
   done_form : (c : Change) → Allows c (stage_in y.vault.cells s) → (lt : s < y.shape.slots) → (callers' : List (Option Caller))
-      → Sound n calls (with_words y (stored y.shape y.words P sound.trace sound.images.slots.1 s lt c)) callers' disk M (settled s c ∷ P) notes
+      → Sound n calls (with_words y (stored y.shape y.words P sound.trace (few_slots sound.images) s lt c)) callers' disk M (settled s c ∷ P) notes
       → Sound n calls (yard_done y (actor_at y a) a (Settle s)) callers' disk M (publishes y (actor_at y a) a (Settle s) ++ P) notes
   done_form Added allows lt callers' h = rw allows h
   done_form Removed allows lt callers' h = rw allows h
@@ -115,7 +115,7 @@ module _ (n calls : ℕ) (y : Yard) (callers : List (Option Caller)) (disk : Med
       → Sound n calls (yard_done y (actor_at y a) a (Settle s)) (moving callers a (call_at i c at) next) disk M (publishes y (actor_at y a) a (Settle s) ++ P) notes
   settles i c at next is inside keeps lt apart change allows goes =
       done_form change allows lt (moving callers a (call_at i c at) next)
-      (goes_on_keeps n calls (with_words y (stored y.shape y.words P sound.trace sound.images.slots.1 s lt change)) callers disk M (settled s change ∷ P) notes a i c at is (settled_keeps n calls y callers disk M P notes sound s change lt allows apart) next inside keeps goes)
+      (goes_on_keeps n calls (with_words y (stored y.shape y.words P sound.trace (few_slots sound.images) s lt change)) callers disk M (settled s change ∷ P) notes a i c at is (settled_keeps n calls y callers disk M P notes sound s change lt allows apart) next inside keeps goes)
 
   -- no slot in hand is one on which a pass that is inside may stand
   hands_apart : IsInside (pin_in y.words.pins a) → (b : ℕ) → Stood y.shape.buckets b (notes.begun a) P (suc s) → (d t : ℕ) → (actor_in y.actors d).slot ≡ Some t → t ≢ s

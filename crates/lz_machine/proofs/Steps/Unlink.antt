@@ -43,7 +43,7 @@ use Rattle.lz_machine.proofs.Frames.OneActor.{moving, moved_same, moved_other, c
 use Rattle.lz_machine.proofs.Frames.Limbo.{seen_step, away_stays}
 use Rattle.lz_machine.proofs.Frames.Publishing.{LeavesCaller, caller_published, change_stays}
 use Rattle.lz_machine.proofs.Steps.Pin.{limbo_loose, free_loose}
-use Rattle.lz_machine.proofs.Frames.Ranges.{on_range}
+use Rattle.lz_machine.proofs.Frames.Ranges.{on_range, few_slots}
 use Rattle.lz_machine.proofs.Frames.LoadedWord.{link_next, key_load}
 use Rattle.lz_machine.proofs.Ledger.QuietPublishing.{ledger_published}
 use Rattle.lz_machine.proofs.Steps.Halt.{held_node}
@@ -329,7 +329,7 @@ module _ (n calls : ℕ) (y : Yard) (callers : List (Option Caller)) (disk : Med
       let next = node_next y.shape.buckets s P in
       let same = sym (pins_same (node_next y.shape.buckets s P)) in
       record {
-        trace = trace_unlinked y.shape y.words P sound.trace sound.images.slots.1 k s a (actor_at y a).pred law.0 (subst (λ (q : ℕ). InBucket y.shape.buckets q (actor_at y a).pred) h.2.1 before.bucket) node_range (unlinks.place_at y.shape.buckets y.shape.slots k spot s a P sound.trace.lawful leaving);
+        trace = trace_unlinked y.shape y.words P sound.trace (few_slots sound.images) k s a (actor_at y a).pred law.0 (subst (λ (q : ℕ). InBucket y.shape.buckets q (actor_at y a).pred) h.2.1 before.bucket) node_range (unlinks.place_at y.shape.buckets y.shape.slots k spot s a P sound.trace.lawful leaving);
         images = sound.images;
         slots = unlinked_slots;
         locks = unlinked_locks;
@@ -344,7 +344,7 @@ module _ (n calls : ℕ) (y : Yard) (callers : List (Option Caller)) (disk : Med
 
   pub unlink_keeps : Sound n calls (yard_done y (actor_at y a) a Unlink) callers' disk M (publishes y (actor_at y a) a Unlink ++ P) notes
   unlink_keeps =
-      let few = sound.images.slots.1 in
+      let few = few_slots sound.images in
       let lt = on_range y.shape.buckets y.shape.slots P (bucket_of y.shape.buckets k) s sound.trace.lawful there in
       let claimed : s ≡ node_of (actor_at y a) = sym (ap (λ (q : Option ℕ). unwrap_or q 0) h.0) in
       let next : node_next y.shape.buckets s P ≡ next_at y.words (Node s) = sym (link_next y.shape y.words P sound.trace few s lt) in

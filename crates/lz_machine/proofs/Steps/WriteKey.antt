@@ -52,6 +52,7 @@ use Rattle.lz_machine.proofs.Steps.Hop.{call_at, own, goes_on_keeps}
 use Rattle.lz_machine.proofs.Frames.FittingKeys.{adds_fitting}
 use Rattle.lz_machine.proofs.Frames.Cells.{KeepsCell, caller_vaulted}
 use Rattle.lz_machine.proofs.Frames.KeyWrite.{key_failed, key_written, rests_prepared}
+use Rattle.lz_machine.proofs.Frames.Ranges.{few_slots}
 
 module _ (n calls : ℕ) (y : Yard) (callers : List (Option Caller)) (disk : Medium) (M : History) (P : Trace) (notes : Notes) (sound : Sound n calls y callers disk M P notes) (a i : ℕ) (c : Command) (s : ℕ) (is : caller_at callers a ≡ Some (call_at i c (Playing (Writing s) 0))) where
   abbrev at : Progress
@@ -191,7 +192,7 @@ module _ (n calls : ℕ) (y : Yard) (callers : List (Option Caller)) (disk : Med
   -- all of it
   published_sound : Sound n calls (record { shape = y.shape; words = set y.words (key_at s) k; locks = y.locks; vault = y.vault; uses = y.uses; actors = y.actors }) callers disk M P' notes
   published_sound = record {
-    trace = trace_key y.shape y.words P sound.trace sound.images.slots.1 s k lt loose;
+    trace = trace_key y.shape y.words P sound.trace (few_slots sound.images) s k lt loose;
     images = sound.images;
     slots = published_slots;
     locks = published_locks;

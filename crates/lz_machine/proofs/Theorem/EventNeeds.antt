@@ -43,7 +43,7 @@ use Rattle.lz_machine.specs.Notes.{Notes}
 use Rattle.lz_machine.specs.CallersSound.{View, view_of, Relies, is_before_pin, side_of, IsLooking}
 use Rattle.lz_machine.specs.LocksSound.{RestsOn, IsChecked}
 use Rattle.lz_machine.specs.Sound.{Sound}
-use Rattle.lz_machine.proofs.Frames.Ranges.{on_range, stood_range, head_range}
+use Rattle.lz_machine.proofs.Frames.Ranges.{on_range, stood_range, head_range, few_slots}
 use Rattle.lz_machine.proofs.Frames.LoadedWord.{bucket_range, head_next, link_next}
 use Rattle.lz_machine.proofs.Steps.Halt.{held_node}
 use Rattle.lz_machine.proofs.Theorem.ShownChains.{mark_is}
@@ -149,7 +149,7 @@ module _ (n calls : ℕ) (y : Yard) (callers : List (Option Caller)) (disk : Med
       let held = held_lt hold s curr in
       ap (λ (q : Hold). has_checked q && is_some actor.curr && not (is_marked_at y.words (Node (unwrap_or actor.curr 0)))) hold
       ∙ ap (λ (q : Option ℕ). is_some q && not (is_marked_at y.words (Node (unwrap_or q 0)))) curr
-      ∙ ap not (mark_is y.shape y.words P sound.trace sound.images.slots.1 y.words refl refl refl s held.0 ∙ held.1)
+      ∙ ap not (mark_is y.shape y.words P sound.trace (few_slots sound.images) y.words refl refl refl s held.0 ∙ held.1)
 
   unlinks_now : (k s : ℕ) → actor.hold ≡ Marked → actor.curr ≡ Some s → key_word s P ≡ k → is_removed (linking k P) P ≡ true → needs y a Unlink ≡ true
   unlinks_now k s hold curr key removed =
@@ -219,11 +219,11 @@ module _ (n calls : ℕ) (y : Yard) (callers : List (Option Caller)) (disk : Med
   looks_on : (look : Look) → IsLooking y.shape.buckets (key_of c) (notes.begun a) P look → LeadsOn look (get y.words (wants y.shape.buckets (key_of c) look))
   looks_on AtHead h =
       let b = bucket_of y.shape.buckets (key_of c) in
-      let is = head_next y.shape y.words P sound.trace sound.images.slots.1 b (bucket_range y.shape y.words P sound.trace sound.images.slots.1 (key_of c)) in
-      subst (λ (q : ℕ). q ≤ most_slots) (sym is) (omega (arith, head_range y.shape.buckets y.shape.slots P b sound.trace.lawful, sound.images.slots.1))
+      let is = head_next y.shape y.words P sound.trace (few_slots sound.images) b (bucket_range y.shape y.words P sound.trace (few_slots sound.images) (key_of c)) in
+      subst (λ (q : ℕ). q ≤ most_slots) (sym is) (omega (arith, head_range y.shape.buckets y.shape.slots P b sound.trace.lawful, few_slots sound.images))
   looks_on (AtBelow s) h =
       let lt = stood_range y.shape.buckets y.shape.slots (notes.begun a) P (bucket_of y.shape.buckets (key_of c)) s sound.trace.lawful h.stood in
-      subst (λ (q : ℕ). q ≤ most_slots) (sym (link_next y.shape y.words P sound.trace sound.images.slots.1 s lt)) (omega (arith, sound.trace.small s, sound.images.slots.1))
+      subst (λ (q : ℕ). q ≤ most_slots) (sym (link_next y.shape y.words P sound.trace (few_slots sound.images) s lt)) (omega (arith, sound.trace.small s, few_slots sound.images))
   looks_on (AtKey pred s) h = tt
   looks_on (AtMet pred s) h = tt
 

@@ -57,6 +57,7 @@ use Rattle.lz_machine.proofs.Steps.ReturnedSlot.{closed_unused}
 use Rattle.lz_machine.proofs.Frames.Grip.{closer_locks}
 use Rattle.lz_machine.proofs.Crash.ImageSlots.{node_stands}
 use Rattle.lz_machine.proofs.Theorem.Needs.{Knows, check_locks, is_checked, is_closed, is_keyed, is_marking, is_opened, is_released, not_last, opens_alive, release_locks, some_of}
+use Rattle.lz_machine.proofs.Frames.Ranges.{few_slots}
 
 -- the yard of a sound service, with words of which only pins differ, and not the actor's own
 module _ (n calls : ℕ) (y : Yard) (callers : List (Option Caller)) (disk : Medium) (M : History) (P : Trace) (notes : Notes) (sound : Sound n calls y callers disk M P notes)
@@ -71,7 +72,7 @@ module _ (n calls : ℕ) (y : Yard) (callers : List (Option Caller)) (disk : Med
   -- what the actor has locked is in range
   has_place : has_locks actor.hold ≡ true → (place : Place) → HasPlace place (claimed_places actor.pred actor.curr) → IsPlace w place
   has_place locks place among =
-      owned_place y.shape y.words P sound.trace sound.images.slots.1 w heads links keys y.locks a place sound.locks.heads sound.locks.nodes low (sound.locks.has a place (record { locks = locks; among = among }))
+      owned_place y.shape y.words P sound.trace (few_slots sound.images) w heads links keys y.locks a place sound.locks.heads sound.locks.nodes low (sound.locks.has a place (record { locks = locks; among = among }))
 
   pred_place : has_locks actor.hold ≡ true → IsPlace w actor.pred
   pred_place locks = has_place locks actor.pred (first_place actor.pred actor.curr)
@@ -80,13 +81,13 @@ module _ (n calls : ℕ) (y : Yard) (callers : List (Option Caller)) (disk : Med
   node_there locks s is = has_place locks (Node s) (node_place actor.pred actor.curr s is)
 
   curr_there : has_locks actor.hold ≡ true → IsCurr w actor.curr
-  curr_there locks = is_curr y.shape y.words P sound.trace sound.images.slots.1 w heads links keys actor.curr (node_there locks)
+  curr_there locks = is_curr y.shape y.words P sound.trace (few_slots sound.images) w heads links keys actor.curr (node_there locks)
 
   -- the key word of a slot is a key, where it is that of the slot's cell
   is_key : (s : ℕ) → s < y.shape.slots → (cell_in y.vault.cells s).key ≡ key_word s P → get w (key_at s) ≤ largest_key
   is_key s lt same =
       let fits = sound.images.keys s (cell_in y.vault.cells s) (slice_get-get_or y.vault.cells s no_cell (omega (arith, lt, sound.images.count))) in
-      omega (arith, key_of_format y.vault.format _ fits, same, key_is y.shape y.words P sound.trace sound.images.slots.1 w heads links keys s lt)
+      omega (arith, key_of_format y.vault.format _ fits, same, key_is y.shape y.words P sound.trace (few_slots sound.images) w heads links keys s lt)
 
   -- as it is on a chain
   node_key : (s : ℕ) → s < y.shape.slots → on 0 (chain_of y.shape.buckets (key_word s P) P) (suc s) ≡ true → get w (key_at s) ≤ largest_key
@@ -111,7 +112,7 @@ module _ (n calls : ℕ) (y : Yard) (callers : List (Option Caller)) (disk : Med
       let two = and_parts (is_some actor.slot) (not (has_opened actor.hold)) has in
       let slot = some_of actor.slot two.0 in
       let hand = sound.slots.hand a slot.0 slot.1 in
-      ((slot.0, slot.1, (hand.in_range, unused slot.0 hand.stage (not-true (has_opened actor.hold) two.1), keeps_key y.shape y.words P sound.trace sound.images.slots.1 w heads links keys slot.0 k hand.loose)), fits)
+      ((slot.0, slot.1, (hand.in_range, unused slot.0 hand.stage (not-true (has_opened actor.hold) two.1), keeps_key y.shape y.words P sound.trace (few_slots sound.images) w heads links keys slot.0 k hand.loose)), fits)
     where
       unused : (s : ℕ) → IsHandStage y.vault.cells y.vault.dead actor P s → has_opened actor.hold ≡ false → is_unused (stage_in y.vault.cells s) ≡ true
       unused s (inl closed) shut = closed_unused (stage_in y.vault.cells s) closed
@@ -131,7 +132,7 @@ module _ (n calls : ℕ) (y : Yard) (callers : List (Option Caller)) (disk : Med
         (
           hand.in_range,
           is_keyed (stage_in y.vault.cells slot.0) (ap (λ (q : Option ℕ). has_stage Keyed (stage_in y.vault.cells (unwrap_or q 0))) (sym slot.1) ∙ two.1),
-          keeps_link y.shape y.words P sound.trace sound.images.slots.1 w heads links keys slot.0 _ hand.loose,
+          keeps_link y.shape y.words P sound.trace (few_slots sound.images) w heads links keys slot.0 _ hand.loose,
           curr_there (ap has_locks (is_checked actor.hold first.0)),
         ),
       )
@@ -141,10 +142,10 @@ module _ (n calls : ℕ) (y : Yard) (callers : List (Option Caller)) (disk : Med
       let hold = is_opened actor.hold has in
       let rests : HasOpened y.shape.buckets actor P = subst (λ (q : Hold). RestsOn y.shape.buckets q actor P) hold (sound.locks.rests a) in
       let hand = sound.slots.hand a rests.own rests.slot in
-      (rests.own, rests.slot, (pred_place (ap has_locks hold), may_link_at y.shape y.words P sound.trace sound.images.slots.1 w heads links keys actor.pred actor.curr rests.own hand.in_range rests.beside rests.ready, opened_key rests.own rests.slot hold))
+      (rests.own, rests.slot, (pred_place (ap has_locks hold), may_link_at y.shape y.words P sound.trace (few_slots sound.images) w heads links keys actor.pred actor.curr rests.own hand.in_range rests.beside rests.ready, opened_key rests.own rests.slot hold))
 
   slot_lt : has_locks actor.hold ≡ true → (s : ℕ) → actor.curr ≡ Some s → s < y.shape.slots
-  slot_lt locks s is = omega (arith, node_there locks s is, links_are y.shape y.words P sound.trace sound.images.slots.1 w heads links keys)
+  slot_lt locks s is = omega (arith, node_there locks s is, links_are y.shape y.words P sound.trace (few_slots sound.images) w heads links keys)
 
   -- a node that the actor has found unmarked, with the gate open, in a vault that lives
   gate_open : actor.hold ≡ Checked → y.vault.dead ≡ false → (s : ℕ) → actor.curr ≡ Some s → s < y.shape.slots → (stage_in y.vault.cells s ≡ Opening) ⊎ (stage_in y.vault.cells s ≡ Open)
@@ -200,7 +201,7 @@ module _ (n calls : ℕ) (y : Yard) (callers : List (Option Caller)) (disk : Med
       let hold = is_marking actor.hold first.0 in
       let rests : HasClosed y.shape.buckets true actor P = subst (λ (q : Hold). RestsOn y.shape.buckets q actor P) hold (sound.locks.rests a) in
       let lt = slot_lt (ap has_locks hold) rests.node rests.curr in
-      let leads = may_unlink_at y.shape y.words P sound.trace sound.images.slots.1 w heads links keys actor.pred rests.node rests.before in
+      let leads = may_unlink_at y.shape y.words P sound.trace (few_slots sound.images) w heads links keys actor.pred rests.node rests.before in
       (rests.node, rests.curr, (lt, pred_place (ap has_locks hold), leads, node_key rests.node lt (held_node y.shape P Marked actor sound.trace.lawful rests rests.node rests.curr refl)))
 
   -- of the node that was claimed, which a call that retires it knows

@@ -1,6 +1,7 @@
 -- Worked rows that are runs, of which each step may be taken: crashes inside a device call, and runs that follow on one another.
 use Rattle.std.proofs.Common.{◌≡◌, ◌⊎◌, inl, inr, ℕ, suc, ◌≤◌, lit<, Bool, true, false, List, [], ◌∷◌, ◌++◌, replicate, Option, Some, None, is_some, refl, sym, ap, ◌∙◌, subst, arith}
 use mathlib.Core.Bool.{false≢true}
+use Rattle.lz_slot.specs.Limits.{most_buckets, most_passes}
 use Rattle.lz_slot.specs.declared.format.Format.TheVariants.{Two}
 use Rattle.lz_slot.specs.declared.command.Command.TheVariants.{Add}
 use Rattle.lz_slot.specs.declared.history.Mark.TheVariants.{Call, Answer}
@@ -170,7 +171,7 @@ follows start next steps more starts runs starts' runs' is =
 
 -- one may begin so
 may_begin : (start : Start) (steps : List Transition) (starts : IsStart start) (runs : IsRun (first_point start) steps) (t : List ℕ) (buckets passes : ℕ)
-    → (disk_of (run (first_point start) steps).state).seen ≡ t → (1 ≤ buckets) × (buckets ≤ 4096) → (1 ≤ passes) × (passes ≤ 64)
+    → (disk_of (run (first_point start) steps).state).seen ≡ t → (1 ≤ buckets) × (buckets ≤ most_buckets) → (1 ≤ passes) × (passes ≤ most_passes)
     → IsStart (record { shape = record { slots = start.shape.slots; buckets = buckets; passes = passes }; text = t })
 may_begin start steps starts runs t buckets passes is some few =
     let p = run (first_point start) steps in
@@ -188,7 +189,7 @@ follows_idle start next steps more starts runs starts' runs' n idle left = idle_
 abbrev later : ℕ → ℕ → Start
 later buckets passes = record { shape = record { slots = 1; buckets = buckets; passes = passes }; text = with_slot open_byte 9 }
 
-later_starts : (buckets passes : ℕ) → (1 ≤ buckets) × (buckets ≤ 4096) → (1 ≤ passes) × (passes ≤ 64) → IsStart (later buckets passes)
+later_starts : (buckets passes : ℕ) → (1 ≤ buckets) × (buckets ≤ most_buckets) → (1 ≤ passes) × (passes ≤ most_passes) → IsStart (later buckets passes)
 unfolding bucket_of
 later_starts buckets passes some few = may_begin one_slot one_add one_add_runs.starts one_add_runs.runs (with_slot open_byte 9) buckets passes refl some few
 

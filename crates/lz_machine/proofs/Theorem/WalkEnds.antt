@@ -28,7 +28,7 @@ use Rattle.lz_machine.specs.Runs.{Caller, run, first_point}
 use Rattle.lz_machine.specs.Sound.{TraceSound}
 use Rattle.lz_machine.specs.WalkEnds.{MetTells, HopTells, WalkEnds}
 use Rattle.lz_machine.proofs.Frames.LoadedWord.{bucket_range, head_next, link_next, link_mark, link_added, link_removed, key_load}
-use Rattle.lz_machine.proofs.Frames.Ranges.{stood_range}
+use Rattle.lz_machine.proofs.Frames.Ranges.{stood_range, few_slots}
 use Rattle.lz_machine.proofs.Theorem.Reached.{reached_sound}
 use Rattle.lz_machine.proofs.Theorem.TraceOutside.{calls_stand}
 use Rattle.lz_machine.proofs.Theorem.WornPass.{up_at}
@@ -125,4 +125,4 @@ walk_ends start steps service disk a caller aim look is runs state calls walking
     let stands = calls_stand start steps service disk a is runs state inside in
     let me = subst (λ (who : Option Caller). IsCaller v pin who B p.trace (own_change a (length B) p.trace)) calls stands.stands in
     let h = subst (λ (at : Progress). Relies v caller.command at B p.trace (own_change a (length B) p.trace)) walking me.2 in
-    hop_tells service.yard.shape service.yard.words p.trace here.up.sound.trace here.up.sound.images.slots.1 B (stands.quiet inside) (stands.begins inside) (key_of caller.command) look h.2
+    hop_tells service.yard.shape service.yard.words p.trace here.up.sound.trace (few_slots here.up.sound.images) B (stands.quiet inside) (stands.begins inside) (key_of caller.command) look h.2

@@ -40,7 +40,7 @@ use Rattle.lz_machine.specs.Orders.{HasPass}
 use Rattle.lz_machine.specs.Runs.{Caller}
 use Rattle.lz_machine.specs.Sound.{Sound}
 use Rattle.lz_machine.proofs.Frames.LoadedWord.{key_load}
-use Rattle.lz_machine.proofs.Frames.Ranges.{on_range}
+use Rattle.lz_machine.proofs.Frames.Ranges.{on_range, few_slots}
 use Rattle.lz_machine.proofs.Steps.Halt.{held_node}
 use Rattle.lz_board.specs.Notes.{own}
 use Rattle.lz_tie.specs.UnderWay.{OwnAt}
@@ -140,11 +140,11 @@ module _ (n calls : ℕ) (y : Yard) (callers : List (Option Caller)) (disk : Med
 
   -- the key words of the slot and of the node in its hand
   slot_key : (k s : ℕ) → actor.slot ≡ Some s → key_word s P ≡ k → get y.words (key_at s) ≡ k
-  slot_key k s slot word = key_load y.shape y.words P sound.trace sound.images.slots.1 s (sound.slots.hand a s slot).in_range ∙ word
+  slot_key k s slot word = key_load y.shape y.words P sound.trace (few_slots sound.images) s (sound.slots.hand a s slot).in_range ∙ word
 
   on_chain : (k s : ℕ) → key_word s P ≡ k → on 0 (chain_of y.shape.buckets (key_word s P) P) (suc s) ≡ true → get y.words (key_at s) ≡ k
   on_chain k s word there =
-      key_load y.shape y.words P sound.trace sound.images.slots.1 s (on_range y.shape.buckets y.shape.slots P (bucket_of y.shape.buckets (key_word s P)) s sound.trace.lawful there) ∙ word
+      key_load y.shape y.words P sound.trace (few_slots sound.images) s (on_range y.shape.buckets y.shape.slots P (bucket_of y.shape.buckets (key_word s P)) s sound.trace.lawful there) ∙ word
 
   closed_key : (k s : ℕ) → actor.hold ≡ GateClosed → actor.curr ≡ Some s → key_word s P ≡ k → get y.words (key_at s) ≡ k
   closed_key k s hold curr word = on_chain k s word (held_node y.shape P GateClosed actor sound.trace.lawful (subst (λ (q : Hold). RestsOn y.shape.buckets q actor P) hold (sound.locks.rests a)) s curr refl)

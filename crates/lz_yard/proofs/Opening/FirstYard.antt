@@ -10,7 +10,7 @@ use Rattle.std.proofs.lemmas.Bool.{cases_eq, cases_Bool}
 use Rattle.std.proofs.lemmas.Bool.Decides.{nat_tests}
 use Rattle.lz_slot.specs.declared.slot.SlotRead.{SlotRead}
 use Rattle.lz_slot.specs.declared.slot.SlotRead.TheVariants.{Closed as Closed_read, Member as Member_read, BadKey as BadKey_read}
-use Rattle.lz_slot.specs.Limits.{most_slots, most_buckets, most_passes}
+use Rattle.lz_slot.specs.Limits.{most_slots_of, most_buckets, most_passes}
 use Rattle.lz_slot.specs.Rooms.{largest_of}
 use Rattle.lz_slot.specs.declared.format.Format.{Format}
 use Rattle.lz_slot.specs.Sets.{members}
@@ -192,7 +192,7 @@ module _ (t : List ℕ) where
 -- a text that says what the cells of an open do begins a life
 module _ (vault : Vaulted) (B S : ℕ) (list : Listed) (allot : Allotted) (actors : List Actor) (are : AreTables vault.cells B S list allot actors)
     (fresh : (vault.syncs ≡ 0) × (vault.dead ≡ false)) (blank : AreBlank vault.cells) (some : (1 ≤ B) × (B ≤ most_buckets)) (passes : (1 ≤ S) × (S ≤ most_passes))
-    (count : (1 ≤ length vault.cells) × (length vault.cells ≤ most_slots)) (slots : ℕ) (slots_is : slots ≡ length vault.cells) where
+    (count : (1 ≤ length vault.cells) × (length vault.cells ≤ most_slots_of vault.format)) (slots : ℕ) (slots_is : slots ≡ length vault.cells) where
   abbrev Begins : List ℕ → Type 0
   Begins t = IsStart (record { shape = record { slots = slots; buckets = B; passes = S }; text = t }) × (opened vault B S slots list allot actors are slots_is ≡ opened_yard (record { slots = slots; buckets = B; passes = S }) t)
 
@@ -203,11 +203,14 @@ module _ (vault : Vaulted) (B S : ℕ) (list : Listed) (allot : Allotted) (actor
       buckets = some;
       passes = passes;
       bytes = bytes;
-      text = subst (λ (n : ℕ). Holds t n (members (keys_found t n))) (sym slots_is) (holds_listed t (length vault.cells) count.0 count.1 size head fine (no_key_twice t vault B S list allot actors are fresh named each blank));
+      text = subst (λ (n : ℕ). Holds t n (members (keys_found t n))) (sym slots_is) (holds_listed t (length vault.cells) count.0 few size head fine (no_key_twice t vault B S list allot actors are fresh named each blank));
     },
     yard_is t vault B S list allot actors are fresh named each blank slots slots_is,
   )
     where
+      few : length vault.cells ≤ most_slots_of (format_of t)
+      few = subst (λ (F : Format). length vault.cells ≤ most_slots_of F) named count.1
+
       bad_cell : (cell : Cell) (r : SlotRead) → r ≡ BadKey_read → IsCellOf r cell → ⊥
       bad_cell cell r bad is = subst (λ (q : SlotRead). IsCellOf q cell) bad is
 

@@ -10,6 +10,6 @@ returns-in-Err-clause-made g c =
     let e = c.make.ensures in
     inr (record {
       fault = c.in-Err.fault;
-      why = make_why c.make.result _ _ _ c.in-Err.fault c.in-Err.is e.count (λ is. untouched g.D.Disk.device _ _ (e.uncalled is)) e.already e.too_long e.device;
+      why = make_why c.make.result _ _ _ _ c.in-Err.fault c.in-Err.is e.count (λ is. untouched g.D.Disk.device _ _ (e.uncalled is)) e.already e.too_long e.device;
       told = c.tell_fault.ensures;
     })

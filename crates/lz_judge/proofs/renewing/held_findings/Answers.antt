@@ -1,11 +1,13 @@
-use Rattle.std.proofs.Common.{sym, ◌∙◌, subst}
-use Rattle.lz_judge.specs.Surveys.{IsSurveyOf}
+use Rattle.std.proofs.Common.{List, sym, ◌∙◌, subst}
+use Rattle.lz_judge.specs.Surveys.{IsSurveyed}
+use Rattle.lz_judge.specs.Renewals.{AreHeld}
+use Rattle.lz_judge.specs.declared.finding.Finding.{Finding}
 use Rattle.lz_judge.specs.declared.finding.Survey.{Survey}
 use Rattle.lz_judge.proofs.OneSet.{held_found}
 use Rattle.lz_judge.proofs.renewing.held_findings.Goals as goal
 
 pub returns-in-Found : goal.returns-in-Found
-returns-in-Found c =
-    let (N, head, findings) = subst (λ (s : Survey). IsSurveyOf c.args.bytes.now s) c.in-Found.is c.in_ok-survey.ensures.told in
-    let (M, S, held) = c.in_ok-survey.ensures.good.0 (sym c.is_good.ensures ∙ c.if-not-is_good.false) in
-    held_found c.args.bytes.now c.in-Found.findings.items N head findings M S held
+returns-in-Found c = λ t surveyed.
+    let (M, S, held) = surveyed.good.0 (sym c.is_good.ensures ∙ c.if-is_good.true) in
+    let found = subst (λ (s : Survey). IsSurveyed t s) c.in-Found.is surveyed in
+    subst (λ (l : List Finding). AreHeld t l) (sym c.as_slice.ensures.value) (held_found t c.in-Found.findings.items c.in-Found.field-0.slots found.told.0 found.told.2 M S held)

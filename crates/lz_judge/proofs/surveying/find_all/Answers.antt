@@ -1,20 +1,16 @@
-use Rattle.std.proofs.Common.{◌≡◌, ℕ, ◌+◌, ◌*◌, ap, sym, ◌∙◌, subst, arith}
-use Rattle.std.specs.Prelude.{slice_range}
-use Rattle.lz_slot.specs.declared.format.Format.{Format}
-use Rattle.lz_slot.specs.Bytes.{format_of, slot_at, slot_read}
-use Rattle.lz_judge.specs.Scans.{Scanned}
+use Rattle.std.proofs.Common.{◌≡◌, ℕ, ◌+◌, ◌-◌, ◌/◌, ◌++◌, List, [], take, drop, length, ap, sym, ◌∙◌, subst, arith, take_all}
+use Rattle.std.proofs.lemmas.List.{append-nil, length-drop, length-take-le, take-append-drop}
+use Rattle.lz_slot.specs.Bytes.{slot_at}
+use Rattle.lz_judge.specs.Surveys.{AreFindings}
 use Rattle.lz_judge.proofs.surveying.find_all.Goals as goal
 
-pub loop-index-init : goal.loop-index-init
-loop-index-init c = c.new-scan.ensures (slot_at c.args.bytes.now)
-
-pub loop-index-preserved : goal.loop-index-preserved
-loop-index-preserved c =
-    let at : c.new.result ≡ c.loop-index.index = c.new.ensures in
-    let to : 16 + 16 * c.loop-index.index + 16 ≡ 32 + 16 * c.loop-index.index = omega arith in
-    let bytes : slot_at c.args.bytes.now c.loop-index.index ≡ c.read_slot.result =
-    ap (λ (n : ℕ). slot_read (format_of c.args.bytes.now) (slice_range c.args.bytes.now (16 + 16 * c.loop-index.index) n)) (sym to)
-    ∙ ap (slot_read (format_of c.args.bytes.now)) (sym c.copy_from_slice.ensures.after) ∙ ap (λ (F : Format). slot_read F c.copy_from_slice.new.self) (sym c.requires.format) ∙ sym c.read_slot.ensures in
-    subst (λ (n : ℕ). Scanned (slot_at c.args.bytes.now) (n + 1) c.note.new.self.findings.items c.note.new.self.places) at
-    (c.in_ok-note.ensures (slot_at c.args.bytes.now) (ap (slot_at c.args.bytes.now) at ∙ bytes)
-    (subst (λ (n : ℕ). Scanned (slot_at c.args.bytes.now) n c.loop-index.scan.findings.items c.loop-index.scan.places) (sym at) c.loop-index.invariant))
+pub returns : goal.returns
+returns c =
+    let t = c.args.bytes.now in
+    let size : length (drop 16 t) ≡ length t - 16 = length-drop 16 t in
+    let piece : take (length t - 16) (drop 16 t) ≡ drop 16 t = take_all (length t - 16) (drop 16 t) (omega (arith, size)) in
+    let whole : t ≡ (take 16 t ++ take (length t - 16) (drop 16 t)) ++ [] =
+    sym (append-nil (take 16 t ++ take (length t - 16) (drop 16 t)) ∙ ap (λ (l : List ℕ). take 16 t ++ l) piece ∙ take-append-drop 16 t) in
+    let count : 0 + length (take (length t - 16) (drop 16 t)) / 16 ≡ c.args.header.slots = omega (arith, ap length piece, size, c.requires.file) in
+    let scanned = c.in_ok-note_piece.ensures t c.requires.format (record { front = take 16 t; rest = []; whole = whole; size = length-take-le 16 t (omega (arith, c.requires.file)) }) (c.new-scan.ensures (slot_at t)) in
+    subst (λ (n : ℕ). AreFindings (slot_at t) n c.note_piece.new.self.findings.items) count scanned.findings

@@ -1,8 +1,9 @@
 use Rattle.std.proofs.Common.{◌⊎◌, inl, inr, ℕ, IsTrue}
+use Rattle.std.proofs.lemmas.Result.{err_from_is_err_and}
 use Rattle.lz_slot.specs.Sets.{Keys, members}
 use Rattle.lz_disk.specs.Images.{IsImage}
 use Rattle.lz_disk.specs.Devices.{Device, LeavesOnly}
-use Rattle.lz_disk.proofs.Moments.{leaves_more, leaves_then}
+use Rattle.lz_disk.proofs.Moments.{leaves_more, leaves_then, quiet}
 use Rattle.lz_vault.specs.Makes.{IsPart, IsUnmadeOrHolds}
 use Rattle.lz_vault.proofs.MakingParts.{still_honest}
 use Rattle.lz_vault.proofs.making.make_with.Goals as goal
@@ -14,6 +15,14 @@ made_leaves S n old mid new F G first second honest =
     leaves_then old mid new _
     (leaves_more old mid (IsImage old.medium) _ (λ c image. inl image) (first.time honest))
     (leaves_more mid new (IsUnmadeOrHolds n S) _ (λ c is. inr is) (second.time (still_honest old mid first.honest honest)))
+
+pub returns-then-n-eq0-clause-any_moment : goal.returns-then-n-eq0-clause-any_moment
+returns-then-n-eq0-clause-any_moment g c = λ honest. quiet (g.D.Disk.device c.args.disk.now) _ (g.met.D.Disk.timely c.args.disk.now honest) (λ t image. inl image)
+
+pub returns-in_err-is_gate_unsure-clause-refused : goal.returns-in_err-is_gate_unsure-clause-refused
+returns-in_err-is_gate_unsure-clause-refused g c =
+    let p = err_from_is_err_and c.from_residual.result c.from_residual.ensures.1 in
+    rw (p.1, p.2) (c.in_err-is_gate_unsure.ensures.refused c.args.format)
 
 pub returns-in-Ok-clause-any_moment : goal.returns-in-Ok-clause-any_moment
 returns-in-Ok-clause-any_moment g c =

@@ -1,5 +1,5 @@
 use Rattle.std.proofs.Common.{sym, subst, List, ℕ, length}
-use Rattle.lz_slot.specs.declared.format.Format.TheVariants.{Two}
+use Rattle.lz_slot.specs.declared.format.Format.TheVariants.{Three}
 use Rattle.lz_vault.specs.Makes.{MayBeMembers}
 use Rattle.lz_vault.specs.Renewals.{AreHeldBy}
 use Rattle.lz_vault.proofs.HeldKeys.{are_held, are_members}
@@ -12,5 +12,5 @@ returns-in-Ok-clause-held g c = λ honest.
 
 pub returns-in-Ok-clause-members : goal.returns-in-Ok-clause-members
 returns-in-Ok-clause-members g c =
-    subst (λ (ks : List ℕ). MayBeMembers Two (length ks) ks) (sym c.in-Ok.ensures)
+    subst (λ (ks : List ℕ). MayBeMembers Three (length ks) ks) (sym c.in-Ok.ensures)
     (are_members (g.D.Disk.device c.args.disk.now) (g.D.Disk.device c.scan_file.new.disk) c.in_ok-scan.scan.format c.in_ok-scan.scan.entries.items c.in_ok-scan.ensures.ok)

@@ -1,4 +1,4 @@
-use Rattle.std.proofs.Common.{◌≡◌, ◌≤◌, [], ◌∷◌, List, None, Option, Some, sym, refl, ap, subst, ◌∙◌}
+use Rattle.std.proofs.Common.{◌≡◌, ◌≤◌, [], ◌∷◌, None, Option, Some, sym, refl, ap, subst, ◌∙◌}
 use Rattle.std.specs.Prelude.{IfSome, reverse}
 use Rattle.std.proofs.lemmas.List.{reverse-append}
 use Rattle.lz_judge.specs.Limits.{largest_place}

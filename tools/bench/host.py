@@ -1,0 +1,28 @@
+"""The machine on which is measured, and how much of it the host took away."""
+
+from __future__ import annotations
+
+import datetime
+import os
+import platform
+from typing import List, Sequence
+
+
+def times() -> List[int]:
+    """For how long the processors did each kind of thing since the start, as the system counts it."""
+    with open("/proc/stat", encoding="ascii") as counts:
+        return [int(word) for word in counts.readline().split()[1:9]]
+
+
+def stolen(before: Sequence[int]) -> float:
+    """The share of the time in which the processors had work since then that the host gave to others, in percent."""
+    _, _, _, idle, waiting, _, _, steal = spent = [now - then for now, then in zip(times(), before)]
+    return 100 * steal / max(sum(spent) - idle - waiting, 1)
+
+
+def machine(before: Sequence[int]) -> str:
+    name = next((line.split(":")[1].strip() for line in open("/proc/cpuinfo") if line.startswith("model name")), platform.machine())
+    load = os.getloadavg()[0]
+    today = datetime.date.today().isoformat()
+    host = f"load average at the end {load:.1f}, {stolen(before):.0f} % of the work's time taken by the host"
+    return f"{today}, {name}, {os.cpu_count()} processors, Linux {platform.release()}; {host}"
