@@ -13,3 +13,5 @@ mod lists;
 mod renewals;
 #[cfg(test)]
 mod sessions;
+#[cfg(test)]
+mod surveys;
