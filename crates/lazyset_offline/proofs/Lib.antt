@@ -5,3 +5,6 @@ pub mod MakeFaults
 pub mod RehearsalEnds
 pub mod Verdicts
 pub mod CompareRows
+pub mod Listed
+pub mod ListRows
+pub mod SurveyEnds

@@ -1,22 +1,19 @@
 -- A text lists keys in one way at most, and none where it has a line at fault. Worked rows: texts that list keys, and texts that must not.
-use Rattle.std.proofs.Common.{◌≡◌, ◌≢◌, ℕ, zero, suc, ◌+◌, ◌<◌, ◌≤◌, List, [], ◌∷◌, ◌++◌, length, get_or, codes, true, false, Ok, inl, inr, IsTrue, refl, sym, ap, subst, ◌∙◌, ⊎_elim, arith, append_assoc, length-append}
-use Rattle.std.specs.Prelude.{nat_eq, ◌==◌}
+use Rattle.std.proofs.Common.{◌≡◌, ◌≢◌, ℕ, ◌<◌, List, [], ◌∷◌, ◌++◌, length, get_or, codes, true, false, refl, sym, ap, subst, ◌∙◌, arith, append_assoc, length-append}
+use Rattle.std.specs.Prelude.{◌==◌}
 use Rattle.std.specs.List.{IsDistinct}
-use Rattle.std.proofs.lemmas.Bool.{eqb-true, or_cases}
-use Rattle.std.proofs.lemmas.Bool.Decides.{nat_tests}
+use Rattle.std.proofs.lemmas.Bool.{eqb-true}
 use Rattle.std.proofs.Math.ListN.{get_or-append}
 use Rattle.std.proofs.Math.Seq.{get_or-append_seam}
 use Rattle.std.proofs.lemmas.List.{append_cancel_left, get_or_default}
 use Rattle.std.proofs.lemmas.List.Folds.{Any-from_list_any}
 use Rattle.lz_slot.specs.Sets.{members}
-use Rattle.lz_slot.specs.Texts.{key_read}
 use Rattle.lz_slot.specs.declared.format.Format.{Format}
 use Rattle.lz_slot.specs.declared.format.Format.TheVariants.{One, Two}
 use Rattle.lz_slot.specs.declared.spelling.KeyFault.TheVariants.{NoNumber}
 use Rattle.lz_slot.proofs.Texts.Cuts.{first_cut, stands}
-use Rattle.lz_proto.specs.Lines.{has_line_feed, line_feed, without_return}
-use Rattle.lazyset_offline.specs.Lists.{BeginsWith, FailsAt, HasKeyOf, HasNoKey, IsListFaultOf, Lists, Spelled, nothing, more, SpellsKey}
-use Rattle.lazyset_offline.specs.declared.list.ListFault.{ListFault}
+use Rattle.lz_proto.specs.Lines.{has_line_feed, line_feed}
+use Rattle.lazyset_offline.specs.Lists.{HasKeyOf, HasNoKey, IsListFaultOf, Lists, Spelled, nothing, more, SpellsKey}
 use Rattle.lazyset_offline.specs.declared.list.ListFault.TheVariants.{Line, Twice}
 use Rattle.lazyset_offline.proofs.Listed.{none_twice, read_of, same_place, spelled_by, spelled_not, spelled_other}
 

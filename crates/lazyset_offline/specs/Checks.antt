@@ -1,15 +1,19 @@
--- What a check of a file tells.
-use Rattle.std.specs.Prelude.{ℕ, Option, List, [], ◌∷◌, ◌++◌, codes, decimal, if◌then◌else◌}
+-- What is told of a file that was surveyed.
+use Rattle.std.specs.Prelude.{◌⊎◌, ℕ, Bool, true, Option, List, [], ◌∷◌, ◌++◌, codes, decimal, if◌then◌else◌}
 use Rattle.std.specs.List.{flat_map}
 use Rattle.lz_slot.specs.Bytes.{header_fault_number}
 use Rattle.lz_slot.specs.Texts.{key_text}
+use Rattle.lz_slot.specs.declared.header.Header.{Header}
 use Rattle.lz_judge.specs.Surveys.{IsSurveyOf, is_good}
 use Rattle.lz_judge.specs.declared.finding.Finding.{Finding}
 use Rattle.lz_judge.specs.declared.finding.Finding.TheVariants.{Key, BadKey, Twice}
 use Rattle.lz_judge.specs.declared.finding.Survey.{Survey}
 use Rattle.lz_judge.specs.declared.finding.Survey.TheVariants as survey
+use Rattle.lazyset_offline.specs.Counts.{counts_text}
 use Rattle.lazyset_offline.specs.Makings.{refused_text}
-use Rattle.lazyset_offline.specs.Tellings.{Tells}
+use Rattle.lazyset_offline.specs.Tellings.{LacksInput, LacksMemory, Tells}
+use Rattle.lazyset_offline.specs.declared.shown.Shown.{Shown}
+use Rattle.lazyset_offline.specs.declared.shown.Shown.TheVariants.{Findings, Keys, Counts}
 use Rattle.lazyset_offline.specs.declared.status.Status.{Status}
 use Rattle.lazyset_offline.specs.declared.status.Status.TheVariants.{Done, Refused, Damaged}
 
@@ -19,40 +23,38 @@ finding_text (Key i k) = codes "slot " ++ decimal i ++ codes " key " ++ key_text
 finding_text (BadKey i) = codes "slot " ++ decimal i ++ codes " badkey" ++ 10 ∷ []
 finding_text (Twice i first) = codes "slot " ++ decimal i ++ codes " twice " ++ decimal first ++ 10 ∷ []
 
--- the line that says whether a file is damaged
-abbrev pub state_text : Survey → List ℕ
-state_text survey = if is_good survey then codes "good" ++ 10 ∷ [] else codes "damaged" ++ 10 ∷ []
+-- the line of a finding where findings are shown, or the keys alone
+abbrev pub line_of : Shown → Finding → List ℕ
+line_of Findings finding = finding_text finding
+line_of Keys (Key i k) = key_text k ++ 10 ∷ []
+line_of shown finding = []
 
--- the text of a survey
-abbrev pub survey_text : Survey → List ℕ
-survey_text (survey.Refused fault) = refused_text (header_fault_number fault)
-survey_text (survey.Found findings) = flat_map finding_text findings.items ++ state_text (survey.Found findings)
+-- what is shown of the findings in a file with this head
+abbrev pub found_text : Shown → Header → List Finding → List ℕ
+found_text Counts header findings = counts_text header.format header.slots findings
+found_text shown header findings = flat_map (line_of shown) findings
 
--- the line of a key that was found
-abbrev pub key_line : Finding → List ℕ
-key_line (Key i k) = key_text k ++ 10 ∷ []
-key_line (BadKey i) = []
-key_line (Twice i first) = []
+-- whether the file is damaged, which goes without saying after keys that are all
+abbrev pub end_text : Shown → Bool → List ℕ
+end_text Keys true = []
+end_text shown good = if good then codes "good" ++ 10 ∷ [] else codes "damaged" ++ 10 ∷ []
 
--- the keys of a survey, and `damaged` where it isn't good
-abbrev pub keys_text : Survey → List ℕ
-keys_text (survey.Refused fault) = refused_text (header_fault_number fault)
-keys_text (survey.Found findings) =
-    flat_map key_line findings.items ++ (if is_good (survey.Found findings) then [] else state_text (survey.Found findings))
+-- what is shown of a survey
+abbrev pub shown_text : Shown → Survey → List ℕ
+shown_text shown (survey.Refused fault) = refused_text (header_fault_number fault)
+shown_text shown (survey.Found header findings) = found_text shown header findings.items ++ end_text shown (is_good (survey.Found header findings))
 
--- how a check ends
+-- how the command ends
 abbrev pub survey_status : Survey → Status
 survey_status (survey.Refused fault) = Refused
-survey_status (survey.Found findings) = if is_good (survey.Found findings) then Done else Damaged
+survey_status (survey.Found header findings) = if is_good (survey.Found header findings) then Done else Damaged
 
--- a check ended with this status, and told a survey of the file
-pub record IsChecked (t : List ℕ) (status : Status) (before after : Option (List ℕ)) : Type 0 where
+-- the command ended with this status, and showed this of a survey of the file
+pub record IsShown (shown : Shown) (t : List ℕ) (status : Status) (before after : Option (List ℕ)) : Type 0 where
   pub survey : Survey
   pub of_file : IsSurveyOf t survey
-  pub told : Tells before after (survey_text survey) (survey_status survey) status
+  pub told : Tells before after (shown_text shown survey) (survey_status survey) status
 
--- the same of the keys alone
-pub record IsListed (t : List ℕ) (status : Status) (before after : Option (List ℕ)) : Type 0 where
-  pub survey : Survey
-  pub of_file : IsSurveyOf t survey
-  pub told : Tells before after (keys_text survey) (survey_status survey) status
+-- a read failed, or there was no memory, which was told
+abbrev pub LacksSurvey : Option (List ℕ) → Option (List ℕ) → Status → Type 0
+LacksSurvey before after status = LacksInput before after status ⊎ LacksMemory before after status

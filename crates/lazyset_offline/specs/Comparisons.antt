@@ -1,11 +1,13 @@
 -- What a check of a file against another tells.
 use Rattle.std.specs.Prelude.{◌≢◌, ◌⊎◌, ℕ, Option, List, [], ◌∷◌, ◌++◌, codes, decimal, Result, Ok, Err}
 use Rattle.lz_judge.specs.Renewals.{IsVerdictOn}
+use Rattle.lz_judge.specs.Surveys.{OfText}
 use Rattle.lz_judge.specs.declared.renewing.RenewFlaw.{RenewFlaw}
 use Rattle.lz_judge.specs.declared.renewing.RenewFlaw.TheVariants.{NotHeld, Missing, Extra}
-use Rattle.lazyset_offline.specs.Checks.{IsChecked}
+use Rattle.lazyset_offline.specs.Checks.{IsShown, LacksSurvey}
 use Rattle.lazyset_offline.specs.Judgements.{numbers_text}
-use Rattle.lazyset_offline.specs.Tellings.{LacksMemory, Tells}
+use Rattle.lazyset_offline.specs.Tellings.{Tells}
+use Rattle.lazyset_offline.specs.declared.shown.Shown.TheVariants.{Findings}
 use Rattle.lazyset_offline.specs.declared.status.Status.{Status}
 use Rattle.lazyset_offline.specs.declared.status.Status.TheVariants.{Done, Damaged}
 
@@ -31,8 +33,12 @@ pub record IsCompared (old new : List ℕ) (status : Status) (before after : Opt
   pub of_files : IsVerdictOn old new verdict
   pub told : Tells before after (verdict_text verdict) (verdict_status verdict) status
 
+-- The file was compared with the older one, or that couldn't be surveyed.
+abbrev pub ComparesTo : Option (List ℕ) → List ℕ → Status → Option (List ℕ) → Option (List ℕ) → Type 0
+ComparesTo older new status before after = OfText (λ old. IsCompared old new status before after) older ⊎ LacksSurvey before after status
+
 -- The file was checked, and after `good`, and only there, compared with the older one.
-abbrev pub IsCheckedOf : List ℕ → List ℕ → Status → Option (List ℕ) → Option (List ℕ) → Type 0
-IsCheckedOf old new status before after =
-    ((status ≢ Done) × (IsChecked new status before after ⊎ LacksMemory before after status))
-    ⊎ ((middle : Option (List ℕ)) × IsChecked new Done before middle × (IsCompared old new status middle after ⊎ LacksMemory middle after status))
+abbrev pub IsCheckedOf : Option (List ℕ) → List ℕ → Status → Option (List ℕ) → Option (List ℕ) → Type 0
+IsCheckedOf older new status before after =
+    ((status ≢ Done) × IsShown Findings new status before after)
+    ⊎ ((middle : Option (List ℕ)) × IsShown Findings new Done before middle × ComparesTo older new status middle after)

@@ -2,8 +2,8 @@ pub mod Ends
 pub mod Tellings
 pub mod Makings
 pub mod Refusals
+pub mod Counts
 pub mod Checks
-pub mod Infos
 pub mod Comparisons
 pub mod Judgements
 pub mod Rehearsals

@@ -1,49 +1,92 @@
 //! The command that says what a file holds, and whether it is the set of another.
-ghost use Rattle.std.specs.Prelude.{◌≡◌, ◌⊎◌, Err};
+ghost use Rattle.std.specs.Prelude.{◌≡◌, ◌⊎◌, List, ℕ, Err};
 ghost use Rattle.lz_proto.specs.Steps.{SendTells};
 ghost use Rattle.lz_judge.specs.Renewals.{HoldOneSet};
-ghost use Rattle.lazyset_offline.specs.Comparisons.{IsCheckedOf, IsCompared, verdict_status, verdict_text};
+ghost use Rattle.lz_judge.specs.Surveys.{IsSurveyed, OfText};
+ghost use Rattle.lazyset_offline.specs.Checks.{LacksSurvey};
+ghost use Rattle.lazyset_offline.specs.Comparisons.{ComparesTo, IsCheckedOf, IsCompared, verdict_status, verdict_text};
 ghost use Rattle.lazyset_offline.specs.Judgements.{numbers_text};
 ghost use Rattle.lazyset_offline.specs.Tellings.{LacksMemory, Tells};
 
-use crate::checking::check_on;
+use crate::checking::{tell_no_survey, tell_survey};
 use crate::refusal::{send_line, send_two};
+use crate::shown::Shown;
 use crate::status::Status;
 use crate::telling::{NO_MEMORY, status_sent, tell};
-use lz_judge::{RenewFlaw, renewed};
+use lz_judge::{RenewFlaw, Survey, compare, survey_of};
 use lz_proto::SessionFault;
 use lz_slot::Slot;
 use std::alloc::{AllocError, Global};
-use std::io::Write;
+use std::io::{Read, Write};
 
-/// Says what the file with these bytes holds, as `check_on` does, and after `good` whether the older file held the same set:
-/// `same`, `flaw 8` where the older file holds no set, `flaw 9 I` where its slot I holds a key that the new one lacks, and
-/// `flaw 10 I` where the new one's slot I holds a key that the older one lacks. Damaged at a flaw.
-pub fn check_of_on<W: Write + Drop>(
+/// Says what the file holds whose bytes the reader gives, as `survey_on` does of the findings, and after `good` whether the older file
+/// held the same set: `same`, `flaw 8` where the older file holds no set, `flaw 9 I` where its slot I holds a key that the new one
+/// lacks, and `flaw 10 I` where the new one's slot I holds a key that the older one lacks. Damaged at a flaw. The older file is read
+/// only after `good`.
+pub fn check_of_on<R: Read, W: Write + Drop>(
     alloc: Global,
-    bytes: &[u8],
-    old: &[u8],
+    reader: &mut R,
+    older: &mut R,
     writer: &mut W,
 ) -> Status
-    ensures told { IsCheckedOf old.now bytes.now result (W.contents writer.old) (W.contents writer.new) }
+    ensures told { OfText (λ new. IsCheckedOf (R.remaining older.old) new result (W.contents writer.old) (W.contents writer.new)) (R.remaining reader.old)
+        ⊎ LacksSurvey (W.contents writer.old) (W.contents writer.new) result }
 
     // It is done exactly where both files hold one set.
-    ensures done { result ≡ Status.Done → HoldOneSet old.now bytes.now }
-    ensures apart { (result ≡ Status.Refused) ⊎ (result ≡ Status.Damaged) → ¬ HoldOneSet old.now bytes.now }
+    ensures done { result ≡ Status.Done → OfText (λ new. OfText (λ old. HoldOneSet old new) (R.remaining older.old)) (R.remaining reader.old) }
+    ensures apart { (result ≡ Status.Refused) ⊎ (result ≡ Status.Damaged) → OfText (λ new. OfText (λ old. ¬ HoldOneSet old new) (R.remaining older.old)) (R.remaining reader.old) }
 {
-    match check_on(alloc, bytes, writer) {
-        Status::Done => compare_on(alloc, old, bytes, writer),
+    match survey_of(alloc, reader) {
+        Ok(survey) => check_survey(alloc, &survey, older, writer),
+        Err(fault) => tell_no_survey(writer, fault),
+    }
+}
+
+// Tells the survey of the new file, and after `good` whether it holds the older one's set.
+fn check_survey<R: Read, W: Write + Drop>(
+    alloc: Global,
+    new: &Survey,
+    older: &mut R,
+    writer: &mut W,
+) -> Status
+    ensures told { (t : List ℕ) → IsSurveyed t new.now → IsCheckedOf (R.remaining older.old) t result (W.contents writer.old) (W.contents writer.new) ⊎ LacksMemory (W.contents writer.old) (W.contents writer.new) result }
+    ensures done { (t : List ℕ) → IsSurveyed t new.now → result ≡ Status.Done → OfText (λ old. HoldOneSet old t) (R.remaining older.old) }
+    ensures apart { (t : List ℕ) → IsSurveyed t new.now → (result ≡ Status.Refused) ⊎ (result ≡ Status.Damaged) → OfText (λ old. ¬ HoldOneSet old t) (R.remaining older.old) }
+{
+    match tell_survey(alloc, new, writer, Shown::Findings) {
+        Status::Done => compare_on(alloc, older, new, writer),
         status => status,
     }
 }
 
-// Says whether the new file holds the old one's set.
-fn compare_on<W: Write + Drop>(alloc: Global, old: &[u8], new: &[u8], writer: &mut W) -> Status
-    ensures told { IsCompared old.now new.now result (W.contents writer.old) (W.contents writer.new) ⊎ LacksMemory (W.contents writer.old) (W.contents writer.new) result }
-    ensures done { result ≡ Status.Done → HoldOneSet old.now new.now }
-    ensures apart { (result ≡ Status.Refused) ⊎ (result ≡ Status.Damaged) → ¬ HoldOneSet old.now new.now }
+// Says whether the new file holds the older one's set.
+fn compare_on<R: Read, W: Write + Drop>(
+    alloc: Global,
+    older: &mut R,
+    new: &Survey,
+    writer: &mut W,
+) -> Status
+    ensures told { (t : List ℕ) → IsSurveyed t new.now → ComparesTo (R.remaining older.old) t result (W.contents writer.old) (W.contents writer.new) }
+    ensures done { (t : List ℕ) → IsSurveyed t new.now → result ≡ Status.Done → OfText (λ old. HoldOneSet old t) (R.remaining older.old) }
+    ensures apart { (t : List ℕ) → IsSurveyed t new.now → (result ≡ Status.Refused) ⊎ (result ≡ Status.Damaged) → OfText (λ old. ¬ HoldOneSet old t) (R.remaining older.old) }
 {
-    match renewed(alloc, old, new) {
+    match survey_of(alloc, older) {
+        Ok(old) => compare_surveys(alloc, &old, new, writer),
+        Err(fault) => tell_no_survey(writer, fault),
+    }
+}
+
+fn compare_surveys<W: Write + Drop>(
+    alloc: Global,
+    old: &Survey,
+    new: &Survey,
+    writer: &mut W,
+) -> Status
+    ensures told { (t u : List ℕ) → IsSurveyed t old.now → IsSurveyed u new.now → IsCompared t u result (W.contents writer.old) (W.contents writer.new) ⊎ LacksMemory (W.contents writer.old) (W.contents writer.new) result }
+    ensures done { (t u : List ℕ) → IsSurveyed t old.now → IsSurveyed u new.now → result ≡ Status.Done → HoldOneSet t u }
+    ensures apart { (t u : List ℕ) → IsSurveyed t old.now → IsSurveyed u new.now → (result ≡ Status.Refused) ⊎ (result ≡ Status.Damaged) → ¬ HoldOneSet t u }
+{
+    match compare(alloc, old, new) {
         Ok(verdict) => tell_verdict(writer, verdict),
         Err(AllocError) => tell(writer, Status::Failed, NO_MEMORY),
     }

@@ -4,7 +4,7 @@
 
 mod checking;
 mod comparing;
-mod informing;
+mod counting;
 mod judging;
 mod list;
 mod listing;
@@ -12,17 +12,18 @@ mod making;
 mod refusal;
 mod rehearsing;
 mod renewing;
+mod shown;
 mod status;
 mod telling;
 
-pub use checking::{MOST_SURVEYED, check_on, keys_on};
+pub use checking::survey_on;
 pub use comparing::check_of_on;
-pub use informing::info_on;
 pub use judging::{MOST_JUDGED, judge_on};
 pub use listing::make_keys_on;
 pub use making::make_on;
 pub use refusal::{refuse, send_line};
 pub use rehearsing::rehearse_on;
 pub use renewing::renew_on;
+pub use shown::Shown;
 pub use status::Status;
 pub use telling::tell;

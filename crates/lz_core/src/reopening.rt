@@ -24,7 +24,7 @@ pub(crate) struct Opened {
 }
 
 // Where there is no room for the keys that were found, the open is refused.
-pub(crate) fn open_anew(
+pub(crate) fn open_again(
     alloc: Global,
     disk: MemoryDisk,
     buckets: usize,

@@ -9,7 +9,7 @@ ghost use Rattle.lz_machine.specs.Kinds.{kind_of};
 use crate::disks::{arm_yard, armed, crash_disk, stop_disk};
 use crate::open_calls::{OpenCall, next_of_call, no_calls, take_outcome};
 use crate::play::Step;
-use crate::reopening::{fault_told, open_anew};
+use crate::reopening::{fault_told, open_again};
 use crate::shown::members_of;
 use lz_caller::Caller;
 use lz_disk::{MemoryDisk, Pick};
@@ -329,7 +329,7 @@ impl World {
         };
         let tripped = self.tripped;
         self.tripped = false;
-        match open_anew(alloc, armed(disk, tripped), self.buckets) {
+        match open_again(alloc, armed(disk, tripped), self.buckets) {
             Ok(opened) => {
                 self.callers = callers;
                 self.yard = Some(opened.yard);

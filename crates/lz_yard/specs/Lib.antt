@@ -1,3 +1,4 @@
 pub mod Steps
 pub mod Parts
 pub mod Filling
+pub mod Plays

@@ -3,8 +3,8 @@ ghost use Rattle.std.specs.Prelude.{◌≡◌, ◌≤◌, length};
 ghost use Rattle.lz_yard.specs.Steps.{Played};
 ghost use Rattle.lz_machine.specs.Table.{course};
 ghost use Rattle.lz_machine.specs.Ready.{IsEventOf, IsReady};
-ghost use Rattle.lz_vault.specs.Vaults.{NoCall, Succeeds};
-ghost use Rattle.lz_yard.specs.Parts.{Does, PartsFit, Known};
+ghost use Rattle.lz_yard.specs.Parts.{PartsFit};
+ghost use Rattle.lz_yard.specs.Plays.{IsPlayed, MayPlay};
 
 use crate::parts::Parts;
 use crate::told::nothing_told;
@@ -24,12 +24,8 @@ macro_rules! played {
 impl<D: Disk> Parts<D> {
     // Plays an event whose course is to be played.
     fn play(&mut self, actor: usize, event: Event) -> Result<Outcome, VaultFault>
-        requires fits { PartsFit self.old.yard self.old.rows }
-        requires ready { IsReady self.old.yard actor event }
-        requires known { Known Course.Plays self.old.yard actor event }
-        requires quiet { Succeeds NoCall (D.device self.old.disk) (D.device self.old.disk) }
-        ensures done { Does self.old.yard actor event result self.new.yard (D.device self.old.disk) (D.device self.new.disk) }
-        ensures rest { (self.new.rows ≡ self.old.rows) × (self.new.told ≡ self.old.told) }
+        requires { MayPlay D.device self.old actor event }
+        ensures { IsPlayed D.device self.old self.new actor event result }
     {
         played! { self, actor, event;
             Event::Invoke(command) => play_invoke(command);

@@ -7,15 +7,15 @@ ghost use Rattle.lz_allot.specs.Allots.{IsTakenAt};
 ghost use Rattle.lz_machine.specs.Yards.{actor_at, cell_at};
 ghost use Rattle.lz_machine.specs.Runs.{with_words};
 ghost use Rattle.lz_machine.specs.Table.{given_back, is_unused, kept_slot, last_pin, pin_answered, pin_of, set_actor, with_slot, with_vault, words_after};
-ghost use Rattle.lz_machine.specs.Ready.{IsReady};
-ghost use Rattle.lz_yard.specs.Parts.{Does, PartsFit, Known, with_actors, with_uses};
+ghost use Rattle.lz_yard.specs.Parts.{with_actors, with_uses};
+ghost use Rattle.lz_yard.specs.Plays.{IsPlayed, MayPlay};
 
 use crate::hold::{is_old, released, stays_out};
 use crate::parts::Parts;
 use lz_disk::Disk;
 use lz_flush::settle;
 use lz_list::{LinkWord, Place, Word, link_of, next_to};
-use lz_machine::{Actor, Course, Event, Hold, Outcome};
+use lz_machine::{Actor, Event, Hold, Outcome};
 use lz_slot::{Command, Key, Slot};
 use lz_vault::VaultFault;
 
@@ -88,12 +88,8 @@ impl<D: Disk> Parts<D> {
         actor: usize,
         command: Command,
     ) -> Result<Outcome, VaultFault>
-        requires fits { PartsFit self.old.yard self.old.rows }
-        requires ready { IsReady self.old.yard actor (Event.Invoke command) }
-        requires known { Known Course.Plays self.old.yard actor (Event.Invoke command) }
-        requires quiet { Succeeds NoCall (D.device self.old.disk) (D.device self.old.disk) }
-        ensures done { Does self.old.yard actor (Event.Invoke command) result self.new.yard (D.device self.old.disk) (D.device self.new.disk) }
-        ensures rest { (self.new.rows ≡ self.old.rows) × (self.new.told ≡ self.old.told) }
+        requires { MayPlay D.device self.old actor (Event.Invoke command) }
+        ensures { IsPlayed D.device self.old self.new actor (Event.Invoke command) result }
     {
         let refused = is_old(self.vault.format(), command);
         let hand = self.actor(actor);
@@ -106,12 +102,8 @@ impl<D: Disk> Parts<D> {
     }
 
     pub(crate) fn play_pin(&mut self, actor: usize) -> Result<Outcome, VaultFault>
-        requires fits { PartsFit self.old.yard self.old.rows }
-        requires ready { IsReady self.old.yard actor Event.Pin }
-        requires known { Known Course.Plays self.old.yard actor Event.Pin }
-        requires quiet { Succeeds NoCall (D.device self.old.disk) (D.device self.old.disk) }
-        ensures done { Does self.old.yard actor Event.Pin result self.new.yard (D.device self.old.disk) (D.device self.new.disk) }
-        ensures rest { (self.new.rows ≡ self.old.rows) × (self.new.told ≡ self.old.told) }
+        requires { MayPlay D.device self.old actor Event.Pin }
+        ensures { IsPlayed D.device self.old self.new actor Event.Pin result }
     {
         let pin = self.word(Word::Pin(actor));
         self.list.set(Word::Pin(actor), pin + 1);
@@ -119,23 +111,15 @@ impl<D: Disk> Parts<D> {
     }
 
     pub(crate) fn play_hop(&mut self, actor: usize, word: Word) -> Result<Outcome, VaultFault>
-        requires fits { PartsFit self.old.yard self.old.rows }
-        requires ready { IsReady self.old.yard actor (Event.Hop word) }
-        requires known { Known Course.Plays self.old.yard actor (Event.Hop word) }
-        requires quiet { Succeeds NoCall (D.device self.old.disk) (D.device self.old.disk) }
-        ensures done { Does self.old.yard actor (Event.Hop word) result self.new.yard (D.device self.old.disk) (D.device self.new.disk) }
-        ensures rest { (self.new.rows ≡ self.old.rows) × (self.new.told ≡ self.old.told) }
+        requires { MayPlay D.device self.old actor (Event.Hop word) }
+        ensures { IsPlayed D.device self.old self.new actor (Event.Hop word) result }
     {
         Ok(Outcome::Value(self.word(word)))
     }
 
     pub(crate) fn play_reserve(&mut self, actor: usize) -> Result<Outcome, VaultFault>
-        requires fits { PartsFit self.old.yard self.old.rows }
-        requires ready { IsReady self.old.yard actor Event.Reserve }
-        requires known { Known Course.Plays self.old.yard actor Event.Reserve }
-        requires quiet { Succeeds NoCall (D.device self.old.disk) (D.device self.old.disk) }
-        ensures done { Does self.old.yard actor Event.Reserve result self.new.yard (D.device self.old.disk) (D.device self.new.disk) }
-        ensures rest { (self.new.rows ≡ self.old.rows) × (self.new.told ≡ self.old.told) }
+        requires { MayPlay D.device self.old actor Event.Reserve }
+        ensures { IsPlayed D.device self.old self.new actor Event.Reserve result }
     {
         self.allot.collect();
         let Some(slot) = self.allot.reserve() else {
@@ -147,11 +131,8 @@ impl<D: Disk> Parts<D> {
     }
 
     pub(crate) fn play_write_key(&mut self, actor: usize, key: Key) -> Result<Outcome, VaultFault>
-        requires fits { PartsFit self.old.yard self.old.rows }
-        requires ready { IsReady self.old.yard actor (Event.WriteKey key) }
-        requires known { Known Course.Plays self.old.yard actor (Event.WriteKey key) }
-        ensures done { Does self.old.yard actor (Event.WriteKey key) result self.new.yard (D.device self.old.disk) (D.device self.new.disk) }
-        ensures rest { (self.new.rows ≡ self.old.rows) × (self.new.told ≡ self.old.told) }
+        requires { MayPlay D.device self.old actor (Event.WriteKey key) }
+        ensures { IsPlayed D.device self.old self.new actor (Event.WriteKey key) result }
     {
         let slot = self.slot(actor);
         self.vault.put_key(slot, key)?;
@@ -165,12 +146,8 @@ impl<D: Disk> Parts<D> {
         pred: Place,
         curr: Option<Slot>,
     ) -> Result<Outcome, VaultFault>
-        requires fits { PartsFit self.old.yard self.old.rows }
-        requires ready { IsReady self.old.yard actor (Event.Claim pred curr) }
-        requires known { Known Course.Plays self.old.yard actor (Event.Claim pred curr) }
-        requires quiet { Succeeds NoCall (D.device self.old.disk) (D.device self.old.disk) }
-        ensures done { Does self.old.yard actor (Event.Claim pred curr) result self.new.yard (D.device self.old.disk) (D.device self.new.disk) }
-        ensures rest { (self.new.rows ≡ self.old.rows) × (self.new.told ≡ self.old.told) }
+        requires { MayPlay D.device self.old actor (Event.Claim pred curr) }
+        ensures { IsPlayed D.device self.old self.new actor (Event.Claim pred curr) result }
     {
         let place = pred;
         let node = curr;
@@ -188,12 +165,8 @@ impl<D: Disk> Parts<D> {
     }
 
     pub(crate) fn play_check(&mut self, actor: usize) -> Result<Outcome, VaultFault>
-        requires fits { PartsFit self.old.yard self.old.rows }
-        requires ready { IsReady self.old.yard actor Event.Check }
-        requires known { Known Course.Plays self.old.yard actor Event.Check }
-        requires quiet { Succeeds NoCall (D.device self.old.disk) (D.device self.old.disk) }
-        ensures done { Does self.old.yard actor Event.Check result self.new.yard (D.device self.old.disk) (D.device self.new.disk) }
-        ensures rest { (self.new.rows ≡ self.old.rows) × (self.new.told ≡ self.old.told) }
+        requires { MayPlay D.device self.old actor Event.Check }
+        ensures { IsPlayed D.device self.old self.new actor Event.Check result }
     {
         let hand = self.actor(actor);
         if self.list.check(hand.pred, hand.curr) {
@@ -206,11 +179,8 @@ impl<D: Disk> Parts<D> {
     }
 
     pub(crate) fn play_write_open(&mut self, actor: usize) -> Result<Outcome, VaultFault>
-        requires fits { PartsFit self.old.yard self.old.rows }
-        requires ready { IsReady self.old.yard actor Event.WriteOpen }
-        requires known { Known Course.Plays self.old.yard actor Event.WriteOpen }
-        ensures done { Does self.old.yard actor Event.WriteOpen result self.new.yard (D.device self.old.disk) (D.device self.new.disk) }
-        ensures rest { (self.new.rows ≡ self.old.rows) × (self.new.told ≡ self.old.told) }
+        requires { MayPlay D.device self.old actor Event.WriteOpen }
+        ensures { IsPlayed D.device self.old self.new actor Event.WriteOpen result }
     {
         let slot = self.slot(actor);
         self.vault.open_gate(slot)?;
@@ -221,12 +191,8 @@ impl<D: Disk> Parts<D> {
     }
 
     pub(crate) fn play_link(&mut self, actor: usize) -> Result<Outcome, VaultFault>
-        requires fits { PartsFit self.old.yard self.old.rows }
-        requires ready { IsReady self.old.yard actor Event.Link }
-        requires known { Known Course.Plays self.old.yard actor Event.Link }
-        requires quiet { Succeeds NoCall (D.device self.old.disk) (D.device self.old.disk) }
-        ensures done { Does self.old.yard actor Event.Link result self.new.yard (D.device self.old.disk) (D.device self.new.disk) }
-        ensures rest { (self.new.rows ≡ self.old.rows) × (self.new.told ≡ self.old.told) }
+        requires { MayPlay D.device self.old actor Event.Link }
+        ensures { IsPlayed D.device self.old self.new actor Event.Link result }
     {
         let slot = self.slot(actor);
         let hand = self.actor(actor);
@@ -240,11 +206,8 @@ impl<D: Disk> Parts<D> {
     }
 
     pub(crate) fn play_write_close(&mut self, actor: usize) -> Result<Outcome, VaultFault>
-        requires fits { PartsFit self.old.yard self.old.rows }
-        requires ready { IsReady self.old.yard actor Event.WriteClose }
-        requires known { Known Course.Plays self.old.yard actor Event.WriteClose }
-        ensures done { Does self.old.yard actor Event.WriteClose result self.new.yard (D.device self.old.disk) (D.device self.new.disk) }
-        ensures rest { (self.new.rows ≡ self.old.rows) × (self.new.told ≡ self.old.told) }
+        requires { MayPlay D.device self.old actor Event.WriteClose }
+        ensures { IsPlayed D.device self.old self.new actor Event.WriteClose result }
     {
         let node = self.node(actor);
         self.vault.close_gate(node)?;
@@ -253,12 +216,8 @@ impl<D: Disk> Parts<D> {
     }
 
     pub(crate) fn play_mark(&mut self, actor: usize) -> Result<Outcome, VaultFault>
-        requires fits { PartsFit self.old.yard self.old.rows }
-        requires ready { IsReady self.old.yard actor Event.Mark }
-        requires known { Known Course.Plays self.old.yard actor Event.Mark }
-        requires quiet { Succeeds NoCall (D.device self.old.disk) (D.device self.old.disk) }
-        ensures done { Does self.old.yard actor Event.Mark result self.new.yard (D.device self.old.disk) (D.device self.new.disk) }
-        ensures rest { (self.new.rows ≡ self.old.rows) × (self.new.told ≡ self.old.told) }
+        requires { MayPlay D.device self.old actor Event.Mark }
+        ensures { IsPlayed D.device self.old self.new actor Event.Mark result }
     {
         let node = self.node(actor);
         self.list.mark(node);
@@ -267,12 +226,8 @@ impl<D: Disk> Parts<D> {
     }
 
     pub(crate) fn play_release(&mut self, actor: usize) -> Result<Outcome, VaultFault>
-        requires fits { PartsFit self.old.yard self.old.rows }
-        requires ready { IsReady self.old.yard actor Event.Release }
-        requires known { Known Course.Plays self.old.yard actor Event.Release }
-        requires quiet { Succeeds NoCall (D.device self.old.disk) (D.device self.old.disk) }
-        ensures done { Does self.old.yard actor Event.Release result self.new.yard (D.device self.old.disk) (D.device self.new.disk) }
-        ensures rest { (self.new.rows ≡ self.old.rows) × (self.new.told ≡ self.old.told) }
+        requires { MayPlay D.device self.old actor Event.Release }
+        ensures { IsPlayed D.device self.old self.new actor Event.Release result }
     {
         let hand = self.actor(actor);
         self.list.release(hand.pred, hand.curr);
@@ -281,12 +236,8 @@ impl<D: Disk> Parts<D> {
     }
 
     pub(crate) fn play_sync(&mut self, actor: usize, slot: Slot) -> Result<Outcome, VaultFault>
-        requires fits { PartsFit self.old.yard self.old.rows }
-        requires ready { IsReady self.old.yard actor (Event.Sync slot) }
-        requires known { Known Course.Plays self.old.yard actor (Event.Sync slot) }
-        requires quiet { Succeeds NoCall (D.device self.old.disk) (D.device self.old.disk) }
-        ensures done { Does self.old.yard actor (Event.Sync slot) result self.new.yard (D.device self.old.disk) (D.device self.new.disk) }
-        ensures rest { (self.new.rows ≡ self.old.rows) × (self.new.told ≡ self.old.told) }
+        requires { MayPlay D.device self.old actor (Event.Sync slot) }
+        ensures { IsPlayed D.device self.old self.new actor (Event.Sync slot) result }
     {
         if !self.is_sure(slot) {
             self.vault.sync()?;
@@ -295,12 +246,8 @@ impl<D: Disk> Parts<D> {
     }
 
     pub(crate) fn play_settle(&mut self, actor: usize, slot: Slot) -> Result<Outcome, VaultFault>
-        requires fits { PartsFit self.old.yard self.old.rows }
-        requires ready { IsReady self.old.yard actor (Event.Settle slot) }
-        requires known { Known Course.Plays self.old.yard actor (Event.Settle slot) }
-        requires quiet { Succeeds NoCall (D.device self.old.disk) (D.device self.old.disk) }
-        ensures done { Does self.old.yard actor (Event.Settle slot) result self.new.yard (D.device self.old.disk) (D.device self.new.disk) }
-        ensures rest { (self.new.rows ≡ self.old.rows) × (self.new.told ≡ self.old.told) }
+        requires { MayPlay D.device self.old actor (Event.Settle slot) }
+        ensures { IsPlayed D.device self.old self.new actor (Event.Settle slot) result }
     {
         if !self.is_sure(slot) {
             return Ok(Outcome::Early);
@@ -310,12 +257,8 @@ impl<D: Disk> Parts<D> {
     }
 
     pub(crate) fn play_unlink(&mut self, actor: usize) -> Result<Outcome, VaultFault>
-        requires fits { PartsFit self.old.yard self.old.rows }
-        requires ready { IsReady self.old.yard actor Event.Unlink }
-        requires known { Known Course.Plays self.old.yard actor Event.Unlink }
-        requires quiet { Succeeds NoCall (D.device self.old.disk) (D.device self.old.disk) }
-        ensures done { Does self.old.yard actor Event.Unlink result self.new.yard (D.device self.old.disk) (D.device self.new.disk) }
-        ensures rest { (self.new.rows ≡ self.old.rows) × (self.new.told ≡ self.old.told) }
+        requires { MayPlay D.device self.old actor Event.Unlink }
+        ensures { IsPlayed D.device self.old self.new actor Event.Unlink result }
     {
         let node = self.node(actor);
         let hand = self.actor(actor);
@@ -325,12 +268,8 @@ impl<D: Disk> Parts<D> {
     }
 
     pub(crate) fn play_retire(&mut self, actor: usize) -> Result<Outcome, VaultFault>
-        requires fits { PartsFit self.old.yard self.old.rows }
-        requires ready { IsReady self.old.yard actor Event.Retire }
-        requires known { Known Course.Plays self.old.yard actor Event.Retire }
-        requires quiet { Succeeds NoCall (D.device self.old.disk) (D.device self.old.disk) }
-        ensures done { Does self.old.yard actor Event.Retire result self.new.yard (D.device self.old.disk) (D.device self.new.disk) }
-        ensures rest { (self.new.rows ≡ self.old.rows) × (self.new.told ≡ self.old.told) }
+        requires { MayPlay D.device self.old actor Event.Retire }
+        ensures { IsPlayed D.device self.old self.new actor Event.Retire result }
     {
         let node = self.node(actor);
         self.allot.retire(node);
@@ -344,24 +283,16 @@ impl<D: Disk> Parts<D> {
         pass: usize,
         value: u64,
     ) -> Result<Outcome, VaultFault>
-        requires fits { PartsFit self.old.yard self.old.rows }
-        requires ready { IsReady self.old.yard actor (Event.SeePin pass value) }
-        requires known { Known Course.Plays self.old.yard actor (Event.SeePin pass value) }
-        requires quiet { Succeeds NoCall (D.device self.old.disk) (D.device self.old.disk) }
-        ensures done { Does self.old.yard actor (Event.SeePin pass value) result self.new.yard (D.device self.old.disk) (D.device self.new.disk) }
-        ensures rest { (self.new.rows ≡ self.old.rows) × (self.new.told ≡ self.old.told) }
+        requires { MayPlay D.device self.old actor (Event.SeePin pass value) }
+        ensures { IsPlayed D.device self.old self.new actor (Event.SeePin pass value) result }
     {
         self.allot.see_pin(pass, value);
         Ok(Outcome::Done)
     }
 
     pub(crate) fn play_answer(&mut self, actor: usize) -> Result<Outcome, VaultFault>
-        requires fits { PartsFit self.old.yard self.old.rows }
-        requires ready { IsReady self.old.yard actor Event.Answer }
-        requires known { Known Course.Plays self.old.yard actor Event.Answer }
-        requires quiet { Succeeds NoCall (D.device self.old.disk) (D.device self.old.disk) }
-        ensures done { Does self.old.yard actor Event.Answer result self.new.yard (D.device self.old.disk) (D.device self.new.disk) }
-        ensures rest { (self.new.rows ≡ self.old.rows) × (self.new.told ≡ self.old.told) }
+        requires { MayPlay D.device self.old actor Event.Answer }
+        ensures { IsPlayed D.device self.old self.new actor Event.Answer result }
     {
         let pin = self.leave(actor);
         let hand = self.actor(actor);
@@ -372,12 +303,8 @@ impl<D: Disk> Parts<D> {
     }
 
     pub(crate) fn play_halt(&mut self, actor: usize) -> Result<Outcome, VaultFault>
-        requires fits { PartsFit self.old.yard self.old.rows }
-        requires ready { IsReady self.old.yard actor Event.Halt }
-        requires known { Known Course.Plays self.old.yard actor Event.Halt }
-        requires quiet { Succeeds NoCall (D.device self.old.disk) (D.device self.old.disk) }
-        ensures done { Does self.old.yard actor Event.Halt result self.new.yard (D.device self.old.disk) (D.device self.new.disk) }
-        ensures rest { (self.new.rows ≡ self.old.rows) × (self.new.told ≡ self.old.told) }
+        requires { MayPlay D.device self.old actor Event.Halt }
+        ensures { IsPlayed D.device self.old self.new actor Event.Halt result }
     {
         self.list.set(Word::Halt, 1);
         Ok(Outcome::Done)

@@ -22,7 +22,7 @@ pub fn keys_in(alloc: Global, disk: MemoryDisk) -> Option<Vec<u64>> {
     };
     let mut keys = Vec::new(alloc);
     for index in 0..vault.slots() {
-        if let Some(key) = vault.key_at(Slot::new(index as u16)) {
+        if let Some(key) = vault.key_at(Slot::new(index as u32)) {
             keys.push(key.get()).ok()?;
         }
     }

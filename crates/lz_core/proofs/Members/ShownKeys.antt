@@ -45,6 +45,7 @@ use Rattle.lz_machine.proofs.Theorem.WornPass.{up_at}
 use Rattle.lz_machine.proofs.Theorem.Reached.{reached_sound}
 use Rattle.lz_yard.proofs.Opening.SlotReads.{read_length}
 use Rattle.lz_machine.proofs.Open.ListedKeys.{any_key, key_by}
+use Rattle.lz_machine.proofs.Frames.Ranges.{few_slots}
 
 -- in a sound open service
 module _ (n calls : ℕ) (service : Service) (disk : Medium) (life : Life) (P : Trace) (notes : Notes) (up : UpSound n calls service disk life P notes) where
@@ -55,7 +56,7 @@ module _ (n calls : ℕ) (service : Service) (disk : Medium) (life : Life) (P : 
   words = service.yard.words
 
   few : at.shape.slots ≤ most_slots
-  few = up.sound.images.slots.1
+  few = few_slots up.sound.images
 
   -- a member is the key of one of the slots
   is_among : (k : ℕ) → IsMember words k → IsAmong words (length words.links) k
@@ -197,7 +198,7 @@ module _ (shape : Shape) (t : List ℕ) (found : Keys) (some : 1 ≤ shape.bucke
   found_among : (k : ℕ) → IsAmong first_words (length first_words.links) k ↔ (members (keys_found t shape.slots) k ≡ true)
   found_among k =
       let among = among_members (length first) 0 (opened_service shape t) (at_rest t) (record { start = found; history = [] }) first (first_notes shape t) first_up k in
-      let tells = members_after shape.slots shape.buckets first holds.count.1 first_up.sound.trace.lawful first_words refl refl refl some k in
+      let tells = members_after shape.slots shape.buckets first (few_slots first_up.sound.images) first_up.sound.trace.lawful first_words refl refl refl some k in
       ((λ is. sym (found_here k) ∙ tells.0 (among.0 is)), (λ is. among.1 (tells.1 (found_here k ∙ is))))
 
   keys_here : (keys : List ℕ) → ((k : ℕ) → (members keys k ≡ true) ↔ IsAmong first_words (length first_words.links) k) → Ascend keys → keys ≡ keys_found t shape.slots

@@ -1,6 +1,7 @@
 -- A world whose disk is opened.
 use Rattle.std.proofs.Common.{◌≡◌, inl, inr, ℕ, Bool, IsTrue, if◌then◌else◌, zero, suc, ◌≤◌, false, List, [], ◌∷◌, length, map, slice_get, ◌%◌, ◌==◌, Option, Some, None, refl, sym, ap, ◌∙◌, subst, arith, replicate}
 use Rattle.std.proofs.lemmas.List.{length-map, length-replicate}
+use Rattle.lz_slot.specs.Limits.{most_buckets, most_passes}
 use Rattle.lz_slot.specs.declared.history.Mark.TheVariants.{Opened as opened}
 use Rattle.lz_slot.specs.declared.format.Format.{Format}
 use Rattle.lz_slot.specs.Bytes.{Holds}
@@ -120,7 +121,7 @@ module _ (shape : Shape) (before : Past) (over : YardOver Past) (opens : OpensYa
     }
 
   -- and a disk that was just made begins a run
-  module _ (format : Format) (some : (1 ≤ shape.buckets) × (shape.buckets ≤ 4096)) (few : (1 ≤ shape.passes) × (shape.passes ≤ 64)) (made : IsFresh disk format shape.slots)
+  module _ (format : Format) (some : (1 ≤ shape.buckets) × (shape.buckets ≤ most_buckets)) (few : (1 ≤ shape.passes) × (shape.passes ≤ most_passes)) (made : IsFresh disk format shape.slots)
       (callers : List (Option OpenCall)) (none : callers ≡ replicate shape.passes None) where
     abbrev first : Start
     first = record { shape = shape; text = disk.seen }

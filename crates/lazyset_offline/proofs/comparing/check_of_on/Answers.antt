@@ -1,13 +1,22 @@
-use Rattle.std.proofs.Common.{inl, inr}
-use Rattle.lazyset_offline.proofs.LineTexts.{checked_done}
+use Rattle.std.proofs.Common.{inl, inr, ⊎_elim}
+use Rattle.lazyset_offline.proofs.SurveyEnds.{failed_not_done, failed_not_told}
 use Rattle.lazyset_offline.proofs.comparing.check_of_on.Goals as goal
 
-pub returns-in-Done-clause-told : goal.returns-in-Done-clause-told
-returns-in-Done-clause-told g c = inr (_, checked_done _ _ _ _ c.in-Done.is c.check_on.ensures.told, c.compare_on.ensures.told)
+pub returns-in-Ok : goal.returns-in-Ok
+returns-in-Ok g c =
+    let (t, known, surveyed) = c.in-Ok.ensures in
+    let checked = c.check_survey.ensures in
+    record {
+      told = ⊎_elim (λ told. inl (t, known, told)) (λ lacks. inr (inr lacks)) (checked.told t surveyed);
+      done = λ is. (t, known, checked.done t surveyed is);
+      apart = λ is. (t, known, checked.apart t surveyed is);
+    }
 
-pub returns-in_default : goal.returns-in_default
-returns-in_default g c = record {
-  told = inl (c.in_default.not-Done, c.check_on.ensures.told);
-  done = λ is. absurd (c.in_default.not-Done is);
-  apart = λ is. λ (S, one, (M, other)). c.check_on.ensures.damaged is M S other;
-}
+pub returns-in-Err : goal.returns-in-Err
+returns-in-Err g c =
+    let failed = c.tell_no_survey.ensures.failed in
+    record {
+      told = inr c.tell_no_survey.ensures.told;
+      done = λ is. absurd (failed_not_done _ failed is);
+      apart = λ is. absurd (failed_not_told _ failed is);
+    }

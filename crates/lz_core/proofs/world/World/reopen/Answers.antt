@@ -4,17 +4,17 @@ use Rattle.lz_core.proofs.Opens.OpenedWorld.{reopened_world, reopened_on}
 use Rattle.lz_core.proofs.Opens.RefusedOpen.{refused_world, told_fault, told_none}
 use Rattle.lz_core.proofs.world.World.reopen.Goals as goal
 
-pub invariant_of-self-in-Ok-open_anew : goal.invariant_of-self-in-Ok-open_anew
-invariant_of-self-in-Ok-open_anew c =
+pub invariant_of-self-in-Ok-open_again : goal.invariant_of-self-in-Ok-open_again
+invariant_of-self-in-Ok-open_again c =
     reopened_world _ c.self.inside.yard c.self.inside.disk c.self.inside.callers.items c.self.inside.calls c.in-Some.disk (sym c.take.ensures.value ∙ c.in-Some.is) c.self.invariant
-    c.self.inside.tripped c.in-Ok-open_anew.opened.yard (rw c.armed.ensures at c.in-Ok-open_anew.ensures.ok) c.take.new.self c.take.ensures.after c.in-Ok.callers.items c.in-Ok.ensures c.new.result (c.new.ensures ∙ (rw c.armed.ensures at c.in-Ok-open_anew.ensures.keys)) (subst (AscendFrom 0) (sym c.new.ensures) c.in-Ok-open_anew.ensures.ascending)
+    c.self.inside.tripped c.in-Ok-open_again.opened.yard (rw c.armed.ensures at c.in-Ok-open_again.ensures.ok) c.take.new.self c.take.ensures.after c.in-Ok.callers.items c.in-Ok.ensures c.new.result (c.new.ensures ∙ (rw c.armed.ensures at c.in-Ok-open_again.ensures.keys)) (subst (AscendFrom 0) (sym c.new.ensures) c.in-Ok-open_again.ensures.ascending)
 
-pub returns-in-Ok-open_anew-clause-ok : goal.returns-in-Ok-open_anew-clause-ok
-returns-in-Ok-open_anew-clause-ok c =
+pub returns-in-Ok-open_again-clause-ok : goal.returns-in-Ok-open_again-clause-ok
+returns-in-Ok-open_again-clause-ok c =
     rw (← c.self.view_is)
     (reopened_on (record { slots = c.self.inside.slots; buckets = c.self.inside.buckets; passes = 64 }) c.self.inside.yard c.self.inside.disk c.self.inside.callers.items c.self.inside.calls c.in-Some.disk
     (sym c.take.ensures.value ∙ c.in-Some.is) c.self.invariant
-    c.self.inside.tripped c.in-Ok-open_anew.opened.yard (rw c.armed.ensures at c.in-Ok-open_anew.ensures.ok) c.take.new.self c.take.ensures.after c.in-Ok.callers.items c.in-Ok.ensures c.new.result (c.new.ensures ∙ (rw c.armed.ensures at c.in-Ok-open_anew.ensures.keys)) (subst (AscendFrom 0) (sym c.new.ensures) c.in-Ok-open_anew.ensures.ascending))
+    c.self.inside.tripped c.in-Ok-open_again.opened.yard (rw c.armed.ensures at c.in-Ok-open_again.ensures.ok) c.take.new.self c.take.ensures.after c.in-Ok.callers.items c.in-Ok.ensures c.new.result (c.new.ensures ∙ (rw c.armed.ensures at c.in-Ok-open_again.ensures.keys)) (subst (AscendFrom 0) (sym c.new.ensures) c.in-Ok-open_again.ensures.ascending))
 
 pub invariant_of-self-in-None : goal.invariant_of-self-in-None
 invariant_of-self-in-None c =
