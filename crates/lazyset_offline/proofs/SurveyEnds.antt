@@ -1,11 +1,13 @@
 -- How a command ends that tells a survey.
-use Rattle.std.proofs.Common.{◌≡◌, ◌⊎◌, inl, inr, ⊎_elim, ℕ, List, [], Option, Some, None, Bool, true, false, refl, sym, ◌∙◌, subst}
-use Rattle.std.specs.Prelude.{IfSome, if◌then◌else◌}
+use Rattle.std.proofs.Common.{◌≡◌, ◌⊎◌, inl, inr, ℕ, List, [], Option, Some, None, Bool, true, false, refl, sym, ◌∙◌, subst}
+use Rattle.std.specs.Prelude.{if◌then◌else◌}
 use Rattle.lz_judge.specs.Surveys.{HoldsASet, IsSurveyed, OfText, is_good}
 use Rattle.lz_judge.specs.declared.finding.Survey.{Survey}
 use Rattle.lz_judge.specs.declared.finding.Survey.TheVariants as survey
-use Rattle.lazyset_offline.specs.Checks.{survey_status}
-use Rattle.lazyset_offline.specs.Tellings.{LacksMemory}
+use Rattle.lz_judge.specs.declared.surveying.SurveyFault.{SurveyFault}
+use Rattle.lz_judge.specs.declared.surveying.SurveyFault.TheVariants.{Read, Memory}
+use Rattle.lazyset_offline.specs.Checks.{LacksSurvey, no_survey_text, survey_status}
+use Rattle.lazyset_offline.specs.Tellings.{LacksMemory, Tells}
 use Rattle.lazyset_offline.specs.declared.status.Status.{Status}
 use Rattle.lazyset_offline.specs.declared.status.Status.TheVariants.{Done, Failed, Refused, Damaged}
 
@@ -43,6 +45,11 @@ pub told_done : (P : Status → Type 0) (status : Status) (before after : Option
 told_done P status before after is (inl told) = subst P is told
 told_done P status before after is (inr (inl whole)) = absurd (let never : Done ≡ Failed = sym is ∙ whole.1 in cc)
 told_done P status before after is (inr (inr part)) = absurd (let never : Done ≡ Failed = sym is ∙ part.1 in cc)
+
+-- the end of a command that told why there is no survey
+pub lacks_survey : (fault : SurveyFault) (status : Status) (before after : Option (List ℕ)) → Tells before after (no_survey_text fault) Failed status → LacksSurvey before after status
+lacks_survey Read status before after told = inl told
+lacks_survey Memory status before after told = inr told
 
 -- what holds of each text holds of what a reader has left
 pub of_any : (P : List ℕ → Type 0) (input : Option (List ℕ)) → ((t : List ℕ) → P t) → OfText P input

@@ -9,9 +9,11 @@ use Rattle.lz_judge.specs.declared.finding.Finding.{Finding}
 use Rattle.lz_judge.specs.declared.finding.Finding.TheVariants.{Key, BadKey, Twice}
 use Rattle.lz_judge.specs.declared.finding.Survey.{Survey}
 use Rattle.lz_judge.specs.declared.finding.Survey.TheVariants as survey
+use Rattle.lz_judge.specs.declared.surveying.SurveyFault.{SurveyFault}
+use Rattle.lz_judge.specs.declared.surveying.SurveyFault.TheVariants.{Read, Memory}
 use Rattle.lazyset_offline.specs.Counts.{counts_text}
 use Rattle.lazyset_offline.specs.Makings.{refused_text}
-use Rattle.lazyset_offline.specs.Tellings.{LacksInput, LacksMemory, Tells}
+use Rattle.lazyset_offline.specs.Tellings.{LacksInput, LacksMemory, Tells, memory_text, unread_text}
 use Rattle.lazyset_offline.specs.declared.shown.Shown.{Shown}
 use Rattle.lazyset_offline.specs.declared.shown.Shown.TheVariants.{Findings, Keys, Counts}
 use Rattle.lazyset_offline.specs.declared.status.Status.{Status}
@@ -54,6 +56,11 @@ pub record IsShown (shown : Shown) (t : List ℕ) (status : Status) (before afte
   pub survey : Survey
   pub of_file : IsSurveyOf t survey
   pub told : Tells before after (shown_text shown survey) (survey_status survey) status
+
+-- why there is no survey, as it is told
+abbrev pub no_survey_text : SurveyFault → List ℕ
+no_survey_text Read = unread_text
+no_survey_text Memory = memory_text
 
 -- a read failed, or there was no memory, which was told
 abbrev pub LacksSurvey : Option (List ℕ) → Option (List ℕ) → Status → Type 0

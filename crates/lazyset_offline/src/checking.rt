@@ -1,7 +1,7 @@
 //! The commands that say what a file holds.
 ghost use Rattle.std.specs.Prelude.{◌≡◌, ◌⊎◌};
 ghost use Rattle.lz_judge.specs.Surveys.{HoldsASet, OfText};
-ghost use Rattle.lazyset_offline.specs.Checks.{IsShown, LacksSurvey, shown_text, survey_status};
+ghost use Rattle.lazyset_offline.specs.Checks.{IsShown, LacksSurvey, no_survey_text, shown_text, survey_status};
 ghost use Rattle.lazyset_offline.specs.Tellings.{LacksMemory, Tells};
 
 use crate::shown::{Shown, text_of};
@@ -51,7 +51,7 @@ pub(crate) fn tell_survey<W: Write + Drop>(
 
 /// Says why there is no survey.
 pub(crate) fn tell_no_survey<W: Write + Drop>(writer: &mut W, fault: SurveyFault) -> Status
-    ensures told { LacksSurvey (W.contents writer.old) (W.contents writer.new) result }
+    ensures told { Tells (W.contents writer.old) (W.contents writer.new) (no_survey_text fault) Status.Failed result }
     ensures failed { result ≡ Status.Failed }
 {
     match fault {

@@ -1,5 +1,5 @@
 use Rattle.std.proofs.Common.{inl, inr, ⊎_elim}
-use Rattle.lazyset_offline.proofs.SurveyEnds.{failed_not_done, failed_not_told}
+use Rattle.lazyset_offline.proofs.SurveyEnds.{failed_not_done, failed_not_told, lacks_survey}
 use Rattle.lazyset_offline.proofs.comparing.check_of_on.Goals as goal
 
 pub returns-in-Ok : goal.returns-in-Ok
@@ -16,7 +16,7 @@ pub returns-in-Err : goal.returns-in-Err
 returns-in-Err g c =
     let failed = c.tell_no_survey.ensures.failed in
     record {
-      told = inr c.tell_no_survey.ensures.told;
+      told = inr (lacks_survey c.in-Err.fault _ _ _ c.tell_no_survey.ensures.told);
       done = λ is. absurd (failed_not_done _ failed is);
       apart = λ is. absurd (failed_not_told _ failed is);
     }

@@ -1,4 +1,4 @@
-use Rattle.std.proofs.Common.{ℕ, List, inl, inr, ⊎_elim}
+use Rattle.std.proofs.Common.{inl, inr, ⊎_elim}
 use Rattle.lz_judge.specs.Renewals.{HoldOneSet}
 use Rattle.lazyset_offline.specs.Checks.{shown_text, survey_status}
 use Rattle.lazyset_offline.specs.Tellings.{Tells}

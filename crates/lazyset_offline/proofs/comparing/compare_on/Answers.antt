@@ -1,5 +1,5 @@
 use Rattle.std.proofs.Common.{inl, inr, ⊎_elim}
-use Rattle.lazyset_offline.proofs.SurveyEnds.{failed_not_done, failed_not_told}
+use Rattle.lazyset_offline.proofs.SurveyEnds.{failed_not_done, failed_not_told, lacks_survey}
 use Rattle.lazyset_offline.proofs.comparing.compare_on.Goals as goal
 
 pub returns-in-Ok : goal.returns-in-Ok
@@ -16,7 +16,7 @@ pub returns-in-Err : goal.returns-in-Err
 returns-in-Err g c =
     let failed = c.tell_no_survey.ensures.failed in
     record {
-      told = λ t new. inr c.tell_no_survey.ensures.told;
+      told = λ t new. inr (lacks_survey c.in-Err.fault _ _ _ c.tell_no_survey.ensures.told);
       done = λ t new is. absurd (failed_not_done _ failed is);
       apart = λ t new is. absurd (failed_not_told _ failed is);
     }

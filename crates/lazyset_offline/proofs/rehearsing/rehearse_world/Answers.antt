@@ -1,4 +1,4 @@
-use Rattle.std.proofs.Common.{inl, Err, ap}
+use Rattle.std.proofs.Common.{Err, ap}
 use Rattle.lz_rehearsal.specs.declared.rehearsal.RehearsalFault.{RehearsalFault}
 use Rattle.lazyset_offline.proofs.RehearsalEnds.{fault_told}
 use Rattle.lazyset_offline.proofs.rehearsing.rehearse_world.Goals as goal
