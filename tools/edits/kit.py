@@ -32,8 +32,9 @@ NO_VERDICT = "could not tell"
 PLACE = re.compile(r"(?:note: )?(?:\./)?((?:src|specs|proofs)/\S+?):(\d+):\d+: ?(.*)")
 # Said of a proof file that names what an edit took away: it tells nothing of a contract.
 OF_A_NAME = re.compile(r"has no field|is not in scope|has no `|was not admitted")
-# What a check over kept work takes of the memory of one from nothing; how much of the free memory checks may take.
-OVER_KEPT, OF_FREE = 0.7, 0.85
+# What a check over kept work takes of the memory of one from nothing; how much of the free memory checks may take; and what a
+# proof takes in one process (2.7 GB were seen).
+OVER_KEPT, OF_FREE, MEMORY_OF_A_PROOF = 0.7, 0.85, 3_000_000_000
 PRINTING = threading.Lock()
 
 
@@ -72,6 +73,12 @@ def crates(top: str) -> List[Crate]:
     """The crates of a repository, each after those that it stands on."""
     found: List[Crate] = rt().rtlib.crates_below(top)
     return found
+
+
+def one_job_a_proof() -> None:
+    """Has `rt ci` give each proof one job, where there is memory for one on each processor: so told, it doesn't look at the memory."""
+    if rt().free() >= rt().processors() * MEMORY_OF_A_PROOF:
+        os.environ.setdefault("RT_JOBS", str(rt().processors()))
 
 
 def processor_seconds() -> float:

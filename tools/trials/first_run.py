@@ -29,6 +29,10 @@ def processors():
     return 1
 
 
+def free():
+    return 0
+
+
 def in_lanes(tasks):
     return {{}}
 
