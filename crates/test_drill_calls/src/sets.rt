@@ -1,5 +1,5 @@
 //! The open of a set.
-ghost use Rattle.std.specs.Prelude.{All, IfSome};
+ghost use Rattle.std.specs.Prelude.{All, IfOk, IfSome};
 ghost use Rattle.lz_disk.specs.Records.{device_of};
 ghost use Rattle.lz_set.specs.Blanks.{MayBeNamed};
 ghost use Rattle.lz_set.specs.Names.{MayCall};
@@ -22,7 +22,9 @@ pub fn drill<R: Print + AllocGlobal + Wait>(rt: &R) -> Result<(), Fault> {
 }
 
 /// The set of the file, for two passes.
-pub fn open<R: Print + AllocGlobal>(rt: &R) -> Result<Blank<MemoryDisk, NoGate>, Fault> {
+pub fn open<R: Print + AllocGlobal>(rt: &R) -> Result<Blank<MemoryDisk, NoGate>, Fault>
+    ensures { IfOk result (λ blank. MayBeNamed device_of blank.board (device_of blank.disk) blank.yard.vault.format blank) }
+{
     match Set::open(rt.alloc(), disk(rt.alloc())?, NoGate, 1, 2) {
         Ok(blank) => Ok(blank),
         Err(refused) => open_again(rt, refused),
@@ -32,7 +34,9 @@ pub fn open<R: Print + AllocGlobal>(rt: &R) -> Result<Blank<MemoryDisk, NoGate>,
 fn open_again<R: Print + AllocGlobal>(
     rt: &R,
     refused: Refused<MemoryDisk>,
-) -> Result<Blank<MemoryDisk, NoGate>, Fault> {
+) -> Result<Blank<MemoryDisk, NoGate>, Fault>
+    ensures { IfOk result (λ blank. MayBeNamed device_of blank.board (device_of blank.disk) blank.yard.vault.format blank) }
+{
     let Refused { disk, fault } = refused;
     let told = fault;
     let number = told.number();
