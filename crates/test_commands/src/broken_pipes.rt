@@ -1,6 +1,6 @@
 //! A reader and a writer that fail at each place of the commands.
 use crate::commands::{HELD, TWO_SLOTS, disk_with};
-use lazyset_commands::{check_of_on, check_on, judge_on, make_on, rehearse_on, renew_on};
+use lazyset_commands::{Shown, check_of_on, judge_on, make_on, rehearse_on, renew_on, survey_on};
 use lz_slot::Format;
 use std::alloc::Global;
 use std::test::Fail;
@@ -16,7 +16,7 @@ fn is_cut_off(ended: u8, written: &Narrow, at: usize, code: u8, told: &[u8]) -> 
 /// A command that tells of files or texts, and changes nothing.
 #[derive(Clone, Copy, Debug)]
 enum Asked {
-    Check(&'static [u8]),
+    Survey(Shown, &'static [u8]),
     Compare(&'static [u8]),
     Judge(&'static [u8]),
     Rehearse(&'static [u8]),
@@ -26,8 +26,15 @@ impl Asked {
     // The code of its status. Compared is with the file that holds 17; rehearsed is on two slots.
     fn tell(self, alloc: Global, writer: &mut Narrow) -> u8 {
         let status = match self {
-            Asked::Check(file) => check_on(alloc, file, writer),
-            Asked::Compare(old) => check_of_on(alloc, &HELD, old, writer),
+            Asked::Survey(shown, file) => {
+                let mut reader = file;
+                survey_on(alloc, &mut reader, writer, shown)
+            }
+            Asked::Compare(old) => {
+                let mut reader = HELD.as_slice();
+                let mut older = old;
+                check_of_on(alloc, &mut reader, &mut older, writer)
+            }
             Asked::Judge(history) => judge_on(alloc, history, writer),
             Asked::Rehearse(script) => {
                 let mut reader = script;
@@ -49,14 +56,31 @@ const DAMAGED: [u8; 48] = [
 const SCRIPT: &[u8] = b"call 1 add 9\nfinish 1\nshow\ncrash old\nopen\nopen\n";
 
 // What a writer that works is told, and the status.
-const ROWS: [(Asked, &[u8], u8); 9] = [
-    (Asked::Check(&HELD), b"slot 0 key 17\ngood\n", 0),
+const ROWS: [(Asked, &[u8], u8); 14] = [
     (
-        Asked::Check(&DAMAGED),
+        Asked::Survey(Shown::Findings, &HELD),
+        b"slot 0 key 17\ngood\n",
+        0,
+    ),
+    (
+        Asked::Survey(Shown::Findings, &DAMAGED),
         b"slot 0 key 17\nslot 1 badkey\ndamaged\n",
         4,
     ),
-    (Asked::Check(b"\0"), b"refused 1\n", 3),
+    (Asked::Survey(Shown::Findings, b"\0"), b"refused 1\n", 3),
+    (Asked::Survey(Shown::Keys, &HELD), b"17\n", 0),
+    (Asked::Survey(Shown::Keys, &DAMAGED), b"17\ndamaged\n", 4),
+    (Asked::Survey(Shown::Keys, b"\0"), b"refused 1\n", 3),
+    (
+        Asked::Survey(Shown::Counts, &HELD),
+        b"format 1\nslots 2\nmembers 1\nfree 1\ngood\n",
+        0,
+    ),
+    (
+        Asked::Survey(Shown::Counts, &DAMAGED),
+        b"format 1\nslots 2\nmembers 1\nfree 0\ndamaged\n",
+        4,
+    ),
     (Asked::Compare(&HELD), b"slot 0 key 17\ngood\nsame\n", 0),
     (Asked::Compare(b""), b"slot 0 key 17\ngood\nflaw 8\n", 4),
     (

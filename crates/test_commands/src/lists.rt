@@ -1,6 +1,6 @@
 //! Makings from lists of keys: what is made and told, and a reader, a writer and a device that fail.
 use crate::commands::{Ran, disk_with};
-use lazyset_commands::{check_on, make_keys_on};
+use lazyset_commands::{Shown, make_keys_on, survey_on};
 use lz_disk::MemoryDisk;
 use lz_slot::Format;
 use std::alloc::{AllocError, Global};
@@ -136,7 +136,8 @@ fn is_unmade_or_whole(alloc: Global, disk: &MemoryDisk) -> Result<bool, AllocErr
             None => disk_with(alloc, disk.bytes())?,
         };
         let mut told: Vec<u8> = Vec::new(alloc);
-        let code = check_on(alloc, disk.bytes(), &mut told).code();
+        let mut bytes = disk.bytes();
+        let code = survey_on(alloc, &mut bytes, &mut told, Shown::Findings).code();
         let is_unmade = code == 3 && told.as_slice() == b"refused 1\n".as_slice();
         let is_whole = code == 0
             && told.as_slice() == b"slot 0 key 17\nslot 1 key 3:8\ngood\n".as_slice();

@@ -23,7 +23,7 @@ pub fn drill<R: Print + AllocGlobal>(rt: &R) -> Result<(), Fault> {
 
 fn find<R: Print + AllocGlobal>(rt: &R) -> Result<Vec<Finding>, Fault> {
     match survey(rt.alloc(), &DAMAGED) {
-        Ok(Survey::Found(findings)) => Ok(findings),
+        Ok(Survey::Found(_, findings)) => Ok(findings),
         Ok(_) => Err(Fault::Wrong),
         Err(AllocError) => find_again(rt),
     }
@@ -32,7 +32,7 @@ fn find<R: Print + AllocGlobal>(rt: &R) -> Result<Vec<Finding>, Fault> {
 fn find_again<R: Print + AllocGlobal>(rt: &R) -> Result<Vec<Finding>, Fault> {
     println!(rt; "again survey")?;
     match survey(rt.alloc(), &DAMAGED) {
-        Ok(Survey::Found(findings)) => Ok(findings),
+        Ok(Survey::Found(_, findings)) => Ok(findings),
         _ => Err(Fault::Wrong),
     }
 }
