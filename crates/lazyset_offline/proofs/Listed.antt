@@ -1,5 +1,5 @@
 -- A list of keys that is read a line at a time.
-use Rattle.std.proofs.Common.{◌≡◌, ◌≢◌, ℕ, zero, suc, ◌+◌, ◌-◌, ◌<◌, ◌≤◌, List, [], ◌∷◌, ◌++◌, length, take, drop, get_or, true, false, Option, Some, None, Result, Ok, Err, IsTrue, IfSome, refl, sym, ap, subst, ◌∙◌, ⊎_elim, arith, append_assoc, length-append}
+use Rattle.std.proofs.Common.{◌≡◌, ◌≢◌, ℕ, zero, suc, ◌+◌, ◌-◌, ◌<◌, ◌≤◌, List, [], ◌∷◌, ◌++◌, length, take, drop, get_or, true, false, Some, None, Result, Ok, Err, refl, sym, ap, subst, ◌∙◌, ⊎_elim, arith, append_assoc}
 use Rattle.std.specs.Prelude.{nat_eq, IfOk}
 use Rattle.std.specs.Cmp.{nat_eq_equiv}
 use Rattle.std.specs.List.{IsDistinct, list_any}
@@ -18,7 +18,7 @@ use Rattle.lz_slot.proofs.Texts.Cuts.{cut_at, first_cut, lacks_all, lacks_first,
 use Rattle.lz_slot.proofs.Texts.Spellings.{read_spelled, spelled_read}
 use Rattle.lz_proto.specs.Lines.{has_line_feed, line_feed, without_return}
 use Rattle.lz_vault.specs.Makes.{MayBeMembers}
-use Rattle.lazyset_offline.specs.Lists.{AddsKey, BeginsWith, FailsAt, HasKeyOf, HasNoKey, IsLineFaultOf, IsListFaultOf, Lists, Spelled, nothing, more, SpellsKey}
+use Rattle.lazyset_offline.specs.Lists.{AddsKey, HasFirstLine, IsLineFaultOf, IsListFaultOf, Lists, Spelled, nothing, more, SpellsKey}
 use Rattle.lazyset_offline.specs.declared.list.ListFault.{ListFault}
 use Rattle.lazyset_offline.specs.declared.list.ListFault.TheVariants.{Line, Twice, Read, Memory}
 
@@ -82,13 +82,13 @@ leaves_next format text rest left e old new h first is adds =
     }
 
 -- the first line of what is left
-begins : (rest : List ℕ) (e : ℕ) → IsFirstByte (is_byte 10) rest (Some e) → BeginsWith rest (take e rest)
+begins : (rest : List ℕ) (e : ℕ) → IsFirstByte (is_byte 10) rest (Some e) → HasFirstLine rest (take e rest)
 begins rest e first = (lacks_first 10 rest e first, (drop (e + 1) rest, cut_at 10 rest e first))
 
-only_line : (rest line : List ℕ) (e : ℕ) → IsFirstByte (is_byte 10) rest (Some e) → BeginsWith rest line → take e rest ≡ line
+only_line : (rest line : List ℕ) (e : ℕ) → IsFirstByte (is_byte 10) rest (Some e) → HasFirstLine rest line → take e rest ≡ line
 only_line rest line e first (clear, (others, is)) = first_cut 10 (take e rest) line (drop (e + 1) rest) others (lacks_first 10 rest e first) clear (sym (cut_at 10 rest e first) ∙ is)
 
-not_empty : (rest line : List ℕ) → BeginsWith rest line → rest ≢ []
+not_empty : (rest line : List ℕ) → HasFirstLine rest line → rest ≢ []
 not_empty [] [] (clear, (others, is)) empty = cc
 not_empty [] (b ∷ line) (clear, (others, is)) empty = cc
 not_empty (b ∷ rest) line begins empty = cc
@@ -150,9 +150,9 @@ pub same_place : (ks : List ℕ) (i j : ℕ) → IsDistinct nat_eq ks → i < le
 same_place ks i j once low high same = ⊎_elim
     (λ (below : i < j). absurd (unequal _ _ (apart_from_distinct nat_eq ks i j 0 once below high) same))
     (λ (le : j ≤ i). ⊎_elim
-      (λ (below : j < i). absurd (unequal _ _ (apart_from_distinct nat_eq ks j i 0 once below low) (sym same)))
-      (λ (ge : i ≤ j). omega arith)
-      (cases_lt j i))
+    (λ (below : j < i). absurd (unequal _ _ (apart_from_distinct nat_eq ks j i 0 once below low) (sym same)))
+    (λ (ge : i ≤ j). omega arith)
+    (cases_lt j i))
     (cases_lt i j)
 
 are_members : (format : Format) (text ks : List ℕ) → Lists format text ks → MayBeMembers format (length ks) ks

@@ -51,7 +51,7 @@ abbrev pub LeavesListed : Format → ℕ → Option (List ℕ) → Device → De
 LeavesListed format slots input before after =
     LeavesOnly before after (IsImage before.medium)
     ⊎ ((keys : List ℕ) × IfSome input (λ text. Lists format text keys)
-      × LeavesOnly before after (λ t. IsImage before.medium t ⊎ IsUnmadeOrHolds slots (members keys) t))
+    × LeavesOnly before after (λ t. IsImage before.medium t ⊎ IsUnmadeOrHolds slots (members keys) t))
 
 -- the line of an input that is no list of keys, and how the command ends then, where that could be told
 abbrev pub list_text : ListFault → List ℕ

@@ -26,16 +26,16 @@ pub record Lists (format : Format) (text ks : List ℕ) : Type 0 where
   pub once : IsDistinct nat_eq ks
 
 -- this is the first line of the text, and it ends
-abbrev pub BeginsWith : List ℕ → List ℕ → Type 0
-BeginsWith text line = (has_line_feed line ≡ false) × ((rest : List ℕ) × (text ≡ line ++ line_feed ∷ rest))
+abbrev pub HasFirstLine : List ℕ → List ℕ → Type 0
+HasFirstLine text line = (has_line_feed line ≡ false) × ((rest : List ℕ) × (text ≡ line ++ line_feed ∷ rest))
 
 -- there is more text, and it has no first line that ends and spells a key of this format
 abbrev pub HasNoKey : Format → List ℕ → Type 0
-HasNoKey format text = (text ≢ []) × ((line : List ℕ) (k : ℕ) → BeginsWith text line → ¬ SpellsKey format line k)
+HasNoKey format text = (text ≢ []) × ((line : List ℕ) (k : ℕ) → HasFirstLine text line → ¬ SpellsKey format line k)
 
 -- the first line of the text spells one of these keys
 abbrev pub HasKeyOf : Format → List ℕ → List ℕ → Type 0
-HasKeyOf format ks text = (line : List ℕ) × (k : ℕ) × BeginsWith text line × SpellsKey format line k × IsTrue (members ks k)
+HasKeyOf format ks text = (line : List ℕ) × (k : ℕ) × HasFirstLine text line × SpellsKey format line k × IsTrue (members ks k)
 
 -- The lines of the text above this one, counted from 1, list keys, after which the rest of the text is at fault.
 pub record FailsAt (format : Format) (text : List ℕ) (number : ℕ) (IsAtFault : List ℕ → List ℕ → Type 0) : Type 0 where

@@ -1,4 +1,5 @@
-//! The commands over devices, readers and writers that fail. It has nothing but tests.
+//! The commands over devices, readers and writers that fail, and many connections that one loop serves by few passes. It has nothing
+//! but tests.
 #![tactic(auto)]
 
 #[cfg(test)]
@@ -10,7 +11,13 @@ mod crashes;
 #[cfg(test)]
 mod lists;
 #[cfg(test)]
+mod loops;
+#[cfg(test)]
+mod network;
+#[cfg(test)]
 mod renewals;
+#[cfg(test)]
+mod scripts;
 #[cfg(test)]
 mod sessions;
 #[cfg(test)]

@@ -1,8 +1,12 @@
 //! All calls, one after the other.
 use crate::fault::Fault;
-use crate::prior::ask_first;
+use crate::prior::{Asked, ask_first, read_asked};
+use crate::rates::tell_rates;
 use crate::{boards, histories, lines, plays, sessions, sets, surveys, vaults};
+use std::rt::Env;
 use std::sync::Wait;
+use std::thread::Threads;
+use std::time::Clock;
 
 /// The calls, in the order in which they are made.
 #[derive(Clone, Copy)]
@@ -28,11 +32,22 @@ const CALLS: [Call; 8] = [
     Call::Play,
 ];
 
-/// Makes all calls, once as many requests for memory as standard input says were made.
-pub fn drill_all<R: Input + Print + AllocGlobal + Wait>(rt: &R) -> Result<(), Fault> {
-    let kept = ask_first(rt)?;
+/// Does what standard input asks for.
+pub fn drill<R>(rt: &R) -> Result<(), Fault>
+where
+    R: Input + Print + AllocGlobal + Env + Clock + Threads + Wait + Sync,
+{
+    match read_asked(rt)? {
+        Asked::Calls(before) => drill_all(rt, before),
+        Asked::Rates => Ok(tell_rates(rt)?),
+    }
+}
+
+// Makes all calls, once so many requests for memory were made.
+fn drill_all<R: Print + AllocGlobal + Wait>(rt: &R, before: u64) -> Result<(), Fault> {
+    let kept = ask_first(rt, before)?;
     for call in CALLS {
-        drill(rt, call)?;
+        drill_in_turn(rt, call)?;
     }
     // Up to here they have been kept.
     if kept.iter().all(|one| one.is_empty()) {
@@ -43,7 +58,7 @@ pub fn drill_all<R: Input + Print + AllocGlobal + Wait>(rt: &R) -> Result<(), Fa
 }
 
 // Where there was no memory for what a call is made on, all of it is made once more.
-fn drill<R: Print + AllocGlobal + Wait>(rt: &R, call: Call) -> Result<(), Fault> {
+fn drill_in_turn<R: Print + AllocGlobal + Wait>(rt: &R, call: Call) -> Result<(), Fault> {
     match drill_once(rt, call) {
         Err(Fault::Unready(_)) => {
             println!(rt; "again")?;

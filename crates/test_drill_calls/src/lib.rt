@@ -1,4 +1,4 @@
-//! Makes each call that asks for memory, and prints what it answered.
+//! Makes each call that asks for memory, and prints what it answered; or tells how often a set is looked at by glances.
 //!
 //! Where a request is refused, as the kit's runner does it (`fail-allocations`), one line more is printed: `again` and the
 //! call, with the number of its fault where it has one. Then what the call was made on is as before, and the same call made
@@ -13,10 +13,11 @@ mod histories;
 mod lines;
 mod plays;
 mod prior;
+mod rates;
 mod sessions;
 mod sets;
 mod surveys;
 mod vaults;
 
-pub use calls::drill_all;
+pub use calls::drill;
 pub use fault::Fault;
