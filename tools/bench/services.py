@@ -127,10 +127,11 @@ def service(bench: Bench, target: str, members: int, connections: int, before: S
 def write_file(path: str, slots: int, members: int) -> None:
     """A slot file with the keys below so many, of format 3 where format 2 has no room for its slots."""
     name = b"LZYSET2" if slots <= SLOTS else b"LZYSET3"
-    head = b"\xa5" + name + slots.to_bytes(8, "big")
-    held = b"".join(b"\xa5" + bytes(7) + number.to_bytes(8, "big") for number in range(members))
     with open(path, "wb") as file:
-        file.write(head + held + bytes(16 * (slots - members)))
+        file.write(b"\xa5" + name + slots.to_bytes(8, "big"))
+        file.writelines(b"\xa5" + bytes(7) + number.to_bytes(8, "big") for number in range(members))
+        # Zeros, and no hole: a device allocates what is written there first.
+        file.writelines(bytes(16) for _ in range(slots - members))
         file.flush()
         os.fsync(file.fileno())
 

@@ -30,6 +30,9 @@ def try_closed(program: Program, folder: str) -> None:
         expect(program.members(file), keys, f"the members behind a run with {closing}")
         expect(run_closed(program, closing, "make", file, "4").status, 3, f"making it again with {closing}")
         expect(program.members(file), keys, f"the members behind a making with {closing}")
+        listed = f"{file}-listed"
+        expect(run_closed(program, closing, "make", listed, "4", "--keys", lines="7\n").status, 0, f"making a list's file with {closing}")
+        expect(program.members(listed), [Key(0, 7)] if is_asked else [], f"the members of a list's file with {closing}")
         renewed = f"{file}-renewed"
         expect(run_closed(program, closing, "renew", file, renewed, "8").status, 0, f"renewing it with {closing}")
         expect(program.members(file), keys, f"the old file's members behind a renewal with {closing}")

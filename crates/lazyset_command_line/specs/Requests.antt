@@ -1,5 +1,5 @@
 -- The numbers of a request.
-use Rattle.std.specs.Prelude.{◌≡◌, ◌≤◌, ℕ, IfSome, Option}
+use Rattle.std.specs.Prelude.{◌≡◌, ◌≤◌, ℕ, IfSome}
 use Rattle.lz_slot.specs.Limits.{last_room, most_buckets, most_buckets_of, most_passes, most_rehearsed}
 use Rattle.lz_slot.specs.Rooms.{last_room_of}
 use Rattle.lz_serve.specs.declared.observer.Loops.{Loops}

@@ -6,5 +6,8 @@ pub mod RehearsalEnds
 pub mod Verdicts
 pub mod CompareRows
 pub mod Listed
+pub mod OneList
 pub mod ListRows
+pub mod HeldKeys
+pub mod ShownLists
 pub mod SurveyEnds

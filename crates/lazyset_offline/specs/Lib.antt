@@ -10,3 +10,4 @@ pub mod Rehearsals
 pub mod Renewals
 pub mod Lists
 pub mod Listings
+pub mod ShownLists

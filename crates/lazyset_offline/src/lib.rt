@@ -6,6 +6,7 @@ mod checking;
 mod comparing;
 mod counting;
 mod judging;
+pub mod laws;
 mod list;
 mod listing;
 mod making;

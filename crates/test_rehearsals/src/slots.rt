@@ -1,5 +1,6 @@
 //! The allotting of slots: worked rows, and the queue beside plain records of what was seen.
 ghost use Rattle.std.specs.Prelude.{◌≤◌};
+ghost use Rattle.lz_slot.specs.Limits.{most_passes, most_slots};
 
 use lz_allot::{Allot, Counts, Row};
 use lz_slot::Slot;
@@ -295,8 +296,8 @@ fn free_the_same(
     passes: usize,
     numbers: Numbers,
 ) -> Result<(), Fail>
-    requires slots { 1 ≤ slots }
-    requires passes { (1 ≤ passes) × (passes ≤ 64) }
+    requires slots { (1 ≤ slots) × (slots ≤ most_slots) }
+    requires passes { (1 ≤ passes) × (passes ≤ most_passes) }
 {
     let mut allot = Allot::new(alloc, slots as usize, passes, &[])?;
     let mut plain = plain_slots(alloc, slots, passes)?;

@@ -1,5 +1,6 @@
 //! Threads that share a set.
 ghost use Rattle.std.specs.Prelude.{◌≡◌, ◌≤◌, All};
+ghost use Rattle.lz_slot.specs.Limits.{most_buckets, most_passes};
 ghost use Rattle.lz_set.specs.Names.{MayCall};
 ghost use Rattle.lz_set.specs.Blanks.{MayBeNamed};
 ghost use Rattle.lz_disk.specs.Records.{device_of};
@@ -200,8 +201,8 @@ fn run<R: Threads + Wait + Sync + Abort>(
     threads: usize,
     rounds: u64,
 ) -> Shared
-    requires buckets { (1 ≤ buckets) × (buckets ≤ 4096) }
-    requires threads { (1 ≤ threads) × (threads ≤ 64) }
+    requires buckets { (1 ≤ buckets) × (buckets ≤ most_buckets) }
+    requires threads { (1 ≤ threads) × (threads ≤ most_passes) }
 {
     match Set::open(alloc, disk, NoGate, buckets, threads) {
         Ok(blank) => share::<Brand, _>(rt, alloc, blank, rounds),
@@ -227,7 +228,7 @@ fn keys_left(rt: &impl Abort, alloc: Global, disk: MemoryDisk) -> Vec<u64> {
 
 // Two threads share a new set of so many buckets.
 fn add_up<R: Threads + Wait + Sync + Abort>(rt: &R, alloc: Global, buckets: usize)
-    requires { (1 ≤ buckets) × (buckets ≤ 4096) }
+    requires { (1 ≤ buckets) × (buckets ≤ most_buckets) }
 {
     let disk = new_disk(rt, alloc);
     let Shared { tallies, mut disk } = run(rt, alloc, disk, buckets, 2, 10_000);
