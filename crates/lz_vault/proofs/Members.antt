@@ -1,17 +1,21 @@
--- The members that the first slots hold, by key, and one slot more.
-use Rattle.std.proofs.Common.{◌≡◌, ◌≢◌, ◌⊎◌, inl, inr, ℕ, ◌+◌, ◌<◌, Bool, true, false, ◌==◌, List, [], ◌∷◌, ◌++◌, length, refl, sym, ap, ◌∙◌, subst, arith, length-append}
+-- The members that slots hold, listed in any order and by key.
+use Rattle.std.proofs.Common.{◌≡◌, ◌≢◌, ◌⊎◌, inl, inr, ℕ, zero, suc, ◌+◌, ◌-◌, ◌<◌, ◌≤◌, Bool, true, false, ◌==◌, List, [], ◌∷◌, ◌++◌, length, get_or, refl, sym, ap, ◌∙◌, subst, arith, length-append, Option, Some, None, Less, Equal, Greater}
 use mathlib.Core.Bool.{false≢true}
-use Rattle.std.specs.Prelude.{Some, None, nat_lt, if◌then◌else◌}
-use Rattle.std.specs.BTreeMap.{insert_entry, is_at}
-use Rattle.std.specs.Map.{lookup}
-use Rattle.std.specs.Ordering.{nat_cmp}
+use Rattle.std.specs.Prelude.{nat_lt, ◌&&◌, if◌then◌else◌}
+use Rattle.std.specs.List.{swap}
+use Rattle.std.specs.List.Sorted.{IsPermutation, IsSorted}
+use Rattle.std.specs.Ordering.{is_lt, nat_cmp, ordering_then}
 use Rattle.std.proofs.lemmas.Option.{same_Some}
-use Rattle.std.proofs.lemmas.List.{get_or_append_left, get_or_push}
+use Rattle.std.proofs.lemmas.List.{get_or-map, get_or_append_left, get_or_default, get_or_push}
+use Rattle.std.proofs.lemmas.List.Edits.{length-swap, swapped_from_swap}
+use Rattle.std.proofs.lemmas.List.Sorted.{IsPermutation-keeps}
 use Rattle.std.proofs.lemmas.Bool.{cases_eq, cases_Bool, cases_lt}
 use Rattle.std.proofs.lemmas.Bool.Decides.{nat_tests}
 use Rattle.lz_vault.specs.Stages.{Cell}
+use Rattle.lz_vault.specs.Vaults.{cell_after, cells_at}
+use Rattle.lz_vault.specs.declared.vault.Entry.{Entry}
 use Rattle.lz_slot.specs.Nodes.{Nodes, has_node}
-use Rattle.lz_vault.specs.Members.{no_cell, member_in, member_at, Ascends, AreDistinct, AreMembers}
+use Rattle.lz_vault.specs.Members.{member_at, member_in, no_cell, node_at, Ascends, AreApart, AreDistinct, AreListed, AreMembers, AreNeighbours, AreTwins, IsLowest, lower_twins}
 
 -- a node is one of the first, or of the others
 pub node_cases : (k s : ℕ) (f : ℕ × ℕ) (es : Nodes) → has_node k s (f ∷ es) ≡ true → ((f.0 ≡ k) × (f.1 ≡ s)) ⊎ (has_node k s es ≡ true)
@@ -26,179 +30,228 @@ node_first f es = grind (arith, nat_tests)
 pub node_later : (k s : ℕ) (f : ℕ × ℕ) (es : Nodes) → has_node k s es ≡ true → has_node k s (f ∷ es) ≡ true
 node_later k s f es there = grind (arith, nat_tests, there)
 
-module _ (j t : ℕ) where
-  -- where the key comes before the first, where it is the first one's, where it comes later
-  entry_before : (f : ℕ × ℕ) (es : Nodes) → j < f.0 → insert_entry nat_cmp (f ∷ es) j t ≡ (j, t) ∷ f ∷ es
-  entry_before f es low = let is : nat_lt j f.0 ≡ true = grind (arith, nat_tests, low) in rw is refl
-
-  entry_same : (f : ℕ × ℕ) (es : Nodes) → j ≡ f.0 → insert_entry nat_cmp (f ∷ es) j t ≡ (f.0, t) ∷ es
-  entry_same f es same =
-      let is : nat_lt j f.0 ≡ false = grind (arith, nat_tests, same) in
-      let at : (j == f.0) ≡ true = grind (arith, nat_tests, same) in
-      rw (is, at) refl
-
-  entry_after : (f : ℕ × ℕ) (es : Nodes) → f.0 < j → insert_entry nat_cmp (f ∷ es) j t ≡ f ∷ insert_entry nat_cmp es j t
-  entry_after f es high =
-      let is : nat_lt j f.0 ≡ false = grind (arith, nat_tests, high) in
-      let at : (j == f.0) ≡ false = grind (arith, nat_tests, high) in
-      rw (is, at) refl
-
-  -- an entry after an insertion is the new one, or was there
-  abbrev InCases : Nodes → Type 0
-  InCases es = (k s : ℕ) → has_node k s (insert_entry nat_cmp es j t) ≡ true → ((k ≡ j) × (s ≡ t)) ⊎ (has_node k s es ≡ true)
-
-  new_or_old : (es : Nodes) → InCases es
-  new_or_old [] k s there = elim (node_cases k s (j, t) [] there) [
-    | inl new ↦ inl (sym new.0, sym new.1)
-    | inr old ↦ inr old
-  ]
-  new_or_old (f ∷ es) k s there = elim (cases_lt j f.0) [
-    | inl low ↦ elim (node_cases k s (j, t) (f ∷ es) (subst (λ (q : Nodes). has_node k s q ≡ true) (entry_before f es low) there)) [
-      | inl new ↦ inl (sym new.0, sym new.1)
-      | inr old ↦ inr old
-    ]
-    | inr le ↦ elim (cases_eq j f.0) [
-      | inl same ↦ elim (node_cases k s (f.0, t) es (subst (λ (q : Nodes). has_node k s q ≡ true) (entry_same f es same) there)) [
-        | inl new ↦ inl (sym new.0 ∙ sym same, sym new.1)
-        | inr old ↦ inr (node_later k s f es old)
-      ]
-      | inr other ↦ elim (node_cases k s f (insert_entry nat_cmp es j t) (subst (λ (q : Nodes). has_node k s q ≡ true) (entry_after f es (omega (arith, le, other))) there)) [
-        | inl first ↦ inr (subst (λ (q : ℕ). has_node q s (f ∷ es) ≡ true) first.0 (subst (λ (q : ℕ). has_node f.0 q (f ∷ es) ≡ true) first.1 (node_first f es)))
-        | inr later ↦ elim (new_or_old es k s later) [
-          | inl new ↦ inl new
-          | inr old ↦ inr (node_later k s f es old)
-        ]
-      ]
-    ]
-  ]
-
-  -- the new one is there
-  new_there : (es : Nodes) → has_node j t (insert_entry nat_cmp es j t) ≡ true
-  new_there [] = node_first (j, t) []
-  new_there (f ∷ es) = elim (cases_lt j f.0) [
-    | inl low ↦ subst (λ (q : Nodes). has_node j t q ≡ true) (sym (entry_before f es low)) (node_first (j, t) (f ∷ es))
-    | inr le ↦ elim (cases_eq j f.0) [
-      | inl same ↦ subst (λ (q : Nodes). has_node j t q ≡ true) (sym (entry_same f es same)) (subst (λ (q : ℕ). has_node q t ((f.0, t) ∷ es) ≡ true) (sym same) (node_first (f.0, t) es))
-      | inr other ↦ subst (λ (q : Nodes). has_node j t q ≡ true) (sym (entry_after f es (omega (arith, le, other)))) (node_later j t f (insert_entry nat_cmp es j t) (new_there es))
-    ]
-  ]
-
-  -- one of another key stays
-  old_there : (es : Nodes) (k s : ℕ) → k ≢ j → has_node k s es ≡ true → has_node k s (insert_entry nat_cmp es j t) ≡ true
-  old_there [] k s other there = absurd (false≢true there)
-  old_there (f ∷ es) k s other there = elim (cases_lt j f.0) [
-    | inl low ↦ subst (λ (q : Nodes). has_node k s q ≡ true) (sym (entry_before f es low)) (node_later k s (j, t) (f ∷ es) there)
-    | inr le ↦ elim (cases_eq j f.0) [
-      | inl same ↦ subst (λ (q : Nodes). has_node k s q ≡ true) (sym (entry_same f es same)) (elim (node_cases k s f es there) [
-        | inl first ↦ absurd (other (sym first.0 ∙ sym same))
-        | inr later ↦ node_later k s (f.0, t) es later
-      ])
-      | inr apart ↦ subst (λ (q : Nodes). has_node k s q ≡ true) (sym (entry_after f es (omega (arith, le, apart)))) (elim (node_cases k s f es there) [
-        | inl first ↦ subst (λ (q : ℕ). has_node q s (f ∷ insert_entry nat_cmp es j t) ≡ true) first.0 (subst (λ (q : ℕ). has_node f.0 q (f ∷ insert_entry nat_cmp es j t) ≡ true) first.1 (node_first f (insert_entry nat_cmp es j t)))
-        | inr later ↦ node_later k s f (insert_entry nat_cmp es j t) (old_there es k s other later)
-      ])
-    ]
-  ]
-
-  -- the keys ascend still
-  ascends_insert : (es : Nodes) → Ascends es → Ascends (insert_entry nat_cmp es j t)
-  ascends_insert [] up = ((λ k s there. absurd (false≢true there)), tt)
-  ascends_insert (f ∷ es) up = elim (cases_lt j f.0) [
-    | inl low ↦ subst Ascends (sym (entry_before f es low)) (
-      (λ k s there. elim (node_cases k s f es there) [
-        | inl first ↦ omega (arith, first.0, low)
-        | inr later ↦ omega (arith, up.0 k s later, low)
-      ]),
-      up,
-    )
-    | inr le ↦ elim (cases_eq j f.0) [
-      | inl same ↦ subst Ascends (sym (entry_same f es same)) up
-      | inr other ↦ subst Ascends (sym (entry_after f es (omega (arith, le, other)))) (
-        (λ k s there. elim (new_or_old es k s there) [
-          | inl new ↦ omega (arith, new.0, le, other)
-          | inr old ↦ up.0 k s old
-        ]),
-        ascends_insert es up.1,
-      )
-    ]
-  ]
-
-pub none_yet : AreMembers [] 0 []
-none_yet = record { ascend = tt; each = λ k s there. absurd (false≢true there); all = λ k s low is. absurd (omega (arith, low)) }
-
--- what a map says of a key, of its list
-get_none : (j s : ℕ) (es : Nodes) → lookup (is_at (nat_cmp j)) es ≡ None → has_node j s es ≡ true → ⊥
-get_none j s [] none there = absurd (false≢true there)
-get_none j s (f ∷ es) none there = elim (node_cases j s f es there) [
-  | inl first ↦
-      let is : is_at (nat_cmp j) f.0 ≡ true = at_same j f.0 (sym first.0) in
-      absurd (some_none f.1 (sym (ap (λ (b : Bool). if b then Some f.1 else lookup (is_at (nat_cmp j)) es) is) ∙ none))
-  | inr later ↦ get_none j s es (rest (is_at (nat_cmp j) f.0) none) later
+-- a node has a place, and what has a place is a node
+pub place_of : (k s : ℕ) (es : Nodes) → has_node k s es ≡ true → (i : ℕ) × (i < length es) × (node_at es i ≡ (k, s))
+place_of k s [] there = absurd (false≢true there)
+place_of k s (f ∷ es) there = elim (node_cases k s f es there) [
+  | inl first ↦ (zero, omega arith, (λ i. (first.0 i, first.1 i)))
+  | inr later ↦ let at = place_of k s es later in (suc at.0, omega (arith, at.1), at.2)
 ]
-  where
-    some_none : (n : ℕ) → Some n ≡ None → ⊥
-    some_none n h = absurd cc
 
-    at_same : (a b : ℕ) → a ≡ b → is_at (nat_cmp a) b ≡ true
-    at_same a b same =
-        let low : nat_lt a b ≡ false = grind (arith, nat_tests, same) in
-        let eq : (a == b) ≡ true = grind (arith, nat_tests, same) in
-        rw (low, eq) refl
+pub node_of : (es : Nodes) (i : ℕ) → i < length es → has_node (node_at es i).0 (node_at es i).1 es ≡ true
+node_of [] i lt = absurd (omega (arith, lt))
+node_of (f ∷ es) zero lt = node_first f es
+node_of (f ∷ es) (suc i) lt = node_later (node_at es i).0 (node_at es i).1 f es (node_of es i (omega (arith, lt)))
 
-    rest : (b : Bool) → (if b then Some f.1 else lookup (is_at (nat_cmp j)) es) ≡ None → lookup (is_at (nat_cmp j)) es ≡ None
-    rest true h = absurd cc
-    rest false h = h
+-- the member of an entry's cell
+pub entry_member : (entries : List Entry) (i : ℕ) (entry : Entry) → i < length entries → member_at (cells_at 0 entries) i ≡ member_in (cell_after 0 (get_or entries i entry))
+entry_member entries i entry low = ap member_in (get_or-map (cell_after 0) entries i entry no_cell low)
 
--- one cell more
-module _ (cells : List Cell) (new : Cell) where
-  abbrev more : List Cell
-  more = cells ++ new ∷ []
+-- the list of no slots, and of one slot more
+module _ (cells : List Cell) where
+  pub none_listed : AreListed cells 0 []
+  none_listed = record {
+    each = λ i lt. absurd (omega (arith, lt));
+    all = λ k s low is. absurd (omega (arith, low));
+    apart = λ i j lt lt' same. absurd (omega (arith, lt));
+  }
 
-  size : length more ≡ length cells + 1
-  size = length-append cells (new ∷ [])
-
-  old_at : (s : ℕ) → s < length cells → member_at more s ≡ member_at cells s
-  old_at s low = ap member_in (get_or_append_left cells (new ∷ []) no_cell s low)
-
-  new_at : (s : ℕ) → s ≡ length cells → member_at more s ≡ member_in new
-  new_at s last = ap member_in (get_or_push cells new no_cell s (sym last))
-
-  module _ (es : Nodes) (are : AreMembers cells (length cells) es) where
-    old_each : (k s : ℕ) → has_node k s es ≡ true → (s < length more) × (member_at more s ≡ Some k)
-    old_each k s there = let was = are.each k s there in (omega (arith, was.0, size), old_at s was.0 ∙ was.1)
-
-    -- the new one holds no member
-    pub none_more : member_in new ≡ None → AreMembers more (length more) es
+  module _ (n : ℕ) (ms : Nodes) (are : AreListed cells n ms) where
+    pub none_more : member_at cells n ≡ None → AreListed cells (n + 1) ms
     none_more none = record {
-      ascend = are.ascend;
-      each = old_each;
-      all = λ k s low is. elim (cases_eq s (length cells)) [
-        | inl last ↦ absurd (some_none k (sym none ∙ sym (new_at s last) ∙ is))
-        | inr before ↦ let lt : s < length cells = omega (arith, low, size, before) in are.all k s lt (sym (old_at s lt) ∙ is)
+      each = λ i lt. let at = are.each i lt in (omega (arith, at.0), at.1);
+      all = λ k s low is. elim (cases_eq s n) [
+        | inl last ↦ absurd (none_some k (sym none ∙ ap (member_at cells) (sym last) ∙ is))
+        | inr before ↦ are.all k s (omega (arith, low, before)) is
+      ];
+      apart = are.apart;
+    }
+      where
+        none_some : (k : ℕ) → None ≡ Some k → ⊥
+        none_some k h = absurd cc
+
+    pub one_more : (j : ℕ) → member_at cells n ≡ Some j → AreListed cells (n + 1) (ms ++ (j, n) ∷ [])
+    one_more j holds = record {
+      each = λ i lt. elim (cases_eq i (length ms)) [
+        | inl last ↦
+            let at = new_at i last in
+            (subst (λ (f : ℕ × ℕ). f.1 < n + 1) (sym at) (omega arith), subst (λ (f : ℕ × ℕ). member_at cells f.1 ≡ Some f.0) (sym at) holds)
+        | inr other ↦
+            let low : i < length ms = omega (arith, lt, size, other) in
+            let at = are.each i low in
+            (subst (λ (f : ℕ × ℕ). f.1 < n + 1) (sym (old_at i low)) (omega (arith, at.0)), subst (λ (f : ℕ × ℕ). member_at cells f.1 ≡ Some f.0) (sym (old_at i low)) at.1)
+      ];
+      all = λ k s low is. elim (cases_eq s n) [
+        | inl last ↦
+            let key : k ≡ j = same_Some k j (sym is ∙ ap (member_at cells) last ∙ holds) in
+            (length ms, omega (arith, size), new_at (length ms) refl ∙ (λ i. (sym key i, sym last i)))
+        | inr before ↦
+            let at = are.all k s (omega (arith, low, before)) is in
+            (at.0, omega (arith, at.1, size), old_at at.0 at.1 ∙ at.2)
+      ];
+      apart = λ i i' lt lt' same. elim (cases_eq i (length ms)) [
+        | inl last ↦ elim (cases_eq i' (length ms)) [
+          | inl last' ↦ last ∙ sym last'
+          | inr other ↦
+              let low : i' < length ms = omega (arith, lt', size, other) in
+              absurd (omega (arith, (are.each i' low).0, sym (slot_of (new_at i last)) ∙ same ∙ slot_of (old_at i' low)))
+        ]
+        | inr other ↦
+            let low : i < length ms = omega (arith, lt, size, other) in
+            elim (cases_eq i' (length ms)) [
+              | inl last' ↦ absurd (omega (arith, (are.each i low).0, sym (slot_of (old_at i low)) ∙ same ∙ slot_of (new_at i' last')))
+              | inr other' ↦
+                  let low' : i' < length ms = omega (arith, lt', size, other') in
+                  are.apart i i' low low' (sym (slot_of (old_at i low)) ∙ same ∙ slot_of (old_at i' low'))
+            ]
       ];
     }
       where
-        some_none : (k : ℕ) → None ≡ Some k → ⊥
-        some_none k h = absurd cc
+        size : length (ms ++ (j, n) ∷ []) ≡ length ms + 1
+        size = length-append ms ((j, n) ∷ [])
 
-    -- it holds one, whose key wasn't there
-    pub one_more : (j : ℕ) → member_in new ≡ Some j → lookup (is_at (nat_cmp j)) es ≡ None → AreMembers more (length more) (insert_entry nat_cmp es j (length cells))
-    one_more j holds absent = record {
-      ascend = ascends_insert j (length cells) es are.ascend;
-      each = λ k s there. elim (new_or_old j (length cells) es k s there) [
-        | inl new_one ↦ (omega (arith, new_one.1, size), new_at s new_one.1 ∙ holds ∙ ap Some (sym new_one.0))
-        | inr old ↦ old_each k s old
-      ];
-      all = λ k s low is. elim (cases_eq s (length cells)) [
-        | inl last ↦
-            let key : k ≡ j = same_Some k j (sym is ∙ new_at s last ∙ holds) in
-            subst (λ (q : ℕ). has_node k q (insert_entry nat_cmp es j (length cells)) ≡ true) (sym last) (subst (λ (q : ℕ). has_node q (length cells) (insert_entry nat_cmp es j (length cells)) ≡ true) (sym key) (new_there j (length cells) es))
-        | inr before ↦
-            let lt : s < length cells = omega (arith, low, size, before) in
-            let old = are.all k s lt (sym (old_at s lt) ∙ is) in
-            old_there j (length cells) es k s (λ same. get_none j s es absent (subst (λ (q : ℕ). has_node q s es ≡ true) same old)) old
-      ];
-    }
+        old_at : (i : ℕ) → i < length ms → node_at (ms ++ (j, n) ∷ []) i ≡ node_at ms i
+        old_at i low = get_or_append_left ms ((j, n) ∷ []) (0, 0) i low
+
+        new_at : (i : ℕ) → i ≡ length ms → node_at (ms ++ (j, n) ∷ []) i ≡ (j, n)
+        new_at i last = get_or_push ms (j, n) (0, 0) i (sym last)
+
+        slot_of : {f g : ℕ × ℕ} → f ≡ g → f.1 ≡ g.1
+        slot_of is = ap (λ (f : ℕ × ℕ). f.1) is
+
+-- two nodes in each other's place
+module _ (ms : Nodes) (a b : ℕ) (lt_a : a < length ms) (lt_b : b < length ms) where
+  -- where a node stood before
+  abbrev moved : ℕ → ℕ
+  moved i = if i == a then b else if i == b then a else i
+
+  moved_low : (i : ℕ) → i < length ms → moved i < length ms
+  moved_low i lt = grind (arith, nat_tests, lt_a, lt_b, lt)
+
+  moved_twice : (i : ℕ) → moved (moved i) ≡ i
+  moved_twice i = grind (arith, nat_tests)
+
+  stood : (i : ℕ) → node_at (swap ms a b) i ≡ node_at ms (moved i)
+  stood i =
+      let swapped = swapped_from_swap ms (swap ms a b) a b (0, 0) lt_a lt_b refl in
+      elim (cases_eq i a) [
+        | inl first ↦ ap (node_at (swap ms a b)) first ∙ swapped.0 ∙ ap (node_at ms) (let to : b ≡ moved i = grind (arith, nat_tests, first) in to)
+        | inr other ↦ elim (cases_eq i b) [
+          | inl second ↦ ap (node_at (swap ms a b)) second ∙ swapped.1 ∙ ap (node_at ms) (let to : a ≡ moved i = grind (arith, nat_tests, second, other) in to)
+          | inr apart ↦ swapped.2 i other apart ∙ ap (node_at ms) (let to : i ≡ moved i = grind (arith, nat_tests, other, apart) in to)
+        ]
+      ]
+
+  swapped_listed : (cells : List Cell) (n : ℕ) → AreListed cells n ms → AreListed cells n (swap ms a b)
+  swapped_listed cells n are = record {
+    each = λ i lt. subst (λ (f : ℕ × ℕ). (f.1 < n) × (member_at cells f.1 ≡ Some f.0)) (sym (stood i)) (are.each (moved i) (moved_low i (low i lt)));
+    all = λ k s lt is.
+        let at = are.all k s lt is in
+        (moved at.0, omega (arith, moved_low at.0 at.1, size), stood (moved at.0) ∙ ap (node_at ms) (moved_twice at.0) ∙ at.2);
+    apart = λ i j lt lt' same.
+        let is = are.apart (moved i) (moved j) (moved_low i (low i lt)) (moved_low j (low j lt')) (sym (ap (λ (f : ℕ × ℕ). f.1) (stood i)) ∙ same ∙ ap (λ (f : ℕ × ℕ). f.1) (stood j)) in
+        sym (moved_twice i) ∙ ap moved is ∙ moved_twice j;
+  }
+    where
+      size : length (swap ms a b) ≡ length ms
+      size = length-swap ms a b
+
+      low : (i : ℕ) → i < length (swap ms a b) → i < length ms
+      low i lt = omega (arith, lt, size)
+
+-- in another order they are the same members
+pub permuted_listed : (cells : List Cell) (n : ℕ) (ms ns : Nodes) → AreListed cells n ms → IsPermutation ms ns → AreListed cells n ns
+permuted_listed cells n ms ns are = IsPermutation-keeps ms (AreListed cells n) are (λ l a b lt_a lt_b is. swapped_listed l a b lt_a lt_b cells n is) ns
+
+-- the nodes are in order: neighbours don't descend by key, nor those of one key by slot
+abbrev pub AreInOrder : Nodes → Type 0
+AreInOrder ms = (i : ℕ) → i + 1 < length ms → ((node_at ms i).0 ≤ (node_at ms (i + 1)).0) × ((node_at ms i).0 ≡ (node_at ms (i + 1)).0 → (node_at ms i).1 ≤ (node_at ms (i + 1)).1)
+
+module _ (cells : List Cell) (ms : Nodes) (are : AreListed cells (length cells) ms) (up : AreInOrder ms) where
+  further : (i d : ℕ) → i + d < length ms → (node_at ms i).0 ≤ (node_at ms (i + d)).0
+  further i zero lt =
+      let none : i ≡ i + zero = omega arith in
+      subst (λ (q : ℕ). (node_at ms i).0 ≤ (node_at ms q).0) none (omega arith)
+  further i (suc d) lt =
+      let next : i + suc d ≡ (i + d) + 1 = omega arith in
+      subst (λ (q : ℕ). (node_at ms i).0 ≤ (node_at ms q).0) (sym next) (omega (arith, further i d (omega (arith, lt)), (up (i + d) (omega (arith, lt))).0))
+
+  far : (i j : ℕ) → i ≤ j → j < length ms → (node_at ms i).0 ≤ (node_at ms j).0
+  far i j le lt =
+      let to : i + (j - i) ≡ j = omega (arith, le) in
+      subst (λ (q : ℕ). (node_at ms i).0 ≤ (node_at ms q).0) to (further i (j - i) (omega (arith, le, lt)))
+
+  -- Where no two neighbours have one key, these are the members by key.
+  pub by_key : ((i : ℕ) → i + 1 < length ms → (node_at ms i).0 ≢ (node_at ms (i + 1)).0) → AreMembers cells (length cells) ms
+  by_key none = record {
+    ascend = ascending ms (λ i lt.
+        let next : i + 1 ≡ suc i = omega arith in
+        let low : i + 1 < length ms = omega (arith, lt) in
+        subst (λ (q : ℕ). (node_at ms i).0 < (node_at ms q).0) next (omega (arith, (up i low).0, none i low)));
+    each = λ k s there.
+        let at = place_of k s ms there in
+        subst (λ (f : ℕ × ℕ). (f.1 < length cells) × (member_at cells f.1 ≡ Some f.0)) at.2 (are.each at.0 at.1);
+    all = λ k s low is.
+        let at = are.all k s low is in
+        subst (λ (f : ℕ × ℕ). has_node f.0 f.1 ms ≡ true) at.2 (node_of ms at.0 at.1);
+  }
+    where
+      after : (f : ℕ × ℕ) (es : Nodes) → ((i : ℕ) → suc i < length (f ∷ es) → (node_at (f ∷ es) i).0 < (node_at (f ∷ es) (suc i)).0) → (i : ℕ) → i < length es → f.0 < (node_at es i).0
+      after f es rise zero lt = rise 0 (omega (arith, lt))
+      after f es rise (suc i) lt = omega (arith, after f es rise i (omega (arith, lt)), rise (suc i) (omega (arith, lt)))
+
+      ascending : (es : Nodes) → ((i : ℕ) → suc i < length es → (node_at es i).0 < (node_at es (suc i)).0) → Ascends es
+      ascending [] rise = tt
+      ascending (f ∷ es) rise = (
+        (λ k s there.
+            let at = place_of k s es there in
+            subst (λ (g : ℕ × ℕ). f.0 < g.0) at.2 (after f es rise at.0 at.1)),
+        ascending es (λ i lt. rise (suc i) (omega (arith, lt))),
+      )
+
+  -- Else the neighbours with the lowest second slot are twins.
+  pub lowest_are_twins : (twins : ℕ × ℕ) → IsLowest ms (length ms) (Some twins) → AreTwins cells twins.0 twins.1
+  lowest_are_twins twins ((i, lt, (key, first, second)), lowest) =
+      let one = are.each i (omega (arith, lt)) in
+      let other = are.each (i + 1) lt in
+      let differ : (node_at ms i).1 ≢ (node_at ms (i + 1)).1 = λ same. let one_place = are.apart i (i + 1) (omega (arith, lt)) lt same in absurd (omega (arith, one_place)) in
+      record {
+        order = omega (arith, first, second, (up i lt).1 key, differ);
+        range = omega (arith, second, other.0);
+        key = (node_at ms i).0;
+        one = ap (member_at cells) (sym first) ∙ one.1;
+        other = ap (member_at cells) (sym second) ∙ other.1 ∙ ap Some (sym key);
+        lowest = below;
+      }
+    where
+      -- the second of two nodes of one key isn't below
+      not_below : (k s t p q : ℕ) → p < q → q < length ms → node_at ms p ≡ (k, s) → node_at ms q ≡ (k, t) → twins.1 ≤ t
+      not_below k s t p q order lt_q at_p at_q =
+          let key_p : (node_at ms p).0 ≡ k = ap (λ (f : ℕ × ℕ). f.0) at_p in
+          let key_q : (node_at ms q).0 ≡ k = ap (λ (f : ℕ × ℕ). f.0) at_q in
+          let slot_q : (node_at ms q).1 ≡ t = ap (λ (f : ℕ × ℕ). f.1) at_q in
+          let before = q - 1 in
+          let next : before + 1 ≡ q = omega (arith, order) in
+          let from = far p before (omega (arith, order)) (omega (arith, lt_q)) in
+          let to = far before q (omega arith) lt_q in
+          let same : (node_at ms before).0 ≡ (node_at ms (before + 1)).0 = omega (arith, from, to, key_p, key_q) ∙ ap (λ (x : ℕ). (node_at ms x).0) (sym next) in
+          omega (arith, lowest before (omega (arith, next, lt_q)) same, ap (λ (x : ℕ). (node_at ms x).1) next, slot_q)
+
+      below : AreApart cells twins.1
+      below a b k low low' is is' = elim (cases_eq a b) [
+        | inl same ↦ same
+        | inr other ↦
+            let range : twins.1 < length cells = omega (arith, second, (are.each (i + 1) lt).0) in
+            let at = are.all k a (omega (arith, low, range)) is in
+            let at' = are.all k b (omega (arith, low', range)) is' in
+            elim (cases_lt at.0 at'.0) [
+              | inl before ↦ absurd (omega (arith, not_below k a b at.0 at'.0 before at'.1 at.2 at'.2, low'))
+              | inr le ↦ elim (cases_eq at.0 at'.0) [
+                | inl one_place ↦ absurd (other (ap (λ (f : ℕ × ℕ). f.1) (sym at.2 ∙ ap (node_at ms) one_place ∙ at'.2)))
+                | inr apart ↦ absurd (omega (arith, not_below k b a at'.0 at.0 (omega (arith, le, apart)) at.1 at'.2 at.2, low))
+              ]
+            ]
+      ]
 
 -- so no two slots hold one key
 one_node : (k s t : ℕ) (es : Nodes) → Ascends es → has_node k s es ≡ true → has_node k t es ≡ true → s ≡ t
@@ -216,3 +269,102 @@ one_node k s t (f ∷ es) up one two = elim (node_cases k s f es one) [
 
 pub are_distinct : (cells : List Cell) (es : Nodes) → AreMembers cells (length cells) es → AreDistinct cells
 are_distinct cells es are i j k low low' one two = one_node k i j es are.ascend (are.all k i low one) (are.all k j low' two)
+
+-- what a sort leaves is in order
+pub sorted_in_order : (ms : Nodes) → IsSorted (λ (x y : ℕ × ℕ). ordering_then (nat_cmp x.0 y.0) (nat_cmp x.1 y.1)) ms → AreInOrder ms
+sorted_in_order ms sorted i lt =
+    let f = node_at ms i in
+    let g = node_at ms (i + 1) in
+    order_of f.0 f.1 g.0 g.1 (sorted i (0, 0) (omega arith) lt)
+  where
+    order_of : (k s j t : ℕ) → is_lt (ordering_then (nat_cmp j k) (nat_cmp t s)) ≡ false → (k ≤ j) × (k ≡ j → s ≤ t)
+    order_of k s j t h = elim (cases_lt j k) [
+      | inl low ↦
+          let less : nat_lt j k ≡ true = grind (arith, nat_tests, low) in
+          absurd (false≢true (sym h ∙ ap (λ (b : Bool). is_lt (ordering_then (if b then Less else if j == k then Equal else Greater) (nat_cmp t s))) less))
+      | inr le ↦ (
+        le,
+        (λ same. elim (cases_lt t s) [
+          | inl low ↦
+              let not_less : nat_lt j k ≡ false = grind (arith, nat_tests, le) in
+              let equal : (j == k) ≡ true = grind (arith, nat_tests, same) in
+              let less : nat_lt t s ≡ true = grind (arith, nat_tests, low) in
+              absurd (false≢true (sym h ∙ (λ i. is_lt (ordering_then (if not_less i then Less else if equal i then Equal else Greater) (if less i then Less else if t == s then Equal else Greater)))))
+          | inr le' ↦ le'
+        ]),
+      )
+    ]
+
+-- one pair of neighbours more
+module _ (ms : Nodes) (i : ℕ) (low : 1 ≤ i) where
+  abbrev f : ℕ × ℕ
+  f = node_at ms (i - 1)
+
+  abbrev g : ℕ × ℕ
+  g = node_at ms i
+
+  next : (i - 1) + 1 ≡ i
+  next = omega (arith, low)
+
+  abbrev ends : ℕ × ℕ → ℕ
+  ends at = at.1
+
+  last_pair : f.0 ≡ g.0 → (j : ℕ) × (j + 1 < i + 1) × AreNeighbours ms j f.1 g.1
+  last_pair same = (i - 1, omega (arith, low), (same ∙ ap (λ (x : ℕ). (node_at ms x).0) (sym next), refl, ap (λ (x : ℕ). (node_at ms x).1) next))
+
+  -- a pair is the last one or an earlier one
+  pair_cases : (j : ℕ) → j + 1 < i + 1 → ((node_at ms j ≡ f) × (node_at ms (j + 1) ≡ g)) ⊎ (j + 1 < i)
+  pair_cases j lt = elim (cases_eq j (i - 1)) [
+    | inl last ↦ inl (ap (node_at ms) last, ap (node_at ms) (ap (λ (x : ℕ). x + 1) last ∙ next))
+    | inr other ↦ inr (omega (arith, lt, other, low))
+  ]
+
+  from_none : (b : Bool) → (f.0 == g.0) ≡ b → IsLowest ms i None → IsLowest ms (i + 1) (if b then Some (f.1, g.1) else None)
+  from_none true is none = (
+    last_pair (grind (arith, nat_tests, is)),
+    (λ j lt same. elim (pair_cases j lt) [
+      | inl last ↦ omega (arith, ap ends last.1)
+      | inr before ↦ absurd (none j before same)
+    ]),
+  )
+  from_none false is none = λ j lt same. elim (pair_cases j lt) [
+    | inl last ↦
+        let keys : f.0 ≡ g.0 = sym (ap (λ (n : ℕ × ℕ). n.0) last.0) ∙ same ∙ ap (λ (n : ℕ × ℕ). n.0) last.1 in
+        let test : (f.0 == g.0) ≡ true = grind (arith, nat_tests, keys) in
+        absurd (false≢true (sym is ∙ test))
+    | inr before ↦ none j before same
+  ]
+
+  from_some : (twins : ℕ × ℕ) (b : Bool) → ((f.0 == g.0) && nat_lt g.1 twins.1) ≡ b → IsLowest ms i (Some twins) → IsLowest ms (i + 1) (if b then Some (f.1, g.1) else Some twins)
+  from_some twins true is (there, lowest) = (
+    last_pair (grind (arith, nat_tests, is)),
+    (λ j lt same. elim (pair_cases j lt) [
+      | inl last ↦ omega (arith, ap ends last.1)
+      | inr before ↦
+          let less : g.1 < twins.1 = grind (arith, nat_tests, is) in
+          omega (arith, less, lowest j before same)
+    ]),
+  )
+  from_some twins false is (there, lowest) = (
+    (there.0, omega (arith, there.1), there.2),
+    (λ j lt same. elim (pair_cases j lt) [
+      | inl last ↦
+          let keys : f.0 ≡ g.0 = sym (ap (λ (n : ℕ × ℕ). n.0) last.0) ∙ same ∙ ap (λ (n : ℕ × ℕ). n.0) last.1 in
+          let le : twins.1 ≤ g.1 = grind (arith, nat_tests, is, keys) in
+          omega (arith, le, ap ends last.1)
+      | inr before ↦ lowest j before same
+    ]),
+  )
+
+  pub next_lowest : (lowest : Option (ℕ × ℕ)) → IsLowest ms i lowest → IsLowest ms (i + 1) (lower_twins lowest f g)
+  next_lowest None is = from_none (f.0 == g.0) refl is
+  next_lowest (Some twins) is = from_some twins ((f.0 == g.0) && nat_lt g.1 twins.1) refl is
+
+-- what is read at a place is the node there
+pub same_place : (ms : Nodes) (i : ℕ) (node : ℕ × ℕ) → i < length ms → node ≡ get_or ms i node → node ≡ node_at ms i
+same_place ms i node low is = is ∙ get_or_default ms i node (0, 0) low
+
+-- all pairs of neighbours
+pub all_lowest : (ms : Nodes) (i : ℕ) (lowest : Option (ℕ × ℕ)) → length ms ≤ i → i ≤ 1 + (length ms - 1) → IsLowest ms i lowest → IsLowest ms (length ms) lowest
+all_lowest ms i None long range is = λ j lt. is j (omega (arith, long, lt))
+all_lowest ms i (Some twins) long range (there, lowest) = ((there.0, omega (arith, there.1, range), there.2), (λ j lt. lowest j (omega (arith, long, lt))))

@@ -12,7 +12,6 @@ use lz_machine::{Actor, Hold};
 use lz_slot::Slot;
 use lz_vault::Vault;
 use std::alloc::{AllocError, Global};
-use std::collections::BTreeMap;
 
 // What an actor has in hand at first.
 const IDLE: Actor = Actor {
@@ -35,11 +34,11 @@ impl Tables {
     pub(crate) fn of<D: Disk>(
         alloc: Global,
         vault: &Vault<D>,
-        members: BTreeMap<u64, Slot>,
+        members: Vec<(u64, Slot)>,
         buckets: usize,
         passes: usize,
     ) -> Result<Tables, AllocError>
-        requires members { AreMembers vault.now.memory.cells (length vault.now.memory.cells) members.entries }
+        requires members { AreMembers vault.now.memory.cells (length vault.now.memory.cells) members.items }
         requires buckets { 1 ≤ buckets }
         requires passes { (1 ≤ passes) × (passes ≤ most_passes) }
         ensures { IfOk result (λ tables. AreTables vault.now.memory.cells buckets passes tables.list tables.allot tables.actors.items) }
@@ -61,16 +60,16 @@ impl Tables {
 // Links the members, from the greatest key down, each before the others of its bucket. Their slots are handed back.
 fn link_members(
     alloc: Global,
-    found: BTreeMap<u64, Slot>,
+    found: Vec<(u64, Slot)>,
     words: &mut Words,
 ) -> Result<Vec<Slot>, AllocError>
-    requires { All (λ f. f.1 < length words.old.links) found.entries }
-    ensures words { OnOk result (words.new ≡ with_members found.entries words.old) }
-    ensures taken { IfOk result (λ taken. taken.items ≡ reverse (map (λ f. f.1) found.entries)) }
+    requires { All (λ f. f.1 < length words.old.links) found.items }
+    ensures words { OnOk result (words.new ≡ with_members found.items words.old) }
+    ensures taken { IfOk result (λ taken. taken.items ≡ reverse (map (λ f. f.1) found.items)) }
 {
     let mut members = found;
     let mut taken = Vec::new(alloc);
-    while let Some((key, slot)) = members.pop_last() {
+    while let Some((key, slot)) = members.pop() {
         link_first(words, key, slot);
         taken.push(slot)?;
     }

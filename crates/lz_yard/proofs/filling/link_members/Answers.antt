@@ -5,4 +5,4 @@ pub loop-key-preserved : goal.loop-key-preserved
 loop-key-preserved c =
     let key = c.in-Some.key-is in
     let slot = c.in-Some.slot-is in
-    links_go _ _ _ _ _ _ _ _ _ _ _ _ _ c.loop-key.invariant c.in-Some.ensures.removal c.link_first.ensures c.in_ok-push.ensures.items (cc key) (cc slot) (cc slot)
+    links_go _ _ _ _ _ _ _ _ _ _ _ _ _ c.loop-key.invariant c.in-Some.ensures.items c.link_first.ensures c.in_ok-push.ensures.items (cc key) (cc slot) (cc slot)

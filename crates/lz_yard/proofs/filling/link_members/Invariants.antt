@@ -5,9 +5,9 @@ use Rattle.lz_yard.proofs.filling.link_members.Given as goal
 
 abbrev pub invariant-loop-key : goal.invariant-loop-key
 invariant-loop-key l =
-    (with_members l.members.entries l.words ≡ with_members l.fn.found.entries l.fn.words)
-    × All (λ f. f.1 < length l.words.links) l.members.entries
-    × (l.taken.items ++ reverse (map (λ f. f.1) l.members.entries) ≡ reverse (map (λ f. f.1) l.fn.found.entries))
+    (with_members l.members.items l.words ≡ with_members l.fn.found.items l.fn.words)
+    × All (λ f. f.1 < length l.words.links) l.members.items
+    × (l.taken.items ++ reverse (map (λ f. f.1) l.members.items) ≡ reverse (map (λ f. f.1) l.fn.found.items))
 
 abbrev pub decreases-loop-key : goal.decreases-loop-key
-decreases-loop-key l = length l.members.entries
+decreases-loop-key l = length l.members.items
