@@ -19,11 +19,10 @@ pub record YardOver (D : Type 0) : Type 0 where
   pub told : Told
   pub disk : D
 
--- The same of its parts, with the number of passes that the slots' uses know.
+-- Its parts: the yard, with the number of passes that the slots' uses know, and the disk.
 pub record PartsOver (D : Type 0) : Type 0 where
   pub yard : Yard
   pub rows : ℕ
-  pub told : Told
   pub disk : D
 
 -- what an actor has in hand are slots of so many

@@ -17,7 +17,7 @@ pub record MayPlay {D : Type 0} (device : D → Device) (parts : PartsOver D) (a
   pub known : Known Plays parts.yard a e
   pub quiet : Succeeds NoCall (device parts.disk) (device parts.disk)
 
--- They played it: the yard and the device are as the event leaves them, and the rest stays.
+-- They played it: the yard and the device are as the event leaves them, and the uses know as many passes.
 pub record IsPlayed {D : Type 0} (device : D → Device) (old new : PartsOver D) (a : ℕ) (e : Event) (result : Result Outcome VaultFault) : Type 0 where
   pub done : Does old.yard a e result new.yard (device old.disk) (device new.disk)
-  pub rest : (new.rows ≡ old.rows) × (new.told ≡ old.told)
+  pub rows : new.rows ≡ old.rows

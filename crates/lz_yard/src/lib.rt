@@ -6,7 +6,6 @@
 
 mod filling;
 mod hold;
-mod holds;
 mod needs;
 mod parts;
 mod plays;

@@ -8,7 +8,6 @@ ghost use Rattle.lz_machine.specs.Runs.{with_words};
 ghost use Rattle.lz_machine.specs.Table.{is_spent, is_sure, set_actor, with_hold};
 ghost use Rattle.lz_yard.specs.Parts.{with_actors};
 
-use crate::told::Told;
 use lz_allot::Allot;
 use lz_disk::Disk;
 use lz_list::{List, Place, Word, word_of};
@@ -28,8 +27,6 @@ pub(crate) struct Parts<D: Disk> {
     pub(crate) vault: Vault<D>,
     pub(crate) allot: Allot,
     pub(crate) actors: Vec<Actor>,
-    // What the last step told.
-    pub(crate) told: Told,
 }
 
 impl<D: Disk> Model for Parts<D> {
@@ -48,7 +45,6 @@ impl<D: Disk> Model for Parts<D> {
         actors = p.actors.items;
       };
       rows = length p.allot.rows;
-      told = p.told;
       disk = p.vault.disk;
     } };
 }
@@ -94,7 +90,7 @@ impl<D: Disk> Parts<D> {
         requires low { 1 ≤ actor }
         requires high { actor ≤ length self.old.yard.actors }
         ensures yard { self.new.yard ≡ with_actors self.old.yard (set_actor self.old.yard actor (with_hold (actor_at self.old.yard actor) hold)) }
-        ensures rest { (self.new.rows ≡ self.old.rows) × (self.new.told ≡ self.old.told) × (self.new.disk ≡ self.old.disk) }
+        ensures rest { (self.new.rows ≡ self.old.rows) × (self.new.disk ≡ self.old.disk) }
     {
         let hand = self.actor(actor);
         self.actors[actor - 1] = Actor { hold, ..hand };
@@ -111,7 +107,7 @@ impl<D: Disk> Parts<D> {
     pub(crate) fn set_pin(&mut self, actor: usize, value: u64)
         requires { (1 ≤ actor) × (actor ≤ length self.old.yard.words.pins) }
         ensures yard { self.new.yard ≡ with_words self.old.yard (set self.old.yard.words (Word.Pin actor) value) }
-        ensures rest { (self.new.rows ≡ self.old.rows) × (self.new.told ≡ self.old.told) × (self.new.disk ≡ self.old.disk) }
+        ensures rest { (self.new.rows ≡ self.old.rows) × (self.new.disk ≡ self.old.disk) }
     {
         self.list.set(Word::Pin(actor), value);
     }

@@ -19,13 +19,22 @@ use lz_machine::{Actor, Event, Hold, Outcome};
 use lz_slot::{Command, Key, Slot};
 use lz_vault::VaultFault;
 
+// One line for each kind of event, with what plays it.
+macro_rules! played {
+    ($parts:ident, $actor:ident, $event:ident; $($kind:pat => $play:ident($($part:ident),*);)*) => {
+        match $event {
+            $($kind => $parts.$play($actor $(, $part)*),)*
+        }
+    };
+}
+
 impl<D: Disk> Parts<D> {
     // An actor has this slot reserved, or none.
     fn set_slot(&mut self, actor: usize, slot: Option<Slot>)
         requires low { 1 ≤ actor }
         requires high { actor ≤ length self.old.yard.actors }
         ensures yard { self.new.yard ≡ with_actors self.old.yard (set_actor self.old.yard actor (with_slot (actor_at self.old.yard actor) slot)) }
-        ensures rest { (self.new.rows ≡ self.old.rows) × (self.new.told ≡ self.old.told) × (self.new.disk ≡ self.old.disk) }
+        ensures rest { (self.new.rows ≡ self.old.rows) × (self.new.disk ≡ self.old.disk) }
     {
         let hand = self.actor(actor);
         self.actors[actor - 1] = Actor { slot, ..hand };
@@ -36,7 +45,7 @@ impl<D: Disk> Parts<D> {
         requires { IfSome slot (λ s. (s < length self.old.yard.vault.cells) × (is_unused (cell_at self.old.yard s).stage ≡ true → IsTakenAt self.old.yard.uses s)) }
         ensures kept { result ≡ kept_slot self.old.yard slot }
         ensures yard { self.new.yard ≡ with_uses self.old.yard (given_back self.old.yard slot) }
-        ensures rest { (self.new.rows ≡ self.old.rows) × (self.new.told ≡ self.old.told) × (self.new.disk ≡ self.old.disk) }
+        ensures rest { (self.new.rows ≡ self.old.rows) × (self.new.disk ≡ self.old.disk) }
     {
         match slot {
             None => None,
@@ -59,7 +68,7 @@ impl<D: Disk> Parts<D> {
         requires room { pin_of self.old.yard actor ≤ last_pin }
         ensures pin { result ≡ pin_answered (actor_at self.old.yard actor) (pin_of self.old.yard actor) }
         ensures yard { self.new.yard ≡ with_words self.old.yard (words_after self.old.yard (actor_at self.old.yard actor) actor Event.Answer) }
-        ensures rest { (self.new.rows ≡ self.old.rows) × (self.new.told ≡ self.old.told) × (self.new.disk ≡ self.old.disk) }
+        ensures rest { (self.new.rows ≡ self.old.rows) × (self.new.disk ≡ self.old.disk) }
     {
         let hand = self.actor(actor);
         let pin = self.word(Word::Pin(actor));
@@ -75,7 +84,7 @@ impl<D: Disk> Parts<D> {
         requires cell { slot < length self.old.yard.vault.cells }
         requires link { slot < length self.old.yard.words.links }
         ensures yard { self.new.yard ≡ with_words self.old.yard (change_flags (settle (cell_at self.old.yard slot).stage) self.old.yard.words slot) }
-        ensures rest { (self.new.rows ≡ self.old.rows) × (self.new.told ≡ self.old.told) × (self.new.disk ≡ self.old.disk) }
+        ensures rest { (self.new.rows ≡ self.old.rows) × (self.new.disk ≡ self.old.disk) }
     {
         let LinkWord { next, flags } = link_of(self.word(Word::Link(slot)));
         let flags = settle(self.stage(slot), flags);
@@ -83,11 +92,35 @@ impl<D: Disk> Parts<D> {
             .set(Word::Link(slot), LinkWord { next, flags }.word());
     }
 
-    pub(crate) fn play_invoke(
-        &mut self,
-        actor: usize,
-        command: Command,
-    ) -> Result<Outcome, VaultFault>
+    // Plays an event whose course is to be played.
+    pub(crate) fn play(&mut self, actor: usize, event: Event) -> Result<Outcome, VaultFault>
+        requires { MayPlay D.device self.old actor event }
+        ensures { IsPlayed D.device self.old self.new actor event result }
+    {
+        played! { self, actor, event;
+            Event::Invoke(command) => play_invoke(command);
+            Event::Pin => play_pin();
+            Event::Hop(word) => play_hop(word);
+            Event::Reserve => play_reserve();
+            Event::WriteKey(key) => play_write_key(key);
+            Event::Claim(pred, curr) => play_claim(pred, curr);
+            Event::Check => play_check();
+            Event::WriteOpen => play_write_open();
+            Event::Link => play_link();
+            Event::WriteClose => play_write_close();
+            Event::Mark => play_mark();
+            Event::Release => play_release();
+            Event::Sync(slot) => play_sync(slot);
+            Event::Settle(slot) => play_settle(slot);
+            Event::Unlink => play_unlink();
+            Event::Retire => play_retire();
+            Event::SeePin(pass, value) => play_see_pin(pass, value);
+            Event::Answer => play_answer();
+            Event::Halt => play_halt();
+        }
+    }
+
+    fn play_invoke(&mut self, actor: usize, command: Command) -> Result<Outcome, VaultFault>
         requires { MayPlay D.device self.old actor (Event.Invoke command) }
         ensures { IsPlayed D.device self.old self.new actor (Event.Invoke command) result }
     {
@@ -101,7 +134,7 @@ impl<D: Disk> Parts<D> {
         }
     }
 
-    pub(crate) fn play_pin(&mut self, actor: usize) -> Result<Outcome, VaultFault>
+    fn play_pin(&mut self, actor: usize) -> Result<Outcome, VaultFault>
         requires { MayPlay D.device self.old actor Event.Pin }
         ensures { IsPlayed D.device self.old self.new actor Event.Pin result }
     {
@@ -110,14 +143,14 @@ impl<D: Disk> Parts<D> {
         Ok(Outcome::Done)
     }
 
-    pub(crate) fn play_hop(&mut self, actor: usize, word: Word) -> Result<Outcome, VaultFault>
+    fn play_hop(&mut self, actor: usize, word: Word) -> Result<Outcome, VaultFault>
         requires { MayPlay D.device self.old actor (Event.Hop word) }
         ensures { IsPlayed D.device self.old self.new actor (Event.Hop word) result }
     {
         Ok(Outcome::Value(self.word(word)))
     }
 
-    pub(crate) fn play_reserve(&mut self, actor: usize) -> Result<Outcome, VaultFault>
+    fn play_reserve(&mut self, actor: usize) -> Result<Outcome, VaultFault>
         requires { MayPlay D.device self.old actor Event.Reserve }
         ensures { IsPlayed D.device self.old self.new actor Event.Reserve result }
     {
@@ -130,7 +163,7 @@ impl<D: Disk> Parts<D> {
         Ok(Outcome::Slot(slot))
     }
 
-    pub(crate) fn play_write_key(&mut self, actor: usize, key: Key) -> Result<Outcome, VaultFault>
+    fn play_write_key(&mut self, actor: usize, key: Key) -> Result<Outcome, VaultFault>
         requires { MayPlay D.device self.old actor (Event.WriteKey key) }
         ensures { IsPlayed D.device self.old self.new actor (Event.WriteKey key) result }
     {
@@ -140,7 +173,7 @@ impl<D: Disk> Parts<D> {
         Ok(Outcome::Done)
     }
 
-    pub(crate) fn play_claim(
+    fn play_claim(
         &mut self,
         actor: usize,
         pred: Place,
@@ -164,7 +197,7 @@ impl<D: Disk> Parts<D> {
         Ok(Outcome::Taken)
     }
 
-    pub(crate) fn play_check(&mut self, actor: usize) -> Result<Outcome, VaultFault>
+    fn play_check(&mut self, actor: usize) -> Result<Outcome, VaultFault>
         requires { MayPlay D.device self.old actor Event.Check }
         ensures { IsPlayed D.device self.old self.new actor Event.Check result }
     {
@@ -178,7 +211,7 @@ impl<D: Disk> Parts<D> {
         }
     }
 
-    pub(crate) fn play_write_open(&mut self, actor: usize) -> Result<Outcome, VaultFault>
+    fn play_write_open(&mut self, actor: usize) -> Result<Outcome, VaultFault>
         requires { MayPlay D.device self.old actor Event.WriteOpen }
         ensures { IsPlayed D.device self.old self.new actor Event.WriteOpen result }
     {
@@ -190,7 +223,7 @@ impl<D: Disk> Parts<D> {
         Ok(Outcome::Done)
     }
 
-    pub(crate) fn play_link(&mut self, actor: usize) -> Result<Outcome, VaultFault>
+    fn play_link(&mut self, actor: usize) -> Result<Outcome, VaultFault>
         requires { MayPlay D.device self.old actor Event.Link }
         ensures { IsPlayed D.device self.old self.new actor Event.Link result }
     {
@@ -205,7 +238,7 @@ impl<D: Disk> Parts<D> {
         Ok(Outcome::Done)
     }
 
-    pub(crate) fn play_write_close(&mut self, actor: usize) -> Result<Outcome, VaultFault>
+    fn play_write_close(&mut self, actor: usize) -> Result<Outcome, VaultFault>
         requires { MayPlay D.device self.old actor Event.WriteClose }
         ensures { IsPlayed D.device self.old self.new actor Event.WriteClose result }
     {
@@ -215,7 +248,7 @@ impl<D: Disk> Parts<D> {
         Ok(Outcome::Done)
     }
 
-    pub(crate) fn play_mark(&mut self, actor: usize) -> Result<Outcome, VaultFault>
+    fn play_mark(&mut self, actor: usize) -> Result<Outcome, VaultFault>
         requires { MayPlay D.device self.old actor Event.Mark }
         ensures { IsPlayed D.device self.old self.new actor Event.Mark result }
     {
@@ -225,7 +258,7 @@ impl<D: Disk> Parts<D> {
         Ok(Outcome::Done)
     }
 
-    pub(crate) fn play_release(&mut self, actor: usize) -> Result<Outcome, VaultFault>
+    fn play_release(&mut self, actor: usize) -> Result<Outcome, VaultFault>
         requires { MayPlay D.device self.old actor Event.Release }
         ensures { IsPlayed D.device self.old self.new actor Event.Release result }
     {
@@ -235,7 +268,7 @@ impl<D: Disk> Parts<D> {
         Ok(Outcome::Done)
     }
 
-    pub(crate) fn play_sync(&mut self, actor: usize, slot: Slot) -> Result<Outcome, VaultFault>
+    fn play_sync(&mut self, actor: usize, slot: Slot) -> Result<Outcome, VaultFault>
         requires { MayPlay D.device self.old actor (Event.Sync slot) }
         ensures { IsPlayed D.device self.old self.new actor (Event.Sync slot) result }
     {
@@ -245,7 +278,7 @@ impl<D: Disk> Parts<D> {
         Ok(Outcome::Done)
     }
 
-    pub(crate) fn play_settle(&mut self, actor: usize, slot: Slot) -> Result<Outcome, VaultFault>
+    fn play_settle(&mut self, actor: usize, slot: Slot) -> Result<Outcome, VaultFault>
         requires { MayPlay D.device self.old actor (Event.Settle slot) }
         ensures { IsPlayed D.device self.old self.new actor (Event.Settle slot) result }
     {
@@ -256,7 +289,7 @@ impl<D: Disk> Parts<D> {
         Ok(Outcome::Done)
     }
 
-    pub(crate) fn play_unlink(&mut self, actor: usize) -> Result<Outcome, VaultFault>
+    fn play_unlink(&mut self, actor: usize) -> Result<Outcome, VaultFault>
         requires { MayPlay D.device self.old actor Event.Unlink }
         ensures { IsPlayed D.device self.old self.new actor Event.Unlink result }
     {
@@ -267,7 +300,7 @@ impl<D: Disk> Parts<D> {
         Ok(Outcome::Done)
     }
 
-    pub(crate) fn play_retire(&mut self, actor: usize) -> Result<Outcome, VaultFault>
+    fn play_retire(&mut self, actor: usize) -> Result<Outcome, VaultFault>
         requires { MayPlay D.device self.old actor Event.Retire }
         ensures { IsPlayed D.device self.old self.new actor Event.Retire result }
     {
@@ -277,12 +310,7 @@ impl<D: Disk> Parts<D> {
         Ok(Outcome::Done)
     }
 
-    pub(crate) fn play_see_pin(
-        &mut self,
-        actor: usize,
-        pass: usize,
-        value: u64,
-    ) -> Result<Outcome, VaultFault>
+    fn play_see_pin(&mut self, actor: usize, pass: usize, value: u64) -> Result<Outcome, VaultFault>
         requires { MayPlay D.device self.old actor (Event.SeePin pass value) }
         ensures { IsPlayed D.device self.old self.new actor (Event.SeePin pass value) result }
     {
@@ -290,7 +318,7 @@ impl<D: Disk> Parts<D> {
         Ok(Outcome::Done)
     }
 
-    pub(crate) fn play_answer(&mut self, actor: usize) -> Result<Outcome, VaultFault>
+    fn play_answer(&mut self, actor: usize) -> Result<Outcome, VaultFault>
         requires { MayPlay D.device self.old actor Event.Answer }
         ensures { IsPlayed D.device self.old self.new actor Event.Answer result }
     {
@@ -302,7 +330,7 @@ impl<D: Disk> Parts<D> {
         Ok(Outcome::Done)
     }
 
-    pub(crate) fn play_halt(&mut self, actor: usize) -> Result<Outcome, VaultFault>
+    fn play_halt(&mut self, actor: usize) -> Result<Outcome, VaultFault>
         requires { MayPlay D.device self.old actor Event.Halt }
         ensures { IsPlayed D.device self.old self.new actor Event.Halt result }
     {
@@ -315,7 +343,7 @@ impl<D: Disk> Parts<D> {
         requires spent { self.old.yard.vault.syncs ≡ last_sync }
         ensures yard { self.new.yard ≡ with_vault self.old.yard (died self.old.yard.vault) }
         ensures device { Succeeds NoCall (D.device self.old.disk) (D.device self.new.disk) }
-        ensures rest { (self.new.rows ≡ self.old.rows) × (self.new.told ≡ self.old.told) }
+        ensures rows { self.new.rows ≡ self.old.rows }
     {
         let _ = self.vault.sync();
     }

@@ -13,11 +13,11 @@ ghost use Rattle.lz_machine.specs.Table.{needs};
 
 use crate::filling::Tables;
 use crate::parts::Parts;
-use crate::told::nothing_told;
+use crate::told::{Told, nothing_told};
 use lz_allot::Counts;
 use lz_disk::Disk;
 use lz_list::{Publishing, Word, Words};
-use lz_machine::{Event, Outcome};
+use lz_machine::{Course, Event, Outcome};
 use lz_slot::Format;
 use lz_vault::{OpenFault, Opened, Refused, Vault};
 use std::alloc::{AllocError, Global};
@@ -28,6 +28,8 @@ use std::marker::Model;
 #[derive(Drop)]
 pub struct Yard<D: Disk> {
     pub(crate) parts: Parts<D>,
+    // What the last step told.
+    told: Told,
 }
 
 impl<D: Disk> Model for Yard<D> {
@@ -37,9 +39,9 @@ impl<D: Disk> Model for Yard<D> {
 
     ghost Value = { YardOver D };
 
-    ghost view = { λ y. record { yard = y.parts.yard; told = y.parts.told; disk = y.parts.disk } };
+    ghost view = { λ y. record { yard = y.parts.yard; told = y.told; disk = y.parts.disk } };
 
-    ghost invariant = { λ y. PartsFit y.parts.yard y.parts.rows × IfSome y.parts.told.changed (IsWord y.parts.yard.words) };
+    ghost invariant = { λ y. PartsFit y.parts.yard y.parts.rows × IfSome y.told.changed (IsWord y.parts.yard.words) };
 }
 
 impl<D: Disk> Yard<D> {
@@ -68,8 +70,8 @@ impl<D: Disk> Yard<D> {
                     vault,
                     allot: tables.allot,
                     actors: tables.actors,
-                    told: nothing_told(),
                 },
+                told: nothing_told(),
             }),
             Err(AllocError) => Err(Refused {
                 disk: vault.close(),
@@ -82,7 +84,7 @@ impl<D: Disk> Yard<D> {
     ///
     /// Where what the event needs doesn't hold it answers NotNow, and on a dead vault most kinds answer Dead; either changes
     /// nothing. Fault where the event's device call failed; from then on the vault is dead.
-    #[tactic(auto, using(crate::proofs::Events::KeptFit::played_shape))]
+    #[tactic(auto, using(crate::proofs::Events::PlayedLine::line_rules))]
     pub fn step(&mut self, actor: usize, event: Event) -> Outcome
         requires actor { (1 ≤ actor) × (actor ≤ self.old.yard.shape.passes) }
         requires event { IsEventOf self.old.yard event }
@@ -90,7 +92,26 @@ impl<D: Disk> Yard<D> {
         ensures played { Played self.old.yard actor event result self.new.yard self.new.told (D.device self.old.disk) (D.device self.new.disk) }
         ensures shape { self.new.yard.shape ≡ self.old.yard.shape }
     {
-        self.parts.step(actor, event)
+        let asked = event;
+        let played = event;
+        self.told = nothing_told();
+        match self.parts.course(actor, asked) {
+            Course::Refused(outcome) => outcome,
+            Course::Dies => {
+                self.parts.die();
+                Outcome::Dead
+            }
+            Course::Plays => {
+                let told = self.parts.tell(actor, event);
+                match self.parts.play(actor, played) {
+                    Ok(outcome) => {
+                        self.told = told;
+                        outcome
+                    }
+                    Err(_) => Outcome::Fault,
+                }
+            }
+        }
     }
 
     /// Sets the yard's copy of a pin word that lives outside it.
@@ -133,21 +154,21 @@ impl<D: Disk> Yard<D> {
         ensures changed { result ≡ self.now.told.changed }
         ensures word { IfSome result (λ word. IsWord self.now.yard.words word) }
     {
-        self.parts.told.changed
+        self.told.changed
     }
 
     /// What that word was before, 0 where none was changed.
     pub fn before(&self) -> u64
         ensures { result ≡ self.now.told.before }
     {
-        self.parts.told.before
+        self.told.before
     }
 
     /// What the last `step` published, if it published something.
     pub fn published(&self) -> Option<Publishing>
         ensures { result ≡ self.now.told.published }
     {
-        self.parts.told.published
+        self.told.published
     }
 
     /// Ends the life, and hands the disk back as it is.

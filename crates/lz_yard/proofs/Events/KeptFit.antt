@@ -1,14 +1,16 @@
 -- The yard's parts fit after an event, where they did before it.
 use Rattle.std.proofs.Common.{◌≡◌, ◌≢◌, ◌⊎◌, inl, inr, ℕ, zero, suc, ◌+◌, ◌<◌, ◌≤◌, Bool, true, false, List, [], ◌∷◌, length, refl, sym, ap, ◌∙◌, subst, arith, length-set}
-use Rattle.std.specs.Prelude.{Option, Some, None, IfSome, slice_get, slice_set, map, if◌then◌else◌}
+use Rattle.std.specs.Prelude.{Option, Some, None, IfSome, Ok, Err, slice_get, slice_set, map, if◌then◌else◌}
 use Rattle.std.proofs.lemmas.Option.{same_Some}
 use Rattle.std.proofs.lemmas.List.{length-map}
 use Rattle.std.proofs.lemmas.List.Quantifiers.{position-Some}
 use Rattle.lz_slot.specs.Counted.{set_of_pass}
 use Rattle.lz_slot.proofs.Counted.{length-set_of_pass}
+use Rattle.lz_disk.specs.Images.{Medium}
 use Rattle.lz_disk.specs.Devices.{Device}
 use Rattle.lz_vault.specs.Stages.{Cell, cell_synced}
-use Rattle.lz_vault.specs.Vaults.{DeviceCall, NoCall, WriteAt, SyncAll, cells_failed, syncs_after, last_sync}
+use Rattle.lz_vault.specs.Vaults.{DeviceCall, NoCall, WriteAt, SyncAll, cells_failed, syncs_after, last_sync, died}
+use Rattle.lz_vault.specs.declared.vault.VaultFault.{VaultFault}
 use Rattle.lz_allot.specs.Uses.{Use, Free, Taken, is_free, collect, collect_at, lowest_free, see_pin_at}
 use Rattle.lz_list.specs.declared.place.Place.{Place}
 use Rattle.lz_list.specs.declared.place.Place.TheVariants.{Bucket, Node}
@@ -22,21 +24,21 @@ use Rattle.lz_machine.specs.declared.event.Event.{Event}
 use Rattle.lz_machine.specs.declared.event.Event.TheVariants.{Invoke, Pin, Reserve, WriteKey, Claim, Check, WriteOpen, Link, WriteClose, Mark, Release, Sync, Settle, Unlink, Retire, SeePin, Answer, Halt}
 use Rattle.lz_machine.specs.declared.event.Outcome.{Outcome}
 use Rattle.lz_machine.specs.declared.event.Outcome.TheVariants.{Done, Value, Slot, NoSlot, Taken as WasTaken, Busy, True, False, Early, Worn, OldFile, NotNow, Fault, Dead}
-use Rattle.lz_machine.specs.declared.course.Course.{Course}
-use Rattle.lz_machine.specs.declared.course.Course.TheVariants.{Refused, Dies, Plays}
+use Rattle.lz_machine.specs.declared.course.Course.TheVariants.{Plays}
 use Rattle.lz_machine.specs.declared.actor.Hold.{Hold}
 use Rattle.lz_machine.specs.declared.actor.Hold.TheVariants.{Locks}
 use Rattle.lz_machine.specs.declared.actor.Actor.{Actor}
 use Rattle.lz_machine.specs.Yards.{Yard, actor_at, cell_at}
-use Rattle.lz_machine.specs.Table.{course, call_of, cells_after, words_after, uses_after, actors_after, given_back, reserved, kept_slot, is_unused, is_sure, is_spent, line_on, line_failed, pin_of, stays_out, with_hold, with_slot, yard_done}
-use Rattle.lz_yard.specs.Steps.{Played}
+use Rattle.lz_machine.specs.Table.{course, call_of, cells_after, words_after, uses_after, actors_after, given_back, reserved, kept_slot, is_unused, is_sure, is_spent, line_failed, pin_of, stays_out, with_hold, with_slot, with_vault, yard_done, needs}
+use Rattle.lz_yard.specs.Steps.{Played, Tells, nothing_told}
 use Rattle.lz_yard.specs.declared.told.Told.{Told}
-use Rattle.lz_machine.specs.Ready.{IsEventOf}
-use Rattle.lz_machine.specs.Runs.{with_words}
-use Rattle.lz_yard.specs.Parts.{PartsFit, HasInRange}
+use Rattle.lz_machine.specs.Ready.{IsEventOf, IsReady}
+use Rattle.lz_machine.specs.Runs.{MayPlay, with_words}
+use Rattle.lz_yard.specs.Parts.{PartsFit, HasInRange, Known, Does}
 use Rattle.lz_yard.proofs.Events.HandRange.{hand_fits}
 use Rattle.lz_yard.proofs.Events.VaultCalls.{sync_left, sync_more}
 use Rattle.lz_machine.proofs.Runs.Shape.{line_keeps_shape}
+use Rattle.lz_machine.proofs.Theorem.Readiness.{ready_to_play}
 
 -- tables of words of the same lengths
 record SameSizes (old new : Words) : Type 0 where
@@ -196,7 +198,7 @@ module _ (y : Yard) (known : ℕ) (fits : PartsFit y known) (a : ℕ) (low : 1 �
   syncs_kept (Sync s) plays = syncs_after_sync (is_sure y s) (sync_left y a s plays)
   syncs_kept _ plays = fits.syncs
 
-  -- of an event that is done, of each course, and of a device failure
+  -- after an event that is done
   done_fits : (e : Event) → IsEventOf y e → course y a e ≡ Plays → PartsFit (yard_done y mine a e) known
   done_fits e is plays =
       let words = words_sizes y mine a e in
@@ -214,24 +216,25 @@ module _ (y : Yard) (known : ℕ) (fits : PartsFit y known) (a : ℕ) (low : 1 �
         hands = actors.hands;
       }
 
-  line_fits : (c : Course) (e : Event) → IsEventOf y e → course y a e ≡ c → PartsFit (line_on c y mine a e).0 known
-  line_fits (Refused outcome) e is course_is = fits
-  line_fits Dies e is course_is = record { cells = fits.cells; heads = fits.heads; links = fits.links; keys = fits.keys; pins = fits.pins; uses = fits.uses; rows = fits.rows; actors = fits.actors; syncs = fits.syncs; hands = fits.hands }
-  line_fits Plays e is course_is = done_fits e is course_is
+-- after the vault's death
+died_fits : (y : Yard) (known : ℕ) → PartsFit y known → PartsFit (with_vault y (died y.vault)) known
+died_fits y known fits =
+    record { cells = fits.cells; heads = fits.heads; links = fits.links; keys = fits.keys; pins = fits.pins; uses = fits.uses; rows = fits.rows; actors = fits.actors; syncs = fits.syncs; hands = fits.hands }
 
-  failed_fits : (e : Event) → PartsFit (line_failed y a e).0 known
-  failed_fits e = record {
-    cells = failed_size (call_of y mine e) y.vault.cells (cells_after y mine e) (cells_size y mine e) ∙ fits.cells;
-    heads = fits.heads;
-    links = fits.links;
-    keys = fits.keys;
-    pins = fits.pins;
-    uses = fits.uses;
-    rows = fits.rows;
-    actors = fits.actors;
-    syncs = fits.syncs;
-    hands = fits.hands;
-  }
+-- after a device failure
+failed_fits : (y : Yard) (known : ℕ) → PartsFit y known → (a : ℕ) (e : Event) → PartsFit (line_failed y a e).0 known
+failed_fits y known fits a e = record {
+  cells = failed_size (call_of y (actor_at y a) e) y.vault.cells (cells_after y (actor_at y a) e) (cells_size y (actor_at y a) e) ∙ fits.cells;
+  heads = fits.heads;
+  links = fits.links;
+  keys = fits.keys;
+  pins = fits.pins;
+  uses = fits.uses;
+  rows = fits.rows;
+  actors = fits.actors;
+  syncs = fits.syncs;
+  hands = fits.hands;
+}
 
 -- an outcome is a fault, or it isn't
 pub fault_or_not : (o : Outcome) → (o ≡ Fault) ⊎ (o ≢ Fault)
@@ -262,31 +265,36 @@ some_there : (old new : Words) → SameSizes old new → (word : Option Word) �
 some_there old new same None is = tt
 some_there old new same (Some word) is = word_there old new same word is
 
-line_sizes : (c : Course) (y : Yard) (actor : Actor) (a : ℕ) (e : Event) → SameSizes y.words (line_on c y actor a e).0.words
-line_sizes (Refused outcome) y actor a e = same_sizes y.words
-line_sizes Dies y actor a e = same_sizes y.words
-line_sizes Plays y actor a e = words_sizes y actor a e
-
 -- What holds of a yard and of what its last step told: the parts fit, and the word is one of the yard's.
 abbrev pub Stands : Yard → ℕ → Told → Type 0
 Stands y known told = PartsFit y known × IfSome told.changed (IsWord y.words)
 
--- it holds after a step
-pub played_fits : (y : Yard) (known : ℕ) (a : ℕ) (e : Event) (outcome : Outcome) (new : Yard) (rows : ℕ) (told : Told) (before after : Device)
-    → PartsFit y known → (1 ≤ a) × (a ≤ y.shape.passes) → IsEventOf y e → Played y a e outcome new told before after → rows ≡ known → Stands new rows told
-played_fits y known a e outcome new rows told before after fits actor is played same =
-    let high : a ≤ length y.actors = omega (arith, actor.1, fits.actors) in
-    subst (λ (n : ℕ). Stands new n told) (sym same) (elim (fault_or_not outcome) [
-      | inl fault ↦ (
-        subst (λ (q : Yard). PartsFit q known) (sym (played.failed fault).yard) (failed_fits y known fits a actor.0 high e),
-        subst (λ (t : Told). IfSome t.changed (IsWord new.words)) (sym (played.failed fault).nothing) tt,
-      )
-      | inr other ↦ (
-        subst (λ (q : Yard). PartsFit q known) (sym (played.done other).yard) (line_fits y known fits a actor.0 high (course y a e) e is refl),
-        subst (λ (q : Yard). IfSome told.changed (IsWord q.words)) (sym (played.done other).yard)
-            (some_there y.words (line_on (course y a e) y (actor_at y a) a e).0.words (line_sizes (course y a e) y (actor_at y a) a e) told.changed (played.done other).there),
-      )
-    ])
+-- it holds after each course that changes something, and after a device failure
+module _ (y : Yard) (known : ℕ) (fits : PartsFit y known) (new : Yard) (rows : ℕ) (told : Told) (same : rows ≡ known) where
+  stands : PartsFit new known → IfSome told.changed (IsWord new.words) → Stands new rows told
+  stands fit there = (subst (PartsFit new) (sym same) fit, there)
+
+  untold : told ≡ nothing_told → IfSome told.changed (IsWord new.words)
+  untold nothing = subst (λ (t : Told). IfSome t.changed (IsWord new.words)) (sym nothing) tt
+
+  pub stands_dead : new ≡ with_vault y (died y.vault) → told ≡ nothing_told → Stands new rows told
+  stands_dead is nothing = stands (subst (λ (q : Yard). PartsFit q known) (sym is) (died_fits y known fits)) (untold nothing)
+
+  module _ (a : ℕ) (e : Event) (before after : Device) where
+    pub stands_done : (outcome : Outcome) → (1 ≤ a) × (a ≤ y.shape.passes) → IsEventOf y e → Known Plays y a e → Does y a e (Ok outcome) new before after
+        → Tells y (actor_at y a) a e told → Stands new rows told
+    stands_done outcome actor is plays done tells = stands
+        (subst (λ (q : Yard). PartsFit q known) (sym done.0) (done_fits y known fits a actor.0 (omega (arith, actor.1, fits.actors)) e is plays.0))
+        (subst (λ (q : Yard). IfSome told.changed (IsWord q.words)) (sym done.0)
+        (some_there y.words (words_after y (actor_at y a) a e) (words_sizes y (actor_at y a) a e) told.changed tells.there))
+
+    pub stands_failed : (fault : VaultFault) → Does y a e (Err fault) new before after → told ≡ nothing_told → Stands new rows told
+    stands_failed fault failed nothing = stands (subst (λ (q : Yard). PartsFit q known) (sym failed.0) (failed_fits y known fits a e)) (untold nothing)
+
+-- an event that is played is ready
+pub is_ready : (y : Yard) (known : ℕ) (honest : Bool) (disk : Medium) (a : ℕ) (e : Event) → PartsFit y known → (1 ≤ a) × (a ≤ y.shape.passes) → IsEventOf y e
+    → (needs y a e ≡ true → MayPlay y honest disk a e) → Known Plays y a e → IsReady y a e
+is_ready y known honest disk a e fits actor is may plays = ready_to_play y honest disk a e (may plays.1) actor.0 (omega (arith, actor.1, fits.actors)) is plays.0
 
 -- the shape stays
 pub played_shape : (y : Yard) (a : ℕ) (e : Event) (outcome : Outcome) (new : Yard) (told : Told) (before after : Device)
@@ -297,11 +305,11 @@ played_shape y a e outcome new told before after played = elim (fault_or_not out
 ]
 
 -- it holds after a word was set
-pub set_fits : (y : Yard) (known : ℕ) (word : Word) (x : ℕ) (new : Yard) (rows : ℕ) (old told : Told)
-    → Stands y known old → new ≡ with_words y (set y.words word x) → rows ≡ known → told ≡ old → Stands new rows told
-set_fits y known word x new rows old told (fits, there) is same as_told =
+pub set_fits : (y : Yard) (known : ℕ) (word : Word) (x : ℕ) (new : Yard) (rows : ℕ) (told : Told)
+    → Stands y known told → new ≡ with_words y (set y.words word x) → rows ≡ known → Stands new rows told
+set_fits y known word x new rows told (fits, there) is same =
     let words = set_sizes y.words word x in
-    subst (λ (t : Told). Stands new rows t) (sym as_told) (subst (λ (n : ℕ). Stands new n old) (sym same) (subst (λ (q : Yard). Stands q known old) (sym is) (
+    subst (λ (n : ℕ). Stands new n told) (sym same) (subst (λ (q : Yard). Stands q known told) (sym is) (
       record {
         cells = fits.cells;
         heads = words.heads ∙ fits.heads;
@@ -314,5 +322,5 @@ set_fits y known word x new rows old told (fits, there) is same as_told =
         syncs = fits.syncs;
         hands = fits.hands;
       },
-      some_there y.words (set y.words word x) words old.changed there,
-    )))
+      some_there y.words (set y.words word x) words told.changed there,
+    ))

@@ -8,5 +8,5 @@ returns g c =
     let slot = rw (← c.self.view_is) at c.slot-slot.ensures.slot in
     record {
       done = rw (← c.self.view_is) (write_key_does _ c.args.actor c.args.key c.slot-slot.result c.rank.result c.set.new.self c.put_key.new.self.memory _ _ _ known slot c.rank.ensures.value c.set.ensures.list c.in_ok-put_key.ensures.call);
-      rest = rw (← c.self.view_is) (refl, refl);
+      rows = rw (← c.self.view_is) refl;
     }
