@@ -1,5 +1,6 @@
 -- Two files hold one set exactly where no flaw of a renewal is true of them.
-use Rattle.std.proofs.Common.{◌≡◌, ◌↔◌, ⊎_elim, ℕ, ◌+◌, ◌*◌, ◌<◌, Bool, true, false, List, length, refl, sym, ◌∙◌, ap, subst, arith, IsTrue, Ok, Err}
+use Rattle.std.proofs.Common.{◌≡◌, ◌↔◌, ⊎_elim, ℕ, ◌+◌, ◌*◌, ◌<◌, true, false, List, length, refl, sym, ◌∙◌, ap, subst, arith, IsTrue, Ok, Err}
+use Rattle.std.specs.Cmp.{both_ways}
 use Rattle.std.proofs.lemmas.Bool.{cases_lt}
 use Rattle.lz_slot.specs.Bytes.{Holds, header_read, slot_at}
 use Rattle.lz_slot.specs.Sets.{Keys}
@@ -36,22 +37,16 @@ flaw_parts old new NotHeld none (S, (N, one), (M, other)) = none (N, S, one) (M,
 flaw_parts old new (Missing i) (N, M, S, T, kept, given, low) (R, (n, one), (m, other)) = apart old new N M T i kept.size given low R n m one other
 flaw_parts old new (Extra j) (N, M, S, T, kept, given, within, low) (R, (n, one), (m, other)) = apart new old M N S j given.size kept low R m n other one
 
-same_bool : (a b : Bool) → (IsTrue a → IsTrue b) → (IsTrue b → IsTrue a) → a ≡ b
-same_bool true true to from = refl
-same_bool false false to from = refl
-same_bool true false to from = sym (to refl)
-same_bool false true to from = from refl
-
 -- each set within the other is one set
 pub one_set : (old new : List ℕ) (N M : ℕ) (S T : Keys) → Holds old N S → Holds new M T → ((k : ℕ) → IsTrue (S k) → IsTrue (T k)) → ((k : ℕ) → IsTrue (T k) → IsTrue (S k)) → HoldOneSet old new
-one_set old new N M S T one other to from = (S, (N, one), (M, holds_same_set new M T S (λ k. same_bool (T k) (S k) (from k) (to k)) other))
+one_set old new N M S T one other to from = (S, (N, one), (M, holds_same_set new M T S (λ k. both_ways (T k) (S k) (from k) (to k)) other))
 
 -- the findings of a file that holds a set
 pub held_found : (t : List ℕ) (found : List Finding) (N : ℕ) → header_read t (length t) ≡ Ok N → AreFindings (slot_at t) N found → (M : ℕ) (S : Keys) → Holds t M S → AreHeld t found
 held_found t found N head findings M S held = record {
   slots = N;
   findings = findings;
-  held = holds_same_set t N S (found_keys found) (λ k. same_bool (S k) (found_keys found k) (λ has. (is_found k).1 ((holds.set k).0 has)) (λ has. (holds.set k).1 ((is_found k).0 has))) holds;
+  held = holds_same_set t N S (found_keys found) (λ k. both_ways (S k) (found_keys found k) (λ has. (is_found k).1 ((holds.set k).0 has)) (λ has. (holds.set k).1 ((is_found k).0 has))) holds;
 }
   where
     same : M ≡ N

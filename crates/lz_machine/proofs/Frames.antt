@@ -26,3 +26,5 @@ pub mod ChangeNotes
 pub mod KeyWrite
 pub mod OpenedGate
 pub mod BesideKey
+pub mod ChainSlots
+pub mod OneSlot

@@ -1,7 +1,7 @@
 -- What a session has answered.
-use Rattle.std.proofs.Common.{◌≡◌, ◌≢◌, ℕ, inl, inr, ◌+◌, ◌<◌, List, [], ◌∷◌, ◌++◌, take, drop, get_or, length, Option, Some, None, Result, Ok, Err, refl, sym, ap, subst, ◌∙◌, append_assoc}
+use Rattle.std.proofs.Common.{◌≡◌, ◌≢◌, ℕ, inl, inr, ◌+◌, ◌<◌, List, [], ◌∷◌, ◌++◌, take, drop, get_or, length, Option, Some, None, Ok, Err, refl, sym, ap, subst, ◌∙◌, append_assoc}
 use Rattle.std.proofs.lemmas.List.{append-nil, take_more, take-append-drop}
-use Rattle.std.specs.Io.KnownBytes.{Appends, Consumes, IsAtEnd}
+use Rattle.std.specs.Io.KnownBytes.{Consumes, IsAtEnd}
 use Rattle.std.proofs.KnownBytes.{Appends-trans}
 use Rattle.lz_proto.specs.declared.request.Request.{Request}
 use Rattle.lz_proto.specs.declared.request.Request.TheVariants.{Quit}
@@ -17,7 +17,7 @@ use Rattle.lz_proto.specs.declared.end.End.TheVariants as ends
 use Rattle.lz_proto.specs.Lines.{Items}
 use Rattle.lz_proto.specs.Pieces.{Reads, Feeds, Ends, faults_of}
 use Rattle.lz_proto.specs.Sessions.{Serves, session_text, end_of, reply_text, bad_text, Answered, CutOff, Whole, Broken, IsInput, Writes}
-use Rattle.lz_proto.specs.Steps.{SendTells, FaultTells, AnswersTell, PieceTells, end_after}
+use Rattle.lz_proto.specs.Steps.{SendTells, AnswersTell, PieceTells, end_after}
 use Rattle.lz_proto.proofs.Texts.{items_end, reads_more, some_items}
 
 -- what goes on after items that didn't end the session
@@ -197,24 +197,23 @@ end_request Quit reply other = absurd (other refl)
 end_request request Halted other = refl
 end_request request reply other = refl
 
-pub request_sent : {S : Type 0} (answers : S → Request → Reply → S → Type 0) (old new : S) (request : Request) (reply : Reply) (a b : Option (List ℕ)) (text : List ℕ)
-    → request ≢ Quit → answers old request reply new → text ≡ reply_text reply → Appends a b text
-    → Writes a b (λ written. AnswersTell answers old (Asks request ∷ []) new written (Ok (end_after reply)))
-request_sent answers old new request reply a b text other h is p = (
-  text,
-  p,
-  record {
-    replies = reply ∷ [];
-    served = serves_request answers old new request reply other h;
-    text = is ∙ sym (text_request request reply other);
-    ends = end_request request reply other;
-  },
-)
+pub request_answered : {S : Type 0} (answers : S → Request → Reply → S → Type 0) (old new : S) (request : Request) (reply : Reply) (text : List ℕ)
+    → request ≢ Quit → answers old request reply new → text ≡ reply_text reply → Answered answers old (Asks request ∷ []) new text (end_after reply)
+request_answered answers old new request reply text other h is = record {
+  replies = reply ∷ [];
+  served = serves_request answers old new request reply other h;
+  text = is ∙ sym (text_request request reply other);
+  ends = end_request request reply other;
+}
 
-cut_one : {S : Type 0} (answers : S → Request → Reply → S → Type 0) (old new : S) (item : Item) (replies : List Reply) (a b : Option (List ℕ)) (text : List ℕ)
-    → Serves answers old (item ∷ []) replies new → text ≡ session_text (item ∷ []) replies → (n : ℕ) → n < length text → Appends a b (take n text)
-    → Writes a b (λ written. CutOff answers old (item ∷ []) new written)
-cut_one answers old new item replies a b text served is n less p = (
+pub fault_answered : {S : Type 0} (answers : S → Request → Reply → S → Type 0) (old : S) (bad : Bad) (text : List ℕ) → text ≡ bad_text bad → Answered answers old (Faulty bad ∷ []) old text ends.Done
+fault_answered answers old bad text is = record { replies = []; served = refl; text = is ∙ sym (append-nil (bad_text bad)); ends = refl }
+
+-- the text that answers an item wasn't sent whole
+pub item_cut : {S : Type 0} (answers : S → Request → Reply → S → Type 0) (old new : S) (item : Item) (a b : Option (List ℕ)) (text : List ℕ) (ended : End) (fault : SessionFault)
+    → Answered answers old (item ∷ []) new text ended → SendTells a b text (Err fault) → Writes a b (λ written. AnswersTell answers old (item ∷ []) new written (Err fault))
+item_cut answers old new item a b text ended Read h p = absurd p
+item_cut answers old new item a b text ended Write h (n, less, p) = (
   take n text,
   p,
   record {
@@ -225,29 +224,14 @@ cut_one answers old new item replies a b text served is n less p = (
     mid = old;
     before = [];
     answered = record { replies = []; served = refl; text = refl; ends = refl };
-    reply = replies;
-    served = served;
+    reply = h.replies;
+    served = h.served;
     sent = n;
-    part = subst (λ (t : List ℕ). n < length t) is less;
-    text = ap (λ (t : List ℕ). take n t) is;
+    part = subst (λ (t : List ℕ). n < length t) h.text less;
+    text = ap (λ (t : List ℕ). take n t) h.text;
   },
 )
-
-pub request_cut : {S : Type 0} (answers : S → Request → Reply → S → Type 0) (old new : S) (request : Request) (reply : Reply) (a b : Option (List ℕ)) (text : List ℕ) (fault : SessionFault)
-    → request ≢ Quit → answers old request reply new → text ≡ reply_text reply → SendTells a b text (Err fault)
-    → Writes a b (λ written. AnswersTell answers old (Asks request ∷ []) new written (Err fault))
-request_cut answers old new request reply a b text Read other h is p = absurd p
-request_cut answers old new request reply a b text Write other h is p =
-    cut_one answers old new (Asks request) (reply ∷ []) a b text (serves_request answers old new request reply other h) (is ∙ sym (text_request request reply other)) p.0 p.1 p.2
-request_cut answers old new request reply a b text Memory other h is p = absurd p
-
-pub fault_told : {S : Type 0} (answers : S → Request → Reply → S → Type 0) (old : S) (bad : Bad) (a b : Option (List ℕ)) (r : Result End SessionFault)
-    → FaultTells a b bad r → Writes a b (λ written. AnswersTell answers old (Faulty bad ∷ []) old written r)
-fault_told answers old bad a b (Ok ended) p =
-    (bad_text bad, p.0, record { replies = []; served = refl; text = sym (append-nil (bad_text bad)); ends = sym p.1 })
-fault_told answers old bad a b (Err Read) p = absurd p
-fault_told answers old bad a b (Err Write) p = cut_one answers old old (Faulty bad) [] a b (bad_text bad) refl (sym (append-nil (bad_text bad))) p.0 p.1 p.2
-fault_told answers old bad a b (Err Memory) p = absurd p
+item_cut answers old new item a b text ended Memory h p = absurd p
 
 -- items after those at which a write failed
 pub cut_on : {S : Type 0} (answers : S → Request → Reply → S → Type 0) (old new : S) (a b : List Item) (written : List ℕ) → CutOff answers old a new written → CutOff answers old (a ++ b) new written

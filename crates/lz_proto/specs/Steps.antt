@@ -2,7 +2,6 @@
 use Rattle.std.specs.Prelude.{◌≡◌, ℕ, ◌<◌, List, [], length, take, Option, Result, Ok, Err}
 use Rattle.std.specs.Io.KnownBytes.{Appends}
 use Rattle.lz_proto.specs.declared.request.Request.{Request}
-use Rattle.lz_proto.specs.declared.fault.Bad.{Bad}
 use Rattle.lz_proto.specs.declared.item.Item.{Item}
 use Rattle.lz_proto.specs.declared.reply.Reply.{Reply}
 use Rattle.lz_proto.specs.declared.reply.Reply.TheVariants.{Halted}
@@ -11,7 +10,7 @@ use Rattle.lz_proto.specs.declared.fault.SessionFault.TheVariants.{Read, Write, 
 use Rattle.lz_proto.specs.declared.end.End.{End}
 use Rattle.lz_proto.specs.declared.end.End.TheVariants as ends
 use Rattle.lz_proto.specs.Pieces.{Feeds}
-use Rattle.lz_proto.specs.Sessions.{bad_text, Answered, CutOff}
+use Rattle.lz_proto.specs.Sessions.{Answered, CutOff}
 
 -- how a session goes on after a reply
 abbrev pub end_after : Reply → End
@@ -28,11 +27,6 @@ SendTells old new text (Ok done) = Appends old new text
 SendTells old new text (Err Read) = ⊥
 SendTells old new text (Err Write) = IsCutShort old new text
 SendTells old new text (Err Memory) = ⊥
-
--- what was written for a fault, as the result tells
-abbrev pub FaultTells : Option (List ℕ) → Option (List ℕ) → Bad → Result End SessionFault → Type 0
-FaultTells old new bad (Ok ended) = Appends old new (bad_text bad) × (ended ≡ ends.Done)
-FaultTells old new bad (Err fault) = SendTells old new (bad_text bad) (Err fault)
 
 -- what was written for the items, as the result tells
 abbrev pub AnswersTell : {S : Type 0} → (S → Request → Reply → S → Type 0) → S → List Item → S → List ℕ → Result End SessionFault → Type 0

@@ -1,13 +1,11 @@
 //! A session: a reader's lines, a service's replies, and a writer that gets them.
-ghost use Rattle.std.specs.Prelude.{◌≡◌, ◌≢◌, [], ◌∷◌, Option, ◌≤◌, ◌<◌, length, take, IfOk, OnOk, OnErr, Err};
+ghost use Rattle.std.specs.Prelude.{◌≡◌, ◌≢◌, [], ◌∷◌, ◌≤◌, ◌<◌, length, take, IfOk, OnOk, OnErr, Err};
 ghost use Rattle.std.specs.Io.KnownBytes.{Appends, Consumes, IsAtEnd, Keeps};
-ghost use Rattle.lz_proto.specs.declared.fault.Bad.{Bad};
-ghost use Rattle.lz_proto.specs.Pieces.{Ends, faults_of};
 ghost use Rattle.lz_proto.specs.Sessions.{SessionTells, Writes};
-ghost use Rattle.lz_proto.specs.Steps.{AnswersTell, FaultTells, PieceTells, SendTells, end_after};
+ghost use Rattle.lz_proto.specs.Steps.{AnswersTell, PieceTells, SendTells, end_after};
 
 use crate::end::End;
-use crate::fault::{Bad, SessionFault};
+use crate::fault::SessionFault;
 use crate::item::Item;
 use crate::limits::MOST_PIECE;
 use crate::lines::Lines;
@@ -36,7 +34,10 @@ pub fn session<R: Read, W: Write, S: Service>(
             Err(_) => return Err(SessionFault::Read),
         };
         if count == 0 {
-            return answer_end(lines, writer, service);
+            return match lines.end() {
+                Some(bad) => answer(Item::Faulty(bad), writer, service),
+                None => Ok(End::Done),
+            };
         }
         let end = match answer_piece(&mut lines, &buffer[..count], writer, service) {
             Ok(end) => end,
@@ -106,15 +107,6 @@ fn end_after(reply: Reply) -> End
     }
 }
 
-fn answer_fault<W: Write>(bad: Bad, writer: &mut W) -> Result<End, SessionFault>
-    ensures { FaultTells (W.contents writer.old) (W.contents writer.new) bad result }
-{
-    match send(writer, bad_text(bad).as_bytes()) {
-        Ok(()) => Ok(End::Done),
-        Err(fault) => Err(fault),
-    }
-}
-
 // Answers one item.
 fn answer<W: Write, S: Service>(
     item: Item,
@@ -123,16 +115,17 @@ fn answer<W: Write, S: Service>(
 ) -> Result<End, SessionFault>
     ensures { Writes (W.contents writer.old) (W.contents writer.new) (λ written. AnswersTell S.answers service.old (item ∷ []) service.new written result) }
 {
-    match item {
-        Item::Asks(Request::Quit) => Ok(End::Quit),
+    let (text, end) = match item {
+        Item::Asks(Request::Quit) => return Ok(End::Quit),
         Item::Asks(request) => {
             let reply = service.ask(request);
-            match send(writer, reply_text(reply).as_bytes()) {
-                Ok(()) => Ok(end_after(reply)),
-                Err(fault) => Err(fault),
-            }
+            (reply_text(reply), end_after(reply))
         }
-        Item::Faulty(bad) => answer_fault(bad, writer),
+        Item::Faulty(bad) => (bad_text(bad), End::Done),
+    };
+    match send(writer, text.as_bytes()) {
+        Ok(()) => Ok(end),
+        Err(fault) => Err(fault),
     }
 }
 
@@ -158,18 +151,4 @@ fn answer_piece<W: Write, S: Service>(
         }
     }
     Ok(End::Done)
-}
-
-// Answers what stands after the last line's end.
-fn answer_end<W: Write, S: Service>(
-    lines: Lines,
-    writer: &mut W,
-    service: &mut S,
-) -> Result<End, SessionFault>
-    ensures { (fault : Option Bad) × Ends lines fault × Writes (W.contents writer.old) (W.contents writer.new) (λ written. AnswersTell S.answers service.old (faults_of fault) service.new written result) }
-{
-    match lines.end() {
-        Some(bad) => answer_fault(bad, writer),
-        None => Ok(End::Done),
-    }
 }

@@ -7,7 +7,6 @@ use Rattle.std.specs.BTreeMap.{BTreeMap}
 use Rattle.std.specs.BTreeSet.{BTreeSet}
 use Rattle.std.specs.Ordering.{nat_cmp}
 use Rattle.std.proofs.lemmas.List.{reverse-append, take_more}
-use mathlib.Core.Bool.{beq}
 use Rattle.std.proofs.lemmas.Option.{same_Some}
 use Rattle.lz_slot.specs.declared.history.Refusal.{Refusal}
 use Rattle.lz_slot.specs.declared.history.Mark.{Mark}
@@ -119,18 +118,6 @@ not_new true is_new same is = refl
 pub fresh_if_new : (b is_new : Bool) → is_new ≡ not b → is_new ≡ true → b ≡ false
 fresh_if_new false is_new same is = refl
 fresh_if_new true is_new same is = absurd (let e : false ≡ true = sym same ∙ is in cc)
-
-pub same_bool : (a b : Bool) → beq a b ≡ true → a ≡ b
-same_bool true true is = refl
-same_bool false false is = refl
-same_bool true false is = absurd (cc)
-same_bool false true is = absurd (cc)
-
-pub apart_bool : (a b : Bool) → beq a b ≡ false → a ≢ b
-apart_bool true true is = absurd (cc)
-apart_bool false false is = absurd (cc)
-apart_bool true false is = λ same. cc
-apart_bool false true is = λ same. cc
 
 -- what holds anyway holds where a call succeeded
 pub on_ok : {T E : Type 0} (r : Result T E) (P : Type 0) → P → OnOk r P

@@ -18,7 +18,7 @@ use Rattle.lz_vault.specs.Stages.{MayRead}
 use Rattle.lz_vault.proofs.Reading.{image_reads}
 use Rattle.lz_list.specs.Words.{place_number, link_to}
 use Rattle.lz_list.specs.Locks.{owner}
-use Rattle.lz_list.specs.Traces.{Trace, WordsShow, has_key, on, chain_of, bucket_of, key_word, next_link, member, IsLoose}
+use Rattle.lz_list.specs.Traces.{Trace, WordsShow, has_key, on, chain_of, bucket_of, key_word, next_link, member}
 use Rattle.lz_list.proofs.Chains.PlaceRank.{has_on}
 use Rattle.lz_list.proofs.Chains.TraceChain.{words_show_chain}
 use Rattle.lz_list.proofs.Traces.Absence.{unlinked_is_settled}
@@ -33,6 +33,7 @@ use Rattle.lz_machine.specs.Notes.{Notes}
 use Rattle.lz_machine.specs.SlotsSound.{opens, IsGateClosed, IsGateOpened, IsOnChain, IsNodeStage, SlotStands, is_node, is_held, is_out, is_free, is_limbo}
 use Rattle.lz_machine.specs.LocksSound.{IsBeside, RestsOn}
 use Rattle.lz_machine.specs.Sound.{Sound}
+use Rattle.lz_machine.proofs.Frames.ChainSlots.{chain_stands}
 use Rattle.lz_machine.proofs.Frames.HeldLocks.{rests_on_pair, one_place}
 use Rattle.lz_machine.proofs.Frames.OtherLink.{round_place}
 use Rattle.lz_machine.proofs.Frames.Ranges.{on_range}
@@ -156,17 +157,7 @@ module _ (n calls : ℕ) (y : Yard) (callers : List (Option Caller)) (disk : Med
   -- a slot on its key's chain is a node's
   pub node_stands : (s : ℕ) → s < y.shape.slots → on 0 (chain_of y.shape.buckets (key_word s P) P) (suc s) ≡ true
       → IsOnChain y.shape y.vault.cells y.uses P s × IsNodeStage y.vault.cells y.vault.dead y.actors P s
-  node_stands s lt there = go (sound.slots.each s lt)
-    where
-      not_loose : IsLoose y.shape.buckets s P → ⊥
-      not_loose loose = false≢true (sym (loose (bucket_of y.shape.buckets (key_word s P))) ∙ there)
-
-      go : SlotStands y.shape y.vault.cells y.vault.dead y.uses y.actors P s → IsOnChain y.shape y.vault.cells y.uses P s × IsNodeStage y.vault.cells y.vault.dead y.actors P s
-      go (is_node stands stage) = (stands, stage)
-      go (is_held a hand) = absurd (not_loose (sound.slots.hand a s hand).loose)
-      go (is_out a out) = absurd (not_loose (sound.slots.out a s out).loose)
-      go (is_free loose used stage) = absurd (not_loose loose)
-      go (is_limbo sights loose used stage) = absurd (not_loose loose)
+  node_stands s lt there = chain_stands y.shape y.vault.cells y.vault.dead y.uses y.actors P s sound.slots (key_word s P) lt there
 
   -- a member stands on its chain
   pub member_node : (k : ℕ) → member k P ≡ true → (s : ℕ) × (s < y.shape.slots) × IsNodeOf y P s k

@@ -1,11 +1,14 @@
 -- What a caller relies on stays when another's event changes cells, or the vault dies.
-use Rattle.std.proofs.Common.{◌≡◌, ℕ, zero, suc, Bool, true, List, Option, Some, None, ◌∙◌}
+use Rattle.std.proofs.Common.{◌≡◌, ◌≢◌, ℕ, zero, suc, ◌<◌, Bool, true, List, length, Option, Some, None, sym, ap, ◌∙◌, subst, get_or-set_same, get_or-set_other}
+use Rattle.std.specs.Prelude.{slice_set}
 use Rattle.lz_slot.specs.declared.format.Format.{Format}
 use Rattle.lz_slot.specs.declared.command.Command.{Command}
 use Rattle.lz_slot.specs.declared.command.Command.TheVariants.{Add, Remove}
 use Rattle.lz_slot.specs.Sets.{key_of}
+use Rattle.lz_vault.specs.declared.vault.Stage.{Stage}
 use Rattle.lz_vault.specs.declared.vault.Stage.TheVariants.{Keyed}
 use Rattle.lz_vault.specs.Stages.{Cell}
+use Rattle.lz_vault.specs.Members.{no_cell}
 use Rattle.lz_list.specs.Traces.{Trace}
 use Rattle.lz_machine.specs.declared.actor.Actor.{Actor}
 use Rattle.lz_machine.specs.declared.caller.Sequence.{Sequence}
@@ -14,7 +17,7 @@ use Rattle.lz_machine.specs.declared.caller.Progress.{Progress}
 use Rattle.lz_machine.specs.declared.caller.Progress.TheVariants.{Playing, Walking, Reserving, SeeingPins, Claiming, Checking}
 use Rattle.lz_machine.specs.Runs.{Caller}
 use Rattle.lz_machine.specs.CallersSound.{View, IsWritten, IsAimed, IsKeyed, ReliesWriting, ReliesAdding, ReliesRemoving, ReliesOn, Relies, IsCaller, CallerSound}
-use Rattle.lz_machine.specs.Yards.{cell_in}
+use Rattle.lz_machine.specs.Yards.{cell_in, stage_in}
 
 -- a slot's cell keeps its key, and what was written of it
 pub record KeepsCell (old new : Cell) : Type 0 where
@@ -76,3 +79,17 @@ module _ (buckets passes : ℕ) (format : Format) (cells cells' : List Cell) (de
 
   pub caller_vaulted : (pin : ℕ) (caller : Option Caller) → CallerSound v pin caller P0 P changed → CallerSound w pin caller P0 P changed
   caller_vaulted pin caller h = record { quiet = h.quiet; begins = h.begins; stands = caller_keeps pin caller h.stands }
+
+-- one slot's cell is another one
+module _ (cells : List Cell) (s : ℕ) (new : Cell) where
+  pub cell_same : s < length cells → cell_in (slice_set cells s new) s ≡ new
+  cell_same lt = get_or-set_same cells s new no_cell lt
+
+  pub cell_other : (t : ℕ) → t ≢ s → cell_in (slice_set cells s new) t ≡ cell_in cells t
+  cell_other t apart = get_or-set_other cells s t new no_cell apart
+
+  pub stage_other : (A : Stage → Type 0) (t : ℕ) → t ≢ s → A (stage_in cells t) → A (stage_in (slice_set cells s new) t)
+  stage_other A t apart was = subst A (ap (λ (q : Cell). q.stage) (sym (cell_other t apart))) was
+
+  pub cell_stays : (t : ℕ) → t ≢ s → KeepsCell (cell_in cells t) (cell_in (slice_set cells s new) t)
+  cell_stays t apart = record { key = ap (λ (q : Cell). q.key) (cell_other t apart); keyed = stage_other IsKeyed t apart; sure = stage_other (λ q. q ≡ Keyed) t apart }

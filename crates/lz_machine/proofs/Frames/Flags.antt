@@ -1,11 +1,9 @@
 -- What is said of slots, locks and reuse stays when a flag is set or the service halts: nothing changes that walkers follow.
 use Rattle.std.proofs.Common.{◌≡◌, ◌≢◌, inl, inr, ℕ, zero, suc, Bool, true, false, List, ◌∷◌, Option, Some, refl, arith}
 use Rattle.std.proofs.lemmas.Bool.Decides.{nat_tests}
-use Rattle.lz_slot.specs.Counted.{of_pass}
 use Rattle.lz_slot.specs.Histories.{History}
 use Rattle.lz_vault.specs.declared.vault.Stage.TheVariants.{Closed, Opening}
 use Rattle.lz_vault.specs.Stages.{Cell}
-use Rattle.lz_allot.specs.declared.sight.Sight.TheVariants.{Left}
 use Rattle.lz_allot.specs.Uses.{Use}
 use Rattle.lz_list.specs.declared.place.Place.{Place}
 use Rattle.lz_list.specs.declared.publishing.Change.{Change}
@@ -17,15 +15,12 @@ use Rattle.lz_list.specs.Locks.{NodeLocks}
 use Rattle.lz_machine.specs.declared.actor.Actor.{Actor}
 use Rattle.lz_machine.specs.declared.actor.Hold.{Hold}
 use Rattle.lz_machine.specs.declared.actor.Hold.TheVariants.{Nothing, Locks, Checked, GateOpened, Linked, GateClosed, Marked, Unlinked, Released}
-use Rattle.lz_machine.specs.Yards.{Shape, actor_in, pin_in, stage_in}
+use Rattle.lz_machine.specs.Yards.{Shape, actor_in, stage_in}
 use Rattle.lz_machine.specs.Ledgers.{Row}
 use Rattle.lz_machine.specs.Stands.{Faces}
 use Rattle.lz_machine.specs.SlotsSound.{SlotStands, is_node, is_held, is_out, is_free, is_limbo, SlotsSound}
 use Rattle.lz_machine.specs.LocksSound.{IsBeside, IsRightBefore, HasClosed, RestsOn, LocksSound}
 use Rattle.lz_machine.specs.LedgerSound.{TailsSound}
-use Rattle.lz_machine.specs.Sound.{ReuseSound}
-use Rattle.lz_machine.proofs.Frames.Limbo.{seen_step, away_stays}
-use Rattle.lz_machine.proofs.Steps.Pin.{limbo_loose, free_loose}
 use Rattle.std.specs.Prelude.{Option}
 use Rattle.lz_machine.specs.Runs.{Caller}
 
@@ -100,15 +95,6 @@ module _ (shape : Shape) (cells : List Cell) (dead : Bool) (uses : List Use) (ac
     removed = removed;
   }
 
-  pub reuse_halted : (pins : List ℕ) (begun : ℕ → Trace) → SlotsSound shape cells dead uses actors P → ReuseSound shape pins uses actors P begun → ReuseSound shape pins uses actors (halted ∷ P) begun
-  reuse_halted pins begun slots h = record {
-    worn = h.worn;
-    sights = h.sights;
-    seen = λ a s seen limbo. seen_step shape.buckets s (pin_in pins a) (begun a) (halted) P (of_pass seen a Left) (limbo_loose shape cells dead uses actors P s seen slots limbo) (h.seen a s seen limbo);
-    free = λ a s free inside. away_stays shape.buckets s (begun a) (halted) P (free_loose shape cells dead uses actors P s slots free) (h.free a s free inside);
-    reserved = λ a b s slot inside. away_stays shape.buckets s (begun a) (halted) P (slots.hand b s slot).loose (h.reserved a b s slot inside);
-  }
-
   pub tails_halted : (callers : List (Option Caller)) (rows : List Row) (M : History) → TailsSound shape cells actors P callers rows M → TailsSound shape cells actors (halted ∷ P) callers rows M
   tails_halted callers rows M h = record { adding = h.adding; removing = h.removing }
 
@@ -181,15 +167,6 @@ module _ (s0 : ℕ) (c0 : Change) (shape : Shape) (cells : List Cell) (dead : Bo
     opened = h.opened;
     added = added;
     removed = removed;
-  }
-
-  pub reuse_settled : (pins : List ℕ) (begun : ℕ → Trace) → SlotsSound shape cells dead uses actors P → ReuseSound shape pins uses actors P begun → ReuseSound shape pins uses actors (settled s0 c0 ∷ P) begun
-  reuse_settled pins begun slots h = record {
-    worn = h.worn;
-    sights = h.sights;
-    seen = λ a s seen limbo. seen_step shape.buckets s (pin_in pins a) (begun a) (settled s0 c0) P (of_pass seen a Left) (limbo_loose shape cells dead uses actors P s seen slots limbo) (h.seen a s seen limbo);
-    free = λ a s free inside. away_stays shape.buckets s (begun a) (settled s0 c0) P (free_loose shape cells dead uses actors P s slots free) (h.free a s free inside);
-    reserved = λ a b s slot inside. away_stays shape.buckets s (begun a) (settled s0 c0) P (slots.hand b s slot).loose (h.reserved a b s slot inside);
   }
 
   pub tails_settled : (callers : List (Option Caller)) (rows : List Row) (M : History) → TailsSound shape cells actors P callers rows M → TailsSound shape cells actors (settled s0 c0 ∷ P) callers rows M

@@ -125,14 +125,19 @@ module _ (shape : Shape) (locks : NodeLocks) (actors actors' : List Actor) (P : 
     rests = by_actor (λ b. RestsOn shape.buckets (actor_in actors' b).hold (actor_in actors' b) P) a rests others_rest;
   }
 
-  -- another hold over the same pair
-  pub held_locks : ((place : Place) → HasLock (actor_in actors' a) place → HasLock (actor_in actors a) place) → RestsOn shape.buckets (actor_in actors' a).hold (actor_in actors' a) P
-      → LocksSound shape locks actors' P
-  held_locks same rests = record {
+  -- another hold over the same pair, where the others rest on theirs still
+  pub turned_locks : (P' : Trace) → ((place : Place) → HasLock (actor_in actors' a) place → HasLock (actor_in actors a) place) → RestsOn shape.buckets (actor_in actors' a).hold (actor_in actors' a) P'
+      → ((b : ℕ) → b ≢ a → RestsOn shape.buckets (actor_in actors b).hold (actor_in actors b) P') → LocksSound shape locks actors' P'
+  turned_locks P' same rests others_rests = record {
     heads = sound.heads;
     nodes = sound.nodes;
     has = by_actor (λ b. (place : Place) → HasLock (actor_in actors' b) place → owner locks place ≡ b) a
         (λ place h. sound.has a place (same place h))
         (λ b other place h. sound.has b place (others_lock b other place h));
-    rests = by_actor (λ b. RestsOn shape.buckets (actor_in actors' b).hold (actor_in actors' b) P) a rests others_rest;
+    rests = by_actor (λ b. RestsOn shape.buckets (actor_in actors' b).hold (actor_in actors' b) P') a rests
+        (λ b other. subst (λ (q : Actor). RestsOn shape.buckets q.hold q P') (sym (others b other)) (others_rests b other));
   }
+
+  pub held_locks : ((place : Place) → HasLock (actor_in actors' a) place → HasLock (actor_in actors a) place) → RestsOn shape.buckets (actor_in actors' a).hold (actor_in actors' a) P
+      → LocksSound shape locks actors' P
+  held_locks same rests = turned_locks P same rests (λ b other. sound.rests b)

@@ -100,19 +100,32 @@ module _ (callers : List (Option Caller)) (a : ℕ) (caller : Caller) (at : call
         unlisted = λ b one is. let old = number_still b one is in ap (λ (q : ℕ). times q notes.ended) (sym old.2) ∙ h.unlisted b old.0 old.1;
       }
 
-  -- the callers, where the turn publishes nothing and leaves the vault and the pins
+  -- the callers, where each other one's part stays, and the actor has become x
+  pub callers_moved : (shape : Shape) (vault vault' : Vaulted) (pins : List ℕ) (actors actors' : List Actor) (P P' : Trace) (notes notes' : Notes) (x : Actor) (changed : Option ℕ)
+      → length actors' ≡ length actors → actor_in actors' a ≡ x → ((b : ℕ) → b ≢ a → actor_in actors' b ≡ actor_in actors b)
+      → ((b : ℕ) → notes'.begun b ≡ notes.begun b) → notes'.changed a ≡ changed → ((b : ℕ) → b ≢ a → notes'.changed b ≡ notes.changed b)
+      → CallerSound (record { buckets = shape.buckets; passes = shape.passes; format = vault'.format; cells = vault'.cells; dead = vault'.dead; actor = x }) (pin_in pins a) (Some (moved caller next)) (notes.begun a) P' changed
+      → ((b : ℕ) → b ≢ a → CallerSound (view_of shape vault' actors b) (pin_in pins b) (caller_at callers b) (notes.begun b) P' (notes.changed b))
+      → CallersSound shape vault pins actors callers P notes
+      → CallersSound shape vault' pins actors' (moving callers a caller next) P' notes'
+  callers_moved shape vault vault' pins actors actors' P P' notes notes' x changed count hand_a others begun changed_a changed_b mine theirs h = record {
+    count = length-set_of_pass callers a (Some (moved caller next)) ∙ h.count;
+    hands = count ∙ h.hands;
+    each = by_actor (λ b. CallerSound (view_of shape vault' actors' b) (pin_in pins b) (caller_at (moving callers a caller next) b) (notes'.begun b) P' (notes'.changed b)) a
+        (carry shape.buckets shape.passes vault'.format vault'.cells vault'.dead P' x (actor_in actors' a) (pin_in pins a) (pin_in pins a) (Some (moved caller next)) (caller_at (moving callers a caller next) a) (notes.begun a) (notes'.begun a) changed (notes'.changed a)
+        hand_a refl moved_same (begun a) changed_a mine)
+        (λ b other. carry shape.buckets shape.passes vault'.format vault'.cells vault'.dead P' (actor_in actors b) (actor_in actors' b) (pin_in pins b) (pin_in pins b) (caller_at callers b) (caller_at (moving callers a caller next) b) (notes.begun b) (notes'.begun b) (notes.changed b) (notes'.changed b)
+        (others b other) refl (moved_other b other) (begun b) (changed_b b other) (theirs b other));
+  }
+
+  -- as where the turn publishes nothing and leaves the vault and the pins
   pub callers_turn : (shape : Shape) (vault : Vaulted) (pins : List ℕ) (actors actors' : List Actor) (P : Trace) (notes : Notes)
       → length actors' ≡ length actors → ((b : ℕ) → b ≢ a → actor_in actors' b ≡ actor_in actors b)
       → CallerSound (view_of shape vault actors' a) (pin_in pins a) (Some (moved caller next)) (notes.begun a) P (notes.changed a)
       → CallersSound shape vault pins actors callers P notes
       → CallersSound shape vault pins actors' (moving callers a caller next) P notes
-  callers_turn shape vault pins actors actors' P notes count others mine h = record {
-    count = length-set_of_pass callers a (Some (moved caller next)) ∙ h.count;
-    hands = count ∙ h.hands;
-    each = by_actor (λ b. CallerSound (view_of shape vault actors' b) (pin_in pins b) (caller_at (moving callers a caller next) b) (notes.begun b) P (notes.changed b)) a
-        (subst (λ (q : Option Caller). CallerSound (view_of shape vault actors' a) (pin_in pins a) q (notes.begun a) P (notes.changed a)) (sym moved_same) mine)
-        (λ b other. carry shape.buckets shape.passes vault.format vault.cells vault.dead P (actor_in actors b) (actor_in actors' b) (pin_in pins b) (pin_in pins b) (caller_at callers b) (caller_at (moving callers a caller next) b) (notes.begun b) (notes.begun b) (notes.changed b) (notes.changed b) (others b other) refl (moved_other b other) refl refl (h.each b));
-  }
+  callers_turn shape vault pins actors actors' P notes count others mine h =
+      callers_moved shape vault vault pins actors actors' P P notes notes (actor_in actors' a) (notes.changed a) count refl others (λ b. refl) refl (λ b other. refl) mine (λ b other. h.each b) h
 
 -- a pending row is listed
 has_pending : (callers : List (Option Caller)) (changed : ℕ → Option ℕ) (a j : ℕ) (caller : Caller) → caller_at callers a ≡ Some caller → changed a ≡ Some j → (m : ℕ) → 1 ≤ a → a ≤ m → times caller.number (pending callers changed m) ≡ 0 → ⊥

@@ -29,9 +29,11 @@ use Rattle.lz_machine.specs.Notes.{Notes, entries}
 use Rattle.lz_machine.specs.CallersSound.{view_of, IsCut}
 use Rattle.lz_machine.specs.LocksSound.{RestsOn}
 use Rattle.lz_machine.specs.Sound.{TraceSound, Sound}
+use Rattle.lz_machine.specs.SlotsSound.{SlotsSound}
+use Rattle.lz_machine.proofs.Frames.ChainSlots.{reuse_published}
 use Rattle.lz_machine.proofs.Frames.OneActor.{moving}
 use Rattle.lz_machine.proofs.Frames.Publishing.{LeavesCaller, relies_on_node, caller_published}
-use Rattle.lz_machine.proofs.Frames.Flags.{locks_halted, slots_halted, reuse_halted, tails_halted}
+use Rattle.lz_machine.proofs.Frames.Flags.{locks_halted, slots_halted, tails_halted}
 use Rattle.lz_machine.proofs.Ledger.QuietPublishing.{ledger_published}
 use Rattle.lz_machine.proofs.Steps.Walk.{GoesOn}
 use Rattle.lz_machine.proofs.Steps.Hop.{call_at, own, goes_on_keeps}
@@ -61,19 +63,22 @@ module _ (n calls : ℕ) (y : Yard) (callers : List (Option Caller)) (disk : Med
     node = held_node y.shape P (actor_in y.actors b).hold (actor_in y.actors b) sound.trace.lawful (sound.locks.rests b);
   }
 
+  slots : SlotsSound y.shape y.vault.cells y.vault.dead y.uses y.actors (halted ∷ P)
+  slots = slots_halted y.shape y.vault.cells y.vault.dead y.uses y.actors P sound.slots sound.slots.added sound.slots.removed
+
   -- the halt word is set
   pub halted_keeps : (a : ℕ) → Sound n calls (yard_done y (actor_at y a) a Halt) callers disk M (halted ∷ P) notes
   halted_keeps a = record {
     trace = trace_halted y.shape y.words P sound.trace;
     images = sound.images;
-    slots = slots_halted y.shape y.vault.cells y.vault.dead y.uses y.actors P sound.slots sound.slots.added sound.slots.removed;
+    slots = slots;
     locks = locks_halted y.shape y.vault.cells y.vault.dead y.uses y.actors P y.locks (λ b s slot. tt) sound.locks;
     callers = record {
       count = sound.callers.count;
       hands = sound.callers.hands;
       each = λ b. caller_published y.shape.buckets y.shape.slots halted P (tt, sound.trace.lawful) y.shape.passes y.vault.format y.vault.cells y.vault.dead (actor_in y.actors b) (pin_in y.words.pins b) (notes.begun b) (notes.changed b) (leaves b) (caller_at callers b) (sound.callers.each b);
     };
-    reuse = reuse_halted y.shape y.vault.cells y.vault.dead y.uses y.actors P y.words.pins notes.begun sound.slots sound.reuse;
+    reuse = reuse_published y.shape y.vault.cells y.vault.dead y.uses y.actors y.actors halted P y.words.pins notes.begun slots (λ b s slot. slot) sound.reuse;
     ledger = ledger_published n calls y.shape.passes callers halted P M notes tt sound.ledger;
     tails = tails_halted y.shape y.vault.cells y.vault.dead y.uses y.actors P callers (entries y.shape.passes callers notes) M sound.tails;
   }

@@ -6,13 +6,11 @@ use Rattle.std.proofs.lemmas.Bool.{cases_eq}
 use Rattle.std.proofs.lemmas.Bool.Decides.{nat_tests}
 use Rattle.std.proofs.lemmas.Option.{same_Some, none-some}
 use Rattle.lz_slot.specs.declared.command.Command.TheVariants.{Add, Remove}
-use Rattle.lz_slot.specs.Counted.{of_pass, set_of_pass}
+use Rattle.lz_slot.specs.Counted.{set_of_pass}
 use Rattle.lz_slot.specs.Histories.{History}
 use Rattle.lz_slot.proofs.Counted.{length-set_of_pass}
 use Rattle.lz_disk.specs.Images.{Medium}
-use Rattle.lz_allot.specs.declared.sight.Sight.{Sight}
-use Rattle.lz_allot.specs.declared.sight.Sight.TheVariants.{Left}
-use Rattle.lz_allot.specs.Uses.{Free, Taken, Limbo, use_of}
+use Rattle.lz_allot.specs.Uses.{Taken, use_of}
 use Rattle.lz_list.specs.declared.place.Place.{Place}
 use Rattle.lz_list.specs.declared.place.Place.TheVariants.{Node}
 use Rattle.lz_list.specs.declared.publishing.Publishing.TheVariants.{Linked as linked}
@@ -22,7 +20,7 @@ use Rattle.lz_list.specs.Traces.{Trace, Lawful, IsLoose, on, chain_of, bucket_of
 use Rattle.lz_list.proofs.Traces.NodeBits.{on_insert_other, not_yet}
 use Rattle.lz_list.proofs.Traces.WalkEnd.{on_insert}
 use Rattle.lz_list.proofs.Changes.NodeLink.{inserted_on}
-use Rattle.lz_list.specs.Locks.{claimed_places, owner}
+use Rattle.lz_list.specs.Locks.{claimed_places}
 use Rattle.lz_machine.specs.declared.event.Event.TheVariants.{Link}
 use Rattle.lz_machine.specs.declared.actor.Actor.{Actor}
 use Rattle.lz_machine.specs.declared.actor.Hold.{Hold}
@@ -36,16 +34,16 @@ use Rattle.lz_machine.specs.Runs.{Caller, caller_at}
 use Rattle.lz_machine.specs.Kept.{upto}
 use Rattle.lz_machine.specs.Stands.{IsLinkable, InBucket}
 use Rattle.lz_machine.specs.Notes.{Notes, entries}
-use Rattle.lz_machine.specs.SlotsSound.{closes, opens, shuts, unlocks, has_removed_node, IsOut, IsCloser, IsNodeStage, IsHandStage, IsGateOpened, IsGateWritten, SlotStands, is_node, is_held, is_out, is_free, is_limbo, SlotsSound}
+use Rattle.lz_machine.specs.SlotsSound.{closes, unlocks, has_removed_node, IsHandStage, IsGateOpened, IsGateWritten, SlotStands, is_node, SlotsSound}
 use Rattle.lz_machine.specs.LocksSound.{has_locks, HasPlace, HasLock, IsBeside, HasOpened, RestsOn, LocksSound}
 use Rattle.lz_machine.specs.CallersSound.{Relies, HasAdded, view_of, CallerSound, CallersSound}
 use Rattle.lz_machine.specs.LedgerSound.{TailsSound}
 use Rattle.lz_machine.specs.Sound.{ReuseSound, Sound}
-use Rattle.lz_machine.proofs.Frames.ActorTable.{by_actor}
-use Rattle.lz_machine.proofs.Frames.OneActor.{caller_range, moving, moved_same, moved_other, carry, ledger_turn}
-use Rattle.lz_machine.proofs.Frames.Limbo.{seen_step, away_stays}
+use Rattle.lz_machine.proofs.Frames.OneActor.{caller_range, moving, callers_moved, ledger_turn}
+use Rattle.lz_machine.proofs.Frames.ChainSlots.{reuse_published}
+use Rattle.lz_machine.proofs.Frames.NodeLocks.{turned_locks}
+use Rattle.lz_machine.proofs.Frames.OneSlot.{slot_grips, slot_turn}
 use Rattle.lz_machine.proofs.Frames.Publishing.{LeavesCaller, caller_published, key_linking}
-use Rattle.lz_machine.proofs.Steps.Pin.{limbo_loose, free_loose}
 use Rattle.lz_machine.proofs.Frames.Ranges.{on_range, few_slots}
 use Rattle.lz_machine.proofs.Frames.LoadedWord.{key_load}
 use Rattle.lz_machine.proofs.Steps.Halt.{held_node}
@@ -145,35 +143,6 @@ module _ (n calls : ℕ) (y : Yard) (callers : List (Option Caller)) (disk : Med
         (other, (λ it. other (sound.slots.one_hand b a t was (h.1 ∙ ap Some (sym it)))), was)
   ]
 
-  out_before : (b t : ℕ) → IsOut (actor_in actors' b) t → IsOut (actor_in y.actors b) t
-  out_before b t out = elim (cases_eq b a) [
-    | inl same ↦ absurd (false≢true (subst (λ (q : Actor). IsOut q t) hand_a (subst (λ (q : ℕ). IsOut (actor_in actors' q) t) same out)).removed)
-    | inr other ↦ subst (λ (q : Actor). IsOut q t) (hand_b b other) out
-  ]
-
-  out_apart : (b t : ℕ) → IsOut (actor_in y.actors b) t → t ≢ s
-  out_apart b t out it = sound.slots.hand_out a b t (h.1 ∙ ap Some (sym it)) out
-
-  stage_still : (t : ℕ) → IsNodeStage y.vault.cells y.vault.dead y.actors P t → IsNodeStage y.vault.cells y.vault.dead actors' P' t
-  stage_still t (inl opened) = inl opened
-  stage_still t (inr (b, closer, shut)) = elim (cases_eq b a) [
-    | inl same ↦ absurd (false≢true (ap (closes y.vault.dead) (sym h.0) ∙ (subst (λ (q : ℕ). IsCloser y.vault.dead (actor_in y.actors q) t) same closer).closes))
-    | inr other ↦ inr (b, subst (λ (q : Actor). IsCloser y.vault.dead q t) (sym (hand_b b other)) closer, shut)
-  ]
-
-  stands_then : (t : ℕ) → t ≢ s → SlotStands y.shape y.vault.cells y.vault.dead y.uses y.actors P t → SlotStands y.shape y.vault.cells y.vault.dead y.uses actors' P' t
-  stands_then t apart (is_node on_it stage) = is_node (record { there = chain_then (key_word t P) t on_it.there; taken = on_it.taken; key = on_it.key }) (stage_still t stage)
-  stands_then t apart (is_held b slot) = elim (cases_eq b a) [
-    | inl same ↦ absurd (apart (same_Some _ _ (sym (ap (λ (q : ℕ). (actor_in y.actors q).slot) (sym same) ∙ slot) ∙ h.1)))
-    | inr other ↦ is_held b (ap (λ (q : Actor). q.slot) (hand_b b other) ∙ slot)
-  ]
-  stands_then t apart (is_out b out) = elim (cases_eq b a) [
-    | inl same ↦ absurd (false≢true (ap has_removed_node (sym h.0) ∙ (subst (λ (q : ℕ). IsOut (actor_in y.actors q) t) same out).removed))
-    | inr other ↦ is_out b (subst (λ (q : Actor). IsOut q t) (sym (hand_b b other)) out)
-  ]
-  stands_then t apart (is_free loose free stage) = is_free (loose_then t apart loose) free stage
-  stands_then t apart (is_limbo sights loose limbo stage) = is_limbo sights (loose_then t apart loose) limbo stage
-
   stands_s : SlotStands y.shape y.vault.cells y.vault.dead y.uses actors' P' s
   stands_s = is_node (record { there = subst (λ (q : ℕ). on 0 (chain_of y.shape.buckets q P') (suc s) ≡ true) (sym h.2) there; taken = taken_s; key = key_s }) (inl (ready.no_mark, opened_s))
 
@@ -188,42 +157,35 @@ module _ (n calls : ℕ) (y : Yard) (callers : List (Option Caller)) (disk : Med
   none_removed j same flag = false≢true (sym (not_yet (suc (length P)) P (omega arith)).1 ∙ ap (λ (q : ℕ). is_removed q P) (sym new_linking) ∙ ap (λ (q : ℕ). is_removed (linking q P') P) (sym same) ∙ flag)
 
   linked_slots : SlotsSound y.shape y.vault.cells y.vault.dead y.uses actors' P'
-  linked_slots = record {
-    count = sound.slots.count;
-    each = λ t within. elim (cases_eq t s) [
-      | inl same ↦ subst (SlotStands y.shape y.vault.cells y.vault.dead y.uses actors' P') (sym same) stands_s
-      | inr other ↦ stands_then t other (sound.slots.each t within)
-    ];
-    hand = λ b t slot.
-        let old = held_then b t slot in
-        let was = sound.slots.hand b t old.2 in
-        record { in_range = was.in_range; loose = loose_then t old.1 was.loose; taken = was.taken; stage = hand_stage b t old.0 was.stage };
-    out = λ b t out. let was = sound.slots.out b t (out_before b t out) in record { in_range = was.in_range; loose = loose_then t (out_apart b t (out_before b t out)) was.loose; taken = was.taken; stage = was.stage };
-    one_hand = λ b d t one two. sound.slots.one_hand b d t (held_then b t one).2 (held_then d t two).2;
-    one_out = λ b d t one two. sound.slots.one_out b d t (out_before b t one) (out_before d t two);
-    hand_out = λ b d t hand out. sound.slots.hand_out b d t (held_then b t hand).2 (out_before d t out);
-    opened = λ b t slot is'. let old = held_then b t slot in sound.slots.opened b t old.2 (ap (λ (q : Actor). unlocks q.hold) (sym (hand_b b old.0)) ∙ is');
-    closed = λ b t here shut. elim (cases_eq b a) [
-      | inl same ↦ absurd (false≢true (ap (λ (q : Actor). shuts q.hold) (sym hand_a) ∙ ap (λ (q : ℕ). shuts (actor_in actors' q).hold) (sym same) ∙ shut))
-      | inr other ↦ sound.slots.closed b t (ap (λ (q : Actor). q.curr) (sym (hand_b b other)) ∙ here) (ap (λ (q : Actor). shuts q.hold) (sym (hand_b b other)) ∙ shut)
-    ];
-    added = λ j t key on_it flag. elim (cases_eq t s) [
-      | inl same ↦ absurd (none_settled j (sym key ∙ ap (λ (q : ℕ). key_word q P) same ∙ h.2) flag)
-      | inr other ↦
-          let old = chain_before j t other on_it in
-          sound.slots.added j t key old (ap (λ (q : ℕ). is_settled q P) (sym (key_linking y.shape.buckets y.shape.slots (linked k s a) P law j t old key)) ∙ flag)
-    ];
-    removed = λ j t key on_it flag. elim (cases_eq t s) [
-      | inl same ↦ absurd (none_removed j (sym key ∙ ap (λ (q : ℕ). key_word q P) same ∙ h.2) flag)
-      | inr other ↦
-          let old = chain_before j t other on_it in
-          sound.slots.removed j t key old (ap (λ (q : ℕ). is_removed q P) (sym (key_linking y.shape.buckets y.shape.slots (linked k s a) P law j t old key)) ∙ flag)
-    ];
-  }
-    where
-      hand_stage : (b t : ℕ) → b ≢ a → IsHandStage y.vault.cells y.vault.dead (actor_in y.actors b) P t → IsHandStage y.vault.cells y.vault.dead (actor_in actors' b) P' t
-      hand_stage b t other (inl shut) = inl shut
-      hand_stage b t other (inr opened) = inr (ap (λ (q : Actor). opens y.vault.dead q.hold) (hand_b b other) ∙ opened.0, opened.1, opened.2)
+  linked_slots =
+      slot_turn y.shape y.vault.cells y.vault.cells y.vault.dead y.vault.dead y.uses y.uses y.actors actors' P P' a s x hand_a hand_b (λ e. e)
+      (slot_grips y.vault.dead y.vault.dead s (actor_in y.actors a) x (λ t apart slot. apart (same_Some _ _ (sym slot ∙ h.1))) (λ t apart slot. none-some _ slot)
+      (ap (closes y.vault.dead) h.0) (ap has_removed_node h.0) refl refl) (λ t apart. refl) (λ t apart. refl)
+      (record { loose = loose_then; word = λ t apart. refl; mark = λ t apart. refl; chain = λ t apart on_it. chain_then (key_word t P) t on_it })
+      (record {
+        stands = stands_s;
+        hand = λ slot. absurd (none-some _ slot);
+        out = λ out. absurd (false≢true out.removed);
+        hand_out = λ slot out. none-some _ slot;
+        opened = λ slot e. absurd (none-some _ slot);
+        closed = λ curr e. absurd (false≢true e);
+        no_other_hand = λ b other slot. other (sound.slots.one_hand b a s slot h.1);
+        no_other_out = λ b other out. sound.slots.hand_out a b s h.1 out;
+        others_closed = λ b other curr e. sound.slots.closed b s curr e;
+      })
+      refl sound.slots
+      (λ j t key on_it flag. elim (cases_eq t s) [
+        | inl same ↦ absurd (none_settled j (sym key ∙ ap (λ (q : ℕ). key_word q P) same ∙ h.2) flag)
+        | inr other ↦
+            let old = chain_before j t other on_it in
+            sound.slots.added j t key old (ap (λ (q : ℕ). is_settled q P) (sym (key_linking y.shape.buckets y.shape.slots (linked k s a) P law j t old key)) ∙ flag)
+      ])
+      (λ j t key on_it flag. elim (cases_eq t s) [
+        | inl same ↦ absurd (none_removed j (sym key ∙ ap (λ (q : ℕ). key_word q P) same ∙ h.2) flag)
+        | inr other ↦
+            let old = chain_before j t other on_it in
+            sound.slots.removed j t key old (ap (λ (q : ℕ). is_removed q P) (sym (key_linking y.shape.buckets y.shape.slots (linked k s a) P law j t old key)) ∙ flag)
+      ])
 
   my_lock : (q : Place) → HasPlace q (claimed_places (actor_at y a).pred (actor_at y a).curr) → HasLock (actor_in y.actors a) q
   my_lock q among = record { locks = ap has_locks h.0; among = among }
@@ -236,38 +198,13 @@ module _ (n calls : ℕ) (y : Yard) (callers : List (Option Caller)) (disk : Med
       other (sym (sound.locks.has b (actor_at y a).pred (subst (HasLock (actor_in y.actors b)) one theirs)) ∙ sound.locks.has a (actor_at y a).pred (my_lock (actor_at y a).pred (first_place (actor_at y a).pred (actor_at y a).curr)))
 
   linked_locks : LocksSound y.shape y.locks actors' P'
-  linked_locks = record {
-    heads = sound.locks.heads;
-    nodes = sound.locks.nodes;
-    has = by_actor (λ b. (q : Place) → HasLock (actor_in actors' b) q → owner y.locks q ≡ b) a
-        (λ q lock. sound.locks.has a q (my_lock q (subst (λ (z : Actor). HasLock z q) hand_a lock).among))
-        (λ b other q lock. sound.locks.has b q (subst (λ (z : Actor). HasLock z q) (hand_b b other) lock));
-    rests = by_actor (λ b. RestsOn y.shape.buckets (actor_in actors' b).hold (actor_in actors' b) P') a
-        (subst (λ (q : Actor). RestsOn y.shape.buckets q.hold q P') (sym hand_a) tt)
-        (λ b other. subst (λ (q : Actor). RestsOn y.shape.buckets q.hold q P') (sym (hand_b b other))
-        (pair_published y.shape.buckets (linked k s a) (actor_in y.actors b) P (λ rest. linked_leaves y.shape.buckets y.shape.slots k s a (actor_in y.actors b) P sound.trace.lawful (pred_apart b other rest) (λ t slot it. other (sound.slots.one_hand b a t slot (h.1 ∙ ap Some (sym it))))) (sound.locks.rests b)));
-  }
-
-  limbo_apart : (t : ℕ) (seen : List Sight) → use_of y.uses t ≡ Limbo seen → t ≢ s
-  limbo_apart t seen limbo it = clash (sym taken_s ∙ ap (use_of y.uses) (sym it) ∙ limbo)
-    where
-      clash : Taken ≡ Limbo seen → ⊥
-      clash e = absurd cc
-
-  free_apart : (t : ℕ) → use_of y.uses t ≡ Free → t ≢ s
-  free_apart t free it = clash (sym taken_s ∙ ap (use_of y.uses) (sym it) ∙ free)
-    where
-      clash : Taken ≡ Free → ⊥
-      clash e = absurd cc
+  linked_locks = turned_locks y.shape y.locks y.actors actors' P a hand_b sound.locks P'
+      (λ q lock. my_lock q (subst (λ (z : Actor). HasLock z q) hand_a lock).among)
+      (subst (λ (q : Actor). RestsOn y.shape.buckets q.hold q P') (sym hand_a) tt)
+      (λ b other. pair_published y.shape.buckets (linked k s a) (actor_in y.actors b) P (λ rest. linked_leaves y.shape.buckets y.shape.slots k s a (actor_in y.actors b) P sound.trace.lawful (pred_apart b other rest) (λ t slot it. other (sound.slots.one_hand b a t slot (h.1 ∙ ap Some (sym it))))) (sound.locks.rests b))
 
   linked_reuse : ReuseSound y.shape y.words.pins y.uses actors' P' notes.begun
-  linked_reuse = record {
-    worn = sound.reuse.worn;
-    sights = sound.reuse.sights;
-    seen = λ b t seen limbo. seen_step y.shape.buckets t (pin_in y.words.pins b) (notes.begun b) (linked k s a) P (of_pass seen b Left) (loose_then t (limbo_apart t seen limbo) (limbo_loose y.shape y.vault.cells y.vault.dead y.uses y.actors P t seen sound.slots limbo)) (sound.reuse.seen b t seen limbo);
-    free = λ b t free inside. away_stays y.shape.buckets t (notes.begun b) (linked k s a) P (loose_then t (free_apart t free) (free_loose y.shape y.vault.cells y.vault.dead y.uses y.actors P t sound.slots free)) (sound.reuse.free b t free inside);
-    reserved = λ b d t slot inside. let old = held_then d t slot in away_stays y.shape.buckets t (notes.begun b) (linked k s a) P (loose_then t old.1 (sound.slots.hand d t old.2).loose) (sound.reuse.reserved b d t old.2 inside);
-  }
+  linked_reuse = reuse_published y.shape y.vault.cells y.vault.dead y.uses y.actors actors' (linked k s a) P y.words.pins notes.begun linked_slots (λ b t slot. (held_then b t slot).2) sound.reuse
 
   leaves : (b : ℕ) → LeavesCaller y.shape.buckets y.shape.slots (linked k s a) P law (actor_in y.actors b) (pin_in y.words.pins b) (notes.begun b)
   leaves b = record {
@@ -298,19 +235,16 @@ module _ (n calls : ℕ) (y : Yard) (callers : List (Option Caller)) (disk : Med
       }
 
   linked_callers : CallersSound y.shape y.vault y.words.pins actors' callers' P' notes'
-  linked_callers = record {
-    count = length-set_of_pass callers a _ ∙ sound.callers.count;
-    hands = length-set_of_pass y.actors a x ∙ sound.callers.hands;
-    each = by_actor (λ b. CallerSound (view_of y.shape y.vault actors' b) (pin_in y.words.pins b) (caller_at callers' b) (notes'.begun b) P' (notes'.changed b)) a
-        (carry y.shape.buckets y.shape.passes y.vault.format y.vault.cells y.vault.dead P' x (actor_in actors' a) (pin_in y.words.pins a) (pin_in y.words.pins a) (Some (call_at i (Add k) (Playing (Adding s) 2))) (caller_at callers' a) (notes.begun a) (notes.begun a) (Some (length P)) (notes'.changed a) hand_a refl (moved_same callers a (call_at i (Add k) at) is (Playing (Adding s) 2)) refl (changed_same notes a (length P))
-        (record {
-          quiet = λ inside. (tt, me.quiet inside);
-          begins = λ inside. inr (me.begins inside);
-          stands = (me.stands.0, me.stands.1, (refl, my_node));
-        }))
-        (λ b other. carry y.shape.buckets y.shape.passes y.vault.format y.vault.cells y.vault.dead P' (actor_in y.actors b) (actor_in actors' b) (pin_in y.words.pins b) (pin_in y.words.pins b) (caller_at callers b) (caller_at callers' b) (notes.begun b) (notes.begun b) (notes.changed b) (notes'.changed b) (hand_b b other) refl (moved_other callers a (call_at i (Add k) at) is (Playing (Adding s) 2) b other) refl (changed_other notes a (length P) b other)
-        (caller_published y.shape.buckets y.shape.slots (linked k s a) P law y.shape.passes y.vault.format y.vault.cells y.vault.dead (actor_in y.actors b) (pin_in y.words.pins b) (notes.begun b) (notes.changed b) (leaves b) (caller_at callers b) (sound.callers.each b)));
-  }
+  linked_callers =
+      callers_moved callers a (call_at i (Add k) at) is (Playing (Adding s) 2) y.shape y.vault y.vault y.words.pins y.actors actors' P P' notes notes' x (Some (length P))
+      (length-set_of_pass y.actors a x) hand_a hand_b (λ b. refl) (changed_same notes a (length P)) (changed_other notes a (length P))
+      (record {
+        quiet = λ inside. (tt, me.quiet inside);
+        begins = λ inside. inr (me.begins inside);
+        stands = (me.stands.0, me.stands.1, (refl, my_node));
+      })
+      (λ b other. caller_published y.shape.buckets y.shape.slots (linked k s a) P law y.shape.passes y.vault.format y.vault.cells y.vault.dead (actor_in y.actors b) (pin_in y.words.pins b) (notes.begun b) (notes.changed b) (leaves b) (caller_at callers b) (sound.callers.each b))
+      sound.callers
 
   in_passes : a ≤ y.shape.passes
   in_passes = omega (arith, (caller_range callers a (call_at i (Add k) at) is).1, sound.callers.count)

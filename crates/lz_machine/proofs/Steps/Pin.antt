@@ -1,8 +1,6 @@
 -- A pass that goes in keeps the invariant: a pin, and the first half of a look. So does one that only looked and goes out.
-use Rattle.std.proofs.Common.{◌≡◌, ◌≢◌, inl, inr, ℕ, suc, ◌<◌, ◌≤◌, ◌+◌, ◌%◌, ◌==◌, if◌then◌else◌, Bool, true, List, [], ◌∷◌, length, Option, Some, None, refl, sym, ap, ◌∙◌, subst, arith}
-use Rattle.std.proofs.lemmas.Bool.{cases_lt}
+use Rattle.std.proofs.Common.{◌≡◌, ◌≢◌, inl, inr, ℕ, suc, ◌≤◌, ◌+◌, ◌%◌, ◌==◌, if◌then◌else◌, Bool, true, List, [], ◌∷◌, length, Option, Some, None, refl, sym, ap, ◌∙◌, subst, arith}
 use Rattle.std.proofs.lemmas.Bool.Decides.{eqb_tells}
-use Rattle.std.proofs.lemmas.List.{get_or_past}
 use Rattle.lz_slot.specs.declared.command.Command.{Command}
 use Rattle.lz_slot.specs.Counted.{of_pass, set_of_pass}
 use Rattle.lz_slot.specs.Histories.{History}
@@ -11,12 +9,12 @@ use Rattle.lz_disk.specs.Images.{Medium}
 use Rattle.lz_vault.specs.Stages.{Cell}
 use Rattle.lz_allot.specs.declared.sight.Sight.{Sight}
 use Rattle.lz_allot.specs.declared.sight.Sight.TheVariants.{Left}
-use Rattle.lz_allot.specs.Uses.{Use, Free, Taken, Limbo, use_of}
+use Rattle.lz_allot.specs.Uses.{Use, Free, Limbo, use_of}
 use Rattle.lz_list.specs.declared.publishing.Publishing.{Publishing}
 use Rattle.lz_list.specs.declared.publishing.Publishing.TheVariants.{KeyPrepared as key_prepared, LinkPrepared as link_prepared}
 use Rattle.lz_list.specs.declared.word.Word.TheVariants.{Pin as pin_at}
 use Rattle.lz_list.specs.Words.{Words, get, set}
-use Rattle.lz_list.specs.Traces.{Trace, IsLoose, on, chain}
+use Rattle.lz_list.specs.Traces.{Trace, on, chain}
 use Rattle.lz_list.specs.Pinned.{Stood, IsKept, IsQuiet}
 use Rattle.lz_list.proofs.Traces.Absence.{begins_itself}
 use Rattle.lz_list.proofs.Traces.Hindsight.{once_begins}
@@ -33,16 +31,15 @@ use Rattle.lz_machine.specs.Runs.{Caller, caller_at, with_words}
 use Rattle.lz_machine.specs.Limbo.{IsAway, IsRightSight}
 use Rattle.lz_machine.specs.Notes.{Notes}
 use Rattle.lz_machine.specs.CallersSound.{view_of, CallerSound, CallersSound}
-use Rattle.lz_machine.specs.SlotsSound.{SlotStands, is_node, is_held, is_out, is_free, is_limbo, SlotsSound}
+use Rattle.lz_machine.specs.SlotsSound.{SlotsSound}
 use Rattle.lz_machine.specs.LedgerSound.{LedgerSound}
 use Rattle.lz_machine.specs.Sound.{ReuseSound, TraceSound, Sound}
 use Rattle.lz_machine.proofs.Frames.ActorTable.{by_actor}
 use Rattle.lz_machine.proofs.Frames.Limbo.{away_new, seen_pin, seen_leave, shorter}
 use Rattle.lz_machine.proofs.Frames.OneActor.{moving, moved_same, moved_other, carry, ledger_turn}
 use Rattle.lz_machine.proofs.Frames.SameYard.{going_keeps, tails_turn}
-use Rattle.lz_machine.proofs.Steps.Reserve.{free_stands}
+use Rattle.lz_machine.proofs.Frames.ChainSlots.{limbo_loose, free_loose}
 use Rattle.lz_machine.proofs.Steps.Hop.{call_at, own}
-use Rattle.lz_machine.proofs.Frames.Uses.{free_limbo}
 use mathlib.Core.Bool.{false≢true}
 
 -- at its pin nothing that stood since was prepared again
@@ -57,36 +54,6 @@ quiet_new buckets P0 (e ∷ Q) le = (kept e, quiet_new buckets P0 Q (omega (arit
     kept (key_prepared s v) = λ b stood. none b s stood
     kept (link_prepared s v) = λ b stood. none b s stood
     kept _ = tt
-
-taken_limbo : {u : Use} {sights : List Sight} → u ≡ Limbo sights → u ≡ Taken → ⊥
-taken_limbo {u} {sights} a b = absurd (clash (sym a ∙ b))
-  where
-    clash : Limbo sights ≡ Taken → ⊥
-    clash e = absurd cc
-
--- a use that isn't taken is one of a slot of the table
-use_range : (uses : List Use) (s : ℕ) → (use_of uses s ≡ Taken → ⊥) → s < length uses
-use_range uses s not_taken = elim (cases_lt s (length uses)) [
-  | inl lt ↦ lt
-  | inr past ↦ absurd (not_taken (get_or_past uses s Taken past))
-]
-
--- a slot in limbo is on no chain
-pub limbo_loose : (shape : Shape) (cells : List Cell) (dead : Bool) (uses : List Use) (actors : List Actor) (P : Trace) (s : ℕ) (sights : List Sight) → SlotsSound shape cells dead uses actors P → use_of uses s ≡ Limbo sights → IsLoose shape.buckets s P
-limbo_loose shape cells dead uses actors P s sights h limbo = go (h.each s (omega (arith, use_range uses s (taken_limbo limbo), h.count)))
-  where
-    go : SlotStands shape cells dead uses actors P s → IsLoose shape.buckets s P
-    go (is_node chain stage) = absurd (taken_limbo limbo chain.taken)
-    go (is_held b slot) = absurd (taken_limbo limbo (h.hand b s slot).taken)
-    go (is_out b out) = absurd (taken_limbo limbo (h.out b s out).taken)
-    go (is_free loose is stage) = absurd (free_limbo (sym is ∙ limbo))
-    go (is_limbo seen loose is stage) = loose
-
-pub free_loose : (shape : Shape) (cells : List Cell) (dead : Bool) (uses : List Use) (actors : List Actor) (P : Trace) (s : ℕ) → SlotsSound shape cells dead uses actors P → use_of uses s ≡ Free → IsLoose shape.buckets s P
-free_loose shape cells dead uses actors P s h free = (free_stands shape cells dead uses actors P s h (omega (arith, use_range uses s (λ taken. taken_free (sym taken ∙ free)), h.count)) free).0
-  where
-    taken_free : Taken ≡ Free → ⊥
-    taken_free e = absurd cc
 
 -- notes in which a pass has gone in now
 abbrev pub begins_now : Notes → ℕ → Trace → Notes
@@ -145,7 +112,7 @@ module _ (shape : Shape) (cells : List Cell) (dead : Bool) (pins : List ℕ) (us
         subst (λ (q : ℕ). IsRightSight shape.buckets q ((begins_now notes a P).begun a) P s (of_pass seen a Left)) (sym pin_same)
         (subst (λ (q : Trace). IsRightSight shape.buckets (v + 1) q P s (of_pass seen a Left)) (sym (begun_same notes a P))
         (subst (λ (q : ℕ). IsRightSight shape.buckets q P P s (of_pass seen a Left)) next_is
-        (seen_pin shape.buckets s v (notes.begun a) P (of_pass seen a Left) (limbo_loose shape cells dead uses actors P s seen slots limbo) (reuse.seen a s seen limbo)))))
+        (seen_pin shape.buckets s v (notes.begun a) P (of_pass seen a Left) (limbo_loose shape cells dead uses actors P s slots seen limbo) (reuse.seen a s seen limbo)))))
         (λ b other s seen limbo.
         subst (λ (q : ℕ). IsRightSight shape.buckets q ((begins_now notes a P).begun b) P s (of_pass seen b Left)) (sym (pin_other b other))
         (subst (λ (q : Trace). IsRightSight shape.buckets (pin_in pins b) q P s (of_pass seen b Left)) (sym (begun_other notes a P b other)) (reuse.seen b s seen limbo)));

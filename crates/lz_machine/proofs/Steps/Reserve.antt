@@ -9,14 +9,11 @@ use Rattle.lz_slot.specs.Counted.{set_of_pass}
 use Rattle.lz_slot.specs.Histories.{History}
 use Rattle.lz_slot.proofs.Counted.{length-set_of_pass}
 use Rattle.lz_disk.specs.Images.{Medium}
-use Rattle.lz_vault.specs.declared.vault.Stage.{Stage}
-use Rattle.lz_vault.specs.declared.vault.Stage.TheVariants.{Closed, KeyLoose, Keyed, Opening, Open}
-use Rattle.lz_vault.specs.Stages.{Cell}
 use Rattle.lz_allot.specs.declared.sight.Sight.{Sight}
 use Rattle.lz_allot.specs.Uses.{Use, Free, Taken, Limbo, use_of, collect, see_pin, lowest_free, take_slot, is_free as is_free_use, counts}
 use Rattle.lz_list.specs.declared.word.Word.TheVariants.{Pin as pin_at}
 use Rattle.lz_list.specs.Words.{get}
-use Rattle.lz_list.specs.Traces.{Trace, IsLoose}
+use Rattle.lz_list.specs.Traces.{Trace}
 use Rattle.lz_machine.specs.declared.event.Event.TheVariants.{Reserve, SeePin}
 use Rattle.lz_machine.specs.declared.event.Outcome.TheVariants.{Done, NoSlot}
 use Rattle.lz_machine.specs.declared.event.Reply.TheVariants.{Full}
@@ -25,14 +22,14 @@ use Rattle.lz_machine.specs.declared.actor.Hold.{Hold}
 use Rattle.lz_machine.specs.declared.actor.Hold.TheVariants.{Nothing}
 use Rattle.lz_machine.specs.declared.caller.Progress.{Progress}
 use Rattle.lz_machine.specs.declared.caller.Progress.TheVariants.{Reserving, SeeingPins}
-use Rattle.lz_machine.specs.Yards.{Yard, Shape, actor_at, actor_in, pin_in, cell_in, stage_in}
+use Rattle.lz_machine.specs.Yards.{Yard, actor_at, actor_in, pin_in, cell_in, stage_in}
 use Rattle.lz_machine.specs.Table.{with_slot, reserved, slot_found, yard_done, outcome_of}
 use Rattle.lz_machine.specs.Calls.{progress_after, after_see_pin, after_reserve}
 use Rattle.lz_machine.specs.Runs.{Caller, caller_at}
 use Rattle.lz_machine.specs.Limbo.{IsAway}
 use Rattle.lz_slot.specs.Sets.{key_of}
 use Rattle.lz_machine.specs.Notes.{Notes}
-use Rattle.lz_machine.specs.SlotsSound.{IsGateClosed, closes, opens, shuts, unlocks, has_removed_node, IsOut, IsCloser, IsNodeStage, IsHandStage, SlotStands, is_node, is_held, is_out, is_free, is_limbo, IsInHand, SlotsSound, IsGateOpened}
+use Rattle.lz_machine.specs.SlotsSound.{closes, opens, shuts, unlocks, has_removed_node, is_held, SlotsSound, IsGateOpened}
 use Rattle.lz_machine.specs.LocksSound.{HasLock, RestsOn}
 use Rattle.lz_machine.specs.CallersSound.{IsAdder, MayAnswer, CallerSound, is_before_pin, side_of, WasAbsent}
 use Rattle.lz_machine.specs.Sound.{ReuseSound, Sound}
@@ -45,7 +42,10 @@ use Rattle.lz_machine.proofs.Frames.Hand.{range, same_hand, other_hand, hands_ke
 use Rattle.lz_machine.proofs.Frames.Grip.{fresh_grip}
 use Rattle.std.proofs.lemmas.List.Quantifiers.{position-Some}
 use Rattle.std.proofs.lemmas.Option.{same_Some, none-some}
-use Rattle.lz_machine.proofs.Frames.Uses.{KeepsUses, slots_uses, seen_keeps, seen_reuse, collect_keeps, collect_reuse, free_limbo}
+use Rattle.lz_machine.proofs.Frames.BesideKey.{opened_shut}
+use Rattle.lz_machine.proofs.Frames.ChainSlots.{free_taken, free_stands}
+use Rattle.lz_machine.proofs.Frames.OneSlot.{slot_grips, same_nodes, slot_turn}
+use Rattle.lz_machine.proofs.Frames.Uses.{KeepsUses, slots_uses, seen_keeps, seen_reuse, collect_keeps, collect_reuse}
 
 -- the yard with other uses
 abbrev pub with_uses : Yard → List Use → Yard
@@ -85,23 +85,6 @@ take_same uses s lt = get_or-set_same uses s Taken Taken lt
 take_other : (uses : List Use) (s t : ℕ) → t ≢ s → use_of (take_slot uses s) t ≡ use_of uses t
 take_other uses s t other = get_or-set_other uses s t Taken Taken other
 
-free_taken : {u : Use} → u ≡ Free → u ≡ Taken → ⊥
-free_taken a b = absurd (clash (sym a ∙ b))
-  where
-    clash : Free ≡ Taken → ⊥
-    clash e = absurd cc
-
--- a free slot is on no chain, and its gate is surely closed
-pub free_stands : (shape : Shape) (cells : List Cell) (dead : Bool) (uses : List Use) (actors : List Actor) (P : Trace) (s : ℕ) → SlotsSound shape cells dead uses actors P → s < shape.slots → use_of uses s ≡ Free → IsLoose shape.buckets s P × IsGateClosed (stage_in cells s)
-free_stands shape cells dead uses actors P s h lt free = go (h.each s lt)
-  where
-    go : SlotStands shape cells dead uses actors P s → IsLoose shape.buckets s P × IsGateClosed (stage_in cells s)
-    go (is_node chain stage) = absurd (free_taken free chain.taken)
-    go (is_held b slot) = absurd (free_taken free (h.hand b s slot).taken)
-    go (is_out b out) = absurd (free_taken free (h.out b s out).taken)
-    go (is_free loose is stage) = (loose, stage)
-    go (is_limbo sights loose limbo stage) = absurd (free_limbo (sym free ∙ limbo))
-
 -- an actor with nothing in hand takes a free slot
 module _ (n calls : ℕ) (y : Yard) (callers : List (Option Caller)) (disk : Medium) (M : History) (P : Trace) (notes : Notes) (a i : ℕ) (c : Command) (at : Progress) (is : caller_at callers a ≡ Some (call_at i c at)) (sound : Sound n calls y callers disk M P notes) (s : ℕ) (lt : s < length y.uses) (free : use_of y.uses s ≡ Free) (nothing : (actor_at y a).hold ≡ Nothing) (no_slot : (actor_at y a).slot ≡ None) where
   abbrev x : Actor
@@ -122,16 +105,6 @@ module _ (n calls : ℕ) (y : Yard) (callers : List (Option Caller)) (disk : Med
   in_it : s < y.shape.slots
   in_it = omega (arith, lt, sound.slots.count)
 
-  -- what the actor had of a slot before
-  none_held : (t : ℕ) → (actor_in y.actors a).slot ≡ Some t → ⊥
-  none_held t h = none-some _ (sym no_slot ∙ h)
-
-  none_out : (t : ℕ) → IsOut (actor_in y.actors a) t → ⊥
-  none_out t h = false≢true (ap has_removed_node (sym nothing) ∙ h.removed)
-
-  none_closed : (t : ℕ) → IsCloser y.vault.dead (actor_in y.actors a) t → ⊥
-  none_closed t h = false≢true (ap (closes y.vault.dead) (sym nothing) ∙ h.closes)
-
   -- each slot in a hand, after it: the one that was taken, or one of before
   held_then : (b t : ℕ) → (actor_in actors' b).slot ≡ Some t → ((b ≡ a) × (t ≡ s)) ⊎ ((b ≢ a) × (t ≢ s) × ((actor_in y.actors b).slot ≡ Some t))
   held_then b t h = elim (cases_eq b a) [
@@ -141,82 +114,24 @@ module _ (n calls : ℕ) (y : Yard) (callers : List (Option Caller)) (disk : Med
         inr (other, (λ it. free_taken free (ap (use_of y.uses) (sym it) ∙ (sound.slots.hand b t was).taken)), was)
   ]
 
-  out_then : (b t : ℕ) → IsOut (actor_in actors' b) t → (b ≢ a) × (t ≢ s) × IsOut (actor_in y.actors b) t
-  out_then b t h = elim (cases_eq b a) [
-    | inl same ↦
-        let mine = subst (λ (q : Actor). IsOut q t) hand_a (subst (λ (q : ℕ). IsOut (actor_in actors' q) t) same h) in
-        absurd (false≢true (ap has_removed_node (sym nothing) ∙ mine.removed))
-    | inr other ↦
-        let was = subst (λ (q : Actor). IsOut q t) (hand_b b other) h in
-        (other, (λ it. free_taken free (ap (use_of y.uses) (sym it) ∙ (sound.slots.out b t was).taken)), was)
-  ]
-
-  taken_still : (t : ℕ) → use_of y.uses t ≡ Taken → use_of uses' t ≡ Taken
-  taken_still t h = take_other y.uses s t (λ it. free_taken free (ap (use_of y.uses) (sym it) ∙ h)) ∙ h
-
-  stage_still : (t : ℕ) → IsNodeStage y.vault.cells y.vault.dead y.actors P t → IsNodeStage y.vault.cells y.vault.dead actors' P t
-  stage_still t (inl opened) = inl opened
-  stage_still t (inr (b, closer, written)) = elim (cases_eq b a) [
-    | inl same ↦ absurd (none_closed t (subst (λ (q : ℕ). IsCloser y.vault.dead (actor_in y.actors q) t) same closer))
-    | inr other ↦ inr (b, subst (λ (q : Actor). IsCloser y.vault.dead q t) (sym (hand_b b other)) closer, written)
-  ]
-
-  stands_then : (t : ℕ) → t ≢ s → SlotStands y.shape y.vault.cells y.vault.dead y.uses y.actors P t → SlotStands y.shape y.vault.cells y.vault.dead uses' actors' P t
-  stands_then t apart (is_node chain stage) = is_node (record { there = chain.there; taken = taken_still t chain.taken; key = chain.key }) (stage_still t stage)
-  stands_then t apart (is_held b slot) = elim (cases_eq b a) [
-    | inl same ↦ absurd (none_held t (ap (λ (q : ℕ). (actor_in y.actors q).slot) (sym same) ∙ slot))
-    | inr other ↦ is_held b (ap (λ (q : Actor). q.slot) (hand_b b other) ∙ slot)
-  ]
-  stands_then t apart (is_out b out) = elim (cases_eq b a) [
-    | inl same ↦ absurd (none_out t (subst (λ (q : ℕ). IsOut (actor_in y.actors q) t) same out))
-    | inr other ↦ is_out b (subst (λ (q : Actor). IsOut q t) (sym (hand_b b other)) out)
-  ]
-  stands_then t apart (is_free loose is' stage) = is_free loose (take_other y.uses s t apart ∙ is') stage
-  stands_then t apart (is_limbo sights loose limbo stage) = is_limbo sights loose (take_other y.uses s t apart ∙ limbo) stage
-
   take_slots : SlotsSound y.shape y.vault.cells y.vault.dead uses' actors' P
   take_slots =
-      let h = sound.slots in
-      let mine = free_stands y.shape y.vault.cells y.vault.dead y.uses y.actors P s h in_it free in
-      record {
-        count = length-set y.uses s Taken ∙ h.count;
-        each = λ t within. elim (cases_eq t s) [
-          | inl same ↦ is_held a (ap (λ (q : Actor). q.slot) hand_a ∙ ap Some (sym same))
-          | inr other ↦ stands_then t other (h.each t within)
-        ];
-        hand = λ b t slot. elim (held_then b t slot) [
-          | inl new ↦ subst (λ (q : ℕ). IsInHand y.shape y.vault.cells y.vault.dead uses' (actor_in actors' b) P q) (sym new.1) (record { in_range = in_it; loose = mine.0; taken = take_same y.uses s lt; stage = inl mine.1 })
-          | inr old ↦
-              let was = h.hand b t old.2 in
-              record { in_range = was.in_range; loose = was.loose; taken = taken_still t was.taken; stage = subst (λ (q : Actor). IsHandStage y.vault.cells y.vault.dead q P t) (sym (hand_b b old.0)) was.stage }
-        ];
-        out = λ b t out. let old = out_then b t out in let was = h.out b t old.2 in record { in_range = was.in_range; loose = was.loose; taken = taken_still t was.taken; stage = was.stage };
-        one_hand = λ b d t one two. elim (held_then b t one) [
-          | inl new ↦ elim (held_then d t two) [
-            | inl too ↦ new.0 ∙ sym too.0
-            | inr old ↦ absurd (old.1 new.1)
-          ]
-          | inr old ↦ elim (held_then d t two) [
-            | inl new ↦ absurd (old.1 new.1)
-            | inr too ↦ h.one_hand b d t old.2 too.2
-          ]
-        ];
-        one_out = λ b d t one two. h.one_out b d t (out_then b t one).2 (out_then d t two).2;
-        hand_out = λ b d t hand out. elim (held_then b t hand) [
-          | inl new ↦ (out_then d t out).1 new.1
-          | inr old ↦ h.hand_out b d t old.2 (out_then d t out).2
-        ];
-        opened = λ b t slot is'. elim (cases_eq b a) [
-          | inl same ↦ absurd (false≢true (ap unlocks (sym nothing) ∙ ap (λ (q : Actor). unlocks q.hold) (sym hand_a) ∙ ap (λ (q : ℕ). unlocks (actor_in actors' q).hold) (sym same) ∙ is'))
-          | inr other ↦ h.opened b t (ap (λ (q : Actor). q.slot) (sym (hand_b b other)) ∙ slot) (ap (λ (q : Actor). unlocks q.hold) (sym (hand_b b other)) ∙ is')
-        ];
-        closed = λ b t at is'. elim (cases_eq b a) [
-          | inl same ↦ absurd (false≢true (ap shuts (sym nothing) ∙ ap (λ (q : Actor). shuts q.hold) (sym hand_a) ∙ ap (λ (q : ℕ). shuts (actor_in actors' q).hold) (sym same) ∙ is'))
-          | inr other ↦ h.closed b t (ap (λ (q : Actor). q.curr) (sym (hand_b b other)) ∙ at) (ap (λ (q : Actor). shuts q.hold) (sym (hand_b b other)) ∙ is')
-        ];
-        added = h.added;
-        removed = h.removed;
-      }
+      let mine = free_stands y.shape y.vault.cells y.vault.dead y.uses y.actors P s sound.slots in_it free in
+      slot_turn y.shape y.vault.cells y.vault.cells y.vault.dead y.vault.dead y.uses uses' y.actors actors' P P a s x hand_a hand_b (λ e. e)
+      (slot_grips y.vault.dead y.vault.dead s (actor_in y.actors a) x (λ t apart has. none-some _ (sym no_slot ∙ has)) (λ t apart has. apart (same_Some _ _ (sym has)))
+      (ap (closes y.vault.dead) nothing) (ap has_removed_node nothing) (ap has_removed_node nothing) (ap shuts nothing)) (λ t apart. refl) (take_other y.uses s) (same_nodes y.shape.buckets s P)
+      (record {
+        stands = is_held a (ap (λ (q : Actor). q.slot) hand_a);
+        hand = λ has. record { in_range = in_it; loose = mine.0; taken = take_same y.uses s lt; stage = inl mine.1 };
+        out = λ out. absurd (false≢true (ap has_removed_node (sym nothing) ∙ out.removed));
+        hand_out = λ has out. false≢true (ap has_removed_node (sym nothing) ∙ out.removed);
+        opened = λ has e. absurd (false≢true (ap unlocks (sym nothing) ∙ e));
+        closed = λ curr e. absurd (false≢true (ap shuts (sym nothing) ∙ e));
+        no_other_hand = λ b other has. free_taken free (sound.slots.hand b s has).taken;
+        no_other_out = λ b other out. free_taken free (sound.slots.out b s out).taken;
+        others_closed = λ b other curr e. sound.slots.closed b s curr e;
+      })
+      (length-set y.uses s Taken) sound.slots sound.slots.added sound.slots.removed
 
   take_reuse : ReuseSound y.shape y.words.pins uses' actors' P notes.begun
   take_reuse =
@@ -265,38 +180,12 @@ module _ (n calls : ℕ) (y : Yard) (callers : List (Option Caller)) (disk : Med
         ledger = ledger_turn callers a (call_at i c at) is next n calls y.shape.passes P M notes sound.ledger;
         tails = record {
           adding = λ b t slot opened. tail_turn callers a (call_at i c at) is next y.shape.passes notes (in_passes n calls y callers disk M P notes a (call_at i c at) is sound) keeps (Add (cell_in y.vault.cells t).key) M (elim (held_then b t slot) [
-            | inl new ↦ absurd (shut_open (stage_in y.vault.cells s) (free_stands y.shape y.vault.cells y.vault.dead y.uses y.actors P s sound.slots in_it free).1 (subst (λ (q : ℕ). IsGateOpened (stage_in y.vault.cells q)) new.1 opened))
+            | inl new ↦ absurd (opened_shut (stage_in y.vault.cells s) (subst (λ (q : ℕ). IsGateOpened (stage_in y.vault.cells q)) new.1 opened) (free_stands y.shape y.vault.cells y.vault.dead y.uses y.actors P s sound.slots in_it free).1)
             | inr old ↦ sound.tails.adding b t old.2 opened
           ]);
           removing = λ t there unmarked written. tail_turn callers a (call_at i c at) is next y.shape.passes notes (in_passes n calls y callers disk M P notes a (call_at i c at) is sound) keeps (Remove (cell_in y.vault.cells t).key) M (sound.tails.removing t there unmarked written);
         };
       }
-    where
-      shut_open : (stage : Stage) → IsGateClosed stage → IsGateOpened stage → ⊥
-      shut_open stage (inl e) (inl f) = closed_opening (sym e ∙ f)
-        where
-          closed_opening : Closed ≡ Opening → ⊥
-          closed_opening g = absurd cc
-      shut_open stage (inl e) (inr f) = closed_open (sym e ∙ f)
-        where
-          closed_open : Closed ≡ Open → ⊥
-          closed_open g = absurd cc
-      shut_open stage (inr (inl e)) (inl f) = loose_opening (sym e ∙ f)
-        where
-          loose_opening : KeyLoose ≡ Opening → ⊥
-          loose_opening g = absurd cc
-      shut_open stage (inr (inl e)) (inr f) = loose_open (sym e ∙ f)
-        where
-          loose_open : KeyLoose ≡ Open → ⊥
-          loose_open g = absurd cc
-      shut_open stage (inr (inr e)) (inl f) = keyed_opening (sym e ∙ f)
-        where
-          keyed_opening : Keyed ≡ Opening → ⊥
-          keyed_opening g = absurd cc
-      shut_open stage (inr (inr e)) (inr f) = keyed_open (sym e ∙ f)
-        where
-          keyed_open : Keyed ≡ Open → ⊥
-          keyed_open g = absurd cc
 
 -- An actor that asks for a slot.
 module _ (n calls : ℕ) (y : Yard) (callers : List (Option Caller)) (disk : Medium) (M : History) (P : Trace) (notes : Notes) (sound : Sound n calls y callers disk M P notes) (a i : ℕ) (c : Command) (again : Bool) (is : caller_at callers a ≡ Some (call_at i c (Reserving again))) where

@@ -4,7 +4,7 @@ use mathlib.Core.Bool.{false≢true}
 use Rattle.std.specs.Prelude.{unwrap_or}
 use Rattle.std.proofs.lemmas.Bool.{cases_eq, cases_lt}
 use Rattle.std.proofs.lemmas.List.{get_or-replicate, length-replicate}
-use Rattle.std.proofs.lemmas.Option.{same_Some, none-some}
+use Rattle.std.proofs.lemmas.Option.{none-some}
 use Rattle.lz_slot.specs.declared.command.Command.TheVariants.{Remove}
 use Rattle.lz_slot.specs.Counted.{of_pass, set_of_pass}
 use Rattle.lz_slot.specs.Histories.{History}
@@ -28,7 +28,7 @@ use Rattle.lz_machine.specs.Calls.{progress_after}
 use Rattle.lz_machine.specs.Runs.{Caller, caller_at}
 use Rattle.lz_machine.specs.Limbo.{IsRightSight}
 use Rattle.lz_machine.specs.Notes.{Notes}
-use Rattle.lz_machine.specs.SlotsSound.{closes, opens, shuts, unlocks, has_removed_node, IsOut, IsCloser, IsNodeStage, IsHandStage, SlotStands, is_node, is_held, is_out, is_free, is_limbo, SlotsSound}
+use Rattle.lz_machine.specs.SlotsSound.{opens, has_removed_node, IsOut, is_limbo, SlotsSound}
 use Rattle.lz_machine.specs.LocksSound.{HasLock, RestsOn}
 use Rattle.lz_machine.specs.CallersSound.{Relies, view_of, CallerSound}
 use Rattle.lz_machine.specs.Sound.{ReuseSound, Sound}
@@ -38,6 +38,8 @@ use Rattle.lz_machine.proofs.Frames.NodeLocks.{held_locks}
 use Rattle.lz_machine.proofs.Steps.Hop.{call_at, own}
 use Rattle.lz_machine.proofs.Frames.Hand.{same_hand, other_hand}
 use Rattle.lz_machine.proofs.Frames.Uses.{inside_range, limbo_same, free_limbo}
+use Rattle.lz_machine.proofs.Frames.ActorTable.{field_stays}
+use Rattle.lz_machine.proofs.Frames.OneSlot.{node_grips, same_nodes, slot_turn}
 
 module _ (n calls : ℕ) (y : Yard) (callers : List (Option Caller)) (disk : Medium) (M : History) (P : Trace) (notes : Notes) (sound : Sound n calls y callers disk M P notes) (a i k s : ℕ) (is : caller_at callers a ≡ Some (call_at i (Remove k) (Playing (Removing s) 6))) where
   abbrev at : Progress
@@ -73,83 +75,26 @@ module _ (n calls : ℕ) (y : Yard) (callers : List (Option Caller)) (disk : Med
   use_other : (t : ℕ) → t ≢ s → use_of uses' t ≡ use_of y.uses t
   use_other t other = get_or-set_other y.uses s t (Limbo (replicate y.shape.passes Unseen)) Taken other
 
-  -- each slot in a hand was so before, and is another one
-  held_then : (b t : ℕ) → (actor_in actors' b).slot ≡ Some t → (t ≢ s) × ((actor_in y.actors b).slot ≡ Some t)
-  held_then b t slot =
-      let was : (actor_in y.actors b).slot ≡ Some t = elim (cases_eq b a) [
-        | inl same ↦ ap (λ (q : ℕ). (actor_in y.actors q).slot) same ∙ ap (λ (q : Actor). q.slot) (sym hand_a) ∙ ap (λ (q : ℕ). (actor_in actors' q).slot) (sym same) ∙ slot
-        | inr other ↦ ap (λ (q : Actor). q.slot) (sym (hand_b b other)) ∙ slot
-      ] in
-      ((λ same. sound.slots.hand_out b a t was (subst (IsOut (actor_in y.actors a)) (sym same) out_a)), was)
-
-  out_then : (b t : ℕ) → IsOut (actor_in actors' b) t → (t ≢ s) × IsOut (actor_in y.actors b) t
-  out_then b t out = elim (cases_eq b a) [
-    | inl same ↦
-        let mine = subst (λ (q : Actor). IsOut q t) hand_a (subst (λ (q : ℕ). IsOut (actor_in actors' q) t) same out) in
-        absurd (false≢true mine.removed)
-    | inr other ↦
-        let was = subst (λ (q : Actor). IsOut q t) (hand_b b other) out in
-        ((λ it. other (sound.slots.one_out b a t was (subst (IsOut (actor_in y.actors a)) (sym it) out_a))), was)
-  ]
-
-  stage_still : (t : ℕ) → IsNodeStage y.vault.cells y.vault.dead y.actors P t → IsNodeStage y.vault.cells y.vault.dead actors' P t
-  stage_still t (inl opened) = inl opened
-  stage_still t (inr (b, closer, written)) = elim (cases_eq b a) [
-    | inl same ↦ absurd (false≢true (ap (closes y.vault.dead) (sym h.2.0) ∙ (subst (λ (q : ℕ). IsCloser y.vault.dead (actor_in y.actors q) t) same closer).closes))
-    | inr other ↦ inr (b, subst (λ (q : Actor). IsCloser y.vault.dead q t) (sym (hand_b b other)) closer, written)
-  ]
-
   slot_still : (b : ℕ) → (actor_in actors' b).slot ≡ (actor_in y.actors b).slot
-  slot_still b = elim (cases_eq b a) [
-    | inl same ↦ ap (λ (q : ℕ). (actor_in actors' q).slot) same ∙ ap (λ (q : Actor). q.slot) hand_a ∙ ap (λ (q : ℕ). (actor_in y.actors q).slot) (sym same)
-    | inr other ↦ ap (λ (q : Actor). q.slot) (hand_b b other)
-  ]
-
-  stands_then : (t : ℕ) → t ≢ s → SlotStands y.shape y.vault.cells y.vault.dead y.uses y.actors P t → SlotStands y.shape y.vault.cells y.vault.dead uses' actors' P t
-  stands_then t apart (is_node chain stage) = is_node (record { there = chain.there; taken = use_other t apart ∙ chain.taken; key = chain.key }) (stage_still t stage)
-  stands_then t apart (is_held b slot) = is_held b (slot_still b ∙ slot)
-  stands_then t apart (is_out b out) = elim (cases_eq b a) [
-    | inl same ↦ absurd (apart (same_Some _ _ (sym (ap (λ (q : ℕ). (actor_in y.actors q).curr) (sym same) ∙ out.node) ∙ h.0)))
-    | inr other ↦ is_out b (subst (λ (q : Actor). IsOut q t) (sym (hand_b b other)) out)
-  ]
-  stands_then t apart (is_free loose is' stage) = is_free loose (use_other t apart ∙ is') stage
-  stands_then t apart (is_limbo sights loose limbo stage) = is_limbo sights loose (use_other t apart ∙ limbo) stage
+  slot_still = field_stays (Option ℕ) (λ q. q.slot) y.actors actors' a x hand_a hand_b refl
 
   retired_slots : SlotsSound y.shape y.vault.cells y.vault.dead uses' actors' P
   retired_slots =
       let gone = sound.slots.out a s out_a in
-      record {
-        count = length-set y.uses s _ ∙ sound.slots.count;
-        each = λ t within. elim (cases_eq t s) [
-          | inl same ↦ subst (SlotStands y.shape y.vault.cells y.vault.dead uses' actors' P) (sym same) (is_limbo (replicate y.shape.passes Unseen) gone.loose use_same gone.stage)
-          | inr other ↦ stands_then t other (sound.slots.each t within)
-        ];
-        hand = λ b t slot.
-            let old = held_then b t slot in
-            let was = sound.slots.hand b t old.1 in
-            record { in_range = was.in_range; loose = was.loose; taken = use_other t old.0 ∙ was.taken; stage = hand_stage b t slot was.stage };
-        out = λ b t out. let old = out_then b t out in let was = sound.slots.out b t old.1 in record { in_range = was.in_range; loose = was.loose; taken = use_other t old.0 ∙ was.taken; stage = was.stage };
-        one_hand = λ b d t one two. sound.slots.one_hand b d t (held_then b t one).1 (held_then d t two).1;
-        one_out = λ b d t one two. sound.slots.one_out b d t (out_then b t one).1 (out_then d t two).1;
-        hand_out = λ b d t hand out. sound.slots.hand_out b d t (held_then b t hand).1 (out_then d t out).1;
-        opened = λ b t slot is'. elim (cases_eq b a) [
-          | inl same ↦ absurd (false≢true (ap (λ (q : Actor). unlocks q.hold) (sym hand_a) ∙ ap (λ (q : ℕ). unlocks (actor_in actors' q).hold) (sym same) ∙ is'))
-          | inr other ↦ sound.slots.opened b t (held_then b t slot).1 (ap (λ (q : Actor). unlocks q.hold) (sym (hand_b b other)) ∙ is')
-        ];
-        closed = λ b t here shut. elim (cases_eq b a) [
-          | inl same ↦ absurd (false≢true (ap (λ (q : Actor). shuts q.hold) (sym hand_a) ∙ ap (λ (q : ℕ). shuts (actor_in actors' q).hold) (sym same) ∙ shut))
-          | inr other ↦ sound.slots.closed b t (ap (λ (q : Actor). q.curr) (sym (hand_b b other)) ∙ here) (ap (λ (q : Actor). shuts q.hold) (sym (hand_b b other)) ∙ shut)
-        ];
-        added = sound.slots.added;
-        removed = sound.slots.removed;
-      }
-    where
-      hand_stage : (b t : ℕ) → (actor_in actors' b).slot ≡ Some t → IsHandStage y.vault.cells y.vault.dead (actor_in y.actors b) P t → IsHandStage y.vault.cells y.vault.dead (actor_in actors' b) P t
-      hand_stage b t slot (inl shut) = inl shut
-      hand_stage b t slot (inr opened) = elim (cases_eq b a) [
-        | inl same ↦ absurd (false≢true (ap (opens y.vault.dead) (sym h.2.0) ∙ ap (λ (q : ℕ). opens y.vault.dead (actor_in y.actors q).hold) (sym same) ∙ opened.0))
-        | inr other ↦ inr (ap (λ (q : Actor). opens y.vault.dead q.hold) (hand_b b other) ∙ opened.0, opened.1, opened.2)
-      ]
+      slot_turn y.shape y.vault.cells y.vault.cells y.vault.dead y.vault.dead y.uses uses' y.actors actors' P P a s x hand_a hand_b (λ e. e)
+      (node_grips y.vault.dead y.vault.dead s (actor_in y.actors a) x h.0 h.0 refl (ap (opens y.vault.dead) h.2.0) refl) (λ t apart. refl) use_other (same_nodes y.shape.buckets s P)
+      (record {
+        stands = is_limbo (replicate y.shape.passes Unseen) gone.loose use_same gone.stage;
+        hand = λ has. absurd (sound.slots.hand_out a a s has out_a);
+        out = λ out. absurd (false≢true out.removed);
+        hand_out = λ has out. false≢true out.removed;
+        opened = λ has e. absurd (false≢true e);
+        closed = λ curr e. absurd (false≢true e);
+        no_other_hand = λ b other has. sound.slots.hand_out b a s has out_a;
+        no_other_out = λ b other out. other (sound.slots.one_out b a s out out_a);
+        others_closed = λ b other curr e. sound.slots.closed b s curr e;
+      })
+      (length-set y.uses s _) sound.slots sound.slots.added sound.slots.removed
 
   -- no pass has been seen yet
   unseen : (b m : ℕ) → (of_pass (replicate m Unseen) b Left ≡ Unseen) ⊎ (((1 ≤ b) × (b ≤ m)) → ⊥)
@@ -184,7 +129,7 @@ module _ (n calls : ℕ) (y : Yard) (callers : List (Option Caller)) (disk : Med
       | inl same ↦ absurd (free_limbo (sym (sym use_same ∙ ap (use_of uses') (sym same) ∙ free)))
       | inr other ↦ sound.reuse.free b t (sym (use_other t other) ∙ free) inside
     ];
-    reserved = λ b d t slot inside. sound.reuse.reserved b d t (held_then d t slot).1 inside;
+    reserved = λ b d t slot inside. sound.reuse.reserved b d t (sym (slot_still d) ∙ slot) inside;
   }
     where
       fresh : (b : ℕ) → IsRightSight y.shape.buckets (pin_in y.words.pins b) (notes.begun b) P s (of_pass (replicate y.shape.passes Unseen) b Left)

@@ -1,5 +1,5 @@
 -- A slot that an actor has reserved and not used is given back: what is said of slots, locks and reuse stays.
-use Rattle.std.proofs.Common.{◌≡◌, ◌≢◌, inl, inr, ℕ, ◌≤◌, Bool, true, List, length, Option, Some, None, refl, sym, ap, ◌∙◌, subst, arith, get_or-set_other, get_or-set_same, length-set}
+use Rattle.std.proofs.Common.{◌≡◌, ◌≢◌, inl, inr, ℕ, ◌≤◌, Bool, true, List, length, Some, None, refl, sym, ap, ◌∙◌, subst, arith, get_or-set_other, get_or-set_same, length-set}
 use mathlib.Core.Bool.{false≢true}
 use Rattle.std.proofs.lemmas.Bool.{cases_eq}
 use Rattle.std.proofs.lemmas.Option.{same_Some, none-some}
@@ -16,11 +16,12 @@ use Rattle.lz_machine.specs.declared.actor.Hold.{Hold}
 use Rattle.lz_machine.specs.declared.actor.Hold.TheVariants.{Checked, GateOpened, GateClosed, Marked}
 use Rattle.lz_machine.specs.Yards.{Shape, idle_actor, actor_in, stage_in}
 use Rattle.lz_machine.specs.Table.{with_slot, is_unused}
-use Rattle.lz_machine.specs.SlotsSound.{IsGateClosed, IsGateOpened, closes, opens, shuts, unlocks, has_removed_node, IsOut, IsNodeStage, IsHandStage, SlotStands, is_node, is_held, is_out, is_free, is_limbo, SlotsSound}
+use Rattle.lz_machine.specs.SlotsSound.{is_free, SlotsSound, IsGateOpened, IsGateClosed, unlocks}
 use Rattle.lz_machine.specs.LocksSound.{HasLock, RestsOn, LocksSound}
 use Rattle.lz_machine.specs.Sound.{ReuseSound}
 use Rattle.lz_machine.proofs.Frames.NodeLocks.{held_locks}
 use Rattle.lz_machine.proofs.Frames.Uses.{free_limbo}
+use Rattle.lz_machine.proofs.Frames.OneSlot.{same_nodes, slot_turn}
 
 -- a stage that wasn't used has a closed gate
 pub unused_closed : (stage : Stage) → is_unused stage ≡ true → IsGateClosed stage
@@ -55,19 +56,6 @@ module _ (shape : Shape) (cells : List Cell) (dead : Bool) (uses : List Use) (ac
   pub hand_b : (b : ℕ) → b ≢ a → actor_in actors' b ≡ actor_in actors b
   hand_b b other = of_pass_other actors a b x idle_actor other
 
-  -- all but the slot is as before
-  same_in : (A : Type 0) (f : Actor → A) → f x ≡ f (actor_in actors a) → (b : ℕ) → f (actor_in actors' b) ≡ f (actor_in actors b)
-  same_in A f mine b = elim (cases_eq b a) [
-    | inl same ↦ ap (λ (q : ℕ). f (actor_in actors' q)) same ∙ ap f hand_a ∙ mine ∙ ap (λ (q : ℕ). f (actor_in actors q)) (sym same)
-    | inr other ↦ ap f (hand_b b other)
-  ]
-
-  hold_same : (b : ℕ) → (actor_in actors' b).hold ≡ (actor_in actors b).hold
-  hold_same = same_in Hold (λ q. q.hold) refl
-
-  curr_same : (b : ℕ) → (actor_in actors' b).curr ≡ (actor_in actors b).curr
-  curr_same = same_in (Option ℕ) (λ q. q.curr) refl
-
   -- each slot in a hand was so before, and is another one
   pub held_then : (b t : ℕ) → (actor_in actors' b).slot ≡ Some t → (t ≢ s) × ((actor_in actors b).slot ≡ Some t)
   held_then b t slot = elim (cases_eq b a) [
@@ -77,58 +65,39 @@ module _ (shape : Shape) (cells : List Cell) (dead : Bool) (uses : List Use) (ac
         ((λ it. other (slots.one_hand b a s (was ∙ ap Some it) has)), was)
   ]
 
-  out_then : (b t : ℕ) → IsOut (actor_in actors' b) t → IsOut (actor_in actors b) t
-  out_then b t out = record { node = sym (curr_same b) ∙ out.node; removed = ap has_removed_node (sym (hold_same b)) ∙ out.removed }
-
-  out_now : (b t : ℕ) → IsOut (actor_in actors b) t → IsOut (actor_in actors' b) t
-  out_now b t out = record { node = curr_same b ∙ out.node; removed = ap has_removed_node (hold_same b) ∙ out.removed }
-
   use_same : use_of uses' s ≡ Free
   use_same = get_or-set_same uses s Free Taken (omega (arith, (slots.hand a s has).in_range, slots.count))
 
   use_other : (t : ℕ) → t ≢ s → use_of uses' t ≡ use_of uses t
   use_other t other = get_or-set_other uses s t Free Taken other
 
-  node_stage : (t : ℕ) → IsNodeStage cells dead actors P t → IsNodeStage cells dead actors' P t
-  node_stage t (inl opened) = inl opened
-  node_stage t (inr (b, closer, written)) = inr (b, record { node = curr_same b ∙ closer.node; closes = ap (closes dead) (hold_same b) ∙ closer.closes }, written)
-
-  stands_then : (t : ℕ) → t ≢ s → SlotStands shape cells dead uses actors P t → SlotStands shape cells dead uses' actors' P t
-  stands_then t apart (is_node chain stage) = is_node (record { there = chain.there; taken = use_other t apart ∙ chain.taken; key = chain.key }) (node_stage t stage)
-  stands_then t apart (is_held b slot) = elim (cases_eq b a) [
-    | inl same ↦ absurd (apart (same_Some _ _ (sym slot ∙ ap (λ (q : ℕ). (actor_in actors q).slot) same ∙ has)))
-    | inr other ↦ is_held b (ap (λ (q : Actor). q.slot) (hand_b b other) ∙ slot)
-  ]
-  stands_then t apart (is_out b out) = is_out b (out_now b t out)
-  stands_then t apart (is_free loose free stage) = is_free loose (use_other t apart ∙ free) stage
-  stands_then t apart (is_limbo sights loose limbo stage) = is_limbo sights loose (use_other t apart ∙ limbo) stage
-
-  hand_stage : (b t : ℕ) → IsHandStage cells dead (actor_in actors b) P t → IsHandStage cells dead (actor_in actors' b) P t
-  hand_stage b t (inl shut) = inl shut
-  hand_stage b t (inr opened) = inr (ap (opens dead) (hold_same b) ∙ opened.0, opened.1, opened.2)
-
   pub given_slots : SlotsSound shape cells dead uses' actors' P
-  given_slots = record {
-    count = length-set uses s Free ∙ slots.count;
-    each = λ t lt. elim (cases_eq t s) [
-      | inl same ↦ subst (SlotStands shape cells dead uses' actors' P) (sym same) (is_free (slots.hand a s has).loose use_same (unused_closed (stage_in cells s) unused))
-      | inr other ↦ stands_then t other (slots.each t lt)
-    ];
-    hand = λ b t slot.
-        let old = held_then b t slot in
-        let was = slots.hand b t old.1 in
-        record { in_range = was.in_range; loose = was.loose; taken = use_other t old.0 ∙ was.taken; stage = hand_stage b t was.stage };
-    out = λ b t out.
-        let was = slots.out b t (out_then b t out) in
-        record { in_range = was.in_range; loose = was.loose; taken = use_other t (λ it. slots.hand_out a b s has (subst (IsOut (actor_in actors b)) it (out_then b t out))) ∙ was.taken; stage = was.stage };
-    one_hand = λ b d t one two. slots.one_hand b d t (held_then b t one).1 (held_then d t two).1;
-    one_out = λ b d t one two. slots.one_out b d t (out_then b t one) (out_then d t two);
-    hand_out = λ b d t hand out. slots.hand_out b d t (held_then b t hand).1 (out_then d t out);
-    closed = λ b t here shut. slots.closed b t (sym (curr_same b) ∙ here) (ap shuts (sym (hold_same b)) ∙ shut);
-    opened = λ b t slot unlocked. slots.opened b t (held_then b t slot).1 (ap unlocks (sym (hold_same b)) ∙ unlocked);
-    added = slots.added;
-    removed = slots.removed;
-  }
+  given_slots =
+      let was = slots.hand a s has in
+      slot_turn shape cells cells dead dead uses uses' actors actors' P P a s x hand_a hand_b (λ e. e)
+      (record {
+        slot = λ t apart is. absurd (none-some _ is);
+        still_slot = λ t apart is. absurd (apart (same_Some _ _ (sym is ∙ has)));
+        out = λ t apart is. record { node = is.node; removed = is.removed };
+        still_out = λ t apart is. record { node = is.node; removed = is.removed };
+        closer = λ t apart is. record { node = is.node; closes = is.closes };
+        opener = λ t apart slot is. is;
+        unlock = λ t apart slot is. is;
+        shut = λ t apart curr is. (curr, is);
+      })
+      (λ t apart. refl) use_other (same_nodes shape.buckets s P)
+      (record {
+        stands = is_free was.loose use_same (unused_closed (stage_in cells s) unused);
+        hand = λ is. absurd (none-some _ is);
+        out = λ is. absurd (slots.hand_out a a s has (record { node = is.node; removed = is.removed }));
+        hand_out = λ slot is. none-some _ slot;
+        opened = λ slot is. absurd (none-some _ slot);
+        closed = λ curr is. slots.closed a s curr is;
+        no_other_hand = λ b other slot. other (slots.one_hand b a s slot has);
+        no_other_out = λ b other is. slots.hand_out a b s has is;
+        others_closed = λ b other curr is. slots.closed b s curr is;
+      })
+      (length-set uses s Free) slots slots.added slots.removed
 
   rests_still : (hold : Hold) → (actor_in actors a).hold ≡ hold → RestsOn shape.buckets hold (actor_in actors a) P → RestsOn shape.buckets hold x P
   rests_still Checked is h = record { beside = λ t slot. absurd (none-some _ slot); before = h.before }
@@ -164,4 +133,4 @@ module _ (shape : Shape) (cells : List Cell) (dead : Bool) (uses : List Use) (ac
   given_none = ap (λ (q : Actor). q.slot) hand_a
 
   pub given_hold : (actor_in actors' a).hold ≡ (actor_in actors a).hold
-  given_hold = hold_same a
+  given_hold = ap (λ (q : Actor). q.hold) hand_a

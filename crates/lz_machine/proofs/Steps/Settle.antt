@@ -36,9 +36,10 @@ use Rattle.lz_machine.specs.Calls.{progress_after}
 use Rattle.lz_machine.specs.Runs.{Caller, caller_at, with_words}
 use Rattle.lz_machine.specs.Notes.{Notes}
 use Rattle.lz_machine.specs.CallersSound.{view_of, Relies, HasAdded, HasMarked, HasMet, MayRest, IsSettledChange, RestsYes, RestsNo, HasLetGo, is_before_pin}
-use Rattle.lz_machine.specs.SlotsSound.{IsNodeStage, IsOnChain, IsGateOpened, IsGateWritten, SlotStands, is_node, is_held, is_out, is_free, is_limbo}
+use Rattle.lz_machine.specs.SlotsSound.{IsNodeStage, IsOnChain, IsGateOpened, IsGateWritten}
 use Rattle.lz_machine.specs.LocksSound.{HasClosed, RestsOn}
 use Rattle.lz_machine.specs.Sound.{Sound}
+use Rattle.lz_machine.proofs.Frames.ChainSlots.{chain_stands}
 use Rattle.lz_machine.proofs.Frames.OneActor.{moving}
 use Rattle.lz_machine.proofs.Ledger.Membership.{upto_begins}
 use Rattle.lz_machine.proofs.Ledger.Growth.{upto_more}
@@ -164,7 +165,7 @@ module _ (n calls : ℕ) (y : Yard) (callers : List (Option Caller)) (disk : Med
   pub settle_marked_keeps : (i k : ℕ) → caller_at callers a ≡ Some (call_at i (Remove k) (Playing (Removing s) 3)) → then i (Remove k) (Playing (Removing s) 3) (outcome_of y (actor_at y a) (Settle s))
   settle_marked_keeps i k is = elim (cases_Bool (is_sure y s)) [
     | inl sure ↦
-        let change = marked_change sure mark (inl (on_chain (sound.slots.each s lt))) in
+        let change = marked_change sure mark (inl (chain_stands y.shape y.vault.cells y.vault.dead y.uses y.actors P s sound.slots (key_word s P) lt there)) in
         subst (then i (Remove k) (Playing (Removing s) 3)) (sym (outcome_sure sure)) (settles i (Remove k) (Playing (Removing s) 3) (Playing (Removing s) 4) is refl (λ none is. refl) lt apart Removed change
         (record { relies = (h.0, h.1, (h.2.0, h.2.1.key, removed_now, marked_settled h.2.1)); inside = refl }))
     | inr loose ↦
@@ -191,13 +192,6 @@ module _ (n calls : ℕ) (y : Yard) (callers : List (Option Caller)) (disk : Med
 
       apart : (d t : ℕ) → (actor_in y.actors d).slot ≡ Some t → t ≢ s
       apart d t slot same = off (subst (λ (q : ℕ). IsLoose y.shape.buckets q P) same (sound.slots.hand d t slot).loose)
-
-      on_chain : SlotStands y.shape y.vault.cells y.vault.dead y.uses y.actors P s → IsOnChain y.shape y.vault.cells y.uses P s × IsNodeStage y.vault.cells y.vault.dead y.actors P s
-      on_chain (is_node chain stage) = (chain, stage)
-      on_chain (is_held d slot) = absurd (off (sound.slots.hand d s slot).loose)
-      on_chain (is_out d out) = absurd (off (sound.slots.out d s out).loose)
-      on_chain (is_free loose free stage) = absurd (off loose)
-      on_chain (is_limbo sights loose limbo stage) = absurd (off loose)
 
       removed_now : is_removed (linking k (settled s Removed ∷ P)) (settled s Removed ∷ P) ≡ true
       removed_now =

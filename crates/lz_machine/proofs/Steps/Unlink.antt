@@ -1,17 +1,15 @@
 -- Unlink keeps the invariant: the node that its remover has marked and settled is taken out.
-use Rattle.std.proofs.Common.{◌≡◌, ◌≢◌, ◌⊎◌, inl, inr, ℕ, suc, ◌<◌, not, true, List, ◌∷◌, ◌++◌, Option, Some, None, refl, sym, ap, ◌∙◌, subst, arith}
+use Rattle.std.proofs.Common.{◌≡◌, ◌≢◌, inl, inr, ℕ, suc, ◌<◌, not, true, List, ◌∷◌, ◌++◌, Option, Some, None, refl, sym, ap, ◌∙◌, subst, arith}
 use mathlib.Core.Bool.{false≢true}
 use Rattle.std.specs.Prelude.{unwrap_or}
 use Rattle.std.proofs.lemmas.Bool.{cases_eq}
 use Rattle.std.proofs.lemmas.Bool.Decides.{nat_tests}
 use Rattle.std.proofs.lemmas.Option.{same_Some}
 use Rattle.lz_slot.specs.declared.command.Command.TheVariants.{Add, Remove}
-use Rattle.lz_slot.specs.Counted.{of_pass, set_of_pass}
+use Rattle.lz_slot.specs.Counted.{set_of_pass}
 use Rattle.lz_slot.specs.Histories.{History}
 use Rattle.lz_slot.proofs.Counted.{length-set_of_pass}
 use Rattle.lz_disk.specs.Images.{Medium}
-use Rattle.lz_allot.specs.declared.sight.Sight.TheVariants.{Left}
-use Rattle.lz_allot.specs.Uses.{Taken, use_of}
 use Rattle.lz_list.specs.declared.place.Place.{Place}
 use Rattle.lz_list.specs.declared.place.Place.TheVariants.{Bucket, Node}
 use Rattle.lz_list.specs.declared.publishing.Publishing.TheVariants.{Unlinked as unlinked}
@@ -21,7 +19,7 @@ use Rattle.lz_list.specs.Traces.{Trace, Lawful, IsLoose, on, chain, chain_of, bu
 use Rattle.lz_list.proofs.Chains.TraceChain.{words_show_chain}
 use Rattle.lz_list.proofs.Traces.NodeBits.{node, one_node, on_without}
 use Rattle.lz_list.proofs.Traces.WalkEnd.{on_without_other}
-use Rattle.lz_list.specs.Locks.{claimed_places, owner}
+use Rattle.lz_list.specs.Locks.{claimed_places}
 use Rattle.lz_machine.specs.declared.event.Event.TheVariants.{Unlink}
 use Rattle.lz_machine.specs.declared.actor.Actor.{Actor}
 use Rattle.lz_machine.specs.declared.actor.Hold.{Hold}
@@ -34,15 +32,16 @@ use Rattle.lz_machine.specs.Table.{with_hold, node_of, yard_done, publishes}
 use Rattle.lz_machine.specs.Runs.{Caller, caller_at}
 use Rattle.lz_machine.specs.Stands.{FacesNode, IsLeaving, InBucket}
 use Rattle.lz_machine.specs.Notes.{Notes}
-use Rattle.lz_machine.specs.SlotsSound.{opens, shuts, unlocks, has_removed_node, IsOut, IsCloser, IsNodeStage, IsHandStage, SlotStands, is_node, is_held, is_out, is_free, is_limbo, IsGone, SlotsSound}
+use Rattle.lz_machine.specs.SlotsSound.{opens, IsOut, is_out, IsGone, SlotsSound}
 use Rattle.lz_machine.specs.LocksSound.{has_locks, HasPlace, HasLock, IsRightBefore, HasClosed, RestsOn, LocksSound}
-use Rattle.lz_machine.specs.CallersSound.{Relies, view_of, CallerSound, CallersSound}
+use Rattle.lz_machine.specs.CallersSound.{Relies, view_of, CallersSound}
 use Rattle.lz_machine.specs.Sound.{ReuseSound, Sound}
-use Rattle.lz_machine.proofs.Frames.ActorTable.{by_actor}
-use Rattle.lz_machine.proofs.Frames.OneActor.{moving, moved_same, moved_other, carry, ledger_turn}
-use Rattle.lz_machine.proofs.Frames.Limbo.{seen_step, away_stays}
+use Rattle.lz_machine.proofs.Frames.ActorTable.{field_stays}
+use Rattle.lz_machine.proofs.Frames.OneActor.{moving, callers_moved, ledger_turn}
+use Rattle.lz_machine.proofs.Frames.ChainSlots.{chain_stands, reuse_published}
+use Rattle.lz_machine.proofs.Frames.NodeLocks.{turned_locks}
+use Rattle.lz_machine.proofs.Frames.OneSlot.{node_grips, slot_turn}
 use Rattle.lz_machine.proofs.Frames.Publishing.{LeavesCaller, caller_published, change_stays}
-use Rattle.lz_machine.proofs.Steps.Pin.{limbo_loose, free_loose}
 use Rattle.lz_machine.proofs.Frames.Ranges.{on_range, few_slots}
 use Rattle.lz_machine.proofs.Frames.LoadedWord.{link_next, key_load}
 use Rattle.lz_machine.proofs.Ledger.QuietPublishing.{ledger_published}
@@ -150,104 +149,39 @@ module _ (n calls : ℕ) (y : Yard) (callers : List (Option Caller)) (disk : Med
   chain_before j t on_it = grind (arith, nat_tests, on_it, on_without k 0 (suc t) (chain_of y.shape.buckets j P))
 
   slot_still : (b : ℕ) → (actor_in actors' b).slot ≡ (actor_in y.actors b).slot
-  slot_still b = elim (cases_eq b a) [
-    | inl same ↦ ap (λ (q : ℕ). (actor_in actors' q).slot) same ∙ ap (λ (q : Actor). q.slot) hand_a ∙ ap (λ (q : ℕ). (actor_in y.actors q).slot) (sym same)
-    | inr other ↦ ap (λ (q : Actor). q.slot) (hand_b b other)
-  ]
-
-  stage_still : (t : ℕ) → t ≢ s → IsNodeStage y.vault.cells y.vault.dead y.actors P t → IsNodeStage y.vault.cells y.vault.dead actors' P' t
-  stage_still t apart (inl opened) = inl opened
-  stage_still t apart (inr (b, closer, written)) = elim (cases_eq b a) [
-    | inl same ↦ absurd (apart (same_Some _ _ (sym (ap (λ (q : ℕ). (actor_in y.actors q).curr) (sym same) ∙ closer.node) ∙ h.0)))
-    | inr other ↦ inr (b, subst (λ (q : Actor). IsCloser y.vault.dead q t) (sym (hand_b b other)) closer, written)
-  ]
-
-  stands_then : (t : ℕ) → t ≢ s → SlotStands y.shape y.vault.cells y.vault.dead y.uses y.actors P t → SlotStands y.shape y.vault.cells y.vault.dead y.uses actors' P' t
-  stands_then t apart (is_node on_it stage) = is_node (record { there = chain_then t apart on_it.there; taken = on_it.taken; key = on_it.key }) (stage_still t apart stage)
-  stands_then t apart (is_held b slot) = is_held b (slot_still b ∙ slot)
-  stands_then t apart (is_out b out) = elim (cases_eq b a) [
-    | inl same ↦ absurd (false≢true (ap has_removed_node (sym h.2.0) ∙ (subst (λ (q : ℕ). IsOut (actor_in y.actors q) t) same out).removed))
-    | inr other ↦ is_out b (subst (λ (q : Actor). IsOut q t) (sym (hand_b b other)) out)
-  ]
-  stands_then t apart (is_free loose free stage) = is_free (loose_then t loose) free stage
-  stands_then t apart (is_limbo sights loose limbo stage) = is_limbo sights (loose_then t loose) limbo stage
+  slot_still = field_stays (Option ℕ) (λ q. q.slot) y.actors actors' a x hand_a hand_b refl
 
   out_s : IsOut (actor_in actors' a) s
   out_s = subst (λ (q : Actor). IsOut q s) (sym hand_a) (record { node = h.0; removed = refl })
 
-  out_then : (b t : ℕ) → IsOut (actor_in actors' b) t → ((b ≡ a) × (t ≡ s)) ⊎ ((b ≢ a) × IsOut (actor_in y.actors b) t)
-  out_then b t out = elim (cases_eq b a) [
-    | inl same ↦
-        let mine = subst (λ (q : Actor). IsOut q t) hand_a (subst (λ (q : ℕ). IsOut (actor_in actors' q) t) same out) in
-        inl (same, same_Some _ _ (sym mine.node ∙ h.0))
-    | inr other ↦ inr (other, subst (λ (q : Actor). IsOut q t) (hand_b b other) out)
-  ]
-
-  taken_s : use_of y.uses s ≡ Taken
-  taken_s = go (sound.slots.each s (on_range y.shape.buckets y.shape.slots P (bucket_of y.shape.buckets k) s sound.trace.lawful there))
-    where
-      go : SlotStands y.shape y.vault.cells y.vault.dead y.uses y.actors P s → use_of y.uses s ≡ Taken
-      go (is_node on_it stage) = on_it.taken
-      go (is_held b slot) = (sound.slots.hand b s slot).taken
-      go (is_out b out) = (sound.slots.out b s out).taken
-      go (is_free loose free stage) = absurd (off loose)
-      go (is_limbo sights loose limbo stage) = absurd (off loose)
+  in_range : s < y.shape.slots
+  in_range = on_range y.shape.buckets y.shape.slots P (bucket_of y.shape.buckets k) s sound.trace.lawful there
 
   gone_s : IsGone y.shape y.vault.cells y.uses P' s
   gone_s = record {
-    in_range = on_range y.shape.buckets y.shape.slots P (bucket_of y.shape.buckets k) s sound.trace.lawful there;
+    in_range = in_range;
     loose = unlinks.now_loose y.shape.buckets y.shape.slots k spot s a P sound.trace.lawful leaving;
-    taken = taken_s;
+    taken = (chain_stands y.shape y.vault.cells y.vault.dead y.uses y.actors P s sound.slots k in_range there).0.taken;
     stage = sound.slots.removed k s h.2.1 there h.2.2;
   }
 
   unlinked_slots : SlotsSound y.shape y.vault.cells y.vault.dead y.uses actors' P'
-  unlinked_slots = record {
-    count = sound.slots.count;
-    each = λ t within. elim (cases_eq t s) [
-      | inl same ↦ is_out a (subst (IsOut (actor_in actors' a)) (sym same) out_s)
-      | inr other ↦ stands_then t other (sound.slots.each t within)
-    ];
-    hand = λ b t slot.
-        let was = sound.slots.hand b t (sym (slot_still b) ∙ slot) in
-        record { in_range = was.in_range; loose = loose_then t was.loose; taken = was.taken; stage = hand_stage b t was.stage };
-    out = λ b t out. elim (out_then b t out) [
-      | inl new ↦ subst (IsGone y.shape y.vault.cells y.uses P') (sym new.1) gone_s
-      | inr old ↦ let was = sound.slots.out b t old.1 in record { in_range = was.in_range; loose = loose_then t was.loose; taken = was.taken; stage = was.stage }
-    ];
-    one_hand = λ b d t one two. sound.slots.one_hand b d t (sym (slot_still b) ∙ one) (sym (slot_still d) ∙ two);
-    one_out = λ b d t one two. elim (out_then b t one) [
-      | inl new ↦ elim (out_then d t two) [
-        | inl too ↦ new.0 ∙ sym too.0
-        | inr old ↦ absurd (off (subst (λ (q : ℕ). IsLoose y.shape.buckets q P) new.1 (sound.slots.out d t old.1).loose))
-      ]
-      | inr old ↦ elim (out_then d t two) [
-        | inl new ↦ absurd (off (subst (λ (q : ℕ). IsLoose y.shape.buckets q P) new.1 (sound.slots.out b t old.1).loose))
-        | inr too ↦ sound.slots.one_out b d t old.1 too.1
-      ]
-    ];
-    hand_out = λ b d t hand out. elim (out_then d t out) [
-      | inl new ↦ off (subst (λ (q : ℕ). IsLoose y.shape.buckets q P) new.1 (sound.slots.hand b t (sym (slot_still b) ∙ hand)).loose)
-      | inr old ↦ sound.slots.hand_out b d t (sym (slot_still b) ∙ hand) old.1
-    ];
-    opened = λ b t slot is'. elim (cases_eq b a) [
-      | inl same ↦ absurd (false≢true (ap (λ (q : Actor). unlocks q.hold) (sym hand_a) ∙ ap (λ (q : ℕ). unlocks (actor_in actors' q).hold) (sym same) ∙ is'))
-      | inr other ↦ sound.slots.opened b t (sym (slot_still b) ∙ slot) (ap (λ (q : Actor). unlocks q.hold) (sym (hand_b b other)) ∙ is')
-    ];
-    closed = λ b t here shut. elim (cases_eq b a) [
-      | inl same ↦ absurd (false≢true (ap (λ (q : Actor). shuts q.hold) (sym hand_a) ∙ ap (λ (q : ℕ). shuts (actor_in actors' q).hold) (sym same) ∙ shut))
-      | inr other ↦ sound.slots.closed b t (ap (λ (q : Actor). q.curr) (sym (hand_b b other)) ∙ here) (ap (λ (q : Actor). shuts q.hold) (sym (hand_b b other)) ∙ shut)
-    ];
-    added = λ j t key on_it flag. sound.slots.added j t key (chain_before j t on_it) flag;
-    removed = λ j t key on_it flag. sound.slots.removed j t key (chain_before j t on_it) flag;
-  }
-    where
-      hand_stage : (b t : ℕ) → IsHandStage y.vault.cells y.vault.dead (actor_in y.actors b) P t → IsHandStage y.vault.cells y.vault.dead (actor_in actors' b) P' t
-      hand_stage b t (inl shut) = inl shut
-      hand_stage b t (inr opened) = elim (cases_eq b a) [
-        | inl same ↦ absurd (false≢true (ap (opens y.vault.dead) (sym h.2.0) ∙ ap (λ (q : ℕ). opens y.vault.dead (actor_in y.actors q).hold) (sym same) ∙ opened.0))
-        | inr other ↦ inr (ap (λ (q : Actor). opens y.vault.dead q.hold) (hand_b b other) ∙ opened.0, opened.1, opened.2)
-      ]
+  unlinked_slots =
+      slot_turn y.shape y.vault.cells y.vault.cells y.vault.dead y.vault.dead y.uses y.uses y.actors actors' P P' a s x hand_a hand_b (λ e. e)
+      (node_grips y.vault.dead y.vault.dead s (actor_in y.actors a) x h.0 h.0 refl (ap (opens y.vault.dead) h.2.0) refl) (λ t apart. refl) (λ t apart. refl)
+      (record { loose = λ t apart loose. loose_then t loose; word = λ t apart. refl; mark = λ t apart. refl; chain = chain_then })
+      (record {
+        stands = is_out a out_s;
+        hand = λ slot. absurd (off (sound.slots.hand a s slot).loose);
+        out = λ out. gone_s;
+        hand_out = λ slot out. off (sound.slots.hand a s slot).loose;
+        opened = λ slot e. absurd (false≢true e);
+        closed = λ curr e. absurd (false≢true e);
+        no_other_hand = λ b other slot. off (sound.slots.hand b s slot).loose;
+        no_other_out = λ b other out. off (sound.slots.out b s out).loose;
+        others_closed = λ b other curr e. sound.slots.closed b s curr e;
+      })
+      refl sound.slots (λ j t key on_it flag. sound.slots.added j t key (chain_before j t on_it) flag) (λ j t key on_it flag. sound.slots.removed j t key (chain_before j t on_it) flag)
 
   -- the actor's own locks
   my_lock : (place : Place) → HasPlace place (claimed_places (actor_at y a).pred (actor_at y a).curr) → HasLock (actor_in y.actors a) place
@@ -264,26 +198,13 @@ module _ (n calls : ℕ) (y : Yard) (callers : List (Option Caller)) (disk : Med
       )
 
   unlinked_locks : LocksSound y.shape y.locks actors' P'
-  unlinked_locks = record {
-    heads = sound.locks.heads;
-    nodes = sound.locks.nodes;
-    has = by_actor (λ b. (place : Place) → HasLock (actor_in actors' b) place → owner y.locks place ≡ b) a
-        (λ place lock. sound.locks.has a place (my_lock place (subst (λ (q : Actor). HasLock q place) hand_a lock).among))
-        (λ b other place lock. sound.locks.has b place (subst (λ (q : Actor). HasLock q place) (hand_b b other) lock));
-    rests = by_actor (λ b. RestsOn y.shape.buckets (actor_in actors' b).hold (actor_in actors' b) P') a
-        (subst (λ (q : Actor). RestsOn y.shape.buckets q.hold q P') (sym hand_a) tt)
-        (λ b other. subst (λ (q : Actor). RestsOn y.shape.buckets q.hold q P') (sym (hand_b b other))
-        (pair_published y.shape.buckets (unlinked k s a) (actor_in y.actors b) P (λ rest. unlinked_leaves y.shape.buckets y.shape.slots k spot s a (actor_in y.actors b) P sound.trace.lawful leaving (places_apart b other rest)) (sound.locks.rests b)));
-  }
+  unlinked_locks = turned_locks y.shape y.locks y.actors actors' P a hand_b sound.locks P'
+      (λ place lock. my_lock place (subst (λ (q : Actor). HasLock q place) hand_a lock).among)
+      (subst (λ (q : Actor). RestsOn y.shape.buckets q.hold q P') (sym hand_a) tt)
+      (λ b other. pair_published y.shape.buckets (unlinked k s a) (actor_in y.actors b) P (λ rest. unlinked_leaves y.shape.buckets y.shape.slots k spot s a (actor_in y.actors b) P sound.trace.lawful leaving (places_apart b other rest)) (sound.locks.rests b))
 
   unlinked_reuse : ReuseSound y.shape y.words.pins y.uses actors' P' notes.begun
-  unlinked_reuse = record {
-    worn = sound.reuse.worn;
-    sights = sound.reuse.sights;
-    seen = λ b t seen limbo. seen_step y.shape.buckets t (pin_in y.words.pins b) (notes.begun b) (unlinked k s a) P (of_pass seen b Left) (loose_then t (limbo_loose y.shape y.vault.cells y.vault.dead y.uses y.actors P t seen sound.slots limbo)) (sound.reuse.seen b t seen limbo);
-    free = λ b t free inside. away_stays y.shape.buckets t (notes.begun b) (unlinked k s a) P (loose_then t (free_loose y.shape y.vault.cells y.vault.dead y.uses y.actors P t sound.slots free)) (sound.reuse.free b t free inside);
-    reserved = λ b d t slot inside. away_stays y.shape.buckets t (notes.begun b) (unlinked k s a) P (loose_then t (sound.slots.hand d t (sym (slot_still d) ∙ slot)).loose) (sound.reuse.reserved b d t (sym (slot_still d) ∙ slot) inside);
-  }
+  unlinked_reuse = reuse_published y.shape y.vault.cells y.vault.dead y.uses y.actors actors' (unlinked k s a) P y.words.pins notes.begun unlinked_slots (λ b t slot. sym (slot_still b) ∙ slot) sound.reuse
 
   leaves : (b : ℕ) → LeavesCaller y.shape.buckets y.shape.slots (unlinked k s a) P law (actor_in y.actors b) (pin_in y.words.pins b) (notes.begun b)
   leaves b = record {
@@ -298,19 +219,15 @@ module _ (n calls : ℕ) (y : Yard) (callers : List (Option Caller)) (disk : Med
   unlinked_callers : CallersSound y.shape y.vault y.words.pins actors' callers' P' notes
   unlinked_callers =
       let me = own n calls y callers disk M P notes a i (Remove k) at is sound in
-      record {
-        count = length-set_of_pass callers a _ ∙ sound.callers.count;
-        hands = length-set_of_pass y.actors a x ∙ sound.callers.hands;
-        each = by_actor (λ b. CallerSound (view_of y.shape y.vault actors' b) (pin_in y.words.pins b) (caller_at callers' b) (notes.begun b) P' (notes.changed b)) a
-            (carry y.shape.buckets y.shape.passes y.vault.format y.vault.cells y.vault.dead P' x (actor_in actors' a) (pin_in y.words.pins a) (pin_in y.words.pins a) (Some (call_at i (Remove k) (Playing (Removing s) 5))) (caller_at callers' a) (notes.begun a) (notes.begun a) (notes.changed a) (notes.changed a) hand_a refl (moved_same callers a (call_at i (Remove k) at) is (Playing (Removing s) 5)) refl refl
-            (record {
-              quiet = λ inside. (tt, me.quiet inside);
-              begins = λ inside. inr (me.begins inside);
-              stands = (me.stands.0, me.stands.1, (h.0, h.1, (refl, change_stays y.shape.buckets y.shape.slots (unlinked k s a) P law k (notes.changed a) h.2.3)));
-            }))
-            (λ b other. carry y.shape.buckets y.shape.passes y.vault.format y.vault.cells y.vault.dead P' (actor_in y.actors b) (actor_in actors' b) (pin_in y.words.pins b) (pin_in y.words.pins b) (caller_at callers b) (caller_at callers' b) (notes.begun b) (notes.begun b) (notes.changed b) (notes.changed b) (hand_b b other) refl (moved_other callers a (call_at i (Remove k) at) is (Playing (Removing s) 5) b other) refl refl
-            (caller_published y.shape.buckets y.shape.slots (unlinked k s a) P law y.shape.passes y.vault.format y.vault.cells y.vault.dead (actor_in y.actors b) (pin_in y.words.pins b) (notes.begun b) (notes.changed b) (leaves b) (caller_at callers b) (sound.callers.each b)));
-      }
+      callers_moved callers a (call_at i (Remove k) at) is (Playing (Removing s) 5) y.shape y.vault y.vault y.words.pins y.actors actors' P P' notes notes x (notes.changed a)
+      (length-set_of_pass y.actors a x) hand_a hand_b (λ b. refl) refl (λ b other. refl)
+      (record {
+        quiet = λ inside. (tt, me.quiet inside);
+        begins = λ inside. inr (me.begins inside);
+        stands = (me.stands.0, me.stands.1, (h.0, h.1, (refl, change_stays y.shape.buckets y.shape.slots (unlinked k s a) P law k (notes.changed a) h.2.3)));
+      })
+      (λ b other. caller_published y.shape.buckets y.shape.slots (unlinked k s a) P law y.shape.passes y.vault.format y.vault.cells y.vault.dead (actor_in y.actors b) (pin_in y.words.pins b) (notes.begun b) (notes.changed b) (leaves b) (caller_at callers b) (sound.callers.each b))
+      sound.callers
 
   node_range : (t : ℕ) → (actor_at y a).pred ≡ Node t → t < y.shape.slots
   node_range t e = on_range y.shape.buckets y.shape.slots P (bucket_of y.shape.buckets k) t sound.trace.lawful (subst (λ (q : Place). on 0 (chain_of y.shape.buckets k P) (place_number q) ≡ true) e faces.faces.there)
@@ -345,10 +262,9 @@ module _ (n calls : ℕ) (y : Yard) (callers : List (Option Caller)) (disk : Med
   pub unlink_keeps : Sound n calls (yard_done y (actor_at y a) a Unlink) callers' disk M (publishes y (actor_at y a) a Unlink ++ P) notes
   unlink_keeps =
       let few = few_slots sound.images in
-      let lt = on_range y.shape.buckets y.shape.slots P (bucket_of y.shape.buckets k) s sound.trace.lawful there in
       let claimed : s ≡ node_of (actor_at y a) = sym (ap (λ (q : Option ℕ). unwrap_or q 0) h.0) in
-      let next : node_next y.shape.buckets s P ≡ next_at y.words (Node s) = sym (link_next y.shape y.words P sound.trace few s lt) in
-      let key : k ≡ get y.words (key_at s) = sym (key_load y.shape y.words P sound.trace few s lt ∙ h.2.1) in
+      let next : node_next y.shape.buckets s P ≡ next_at y.words (Node s) = sym (link_next y.shape y.words P sound.trace few s in_range) in
+      let key : k ≡ get y.words (key_at s) = sym (key_load y.shape y.words P sound.trace few s in_range ∙ h.2.1) in
       subst (λ (q : ℕ). Sound n calls (yard' (next_at y.words (Node q))) callers' disk M (unlinked (get y.words (key_at q)) q a ∷ P) notes) claimed
       (subst (λ (q : ℕ). Sound n calls (yard' (next_at y.words (Node s))) callers' disk M (unlinked q s a ∷ P) notes) key
       (subst (λ (q : ℕ). Sound n calls (yard' q) callers' disk M P' notes) next unlinked_sound))

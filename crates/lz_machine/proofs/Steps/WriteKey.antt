@@ -1,22 +1,18 @@
 -- WriteKey keeps the invariant: the adder's key is put into the slot that it has reserved.
-use Rattle.std.proofs.Common.{◌≡◌, ◌≢◌, ◌⊎◌, inl, inr, ℕ, suc, ◌<◌, ◌≤◌, ◌+◌, ◌*◌, ◌==◌, Bool, true, false, List, ◌∷◌, ◌++◌, Option, Some, refl, sym, ap, ◌∙◌, subst, arith, get_or-set_same, get_or-set_other}
+use Rattle.std.proofs.Common.{◌≡◌, ◌≢◌, ◌⊎◌, inl, inr, ℕ, suc, ◌<◌, ◌≤◌, ◌+◌, ◌*◌, ◌==◌, Bool, true, false, List, ◌∷◌, ◌++◌, Option, Some, refl, sym, ap, ◌∙◌, subst, arith}
 use mathlib.Core.Bool.{false≢true}
 use Rattle.std.specs.Prelude.{slice_set, unwrap_or}
-use Rattle.std.proofs.lemmas.Bool.{cases_eq}
 use Rattle.std.proofs.lemmas.Bool.Decides.{nat_tests}
 use Rattle.lz_slot.specs.Rooms.{largest_of}
 use Rattle.lz_slot.specs.declared.command.Command.{Command}
 use Rattle.lz_slot.specs.declared.command.Command.TheVariants.{Add, Remove}
 use Rattle.lz_slot.specs.Sets.{key_of}
 use Rattle.lz_slot.specs.Bytes.{slot_body}
-use Rattle.lz_slot.specs.Counted.{of_pass}
 use Rattle.lz_slot.specs.Histories.{History}
 use Rattle.lz_disk.specs.Images.{Medium, WriteFailed, written}
-use Rattle.lz_vault.specs.declared.vault.Stage.{Stage}
-use Rattle.lz_vault.specs.declared.vault.Stage.TheVariants.{Closed, KeyLoose, Keyed, Opening}
+use Rattle.lz_vault.specs.declared.vault.Stage.TheVariants.{Closed, KeyLoose, Opening}
 use Rattle.lz_vault.specs.Stages.{Cell}
 use Rattle.lz_vault.specs.Vaults.{Vaulted, medium_after}
-use Rattle.lz_allot.specs.declared.sight.Sight.TheVariants.{Left}
 use Rattle.lz_list.specs.declared.publishing.Publishing.TheVariants.{KeyPrepared as key_prepared}
 use Rattle.lz_list.specs.declared.word.Word.TheVariants.{Key as key_at}
 use Rattle.lz_list.specs.Words.{set}
@@ -27,30 +23,28 @@ use Rattle.lz_machine.specs.declared.actor.Hold.{Hold}
 use Rattle.lz_machine.specs.declared.caller.Sequence.TheVariants.{Writing}
 use Rattle.lz_machine.specs.declared.caller.Progress.{Progress}
 use Rattle.lz_machine.specs.declared.caller.Progress.TheVariants.{Playing}
-use Rattle.lz_vault.specs.Members.{no_cell}
 use Rattle.lz_machine.specs.Yards.{Yard, actor_at, actor_in, pin_in, cell_in, stage_in}
 use Rattle.lz_machine.specs.Table.{with_vault, call_of, slot_of, yard_done, publishes}
 use Rattle.lz_machine.specs.Calls.{halts}
 use Rattle.lz_machine.specs.Runs.{Caller, caller_at}
 use Rattle.lz_machine.specs.Notes.{Notes, entries}
-use Rattle.lz_machine.specs.SlotsSound.{opens, unlocks, IsGateClosed, IsGateOpened, IsGateWritten, IsOut, IsNodeStage, IsHandStage, SlotStands, is_node, is_held, is_out, is_free, is_limbo, SlotsSound}
+use Rattle.lz_machine.specs.SlotsSound.{opens, shuts, unlocks, IsGateClosed, IsGateOpened, IsGateWritten, IsHandStage, SlotsSound}
 use Rattle.lz_machine.specs.LocksSound.{RestsOn, LocksSound}
 use Rattle.lz_machine.specs.CallersSound.{Relies, view_of, CallerSound, CallersSound}
 use Rattle.lz_machine.specs.LedgerSound.{HasTail}
 use Rattle.lz_machine.specs.Sound.{DiskSound, ReuseSound, Sound}
 use Rattle.lz_machine.proofs.Frames.ActorTable.{by_actor}
-use Rattle.lz_machine.proofs.Frames.Grip.{closes_dead, opens_dead}
 use Rattle.lz_machine.proofs.Frames.OneActor.{moving}
-use Rattle.lz_machine.proofs.Frames.Limbo.{seen_step, away_stays}
+use Rattle.lz_machine.proofs.Frames.ChainSlots.{reuse_published}
+use Rattle.lz_machine.proofs.Frames.OneSlot.{same_nodes, prepared_slots}
 use Rattle.lz_machine.proofs.Frames.Publishing.{LeavesCaller, caller_published, shut_relies}
-use Rattle.lz_machine.proofs.Steps.Pin.{limbo_loose, free_loose}
 use Rattle.lz_machine.proofs.Ledger.QuietPublishing.{ledger_published}
 use Rattle.lz_machine.proofs.Frames.Store.{trace_key}
 use Rattle.lz_machine.proofs.Steps.Halt.{held_node}
 use Rattle.lz_machine.proofs.Frames.HeldLocks.{key_leaves}
 use Rattle.lz_machine.proofs.Steps.Hop.{call_at, own, goes_on_keeps}
 use Rattle.lz_machine.proofs.Frames.FittingKeys.{adds_fitting}
-use Rattle.lz_machine.proofs.Frames.Cells.{KeepsCell, caller_vaulted}
+use Rattle.lz_machine.proofs.Frames.Cells.{caller_vaulted, cell_same, cell_other, stage_other, cell_stays}
 use Rattle.lz_machine.proofs.Frames.KeyWrite.{key_failed, key_written, rests_prepared}
 use Rattle.lz_machine.proofs.Frames.Ranges.{few_slots}
 
@@ -86,12 +80,9 @@ module _ (n calls : ℕ) (y : Yard) (callers : List (Option Caller)) (disk : Med
   chain_apart : (j t : ℕ) → on 0 (chain_of y.shape.buckets j P) (suc t) ≡ true → t ≢ s
   chain_apart j t there it = false≢true (sym (loose (bucket_of y.shape.buckets j)) ∙ subst (λ (q : ℕ). on 0 (chain_of y.shape.buckets j P) (suc q) ≡ true) it there)
 
-  -- and so is one in another's hand, and one that is out
+  -- and so is one in another's hand
   hand_apart : (b t : ℕ) → b ≢ a → (actor_in y.actors b).slot ≡ Some t → t ≢ s
   hand_apart b t other slot it = other (sound.slots.one_hand b a t slot (h.1 ∙ ap Some (sym it)))
-
-  out_apart : (b t : ℕ) → IsOut (actor_in y.actors b) t → t ≢ s
-  out_apart b t out it = sound.slots.hand_out a b t (h.1 ∙ ap Some (sym it)) out
 
   -- The words: the key is published, where its slot's gate is closed.
   abbrev P' : Trace
@@ -107,47 +98,17 @@ module _ (n calls : ℕ) (y : Yard) (callers : List (Option Caller)) (disk : Med
   word_other : (t : ℕ) → t ≢ s → key_word t P' ≡ key_word t P
   word_other t other = let apart : (s == t) ≡ false = grind (arith, nat_tests, other) in rw apart refl
 
-  -- where each slot stands
-  stands_published : (t : ℕ) → t ≢ s → SlotStands y.shape y.vault.cells y.vault.dead y.uses y.actors P t → SlotStands y.shape y.vault.cells y.vault.dead y.uses y.actors P' t
-  stands_published t apart (is_node on_it stage) = is_node (record {
-    there = subst (λ (q : ℕ). on 0 (chain_of y.shape.buckets q P) (suc t) ≡ true) (sym (word_other t apart)) on_it.there;
-    taken = on_it.taken;
-    key = on_it.key ∙ sym (word_other t apart);
-  }) stage
-  stands_published t apart (is_held b slot) = is_held b slot
-  stands_published t apart (is_out b out) = is_out b out
-  stands_published t apart (is_free free_of free stage) = is_free free_of free stage
-  stands_published t apart (is_limbo sights free_of limbo stage) = is_limbo sights free_of limbo stage
-
-  -- the gate of a slot in hand: that of this one is closed, so that nothing is said of its key
-  hand_published : (b t : ℕ) → IsHandStage y.vault.cells y.vault.dead (actor_in y.actors b) P t → IsHandStage y.vault.cells y.vault.dead (actor_in y.actors b) P' t
-  hand_published b t stage = elim (cases_eq t s) [
-    | inl same ↦ inl (subst (λ (q : ℕ). IsGateClosed (stage_in y.vault.cells q)) (sym same) shut)
-    | inr other ↦ go other stage
-  ]
-    where
-      go : t ≢ s → IsHandStage y.vault.cells y.vault.dead (actor_in y.actors b) P t → IsHandStage y.vault.cells y.vault.dead (actor_in y.actors b) P' t
-      go apart (inl closed) = inl closed
-      go apart (inr opened) = inr (opened.0, opened.1, opened.2 ∙ sym (word_other t apart))
+  -- a slot whose gate is closed for sure is on no chain
+  others_closed : (b : ℕ) → (actor_in y.actors b).curr ≡ Some s → shuts (actor_in y.actors b).hold ≡ true → ⊥
+  others_closed b curr is = chain_apart (key_word s P) s (held_node y.shape P (actor_in y.actors b).hold (actor_in y.actors b) sound.trace.lawful (sound.locks.rests b) s curr (shut_relies (actor_in y.actors b).hold is)) refl
 
   -- so what is said of slots stays
   published_slots : SlotsSound y.shape y.vault.cells y.vault.dead y.uses y.actors P'
-  published_slots = record {
-    count = sound.slots.count;
-    each = λ t within. elim (cases_eq t s) [
-      | inl same ↦ is_held a (h.1 ∙ ap Some (sym same))
-      | inr other ↦ stands_published t other (sound.slots.each t within)
-    ];
-    hand = λ b t slot. let was = sound.slots.hand b t slot in record { in_range = was.in_range; loose = was.loose; taken = was.taken; stage = hand_published b t was.stage };
-    out = λ b t out. let was = sound.slots.out b t out in record { in_range = was.in_range; loose = was.loose; taken = was.taken; stage = was.stage };
-    one_hand = sound.slots.one_hand;
-    one_out = sound.slots.one_out;
-    hand_out = sound.slots.hand_out;
-    opened = sound.slots.opened;
-    closed = sound.slots.closed;
-    added = λ j t key on_it flag. sound.slots.added j t (sym (word_other t (chain_apart j t on_it)) ∙ key) on_it flag;
-    removed = λ j t key on_it flag. sound.slots.removed j t (sym (word_other t (chain_apart j t on_it)) ∙ key) on_it flag;
-  }
+  published_slots =
+      prepared_slots y.shape y.vault.cells y.vault.cells y.vault.dead y.vault.dead y.uses y.actors P P' a s (λ e. e) (λ t apart. refl)
+      (record { loose = λ t apart is. is; word = word_other; mark = λ t apart. refl; chain = λ t apart on_it. on_it }) sound.slots h.1 (ap unlocks h.0.hold) loose shut (λ b curr is. absurd (others_closed b curr is))
+      (λ j t key on_it flag. sound.slots.added j t (sym (word_other t (chain_apart j t on_it)) ∙ key) on_it flag)
+      (λ j t key on_it flag. sound.slots.removed j t (sym (word_other t (chain_apart j t on_it)) ∙ key) on_it flag)
 
   -- what is said of locks stays: the adder has none
   published_locks : LocksSound y.shape y.locks y.actors P'
@@ -181,13 +142,7 @@ module _ (n calls : ℕ) (y : Yard) (callers : List (Option Caller)) (disk : Med
 
   -- passes stay away from loose slots
   published_reuse : ReuseSound y.shape y.words.pins y.uses y.actors P' notes.begun
-  published_reuse = record {
-    worn = sound.reuse.worn;
-    sights = sound.reuse.sights;
-    seen = λ b t seen limbo. seen_step y.shape.buckets t (pin_in y.words.pins b) (notes.begun b) (key_prepared s k) P (of_pass seen b Left) (limbo_loose y.shape y.vault.cells y.vault.dead y.uses y.actors P t seen sound.slots limbo) (sound.reuse.seen b t seen limbo);
-    free = λ b t free inside. away_stays y.shape.buckets t (notes.begun b) (key_prepared s k) P (free_loose y.shape y.vault.cells y.vault.dead y.uses y.actors P t sound.slots free) (sound.reuse.free b t free inside);
-    reserved = λ b d t slot inside. away_stays y.shape.buckets t (notes.begun b) (key_prepared s k) P (sound.slots.hand d t slot).loose (sound.reuse.reserved b d t slot inside);
-  }
+  published_reuse = reuse_published y.shape y.vault.cells y.vault.dead y.uses y.actors y.actors (key_prepared s k) P y.words.pins notes.begun published_slots (λ b t slot. slot) sound.reuse
 
   -- all of it
   published_sound : Sound n calls (record { shape = y.shape; words = set y.words (key_at s) k; locks = y.locks; vault = y.vault; uses = y.uses; actors = y.actors }) callers disk M P' notes
@@ -217,21 +172,11 @@ module _ (n calls : ℕ) (y : Yard) (callers : List (Option Caller)) (disk : Med
     abbrev vault' : Vaulted
     vault' = record y.vault { cells = cells'; dead = dead' }
 
-    -- one cell is changed
-    cell_same : cell_in cells' s ≡ new
-    cell_same = get_or-set_same y.vault.cells s new no_cell (omega (arith, lt, sound.images.count))
-
     stage_same : stage_in cells' s ≡ KeyLoose
-    stage_same = ap (λ (q : Cell). q.stage) cell_same
-
-    cell_other : (t : ℕ) → t ≢ s → cell_in cells' t ≡ cell_in y.vault.cells t
-    cell_other t other = get_or-set_other y.vault.cells s t new no_cell other
-
-    stage_other : (A : Stage → Type 0) (t : ℕ) → t ≢ s → A (stage_in y.vault.cells t) → A (stage_in cells' t)
-    stage_other A t other was = subst A (ap (λ (q : Cell). q.stage) (sym (cell_other t other))) was
+    stage_same = ap (λ (q : Cell). q.stage) (cell_same y.vault.cells s new (omega (arith, lt, sound.images.count)))
 
     key_other : (t : ℕ) → t ≢ s → (cell_in cells' t).key ≡ (cell_in y.vault.cells t).key
-    key_other t other = ap (λ (q : Cell). q.key) (cell_other t other)
+    key_other t other = ap (λ (q : Cell). q.key) (cell_other y.vault.cells s new t other)
 
     -- its gate isn't opened
     loose_opened : IsGateOpened KeyLoose → ⊥
@@ -241,57 +186,13 @@ module _ (n calls : ℕ) (y : Yard) (callers : List (Option Caller)) (disk : Med
     opened_apart : (t : ℕ) → IsGateOpened (stage_in cells' t) → t ≢ s
     opened_apart t opened it = loose_opened (subst IsGateOpened (ap (stage_in cells') it ∙ stage_same) opened)
 
-    -- the gate of a node
-    node_then : (t : ℕ) → t ≢ s → IsNodeStage y.vault.cells y.vault.dead y.actors P t → IsNodeStage cells' dead' y.actors P t
-    node_then t apart (inl opened) = inl (opened.0, stage_other IsGateOpened t apart opened.1)
-    node_then t apart (inr (b, closer, gate)) = inr (b, record { node = closer.node; closes = closes_dead y.vault.dead dead' (actor_in y.actors b).hold dies closer.closes }, stage_other IsGateWritten t apart gate)
-
-    -- where each other slot stands
-    stands_then : (t : ℕ) → t ≢ s → SlotStands y.shape y.vault.cells y.vault.dead y.uses y.actors P t → SlotStands y.shape cells' dead' y.uses y.actors P t
-    stands_then t apart (is_node on_it stage) = is_node (record { there = on_it.there; taken = on_it.taken; key = key_other t apart ∙ on_it.key }) (node_then t apart stage)
-    stands_then t apart (is_held b slot) = is_held b slot
-    stands_then t apart (is_out b out) = is_out b out
-    stands_then t apart (is_free free_of free stage) = is_free free_of free (stage_other IsGateClosed t apart stage)
-    stands_then t apart (is_limbo sights free_of limbo stage) = is_limbo sights free_of limbo (stage_other (λ q. q ≡ Closed) t apart stage)
-
-    -- the gate of a slot in hand
-    hand_then : (b t : ℕ) → IsHandStage y.vault.cells y.vault.dead (actor_in y.actors b) P t → IsHandStage cells' dead' (actor_in y.actors b) P t
-    hand_then b t stage = elim (cases_eq t s) [
-      | inl same ↦ inl (subst (λ (q : ℕ). IsGateClosed (stage_in cells' q)) (sym same) (inr (inl stage_same)))
-      | inr other ↦ go other stage
-    ]
-      where
-        go : t ≢ s → IsHandStage y.vault.cells y.vault.dead (actor_in y.actors b) P t → IsHandStage cells' dead' (actor_in y.actors b) P t
-        go apart (inl closed) = inl (stage_other IsGateClosed t apart closed)
-        go apart (inr opened) = inr (opens_dead y.vault.dead dead' (actor_in y.actors b).hold dies opened.0, stage_other IsGateOpened t apart opened.1, key_other t apart ∙ opened.2)
-
     -- so what is said of slots stays
     put_slots : SlotsSound y.shape cells' dead' y.uses y.actors P
-    put_slots = record {
-      count = sound.slots.count;
-      each = λ t within. elim (cases_eq t s) [
-        | inl same ↦ is_held a (h.1 ∙ ap Some (sym same))
-        | inr other ↦ stands_then t other (sound.slots.each t within)
-      ];
-      hand = λ b t slot. let was = sound.slots.hand b t slot in record { in_range = was.in_range; loose = was.loose; taken = was.taken; stage = hand_then b t was.stage };
-      out = λ b t out. let was = sound.slots.out b t out in record { in_range = was.in_range; loose = was.loose; taken = was.taken; stage = stage_other (λ q. q ≡ Closed) t (out_apart b t out) was.stage };
-      one_hand = sound.slots.one_hand;
-      one_out = sound.slots.one_out;
-      hand_out = sound.slots.hand_out;
-      opened = λ b t slot does. elim (cases_eq b a) [
-        | inl same ↦ absurd (false≢true (ap unlocks (sym h.0.hold) ∙ ap (λ (q : ℕ). unlocks (actor_in y.actors q).hold) (sym same) ∙ does))
-        | inr other ↦ stage_other IsGateOpened t (hand_apart b t other slot) (sound.slots.opened b t slot does)
-      ];
-      closed = λ b t curr does.
-          let there = held_node y.shape P (actor_in y.actors b).hold (actor_in y.actors b) sound.trace.lawful (sound.locks.rests b) t curr (shut_relies (actor_in y.actors b).hold does) in
-          stage_other IsGateWritten t (chain_apart (key_word t P) t there) (sound.slots.closed b t curr does);
-      added = λ j t key on_it flag. stage_other (λ q. q ≢ Opening) t (chain_apart j t on_it) (sound.slots.added j t key on_it flag);
-      removed = λ j t key on_it flag. stage_other (λ q. q ≡ Closed) t (chain_apart j t on_it) (sound.slots.removed j t key on_it flag);
-    }
-
-    -- another's cell is the old one
-    keeps_cell : (t : ℕ) → t ≢ s → KeepsCell (cell_in y.vault.cells t) (cell_in cells' t)
-    keeps_cell t apart = record { key = key_other t apart; keyed = λ e. subst (λ (q : Cell). (q.stage ≡ KeyLoose) ⊎ (q.stage ≡ Keyed)) (sym (cell_other t apart)) e; sure = λ e. stage_other (λ q. q ≡ Keyed) t apart e }
+    put_slots =
+        prepared_slots y.shape y.vault.cells cells' y.vault.dead dead' y.uses y.actors P P a s dies (cell_other y.vault.cells s new) (same_nodes y.shape.buckets s P) sound.slots h.1 (ap unlocks h.0.hold) loose (inr (inl stage_same))
+        (λ b curr is. absurd (others_closed b curr is))
+        (λ j t key on_it flag. stage_other y.vault.cells s new (λ q. q ≢ Opening) t (chain_apart j t on_it) (sound.slots.added j t key on_it flag))
+        (λ j t key on_it flag. stage_other y.vault.cells s new (λ q. q ≡ Closed) t (chain_apart j t on_it) (sound.slots.removed j t key on_it flag))
 
     -- all of it, over a disk that is as the new cells say
     put_sound : (medium : Medium) → DiskSound y.shape vault' medium → Sound n calls (with_vault y vault') callers medium M P notes
@@ -306,17 +207,17 @@ module _ (n calls : ℕ) (y : Yard) (callers : List (Option Caller)) (disk : Med
         each = by_actor (λ b. CallerSound (view_of y.shape vault' y.actors b) (pin_in y.words.pins b) (caller_at callers b) (notes.begun b) P (notes.changed b)) a
             (subst (λ (q : Option Caller). CallerSound (view_of y.shape vault' y.actors a) (pin_in y.words.pins a) q (notes.begun a) P (notes.changed a)) (sym is)
             (record { quiet = me.quiet; begins = me.begins; stands = (me.stands.0, me.stands.1, (record { hold = h.0.hold; none = h.0.none }, h.1, h.2)) }))
-            (λ b other. caller_vaulted y.shape.buckets y.shape.passes y.vault.format y.vault.cells cells' y.vault.dead dead' (actor_in y.actors b) (notes.begun b) P (notes.changed b) dies (λ t slot. keeps_cell t (hand_apart b t other slot)) (pin_in y.words.pins b) (caller_at callers b) (sound.callers.each b));
+            (λ b other. caller_vaulted y.shape.buckets y.shape.passes y.vault.format y.vault.cells cells' y.vault.dead dead' (actor_in y.actors b) (notes.begun b) P (notes.changed b) dies (λ t slot. cell_stays y.vault.cells s new t (hand_apart b t other slot)) (pin_in y.words.pins b) (caller_at callers b) (sound.callers.each b));
       };
       reuse = sound.reuse;
       ledger = sound.ledger;
       tails = record {
         adding = λ b t slot opened.
             let apart = opened_apart t opened in
-            subst (λ (q : ℕ). HasTail (Add q) callers (entries y.shape.passes callers notes) M) (sym (key_other t apart)) (sound.tails.adding b t slot (subst IsGateOpened (ap (λ (q : Cell). q.stage) (cell_other t apart)) opened));
+            subst (λ (q : ℕ). HasTail (Add q) callers (entries y.shape.passes callers notes) M) (sym (key_other t apart)) (sound.tails.adding b t slot (subst IsGateOpened (ap (λ (q : Cell). q.stage) (cell_other y.vault.cells s new t apart)) opened));
         removing = λ t on_it clear gate.
             let apart = chain_apart (key_word t P) t on_it in
-            subst (λ (q : ℕ). HasTail (Remove q) callers (entries y.shape.passes callers notes) M) (sym (key_other t apart)) (sound.tails.removing t on_it clear (subst IsGateWritten (ap (λ (q : Cell). q.stage) (cell_other t apart)) gate));
+            subst (λ (q : ℕ). HasTail (Remove q) callers (entries y.shape.passes callers notes) M) (sym (key_other t apart)) (sound.tails.removing t on_it clear (subst IsGateWritten (ap (λ (q : Cell). q.stage) (cell_other y.vault.cells s new t apart)) gate));
       };
     }
 
@@ -355,7 +256,7 @@ module _ (n calls : ℕ) (y : Yard) (callers : List (Option Caller)) (disk : Med
   keyed_sound : Sound n calls yard_keyed (moving callers a (call_at i c (Playing (Writing s) 0)) (Playing (Writing s) 1)) medium_put M (key_prepared s (key_of c) ∷ P) notes
   keyed_sound =
       let here = h n calls y callers disk M P notes sound a i c s is in
-      let cell : cell_in cells_put s ≡ record { stage = KeyLoose; key = key_of c } = cell_same n calls y callers disk M P notes sound a i c s is y.vault.dead (λ e. e) in
+      let cell : cell_in cells_put s ≡ record { stage = KeyLoose; key = key_of c } = cell_same y.vault.cells s (record { stage = KeyLoose; key = key_of c }) (omega (arith, in_range, sound.images.count)) in
       goes_on_keeps n calls yard_keyed callers medium_put M (key_prepared s (key_of c) ∷ P) notes a i c (Playing (Writing s) 0) is
       (published_sound n calls yard_put callers medium_put M P notes written_sound a i c s is) (Playing (Writing s) 1) refl (λ none is. absurd (false≢true is))
       (record {

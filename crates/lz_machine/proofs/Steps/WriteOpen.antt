@@ -1,7 +1,6 @@
 -- WriteOpen keeps the invariant: the gate of the slot that the adder will link is opened.
-use Rattle.std.proofs.Common.{◌≡◌, ◌≢◌, inl, inr, ℕ, ◌+◌, ◌*◌, Bool, false, List, [], ◌∷◌, ◌++◌, Option, Some, refl, sym, ap, ◌∙◌, subst, arith}
+use Rattle.std.proofs.Common.{◌≡◌, ◌≢◌, ℕ, ◌+◌, ◌*◌, Bool, false, List, [], ◌∷◌, ◌++◌, Option, Some, refl, sym, ap, subst, arith}
 use Rattle.std.specs.Prelude.{slice_set, unwrap_or}
-use Rattle.std.proofs.lemmas.Bool.{cases_eq}
 use Rattle.lz_slot.specs.declared.command.Command.TheVariants.{Add}
 use Rattle.lz_slot.specs.Bytes.{open_byte}
 use Rattle.lz_slot.specs.Counted.{set_of_pass}
@@ -25,7 +24,6 @@ use Rattle.lz_machine.specs.Yards.{Yard, actor_at, actor_in, pin_in, cell_in, st
 use Rattle.lz_machine.specs.Table.{with_hold, call_of, slot_of, yard_done, publishes}
 use Rattle.lz_machine.specs.Runs.{Caller, caller_at}
 use Rattle.lz_machine.specs.Notes.{Notes}
-use Rattle.lz_machine.specs.SlotsSound.{opens, shuts, has_removed_node}
 use Rattle.lz_machine.specs.LocksSound.{has_locks, HasLock, RestsOn, LocksSound}
 use Rattle.lz_machine.specs.CallersSound.{Relies, view_of, CallerSound}
 use Rattle.lz_machine.specs.Sound.{DiskSound, Sound}
@@ -65,13 +63,6 @@ module _ (n calls : ℕ) (y : Yard) (callers : List (Option Caller)) (disk : Med
   others_now : (b : ℕ) → b ≢ a → actor_in actors' b ≡ actor_in y.actors b
   others_now b other = other_hand n calls y callers disk M P notes a (call_at i (Add k) (Playing (Adding s) 0)) is sound x b other
 
-  -- and no slot changes hands
-  slots_now : (b : ℕ) → (actor_in actors' b).slot ≡ (actor_in y.actors b).slot
-  slots_now b = elim (cases_eq b a) [
-    | inl same ↦ ap (λ (q : ℕ). (actor_in actors' q).slot) same ∙ ap (λ (q : Actor). q.slot) mine_now ∙ ap (λ (q : ℕ). (actor_in y.actors q).slot) (sym same)
-    | inr other ↦ ap (λ (q : Actor). q.slot) (others_now b other)
-  ]
-
   -- the adder holds the same locks, and rests on its slot too
   opened_locks : LocksSound y.shape y.locks actors' P''
   opened_locks = held_locks y.shape y.locks y.actors actors' P'' a others_now linked_yard.locks
@@ -98,21 +89,20 @@ module _ (n calls : ℕ) (y : Yard) (callers : List (Option Caller)) (disk : Med
       (gate_written y.shape y.vault disk sound.images alive s (lt n calls y callers disk M P notes sound a i k s is) open_byte (omega arith) Opening (keyed_has_body (stage_in y.vault.cells s) known.1.stage) (λ j bytes e. e) (λ j bytes e. e) y.vault.syncs)
 
   -- the adder goes on to its linking
-  opened_mine : CallerSound (view_of y.shape (vault_open y.vault.dead) actors' a) (pin_in y.words.pins a) (Some (call_at i (Add k) (Playing (Adding s) 1))) (notes.begun a) P'' (notes.changed a)
+  opened_mine : CallerSound (record { buckets = y.shape.buckets; passes = y.shape.passes; format = y.vault.format; cells = cells_open; dead = y.vault.dead; actor = x }) (pin_in y.words.pins a) (Some (call_at i (Add k) (Playing (Adding s) 1))) (notes.begun a) P'' (notes.changed a)
   opened_mine =
       let before = own n calls (record { shape = y.shape; words = set y.words (link_at s) link; locks = y.locks; vault = y.vault; uses = y.uses; actors = y.actors }) callers disk M P'' notes a i (Add k) (Playing (Adding s) 0) is linked_yard in
       record {
         quiet = before.quiet;
         begins = before.begins;
-        stands = (before.stands.0, before.stands.1, (ap (λ (q : Actor). q.hold) mine_now, ap (λ (q : Actor). q.slot) mine_now ∙ known.1.slot, known.1.word, known.2));
+        stands = (before.stands.0, before.stands.1, (refl, known.1.slot, known.1.word, known.2));
       }
 
   -- all of it
   opened_sound : Sound n calls (record { shape = y.shape; words = set y.words (link_at s) link; locks = y.locks; vault = vault_open y.vault.dead; uses = y.uses; actors = actors' }) (moving callers a (call_at i (Add k) (Playing (Adding s) 0)) (Playing (Adding s) 1)) medium_open M P'' notes
   opened_sound =
       open_sound n calls (record { shape = y.shape; words = set y.words (link_at s) link; locks = y.locks; vault = y.vault; uses = y.uses; actors = y.actors }) callers disk M P'' notes linked_yard a i k s is
-      y.vault.dead (λ e. e) alive actors' (length-set_of_pass y.actors a x) others_now slots_now
-      (ap (λ (q : Actor). opens y.vault.dead q.hold) mine_now) (ap (λ (q : Actor). shuts q.hold) mine_now) (ap (λ (q : Actor). has_removed_node q.hold) mine_now)
+      y.vault.dead alive x actors' (length-set_of_pass y.actors a x) mine_now others_now refl refl refl refl
       (Playing (Adding s) 1) refl medium_open opened_disk opened_locks opened_mine
 
   -- The turn in which the gate is opened.

@@ -1,5 +1,5 @@
 -- What an event rests on where it is played follows from the invariant.
-use Rattle.std.proofs.Common.{◌≡◌, ◌⊎◌, inl, inr, ℕ, zero, suc, ◌<◌, ◌≤◌, if◌then◌else◌, not, ◌&&◌, Bool, true, false, List, [], ◌∷◌, length, Option, Some, None, is_some, refl, sym, ap, ◌∙◌, subst, arith}
+use Rattle.std.proofs.Common.{◌≡◌, inl, inr, ℕ, zero, suc, ◌<◌, ◌≤◌, if◌then◌else◌, not, ◌&&◌, Bool, true, false, List, [], ◌∷◌, length, Option, Some, None, is_some, refl, sym, ap, ◌∙◌, subst, arith}
 use mathlib.Core.Bool.{false≢true}
 use Rattle.std.specs.Prelude.{unwrap_or, IsSomeAnd, IfSome}
 use Rattle.std.proofs.lemmas.Bool.{cases_Bool, not-true, and_parts}
@@ -10,7 +10,7 @@ use Rattle.lz_slot.specs.declared.command.Command.{Command}
 use Rattle.lz_slot.specs.declared.command.Command.TheVariants.{Add, Remove, Has}
 use Rattle.lz_slot.specs.Histories.{History, Life, lives}
 use Rattle.lz_disk.specs.Images.{Medium}
-use Rattle.lz_vault.specs.declared.vault.Stage.TheVariants.{Keyed, Opening, Open}
+use Rattle.lz_vault.specs.declared.vault.Stage.TheVariants.{Keyed}
 use Rattle.lz_vault.specs.Vaults.{Vaulted}
 use Rattle.lz_allot.specs.Allots.{IsTakenAt}
 use Rattle.lz_allot.specs.Uses.{Use}
@@ -20,10 +20,10 @@ use Rattle.lz_list.specs.declared.word.Word.TheVariants.{Key as key_at, Pin as p
 use Rattle.lz_list.specs.Words.{Words, get}
 use Rattle.lz_list.specs.Locks.{NodeLocks, claimed_places}
 use Rattle.lz_list.specs.Lists.{IsPlace, IsCurr}
-use Rattle.lz_list.specs.Traces.{Trace, IsLoose, on, chain_of, bucket_of, key_word}
+use Rattle.lz_list.specs.Traces.{Trace, on, chain_of, key_word}
 use Rattle.lz_machine.specs.declared.actor.Actor.{Actor}
 use Rattle.lz_machine.specs.declared.actor.Hold.{Hold}
-use Rattle.lz_machine.specs.declared.actor.Hold.TheVariants.{Checked, GateOpened, GateClosed, Marked}
+use Rattle.lz_machine.specs.declared.actor.Hold.TheVariants.{GateOpened, GateClosed, Marked}
 use Rattle.lz_machine.specs.declared.caller.Sequence.{Sequence}
 use Rattle.lz_machine.specs.declared.caller.Sequence.TheVariants.{Pinning, Resting, Writing, Adding, Removing, Releasing, Halting}
 use Rattle.lz_machine.specs.declared.caller.Progress.{Progress}
@@ -41,8 +41,8 @@ use Rattle.lz_machine.specs.Calls.{event_at, loaded}
 use Rattle.lz_machine.specs.Runs.{Start, State, Up, Point, Service, Caller, caller_at, next_event, with_words, first_point, run, start_keys, IsNext, MayPlay}
 use Rattle.lz_machine.specs.Notes.{Notes}
 use Rattle.lz_machine.specs.CallersSound.{View, view_of, Relies, is_before_pin, side_of}
-use Rattle.lz_machine.specs.SlotsSound.{closes, opens, has_removed_node, IsHandStage, IsNodeStage, SlotStands, is_node, is_held, is_out, is_free, is_limbo, unlocks}
-use Rattle.lz_machine.specs.LocksSound.{has_locks, HasPlace, HasLock, RestsOn, IsChecked, HasOpened, HasClosed}
+use Rattle.lz_machine.specs.SlotsSound.{opens, has_removed_node, IsHandStage, unlocks}
+use Rattle.lz_machine.specs.LocksSound.{has_locks, HasPlace, RestsOn, HasOpened, HasClosed}
 use Rattle.lz_machine.specs.Sound.{Sound, StateSound, PointSound}
 use Rattle.lz_machine.specs.Ready.{IsEventOf, IsReadyFor, IsReady}
 use Rattle.lz_machine.proofs.Frames.OneActor.{caller_range, mine}
@@ -54,8 +54,8 @@ use Rattle.lz_machine.proofs.Runs.NextEvent.{plays_alive, refused_plays}
 use Rattle.lz_machine.proofs.Theorem.ShownChains.{links_are, key_is, keeps_key, keeps_link, may_link_at, may_unlink_at, owned_place, is_curr}
 use Rattle.lz_machine.proofs.Theorem.Reached.{reached_sound}
 use Rattle.lz_machine.proofs.Steps.ReturnedSlot.{closed_unused}
-use Rattle.lz_machine.proofs.Frames.Grip.{closer_locks}
 use Rattle.lz_machine.proofs.Crash.ImageSlots.{node_stands}
+use Rattle.lz_machine.proofs.Steps.WriteClose.{checked_node}
 use Rattle.lz_machine.proofs.Theorem.Needs.{Knows, check_locks, is_checked, is_closed, is_keyed, is_marking, is_opened, is_released, not_last, opens_alive, release_locks, some_of}
 use Rattle.lz_machine.proofs.Frames.Ranges.{few_slots}
 
@@ -147,34 +147,6 @@ module _ (n calls : ℕ) (y : Yard) (callers : List (Option Caller)) (disk : Med
   slot_lt : has_locks actor.hold ≡ true → (s : ℕ) → actor.curr ≡ Some s → s < y.shape.slots
   slot_lt locks s is = omega (arith, node_there locks s is, links_are y.shape y.words P sound.trace (few_slots sound.images) w heads links keys)
 
-  -- a node that the actor has found unmarked, with the gate open, in a vault that lives
-  gate_open : actor.hold ≡ Checked → y.vault.dead ≡ false → (s : ℕ) → actor.curr ≡ Some s → s < y.shape.slots → (stage_in y.vault.cells s ≡ Opening) ⊎ (stage_in y.vault.cells s ≡ Open)
-  gate_open hold lives s is lt = by_stand (sound.slots.each s lt)
-    where
-      rests : IsChecked y.shape.buckets actor P
-      rests = subst (λ (q : Hold). RestsOn y.shape.buckets q actor P) hold (sound.locks.rests a)
-
-      there : on 0 (chain_of y.shape.buckets (key_word s P) P) (suc s) ≡ true
-      there = held_node y.shape P Checked actor sound.trace.lawful rests s is refl
-
-      off : IsLoose y.shape.buckets s P → ⊥
-      off loose = false≢true (sym (loose (bucket_of y.shape.buckets (key_word s P))) ∙ there)
-
-      by_stage : IsNodeStage y.vault.cells y.vault.dead y.actors P s → (stage_in y.vault.cells s ≡ Opening) ⊎ (stage_in y.vault.cells s ≡ Open)
-      by_stage (inl opened) = opened.1
-      by_stage (inr (b, closer, written)) =
-          let theirs : HasLock (actor_in y.actors b) (Node s) = record { locks = closer_locks y.vault.dead (actor_in y.actors b).hold closer.closes; among = node_place (actor_in y.actors b).pred (actor_in y.actors b).curr s closer.node } in
-          let own : HasLock actor (Node s) = record { locks = ap has_locks hold; among = node_place actor.pred actor.curr s is } in
-          let same : b ≡ a = sym (sound.locks.has b (Node s) theirs) ∙ sound.locks.has a (Node s) own in
-          absurd (false≢true (sym (ap (λ (q : Hold). closes y.vault.dead q) hold ∙ lives) ∙ ap (λ (q : ℕ). closes y.vault.dead (actor_in y.actors q).hold) (sym same) ∙ closer.closes))
-
-      by_stand : SlotStands y.shape y.vault.cells y.vault.dead y.uses y.actors P s → (stage_in y.vault.cells s ≡ Opening) ⊎ (stage_in y.vault.cells s ≡ Open)
-      by_stand (is_node on_it stage) = by_stage stage
-      by_stand (is_held b slot) = absurd (off (sound.slots.hand b s slot).loose)
-      by_stand (is_out b out) = absurd (off (sound.slots.out b s out).loose)
-      by_stand (is_free loose free stage) = absurd (off loose)
-      by_stand (is_limbo sights loose limbo stage) = absurd (off loose)
-
   ready_close : Follows WriteClose
   ready_close has plays =
       let two = and_parts (has_checked actor.hold && is_some actor.curr) _ has in
@@ -182,7 +154,7 @@ module _ (n calls : ℕ) (y : Yard) (callers : List (Option Caller)) (disk : Med
       let node = some_of actor.curr first.1 in
       let hold = is_checked actor.hold first.0 in
       let lt = slot_lt (ap has_locks hold) node.0 node.1 in
-      (node.0, node.1, (lt, gate_open hold (plays_alive z a WriteClose refl plays) node.0 node.1 lt))
+      (node.0, node.1, (lt, (checked_node n calls y callers disk M P notes sound a node.0 hold (plays_alive z a WriteClose refl plays) node.1).1))
 
   ready_mark : Follows Mark
   ready_mark has plays =

@@ -1,4 +1,5 @@
-use Rattle.std.proofs.Common.{◌≡◌, ◌⊎◌, inl, inr, ⊎_elim, ℕ, Bool, true, false, List, IsTrue, refl, sym, subst, arith}
+use Rattle.std.proofs.Common.{◌≡◌, ◌⊎◌, inl, inr, ⊎_elim, ℕ, List, IsTrue, sym, subst, arith}
+use Rattle.std.specs.Cmp.{both_ways}
 use Rattle.lz_slot.specs.Sets.{Keys, Same, members}
 use Rattle.lz_slot.specs.Bytes.{Holds}
 use Rattle.lz_slot.proofs.Files.HeldSets.{holds_same_set}
@@ -8,12 +9,6 @@ use Rattle.lz_disk.proofs.Moments.{leaves_more, quiet}
 use Rattle.lz_vault.specs.Makes.{IsUnmadeOrHolds}
 use Rattle.lz_vault.specs.Renewals.{AreHeldBy}
 use Rattle.lz_vault.proofs.renewing.renew.Goals as goal
-
-both_ways : (a b : Bool) → (a ≡ true → b ≡ true) → (b ≡ true → a ≡ true) → a ≡ b
-both_ways true true to from = refl
-both_ways true false to from = absurd (let e : false ≡ true = to refl in cc)
-both_ways false true to from = absurd (let e : false ≡ true = from refl in cc)
-both_ways false false to from = refl
 
 -- a text holds one set
 one_set : (t : List ℕ) (N M : ℕ) (S T : Keys) → Holds t N S → Holds t M T → Same S T
