@@ -13,7 +13,7 @@ use Rattle.lz_proto.specs.Lines.{Items}
 use Rattle.lz_proto.specs.Pieces.{Ends, Feeds, Reads, faults_of}
 use Rattle.lz_proto.specs.Sessions.{Answered, bad_text, reply_text}
 use Rattle.lz_proto.specs.Steps.{end_after}
-use Rattle.lz_proto.proofs.Serving.{answered_more, request_sent}
+use Rattle.lz_proto.proofs.Serving.{answered_more, fault_answered, request_answered}
 use Rattle.lz_proto.proofs.Texts.{items_end, reads_more}
 use Rattle.lz_clients.specs.Conversations.{CameFrom, IsAt, Talk, asked_items, given}
 
@@ -21,15 +21,13 @@ module _ (P : Request → Reply → Type 0) where
   -- one item is carried out
 
   told : (bad : Bad) → Answered (given P) tt (Faulty bad ∷ []) tt (bad_text bad) ends.Done
-  told bad = record { replies = []; served = refl; text = sym (append-nil (bad_text bad)); ends = refl }
+  told bad = fault_answered (given P) tt bad (bad_text bad) refl
 
   left : Answered (given P) tt (Asks Quit ∷ []) tt [] ends.Quit
   left = record { replies = []; served = refl; text = refl; ends = refl }
 
   answered : (request : Request) (reply : Reply) → request ≢ Quit → P request reply → Answered (given P) tt (Asks request ∷ []) tt (reply_text reply) (end_after reply)
-  answered request reply other promised =
-      let sent = request_sent (given P) tt tt request reply (Some []) (Some (reply_text reply)) (reply_text reply) other promised refl refl in
-      subst (λ (said : List ℕ). Answered (given P) tt (Asks request ∷ []) tt said (end_after reply)) (sym sent.1) sent.2
+  answered request reply other promised = request_answered (given P) tt tt request reply (reply_text reply) other promised refl
 
   module _ (text sent : List ℕ) (t : Talk) where
     carried : (item : Item) (rest : List Item) (said : List ℕ) (ended : End) → asked_items t.asked ++ t.waiting ≡ item ∷ rest → t.ended ≡ ends.Done
