@@ -33,7 +33,7 @@ from .errors import (
 )
 from .pool import Pool
 
-__version__ = "1.0"
+__version__ = "1.1"
 
 __all__ = [
     "CONNECT_TIMEOUT",
