@@ -25,7 +25,7 @@ use Rattle.lz_machine.specs.Table.{yard_done}
 use Rattle.lz_machine.specs.Calls.{progress_after}
 use Rattle.lz_machine.specs.Runs.{Caller, caller_at}
 use Rattle.lz_machine.specs.Stands.{FacesNode}
-use Rattle.lz_machine.specs.Notes.{Notes, entries}
+use Rattle.lz_machine.specs.Notes.{Notes}
 use Rattle.lz_machine.specs.CallersSound.{view_of, IsCut}
 use Rattle.lz_machine.specs.LocksSound.{RestsOn}
 use Rattle.lz_machine.specs.Sound.{TraceSound, Sound}
@@ -33,7 +33,8 @@ use Rattle.lz_machine.specs.SlotsSound.{SlotsSound}
 use Rattle.lz_machine.proofs.Frames.ChainSlots.{reuse_published}
 use Rattle.lz_machine.proofs.Frames.OneActor.{moving}
 use Rattle.lz_machine.proofs.Frames.Publishing.{LeavesCaller, relies_on_node, caller_published}
-use Rattle.lz_machine.proofs.Frames.Flags.{locks_halted, slots_halted, tails_halted}
+use Rattle.lz_machine.proofs.Frames.Flags.{slots_published}
+use Rattle.lz_machine.proofs.Frames.HeldLocks.{halted_leaves, locks_published}
 use Rattle.lz_machine.proofs.Ledger.QuietPublishing.{ledger_published}
 use Rattle.lz_machine.proofs.Steps.Walk.{GoesOn}
 use Rattle.lz_machine.proofs.Steps.Hop.{call_at, own, goes_on_keeps}
@@ -64,7 +65,8 @@ module _ (n calls : ℕ) (y : Yard) (callers : List (Option Caller)) (disk : Med
   }
 
   slots : SlotsSound y.shape y.vault.cells y.vault.dead y.uses y.actors (halted ∷ P)
-  slots = slots_halted y.shape y.vault.cells y.vault.dead y.uses y.actors P sound.slots sound.slots.added sound.slots.removed
+  slots = slots_published y.shape y.vault.cells y.vault.dead y.uses y.actors halted P (record { loose = λ s loose. loose; word = λ s. refl; mark = λ s. refl; chain = λ k s there. there }) sound.slots
+      (λ k s key there flag. sound.slots.added k s key there flag) (λ k s key there flag. sound.slots.removed k s key there flag)
 
   -- the halt word is set
   pub halted_keeps : (a : ℕ) → Sound n calls (yard_done y (actor_at y a) a Halt) callers disk M (halted ∷ P) notes
@@ -72,7 +74,7 @@ module _ (n calls : ℕ) (y : Yard) (callers : List (Option Caller)) (disk : Med
     trace = trace_halted y.shape y.words P sound.trace;
     images = sound.images;
     slots = slots;
-    locks = locks_halted y.shape y.vault.cells y.vault.dead y.uses y.actors P y.locks (λ b s slot. tt) sound.locks;
+    locks = locks_published y.shape y.locks y.actors halted P (λ b. halted_leaves y.shape.buckets (actor_in y.actors b) P) sound.locks;
     callers = record {
       count = sound.callers.count;
       hands = sound.callers.hands;
@@ -80,7 +82,7 @@ module _ (n calls : ℕ) (y : Yard) (callers : List (Option Caller)) (disk : Med
     };
     reuse = reuse_published y.shape y.vault.cells y.vault.dead y.uses y.actors y.actors halted P y.words.pins notes.begun slots (λ b s slot. slot) sound.reuse;
     ledger = ledger_published n calls y.shape.passes callers halted P M notes tt sound.ledger;
-    tails = tails_halted y.shape y.vault.cells y.vault.dead y.uses y.actors P callers (entries y.shape.passes callers notes) M sound.tails;
+    tails = record { adding = sound.tails.adding; removing = sound.tails.removing };
   }
 
   cut_answers : (c : Command) (reply : Reply) (a : ℕ) → IsCut reply → GoesOn (view_of y.shape y.vault y.actors a) c (Answering reply) (notes.begun a) (halted ∷ P) (notes.changed a)
