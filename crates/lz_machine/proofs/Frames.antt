@@ -28,3 +28,4 @@ pub mod OpenedGate
 pub mod BesideKey
 pub mod ChainSlots
 pub mod OneSlot
+pub mod OtherCallers

@@ -46,7 +46,7 @@ use Rattle.lz_machine.proofs.Ledger.Growth.{upto_more}
 use Rattle.lz_machine.proofs.Frames.Ranges.{on_range, stood_range, few_slots}
 use Rattle.lz_machine.proofs.Steps.Walk.{GoesOn, once_some}
 use Rattle.lz_machine.proofs.Steps.Hop.{call_at, own, own_inside, goes_on_keeps}
-use Rattle.lz_machine.proofs.Steps.Halt.{held_node}
+use Rattle.lz_machine.proofs.Frames.OtherCallers.{held_node}
 use Rattle.lz_machine.proofs.Frames.OtherSettling.{Allows, stored, settled_keeps, stood_stands}
 use Rattle.lz_machine.proofs.Frames.SameYard.{KeepsTail}
 

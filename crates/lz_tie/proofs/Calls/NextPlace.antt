@@ -41,7 +41,7 @@ use Rattle.lz_machine.specs.Runs.{Caller}
 use Rattle.lz_machine.specs.Sound.{Sound}
 use Rattle.lz_machine.proofs.Frames.LoadedWord.{key_load}
 use Rattle.lz_machine.proofs.Frames.Ranges.{on_range, few_slots}
-use Rattle.lz_machine.proofs.Steps.Halt.{held_node}
+use Rattle.lz_machine.proofs.Frames.OtherCallers.{held_node}
 use Rattle.lz_board.specs.Notes.{own}
 use Rattle.lz_tie.specs.UnderWay.{OwnAt}
 use Rattle.lz_tie.proofs.Calls.OwnChanges.{is_calm, calm, calm_none, none_cut, own_cut, cut_halting, cut_halted, cut_device, settling_none, own_linked, own_marked, own_unlinked}
