@@ -25,6 +25,7 @@ use Rattle.lz_machine.specs.Runs.{Start, IsStart, Caller, Service, State, Up, Do
 use Rattle.lz_machine.specs.Notes.{Notes}
 use Rattle.lz_machine.specs.CallersSound.{IsAdder, view_of, Relies}
 use Rattle.lz_machine.specs.Sound.{Sound, PointSound}
+use Rattle.lz_machine.proofs.Frames.ActorTable.{by_actor}
 use Rattle.lz_machine.proofs.Steps.Trip.{point}
 use Rattle.lz_machine.proofs.Frames.OneActor.{caller_range, mine}
 use Rattle.lz_machine.proofs.Crash.ImageSlots.{member_node, one_node_slot}
@@ -168,16 +169,10 @@ module _ (service : Service) (disk : Medium) (P : Trace) (a : ℕ) (caller : Cal
       (own.0.there, own.1)
     where
       holds : (b : ℕ) → (actor_in y.actors b).hold ≡ Nothing
-      holds b = elim (cases_eq b a) [
-        | inl same ↦ ap (λ (q : ℕ). (actor_in y.actors q).hold) same ∙ rely.0.hold
-        | inr other ↦ (h.others b other).hold
-      ]
+      holds = by_actor (λ b. (actor_in y.actors b).hold ≡ Nothing) a rely.0.hold (λ b other. (h.others b other).hold)
 
       slots : (b : ℕ) → (actor_in y.actors b).slot ≡ None
-      slots b = elim (cases_eq b a) [
-        | inl same ↦ ap (λ (q : ℕ). (actor_in y.actors q).slot) same ∙ rely.1
-        | inr other ↦ (h.others b other).slot
-      ]
+      slots = by_actor (λ b. (actor_in y.actors b).slot ≡ None) a rely.1 (λ b other. (h.others b other).slot)
 
       left : (c : Command) → IsAdder c → WalkStands y P (Reserving true) c → LeftBelow y.uses (suc y.shape.passes)
       left (Add k) adder stands = stands.1

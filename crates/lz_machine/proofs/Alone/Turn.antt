@@ -42,6 +42,7 @@ use Rattle.lz_machine.specs.CallersSound.{IsAdder, view_of, Relies}
 use Rattle.lz_machine.specs.Notes.{Notes}
 use Rattle.lz_machine.specs.Sound.{Sound}
 use Rattle.lz_machine.specs.Limbo.{IsRightSight}
+use Rattle.lz_machine.proofs.Frames.ActorTable.{by_actor}
 use Rattle.lz_machine.proofs.Steps.Hop.{call_at, own}
 use Rattle.lz_machine.proofs.Alone.Sights.{HasLeft, IsSeenOdd, set_cases, left_set, left_seen, seen_outside}
 use Rattle.lz_machine.proofs.Alone.Frame.{idle_on, none_on, left_on, is_use_event, course_is, cell_cases, synced_none, is_opening_event}
@@ -209,16 +210,10 @@ module _ (n calls : ℕ) (y : Yard) (callers : List (Option Caller)) (disk : Med
       rely = relies (Reserving again) is
 
       holds : (b : ℕ) → (actor_in y.actors b).hold ≡ Nothing
-      holds b = elim (cases_eq b a) [
-        | inl same ↦ ap (λ (q : ℕ). (actor_in y.actors q).hold) same ∙ rely.0.hold
-        | inr other ↦ (h.others b other).hold
-      ]
+      holds = by_actor (λ b. (actor_in y.actors b).hold ≡ Nothing) a rely.0.hold (λ b other. (h.others b other).hold)
 
       slots : (b : ℕ) → (actor_in y.actors b).slot ≡ None
-      slots b = elim (cases_eq b a) [
-        | inl same ↦ ap (λ (q : ℕ). (actor_in y.actors q).slot) same ∙ rely.1
-        | inr other ↦ (h.others b other).slot
-      ]
+      slots = by_actor (λ b. (actor_in y.actors b).slot ≡ None) a rely.1 (λ b other. (h.others b other).slot)
 
       stands : (d : Command) (again : Bool) (found : Option ℕ) → y.vault.dead ≡ false → lowest_free (collect y.uses) ≡ found → IsAdder d → WalkStands y P (Reserving again) d
           → WalkStands (line_on Plays y actor a Reserve).0 P (progress_after y.shape d (Reserving again) (slot_found found (collect y.uses))) d
