@@ -21,7 +21,7 @@ use Rattle.lz_machine.specs.declared.caller.Progress.{Progress}
 use Rattle.lz_machine.specs.declared.caller.Progress.TheVariants.{Reserving}
 use Rattle.lz_machine.specs.Yards.{Yard, actor_in}
 use Rattle.lz_machine.specs.Alone.{IsOwn, IsAlone, FullOfOnePass}
-use Rattle.lz_machine.specs.Runs.{Start, IsStart, Caller, Service, State, Up, Down, Transition, Calls, Turn, Fails, Looks, Trips, Stops, Crashes, CrashesIn, Opens, OpenFails, MayStep, HasTurn, HasFault, LeftInside, IsRun, run, first_point, caller_at, start_keys, shape_of}
+use Rattle.lz_machine.specs.Runs.{Start, IsStart, Caller, Service, State, Up, Down, Transition, Calls, Turn, Fails, Looks, CrashesIn, MayStep, HasTurn, HasFault, LeftInside, IsRun, run, first_point, caller_at, start_keys, shape_of}
 use Rattle.lz_machine.specs.Notes.{Notes}
 use Rattle.lz_machine.specs.CallersSound.{IsAdder, view_of, Relies}
 use Rattle.lz_machine.specs.Sound.{Sound, PointSound}
@@ -60,11 +60,7 @@ own_up service disk (Turn b) one count may = one_turn service count b (caller_at
 own_up service disk (Fails b new) one count may = one_fault service count b disk new (caller_at service.callers b) refl may
 own_up service disk (Looks b) one count may = omega (arith, may.0.0, may.0.1, one)
 own_up service disk (CrashesIn b t) one count may = one_crash service count b disk t (caller_at service.callers b) refl may
-own_up service disk Trips one count may = tt
-own_up service disk Stops one count may = tt
-own_up service disk (Crashes t) one count may = tt
-own_up service disk Opens one count may = tt
-own_up service disk (OpenFails why done) one count may = tt
+own_up service disk _ one count may = tt
 
 own_step : (start : Start) (w : State) (M : History) (P : Trace) (calls : ℕ) (step : Transition) → start.shape.passes ≡ 1 → MayStep w step → (L : List Life) → PointSound start (point w M P calls) L → IsOwn 1 step
 own_step start w M P calls step one may [] sound = absurd sound

@@ -121,11 +121,7 @@ module _ (n calls : ℕ) (y : Yard) (callers : List (Option Caller)) (disk : Med
       finds : (d : Command) (aim : Option ℕ) → Relies (view_of y.shape y.vault y.actors a) d (Walking aim look) (notes.begun a) P (notes.changed a) → WalkStands y P (Walking aim look) d
           → AsksToAdd d aim (λ k. Finds y.shape y.words P sound.trace (few_slots sound.images) k (hopped y.shape.buckets (key_of d) look (get y.words (wants y.shape.buckets (key_of d) look))))
       finds (Add k) None rely stands = walk_finds y.shape y.words P sound.trace (few_slots sound.images) y.shape.passes y.vault.format y.vault.cells y.vault.dead (actor_in y.actors a) rely.0.hold rely.1 k look stands
-      finds (Add k) (Some s) rely stands = tt
-      finds (Remove k) None rely stands = tt
-      finds (Remove k) (Some s) rely stands = tt
-      finds (Has k) None rely stands = tt
-      finds (Has k) (Some s) rely stands = tt
+      finds _ _ rely stands = tt
 
   -- an adding's own slot
   adding_open : (k t : ℕ) → c ≡ Add k → caller_at callers a ≡ Some (call_at i c (Playing (Adding t) 0)) → AloneFull a y (Some (call_at i c (Playing (Adding t) 0))) P → (line y a WriteOpen).1 ≢ NotNow

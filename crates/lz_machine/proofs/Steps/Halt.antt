@@ -10,7 +10,7 @@ use Rattle.lz_list.specs.Traces.{Trace}
 use Rattle.lz_machine.specs.declared.event.Event.TheVariants.{Halt}
 use Rattle.lz_machine.specs.declared.event.Outcome.TheVariants.{Done}
 use Rattle.lz_machine.specs.declared.event.Reply.{Reply}
-use Rattle.lz_machine.specs.declared.event.Reply.TheVariants.{Yes, No, Full, Worn, OldFile, Halted, Device}
+use Rattle.lz_machine.specs.declared.event.Reply.TheVariants.{Halted, Device}
 use Rattle.lz_machine.specs.declared.caller.Sequence.TheVariants.{Halting}
 use Rattle.lz_machine.specs.declared.caller.Progress.TheVariants.{Playing, Answering}
 use Rattle.lz_machine.specs.Yards.{Yard, Shape, actor_at, actor_in}
@@ -59,11 +59,7 @@ module _ (n calls : ℕ) (y : Yard) (callers : List (Option Caller)) (disk : Med
   cut_answers (Remove k) Device a cut = record { relies = (refl, inr refl); inside = refl }
   cut_answers (Has k) Halted a cut = record { relies = (refl, inr refl); inside = refl }
   cut_answers (Has k) Device a cut = record { relies = (refl, inr refl); inside = refl }
-  cut_answers c Yes a cut = absurd cut
-  cut_answers c No a cut = absurd cut
-  cut_answers c (Full counts) a cut = absurd cut
-  cut_answers c Worn a cut = absurd cut
-  cut_answers c OldFile a cut = absurd cut
+  cut_answers c _ a cut = absurd cut
 
   cut_tail : (reply : Reply) → IsCut reply → may_have_tail (Answering reply) ≡ true
   cut_tail Halted cut = refl

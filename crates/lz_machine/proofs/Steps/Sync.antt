@@ -7,7 +7,7 @@ use Rattle.lz_slot.specs.declared.command.Command.TheVariants.{Add, Remove}
 use Rattle.lz_slot.specs.Histories.{History}
 use Rattle.lz_disk.specs.Images.{Medium, synced}
 use Rattle.lz_vault.specs.declared.vault.Stage.{Stage}
-use Rattle.lz_vault.specs.declared.vault.Stage.TheVariants.{Closed, KeyLoose, Keyed, Opening, Open, Closing}
+use Rattle.lz_vault.specs.declared.vault.Stage.TheVariants.{Closed, Keyed, Opening, Open, Closing}
 use Rattle.lz_vault.specs.Stages.{Cell, Keeps, stage_synced, cell_synced, is_covered}
 use Rattle.lz_vault.specs.Vaults.{SyncAll, medium_after, syncs_after, died}
 use Rattle.lz_vault.proofs.Changes.{from_map, sync_keeps}
@@ -58,35 +58,19 @@ written_synced stage (inr e) = rw e (inr refl)
 opened_before : (stage : Stage) → IsGateOpened (stage_synced stage) → IsGateOpened stage
 opened_before Opening h = inl refl
 opened_before Open h = inr refl
-opened_before Closed (inl e) = absurd cc
-opened_before Closed (inr e) = absurd cc
-opened_before KeyLoose (inl e) = absurd cc
-opened_before KeyLoose (inr e) = absurd cc
-opened_before Keyed (inl e) = absurd cc
-opened_before Keyed (inr e) = absurd cc
-opened_before Closing (inl e) = absurd cc
-opened_before Closing (inr e) = absurd cc
+opened_before _ (inl e) = absurd cc
+opened_before _ (inr e) = absurd cc
 
 written_before : (stage : Stage) → IsGateWritten (stage_synced stage) → IsGateWritten stage
 written_before Closing h = inl refl
 written_before Closed h = inr refl
-written_before Opening (inl e) = absurd cc
-written_before Opening (inr e) = absurd cc
-written_before Open (inl e) = absurd cc
-written_before Open (inr e) = absurd cc
-written_before KeyLoose (inl e) = absurd cc
-written_before KeyLoose (inr e) = absurd cc
-written_before Keyed (inl e) = absurd cc
-written_before Keyed (inr e) = absurd cc
+written_before _ (inl e) = absurd cc
+written_before _ (inr e) = absurd cc
 
 -- after a sync nothing is being opened
 pub not_opening : (stage : Stage) → stage_synced stage ≢ Opening
 not_opening Closed e = absurd cc
-not_opening KeyLoose e = absurd cc
-not_opening Keyed e = absurd cc
-not_opening Opening e = absurd cc
-not_opening Open e = absurd cc
-not_opening Closing e = absurd cc
+not_opening _ e = absurd cc
 
 module _ (cells : List Cell) where
   abbrev cells' : List Cell
