@@ -24,7 +24,7 @@ use Rattle.lz_machine.specs.SlotsSound.{SlotsSound}
 use Rattle.lz_machine.proofs.Frames.ChainSlots.{reuse_published}
 use Rattle.lz_machine.proofs.Frames.OneActor.{moving}
 use Rattle.lz_machine.proofs.Frames.OtherCallers.{callers_stay}
-use Rattle.lz_machine.proofs.Frames.Flags.{slots_published}
+use Rattle.lz_machine.proofs.Frames.KeptSlots.{slots_published}
 use Rattle.lz_machine.proofs.Frames.HeldLocks.{halted_leaves, locks_published}
 use Rattle.lz_machine.proofs.Ledger.QuietPublishing.{ledger_published}
 use Rattle.lz_machine.proofs.Steps.Walk.{GoesOn}
@@ -36,7 +36,7 @@ trace_halted shape words P h = record { lawful = (tt, h.lawful); some = h.some; 
 
 module _ (n calls : ℕ) (y : Yard) (callers : List (Option Caller)) (disk : Medium) (M : History) (P : Trace) (notes : Notes) (sound : Sound n calls y callers disk M P notes) where
   slots : SlotsSound y.shape y.vault.cells y.vault.dead y.uses y.actors (halted ∷ P)
-  slots = slots_published y.shape y.vault.cells y.vault.dead y.uses y.actors halted P (record { loose = λ s loose. loose; word = λ s. refl; mark = λ s. refl; chain = λ k s there. there }) sound.slots
+  slots = slots_published y.shape y.vault.cells y.vault.dead y.actors y.uses halted P (record { loose = λ s loose. loose; word = λ s. refl; mark = λ s. refl; chain = λ k s there. there }) sound.slots
       (λ k s key there flag. sound.slots.added k s key there flag) (λ k s key there flag. sound.slots.removed k s key there flag)
 
   -- the halt word is set
