@@ -1,4 +1,4 @@
--- What is said of slots stays when an actor's hold changes and it keeps its slots in hand, and when the vault dies.
+-- What an actor has in hand, and may rely on its hold for, stays when its hold changes so, and when the vault dies.
 use Rattle.std.proofs.Common.{◌≡◌, ℕ, Bool, true, false, Some, refl, sym, ap, ◌∙◌, subst}
 use mathlib.Core.Bool.{false≢true}
 use Rattle.lz_machine.specs.declared.actor.Actor.{Actor}

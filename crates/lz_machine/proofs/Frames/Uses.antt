@@ -1,4 +1,4 @@
--- What is said of slots stays when pins are seen, and when limbo slots that every pass has left become free.
+-- How uses change when pins are seen, and when limbo slots that every pass has left become free: what is said of reuse stays.
 use Rattle.std.proofs.Common.{◌≡◌, ◌⊎◌, inl, inr, ℕ, zero, suc, ◌≤◌, true, List, [], ◌∷◌, length, map, get_or, refl, sym, ap, ◌∙◌, subst, arith}
 use mathlib.Core.Bool.{false≢true}
 use Rattle.std.specs.List.{list_all}
