@@ -1,7 +1,7 @@
 -- The keys that the slots of a file hold, in the order of the slots.
-use Rattle.std.proofs.Common.{◌≡◌, ◌≢◌, ⊎_elim, ℕ, zero, suc, ◌<◌, ◌≤◌, Bool, true, false, List, [], ◌∷◌, ◌++◌, nat_eq, refl, sym, ap, subst, ◌∙◌, arith}
+use Rattle.std.proofs.Common.{◌≡◌, ◌≢◌, ⊎_elim, ℕ, zero, suc, ◌<◌, ◌≤◌, true, false, List, [], ◌∷◌, ◌++◌, nat_eq, refl, sym, ap, subst, ◌∙◌, arith}
 use Rattle.std.specs.Prelude.{All, map, ◌||◌, ◌==◌}
-use Rattle.std.specs.Cmp.{nat_eq_equiv}
+use Rattle.std.specs.Cmp.{both_ways, nat_eq_equiv}
 use Rattle.std.specs.List.{IsDistinct, list_any}
 use Rattle.std.proofs.lemmas.Bool.{cases_eq, or_cases, eqb-true, eq-eqb}
 use Rattle.std.proofs.lemmas.Bool.Decides.{nat_tests}
@@ -91,19 +91,13 @@ module _ (t : List ℕ) where
   pub held_by : (n k : ℕ) → members (keys n) k ≡ true → (i : ℕ) × (i < n) × (says i ≡ read.Member k)
   held_by n k has = let (node, (low, is), same) = node_of (IsNodeBelow n) k (held t n) (nodes n) has in (node.1, low, is ∙ ap (λ (q : ℕ). read.Member q) same)
 
-  same_bool : (a b : Bool) → (a ≡ true → b ≡ true) → (b ≡ true → a ≡ true) → a ≡ b
-  same_bool true true to from = refl
-  same_bool true false to from = sym (to refl)
-  same_bool false true to from = from refl
-  same_bool false false to from = refl
-
   module _ (N : ℕ) (S : SetOf) (holds : Holds t N S) where
     -- they are the set that the file holds
     pub are_held : AreHeldBy t (keys N)
     are_held = (N, holds_same_set t N S (members (keys N)) same holds, refl)
       where
         same : Same S (members (keys N))
-        same k = same_bool (S k) (members (keys N) k)
+        same k = both_ways (S k) (members (keys N) k)
             (λ has. let (i, low, is) = (holds.set k).0 has in has_key N i k low is)
             (λ has. (holds.set k).1 (held_by N k has))
 

@@ -10,7 +10,6 @@ pub mod FittingKeys
 pub mod OtherLink
 pub mod OtherUnlink
 pub mod OtherSettling
-pub mod Flags
 pub mod Uses
 pub mod GateWrite
 pub mod PinOrder
@@ -28,3 +27,5 @@ pub mod OpenedGate
 pub mod BesideKey
 pub mod ChainSlots
 pub mod OneSlot
+pub mod OtherCallers
+pub mod KeptSlots

@@ -51,11 +51,7 @@ cut_word v (Has k) P0 P changed M i Halted h cut clean = h.0
 cut_word v (Add k) P0 P changed M i Device h cut clean = h.0
 cut_word v (Remove k) P0 P changed M i Device h cut clean = h.0
 cut_word v (Has k) P0 P changed M i Device h cut clean = h.0
-cut_word v c P0 P changed M i Yes h cut clean = absurd (false≢true (sym clean ∙ cut))
-cut_word v c P0 P changed M i No h cut clean = absurd (false≢true (sym clean ∙ cut))
-cut_word v c P0 P changed M i (Full counts) h cut clean = absurd (false≢true (sym clean ∙ cut))
-cut_word v c P0 P changed M i Worn h cut clean = absurd (false≢true (sym clean ∙ cut))
-cut_word v c P0 P changed M i OldFile h cut clean = absurd (false≢true (sym clean ∙ cut))
+cut_word v c P0 P changed M i _ h cut clean = absurd (false≢true (sym clean ∙ cut))
 
 -- what a reply's list leads to is served
 pub served_reply : (n i a : ℕ) (c : Command) (reply : Reply) (M : History) (S : Keys) (L : List ℕ) (T : Keys) → i < n → Ended i M → has_cut M ≡ false → Fits S (mark_of i reply ∷ Call i a c ∷ M) L T → IsPlain S (mark_of i reply ∷ Call i a c ∷ M) T

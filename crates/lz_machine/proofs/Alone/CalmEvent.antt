@@ -7,7 +7,7 @@ use Rattle.lz_allot.specs.declared.counts.Counts.{Counts}
 use Rattle.lz_list.specs.Words.{Words}
 use Rattle.lz_list.specs.Traces.{Trace}
 use Rattle.lz_machine.specs.declared.event.Event.{Event}
-use Rattle.lz_machine.specs.declared.event.Reply.TheVariants.{Yes, No, Full, Worn as SaysWorn, OldFile as SaysOldFile, Halted, Device}
+use Rattle.lz_machine.specs.declared.event.Reply.TheVariants.{Full}
 use Rattle.lz_machine.specs.declared.caller.Sequence.{Sequence}
 use Rattle.lz_machine.specs.declared.caller.Sequence.TheVariants.{Pinning, Resting, Writing, Adding, Removing, Releasing, Halting}
 use Rattle.lz_machine.specs.declared.caller.Progress.TheVariants.{Playing}
@@ -31,28 +31,11 @@ no_full_halt v _ counts zero _ _ changed h = h.0
 
 -- what a sequence leads to
 pub sequence_goes : (y : Yard) (Q : Trace) (v : View) (c : Command) (sequence : Sequence) (i : ℕ) (P0 P : Trace) (changed : Option ℕ) → ReliesOn v c sequence i P0 P changed → WalkStands y Q (goes_on sequence) c
-sequence_goes y Q v c Pinning i P0 P changed h = tt
-sequence_goes y Q v c (Resting s Yes) i P0 P changed h = tt
-sequence_goes y Q v c (Resting s No) i P0 P changed h = tt
 sequence_goes y Q v c (Resting s (Full counts)) i P0 P changed h = absurd (no_full_rest v c s counts i P0 P changed h)
-sequence_goes y Q v c (Resting s SaysWorn) i P0 P changed h = tt
-sequence_goes y Q v c (Resting s SaysOldFile) i P0 P changed h = tt
-sequence_goes y Q v c (Resting s Halted) i P0 P changed h = tt
-sequence_goes y Q v c (Resting s Device) i P0 P changed h = tt
-sequence_goes y Q v c (Writing s) i P0 P changed h = tt
-sequence_goes y Q v c (Adding s) i P0 P changed h = tt
-sequence_goes y Q v c (Removing s) i P0 P changed h = tt
 sequence_goes y Q v (Add k) (Releasing None) i P0 P changed h = tt
-sequence_goes y Q v (Remove k) (Releasing None) i P0 P changed h = tt
-sequence_goes y Q v (Has k) (Releasing None) i P0 P changed h = tt
 sequence_goes y Q v c (Releasing (Some s)) i P0 P changed h = tt
-sequence_goes y Q v c (Halting Yes) i P0 P changed h = tt
-sequence_goes y Q v c (Halting No) i P0 P changed h = tt
 sequence_goes y Q v c (Halting (Full counts)) i P0 P changed h = absurd (no_full_halt v c counts i P0 P changed h)
-sequence_goes y Q v c (Halting SaysWorn) i P0 P changed h = tt
-sequence_goes y Q v c (Halting SaysOldFile) i P0 P changed h = tt
-sequence_goes y Q v c (Halting Halted) i P0 P changed h = tt
-sequence_goes y Q v c (Halting Device) i P0 P changed h = tt
+sequence_goes y Q v _ _ i P0 P changed h = tt
 
 -- an event that opens no gate, retires no slot and gives none back
 abbrev pub IsCalm : Event → Type 0
@@ -64,20 +47,14 @@ is_calm_sequence (Removing s) = false
 is_calm_sequence _ = true
 
 pub calm_sequence : (w : Words) (c : Command) (sequence : Sequence) (i : ℕ) → is_calm_sequence sequence ≡ true → IsCalm (loaded w (event_of c sequence i))
-calm_sequence w c Pinning zero calm = (refl, refl)
 calm_sequence w c Pinning (suc i) calm = (refl, refl)
-calm_sequence w c (Resting s reply) zero calm = (refl, refl)
-calm_sequence w c (Resting s reply) (suc zero) calm = (refl, refl)
 calm_sequence w c (Resting s reply) (suc (suc i)) calm = (refl, refl)
-calm_sequence w c (Writing s) zero calm = (refl, refl)
-calm_sequence w c (Writing s) (suc zero) calm = (refl, refl)
 calm_sequence w c (Writing s) (suc (suc i)) calm = (refl, refl)
 calm_sequence w c (Adding s) i calm = absurd (false≢true calm)
 calm_sequence w c (Removing s) i calm = absurd (false≢true calm)
-calm_sequence w c (Releasing aim) zero calm = (refl, refl)
 calm_sequence w c (Releasing aim) (suc i) calm = (refl, refl)
-calm_sequence w c (Halting reply) zero calm = (refl, refl)
 calm_sequence w c (Halting reply) (suc i) calm = (refl, refl)
+calm_sequence w c _ _ calm = (refl, refl)
 
 pub calm_adds : (sequence : Sequence) (i s : ℕ) → is_calm_sequence sequence ≡ true → AddsTo (Playing sequence i) s → ⊥
 calm_adds (Adding t) i s calm adds = false≢true calm

@@ -355,21 +355,17 @@ module _ (start : Start) (a : ℕ) (shape : Shape) (disk : Medium) (M : History)
           )
 
   pub down_alone : (step : Transition) → IsOwn a step → DownAfter step
-  down_alone (Calls b c) own may sound' = absurd may
-  down_alone (Turn b) own may sound' = absurd may
-  down_alone (Fails b new) own may sound' = absurd may
-  down_alone (Looks b) own may sound' = absurd may
   down_alone Trips own may sound' = alone
   down_alone Stops own may sound' =
       lives_stay start a down (point_after down Stops) (λ life st h. tt) (λ life t h old leaves list. old t leaves) (lives (start_keys start) M) sound sound' (λ t leaves. left_at start (point_after down Stops) t sound' leaves) alone
   down_alone (Crashes u) own may sound' =
       lives_stay start a down (point_after down (Crashes u)) (λ life st h. tt) (λ life t h old leaves list. old t (subst (IsImage disk) (sym (rest_image u t leaves)) may)) (lives (start_keys start) M) sound sound' (λ t leaves. left_at start (point_after down (Crashes u)) t sound' leaves) alone
-  down_alone (CrashesIn b u) own may sound' = absurd may
   down_alone Opens own may sound' = open_alone may
   down_alone (OpenFails why true) own may sound' =
       lives_stay start a down (point_after down (OpenFails why true)) (λ life st h. tt) (λ life t h old leaves list. old t (subst (IsImage disk) (sym (rest_image disk.seen t leaves)) read_image)) (lives (start_keys start) M) sound sound' (λ t leaves. left_at start (point_after down (OpenFails why true)) t sound' leaves) alone
   down_alone (OpenFails why false) own may sound' =
       lives_stay start a down (point_after down (OpenFails why false)) (λ life st h. tt) (λ life t h old leaves list. old t leaves) (lives (start_keys start) M) sound sound' (λ t leaves. left_at start (point_after down (OpenFails why false)) t sound' leaves) alone
+  down_alone _ own may sound' = absurd may
 
 step_alone : (start : Start) (a : ℕ) (w : State) (M : History) (P : Trace) (calls : ℕ) (step : Transition) → IsOwn a step → MayStep w step → IsSound start (point w M P calls) → AloneAt start a (point w M P calls) → IsSound start (point_after (point w M P calls) step) → AloneAt start a (point_after (point w M P calls) step)
 step_alone start a (Up service disk) M P calls step own may sound alone sound' = up_alone start a service disk M P calls sound alone step own may sound'

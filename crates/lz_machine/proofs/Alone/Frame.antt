@@ -57,10 +57,7 @@ course_is y a e now = go y.vault.dead (is_played_dead e) (needs y a e) refl refl
 -- the hands and pins of others
 actors_other : (y : Yard) (actor : Actor) (a b : ℕ) (e : Event) → b ≢ a → of_pass (actors_after y actor a e) b idle_actor ≡ of_pass y.actors b idle_actor
 actors_other y actor a b (Invoke c) other = of_pass_other y.actors a b _ idle_actor other
-actors_other y actor a b Pin other = refl
-actors_other y actor a b (Hop word) other = refl
 actors_other y actor a b Reserve other = of_pass_other y.actors a b _ idle_actor other
-actors_other y actor a b (WriteKey k) other = refl
 actors_other y actor a b (Claim pred curr) other = go (is_pair_free y.locks pred curr)
   where
     go : (free : Bool) → of_pass (if free then set_actor y a (record actor { hold = Locks; pred = pred; curr = curr }) else y.actors) b idle_actor ≡ of_pass y.actors b idle_actor
@@ -72,13 +69,10 @@ actors_other y actor a b Link other = of_pass_other y.actors a b _ idle_actor ot
 actors_other y actor a b WriteClose other = of_pass_other y.actors a b _ idle_actor other
 actors_other y actor a b Mark other = of_pass_other y.actors a b _ idle_actor other
 actors_other y actor a b Release other = of_pass_other y.actors a b _ idle_actor other
-actors_other y actor a b (Sync s) other = refl
-actors_other y actor a b (Settle s) other = refl
 actors_other y actor a b Unlink other = of_pass_other y.actors a b _ idle_actor other
 actors_other y actor a b Retire other = of_pass_other y.actors a b _ idle_actor other
-actors_other y actor a b (SeePin p value) other = refl
 actors_other y actor a b Answer other = of_pass_other y.actors a b _ idle_actor other
-actors_other y actor a b Halt other = refl
+actors_other y actor a b _ other = refl
 
 pub pins_other : (y : Yard) (actor : Actor) (a b : ℕ) (e : Event) → b ≢ a → of_pass (words_after y actor a e).pins b 0 ≡ of_pass y.words.pins b 0
 pins_other y actor a b Pin other = of_pass_other y.words.pins a b _ 0 other
@@ -90,20 +84,7 @@ pins_other y actor a b (Settle s) other = go (is_sure y s)
     go true = refl
     go false = refl
 pins_other y actor a b Answer other = answered_other y actor a b other
-pins_other y actor a b (Invoke c) other = refl
-pins_other y actor a b (Hop word) other = refl
-pins_other y actor a b Reserve other = refl
-pins_other y actor a b (WriteKey k) other = refl
-pins_other y actor a b (Claim pred curr) other = refl
-pins_other y actor a b Check other = refl
-pins_other y actor a b WriteOpen other = refl
-pins_other y actor a b WriteClose other = refl
-pins_other y actor a b Mark other = refl
-pins_other y actor a b Release other = refl
-pins_other y actor a b (Sync s) other = refl
-pins_other y actor a b Retire other = refl
-pins_other y actor a b (SeePin p value) other = refl
-pins_other y actor a b Halt other = refl
+pins_other y actor a b _ other = refl
 
 -- an actor that does nothing
 pub record IsIdleNow (y : Yard) (b : ℕ) : Type 0 where

@@ -22,11 +22,11 @@ use Rattle.lz_list.specs.Walks.{Hopped, More, End}
 use Rattle.lz_list.specs.Traces.{Trace, on, chain_of, key_word, is_marked, member}
 use Rattle.lz_list.proofs.Traces.NodeBits.{node}
 use Rattle.lz_flush.specs.declared.need.Need.{Need}
-use Rattle.lz_flush.specs.declared.need.Need.TheVariants.{Now, Sync as needs_sync}
+use Rattle.lz_flush.specs.declared.need.Need.TheVariants.{Now}
 use Rattle.lz_flush.specs.Settling.{may_answer}
 use Rattle.lz_machine.specs.declared.actor.Hold.TheVariants.{Nothing}
 use Rattle.lz_machine.specs.declared.event.Outcome.{Outcome}
-use Rattle.lz_machine.specs.declared.event.Outcome.TheVariants.{Done, Value, Slot, NoSlot, Taken as was_taken, Busy, True, False, Early, Worn, OldFile, NotNow, Fault, Dead}
+use Rattle.lz_machine.specs.declared.event.Outcome.TheVariants.{Done, Value, Slot, NoSlot, Taken as was_taken, Busy, True, False, NotNow}
 use Rattle.lz_machine.specs.declared.event.Reply.TheVariants.{Yes, No, Full, Halted}
 use Rattle.lz_machine.specs.declared.caller.Sequence.{Sequence}
 use Rattle.lz_machine.specs.declared.caller.Sequence.TheVariants.{Adding}
@@ -157,11 +157,6 @@ calm_goes y P c sequence i h = go (nat_lt (i + 1) (length (events_of c sequence)
     go false = h
 
 pub stands_playing : (y : Yard) (P : Trace) (shape : Shape) (c : Command) (sequence : Sequence) (i : ℕ) → WalkStands y P (goes_on sequence) c → (outcome : Outcome) → WalkStands y P (progress_after shape c (Playing sequence i) outcome) c
-stands_playing y P shape c sequence i h Fault = tt
-stands_playing y P shape c sequence i h Dead = tt
-stands_playing y P shape c sequence i h Worn = tt
-stands_playing y P shape c sequence i h OldFile = tt
-stands_playing y P shape c sequence i h Early = tt
 stands_playing y P shape c sequence i h Done = calm_goes y P c sequence i h
 stands_playing y P shape c sequence i h (Value v) = calm_goes y P c sequence i h
 stands_playing y P shape c sequence i h (Slot s) = calm_goes y P c sequence i h
@@ -171,6 +166,7 @@ stands_playing y P shape c sequence i h Busy = calm_goes y P c sequence i h
 stands_playing y P shape c sequence i h True = calm_goes y P c sequence i h
 stands_playing y P shape c sequence i h False = calm_goes y P c sequence i h
 stands_playing y P shape c sequence i h NotNow = calm_goes y P c sequence i h
+stands_playing y P shape c sequence i h _ = tt
 
 pub stands_halt : (y : Yard) (P : Trace) (shape : Shape) (c : Command) (outcome : Outcome) → WalkStands y P (progress_after shape c LoadsHalt outcome) c
 stands_halt y P shape c (Value v) = go (v == 1)
@@ -183,19 +179,7 @@ stands_halt y P shape c (Value v) = go (v == 1)
     go : (b : Bool) → WalkStands y P (if b then Answering Halted else Walking None AtHead) c
     go true = tt
     go false = of_command c
-stands_halt y P shape c Fault = tt
-stands_halt y P shape c Dead = tt
-stands_halt y P shape c Worn = tt
-stands_halt y P shape c OldFile = tt
-stands_halt y P shape c Early = tt
-stands_halt y P shape c Done = tt
-stands_halt y P shape c (Slot s) = tt
-stands_halt y P shape c (NoSlot counts) = tt
-stands_halt y P shape c was_taken = tt
-stands_halt y P shape c Busy = tt
-stands_halt y P shape c True = tt
-stands_halt y P shape c False = tt
-stands_halt y P shape c NotNow = tt
+stands_halt y P shape c _ = tt
 
 pub stands_claim : (y : Yard) (P : Trace) (shape : Shape) (c : Command) (aim : Option ℕ) (pred : Place) (curr : Option ℕ) (outcome : Outcome) → WalkStands y P (progress_after shape c (Claiming aim pred curr) outcome) c
 stands_claim y P shape c aim pred curr (Value v) = tt
@@ -203,10 +187,8 @@ stands_claim y _ shape c aim pred curr _ = tt
 
 stands_changes : (y : Yard) (P : Trace) (c : Command) (aim curr : Option ℕ) → WalkStands y P (changes c aim curr) c
 stands_changes y P (Add k) None curr = tt
-stands_changes y P (Add k) (Some s) curr = tt
 stands_changes y P (Remove k) aim None = tt
-stands_changes y P (Remove k) aim (Some s) = tt
-stands_changes y P (Has k) aim curr = tt
+stands_changes y P _ _ _ = tt
 
 pub stands_check : (y : Yard) (P : Trace) (shape : Shape) (c : Command) (aim curr : Option ℕ) (outcome : Outcome) → WalkStands y P (progress_after shape c (Checking aim curr) outcome) c
 stands_check y P shape c aim curr True = stands_changes y P c aim curr
@@ -214,9 +196,7 @@ stands_check y _ shape c aim curr _ = tt
 
 stands_rests : (y : Yard) (P : Trace) (c : Command) (s : ℕ) (need : Need) (b : Bool) → WalkStands y P (rests s need (if b then Yes else No)) c
 stands_rests y P c s Now true = tt
-stands_rests y P c s Now false = tt
-stands_rests y P c s needs_sync true = tt
-stands_rests y P c s needs_sync false = tt
+stands_rests y P c s _ _ = tt
 
 -- after a load
 abbrev pub AsksToAdd : Command → Option ℕ → (ℕ → Type 0) → Type 0

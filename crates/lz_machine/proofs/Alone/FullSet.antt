@@ -21,10 +21,11 @@ use Rattle.lz_machine.specs.declared.caller.Progress.{Progress}
 use Rattle.lz_machine.specs.declared.caller.Progress.TheVariants.{Reserving}
 use Rattle.lz_machine.specs.Yards.{Yard, actor_in}
 use Rattle.lz_machine.specs.Alone.{IsOwn, IsAlone, FullOfOnePass}
-use Rattle.lz_machine.specs.Runs.{Start, IsStart, Caller, Service, State, Up, Down, Transition, Calls, Turn, Fails, Looks, Trips, Stops, Crashes, CrashesIn, Opens, OpenFails, MayStep, HasTurn, HasFault, LeftInside, IsRun, run, first_point, caller_at, start_keys, shape_of}
+use Rattle.lz_machine.specs.Runs.{Start, IsStart, Caller, Service, State, Up, Down, Transition, Calls, Turn, Fails, Looks, CrashesIn, MayStep, HasTurn, HasFault, LeftInside, IsRun, run, first_point, caller_at, start_keys, shape_of}
 use Rattle.lz_machine.specs.Notes.{Notes}
 use Rattle.lz_machine.specs.CallersSound.{IsAdder, view_of, Relies}
 use Rattle.lz_machine.specs.Sound.{Sound, PointSound}
+use Rattle.lz_machine.proofs.Frames.ActorTable.{by_actor}
 use Rattle.lz_machine.proofs.Steps.Trip.{point}
 use Rattle.lz_machine.proofs.Frames.OneActor.{caller_range, mine}
 use Rattle.lz_machine.proofs.Crash.ImageSlots.{member_node, one_node_slot}
@@ -59,11 +60,7 @@ own_up service disk (Turn b) one count may = one_turn service count b (caller_at
 own_up service disk (Fails b new) one count may = one_fault service count b disk new (caller_at service.callers b) refl may
 own_up service disk (Looks b) one count may = omega (arith, may.0.0, may.0.1, one)
 own_up service disk (CrashesIn b t) one count may = one_crash service count b disk t (caller_at service.callers b) refl may
-own_up service disk Trips one count may = tt
-own_up service disk Stops one count may = tt
-own_up service disk (Crashes t) one count may = tt
-own_up service disk Opens one count may = tt
-own_up service disk (OpenFails why done) one count may = tt
+own_up service disk _ one count may = tt
 
 own_step : (start : Start) (w : State) (M : History) (P : Trace) (calls : ℕ) (step : Transition) → start.shape.passes ≡ 1 → MayStep w step → (L : List Life) → PointSound start (point w M P calls) L → IsOwn 1 step
 own_step start w M P calls step one may [] sound = absurd sound
@@ -168,16 +165,10 @@ module _ (service : Service) (disk : Medium) (P : Trace) (a : ℕ) (caller : Cal
       (own.0.there, own.1)
     where
       holds : (b : ℕ) → (actor_in y.actors b).hold ≡ Nothing
-      holds b = elim (cases_eq b a) [
-        | inl same ↦ ap (λ (q : ℕ). (actor_in y.actors q).hold) same ∙ rely.0.hold
-        | inr other ↦ (h.others b other).hold
-      ]
+      holds = by_actor (λ b. (actor_in y.actors b).hold ≡ Nothing) a rely.0.hold (λ b other. (h.others b other).hold)
 
       slots : (b : ℕ) → (actor_in y.actors b).slot ≡ None
-      slots b = elim (cases_eq b a) [
-        | inl same ↦ ap (λ (q : ℕ). (actor_in y.actors q).slot) same ∙ rely.1
-        | inr other ↦ (h.others b other).slot
-      ]
+      slots = by_actor (λ b. (actor_in y.actors b).slot ≡ None) a rely.1 (λ b other. (h.others b other).slot)
 
       left : (c : Command) → IsAdder c → WalkStands y P (Reserving true) c → LeftBelow y.uses (suc y.shape.passes)
       left (Add k) adder stands = stands.1

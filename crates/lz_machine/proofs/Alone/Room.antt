@@ -299,19 +299,13 @@ sized_step start a (Up service disk) M P calls Trips named own may sound full al
 sized_step start a (Up service disk) M P calls Stops named own may sound full alone after sized = sized
 sized_step start a (Up service disk) M P calls (Crashes t) named own may sound full alone after sized = sized
 sized_step start a (Up service disk) M P calls (CrashesIn b t) named own may sound full alone after sized = sized
-sized_step start a (Up service disk) M P calls Opens named own may sound full alone after sized = absurd may
-sized_step start a (Up service disk) M P calls (OpenFails why done) named own may sound full alone after sized = absurd may
-sized_step start a (Down shape disk) M P calls (Calls b c) named own may sound full alone after sized = absurd may
-sized_step start a (Down shape disk) M P calls (Turn b) named own may sound full alone after sized = absurd may
-sized_step start a (Down shape disk) M P calls (Fails b new) named own may sound full alone after sized = absurd may
-sized_step start a (Down shape disk) M P calls (Looks b) named own may sound full alone after sized = absurd may
 sized_step start a (Down shape disk) M P calls Trips named own may sound full alone after sized = sized
 sized_step start a (Down shape disk) M P calls Stops named own may sound full alone after sized = sized
 sized_step start a (Down shape disk) M P calls (Crashes t) named own may sound full alone after sized = sized
-sized_step start a (Down shape disk) M P calls (CrashesIn b t) named own may sound full alone after sized = absurd may
 sized_step start a (Down shape disk) M P calls Opens named own may sound full alone after sized = (tt, sized)
 sized_step start a (Down shape disk) M P calls (OpenFails why true) named own may sound full alone after sized = sized
 sized_step start a (Down shape disk) M P calls (OpenFails why false) named own may sound full alone after sized = sized
+sized_step start a _ M P calls _ named own may sound full alone after sized = absurd may
 
 -- full comes exactly where there is no room
 pub full_is_right : FullIsRight

@@ -282,14 +282,7 @@ served n (Stop ∷ Call q a c ∷ M) S L T h clean fits = absurd h.0
 served n (Crash ∷ Call q a c ∷ M) S L T h clean fits = absurd h.0
 served n (Opened keys ∷ Call q a c ∷ M) S L T h clean fits = absurd h.0
 served n (OpenFailed why ∷ Call q a c ∷ M) S L T h clean fits = absurd h.0
-served n (e ∷ []) S L T h clean fits = absurd h
-served n (e ∷ Answer q answer ∷ M) S L T h clean fits = absurd h
-served n (e ∷ Refused q why ∷ M) S L T h clean fits = absurd h
-served n (e ∷ CutOff q why ∷ M) S L T h clean fits = absurd h
-served n (e ∷ Stop ∷ M) S L T h clean fits = absurd h
-served n (e ∷ Crash ∷ M) S L T h clean fits = absurd h
-served n (e ∷ Opened keys ∷ M) S L T h clean fits = absurd h
-served n (e ∷ OpenFailed why ∷ M) S L T h clean fits = absurd h
+served n _ S L T h clean fits = absurd h
 
 -- with the call that is open, or with it cut off
 pub served_open : (i a : ℕ) (c : Command) (M : History) (S : Keys) (L : List ℕ) (T : Keys) → Ended i M → has_cut M ≡ false → Fits S (Call i a c ∷ M) L T → IsPlain S (Call i a c ∷ M) T

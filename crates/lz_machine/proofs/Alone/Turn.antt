@@ -42,6 +42,7 @@ use Rattle.lz_machine.specs.CallersSound.{IsAdder, view_of, Relies}
 use Rattle.lz_machine.specs.Notes.{Notes}
 use Rattle.lz_machine.specs.Sound.{Sound}
 use Rattle.lz_machine.specs.Limbo.{IsRightSight}
+use Rattle.lz_machine.proofs.Frames.ActorTable.{by_actor}
 use Rattle.lz_machine.proofs.Steps.Hop.{call_at, own}
 use Rattle.lz_machine.proofs.Alone.Sights.{HasLeft, IsSeenOdd, set_cases, left_set, left_seen, seen_outside}
 use Rattle.lz_machine.proofs.Alone.Frame.{idle_on, none_on, left_on, is_use_event, course_is, cell_cases, synced_none, is_opening_event}
@@ -120,11 +121,7 @@ module _ (n calls : ℕ) (y : Yard) (callers : List (Option Caller)) (disk : Med
       finds : (d : Command) (aim : Option ℕ) → Relies (view_of y.shape y.vault y.actors a) d (Walking aim look) (notes.begun a) P (notes.changed a) → WalkStands y P (Walking aim look) d
           → AsksToAdd d aim (λ k. Finds y.shape y.words P sound.trace (few_slots sound.images) k (hopped y.shape.buckets (key_of d) look (get y.words (wants y.shape.buckets (key_of d) look))))
       finds (Add k) None rely stands = walk_finds y.shape y.words P sound.trace (few_slots sound.images) y.shape.passes y.vault.format y.vault.cells y.vault.dead (actor_in y.actors a) rely.0.hold rely.1 k look stands
-      finds (Add k) (Some s) rely stands = tt
-      finds (Remove k) None rely stands = tt
-      finds (Remove k) (Some s) rely stands = tt
-      finds (Has k) None rely stands = tt
-      finds (Has k) (Some s) rely stands = tt
+      finds _ _ rely stands = tt
 
   -- an adding's own slot
   adding_open : (k t : ℕ) → c ≡ Add k → caller_at callers a ≡ Some (call_at i c (Playing (Adding t) 0)) → AloneFull a y (Some (call_at i c (Playing (Adding t) 0))) P → (line y a WriteOpen).1 ≢ NotNow
@@ -209,16 +206,10 @@ module _ (n calls : ℕ) (y : Yard) (callers : List (Option Caller)) (disk : Med
       rely = relies (Reserving again) is
 
       holds : (b : ℕ) → (actor_in y.actors b).hold ≡ Nothing
-      holds b = elim (cases_eq b a) [
-        | inl same ↦ ap (λ (q : ℕ). (actor_in y.actors q).hold) same ∙ rely.0.hold
-        | inr other ↦ (h.others b other).hold
-      ]
+      holds = by_actor (λ b. (actor_in y.actors b).hold ≡ Nothing) a rely.0.hold (λ b other. (h.others b other).hold)
 
       slots : (b : ℕ) → (actor_in y.actors b).slot ≡ None
-      slots b = elim (cases_eq b a) [
-        | inl same ↦ ap (λ (q : ℕ). (actor_in y.actors q).slot) same ∙ rely.1
-        | inr other ↦ (h.others b other).slot
-      ]
+      slots = by_actor (λ b. (actor_in y.actors b).slot ≡ None) a rely.1 (λ b other. (h.others b other).slot)
 
       stands : (d : Command) (again : Bool) (found : Option ℕ) → y.vault.dead ≡ false → lowest_free (collect y.uses) ≡ found → IsAdder d → WalkStands y P (Reserving again) d
           → WalkStands (line_on Plays y actor a Reserve).0 P (progress_after y.shape d (Reserving again) (slot_found found (collect y.uses))) d

@@ -25,7 +25,7 @@ use Rattle.lz_list.proofs.Traces.Absence.{unlinked_is_settled}
 use Rattle.lz_list.proofs.Traces.NodeBits.{one_node}
 use Rattle.lz_list.proofs.Traces.TraceWords.{node_of_key}
 use Rattle.lz_machine.specs.declared.actor.Hold.{Hold}
-use Rattle.lz_machine.specs.declared.actor.Hold.TheVariants.{Nothing, Locks, Checked, GateOpened, Linked, GateClosed, Marked, Unlinked, Released}
+use Rattle.lz_machine.specs.declared.actor.Hold.TheVariants.{Checked, GateOpened}
 use Rattle.lz_vault.specs.Members.{no_cell}
 use Rattle.lz_machine.specs.Yards.{Yard, actor_in, cell_in, stage_in}
 use Rattle.lz_machine.specs.Runs.{Caller}
@@ -194,13 +194,7 @@ module _ (n calls : ℕ) (y : Yard) (callers : List (Option Caller)) (disk : Med
         go GateOpened at does stage word =
             let h = resting GateOpened at in
             opened stage (ap rests_on_pair at) (subst (λ (q : ℕ). IsBeside y.shape.buckets (key_word q P) (actor_in y.actors a).pred (actor_in y.actors a).curr P) (same_Some _ _ (sym h.slot ∙ hand)) h.beside) word
-        go Nothing at does stage word = absurd (false≢true does)
-        go Locks at does stage word = absurd (false≢true does)
-        go Linked at does stage word = absurd (false≢true does)
-        go GateClosed at does stage word = absurd (false≢true does)
-        go Marked at does stage word = absurd (false≢true does)
-        go Unlinked at does stage word = absurd (false≢true does)
-        go Released at does stage word = absurd (false≢true does)
+        go _ at does stage word = absurd (false≢true does)
 
     -- a slot that is read as a key's is its node's, or an actor has opened it for the key
     pub opened_or_node : (s k : ℕ) → s < y.shape.slots → slot_at t s ≡ Member k → IsNodeOf y P s k ⊎ IsOpened y P s k

@@ -9,7 +9,7 @@ use Rattle.lz_slot.specs.declared.command.Command.TheVariants.{Add, Remove}
 use Rattle.lz_slot.specs.Sets.{key_of, moved}
 use Rattle.lz_slot.specs.Bytes.{slot_at}
 use Rattle.lz_slot.specs.declared.slot.SlotRead.{SlotRead}
-use Rattle.lz_slot.specs.declared.slot.SlotRead.TheVariants.{Closed as Shut, Member, BadKey}
+use Rattle.lz_slot.specs.declared.slot.SlotRead.TheVariants.{Closed as Shut, Member}
 use Rattle.lz_slot.specs.Histories.{History, IsUnderWay}
 use Rattle.lz_disk.specs.Images.{Medium, IsImage}
 use Rattle.lz_vault.specs.declared.vault.Stage.{Stage}
@@ -54,12 +54,7 @@ record AsksAdding (there : Bool) (r : SlotRead) (c : Command) : Type 0 where
 asked_tells : (there marked opening : Bool) (k : ℕ) (r : SlotRead) (c : Command) → asked there marked opening k r ≡ Some c → AsksRemoval there marked opening k r c ⊎ AsksAdding there r c
 asked_tells true false false k Shut c is = inl (record { on_chain = refl; no_mark = refl; not_opening = refl; shut = refl; is = sym (same_Some (Remove k) c is) })
 asked_tells false marked opening k (Member j) c is = inr (record { key = j; off_chain = refl; read = refl; is = sym (same_Some (Add j) c is) })
-asked_tells true true opening k r c is = absurd (none-some c is)
-asked_tells true false true k r c is = absurd (none-some c is)
-asked_tells true false false k (Member j) c is = absurd (none-some c is)
-asked_tells true false false k BadKey c is = absurd (none-some c is)
-asked_tells false marked opening k Shut c is = absurd (none-some c is)
-asked_tells false marked opening k BadKey c is = absurd (none-some c is)
+asked_tells _ _ _ k _ c is = absurd (none-some c is)
 
 asked_adding : (there marked opening : Bool) (k j : ℕ) (r : SlotRead) → there ≡ false → r ≡ Member j → asked there marked opening k r ≡ Some (Add j)
 asked_adding there marked opening k j r off is = rw (off, is) refl

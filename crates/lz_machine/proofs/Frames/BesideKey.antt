@@ -14,38 +14,18 @@ use Rattle.lz_machine.proofs.Frames.HeldLocks.{rests_on_pair}
 
 -- a gate that is surely closed is neither opened nor written open
 pub opened_shut : (stage : Stage) → IsGateOpened stage → IsGateClosed stage → ⊥
-opened_shut Opening h (inl e) = absurd cc
-opened_shut Opening h (inr (inl e)) = absurd cc
-opened_shut Opening h (inr (inr e)) = absurd cc
-opened_shut Open h (inl e) = absurd cc
-opened_shut Open h (inr (inl e)) = absurd cc
-opened_shut Open h (inr (inr e)) = absurd cc
-opened_shut Closed (inl e) h = absurd cc
-opened_shut Closed (inr e) h = absurd cc
-opened_shut KeyLoose (inl e) h = absurd cc
-opened_shut KeyLoose (inr e) h = absurd cc
-opened_shut Keyed (inl e) h = absurd cc
-opened_shut Keyed (inr e) h = absurd cc
-opened_shut Closing (inl e) h = absurd cc
-opened_shut Closing (inr e) h = absurd cc
+opened_shut stage (inl e) (inl f) = absurd (let g : Opening ≡ Closed = sym e ∙ f in cc)
+opened_shut stage (inl e) (inr (inl f)) = absurd (let g : Opening ≡ KeyLoose = sym e ∙ f in cc)
+opened_shut stage (inl e) (inr (inr f)) = absurd (let g : Opening ≡ Keyed = sym e ∙ f in cc)
+opened_shut stage (inr e) (inl f) = absurd (let g : Open ≡ Closed = sym e ∙ f in cc)
+opened_shut stage (inr e) (inr (inl f)) = absurd (let g : Open ≡ KeyLoose = sym e ∙ f in cc)
+opened_shut stage (inr e) (inr (inr f)) = absurd (let g : Open ≡ Keyed = sym e ∙ f in cc)
 
 pub opened_written : (stage : Stage) → IsGateOpened stage → IsGateWritten stage → ⊥
-opened_written stage (inl e) (inl f) = opening_closing (sym e ∙ f)
-  where
-    opening_closing : Opening ≡ Closing → ⊥
-    opening_closing g = absurd cc
-opened_written stage (inl e) (inr f) = opening_closed (sym e ∙ f)
-  where
-    opening_closed : Opening ≡ Closed → ⊥
-    opening_closed g = absurd cc
-opened_written stage (inr e) (inl f) = open_closing (sym e ∙ f)
-  where
-    open_closing : Open ≡ Closing → ⊥
-    open_closing g = absurd cc
-opened_written stage (inr e) (inr f) = open_closed (sym e ∙ f)
-  where
-    open_closed : Open ≡ Closed → ⊥
-    open_closed g = absurd cc
+opened_written stage (inl e) (inl f) = absurd (let g : Opening ≡ Closing = sym e ∙ f in cc)
+opened_written stage (inl e) (inr f) = absurd (let g : Opening ≡ Closed = sym e ∙ f in cc)
+opened_written stage (inr e) (inl f) = absurd (let g : Open ≡ Closing = sym e ∙ f in cc)
+opened_written stage (inr e) (inr f) = absurd (let g : Open ≡ Closed = sym e ∙ f in cc)
 
 -- an actor that has opened its slot's gate stands beside its key's place
 pub beside_of : (buckets : ℕ) (dead : Bool) (hold : Hold) (actor : Actor) (P : Trace) (t : ℕ) → RestsOn buckets hold actor P → opens dead hold ≡ true → actor.slot ≡ Some t → IsBeside buckets (key_word t P) actor.pred actor.curr P × (rests_on_pair hold ≡ true)

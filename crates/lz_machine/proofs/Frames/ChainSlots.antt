@@ -18,16 +18,10 @@ use Rattle.lz_machine.proofs.Frames.Limbo.{seen_step, away_stays}
 use Rattle.lz_machine.proofs.Frames.Uses.{free_limbo}
 
 pub free_taken : {u : Use} → u ≡ Free → u ≡ Taken → ⊥
-free_taken a b = absurd (clash (sym a ∙ b))
-  where
-    clash : Free ≡ Taken → ⊥
-    clash e = absurd cc
+free_taken a b = absurd (let e : Free ≡ Taken = sym a ∙ b in cc)
 
 taken_limbo : {u : Use} {sights : List Sight} → u ≡ Limbo sights → u ≡ Taken → ⊥
-taken_limbo {u} {sights} a b = absurd (clash (sym a ∙ b))
-  where
-    clash : Limbo sights ≡ Taken → ⊥
-    clash e = absurd cc
+taken_limbo {u} {sights} a b = absurd (let e : Limbo sights ≡ Taken = sym a ∙ b in cc)
 
 -- a use that isn't taken is one of a slot of the table
 use_range : (uses : List Use) (s : ℕ) → (use_of uses s ≡ Taken → ⊥) → s < length uses

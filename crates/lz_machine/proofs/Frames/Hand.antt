@@ -17,7 +17,8 @@ use Rattle.lz_machine.specs.LocksSound.{LocksSound}
 use Rattle.lz_machine.specs.Sound.{ReuseSound, Sound}
 use Rattle.lz_machine.proofs.Frames.ActorTable.{by_actor}
 use Rattle.lz_machine.proofs.Frames.OneActor.{moved, moving, caller_range, callers_turn, ledger_turn}
-use Rattle.lz_machine.proofs.Frames.Grip.{KeepsGrips, keeps_itself, slots_turn}
+use Rattle.lz_machine.proofs.Frames.Grip.{KeepsGrips, keeps_itself}
+use Rattle.lz_machine.proofs.Frames.KeptSlots.{slots_turn}
 use Rattle.lz_machine.proofs.Frames.SameYard.{KeepsTail, in_passes, tails_turn}
 
 -- the reservations, where no slot changes hands

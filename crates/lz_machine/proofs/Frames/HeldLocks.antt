@@ -1,18 +1,21 @@
 -- What an actor relies on because of its locks stays when another publishes.
-use Rattle.std.proofs.Common.{◌≡◌, ◌≢◌, inl, inr, ℕ, zero, suc, Bool, true, false, ◌∷◌, Option, Some, None, refl, sym, ap, ◌∙◌, subst, arith}
+use Rattle.std.proofs.Common.{◌≡◌, ◌≢◌, inl, inr, ℕ, zero, suc, Bool, true, false, List, ◌∷◌, Option, Some, None, refl, sym, ap, ◌∙◌, subst, arith}
 use Rattle.std.proofs.lemmas.Bool.Decides.{nat_tests}
 use Rattle.lz_list.specs.declared.place.Place.{Place}
 use Rattle.lz_list.specs.declared.place.Place.TheVariants.{Bucket, Node}
+use Rattle.lz_list.specs.declared.publishing.Change.{Change}
 use Rattle.lz_list.specs.declared.publishing.Publishing.{Publishing}
-use Rattle.lz_list.specs.declared.publishing.Publishing.TheVariants.{Linked as linked, Marked as marked, Unlinked as unlinked, KeyPrepared as key_prepared, LinkPrepared as link_prepared}
+use Rattle.lz_list.specs.declared.publishing.Publishing.TheVariants.{Linked as linked, Marked as marked, Unlinked as unlinked, KeyPrepared as key_prepared, LinkPrepared as link_prepared, Settled as settled, Halted as halted}
 use Rattle.lz_list.specs.Words.{place_number, link_to}
 use Rattle.lz_list.specs.Traces.{Trace, Lawful, place_of, bucket_of, key_word, next_link, is_marked, rank_at}
 use Rattle.lz_list.specs.Laws.{IsLow, IsHigh}
+use Rattle.lz_list.specs.Locks.{NodeLocks}
 use Rattle.lz_machine.specs.declared.actor.Actor.{Actor}
 use Rattle.lz_machine.specs.declared.actor.Hold.{Hold}
 use Rattle.lz_machine.specs.declared.actor.Hold.TheVariants.{Nothing, Locks, Checked, GateOpened, Linked, GateClosed, Marked, Unlinked, Released}
+use Rattle.lz_machine.specs.Yards.{Shape, actor_in}
 use Rattle.lz_machine.specs.Stands.{IsLinkable, Faces, InBucket, IsLeaving}
-use Rattle.lz_machine.specs.LocksSound.{IsBeside, IsRightBefore, HasClosed, RestsOn}
+use Rattle.lz_machine.specs.LocksSound.{IsBeside, IsRightBefore, HasClosed, RestsOn, LocksSound}
 use Rattle.lz_machine.proofs.Frames.OtherLink as links
 use Rattle.lz_machine.proofs.Frames.OtherUnlink as unlinks
 
@@ -94,6 +97,16 @@ pair_published buckets e actor P leaves h = go actor.hold refl
     go Marked is = pair_stays buckets e actor P (leaves (ap rests_on_pair is)) actor.hold h
     go _ is = subst (λ (q : Hold). RestsOn buckets q actor (e ∷ P)) (sym is) tt
 
+-- what a publishing leaves of ranks and links, where it leaves the key words, and where it leaves each link
+rank_same : (e : Publishing) (P : Trace) → ((t : ℕ) → key_word t (e ∷ P) ≡ key_word t P) → (x : ℕ) → rank_at (λ t. key_word t (e ∷ P)) x ≡ rank_at (λ t. key_word t P) x
+rank_same e P word zero = refl
+rank_same e P word (suc t) = ap suc (word t)
+
+next_same : (buckets b : ℕ) (e : Publishing) (P : Trace) → next_link buckets b (e ∷ P) zero ≡ next_link buckets b P zero → ((t : ℕ) → next_link buckets b (e ∷ P) (suc t) ≡ next_link buckets b P (suc t))
+    → (x n : ℕ) → next_link buckets b P x ≡ n → next_link buckets b (e ∷ P) x ≡ n
+next_same buckets b e P head link zero n is = head ∙ is
+next_same buckets b e P head link (suc t) n is = link t ∙ is
+
 -- A linking at another place, of another slot.
 pub linked_leaves : (buckets slots k s p : ℕ) (actor : Actor) (P : Trace) → Lawful buckets slots P
     → ((j : ℕ) → InBucket buckets j actor.pred → bucket_of buckets j ≡ bucket_of buckets k → place_number actor.pred ≢ place_of buckets k P) → ((t : ℕ) → actor.slot ≡ Some t → t ≢ s)
@@ -101,15 +114,11 @@ pub linked_leaves : (buckets slots k s p : ℕ) (actor : Actor) (P : Trace) → 
 linked_leaves buckets slots k s p actor P law apart other = record {
   own_word = λ t slot. refl;
   node_word = λ t node. refl;
-  place_rank = rank_same (place_number actor.pred);
+  place_rank = rank_same (linked k s p) P (λ t. refl) (place_number actor.pred);
   mark = λ t node. refl;
   faces = λ j n at h. links.faces_stays buckets slots P law k s p j (place_number actor.pred) n (apart j at) h;
   ready = λ j n t slot h. links.ready_stays buckets slots P law k s p j n t (other t slot) h;
 }
-  where
-    rank_same : (x : ℕ) → rank_at (λ t. key_word t (linked k s p ∷ P)) x ≡ rank_at (λ t. key_word t P) x
-    rank_same zero = refl
-    rank_same (suc t) = refl
 
 -- An unlinking of another node, after another place.
 pub unlinked_leaves : (buckets slots k x s p : ℕ) (actor : Actor) (P : Trace) → Lawful buckets slots P → IsLeaving buckets k x s P
@@ -118,7 +127,7 @@ pub unlinked_leaves : (buckets slots k x s p : ℕ) (actor : Actor) (P : Trace) 
 unlinked_leaves buckets slots k x s p actor P law leaving apart = record {
   own_word = λ t slot. refl;
   node_word = λ t node. refl;
-  place_rank = rank_same (place_number actor.pred);
+  place_rank = rank_same (unlinked k s p) P (λ t. refl) (place_number actor.pred);
   mark = λ t node. refl;
   faces = λ j n at h. unlinks.faces_stays buckets slots k x s p P law leaving j (place_number actor.pred) n (apart j at) h;
   ready = λ j n t slot h. record {
@@ -130,66 +139,71 @@ unlinked_leaves buckets slots k x s p actor P law leaving apart = record {
     not_removed = h.not_removed;
   };
 }
-  where
-    rank_same : (z : ℕ) → rank_at (λ t. key_word t (unlinked k s p ∷ P)) z ≡ rank_at (λ t. key_word t P) z
-    rank_same zero = refl
-    rank_same (suc t) = refl
 
 -- A marking of another node.
 pub marked_leaves : (buckets k s p : ℕ) (actor : Actor) (P : Trace) → ((t : ℕ) → actor.curr ≡ Some t → t ≢ s) → ((t : ℕ) → actor.slot ≡ Some t → t ≢ s) → LeavesPair buckets (marked k s p) actor P
 marked_leaves buckets k s p actor P other apart = record {
   own_word = λ t slot. refl;
   node_word = λ t node. refl;
-  place_rank = rank_same (place_number actor.pred);
+  place_rank = rank_same (marked k s p) P (λ t. refl) (place_number actor.pred);
   mark = λ t node. grind (arith, nat_tests, other t node);
-  faces = λ j n at h. record { there = h.there; next = next_same j (place_number actor.pred) n h.next };
+  faces = λ j n at h. record { there = h.there; next = next_same buckets (bucket_of buckets j) (marked k s p) P refl (λ t. refl) (place_number actor.pred) n h.next };
   ready = λ j n t slot h. record { loose = h.loose; key = h.key; link = h.link; no_mark = grind (arith, nat_tests, apart t slot, h.no_mark); not_added = h.not_added; not_removed = h.not_removed };
 }
-  where
-    rank_same : (z : ℕ) → rank_at (λ t. key_word t (marked k s p ∷ P)) z ≡ rank_at (λ t. key_word t P) z
-    rank_same zero = refl
-    rank_same (suc t) = refl
-
-    next_same : (j z n : ℕ) → next_link buckets (bucket_of buckets j) P z ≡ n → next_link buckets (bucket_of buckets j) (marked k s p ∷ P) z ≡ n
-    next_same j zero n h = h
-    next_same j (suc t) n h = h
 
 -- A preparing of a slot that is neither the actor's, nor its node, nor its place.
 pub key_leaves : (buckets s v : ℕ) (actor : Actor) (P : Trace) → ((t : ℕ) → actor.slot ≡ Some t → t ≢ s) → ((t : ℕ) → actor.curr ≡ Some t → t ≢ s) → ((t : ℕ) → place_number actor.pred ≡ suc t → t ≢ s) → LeavesPair buckets (key_prepared s v) actor P
 key_leaves buckets s v actor P own node place = record {
   own_word = λ t slot. grind (arith, nat_tests, own t slot);
   node_word = λ t curr. grind (arith, nat_tests, node t curr);
-  place_rank = rank_same (place_number actor.pred) refl;
+  place_rank = rank_stays (place_number actor.pred) refl;
   mark = λ t curr. refl;
-  faces = λ j n at h. record { there = h.there; next = next_same j (place_number actor.pred) n h.next };
+  faces = λ j n at h. record { there = h.there; next = next_same buckets (bucket_of buckets j) (key_prepared s v) P refl (λ t. refl) (place_number actor.pred) n h.next };
   ready = λ j n t slot h. record { loose = h.loose; key = grind (arith, nat_tests, own t slot, h.key); link = h.link; no_mark = h.no_mark; not_added = h.not_added; not_removed = h.not_removed };
 }
   where
-    rank_same : (z : ℕ) → place_number actor.pred ≡ z → rank_at (λ t. key_word t (key_prepared s v ∷ P)) z ≡ rank_at (λ t. key_word t P) z
-    rank_same zero is = refl
-    rank_same (suc t) is = let apart = place t is in grind (arith, nat_tests, apart)
-
-    next_same : (j z n : ℕ) → next_link buckets (bucket_of buckets j) P z ≡ n → next_link buckets (bucket_of buckets j) (key_prepared s v ∷ P) z ≡ n
-    next_same j zero n h = h
-    next_same j (suc t) n h = h
+    rank_stays : (z : ℕ) → place_number actor.pred ≡ z → rank_at (λ t. key_word t (key_prepared s v ∷ P)) z ≡ rank_at (λ t. key_word t P) z
+    rank_stays zero is = refl
+    rank_stays (suc t) is = let apart = place t is in grind (arith, nat_tests, apart)
 
 pub link_leaves : (buckets s v : ℕ) (actor : Actor) (P : Trace) → ((t : ℕ) → actor.slot ≡ Some t → t ≢ s) → ((t : ℕ) → actor.curr ≡ Some t → t ≢ s) → ((t : ℕ) → place_number actor.pred ≡ suc t → t ≢ s) → LeavesPair buckets (link_prepared s v) actor P
 link_leaves buckets s v actor P own node place = record {
   own_word = λ t slot. refl;
   node_word = λ t curr. refl;
-  place_rank = rank_same (place_number actor.pred);
+  place_rank = rank_same (link_prepared s v) P (λ t. refl) (place_number actor.pred);
   mark = λ t curr. grind (arith, nat_tests, node t curr);
-  faces = λ j n at h. record { there = h.there; next = next_same j (place_number actor.pred) refl n h.next };
+  faces = λ j n at h. record { there = h.there; next = next_stays j (place_number actor.pred) refl n h.next };
   ready = λ j n t slot h. record { loose = h.loose; key = h.key; link = grind (arith, nat_tests, own t slot, h.link); no_mark = grind (arith, nat_tests, own t slot, h.no_mark); not_added = grind (arith, nat_tests, own t slot, h.not_added); not_removed = grind (arith, nat_tests, own t slot, h.not_removed) };
 }
   where
-    rank_same : (z : ℕ) → rank_at (λ t. key_word t (link_prepared s v ∷ P)) z ≡ rank_at (λ t. key_word t P) z
-    rank_same zero = refl
-    rank_same (suc t) = refl
+    next_stays : (j z : ℕ) → place_number actor.pred ≡ z → (n : ℕ) → next_link buckets (bucket_of buckets j) P z ≡ n → next_link buckets (bucket_of buckets j) (link_prepared s v ∷ P) z ≡ n
+    next_stays j zero is n h = h
+    next_stays j (suc t) is n h = let apart = place t is in grind (arith, nat_tests, apart, h)
 
-    next_same : (j z : ℕ) → place_number actor.pred ≡ z → (n : ℕ) → next_link buckets (bucket_of buckets j) P z ≡ n → next_link buckets (bucket_of buckets j) (link_prepared s v ∷ P) z ≡ n
-    next_same j zero is n h = h
-    next_same j (suc t) is n h = let apart = place t is in grind (arith, nat_tests, apart, h)
+-- A flag on another slot, and a halt.
+pub settled_leaves : (buckets s : ℕ) (c : Change) (actor : Actor) (P : Trace) → ((t : ℕ) → actor.slot ≡ Some t → t ≢ s) → LeavesPair buckets (settled s c) actor P
+settled_leaves buckets s c actor P own = record {
+  own_word = λ t slot. refl;
+  node_word = λ t curr. refl;
+  place_rank = rank_same (settled s c) P (λ t. refl) (place_number actor.pred);
+  mark = λ t curr. refl;
+  faces = λ j n at h. record { there = h.there; next = next_same buckets (bucket_of buckets j) (settled s c) P refl (λ t. refl) (place_number actor.pred) n h.next };
+  ready = λ j n t slot h. record { loose = h.loose; key = h.key; link = h.link; no_mark = h.no_mark; not_added = grind (arith, nat_tests, own t slot, h.not_added); not_removed = grind (arith, nat_tests, own t slot, h.not_removed) };
+}
+
+pub halted_leaves : (buckets : ℕ) (actor : Actor) (P : Trace) → LeavesPair buckets halted actor P
+halted_leaves buckets actor P = record {
+  own_word = λ t slot. refl;
+  node_word = λ t curr. refl;
+  place_rank = rank_same halted P (λ t. refl) (place_number actor.pred);
+  mark = λ t curr. refl;
+  faces = λ j n at h. record { there = h.there; next = next_same buckets (bucket_of buckets j) halted P refl (λ t. refl) (place_number actor.pred) n h.next };
+  ready = λ j n t slot h. record { loose = h.loose; key = h.key; link = h.link; no_mark = h.no_mark; not_added = h.not_added; not_removed = h.not_removed };
+}
+
+-- so what is said of locks stays, where it leaves each actor's pair
+pub locks_published : (shape : Shape) (locks : NodeLocks) (actors : List Actor) (e : Publishing) (P : Trace) → ((a : ℕ) → LeavesPair shape.buckets e (actor_in actors a) P) → LocksSound shape locks actors P → LocksSound shape locks actors (e ∷ P)
+locks_published shape locks actors e P leaves h = record { heads = h.heads; nodes = h.nodes; has = h.has; rests = λ a. pair_published shape.buckets e (actor_in actors a) P (λ rest. leaves a) (h.rests a) }
 
 -- two places of one bucket with one number are one place
 pub one_place : (buckets j k : ℕ) (p q : Place) → InBucket buckets j p → InBucket buckets k q → bucket_of buckets j ≡ bucket_of buckets k → place_number p ≡ place_number q → p ≡ q

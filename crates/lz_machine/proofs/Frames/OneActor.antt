@@ -76,7 +76,7 @@ module _ (callers : List (Option Caller)) (a : ℕ) (caller : Caller) (at : call
   same_entries passes notes = ap (λ (rows : List Row). notes.ended ++ rows) (same_pending notes.changed passes)
 
   -- what is said of each open call, of its number and command
-  number_still : (b : ℕ) (one : Caller) → caller_at (moving callers a caller next) b ≡ Some one → (old : Caller) × (caller_at callers b ≡ Some old) × (old.number ≡ one.number) × (old.command ≡ one.command)
+  pub number_still : (b : ℕ) (one : Caller) → caller_at (moving callers a caller next) b ≡ Some one → (old : Caller) × (caller_at callers b ≡ Some old) × (old.number ≡ one.number) × (old.command ≡ one.command)
   number_still b one is = elim (cases_eq b a) [
     | inl same ↦
         let new = same_Some _ _ (sym moved_same ∙ ap (caller_at (moving callers a caller next)) (sym same) ∙ is) in

@@ -41,10 +41,10 @@ use Rattle.lz_machine.proofs.Frames.GateWrite.{gate_failed}
 use Rattle.lz_machine.proofs.Frames.OneActor.{moving, callers_moved, ledger_turn}
 use Rattle.lz_machine.proofs.Frames.ChainSlots.{reuse_published}
 use Rattle.lz_machine.proofs.Frames.OneSlot.{slot_grips, same_nodes, slot_turn, prepared_slots}
-use Rattle.lz_machine.proofs.Frames.Publishing.{LeavesCaller, caller_published, shut_relies}
+use Rattle.lz_machine.proofs.Frames.Publishing.{shut_relies}
 use Rattle.lz_machine.proofs.Ledger.QuietPublishing.{ledger_published}
 use Rattle.lz_machine.proofs.Frames.Store.{trace_link}
-use Rattle.lz_machine.proofs.Steps.Halt.{held_node}
+use Rattle.lz_machine.proofs.Frames.OtherCallers.{held_node, callers_stay}
 use Rattle.lz_machine.proofs.Frames.Hand.{reuse_turn}
 use Rattle.lz_machine.proofs.Frames.HeldLocks.{LeavesPair, link_leaves, beside_stays, before_stays}
 use Rattle.lz_machine.proofs.Steps.Hop.{call_at, own}
@@ -238,21 +238,9 @@ module _ (n calls : ℕ) (y : Yard) (callers : List (Option Caller)) (disk : Med
         (λ b other. rests_prepared y.shape.buckets y.shape.slots s (link_prepared s v) (actor_in y.actors b) P sound.trace.lawful loose (λ node place. link_leaves y.shape.buckets s v (actor_in y.actors b) P (λ t slot. hand_apart b t other slot) node place) (actor_in y.actors b).hold (sound.locks.rests b));
   }
 
-  -- no key word is changed, and no pass that is inside has stood on the slot
-  leaves_callers : (b : ℕ) → LeavesCaller y.shape.buckets y.shape.slots (link_prepared s v) P law (actor_in y.actors b) (pin_in y.words.pins b) (notes.begun b)
-  leaves_callers b = record {
-    kept = λ inside. sound.reuse.reserved b a s h.1.slot inside;
-    word = λ t slot. refl;
-    node = held_node y.shape P (actor_in y.actors b).hold (actor_in y.actors b) sound.trace.lawful (sound.locks.rests b);
-  }
-
-  -- so what is said of callers stays, the adder's too
+  -- what is said of callers stays, the adder's too: no key word is changed, and no pass that is inside has stood on the slot
   published_callers : CallersSound y.shape y.vault y.words.pins y.actors callers P' notes
-  published_callers = record {
-    count = sound.callers.count;
-    hands = sound.callers.hands;
-    each = λ b. caller_published y.shape.buckets y.shape.slots (link_prepared s v) P law y.shape.passes y.vault.format y.vault.cells y.vault.dead (actor_in y.actors b) (pin_in y.words.pins b) (notes.begun b) (notes.changed b) (leaves_callers b) (caller_at callers b) (sound.callers.each b);
-  }
+  published_callers = callers_stay y.shape y.vault y.words.pins y.locks y.actors callers (link_prepared s v) P law notes sound.locks sound.callers (λ b inside. sound.reuse.reserved b a s h.1.slot inside) (λ b t slot. refl)
 
   -- passes stay away from loose slots
   published_reuse : ReuseSound y.shape y.words.pins y.uses y.actors P' notes.begun

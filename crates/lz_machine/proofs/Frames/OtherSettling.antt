@@ -20,16 +20,16 @@ use Rattle.lz_list.proofs.Traces.NodeBits.{node, linking_apart}
 use Rattle.lz_list.proofs.Tables.WordTable.{table_set}
 use Rattle.lz_machine.specs.Yards.{Yard, Shape, IsInside, actor_in, pin_in, stage_in}
 use Rattle.std.specs.Prelude.{slice_set}
-use Rattle.lz_machine.specs.Runs.{Caller, caller_at, with_words}
-use Rattle.lz_machine.specs.Notes.{Notes, entries}
+use Rattle.lz_machine.specs.Runs.{Caller, with_words}
+use Rattle.lz_machine.specs.Notes.{Notes}
 use Rattle.lz_machine.specs.SlotsSound.{SlotStands, is_node, is_held, is_out, is_free, is_limbo, IsNodeStage, IsOnChain, SlotsSound}
 use Rattle.lz_machine.specs.Sound.{TraceSound, Sound}
 use Rattle.lz_machine.proofs.Frames.ChainSlots.{reuse_published}
 use Rattle.lz_machine.proofs.Frames.LoadedWord.{link_next, link_mark, link_removed}
-use Rattle.lz_machine.proofs.Frames.Publishing.{LeavesCaller, caller_published}
-use Rattle.lz_machine.proofs.Frames.Flags.{locks_settled, slots_settled, tails_settled}
+use Rattle.lz_machine.proofs.Frames.KeptSlots.{slots_published}
+use Rattle.lz_machine.proofs.Frames.HeldLocks.{settled_leaves, locks_published}
 use Rattle.lz_machine.proofs.Ledger.QuietPublishing.{ledger_published}
-use Rattle.lz_machine.proofs.Steps.Halt.{held_node}
+use Rattle.lz_machine.proofs.Frames.OtherCallers.{callers_stay}
 use Rattle.lz_machine.proofs.Frames.Ranges.{few_slots}
 
 -- what a settled flag makes of a slot's flags
@@ -122,28 +122,17 @@ module _ (n calls : ℕ) (y : Yard) (callers : List (Option Caller)) (disk : Med
       | inr other ↦ sound.slots.removed k t key there (rw other.0 at is)
     ]
 
-    leaves : (b : ℕ) → LeavesCaller y.shape.buckets y.shape.slots (settled s c) P (tt, sound.trace.lawful) (actor_in y.actors b) (pin_in y.words.pins b) (notes.begun b)
-    leaves b = record {
-      kept = λ inside. tt;
-      word = λ t slot. refl;
-      node = held_node y.shape P (actor_in y.actors b).hold (actor_in y.actors b) sound.trace.lawful (sound.locks.rests b);
-    }
-
     slots : SlotsSound y.shape y.vault.cells y.vault.dead y.uses y.actors (settled s c ∷ P)
-    slots = slots_settled s c y.shape y.vault.cells y.vault.dead y.uses y.actors P sound.slots is_added is_removed_then
+    slots = slots_published y.shape y.vault.cells y.vault.dead y.actors y.uses (settled s c) P (record { loose = λ t loose. loose; word = λ t. refl; mark = λ t. refl; chain = λ k t there. there }) sound.slots is_added is_removed_then
 
     pub settled_keeps : Sound n calls (with_words y (stored y.shape y.words P sound.trace (few_slots sound.images) s lt c)) callers disk M (settled s c ∷ P) notes
     settled_keeps = record {
       trace = trace_settled y.shape y.words P sound.trace (few_slots sound.images) s lt c;
       images = sound.images;
       slots = slots;
-      locks = locks_settled s c y.shape y.vault.cells y.vault.dead y.uses y.actors P y.locks apart sound.locks;
-      callers = record {
-        count = sound.callers.count;
-        hands = sound.callers.hands;
-        each = λ b. caller_published y.shape.buckets y.shape.slots (settled s c) P (tt, sound.trace.lawful) y.shape.passes y.vault.format y.vault.cells y.vault.dead (actor_in y.actors b) (pin_in y.words.pins b) (notes.begun b) (notes.changed b) (leaves b) (caller_at callers b) (sound.callers.each b);
-      };
+      locks = locks_published y.shape y.locks y.actors (settled s c) P (λ b. settled_leaves y.shape.buckets s c (actor_in y.actors b) P (apart b)) sound.locks;
+      callers = callers_stay y.shape y.vault y.words.pins y.locks y.actors callers (settled s c) P (tt, sound.trace.lawful) notes sound.locks sound.callers (λ b inside. tt) (λ b t slot. refl);
       reuse = reuse_published y.shape y.vault.cells y.vault.dead y.uses y.actors y.actors (settled s c) P y.words.pins notes.begun slots (λ b t slot. slot) sound.reuse;
       ledger = ledger_published n calls y.shape.passes callers (settled s c) P M notes tt sound.ledger;
-      tails = tails_settled s c y.shape y.vault.cells y.vault.dead y.uses y.actors P callers (entries y.shape.passes callers notes) M sound.tails;
+      tails = record { adding = sound.tails.adding; removing = sound.tails.removing };
     }

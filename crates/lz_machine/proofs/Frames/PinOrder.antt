@@ -1,7 +1,7 @@
 -- A call that was made after another one's answer has pinned after it, after each turn, look and pin too. And the life began as before.
 use Rattle.std.proofs.Common.{◌≡◌, ◌≢◌, ◌⊎◌, ⊎_elim, inl, inr, ℕ, ◌<◌, ◌≤◌, Bool, true, false, List, [], ◌∷◌, ◌++◌, length, Option, Some, None, refl, sym, ap, ◌∙◌, subst, arith}
 use Rattle.std.proofs.lemmas.Bool.{cases_Bool, cases_eq}
-use Rattle.std.proofs.lemmas.Option.{same_Some, none-some}
+use Rattle.std.proofs.lemmas.Option.{none-some}
 use Rattle.lz_slot.specs.Sets.{Keys}
 use Rattle.lz_slot.specs.Counted.{set_of_pass}
 use Rattle.lz_slot.specs.Histories.{History, IsAnswered, IsBefore}
@@ -17,18 +17,9 @@ use Rattle.lz_machine.specs.LedgerSound.{LedgerSound}
 use Rattle.lz_machine.specs.Sound.{HasBegun, IsAfter}
 use Rattle.lz_machine.proofs.Ledger.Fit.{each_has, was_answered}
 use Rattle.lz_machine.proofs.Ledger.Growth.{upto_more}
-use Rattle.lz_machine.proofs.Frames.OneActor.{moving, moved_same, moved_other, same_entries}
+use Rattle.lz_machine.proofs.Frames.OneActor.{moving, number_still, same_entries}
 use Rattle.lz_machine.proofs.Ledger.Change.{IsInserted, changes_at, row_of, inserted_entry}
 use Rattle.lz_machine.proofs.Steps.Pin.{begins_now, begun_same, begun_other}
-
--- an open call after a turn is one of before, with its number
-pub number_still : (callers : List (Option Caller)) (a : ℕ) (caller : Caller) (at : caller_at callers a ≡ Some caller) (next : Progress) (b : ℕ) (one : Caller) → caller_at (moving callers a caller next) b ≡ Some one → (old : Caller) × (caller_at callers b ≡ Some old) × (old.number ≡ one.number)
-number_still callers a caller at next b one is = elim (cases_eq b a) [
-  | inl same ↦
-      let new = same_Some _ _ (sym (moved_same callers a caller at next) ∙ ap (caller_at (moving callers a caller next)) (sym same) ∙ is) in
-      (caller, ap (caller_at callers) same ∙ at, ap (λ (q : Caller). q.number) new)
-  | inr other ↦ (one, sym (moved_other callers a caller at next b other) ∙ is, refl)
-]
 
 -- a turn may add rows of calls that have no answer
 abbrev pub AddsOpen : List Row → List Row → History → Type 0

@@ -10,7 +10,7 @@ use Rattle.lz_slot.specs.declared.command.Command.TheVariants.{Add, Remove, Has}
 use Rattle.lz_slot.specs.Sets.{key_of}
 use Rattle.lz_list.specs.declared.place.Place.{Place}
 use Rattle.lz_list.specs.declared.publishing.Publishing.{Publishing}
-use Rattle.lz_list.specs.declared.publishing.Publishing.TheVariants.{Linked as linked, Marked as marked, Unlinked as unlinked, Settled as settled, KeyPrepared as key_prepared, LinkPrepared as link_prepared, Halted as halted}
+use Rattle.lz_list.specs.declared.publishing.Publishing.TheVariants.{Linked as linked, KeyPrepared as key_prepared, Halted as halted}
 use Rattle.lz_list.specs.declared.walk.Look.{Look}
 use Rattle.lz_list.specs.declared.walk.Look.TheVariants.{AtHead, AtKey, AtMet, AtBelow}
 use Rattle.lz_list.specs.Words.{place_number, link_to}
@@ -68,12 +68,7 @@ module _ (buckets slots : ℕ) (e : Publishing) (P : Trace) (law : Lawful bucket
         | inl same ↦ absurd (false≢true (sym (loose b) ∙ ap (λ (q : ℕ). on 0 (chain buckets b P) (suc q)) same.1 ∙ there))
         | inr f ↦ rw f.0
       ]
-      go (linked k s p) may = refl
-      go (marked k s p) may = refl
-      go (unlinked k s p) may = refl
-      go (settled s c) may = refl
-      go (link_prepared s v) may = refl
-      go halted may = refl
+      go _ may = refl
 
   pub node_linking : (t b : ℕ) → on 0 (chain buckets b P) (suc t) ≡ true → linking_in t (e ∷ P) ≡ linking_in t P
   node_linking t b there = go e law.0
@@ -83,12 +78,7 @@ module _ (buckets slots : ℕ) (e : Publishing) (P : Trace) (law : Lawful bucket
         | inl same ↦ absurd (false≢true (sym (may.loose b) ∙ ap (λ (q : ℕ). on 0 (chain buckets b P) (suc q)) same.1 ∙ there))
         | inr f ↦ rw f.0
       ]
-      go (key_prepared s v) may = refl
-      go (marked k s p) may = refl
-      go (unlinked k s p) may = refl
-      go (settled s c) may = refl
-      go (link_prepared s v) may = refl
-      go halted may = refl
+      go _ may = refl
 
   -- and so does its key
   pub key_linking : (k t : ℕ) → on 0 (chain_of buckets k P) (suc t) ≡ true → key_word t P ≡ k → linking k (e ∷ P) ≡ linking k P
@@ -102,12 +92,7 @@ module _ (buckets slots : ℕ) (e : Publishing) (P : Trace) (law : Lawful bucket
             absurd (false≢true (sym (subst (λ (q : ℕ). has_key q (chain_of buckets q P) ≡ false) same.1 may.no_node) ∙ has))
         | inr f ↦ rw f.0
       ]
-      go (key_prepared s v) may = refl
-      go (marked k s p) may = refl
-      go (unlinked k s p) may = refl
-      go (settled s c) may = refl
-      go (link_prepared s v) may = refl
-      go halted may = refl
+      go _ may = refl
 
   module _ (P0 : Trace) (kept : IsKept buckets P0 e P) (quiet : IsQuiet buckets P0 P) where
     -- a place of a chain keeps its rank

@@ -22,7 +22,8 @@ use Rattle.lz_machine.specs.LedgerSound.{TailsSound}
 use Rattle.lz_machine.specs.Sound.{Sound, UpSound}
 use Rattle.lz_machine.proofs.Frames.ActorTable.{by_actor}
 use Rattle.lz_machine.proofs.Frames.OneActor.{carry}
-use Rattle.lz_machine.proofs.Frames.Grip.{KeepsGrips, keeps_itself, slots_turn}
+use Rattle.lz_machine.proofs.Frames.Grip.{KeepsGrips, keeps_itself}
+use Rattle.lz_machine.proofs.Frames.KeptSlots.{slots_turn}
 use Rattle.lz_machine.proofs.Frames.Hand.{reuse_turn}
 use Rattle.lz_machine.proofs.Frames.NodeLocks.{held_locks}
 

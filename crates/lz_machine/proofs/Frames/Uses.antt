@@ -1,12 +1,11 @@
--- What is said of slots stays when pins are seen, and when limbo slots that every pass has left become free.
-use Rattle.std.proofs.Common.{◌≡◌, ◌⊎◌, inl, inr, ℕ, zero, suc, ◌≤◌, Bool, true, List, [], ◌∷◌, length, map, get_or, refl, sym, ap, ◌∙◌, subst, arith}
+-- How uses change when pins are seen, and when limbo slots that every pass has left become free: what is said of reuse stays.
+use Rattle.std.proofs.Common.{◌≡◌, ◌⊎◌, inl, inr, ℕ, zero, suc, ◌≤◌, true, List, [], ◌∷◌, length, map, get_or, refl, sym, ap, ◌∙◌, subst, arith}
 use mathlib.Core.Bool.{false≢true}
 use Rattle.std.specs.List.{list_all}
 use Rattle.std.proofs.lemmas.Bool.{cases_Bool, cases_eq, cases_lt}
 use Rattle.std.proofs.lemmas.List.{get_or_past, length-map}
 use Rattle.lz_slot.specs.Counted.{of_pass, set_of_pass}
 use Rattle.lz_slot.proofs.Counted.{of_pass_same, of_pass_other, length-set_of_pass}
-use Rattle.lz_vault.specs.Stages.{Cell}
 use Rattle.lz_allot.specs.declared.sight.Sight.{Sight}
 use Rattle.lz_allot.specs.declared.sight.Sight.TheVariants.{Unseen, Inside, Left}
 use Rattle.lz_allot.specs.Uses.{Use, Free, Taken, Limbo, use_of, collect_at, collect, see_pin_at, see_pin, sight_after, has_left}
@@ -14,7 +13,6 @@ use Rattle.lz_list.specs.Traces.{Trace}
 use Rattle.lz_machine.specs.declared.actor.Actor.{Actor}
 use Rattle.lz_machine.specs.Yards.{Shape, IsInside, pin_in}
 use Rattle.lz_machine.specs.Limbo.{IsRightSight}
-use Rattle.lz_machine.specs.SlotsSound.{SlotStands, is_node, is_held, is_out, is_free, is_limbo, SlotsSound}
 use Rattle.lz_machine.specs.Sound.{ReuseSound}
 use Rattle.lz_machine.proofs.Frames.Limbo.{seen_see}
 
@@ -38,32 +36,6 @@ pub record KeepsUses (old new : List Use) : Type 0 where
   pub taken : (s : ℕ) → use_of old s ≡ Taken → use_of new s ≡ Taken
   pub free : (s : ℕ) → use_of old s ≡ Free → use_of new s ≡ Free
   pub limbo : (s : ℕ) (sights : List Sight) → use_of old s ≡ Limbo sights → (use_of new s ≡ Free) ⊎ ((seen : List Sight) × (use_of new s ≡ Limbo seen))
-
-module _ (shape : Shape) (cells : List Cell) (dead : Bool) (old new : List Use) (actors : List Actor) (P : Trace) (keeps : KeepsUses old new) where
-  stands_uses : (s : ℕ) → SlotStands shape cells dead old actors P s → SlotStands shape cells dead new actors P s
-  stands_uses s (is_node chain stage) = is_node (record { there = chain.there; taken = keeps.taken s chain.taken; key = chain.key }) stage
-  stands_uses s (is_held a slot) = is_held a slot
-  stands_uses s (is_out a out) = is_out a out
-  stands_uses s (is_free loose free stage) = is_free loose (keeps.free s free) stage
-  stands_uses s (is_limbo sights loose limbo stage) = elim (keeps.limbo s sights limbo) [
-    | inl free ↦ is_free loose free (inl stage)
-    | inr still ↦ is_limbo still.0 loose still.1 stage
-  ]
-
-  pub slots_uses : SlotsSound shape cells dead old actors P → SlotsSound shape cells dead new actors P
-  slots_uses h = record {
-    count = keeps.count ∙ h.count;
-    each = λ s lt. stands_uses s (h.each s lt);
-    hand = λ a s slot. let was = h.hand a s slot in record { in_range = was.in_range; loose = was.loose; taken = keeps.taken s was.taken; stage = was.stage };
-    out = λ a s out. let was = h.out a s out in record { in_range = was.in_range; loose = was.loose; taken = keeps.taken s was.taken; stage = was.stage };
-    one_hand = h.one_hand;
-    one_out = h.one_out;
-    hand_out = h.hand_out;
-    closed = h.closed;
-    opened = h.opened;
-    added = h.added;
-    removed = h.removed;
-  }
 
 -- a pass that is inside is one of the table's
 pub inside_range : (pins : List ℕ) (a : ℕ) → IsInside (pin_in pins a) → (1 ≤ a) × (a ≤ length pins)

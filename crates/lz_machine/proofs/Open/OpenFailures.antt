@@ -4,7 +4,7 @@ use Rattle.lz_slot.specs.Bytes.{Holds, header_read, format_of, header_body, open
 use Rattle.lz_slot.specs.Sets.{Keys}
 use Rattle.lz_slot.specs.declared.header.HeaderFault.{HeaderFault}
 use Rattle.lz_slot.proofs.Files.ExactBytes.{header_reads_back}
-use Rattle.lz_vault.specs.declared.opening.OpenFault.TheVariants.{NotMade, WrongMagic, WrongLength, BadCount, BadKey, Twice, Device, Memory}
+use Rattle.lz_vault.specs.declared.opening.OpenFault.TheVariants.{BadKey, Twice, Device, Memory}
 use Rattle.lz_machine.specs.OpenFailures.{HeldIsOpened}
 
 module _ (t : List ℕ) (N : ℕ) (S : Keys) (holds : Holds t N S) where
@@ -18,10 +18,6 @@ module _ (t : List ℕ) (N : ℕ) (S : Keys) (holds : Holds t N S) where
   same_count M is = cc (head, is)
 
 pub held_is_opened : HeldIsOpened
-held_is_opened t N S NotMade holds is = absurd (no_fault t N S holds _ is)
-held_is_opened t N S WrongMagic holds is = absurd (no_fault t N S holds _ is)
-held_is_opened t N S WrongLength holds is = absurd (no_fault t N S holds _ is)
-held_is_opened t N S BadCount holds is = absurd (no_fault t N S holds _ is)
 held_is_opened t N S (BadKey s) holds is =
     let count = is.0.count in
     absurd (holds.no_bad_key s (omega (arith, count.2, same_count t N S holds count.0 count.1)) is.1)
@@ -31,3 +27,4 @@ held_is_opened t N S (Twice first second) holds is =
     absurd (omega (arith, is.1, holds.no_key_twice first second is.2.0 (omega (arith, is.1, within)) within is.2.1 is.2.2))
 held_is_opened t N S Device holds is = inl refl
 held_is_opened t N S Memory holds is = inr refl
+held_is_opened t N S _ holds is = absurd (no_fault t N S holds _ is)

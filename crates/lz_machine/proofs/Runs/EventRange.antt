@@ -36,7 +36,7 @@ use Rattle.lz_machine.specs.Sound.{Sound}
 use Rattle.lz_machine.specs.Ready.{IsEventOf}
 use Rattle.lz_machine.proofs.Frames.OneActor.{mine}
 use Rattle.lz_machine.proofs.Frames.Ranges.{on_range, stood_range, few_slots}
-use Rattle.lz_machine.proofs.Steps.Halt.{held_node}
+use Rattle.lz_machine.proofs.Frames.OtherCallers.{held_node}
 use Rattle.lz_machine.proofs.Frames.LoadedWord.{bucket_range}
 use Rattle.lz_machine.proofs.Steps.Claim.{ended_between, pred_was, node_was}
 use Rattle.lz_machine.proofs.Theorem.ShownChains.{heads_are, links_are, keys_are, is_curr}

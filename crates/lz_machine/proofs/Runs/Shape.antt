@@ -7,7 +7,7 @@ use Rattle.lz_machine.specs.declared.course.Course.{Course}
 use Rattle.lz_machine.specs.declared.course.Course.TheVariants.{Refused, Dies, Plays}
 use Rattle.lz_machine.specs.Yards.{Yard, actor_at}
 use Rattle.lz_machine.specs.Table.{line_on, course}
-use Rattle.lz_machine.specs.Runs.{State, Up, Down, Transition, Calls, Turn, Fails, Looks, Trips, Stops, Crashes, CrashesIn, Opens, OpenFails, Service, Caller, Point, run, state_after, shape_of, caller_at, after_turn, after_fault, next_event}
+use Rattle.lz_machine.specs.Runs.{State, Up, Down, Transition, Turn, Fails, OpenFails, Service, Caller, Point, run, state_after, shape_of, caller_at, after_turn, after_fault, next_event}
 use Rattle.lz_disk.specs.Images.{Medium}
 
 pub line_keeps_shape : (c : Course) (y : Yard) (actor : Actor) (a : ℕ) (e : Event) → (line_on c y actor a e).0.shape ≡ y.shape
@@ -25,28 +25,13 @@ fault_keeps_shape s disk a None = refl
 fault_keeps_shape s disk a (Some caller) = refl
 
 pub step_keeps_shape : (n : ℕ) (w : State) (step : Transition) → shape_of (state_after n w step) ≡ shape_of w
-step_keeps_shape n (Up s disk) (Calls a c) = refl
 step_keeps_shape n (Up s disk) (Turn a) = turn_keeps_shape s disk a (caller_at s.callers a)
 step_keeps_shape n (Up s disk) (Fails a new) = fault_keeps_shape s new a (caller_at s.callers a)
-step_keeps_shape n (Up s disk) (Looks a) = refl
-step_keeps_shape n (Up s disk) Trips = refl
-step_keeps_shape n (Up s disk) Stops = refl
-step_keeps_shape n (Up s disk) (Crashes t) = refl
-step_keeps_shape n (Up s disk) (CrashesIn a t) = refl
-step_keeps_shape n (Up s disk) Opens = refl
 step_keeps_shape n (Up s disk) (OpenFails why true) = refl
 step_keeps_shape n (Up s disk) (OpenFails why false) = refl
-step_keeps_shape n (Down shape disk) (Calls a c) = refl
-step_keeps_shape n (Down shape disk) (Turn a) = refl
-step_keeps_shape n (Down shape disk) (Fails a new) = refl
-step_keeps_shape n (Down shape disk) (Looks a) = refl
-step_keeps_shape n (Down shape disk) Trips = refl
-step_keeps_shape n (Down shape disk) Stops = refl
-step_keeps_shape n (Down shape disk) (Crashes t) = refl
-step_keeps_shape n (Down shape disk) (CrashesIn a t) = refl
-step_keeps_shape n (Down shape disk) Opens = refl
 step_keeps_shape n (Down shape disk) (OpenFails why true) = refl
 step_keeps_shape n (Down shape disk) (OpenFails why false) = refl
+step_keeps_shape n _ _ = refl
 
 pub run_keeps_shape : (p : Point) (steps : List Transition) → shape_of (run p steps).state ≡ shape_of p.state
 run_keeps_shape p [] = refl

@@ -36,12 +36,13 @@ use Rattle.lz_machine.proofs.Runs.Course.{answer_plays}
 use Rattle.lz_machine.proofs.Frames.ActorTable.{by_actor}
 use Rattle.lz_machine.proofs.Frames.OneActor.{caller_range, carry}
 use Rattle.lz_machine.proofs.Frames.Outside.{out_even}
-use Rattle.lz_machine.proofs.Frames.Grip.{keeps_itself, slots_turn}
+use Rattle.lz_machine.proofs.Frames.Grip.{keeps_itself}
+use Rattle.lz_machine.proofs.Frames.KeptSlots.{slots_turn, slots_uses}
 use Rattle.lz_machine.proofs.Frames.NodeLocks.{held_locks}
 use Rattle.lz_machine.proofs.Frames.Hand.{reuse_turn}
 use Rattle.lz_machine.proofs.Steps.Hop.{call_at, own}
 use Rattle.lz_machine.proofs.Steps.Pin.{pinned, trace_pinned, left_reuse}
-use Rattle.lz_machine.proofs.Frames.Uses.{slots_uses, seen_keeps, seen_reuse}
+use Rattle.lz_machine.proofs.Frames.Uses.{seen_keeps, seen_reuse}
 use Rattle.lz_machine.proofs.Ledger.Parts.{ending, ends_now, none_now, changed_still, gone, stays_open}
 use Rattle.lz_machine.proofs.Ledger.End.{after_ended, tail_ended}
 use Rattle.lz_machine.proofs.Ledger.Reply.{EndsSo, ends}
@@ -127,7 +128,7 @@ module _ (n calls : ℕ) (y : Yard) (callers : List (Option Caller)) (disk : Med
     left_sound uses actors' count others slot_then idle slots locks reuse = record {
       trace = leaves.trace;
       images = sound.images;
-      slots = slots_uses y.shape y.vault.cells y.vault.dead uses (see_pin a to uses) actors' P (seen_keeps a to uses) slots;
+      slots = slots_uses y.shape y.vault.cells y.vault.dead actors' uses (see_pin a to uses) P (seen_keeps a to uses) slots;
       locks = locks;
       callers = ended_callers actors' words'.pins count others leaves.others (record { quiet = λ still. absurd (leaves.outside still); begins = λ still. absurd (leaves.outside still); stands = (idle, refl) });
       reuse = seen_reuse a to y.shape words'.pins uses actors' P notes.begun leaves.pin low le reuse;

@@ -43,10 +43,10 @@ use Rattle.lz_machine.proofs.Frames.OneActor.{caller_range, moving, callers_move
 use Rattle.lz_machine.proofs.Frames.ChainSlots.{reuse_published}
 use Rattle.lz_machine.proofs.Frames.NodeLocks.{turned_locks}
 use Rattle.lz_machine.proofs.Frames.OneSlot.{slot_grips, slot_turn}
-use Rattle.lz_machine.proofs.Frames.Publishing.{LeavesCaller, caller_published, key_linking}
+use Rattle.lz_machine.proofs.Frames.Publishing.{key_linking}
 use Rattle.lz_machine.proofs.Frames.Ranges.{on_range, few_slots}
 use Rattle.lz_machine.proofs.Frames.LoadedWord.{key_load}
-use Rattle.lz_machine.proofs.Steps.Halt.{held_node}
+use Rattle.lz_machine.proofs.Frames.OtherCallers.{caller_stays}
 use Rattle.lz_machine.proofs.Steps.Hop.{call_at, own}
 use Rattle.lz_machine.proofs.Frames.Hand.{same_hand, other_hand}
 use Rattle.lz_machine.proofs.Frames.HeldLocks.{rests_on_pair, pair_published, linked_leaves, one_place}
@@ -206,13 +206,6 @@ module _ (n calls : ℕ) (y : Yard) (callers : List (Option Caller)) (disk : Med
   linked_reuse : ReuseSound y.shape y.words.pins y.uses actors' P' notes.begun
   linked_reuse = reuse_published y.shape y.vault.cells y.vault.dead y.uses y.actors actors' (linked k s a) P y.words.pins notes.begun linked_slots (λ b t slot. (held_then b t slot).2) sound.reuse
 
-  leaves : (b : ℕ) → LeavesCaller y.shape.buckets y.shape.slots (linked k s a) P law (actor_in y.actors b) (pin_in y.words.pins b) (notes.begun b)
-  leaves b = record {
-    kept = λ inside. tt;
-    word = λ t slot. refl;
-    node = held_node y.shape P (actor_in y.actors b).hold (actor_in y.actors b) sound.trace.lawful (sound.locks.rests b);
-  }
-
   abbrev callers' : List (Option Caller)
   callers' = moving callers a (call_at i (Add k) at) (Playing (Adding s) 2)
 
@@ -243,7 +236,7 @@ module _ (n calls : ℕ) (y : Yard) (callers : List (Option Caller)) (disk : Med
         begins = λ inside. inr (me.begins inside);
         stands = (me.stands.0, me.stands.1, (refl, my_node));
       })
-      (λ b other. caller_published y.shape.buckets y.shape.slots (linked k s a) P law y.shape.passes y.vault.format y.vault.cells y.vault.dead (actor_in y.actors b) (pin_in y.words.pins b) (notes.begun b) (notes.changed b) (leaves b) (caller_at callers b) (sound.callers.each b))
+      (λ b other. caller_stays y.shape y.vault y.words.pins y.locks y.actors callers (linked k s a) P law notes sound.locks sound.callers b (λ inside. tt) (λ t slot. refl))
       sound.callers
 
   in_passes : a ≤ y.shape.passes

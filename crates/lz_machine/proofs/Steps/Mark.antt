@@ -27,7 +27,7 @@ use Rattle.lz_machine.specs.declared.actor.Hold.TheVariants.{GateClosed, Marked}
 use Rattle.lz_machine.specs.declared.caller.Sequence.TheVariants.{Removing}
 use Rattle.lz_machine.specs.declared.caller.Progress.{Progress}
 use Rattle.lz_machine.specs.declared.caller.Progress.TheVariants.{Playing}
-use Rattle.lz_machine.specs.Yards.{Yard, actor_at, actor_in, pin_in, cell_in, stage_in}
+use Rattle.lz_machine.specs.Yards.{Yard, actor_at, actor_in, cell_in, stage_in}
 use Rattle.lz_machine.specs.Table.{with_hold, node_of, yard_done, publishes}
 use Rattle.lz_machine.specs.Runs.{Caller, caller_at}
 use Rattle.lz_machine.specs.Notes.{Notes, entries}
@@ -41,10 +41,9 @@ use Rattle.lz_machine.proofs.Frames.OneActor.{caller_range, moving, callers_move
 use Rattle.lz_machine.proofs.Frames.ChainSlots.{chain_stands, reuse_published}
 use Rattle.lz_machine.proofs.Frames.NodeLocks.{turned_locks}
 use Rattle.lz_machine.proofs.Frames.OneSlot.{node_grips, slot_turn}
-use Rattle.lz_machine.proofs.Frames.Publishing.{LeavesCaller, caller_published}
 use Rattle.lz_machine.proofs.Frames.Ranges.{on_range, few_slots}
 use Rattle.lz_machine.proofs.Frames.LoadedWord.{key_load}
-use Rattle.lz_machine.proofs.Steps.Halt.{held_node}
+use Rattle.lz_machine.proofs.Frames.OtherCallers.{held_node, caller_stays}
 use Rattle.lz_machine.proofs.Steps.Hop.{call_at, own}
 use Rattle.lz_machine.proofs.Frames.Hand.{same_hand, other_hand}
 use Rattle.lz_machine.proofs.Frames.HeldLocks.{rests_on_pair, pair_published, marked_leaves}
@@ -195,13 +194,6 @@ module _ (n calls : ℕ) (y : Yard) (callers : List (Option Caller)) (disk : Med
   marked_reuse : ReuseSound y.shape y.words.pins y.uses actors' P' notes.begun
   marked_reuse = reuse_published y.shape y.vault.cells y.vault.dead y.uses y.actors actors' (marked k s a) P y.words.pins notes.begun marked_slots (λ b t slot. sym (slot_still b) ∙ slot) sound.reuse
 
-  leaves : (b : ℕ) → LeavesCaller y.shape.buckets y.shape.slots (marked k s a) P law (actor_in y.actors b) (pin_in y.words.pins b) (notes.begun b)
-  leaves b = record {
-    kept = λ inside. tt;
-    word = λ t slot. refl;
-    node = held_node y.shape P (actor_in y.actors b).hold (actor_in y.actors b) sound.trace.lawful (sound.locks.rests b);
-  }
-
   abbrev callers' : List (Option Caller)
   callers' = moving callers a (call_at i (Remove k) at) (Playing (Removing s) 2)
 
@@ -228,7 +220,7 @@ module _ (n calls : ℕ) (y : Yard) (callers : List (Option Caller)) (disk : Med
         begins = λ inside. inr (me.begins inside);
         stands = (me.stands.0, me.stands.1, (h.0, h.1, (refl, my_mark)));
       })
-      (λ b other. caller_published y.shape.buckets y.shape.slots (marked k s a) P law y.shape.passes y.vault.format y.vault.cells y.vault.dead (actor_in y.actors b) (pin_in y.words.pins b) (notes.begun b) (notes.changed b) (leaves b) (caller_at callers b) (sound.callers.each b))
+      (λ b other. caller_stays y.shape y.vault y.words.pins y.locks y.actors callers (marked k s a) P law notes sound.locks sound.callers b (λ inside. tt) (λ t slot. refl))
       sound.callers
 
   in_passes : a ≤ y.shape.passes

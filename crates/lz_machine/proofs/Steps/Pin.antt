@@ -1,5 +1,5 @@
 -- A pass that goes in keeps the invariant: a pin, and the first half of a look. So does one that only looked and goes out.
-use Rattle.std.proofs.Common.{◌≡◌, ◌≢◌, inl, inr, ℕ, suc, ◌≤◌, ◌+◌, ◌%◌, ◌==◌, if◌then◌else◌, Bool, true, List, [], ◌∷◌, length, Option, Some, None, refl, sym, ap, ◌∙◌, subst, arith}
+use Rattle.std.proofs.Common.{◌≡◌, ◌≢◌, inl, inr, ℕ, suc, ◌≤◌, ◌+◌, ◌%◌, ◌==◌, if◌then◌else◌, Bool, true, List, [], ◌∷◌, length, Option, Some, None, refl, sym, ◌∙◌, subst, arith}
 use Rattle.std.proofs.lemmas.Bool.Decides.{eqb_tells}
 use Rattle.lz_slot.specs.declared.command.Command.{Command}
 use Rattle.lz_slot.specs.Counted.{of_pass, set_of_pass}
@@ -14,7 +14,7 @@ use Rattle.lz_list.specs.declared.publishing.Publishing.{Publishing}
 use Rattle.lz_list.specs.declared.publishing.Publishing.TheVariants.{KeyPrepared as key_prepared, LinkPrepared as link_prepared}
 use Rattle.lz_list.specs.declared.word.Word.TheVariants.{Pin as pin_at}
 use Rattle.lz_list.specs.Words.{Words, get, set}
-use Rattle.lz_list.specs.Traces.{Trace, on, chain}
+use Rattle.lz_list.specs.Traces.{Trace, IsLoose, on, chain}
 use Rattle.lz_list.specs.Pinned.{Stood, IsKept, IsQuiet}
 use Rattle.lz_list.proofs.Traces.Absence.{begins_itself}
 use Rattle.lz_list.proofs.Traces.Hindsight.{once_begins}
@@ -103,41 +103,38 @@ module _ (shape : Shape) (cells : List Cell) (dead : Bool) (pins : List ℕ) (us
   next_is : suc v ≡ v + 1
   next_is = omega arith
 
-  pub entered_reuse : v % 2 ≡ 0 → v ≢ last_pin → ReuseSound shape pins' uses actors P (begins_now notes a P).begun
-  entered_reuse even fresh = record {
+  -- the pass has gone in or out
+  passed_reuse : (begun : ℕ → Trace) → ((b : ℕ) → b ≢ a → begun b ≡ notes.begun b) → v ≢ last_pin
+      → ((s : ℕ) (seen : List Sight) → use_of uses s ≡ Limbo seen → IsRightSight shape.buckets (v + 1) (begun a) P s (of_pass seen a Left)) → ((s : ℕ) → IsLoose shape.buckets s P → IsInside (v + 1) → IsAway shape.buckets (begun a) P s)
+      → ReuseSound shape pins' uses actors P begun
+  passed_reuse begun same fresh seen_a away_a = record {
     worn = by_actor (λ b. pin_in pins' b ≤ last_pin) a (omega (arith, pin_same, reuse.worn a, fresh)) (λ b other. omega (arith, pin_other b other, reuse.worn b));
     sights = reuse.sights;
-    seen = by_actor (λ b. (s : ℕ) (seen : List Sight) → use_of uses s ≡ Limbo seen → IsRightSight shape.buckets (pin_in pins' b) ((begins_now notes a P).begun b) P s (of_pass seen b Left)) a
-        (λ s seen limbo.
-        subst (λ (q : ℕ). IsRightSight shape.buckets q ((begins_now notes a P).begun a) P s (of_pass seen a Left)) (sym pin_same)
-        (subst (λ (q : Trace). IsRightSight shape.buckets (v + 1) q P s (of_pass seen a Left)) (sym (begun_same notes a P))
-        (subst (λ (q : ℕ). IsRightSight shape.buckets q P P s (of_pass seen a Left)) next_is
-        (seen_pin shape.buckets s v (notes.begun a) P (of_pass seen a Left) (limbo_loose shape cells dead uses actors P s slots seen limbo) (reuse.seen a s seen limbo)))))
+    seen = by_actor (λ b. (s : ℕ) (seen : List Sight) → use_of uses s ≡ Limbo seen → IsRightSight shape.buckets (pin_in pins' b) (begun b) P s (of_pass seen b Left)) a
+        (λ s seen limbo. subst (λ (q : ℕ). IsRightSight shape.buckets q (begun a) P s (of_pass seen a Left)) (sym pin_same) (seen_a s seen limbo))
         (λ b other s seen limbo.
-        subst (λ (q : ℕ). IsRightSight shape.buckets q ((begins_now notes a P).begun b) P s (of_pass seen b Left)) (sym (pin_other b other))
-        (subst (λ (q : Trace). IsRightSight shape.buckets (pin_in pins b) q P s (of_pass seen b Left)) (sym (begun_other notes a P b other)) (reuse.seen b s seen limbo)));
-    free = by_actor (λ b. (s : ℕ) → use_of uses s ≡ Free → IsInside (pin_in pins' b) → IsAway shape.buckets ((begins_now notes a P).begun b) P s) a
-        (λ s free inside. subst (λ (q : Trace). IsAway shape.buckets q P s) (sym (begun_same notes a P)) (away_new shape.buckets s P (free_loose shape cells dead uses actors P s slots free)))
-        (λ b other s free inside. subst (λ (q : Trace). IsAway shape.buckets q P s) (sym (begun_other notes a P b other)) (reuse.free b s free (ap (λ (q : ℕ). q % 2) (sym (pin_other b other)) ∙ inside)));
-    reserved = by_actor (λ b. (d s : ℕ) → (actor_in actors d).slot ≡ Some s → IsInside (pin_in pins' b) → IsAway shape.buckets ((begins_now notes a P).begun b) P s) a
-        (λ d s slot inside. subst (λ (q : Trace). IsAway shape.buckets q P s) (sym (begun_same notes a P)) (away_new shape.buckets s P (slots.hand d s slot).loose))
-        (λ b other d s slot inside. subst (λ (q : Trace). IsAway shape.buckets q P s) (sym (begun_other notes a P b other)) (reuse.reserved b d s slot (ap (λ (q : ℕ). q % 2) (sym (pin_other b other)) ∙ inside)));
+        subst (λ (q : ℕ). IsRightSight shape.buckets q (begun b) P s (of_pass seen b Left)) (sym (pin_other b other))
+        (subst (λ (q : Trace). IsRightSight shape.buckets (pin_in pins b) q P s (of_pass seen b Left)) (sym (same b other)) (reuse.seen b s seen limbo)));
+    free = by_actor (λ b. (s : ℕ) → use_of uses s ≡ Free → IsInside (pin_in pins' b) → IsAway shape.buckets (begun b) P s) a
+        (λ s free inside. away_a s (free_loose shape cells dead uses actors P s slots free) (subst IsInside pin_same inside))
+        (λ b other s free inside. subst (λ (q : Trace). IsAway shape.buckets q P s) (sym (same b other)) (reuse.free b s free (subst IsInside (pin_other b other) inside)));
+    reserved = by_actor (λ b. (d s : ℕ) → (actor_in actors d).slot ≡ Some s → IsInside (pin_in pins' b) → IsAway shape.buckets (begun b) P s) a
+        (λ d s slot inside. away_a s (slots.hand d s slot).loose (subst IsInside pin_same inside))
+        (λ b other d s slot inside. subst (λ (q : Trace). IsAway shape.buckets q P s) (sym (same b other)) (reuse.reserved b d s slot (subst IsInside (pin_other b other) inside)));
   }
 
+  pub entered_reuse : v % 2 ≡ 0 → v ≢ last_pin → ReuseSound shape pins' uses actors P (begins_now notes a P).begun
+  entered_reuse even fresh = passed_reuse (begins_now notes a P).begun (begun_other notes a P) fresh
+      (λ s seen limbo.
+      subst (λ (q : Trace). IsRightSight shape.buckets (v + 1) q P s (of_pass seen a Left)) (sym (begun_same notes a P))
+      (subst (λ (q : ℕ). IsRightSight shape.buckets q P P s (of_pass seen a Left)) next_is
+      (seen_pin shape.buckets s v (notes.begun a) P (of_pass seen a Left) (limbo_loose shape cells dead uses actors P s slots seen limbo) (reuse.seen a s seen limbo))))
+      (λ s loose inside. subst (λ (q : Trace). IsAway shape.buckets q P s) (sym (begun_same notes a P)) (away_new shape.buckets s P loose))
+
   pub left_reuse : v % 2 ≡ 1 → v ≢ last_pin → ReuseSound shape pins' uses actors P notes.begun
-  left_reuse odd fresh = record {
-    worn = by_actor (λ b. pin_in pins' b ≤ last_pin) a (omega (arith, pin_same, reuse.worn a, fresh)) (λ b other. omega (arith, pin_other b other, reuse.worn b));
-    sights = reuse.sights;
-    seen = by_actor (λ b. (s : ℕ) (seen : List Sight) → use_of uses s ≡ Limbo seen → IsRightSight shape.buckets (pin_in pins' b) (notes.begun b) P s (of_pass seen b Left)) a
-        (λ s seen limbo. subst (λ (q : ℕ). IsRightSight shape.buckets q (notes.begun a) P s (of_pass seen a Left)) (sym pin_same) (subst (λ (q : ℕ). IsRightSight shape.buckets q (notes.begun a) P s (of_pass seen a Left)) next_is (seen_leave shape.buckets s v (notes.begun a) P (of_pass seen a Left) odd (reuse.seen a s seen limbo))))
-        (λ b other s seen limbo. subst (λ (q : ℕ). IsRightSight shape.buckets q (notes.begun b) P s (of_pass seen b Left)) (sym (pin_other b other)) (reuse.seen b s seen limbo));
-    free = by_actor (λ b. (s : ℕ) → use_of uses s ≡ Free → IsInside (pin_in pins' b) → IsAway shape.buckets (notes.begun b) P s) a
-        (λ s free inside. absurd (omega (arith, inside, odd, pin_same)))
-        (λ b other s free inside. reuse.free b s free (ap (λ (q : ℕ). q % 2) (sym (pin_other b other)) ∙ inside));
-    reserved = by_actor (λ b. (d s : ℕ) → (actor_in actors d).slot ≡ Some s → IsInside (pin_in pins' b) → IsAway shape.buckets (notes.begun b) P s) a
-        (λ d s slot inside. absurd (omega (arith, inside, odd, pin_same)))
-        (λ b other d s slot inside. reuse.reserved b d s slot (ap (λ (q : ℕ). q % 2) (sym (pin_other b other)) ∙ inside));
-  }
+  left_reuse odd fresh = passed_reuse notes.begun (λ b other. refl) fresh
+      (λ s seen limbo. subst (λ (q : ℕ). IsRightSight shape.buckets q (notes.begun a) P s (of_pass seen a Left)) next_is (seen_leave shape.buckets s v (notes.begun a) P (of_pass seen a Left) odd (reuse.seen a s seen limbo)))
+      (λ s loose inside. absurd (omega (arith, inside, odd)))
 
 -- the ledger doesn't depend on where passes have gone in
 pub ledger_noted : (n calls passes : ℕ) (callers : List (Option Caller)) (P : Trace) (M : History) (notes : Notes) (begun : ℕ → Trace) → LedgerSound n calls passes callers P M notes → LedgerSound n calls passes callers P M (record { begun = begun; changed = notes.changed; ended = notes.ended })
@@ -161,27 +158,19 @@ module _ (n calls : ℕ) (y : Yard) (callers : List (Option Caller)) (disk : Med
   abbrev to : ℕ
   to = pin_in y.words.pins a + 1
 
-  -- the callers, where a pass has gone in
-  entered_callers : (callers' : List (Option Caller)) → pin_in y.words.pins a % 2 ≡ 0 → length callers' ≡ length callers → ((b : ℕ) → b ≢ a → caller_at callers' b ≡ caller_at callers b)
-      → CallerSound (view_of y.shape y.vault y.actors a) to (caller_at callers' a) P P (notes.changed a)
-      → CallersSound y.shape y.vault (set_of_pass y.words.pins a to) y.actors callers' P (begins_now notes a P)
-  entered_callers callers' even count others mine = record {
+  -- the callers, where the pass has gone in or out
+  passed_callers : (callers' : List (Option Caller)) (notes' : Notes) (P0 : Trace) → length callers' ≡ length callers → ((b : ℕ) → b ≢ a → caller_at callers' b ≡ caller_at callers b)
+      → notes'.begun a ≡ P0 → ((b : ℕ) → b ≢ a → notes'.begun b ≡ notes.begun b) → ((b : ℕ) → notes'.changed b ≡ notes.changed b)
+      → CallerSound (view_of y.shape y.vault y.actors a) to (caller_at callers' a) P0 P (notes.changed a)
+      → CallersSound y.shape y.vault (set_of_pass y.words.pins a to) y.actors callers' P notes'
+  passed_callers callers' notes' P0 count others begun_a begun_b changed mine = record {
     count = count ∙ sound.callers.count;
     hands = sound.callers.hands;
-    each = by_actor (λ b. CallerSound (view_of y.shape y.vault y.actors b) (pin_in (set_of_pass y.words.pins a to) b) (caller_at callers' b) ((begins_now notes a P).begun b) P (notes.changed b)) a
-        (carry y.shape.buckets y.shape.passes y.vault.format y.vault.cells y.vault.dead P (actor_in y.actors a) (actor_in y.actors a) to (pin_in (set_of_pass y.words.pins a to) a) (caller_at callers' a) (caller_at callers' a) P ((begins_now notes a P).begun a) (notes.changed a) (notes.changed a) refl (of_pass_same y.words.pins a to 0 low in_pins) refl (begun_same notes a P) refl mine)
-        (λ b other. carry y.shape.buckets y.shape.passes y.vault.format y.vault.cells y.vault.dead P (actor_in y.actors b) (actor_in y.actors b) (pin_in y.words.pins b) (pin_in (set_of_pass y.words.pins a to) b) (caller_at callers b) (caller_at callers' b) (notes.begun b) ((begins_now notes a P).begun b) (notes.changed b) (notes.changed b) refl (of_pass_other y.words.pins a b to 0 other) (others b other) (begun_other notes a P b other) refl (sound.callers.each b));
-  }
-
-  left_callers : (callers' : List (Option Caller)) → length callers' ≡ length callers → ((b : ℕ) → b ≢ a → caller_at callers' b ≡ caller_at callers b)
-      → CallerSound (view_of y.shape y.vault y.actors a) to (caller_at callers' a) (notes.begun a) P (notes.changed a)
-      → CallersSound y.shape y.vault (set_of_pass y.words.pins a to) y.actors callers' P notes
-  left_callers callers' count others mine = record {
-    count = count ∙ sound.callers.count;
-    hands = sound.callers.hands;
-    each = by_actor (λ b. CallerSound (view_of y.shape y.vault y.actors b) (pin_in (set_of_pass y.words.pins a to) b) (caller_at callers' b) (notes.begun b) P (notes.changed b)) a
-        (carry y.shape.buckets y.shape.passes y.vault.format y.vault.cells y.vault.dead P (actor_in y.actors a) (actor_in y.actors a) to (pin_in (set_of_pass y.words.pins a to) a) (caller_at callers' a) (caller_at callers' a) (notes.begun a) (notes.begun a) (notes.changed a) (notes.changed a) refl (of_pass_same y.words.pins a to 0 low in_pins) refl refl refl mine)
-        (λ b other. carry y.shape.buckets y.shape.passes y.vault.format y.vault.cells y.vault.dead P (actor_in y.actors b) (actor_in y.actors b) (pin_in y.words.pins b) (pin_in (set_of_pass y.words.pins a to) b) (caller_at callers b) (caller_at callers' b) (notes.begun b) (notes.begun b) (notes.changed b) (notes.changed b) refl (of_pass_other y.words.pins a b to 0 other) (others b other) refl refl (sound.callers.each b));
+    each = by_actor (λ b. CallerSound (view_of y.shape y.vault y.actors b) (pin_in (set_of_pass y.words.pins a to) b) (caller_at callers' b) (notes'.begun b) P (notes'.changed b)) a
+        (carry y.shape.buckets y.shape.passes y.vault.format y.vault.cells y.vault.dead P (actor_in y.actors a) (actor_in y.actors a) to (pin_in (set_of_pass y.words.pins a to) a) (caller_at callers' a) (caller_at callers' a) P0 (notes'.begun a) (notes.changed a) (notes'.changed a)
+        refl (of_pass_same y.words.pins a to 0 low in_pins) refl begun_a (changed a) mine)
+        (λ b other. carry y.shape.buckets y.shape.passes y.vault.format y.vault.cells y.vault.dead P (actor_in y.actors b) (actor_in y.actors b) (pin_in y.words.pins b) (pin_in (set_of_pass y.words.pins a to) b) (caller_at callers b) (caller_at callers' b) (notes.begun b) (notes'.begun b) (notes.changed b) (notes'.changed b)
+        refl (of_pass_other y.words.pins a b to 0 other) (others b other) (begun_b b other) (changed b) (sound.callers.each b));
   }
 
   -- an actor without a call looks: it goes in, or goes out
@@ -191,7 +180,7 @@ module _ (n calls : ℕ) (y : Yard) (callers : List (Option Caller)) (disk : Med
     images = sound.images;
     slots = sound.slots;
     locks = sound.locks;
-    callers = entered_callers callers even refl (λ b other. refl) (subst (λ (q : Option Caller). CallerSound (view_of y.shape y.vault y.actors a) to q P P (notes.changed a)) (sym none) (record {
+    callers = passed_callers callers (begins_now notes a P) P refl (λ b other. refl) (begun_same notes a P) (begun_other notes a P) (λ b. refl) (subst (λ (q : Option Caller). CallerSound (view_of y.shape y.vault y.actors a) to q P P (notes.changed a)) (sym none) (record {
       quiet = λ inside. quiet_new y.shape.buckets P P (omega arith);
       begins = λ inside. begins_itself P;
       stands = (subst (λ (q : Option Caller). CallerSound (view_of y.shape y.vault y.actors a) (pin_in y.words.pins a) q (notes.begun a) P (notes.changed a)) none (sound.callers.each a)).stands;
@@ -207,7 +196,7 @@ module _ (n calls : ℕ) (y : Yard) (callers : List (Option Caller)) (disk : Med
     images = sound.images;
     slots = sound.slots;
     locks = sound.locks;
-    callers = left_callers callers refl (λ b other. refl) (subst (λ (q : Option Caller). CallerSound (view_of y.shape y.vault y.actors a) to q (notes.begun a) P (notes.changed a)) (sym none) (record {
+    callers = passed_callers callers notes (notes.begun a) refl (λ b other. refl) refl (λ b other. refl) (λ b. refl) (subst (λ (q : Option Caller). CallerSound (view_of y.shape y.vault y.actors a) to q (notes.begun a) P (notes.changed a)) (sym none) (record {
       quiet = λ inside. absurd (omega (arith, inside, odd));
       begins = λ inside. absurd (omega (arith, inside, odd));
       stands = (subst (λ (q : Option Caller). CallerSound (view_of y.shape y.vault y.actors a) (pin_in y.words.pins a) q (notes.begun a) P (notes.changed a)) none (sound.callers.each a)).stands;
@@ -228,7 +217,7 @@ module _ (n calls : ℕ) (y : Yard) (callers : List (Option Caller)) (disk : Med
         images = sound.images;
         slots = sound.slots;
         locks = sound.locks;
-        callers = entered_callers (moving callers a (call_at i c (Playing Pinning 0)) LoadsHalt) me.stands.0 (length-set_of_pass callers a _) (moved_other callers a (call_at i c (Playing Pinning 0)) is LoadsHalt)
+        callers = passed_callers (moving callers a (call_at i c (Playing Pinning 0)) LoadsHalt) (begins_now notes a P) P (length-set_of_pass callers a _) (moved_other callers a (call_at i c (Playing Pinning 0)) is LoadsHalt) (begun_same notes a P) (begun_other notes a P) (λ b. refl)
             (subst (λ (q : Option Caller). CallerSound (view_of y.shape y.vault y.actors a) to q P P (notes.changed a)) (sym (moved_same callers a (call_at i c (Playing Pinning 0)) is LoadsHalt)) (record {
               quiet = λ inside. quiet_new y.shape.buckets P P (omega arith);
               begins = λ inside. begins_itself P;

@@ -45,7 +45,8 @@ use Rattle.std.proofs.lemmas.Option.{same_Some, none-some}
 use Rattle.lz_machine.proofs.Frames.BesideKey.{opened_shut}
 use Rattle.lz_machine.proofs.Frames.ChainSlots.{free_taken, free_stands}
 use Rattle.lz_machine.proofs.Frames.OneSlot.{slot_grips, same_nodes, slot_turn}
-use Rattle.lz_machine.proofs.Frames.Uses.{KeepsUses, slots_uses, seen_keeps, seen_reuse, collect_keeps, collect_reuse}
+use Rattle.lz_machine.proofs.Frames.KeptSlots.{slots_uses}
+use Rattle.lz_machine.proofs.Frames.Uses.{KeepsUses, seen_keeps, seen_reuse, collect_keeps, collect_reuse}
 
 -- the yard with other uses
 abbrev pub with_uses : Yard → List Use → Yard
@@ -56,7 +57,7 @@ module _ (n calls : ℕ) (y : Yard) (callers : List (Option Caller)) (disk : Med
   uses_keep uses keeps reuse = record {
     trace = sound.trace;
     images = sound.images;
-    slots = slots_uses y.shape y.vault.cells y.vault.dead y.uses uses y.actors P keeps sound.slots;
+    slots = slots_uses y.shape y.vault.cells y.vault.dead y.actors y.uses uses P keeps sound.slots;
     locks = sound.locks;
     callers = sound.callers;
     reuse = reuse;

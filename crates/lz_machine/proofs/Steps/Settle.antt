@@ -24,7 +24,7 @@ use Rattle.lz_machine.specs.declared.event.Event.TheVariants.{Settle}
 use Rattle.lz_machine.specs.declared.event.Outcome.{Outcome}
 use Rattle.lz_machine.specs.declared.event.Outcome.TheVariants.{Done, Early}
 use Rattle.lz_machine.specs.declared.event.Reply.{Reply}
-use Rattle.lz_machine.specs.declared.event.Reply.TheVariants.{Yes, No, Full, Worn, OldFile, Halted, Device}
+use Rattle.lz_machine.specs.declared.event.Reply.TheVariants.{Yes, No}
 use Rattle.lz_machine.specs.declared.actor.Hold.{Hold}
 use Rattle.lz_machine.specs.declared.actor.Hold.TheVariants.{Marked}
 use Rattle.lz_machine.specs.declared.caller.Sequence.TheVariants.{Adding, Removing, Resting}
@@ -46,7 +46,7 @@ use Rattle.lz_machine.proofs.Ledger.Growth.{upto_more}
 use Rattle.lz_machine.proofs.Frames.Ranges.{on_range, stood_range, few_slots}
 use Rattle.lz_machine.proofs.Steps.Walk.{GoesOn, once_some}
 use Rattle.lz_machine.proofs.Steps.Hop.{call_at, own, own_inside, goes_on_keeps}
-use Rattle.lz_machine.proofs.Steps.Halt.{held_node}
+use Rattle.lz_machine.proofs.Frames.OtherCallers.{held_node}
 use Rattle.lz_machine.proofs.Frames.OtherSettling.{Allows, stored, settled_keeps, stood_stands}
 use Rattle.lz_machine.proofs.Frames.SameYard.{KeepsTail}
 
@@ -269,20 +269,4 @@ module _ (n calls : ℕ) (y : Yard) (callers : List (Option Caller)) (disk : Med
       now (Has k) No at sure fresh m = rest_now i k (Has k) No at true m sure (λ change allows only. record { relies = ((fresh.none, subst (λ (q : Change). RestsNo k (notes.begun a) (settled s q ∷ P)) (sym (only refl)) (met_settled_no k (in_it i k (Has k) No at) m)), inl fresh.hold); inside = refl })
       now (Add k) No at sure fresh m = rest_now i k (Add k) No at false m sure (λ change allows only. record { relies = ((fresh.none, met_settled_yes k change (in_it i k (Add k) No at) m), inl fresh.hold); inside = refl })
       now (Remove k) No at sure fresh m = rest_now i k (Remove k) No at true m sure (λ change allows only. record { relies = ((fresh.none, subst (λ (q : Change). RestsNo k (notes.begun a) (settled s q ∷ P)) (sym (only refl)) (met_settled_no k (in_it i k (Remove k) No at) m)), inl fresh.hold); inside = refl })
-      now (Add k) Yes at sure fresh m = absurd m
-      now (Remove k) Yes at sure fresh m = absurd m
-      now (Add k) (Full counts) at sure fresh m = absurd m
-      now (Add k) Worn at sure fresh m = absurd m
-      now (Add k) OldFile at sure fresh m = absurd m
-      now (Add k) Halted at sure fresh m = absurd m
-      now (Add k) Device at sure fresh m = absurd m
-      now (Remove k) (Full counts) at sure fresh m = absurd m
-      now (Remove k) Worn at sure fresh m = absurd m
-      now (Remove k) OldFile at sure fresh m = absurd m
-      now (Remove k) Halted at sure fresh m = absurd m
-      now (Remove k) Device at sure fresh m = absurd m
-      now (Has k) (Full counts) at sure fresh m = absurd m
-      now (Has k) Worn at sure fresh m = absurd m
-      now (Has k) OldFile at sure fresh m = absurd m
-      now (Has k) Halted at sure fresh m = absurd m
-      now (Has k) Device at sure fresh m = absurd m
+      now _ _ at sure fresh m = absurd m

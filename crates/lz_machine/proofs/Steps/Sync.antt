@@ -7,11 +7,10 @@ use Rattle.lz_slot.specs.declared.command.Command.TheVariants.{Add, Remove}
 use Rattle.lz_slot.specs.Histories.{History}
 use Rattle.lz_disk.specs.Images.{Medium, synced}
 use Rattle.lz_vault.specs.declared.vault.Stage.{Stage}
-use Rattle.lz_vault.specs.declared.vault.Stage.TheVariants.{Closed, KeyLoose, Keyed, Opening, Open, Closing}
+use Rattle.lz_vault.specs.declared.vault.Stage.TheVariants.{Closed, Keyed, Opening, Open, Closing}
 use Rattle.lz_vault.specs.Stages.{Cell, Keeps, stage_synced, cell_synced, is_covered}
 use Rattle.lz_vault.specs.Vaults.{SyncAll, medium_after, syncs_after, died}
 use Rattle.lz_vault.proofs.Changes.{from_map, sync_keeps}
-use Rattle.lz_allot.specs.Uses.{Use}
 use Rattle.lz_list.specs.declared.walk.Look.TheVariants.{AtHead}
 use Rattle.lz_list.specs.Traces.{Trace}
 use Rattle.lz_machine.specs.declared.event.Event.TheVariants.{Sync}
@@ -26,12 +25,13 @@ use Rattle.lz_machine.specs.Calls.{progress_after}
 use Rattle.lz_machine.specs.Runs.{Caller, caller_at}
 use Rattle.lz_machine.specs.Ledgers.{Row}
 use Rattle.lz_machine.specs.Notes.{Notes, entries}
-use Rattle.lz_machine.specs.SlotsSound.{IsGateClosed, IsGateOpened, IsGateWritten, IsNodeStage, IsHandStage, SlotStands, is_node, is_held, is_out, is_free, is_limbo, SlotsSound}
+use Rattle.lz_machine.specs.SlotsSound.{IsGateClosed, IsGateOpened, IsGateWritten}
 use Rattle.lz_machine.specs.LedgerSound.{HasTail, TailsSound}
 use Rattle.lz_machine.specs.CallersSound.{IsKeyed}
 use Rattle.lz_machine.specs.Sound.{Sound}
 use Rattle.lz_machine.proofs.Frames.OneActor.{moving}
-use Rattle.lz_machine.proofs.Frames.Grip.{keeps_itself, slots_turn}
+use Rattle.lz_machine.proofs.Frames.Grip.{keeps_itself}
+use Rattle.lz_machine.proofs.Frames.KeptSlots.{KeepsGate, slots_in, slots_turn}
 use Rattle.lz_machine.proofs.Frames.Cells.{KeepsCell, caller_vaulted}
 use Rattle.lz_machine.proofs.Steps.Hop.{call_at, own, goes_on_keeps}
 
@@ -58,35 +58,19 @@ written_synced stage (inr e) = rw e (inr refl)
 opened_before : (stage : Stage) → IsGateOpened (stage_synced stage) → IsGateOpened stage
 opened_before Opening h = inl refl
 opened_before Open h = inr refl
-opened_before Closed (inl e) = absurd cc
-opened_before Closed (inr e) = absurd cc
-opened_before KeyLoose (inl e) = absurd cc
-opened_before KeyLoose (inr e) = absurd cc
-opened_before Keyed (inl e) = absurd cc
-opened_before Keyed (inr e) = absurd cc
-opened_before Closing (inl e) = absurd cc
-opened_before Closing (inr e) = absurd cc
+opened_before _ (inl e) = absurd cc
+opened_before _ (inr e) = absurd cc
 
 written_before : (stage : Stage) → IsGateWritten (stage_synced stage) → IsGateWritten stage
 written_before Closing h = inl refl
 written_before Closed h = inr refl
-written_before Opening (inl e) = absurd cc
-written_before Opening (inr e) = absurd cc
-written_before Open (inl e) = absurd cc
-written_before Open (inr e) = absurd cc
-written_before KeyLoose (inl e) = absurd cc
-written_before KeyLoose (inr e) = absurd cc
-written_before Keyed (inl e) = absurd cc
-written_before Keyed (inr e) = absurd cc
+written_before _ (inl e) = absurd cc
+written_before _ (inr e) = absurd cc
 
 -- after a sync nothing is being opened
 pub not_opening : (stage : Stage) → stage_synced stage ≢ Opening
 not_opening Closed e = absurd cc
-not_opening KeyLoose e = absurd cc
-not_opening Keyed e = absurd cc
-not_opening Opening e = absurd cc
-not_opening Open e = absurd cc
-not_opening Closing e = absurd cc
+not_opening _ e = absurd cc
 
 module _ (cells : List Cell) where
   abbrev cells' : List Cell
@@ -112,42 +96,20 @@ module _ (cells : List Cell) where
       keyed stage (inl e) = rw e (inr refl)
       keyed stage (inr e) = rw e (inr refl)
 
-  module _ (shape : Shape) (dead : Bool) (uses : List Use) (actors : List Actor) (P : Trace) where
-    node_synced : (s : ℕ) → IsNodeStage cells dead actors P s → IsNodeStage cells' dead actors P s
-    node_synced s (inl (clear, opened)) = inl (clear, synced_is IsGateOpened opened_synced s opened)
-    node_synced s (inr (b, closer, written)) = inr (b, closer, synced_is IsGateWritten written_synced s written)
+  gate_keeps : (s : ℕ) → KeepsGate (cell_in cells s) (cell_in cells' s)
+  gate_keeps s = record {
+    opened = synced_is IsGateOpened opened_synced s;
+    shut = synced_is IsGateClosed closed_synced s;
+    written = synced_is IsGateWritten written_synced s;
+    closed = synced_is (λ stage. stage ≡ Closed) (λ stage e. ap stage_synced e) s;
+    key = key_map s;
+  }
 
-    hand_synced : (actor : Actor) (s : ℕ) → IsHandStage cells dead actor P s → IsHandStage cells' dead actor P s
-    hand_synced actor s (inl shut) = inl (synced_is IsGateClosed closed_synced s shut)
-    hand_synced actor s (inr (opener, opened, key)) = inr (opener, synced_is IsGateOpened opened_synced s opened, key_map s ∙ key)
-
-    stands_synced : (s : ℕ) → SlotStands shape cells dead uses actors P s → SlotStands shape cells' dead uses actors P s
-    stands_synced s (is_node chain stage) = is_node (record { there = chain.there; taken = chain.taken; key = key_map s ∙ chain.key }) (node_synced s stage)
-    stands_synced s (is_held a slot) = is_held a slot
-    stands_synced s (is_out a out) = is_out a out
-    stands_synced s (is_free loose free stage) = is_free loose free (synced_is IsGateClosed closed_synced s stage)
-    stands_synced s (is_limbo sights loose limbo stage) = is_limbo sights loose limbo (synced_is (λ q. q ≡ Closed) (λ q e. ap stage_synced e) s stage)
-
-    pub slots_synced : SlotsSound shape cells dead uses actors P → SlotsSound shape cells' dead uses actors P
-    slots_synced h = record {
-      count = h.count;
-      each = λ s lt. stands_synced s (h.each s lt);
-      hand = λ a s slot. let was = h.hand a s slot in record { in_range = was.in_range; loose = was.loose; taken = was.taken; stage = hand_synced (actor_in actors a) s was.stage };
-      out = λ a s out. let was = h.out a s out in record { in_range = was.in_range; loose = was.loose; taken = was.taken; stage = synced_is (λ q. q ≡ Closed) (λ q e. ap stage_synced e) s was.stage };
-      one_hand = h.one_hand;
-      one_out = h.one_out;
-      hand_out = h.hand_out;
-      opened = λ a s slot is. synced_is IsGateOpened opened_synced s (h.opened a s slot is);
-      closed = λ a s at is. synced_is IsGateWritten written_synced s (h.closed a s at is);
-      added = λ k s key there is. λ e. not_opening (stage_in cells s) (sym (stage_map s) ∙ e);
-      removed = λ k s key there is. synced_is (λ q. q ≡ Closed) (λ q e. ap stage_synced e) s (h.removed k s key there is);
-    }
-
-    pub tails_synced : (callers : List (Option Caller)) (rows : List Row) (M : History) → TailsSound shape cells actors P callers rows M → TailsSound shape cells' actors P callers rows M
-    tails_synced callers rows M h = record {
-      adding = λ a s slot opened. subst (λ (q : ℕ). HasTail (Add q) callers rows M) (sym (key_map s)) (h.adding a s slot (opened_before (stage_in cells s) (subst IsGateOpened (stage_map s) opened)));
-      removing = λ s there clear written. subst (λ (q : ℕ). HasTail (Remove q) callers rows M) (sym (key_map s)) (h.removing s there clear (written_before (stage_in cells s) (subst IsGateWritten (stage_map s) written)));
-    }
+  pub tails_synced : (shape : Shape) (actors : List Actor) (P : Trace) (callers : List (Option Caller)) (rows : List Row) (M : History) → TailsSound shape cells actors P callers rows M → TailsSound shape cells' actors P callers rows M
+  tails_synced shape actors P callers rows M h = record {
+    adding = λ a s slot opened. subst (λ (q : ℕ). HasTail (Add q) callers rows M) (sym (key_map s)) (h.adding a s slot (opened_before (stage_in cells s) (subst IsGateOpened (stage_map s) opened)));
+    removing = λ s there clear written. subst (λ (q : ℕ). HasTail (Remove q) callers rows M) (sym (key_map s)) (h.removing s there clear (written_before (stage_in cells s) (subst IsGateWritten (stage_map s) written)));
+  }
 
 -- the yard after a sync that succeeded
 abbrev pub synced_yard : Yard → ℕ → Yard
@@ -164,7 +126,7 @@ module _ (n calls : ℕ) (y : Yard) (callers : List (Option Caller)) (disk : Med
       keys = λ s cell at. let was = from_map y.vault.cells s cell at in omega (arith, ap (λ (c : Cell). c.key) was.2, sound.images.keys s was.0 was.1);
       keeps = subst (λ (b : Bool). Keeps y.vault.format (map cell_synced y.vault.cells) b (synced disk)) (sym alive) (sync_keeps y.vault.format y.vault.cells disk (subst (λ (b : Bool). Keeps y.vault.format y.vault.cells b disk) alive sound.images.keeps));
     };
-    slots = slots_synced y.vault.cells y.shape y.vault.dead y.uses y.actors P sound.slots;
+    slots = slots_in y.shape y.vault.cells y.vault.dead y.actors (map cell_synced y.vault.cells) y.uses P (gate_keeps y.vault.cells) (λ s e. not_opening (stage_in y.vault.cells s) (sym (stage_map y.vault.cells s) ∙ e)) sound.slots;
     locks = sound.locks;
     callers = record {
       count = sound.callers.count;
@@ -173,7 +135,7 @@ module _ (n calls : ℕ) (y : Yard) (callers : List (Option Caller)) (disk : Med
     };
     reuse = sound.reuse;
     ledger = sound.ledger;
-    tails = tails_synced y.vault.cells y.shape y.vault.dead y.uses y.actors P callers (entries y.shape.passes callers notes) M sound.tails;
+    tails = tails_synced y.vault.cells y.shape y.actors P callers (entries y.shape.passes callers notes) M sound.tails;
   }
 
   -- the event, whether a sync is made or not

@@ -27,7 +27,7 @@ use Rattle.lz_machine.specs.declared.actor.Hold.TheVariants.{Nothing, Marked, Un
 use Rattle.lz_machine.specs.declared.caller.Sequence.TheVariants.{Removing}
 use Rattle.lz_machine.specs.declared.caller.Progress.{Progress}
 use Rattle.lz_machine.specs.declared.caller.Progress.TheVariants.{Playing}
-use Rattle.lz_machine.specs.Yards.{Yard, actor_at, actor_in, pin_in, cell_in}
+use Rattle.lz_machine.specs.Yards.{Yard, actor_at, actor_in, cell_in}
 use Rattle.lz_machine.specs.Table.{with_hold, node_of, yard_done, publishes}
 use Rattle.lz_machine.specs.Runs.{Caller, caller_at}
 use Rattle.lz_machine.specs.Stands.{FacesNode, IsLeaving, InBucket}
@@ -41,11 +41,11 @@ use Rattle.lz_machine.proofs.Frames.OneActor.{moving, callers_moved, ledger_turn
 use Rattle.lz_machine.proofs.Frames.ChainSlots.{chain_stands, reuse_published}
 use Rattle.lz_machine.proofs.Frames.NodeLocks.{turned_locks}
 use Rattle.lz_machine.proofs.Frames.OneSlot.{node_grips, slot_turn}
-use Rattle.lz_machine.proofs.Frames.Publishing.{LeavesCaller, caller_published, change_stays}
+use Rattle.lz_machine.proofs.Frames.Publishing.{change_stays}
 use Rattle.lz_machine.proofs.Frames.Ranges.{on_range, few_slots}
 use Rattle.lz_machine.proofs.Frames.LoadedWord.{link_next, key_load}
 use Rattle.lz_machine.proofs.Ledger.QuietPublishing.{ledger_published}
-use Rattle.lz_machine.proofs.Steps.Halt.{held_node}
+use Rattle.lz_machine.proofs.Frames.OtherCallers.{held_node, caller_stays}
 use Rattle.lz_machine.proofs.Steps.Hop.{call_at, own}
 use Rattle.lz_machine.proofs.Frames.Hand.{same_hand, other_hand}
 use Rattle.lz_machine.proofs.Frames.HeldLocks.{rests_on_pair, pair_published, unlinked_leaves, one_place}
@@ -206,13 +206,6 @@ module _ (n calls : ℕ) (y : Yard) (callers : List (Option Caller)) (disk : Med
   unlinked_reuse : ReuseSound y.shape y.words.pins y.uses actors' P' notes.begun
   unlinked_reuse = reuse_published y.shape y.vault.cells y.vault.dead y.uses y.actors actors' (unlinked k s a) P y.words.pins notes.begun unlinked_slots (λ b t slot. sym (slot_still b) ∙ slot) sound.reuse
 
-  leaves : (b : ℕ) → LeavesCaller y.shape.buckets y.shape.slots (unlinked k s a) P law (actor_in y.actors b) (pin_in y.words.pins b) (notes.begun b)
-  leaves b = record {
-    kept = λ inside. tt;
-    word = λ t slot. refl;
-    node = held_node y.shape P (actor_in y.actors b).hold (actor_in y.actors b) sound.trace.lawful (sound.locks.rests b);
-  }
-
   abbrev callers' : List (Option Caller)
   callers' = moving callers a (call_at i (Remove k) at) (Playing (Removing s) 5)
 
@@ -226,7 +219,7 @@ module _ (n calls : ℕ) (y : Yard) (callers : List (Option Caller)) (disk : Med
         begins = λ inside. inr (me.begins inside);
         stands = (me.stands.0, me.stands.1, (h.0, h.1, (refl, change_stays y.shape.buckets y.shape.slots (unlinked k s a) P law k (notes.changed a) h.2.3)));
       })
-      (λ b other. caller_published y.shape.buckets y.shape.slots (unlinked k s a) P law y.shape.passes y.vault.format y.vault.cells y.vault.dead (actor_in y.actors b) (pin_in y.words.pins b) (notes.begun b) (notes.changed b) (leaves b) (caller_at callers b) (sound.callers.each b))
+      (λ b other. caller_stays y.shape y.vault y.words.pins y.locks y.actors callers (unlinked k s a) P law notes sound.locks sound.callers b (λ inside. tt) (λ t slot. refl))
       sound.callers
 
   node_range : (t : ℕ) → (actor_at y a).pred ≡ Node t → t < y.shape.slots

@@ -38,7 +38,7 @@ use Rattle.lz_machine.specs.Sound.{Sound}
 use Rattle.lz_machine.proofs.Frames.ActorTable.{by_actor, field_stays}
 use Rattle.lz_machine.proofs.Frames.OneActor.{moving, callers_moved, ledger_turn}
 use Rattle.lz_machine.proofs.Frames.Ranges.{on_range}
-use Rattle.lz_machine.proofs.Steps.Halt.{held_node}
+use Rattle.lz_machine.proofs.Frames.OtherCallers.{held_node}
 use Rattle.lz_machine.proofs.Steps.Hop.{call_at, own}
 use Rattle.lz_machine.proofs.Frames.Hand.{same_hand, other_hand}
 use Rattle.lz_machine.proofs.Steps.Unlink.{node_place}

@@ -37,10 +37,10 @@ use Rattle.lz_machine.proofs.Frames.ActorTable.{by_actor}
 use Rattle.lz_machine.proofs.Frames.OneActor.{moving}
 use Rattle.lz_machine.proofs.Frames.ChainSlots.{reuse_published}
 use Rattle.lz_machine.proofs.Frames.OneSlot.{same_nodes, prepared_slots}
-use Rattle.lz_machine.proofs.Frames.Publishing.{LeavesCaller, caller_published, shut_relies}
+use Rattle.lz_machine.proofs.Frames.Publishing.{shut_relies}
 use Rattle.lz_machine.proofs.Ledger.QuietPublishing.{ledger_published}
 use Rattle.lz_machine.proofs.Frames.Store.{trace_key}
-use Rattle.lz_machine.proofs.Steps.Halt.{held_node}
+use Rattle.lz_machine.proofs.Frames.OtherCallers.{held_node, caller_stays}
 use Rattle.lz_machine.proofs.Frames.HeldLocks.{key_leaves}
 use Rattle.lz_machine.proofs.Steps.Hop.{call_at, own, goes_on_keeps}
 use Rattle.lz_machine.proofs.Frames.FittingKeys.{adds_fitting}
@@ -121,15 +121,7 @@ module _ (n calls : ℕ) (y : Yard) (callers : List (Option Caller)) (disk : Med
         (λ b other. rests_prepared y.shape.buckets y.shape.slots s (key_prepared s k) (actor_in y.actors b) P sound.trace.lawful loose (λ node place. key_leaves y.shape.buckets s k (actor_in y.actors b) P (λ t slot. hand_apart b t other slot) node place) (actor_in y.actors b).hold (sound.locks.rests b));
   }
 
-  -- no pass that is inside has stood on the slot, so that no walk reads the new key
-  leaves_others : (b : ℕ) → b ≢ a → LeavesCaller y.shape.buckets y.shape.slots (key_prepared s k) P law (actor_in y.actors b) (pin_in y.words.pins b) (notes.begun b)
-  leaves_others b other = record {
-    kept = λ inside. sound.reuse.reserved b a s h.1 inside;
-    word = λ t slot. word_other t (hand_apart b t other slot);
-    node = held_node y.shape P (actor_in y.actors b).hold (actor_in y.actors b) sound.trace.lawful (sound.locks.rests b);
-  }
-
-  -- before the write the adder relies on no word
+  -- before the write the adder relies on no word; no pass that is inside has stood on the slot, so that no walk reads the new key
   published_callers : CallersSound y.shape y.vault y.words.pins y.actors callers P' notes
   published_callers = record {
     count = sound.callers.count;
@@ -137,7 +129,7 @@ module _ (n calls : ℕ) (y : Yard) (callers : List (Option Caller)) (disk : Med
     each = by_actor (λ b. CallerSound (view_of y.shape y.vault y.actors b) (pin_in y.words.pins b) (caller_at callers b) (notes.begun b) P' (notes.changed b)) a
         (subst (λ (q : Option Caller). CallerSound (view_of y.shape y.vault y.actors a) (pin_in y.words.pins a) q (notes.begun a) P' (notes.changed a)) (sym is)
         (record { quiet = λ inside. (sound.reuse.reserved a a s h.1 inside, me.quiet inside); begins = λ inside. inr (me.begins inside); stands = (me.stands.0, me.stands.1, h) }))
-        (λ b other. caller_published y.shape.buckets y.shape.slots (key_prepared s k) P law y.shape.passes y.vault.format y.vault.cells y.vault.dead (actor_in y.actors b) (pin_in y.words.pins b) (notes.begun b) (notes.changed b) (leaves_others b other) (caller_at callers b) (sound.callers.each b));
+        (λ b other. caller_stays y.shape y.vault y.words.pins y.locks y.actors callers (key_prepared s k) P law notes sound.locks sound.callers b (λ inside. sound.reuse.reserved b a s h.1 inside) (λ t slot. word_other t (hand_apart b t other slot)));
   }
 
   -- passes stay away from loose slots

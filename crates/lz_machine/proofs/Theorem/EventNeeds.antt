@@ -45,7 +45,7 @@ use Rattle.lz_machine.specs.LocksSound.{RestsOn, IsChecked}
 use Rattle.lz_machine.specs.Sound.{Sound}
 use Rattle.lz_machine.proofs.Frames.Ranges.{on_range, stood_range, head_range, few_slots}
 use Rattle.lz_machine.proofs.Frames.LoadedWord.{bucket_range, head_next, link_next}
-use Rattle.lz_machine.proofs.Steps.Halt.{held_node}
+use Rattle.lz_machine.proofs.Frames.OtherCallers.{held_node}
 use Rattle.lz_machine.proofs.Theorem.ShownChains.{mark_is}
 use Rattle.lz_machine.proofs.Frames.Outside.{outside_even, worn_out, refused_out, out_needs}
 

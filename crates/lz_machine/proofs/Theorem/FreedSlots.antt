@@ -32,7 +32,7 @@ use Rattle.lz_machine.specs.Notes.{Notes}
 use Rattle.lz_machine.specs.LocksSound.{HasClosed, RestsOn}
 use Rattle.lz_machine.specs.Sound.{Sound, PointSound}
 use Rattle.lz_machine.proofs.Steps.Trip.{point}
-use Rattle.lz_machine.proofs.Steps.Halt.{held_node}
+use Rattle.lz_machine.proofs.Frames.OtherCallers.{held_node}
 use Rattle.lz_machine.proofs.Steps.Turn.{settled_pins}
 use Rattle.lz_machine.proofs.Steps.Unlink.{redirect_pins}
 use Rattle.lz_machine.proofs.Steps.Pin.{pinned}

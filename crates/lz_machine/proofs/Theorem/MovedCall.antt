@@ -5,7 +5,7 @@ use Rattle.std.proofs.lemmas.Bool.Decides.{nat_tests}
 use Rattle.lz_slot.proofs.Counted.{of_pass_other}
 use Rattle.lz_disk.specs.Images.{Medium, at_rest}
 use Rattle.lz_machine.specs.Yards.{Shape, Yard}
-use Rattle.lz_machine.specs.Runs.{Caller, Service, State, Up, Down, Transition, Calls, Turn, Fails, Looks, Trips, Stops, Crashes, CrashesIn, Opens, OpenFails, caller_at, after_turn, after_fault, state_after}
+use Rattle.lz_machine.specs.Runs.{Caller, Service, State, Up, Down, Transition, Calls, Turn, Fails, Stops, Crashes, CrashesIn, Opens, OpenFails, caller_at, after_turn, after_fault, state_after}
 use Rattle.lz_machine.specs.Laws.{is_of, SameBut, call_in, ends_life}
 use Rattle.lz_machine.proofs.Open.FoundSlots.{pass_of}
 
@@ -23,24 +23,13 @@ module _ (a : ℕ) where
   call_stays n (Up service disk) (Calls b c) other goes = of_pass_other service.callers b a _ None (grind (arith, nat_tests, other))
   call_stays n (Up service disk) (Turn b) other goes = other_turn service disk b (caller_at service.callers b) (grind (arith, nat_tests, other))
   call_stays n (Up service disk) (Fails b new) other goes = other_fault service new b (caller_at service.callers b) (grind (arith, nat_tests, other))
-  call_stays n (Up service disk) (Looks b) other goes = refl
-  call_stays n (Up service disk) Trips other goes = refl
   call_stays n (Up service disk) Stops other goes = absurd (false≢true (sym goes))
   call_stays n (Up service disk) (Crashes t) other goes = absurd (false≢true (sym goes))
   call_stays n (Up service disk) (CrashesIn b t) other goes = absurd (false≢true (sym goes))
-  call_stays n (Up service disk) Opens other goes = refl
-  call_stays n (Up service disk) (OpenFails why done) other goes = refl
-  call_stays n (Down shape disk) (Calls b c) other goes = refl
-  call_stays n (Down shape disk) (Turn b) other goes = refl
-  call_stays n (Down shape disk) (Fails b new) other goes = refl
-  call_stays n (Down shape disk) (Looks b) other goes = refl
-  call_stays n (Down shape disk) Trips other goes = refl
-  call_stays n (Down shape disk) Stops other goes = refl
-  call_stays n (Down shape disk) (Crashes t) other goes = refl
-  call_stays n (Down shape disk) (CrashesIn b t) other goes = refl
   call_stays n (Down shape disk) Opens other goes = pass_of shape.passes a None
   call_stays n (Down shape disk) (OpenFails why true) other goes = refl
   call_stays n (Down shape disk) (OpenFails why false) other goes = refl
+  call_stays n _ _ other goes = refl
 
   -- after the life's end states that differ in the call alone are the same
   pub ends_same : (n m : ℕ) (one other : State) (step : Transition) → ends_life step ≡ true → SameBut a one other → state_after m other step ≡ state_after n one step
@@ -52,17 +41,4 @@ module _ (a : ℕ) where
   ends_same n m (Down shape disk) (Down shape' disk') (CrashesIn b t) ends (as_shape, medium) = λ i. Down (sym as_shape i) (sym medium i)
   ends_same n m (Up one disk) (Down shape disk') step ends h = absurd h
   ends_same n m (Down shape disk) (Up other disk') step ends h = absurd h
-  ends_same n m (Up one disk) (Up other disk') (Calls b c) ends h = absurd (false≢true ends)
-  ends_same n m (Up one disk) (Up other disk') (Turn b) ends h = absurd (false≢true ends)
-  ends_same n m (Up one disk) (Up other disk') (Fails b new) ends h = absurd (false≢true ends)
-  ends_same n m (Up one disk) (Up other disk') (Looks b) ends h = absurd (false≢true ends)
-  ends_same n m (Up one disk) (Up other disk') Trips ends h = absurd (false≢true ends)
-  ends_same n m (Up one disk) (Up other disk') Opens ends h = absurd (false≢true ends)
-  ends_same n m (Up one disk) (Up other disk') (OpenFails why done) ends h = absurd (false≢true ends)
-  ends_same n m (Down shape disk) (Down shape' disk') (Calls b c) ends h = absurd (false≢true ends)
-  ends_same n m (Down shape disk) (Down shape' disk') (Turn b) ends h = absurd (false≢true ends)
-  ends_same n m (Down shape disk) (Down shape' disk') (Fails b new) ends h = absurd (false≢true ends)
-  ends_same n m (Down shape disk) (Down shape' disk') (Looks b) ends h = absurd (false≢true ends)
-  ends_same n m (Down shape disk) (Down shape' disk') Trips ends h = absurd (false≢true ends)
-  ends_same n m (Down shape disk) (Down shape' disk') Opens ends h = absurd (false≢true ends)
-  ends_same n m (Down shape disk) (Down shape' disk') (OpenFails why done) ends h = absurd (false≢true ends)
+  ends_same n m _ _ _ ends h = absurd (false≢true ends)

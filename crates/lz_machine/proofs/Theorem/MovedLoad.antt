@@ -1,5 +1,5 @@
 -- A load may be put into a run after its actor's last step: the later steps don't look at it.
-use Rattle.std.proofs.Common.{◌≡◌, ◌≢◌, inl, inr, ℕ, zero, suc, ◌%◌, Bool, true, false, List, [], ◌∷◌, ◌++◌, Option, Some, None, refl, sym, ap, ◌∙◌, subst, arith}
+use Rattle.std.proofs.Common.{◌≡◌, ◌≢◌, inl, inr, ℕ, suc, ◌%◌, Bool, true, false, List, [], ◌∷◌, ◌++◌, Option, Some, None, refl, sym, ap, ◌∙◌, subst, arith}
 use mathlib.Core.Bool.{false≢true}
 use Rattle.std.specs.Prelude.{◌||◌, IsSome}
 use Rattle.std.specs.List.{list_any}
@@ -46,32 +46,14 @@ record Loads (words : Words) (e : Event) (at : Progress) : Type 0 where
   no_reply : reply_at at ≡ None
 
 sequence_loads : (words : Words) (c : Command) (sequence : Sequence) (i : ℕ) → hop_of (loaded words (event_of c sequence i)) ≡ None
-sequence_loads words c Pinning zero = refl
 sequence_loads words c Pinning (suc i) = refl
-sequence_loads words c (Resting s reply) zero = refl
-sequence_loads words c (Resting s reply) (suc zero) = refl
 sequence_loads words c (Resting s reply) (suc (suc i)) = refl
-sequence_loads words c (Writing s) zero = refl
-sequence_loads words c (Writing s) (suc zero) = refl
 sequence_loads words c (Writing s) (suc (suc i)) = refl
-sequence_loads words c (Adding s) zero = refl
-sequence_loads words c (Adding s) (suc zero) = refl
-sequence_loads words c (Adding s) (suc (suc zero)) = refl
-sequence_loads words c (Adding s) (suc (suc (suc zero))) = refl
-sequence_loads words c (Adding s) (suc (suc (suc (suc zero)))) = refl
 sequence_loads words c (Adding s) (suc (suc (suc (suc (suc i))))) = refl
-sequence_loads words c (Removing s) zero = refl
-sequence_loads words c (Removing s) (suc zero) = refl
-sequence_loads words c (Removing s) (suc (suc zero)) = refl
-sequence_loads words c (Removing s) (suc (suc (suc zero))) = refl
-sequence_loads words c (Removing s) (suc (suc (suc (suc zero)))) = refl
-sequence_loads words c (Removing s) (suc (suc (suc (suc (suc zero))))) = refl
-sequence_loads words c (Removing s) (suc (suc (suc (suc (suc (suc zero)))))) = refl
 sequence_loads words c (Removing s) (suc (suc (suc (suc (suc (suc (suc i))))))) = refl
-sequence_loads words c (Releasing aim) zero = refl
 sequence_loads words c (Releasing aim) (suc i) = refl
-sequence_loads words c (Halting reply) zero = refl
 sequence_loads words c (Halting reply) (suc i) = refl
+sequence_loads words c _ _ = refl
 
 loads : (words : Words) (shape : Shape) (c : Command) (at : Progress) → IsSome (hop_of (loaded words (event_at shape c at))) → Loads words (event_at shape c at) at
 loads words shape c (Playing sequence i) is = absurd (false≢true (rw (sequence_loads words c sequence i) at is))

@@ -47,7 +47,7 @@ use Rattle.lz_machine.specs.Sound.{Sound, StateSound, PointSound}
 use Rattle.lz_machine.specs.Ready.{IsEventOf, IsReadyFor, IsReady}
 use Rattle.lz_machine.proofs.Frames.OneActor.{caller_range, mine}
 use Rattle.lz_machine.proofs.Frames.FittingKeys.{key_written, writes_fitting}
-use Rattle.lz_machine.proofs.Steps.Halt.{held_node}
+use Rattle.lz_machine.proofs.Frames.OtherCallers.{held_node}
 use Rattle.lz_machine.proofs.Frames.BesideKey.{opened_shut}
 use Rattle.lz_machine.proofs.Steps.Unlink.{first_place, node_place}
 use Rattle.lz_machine.proofs.Runs.NextEvent.{plays_alive, refused_plays}

@@ -25,7 +25,7 @@ use Rattle.lz_machine.specs.LocksSound.{IsBeside, IsRightBefore as StandsBefore}
 use Rattle.lz_machine.specs.Sound.{TraceSound}
 use Rattle.lz_machine.proofs.Frames.Ranges.{on_range}
 use Rattle.lz_machine.proofs.Frames.LoadedWord.{bucket_range, head_next, link_next, link_mark, key_load}
-use Rattle.lz_machine.proofs.Steps.Halt.{faces_on}
+use Rattle.lz_machine.proofs.Frames.OtherCallers.{faces_on}
 
 module _ (shape : Shape) (words : Words) (P : Trace) (trace : TraceSound shape words P) (few : shape.slots ≤ most_slots) (w : Words) (heads : w.heads ≡ words.heads) (links : w.links ≡ words.links) (keys : w.keys ≡ words.keys) where
   abbrev buckets : ℕ

@@ -203,16 +203,12 @@ step_tied start (Down shape disk) p Opens B at may out h sound =
     opened_here there = opened_tied start
         (point (state_after (suc p.calls) (Down shape disk) Opens) (marks_of (suc p.calls) (Down shape disk) Opens ++ p.marks) (trace_after (Down shape disk) p.trace Opens) p.calls)
         shape disk.seen (synced disk) (λ b. if is_out (state_after (suc p.calls) (Down shape disk) Opens) b then trace_after (Down shape disk) p.trace Opens else B b) there refl
-step_tied start (Down shape disk) p (Calls a c) B at may out h sound = absurd may
-step_tied start (Down shape disk) p (Turn a) B at may out h sound = absurd may
-step_tied start (Down shape disk) p (Fails a new) B at may out h sound = absurd may
-step_tied start (Down shape disk) p (Looks a) B at may out h sound = absurd may
 step_tied start (Down shape disk) p Trips B at may out h sound = tt
 step_tied start (Down shape disk) p Stops B at may out h sound = tt
 step_tied start (Down shape disk) p (Crashes t) B at may out h sound = tt
-step_tied start (Down shape disk) p (CrashesIn a t) B at may out h sound = absurd may
 step_tied start (Down shape disk) p (OpenFails why true) B at may out h sound = tt
 step_tied start (Down shape disk) p (OpenFails why false) B at may out h sound = tt
+step_tied start (Down shape disk) p _ B at may out h sound = absurd may
 
 -- where a pass is outside its trace is that of now
 pub out_now : (p : Point) (steps : List Transition) (b : ℕ) → is_out (run p steps).state b ≡ true → trace_outside p steps b ≡ (run p steps).trace

@@ -134,10 +134,8 @@ hops_not c aim (End pred curr met) = walked_not c aim pred curr met
 
 changes_not : (c : Command) (aim curr : Option ℕ) → ends_worn (changes c aim curr) ≡ false
 changes_not (Add k) (Some s) curr = refl
-changes_not (Add k) None curr = refl
 changes_not (Remove k) aim (Some s) = refl
-changes_not (Remove k) aim None = refl
-changes_not (Has k) aim curr = refl
+changes_not _ _ _ = refl
 
 met_not : (buckets : ℕ) (c : Command) (reply : Reply) (s : ℕ) (P0 P : Trace) → MayRest buckets c reply s P0 P → ends_worn (Answering reply) ≡ false
 met_not buckets (Has k) SaysWorn s P0 P h = absurd h

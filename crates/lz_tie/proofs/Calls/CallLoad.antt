@@ -15,7 +15,7 @@ use Rattle.lz_machine.specs.declared.event.Reply.{Reply}
 use Rattle.lz_machine.specs.declared.caller.Sequence.{Sequence}
 use Rattle.lz_machine.specs.declared.caller.Sequence.TheVariants.{Pinning, Resting, Writing, Adding, Removing, Releasing, Halting}
 use Rattle.lz_machine.specs.declared.caller.Progress.{Progress}
-use Rattle.lz_machine.specs.declared.caller.Progress.TheVariants.{Playing, LoadsHalt, Walking, Reserving, SeeingPins, Claiming, Checking, Answering}
+use Rattle.lz_machine.specs.declared.caller.Progress.TheVariants.{Playing, LoadsHalt, Walking}
 use Rattle.lz_machine.specs.Yards.{Shape}
 use Rattle.lz_machine.specs.Calls.{event_at, events_of, halt_loaded, progress_after}
 use Rattle.lz_machine.specs.CallersSound.{is_before_pin, side_of}
@@ -92,11 +92,7 @@ pub load_place : (shape : Shape) (c : Command) (at : Progress) (w : Word) → ev
 load_place shape c (Playing sequence i) w is = absurd (false≢true (ap is_some (sym (no_load_in (events_of c sequence) i (no_loads c sequence)) ∙ ap hop_of is)))
 load_place shape c LoadsHalt w is = tt
 load_place shape c (Walking aim look) w is = tt
-load_place shape c (Reserving again) w is = absurd (false≢true (ap is_some (ap hop_of is)))
-load_place shape c (SeeingPins p) w is = absurd (false≢true (ap is_some (ap hop_of is)))
-load_place shape c (Claiming aim pred curr) w is = absurd (false≢true (ap is_some (ap hop_of is)))
-load_place shape c (Checking aim curr) w is = absurd (false≢true (ap is_some (ap hop_of is)))
-load_place shape c (Answering reply) w is = absurd (false≢true (ap is_some (ap hop_of is)))
+load_place shape c _ w is = absurd (false≢true (ap is_some (ap hop_of is)))
 
 module _ (b : BoardId) (c : Command) (format : Format) (before : Part) (at : Progress) (h : Part) (U : UnderWay b c format before at h) (w : Word) (event : event_at (shape_of_sizes h.sizes) c at ≡ Hop w) (shared : IsShared b.sizes w)
     (seen : Trace) (value : ℕ) (shown : IsShownTo seen h) (found : value ≡ word_after b.sizes.buckets seen w) where

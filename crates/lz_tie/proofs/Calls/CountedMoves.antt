@@ -102,13 +102,7 @@ no_invokes c (Halting reply) = (refl, tt)
 
 goes_on_with : (shape : Shape) (c : Command) (at : Progress) → is_invoke (event_at shape c at) ≡ false
 goes_on_with shape c (Playing sequence i) = no_invoke_in (events_of c sequence) i (no_invokes c sequence)
-goes_on_with shape c LoadsHalt = refl
-goes_on_with shape c (Walking aim look) = refl
-goes_on_with shape c (Reserving again) = refl
-goes_on_with shape c (SeeingPins p) = refl
-goes_on_with shape c (Claiming aim pred curr) = refl
-goes_on_with shape c (Checking aim curr) = refl
-goes_on_with shape c (Answering reply) = refl
+goes_on_with shape c _ = refl
 
 -- so a pass may ask for it, and a hold goes on with its call
 next_asks : (z : Sizes) (h : Part) (k : Calling) (e : Event) → IsNextOf h k e → is_invoke e ≡ false → MayAsk z h e

@@ -26,7 +26,7 @@ use Rattle.lz_machine.specs.declared.actor.Hold.TheVariants.{GateClosed, Marked}
 use Rattle.lz_machine.specs.declared.event.Outcome.{Outcome}
 use Rattle.lz_machine.specs.declared.event.Outcome.TheVariants.{Done, Taken, Busy, True, False, Early}
 use Rattle.lz_machine.specs.declared.event.Reply.{Reply}
-use Rattle.lz_machine.specs.declared.event.Reply.TheVariants.{Yes, No, Full, Worn, OldFile, Halted, Device}
+use Rattle.lz_machine.specs.declared.event.Reply.TheVariants.{Yes, No, Full, Halted, Device}
 use Rattle.lz_machine.specs.declared.caller.Sequence.TheVariants.{Pinning, Resting, Writing, Adding, Removing, Releasing, Halting}
 use Rattle.lz_machine.specs.declared.caller.Progress.{Progress}
 use Rattle.lz_machine.specs.declared.caller.Progress.TheVariants.{Playing, LoadsHalt, Walking, Reserving, SeeingPins, Claiming, Checking, Answering}
@@ -41,7 +41,7 @@ use Rattle.lz_machine.specs.Runs.{Caller}
 use Rattle.lz_machine.specs.Sound.{Sound}
 use Rattle.lz_machine.proofs.Frames.LoadedWord.{key_load}
 use Rattle.lz_machine.proofs.Frames.Ranges.{on_range, few_slots}
-use Rattle.lz_machine.proofs.Steps.Halt.{held_node}
+use Rattle.lz_machine.proofs.Frames.OtherCallers.{held_node}
 use Rattle.lz_board.specs.Notes.{own}
 use Rattle.lz_tie.specs.UnderWay.{OwnAt}
 use Rattle.lz_tie.proofs.Calls.OwnChanges.{is_calm, calm, calm_none, none_cut, own_cut, cut_halting, cut_halted, cut_device, settling_none, own_linked, own_marked, own_unlinked}
@@ -243,26 +243,18 @@ module _ (n calls : ℕ) (y : Yard) (callers : List (Option Caller)) (disk : Med
   plays_halting : (c : Command) (reply : Reply) (i : ℕ) → Plays c (Playing (Halting reply) i)
   plays_halting c Halted zero relies h = record { inside = refl; pass = tt; is_own = cut_halted a c Q (own_cut a c (Playing (Halting Halted) 0) Q h); room = refl }
   plays_halting c Device zero relies h = record { inside = refl; pass = tt; is_own = cut_device a c Q (own_cut a c (Playing (Halting Device) 0) Q h); room = refl }
-  plays_halting c Yes zero relies h = absurd relies.0
-  plays_halting c No zero relies h = absurd relies.0
-  plays_halting c (Full counts) zero relies h = absurd relies.0
-  plays_halting c Worn zero relies h = absurd relies.0
-  plays_halting c OldFile zero relies h = absurd relies.0
   plays_halting c reply (suc i) relies h = absurd relies
+  plays_halting c _ zero relies h = absurd relies.0
 
   pub plays_onward : (c : Command) (at : Progress) → IsPlain at → Plays c at
-  plays_onward c (Playing Pinning i) plain relies h = absurd plain
   plays_onward c (Playing (Resting s reply) i) plain relies h = plays_resting c s i reply relies h
   plays_onward c (Playing (Writing s) i) plain relies h = plays_writing c s i relies h
   plays_onward c (Playing (Adding s) i) plain relies h = plays_adding c s i relies h
   plays_onward c (Playing (Removing s) i) plain relies h = plays_removing c s i relies h
   plays_onward c (Playing (Releasing aim) i) plain relies h = plays_releasing c aim i relies h
   plays_onward c (Playing (Halting reply) i) plain relies h = plays_halting c reply i relies h
-  plays_onward c LoadsHalt plain relies h = absurd plain
-  plays_onward c (Walking aim look) plain relies h = absurd plain
-  plays_onward c (Reserving true) plain relies h = absurd plain
   plays_onward c (Reserving false) plain relies h = reserves c (lowest_free (collect y.uses)) (calm_none a c (Reserving false) Q refl h)
   plays_onward c (SeeingPins p) plain relies h = sees c p (calm_none a c (SeeingPins p) Q refl h)
   plays_onward c (Claiming aim pred curr) plain relies h = claims c aim pred curr (is_pair_free y.locks pred curr) (calm_none a c (Claiming aim pred curr) Q refl h)
   plays_onward c (Checking aim curr) plain relies h = checks c aim curr (check y.words actor.pred actor.curr) (calm_none a c (Checking aim curr) Q refl h)
-  plays_onward c (Answering reply) plain relies h = absurd plain
+  plays_onward c _ plain relies h = absurd plain

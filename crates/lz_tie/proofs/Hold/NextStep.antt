@@ -10,7 +10,7 @@ use Rattle.lz_vault.specs.Vaults.{DeviceCall, NoCall, WriteAt, SyncAll, MayFail,
 use Rattle.lz_list.specs.Words.{Words}
 use Rattle.lz_list.specs.Traces.{Trace}
 use Rattle.lz_machine.specs.declared.event.Event.{Event}
-use Rattle.lz_machine.specs.declared.event.Event.TheVariants.{Invoke, Pin, Hop, Reserve, WriteKey, Claim, Check, WriteOpen, Link, WriteClose, Mark, Release, Sync, Settle, Unlink, Retire, SeePin, Answer, Halt}
+use Rattle.lz_machine.specs.declared.event.Event.TheVariants.{SeePin}
 use Rattle.lz_machine.specs.declared.event.Outcome.{Outcome}
 use Rattle.lz_machine.specs.declared.event.Outcome.TheVariants.{Fault}
 use Rattle.lz_machine.specs.declared.caller.Progress.{Progress}
@@ -47,24 +47,7 @@ use Rattle.lz_tie.proofs.Splicing.LoadSplice.{Spliced, splice_reads}
 -- a caller's next event, by what its pass has seen of pin words
 seen_is : (words : Words) (pins : ℕ → ℕ) (passes : ℕ) (e : Event) → HasPass passes e → ((q : ℕ) → 1 ≤ q → q ≤ passes → of_pass words.pins q 0 ≡ pins q) → loaded words e ≡ seen_event pins e
 seen_is words pins passes (SeePin q v) has same = ap (SeePin q) (same q has.0 has.1)
-seen_is words pins passes (Invoke c) has same = refl
-seen_is words pins passes Pin has same = refl
-seen_is words pins passes (Hop w) has same = refl
-seen_is words pins passes Reserve has same = refl
-seen_is words pins passes (WriteKey k) has same = refl
-seen_is words pins passes (Claim pred curr) has same = refl
-seen_is words pins passes Check has same = refl
-seen_is words pins passes WriteOpen has same = refl
-seen_is words pins passes Link has same = refl
-seen_is words pins passes WriteClose has same = refl
-seen_is words pins passes Mark has same = refl
-seen_is words pins passes Release has same = refl
-seen_is words pins passes (Sync s) has same = refl
-seen_is words pins passes (Settle s) has same = refl
-seen_is words pins passes Unlink has same = refl
-seen_is words pins passes Retire has same = refl
-seen_is words pins passes Answer has same = refl
-seen_is words pins passes Halt has same = refl
+seen_is words pins passes _ has same = refl
 
 record IsViewed (q : Option Caller) (c : Command) (at : Progress) : Type 0 where
   caller : Caller

@@ -4,7 +4,7 @@ use mathlib.Core.Bool.{false≢true}
 use Rattle.std.specs.Prelude.{if◌then◌else◌, Some, None, IfSome, is_some, not}
 use Rattle.lz_slot.proofs.Counted.{of_pass_other}
 use Rattle.lz_vault.specs.declared.vault.Stage.{Stage}
-use Rattle.lz_vault.specs.declared.vault.Stage.TheVariants.{Closed, KeyLoose, Keyed, Opening, Open, Closing}
+use Rattle.lz_vault.specs.declared.vault.Stage.TheVariants.{Closed}
 use Rattle.lz_list.specs.declared.place.Place.{Place}
 use Rattle.lz_list.specs.declared.place.Place.TheVariants.{Bucket, Node}
 use Rattle.lz_list.specs.declared.word.Word.{Word}
@@ -17,7 +17,7 @@ use Rattle.lz_machine.specs.declared.course.Course.{Course}
 use Rattle.lz_machine.specs.declared.course.Course.TheVariants.{Refused, Dies, Plays}
 use Rattle.lz_machine.specs.declared.actor.Actor.{Actor}
 use Rattle.lz_machine.specs.declared.event.Event.{Event}
-use Rattle.lz_machine.specs.declared.event.Event.TheVariants.{Invoke, Pin, Hop, Reserve, WriteKey, Claim, Check, WriteOpen, Link, WriteClose, Mark, Release, Sync, Settle, Unlink, Retire, SeePin, Answer, Halt}
+use Rattle.lz_machine.specs.declared.event.Event.TheVariants.{Pin, WriteKey, WriteOpen, Link, Mark, Settle, Unlink, Answer, Halt}
 use Rattle.lz_machine.specs.Yards.{Yard, actor_at, cell_at}
 use Rattle.lz_machine.specs.Table.{course, line, line_on, line_publishes, published_on, publishes, settling, line_changes, changed_on, word_changed, words_after, is_sure, slot_of, node_of, pin_of, stays_out}
 use Rattle.lz_board.specs.Notes.{own, is_for}
@@ -30,30 +30,11 @@ IsWalked w = Unit {0}
 
 get_other : (w : Words) (u v : Word) (x : ℕ) → v ≢ u → get (set w u x) v ≡ get w v
 get_other w (Head b) (Head c) x away = get_or-set_other w.heads b c x 0 (λ e. away (ap Head e))
-get_other w (Head b) (link_at c) x away = refl
-get_other w (Head b) (key_at c) x away = refl
-get_other w (Head b) (pin_at c) x away = refl
-get_other w (Head b) halt_word x away = refl
-get_other w (link_at b) (Head c) x away = refl
 get_other w (link_at b) (link_at c) x away = get_or-set_other w.links b c x 0 (λ e. away (ap link_at e))
-get_other w (link_at b) (key_at c) x away = refl
-get_other w (link_at b) (pin_at c) x away = refl
-get_other w (link_at b) halt_word x away = refl
-get_other w (key_at b) (Head c) x away = refl
-get_other w (key_at b) (link_at c) x away = refl
 get_other w (key_at b) (key_at c) x away = get_or-set_other w.keys b c x 0 (λ e. away (ap key_at e))
-get_other w (key_at b) (pin_at c) x away = refl
-get_other w (key_at b) halt_word x away = refl
-get_other w (pin_at b) (Head c) x away = refl
-get_other w (pin_at b) (link_at c) x away = refl
-get_other w (pin_at b) (key_at c) x away = refl
 get_other w (pin_at b) (pin_at c) x away = of_pass_other w.pins b c x 0 (λ e. away (ap pin_at e))
-get_other w (pin_at b) halt_word x away = refl
-get_other w halt_word (Head c) x away = refl
-get_other w halt_word (link_at c) x away = refl
-get_other w halt_word (key_at c) x away = refl
-get_other w halt_word (pin_at c) x away = refl
 get_other w halt_word halt_word x away = absurd (away refl)
+get_other w _ _ x away = refl
 
 redirect_other : (w : Words) (place : Place) (next : ℕ) (v : Word) → v ≢ word_of place → get (redirect w place next) v ≡ get w v
 redirect_other w (Bucket b) next v away = get_other w (Head b) v next away
@@ -65,33 +46,24 @@ place_walked (Node s) = tt
 
 -- an event that is played changes one word at most: the one that its line names
 pub others_stay : (y : Yard) (actor : Actor) (a : ℕ) (e : Event) (v : Word) → word_changed y actor a e ≢ Some v → get (words_after y actor a e) v ≡ get y.words v
-others_stay y actor a (Invoke c) v away = refl
 others_stay y actor a Pin v away = get_other y.words (pin_at a) v _ (λ is. away (ap (λ w. Some w) (sym is)))
-others_stay y actor a (Hop w) v away = refl
-others_stay y actor a Reserve v away = refl
 others_stay y actor a (WriteKey k) v away = get_other y.words (key_at _) v _ (λ is. away (ap (λ w. Some w) (sym is)))
-others_stay y actor a (Claim pred curr) v away = refl
-others_stay y actor a Check v away = refl
 others_stay y actor a WriteOpen v away = get_other y.words (link_at _) v _ (λ is. away (ap (λ w. Some w) (sym is)))
 others_stay y actor a Link v away = redirect_other y.words actor.pred _ v (λ is. away (ap (λ w. Some w) (sym is)))
-others_stay y actor a WriteClose v away = refl
 others_stay y actor a Mark v away = get_other y.words (link_at _) v _ (λ is. away (ap (λ w. Some w) (sym is)))
-others_stay y actor a Release v away = refl
-others_stay y actor a (Sync s) v away = refl
 others_stay y actor a (Settle s) v away = go (is_sure y s) away
   where
     go : (b : Bool) → (if b then Some (link_at s) else None) ≢ Some v → get (if b then change_flags (settle (cell_at y s).stage) y.words s else y.words) v ≡ get y.words v
     go true away = get_other y.words (link_at s) v _ (λ is. away (ap (λ w. Some w) (sym is)))
     go false away = refl
 others_stay y actor a Unlink v away = redirect_other y.words actor.pred _ v (λ is. away (ap (λ w. Some w) (sym is)))
-others_stay y actor a Retire v away = refl
-others_stay y actor a (SeePin p x) v away = refl
 others_stay y actor a Answer v away = go (stays_out actor (pin_of y a)) away
   where
     go : (b : Bool) → (if b then None else Some (pin_at a)) ≢ Some v → get (if b then y.words else set y.words (pin_at a) (pin_of y a + 1)) v ≡ get y.words v
     go true away = refl
     go false away = get_other y.words (pin_at a) v _ (λ is. away (ap (λ w. Some w) (sym is)))
 others_stay y actor a Halt v away = get_other y.words halt_word v _ (λ is. away (ap (λ w. Some w) (sym is)))
+others_stay y actor a _ v away = refl
 
 -- the word of an event that counts no pin word up is one that walkers load
 changed_walked : (y : Yard) (a : ℕ) (e : Event) → is_counting y a e ≡ false → IfSome (word_changed y (actor_at y a) a e) IsWalked
@@ -121,35 +93,17 @@ line_others y a e v away = on_others y a e v (course y a e) away
 -- what an event publishes is published for its actor, or for no pass
 settling_own : (q : ℕ) (stage : Stage) (s : ℕ) → own q (settling stage s) ≡ []
 settling_own q Closed s = refl
-settling_own q KeyLoose s = refl
-settling_own q Keyed s = refl
-settling_own q Opening s = refl
-settling_own q Open s = refl
-settling_own q Closing s = refl
+settling_own q _ s = refl
 
 none_of : (q : ℕ) (x : Publishing) → is_for q x ≡ false → own q (x ∷ []) ≡ []
 none_of q x is = ap (λ b. if b then x ∷ [] else []) is
 
 pub made_own : (y : Yard) (actor : Actor) (a q : ℕ) (e : Event) → q ≢ a → own q (publishes y actor a e) ≡ []
-made_own y actor a q (Invoke c) away = refl
-made_own y actor a q Pin away = refl
-made_own y actor a q (Hop w) away = refl
-made_own y actor a q Reserve away = refl
-made_own y actor a q (WriteKey k) away = refl
-made_own y actor a q (Claim pred curr) away = refl
-made_own y actor a q Check away = refl
-made_own y actor a q WriteOpen away = refl
 made_own y actor a q Link away = none_of q (linked (get y.words (key_at (slot_of actor))) (slot_of actor) a) (ne_eqb a q (λ is. away (sym is)))
-made_own y actor a q WriteClose away = refl
 made_own y actor a q Mark away = none_of q (marked (get y.words (key_at (node_of actor))) (node_of actor) a) (ne_eqb a q (λ is. away (sym is)))
-made_own y actor a q Release away = refl
-made_own y actor a q (Sync s) away = refl
 made_own y actor a q (Settle s) away = settling_own q (cell_at y s).stage s
 made_own y actor a q Unlink away = none_of q (unlinked (get y.words (key_at (node_of actor))) (node_of actor) a) (ne_eqb a q (λ is. away (sym is)))
-made_own y actor a q Retire away = refl
-made_own y actor a q (SeePin p x) away = refl
-made_own y actor a q Answer away = refl
-made_own y actor a q Halt away = refl
+made_own y actor a q _ away = refl
 
 on_own : (y : Yard) (a q : ℕ) (e : Event) (c : Course) → q ≢ a → own q (published_on c y (actor_at y a) a e) ≡ []
 on_own y a q e (Refused o) away = refl

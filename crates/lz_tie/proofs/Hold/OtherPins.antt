@@ -164,88 +164,21 @@ module _ (y : Yard) (ps : List ℕ) (a : ℕ) (pin : of_pass ps a 0 ≡ of_pass 
   yard_same Halt = with_same _ _ (words_same Halt) _ _ refl refl refl refl refl refl refl
 
   outcome_same : (e : Event) → hop_of e ≡ None → outcome_of z actor e ≡ outcome_of y actor e
-  outcome_same (Invoke c) none = refl
-  outcome_same Pin none = refl
   outcome_same (Hop w) none = absurd cc
-  outcome_same Reserve none = refl
-  outcome_same (WriteKey k) none = refl
-  outcome_same (Claim pred curr) none = refl
   outcome_same Check none = ap (λ b. if b then True else False) (check_same y.words ps actor.pred actor.curr)
-  outcome_same WriteOpen none = refl
-  outcome_same Link none = refl
-  outcome_same WriteClose none = refl
-  outcome_same Mark none = refl
-  outcome_same Release none = refl
-  outcome_same (Sync s) none = refl
-  outcome_same (Settle s) none = refl
-  outcome_same Unlink none = refl
-  outcome_same Retire none = refl
-  outcome_same (SeePin p v) none = refl
-  outcome_same Answer none = refl
-  outcome_same Halt none = refl
+  outcome_same _ none = refl
 
   call_same : (e : Event) → call_of z actor e ≡ call_of y actor e
   call_same (Invoke c) = refl
-  call_same Pin = refl
-  call_same (Hop w) = refl
-  call_same Reserve = refl
-  call_same (WriteKey k) = refl
-  call_same (Claim pred curr) = refl
-  call_same Check = refl
-  call_same WriteOpen = refl
-  call_same Link = refl
-  call_same WriteClose = refl
-  call_same Mark = refl
-  call_same Release = refl
-  call_same (Sync s) = refl
-  call_same (Settle s) = refl
-  call_same Unlink = refl
-  call_same Retire = refl
-  call_same (SeePin p v) = refl
-  call_same Answer = refl
-  call_same Halt = refl
+  call_same _ = refl
 
   failed_same : (e : Event) → vault_failed z actor e ≡ vault_failed y actor e
   failed_same (Invoke c) = refl
-  failed_same Pin = refl
-  failed_same (Hop w) = refl
-  failed_same Reserve = refl
-  failed_same (WriteKey k) = refl
-  failed_same (Claim pred curr) = refl
-  failed_same Check = refl
-  failed_same WriteOpen = refl
-  failed_same Link = refl
-  failed_same WriteClose = refl
-  failed_same Mark = refl
-  failed_same Release = refl
-  failed_same (Sync s) = refl
-  failed_same (Settle s) = refl
-  failed_same Unlink = refl
-  failed_same Retire = refl
-  failed_same (SeePin p v) = refl
-  failed_same Answer = refl
-  failed_same Halt = refl
+  failed_same _ = refl
 
   publishes_same : (e : Event) → publishes z actor a e ≡ publishes y actor a e
   publishes_same (Invoke c) = refl
-  publishes_same Pin = refl
-  publishes_same (Hop w) = refl
-  publishes_same Reserve = refl
-  publishes_same (WriteKey k) = refl
-  publishes_same (Claim pred curr) = refl
-  publishes_same Check = refl
-  publishes_same WriteOpen = refl
-  publishes_same Link = refl
-  publishes_same WriteClose = refl
-  publishes_same Mark = refl
-  publishes_same Release = refl
-  publishes_same (Sync s) = refl
-  publishes_same (Settle s) = refl
-  publishes_same Unlink = refl
-  publishes_same Retire = refl
-  publishes_same (SeePin p v) = refl
-  publishes_same Answer = refl
-  publishes_same Halt = refl
+  publishes_same _ = refl
 
   -- the whole line
   pub record SameLine (e : Event) : Type 0 where

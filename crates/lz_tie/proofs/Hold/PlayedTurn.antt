@@ -297,12 +297,8 @@ module _ (b : BoardId) (ns : List Note) (y : Yard) (dev : Device) (h : Part) (ho
     -- The pass's own pin word was changed.
     module _ (is : IsExchange z'.words told.changed told.before None) where
       own_word : (w : Option Word) → IsExchange z'.words w told.before None → (q : ℕ) × (w ≡ Some (pin_at q))
-      own_word None f = absurd f
       own_word (Some (pin_at q)) f = (q, refl)
-      own_word (Some (head_at i)) f = absurd f
-      own_word (Some (link_at i)) f = absurd f
-      own_word (Some (key_at i)) f = absurd f
-      own_word (Some halt_word) f = absurd f
+      own_word _ f = absurd f
 
       its_word : (q : ℕ) × (told.changed ≡ Some (pin_at q))
       its_word = own_word told.changed is

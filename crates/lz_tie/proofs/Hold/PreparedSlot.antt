@@ -5,7 +5,7 @@ use Rattle.std.specs.Prelude.{◌&&◌, Option, Some, None, is_some, unwrap_or}
 use Rattle.lz_vault.specs.declared.vault.Stage.{Stage}
 use Rattle.lz_vault.specs.declared.vault.Stage.TheVariants.{Closed, KeyLoose, Keyed, Opening, Open, Closing}
 use Rattle.lz_list.specs.declared.publishing.Publishing.{Publishing}
-use Rattle.lz_list.specs.declared.publishing.Publishing.TheVariants.{Linked as linked, Settled as settled, Marked as marked, Unlinked as unlinked, KeyPrepared as key_prepared, LinkPrepared as link_prepared, Halted as halted}
+use Rattle.lz_list.specs.declared.publishing.Publishing.TheVariants.{KeyPrepared as key_prepared, LinkPrepared as link_prepared}
 use Rattle.lz_list.specs.Traces.{Trace}
 use Rattle.lz_machine.specs.declared.course.Course.{Course}
 use Rattle.lz_machine.specs.declared.course.Course.TheVariants.{Refused, Dies, Plays}
@@ -62,11 +62,6 @@ prepared_hand y a e s is = on (course y a e) refl is
 
 -- a slot that each pass has left may be prepared
 pub prepares_left : (z : Sizes) (opened : Trace) (ns : List Note) (x : Option Publishing) → ((s : ℕ) → prepared (as_list x) ≡ Some s → AllLeft z opened ns s) → MayPrepare z opened ns x
-prepares_left z opened ns None left = tt
 prepares_left z opened ns (Some (key_prepared s v)) left = left s refl
 prepares_left z opened ns (Some (link_prepared s v)) left = left s refl
-prepares_left z opened ns (Some (linked k s p)) left = tt
-prepares_left z opened ns (Some (marked k s p)) left = tt
-prepares_left z opened ns (Some (unlinked k s p)) left = tt
-prepares_left z opened ns (Some (settled s c)) left = tt
-prepares_left z opened ns (Some halted) left = tt
+prepares_left z opened ns _ left = tt

@@ -10,7 +10,7 @@ use Rattle.lz_list.specs.Traces.{Trace}
 use Rattle.lz_machine.specs.declared.event.Event.{Event}
 use Rattle.lz_machine.specs.declared.event.Outcome.{Outcome}
 use Rattle.lz_machine.specs.declared.event.Reply.{Reply}
-use Rattle.lz_machine.specs.declared.event.Reply.TheVariants.{Yes, No, Full, Worn, OldFile, Halted, Device}
+use Rattle.lz_machine.specs.declared.event.Reply.TheVariants.{Yes}
 use Rattle.lz_machine.specs.Runs.{mark_of, mark_of_turn}
 use Rattle.lz_machine.specs.Yards.{Shape}
 use Rattle.lz_board.specs.declared.view.What.{What}
@@ -87,12 +87,7 @@ hit i reply (call ∷ calls) (mine ∷ own) head same =
 -- a reply is an ending
 reply_ends : (p i : ℕ) (reply : Reply) (M : History) → calls_of p (mark_of i reply ∷ M) ≡ ended i (ending_of reply) (calls_of p M)
 reply_ends p i Yes M = refl
-reply_ends p i No M = refl
-reply_ends p i (Full counts) M = refl
-reply_ends p i Worn M = refl
-reply_ends p i OldFile M = refl
-reply_ends p i Halted M = refl
-reply_ends p i Device M = refl
+reply_ends p i _ M = refl
 
 -- no call has a number above the count
 number_within : (p : ℕ) (ns : List Note) → last_call_number p ns ≤ calls_in ns

@@ -12,7 +12,7 @@ use Rattle.lz_machine.specs.declared.event.Event.{Event}
 use Rattle.lz_machine.specs.declared.event.Outcome.{Outcome}
 use Rattle.lz_machine.specs.declared.event.Reply.{Reply}
 use Rattle.lz_machine.specs.declared.caller.Progress.{Progress}
-use Rattle.lz_machine.specs.Runs.{Start, State, Up, Down, Service, Caller, Transition, Calls, Turn, Fails, Looks, Trips, Stops, Crashes, CrashesIn, Opens, OpenFails, Point, run, IsRun, MayStep, HasFault, first_point, caller_at, next_event, state_after, calls_made_after, marks_of, marks_of_turn, mark_of_turn, reply_at, moved_on, after_turn, after_fault}
+use Rattle.lz_machine.specs.Runs.{Start, State, Up, Down, Service, Caller, Transition, Calls, Turn, Fails, Looks, Point, run, IsRun, MayStep, HasFault, first_point, caller_at, next_event, state_after, calls_made_after, marks_of, marks_of_turn, mark_of_turn, reply_at, moved_on, after_turn, after_fault}
 use Rattle.lz_machine.specs.Table.{line, line_failed}
 use Rattle.lz_machine.specs.Calls.{progress_after}
 use Rattle.lz_machine.specs.Yards.{Shape}
@@ -136,13 +136,7 @@ module _ (start : Start) (service : Service) (disk : Medium) (n : Note) (ns : Li
   step_marks i (Calls b c) next may t = call_steps i b c next may t
   step_marks i (Turn b) next may t = let r = turn_steps i b (caller_at service.callers b) refl t.0 t.1 in record { shown = r.0; made = r.1; now = r.2 }
   step_marks i (Fails b new) next may t = let r = fault_steps b new (caller_at service.callers b) refl t.0 may t.1 in record { shown = r.0; made = r.1; now = r.2 }
-  step_marks i (Looks b) next may t = absurd t
-  step_marks i Trips next may t = absurd t
-  step_marks i Stops next may t = absurd t
-  step_marks i (Crashes x) next may t = absurd t
-  step_marks i (CrashesIn b x) next may t = absurd t
-  step_marks i Opens next may t = absurd t
-  step_marks i (OpenFails why done) next may t = absurd t
+  step_marks i _ next may t = absurd t
 
 -- looks show nothing
 looks_marked : (start : Start) (p : Point) (k q : ℕ) (before : List Transition) (ns : List Note) → Marked start (run p before) ns → Marked start (run p (replicate k (Looks q) ++ before)) ns

@@ -7,7 +7,7 @@ use Rattle.lz_slot.specs.Histories.{History}
 use Rattle.lz_machine.specs.declared.event.Reply.{Reply}
 use Rattle.lz_machine.specs.declared.event.Reply.TheVariants.{Yes, No, Full, Worn, OldFile, Halted, Device as device_failed}
 use Rattle.lz_machine.specs.Marks.{IsTold}
-use Rattle.lz_machine.specs.Runs.{Start, State, Up, Service, Caller, Transition, Calls, Turn, Fails, Looks, Trips, Stops, Crashes, CrashesIn, Opens, OpenFails, run, IsRun, MayStep, first_point, caller_at, mark_of, mark_of_turn}
+use Rattle.lz_machine.specs.Runs.{Start, State, Up, Service, Caller, Transition, Calls, Turn, Fails, run, IsRun, MayStep, first_point, caller_at, mark_of, mark_of_turn}
 use Rattle.lz_machine.specs.Yards.{Shape, Yard}
 use Rattle.lz_machine.proofs.Frames.OneActor.{caller_range}
 use Rattle.lz_machine.proofs.Theorem.Marks.{marks_tell}
@@ -47,13 +47,7 @@ module _ (service : Service) (disk : Medium) (n : Note) (count : length service.
   step_by (Calls a c) may t = subst (λ p. (1 ≤ p) × (p ≤ passes)) (sym t.0) may.0
   step_by (Turn a) may t = of_turn a (caller_at service.callers a) refl t.0 t.1
   step_by (Fails a new) may t = of_fault a (caller_at service.callers a) refl t.0 t.1
-  step_by (Looks a) may t = absurd t
-  step_by Trips may t = absurd t
-  step_by Stops may t = absurd t
-  step_by (Crashes x) may t = absurd t
-  step_by (CrashesIn a x) may t = absurd t
-  step_by Opens may t = absurd t
-  step_by (OpenFails why done) may t = absurd t
+  step_by _ may t = absurd t
 
 -- replies make no call
 module _ (passes : ℕ) (M : History) (are : AreOfPasses passes M) where

@@ -15,7 +15,7 @@ use Rattle.lz_machine.specs.declared.caller.Progress.{Progress}
 use Rattle.lz_machine.specs.Yards.{Shape, Yard, actor_at}
 use Rattle.lz_machine.specs.Table.{line, line_failed, course}
 use Rattle.lz_machine.specs.Calls.{progress_after, begun}
-use Rattle.lz_machine.specs.Runs.{Start, State, Up, Service, Caller, Transition, Calls, Turn, Fails, Looks, Trips, Stops, Crashes, CrashesIn, Opens, OpenFails, Point, run, IsRun, MayStep, first_point, caller_at, next_event, state_after, reply_at, moved_on, after_turn, after_fault, looked, invoked}
+use Rattle.lz_machine.specs.Runs.{Start, State, Up, Service, Caller, Transition, Calls, Turn, Fails, Looks, Point, run, IsRun, MayStep, first_point, caller_at, next_event, state_after, reply_at, moved_on, after_turn, after_fault, looked, invoked}
 use Rattle.lz_machine.proofs.Runs.Shape.{line_keeps_shape}
 use Rattle.lz_machine.proofs.Frames.OneActor.{caller_range}
 use Rattle.lz_board.specs.declared.view.What.{What}
@@ -120,13 +120,7 @@ module _ (start : Start) (service : Service) (disk : Medium) (n : Note) (ns : Li
       }
   step_goes i (Turn b) may t = turn_goes b (caller_at service.callers b) refl t.0 t.1
   step_goes i (Fails b new) may t = fault_goes b new (caller_at service.callers b) refl t.0 t.1
-  step_goes i (Looks b) may t = absurd t
-  step_goes i Trips may t = absurd t
-  step_goes i Stops may t = absurd t
-  step_goes i (Crashes x) may t = absurd t
-  step_goes i (CrashesIn b x) may t = absurd t
-  step_goes i Opens may t = absurd t
-  step_goes i (OpenFails why done) may t = absurd t
+  step_goes i _ may t = absurd t
 
 first_callers : (n a : ℕ) → viewed (caller_at (replicate n None) a) ≡ None
 first_callers n zero = refl

@@ -14,7 +14,7 @@ use Rattle.lz_machine.specs.declared.event.Event.{Event}
 use Rattle.lz_machine.specs.declared.event.Event.TheVariants.{Link, Mark, Settle, Unlink}
 use Rattle.lz_machine.specs.Yards.{Shape, Yard, actor_at, cell_at}
 use Rattle.lz_machine.specs.Table.{course, line_publishes, published_on, publishes, settling}
-use Rattle.lz_machine.specs.Runs.{Start, State, Up, Service, Caller, Transition, Calls, Turn, Fails, Looks, Trips, Stops, Crashes, CrashesIn, Opens, OpenFails, run, IsRun, first_point, caller_at, next_event, shape_of as shape_in}
+use Rattle.lz_machine.specs.Runs.{Start, State, Up, Service, Caller, Transition, Calls, Turn, Fails, run, IsRun, first_point, caller_at, next_event, shape_of as shape_in}
 use Rattle.lz_machine.proofs.Frames.OneActor.{caller_range}
 use Rattle.lz_machine.proofs.Runs.Shape.{run_keeps_shape}
 use Rattle.lz_board.specs.declared.view.Sizes.{Sizes}
@@ -77,13 +77,7 @@ step_by service disk n (Fails a new) t = go (caller_at service.callers a) t.1
     go : (q : Option Caller) → TellsFault service q n → IsByPass (length service.callers) n
     go None t = absurd t
     go (Some caller) t = inl t.1
-step_by service disk n (Looks a) t = absurd t
-step_by service disk n Trips t = absurd t
-step_by service disk n Stops t = absurd t
-step_by service disk n (Crashes x) t = absurd t
-step_by service disk n (CrashesIn a x) t = absurd t
-step_by service disk n Opens t = absurd t
-step_by service disk n (OpenFails why done) t = absurd t
+step_by service disk n _ t = absurd t
 
 passes_read : (start : Start) (ns : List Note) (steps : List Transition) → IsRun (first_point start) steps → ReadsAs (first_point start) ns steps → AreByPasses start.shape.passes ns
 passes_read start [] steps runs reads = tt

@@ -15,12 +15,12 @@ use Rattle.lz_machine.specs.declared.course.Course.{Course}
 use Rattle.lz_machine.specs.declared.course.Course.TheVariants.{Refused, Dies, Plays}
 use Rattle.lz_machine.specs.declared.actor.Actor.{Actor}
 use Rattle.lz_machine.specs.declared.event.Event.{Event}
-use Rattle.lz_machine.specs.declared.event.Event.TheVariants.{Invoke, Pin, Hop, Reserve, WriteKey, Claim, Check, WriteOpen, Link, WriteClose, Mark, Release, Sync, Settle, Unlink, Retire, SeePin, Answer, Halt}
+use Rattle.lz_machine.specs.declared.event.Event.TheVariants.{Invoke, Pin, Link, Settle, Unlink, Answer}
 use Rattle.lz_machine.specs.declared.event.Outcome.{Outcome}
 use Rattle.lz_machine.specs.declared.event.Outcome.TheVariants.{Done, Worn, NotNow, Fault}
 use Rattle.lz_machine.specs.Yards.{Shape, Yard, actor_at}
 use Rattle.lz_machine.specs.Table.{course, line, line_on, words_after, pin_of, last_pin, is_sure, stays_out, needs, pin_answered}
-use Rattle.lz_machine.specs.Runs.{Start, IsStart, State, Up, Down, Service, Caller, Transition, Calls, Turn, Fails, Looks, Trips, Stops, Crashes, CrashesIn, Opens, OpenFails, Point, run, IsRun, MayStep, first_point, caller_at, next_event, state_after, after_turn, after_fault, looked}
+use Rattle.lz_machine.specs.Runs.{Start, IsStart, State, Up, Down, Service, Caller, Transition, Calls, Turn, Fails, Looks, Point, run, IsRun, MayStep, first_point, caller_at, next_event, state_after, after_turn, after_fault, looked}
 use Rattle.lz_machine.proofs.Runs.Course.{answer_plays}
 use Rattle.lz_machine.proofs.Theorem.Reached.{reached_sound}
 use Rattle.lz_machine.proofs.Theorem.WornPass.{up_at}
@@ -54,25 +54,12 @@ if_pins true x y ps one other = one
 if_pins false x y ps one other = other
 
 words_pins : (y : Yard) (actor : Actor) (a : ℕ) (e : Event) → is_pinning e ≡ false → (words_after y actor a e).pins ≡ y.words.pins
-words_pins y actor a (Invoke c) not_one = refl
 words_pins y actor a Pin not_one = absurd (false≢true (sym not_one))
-words_pins y actor a (Hop w) not_one = refl
-words_pins y actor a Reserve not_one = refl
-words_pins y actor a (WriteKey k) not_one = refl
-words_pins y actor a (Claim pred curr) not_one = refl
-words_pins y actor a Check not_one = refl
-words_pins y actor a WriteOpen not_one = refl
 words_pins y actor a Link not_one = redirect_pins y.words actor.pred _
-words_pins y actor a WriteClose not_one = refl
-words_pins y actor a Mark not_one = refl
-words_pins y actor a Release not_one = refl
-words_pins y actor a (Sync s) not_one = refl
 words_pins y actor a (Settle s) not_one = if_pins (is_sure y s) _ _ y.words.pins refl refl
 words_pins y actor a Unlink not_one = redirect_pins y.words actor.pred _
-words_pins y actor a Retire not_one = refl
-words_pins y actor a (SeePin p v) not_one = refl
 words_pins y actor a Answer not_one = absurd (false≢true (sym not_one))
-words_pins y actor a Halt not_one = refl
+words_pins y actor a _ not_one = refl
 
 -- there are as many pin words as before
 pub line_count : (y : Yard) (a : ℕ) (e : Event) (c : Course) → length (line_on c y (actor_at y a) a e).0.words.pins ≡ length y.words.pins
@@ -93,45 +80,12 @@ line_pins y a e not_one Plays = words_pins y (actor_at y a) a e not_one
 
 pub fault_pin : (e : Event) (pin : ℕ) → pin_after_played e Fault pin ≡ pin
 fault_pin (Invoke c) pin = refl
-fault_pin Pin pin = refl
-fault_pin (Hop w) pin = refl
-fault_pin Reserve pin = refl
-fault_pin (WriteKey k) pin = refl
-fault_pin (Claim pred curr) pin = refl
-fault_pin Check pin = refl
-fault_pin WriteOpen pin = refl
-fault_pin Link pin = refl
-fault_pin WriteClose pin = refl
-fault_pin Mark pin = refl
-fault_pin Release pin = refl
-fault_pin (Sync s) pin = refl
-fault_pin (Settle s) pin = refl
-fault_pin Unlink pin = refl
-fault_pin Retire pin = refl
-fault_pin (SeePin p v) pin = refl
-fault_pin Answer pin = refl
-fault_pin Halt pin = refl
+fault_pin _ pin = refl
 
 pub still_pin : (e : Event) (o : Outcome) (pin : ℕ) → is_pinning e ≡ false → pin_after_played e o pin ≡ pin
-still_pin (Invoke c) o pin not_one = refl
 still_pin Pin o pin not_one = absurd (false≢true (sym not_one))
-still_pin (Hop w) o pin not_one = refl
-still_pin Reserve o pin not_one = refl
-still_pin (WriteKey k) o pin not_one = refl
-still_pin (Claim pred curr) o pin not_one = refl
-still_pin Check o pin not_one = refl
-still_pin WriteOpen o pin not_one = refl
-still_pin Link o pin not_one = refl
-still_pin WriteClose o pin not_one = refl
-still_pin Mark o pin not_one = refl
-still_pin Release o pin not_one = refl
-still_pin (Sync s) o pin not_one = refl
-still_pin (Settle s) o pin not_one = refl
-still_pin Unlink o pin not_one = refl
-still_pin Retire o pin not_one = refl
-still_pin (SeePin p v) o pin not_one = refl
 still_pin Answer o pin not_one = absurd (false≢true (sym not_one))
-still_pin Halt o pin not_one = refl
+still_pin _ o pin not_one = refl
 
 module _ (y : Yard) (a : ℕ) (low : 1 ≤ a) (high : a ≤ length y.words.pins) where
   -- what the actor's pin word becomes, and the other words stay
@@ -196,23 +150,7 @@ module _ (y : Yard) (a : ℕ) (low : 1 ≤ a) (high : a ≤ length y.words.pins)
       pinning : (e : Event) → is_pinning e ≡ true → OwnPin e
       pinning Pin is = pin_own
       pinning Answer is = answer_own
-      pinning (Invoke c) is = absurd (false≢true is)
-      pinning (Hop w) is = absurd (false≢true is)
-      pinning Reserve is = absurd (false≢true is)
-      pinning (WriteKey k) is = absurd (false≢true is)
-      pinning (Claim pred curr) is = absurd (false≢true is)
-      pinning Check is = absurd (false≢true is)
-      pinning WriteOpen is = absurd (false≢true is)
-      pinning Link is = absurd (false≢true is)
-      pinning WriteClose is = absurd (false≢true is)
-      pinning Mark is = absurd (false≢true is)
-      pinning Release is = absurd (false≢true is)
-      pinning (Sync s) is = absurd (false≢true is)
-      pinning (Settle s) is = absurd (false≢true is)
-      pinning Unlink is = absurd (false≢true is)
-      pinning Retire is = absurd (false≢true is)
-      pinning (SeePin p v) is = absurd (false≢true is)
-      pinning Halt is = absurd (false≢true is)
+      pinning _ is = absurd (false≢true is)
 
       go : (e : Event) (b : Bool) → is_pinning e ≡ b → OwnPin e
       go e true is = pinning e is
@@ -309,13 +247,7 @@ module _ (start : Start) (starts : IsStart start) where
   step_pins i service disk n ns (Calls b c) count t q before = before ∙ ap (λ w. pin_after_what q n.by w (pin_after q ns)) (sym t.1)
   step_pins i service disk n ns (Turn b) count t q before = turn_pins service b disk n ns (caller_at service.callers b) count refl t.0 t.1 q before
   step_pins i service disk n ns (Fails b new) count t q before = failed_pins service b new n ns (caller_at service.callers b) t.1 q before
-  step_pins i service disk n ns (Looks b) count t q before = absurd t
-  step_pins i service disk n ns Trips count t q before = absurd t
-  step_pins i service disk n ns Stops count t q before = absurd t
-  step_pins i service disk n ns (Crashes x) count t q before = absurd t
-  step_pins i service disk n ns (CrashesIn b x) count t q before = absurd t
-  step_pins i service disk n ns Opens count t q before = absurd t
-  step_pins i service disk n ns (OpenFails why done) count t q before = absurd t
+  step_pins i service disk n ns _ count t q before = absurd t
 
   pub pin_reads : (ns : List Note) (steps : List Transition) → IsRun p steps → ReadsAs p ns steps → Pinned steps ns
   pin_reads [] steps runs reads q low high = ap (λ l. pin_in_state (run p l).state q) reads ∙ first_pins start.shape.passes q

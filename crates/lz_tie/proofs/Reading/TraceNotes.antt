@@ -2,7 +2,7 @@
 use Rattle.std.proofs.Common.{◌≡◌, ℕ, zero, suc, List, [], ◌∷◌, ◌++◌, refl, sym, ap, ◌∙◌}
 use Rattle.std.specs.Prelude.{replicate, Option, Some, None}
 use Rattle.lz_list.specs.Traces.{Trace}
-use Rattle.lz_machine.specs.Runs.{State, Up, Down, Service, Caller, Transition, Calls, Turn, Fails, Looks, Trips, Stops, Crashes, CrashesIn, Opens, OpenFails, Point, run, caller_at, trace_after, turn_publishes}
+use Rattle.lz_machine.specs.Runs.{State, Up, Down, Service, Caller, Transition, Calls, Turn, Fails, Looks, Point, run, caller_at, trace_after, turn_publishes}
 use Rattle.lz_board.specs.declared.view.What.{What}
 use Rattle.lz_board.specs.declared.view.What.TheVariants.{Called, Played, Found}
 use Rattle.lz_board.specs.declared.view.Note.{Note}
@@ -24,29 +24,13 @@ turn_trace service a (Some caller) n t = sym t.1
 
 step_trace : (w : State) (P : Trace) (n : Note) (step : Transition) → TellsStep w n step → trace_after w P step ≡ as_list n.published ++ P
 step_trace (Up service disk) P n (Calls a c) t = ap (λ x. as_list x ++ P) (sym t.2)
-step_trace (Down shape disk) P n (Calls a c) t = absurd t
 step_trace (Up service disk) P n (Turn a) t = ap (λ l. l ++ P) (turn_trace service a (caller_at service.callers a) n t.1)
-step_trace (Down shape disk) P n (Turn a) t = absurd t
 step_trace (Up service disk) P n (Fails a new) t = none (caller_at service.callers a) t.1
   where
     none : (caller : Option Caller) → TellsFault service caller n → P ≡ as_list n.published ++ P
     none None f = absurd f
     none (Some caller) f = ap (λ x. as_list x ++ P) (sym f.1)
-step_trace (Down shape disk) P n (Fails a new) t = absurd t
-step_trace (Up service disk) P n (Looks a) t = absurd t
-step_trace (Up service disk) P n Trips t = absurd t
-step_trace (Up service disk) P n Stops t = absurd t
-step_trace (Up service disk) P n (Crashes x) t = absurd t
-step_trace (Up service disk) P n (CrashesIn a x) t = absurd t
-step_trace (Up service disk) P n Opens t = absurd t
-step_trace (Up service disk) P n (OpenFails why done) t = absurd t
-step_trace (Down shape disk) P n (Looks a) t = absurd t
-step_trace (Down shape disk) P n Trips t = absurd t
-step_trace (Down shape disk) P n Stops t = absurd t
-step_trace (Down shape disk) P n (Crashes x) t = absurd t
-step_trace (Down shape disk) P n (CrashesIn a x) t = absurd t
-step_trace (Down shape disk) P n Opens t = absurd t
-step_trace (Down shape disk) P n (OpenFails why done) t = absurd t
+step_trace _ P n _ t = absurd t
 
 note_trace : (p : Point) (n : Note) (new before : List Transition) → NoteTells (run p before).state n new → (run p (new ++ before)).trace ≡ as_list n.published ++ (run p before).trace
 note_trace p n new before t = go n.what t

@@ -77,11 +77,7 @@ row_cut N (Has k) Halted S T cut left = left
 row_cut N (Add k) Device S T cut left = left
 row_cut N (Remove k) Device S T cut left = left
 row_cut N (Has k) Device S T cut left = left
-row_cut N c Yes S T cut left = absurd (false≢true cut)
-row_cut N c No S T cut left = absurd (false≢true cut)
-row_cut N c (Full counts) S T cut left = absurd (false≢true cut)
-row_cut N c Worn S T cut left = absurd (false≢true cut)
-row_cut N c OldFile S T cut left = absurd (false≢true cut)
+row_cut N c _ S T cut left = absurd (false≢true cut)
 
 -- The set to which a history leads is this one, or one with the same keys.
 abbrev pub LeadsTo : Keys → History → Keys → Type 0
@@ -108,11 +104,7 @@ module _ (S0 : Keys) (n p : ℕ) (c : Command) (M : History) (S : Keys) (past : 
   pub leads_cut : (told : Reply) (T : Keys) → cuts_off told ≡ true → IsPlain S0 (mark_of n told ∷ Call n p c ∷ M) T → Same T S ⊎ Same T (after c S)
   leads_cut Halted T cut (is, plain) = leads_open T plain
   leads_cut Device T cut (is, plain) = leads_open T plain
-  leads_cut Yes T cut plain = absurd (false≢true cut)
-  leads_cut No T cut plain = absurd (false≢true cut)
-  leads_cut (Full counts) T cut plain = absurd (false≢true cut)
-  leads_cut Worn T cut plain = absurd (false≢true cut)
-  leads_cut OldFile T cut plain = absurd (false≢true cut)
+  leads_cut _ T cut plain = absurd (false≢true cut)
 
 -- no cut comes with a reply that isn't one
 pub no_cut : (n p : ℕ) (c : Command) (told : Reply) (M : History) → cuts_off told ≡ false → has_cut M ≡ false → has_cut (mark_of n told ∷ Call n p c ∷ M) ≡ false

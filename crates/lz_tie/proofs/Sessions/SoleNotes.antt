@@ -3,7 +3,7 @@ use Rattle.std.proofs.Common.{◌≡◌, ◌⊎◌, inl, inr, ⊎_elim, ℕ, ◌
 use Rattle.std.specs.Prelude.{Option, Some, None}
 use Rattle.lz_disk.specs.Devices.{Device}
 use Rattle.lz_disk.specs.Images.{Medium}
-use Rattle.lz_machine.specs.Runs.{Start, IsStart, State, Up, Service, Caller, Transition, Calls, Turn, Fails, Looks, Trips, Stops, Crashes, CrashesIn, Opens, OpenFails, run, IsRun, MayStep, first_point, caller_at}
+use Rattle.lz_machine.specs.Runs.{Start, IsStart, State, Up, Service, Caller, Transition, Calls, Turn, Fails, run, IsRun, MayStep, first_point, caller_at}
 use Rattle.lz_machine.specs.Yards.{Shape, Yard}
 use Rattle.lz_machine.proofs.Frames.OneActor.{caller_range}
 use Rattle.lz_board.specs.declared.view.Sizes.{Sizes}
@@ -48,13 +48,7 @@ module _ (service : Service) (disk : Medium) (n : Note) (passes : ℕ) (shape : 
       go : (q : Option Caller) → caller_at service.callers a ≡ q → TellsFault service q n → IsActors passes n
       go None is u = absurd u
       go (Some caller) is u = of_caller a caller is t.0
-  step_actor (Looks a) may t = absurd t
-  step_actor Trips may t = absurd t
-  step_actor Stops may t = absurd t
-  step_actor (Crashes x) may t = absurd t
-  step_actor (CrashesIn a x) may t = absurd t
-  step_actor Opens may t = absurd t
-  step_actor (OpenFails why done) may t = absurd t
+  step_actor _ may t = absurd t
 
 -- what the notes of a run are, one by one
 module _ (start : Start) (starts : IsStart start) where

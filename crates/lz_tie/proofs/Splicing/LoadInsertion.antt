@@ -19,7 +19,7 @@ use Rattle.lz_machine.specs.declared.event.Outcome.TheVariants.{Value, Fault, No
 use Rattle.lz_machine.specs.Yards.{Shape, Yard, actor_at}
 use Rattle.lz_machine.specs.Table.{course, line, line_on, line_publishes, published_on, pin_of}
 use Rattle.lz_machine.specs.Calls.{event_at, loaded}
-use Rattle.lz_machine.specs.Runs.{Start, IsStart, State, Up, Down, Service, Caller, Transition, Calls, Turn, Fails, Looks, Trips, Stops, Crashes, CrashesIn, Opens, OpenFails, Point, run, IsRun, MayStep, first_point, caller_at, next_event, HasTurn}
+use Rattle.lz_machine.specs.Runs.{Start, IsStart, State, Up, Down, Service, Caller, Transition, Calls, Turn, Fails, Looks, CrashesIn, Point, run, IsRun, MayStep, first_point, caller_at, next_event, HasTurn}
 use Rattle.lz_machine.specs.Laws.{is_of, SameBut, KeepsRun, next_hop, hop_of, hop_of_caller}
 use Rattle.lz_machine.specs.Sound.{TraceSound}
 use Rattle.lz_machine.proofs.Theorem.Reached.{reached_sound, walks_move}
@@ -89,25 +89,9 @@ same_step : (a : ℕ) (w w' : State) (n : Note) (step : Transition) → n.by ≢
 same_step a (Up one disk) (Up other disk') n (Calls b c) away same t = subst (λ (y : Yard). (n.by ≡ b) × (n.what ≡ Called c y.vault.format) × (n.published ≡ None)) same.0 t
 same_step a (Up one disk) (Up other disk') n (Turn b) away same t = (t.0, same_turn a one other b n (caller_at one.callers b) (caller_at other.callers b) same.0 (same.2 b (λ is. away (t.0 ∙ is))) t.1)
 same_step a (Up one disk) (Up other disk') n (Fails b new) away same t = (t.0, same_fault one other n (caller_at one.callers b) (caller_at other.callers b) same.0 (same.2 b (λ is. away (t.0 ∙ is))) t.1)
-same_step a (Up one disk) (Up other disk') n (Looks b) away same t = absurd t
-same_step a (Up one disk) (Up other disk') n Trips away same t = absurd t
-same_step a (Up one disk) (Up other disk') n Stops away same t = absurd t
-same_step a (Up one disk) (Up other disk') n (Crashes x) away same t = absurd t
-same_step a (Up one disk) (Up other disk') n (CrashesIn b x) away same t = absurd t
-same_step a (Up one disk) (Up other disk') n Opens away same t = absurd t
-same_step a (Up one disk) (Up other disk') n (OpenFails why done) away same t = absurd t
 same_step a (Up one disk) (Down shape disk') n step away same t = absurd same
 same_step a (Down shape disk) (Up other disk') n step away same t = absurd same
-same_step a (Down shape disk) (Down shape' disk') n (Calls b c) away same t = absurd t
-same_step a (Down shape disk) (Down shape' disk') n (Turn b) away same t = absurd t
-same_step a (Down shape disk) (Down shape' disk') n (Fails b new) away same t = absurd t
-same_step a (Down shape disk) (Down shape' disk') n (Looks b) away same t = absurd t
-same_step a (Down shape disk) (Down shape' disk') n Trips away same t = absurd t
-same_step a (Down shape disk) (Down shape' disk') n Stops away same t = absurd t
-same_step a (Down shape disk) (Down shape' disk') n (Crashes x) away same t = absurd t
-same_step a (Down shape disk) (Down shape' disk') n (CrashesIn b x) away same t = absurd t
-same_step a (Down shape disk) (Down shape' disk') n Opens away same t = absurd t
-same_step a (Down shape disk) (Down shape' disk') n (OpenFails why done) away same t = absurd t
+same_step a _ _ n _ away same t = absurd t
 
 abbrev yard_or : Yard → State → Yard
 yard_or d (Up service disk) = service.yard
@@ -145,22 +129,13 @@ other_of a (Up service disk) n (Calls b c) away t = ne_eqb a b (λ is. away (t.0
 other_of a (Up service disk) n (Turn b) away t = ne_eqb a b (λ is. away (t.0 ∙ sym is))
 other_of a (Up service disk) n (Fails b new) away t = ne_eqb a b (λ is. away (t.0 ∙ sym is))
 other_of a (Up service disk) n (Looks b) away t = absurd t
-other_of a (Up service disk) n Trips away t = refl
-other_of a (Up service disk) n Stops away t = refl
-other_of a (Up service disk) n (Crashes x) away t = refl
 other_of a (Up service disk) n (CrashesIn b x) away t = absurd t
-other_of a (Up service disk) n Opens away t = refl
-other_of a (Up service disk) n (OpenFails why done) away t = refl
 other_of a (Down shape disk) n (Calls b c) away t = absurd t
 other_of a (Down shape disk) n (Turn b) away t = absurd t
 other_of a (Down shape disk) n (Fails b new) away t = absurd t
 other_of a (Down shape disk) n (Looks b) away t = absurd t
-other_of a (Down shape disk) n Trips away t = refl
-other_of a (Down shape disk) n Stops away t = refl
-other_of a (Down shape disk) n (Crashes x) away t = refl
 other_of a (Down shape disk) n (CrashesIn b x) away t = absurd t
-other_of a (Down shape disk) n Opens away t = refl
-other_of a (Down shape disk) n (OpenFails why done) away t = refl
+other_of a _ n _ away t = refl
 
 -- a pass with an open call doesn't look
 looks_away : (p : Point) (service : Service) (disk : Medium) (a k q : ℕ) (before : List Transition) → (run p before).state ≡ Up service disk → IsSome (caller_at service.callers a) → IsRun p (replicate k (Looks q) ++ before) → list_any (is_of a) (replicate k (Looks q)) ≡ false
