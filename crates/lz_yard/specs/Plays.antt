@@ -11,7 +11,7 @@ use Rattle.lz_yard.specs.Parts.{PartsOver, PartsFit, Known, Does}
 
 -- The parts may play this event of an actor: they fit, the event is ready and its course is to be played, and a device that
 -- is not called stays as it is.
-pub record MayPlay {D : Type 0} (device : D → Device) (parts : PartsOver D) (a : ℕ) (e : Event) : Type 0 where
+pub record MayBePlayed {D : Type 0} (device : D → Device) (parts : PartsOver D) (a : ℕ) (e : Event) : Type 0 where
   pub fits : PartsFit parts.yard parts.rows
   pub ready : IsReady parts.yard a e
   pub known : Known Plays parts.yard a e

@@ -8,7 +8,7 @@ ghost use Rattle.lz_machine.specs.Yards.{actor_at, cell_at};
 ghost use Rattle.lz_machine.specs.Runs.{with_words};
 ghost use Rattle.lz_machine.specs.Table.{given_back, is_unused, kept_slot, last_pin, pin_answered, pin_of, set_actor, with_slot, with_vault, words_after};
 ghost use Rattle.lz_yard.specs.Parts.{with_actors, with_uses};
-ghost use Rattle.lz_yard.specs.Plays.{IsPlayed, MayPlay};
+ghost use Rattle.lz_yard.specs.Plays.{IsPlayed, MayBePlayed};
 
 use crate::hold::{is_old, released, stays_out};
 use crate::parts::Parts;
@@ -94,7 +94,7 @@ impl<D: Disk> Parts<D> {
 
     // Plays an event whose course is to be played.
     pub(crate) fn play(&mut self, actor: usize, event: Event) -> Result<Outcome, VaultFault>
-        requires { MayPlay D.device self.old actor event }
+        requires { MayBePlayed D.device self.old actor event }
         ensures { IsPlayed D.device self.old self.new actor event result }
     {
         played! { self, actor, event;
@@ -121,7 +121,7 @@ impl<D: Disk> Parts<D> {
     }
 
     fn play_invoke(&mut self, actor: usize, command: Command) -> Result<Outcome, VaultFault>
-        requires { MayPlay D.device self.old actor (Event.Invoke command) }
+        requires { MayBePlayed D.device self.old actor (Event.Invoke command) }
         ensures { IsPlayed D.device self.old self.new actor (Event.Invoke command) result }
     {
         let refused = is_old(self.vault.format(), command);
@@ -135,7 +135,7 @@ impl<D: Disk> Parts<D> {
     }
 
     fn play_pin(&mut self, actor: usize) -> Result<Outcome, VaultFault>
-        requires { MayPlay D.device self.old actor Event.Pin }
+        requires { MayBePlayed D.device self.old actor Event.Pin }
         ensures { IsPlayed D.device self.old self.new actor Event.Pin result }
     {
         let pin = self.word(Word::Pin(actor));
@@ -144,14 +144,14 @@ impl<D: Disk> Parts<D> {
     }
 
     fn play_hop(&mut self, actor: usize, word: Word) -> Result<Outcome, VaultFault>
-        requires { MayPlay D.device self.old actor (Event.Hop word) }
+        requires { MayBePlayed D.device self.old actor (Event.Hop word) }
         ensures { IsPlayed D.device self.old self.new actor (Event.Hop word) result }
     {
         Ok(Outcome::Value(self.word(word)))
     }
 
     fn play_reserve(&mut self, actor: usize) -> Result<Outcome, VaultFault>
-        requires { MayPlay D.device self.old actor Event.Reserve }
+        requires { MayBePlayed D.device self.old actor Event.Reserve }
         ensures { IsPlayed D.device self.old self.new actor Event.Reserve result }
     {
         self.allot.collect();
@@ -164,7 +164,7 @@ impl<D: Disk> Parts<D> {
     }
 
     fn play_write_key(&mut self, actor: usize, key: Key) -> Result<Outcome, VaultFault>
-        requires { MayPlay D.device self.old actor (Event.WriteKey key) }
+        requires { MayBePlayed D.device self.old actor (Event.WriteKey key) }
         ensures { IsPlayed D.device self.old self.new actor (Event.WriteKey key) result }
     {
         let slot = self.slot(actor);
@@ -179,7 +179,7 @@ impl<D: Disk> Parts<D> {
         pred: Place,
         curr: Option<Slot>,
     ) -> Result<Outcome, VaultFault>
-        requires { MayPlay D.device self.old actor (Event.Claim pred curr) }
+        requires { MayBePlayed D.device self.old actor (Event.Claim pred curr) }
         ensures { IsPlayed D.device self.old self.new actor (Event.Claim pred curr) result }
     {
         let place = pred;
@@ -198,7 +198,7 @@ impl<D: Disk> Parts<D> {
     }
 
     fn play_check(&mut self, actor: usize) -> Result<Outcome, VaultFault>
-        requires { MayPlay D.device self.old actor Event.Check }
+        requires { MayBePlayed D.device self.old actor Event.Check }
         ensures { IsPlayed D.device self.old self.new actor Event.Check result }
     {
         let hand = self.actor(actor);
@@ -212,7 +212,7 @@ impl<D: Disk> Parts<D> {
     }
 
     fn play_write_open(&mut self, actor: usize) -> Result<Outcome, VaultFault>
-        requires { MayPlay D.device self.old actor Event.WriteOpen }
+        requires { MayBePlayed D.device self.old actor Event.WriteOpen }
         ensures { IsPlayed D.device self.old self.new actor Event.WriteOpen result }
     {
         let slot = self.slot(actor);
@@ -224,7 +224,7 @@ impl<D: Disk> Parts<D> {
     }
 
     fn play_link(&mut self, actor: usize) -> Result<Outcome, VaultFault>
-        requires { MayPlay D.device self.old actor Event.Link }
+        requires { MayBePlayed D.device self.old actor Event.Link }
         ensures { IsPlayed D.device self.old self.new actor Event.Link result }
     {
         let slot = self.slot(actor);
@@ -239,7 +239,7 @@ impl<D: Disk> Parts<D> {
     }
 
     fn play_write_close(&mut self, actor: usize) -> Result<Outcome, VaultFault>
-        requires { MayPlay D.device self.old actor Event.WriteClose }
+        requires { MayBePlayed D.device self.old actor Event.WriteClose }
         ensures { IsPlayed D.device self.old self.new actor Event.WriteClose result }
     {
         let node = self.node(actor);
@@ -249,7 +249,7 @@ impl<D: Disk> Parts<D> {
     }
 
     fn play_mark(&mut self, actor: usize) -> Result<Outcome, VaultFault>
-        requires { MayPlay D.device self.old actor Event.Mark }
+        requires { MayBePlayed D.device self.old actor Event.Mark }
         ensures { IsPlayed D.device self.old self.new actor Event.Mark result }
     {
         let node = self.node(actor);
@@ -259,7 +259,7 @@ impl<D: Disk> Parts<D> {
     }
 
     fn play_release(&mut self, actor: usize) -> Result<Outcome, VaultFault>
-        requires { MayPlay D.device self.old actor Event.Release }
+        requires { MayBePlayed D.device self.old actor Event.Release }
         ensures { IsPlayed D.device self.old self.new actor Event.Release result }
     {
         let hand = self.actor(actor);
@@ -269,7 +269,7 @@ impl<D: Disk> Parts<D> {
     }
 
     fn play_sync(&mut self, actor: usize, slot: Slot) -> Result<Outcome, VaultFault>
-        requires { MayPlay D.device self.old actor (Event.Sync slot) }
+        requires { MayBePlayed D.device self.old actor (Event.Sync slot) }
         ensures { IsPlayed D.device self.old self.new actor (Event.Sync slot) result }
     {
         if !self.is_sure(slot) {
@@ -279,7 +279,7 @@ impl<D: Disk> Parts<D> {
     }
 
     fn play_settle(&mut self, actor: usize, slot: Slot) -> Result<Outcome, VaultFault>
-        requires { MayPlay D.device self.old actor (Event.Settle slot) }
+        requires { MayBePlayed D.device self.old actor (Event.Settle slot) }
         ensures { IsPlayed D.device self.old self.new actor (Event.Settle slot) result }
     {
         if !self.is_sure(slot) {
@@ -290,7 +290,7 @@ impl<D: Disk> Parts<D> {
     }
 
     fn play_unlink(&mut self, actor: usize) -> Result<Outcome, VaultFault>
-        requires { MayPlay D.device self.old actor Event.Unlink }
+        requires { MayBePlayed D.device self.old actor Event.Unlink }
         ensures { IsPlayed D.device self.old self.new actor Event.Unlink result }
     {
         let node = self.node(actor);
@@ -301,7 +301,7 @@ impl<D: Disk> Parts<D> {
     }
 
     fn play_retire(&mut self, actor: usize) -> Result<Outcome, VaultFault>
-        requires { MayPlay D.device self.old actor Event.Retire }
+        requires { MayBePlayed D.device self.old actor Event.Retire }
         ensures { IsPlayed D.device self.old self.new actor Event.Retire result }
     {
         let node = self.node(actor);
@@ -311,7 +311,7 @@ impl<D: Disk> Parts<D> {
     }
 
     fn play_see_pin(&mut self, actor: usize, pass: usize, value: u64) -> Result<Outcome, VaultFault>
-        requires { MayPlay D.device self.old actor (Event.SeePin pass value) }
+        requires { MayBePlayed D.device self.old actor (Event.SeePin pass value) }
         ensures { IsPlayed D.device self.old self.new actor (Event.SeePin pass value) result }
     {
         self.allot.see_pin(pass, value);
@@ -319,7 +319,7 @@ impl<D: Disk> Parts<D> {
     }
 
     fn play_answer(&mut self, actor: usize) -> Result<Outcome, VaultFault>
-        requires { MayPlay D.device self.old actor Event.Answer }
+        requires { MayBePlayed D.device self.old actor Event.Answer }
         ensures { IsPlayed D.device self.old self.new actor Event.Answer result }
     {
         let pin = self.leave(actor);
@@ -331,7 +331,7 @@ impl<D: Disk> Parts<D> {
     }
 
     fn play_halt(&mut self, actor: usize) -> Result<Outcome, VaultFault>
-        requires { MayPlay D.device self.old actor Event.Halt }
+        requires { MayBePlayed D.device self.old actor Event.Halt }
         ensures { IsPlayed D.device self.old self.new actor Event.Halt result }
     {
         self.list.set(Word::Halt, 1);
