@@ -15,6 +15,9 @@ from edits.source import Name, Source, source_of
 
 MUST_FAIL, WRONG_BODIES = "must-fail", "wrong-bodies"
 FOLDERS = (MUST_FAIL, WRONG_BODIES)
+# The file of a crate that may hold the edits of the second folder, one after the other, each after a line with its name.
+ONE_FILE = f"{WRONG_BODIES}.edits"
+HEAD = re.compile(r"(?m)^edit: (.*)\n")
 
 
 class Pair(NamedTuple):
@@ -47,15 +50,46 @@ class Edit:
     most: int = sys.maxsize
 
 
+def sections(folder: str) -> Dict[str, str]:
+    """The edits that stand in a crate's one file: their texts by the paths that they would have in the folder."""
+    place = f"{folder}/{ONE_FILE}"
+    try:
+        with open(place, encoding="utf-8") as file:
+            before, *parts = HEAD.split(file.read())
+    except FileNotFoundError:
+        return {}
+    paths = [f"{WRONG_BODIES}/{name}.edit" for name in parts[::2]]
+    twice = [it for it in paths if paths.count(it) > 1 or os.path.exists(f"{folder}/{it}")]
+    if before.strip() or twice:
+        sys.exit(f"{place}: {'it begins with no line `edit: NAME`' if before.strip() else f'{twice[0]} stands twice'}")
+    return {path: text.rstrip("\n") + "\n" for path, text in zip(paths, parts[1::2])}
+
+
 def files_of(crate: kit.Crate, folders: Sequence[str]) -> List[str]:
-    """The edits in these folders of a crate, as paths below it."""
-    found = [it for part in folders for it in sorted(glob.glob(f"{crate.folder}/{part}/*.edit"))]
-    return [os.path.relpath(it, crate.folder) for it in found]
+    """The edits in these folders of a crate, as paths below it. Those of its one file count as of the folder."""
+    found = [os.path.relpath(it, crate.folder) for part in folders for it in glob.glob(f"{crate.folder}/{part}/*.edit")]
+    found += sections(crate.folder) if WRONG_BODIES in folders else ()
+    return sorted(found, key=lambda it: (folders.index(os.path.dirname(it)), it))
+
+
+def read(folder: str, path: str) -> Tuple[str, Optional[Dict[str, str]], str]:
+    """The text of an edit of the crate in a folder, the files as it makes them, and in the kit's words why it can't be applied."""
+    text = sections(folder).get(path)
+    if text is not None:
+        try:
+            texts, fault = kit.rt().edited(text, folder)
+        except (OSError, ValueError) as error:
+            texts, fault = None, f"{kit.rt().UNREAD} ({error})"
+        return text, texts, fault or ""
+    with open(f"{folder}/{path}", encoding="utf-8", errors="replace") as file:
+        text = file.read()
+    texts, fault = kit.rt().read_edit(f"{folder}/{path}", folder)
+    return text, texts, fault or ""
 
 
 def fault_of(folder: str, path: str) -> str:
-    """Why an edit can't be applied to the crate in a folder, in the kit's words; empty where it can."""
-    return kit.rt().read_edit(f"{folder}/{path}", folder)[1] or ""
+    """Why an edit can't be applied to the crate in a folder; empty where it can."""
+    return read(folder, path)[2]
 
 
 def pairs_of(text: str) -> List[Pair]:
@@ -104,10 +138,8 @@ class Sources:
 
     def edit(self, path: str) -> Edit:
         """Reads an edit of the crate."""
-        with open(f"{self.folder}/{path}", encoding="utf-8", errors="replace") as file:
-            edit = Edit(path, pairs_of(file.read()))
-        edit.fault = fault_of(self.folder, path)
-        texts, _ = kit.rt().read_edit(f"{self.folder}/{path}", self.folder)
+        text, texts, fault = read(self.folder, path)
+        edit = Edit(path, pairs_of(text), fault=fault)
         changes = [self.changes(file, text) for file, text in (texts or {}).items()]
         if all(bodies for bodies, _ in changes):
             edit.functions = frozenset(place for bodies, _ in changes for place in bodies)

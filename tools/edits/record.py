@@ -60,9 +60,11 @@ class Hashes:
         found = hashlib.sha256(repr((kit.logic(), settings(crate))).encode())
         for path in files(crate.folder, ("src", "specs")):
             found.update(repr((path, words_of(crate, path))).encode())
-        # In which of the two folders an edit stands is nothing to its refusal.
-        for path in sorted(files(crate.folder, edit.FOLDERS), key=os.path.basename):
-            found.update(repr((os.path.basename(path), bytes_of(crate, path))).encode())
+        # In which of the two folders, or in which file, an edit stands is nothing to its refusal.
+        edits = [(path, bytes_of(crate, path)) for path in files(crate.folder, edit.FOLDERS)]
+        edits += [(path, text.encode()) for path, text in edit.sections(crate.folder).items()]
+        for path, text in sorted(edits, key=lambda it: os.path.basename(it[0])):
+            found.update(repr((os.path.basename(path), text)).encode())
         for library in sorted(crate.below(), key=lambda it: str(it.name)):
             if library.name not in self.known:
                 self.known[library.name] = promises(library)

@@ -17,9 +17,9 @@ from typing import Dict, List, Optional, Tuple
 sys.dont_write_bytecode = True
 sys.path.insert(0, os.path.dirname(os.path.dirname(os.path.abspath(__file__))))
 
-from edits import change, command, gate, kit, record  # noqa: E402
+from edits import change, command, gate, kit, record, table  # noqa: E402
 from edits.crate import Outcome, try_edits  # noqa: E402
-from edits.edit import FOLDERS, MUST_FAIL, WRONG_BODIES, Place, Sources, read_source  # noqa: E402
+from edits.edit import FOLDERS, MUST_FAIL, ONE_FILE, WRONG_BODIES, Place, Sources, files_of, read_source, sections  # noqa: E402
 from edits.group import is_of  # noqa: E402
 from edits.source import Name  # noqa: E402
 
@@ -164,7 +164,16 @@ class Repository:
 
     def put_edits(self, crate: str, edits: Dict[str, Tuple[str, str]], folder: str = WRONG_BODIES) -> None:
         for name, (old, new) in edits.items():
-            self.write(f"crates/{crate}/{folder}/{name}.edit", f"file: src/lib.rt\nold: {old}\nnew: {new}\n")
+            self.put_edit(crate, name, f"file: src/lib.rt\nold: {old}\nnew: {new}\n", folder)
+
+    def put_edit(self, crate: str, name: str, text: str, folder: str = WRONG_BODIES) -> None:
+        """Puts an edit into a file of its own, or among the others of the crate."""
+        if not (IS_ONE_FILE and folder == WRONG_BODIES):
+            self.write(f"crates/{crate}/{folder}/{name}.edit", text)
+            return
+        known = {**sections(f"{self.top}/crates/{crate}"), f"{folder}/{name}.edit": text}
+        whole = "\n".join(f"edit: {os.path.basename(path)[: -len('.edit')]}\n{it}" for path, it in known.items())
+        self.write(f"crates/{crate}/{ONE_FILE}", whole)
 
     def crate(self, name: str) -> kit.Crate:
         return next(it for it in kit.crates(self.top) if it.name == name)
@@ -173,8 +182,12 @@ class Repository:
         return record.Hashes().of(self.crate(name))
 
 
-# The repository that each test gets a copy of.
+# Whether wrong bodies stand in one file a crate. The tests are run with both.
+IS_ONE_FILE = False
+
+# The repository that each test gets a copy of, and what was seen when its lower crate was proved.
 BUILT: List[Repository] = []
+WATCHED: List[table.Watch] = []
 
 
 def setUpModule() -> None:
@@ -182,7 +195,9 @@ def setUpModule() -> None:
     folder = tempfile.TemporaryDirectory(prefix="test-edits-")
     unittest.addModuleCleanup(folder.cleanup)
     BUILT.append(Repository(folder.name))
-    kit.built([BUILT[0].crate("low")], 1, is_after_ci=False)
+    with table.Watch(folder.name) as watch:
+        kit.built([BUILT[0].crate("low")], 1, is_after_ci=False)
+    WATCHED.append(watch)
 
 
 class EditsTest(unittest.TestCase):
@@ -319,7 +334,7 @@ class RecordTest(EditsTest):
         chosen = [gate.choose(top, crates, turn) for turn in range(gate.TURNS)]
         self.assertEqual([it.changed for it in chosen], [[]] * gate.TURNS)
         self.assertEqual(sorted(len(it.in_turn) for it in chosen), [0] * (gate.TURNS - 1) + [1])
-        self.repository.write("crates/high/wrong-bodies/third_is_second.edit", QUOTES_A_COMMENT)
+        self.repository.put_edit("high", "third_is_second", QUOTES_A_COMMENT)
         record.write(top, "high", record.Line(self.repository.hash("high"), 1, 1))
         self.assertEqual(gate.choose(top, crates, 0).changed, [])
         self.repository.write("crates/high/src/lib.rt", HIGH.replace("/// Three more.", "/// Three added."))
@@ -418,6 +433,81 @@ class ReadingTest(EditsTest):
         self.assertEqual(changed("body"), (["next"], []))
         self.assertEqual(changed("renamed"), (["next"], ["next_in_truth"]))
         self.assertEqual(changed("clause"), ([], []))
+
+
+class TableTest(EditsTest):
+    """The gate's table of crates."""
+
+    def test_rows(self) -> None:
+        """Lines of each crate and of all; seconds of the one that was proved meanwhile."""
+        head, high, low, all_crates = sorted(table.rows(self.repository.top, WATCHED[0]), key=lambda it: "chla".index(it[0]))
+        self.assertEqual(head.split(), ["crate", "src", "specs", "proofs", "seconds"])
+        specs = {name: sum(text.count("\n") for path, text in FILES.items() if path.startswith(f"crates/{name}/specs/")) for name in ("low", "high")}
+        self.assertEqual(low.split()[:3], ["low", str(LOW.count("\n")), str(specs["low"])])
+        self.assertEqual((high.split()[1], high.split()[4]), (str(HIGH.count("\n")), "kept"))
+        self.assertEqual(all_crates.split()[1], str((LOW + HIGH).count("\n")))
+        self.assertGreater(WATCHED[0].seconds("low"), 0)
+
+
+class InOneFile(EditsTest):
+    """A test whose wrong bodies stand in one file a crate."""
+
+    def in_one_file(self, is_one_file: bool) -> None:
+        global IS_ONE_FILE
+        IS_ONE_FILE = is_one_file
+
+    def setUp(self) -> None:
+        super().setUp()
+        self.in_one_file(True)
+        self.addCleanup(self.in_one_file, False)
+
+
+class OneFileTest(InOneFile):
+    """Wrong bodies of a crate in one file."""
+
+    def test_same_as_a_file_each(self) -> None:
+        """The edits have the same names, texts, faults and hash as in files of their own, and the kit's own edits stay apart."""
+        edits = {"next_is_two_more": NEXT_IS_TWO_MORE, "no_such_text": NO_SUCH_TEXT, "corners_are_four": CORNERS_ARE_FOUR}
+        low = self.repository.crate("low")
+
+        def state() -> Tuple[object, ...]:
+            paths = files_of(low, FOLDERS)
+            found = [Sources(low.folder).edit(it) for it in paths]
+            return paths, [(it.name, it.pairs, it.fault, it.functions) for it in found], self.repository.hash("low")
+
+        self.repository.put_edits("low", {"kept_by_the_kit": SECOND_IS_ITSELF}, MUST_FAIL)
+        self.repository.put_edits("low", edits)
+        in_one = state()
+        self.assertEqual(os.path.isdir(f"{low.folder}/{WRONG_BODIES}"), False)
+        os.remove(f"{low.folder}/{ONE_FILE}")
+        self.in_one_file(False)
+        self.repository.put_edits("low", edits)
+        self.assertEqual(state(), in_one)
+        self.assertEqual(len(files_of(low, FOLDERS)), 4)
+
+    def test_verdicts(self) -> None:
+        """They are tried as the others are."""
+        self.repository.put_edits("low", {"next_is_two_more": NEXT_IS_TWO_MORE, "second_is_itself": SECOND_IS_ITSELF})
+        outcome, lines = self.tried("low")
+        self.assertEqual((outcome.refused, outcome.failed), (1, 1), lines)
+        self.assert_said("refused low/wrong-bodies/next_is_two_more.edit", lines)
+        self.assert_said("NOT REFUSED low/wrong-bodies/second_is_itself.edit", lines)
+
+    def test_faulty(self) -> None:
+        """What stands before the first name, or under a name that is there before, isn't read over."""
+        text = "edit: a\nfile: src/lib.rt\nold: x + 1\nnew: x + 2\n"
+        for whole in (f"file: src/lib.rt\n{text}", f"{text}\n{text}"):
+            self.repository.write(f"crates/low/{ONE_FILE}", whole)
+            with self.assertRaises(SystemExit):
+                files_of(self.repository.crate("low"), FOLDERS)
+        self.repository.write(f"crates/low/{ONE_FILE}", text)
+        self.repository.write(f"crates/low/{WRONG_BODIES}/a.edit", text)
+        with self.assertRaises(SystemExit):
+            files_of(self.repository.crate("low"), FOLDERS)
+
+
+class RecordOfOneFileTest(InOneFile, RecordTest):
+    """The record and the choice of the gate, over edits in one file."""
 
 
 if __name__ == "__main__":
