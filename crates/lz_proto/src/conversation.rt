@@ -76,8 +76,8 @@ pub fn send<W: Write>(writer: &mut W, text: &[u8]) -> Result<(), SessionFault>
     Ok(())
 }
 
-// Reads what there is, up to the buffer's length. It reads again where a signal interrupted it.
-fn receive<R: Read>(reader: &mut R, buffer: &mut [u8]) -> Result<usize, SessionFault>
+/// Reads what there is, up to the buffer's length, and nothing at the input's end alone. It reads again where a signal interrupted it.
+pub fn receive<R: Read>(reader: &mut R, buffer: &mut [u8]) -> Result<usize, SessionFault>
     ensures bound { IfOk result (λ n. n ≤ length buffer.new) }
     ensures ok { IfOk result (λ n. Consumes (R.remaining reader.old) (R.remaining reader.new) (take n buffer.new)) }
     ensures end { IfOk result (λ n. n ≡ 0 → 0 < length buffer.old → IsAtEnd (R.remaining reader.new)) }

@@ -17,7 +17,7 @@ mod reply;
 mod request;
 mod service;
 
-pub use conversation::{send, session};
+pub use conversation::{receive, send, session};
 pub use end::End;
 pub use fault::{Bad, SessionFault};
 pub use item::Item;

@@ -95,8 +95,8 @@ pub fn renew<O: Disk, N: Disk>(
     }
 }
 
-// The keys of a file's members, in the order of its slots. It is opened as a vault is.
-fn read_members<D: Disk>(alloc: Global, disk: &mut D) -> Result<Vec<Key>, OpenFault>
+/// The keys of a file's members, in the order of its slots. It is opened as a vault is, and not written.
+pub fn read_members<D: Disk>(alloc: Global, disk: &mut D) -> Result<Vec<Key>, OpenFault>
     ensures reads { OnlySyncs (D.device disk.old) (D.device disk.new) }
     ensures sure { IsTrue (D.device disk.old).honest → OnOk result ((D.device disk.new).medium ≡ synced (D.device disk.old).medium) }
     ensures held { IsTrue (D.device disk.old).honest → IfOk result (λ keys. AreHeldBy (D.device disk.old).medium.seen keys.items) }
