@@ -1,11 +1,15 @@
 pub mod SentTexts
+pub mod Pages
 pub mod TwoNumbers
 pub mod LineTexts
 pub mod MakeFaults
+pub mod Grown
+pub mod GrowthRows
 pub mod RehearsalEnds
 pub mod Verdicts
 pub mod CompareRows
 pub mod Listed
+pub mod ListPieces
 pub mod OneList
 pub mod ListRows
 pub mod HeldKeys

@@ -1,5 +1,5 @@
 -- What was sent of texts, one after the other.
-use Rattle.std.proofs.Common.{◌≡◌, ◌⊎◌, inl, inr, ⊎_elim, ℕ, ◌+◌, List, [], ◌∷◌, ◌++◌, codes, decimal, length, take, Option, Result, Ok, Err, refl, sym, ◌∙◌, subst, arith, length-append}
+use Rattle.std.proofs.Common.{◌≡◌, is_ok, true, false, ◌⊎◌, inl, inr, ⊎_elim, ℕ, ◌+◌, List, [], ◌∷◌, ◌++◌, codes, decimal, length, take, Option, Result, Ok, Err, refl, sym, ◌∙◌, subst, arith, length-append}
 use Rattle.std.proofs.Math.Seq.{take-append-add}
 use Rattle.std.proofs.lemmas.List.{take-append-le}
 use Rattle.std.specs.Io.KnownBytes.{Appends, Keeps}
@@ -77,9 +77,14 @@ pub number_tells : (old new : Option (List ℕ)) (told : Status) (r : Result (Un
     → Tells old new (refused_text number) told (status_sent r told)
 number_tells old new told r n number is sent = sent_tells old new (refused_text number) told r (subst (λ (i : ℕ). SendTells old new (refused_text i) r) is sent)
 
--- what was sent before a flush is all of the text, or a part
-pub sent_flushed : (old mid new : Option (List ℕ)) (text : List ℕ) (r : Result (Unit {0}) SessionFault) → SendTells old mid text r → Keeps mid new → Appends old new text ⊎ IsCutShort old new text
-sent_flushed old mid new text (Ok done) p kept = inl (Appends-kept old mid new text p kept)
-sent_flushed old mid new text (Err Read) p kept = absurd p
-sent_flushed old mid new text (Err Write) (n, less, p) kept = inr (n, less, Appends-kept old mid new (take n text) p kept)
-sent_flushed old mid new text (Err Memory) p kept = absurd p
+-- a flush changes nothing of what was sent whole
+pub flushed_whole : (old mid new : Option (List ℕ)) (text : List ℕ) (r : Result (Unit {0}) SessionFault) → SendTells old mid text r → Keeps mid new → is_ok r ≡ true → SendTells old new text (Ok tt)
+flushed_whole old mid new text (Ok done) p kept whole = Appends-kept old mid new text p kept
+flushed_whole old mid new text (Err fault) p kept whole = absurd (let e : false ≡ true = whole in cc)
+
+-- nor of what was cut short
+pub flushed_part : (old mid new : Option (List ℕ)) (text : List ℕ) (r : Result (Unit {0}) SessionFault) → SendTells old mid text r → Keeps mid new → is_ok r ≡ false → SendTells old new text (Err Write)
+flushed_part old mid new text (Ok done) p kept part = absurd (let e : true ≡ false = part in cc)
+flushed_part old mid new text (Err Read) p kept part = absurd p
+flushed_part old mid new text (Err Write) (n, less, p) kept part = (n, less, Appends-kept old mid new (take n text) p kept)
+flushed_part old mid new text (Err Memory) p kept part = absurd p

@@ -36,6 +36,11 @@ abbrev pub found_text : Shown → Header → List Finding → List ℕ
 found_text Counts header findings = counts_text header.format header.slots findings
 found_text shown header findings = flat_map (line_of shown) findings
 
+-- what is shown of them before their lines
+abbrev pub head_text : Shown → Header → List Finding → List ℕ
+head_text Counts header findings = counts_text header.format header.slots findings
+head_text shown header findings = []
+
 -- whether the file is damaged, which goes without saying after keys that are all
 abbrev pub end_text : Shown → Bool → List ℕ
 end_text Keys true = []
@@ -47,9 +52,12 @@ shown_text shown (survey.Refused fault) = refused_text (header_fault_number faul
 shown_text shown (survey.Found header findings) = found_text shown header findings.items ++ end_text shown (is_good (survey.Found header findings))
 
 -- how the command ends
+abbrev pub found_status : Bool → Status
+found_status good = if good then Done else Damaged
+
 abbrev pub survey_status : Survey → Status
 survey_status (survey.Refused fault) = Refused
-survey_status (survey.Found header findings) = if is_good (survey.Found header findings) then Done else Damaged
+survey_status (survey.Found header findings) = found_status (is_good (survey.Found header findings))
 
 -- the command ended with this status, and showed this of a survey of the file
 pub record IsShown (shown : Shown) (t : List ℕ) (status : Status) (before after : Option (List ℕ)) : Type 0 where

@@ -8,6 +8,8 @@ pub mod Comparisons
 pub mod Judgements
 pub mod Rehearsals
 pub mod Renewals
+pub mod Growths
 pub mod Lists
+pub mod ListParts
 pub mod Listings
 pub mod ShownLists

@@ -14,6 +14,19 @@ line_text line = codes "line " ++ decimal line ++ 10 ∷ []
 abbrev pub Tells : Option (List ℕ) → Option (List ℕ) → List ℕ → Status → Status → Type 0
 Tells before after text told status = (Appends before after text × (status ≡ told)) ⊎ (IsCutShort before after text × (status ≡ Failed))
 
+-- a text was sent whole, or it was cut short
+abbrev pub SentOrCut : Option (List ℕ) → Option (List ℕ) → List ℕ → Result (Unit {0}) SessionFault → Type 0
+SentOrCut before after text (Ok done) = Appends before after text
+SentOrCut before after text (Err fault) = IsCutShort before after text
+
+-- of a text a first part was sent, and this is left; or not even that part was sent whole
+abbrev pub IsSentTo : Option (List ℕ) → Option (List ℕ) → List ℕ → List ℕ → Type 0
+IsSentTo before after text left = (sent : List ℕ) × Appends before after sent × (text ≡ sent ++ left)
+
+abbrev pub PutsLine : Option (List ℕ) → Option (List ℕ) → List ℕ → List ℕ → Result (Unit {0}) SessionFault → Type 0
+PutsLine before after text left (Ok done) = IsSentTo before after text left
+PutsLine before after text left (Err fault) = IsCutShort before after text
+
 -- the status of a command that sent its text so
 abbrev pub status_sent : Result (Unit {0}) SessionFault → Status → Status
 status_sent (Ok done) told = told

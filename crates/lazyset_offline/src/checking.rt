@@ -1,12 +1,13 @@
 //! The commands that say what a file holds.
 ghost use Rattle.std.specs.Prelude.{◌≡◌, ◌⊎◌};
 ghost use Rattle.lz_judge.specs.Surveys.{HoldsASet, OfText};
-ghost use Rattle.lazyset_offline.specs.Checks.{IsShown, LacksSurvey, no_survey_text, shown_text, survey_status};
+ghost use Rattle.lazyset_offline.specs.Checks.{IsShown, LacksSurvey, found_status, no_survey_text, shown_text, survey_status};
 ghost use Rattle.lazyset_offline.specs.Tellings.{LacksMemory, Tells};
 
-use crate::shown::{Shown, text_of};
+use crate::refusal::send_line;
+use crate::shown::{Shown, first_page, send_found};
 use crate::status::Status;
-use crate::telling::{NO_MEMORY, NO_READ, tell};
+use crate::telling::{NO_MEMORY, NO_READ, status_sent, tell};
 use lz_judge::{Survey, SurveyFault, survey_of};
 use std::alloc::{AllocError, Global};
 use std::io::{Read, Write};
@@ -32,7 +33,7 @@ pub fn survey_on<R: Read, W: Write + Drop>(
     }
 }
 
-/// Writes what is to be shown of a survey, where there is memory for it, and ends as the survey wants.
+/// Writes what is to be shown of a survey, where there is memory for a page, and ends as the survey wants.
 pub(crate) fn tell_survey<W: Write + Drop>(
     alloc: Global,
     survey: &Survey,
@@ -43,9 +44,21 @@ pub(crate) fn tell_survey<W: Write + Drop>(
         ⊎ LacksMemory (W.contents writer.old) (W.contents writer.new) result }
     ensures status { (result ≡ Status.Failed) ⊎ (result ≡ survey_status survey.now) }
 {
-    match text_of(alloc, survey, shown) {
-        Ok(text) => tell(writer, status_of(survey), text.as_bytes()),
-        Err(AllocError) => tell(writer, Status::Failed, NO_MEMORY),
+    match survey {
+        Survey::Refused(fault) => {
+            let sent = send_line(writer, b"refused ", u64::from(fault.number()));
+            status_sent(sent, Status::Refused)
+        }
+        Survey::Found(header, findings) => {
+            match first_page(alloc, shown, *header, findings.as_slice()) {
+                Ok(page) => {
+                    let good = survey.is_good();
+                    let sent = send_found(page, writer, shown, findings.as_slice(), good);
+                    status_sent(sent, status_of(good))
+                }
+                Err(AllocError) => tell(writer, Status::Failed, NO_MEMORY),
+            }
+        }
     }
 }
 
@@ -60,12 +73,13 @@ pub(crate) fn tell_no_survey<W: Write + Drop>(writer: &mut W, fault: SurveyFault
     }
 }
 
-fn status_of(survey: &Survey) -> Status
-    ensures { result ≡ survey_status survey.now }
+// How a command ends that told what was found.
+fn status_of(is_good: bool) -> Status
+    ensures { result ≡ found_status is_good }
 {
-    match survey {
-        Survey::Refused(_) => Status::Refused,
-        Survey::Found(_, _) if survey.is_good() => Status::Done,
-        Survey::Found(_, _) => Status::Damaged,
+    if is_good {
+        Status::Done
+    } else {
+        Status::Damaged
     }
 }

@@ -5,6 +5,7 @@
 mod checking;
 mod comparing;
 mod counting;
+mod growing;
 mod judging;
 pub mod laws;
 mod list;
@@ -19,6 +20,7 @@ mod telling;
 
 pub use checking::survey_on;
 pub use comparing::check_of_on;
+pub use growing::{Shelf, Standing, grow_on};
 pub use judging::{MOST_JUDGED, judge_on};
 pub use listing::make_keys_on;
 pub use making::make_on;

@@ -1,14 +1,19 @@
 //! A list of keys out of a reader, one a line.
-ghost use Rattle.std.specs.Prelude.{◌≡◌, ◌⊎◌, ℕ, IfOk, IfErr, IfNone, IfSome, OnOk, length};
+ghost use Rattle.std.specs.Prelude.{◌≡◌, ◌+◌, ◌++◌, ◌∷◌, [], ℕ, false, IfOk, IfErr, IfNone, IfSome, OnOk, length};
+ghost use Rattle.lz_proto.specs.Lines.{has_line_feed, line_feed};
 ghost use Rattle.lz_vault.specs.Makes.{MayBeMembers};
 ghost use Rattle.lazyset_offline.specs.Lists.{AddsKey, AreSeen, IsLineFaultOf, IsListFaultOf, Lists, SpellsKey};
+ghost use Rattle.lazyset_offline.specs.ListParts.{BeginsList, EndsWith, FailsAtEnd, FailsIn, GoesOn, IsOpenList};
 
-use lz_proto::without_return;
+use lz_proto::{MOST_PIECE, receive, without_return};
 use lz_slot::{Format, Key, read_key};
 use memchr::memchr;
 use std::alloc::Global;
 use std::collections::HashSet;
-use std::io::{ErrorKind, Read};
+use std::io::Read;
+
+// The most bytes of a line with a key: those of a room, a colon, a number and a carriage return.
+const MOST_LISTED: usize = 22;
 
 /// Why no list of keys was read.
 #[derive(Clone, Copy)]
@@ -22,8 +27,8 @@ pub enum ListFault {
     Memory,
 }
 
-/// Reads the keys of a file of this format, one a line, up to the input's end. Each line ends with a line feed, before which one
-/// carriage return is dropped.
+/// Reads the keys of a file of this format, one a line, up to the input's end or to the first line at fault, and judges each line as
+/// soon as it is read. Each line ends with a line feed, before which one carriage return is dropped.
 pub fn read_list<R: Read>(
     alloc: Global,
     reader: &mut R,
@@ -33,75 +38,140 @@ pub fn read_list<R: Read>(
     ensures members { IfOk result (λ keys. MayBeMembers format (length keys.items) keys.items) }
     ensures err { IfErr result (λ fault. IfSome (R.remaining reader.old) (λ text. IsListFaultOf format text fault)) }
 {
-    let text = match read_text(alloc, reader) {
-        Ok(text) => text,
-        Err(fault) => return Err(fault),
-    };
-    list_keys(alloc, text.as_slice(), format)
-}
-
-// The whole input.
-fn read_text<R: Read>(alloc: Global, reader: &mut R) -> Result<Vec<u8>, ListFault>
-    ensures ok { IfOk result (λ text. IfSome (R.remaining reader.old) (λ input. text.items ≡ input)) }
-    ensures err { IfErr result (λ fault. (fault ≡ ListFault.Read) ⊎ (fault ≡ ListFault.Memory)) }
-{
-    let mut text = Vec::new(alloc);
-    match reader.read_to_end(&mut text) {
-        Ok(_) => Ok(text),
-        Err(error) => {
-            if error.kind() == ErrorKind::OutOfMemory {
-                return Err(ListFault::Memory);
-            }
-            Err(ListFault::Read)
+    let mut list = KeyList::new(alloc, format);
+    let mut piece = [0; MOST_PIECE];
+    // A loop is proved to end, so this one counts its pieces.
+    'pieces: for _ in 0..u64::MAX {
+        let Ok(count) = receive(reader, &mut piece) else {
+            return Err(ListFault::Read);
+        };
+        if count == 0 {
+            return list.end();
         }
-    }
-}
-
-// The keys that a text lists.
-fn list_keys(alloc: Global, text: &[u8], format: Format) -> Result<Vec<Key>, ListFault>
-    ensures ok { IfOk result (λ keys. Lists format text.now keys.items) }
-    ensures err { IfErr result (IsListFaultOf format text.now) }
-{
-    let mut keys = Vec::new(alloc);
-    let mut seen = HashSet::new(alloc);
-    let mut rest = text;
-    while let Some(end) = memchr(b'\n', rest) {
-        if let Err(fault) = add_line(&mut keys, &mut seen, format, &rest[..end]) {
+        if let Err(fault) = list.take(&piece[..count]) {
             return Err(fault);
         }
-        rest = &rest[end + 1..];
     }
-    if rest.is_empty() {
-        Ok(keys)
-    } else {
-        Err(ListFault::Line(keys.len() as u64 + 1))
-    }
+    Err(ListFault::Read)
 }
 
-// Adds the key of a line, given without its line feed.
-fn add_line(
-    keys: &mut Vec<Key>,
-    seen: &mut HashSet<u64>,
+/// A list that was read so far: its keys, which were seen, and the beginning of a line that hasn't ended yet.
+#[derive(Drop)]
+struct KeyList {
     format: Format,
-    line: &[u8],
-) -> Result<(), ListFault>
-    requires { AreSeen seen.old keys.old.items }
-    ensures seen { OnOk result (AreSeen seen.new keys.new.items) }
-    ensures ok { OnOk result (AddsKey format line.now keys.old.items keys.new.items) }
-    ensures err { IfErr result (IsLineFaultOf format line.now keys.old.items) }
-{
-    let number = keys.len() as u64 + 1;
-    let Some(key) = key_on(line, format) else {
-        return Err(ListFault::Line(number));
-    };
-    match seen.insert(key.rank()) {
-        Ok(true) => {}
-        Ok(false) => return Err(ListFault::Twice(number)),
-        Err(_) => return Err(ListFault::Memory),
+    keys: Vec<Key>,
+    seen: HashSet<u64>,
+    line: Vec<u8>,
+}
+
+impl KeyList {
+    fn new(alloc: Global, format: Format) -> KeyList
+        ensures kept { IsOpenList result }
+        ensures begins { BeginsList format result }
+    {
+        KeyList {
+            format,
+            keys: Vec::new(alloc),
+            seen: HashSet::new(alloc),
+            line: Vec::new(alloc),
+        }
     }
-    match keys.push(key) {
-        Ok(()) => Ok(()),
-        Err(_) => Err(ListFault::Memory),
+
+    // The number of the line that comes next.
+    fn line_number(&self) -> u64
+        ensures { result ≡ length self.now.keys.items + 1 }
+    {
+        self.keys.len() as u64 + 1
+    }
+
+    // Takes the next piece of the list.
+    fn take(&mut self, piece: &[u8]) -> Result<(), ListFault>
+        requires { IsOpenList self.old }
+        ensures kept { OnOk result (IsOpenList self.new) }
+        ensures goes { OnOk result (GoesOn self.old piece.now self.new) }
+        ensures err { IfErr result (FailsIn self.old piece.now) }
+    {
+        let mut rest = piece;
+        while let Some(end) = memchr(b'\n', rest) {
+            let (part, ended) = rest.split_at(end);
+            if let Err(fault) = self.take_line(part) {
+                return Err(fault);
+            }
+            rest = &ended[1..];
+        }
+        self.keep(rest)
+    }
+
+    // Takes the end of a line, without its line feed.
+    fn take_line(&mut self, part: &[u8]) -> Result<(), ListFault>
+        requires kept { IsOpenList self.old }
+        requires clear { has_line_feed part.now ≡ false }
+        ensures kept { OnOk result (IsOpenList self.new) }
+        ensures goes { OnOk result (GoesOn self.old (part.now ++ line_feed ∷ []) self.new) }
+        ensures err { IfErr result (FailsIn self.old (part.now ++ line_feed ∷ [])) }
+    {
+        let Ok(()) = self.line.extend_from_slice(part) else {
+            return Err(ListFault::Memory);
+        };
+        if let Err(fault) = self.add_line() {
+            return Err(fault);
+        }
+        self.line.clear();
+        Ok(())
+    }
+
+    // Adds the key of the line that was read.
+    fn add_line(&mut self) -> Result<(), ListFault>
+        requires { AreSeen self.old.seen self.old.keys.items }
+        ensures seen { OnOk result (AreSeen self.new.seen self.new.keys.items) }
+        ensures ok { OnOk result (AddsKey self.old.format self.old.line.items self.old.keys.items self.new.keys.items) }
+        ensures format { self.new.format ≡ self.old.format }
+        ensures err { IfErr result (IsLineFaultOf self.old.format self.old.line.items self.old.keys.items) }
+    {
+        let number = self.line_number();
+        let Some(key) = key_on(self.line.as_slice(), self.format) else {
+            return Err(ListFault::Line(number));
+        };
+        match self.seen.insert(key.rank()) {
+            Ok(true) => {}
+            Ok(false) => return Err(ListFault::Twice(number)),
+            Err(_) => return Err(ListFault::Memory),
+        }
+        match self.keys.push(key) {
+            Ok(()) => Ok(()),
+            Err(_) => Err(ListFault::Memory),
+        }
+    }
+
+    // Keeps a part of a line that goes on, unless it is longer already than the text of a key.
+    fn keep(&mut self, part: &[u8]) -> Result<(), ListFault>
+        requires kept { IsOpenList self.old }
+        requires clear { has_line_feed part.now ≡ false }
+        ensures kept { OnOk result (IsOpenList self.new) }
+        ensures goes { OnOk result (GoesOn self.old part.now self.new) }
+        ensures err { IfErr result (FailsIn self.old part.now) }
+    {
+        let Ok(()) = self.line.extend_from_slice(part) else {
+            return Err(ListFault::Memory);
+        };
+        if self.line.len() > MOST_LISTED {
+            return Err(ListFault::Line(self.line_number()));
+        }
+        Ok(())
+    }
+
+    // The keys of the list, which ends here.
+    fn end(self) -> Result<Vec<Key>, ListFault>
+        requires { IsOpenList self }
+        ensures ok { IfOk result (λ keys. EndsWith self keys.items) }
+        ensures members { IfOk result (λ keys. MayBeMembers self.format (length keys.items) keys.items) }
+        ensures err { IfErr result (FailsAtEnd self) }
+    {
+        if self.line.is_empty() {
+            Ok(self.keys)
+        } else {
+            Err(ListFault::Line(self.line_number()))
+        }
     }
 }
 

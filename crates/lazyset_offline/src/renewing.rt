@@ -63,7 +63,7 @@ fn tell_answer<W: Write + Drop>(writer: &mut W, answer: &Result<u64, RenewFault>
 }
 
 // The status of a renewal whose line was written.
-fn status_of(answer: &Result<u64, RenewFault>) -> Status
+pub(crate) fn status_of(answer: &Result<u64, RenewFault>) -> Status
     ensures { result ≡ renewal_status answer.now }
 {
     match answer {
@@ -86,7 +86,7 @@ fn send_answer<W: Write>(
     }
 }
 
-fn send_fault<W: Write>(writer: &mut W, fault: RenewFault) -> Result<(), SessionFault>
+pub(crate) fn send_fault<W: Write>(writer: &mut W, fault: RenewFault) -> Result<(), SessionFault>
     ensures { SendTells (W.contents writer.old) (W.contents writer.new) (renewal_text (Err fault)) result }
 {
     match fault {

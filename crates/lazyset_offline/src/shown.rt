@@ -1,14 +1,16 @@
 //! What is shown of a survey.
-ghost use Rattle.std.specs.Prelude.{◌≡◌, ◌++◌, IfOk, OnOk};
+ghost use Rattle.std.specs.Prelude.{◌≡◌, ◌<◌, ◌++◌, IfOk, OnErr, OnOk, length};
 ghost use Rattle.std.specs.List.{flat_map};
 ghost use Rattle.std.specs.String.{string_bytes};
-ghost use Rattle.lazyset_offline.specs.Makings.{refused_text};
-ghost use Rattle.lazyset_offline.specs.Checks.{end_text, finding_text, found_text, line_of, shown_text};
+ghost use Rattle.lazyset_offline.specs.Checks.{end_text, finding_text, head_text, line_of};
+ghost use Rattle.lazyset_offline.specs.Tellings.{PutsLine, SentOrCut};
 
 use crate::counting::counts_of;
-use lz_judge::{Finding, Survey};
+use lz_judge::Finding;
+use lz_proto::{SessionFault, send};
 use lz_slot::{Header, Key, Slot};
 use std::alloc::{AllocError, Global};
+use std::io::Write;
 
 /// What is shown of a file that was surveyed.
 #[derive(Clone, Copy, Debug, PartialEq, Eq)]
@@ -22,66 +24,86 @@ pub enum Shown {
     Counts,
 }
 
-/// What is shown of this survey, or `refused N` with the fault of the file's head.
-pub(crate) fn text_of(alloc: Global, survey: &Survey, shown: Shown) -> Result<String, AllocError>
-    ensures { IfOk result (λ text. string_bytes text ≡ shown_text shown survey.now) }
-{
-    match survey {
-        Survey::Refused(fault) => refused_line(alloc, fault.number()),
-        Survey::Found(header, findings) => {
-            let mut text = found_of(alloc, shown, *header, findings.as_slice())?;
-            add_end(&mut text, shown, survey.is_good())?;
-            Ok(text)
-        }
-    }
-}
+// The most bytes of a line, and the bytes at which a page of lines is full.
+const MOST_SHOWN: usize = 64;
 
-fn refused_line(alloc: Global, number: u8) -> Result<String, AllocError>
-    ensures { IfOk result (λ text. string_bytes text ≡ refused_text number) }
-{
-    format!(in alloc; "refused {number}\n")
-}
+const FULL_PAGE: usize = 4_096;
 
-// What is shown of the findings in a file with this head.
-fn found_of(
+/// The first page of what is shown of the findings in a file with this head: its counts, or an empty one with room for lines.
+pub(crate) fn first_page(
     alloc: Global,
     shown: Shown,
     header: Header,
     findings: &[Finding],
 ) -> Result<String, AllocError>
-    ensures { IfOk result (λ text. string_bytes text ≡ found_text shown header findings.now) }
+    ensures { IfOk result (λ page. string_bytes page ≡ head_text shown header findings.now) }
 {
     match shown {
-        Shown::Findings | Shown::Keys => lines_of(alloc, shown, findings),
+        Shown::Findings | Shown::Keys => String::with_capacity(alloc, FULL_PAGE + MOST_SHOWN),
         Shown::Counts => counts_of(alloc, header, findings),
     }
 }
 
-// Says whether the file is damaged.
-fn add_end(text: &mut String, shown: Shown, is_good: bool) -> Result<(), AllocError>
-    ensures { OnOk result (string_bytes text.new ≡ string_bytes text.old ++ end_text shown is_good) }
+/// Writes this page, the lines of the findings page by page, and last whether the file is damaged.
+pub(crate) fn send_found<W: Write>(
+    first: String,
+    writer: &mut W,
+    shown: Shown,
+    findings: &[Finding],
+    is_good: bool,
+) -> Result<(), SessionFault>
+    ensures { SentOrCut (W.contents writer.old) (W.contents writer.new) (string_bytes first ++ flat_map (line_of shown) findings.now ++ end_text shown is_good) result }
 {
-    text.push_str(match shown {
-        Shown::Keys if is_good => "",
-        _ if is_good => "good\n",
-        _ => "damaged\n",
-    })
+    let mut page = first;
+    for finding in findings {
+        if let Err(fault) = put_line(&mut page, writer, shown, *finding) {
+            return Err(fault);
+        }
+    }
+    if let Err(fault) = send(writer, page.as_bytes()) {
+        return Err(fault);
+    }
+    send(writer, end_of(shown, is_good))
 }
 
-// The lines of the findings.
-fn lines_of(alloc: Global, shown: Shown, findings: &[Finding]) -> Result<String, AllocError>
-    ensures { IfOk result (λ text. string_bytes text ≡ flat_map (line_of shown) findings.now) }
+// Adds the line of a finding to the page, and writes the page where it is full then. (It has room for the line: memory isn't
+// wanted for it.)
+fn put_line<W: Write>(
+    page: &mut String,
+    writer: &mut W,
+    shown: Shown,
+    finding: Finding,
+) -> Result<(), SessionFault>
+    ensures { PutsLine (W.contents writer.old) (W.contents writer.new) (string_bytes page.old ++ line_of shown finding) (string_bytes page.new) result }
 {
-    let mut text = String::new(alloc);
-    for finding in findings {
-        add_line(&mut text, shown, *finding)?;
+    let Ok(()) = add_line(page, shown, finding) else {
+        return Err(SessionFault::Memory);
+    };
+    if page.len() < FULL_PAGE {
+        return Ok(());
     }
-    Ok(text)
+    if let Err(fault) = send(writer, page.as_bytes()) {
+        return Err(fault);
+    }
+    page.clear();
+    Ok(())
+}
+
+// Says whether the file is damaged.
+fn end_of(shown: Shown, is_good: bool) -> &'static [u8]
+    ensures { result.now ≡ end_text shown is_good }
+{
+    match shown {
+        Shown::Keys if is_good => b"",
+        _ if is_good => b"good\n",
+        _ => b"damaged\n",
+    }
 }
 
 // The line of a finding, where it has one.
 fn add_line(text: &mut String, shown: Shown, finding: Finding) -> Result<(), AllocError>
-    ensures { OnOk result (string_bytes text.new ≡ string_bytes text.old ++ line_of shown finding) }
+    ensures ok { OnOk result (string_bytes text.new ≡ string_bytes text.old ++ line_of shown finding) }
+    ensures err { OnErr result (0 < length (line_of shown finding)) }
 {
     match (shown, finding) {
         (Shown::Findings, finding) => add_finding(text, finding),

@@ -1,3 +1,4 @@
+pub mod PlaceTables
 pub mod Surveys
 pub mod Passes
 pub mod Lives

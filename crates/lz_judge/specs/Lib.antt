@@ -1,3 +1,4 @@
+pub mod Places
 pub mod Surveys
 pub mod Scans
 pub mod Limits

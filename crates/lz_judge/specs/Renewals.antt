@@ -1,6 +1,5 @@
 -- What is told of two files, the second of which is to hold the set of the first.
-use Rattle.std.specs.Prelude.{◌≡◌, ℕ, ◌<◌, nat_eq, List, length, take, slice_index_or, All, IsTrue, false, Result, Ok, Err}
-use Rattle.std.specs.HashSet.{HashSet, contains}
+use Rattle.std.specs.Prelude.{◌≡◌, ℕ, ◌<◌, List, length, take, slice_index_or, All, IsTrue, false, Result, Ok, Err}
 use Rattle.lz_slot.specs.Bytes.{Holds, slot_at}
 use Rattle.lz_slot.specs.Sets.{Keys}
 use Rattle.lz_slot.specs.declared.slot.SlotRead.TheVariants.{Member}
@@ -46,10 +45,6 @@ pub record AreHeld (t : List ℕ) (found : List Finding) : Type 0 where
   pub slots : ℕ
   pub findings : AreFindings (slot_at t) slots found
   pub held : Holds t slots (found_keys found)
-
--- the keys are those of S
-abbrev pub AreKeys : {H : Type 0} → HashSet ℕ H → Keys → Type 0
-AreKeys keys S = (k : ℕ) → contains nat_eq keys k ≡ S k
 
 -- what was found is no key outside the set
 abbrev pub IsWithin : Keys → Finding → Type 0

@@ -1,31 +1,18 @@
 -- What a scan of slots knows when it has come to slot n.
-use Rattle.std.specs.Prelude.{◌≡◌, ℕ, ◌+◌, ◌*◌, ◌/◌, ◌<◌, ◌≤◌, Bool, true, false, List, [], ◌∷◌, ◌++◌, length, take, nat_eq, Option, Some, Ok}
-use Rattle.std.specs.HashMap.{get}
+use Rattle.std.specs.Prelude.{◌≡◌, ℕ, ◌+◌, ◌*◌, ◌/◌, ◌<◌, ◌≤◌, Bool, true, false, List, [], ◌∷◌, ◌++◌, length, map, take, Option, Ok}
 use Rattle.std.specs.Io.KnownBytes.{Consumes, IsAtEnd}
 use Rattle.lz_slot.specs.Bytes.{format_of, header_body, header_read, of_size, open_byte, slot_at}
 use Rattle.lz_slot.specs.declared.format.Format.{Format}
 use Rattle.lz_slot.specs.declared.header.Header.{Header}
 use Rattle.lz_slot.specs.declared.slot.SlotRead.{SlotRead}
-use Rattle.lz_slot.specs.declared.slot.SlotRead.TheVariants as read
-use Rattle.lz_judge.specs.declared.finding.Finding.{Finding}
 use Rattle.lz_judge.specs.declared.scan.Scan.{Scan}
-use Rattle.lz_judge.specs.Surveys.{AreFindings, IsFinding, IsFirst, slot_of}
-
--- the map has the lowest slot below n of each key that one of these slots holds
-pub record KnowsFirsts (says : ℕ → SlotRead) (n : ℕ) (place_of : ℕ → Option ℕ) : Type 0 where
-  pub found : (k i : ℕ) → place_of k ≡ Some i → (i < n) × IsFirst says i k
-  pub placed : (k i : ℕ) → i < n → says i ≡ read.Member k → (first : ℕ) × (place_of k ≡ Some first)
+use Rattle.lz_judge.specs.Places.{IsTable}
+use Rattle.lz_judge.specs.Surveys.{AreFindings, finding_key}
 
 -- the slots below n were taken
 pub record Scanned (says : ℕ → SlotRead) (n : ℕ) (scan : Scan) : Type 0 where
   pub findings : AreFindings says n scan.findings.items
-  pub firsts : KnowsFirsts says n (get nat_eq scan.places)
-
--- what was found at slot n, and the map that knows it too
-pub record Places (says : ℕ → SlotRead) (n : ℕ) (finding : Finding) (place_of : ℕ → Option ℕ) : Type 0 where
-  pub true_of : IsFinding says finding
-  pub slot : slot_of finding ≡ n
-  pub firsts : KnowsFirsts says (n + 1) place_of
+  pub table : IsTable (map finding_key scan.findings.items) scan.places
 
 -- the piece is what a file has from slot n on, as far as it goes
 pub record IsPieceAt (t : List ℕ) (n : ℕ) (piece : List ℕ) : Type 0 where

@@ -1,5 +1,5 @@
 -- What a survey says of a file. Slot i says `says i`.
-use Rattle.std.specs.Prelude.{◌≡◌, ◌≢◌, ◌↔◌, ℕ, zero, suc, ◌<◌, ◌==◌, List, [], ◌∷◌, ◌++◌, map, length, All, IfSome, IsTrue, Ok, Err, Option, Bool, true, false}
+use Rattle.std.specs.Prelude.{◌≡◌, ◌≢◌, ◌↔◌, ℕ, zero, suc, ◌<◌, ◌==◌, List, [], ◌∷◌, ◌++◌, map, length, All, IfSome, IsTrue, Ok, Err, None, Option, Some, Bool, true, false}
 use Rattle.std.specs.List.{list_all, list_any}
 use Rattle.lz_slot.specs.Bytes.{Holds, format_of, header_read, slot_at}
 use Rattle.lz_slot.specs.Sets.{Keys}
@@ -78,6 +78,12 @@ abbrev pub is_key : ℕ → Finding → Bool
 is_key k (Key i q) = q == k
 is_key k (BadKey i) = false
 is_key k (Twice i first) = false
+
+-- the key that it tells
+abbrev pub finding_key : Finding → Option ℕ
+finding_key (Key i k) = Some k
+finding_key (BadKey i) = None
+finding_key (Twice i first) = None
 
 -- the keys that were found
 abbrev pub found_keys : List Finding → Keys

@@ -2,6 +2,7 @@
 ghost use Rattle.std.specs.Prelude.{◌≡◌};
 ghost use Rattle.std.specs.List.{list_all};
 
+use crate::places::Keyed;
 use lz_slot::{Header, HeaderFault, Key, Slot};
 
 /// What was found at a slot that isn't closed.
@@ -14,8 +15,30 @@ pub enum Finding {
     Twice(Slot, Slot),
 }
 
+impl Keyed for Finding {
+    ghost use Rattle.lz_judge.specs.Surveys.{finding_key};
+
+    ghost key = { finding_key };
+
+    fn keyed(&self) -> Option<u64> {
+        match self {
+            Finding::Key(_, key) => Some(key.rank()),
+            _ => None,
+        }
+    }
+}
+
 impl Finding {
-    ghost use Rattle.lz_judge.specs.Surveys.{is_sound};
+    ghost use Rattle.lz_judge.specs.Surveys.{is_sound, slot_of};
+
+    /// The slot at which it was found.
+    pub(crate) fn slot(&self) -> Slot
+        ensures { result ≡ slot_of self.now }
+    {
+        match self {
+            Finding::Key(slot, _) | Finding::BadKey(slot) | Finding::Twice(slot, _) => *slot,
+        }
+    }
 
     /// Whether it is no damage.
     pub fn is_sound(&self) -> bool

@@ -1,14 +1,14 @@
 //! Whether a file holds the set of another, as it does after a renewal.
-ghost use Rattle.std.specs.Prelude.{◌≡◌, ◌↔◌, ◌||◌, ℕ, List, All, IfErr, IfOk, IsOk, MatchOption, OnOk, false};
-ghost use Rattle.lz_slot.specs.Sets.{Keys};
-ghost use Rattle.lz_judge.specs.Renewals.{AreHeld, AreKeys, HoldOneSet, IsFirstOutside, IsRenewFlaw, IsWithin};
-ghost use Rattle.lz_judge.specs.Surveys.{HoldsASet, IsSurveyed, found_keys, is_key};
+ghost use Rattle.std.specs.Prelude.{◌≡◌, ◌↔◌, ℕ, List, All, IfErr, IfOk, IsOk, MatchOption, false, map};
+ghost use Rattle.lz_judge.specs.Places.{IsTable};
+ghost use Rattle.lz_judge.specs.Renewals.{AreHeld, HoldOneSet, IsFirstOutside, IsRenewFlaw, IsWithin};
+ghost use Rattle.lz_judge.specs.Surveys.{HoldsASet, IsSurveyed, finding_key, found_keys};
 
 use crate::finding::{Finding, Survey};
+use crate::places::Places;
 use crate::surveying::survey;
 use lz_slot::Slot;
 use std::alloc::{AllocError, Global};
-use std::collections::HashSet;
 
 /// Why two files don't hold one set.
 #[derive(Clone, Copy, Debug, PartialEq, Eq)]
@@ -61,12 +61,13 @@ pub fn compare(
     let Some(after) = held_findings(new) else {
         return Ok(Err(RenewFlaw::NotHeld));
     };
-    let kept = keys_of(alloc, after)?;
-    if let Some(slot) = first_outside(before, &kept) {
+    let kept = Places::of(alloc, after)?;
+    if let Some(slot) = first_outside(before, after, &kept) {
         return Ok(Err(RenewFlaw::Missing(slot)));
     }
-    let given = keys_of(alloc, before)?;
-    if let Some(slot) = first_outside(after, &given) {
+    drop(kept);
+    let given = Places::of(alloc, before)?;
+    if let Some(slot) = first_outside(after, before, &given) {
         return Ok(Err(RenewFlaw::Extra(slot)));
     }
     Ok(Ok(()))
@@ -82,32 +83,12 @@ fn held_findings(survey: &Survey) -> Option<&[Finding]>
     }
 }
 
-// The keys that were found.
-fn keys_of(alloc: Global, findings: &[Finding]) -> Result<HashSet<u64>, AllocError>
-    ensures { IfOk result (λ keys. AreKeys keys (found_keys findings.now)) }
-{
-    let mut keys = HashSet::new(alloc);
-    for finding in findings {
-        add_key(&mut keys, *finding)?;
-    }
-    Ok(keys)
-}
-
-fn add_key(keys: &mut HashSet<u64>, finding: Finding) -> Result<(), AllocError>
-    ensures { (S : Keys) → AreKeys keys.old S → OnOk result (AreKeys keys.new (λ k. S k || is_key k finding)) }
-{
-    if let Finding::Key(_, key) = finding {
-        keys.insert(key.rank())?;
-    }
-    Ok(())
-}
-
-// The slot of the first finding whose key isn't among these.
-fn first_outside(findings: &[Finding], keys: &HashSet<u64>) -> Option<Slot>
-    ensures { (S : Keys) → AreKeys keys.now S → MatchOption result (All (IsWithin S) findings.now) (IsFirstOutside S findings.now) }
+// The slot of the first finding whose key isn't among those of the others, of which this is the table.
+fn first_outside(findings: &[Finding], others: &[Finding], places: &Places) -> Option<Slot>
+    ensures { IsTable (map finding_key others.now) places.now → MatchOption result (All (IsWithin (found_keys others.now)) findings.now) (IsFirstOutside (found_keys others.now) findings.now) }
 {
     for finding in findings {
-        let outside = slot_outside(*finding, keys);
+        let outside = slot_outside(*finding, others, places);
         if outside.is_some() {
             return outside;
         }
@@ -115,12 +96,17 @@ fn first_outside(findings: &[Finding], keys: &HashSet<u64>) -> Option<Slot>
     None
 }
 
-// The slot of a finding whose key isn't among these.
-fn slot_outside(finding: Finding, keys: &HashSet<u64>) -> Option<Slot>
-    ensures { (S : Keys) → AreKeys keys.now S → MatchOption result (IsWithin S finding) (λ slot. (k : ℕ) × (finding ≡ Finding.Key slot k) × (S k ≡ false)) }
+// The slot of a finding whose key isn't among those of the others.
+fn slot_outside(finding: Finding, others: &[Finding], places: &Places) -> Option<Slot>
+    ensures { IsTable (map finding_key others.now) places.now → MatchOption result (IsWithin (found_keys others.now) finding)
+        (λ slot. (k : ℕ) × (finding ≡ Finding.Key slot k) × (found_keys others.now k ≡ false)) }
 {
     match finding {
-        Finding::Key(slot, key) if !keys.contains(&key.rank()) => Some(slot),
-        _ => None,
+        Finding::Key(slot, key) => match places.find(others, key.rank()) {
+            Some(_) => None,
+            None => Some(slot),
+        },
+        Finding::BadKey(_) => None,
+        Finding::Twice(_, _) => None,
     }
 }

@@ -1,21 +1,22 @@
 //! The scan of slots, one after the other.
-ghost use Rattle.std.specs.Prelude.{◌≡◌, ℕ, ◌+◌, ◌/◌, ◌%◌, ◌≤◌, List, length, nat_eq, IfOk, OnOk};
-ghost use Rattle.std.specs.HashMap.{get};
+ghost use Rattle.std.specs.Prelude.{◌≡◌, ℕ, ◌+◌, ◌/◌, ◌%◌, ◌≤◌, List, [], ◌++◌, ◌∷◌, length, map, OnOk};
 ghost use Rattle.lz_slot.specs.Bytes.{format_of, slot_at};
 ghost use Rattle.lz_slot.specs.Limits.{most_slots};
 ghost use Rattle.lz_slot.specs.declared.slot.SlotRead.{SlotRead};
-ghost use Rattle.lz_judge.specs.Scans.{IsPieceAt, KnowsFirsts, Places, Scanned};
+ghost use Rattle.lz_judge.specs.Places.{IsTable};
+ghost use Rattle.lz_judge.specs.Scans.{IsPieceAt, Scanned};
+ghost use Rattle.lz_judge.specs.Surveys.{IsFinding, finding_key, slot_of};
 
 use crate::finding::Finding;
+use crate::places::Places;
 use lz_slot::{Format, Key, Slot, SlotRead, read_slot};
 use std::alloc::{AllocError, Global};
-use std::collections::HashMap;
 
-/// What was found so far, and the lowest slot of each key.
+/// What was found so far, and where its keys stand in it.
 #[derive(Drop)]
 pub(crate) struct Scan {
     pub(crate) findings: Vec<Finding>,
-    pub(crate) places: HashMap<u64, Slot>,
+    places: Places,
 }
 
 impl Scan {
@@ -24,7 +25,7 @@ impl Scan {
     {
         Scan {
             findings: Vec::new(alloc),
-            places: HashMap::new(alloc),
+            places: Places::new(alloc),
         }
     }
 
@@ -33,14 +34,32 @@ impl Scan {
         ensures { (says : ℕ → SlotRead) → says slot ≡ read → Scanned says slot self.old → OnOk result (Scanned says (slot + 1) self.new) }
     {
         match read {
-            SlotRead::Closed => {}
-            SlotRead::BadKey => self.findings.push(Finding::BadKey(slot))?,
-            SlotRead::Member(key) => {
-                let finding = place_key(&mut self.places, slot, key)?;
-                self.findings.push(finding)?;
-            }
+            SlotRead::Closed => Ok(()),
+            SlotRead::BadKey => self.add(Finding::BadKey(slot)),
+            SlotRead::Member(key) => self.add(self.found(slot, key)),
         }
-        Ok(())
+    }
+
+    // Adds what was found at the next slot that isn't closed.
+    fn add(&mut self, finding: Finding) -> Result<(), AllocError>
+        ensures findings { OnOk result (self.new.findings.items ≡ self.old.findings.items ++ finding ∷ []) }
+        ensures table { IsTable (map finding_key self.old.findings.items) self.old.places → OnOk result (IsTable (map finding_key self.new.findings.items) self.new.places) }
+    {
+        self.findings.push(finding)?;
+        self.places.add(self.findings.as_slice())
+    }
+
+    // What is found at the next slot, which holds the key.
+    fn found(&self, slot: Slot, key: Key) -> Finding
+        ensures { (says : ℕ → SlotRead) → says slot ≡ SlotRead.Member key → Scanned says slot self.now → IsFinding says result × (slot_of result ≡ slot) }
+    {
+        match self.places.find(self.findings.as_slice(), key.rank()) {
+            Some(index) => {
+                let first = self.findings[index];
+                Finding::Twice(slot, first.slot())
+            }
+            None => Finding::Key(slot, key),
+        }
     }
 
     /// Takes what the slots of a file say from the first of these on, whose bytes these are.
@@ -62,19 +81,5 @@ impl Scan {
             self.note(slot, read_slot(format, &bytes))?;
         }
         Ok(())
-    }
-}
-
-// What is found at a slot that holds the key.
-fn place_key(places: &mut HashMap<u64, Slot>, slot: Slot, key: Key) -> Result<Finding, AllocError>
-    ensures { (says : ℕ → SlotRead) → says slot ≡ SlotRead.Member key → KnowsFirsts says slot (get nat_eq places.old)
-        → IfOk result (λ finding. Places says slot finding (get nat_eq places.new)) }
-{
-    if let Some(first) = places.get(&key.rank()) {
-        return Ok(Finding::Twice(slot, *first));
-    }
-    match places.insert(key.rank(), slot) {
-        Ok(_) => Ok(Finding::Key(slot, key)),
-        Err(_) => Err(AllocError),
     }
 }

@@ -1,9 +1,8 @@
 -- One slot more in a survey, and what a survey without damage says.
-use Rattle.std.proofs.Common.{◌≡◌, ◌≢◌, ⊎_elim, ◌↔◌, ℕ, zero, suc, ◌+◌, ◌<◌, Bool, true, List, [], ◌∷◌, ◌++◌, get_or, sym, refl, ◌∙◌, ap, subst, arith, Some, None, IsTrue, add-one, rules}
-use Rattle.std.specs.Prelude.{All, map, nat_eq, ◌==◌, ◌||◌, if◌then◌else◌, Contains, Option}
+use Rattle.std.proofs.Common.{◌≡◌, ◌≢◌, ⊎_elim, ◌↔◌, ℕ, zero, suc, ◌+◌, ◌<◌, Bool, true, List, [], ◌∷◌, ◌++◌, get_or, sym, refl, ◌∙◌, ap, subst, arith, Some, None, Ok, Err, IsTrue, add-one, rules, length, Result}
+use Rattle.std.specs.Prelude.{All, map, ◌==◌, ◌||◌, Contains, OnOk}
 use Rattle.std.specs.List.{list_any}
-use Rattle.std.specs.HashMap.{get}
-use Rattle.std.proofs.lemmas.List.{map-append}
+use Rattle.std.proofs.lemmas.List.{get_or-map, map-append}
 use Rattle.std.proofs.lemmas.List.Elements.{All-push, All-nil, All-contains, Contains-get_or}
 use Rattle.std.proofs.lemmas.List.Folds.{list_any_at}
 use Rattle.std.proofs.lemmas.Option.{same_Some}
@@ -14,76 +13,21 @@ use Rattle.lz_slot.specs.declared.slot.SlotRead.TheVariants as read
 use Rattle.lz_judge.specs.declared.finding.Finding.{Finding}
 use Rattle.lz_judge.specs.declared.finding.Finding.TheVariants.{Key, BadKey, Twice}
 use Rattle.lz_judge.specs.declared.scan.Scan.{Scan}
-use Rattle.lz_judge.specs.Surveys.{AreFindings, IsFinding, IsFirst, found_keys, is_key, is_sound, open_slot, open_slots, slot_of}
-use Rattle.lz_judge.specs.Scans.{KnowsFirsts, Places, Scanned}
+use Rattle.lz_judge.specs.Surveys.{AreFindings, IsFinding, IsFirst, finding_key, found_keys, is_key, is_sound, open_slot, open_slots, slot_of}
+use Rattle.lz_judge.specs.Places.{IsTable}
+use Rattle.lz_judge.specs.Scans.{Scanned}
 
 pub same_member : (j k : ℕ) → read.Member j ≡ read.Member k → j ≡ k
 same_member j k is = cc
 
-module _ (says : ℕ → SlotRead) where
-  -- no key was placed
-  pub firsts_none : (place_of : ℕ → Option ℕ) → ((k : ℕ) → place_of k ≡ None) → KnowsFirsts says 0 place_of
-  firsts_none place_of none = record {
-    found = λ k i is. absurd (let e : None ≡ Some i = sym (none k) ∙ is in cc);
-    placed = λ k i lt is. absurd (omega (arith, lt));
-  }
-
-  -- nothing was taken
-  pub scanned_none : (scan : Scan) → scan.findings.items ≡ [] → scan.places.entries ≡ [] → Scanned says 0 scan
-  scanned_none scan nothing none = record {
-    findings = rw nothing (record { each = All-nil (IsFinding says); slots = refl });
-    firsts = firsts_none (get nat_eq scan.places) (λ k. rw none refl);
-  }
+-- nothing was taken
+pub scanned_none : (says : ℕ → SlotRead) (scan : Scan) → scan.findings.items ≡ [] → IsTable [] scan.places → Scanned says 0 scan
+scanned_none says scan nothing table = record {
+  findings = rw nothing (record { each = All-nil (IsFinding says); slots = refl });
+  table = rw nothing table;
+}
 
 module _ (says : ℕ → SlotRead) (n : ℕ) where
-  -- a slot without a key of its own
-  pub firsts_kept : (place_of : ℕ → Option ℕ) → ((k : ℕ) → says n ≡ read.Member k → (first : ℕ) × (place_of k ≡ Some first)) → KnowsFirsts says n place_of → KnowsFirsts says (n + 1) place_of
-  firsts_kept place_of there knows = record {
-    found = λ k i is. let at = knows.found k i is in (omega (arith, at.0), at.1);
-    placed = λ k i lt is. ⊎_elim
-        (λ here. there k (ap says (sym here) ∙ is))
-        (λ other. knows.placed k i (omega (arith, lt, other)) is)
-        (cases_eq i n);
-  }
-
-  -- the first slot with its key
-  pub firsts_more : (place_of place_of' : ℕ → Option ℕ) (k : ℕ) → says n ≡ read.Member k → place_of k ≡ None
-      → ((q : ℕ) → place_of' q ≡ (if nat_eq k q then Some n else place_of q)) → KnowsFirsts says n place_of → IsFirst says n k × KnowsFirsts says (n + 1) place_of'
-  firsts_more place_of place_of' k is none updates knows = (
-    first,
-    record {
-      found = λ q i at. ⊎_elim
-          (λ same.
-          let here : place_of' q ≡ Some n = new q same in
-          let last : i ≡ n = same_Some _ _ (sym at ∙ here) in
-          (omega (arith, last), subst (λ (j : ℕ). IsFirst says j q) (sym last) (subst (λ (j : ℕ). IsFirst says n j) same first)))
-          (λ apart.
-          let f = knows.found q i (sym (old q apart) ∙ at) in (omega (arith, f.0), f.1))
-          (cases_eq k q);
-      placed = λ q i lt there. ⊎_elim
-          (λ same. (n, new q same))
-          (λ apart. ⊎_elim
-          (λ last. absurd (apart (same_member k q (sym is ∙ ap says (sym last) ∙ there))))
-          (λ other.
-          let f = knows.placed q i (omega (arith, lt, other)) there in
-          (f.0, old q apart ∙ f.1))
-          (cases_eq i n))
-          (cases_eq k q);
-    },
-  )
-    where
-      new : (q : ℕ) → k ≡ q → place_of' q ≡ Some n
-      new q same = let at = updates q in grind (arith, nat_tests, at)
-
-      old : (q : ℕ) → k ≢ q → place_of' q ≡ place_of q
-      old q apart = let at = updates q in grind (arith, nat_tests, at)
-
-      first : IsFirst says n k
-      first = record {
-        holds = is;
-        lowest = λ j low there. let f = knows.placed k j low there in let e : None ≡ Some f.0 = sym none ∙ f.1 in absurd (cc);
-      }
-
   -- a closed slot has no finding
   pub findings_closed : (found : List Finding) → says n ≡ read.Closed → AreFindings says n found → AreFindings says (n + 1) found
   findings_closed found shut before = record {
@@ -104,23 +48,22 @@ module _ (says : ℕ → SlotRead) (n : ℕ) where
 
   -- one slot more was taken
   pub scanned_closed : (scan : Scan) → says n ≡ read.Closed → Scanned says n scan → Scanned says (n + 1) scan
-  scanned_closed scan shut before = record {
-    findings = findings_closed scan.findings.items shut before.findings;
-    firsts = firsts_kept (get nat_eq scan.places) (λ k is. let e : read.Closed ≡ read.Member k = sym shut ∙ is in absurd cc) before.firsts;
-  }
+  scanned_closed scan shut before = record { findings = findings_closed scan.findings.items shut before.findings; table = before.table }
 
-  pub scanned_bad : (old new : Scan) → new.findings.items ≡ old.findings.items ++ BadKey n ∷ [] → new.places ≡ old.places → says n ≡ read.BadKey → Scanned says n old → Scanned says (n + 1) new
-  scanned_bad old new grows same bad before = record {
-    findings = rw grows (findings_more old.findings.items (BadKey n) (ap (λ r. open_slot r n) bad) refl bad before.findings);
-    firsts = rw same (firsts_kept (get nat_eq old.places) (λ k is. let e : read.BadKey ≡ read.Member k = sym bad ∙ is in absurd cc) before.firsts);
+  pub scanned_more : (old new : Scan) (finding : Finding) {E : Type 0} (r : Result (Unit {0}) E) → says n ≢ read.Closed → slot_of finding ≡ n → IsFinding says finding
+      → OnOk r (new.findings.items ≡ old.findings.items ++ finding ∷ [])
+      → (IsTable (map finding_key old.findings.items) old.places → OnOk r (IsTable (map finding_key new.findings.items) new.places))
+      → Scanned says n old → OnOk r (Scanned says (n + 1) new)
+  scanned_more old new finding (Ok done) some at is grows table before = record {
+    findings = rw grows (findings_more old.findings.items finding (opened_one (says n) some) at is before.findings);
+    table = table before.table;
   }
-
-  pub scanned_placed : (old new : Scan) (finding : Finding) (k : ℕ) → new.findings.items ≡ old.findings.items ++ finding ∷ [] → says n ≡ read.Member k → Places says n finding (get nat_eq new.places)
-      → Scanned says n old → Scanned says (n + 1) new
-  scanned_placed old new finding k grows is placed before = record {
-    findings = rw grows (findings_more old.findings.items finding (ap (λ r. open_slot r n) is) placed.slot placed.true_of before.findings);
-    firsts = placed.firsts;
-  }
+    where
+      opened_one : (r : SlotRead) → r ≢ read.Closed → open_slot r n ≡ n ∷ []
+      opened_one read.Closed some = absurd (some refl)
+      opened_one (read.Member k) some = refl
+      opened_one read.BadKey some = refl
+  scanned_more old new finding (Err fault) some at is grows table before = tt
 
 -- the slots that aren't closed
 any_append : (i : ℕ) (xs ys : List ℕ) → list_any (λ j. j == i) (xs ++ ys) ≡ (list_any (λ j. j == i) xs || list_any (λ j. j == i) ys)
@@ -185,6 +128,52 @@ module _ (says : ℕ → SlotRead) (n : ℕ) (found : List Finding) (findings : 
 
   pub found_below : (finding : Finding) → Contains found finding → slot_of finding < n
   found_below finding at = open_below says n (slot_of finding) (ap (list_any (λ j. j == slot_of finding)) (sym findings.slots) ∙ at_found found finding at)
+
+  -- a key that a slot holds is told by a finding
+  pub key_told : (i k : ℕ) → i < n → says i ≡ read.Member k → (first : ℕ) × Contains found (Key first k)
+  key_told i k lt is = let (finding, at, here) = finding_of i lt (some i k is) in told finding at (All-contains (IsFinding says) found finding findings.each at) here
+    where
+      some : (i k : ℕ) → says i ≡ read.Member k → says i ≢ read.Closed
+      some i k is shut = let e : read.Member k ≡ read.Closed = sym is ∙ shut in cc
+
+      -- the first slot of a key that stands again
+      told_first : (first : ℕ) → IsFirst says first k → (finding : Finding) → Contains found finding → IsFinding says finding → slot_of finding ≡ first → (first : ℕ) × Contains found (Key first k)
+      told_first first one (Key j q) at here same =
+          let key : q ≡ k = same_member q k (sym here.holds ∙ ap says same ∙ one.holds) in (j, subst (λ (p : ℕ). Contains found (Key j p)) key at)
+      told_first first one (BadKey j) at here same = absurd (let e : read.BadKey ≡ read.Member k = sym here ∙ ap says same ∙ one.holds in cc)
+      told_first first one (Twice j lower) at here same =
+          let (less, (q, holds, below)) = here in
+          let key : q ≡ k = same_member q k (sym holds ∙ ap says same ∙ one.holds) in
+          absurd (one.lowest lower (omega (arith, less, same)) (below.holds ∙ ap (λ (p : ℕ). read.Member p) key))
+
+      told : (finding : Finding) → Contains found finding → IsFinding says finding → slot_of finding ≡ i → (first : ℕ) × Contains found (Key first k)
+      told (Key j q) at here same = let key : q ≡ k = same_member q k (sym here.holds ∙ ap says same ∙ is) in (j, subst (λ (p : ℕ). Contains found (Key j p)) key at)
+      told (BadKey j) at here same = absurd (let e : read.BadKey ≡ read.Member k = sym here ∙ ap says same ∙ is in cc)
+      told (Twice j first) at here same =
+          let (less, (q, holds, one)) = here in
+          let key : q ≡ k = same_member q k (sym holds ∙ ap says same ∙ is) in
+          let (finding, there, place) = finding_of first (omega (arith, less, same, lt)) (some first q one.holds) in
+          told_first first (subst (λ (p : ℕ). IsFirst says first p) key one) finding there (All-contains (IsFinding says) found finding findings.each there) place
+
+  -- the finding of the table that has this key
+  pub found_again : (k i : ℕ) (finding : Finding) → says n ≡ read.Member k → i < length found → finding ≡ get_or found i finding → get_or (map finding_key found) i None ≡ Some k → IsFinding says (Twice n (slot_of finding))
+  found_again k i finding is lt at key = again finding (i, lt, sym at) (ap finding_key at ∙ sym (get_or-map finding_key found i finding None lt) ∙ key)
+    where
+      again : (finding : Finding) → Contains found finding → finding_key finding ≡ Some k → IsFinding says (Twice n (slot_of finding))
+      again (Key j q) there has =
+          let same : q ≡ k = same_Some q k has in
+          (found_below (Key j q) there, (k, is, subst (λ (p : ℕ). IsFirst says j p) same (All-contains (IsFinding says) found (Key j q) findings.each there)))
+      again (BadKey j) there has = absurd (cc)
+      again (Twice j first) there has = absurd (cc)
+
+  -- a key that none has
+  pub found_first : (k : ℕ) → says n ≡ read.Member k → ((i : ℕ) → get_or (map finding_key found) i None ≢ Some k) → IsFirst says n k
+  found_first k is none = record {
+    holds = is;
+    lowest = λ j low there.
+        let (first, (i, lt, at)) = key_told j k low there in
+        none i (get_or-map finding_key found i (Key first k) None lt ∙ ap finding_key at);
+  }
 
   module _ (sound : All (λ f. IsTrue (is_sound f)) found) where
     -- each slot that isn't closed holds a key of its own

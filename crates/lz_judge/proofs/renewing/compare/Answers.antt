@@ -1,5 +1,5 @@
 use Rattle.std.proofs.Common.{List, ℕ, refl}
-use Rattle.lz_judge.specs.Surveys.{IsSurveyed, found_keys}
+use Rattle.lz_judge.specs.Surveys.{IsSurveyed}
 use Rattle.lz_judge.specs.declared.renewing.RenewFlaw.TheVariants.{Missing, Extra}
 use Rattle.lz_judge.proofs.OneSet.{extra, flaw_parts, missing, none_extra, none_missing}
 use Rattle.lz_judge.proofs.renewing.compare.Goals as goal
@@ -12,15 +12,15 @@ returns-in_default-held_findings-clause-same c = λ before after old new. (λ ne
 
 pub returns-in-Some-first_outside : goal.returns-in-Some-first_outside
 returns-in-Some-first_outside c =
-    let first = c.in-Some-first_outside.ensures (found_keys c.in-Some-held_findings.after.now) c.in_ok-kept.ensures in
+    let first = c.in-Some-first_outside.ensures c.in_ok-kept.ensures in
     let flaw = λ (before : List ℕ) (after : List ℕ) (old : IsSurveyed before c.args.old.now) (new : IsSurveyed after c.args.new.now).
     missing before after c.in-Some.before.now c.in-Some-held_findings.after.now (c.in-Some.ensures before old) (c.in-Some-held_findings.ensures after new) c.in-Some-first_outside.slot first in
     record { same = λ before after old new. (λ never. absurd (cc), λ one. absurd (flaw_parts before after (Missing c.in-Some-first_outside.slot) (flaw before after old new) one)); flaw = flaw }
 
 pub returns-in-Some-first_outside-2 : goal.returns-in-Some-first_outside-2
 returns-in-Some-first_outside-2 c =
-    let within = c.in_default-first_outside.ensures (found_keys c.in-Some-held_findings.after.now) c.in_ok-kept.ensures in
-    let first = c.in-Some-first_outside-2.ensures (found_keys c.in-Some.before.now) c.in_ok-given.ensures in
+    let within = c.in_default-first_outside.ensures c.in_ok-kept.ensures in
+    let first = c.in-Some-first_outside-2.ensures c.in_ok-given.ensures in
     let flaw = λ (before : List ℕ) (after : List ℕ) (old : IsSurveyed before c.args.old.now) (new : IsSurveyed after c.args.new.now).
     let kept = c.in-Some.ensures before old in
     let given = c.in-Some-held_findings.ensures after new in
@@ -29,8 +29,8 @@ returns-in-Some-first_outside-2 c =
 
 pub returns : goal.returns
 returns c =
-    let within = c.in_default-first_outside.ensures (found_keys c.in-Some-held_findings.after.now) c.in_ok-kept.ensures in
-    let inside = c.in_default-first_outside-2.ensures (found_keys c.in-Some.before.now) c.in_ok-given.ensures in
+    let within = c.in_default-first_outside.ensures c.in_ok-kept.ensures in
+    let inside = c.in_default-first_outside-2.ensures c.in_ok-given.ensures in
     record {
       same = λ before after old new.
           let kept = c.in-Some.ensures before old in

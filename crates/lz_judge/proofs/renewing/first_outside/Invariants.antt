@@ -1,8 +1,9 @@
 use Rattle.std.proofs.Common.{take}
-use Rattle.std.specs.Prelude.{All}
-use Rattle.lz_slot.specs.Sets.{Keys}
-use Rattle.lz_judge.specs.Renewals.{AreKeys, IsWithin}
+use Rattle.std.specs.Prelude.{All, map}
+use Rattle.lz_judge.specs.Places.{IsTable}
+use Rattle.lz_judge.specs.Renewals.{IsWithin}
+use Rattle.lz_judge.specs.Surveys.{finding_key, found_keys}
 use Rattle.lz_judge.proofs.renewing.first_outside.Given as goal
 
 abbrev pub invariant-loop-finding : goal.invariant-loop-finding
-invariant-loop-finding l = (S : Keys) → AreKeys l.keys S → All (IsWithin S) (take l.finding-index l.findings)
+invariant-loop-finding l = IsTable (map finding_key l.others) l.places → All (IsWithin (found_keys l.others)) (take l.finding-index l.findings)

@@ -1,14 +1,19 @@
-use Rattle.std.proofs.Common.{◌∙◌, refl}
-use Rattle.lz_judge.proofs.Surveys.SlotFinding.{scanned_closed, scanned_bad, scanned_placed}
+use Rattle.std.proofs.Common.{◌≡◌, ◌∙◌, refl, sym}
+use Rattle.lz_slot.specs.declared.slot.SlotRead.TheVariants as read
+use Rattle.lz_judge.proofs.Surveys.SlotFinding.{scanned_closed, scanned_more}
 use Rattle.lz_judge.proofs.scan.Scan.note.Goals as goal
 
 pub returns-in-Closed : goal.returns-in-Closed
 returns-in-Closed c = λ says is before. scanned_closed says c.args.slot _ (is ∙ c.in-Closed.is) before
 
-pub returns-in_ok-push-in-BadKey : goal.returns-in_ok-push-in-BadKey
-returns-in_ok-push-in-BadKey c = λ says is before. scanned_bad says c.args.slot c.args.self.now _ c.in_ok-push-in-BadKey.ensures.items refl (is ∙ c.in-BadKey.is) before
+pub returns-in-BadKey : goal.returns-in-BadKey
+returns-in-BadKey c = λ says is before.
+    let here = is ∙ c.in-BadKey.is in
+    scanned_more says c.args.slot c.args.self.now c.add.new.self _ c.add.result (λ shut. let e : read.BadKey ≡ read.Closed = sym here ∙ shut in cc) refl here c.add.ensures.findings c.add.ensures.table before
 
-pub returns-in_ok-push-in-Member : goal.returns-in_ok-push-in-Member
-returns-in_ok-push-in-Member c = λ says is before.
+pub returns-in-Member : goal.returns-in-Member
+returns-in-Member c = λ says is before.
     let here = is ∙ c.in-Member.is in
-    scanned_placed says c.args.slot c.args.self.now _ _ _ c.in_ok-push-in-Member.ensures.items here (c.in_ok-finding-in-Member.ensures says here before.firsts) before
+    let told = c.found.ensures says here before in
+    scanned_more says c.args.slot c.args.self.now c.add-in-Member.new.self _ c.add-in-Member.result (λ shut. let e : read.Member c.in-Member.key ≡ read.Closed = sym here ∙ shut in cc)
+    told.1 told.0 c.add-in-Member.ensures.findings c.add-in-Member.ensures.table before

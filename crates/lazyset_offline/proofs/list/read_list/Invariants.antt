@@ -1,0 +1,13 @@
+use Rattle.std.proofs.Common.{◌≡◌, ◌<◌, length}
+use Rattle.std.specs.Prelude.{IfSome}
+use Rattle.lazyset_offline.specs.ListParts.{IsOpenList}
+use Rattle.lazyset_offline.proofs.ListPieces.{IsLeftOf}
+use Rattle.lazyset_offline.proofs.list.read_list.Given as goal
+
+abbrev pub invariant-pieces : goal.invariant-pieces
+invariant-pieces g l = record {
+  kept : IsOpenList l.list;
+  same : l.list.format ≡ l.fn.format;
+  room : 0 < length l.piece;
+  read : IfSome (g.R.Read.remaining l.initial.reader) (IsLeftOf l.list (g.R.Read.remaining l.reader));
+}

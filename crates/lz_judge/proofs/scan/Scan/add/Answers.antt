@@ -1,0 +1,13 @@
+use Rattle.std.proofs.Common.{List, ◌∷◌, [], ◌∙◌, ap, subst}
+use Rattle.std.specs.Prelude.{OnOk, map}
+use Rattle.std.proofs.lemmas.List.{map-append}
+use Rattle.lz_judge.specs.Places.{IsTable}
+use Rattle.lz_judge.specs.Surveys.{finding_key}
+use Rattle.lz_judge.specs.declared.finding.Finding.{Finding}
+use Rattle.lz_judge.proofs.scan.Scan.add.Goals as goal
+
+pub returns-clause-table : goal.returns-clause-table
+returns-clause-table c = λ table.
+    let old = c.args.self.now.findings.items in
+    let grows = ap (map finding_key) (c.as_slice.ensures.value ∙ c.in_ok-push.ensures.items) ∙ map-append finding_key old (c.args.finding ∷ []) in
+    subst (λ (l : List Finding). OnOk c.add.result (IsTable (map finding_key l) c.add.new.self)) c.as_slice.ensures.value (c.add.ensures (map finding_key old) (finding_key c.args.finding) grows table)
