@@ -75,7 +75,9 @@ impl<S: Stream> Client<S> {
     }
 
     /// Sends what is unsent, until the connection takes no more.
-    pub(crate) fn write(&mut self) {
+    pub fn write(&mut self)
+        ensures { self.new.asked ≡ self.old.asked }
+    {
         'tries: for _ in 0..u64::MAX {
             if !self.send() {
                 return;
@@ -84,7 +86,9 @@ impl<S: Stream> Client<S> {
     }
 
     // Sends a beginning of what is unsent, if something is, and says whether some was taken.
-    fn send(&mut self) -> bool {
+    fn send(&mut self) -> bool
+        ensures { self.new.asked ≡ self.old.asked }
+    {
         if self.lost || self.talk.unsent().is_empty() {
             return false;
         }
@@ -146,6 +150,13 @@ impl<S: Stream> Client<S> {
     /// Whether there is more to do for it before it is read again.
     pub(crate) fn is_occupied(&self) -> bool {
         self.is_over() || self.has_unsent() || self.waits()
+    }
+
+    /// Where it has nothing to do, it keeps no more room than a little.
+    pub(crate) fn rest(&mut self) {
+        if !self.is_occupied() {
+            self.talk.rest();
+        }
     }
 
     /// Tells nothing more.

@@ -9,6 +9,11 @@ use std::alloc::{AllocError, Global};
 use std::collections::VecDeque;
 use std::marker::Model;
 
+/// For how many items, and for how many bytes to be sent, a conversation keeps room that has nothing to do.
+const FEW: usize = 4;
+
+const LITTLE: usize = 64;
+
 /// What one client has sent and is to be sent. Contracts see it as what it holds; `IsAt` says where it stands in the session that its
 /// client has: what came of it was carried out in order, and each text of a fault or a reply was put after the one before it.
 #[derive(Drop)]
@@ -159,6 +164,26 @@ impl Conversation {
             return false;
         }
         first_of(&self.items, &self.newest).is_none()
+    }
+
+    /// Gives the room back of what was carried out and sent, but for a little.
+    pub fn rest(&mut self)
+        ensures { self.new ≡ self.old }
+    {
+        self.items.shrink_to_fit();
+        self.newest.shrink_to(FEW);
+        self.text.shrink_to(LITTLE);
+    }
+
+    /// For how many items, and for how many bytes to be sent, it has room.
+    pub fn room(&self) -> (usize, usize)
+        ensures unsent { length self.now.unsent ≤ result.1 }
+    {
+        let items = self.items.capacity();
+        (
+            items.saturating_add(self.newest.capacity()),
+            self.text.capacity(),
+        )
     }
 
     // The item to be carried out next.

@@ -7,6 +7,13 @@ use crate::stream::Stream;
 use lz_proto::Request;
 use std::alloc::{AllocError, Global};
 use std::collections::VecDeque;
+use std::time::Duration;
+
+/// For how many milliseconds a turn counts at most: in a longer one the loop didn't listen, and no client was silent.
+const LONGEST_TURN: u64 = 1_000;
+
+/// After how many milliseconds it is looked again which clients were silent for too long.
+const TENTH: u64 = 100;
 
 /// The clients of the loop, each at a place with a number, its token. Those that have a request wait in a queue, each once.
 #[derive(Drop)]
@@ -14,10 +21,16 @@ pub struct Crowd<S: Stream> {
     places: Vec<Place<S>>,
     vacant: Vec<usize>,
     queue: VecDeque<usize>,
-    /// How many were admitted.
+    /// How many were admitted, and how many of these have left.
     admitted: u64,
-    /// The time, in seconds.
-    second: u64,
+    parted: u64,
+    /// Of how many that are here the session is over.
+    leaving: usize,
+    /// The time by its own clock, in milliseconds, and when it was looked last which clients were silent.
+    now: u64,
+    looked: u64,
+    /// The time by the system's clock, as it was noted last.
+    noted: Option<Duration>,
 }
 
 impl<S: Stream> Crowd<S> {
@@ -35,7 +48,11 @@ impl<S: Stream> Crowd<S> {
             vacant,
             queue,
             admitted: 0,
-            second: 0,
+            parted: 0,
+            leaving: 0,
+            now: 0,
+            looked: 0,
+            noted: None,
         })
     }
 
@@ -49,6 +66,11 @@ impl<S: Stream> Crowd<S> {
         self.admitted
     }
 
+    /// How many clients have left.
+    pub fn parted(&self) -> u64 {
+        self.parted
+    }
+
     /// Whether all have left.
     pub fn is_empty(&self) -> bool {
         self.vacant.len() == self.places.len()
@@ -57,6 +79,11 @@ impl<S: Stream> Crowd<S> {
     /// Whether none waits for its turn.
     pub fn is_quiet(&self) -> bool {
         self.queue.is_empty()
+    }
+
+    /// Whether a client is waited for whose session is over.
+    pub fn is_left(&self) -> bool {
+        self.leaving > 0
     }
 
     /// How many wait for their turns.
@@ -75,27 +102,27 @@ impl<S: Stream> Crowd<S> {
             return;
         };
         self.admitted = self.admitted.saturating_add(1);
-        let second = self.second;
+        let now = self.now;
         if let Some(place) = self.places.get_mut(token) {
-            place.admit(client, second);
+            place.admit(client, now);
         }
         self.tend(token, buffer);
     }
 
     /// The connection with this token can be read or written.
     pub fn hear(&mut self, token: usize, buffer: &mut [u8]) {
-        let second = self.second;
+        let now = self.now;
         if let Some(place) = self.places.get_mut(token) {
-            place.hear(second);
+            place.hear(now);
         }
         self.tend(token, buffer);
     }
 
     /// Takes back a client that a pass has answered.
     pub fn take_back(&mut self, token: usize, client: Client<S>, buffer: &mut [u8]) {
-        let second = self.second;
+        let now = self.now;
         if let Some(place) = self.places.get_mut(token) {
-            place.take_back(client, second);
+            place.take_back(client, now);
         }
         self.tend(token, buffer);
     }
@@ -113,26 +140,54 @@ impl<S: Stream> Crowd<S> {
         None
     }
 
-    /// Notes the time, and closes the connections on which nothing came or went for too long, where another second has begun.
-    pub fn tick(&mut self, second: u64, idle: Option<u64>) {
-        if second == self.second {
+    /// The client of this token with the request that waits, if one does. Where none does it is read once more.
+    pub fn take_last(&mut self, token: usize, buffer: &mut [u8]) -> Option<(Client<S>, Request)>
+        ensures { IfSome result (λ last. (last.0.asked ≡ Some last.1) × (last.1 ≢ Request.Quit)) }
+    {
+        self.places.get_mut(token)?.take_last(buffer)
+    }
+
+    /// Notes the time by the system's clock. Its own goes on as that does, but not by more than a second at once.
+    pub fn note_time(&mut self, now: Duration) {
+        if let Some(passed) = self.noted.and_then(|noted| now.checked_sub(noted)) {
+            let counted = millis(passed).min(LONGEST_TURN);
+            self.now = self.now.saturating_add(counted);
+        }
+        self.noted = Some(now);
+    }
+
+    /// Closes the connections on which nothing came or went for longer than so, and those of clients that don't leave, ten times in a
+    /// second.
+    pub fn close_idle(&mut self, idle: Option<Duration>) {
+        if self.now.saturating_sub(self.looked) < TENTH {
             return;
         }
-        self.second = second;
+        self.looked = self.now;
+        let idle = idle.map(millis);
         for token in 0..self.places.len() {
             let Some(place) = self.places.get_mut(token) else {
                 return;
             };
-            if place.is_idle(second, idle) {
+            if place.is_idle(self.now, idle) {
                 self.close(token);
             }
         }
     }
 
-    /// Sends once what is unsent, and ends each session.
+    /// Ends each session, once what is unsent is sent.
     pub fn part_all(&mut self, buffer: &mut [u8]) {
-        for place in self.places.iter_mut() {
-            place.part(buffer);
+        for token in 0..self.places.len() {
+            if let Some(place) = self.places.get_mut(token) {
+                place.part();
+            }
+            self.tend(token, buffer);
+        }
+    }
+
+    /// Closes each connection.
+    pub fn close_all(&mut self) {
+        for token in 0..self.places.len() {
+            self.close(token);
         }
     }
 
@@ -141,7 +196,13 @@ impl<S: Stream> Crowd<S> {
         let Some(place) = self.places.get_mut(token) else {
             return;
         };
-        match place.tend(buffer) {
+        let was_leaving = place.leaves();
+        let wish = place.tend(buffer);
+        if place.leaves() && !was_leaving {
+            place.end(self.now);
+            self.leaving = self.leaving.saturating_add(1);
+        }
+        match wish {
             Wish::Nothing => {}
             Wish::Turn => {
                 if place.queue() && self.queue.push_back(token).is_err() {
@@ -152,13 +213,25 @@ impl<S: Stream> Crowd<S> {
         }
     }
 
-    // Closes a connection. Its token may be had again.
+    // Closes a connection, where there is one. Its token may be had again.
     fn close(&mut self, token: usize) {
         let Some(place) = self.places.get_mut(token) else {
             return;
         };
-        place.close();
-        // There is room for each.
-        let _ = self.vacant.push(token);
+        if place.leaves() {
+            self.leaving = self.leaving.saturating_sub(1);
+        }
+        if place.close() {
+            self.parted = self.parted.saturating_add(1);
+            // There is room for each.
+            let _ = self.vacant.push(token);
+        }
     }
+}
+
+// A time in whole milliseconds.
+fn millis(time: Duration) -> u64 {
+    time.as_secs()
+        .saturating_mul(1_000)
+        .saturating_add(u64::from(time.subsec_millis()))
 }

@@ -8,6 +8,7 @@
 mod client;
 mod conversation;
 mod crowd;
+mod loads;
 mod place;
 mod poller;
 mod sockets;
@@ -16,6 +17,7 @@ mod stream;
 pub use client::Client;
 pub use conversation::Conversation;
 pub use crowd::Crowd;
+pub use loads::Loads;
 pub use poller::Poller;
 pub use sockets::{Socket, Sockets};
 pub use stream::{Received, Stream, Taken};

@@ -8,6 +8,9 @@ use lz_proto::Request;
 /// How many pieces of one client are read in a turn, at most.
 const MOST_READS: usize = 16;
 
+/// For how many milliseconds a client whose session is over is waited for.
+const FAREWELL: u64 = 100;
+
 /// What the client of a place wants.
 #[derive(Clone, Copy, PartialEq, Eq)]
 pub(crate) enum Wish {
@@ -27,9 +30,11 @@ pub(crate) struct Place<S: Stream> {
     readable: bool,
     /// It waits for its turn.
     queued: bool,
+    /// Its session is to end once all is sent, whatever waits.
+    parts: bool,
     /// Its session is over, and what it still sends is thrown away.
     leaves: bool,
-    /// In which second something came or went last.
+    /// In which millisecond something came or went last.
     moved: u64,
 }
 
@@ -39,31 +44,33 @@ impl<S: Stream> Place<S> {
             client: None,
             readable: false,
             queued: false,
+            parts: false,
             leaves: false,
             moved: 0,
         }
     }
 
-    /// Takes a client in that is new, in this second.
-    pub(crate) fn admit(&mut self, client: Client<S>, second: u64) {
+    /// Takes a client in that is new, in this millisecond.
+    pub(crate) fn admit(&mut self, client: Client<S>, now: u64) {
         self.client = Some(client);
         self.readable = true;
         self.queued = false;
+        self.parts = false;
         self.leaves = false;
-        self.moved = second;
+        self.moved = now;
     }
 
     /// Takes a client back that a pass has answered.
-    pub(crate) fn take_back(&mut self, client: Client<S>, second: u64) {
+    pub(crate) fn take_back(&mut self, client: Client<S>, now: u64) {
         self.client = Some(client);
-        self.moved = second;
+        self.moved = now;
     }
 
     /// Its connection can be read or written. One whose session is over is waited for no longer because of that.
-    pub(crate) fn hear(&mut self, second: u64) {
+    pub(crate) fn hear(&mut self, now: u64) {
         self.readable = true;
         if !self.leaves {
-            self.moved = second;
+            self.moved = now;
         }
     }
 
@@ -89,6 +96,21 @@ impl<S: Stream> Place<S> {
         None
     }
 
+    /// Hands its client out with the request that waits, if one does. Where none does it is read once more.
+    pub(crate) fn take_last(&mut self, buffer: &mut [u8]) -> Option<(Client<S>, Request)>
+        ensures { IfSome result (λ last. (last.0.asked ≡ Some last.1) × (last.1 ≢ Request.Quit)) }
+    {
+        let mut client = self.client.take()?;
+        if !client.waits() {
+            let _ = client.read(buffer);
+        }
+        if let Some(request) = client.ask() {
+            return Some((client, request));
+        }
+        self.client = Some(client);
+        None
+    }
+
     /// Does for its client what needs no pass.
     pub(crate) fn tend(&mut self, buffer: &mut [u8]) -> Wish {
         let Some(client) = &mut self.client else {
@@ -99,48 +121,62 @@ impl<S: Stream> Place<S> {
         }
         client.write();
         for _ in 0..MOST_READS {
-            if !self.readable || client.is_occupied() {
+            if self.parts || !self.readable || client.is_occupied() {
                 break;
             }
             self.readable = client.read(buffer);
         }
-        if client.is_over() {
+        if client.is_over() || self.parts && !client.has_unsent() {
             self.leaves = true;
             client.leave();
             return see_off(client, buffer);
         }
-        if !client.has_unsent() && (self.readable || client.waits()) {
+        if client.has_unsent() || self.parts {
+            return Wish::Nothing;
+        }
+        if self.readable || client.waits() {
             return Wish::Turn;
         }
+        client.rest();
         Wish::Nothing
     }
 
-    /// Sends once what is unsent, and ends the session.
-    pub(crate) fn part(&mut self, buffer: &mut [u8]) {
-        if let Some(client) = &mut self.client {
-            client.write();
-            client.leave();
-            let _ = see_off(client, buffer);
-        }
+    /// Its session is to end once all is sent, whatever waits.
+    pub(crate) fn part(&mut self) {
+        self.parts = true;
+        self.queued = false;
     }
 
-    /// Whether its client is to be closed since nothing came or went for so many seconds. One whose session is over isn't waited for
-    /// so long.
-    pub(crate) fn is_idle(&self, second: u64, idle: Option<u64>) -> bool {
+    /// Its session has ended in this millisecond.
+    pub(crate) fn end(&mut self, now: u64) {
+        self.moved = now;
+    }
+
+    /// Whether its session is over.
+    pub(crate) fn leaves(&self) -> bool {
+        self.leaves
+    }
+
+    /// Whether its client is to be closed since nothing came or went for more milliseconds than so. One whose session is over isn't
+    /// waited for so long.
+    pub(crate) fn is_idle(&self, now: u64, idle: Option<u64>) -> bool {
         if self.client.is_none() || self.queued {
             return false;
         }
-        let still = second.saturating_sub(self.moved);
+        let still = now.saturating_sub(self.moved);
         match idle {
             Some(most) if still > most => true,
-            _ => self.leaves && still > 1,
+            _ => self.leaves && still >= FAREWELL,
         }
     }
 
-    /// Closes its connection.
-    pub(crate) fn close(&mut self) {
+    /// Closes its connection, and says whether there was one.
+    pub(crate) fn close(&mut self) -> bool {
+        let was_taken = self.client.is_some();
         self.client = None;
         self.queued = false;
+        self.leaves = false;
+        was_taken
     }
 }
 

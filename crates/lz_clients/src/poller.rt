@@ -1,10 +1,11 @@
 //! What tells a loop of its connections.
 use crate::stream::Stream;
+use std::io;
 use std::time::Duration;
 
 /// Connections that come, and those that can be read or written.
 pub trait Poller {
-    ghost use Rattle.std.specs.Prelude.{IfSome};
+    ghost use Rattle.std.specs.Prelude.{IfOk, IfSome};
     ghost use Rattle.lz_clients.specs.Streams.{IsFresh};
 
     type Stream: Stream;
@@ -15,7 +16,7 @@ pub trait Poller {
     fn poll(&mut self, patience: Duration, ready: &mut Vec<usize>);
 
     /// A connection that has come, if there is one, which has this token from now on. Its stream is dropped before another one gets
-    /// the token.
-    fn accept(&mut self, token: usize) -> Option<Self::Stream>
-        ensures { IfSome result (λ stream. IsFresh (Self.Stream.traffic stream)) };
+    /// the token. Where the system fails the connection may wait.
+    fn accept(&mut self, token: usize) -> io::Result<Option<Self::Stream>>
+        ensures { IfOk result (λ came. IfSome came (λ stream. IsFresh (Self.Stream.traffic stream))) };
 }

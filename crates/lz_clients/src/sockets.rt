@@ -1,4 +1,5 @@
 //! The connections of a loop, as the system's sockets.
+use crate::loads::Loads;
 use crate::poller::Poller;
 use crate::stream::{Received, Stream, Taken};
 use mio::net::{TcpListener as Listener, TcpStream};
@@ -17,8 +18,10 @@ const LISTENER: Token = Token(usize::MAX);
 /// For how many milliseconds a loop waits before it tries again where it can't ask what is ready.
 const PAUSE: u64 = 20;
 
+/// For how many milliseconds a loop leaves a connection to those that have fewer.
+const COURTESY: u64 = 2;
+
 /// What a loop waits for: a listener, which it may share with others, and the connections that it took there.
-#[derive(Drop)]
 pub struct Sockets<'a, R: Clock> {
     rt: &'a R,
     poll: Poll,
@@ -26,17 +29,55 @@ pub struct Sockets<'a, R: Clock> {
     listener: Listener,
     /// A connection may wait at the listener.
     has_come: bool,
+    /// How many connections each loop has, and which of these this one is.
+    loads: &'a Loads,
+    index: usize,
+    /// Since when a connection is left to those that have fewer.
+    left: Option<Duration>,
 }
 
 /// A connection whose calls don't wait.
-#[derive(Drop)]
-pub struct Socket {
+pub struct Socket<'a> {
     stream: TcpStream,
+    loads: &'a Loads,
+    index: usize,
+}
+
+impl<'a, R: Clock> Drop for Sockets<'a, R> {
+    fn drop(self) {
+        self.loads.end(self.index);
+        let Sockets {
+            rt: _,
+            poll: _,
+            events: _,
+            listener: _,
+            has_come: _,
+            loads: _,
+            index: _,
+            left: _,
+        } = self;
+    }
+}
+
+impl<'a> Drop for Socket<'a> {
+    fn drop(self) {
+        self.loads.take_off(self.index);
+        let Socket {
+            stream: _,
+            loads: _,
+            index: _,
+        } = self;
+    }
 }
 
 impl<'a, R: Net + Clock + AllocGlobal> Sockets<'a, R> {
-    /// Waits for the connections of the listener, at which accepting doesn't wait any more from now on.
-    pub fn new(rt: &'a R, listener: &TcpListener) -> io::Result<Sockets<'a, R>> {
+    /// Waits for the connections of the listener, at which accepting doesn't wait any more from now on, as the loop of this number.
+    pub fn new(
+        rt: &'a R,
+        listener: &TcpListener,
+        loads: &'a Loads,
+        index: usize,
+    ) -> io::Result<Sockets<'a, R>> {
         listener.set_nonblocking(true)?;
         let mut listener = Listener::from_std(listener.try_clone()?);
         let poll = Poll::new(rt)?;
@@ -45,20 +86,45 @@ impl<'a, R: Net + Clock + AllocGlobal> Sockets<'a, R> {
         let Ok(events) = Events::with_capacity(rt.alloc(), EVENTS) else {
             return Err(io::Error::from(ErrorKind::OutOfMemory));
         };
+        loads.begin(index);
         Ok(Sockets {
             rt,
             poll,
             events,
             listener,
             has_come: true,
+            loads,
+            index,
+            left: None,
         })
     }
 }
 
+impl<'a, R: Clock> Sockets<'a, R> {
+    // Whether a connection that may have come is left to a loop that has fewer, for a while.
+    fn leaves_it(&mut self) -> bool {
+        if !self.loads.is_more(self.index) {
+            self.left = None;
+            return false;
+        }
+        let Ok(now) = self.rt.monotonic() else {
+            return false;
+        };
+        let since = self.left.unwrap_or(now);
+        let is_left = now.saturating_sub(since) < Duration::from_millis(COURTESY);
+        self.left = if is_left { Some(since) } else { None };
+        is_left
+    }
+}
+
 impl<'a, R: Clock> Poller for Sockets<'a, R> {
-    type Stream = Socket;
+    type Stream = Socket<'a>;
 
     fn poll(&mut self, patience: Duration, ready: &mut Vec<usize>) {
+        let patience = match self.left {
+            Some(_) => patience.min(Duration::from_millis(COURTESY)),
+            None => patience,
+        };
         // The system tells of a change once, so it isn't asked before there is room for what it tells.
         if ready.reserve(EVENTS).is_err()
             || self.poll.poll(&mut self.events, Some(patience)).is_err()
@@ -76,30 +142,35 @@ impl<'a, R: Clock> Poller for Sockets<'a, R> {
     }
 
     #[tactic(auto, unfolding(crate::specs::Streams::IsFresh))]
-    fn accept(&mut self, token: usize) -> Option<Socket> {
-        if !self.has_come {
-            return None;
+    fn accept(&mut self, token: usize) -> io::Result<Option<Socket<'a>>> {
+        if !self.has_come || self.leaves_it() {
+            return Ok(None);
         }
         let mut stream = match self.listener.accept() {
             Ok((stream, _)) => stream,
-            Err(error) => {
-                // After another error, as where no descriptor is left, the loop's next turn tries again.
-                self.has_come = error.kind() != ErrorKind::WouldBlock;
-                return None;
+            Err(error) if error.kind() == ErrorKind::WouldBlock => {
+                self.has_come = false;
+                return Ok(None);
             }
+            // As where no descriptor is left: the loop's next turn tries again.
+            Err(error) => return Err(error),
         };
         // A reply goes out at once; where that can't be asked for it may go out later.
         let _ = stream.set_nodelay(true);
         let both = Interest::READABLE | Interest::WRITABLE;
         self.poll
             .registry()
-            .register(&mut stream, Token(token), both)
-            .ok()?;
-        Some(Socket { stream })
+            .register(&mut stream, Token(token), both)?;
+        self.loads.add(self.index);
+        Ok(Some(Socket {
+            stream,
+            loads: self.loads,
+            index: self.index,
+        }))
     }
 }
 
-impl Stream for Socket {
+impl<'a> Stream for Socket<'a> {
     ghost use Rattle.std.specs.Prelude.{None, ⊤};
 
     ghost traffic = { λ _. None };

@@ -1,3 +1,4 @@
 pub mod Askings
 pub mod AskingRows
+pub mod FreePasses
 pub mod HandedBack

@@ -10,7 +10,7 @@ abbrev pub IfReplied : {N B : Type 0} → Answered N B → (Pass → Reply → T
 IfReplied (Replied pass reply) P = P pass reply
 IfReplied (Again next) P = Unit {0}
 
--- so it is where a second call is under way
+-- so it is where one more call is to begin
 abbrev pub IfAgain : {N B : Type 0} → Answered N B → (Asked → Type 0) → Type 0
 IfAgain (Replied pass reply) P = Unit {0}
 IfAgain (Again next) P = P next

@@ -8,6 +8,7 @@
 mod asking;
 mod free_pass;
 mod loops;
+mod moments;
 mod room;
 mod serving;
 mod shares;

@@ -1,17 +1,16 @@
 //! Loops that serve a set together, each with passes and connections of its own.
-ghost use Rattle.std.specs.Prelude.{◌≡◌, ◌+◌, [], true, false, All, vec_len};
+ghost use Rattle.std.specs.Prelude.{◌≡◌, ◌+◌, true, false, All, max, min, vec_len};
 ghost use Rattle.std.specs.List.{Any};
 ghost use Rattle.lz_board.specs.Seats.{part};
 ghost use Rattle.lz_set.specs.Names.{MayCall};
 ghost use Rattle.lz_serve.specs.Halts.{IsCalm, IsCalmAfter, SawHalt};
 
-use crate::serving::{RoomBounds, serve_room};
+use crate::serving::{RoomBounds, none_served, serve_room};
 use crate::shares::{Finished, Group, Share, join_all, shares_of};
-use lz_clients::Sockets;
+use lz_clients::{Loads, Sockets};
 use lz_disk::Disk;
-use lz_serve::{Given, Observer, Served};
+use lz_serve::{Given, Lack, Observer, Served};
 use lz_set::{Named, Pass, Set, StepGate};
-use std::alloc::Global;
 use std::marker::Brand;
 use std::net::{Net, TcpListener};
 use std::sync::Wait;
@@ -34,6 +33,14 @@ pub struct LoopBounds {
 }
 
 impl LoopBounds {
+    /// How many loops serve so many passes.
+    pub fn count(&self, passes: usize) -> usize
+        ensures { result ≡ max 1 (min passes (min self.now.loops self.now.connections)) }
+    {
+        let most = self.loops.min(self.connections);
+        passes.min(most).max(1)
+    }
+
     // The bounds of one loop, which has room for so many connections.
     fn room(&self, connections: usize) -> RoomBounds {
         RoomBounds {
@@ -68,49 +75,44 @@ where
     ensures calm { All (λ pass. IsCalm (part pass)) passes.items → result.halted ≡ false → All (λ pass. IsCalm (part pass)) result.passes.items }
 {
     let told = AtomicBool::new(false);
-    let loops = bounds.loops.min(bounds.connections).min(passes.len());
-    let mut sockets = sockets_of(rt, listener, loops.max(1));
+    let loops = bounds.count(passes.len());
+    let Ok(loads) = Loads::new(rt.alloc(), loops) else {
+        return none_served(rt.alloc(), passes.len(), observer, Lack::Memory);
+    };
+    let mut sockets = match sockets_of(rt, listener, &loads, loops) {
+        Ok(sockets) => sockets,
+        Err(why) => return none_served(rt.alloc(), passes.len(), observer, why),
+    };
     if sockets.len() > 1 {
         return serve_shares::<D, G, N, Brand, R, O>(
             rt, sockets, set, passes, bounds, observer, &told,
         );
     }
     let Some(mut sockets) = sockets.pop() else {
-        return none_served(rt.alloc(), passes.len(), observer);
+        return none_served(rt.alloc(), passes.len(), observer, Lack::Memory);
     };
     let room = bounds.room(bounds.connections);
     serve_room(rt, &mut sockets, set, passes, room, observer, &told)
 }
 
-// What so many loops wait for; fewer where descriptors or memory are missing.
-fn sockets_of<'a, R>(rt: &'a R, listener: &TcpListener, loops: usize) -> Vec<Sockets<'a, R>>
+// What each of so many loops waits for.
+fn sockets_of<'a, R>(
+    rt: &'a R,
+    listener: &TcpListener,
+    loads: &'a Loads,
+    loops: usize,
+) -> Result<Vec<Sockets<'a, R>>, Lack>
 where
     R: Net + Clock + AllocGlobal,
 {
     let mut all = Vec::new(rt.alloc());
-    for _ in 0..loops {
-        let Ok(sockets) = Sockets::new(rt, listener) else {
-            break;
-        };
+    for index in 0..loops {
+        let sockets = Sockets::new(rt, listener, loads, index).map_err(Lack::System)?;
         if all.push(sockets).is_err() {
-            break;
+            return Err(Lack::Memory);
         }
     }
-    all
-}
-
-// None of so many passes could be served.
-fn none_served<O: Observer>(alloc: Global, passes: usize, observer: &O) -> Served
-    ensures none { result.passes.items ≡ [] }
-    ensures halted { result.halted ≡ false }
-    ensures threadless { result.threadless ≡ passes }
-{
-    observer.threadless(passes, passes);
-    Served {
-        passes: Vec::new(alloc),
-        halted: false,
-        threadless: passes,
-    }
+    Ok(all)
 }
 
 // The same by several loops, each in a thread. B names the passes.
@@ -150,7 +152,7 @@ where
         {
             let given = passes.len();
             let Ok(room) = Vec::with_capacity(rt.alloc(), given) else {
-                return none_served(rt.alloc(), given, observer);
+                return none_served(rt.alloc(), given, observer, Lack::Memory);
             };
             let mut threads = Vec::new(rt.alloc());
             let mut threadless = given;
@@ -172,7 +174,7 @@ where
                 threadless = threadless.saturating_sub(count);
             }
             if threadless > 0 {
-                observer.threadless(threadless, given);
+                observer.unserved(threadless, Lack::Thread);
             }
             let (passes, halted) = join_all(rt, threads, room, given);
             let threadless = given - passes.len();

@@ -8,14 +8,21 @@ ghost use Rattle.lz_serve.specs.Halts.{IsCalmAfter, SawHalt};
 ghost use Rattle.lz_loop.specs.PassReplies.{Promised};
 
 use crate::free_pass::FreePass;
+use crate::moments::{MOMENT, Moments};
 use crate::working::{Played, Working};
 use lz_clients::{Crowd, Stream};
 use lz_disk::Disk;
-use lz_serve::{Given, Observer};
+use lz_serve::{Given, Observer, Verb};
 use lz_set::{Named, Pass, Set, StepGate};
 use std::alloc::{AllocError, Global};
 use std::mem::swap;
 use std::sync::Wait;
+use std::time::{Clock, Duration};
+
+/// For how many milliseconds it is waited for something to be heard, at most; and while a client is waited for that is to leave.
+const PATIENCE: u64 = 1_000;
+
+const SHORT_PATIENCE: u64 = 100;
 
 /// The passes of the loop: those that are free, and those that answer a request. No pass is lost.
 #[derive(Drop)]
@@ -32,6 +39,11 @@ pub(crate) struct Room<S: Stream, N: Named, B: Given> {
     halted: bool,
     /// No further request is begun.
     ends: bool,
+    /// Of how many clients that have left the observer was told.
+    parted: u64,
+    /// When replies are sent before a Sync, and when calls that wait for slots are made again.
+    sendings: Moments,
+    tries: Moments,
     ghost fit: { given ≤ most },
     ghost count: { vec_len free + vec_len working + vec_len standing ≡ given },
     ghost free_room: { most ≤ vec_capacity free },
@@ -57,6 +69,9 @@ impl<S: Stream, N: Named, B: Given> Room<S, N, B> {
             given: 0,
             halted: false,
             ends: false,
+            parted: 0,
+            sendings: Moments::new(),
+            tries: Moments::new(),
         })
     }
 
@@ -93,6 +108,9 @@ impl<S: Stream, N: Named, B: Given> Room<S, N, B> {
             given: _,
             halted: _,
             ends: _,
+            parted: _,
+            sendings: _,
+            tries: _,
         } = self;
         hand_back(free, room)
     }
@@ -128,7 +146,7 @@ impl<S: Stream, N: Named, B: Given> Room<S, N, B> {
         }
     }
 
-    /// Plays each call on, up to a Sync or a taken node.
+    /// Plays each call on, up to a Sync or a taken node. One that waits for slots is made again once a moment.
     pub(crate) fn play_all<D, G, R, O>(
         &mut self,
         rt: &R,
@@ -139,16 +157,17 @@ impl<S: Stream, N: Named, B: Given> Room<S, N, B> {
     where
         D: Disk,
         G: StepGate,
-        R: Wait,
+        R: Wait + Clock,
         O: Observer,
         requires { (request : Asked) (reply : Said) → Promised N.board N.format request reply → S.promised request reply }
         ensures { self.new.given ≡ self.old.given }
     {
+        let tries = self.tries.pass(rt.monotonic().ok());
         'calls: for _ in rt.forever() {
             let Some(working) = self.working.pop() else {
                 return;
             };
-            match working.play(rt, set, observer, self.ends) {
+            match working.play(rt, set, observer, self.ends, tries) {
                 Played::Stands(working) => {
                     let Ok(()) = self.standing.push(working) else {
                         unreachable!()
@@ -173,6 +192,18 @@ impl<S: Stream, N: Named, B: Given> Room<S, N, B> {
         }
     }
 
+    /// Sends what the clients of the calls that stand are still to be sent, unless that was done a moment ago.
+    pub(crate) fn send_all<R: Clock>(&mut self, rt: &R)
+        ensures { self.new.given ≡ self.old.given }
+    {
+        if !self.sendings.pass(rt.monotonic().ok()) {
+            return;
+        }
+        for working in self.standing.iter_mut() {
+            working.send();
+        }
+    }
+
     /// Plays the Sync of each call that stands before one. The first calls the device, and the others find their slots covered.
     pub(crate) fn sync_all<D: Disk, G: StepGate, R: Wait>(&mut self, rt: &R, set: &Set<D, G, N>)
         ensures { self.new.given ≡ self.old.given }
@@ -183,7 +214,7 @@ impl<S: Stream, N: Named, B: Given> Room<S, N, B> {
         swap(&mut self.working, &mut self.standing);
     }
 
-    /// Plays each call to its answer, sends once what is unsent then, and ends each session.
+    /// Plays each call to its answer.
     pub(crate) fn finish<D, G, R, O>(
         &mut self,
         rt: &R,
@@ -194,7 +225,7 @@ impl<S: Stream, N: Named, B: Given> Room<S, N, B> {
     where
         D: Disk,
         G: StepGate,
-        R: Wait,
+        R: Wait + Clock,
         O: Observer,
         requires { (request : Asked) (reply : Said) → Promised N.board N.format request reply → S.promised request reply }
         ensures given { self.new.given ≡ self.old.given }
@@ -208,11 +239,66 @@ impl<S: Stream, N: Named, B: Given> Room<S, N, B> {
             self.play_all(rt, set, observer, buffer);
             self.sync_all(rt, set);
         }
-        self.crowd.part_all(buffer);
     }
 
-    /// Whether there is something to do, with nothing heard of the connections.
-    pub(crate) fn is_busy(&self) -> bool {
+    /// Answers each client whose request waits, by a pass that is free. The set has halted, which is what it tells then.
+    pub(crate) fn answer_last<D, G, R, O>(
+        &mut self,
+        rt: &R,
+        set: &Set<D, G, N>,
+        observer: &O,
+        buffer: &mut [u8],
+    )
+    where
+        D: Disk,
+        G: StepGate,
+        R: Wait + Clock,
+        O: Observer,
+        requires rests { vec_len self.old.free ≡ self.old.given }
+        requires promised { (request : Asked) (reply : Said) → Promised N.board N.format request reply → S.promised request reply }
+        ensures given { self.new.given ≡ self.old.given }
+        ensures rests { vec_len self.new.free ≡ self.new.given }
+    {
+        'places: for token in 0..self.crowd.most() {
+            let Some(free) = self.free.pop() else {
+                return;
+            };
+            let free = answer_one(rt, set, &mut self.crowd, token, free, observer, buffer);
+            let Ok(()) = self.free.push(free) else {
+                unreachable!()
+            };
+        }
+    }
+
+    /// Tells the observer of each client that has left since it was told last.
+    pub(crate) fn tell_parted<O: Observer>(&mut self, observer: &O)
+        ensures given { self.new.given ≡ self.old.given }
+        ensures free { vec_len self.new.free ≡ vec_len self.old.free }
+    {
+        for _ in self.parted..self.crowd.parted() {
+            observer.parted();
+        }
+        self.parted = self.crowd.parted();
+    }
+
+    /// For how long it is waited for something to be heard: not at all where there is something else to do.
+    pub(crate) fn patience(&self) -> Duration {
+        let patience = match (self.is_busy(), self.crowd.is_left()) {
+            (true, _) if self.only_waits() => MOMENT,
+            (true, _) => 0,
+            (false, true) => SHORT_PATIENCE,
+            (false, false) => PATIENCE,
+        };
+        Duration::from_millis(patience)
+    }
+
+    // Whether each call waits for slots, and no other can begin.
+    fn only_waits(&self) -> bool {
+        self.working.iter().all(Working::waits) && (self.free.is_empty() || self.crowd.is_quiet())
+    }
+
+    // Whether there is something to do, with nothing heard of the connections.
+    fn is_busy(&self) -> bool {
         !self.rests() || !self.free.is_empty() && !self.crowd.is_quiet()
     }
 
@@ -279,4 +365,36 @@ where
     };
     let (pass, _) = free.into_parts();
     Ok(Working::begin(rt, set, pass, token, client, request))
+}
+
+// Answers the request of the client of this token by this pass, if one waits.
+fn answer_one<S, D, G, N, B, R, O>(
+    rt: &R,
+    set: &Set<D, G, N>,
+    crowd: &mut Crowd<S>,
+    token: usize,
+    free: FreePass<N, B>,
+    observer: &O,
+    buffer: &mut [u8],
+) -> FreePass<N, B>
+where
+    S: Stream,
+    D: Disk,
+    G: StepGate,
+    N: Named,
+    B: Given,
+    R: Wait + Clock,
+    O: Observer,
+    requires { (request : Asked) (reply : Said) → Promised N.board N.format request reply → S.promised request reply }
+{
+    let Some((client, request)) = crowd.take_last(token, buffer) else {
+        return free;
+    };
+    let verb = Verb::of(&request);
+    let (free, reply) = free.answer(rt, set, request);
+    observer.answered(verb, reply);
+    let mut client = client;
+    client.reply(reply);
+    crowd.take_back(token, client, buffer);
+    free
 }

@@ -1,5 +1,5 @@
 //! The loop.
-ghost use Rattle.std.specs.Prelude.{◌≡◌, ◌+◌, ◌≤◌, IfOk, true, false, All, vec_capacity, vec_len};
+ghost use Rattle.std.specs.Prelude.{◌≡◌, ◌+◌, ◌≤◌, [], IfOk, true, false, All, vec_capacity, vec_len};
 ghost use Rattle.std.specs.List.{Any};
 ghost use Rattle.lz_proto.specs.declared.request.Request.{Request as Asked};
 ghost use Rattle.lz_proto.specs.declared.reply.Reply.{Reply as Said};
@@ -9,16 +9,21 @@ ghost use Rattle.lz_serve.specs.Halts.{IsCalm, IsCalmAfter, SawHalt};
 ghost use Rattle.lz_loop.specs.PassReplies.{Promised};
 
 use crate::room::Room;
-use lz_clients::{Client, Poller, Stream};
+use lz_clients::{Client, Crowd, Poller, Stream};
 use lz_disk::Disk;
 use lz_proto::MOST_PIECE;
-use lz_serve::{Given, Observer, Served};
+use lz_serve::{Given, Lack, Observer, Served};
 use lz_set::{Named, Pass, Set, StepGate};
 use std::alloc::{AllocError, Global};
 use std::marker::Brand;
 use std::sync::Wait;
 use std::sync::atomic::{AtomicBool, Ordering};
 use std::time::{Clock, Duration};
+
+/// For how many milliseconds, at its end, a loop goes on sending replies that are slowly taken, and how long each turn is then at most.
+const FAREWELL: u64 = 1_000;
+
+const FAREWELL_TURN: u64 = 100;
 
 /// How many connections a loop has, and when they and it end.
 #[derive(Clone, Copy, Debug, PartialEq, Eq)]
@@ -27,14 +32,15 @@ pub struct RoomBounds {
     pub connections: usize,
     /// After how many connections it ends; 0 for no end.
     pub sessions: u64,
-    /// For how long a client may send nothing, and take nothing of its replies, before its connection is closed. It is told apart in
-    /// whole seconds.
+    /// For how long a client may send nothing, and take nothing of its replies, before its connection is closed. Time
+    /// in which the loop didn't listen, as in a long sync, doesn't count.
     pub idle: Option<Duration>,
 }
 
 /// Serves connections by these passes in one thread, until a client was told that the service halted, here or by another loop, which
-/// sets `told`, or so many connections were served. Then the calls under way are played to their answers. The loop whose client was
-/// told so first tells the observer. Where no memory is left for its clients it serves none.
+/// sets `told`, the observer says that it is to end, or so many connections were served. Then the calls under way are played to their
+/// answers, and what is unsent is sent. Where the service halted each request that waits is answered too. The loop whose client was told
+/// so first tells the observer. Where no memory is left for its clients it serves none, and its passes are gone.
 pub fn serve_room<D, G, N, R, O, P>(
     rt: &R,
     poller: &mut P,
@@ -90,12 +96,7 @@ where
     let given = passes.len();
     let Ok((room, done)) = make_room::<P::Stream, N, B>(rt.alloc(), given, bounds.connections)
     else {
-        observer.threadless(given, given);
-        return Served {
-            passes,
-            halted: false,
-            threadless: 0,
-        };
+        return none_served(rt.alloc(), given, observer, Lack::Memory);
     };
     let mut room = take_in_all(room, passes);
     run(rt, poller, set, &mut room, bounds, observer, told);
@@ -104,6 +105,25 @@ where
         passes,
         halted,
         threadless: 0,
+    }
+}
+
+/// None of so many passes can be served, for this reason.
+pub(crate) fn none_served<O: Observer>(
+    alloc: Global,
+    passes: usize,
+    observer: &O,
+    why: Lack,
+) -> Served
+    ensures none { result.passes.items ≡ [] }
+    ensures halted { result.halted ≡ false }
+    ensures threadless { result.threadless ≡ passes }
+{
+    observer.unserved(passes, why);
+    Served {
+        passes: Vec::new(alloc),
+        halted: false,
+        threadless: passes,
     }
 }
 
@@ -164,60 +184,138 @@ where
     let mut buffer = [0; MOST_PIECE];
     let mut ready = Vec::new(rt.alloc());
     'turns: for _ in rt.forever() {
-        if room.is_done(bounds.sessions) || told.load(Ordering::SeqCst) {
+        if room.is_done(bounds.sessions) || is_ended(observer, told) {
             break;
         }
-        listen(rt, poller, room, bounds, observer, &mut ready, &mut buffer);
+        admit(
+            rt,
+            poller,
+            &mut room.crowd,
+            bounds.sessions,
+            observer,
+            &mut buffer,
+        );
+        let patience = room.patience();
+        listen(
+            rt,
+            poller,
+            &mut room.crowd,
+            patience,
+            bounds.idle,
+            &mut ready,
+            &mut buffer,
+        );
+        if is_ended(observer, told) {
+            break;
+        }
         room.begin_all(rt, set, &mut buffer);
         room.play_all(rt, set, observer, &mut buffer);
+        room.send_all(rt);
         room.sync_all(rt, set);
+        room.tell_parted(observer);
     }
     room.finish(rt, set, observer, &mut buffer);
     if room.halted() && !told.swap(true, Ordering::SeqCst) {
         observer.halted();
     }
+    if told.load(Ordering::SeqCst) {
+        room.answer_last(rt, set, observer, &mut buffer);
+    }
+    take_leave(rt, poller, &mut room.crowd, &mut ready, &mut buffer);
+    room.tell_parted(observer);
 }
 
-// Admits those that have come, and hears which connections can be read or written. It waits for them where there is nothing else
-// to do.
-fn listen<N, B, R, O, P>(
+// Whether a client of some loop was told that the service halted, or the service is to end.
+fn is_ended<O: Observer>(observer: &O, told: &AtomicBool) -> bool {
+    told.load(Ordering::SeqCst) || observer.stops()
+}
+
+// Admits those that have come, up to so many over the loop's life; 0 for no end.
+fn admit<R, O, P>(
     rt: &R,
     poller: &mut P,
-    room: &mut Room<P::Stream, N, B>,
-    bounds: RoomBounds,
+    crowd: &mut Crowd<P::Stream>,
+    sessions: u64,
     observer: &O,
+    buffer: &mut [u8],
+)
+where
+    R: AllocGlobal,
+    O: Observer,
+    P: Poller,
+{
+    for _ in 0..crowd.most() {
+        if sessions != 0 && crowd.admitted() >= sessions {
+            return;
+        }
+        let Some(token) = crowd.vacancy() else {
+            return observer.crowded();
+        };
+        match poller.accept(token) {
+            Ok(Some(stream)) => {
+                observer.accepted();
+                crowd.admit(Client::new(rt.alloc(), stream), buffer);
+            }
+            Ok(None) => return,
+            Err(error) => return observer.unaccepted(error),
+        }
+    }
+}
+
+// Hears which connections can be read or written, for which it waits for so long, and then closes those that were idle.
+fn listen<R, P>(
+    rt: &R,
+    poller: &mut P,
+    crowd: &mut Crowd<P::Stream>,
+    patience: Duration,
+    idle: Option<Duration>,
     ready: &mut Vec<usize>,
     buffer: &mut [u8],
 )
 where
-    N: Named,
-    B: Given,
-    R: Clock + AllocGlobal,
-    O: Observer,
+    R: Clock,
     P: Poller,
-    ensures { room.new.given ≡ room.old.given }
 {
-    'comers: for _ in 0..room.crowd.most() {
-        if bounds.sessions != 0 && room.crowd.admitted() >= bounds.sessions {
-            break;
-        }
-        let Some(token) = room.crowd.vacancy() else {
-            break;
-        };
-        let Some(stream) = poller.accept(token) else {
-            break;
-        };
-        observer.accepted();
-        room.crowd.admit(Client::new(rt.alloc(), stream), buffer);
-    }
-    let patience = if room.is_busy() { 0 } else { 1 };
     ready.clear();
-    poller.poll(Duration::from_secs(patience), ready);
-    'heard: for token in ready.iter() {
-        room.crowd.hear(*token, buffer);
-    }
+    poller.poll(patience, ready);
     if let Ok(now) = rt.monotonic() {
-        room.crowd
-            .tick(now.as_secs(), bounds.idle.map(|idle| idle.as_secs()));
+        crowd.note_time(now);
+    }
+    for token in ready.iter() {
+        crowd.hear(*token, buffer);
+    }
+    crowd.close_idle(idle);
+}
+
+// Sends what is unsent and ends each session. Clients that take no more of their replies, or don't leave, are waited for only a while.
+fn take_leave<R, P>(
+    rt: &R,
+    poller: &mut P,
+    crowd: &mut Crowd<P::Stream>,
+    ready: &mut Vec<usize>,
+    buffer: &mut [u8],
+)
+where
+    R: Clock,
+    P: Poller,
+{
+    crowd.part_all(buffer);
+    let patience = Duration::from_millis(FAREWELL_TURN);
+    if let Ok(began) = rt.monotonic() {
+        'turns: for _ in 0..u64::MAX {
+            if crowd.is_empty() || !is_within(rt, began) {
+                break;
+            }
+            listen(rt, poller, crowd, patience, None, ready, buffer);
+        }
+    }
+    crowd.close_all();
+}
+
+// Whether it is no later than a farewell's time after this.
+fn is_within<R: Clock>(rt: &R, began: Duration) -> bool {
+    match rt.monotonic() {
+        Ok(now) => now.saturating_sub(began) < Duration::from_millis(FAREWELL),
+        Err(_) => false,
     }
 }

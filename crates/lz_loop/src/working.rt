@@ -27,7 +27,7 @@ pub(crate) struct Working<S: Stream, N: Named, B: Given> {
 }
 
 impl<S: Stream, N: Named, B: Given> Model for Working<S, N, B> {
-    ghost use Rattle.std.specs.Prelude.{◌≡◌, Bool, Some, true};
+    ghost use Rattle.std.specs.Prelude.{◌≡◌, Bool, IsSomeAnd, Some, true};
     ghost use Rattle.lz_set.specs.declared.underway.Stage.TheVariants.{Syncs};
     ghost use Rattle.lz_set.specs.Stages.{StandsAt};
 
@@ -35,13 +35,13 @@ impl<S: Stream, N: Named, B: Given> Model for Working<S, N, B> {
 
     ghost view = { λ w. w.syncs };
 
-    ghost invariant = { λ w. (w.client.asked ≡ Some w.asking.request) × (w.syncs ≡ true → StandsAt Syncs w.asking.call) };
+    ghost invariant = { λ w. (w.client.asked ≡ Some w.asking.request) × (w.syncs ≡ true → IsSomeAnd w.asking.call (λ call. StandsAt Syncs call)) };
 }
 
 /// What became of a call that was played on.
 #[derive(Drop)]
 pub(crate) enum Played<S: Stream, N: Named, B: Given> {
-    /// It stands before a Sync, or at a node that another call holds.
+    /// It stands before a Sync, or at a node that another call holds; or it waits for slots, and asks again with the next turn.
     Stands(Working<S, N, B>),
     /// Another call of the same client is under way.
     GoesOn(Working<S, N, B>),
@@ -73,14 +73,15 @@ impl<S: Stream, N: Named, B: Given> Working<S, N, B> {
         }
     }
 
-    /// Plays the call on. Where it has its reply, that is told, and the same pass begins the client's next request, unless the
-    /// service halted.
+    /// Plays the call on, unless it waits for slots and isn't to be tried again yet. Where it has its reply, that is told, and the same
+    /// pass begins the client's next request, unless the service halted.
     pub(crate) fn play<D, G, R, O>(
         self,
         rt: &R,
         set: &Set<D, G, N>,
         observer: &O,
         halted: bool,
+        tries: bool,
     ) -> Played<S, N, B>
     where
         D: Disk,
@@ -89,6 +90,9 @@ impl<S: Stream, N: Named, B: Given> Working<S, N, B> {
         O: Observer,
         requires { (request : Asked) (reply : Said) → Promised N.board N.format request reply → S.promised request reply }
     {
+        if self.waits() && !tries {
+            return Played::Stands(self);
+        }
         let Working {
             client,
             token,
@@ -96,6 +100,7 @@ impl<S: Stream, N: Named, B: Given> Working<S, N, B> {
             syncs: _,
         } = self;
         let mut asking = asking;
+        let verb = asking.verb();
         let stage = asking.go_on(rt, set);
         if stage != Stage::Answers {
             let syncs = stage == Stage::Syncs;
@@ -107,16 +112,9 @@ impl<S: Stream, N: Named, B: Given> Working<S, N, B> {
             });
         }
         match asking.answer(rt, set) {
-            Answered::Again(asking) => Played::GoesOn(Working {
-                client,
-                token,
-                asking,
-                syncs: false,
-            }),
+            Answered::Again(asking) => ask_again(client, token, asking),
             Answered::Replied(pass, reply) => {
-                if matches!(reply, Reply::Full) {
-                    observer.full();
-                }
+                observer.answered(verb, reply);
                 let mut client = client;
                 client.reply(reply);
                 let ends = matches!(reply, Reply::Halted);
@@ -125,12 +123,44 @@ impl<S: Stream, N: Named, B: Given> Working<S, N, B> {
         }
     }
 
+    /// Whether it waits for slots.
+    pub(crate) fn waits(&self) -> bool {
+        self.asking.waits()
+    }
+
+    /// Sends what the client is still to be sent, as far as its connection takes it.
+    pub(crate) fn send(&mut self) {
+        self.client.write();
+    }
+
     /// Plays the Sync, if the call stands before one.
     pub(crate) fn sync<D: Disk, G: StepGate, R: Wait>(&mut self, rt: &R, set: &Set<D, G, N>) {
         if self.syncs {
             self.asking.sync(rt, set);
             self.syncs = false;
         }
+    }
+}
+
+// Where a request has to wait for slots, it asks again with the next turn.
+fn ask_again<S: Stream, N: Named, B: Given>(
+    client: Client<S>,
+    token: usize,
+    asking: Asking<N, B>,
+) -> Played<S, N, B>
+    requires { client.asked ≡ Some asking.request }
+{
+    let waits = asking.waits();
+    let working = Working {
+        client,
+        token,
+        asking,
+        syncs: false,
+    };
+    if waits {
+        Played::Stands(working)
+    } else {
+        Played::GoesOn(working)
     }
 }
 

@@ -1,5 +1,5 @@
 -- Worked rows of what the reply of a seat means, most of which must not hold.
-use Rattle.std.proofs.Common.{◌≡◌, ⊎_elim, Bool, true, false, Result, Ok, Err, refl, sym, ◌∙◌, subst, arith}
+use Rattle.std.proofs.Common.{◌≡◌, ◌==◌, ℕ, Bool, true, false, not, Result, Ok, Err, refl, sym, ap, ◌∙◌, subst}
 use mathlib.Core.Bool.{true≢false}
 use Rattle.lz_slot.specs.declared.command.Command.{Command}
 use Rattle.lz_slot.specs.declared.command.Command.TheVariants as command
@@ -17,8 +17,8 @@ use Rattle.lz_set.specs.declared.fault.Fault.TheVariants as fault
 use Rattle.lz_set.specs.Answers.{reply_of}
 use Rattle.lz_tie.specs.Answers.{Answers}
 use Rattle.lz_tie.specs.OneCaller.{IsPlainAnswer, keys_in}
-use Rattle.lz_serve.specs.Replies.{IsToldFull, SeatAnswers, client_reply}
-use Rattle.lz_serve.proofs.Seats.{only_call}
+use Rattle.lz_serve.specs.Replies.{AreAskedAgain, IsAskedAgain, SeatAnswers, asks_again, client_reply}
+use Rattle.lz_serve.proofs.Seats.{alone_once, only_call, told_at_last, told_full}
 
 yes_given : (answer : Result Bool Fault) → Yes ≡ client_reply answer → reply_of answer ≡ given.Yes
 yes_given (Ok true) told = refl
@@ -28,6 +28,16 @@ yes_given (Err fault.Worn) told = absurd (cc)
 yes_given (Err fault.OldFile) told = absurd (cc)
 yes_given (Err fault.Halted) told = absurd (cc)
 yes_given (Err fault.Device) told = absurd (cc)
+
+-- a lookup is never told as full
+never_full : (F : Format) (before after : Part) (answer : Result Bool Fault) → client_reply answer ≡ Full → Answers F (command.Has 7) (reply_of answer) before after → ⊥
+never_full F before after (Ok true) full answers = absurd (cc)
+never_full F before after (Ok false) full answers = absurd (cc)
+never_full F before after (Err (fault.Full counts)) full answers = answers.promises
+never_full F before after (Err fault.Worn) full answers = absurd (cc)
+never_full F before after (Err fault.OldFile) full answers = absurd (cc)
+never_full F before after (Err fault.Halted) full answers = absurd (cc)
+never_full F before after (Err fault.Device) full answers = absurd (cc)
 
 module _ (b : BoardId) (F : Format) (old new : Pass) where
   -- in a set of one pass no key is told as a member that is none
@@ -43,23 +53,35 @@ module _ (b : BoardId) (F : Format) (old new : Pass) where
   other_command : (reply : Reply) (s : SeatAnswers b F old (Has 7) reply new) → s.c ≡ command.Remove 7 → ⊥
   other_command reply s other = let asked = s.asked in absurd (cc)
 
-  -- with two passes `full` isn't told of a first call
-  full_at_once : b.sizes.passes ≡ 2 → (s : SeatAnswers b F old (Add 8) Full new) → (IsToldFull b F s.c old s.middle → ⊥) → ⊥
-  full_at_once two s none = ⊎_elim (λ at. let one = at.1 refl in absurd (omega (arith, one, two))) none s.first
+  -- with two passes `full` isn't told at once while three slots wait
+  full_while_slots_wait : b.sizes.passes ≡ 2 → (s : SeatAnswers b F old (Add 8) Full new) → s.tries ≡ 0 → s.answer ≡ Err (fault.Full (record { free = 0; taken = 5; limbo = 3 })) → ⊥
+  full_while_slots_wait two s none full =
+      let final = subst (λ (a : Result Bool Fault). asks_again b 0 a ≡ false) full (subst (λ (n : ℕ). asks_again b n s.answer ≡ false) none s.final) in
+      true≢false (sym (ap (λ (n : ℕ). not (n == 1)) two) ∙ final)
 
--- a lookup isn't made twice
-never_full : (F : Format) (before after : Part) (answer : Result Bool Fault) → client_reply answer ≡ Full → Answers F (command.Has 7) (reply_of answer) before after → ⊥
-never_full F before after (Ok true) full answers = absurd (cc)
-never_full F before after (Ok false) full answers = absurd (cc)
-never_full F before after (Err (fault.Full counts)) full answers = answers.promises
-never_full F before after (Err fault.Worn) full answers = absurd (cc)
-never_full F before after (Err fault.OldFile) full answers = absurd (cc)
-never_full F before after (Err fault.Halted) full answers = absurd (cc)
-never_full F before after (Err fault.Device) full answers = absurd (cc)
+  -- a second call isn't made after `yes`
+  again_after_yes : (s : IsAskedAgain b F (command.Add 8) 0 old new) → s.answer ≡ Ok true → ⊥
+  again_after_yes s is = true≢false (subst (λ (a : Result Bool Fault). true ≡ asks_again b 0 a) is (sym s.again))
 
-has_twice : (b : BoardId) (F : Format) (old middle : Pass) → IsToldFull b F (command.Has 7) old middle → ⊥
-has_twice b F old middle full = never_full F (part old) (part middle) full.answer full.full full.answered.call
+  -- nor is one in a set of one pass
+  alone_twice : b.sizes.passes ≡ 1 → IsAskedAgain b F (command.Add 8) 0 old new → ⊥
+  alone_twice one s = alone_once b 0 s.answer one s.again
 
--- nor is an adding made again in a set of one pass
-alone_twice : (b : BoardId) (F : Format) (old middle : Pass) → b.sizes.passes ≡ 1 → IsToldFull b F (command.Add 8) old middle → ⊥
-alone_twice b F old middle one full = full.several one
+  -- nor is a lookup made twice
+  has_twice : IsAskedAgain b F (command.Has 7) 0 old new → ⊥
+  has_twice s = never_full F (part old) (part new) s.answer (told_full b 0 s.answer s.again) s.answered.call
+
+  -- nor are more than a thousand made after the first
+  many_more : AreAskedAgain b F (command.Add 8) 1_001 old new → ⊥
+  many_more (middle, before, last) = true≢false (sym last.again ∙ told_at_last b last.answer)
+
+-- with three passes one more call is made while a slot waits, up to the last, and none where all slots have members
+module _ (b : BoardId) (three : b.sizes.passes ≡ 3) where
+  asked_while_one_waits : asks_again b 999 (Err (fault.Full (record { free = 0; taken = 7; limbo = 1 }))) ≡ true
+  asked_while_one_waits = ap (λ (n : ℕ). not (n == 1)) three
+
+  told_at_last_while_one_waits : asks_again b 1_000 (Err (fault.Full (record { free = 0; taken = 7; limbo = 1 }))) ≡ false
+  told_at_last_while_one_waits = refl
+
+  told_of_members : asks_again b 0 (Err (fault.Full (record { free = 0; taken = 8; limbo = 0 }))) ≡ false
+  told_of_members = refl

@@ -1,5 +1,5 @@
 -- Sessions of a seat, which remembers whether it has ever replied that the service halted.
-use Rattle.std.proofs.Common.{◌≡◌, ⊎_elim, ℕ, All, Bool, true, false, ◌||◌, List, Option, Some, Result, Ok, Err, refl, sym, ap, ◌∙◌, subst}
+use Rattle.std.proofs.Common.{◌≡◌, ◌==◌, ℕ, zero, suc, ◌+◌, nat_lt, All, Bool, true, false, not, ◌&&◌, ◌||◌, List, Option, Some, Result, Ok, Err, refl, sym, ap, ◌∙◌, subst, arith}
 use mathlib.Core.Bool.{true≢false}
 use Rattle.std.proofs.lemmas.List.Elements.{All-cons, All-same}
 use Rattle.lz_slot.specs.declared.command.Command.{Command}
@@ -25,7 +25,7 @@ use Rattle.lz_tie.specs.Sessions.{cuts_off}
 use Rattle.lz_tie.proofs.Marks.ToldCalls.{answers_told}
 use Rattle.lz_tie.proofs.Replies.SeenMore.{seen_more}
 use Rattle.lz_serve.specs.Halts.{IsCalm, was_cut}
-use Rattle.lz_serve.specs.Replies.{IsCallAnswered, SeatAnswers, client_reply, says_halted}
+use Rattle.lz_serve.specs.Replies.{AreAskedAgain, IsCallAnswered, SeatAnswers, asks_again, client_reply, command_of, most_tries, says_halted}
 use Rattle.lz_serve.proofs.Halting.{answer_word}
 use Rattle.lz_serve.proofs.Kept.{session_keeps}
 use Rattle.lz_serve.proofs.Mapped.{known_session}
@@ -48,18 +48,80 @@ calm_after b F c answer old new is sized quiet calm =
     All-same P _ _ (answers_told F c (reply_of answer) (part old) (part new) is.call) (All-cons P (c, Some (reply_of answer)) (told (shape_of_sizes (part old).sizes) (part old).steps) (uncut answer quiet) calm) in
     subst (λ (z : Sizes). All P (told (shape_of_sizes z) (part new).steps)) (is.sized ∙ sym sized) newest
 
+-- an answer after which one more call is made is told as full
+pub told_full : (b : BoardId) (tries : ℕ) (answer : Result Bool Fault) → asks_again b tries answer ≡ true → client_reply answer ≡ reply.Full
+told_full b tries (Ok is) again = absurd (true≢false (sym again))
+told_full b tries (Err (fault.Full counts)) again = refl
+told_full b tries (Err fault.Worn) again = absurd (true≢false (sym again))
+told_full b tries (Err fault.OldFile) again = absurd (true≢false (sym again))
+told_full b tries (Err fault.Halted) again = absurd (true≢false (sym again))
+told_full b tries (Err fault.Device) again = absurd (true≢false (sym again))
+
+not_one : (x y : Bool) (n : ℕ) → n ≡ 1 → (x && y && not (n == 1)) ≡ false
+not_one true true n one = ap (λ (m : ℕ). not (m == 1)) one
+not_one true false n one = refl
+not_one false y n one = refl
+
+-- a set of one pass is asked once
+pub alone_once : (b : BoardId) (tries : ℕ) (answer : Result Bool Fault) → b.sizes.passes ≡ 1 → asks_again b tries answer ≡ true → ⊥
+alone_once b tries (Ok is) one again = true≢false (sym again)
+alone_once b tries (Err (fault.Full counts)) one again = true≢false (sym again ∙ not_one (nat_lt tries most_tries) (not (counts.limbo == 0)) b.sizes.passes one)
+alone_once b tries (Err fault.Worn) one again = true≢false (sym again)
+alone_once b tries (Err fault.OldFile) one again = true≢false (sym again)
+alone_once b tries (Err fault.Halted) one again = true≢false (sym again)
+alone_once b tries (Err fault.Device) one again = true≢false (sym again)
+
+module _ (b : BoardId) (F : Format) (c : Command) where
+  -- what each call keeps, after which one more is made, all of them keep
+  all_keep : (P : Pass → Type 0) → ((tries : ℕ) (answer : Result Bool Fault) (p q : Pass) → IsCallAnswered b F c answer p q → asks_again b tries answer ≡ true → P p → P q)
+      → (tries : ℕ) (old new : Pass) → AreAskedAgain b F c tries old new → P old → P new
+  all_keep P each zero old new same holds = subst P (sym same) holds
+  all_keep P each (suc n) old new (middle, before, last) holds = each n last.answer middle new last.answered last.again (all_keep P each n old middle before holds)
+
+  none_alone : (tries : ℕ) (old new : Pass) → b.sizes.passes ≡ 1 → AreAskedAgain b F c tries old new → new ≡ old
+  none_alone zero old new one same = same
+  none_alone (suc n) old new one (middle, before, last) = absurd (alone_once b n last.answer one last.again)
+
+-- Up to now so many calls were made for this command after its first one, and the last of them all was answered so.
+pub record AskedUpTo (b : BoardId) (F : Format) (c : Command) (tries : ℕ) (old : Pass) (answer : Result Bool Fault) (new : Pass) : Type 0 where
+  pub middle : Pass
+  pub before : AreAskedAgain b F c tries old middle
+  pub last : IsCallAnswered b F c answer middle new
+
+module _ {b : BoardId} {F : Format} {c : Command} {tries : ℕ} {old : Pass} {answer : Result Bool Fault} {new : Pass} (upto : AskedUpTo b F c tries old answer new) where
+  pub one_more : asks_again b tries answer ≡ true → AreAskedAgain b F c (tries + 1) old new
+  one_more again =
+      let next : suc tries ≡ tries + 1 = omega arith in
+      subst (λ (n : ℕ). AreAskedAgain b F c n old new) next (upto.middle, upto.before, record { answer = answer; answered = upto.last; again = again })
+
+  -- one more is made
+  pub asked_more : {next : Result Bool Fault} {newest : Pass} → asks_again b tries answer ≡ true → IsCallAnswered b F c next new newest → AskedUpTo b F c (tries + 1) old next newest
+  asked_more {next} {newest} again last = record { middle = new; before = one_more again; last = last }
+
+  -- or the answer is told
+  pub seat_told : {request : Request} {r : Reply} → command_of request ≡ Some c → asks_again b tries answer ≡ false → r ≡ client_reply answer → SeatAnswers b F old request r new
+  seat_told asked final told = record { c = c; asked = asked; tries = tries; middle = upto.middle; before = upto.before; answer = answer; last = upto.last; final = final; told = told }
+
+-- the last call that may be made is
+pub told_at_last : (b : BoardId) (answer : Result Bool Fault) → asks_again b most_tries answer ≡ false
+told_at_last b (Ok is) = refl
+told_at_last b (Err (fault.Full counts)) = refl
+told_at_last b (Err fault.Worn) = refl
+told_at_last b (Err fault.OldFile) = refl
+told_at_last b (Err fault.Halted) = refl
+told_at_last b (Err fault.Device) = refl
+
 module _ (b : BoardId) (F : Format) (old new : Pass) (request : Request) (r : Reply) (answers : SeatAnswers b F old request r new) where
   -- in a set of one pass there was no other call
   pub only_call : b.sizes.passes ≡ 1 → IsCallAnswered b F answers.c answers.answer old new
-  only_call one = ⊎_elim (λ at. subst (λ (p : Pass). IsCallAnswered b F answers.c answers.answer p new) at.0 answers.last) (λ full. absurd (full.several one)) answers.first
+  only_call one = subst (λ (p : Pass). IsCallAnswered b F answers.c answers.answer p new) (none_alone b F answers.c answers.tries old answers.middle one answers.before) answers.last
 
   -- a pass that has seen the halt still has after its answer
   pub saw_before : halt_word (part old).known ≡ 1 → halt_word (part new).known ≡ 1
-  saw_before seen = saw_more answers.c answers.answer answers.middle new answers.last
-      (⊎_elim (λ at. subst (λ (p : Pass). halt_word (part p).known ≡ 1) (sym at.0) seen) (λ full. saw_more answers.c full.answer old answers.middle full.answered seen) answers.first)
+  saw_before seen = saw_more answers.answer answers.middle new answers.last (all_keep b F answers.c (λ p. halt_word (part p).known ≡ 1) (λ tries answer p q is again. saw_more answer p q is) answers.tries old answers.middle answers.before seen)
     where
-      saw_more : (c : Command) (answer : Result Bool Fault) (p q : Pass) → IsCallAnswered b F c answer p q → halt_word (part p).known ≡ 1 → halt_word (part q).known ≡ 1
-      saw_more c answer p q is = halt_since (part p).known (part q).known (seen_more F c (reply_of answer) (part p) (part q) is.call)
+      saw_more : (answer : Result Bool Fault) (p q : Pass) → IsCallAnswered b F answers.c answer p q → halt_word (part p).known ≡ 1 → halt_word (part q).known ≡ 1
+      saw_more answer p q is = halt_since (part p).known (part q).known (seen_more F answers.c (reply_of answer) (part p) (part q) is.call)
 
   -- and so has one that was answered so
   pub saw_now : says_halted r ≡ true → halt_word (part new).known ≡ 1
@@ -73,7 +135,10 @@ module _ (b : BoardId) (F : Format) (old new : Pass) (request : Request) (r : Re
   pub stays_calm : (part new).sizes ≡ b.sizes → says_halted r ≡ false → IsCalm (part old) → IsCalm (part new)
   stays_calm sized quiet calm =
       calm_after b F answers.c answers.answer answers.middle new answers.last sized (subst (λ (s : Reply). says_halted s ≡ false) answers.told quiet)
-      (⊎_elim (λ at. subst (λ (p : Pass). IsCalm (part p)) (sym at.0) calm) (λ full. calm_after b F answers.c full.answer old answers.middle full.answered answers.last.sized (ap says_halted full.full) calm) answers.first)
+      (all_keep b F answers.c (λ p. (part p).sizes ≡ b.sizes → IsCalm (part p)) still answers.tries old answers.middle answers.before (λ _. calm) answers.last.sized)
+    where
+      still : (tries : ℕ) (answer : Result Bool Fault) (p q : Pass) → IsCallAnswered b F answers.c answer p q → asks_again b tries answer ≡ true → ((part p).sizes ≡ b.sizes → IsCalm (part p)) → (part q).sizes ≡ b.sizes → IsCalm (part q)
+      still tries answer p q is again was sized = calm_after b F answers.c answer p q is sized (ap says_halted (told_full b tries answer again)) (was is.sized)
 
 pub or_true : (a b : Bool) → b ≡ true → true ≡ (a || b)
 or_true true b is = refl

@@ -2,3 +2,4 @@ pub mod Replies
 pub mod Halts
 pub mod Options
 pub mod Texts
+pub mod Verbs

@@ -1,5 +1,5 @@
 -- What the service of one pass replies.
-use Rattle.std.specs.Prelude.{◌≡◌, ◌≢◌, ◌⊎◌, Bool, true, false, Result, Ok, Err, Option, Some, None}
+use Rattle.std.specs.Prelude.{◌≡◌, ◌==◌, ℕ, zero, suc, nat_lt, Bool, true, false, not, ◌&&◌, Result, Ok, Err, Option, Some, None}
 use Rattle.lz_slot.specs.declared.command.Command.{Command}
 use Rattle.lz_slot.specs.declared.format.Format.{Format}
 use Rattle.lz_slot.specs.declared.command.Command.TheVariants as command
@@ -44,20 +44,36 @@ pub record IsCallAnswered (b : BoardId) (F : Format) (c : Command) (answer : Res
   pub call : Answers F c (reply_of answer) (part old) (part new)
   pub plain : b.sizes.passes ≡ 1 → IsPlainAnswer F b.sizes.slots c (reply_of answer) (keys_in (part old).known) (keys_in (part new).known)
 
--- A call of one of several passes was answered that no slot is free, which the table has for addings only.
-pub record IsToldFull (b : BoardId) (F : Format) (c : Command) (old new : Pass) : Type 0 where
-  pub several : b.sizes.passes ≢ 1
-  pub answer : Result Bool Fault
-  pub full : client_reply answer ≡ said.Full
-  pub answered : IsCallAnswered b F c answer old new
+-- how many calls a request has at most after its first one
+abbrev pub most_tries : ℕ
+most_tries = 1_000
 
--- The reply tells the answer of the pass's last call for what the request asks. That is its only one, which is told as full in a
--- set of one pass alone; or one more was made, after one that found no slot free.
+-- Whether one more call is made after one that was answered so, and so many more before it: no slot was free, and slots wait for
+-- calls that end, which in a set of one pass none does.
+abbrev pub asks_again : BoardId → ℕ → Result Bool Fault → Bool
+asks_again b tries (Err (Full counts)) = nat_lt tries most_tries && not (counts.limbo == 0) && not (b.sizes.passes == 1)
+asks_again b tries answer = false
+
+-- A call of the pass for this command, after so many, was answered so that one more is made.
+pub record IsAskedAgain (b : BoardId) (F : Format) (c : Command) (tries : ℕ) (old new : Pass) : Type 0 where
+  pub answer : Result Bool Fault
+  pub answered : IsCallAnswered b F c answer old new
+  pub again : asks_again b tries answer ≡ true
+
+-- so many calls were, one after the other
+abbrev pub AreAskedAgain : BoardId → Format → Command → ℕ → Pass → Pass → Type 0
+AreAskedAgain b F c zero old new = new ≡ old
+AreAskedAgain b F c (suc tries) old new = (middle : Pass) × AreAskedAgain b F c tries old middle × IsAskedAgain b F c tries middle new
+
+-- The reply tells the answer of the pass's last call for what the request asks. One more is made after each answer that says so,
+-- and after no other: `full` is told while no slot waits, or at last.
 pub record SeatAnswers (b : BoardId) (F : Format) (old : Pass) (request : Request) (reply : Reply) (new : Pass) : Type 0 where
   pub c : Command
   pub asked : command_of request ≡ Some c
+  pub tries : ℕ
   pub middle : Pass
-  pub first : ((middle ≡ old) × (reply ≡ said.Full → b.sizes.passes ≡ 1)) ⊎ IsToldFull b F c old middle
+  pub before : AreAskedAgain b F c tries old middle
   pub answer : Result Bool Fault
   pub last : IsCallAnswered b F c answer middle new
+  pub final : asks_again b tries answer ≡ false
   pub told : reply ≡ client_reply answer

@@ -5,6 +5,7 @@
 #![tactic(auto)]
 
 mod given;
+mod guest;
 mod observed;
 mod observer;
 mod options;
@@ -13,7 +14,8 @@ mod seated;
 mod server;
 
 pub use given::Given;
-pub use observer::{Loops, Observer, Serving};
+pub use observer::{Lack, Loops, Observer, Serving, Verb};
 pub use options::{MOST_CONNECTIONS, ServeOptions};
-pub use seated::{Seated, client_reply, is_final};
+pub use pass_thread::close_listener;
+pub use seated::{Seated, asks_again, client_reply};
 pub use server::{Bounds, Served, serve};

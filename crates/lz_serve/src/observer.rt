@@ -1,4 +1,9 @@
 //! What an operator is told of a service.
+ghost use Rattle.std.specs.Prelude.{◌≡◌};
+ghost use Rattle.lz_serve.specs.Verbs.{verb_of};
+
+use lz_proto::{Reply, Request};
+use std::net::TcpListener;
 use std::{fmt, io};
 
 /// What a service stands on.
@@ -48,24 +53,78 @@ impl fmt::Display for Serving {
     }
 }
 
-/// Is told what an operator wants to know of a service, by any of its threads.
+/// Why passes serve nobody.
+#[derive(Debug, Drop)]
+pub enum Lack {
+    /// There is no thread for them.
+    Thread,
+    /// There is no memory for them and their clients.
+    Memory,
+    /// The system refused what a loop needs.
+    System(io::Error),
+}
+
+impl fmt::Display for Lack {
+    fn fmt<W: fmt::Write>(&self, f: &mut fmt::Formatter<W>) -> fmt::Result {
+        match self {
+            Lack::Thread => f.write_str("no thread is left"),
+            Lack::Memory => f.write_str("out of memory"),
+            Lack::System(error) => write!(f, "{error}"),
+        }
+    }
+}
+
+/// What a request asks for, without its key.
+#[derive(Clone, Copy, Debug, PartialEq, Eq)]
+pub enum Verb {
+    Add,
+    Remove,
+    Has,
+}
+
+impl Verb {
+    /// What this request asks for. A session never asks `quit`.
+    pub fn of(request: &Request) -> Verb
+        ensures { result ≡ verb_of request.now }
+    {
+        match request {
+            Request::Add(_) => Verb::Add,
+            Request::Remove(_) => Verb::Remove,
+            Request::Has(_) | Request::Quit => Verb::Has,
+        }
+    }
+}
+
+/// Is told what an operator wants to know of a service, by any of its threads, and says when it is to end.
 pub trait Observer: Drop {
-    /// The service stands, and is about to take its first connection.
-    fn serving(&self, serving: Serving);
+    /// The service stands, and is about to take its first connection from this listener.
+    fn serving(&self, serving: Serving, listener: &TcpListener);
 
     /// The service can't listen on its port.
     fn no_port(&self, error: io::Error);
 
-    /// For so many of the passes no thread could be made, so as many connections fewer are served at once.
-    fn threadless(&self, threadless: usize, passes: usize);
+    /// So many passes serve nobody. They are gone.
+    fn unserved(&self, passes: usize, why: Lack);
 
     /// A connection was accepted.
     fn accepted(&self);
 
-    /// A command was replied `full`.
-    fn full(&self);
+    /// A connection can't be accepted now. It waits.
+    fn unaccepted(&self, error: io::Error);
+
+    /// A connection that was accepted has ended.
+    fn parted(&self);
+
+    /// A client has been silent for a second, or all places are taken: connections may wait.
+    fn crowded(&self);
+
+    /// A command was replied to so.
+    fn answered(&self, verb: Verb, reply: Reply);
 
     /// A session has found that the device failed, or that no sync is left: nothing more is answered until the file is opened
     /// again. Told once.
     fn halted(&self);
+
+    /// Whether the service is to end: then no further command is begun, and those under way are answered.
+    fn stops(&self) -> bool;
 }

@@ -5,6 +5,7 @@ ghost use Rattle.lz_set.specs.Names.{MayCall};
 ghost use Rattle.lz_serve.specs.Halts.{IsCalm, IsCalmAfter, SawHalt};
 
 use crate::given::Given;
+use crate::guest::{Incoming, Outgoing};
 use crate::observed::Observed;
 use crate::observer::Observer;
 use crate::seated::Seated;
@@ -63,8 +64,8 @@ impl<N: Named, B: Given> Finished<N, B> {
     }
 }
 
-/// Serves by this pass, until a client was told that the service halted, or it has served as many as it may. The first thread
-/// that tells so tells the observer too.
+/// Serves by this pass, until a client was told that the service halted, it has served as many as it may, or the service is to end.
+/// The first thread that tells of a halt tells the observer too.
 pub(crate) fn serve_pass<D, G, N, B, R, O>(
     rt: &R,
     listener: &TcpListener,
@@ -89,7 +90,7 @@ where
     let halted = serve_sessions(rt, listener, &mut observed, bounds, told);
     if halted && !told.swap(true, Ordering::SeqCst) {
         observer.halted();
-        close(listener);
+        close_listener(listener);
     }
     Finished {
         halted,
@@ -99,9 +100,9 @@ where
     }
 }
 
-// Has each wait for a connection end with a fault, now and later. The kit's listener has no call for this, and its stream has. Where
-// no descriptor is left for that, each pass that waits ends with its next client.
-fn close(listener: &TcpListener) {
+/// Has each wait for a connection end with a fault, now and later. (A listener has no call for this, and a stream has.) When out of
+/// descriptors it does nothing: then each thread that waits ends with its next client.
+pub fn close_listener(listener: &TcpListener) {
     if let Ok(same) = listener.try_clone() {
         let _ = TcpStream::from(OwnedFd::from(same)).shutdown(Shutdown::Both);
     }
@@ -128,17 +129,23 @@ where
     let mut served = 0u64;
     let mut pause = PAUSE;
     for stream in listener.incoming() {
-        if told.load(Ordering::SeqCst) {
+        if told.load(Ordering::SeqCst) || observed.observer.stops() {
             return false;
         }
-        let Ok(stream) = stream else {
-            thread::sleep(rt, Duration::from_millis(pause));
-            pause = pause.saturating_mul(2).min(LONGEST_PAUSE);
-            continue;
+        let stream = match stream {
+            Ok(stream) => stream,
+            Err(error) => {
+                observed.observer.unaccepted(error);
+                thread::sleep(rt, Duration::from_millis(pause));
+                pause = pause.saturating_mul(2).min(LONGEST_PAUSE);
+                continue;
+            }
         };
         pause = PAUSE;
         observed.observer.accepted();
-        if serve_stream(rt, &stream, observed, bounds.idle) {
+        let halted = serve_stream(rt, &stream, observed, bounds.idle);
+        observed.observer.parted();
+        if halted {
             return true;
         }
         served = served.wrapping_add(1);
@@ -160,18 +167,15 @@ where
     D: Disk,
     G: StepGate,
     N: Named,
-    R: Wait + AllocGlobal,
+    R: Wait + Clock + AllocGlobal,
     O: Observer,
     ensures seen { result ≡ true → SawHalt observed.new.seated.pass }
     ensures calm { result ≡ false → IsCalm (part observed.old.seated.pass) → IsCalm (part observed.new.seated.pass) }
 {
-    // A reply goes out at once; where that can't be asked for it may go out later.
-    let _ = stream.set_nodelay(true);
-    // Where no time can be set the session waits without an end.
-    let _ = stream.set_read_timeout(idle);
-    let _ = stream.set_write_timeout(idle);
+    let mut reader = Incoming::new(stream, observed.observer, idle);
+    let mut writer = Outgoing::new(stream, observed.observer, idle);
     // What the seat has replied counts, also where the client didn't get it.
-    let _ = session(rt.alloc(), &mut &*stream, &mut &*stream, observed);
+    let _ = session(rt.alloc(), &mut reader, &mut writer, observed);
     take_leave(stream);
     observed.seated.halted()
 }

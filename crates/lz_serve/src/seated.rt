@@ -1,17 +1,25 @@
 //! The service of one pass of a set.
-ghost use Rattle.std.specs.Prelude.{◌≡◌, ◌≢◌, Some, true, false};
+ghost use Rattle.std.specs.Prelude.{◌≡◌, ◌≢◌, ◌<◌, Some, true, false};
 ghost use Rattle.lz_slot.specs.declared.command.Command.{Command};
 ghost use Rattle.lz_set.specs.Names.{MayCall};
 ghost use Rattle.lz_serve.specs.Halts.{SawHalt};
-ghost use Rattle.lz_serve.specs.Replies.{IsCallAnswered, SeatAnswers, command_of, client_reply, says_halted};
+ghost use Rattle.lz_serve.specs.Replies.{IsCallAnswered, SeatAnswers, asks_again, command_of, client_reply, most_tries, says_halted};
 
 use lz_disk::Disk;
 use lz_proto::{Reply, Request, Service};
 use lz_set::{Fault, Named, Pass, Set, StepGate};
 use std::sync::Wait;
+use std::thread;
+use std::time::{Clock, Duration};
+
+/// How many calls a request has at most after its first one, while slots wait for calls that end. A seat makes the first of them at
+/// once, and waits for a millisecond before each further one: for a second in all, beside what the calls take.
+const MOST_TRIES: usize = 1_000;
+
+const PAUSE: u64 = 1;
 
 /// Serves requests by one pass of a set. It may wait for other passes.
-pub struct Seated<'a, D: Disk, G: StepGate, N: Named, R: Wait> {
+pub struct Seated<'a, D: Disk, G: StepGate, N: Named, R: Wait + Clock> {
     rt: &'a R,
     set: &'a Set<D, G, N>,
     pass: Pass,
@@ -21,7 +29,7 @@ pub struct Seated<'a, D: Disk, G: StepGate, N: Named, R: Wait> {
     ghost saw: { halted ≡ true → SawHalt pass },
 }
 
-impl<'a, D: Disk, G: StepGate, N: Named, R: Wait> Drop for Seated<'a, D, G, N, R> {
+impl<'a, D: Disk, G: StepGate, N: Named, R: Wait + Clock> Drop for Seated<'a, D, G, N, R> {
     fn drop(self) {
         let Seated {
             rt: _,
@@ -32,7 +40,7 @@ impl<'a, D: Disk, G: StepGate, N: Named, R: Wait> Drop for Seated<'a, D, G, N, R
     }
 }
 
-impl<'a, D: Disk, G: StepGate, N: Named, R: Wait> Seated<'a, D, G, N, R> {
+impl<'a, D: Disk, G: StepGate, N: Named, R: Wait + Clock> Seated<'a, D, G, N, R> {
     pub fn new(rt: &'a R, set: &'a Set<D, G, N>, pass: Pass) -> Seated<'a, D, G, N, R>
         requires { MayCall N.board pass }
         ensures pass { result.pass ≡ pass }
@@ -91,19 +99,24 @@ fn says_halted(reply: Reply) -> bool
     matches!(reply, Reply::Halted)
 }
 
-/// Whether a request was answered so. Where several passes have calls, `full` isn't told of the first one.
-pub fn is_final<D: Disk, G: StepGate, N: Named>(set: &Set<D, G, N>, reply: Reply) -> bool
-    ensures first { result ≡ true → reply ≡ Reply.Full → N.board.sizes.passes ≡ 1 }
-    ensures again { result ≡ false → (reply ≡ Reply.Full) × (N.board.sizes.passes ≢ 1) }
+/// Whether one more call is made for a request, after one that was answered so, and so many more before it: no slot was free, and
+/// slots wait for calls that end. One pass alone has no others' calls to wait for.
+pub fn asks_again<D: Disk, G: StepGate, N: Named>(
+    set: &Set<D, G, N>,
+    tries: usize,
+    answer: Result<bool, Fault>,
+) -> bool
+    ensures again { result ≡ asks_again N.board tries answer }
+    ensures few { result ≡ true → tries < most_tries }
 {
-    match reply {
-        Reply::Full => set.passes() == 1,
-        _ => true,
+    match answer {
+        Err(Fault::Full(counts)) => { tries < MOST_TRIES && counts.limbo != 0 && set.passes() != 1 }
+        _ => false,
     }
 }
 
 // Makes one call for what the request asks, by the pass.
-fn call<D: Disk, G: StepGate, N: Named, R: Wait>(
+fn call<D: Disk, G: StepGate, N: Named, R: Wait + Clock>(
     rt: &R,
     set: &Set<D, G, N>,
     pass: &mut Pass,
@@ -124,7 +137,7 @@ fn call<D: Disk, G: StepGate, N: Named, R: Wait>(
 }
 
 // Does what the request asks for by the pass, and replies.
-fn reply_to<D: Disk, G: StepGate, N: Named, R: Wait>(
+fn reply_to<D: Disk, G: StepGate, N: Named, R: Wait + Clock>(
     rt: &R,
     set: &Set<D, G, N>,
     pass: &mut Pass,
@@ -135,16 +148,21 @@ fn reply_to<D: Disk, G: StepGate, N: Named, R: Wait>(
     ensures may_call { MayCall N.board pass.new }
     ensures answers { SeatAnswers N.board N.format pass.old request result pass.new }
 {
-    let first = client_reply(call(rt, set, pass, &request));
-    if is_final(set, first) {
-        return first;
+    let mut answer = call(rt, set, pass, &request);
+    for tries in 0..MOST_TRIES {
+        if !asks_again(set, tries, answer) {
+            return client_reply(answer);
+        }
+        // While it looked for a slot the pass was inside, and may have held up all that wait. Its answer has shown it outside.
+        if tries > 0 {
+            thread::sleep(rt, Duration::from_millis(PAUSE));
+        }
+        answer = call(rt, set, pass, &request);
     }
-    // While it looked for a slot the pass was inside, and may have held up all that wait to be free again. Its answer has shown
-    // it outside.
-    client_reply(call(rt, set, pass, &request))
+    client_reply(answer)
 }
 
-impl<'a, D: Disk, G: StepGate, N: Named, R: Wait> Service for Seated<'a, D, G, N, R> {
+impl<'a, D: Disk, G: StepGate, N: Named, R: Wait + Clock> Service for Seated<'a, D, G, N, R> {
     ghost use Rattle.std.specs.Prelude.{◌||◌};
 
     ghost answers = { λ old request reply new. SeatAnswers N.board N.format old.pass request reply new.pass × (new.halted ≡ (old.halted || says_halted reply)) };

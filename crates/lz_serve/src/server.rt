@@ -6,7 +6,7 @@ ghost use Rattle.lz_set.specs.Names.{MayCall};
 ghost use Rattle.lz_serve.specs.Halts.{IsCalm, IsCalmAfter, SawHalt};
 
 use crate::given::Given;
-use crate::observer::Observer;
+use crate::observer::{Lack, Observer};
 use crate::pass_thread::{Finished, serve_pass};
 use lz_disk::Disk;
 use lz_set::{Named, Pass, Set, StepGate};
@@ -103,7 +103,7 @@ where
         {
             let given = passes.len();
             let Some((mut threads, done)) = room_for::<N, B>(rt.alloc(), given) else {
-                observer.threadless(given, given);
+                observer.unserved(given, Lack::Memory);
                 return Served {
                     passes: Vec::new(rt.alloc()),
                     halted: false,
@@ -126,7 +126,7 @@ where
             }
             let threadless = given - threads.len();
             if threadless > 0 {
-                observer.threadless(threadless, given);
+                observer.unserved(threadless, Lack::Thread);
             }
             let (passes, halted) = join_all(rt, threads, done);
             Served {

@@ -1,9 +1,10 @@
-use Rattle.std.proofs.Common.{◌≡◌, ◌≢◌, inl, inr, Some, refl, sym, ◌∙◌}
+use Rattle.std.proofs.Common.{◌≡◌, ◌≢◌, false, Some, refl, sym, subst, arith}
 use Rattle.lz_slot.specs.declared.command.Command.{Command}
 use Rattle.lz_slot.specs.declared.command.Command.TheVariants as command
 use Rattle.lz_proto.specs.declared.request.Request.{Request}
 use Rattle.lz_proto.specs.declared.request.Request.TheVariants.{Add, Remove, Has, Quit}
-use Rattle.lz_serve.specs.Replies.{command_of}
+use Rattle.lz_serve.specs.Replies.{asks_again, command_of, most_tries}
+use Rattle.lz_serve.proofs.Seats.{asked_more, seat_told, told_at_last}
 use Rattle.lz_serve.proofs.seated.reply_to.Goals as goal
 
 -- what a request asks for that isn't `quit`
@@ -13,29 +14,32 @@ asks (Remove k) goes = (command.Remove k, refl)
 asks (Has k) goes = (command.Has k, refl)
 asks Quit goes = absurd (goes refl)
 
-pub returns-then-is_final-clause-answers : goal.returns-then-is_final-clause-answers
-returns-then-is_final-clause-answers g c =
-    let (d, asked) = asks c.args.request c.requires.request in
+pub loop-tries-init : goal.loop-tries-init
+loop-tries-init g c = record {
+  may_call = c.call-answer.ensures.may_call;
+  asked = λ d asked. record { middle = c.args.pass.now; before = refl; last = c.call-answer.ensures.answered d asked };
+}
+
+pub loop-tries-preserved : goal.loop-tries-preserved
+loop-tries-preserved g c =
+    let is = c.asks_again.ensures.again in
+    let more = c.if-not-asks_again.false in
     record {
-      c = d;
-      asked = asked;
-      middle = c.args.pass.now;
-      first = inl (refl, c.is_final.ensures.first c.if-is_final.true);
-      answer = c.call.result;
-      last = c.call.ensures.answered d asked;
-      told = c.client_reply-first.ensures;
+      may_call = c.call-answer-in-loop-tries.ensures.may_call;
+      asked = λ d asked. asked_more (c.loop-tries.invariant.asked d asked) (grind (arith, is, more)) (c.call-answer-in-loop-tries.ensures.answered d asked);
     }
+
+pub returns-then-not-asks_again-clause-answers : goal.returns-then-not-asks_again-clause-answers
+returns-then-not-asks_again-clause-answers g c =
+    let (d, asked) = asks c.args.request c.requires.request in
+    let is = c.asks_again.ensures.again in
+    let final = c.if-not-asks_again.true in
+    seat_told (c.loop-tries.invariant.asked d asked) asked (grind (arith, is, final)) c.client_reply.ensures
 
 pub returns-clause-answers : goal.returns-clause-answers
 returns-clause-answers g c =
     let (d, asked) = asks c.args.request c.requires.request in
-    let again = c.is_final.ensures.again c.if-is_final.false in
-    record {
-      c = d;
-      asked = asked;
-      middle = c.call.new.pass;
-      first = inr (record { several = again.1; answer = c.call.result; full = sym c.client_reply-first.ensures ∙ again.0; answered = c.call.ensures.answered d asked });
-      answer = c.call-2.result;
-      last = c.call-2.ensures.answered d asked;
-      told = c.client_reply.ensures;
-    }
+    let upto = c.loop-tries.auto.tries-end in
+    let from = c.loop-tries-test.false in
+    let all : c.loop-tries.tries ≡ most_tries = omega (arith, upto, from) in
+    seat_told (c.loop-tries.invariant.asked d asked) asked (subst (λ (n : _). asks_again g.N.Named.board n c.loop-tries.answer ≡ false) (sym all) (told_at_last g.N.Named.board c.loop-tries.answer)) c.client_reply-2.ensures
