@@ -4,21 +4,23 @@ ghost use Rattle.lz_slot.specs.Limits.{last_room, most_buckets, most_buckets_of,
 ghost use Rattle.lz_slot.specs.Rooms.{last_room_of};
 ghost use Rattle.lazyset_command_line.specs.Requests.{IsWithin};
 
+use crate::control::ask_to_stop;
+use crate::counted::Counted;
 use crate::fault::Fault;
 use crate::files::{
-    create, format_on, is_absent, open, open_source, read_front, say_cause, stand_in,
-    take_away_empty,
+    StandIns, bytes_of, create, format_on, is_absent, is_same, open, open_source, read_front,
+    say_cause, shown, take_away_empty, take_lock,
 };
+use crate::growing::grow;
 use crate::heard::Heard;
-use crate::log::Log;
-use crate::watched::Watched;
+use crate::service::{Until, serve};
 use crate::words::words_of;
 use lazyset_command_line::{Request, read, too_many_buckets};
 use lazyset_commands::{
-    MOST_JUDGED, ServeOptions, Shown, Status, check_of_on, judge_on, make_keys_on, make_on,
-    rehearse_on, renew_on, run_on, serve_on, survey_on,
+    MOST_JUDGED, Shown, Status, check_of_on, judge_on, make_keys_on, make_on, rehearse_on,
+    renew_on, run_on, survey_on,
 };
-use lz_disk::FileDisk;
+use lz_disk::{FileDisk, Lock};
 use lz_slot::Format;
 use std::fs::File;
 use std::io::Write;
@@ -41,9 +43,9 @@ where
     };
     match read(rt.alloc(), words.as_slice()) {
         Ok(request) => {
-            let stands = stand_in(rt);
+            let stands = StandIns::new(rt);
             let mut writer = Heard::new(io::writer(rt));
-            let status = dispatch(rt, request, &mut writer);
+            let status = dispatch(rt, request, &stands, &mut writer);
             if let Ok(Status::Failed | Status::Refused) = status {
                 say_why(rt, request, writer.line());
             }
@@ -62,9 +64,14 @@ fn say_why<R: Eprint>(rt: &R, request: Request<'_>, line: Option<&str>) {
     }
 }
 
-fn dispatch<R, W>(rt: &R, request: Request<'_>, writer: &mut W) -> Result<Status, Fault>
+fn dispatch<R, W>(
+    rt: &R,
+    request: Request<'_>,
+    stands: &StandIns,
+    writer: &mut W,
+) -> Result<Status, Fault>
 where
-    R: Files<File = File> + Input + Eprint + AllocGlobal,
+    R: Env + Files<File = File> + Input + Eprint + AllocGlobal,
     R: Net<Listener = TcpListener, Stream = TcpStream> + Threads + Wait + Clock + Sync,
     W: Write + Drop,
     requires { IsWithin request }
@@ -79,15 +86,35 @@ where
             file,
             slots,
             format,
-        } => make_keys(rt, writer, file, slots, format),
+        } => {
+            if stands.has_no_input() {
+                return Err(Fault::NoRead);
+            }
+            make_keys(rt, writer, file, slots, format)
+        }
         Request::Renew {
             old,
             new,
             slots,
             format,
         } => renew(rt, writer, old, new, slots, format),
+        Request::Grow {
+            file,
+            slots,
+            format,
+        } => grow(rt, writer, file, slots, format),
         Request::Run { file, buckets } => run_file(rt, writer, file, buckets),
-        Request::Serve { file, options } => serve(rt, writer, file, options),
+        Request::Serve {
+            file,
+            options,
+            control,
+            until_eof,
+        } => {
+            let until = Until { control, until_eof };
+            let disk = open_for(rt, file, options.buckets)?;
+            serve(rt, writer, file, disk, options, until)
+        }
+        Request::Stop { path, within } => ask_to_stop(rt, path, within),
         Request::Info { file } => survey(rt, writer, file, Shown::Counts),
         Request::Check { file, of } => check(rt, writer, file, of),
         Request::Keys { file } => survey(rt, writer, file, Shown::Keys),
@@ -100,12 +127,12 @@ where
     }
 }
 
-// A refused making leaves no file where there was none.
+// A making that wasn't done leaves no file where there was none, unless something was written into it.
 fn after_making<R>(rt: &R, path: &str, was_absent: bool, status: Status) -> Status
 where
     R: Files<File = File> + AllocGlobal,
 {
-    if was_absent && matches!(status, Status::Refused) {
+    if was_absent && status != Status::Done {
         take_away_empty(rt, path);
     }
     status
@@ -119,13 +146,15 @@ fn make<R, W>(
     format: Format,
 ) -> Result<Status, Fault>
 where
-    R: Files<File = File> + Eprint + AllocGlobal,
+    R: Files<File = File> + Eprint + Clock + AllocGlobal,
     W: Write + Drop,
 {
     let was_absent = is_absent(rt, file);
-    let mut disk = create(rt, file)?;
+    let disk = create(rt, file)?;
+    take_lock(rt, file, &disk, Lock::Exclusive)?;
+    let mut disk = shown(rt, file, disk, bytes_of(slots));
     let status = make_on(writer, &mut disk, slots, format);
-    say_cause(rt, file, disk.cause());
+    say_cause(rt, file, disk.end().cause());
     Ok(after_making(rt, file, was_absent, status))
 }
 
@@ -137,20 +166,20 @@ fn make_keys<R, W>(
     format: Format,
 ) -> Result<Status, Fault>
 where
-    R: Files<File = File> + Input + Eprint + AllocGlobal,
+    R: Files<File = File> + Input + Eprint + Clock + AllocGlobal,
     W: Write + Drop,
 {
     let was_absent = is_absent(rt, file);
-    let mut disk = create(rt, file)?;
-    let status = make_keys_on(
-        rt.alloc(),
-        &mut rt.reader(),
-        writer,
-        &mut disk,
-        slots,
-        format,
-    );
-    say_cause(rt, file, disk.cause());
+    let disk = create(rt, file)?;
+    take_lock(rt, file, &disk, Lock::Exclusive)?;
+    let mut disk = shown(rt, file, disk, bytes_of(slots));
+    let mut reader = Counted::new(rt.reader());
+    let status = make_keys_on(rt.alloc(), &mut reader, writer, &mut disk, slots, format);
+    if status == Status::Done {
+        let keys = reader.lines();
+        let _ = eprintln!(rt; "lazyset: make {file}: {keys} keys");
+    }
+    say_cause(rt, file, disk.end().cause());
     Ok(after_making(rt, file, was_absent, status))
 }
 
@@ -163,16 +192,22 @@ fn renew<R, W>(
     format: Format,
 ) -> Result<Status, Fault>
 where
-    R: Files<File = File> + Eprint + AllocGlobal,
+    R: Files<File = File> + Eprint + Clock + AllocGlobal,
     W: Write + Drop,
     requires { last_room_of format ≡ last_room }
 {
-    let mut old_disk = open(rt, old)?;
+    let old_disk = open(rt, old, Lock::Shared)?;
     let was_absent = is_absent(rt, new);
-    let mut disk = create(rt, new)?;
+    let disk = create(rt, new)?;
+    // A file can't be renewed into itself, and is refused for what it is.
+    if !is_same(&old_disk, &disk) {
+        take_lock(rt, new, &disk, Lock::Exclusive)?;
+    }
+    let mut old_disk = shown(rt, old, old_disk, None);
+    let mut disk = shown(rt, new, disk, bytes_of(slots));
     let status = renew_on(rt.alloc(), writer, &mut old_disk, &mut disk, format, slots);
-    say_cause(rt, old, old_disk.cause());
-    say_cause(rt, new, disk.cause());
+    say_cause(rt, old, old_disk.end().cause());
+    say_cause(rt, new, disk.end().cause());
     Ok(after_making(rt, new, was_absent, status))
 }
 
@@ -180,61 +215,51 @@ where
 // head is asked only for more than each format allows.
 fn open_for<R>(rt: &R, file: &str, buckets: usize) -> Result<FileDisk, Fault>
 where
-    R: Files<File = File> + Eprint + AllocGlobal,
+    R: Files<File = File> + Eprint + Clock + AllocGlobal,
 {
-    let mut disk = open(rt, file)?;
+    let mut disk = open(rt, file, Lock::Exclusive)?;
     if buckets > Format::Two.most_buckets()
         && let Some(format) = format_on(&mut disk)
         && buckets > format.most_buckets()
     {
+        let _ = eprintln!(rt;
+            "lazyset: {file}: a file of format 3 may have more buckets: renew it with --format 3"
+        );
         let refusal = too_many_buckets(rt.alloc(), buckets as u64, format);
         return Err(Fault::of_refusal(refusal));
     }
+    disk.watch();
     Ok(disk)
 }
 
 fn run_file<R, W>(rt: &R, writer: &mut W, file: &str, buckets: usize) -> Result<Status, Fault>
 where
-    R: Files<File = File> + Input + Eprint + AllocGlobal + Wait,
+    R: Files<File = File> + Input + Eprint + AllocGlobal + Wait + Clock,
     W: Write + Drop,
     requires { (1 ≤ buckets) × (buckets ≤ most_buckets) }
 {
     let disk = open_for(rt, file, buckets)?;
+    let disk = shown(rt, file, disk, None);
     let (status, disk) = run_on(rt, &mut rt.reader(), writer, disk, buckets);
-    say_cause(rt, file, disk.cause());
-    Ok(status)
-}
-
-fn serve<R, W>(rt: &R, writer: &mut W, file: &str, options: ServeOptions) -> Result<Status, Fault>
-where
-    R: Files<File = File> + Eprint + AllocGlobal,
-    R: Net<Listener = TcpListener, Stream = TcpStream> + Threads + Wait + Clock + Sync,
-    W: Write + Drop,
-    requires passes { (1 ≤ options.passes) × (options.passes ≤ most_passes) }
-    requires buckets { (1 ≤ options.buckets) × (options.buckets ≤ most_buckets) }
-{
-    let disk = open_for(rt, file, options.buckets)?;
-    let watched = File::open(rt, file).ok().and_then(Watched::new);
-    let log = Log::new(rt, file, watched);
-    let (status, disk) = serve_on(rt, writer, &log, disk, options);
-    say_cause(rt, file, disk.cause());
+    let mut disk = disk;
+    say_cause(rt, file, disk.end().cause());
     Ok(status)
 }
 
 fn survey<R, W>(rt: &R, writer: &mut W, file: &str, shown: Shown) -> Result<Status, Fault>
 where
-    R: Files<File = File> + Eprint + AllocGlobal,
+    R: Files<File = File> + Eprint + Clock + AllocGlobal,
     W: Write + Drop,
 {
     let mut source = open_source(rt, file)?;
     let status = survey_on(rt.alloc(), &mut source, writer, shown);
-    say_cause(rt, file, source.cause());
+    say_cause(rt, file, source.end());
     Ok(status)
 }
 
 fn check<R, W>(rt: &R, writer: &mut W, file: &str, of: Option<&str>) -> Result<Status, Fault>
 where
-    R: Files<File = File> + Eprint + AllocGlobal,
+    R: Files<File = File> + Eprint + Clock + AllocGlobal,
     W: Write + Drop,
 {
     let Some(old) = of else {
@@ -243,14 +268,14 @@ where
     let mut source = open_source(rt, file)?;
     let mut older = open_source(rt, old)?;
     let status = check_of_on(rt.alloc(), &mut source, &mut older, writer);
-    say_cause(rt, file, source.cause());
-    say_cause(rt, old, older.cause());
+    say_cause(rt, file, source.end());
+    say_cause(rt, old, older.end());
     Ok(status)
 }
 
 fn judge<R, W>(rt: &R, writer: &mut W, file: &str) -> Result<Status, Fault>
 where
-    R: Files<File = File> + Eprint + AllocGlobal,
+    R: Files<File = File> + Eprint + Clock + AllocGlobal,
     W: Write + Drop,
 {
     let bytes = read_front(rt, file, MOST_JUDGED)?;

@@ -44,6 +44,15 @@ impl Fault {
         }
     }
 
+    /// What of it goes to standard error too, where the command line wasn't understood: its first line.
+    pub fn words(&self) -> Option<&str> {
+        match self {
+            Fault::NotUnderstood(text) => text.as_str().lines().next(),
+            Fault::NotText => Some("error: an argument isn't UTF-8"),
+            _ => None,
+        }
+    }
+
     /// How the command ended.
     pub fn status(&self) -> Status {
         match self {

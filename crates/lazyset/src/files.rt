@@ -1,15 +1,21 @@
 //! The files that a command names, and the process's own.
 use crate::fault::Fault;
+use crate::share::{Share, is_terminal};
+use crate::shown_disk::ShownDisk;
 use crate::source::Source;
-use lz_disk::{Disk, FileDisk};
+use lz_disk::{Cause, Disk, FileDisk, Lock, LockFault};
 use lz_slot::{Format, read_header};
 use std::fs::{File, OpenOptions};
 use std::io::{ErrorKind, Read};
 use std::os::fd::{AsRawFd, RawFd};
+use std::os::unix::fs::{FileTypeExt, MetadataExt};
 use std::rt::Files;
+use std::time::Clock;
 use std::{fmt, io};
 
-// The number of standard error, the last one of the three.
+// The numbers of standard input and of standard error, the last one of the three.
+const INPUT: RawFd = 0;
+
 const LAST_STANDARD: RawFd = 2;
 
 // The most bytes that one read of a file takes.
@@ -17,8 +23,24 @@ const MOST_PIECE: usize = 4_096;
 
 /// What stands in for standard input, output and error where they are closed: else the next file that is opened would get the
 /// number of one, and what the program says would be written into that file.
-pub fn stand_in<R: Files<File = File>>(rt: &R) -> (Option<File>, Option<File>, Option<File>) {
-    (open_nothing(rt), open_nothing(rt), open_nothing(rt))
+#[derive(Drop)]
+pub struct StandIns {
+    first: Option<File>,
+    others: [Option<File>; 2],
+}
+
+impl StandIns {
+    pub fn new<R: Files<File = File>>(rt: &R) -> StandIns {
+        StandIns {
+            first: open_nothing(rt),
+            others: [open_nothing(rt), open_nothing(rt)],
+        }
+    }
+
+    /// Whether standard input was closed.
+    pub fn has_no_input(&self) -> bool {
+        self.first.as_ref().map(AsRawFd::as_raw_fd) == Some(INPUT)
+    }
 }
 
 // The file that holds nothing and takes everything, where there is one and it gets the number of a standard one.
@@ -32,15 +54,45 @@ fn open_nothing<R: Files<File = File>>(rt: &R) -> Option<File> {
     Some(file)
 }
 
-// Says why a file can't be had.
-fn no_file<R: Eprint, W: fmt::Display + Drop>(rt: &R, path: &str, why: W) -> Fault {
+/// Says why a file can't be had.
+pub fn no_file<R: Eprint, W: fmt::Display + Drop>(rt: &R, path: &str, why: W) -> Fault {
     let _ = eprintln!(rt; "lazyset: {path}: {why}");
     Fault::NoFile
 }
 
-/// The file at this path, as a disk.
-pub fn open<R: Files<File = File> + Eprint>(rt: &R, path: &str) -> Result<FileDisk, Fault> {
-    open_or_create(rt, path, false)
+/// The file at this path, as a disk, with a lock.
+pub fn open<R: Files<File = File> + Eprint>(
+    rt: &R,
+    path: &str,
+    lock: Lock,
+) -> Result<FileDisk, Fault> {
+    let disk = open_or_create(rt, path, false)?;
+    take_lock(rt, path, &disk, lock)?;
+    Ok(disk)
+}
+
+/// Takes a lock on this file. Where the file system has no locks that is said, and it goes on without. The file has to stand at its path
+/// still once it is locked: it may have been replaced meanwhile.
+pub fn take_lock<R>(rt: &R, path: &str, disk: &FileDisk, lock: Lock) -> Result<(), Fault>
+where
+    R: Files<File = File> + Eprint,
+{
+    match disk.lock(lock) {
+        Ok(()) => {}
+        Err(LockFault::Taken) => return Err(no_file(rt, path, "another process has it open")),
+        Err(LockFault::NoLocks(error)) => {
+            let _ = eprintln!(rt;
+                "lazyset: {path}: it can't be locked, so see that nothing else opens it: {error}"
+            );
+        }
+    }
+    if let Ok(facts) = rt.metadata(path)
+        && let Some(identity) = disk.identity()
+        && identity != (facts.dev(), facts.ino())
+    {
+        return Err(no_file(rt, path, "another file was put in its place"));
+    }
+    Ok(())
 }
 
 /// The file at this path, as a disk; it is created where it isn't there, and it has to be a regular one: whatever is written into a
@@ -63,6 +115,34 @@ where
     }
 }
 
+/// The disk, of which it is said how much of so many bytes was read or written; where none are named, of those that it has.
+pub fn shown<'a, 'b, R>(
+    rt: &'a R,
+    path: &'b str,
+    disk: FileDisk,
+    bytes: Option<u64>,
+) -> ShownDisk<'a, 'b, R, FileDisk>
+where
+    R: Files<File = File> + Eprint + Clock,
+{
+    let total = match (bytes, rt.metadata(path)) {
+        (Some(bytes), _) => bytes,
+        (None, Ok(facts)) => facts.len(),
+        (None, Err(_)) => 0,
+    };
+    ShownDisk::new(disk, Share::new(rt, path, total, is_terminal(rt)))
+}
+
+/// How many bytes a file of so many slots has.
+pub fn bytes_of(slots: u64) -> Option<u64> {
+    Some(slots.saturating_mul(16).saturating_add(16))
+}
+
+/// Whether two disks are one file.
+pub fn is_same(one: &FileDisk, other: &FileDisk) -> bool {
+    one.identity().is_some() && one.identity() == other.identity()
+}
+
 /// The format of the file on this disk, where its head tells one. What is wrong with another file is told by its open.
 pub fn format_on(disk: &mut FileDisk) -> Option<Format> {
     let mut head = [0; 16];
@@ -74,10 +154,10 @@ pub fn format_on(disk: &mut FileDisk) -> Option<Format> {
     Some(read_header(&head, size).ok()?.format)
 }
 
-/// Says why this file failed, where the system said so.
-pub fn say_cause<R: Eprint>(rt: &R, path: &str, cause: Option<io::Error>) {
-    if let Some(error) = cause {
-        let _ = eprintln!(rt; "lazyset: {path}: {error}");
+/// Says why this file failed, where that is known.
+pub fn say_cause<R: Eprint>(rt: &R, path: &str, cause: Option<Cause>) {
+    if let Some(cause) = cause {
+        let _ = eprintln!(rt; "lazyset: {path}: {cause}");
     }
 }
 
@@ -133,12 +213,19 @@ fn open_readable<R: Files<File = File> + Eprint>(rt: &R, path: &str) -> Result<F
     }
 }
 
-/// The file, for reading from its beginning to its end. A directory is none.
-pub fn open_source<R>(rt: &R, path: &str) -> Result<Source, Fault>
+/// The file, for reading from its beginning to its end. A directory is none, nor is a pipe, for which somebody would have to write.
+pub fn open_source<'a, 'b, R>(rt: &'a R, path: &'b str) -> Result<Source<'a, 'b, R>, Fault>
 where
-    R: Files<File = File> + Eprint,
+    R: Files<File = File> + Eprint + Clock,
 {
-    Ok(Source::new(open_readable(rt, path)?))
+    if let Ok(facts) = rt.metadata(path)
+        && facts.file_type().is_fifo()
+    {
+        return Err(no_file(rt, path, "it is a pipe"));
+    }
+    let file = open_readable(rt, path)?;
+    let length = file.metadata().map_or(0, |facts| facts.len());
+    Ok(Source::new(file, Share::new(rt, path, length, is_terminal(rt))))
 }
 
 /// The file's bytes, up to so many.

@@ -1,33 +1,172 @@
-//! What the service says on standard error.
+//! What the service says on standard error, and when it is to end.
+use crate::backlog::Backlog;
+use crate::gauge::Gauge;
+use crate::level::Level;
+use crate::ready::Ready;
+use crate::seldom::Seldom;
 use crate::watched::Watched;
-use lz_serve::{Observer, Serving};
+use lz_disk::Cause;
+use lz_proto::Reply;
+use lz_serve::{Lack, Observer, Serving, Verb, close_listener};
 use lz_slot::Format;
-use std::io;
-use std::sync::atomic::{AtomicBool, Ordering};
+use std::net::TcpListener;
+use std::sync::atomic::{AtomicBool, AtomicUsize, Ordering};
+use std::sync::{OnceLock, Wait};
+use std::time::{Clock, Duration};
+use std::{fmt, io};
 
 // From how many members in a list on a command takes long enough to be told.
 const LONG_LIST: usize = 64;
 
-/// Says of the service of a file what an operator wants to know. Where that can't be written nothing changes.
+/// An observer by which a service is asked to end.
+pub trait Stoppable: Observer {
+    /// The service is to end: no further command is begun.
+    fn stop(&self);
+}
+
+/// What the system around a service wants and tells.
+#[derive(Drop)]
+pub struct Surroundings {
+    /// Each line has its level before it.
+    pub has_levels: bool,
+    /// Who wants to know that the service is ready.
+    pub ready: Ready,
+    pub backlog: Backlog,
+}
+
+/// Says of the service of a file what an operator wants to know, and whether it is to end. Where that can't be written nothing changes.
 #[derive(Drop)]
 pub struct Log<'a, R: Eprint> {
     rt: &'a R,
     file: &'a str,
     /// The file that is served, where it can be watched.
     watched: Option<Watched>,
-    was_full: AtomicBool,
+    around: Surroundings,
+    /// When the opening began, where the clock tells.
+    began: Option<Duration>,
+    listener: OnceLock<TcpListener>,
+    gauge: Gauge,
+    /// How many connections it serves at once, how many there are, and how many there were.
+    places: AtomicUsize,
+    guests: AtomicUsize,
+    sessions: AtomicUsize,
+    crowded: Seldom,
+    unaccepted: Seldom,
     was_changed: AtomicBool,
+    stops: AtomicBool,
 }
 
-impl<'a, R: Eprint> Log<'a, R> {
-    /// The log of a service of this file.
-    pub fn new(rt: &'a R, file: &'a str, watched: Option<Watched>) -> Log<'a, R> {
-        Log {
+impl<'a, R> Log<'a, R>
+where
+    R: Eprint + Clock + Wait + AllocGlobal,
+{
+    /// The log of a service of this file, which is about to be opened.
+    pub fn new(
+        rt: &'a R,
+        file: &'a str,
+        watched: Option<Watched>,
+        around: Surroundings,
+    ) -> Log<'a, R> {
+        let log = Log {
             rt,
             file,
             watched,
-            was_full: AtomicBool::new(false),
+            around,
+            began: rt.monotonic().ok(),
+            listener: OnceLock::new(),
+            gauge: Gauge::new(),
+            places: AtomicUsize::new(0),
+            guests: AtomicUsize::new(0),
+            sessions: AtomicUsize::new(0),
+            crowded: Seldom::new(),
+            unaccepted: Seldom::new(),
             was_changed: AtomicBool::new(false),
+            stops: AtomicBool::new(false),
+        };
+        log.say(Level::Info, "opening");
+        log
+    }
+
+    fn say<W: fmt::Display + Drop>(&self, level: Level, words: W) {
+        let file = self.file;
+        self.write(level, format_args!("{file}: {words}"));
+    }
+
+    fn write<W: fmt::Display + Drop>(&self, level: Level, line: W) {
+        let before = if self.around.has_levels {
+            level.prefix()
+        } else {
+            ""
+        };
+        let _ = eprintln!(self.rt; "{before}{line}");
+    }
+
+    /// Says why the file failed, where that is known.
+    pub fn say_cause(&self, cause: Option<Cause>) {
+        if let Some(cause) = cause {
+            let file = self.file;
+            self.write(Level::Error, format_args!("lazyset: {file}: {cause}"));
+        }
+    }
+
+    /// The service has ended, if it has begun.
+    pub fn ended(&self) {
+        if self.places.load(Ordering::SeqCst) == 0 {
+            return;
+        }
+        let sessions = self.sessions.load(Ordering::SeqCst);
+        let (members, slots) = (self.gauge.members(), self.gauge.slots());
+        let how = if self.stops() { "stopped" } else { "ended" };
+        self.say(
+            Level::Notice,
+            format_args!("{how}: sessions {sessions}, members {members} of {slots} slots"),
+        );
+    }
+
+    // The second that it is.
+    fn second(&self) -> u64 {
+        match self.rt.monotonic() {
+            Ok(now) => now.as_secs(),
+            Err(_) => 0,
+        }
+    }
+
+    // Says how long the opening took.
+    fn tell_opened(&self) {
+        if let Some(began) = self.began
+            && let Ok(now) = self.rt.monotonic()
+        {
+            let took = now.saturating_sub(began);
+            let (seconds, tenths) = (took.as_secs(), took.subsec_millis() / 100);
+            self.say(Level::Info, format_args!("opened in {seconds}.{tenths} s"));
+        }
+    }
+
+    // Says that connections wait, where all places are taken.
+    fn tell_crowd(&self) {
+        if self.guests.load(Ordering::SeqCst) < self.places.load(Ordering::SeqCst) {
+            return;
+        }
+        if !self.crowded.may(self.second()) {
+            return;
+        }
+        let Some(listener) = self.listener.get() else {
+            return;
+        };
+        let Ok(address) = listener.local_addr() else {
+            return;
+        };
+        let places = self.places.load(Ordering::SeqCst);
+        match self.around.backlog.at(self.rt.alloc(), address.port()) {
+            Some(0) => self.crowded.again(),
+            Some(waiting) => self.say(
+                Level::Warning,
+                format_args!("all {places} places are taken, {waiting} connections wait"),
+            ),
+            None => self.say(
+                Level::Warning,
+                format_args!("all {places} places are taken, further connections wait"),
+            ),
         }
     }
 
@@ -40,59 +179,134 @@ impl<'a, R: Eprint> Log<'a, R> {
             .most_buckets()
     }
 
-    // Says what was done to the file.
-    fn tell_change(&self, change: &str) {
-        if !self.was_changed.swap(true, Ordering::SeqCst) {
-            let file = self.file;
-            let _ = eprintln!(self.rt; "{file}: {change}: what is answered may be lost at the end");
+    // Says that lists are long, where they are.
+    fn tell_lists(&self, members: usize, buckets: usize) {
+        if members.checked_div(buckets).unwrap_or(0) > LONG_LIST {
+            let more = members.min(self.most_buckets());
+            self.say(
+                Level::Warning,
+                format_args!(
+                    "long lists make commands slow: give it --buckets {more} at the next start"
+                ),
+            );
         }
     }
 }
 
-impl<'a, R: Eprint> Observer for Log<'a, R> {
-    fn serving(&self, serving: Serving) {
-        let file = self.file;
-        let _ = eprintln!(self.rt; "{file}: serving: {serving}");
-        let Serving {
-            members,
-            buckets,
-            ..
-        } = serving;
-        if members.checked_div(buckets).unwrap_or(0) > LONG_LIST {
-            let more = members.min(self.most_buckets());
-            let _ = eprintln!(self.rt;
-                "{file}: long lists make commands slow: give it --buckets {more} at the next start"
-            );
+impl<'a, R> Stoppable for Log<'a, R>
+where
+    R: Eprint + Clock + Wait + AllocGlobal,
+{
+    fn stop(&self) {
+        if self.stops.swap(true, Ordering::SeqCst) {
+            return;
+        }
+        self.say(Level::Notice, "asked to stop");
+        if let Some(listener) = self.listener.get() {
+            close_listener(listener);
+        }
+    }
+}
+
+impl<'a, R> Observer for Log<'a, R>
+where
+    R: Eprint + Clock + Wait + AllocGlobal,
+{
+    fn serving(&self, serving: Serving, listener: &TcpListener) {
+        if let Ok(same) = listener.try_clone() {
+            let _ = self.listener.set(self.rt, same);
+        }
+        let places = match serving.loops {
+            Some(loops) => loops.connections,
+            None => serving.passes,
+        };
+        self.places.store(places, Ordering::SeqCst);
+        self.gauge.begin(serving.slots, serving.members);
+        self.tell_opened();
+        self.say(Level::Info, format_args!("serving: {serving}"));
+        self.tell_lists(serving.members, serving.buckets);
+        self.around.ready.tell();
+        // It may have been asked before it had a listener.
+        if self.stops() {
+            close_listener(listener);
         }
     }
 
     fn no_port(&self, error: io::Error) {
         let file = self.file;
-        let _ = eprintln!(self.rt; "lazyset: serve {file}: noport: {error}");
+        self.write(
+            Level::Error,
+            format_args!("lazyset: serve {file}: noport: {error}"),
+        );
     }
 
-    fn threadless(&self, threadless: usize, passes: usize) {
-        let file = self.file;
-        let _ = eprintln!(self.rt; "{file}: no thread for {threadless} of {passes} passes");
+    fn unserved(&self, passes: usize, why: Lack) {
+        self.say(
+            Level::Error,
+            format_args!("{passes} passes serve nobody: {why}"),
+        );
     }
 
     fn accepted(&self) {
-        if let Some(change) = self.watched.as_ref().and_then(Watched::change) {
-            self.tell_change(change);
+        self.sessions.fetch_add(1, Ordering::SeqCst);
+        self.guests.fetch_add(1, Ordering::SeqCst);
+        if let Some(change) = self.watched.as_ref().and_then(Watched::change)
+            && !self.was_changed.swap(true, Ordering::SeqCst)
+        {
+            self.say(
+                Level::Error,
+                format_args!("{change}: no further change is answered"),
+            );
+        }
+        self.tell_crowd();
+    }
+
+    fn crowded(&self) {
+        self.tell_crowd();
+    }
+
+    fn unaccepted(&self, error: io::Error) {
+        if !self.stops() && self.unaccepted.may(self.second()) {
+            self.say(
+                Level::Warning,
+                format_args!("no connection can be accepted: {error}"),
+            );
         }
     }
 
-    fn full(&self) {
-        if !self.was_full.swap(true, Ordering::SeqCst) {
-            let file = self.file;
-            let _ = eprintln!(self.rt; "{file}: full: no slot was free for a new key");
+    fn parted(&self) {
+        self.guests.fetch_sub(1, Ordering::SeqCst);
+    }
+
+    fn answered(&self, verb: Verb, reply: Reply) {
+        match (verb, reply) {
+            (Verb::Add, Reply::Yes) => {
+                if let Some(share) = self.gauge.came() {
+                    let (members, slots) = (self.gauge.members(), self.gauge.slots());
+                    self.say(
+                        Level::Warning,
+                        format_args!("{share} % full: {members} members in {slots} slots"),
+                    );
+                }
+            }
+            (Verb::Remove, Reply::Yes) => self.gauge.left(),
+            (_, Reply::Full) => {
+                if self.gauge.fills() {
+                    self.say(Level::Warning, "full: no slot was free for a new key");
+                }
+            }
+            _ => {}
         }
     }
 
     fn halted(&self) {
-        let file = self.file;
-        let _ = eprintln!(self.rt;
-            "{file}: the device failed: nothing is answered until the file is opened again"
+        self.say(
+            Level::Error,
+            "the device failed: nothing is answered until the file is opened again",
         );
+    }
+
+    fn stops(&self) -> bool {
+        self.stops.load(Ordering::SeqCst)
     }
 }

@@ -1,11 +1,23 @@
 //! The command line of the set service: it reads the words, opens the files, and hands over to the library of commands.
 #![tactic(auto)]
 
+mod backlog;
 mod commands;
+mod control;
+mod counted;
+mod ending;
 mod fault;
 mod files;
+mod gauge;
+mod growing;
 mod heard;
+mod level;
 mod log;
+mod ready;
+mod seldom;
+mod service;
+mod share;
+mod shown_disk;
 mod source;
 mod watched;
 mod words;
@@ -17,6 +29,9 @@ fn main(rt: HostRuntime) -> ExitCode {
     match run(&rt) {
         Ok(status) => ExitCode::from(status.code()),
         Err(fault) => {
+            if let Some(words) = fault.words() {
+                let _ = eprintln!(rt; "lazyset: {words}");
+            }
             // Where standard output fails too, the status alone is left to tell.
             let status = match print!(rt; "{fault}") {
                 Ok(()) => fault.status(),

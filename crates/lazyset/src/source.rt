@@ -1,31 +1,43 @@
 //! A file that is read from its beginning to its end.
+use crate::share::Share;
+use lz_disk::Cause;
 use std::fs::File;
 use std::io;
 use std::io::{ErrorKind, Read};
+use std::time::Clock;
 
-/// Reads a file, and remembers why a read failed.
+/// Reads a file, says how much of it was read, and remembers why a read failed.
 #[derive(Drop)]
-pub struct Source {
+pub struct Source<'a, 'b, R: Eprint + Clock> {
     file: File,
+    share: Share<'a, 'b, R>,
     /// The system's number for why.
     cause: Option<i32>,
 }
 
-impl Source {
-    pub fn new(file: File) -> Source {
-        Source { file, cause: None }
+impl<'a, 'b, R: Eprint + Clock> Source<'a, 'b, R> {
+    pub fn new(file: File, share: Share<'a, 'b, R>) -> Source<'a, 'b, R> {
+        Source {
+            file,
+            share,
+            cause: None,
+        }
     }
 
-    /// Why a read failed, where the system said so.
-    pub fn cause(&self) -> Option<io::Error> {
-        self.cause.map(io::Error::from_raw_os_error)
+    /// It was read as far as it will be. Why a read failed, where the system said so.
+    pub fn end(&mut self) -> Option<Cause> {
+        self.share.end();
+        self.cause.map(Cause::System)
     }
 }
 
-impl Read for Source {
+impl<R: Eprint + Clock> Read for Source<'_, '_, R> {
     fn read(&mut self, buffer: &mut [u8]) -> io::Result<usize> {
         match self.file.read(buffer) {
-            Ok(count) => Ok(count),
+            Ok(count) => {
+                self.share.add(count);
+                Ok(count)
+            }
             Err(error) => {
                 if error.kind() != ErrorKind::Interrupted {
                     self.cause = error.raw_os_error();

@@ -28,6 +28,7 @@ fn made_format(request: Request<'_>) -> Option<Format> {
         Request::Make { format, .. }
         | Request::MakeKeys { format, .. }
         | Request::Renew { format, .. } => Some(format),
+        Request::Grow { format, .. } => Some(format.unwrap_or(Format::Two)),
         _ => None,
     }
 }
@@ -56,7 +57,9 @@ fn words_of_making(number: u8, format: Format) -> Option<&'static str> {
 // How many slots a file of this format has.
 fn words_of_slots(format: Format) -> &'static str {
     match format {
-        Format::One | Format::Two => "a file has 1 to 65536 slots",
+        Format::One | Format::Two => {
+            "a file has 1 to 65536 slots; with --format 3 it has up to 16777216"
+        }
         Format::Three => "a file of format 3 has 1 to 16777216 slots",
     }
 }

@@ -5,17 +5,18 @@ use Rattle.lz_slot.specs.Rooms.{last_room_of}
 use Rattle.lz_serve.specs.declared.observer.Loops.{Loops}
 use Rattle.lz_serve.specs.Options.{most_connections}
 use Rattle.lazyset_command_line.specs.declared.request.Request.{Request}
-use Rattle.lazyset_command_line.specs.declared.request.Request.TheVariants.{Renew, Run, Serve, Rehearse}
+use Rattle.lazyset_command_line.specs.declared.request.Request.TheVariants.{Renew, Grow, Run, Serve, Rehearse}
 
--- loops of so many passes, each of which has a pass at least
+-- loops of so many passes, each of which has a pass and a connection at least
 abbrev pub AreWithin : ℕ → Loops → Type 0
-AreWithin passes l = ((1 ≤ l.count) × (l.count ≤ passes)) × (1 ≤ l.connections) × (l.connections ≤ most_connections)
+AreWithin passes l = ((1 ≤ l.count) × (l.count ≤ passes)) × (l.count ≤ l.connections) × (l.connections ≤ most_connections)
 
 -- its numbers and its format are those with which the command may be run
 abbrev pub IsWithin : Request → Type 0
 IsWithin (Renew old new slots format) = last_room_of format ≡ last_room
+IsWithin (Grow file slots format) = IfSome format (λ f. last_room_of f ≡ last_room)
 IsWithin (Run file buckets) = (1 ≤ buckets) × (buckets ≤ most_buckets)
-IsWithin (Serve file options) =
+IsWithin (Serve file options control until_eof) =
     ((1 ≤ options.passes) × (options.passes ≤ most_passes)) × ((1 ≤ options.buckets) × (options.buckets ≤ most_buckets)) × IfSome options.loops (AreWithin options.passes)
 IsWithin (Rehearse slots buckets format) =
     ((1 ≤ slots) × (slots ≤ most_rehearsed)) × (1 ≤ buckets) × (buckets ≤ most_buckets_of format)

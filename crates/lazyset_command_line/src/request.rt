@@ -32,6 +32,13 @@ pub enum Request<'a> {
         slots: u64,
         format: Format,
     },
+    /// A renewal into a new file that takes the old one's place.
+    Grow {
+        file: &'a str,
+        slots: u64,
+        /// Where none is named, that of the file, or the next one that has all rooms.
+        format: Option<Format>,
+    },
     Run {
         file: &'a str,
         buckets: usize,
@@ -39,6 +46,15 @@ pub enum Request<'a> {
     Serve {
         file: &'a str,
         options: ServeOptions,
+        /// The path of the socket on which it is asked to stop.
+        control: Option<&'a str>,
+        /// It stops when standard input ends.
+        until_eof: bool,
+    },
+    /// Asks the service with this control socket to stop, and waits for its end, up to so many seconds.
+    Stop {
+        path: &'a str,
+        within: u64,
     },
     Info {
         file: &'a str,
@@ -67,8 +83,10 @@ impl fmt::Display for Request<'_> {
         match *self {
             Request::Make { file, .. } | Request::MakeKeys { file, .. } => write!(f, "make {file}"),
             Request::Renew { old, new, .. } => write!(f, "renew {old} {new}"),
+            Request::Grow { file, .. } => write!(f, "grow {file}"),
             Request::Run { file, .. } => write!(f, "run {file}"),
             Request::Serve { file, .. } => write!(f, "serve {file}"),
+            Request::Stop { path, .. } => write!(f, "stop {path}"),
             Request::Info { file } => write!(f, "info {file}"),
             Request::Check { file, .. } | Request::Keys { file } => write!(f, "check {file}"),
             Request::Judge { file } => write!(f, "judge {file}"),
@@ -115,6 +133,8 @@ fn request_of<'a>(matches: &ArgMatches<'a>) -> Option<Request<'a>>
     match matches.subcommand()? {
         ("make", words) => make(words),
         ("renew", words) => renew(words),
+        ("grow", words) => grow(words),
+        ("stop", words) => stop(words),
         ("info", words) => info(words),
         ("check", words) => check(words),
         ("judge", words) => judge(words),
@@ -156,6 +176,20 @@ fn renew<'a>(words: &ArgMatches<'a>) -> Option<Request<'a>>
     })
 }
 
+fn grow<'a>(words: &ArgMatches<'a>) -> Option<Request<'a>>
+    ensures { IfSome result IsWithin }
+{
+    let format = match number(words, "format") {
+        Some(_) => Some(format_with_rooms(words)?),
+        None => None,
+    };
+    Some(Request::Grow {
+        file: text(words, "FILE")?,
+        slots: number(words, "SLOTS")?,
+        format,
+    })
+}
+
 fn run<'a>(words: &ArgMatches<'a>) -> Option<Request<'a>>
     ensures { IfSome result IsWithin }
 {
@@ -173,6 +207,17 @@ fn serve<'a>(words: &ArgMatches<'a>) -> Option<Request<'a>>
     Some(Request::Serve {
         file: text(words, "FILE")?,
         options,
+        control: text(words, "control"),
+        until_eof: words.get_flag("until-eof"),
+    })
+}
+
+fn stop<'a>(words: &ArgMatches<'a>) -> Option<Request<'a>>
+    ensures { IfSome result IsWithin }
+{
+    Some(Request::Stop {
+        path: text(words, "PATH")?,
+        within: number(words, "within")?,
     })
 }
 
@@ -199,7 +244,7 @@ fn serve_options(matches: &ArgMatches<'_>) -> Option<ServeOptions>
     })
 }
 
-// The loops that the command line asks for, each of which needs a pass.
+// The loops that the command line asks for, each of which needs a pass and a connection.
 fn loops_of(matches: &ArgMatches<'_>, passes: usize) -> Option<Loops>
     requires { 1 ≤ passes }
     ensures { IfSome result (AreWithin passes) }
@@ -209,7 +254,10 @@ fn loops_of(matches: &ArgMatches<'_>, passes: usize) -> Option<Loops>
         Some(_) => number_within(matches, "loops", passes)?,
         None => 1,
     };
-    Some(Loops { count, connections })
+    Some(Loops {
+        count: count.min(connections),
+        connections,
+    })
 }
 
 fn info<'a>(words: &ArgMatches<'a>) -> Option<Request<'a>>

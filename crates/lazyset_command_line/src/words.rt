@@ -49,7 +49,7 @@ pub const STATUSES: &str =
     "Exit statuses: 0 done; 1 the device, a read, a write or the port failed, or out of memory; 2 the command line; 3 the file or the input was refused; 4 damaged, not the same, or judged wrong. Standard error says in words why.";
 
 /// The commands, as the help lists them.
-pub const SHEETS: [Sheet; 8] = [
+pub const SHEETS: [Sheet; 10] = [
     Sheet {
         name: "make",
         about: "Makes a file that holds the empty set, or the keys of standard input. It overwrites any file that isn't a set, unless that is longer",
@@ -63,15 +63,21 @@ pub const SHEETS: [Sheet; 8] = [
         words: &[OLD, NEW, SLOTS, ROOMY_FORMAT],
     },
     Sheet {
+        name: "grow",
+        about: "Moves the keys of a file into a new one, with room for more or fewer, which takes its place",
+        notes: "Prints `grown M`, `refused old N` with what `run` would say of FILE, `refused new N` with what `make` would say of the new file, or `refused 9 M S` where M keys have no room in S slots. FILE is then as it was, but perhaps after `refused new 3`, where it may be the new file, whole.\n\nThe new file is made beside FILE, as FILE.grow, compared with it, and renamed; what stood there under that name is gone. A crash at any moment leaves FILE as it was or grown, and never less: run it again.\n\nExample: lazyset grow f 2000",
+        words: &[FILE, SLOTS, GROWN_FORMAT],
+    },
+    Sheet {
         name: "run",
         about: "Answers the lines of standard input, each with one line",
-        notes: "Lines: `add K`, `remove K`, `has K`, `quit`. K is a number, as in `add 17`, or a room from 0 to 15 and a number, as in `add 3:17`.\n\nReplies: yes, no, full (no slot is free), oldfile (a file of format 1 has room 0 alone), halted (the device failed), worn (2^61 commands were carried out), bad 1 (a line of more than 64 bytes), bad 2 (no such command), bad 3 (not a number), bad 4 (too large), bad 5 (the input ended within a line), bad 6 (invalid room number).\n\nA file may be `refused N`: 1 not made, 2 another format, 3 wrong length, 4 bad number of slots, 5 I slot I holds no key, 6 I J slots I and J hold one key, 7 the device failed, 8 out of memory.\n\nIt needs the file for itself: with another process on it answered keys vanish.\n\nExample: echo 'add 5' | lazyset run f",
+        notes: "Lines: `add K`, `remove K`, `has K`, `quit`. K is a number, as in `add 17`, or a room from 0 to 15 and a number, as in `add 3:17`.\n\nReplies: yes, no, full (no slot is free), oldfile (a file of format 1 has room 0 alone), halted (the device failed), worn (2^61 commands were carried out), bad 1 (a line of more than 64 bytes), bad 2 (no such command), bad 3 (not a number), bad 4 (too large), bad 5 (the input ended within a line), bad 6 (invalid room number).\n\nA file may be `refused N`: 1 not made, 2 another format, 3 wrong length, 4 bad number of slots, 5 I slot I holds no key, 6 I J slots I and J hold one key, 7 the device failed, 8 out of memory.\n\nIt locks the file: where another process has it, it says `nofile`.\n\nExample: echo 'add 5' | lazyset run f",
         words: &[FILE, BUCKETS],
     },
     Sheet {
         name: "serve",
         about: "Answers the lines of many connections at once, as `run` does",
-        notes: "Prints `listening PORT` when clients can connect, `refused N` as `run` does, or `noport`. Standard error is its log.\n\nIt needs the file for itself: with another process on it answered keys vanish. So start it under a lock.\n\nExample: flock --nonblock --no-fork f.lock lazyset serve f 7000 8 --buckets 1024 --idle 600\n\nFor thousands of connections: lazyset serve f 7000 64 --buckets 4096 --connections 5000",
+        notes: "Prints `listening PORT` when clients can connect, `refused N` as `run` does, or `noport`. Standard error is its log.\n\nIt locks the file: where another process has it, it says `nofile`.\n\nExample: lazyset serve f 7000 8 --buckets 1024 --idle 600\n\nFor thousands of connections: lazyset serve f 7000 64 --buckets 4096 --connections 5000",
         words: &[
             FILE,
             PORT,
@@ -81,7 +87,15 @@ pub const SHEETS: [Sheet; 8] = [
             SESSIONS,
             IDLE,
             BUCKETS,
+            CONTROL,
+            UNTIL_EOF,
         ],
+    },
+    Sheet {
+        name: "stop",
+        about: "Stops a service in order: it begins no further command, and answers those that are under way",
+        notes: "Ends when the service has ended. Where that takes more than SECONDS the service goes on stopping, and the status is 1.\n\nExample: lazyset stop f.control, where the service was started with --control f.control",
+        words: &[CONTROLLED, WITHIN],
     },
     Sheet {
         name: "info",
@@ -208,6 +222,15 @@ const ROOMY_FORMAT: Word = Word {
     help: "The format of the new file: 2, or 3, which has more slots",
 };
 
+const GROWN_FORMAT: Word = Word {
+    id: "format",
+    value_name: Some("F"),
+    form: Form::Within(2, 3),
+    default: None,
+    beside: Beside::Anything,
+    help: "The format of the new file: 2, or 3, which has more slots; that of FILE where none is named, and 2 for one of format 1",
+};
+
 const BUCKETS: Word = Word {
     id: "buckets",
     value_name: Some("B"),
@@ -269,4 +292,40 @@ const IDLE: Word = Word {
     default: Some("0"),
     beside: Beside::Anything,
     help: "Closes a connection on which nothing was sent, or no reply taken, for so long; 0 for never",
+};
+
+const CONTROL: Word = Word {
+    id: "control",
+    value_name: Some("PATH"),
+    form: Form::Text,
+    default: None,
+    beside: Beside::Anything,
+    help: "Makes a socket at this path, on which `lazyset stop PATH` asks the service to stop",
+};
+
+const UNTIL_EOF: Word = Word {
+    id: "until-eof",
+    value_name: None,
+    form: Form::Flag,
+    default: None,
+    beside: Beside::Anything,
+    help: "Stops, as `lazyset stop` asks, when standard input ends",
+};
+
+const CONTROLLED: Word = Word {
+    id: "PATH",
+    value_name: None,
+    form: Form::Text,
+    default: None,
+    beside: Beside::Anything,
+    help: "The socket that the service was given by --control",
+};
+
+const WITHIN: Word = Word {
+    id: "within",
+    value_name: Some("SECONDS"),
+    form: Form::Within(0, 86_400),
+    default: Some("30"),
+    beside: Beside::Anything,
+    help: "How long it waits for the service's end",
 };

@@ -1,5 +1,5 @@
 -- What a service of a set does: its passes are served, each by a thread, or by loops.
-use Rattle.std.specs.Prelude.{◌≡◌, ◌⊎◌, ◌≤◌, ◌<◌, ℕ, All, List, [], ◌∷◌, ◌++◌, codes, decimal, length, Option}
+use Rattle.std.specs.Prelude.{◌≡◌, ◌⊎◌, ◌≤◌, ◌<◌, ℕ, All, List, [], ◌∷◌, ◌++◌, codes, decimal, length, Option, Result, Ok, Err}
 use Rattle.std.specs.Io.KnownBytes.{Appends}
 use Rattle.lz_disk.specs.Devices.{Device}
 use Rattle.lz_vault.specs.Opens.{IsRefusedFor}
@@ -16,7 +16,9 @@ use Rattle.lz_set.specs.Left.{IsLeft, IsLeftWith}
 use Rattle.lz_serve.specs.Halts.{IsCalm}
 use Rattle.lazyset_offline.specs.Ends.{open_status}
 use Rattle.lazyset_offline.specs.Refusals.{refusal_text}
-use Rattle.lz_proto.specs.Steps.{IsCutShort}
+use Rattle.lz_proto.specs.Steps.{SendTells}
+use Rattle.lz_proto.specs.declared.fault.SessionFault.{SessionFault}
+use Rattle.lz_proto.specs.declared.fault.SessionFault.TheVariants.{Write}
 use Rattle.lazyset_offline.specs.Tellings.{Tells}
 use Rattle.lazyset_offline.specs.declared.status.Status.{Status}
 use Rattle.lazyset_offline.specs.declared.status.Status.TheVariants.{Done, Failed}
@@ -36,18 +38,22 @@ pub record ServedPasses (b : BoardId) (first : Device) (status : Status) (disk :
 abbrev pub port_text : ℕ → List ℕ
 port_text port = codes "listening " ++ decimal port ++ 10 ∷ []
 
--- the line of a port was written, or a part of it that isn't all
-abbrev pub TellsPort : Option (List ℕ) → Option (List ℕ) → Type 0
-TellsPort before after = (port : ℕ) × (port < 65_536) × (Appends before after (port_text port) ⊎ IsCutShort before after (port_text port))
+-- the line of a port was sent so
+abbrev pub TellsPort : Option (List ℕ) → Option (List ℕ) → Result (Unit {0}) SessionFault → Type 0
+TellsPort before after sent = (port : ℕ) × (port < 65_536) × SendTells before after (port_text port) sent
 
--- There was a port for the service, which was told where anybody reads it, and its passes were served.
+-- the line of a port couldn't be written, and the command failed
+abbrev pub HidesPort : Option (List ℕ) → Option (List ℕ) → Status → Type 0
+HidesPort before after status = TellsPort before after (Err Write) × (status ≡ Failed)
+
+-- There was a port for the service, which was told, and its passes were served.
 pub record HadPort (b : BoardId) (first : Device) (status : Status) (before after : Option (List ℕ)) (disk : Device) : Type 0 where
-  pub told : TellsPort before after
+  pub told : TellsPort before after (Ok tt)
   pub served : ServedPasses b first status disk
 
--- There was no port for the service, which was told; what is left of the disk tells a history.
+-- There was no port for the service, which was told, or its port couldn't be told; what is left of the disk tells a history.
 pub record HadNoPort (b : BoardId) (first : Device) (status : Status) (before after : Option (List ℕ)) (disk : Device) : Type 0 where
-  pub told : Tells before after (codes "noport" ++ 10 ∷ []) Failed status
+  pub told : Tells before after (codes "noport" ++ 10 ∷ []) Failed status ⊎ HidesPort before after status
   pub notes : List Note
   pub left : IsLeft b first notes disk
 

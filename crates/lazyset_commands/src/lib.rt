@@ -6,8 +6,8 @@ mod running;
 mod serving;
 
 pub use lazyset_offline::{
-    MOST_JUDGED, Shown, Status, check_of_on, judge_on, make_keys_on, make_on, rehearse_on,
-    renew_on, survey_on,
+    MOST_JUDGED, Shelf, Shown, Standing, Status, check_of_on, grow_on, judge_on, make_keys_on,
+    make_on, rehearse_on, renew_on, survey_on,
 };
 pub use lz_serve::ServeOptions;
 pub use running::run_on;

@@ -21,6 +21,7 @@ use std::io::{Read, Write};
 use std::marker::Brand;
 use std::slice;
 use std::sync::Wait;
+use std::time::Clock;
 
 /// Opens the set that the disk holds, over so many buckets, and answers each line of the input with one line, until the input
 /// ends. A refused open says `refused N` with the fault's number, and its slots where it has any. The disk is handed back.
@@ -32,7 +33,7 @@ pub fn run_on<Rt, R, W, D>(
     buckets: usize,
 ) -> (Status, D)
 where
-    Rt: Wait + AllocGlobal,
+    Rt: Wait + Clock + AllocGlobal,
     R: Read + Drop,
     W: Write + Drop,
     D: Disk,
@@ -71,7 +72,7 @@ fn run_blank<Rt, R, W, D, N>(
     blank: Blank<D, NoGate>,
 ) -> (Status, D)
 where
-    Rt: Wait + AllocGlobal,
+    Rt: Wait + Clock + AllocGlobal,
     R: Read + Drop,
     W: Write + Drop,
     D: Disk,
@@ -95,7 +96,7 @@ fn run_pass<Rt, R, W, D, N>(
     pass: Pass,
 ) -> (Status, D)
 where
-    Rt: Wait + AllocGlobal,
+    Rt: Wait + Clock + AllocGlobal,
     R: Read + Drop,
     W: Write + Drop,
     D: Disk,

@@ -1,5 +1,5 @@
 //! The command that serves a set over the network.
-ghost use Rattle.std.specs.Prelude.{◌≡◌, ◌⊎◌, ◌+◌, ◌≤◌, ◌<◌, All, true, false, vec_len};
+ghost use Rattle.std.specs.Prelude.{◌≡◌, ◌⊎◌, ◌+◌, ◌≤◌, ◌<◌, All, Ok, Err, true, false, vec_len};
 ghost use Rattle.std.specs.List.{Any};
 ghost use Rattle.lz_slot.specs.Limits.{most_buckets, most_passes};
 ghost use Rattle.lz_board.specs.Seats.{part};
@@ -11,6 +11,7 @@ ghost use Rattle.lazyset_commands.specs.Services.{HadNoPort, HadPort, RanService
 use lazyset_offline::{Status, refuse, send_line, tell};
 use lz_disk::Disk;
 use lz_loop::{LoopBounds, serve_loops};
+use lz_proto::SessionFault;
 use lz_serve::{Loops, Observer, ServeOptions, Served, Serving, serve};
 use lz_set::{Blank, Named, NoGate, Pass, Set};
 use lz_vault::Refused;
@@ -26,8 +27,9 @@ use std::time::Clock;
 const NO_PORT: &[u8] = b"noport\n";
 
 /// Opens the set that the disk holds and serves it on a port of 127.0.0.1, with a thread for each pass, each of which serves
-/// one connection after the other, or with loops, each of which serves many connections. The observer is told once the service stands, and where the device failed. Says `listening P` before the first connection, `refused N` of a refused open as a run does, and
-/// `noport` where it can't listen there. It ends when each pass, or loop, has served its sessions, and hands the disk back: Failed where a call was
+/// one connection after the other, or with loops, each of which serves many connections. The observer is told once the service stands, and
+/// where the device failed. Says `listening P` before the first connection, `refused N` of a refused open as a run does, and `noport` where
+/// it can't listen there. It serves nobody where `listening P` can't be written. It ends when each pass, or loop, has served its sessions, and hands the disk back: Failed where a call was
 /// answered that the set is halted or that the device failed, or where there was no thread for a pass.
 pub fn serve_on<R, W, O, D>(
     rt: &R,
@@ -92,8 +94,10 @@ where
             return (tell(writer, Status::Failed, NO_PORT), set.close());
         }
     };
-    observer.serving(serving);
-    tell_port(writer, port);
+    observer.serving(serving, &listener);
+    if !tell_port(writer, port) {
+        return (Status::Failed, set.close());
+    }
     serve_passes(rt, observer, &listener, set, passes, options)
 }
 
@@ -183,10 +187,12 @@ where
     Ok((listener, taken))
 }
 
-// Says on which port the service listens. It goes on where nobody reads what it says.
-fn tell_port<W: Write>(writer: &mut W, port: u16)
-    ensures { TellsPort (W.contents writer.old) (W.contents writer.new) }
+// Says on which port the service listens, and whether that was written.
+fn tell_port<W: Write>(writer: &mut W, port: u16) -> bool
+    ensures told { result ≡ true → TellsPort (W.contents writer.old) (W.contents writer.new) (Ok tt) }
+    ensures untold { result ≡ false → TellsPort (W.contents writer.old) (W.contents writer.new) (Err SessionFault.Write) }
 {
-    let _ = send_line(writer, b"listening ", u64::from(port));
+    let sent = send_line(writer, b"listening ", u64::from(port));
     let _ = writer.flush();
+    sent.is_ok()
 }

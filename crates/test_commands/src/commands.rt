@@ -5,6 +5,7 @@ use lz_slot::Format;
 use std::alloc::{AllocError, Global};
 use std::sync::Wait;
 use std::test::Fail;
+use std::time::Clock;
 
 /// A made file of two slots, as format 1 says.
 pub const TWO_SLOTS: [u8; 48] = [
@@ -34,7 +35,7 @@ pub struct Ran {
 }
 
 /// A run over a disk, with these lines.
-pub fn run<R: Wait + AllocGlobal>(rt: &R, disk: MemoryDisk, lines: &[u8]) -> Ran {
+pub fn run<R: Wait + Clock + AllocGlobal>(rt: &R, disk: MemoryDisk, lines: &[u8]) -> Ran {
     let mut input = lines;
     let mut printed: Vec<u8> = Vec::new(rt.alloc());
     let (status, disk) = run_on(rt, &mut input, &mut printed, disk, 1);

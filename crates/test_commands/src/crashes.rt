@@ -5,10 +5,11 @@ use lz_slot::Format;
 use std::alloc::{AllocError, Global};
 use std::sync::Wait;
 use std::test::Fail;
+use std::time::Clock;
 use test_support::{ENDS, FAILINGS, Failing, end_life, set_failing};
 
 // What a fresh run answers to whether 17 and 18 are members, once a life has ended so.
-fn found<R: Wait + AllocGlobal>(
+fn found<R: Wait + Clock + AllocGlobal>(
     rt: &R,
     disk: &MemoryDisk,
     end: Option<Pick>,
@@ -21,7 +22,7 @@ fn found<R: Wait + AllocGlobal>(
 }
 
 // Whether each end leaves one of the two.
-fn leaves<R: Wait + AllocGlobal>(
+fn leaves<R: Wait + Clock + AllocGlobal>(
     rt: &R,
     disk: &MemoryDisk,
     before: &[u8],
@@ -77,7 +78,7 @@ const LEFT: [Left; 5] = [
 const LINES: &[u8] = b"add 17\nadd 18\nremove 17\nhas 18\n";
 
 // Whether a run whose device fails after so many calls prints and leaves this.
-fn is_as_wanted<R: Wait + AllocGlobal>(
+fn is_as_wanted<R: Wait + Clock + AllocGlobal>(
     rt: &R,
     failing: Failing,
     passes: u64,

@@ -7,9 +7,15 @@ mod broken_pipes;
 #[cfg(test)]
 mod commands;
 #[cfg(test)]
+mod conversations;
+#[cfg(test)]
 mod crashes;
 #[cfg(test)]
+mod growths;
+#[cfg(test)]
 mod lists;
+#[cfg(test)]
+mod loop_ends;
 #[cfg(test)]
 mod loops;
 #[cfg(test)]

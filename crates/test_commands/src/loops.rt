@@ -1,5 +1,5 @@
 //! Many clients that one loop serves by four passes: each is told what a set of its own keys would reply.
-ghost use Rattle.std.specs.Prelude.{◌≤◌, All, length};
+ghost use Rattle.std.specs.Prelude.{All};
 ghost use Rattle.lz_set.specs.Names.{MayCall};
 ghost use Rattle.lz_disk.specs.Records.{device_of};
 ghost use Rattle.lz_set.specs.Blanks.{MayBeNamed};
@@ -8,12 +8,14 @@ use crate::network::{Network, Switch, side_of};
 use crate::scripts::{Script, script_of};
 use lz_disk::MemoryDisk;
 use lz_loop::{RoomBounds, serve_room};
-use lz_serve::{Observer, Serving};
+use lz_proto::Reply;
+use lz_serve::{Lack, Observer, Serving, Verb};
 use lz_set::{Blank, Named, NoGate, Pass, Set};
 use std::alloc::Global;
 use std::cell::{Cell, RefCell};
 use std::io;
 use std::marker::Brand;
+use std::net::TcpListener;
 use std::process::Abort;
 use std::sync::Wait;
 use std::sync::atomic::AtomicBool;
@@ -26,43 +28,66 @@ const CLIENTS: usize = 12;
 
 const PLACES: usize = 7;
 
-const PASSES: usize = 4;
+pub const PASSES: usize = 4;
 
-/// Counts what it is told.
+/// Counts what it is told, and ends the service after so many replies.
 #[derive(Drop)]
 struct Counts {
     accepted: Cell<u64>,
+    parted: Cell<u64>,
+    answered: Cell<u64>,
     halted: Cell<u64>,
+    most: u64,
 }
 
 impl Observer for Counts {
-    fn serving(&self, _serving: Serving) {}
+    fn serving(&self, _serving: Serving, _listener: &TcpListener) {}
 
     fn no_port(&self, error: io::Error) {
         drop(error);
     }
 
-    fn threadless(&self, _threadless: usize, _passes: usize) {}
+    fn unserved(&self, _passes: usize, why: Lack) {
+        drop(why);
+    }
 
     fn accepted(&self) {
         self.accepted.set(self.accepted.get().wrapping_add(1));
     }
 
-    fn full(&self) {}
+    fn unaccepted(&self, error: io::Error) {
+        drop(error);
+    }
+
+    fn crowded(&self) {}
+
+    fn parted(&self) {
+        self.parted.set(self.parted.get().wrapping_add(1));
+    }
+
+    fn answered(&self, _verb: Verb, _reply: Reply) {
+        self.answered.set(self.answered.get().wrapping_add(1));
+    }
 
     fn halted(&self) {
         self.halted.set(self.halted.get().wrapping_add(1));
+    }
+
+    fn stops(&self) -> bool {
+        self.answered.get() >= self.most
     }
 }
 
 /// How a loop ended: how many passes it handed back, whether it halted, how often each was told, and the disk that was left.
 #[derive(Drop)]
-struct Ended {
-    passes: usize,
-    halted: bool,
-    accepted: u64,
-    halts: u64,
-    disk: MemoryDisk,
+pub struct Ended {
+    pub passes: usize,
+    pub halted: bool,
+    pub accepted: u64,
+    pub parted: u64,
+    pub answered: u64,
+    pub halts: u64,
+    pub disk: MemoryDisk,
 }
 
 // Serves the network's connections by the passes of a set.
@@ -96,38 +121,45 @@ fn serve_blank<N: Named, R: Wait + Clock + AllocGlobal>(
     rt: &R,
     blank: Blank<MemoryDisk, NoGate>,
     network: &RefCell<Network>,
+    most: u64,
 ) -> Ended
     requires { MayBeNamed device_of N.board N.first N.format blank }
 {
     let (set, passes) = blank.start::<N>();
     let counts = Counts {
         accepted: Cell::new(0),
+        parted: Cell::new(0),
+        answered: Cell::new(0),
         halted: Cell::new(0),
+        most,
     };
     let (passes, halted) = serve_all(rt, &set, passes, network, &counts);
     Ended {
         passes,
         halted,
         accepted: counts.accepted.get(),
+        parted: counts.parted.get(),
+        answered: counts.answered.get(),
         halts: counts.halted.get(),
         disk: set.close(),
     }
 }
 
-// The same on the set that a disk holds.
-fn serve_on<R: Wait + Clock + AllocGlobal>(
+/// The same on the set that a disk holds, up to so many replies.
+pub fn serve_on<R: Wait + Clock + AllocGlobal>(
     rt: &R,
     disk: MemoryDisk,
     network: &RefCell<Network>,
+    most: u64,
 ) -> Option<Ended> {
     match Set::open(rt.alloc(), disk, NoGate, 3, PASSES) {
-        Ok(blank) => Some(serve_blank::<Brand, R>(rt, blank, network)),
+        Ok(blank) => Some(serve_blank::<Brand, R>(rt, blank, network, most)),
         Err(_) => None,
     }
 }
 
-// The scripts of all clients, each of so many lines.
-fn all_scripts(alloc: Global, lines: u64) -> Option<Vec<Script>> {
+/// The scripts of all clients, each of so many lines.
+pub fn all_scripts(alloc: Global, lines: u64) -> Option<Vec<Script>> {
     let mut scripts = Vec::new(alloc);
     for client in 0..CLIENTS as u64 {
         scripts.push(script_of(alloc, client, lines)?).ok()?;
@@ -135,8 +167,8 @@ fn all_scripts(alloc: Global, lines: u64) -> Option<Vec<Script>> {
     Some(scripts)
 }
 
-// The network on which these scripts are sent.
-fn network_of(alloc: Global, scripts: &[Script], seed: u64) -> Option<RefCell<Network>> {
+/// The network on which these scripts are sent.
+pub fn network_of(alloc: Global, scripts: &[Script], seed: u64) -> Option<RefCell<Network>> {
     let mut sides = Vec::new(alloc);
     for script in scripts {
         let text = script.text.as_slice().to_vec(alloc).ok()?;
@@ -182,16 +214,22 @@ fn talk<R: Wait + Clock + AllocGlobal + Abort>(rt: &R, seed: u64) -> Option<()> 
     let alloc = rt.alloc();
     let scripts = all_scripts(alloc, 40)?;
     let network = network_of(alloc, scripts.as_slice(), seed)?;
-    let ended = serve_on(rt, made(alloc, 64)?, &network)?;
+    let ended = serve_on(rt, made(alloc, 64)?, &network, u64::MAX)?;
     let Ended {
         passes,
         halted,
         accepted,
+        parted,
+        answered: _,
         halts,
         disk,
     } = ended;
     assert!(rt;
-        passes == PASSES && !halted && accepted == CLIENTS as u64 && halts == 0,
+        passes == PASSES
+            && !halted
+            && accepted == CLIENTS as u64
+            && parted == accepted
+            && halts == 0,
         "seed {seed}"
     );
     assert!(rt; are_told(&network, scripts.as_slice()), "seed {seed}");
@@ -208,126 +246,5 @@ fn each_client_is_told_what_its_own_set_would_reply(rt: HostRuntime) -> Result<(
     for seed in 1..20 {
         assert!(rt; talk(&rt, seed).is_some(), "seed {seed}");
     }
-    Ok(())
-}
-
-/// How many device calls an open makes.
-const OPENING: u64 = 4;
-
-/// How many lines each client has where the device fails.
-const LINES: u64 = 12;
-
-// How many bytes the two begin with alike.
-fn common(told: &[u8], replies: &[u8]) -> usize
-    ensures { result ≤ length told.now }
-{
-    let most = told.len().min(replies.len());
-    for index in 0..most {
-        if told[index] != replies[index] {
-            return index;
-        }
-    }
-    most
-}
-
-// Whether a client was told a beginning of its replies, and then of the halt, or a part of that.
-fn is_told_in_part(told: &[u8], replies: &[u8]) -> bool {
-    let same = common(told, replies);
-    let rest = &told[same..];
-    if rest.is_empty() {
-        return true;
-    }
-    let is_line = same == 0 || replies.get(same.wrapping_sub(1)) == Some(&b'\n');
-    is_line && b"halted\n".as_slice().starts_with(rest)
-}
-
-// How many of its lines a client was answered, the halt not counted.
-fn lines_of(told: &[u8]) -> u64 {
-    let all = told.iter().filter(|byte| **byte == b'\n').count() as u64;
-    if told.ends_with(b"halted\n") {
-        all.saturating_sub(1)
-    } else {
-        all
-    }
-}
-
-// Whether the keys of a client are those after some number of its lines, and not fewer than it was answered.
-fn are_left(alloc: Global, keys: &[u64], client: u64, answered: u64) -> Option<bool> {
-    for count in answered..LINES.wrapping_add(1) {
-        let script = script_of(alloc, client, count)?;
-        let mut key = client.wrapping_mul(10);
-        let mut same = true;
-        for member in script.members {
-            same = same && member == keys.contains(&key);
-            key = key.wrapping_add(1);
-        }
-        if same {
-            return Some(true);
-        }
-    }
-    Some(false)
-}
-
-// Whether each client was told a beginning of its replies, and the keys that are left are those of what it was told, or of more.
-fn are_kept(
-    alloc: Global,
-    network: &RefCell<Network>,
-    scripts: &[Script],
-    keys: &[u64],
-) -> Option<bool> {
-    let Ok(network) = network.try_borrow() else {
-        return None;
-    };
-    let mut sides = network.sides.iter();
-    let mut client = 0u64;
-    for script in scripts {
-        let told = sides.next()?.told.as_slice();
-        if !is_told_in_part(told, script.replies.as_slice())
-            || !are_left(alloc, keys, client, lines_of(told))?
-        {
-            return Some(false);
-        }
-        client = client.wrapping_add(1);
-    }
-    Some(true)
-}
-
-// Many clients on a new set whose device fails for good after so many calls. Whether it came to that.
-fn halt<R: Wait + Clock + AllocGlobal + Abort>(rt: &R, passes: u64) -> Option<bool> {
-    let alloc = rt.alloc();
-    let scripts = all_scripts(alloc, LINES)?;
-    let network = network_of(alloc, scripts.as_slice(), passes.wrapping_add(1))?;
-    let mut disk = made(alloc, 64)?;
-    disk.fuse(passes.wrapping_add(OPENING));
-    let ended = serve_on(rt, disk, &network)?;
-    let Ended {
-        passes: left,
-        halted,
-        accepted: _,
-        halts,
-        disk,
-    } = ended;
-    let mut disk = disk;
-    disk.stop();
-    let keys = keys_in(alloc, disk)?;
-    assert!(rt; left == PASSES && (halts == 1) == halted, "after {passes}");
-    assert!(rt;
-        are_kept(alloc, &network, scripts.as_slice(), keys.as_slice())?,
-        "after {passes}"
-    );
-    Some(halted)
-}
-
-#[test]
-fn a_failed_device_ends_the_loop_and_what_was_told_stays(rt: HostRuntime) -> Result<(), Fail> {
-    let mut halts = 0u64;
-    for passes in 0..60 {
-        let halted = halt(&rt, passes);
-        assert!(rt; halted.is_some(), "after {passes}");
-        if halted == Some(true) {
-            halts = halts.wrapping_add(1);
-        }
-    }
-    assert!(rt; halts == 60, "{halts}");
     Ok(())
 }

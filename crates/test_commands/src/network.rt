@@ -5,6 +5,7 @@ ghost use Rattle.lz_clients.specs.Streams.{counted, sent};
 use lz_clients::{Poller, Received, Stream, Taken};
 use std::alloc::Global;
 use std::cell::RefCell;
+use std::io;
 use std::time::Duration;
 
 /// The client's end of a connection: its text, how much of that was read, and what it was told.
@@ -140,16 +141,16 @@ impl<'a> Poller for Switch<'a> {
         }
     }
 
-    fn accept(&mut self, _token: usize) -> Option<Wire<'a>> {
+    fn accept(&mut self, _token: usize) -> io::Result<Option<Wire<'a>>> {
         if self.next >= self.clients {
-            return None;
+            return Ok(None);
         }
         let index = self.next;
         self.next += 1;
-        Some(Wire {
+        Ok(Some(Wire {
             network: self.network,
             index,
-        })
+        }))
     }
 }
 

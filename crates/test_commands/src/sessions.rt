@@ -6,6 +6,7 @@ use std::io;
 use std::io::{ErrorKind, Read, Write};
 use std::sync::Wait;
 use std::test::Fail;
+use std::time::Clock;
 use test_support::{Narrow, Slow};
 
 const LINES: &[u8] = b"add 17\nhas 17\nadd 17\nhas 18\n";
@@ -120,7 +121,7 @@ impl Write for Hesitant {
 
 // What a run over two slots ends with and writes, whose reads and writes are interrupted, where reads then fail so at the
 // lines' end, or writes after so many bytes.
-fn ends_when_interrupted<R: Wait + AllocGlobal>(
+fn ends_when_interrupted<R: Wait + Clock + AllocGlobal>(
     rt: &R,
     lines: &[u8],
     read_fault: ErrorKind,

@@ -44,7 +44,7 @@ where
 }
 
 // Makes all calls, once so many requests for memory were made.
-fn drill_all<R: Print + AllocGlobal + Wait>(rt: &R, before: u64) -> Result<(), Fault> {
+fn drill_all<R: Print + AllocGlobal + Wait + Clock>(rt: &R, before: u64) -> Result<(), Fault> {
     let kept = ask_first(rt, before)?;
     for call in CALLS {
         drill_in_turn(rt, call)?;
@@ -58,7 +58,7 @@ fn drill_all<R: Print + AllocGlobal + Wait>(rt: &R, before: u64) -> Result<(), F
 }
 
 // Where there was no memory for what a call is made on, all of it is made once more.
-fn drill_in_turn<R: Print + AllocGlobal + Wait>(rt: &R, call: Call) -> Result<(), Fault> {
+fn drill_in_turn<R: Print + AllocGlobal + Wait + Clock>(rt: &R, call: Call) -> Result<(), Fault> {
     match drill_once(rt, call) {
         Err(Fault::Unready(_)) => {
             println!(rt; "again")?;
@@ -68,7 +68,7 @@ fn drill_in_turn<R: Print + AllocGlobal + Wait>(rt: &R, call: Call) -> Result<()
     }
 }
 
-fn drill_once<R: Print + AllocGlobal + Wait>(rt: &R, call: Call) -> Result<(), Fault> {
+fn drill_once<R: Print + AllocGlobal + Wait + Clock>(rt: &R, call: Call) -> Result<(), Fault> {
     match call {
         Call::OpenVault => vaults::drill(rt),
         Call::NewBoard => boards::drill(rt),

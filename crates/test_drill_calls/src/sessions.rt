@@ -14,6 +14,7 @@ use std::io;
 use std::io::{ErrorKind, Read, Write};
 use std::marker::Brand;
 use std::sync::Wait;
+use std::time::Clock;
 
 /// What each read gives: commands that ask the device for nothing, so that no memory is asked for but by the session.
 const PIECES: [&[u8]; 4] = [
@@ -80,12 +81,12 @@ impl Told {
     }
 }
 
-pub fn drill<R: Print + AllocGlobal + Wait>(rt: &R) -> Result<(), Fault> {
+pub fn drill<R: Print + AllocGlobal + Wait + Clock>(rt: &R) -> Result<(), Fault> {
     let blank = open(rt)?;
     talk::<Brand, R>(rt, blank)
 }
 
-fn talk<N: Named, R: Print + AllocGlobal + Wait>(
+fn talk<N: Named, R: Print + AllocGlobal + Wait + Clock>(
     rt: &R,
     blank: Blank<MemoryDisk, NoGate>,
 ) -> Result<(), Fault>
@@ -95,7 +96,7 @@ fn talk<N: Named, R: Print + AllocGlobal + Wait>(
     converse(rt, &set, passes)
 }
 
-fn converse<N: Named, R: Print + AllocGlobal + Wait>(
+fn converse<N: Named, R: Print + AllocGlobal + Wait + Clock>(
     rt: &R,
     set: &Set<MemoryDisk, NoGate, N>,
     passes: Vec<Pass>,

@@ -15,6 +15,7 @@ use std::marker::Brand;
 use std::process::Abort;
 use std::sync::Wait;
 use std::test::Fail;
+use std::time::Clock;
 use test_support::{ENDS, FAILINGS, Failing, keys_in, last_pass, made, set_failing};
 
 /// How many device calls an open makes.
@@ -178,7 +179,7 @@ const LINES: &[u8] = b"add 1\nadd 2\nremove 1\nhas 2\n";
 const TOLD: [&[u8]; 3] = [b"halted\n", b"yes\nhalted\n", b"yes\nyes\nhalted\n"];
 
 // A session on a new set of two slots whose device fails after so many calls.
-fn talk_failing<R: Wait + Abort>(
+fn talk_failing<R: Wait + Clock + Abort>(
     rt: &R,
     alloc: Global,
     failing: Failing,
@@ -197,7 +198,7 @@ fn talk_failing<R: Wait + Abort>(
 }
 
 // The session ends there, and another one of the set with its first command. The disk is left as above.
-fn drill_session<R: Wait + Abort>(
+fn drill_session<R: Wait + Clock + Abort>(
     rt: &R,
     alloc: Global,
     failing: Failing,

@@ -23,3 +23,5 @@ mod talks;
 mod threads;
 #[cfg(test)]
 mod values;
+#[cfg(test)]
+mod waits;

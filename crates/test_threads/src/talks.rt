@@ -15,6 +15,7 @@ use std::marker::Brand;
 use std::process::Abort;
 use std::sync::Wait;
 use std::test::Fail;
+use std::time::Clock;
 use test_support::{Narrow, Slow, keys_in, made};
 
 /// How a session ended, what another one of the same set was then told, and the disk that was left.
@@ -26,7 +27,7 @@ pub struct Talked {
 }
 
 // A session by a pass of a set.
-fn converse<N: Named, I: Read, O: Write, R: Wait>(
+fn converse<N: Named, I: Read, O: Write, R: Wait + Clock>(
     rt: &R,
     alloc: Global,
     set: &Set<MemoryDisk, NoGate, N>,
@@ -42,7 +43,7 @@ fn converse<N: Named, I: Read, O: Write, R: Wait>(
 
 // A session, and after it one of another pass, which asks which keys are members. How the first one ended, and what the other one
 // was told.
-fn converse_twice<N: Named, I: Read, O: Write, R: Wait>(
+fn converse_twice<N: Named, I: Read, O: Write, R: Wait + Clock>(
     rt: &R,
     alloc: Global,
     set: &Set<MemoryDisk, NoGate, N>,
@@ -62,7 +63,7 @@ fn converse_twice<N: Named, I: Read, O: Write, R: Wait>(
 }
 
 // The same on a set that was opened.
-fn talk<N: Named, I: Read, O: Write, R: Wait>(
+fn talk<N: Named, I: Read, O: Write, R: Wait + Clock>(
     rt: &R,
     alloc: Global,
     blank: Blank<MemoryDisk, NoGate>,
@@ -81,7 +82,7 @@ fn talk<N: Named, I: Read, O: Write, R: Wait>(
 }
 
 /// The same on the set that a disk holds.
-pub fn talk_on<I: Read, O: Write, R: Wait>(
+pub fn talk_on<I: Read, O: Write, R: Wait + Clock>(
     rt: &R,
     alloc: Global,
     disk: MemoryDisk,
@@ -118,7 +119,7 @@ fn has_left(alloc: Global, talked: Talked, fault: SessionFault, done: usize) -> 
 }
 
 // A session on a new set of two slots.
-fn talk_on_new<I: Read, O: Write, R: Wait + Abort>(
+fn talk_on_new<I: Read, O: Write, R: Wait + Clock + Abort>(
     rt: &R,
     alloc: Global,
     reader: &mut I,

@@ -1,0 +1,82 @@
+//! How full a set is, by what its service has answered.
+use std::sync::atomic::{AtomicBool, AtomicUsize, Ordering};
+
+// The shares, in percent, that are told once each when they are reached.
+const SHARES: [usize; 3] = [80, 90, 95];
+
+/// Which share has to be free again before a full set is news again, in percent.
+const FREE_AGAIN: usize = 5;
+
+/// How full a set is.
+#[derive(Drop)]
+pub struct Gauge {
+    slots: AtomicUsize,
+    members: AtomicUsize,
+    /// The greatest share that was reached.
+    told: AtomicUsize,
+    /// It was full, and hasn't had room since.
+    is_full: AtomicBool,
+}
+
+impl Gauge {
+    pub fn new() -> Gauge {
+        Gauge {
+            slots: AtomicUsize::new(0),
+            members: AtomicUsize::new(0),
+            told: AtomicUsize::new(0),
+            is_full: AtomicBool::new(false),
+        }
+    }
+
+    /// The set begins so.
+    pub fn begin(&self, slots: usize, members: usize) {
+        self.slots.store(slots, Ordering::SeqCst);
+        self.members.store(members, Ordering::SeqCst);
+    }
+
+    pub fn members(&self) -> usize {
+        self.members.load(Ordering::SeqCst)
+    }
+
+    pub fn slots(&self) -> usize {
+        self.slots.load(Ordering::SeqCst)
+    }
+
+    /// A key has come in. The share of the slots that it has reached, where that is news.
+    pub fn came(&self) -> Option<usize> {
+        let members = self.members.fetch_add(1, Ordering::SeqCst).wrapping_add(1);
+        let share = self.reached(members)?;
+        if share <= self.told.load(Ordering::SeqCst) {
+            return None;
+        }
+        self.told.store(share, Ordering::SeqCst);
+        Some(share)
+    }
+
+    /// A key has left.
+    pub fn left(&self) {
+        let before = self.members.fetch_sub(1, Ordering::SeqCst);
+        let free = self.slots().saturating_sub(before.saturating_sub(1));
+        if free.saturating_mul(100) >= self.slots().saturating_mul(FREE_AGAIN) {
+            self.is_full.store(false, Ordering::SeqCst);
+        }
+    }
+
+    /// It is full now. Whether that is news.
+    pub fn fills(&self) -> bool {
+        !self.is_full.swap(true, Ordering::SeqCst)
+    }
+
+    // The greatest of the shares that so many members have reached.
+    fn reached(&self, members: usize) -> Option<usize> {
+        let slots = self.slots();
+        let full = members.saturating_mul(100);
+        let mut reached = None;
+        for share in SHARES {
+            if full >= slots.saturating_mul(share) {
+                reached = Some(share);
+            }
+        }
+        reached
+    }
+}

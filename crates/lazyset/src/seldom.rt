@@ -1,0 +1,35 @@
+//! What is told once a minute at most.
+use std::sync::atomic::{AtomicU64, Ordering};
+
+// How many seconds pass at least.
+const PAUSE: u64 = 60;
+
+/// Lets something be told once a minute at most.
+#[derive(Drop)]
+pub struct Seldom {
+    /// From which second on it may be told again.
+    next: AtomicU64,
+}
+
+impl Seldom {
+    pub fn new() -> Seldom {
+        Seldom {
+            next: AtomicU64::new(0),
+        }
+    }
+
+    /// Whether it may be told in this second.
+    pub fn may(&self, second: u64) -> bool {
+        if second < self.next.load(Ordering::SeqCst) {
+            return false;
+        }
+        self.next
+            .store(second.saturating_add(PAUSE), Ordering::SeqCst);
+        true
+    }
+
+    /// It wasn't told after all.
+    pub fn again(&self) {
+        self.next.store(0, Ordering::SeqCst);
+    }
+}
