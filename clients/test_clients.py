@@ -4,7 +4,7 @@
 usage: test_clients.py [PROGRAM] [words for unittest, as -v or a test's name]
 
 PROGRAM is $LAZYSET where it isn't given, or else crates/lazyset/out/lazyset. It needs Python 3.8 and its standard library
-alone; what a test needs further (nc, pip, mypy) and this machine hasn't is skipped. The last line but one is unittest's `Ran N tests`.
+alone; what a test needs further (nc, bash, pip, mypy) and this machine hasn't is skipped. The last line but one is unittest's `Ran N tests`.
 """
 
 from __future__ import annotations

@@ -1,6 +1,6 @@
 # Completion of lazyset's command line for bash: source it, or put it into a folder of bash-completion as `lazyset`.
 _lazyset() {
-    local word=${COMP_WORDS[COMP_CWORD]} commands="make renew run serve info check judge rehearse help"
+    local word=${COMP_WORDS[COMP_CWORD]} commands="make renew grow run serve stop info check judge rehearse help"
     case "$COMP_CWORD,${COMP_WORDS[1]}" in
     1,*) mapfile -t COMPREPLY < <(compgen -W "$commands --help --version" -- "$word") ;;
     2,help) mapfile -t COMPREPLY < <(compgen -W "$commands" -- "$word") ;;
@@ -13,16 +13,17 @@ _lazyset_words() {
     local word=$1 options formats="1 2 3"
     case "${COMP_WORDS[1]}" in
     make) options="--format --keys --help" ;;
-    renew) options="--format --help" formats="2 3" ;;
+    renew | grow) options="--format --help" formats="2 3" ;;
     run) options="--buckets --help" ;;
-    serve) options="--connections --loops --sessions --idle --buckets --help" ;;
+    serve) options="--connections --loops --sessions --idle --buckets --control --until-eof --help" ;;
+    stop) options="--within --help" ;;
     check) options="--of --keys --help" ;;
     rehearse) options="--buckets --format --help" ;;
     *) options="--help" ;;
     esac
     case "${COMP_WORDS[COMP_CWORD - 1]},$word" in
     --format,*) mapfile -t COMPREPLY < <(compgen -W "$formats" -- "$word") ;;
-    --buckets,* | --connections,* | --loops,* | --sessions,* | --idle,*) COMPREPLY=() ;;
+    --buckets,* | --connections,* | --loops,* | --sessions,* | --idle,* | --within,*) COMPREPLY=() ;;
     *,-*) mapfile -t COMPREPLY < <(compgen -W "$options" -- "$word") ;;
     *) mapfile -t COMPREPLY < <(compgen -f -- "$word") ;;
     esac

@@ -6,12 +6,16 @@ import os
 import shutil
 import socket
 import subprocess
+import tempfile
 import time
 import unittest
-from typing import List, NamedTuple
+from typing import Dict, List, NamedTuple
 
 from .fake import AgainstAFake, answers
 from .service import AgainstTheProgram
+
+# What `ask` calls, beside what it connects by.
+NEEDS = ("timeout", "sed", "tr", "wc", "grep", "cat")
 
 ASK = os.path.join(os.path.dirname(os.path.dirname(os.path.abspath(__file__))), "shell", "ask")
 
@@ -22,9 +26,26 @@ class Said(NamedTuple):
     message: str
 
 
-def ask(*words: str) -> Said:
-    ended = subprocess.run([ASK, *words], stdout=subprocess.PIPE, stderr=subprocess.PIPE, text=True, timeout=20)
-    return Said(ended.returncode, ended.stdout.splitlines(), ended.stderr)
+class Asking(unittest.TestCase):
+    """What is asked by one of the tools that `ask` may connect by; the others aren't on the path."""
+
+    tool = "nc"
+
+    def setUp(self) -> None:
+        super().setUp()
+        needed = [self.tool, *NEEDS]
+        missing = [name for name in needed if shutil.which(name) is None]
+        if missing:
+            self.skipTest(f"{' '.join(missing)} isn't installed")
+        self.path = tempfile.mkdtemp(prefix="lazyset-ask-")
+        self.addCleanup(shutil.rmtree, self.path)
+        for name in needed:
+            os.symlink(str(shutil.which(name)), os.path.join(self.path, name))
+
+    def ask(self, *words: str) -> Said:
+        variables: Dict[str, str] = {**os.environ, "PATH": self.path}
+        ended = subprocess.run([ASK, *words], env=variables, stdout=subprocess.PIPE, stderr=subprocess.PIPE, text=True, timeout=20)
+        return Said(ended.returncode, ended.stdout.splitlines(), ended.stderr)
 
 
 def closed_port() -> str:
@@ -32,8 +53,7 @@ def closed_port() -> str:
         return str(listener.getsockname()[1])
 
 
-@unittest.skipUnless(shutil.which("nc") and shutil.which("timeout"), "nc or timeout isn't installed")
-class OverTheProgram(AgainstTheProgram):
+class OverTheProgram(Asking, AgainstTheProgram):
     passes = 1
 
     def setUp(self) -> None:
@@ -41,18 +61,18 @@ class OverTheProgram(AgainstTheProgram):
         self.port = str(self.service.port)
 
     def test_lines_that_are_answered(self) -> None:
-        said = ask(self.port, "add 17", "has 17", "add 17", "has 3:17")
+        said = self.ask(self.port, "add 17", "has 17", "add 17", "has 3:17")
         self.assertEqual(said, Said(0, ["yes", "yes", "no", "no"], ""))
-        self.assertEqual(ask(self.port, "has 17", "quit", "has 17"), Said(0, ["yes"], ""))
+        self.assertEqual(self.ask(self.port, "has 17", "quit", "has 17"), Said(0, ["yes"], ""))
 
     def test_a_line_that_is_no_command(self) -> None:
-        said = ask(self.port, "has 17", "add", "has x")
+        said = self.ask(self.port, "has 17", "add", "has x")
         self.assertEqual((said.status, said.replies), (4, ["no", "bad 2", "bad 3"]))
         self.assertIn("line 2", said.message)
         self.assertIn("bad 2", said.message)
 
     def test_a_full_file(self) -> None:
-        said = ask(self.port, "add 1", "add 2", "add 3")
+        said = self.ask(self.port, "add 1", "add 2", "add 3")
         self.assertEqual((said.status, said.replies), (1, ["yes", "yes", "full"]))
         self.assertIn("line 3", said.message)
 
@@ -61,39 +81,52 @@ class OverTheProgram(AgainstTheProgram):
             taken.sendall(b"has 1\n")
             taken.recv(99)
             began = time.monotonic()
-            said = ask("-t", "1", self.port, "has 1")
+            said = self.ask("-t", "1", self.port, "has 1")
             self.assertEqual((said.status, said.replies), (5, []))
             self.assertIn("0 of 1 replies", said.message)
             self.assertLess(time.monotonic() - began, 10)
 
     def test_a_service_that_was_killed(self) -> None:
         self.service.kill()
-        said = ask(self.port, "has 1")
+        said = self.ask(self.port, "has 1")
         self.assertEqual((said.status, said.replies), (3, []))
         self.assertIn(self.port, said.message)
         self.service.start()
 
 
-@unittest.skipUnless(shutil.which("nc") and shutil.which("timeout"), "nc or timeout isn't installed")
-class OverAFake(AgainstAFake):
+class OverAFake(Asking, AgainstAFake):
     def test_replies_that_are_cut_off(self) -> None:
         for script in (answers(b"yes\nn"), answers(b"yes\n")):
-            said = ask(str(self.fake(script).port), "has 1", "has 2", "has 3")
+            said = self.ask(str(self.fake(script).port), "has 1", "has 2", "has 3")
             self.assertEqual((said.status, said.replies), (6, ["yes"]))
             self.assertIn("after 1 of 3 replies", said.message)
 
     def test_a_device_that_failed(self) -> None:
-        said = ask(str(self.fake(answers(b"yes\nhalted\n")).port), "has 1", "has 2", "has 3")
+        said = self.ask(str(self.fake(answers(b"yes\nhalted\n")).port), "has 1", "has 2", "has 3")
         self.assertEqual((said.status, said.replies), (1, ["yes", "halted"]))
         self.assertIn("line 2", said.message)
 
     def test_the_command_line(self) -> None:
         for words in ((), ("7000",), ("-t",), ("-t", "x", "7000", "has 1"), ("-t", "1"), ("-t", "1", "7000")):
-            said = ask(*words)
+            said = self.ask(*words)
             self.assertEqual((said.status, said.replies), (2, []), words)
             self.assertTrue(said.message, words)
 
     def test_a_closed_port(self) -> None:
-        said = ask(closed_port(), "has 1")
+        said = self.ask(closed_port(), "has 1")
         self.assertEqual((said.status, said.replies), (3, []))
         self.assertTrue(said.message)
+
+    def test_no_tool_to_connect_by(self) -> None:
+        os.remove(os.path.join(self.path, self.tool))
+        said = self.ask("7000", "has 1")
+        self.assertEqual((said.status, said.replies), (2, []))
+        self.assertIn("bash", said.message)
+
+
+class ByBash(OverTheProgram):
+    tool = "bash"
+
+
+class ByBashOverAFake(OverAFake):
+    tool = "bash"

@@ -1,11 +1,13 @@
 """A client of `lazyset serve`, which needs Python's standard library alone (3.8 or later).
 
-    from lazyset import Command, Lazyset, Pool
+    from lazyset import Command, Lazyset, Pool, key_of
 
     with Lazyset(7000) as keys:
         keys.add(17)                              # True: it is a member now, and wasn't before
         keys.has(17, room=3)                      # False: room 3 is another set
         keys.batch([Command.add(18), Command.has(17)])
+        keys.add(key_of("evt_1"))                 # a text, by a number that stands for it
+        keys.claim(20, worker=3)                  # True for one worker alone, also where replies are lost
 
     with Pool(7000, size=8) as keys:              # for many threads at once
         keys.add(19)
@@ -14,6 +16,7 @@ What each reply means, and what a lost connection leaves unknown, is told in doc
 `lazyset.errors`.
 """
 
+from .claims import MOST_WORKERS
 from .commands import MOST_NUMBER, MOST_ROOM, Command, Reply, Verb
 from .connection import CONNECT_TIMEOUT, REPLY_TIMEOUT, Lazyset
 from .errors import (
@@ -22,6 +25,7 @@ from .errors import (
     Closed,
     Full,
     Halted,
+    InDoubt,
     LazysetError,
     LostConnection,
     NoConnection,
@@ -32,13 +36,15 @@ from .errors import (
     Worn,
 )
 from .pool import Pool
+from .texts import key_of
 
-__version__ = "1.1"
+__version__ = "1.2"
 
 __all__ = [
     "CONNECT_TIMEOUT",
     "MOST_NUMBER",
     "MOST_ROOM",
+    "MOST_WORKERS",
     "REPLY_TIMEOUT",
     "Bad",
     "BadReply",
@@ -46,6 +52,7 @@ __all__ = [
     "Command",
     "Full",
     "Halted",
+    "InDoubt",
     "Lazyset",
     "LazysetError",
     "LostConnection",
@@ -58,4 +65,5 @@ __all__ = [
     "Unfinished",
     "Verb",
     "Worn",
+    "key_of",
 ]

@@ -3,12 +3,14 @@
 from __future__ import annotations
 
 import os
+import selectors
 import socket
 import threading
 import time
 from types import TracebackType
 from typing import Iterable, List, Optional, Sequence, Type
 
+from .claims import claim
 from .commands import Command, Reply
 from .errors import (
     Bad,
@@ -35,9 +37,12 @@ CONNECT_TIMEOUT = 10.0
 # How long close() may wait, for another thread's call and for the service.
 CLOSE_TIMEOUT = 1.0
 
-# How many commands of a batch are sent before their replies are read. Their lines and replies fit into the buffers of a
-# connection, so neither side waits for the other to read.
+# How many commands of a batch are under way at most: so many may be in doubt where the connection is lost. Further ones are sent
+# where half of them were answered.
 WINDOW = 512
+
+# What waits for a connection. select() knows no descriptor above 1,023, and not each system has poll().
+_Selector = getattr(selectors, "PollSelector", selectors.SelectSelector)
 
 # No reply is longer.
 MOST_REPLY = 64
@@ -100,10 +105,21 @@ class Lazyset:
         """Whether the key is a member."""
         return self._ask(Command.has(number, room))
 
+    def claim(self, number: int, worker: int) -> bool:
+        """Whether a key is given to this worker, 1 to 15: True for one worker at most, ever, also where connections and replies are lost.
+
+        True: it is this worker's. False: it is another's. `InDoubt`: an earlier claim of this worker had no answer, and others claimed the
+        key too. Each other error leaves the claim without an answer: make it again.
+
+        Each worker has a number of its own, and makes one claim of a key at a time. The key itself is in room 0, and `worker` is the room
+        of its intents. Nobody removes a key that was claimed, from either; both take a slot. docs/RECIPES.md, "Whose addition it was"."""
+        return claim(self, number, worker)
+
     def batch(self, commands: Iterable[Command]) -> List[Reply]:
         """Carries out the commands in their order, with many under way at once, and gives the reply of each.
 
-        All commands are taken before the first one is sent, so what is no command (TypeError) leaves nothing done."""
+        Replies are read while lines are sent, so neither side waits for the other to read, however many commands there are. All
+        commands are taken before the first one is sent, so what is no command (TypeError) leaves nothing done."""
         taken = list(commands)
         for command in taken:
             if not isinstance(command, Command):
@@ -132,6 +148,7 @@ class Lazyset:
             try:
                 self._socket = socket.create_connection(self._address, self._connect_timeout)
                 self._socket.setsockopt(socket.IPPROTO_TCP, socket.TCP_NODELAY, 1)
+                self._socket.setblocking(False)
             except OSError as error:
                 self._drop()
                 raise NoConnection(f"no connection to {self._address}: {error}") from error
@@ -181,31 +198,64 @@ class Lazyset:
 
     def _converse(self, connection: socket.socket, commands: Sequence[Command]) -> List[Reply]:
         replies: List[Reply] = []
+        # How many commands were handed on to be sent, and what of their lines wasn't sent yet.
+        asked, unsent = 0, b""
+        latest = self._latest()
         try:
-            for first in range(0, len(commands), WINDOW):
-                window = commands[first : first + WINDOW]
-                self._send(connection, window)
-                for _ in window:
-                    replies.append(self._receive(connection))
-                if self._received:
-                    raise BadReply(f"more than was asked for: {self._received!r}")
+            while len(replies) < len(commands):
+                if asked < len(commands) and asked - len(replies) <= WINDOW // 2:
+                    more = commands[asked : len(replies) + WINDOW]
+                    asked, unsent = asked + len(more), unsent + b"".join(command.line() for command in more)
+                unsent = self._send_and_receive(connection, unsent, latest)
+                while len(replies) < asked - unsent.count(b"\n") and b"\n" in self._received:
+                    replies.append(self._reply())
+                    latest = self._latest()
+                self._expect_no_more(len(replies) == asked - unsent.count(b"\n"))
         except Unfinished as error:
             error.replies = replies
             error.command = commands[len(replies)] if len(replies) < len(commands) else None
             raise
         return replies
 
-    def _send(self, connection: socket.socket, commands: Sequence[Command]) -> None:
-        try:
-            connection.settimeout(self._timeout)
-            connection.sendall(b"".join(command.line() for command in commands))
-        except socket.timeout as error:
-            raise TimedOut(f"not sent within {self._timeout} seconds") from error
-        except OSError as error:
-            raise LostConnection(f"not sent: {error}") from error
+    def _send_and_receive(self, connection: socket.socket, unsent: bytes, latest: Optional[float]) -> bytes:
+        """Receives a piece, and sends what can be sent until it comes. Gives what couldn't."""
+        while True:
+            try:
+                if unsent:
+                    unsent = unsent[connection.send(unsent) :]
+            except (BlockingIOError, InterruptedError):
+                pass
+            except OSError:
+                # The service reads no more, but what it answered may still come.
+                unsent = b""
+            try:
+                piece = connection.recv(4096)
+            except (BlockingIOError, InterruptedError):
+                self._wait(connection, selectors.EVENT_READ | (selectors.EVENT_WRITE if unsent else 0), latest)
+            except OSError as error:
+                raise LostConnection(f"no reply: {error}") from error
+            else:
+                if not piece:
+                    raise LostConnection("the connection ended")
+                self._received += piece
+                return unsent
 
-    def _receive(self, connection: socket.socket) -> Reply:
-        word = self._line(connection)
+    def _wait(self, connection: socket.socket, events: int, latest: Optional[float]) -> None:
+        """Waits until the connection can be read or written, or the time is over."""
+        left = None if latest is None else latest - time.monotonic()
+        if left is not None and left <= 0:
+            raise TimedOut(f"no reply within {self._timeout} seconds")
+        try:
+            with _Selector() as selector:
+                selector.register(connection, events)
+                selector.select(left)
+        except (OSError, ValueError) as error:
+            # A signal handler's call may have closed it.
+            raise LostConnection(f"no reply: {error}") from error
+
+    def _reply(self) -> Reply:
+        """Takes the first line of what was received for a reply."""
+        word, self._received = self._received.split(b"\n", 1)
         if word.startswith(b"bad ") and word[4:].isdigit():
             raise Bad(int(word[4:]))
         try:
@@ -217,26 +267,16 @@ class Lazyset:
         self._has_a_pass = True
         return reply
 
-    def _line(self, connection: socket.socket) -> bytes:
-        latest = None if self._timeout is None else time.monotonic() + self._timeout
-        while b"\n" not in self._received:
-            if len(self._received) > MOST_REPLY:
-                raise BadReply(f"no reply of a set service: {self._received!r}")
-            self._received += self._piece(connection, latest)
-        word, self._received = self._received.split(b"\n", 1)
-        return word
+    def _expect_no_more(self, are_all_answered: bool) -> None:
+        """Whether what was received beside whole replies may be the beginning of one."""
+        if self._received and are_all_answered:
+            raise BadReply(f"more than was asked for: {self._received!r}")
+        if len(self._received) > MOST_REPLY and b"\n" not in self._received:
+            raise BadReply(f"no reply of a set service: {self._received!r}")
 
-    def _piece(self, connection: socket.socket, latest: Optional[float]) -> bytes:
-        try:
-            connection.settimeout(_until(latest))
-            piece = connection.recv(4096)
-        except socket.timeout as error:
-            raise TimedOut(f"no reply within {self._timeout} seconds") from error
-        except OSError as error:
-            raise LostConnection(f"no reply: {error}") from error
-        if not piece:
-            raise LostConnection("the connection ended")
-        return piece
+    def _latest(self) -> Optional[float]:
+        """When the next reply has to be there."""
+        return None if self._timeout is None else time.monotonic() + self._timeout
 
     def _finish(self) -> None:
         """Ends the session where each command has had its reply, and the connection."""

@@ -3,6 +3,7 @@
     LazysetError
         Refused             answered, and nothing was changed; the connection goes on
             Full, OldFile, Worn
+        InDoubt             a claim of which an earlier try had no answer: it isn't known whose the key is
         Unfinished          the connection is closed; `replies` and `command` say how far the call came
             Halted          the service's device failed
             Bad, BadReply   this is no service of this protocol
@@ -49,6 +50,17 @@ class Worn(Refused):
     """The pass of this connection has carried out all the commands that it can. Another connection may still be served."""
 
     reason = "this connection's pass is worn"
+
+
+class InDoubt(LazysetError):
+    """The key of a claim was given to somebody: by an earlier try of this worker, which had no answer, or to one of `workers`, which
+    claimed it too. Claim it again once these have ended their claims; where it stays so, leave it to them. Only where each of them had
+    no answer either may nobody have it: that is for a person to look at."""
+
+    def __init__(self, number: int, workers: Sequence[int]) -> None:
+        super().__init__(f"{number} may be this worker's, or that of {', '.join(map(str, workers))}")
+        self.number = number
+        self.workers = list(workers)
 
 
 class Unfinished(LazysetError):

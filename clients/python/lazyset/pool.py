@@ -7,6 +7,7 @@ from contextlib import contextmanager
 from types import TracebackType
 from typing import Iterable, Iterator, List, Optional, Type
 
+from .claims import claim
 from .commands import Command, Reply
 from .connection import CONNECT_TIMEOUT, REPLY_TIMEOUT, Lazyset
 from .errors import Closed, NoConnection
@@ -85,6 +86,10 @@ class Pool:
         """As `Lazyset.has`, on any connection."""
         with self.connection() as keys:
             return keys.has(number, room)
+
+    def claim(self, number: int, worker: int) -> bool:
+        """As `Lazyset.claim`, on any connections."""
+        return claim(self, number, worker)
 
     def batch(self, commands: Iterable[Command]) -> List[Reply]:
         """As `Lazyset.batch`, on any connection."""
