@@ -21,14 +21,14 @@ def commands(program: Program) -> List[str]:
 
 def options(program: Program) -> Dict[str, List[str]]:
     """The options of each command, as its help lists them."""
-    return {it: re.findall(r"^ +(?:-\w, )?(--\w+)", program.run("help", it).text, re.M) for it in commands(program) if it != "help"}
+    return {it: re.findall(r"^ +(?:-\w, )?(--[\w-]+)", program.run("help", it).text, re.M) for it in commands(program) if it != "help"}
 
 
 def try_man_page(program: Program, top: str) -> None:
     """The man page has each command and each option."""
     page = bytes_of(os.path.join(top, "docs", "lazyset.1")).decode()
     expect(sorted(set(re.findall(r"^\.It Cm (\w+)", page, re.M))), sorted(commands(program)), "the commands of the man page")
-    named = {f"--{it}" for it in re.findall(r"^\.It Fl (?:\w , )?-(\w+)", page, re.M)}
+    named = {f"--{it}" for it in re.findall(r"^\.It Fl (?:\w , )?-([\w-]+)", page, re.M)}
     expect(sorted(named), sorted({"--version", *(it for each in options(program).values() for it in each)}), "its options")
 
 

@@ -30,7 +30,7 @@ def talk(client: int, port: int, told: Dict[int, bytes]) -> None:
 
 def try_eight(program: Program, folder: str) -> None:
     """Each client's own keys are new, and of those that send the shared key one alone adds it. The service then ends with status 0,
-    has said how it began and nothing else, and its file holds exactly these keys."""
+    has said how it began, that it filled and how it ended, and its file holds exactly these keys."""
     file = os.path.join(folder, "served")
     program.make(file, 1000)
     told: Dict[int, bytes] = {}
@@ -43,7 +43,11 @@ def try_eight(program: Program, folder: str) -> None:
                 thread.join(PATIENCE)
             expect(service.wait(), 0, "the status of a service whose sessions ended")
         log.seek(0)
-        expect(log.read(), f"{file}: serving: slots 1000, members 0, buckets 1, passes 4\n", "its log")
+        lines = [line.replace(f"{file}: ", "").rstrip("\n") for line in log]
+    # Four clients wait at first, where they have come by then.
+    begins, ends = lines[:3], [line for line in lines[3:] if not line.startswith("all 4 places are taken, ")]
+    expect([begins[0], begins[2]], ["opening", "serving: slots 1000, members 0, buckets 1, passes 4"], "how its log begins")
+    expect(ends, ["80 % full: 800 members in 1000 slots", "ended: sessions 8, members 801 of 1000 slots"], "how it goes on")
     expect([told[client][:400] for client in range(CLIENTS)], [b"yes\n" * 100] * CLIENTS, "replies to own keys")
     shared = sorted(told[client][400:] for client in range(CLIENTS))
     expect(shared, [b"no\n"] * (CLIENTS - 1) + [b"yes\n"], "replies to the shared key")

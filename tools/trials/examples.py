@@ -21,9 +21,9 @@ END = "end-of-example"
 PATIENCE = 20.0
 
 # What the examples call beside the program and the shell's own words.
-TOOLS = ("nc", "strace", "python3", "xxd", "od", "flock")
+TOOLS = ("nc", "bash", "strace", "python3", "xxd", "od", "flock")
 
-# The clients, which the examples call as in the repository's folder. The one for the shell calls `nc`.
+# The clients, which the examples call as in the repository's folder. The one for the shell connects by `nc`, or by `bash`.
 CLIENTS = os.path.join(os.path.dirname(os.path.abspath(__file__)), "..", "..", "clients")
 
 
@@ -37,13 +37,20 @@ class Example:
 
 
 def examples_of(text: str) -> Iterator[Example]:
-    """The commands of a page's indented blocks that begin with a prompt, with the lines below each."""
+    """The commands of a page's indented blocks that begin with a prompt, with the lines below each. A command with a here-document
+    (`<< 'END'`) goes on to the line with its word."""
     example: Optional[Example] = None
+    end_of_command = ""
     for number, line in enumerate(text.splitlines(), 1):
-        if line.startswith(PROMPT):
+        if example and end_of_command:
+            example.command += "\n" + line[len(INDENT) :]
+            if line == INDENT + end_of_command:
+                end_of_command = ""
+        elif line.startswith(PROMPT):
             if example:
                 yield example
             example = Example(number, line[len(PROMPT) :])
+            end_of_command = "".join(re.findall(r"<< '(\w+)'$", line))
         elif line.startswith(INDENT) and example:
             example.printed.append(line[len(INDENT) :])
         elif example:
@@ -111,7 +118,7 @@ class Shell:
 def missing(examples: Sequence[Example]) -> List[str]:
     """The tools that the examples call and this machine hasn't."""
     called = {word for example in examples for word in re.findall(r"[a-z0-9]+", example.command)}
-    if "ask" in called:
+    if "ask" in called and shutil.which("bash") is None:
         called.add("nc")
     return [tool for tool in TOOLS if tool in called and shutil.which(tool) is None]
 

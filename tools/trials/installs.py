@@ -6,33 +6,46 @@ import json
 import os
 import re
 import shutil
+import signal
+import socket
 import subprocess
+import sys
+import threading
 from typing import Dict, List
 
-from trials.program import PATIENCE, Ended, Program
+from trials.program import PATIENCE, Ended, Program, Service
 from trials.report import Skip, expect
 
 FILES = {
     "bin/lazyset": 0o755,
+    "lib/lazyset/ask": 0o755,
     "lib/systemd/system/lazyset@.service": 0o644,
     "share/bash-completion/completions/lazyset": 0o644,
+    "share/doc/lazyset/OPERATIONS.md": 0o644,
+    "share/doc/lazyset/PROTOCOL.md": 0o644,
+    "share/doc/lazyset/RECIPES.md": 0o644,
     "share/man/man1/lazyset.1": 0o644,
 }
+
+# The client for Python.
+MODULES = ("__init__.py", "claims.py", "commands.py", "connection.py", "errors.py", "pool.py", "py.typed", "texts.py")
 
 PACKED = [
     "lib/systemd/system/lazyset@.service",
     "usr/bin/lazyset",
+    "usr/lib/lazyset/ask",
+    *(f"usr/lib/python3/dist-packages/lazyset/{name}" for name in MODULES),
     "usr/share/bash-completion/completions/lazyset",
     "usr/share/doc/lazyset/NEWS.md.gz",
+    "usr/share/doc/lazyset/OPERATIONS.md",
+    "usr/share/doc/lazyset/PROTOCOL.md",
+    "usr/share/doc/lazyset/RECIPES.md",
     "usr/share/doc/lazyset/changelog.gz",
     "usr/share/doc/lazyset/copyright",
+    "usr/share/doc/lazyset/examples/webhook_receiver.py",
     "usr/share/lintian/overrides/lazyset",
     "usr/share/man/man1/lazyset.1.gz",
 ]
-
-# The status of the container where another one has the volume.
-LOCKED = 75
-
 
 def needs(*tools: str) -> None:
     for tool in tools:
@@ -69,14 +82,16 @@ def try_make(program: Program, folder: str, top: str) -> None:
     place = os.path.join(folder, "opt", "set")
     expect(bytes_of(os.path.join(place, "bin", "lazyset")) == bytes_of(program.path), True, "the program's bytes")
     unit = bytes_of(os.path.join(place, "lib", "systemd", "system", "lazyset@.service")).decode()
-    expect(re.findall(r"^ExecStart=.* (\S+) serve ", unit, re.M), ["/opt/set/bin/lazyset"], "what the unit starts")
+    expect(re.findall(r"^Exec\w+=-?(\S+) (?:serve|stop) ", unit, re.M), ["/opt/set/bin/lazyset"] * 2, "what the unit starts")
+    page = re.findall(r"^Documentation=file:(.*)$", unit, re.M)
+    expect(page, ["/opt/set/share/doc/lazyset/OPERATIONS.md"], "the page that the unit names")
     said([*words, "uninstall"])
     expect(modes_in(folder), {}, "what is left")
 
 
 def try_package(program: Program, folder: str, top: str) -> None:
-    """The package has the files, its program runs, and it is the same bytes each time."""
-    needs("make", "dpkg-deb")
+    """The package has the files, its program runs, its clients ask a service, and it is the same bytes each time."""
+    needs("make", "dpkg-deb", "bash")
     packages = []
     for name in ("first", "second"):
         place = os.path.join(folder, name)
@@ -89,20 +104,55 @@ def try_package(program: Program, folder: str, top: str) -> None:
     said(["dpkg-deb", "-x", packages[0], room])
     version = said([os.path.join(room, "usr", "bin", "lazyset"), "--version"]).split()[1].rstrip(",")
     expect(said(["dpkg-deb", "-f", packages[0], "Version"]).strip(), version, "its version")
+    modules = os.path.join(room, "usr", "lib", "python3", "dist-packages")
+    words = [sys.executable, "-B", "-c", "import lazyset; print(lazyset.__file__, lazyset.__version__)"]
+    found = said(words, PYTHONPATH=modules).split()
+    expect(found, [os.path.join(modules, "lazyset", "__init__.py"), version], "its client for Python")
+    program.make(os.path.join(folder, "keys"), 1)
+    with Service(program, os.path.join(folder, "keys"), 1) as service:
+        answer = said([os.path.join(room, "usr", "lib", "lazyset", "ask"), str(service.port), "has 0"])
+        expect(answer, "no\n", "its client for the shell")
 
 
 def try_container(program: Program, folder: str, top: str) -> None:
-    """What a container starts runs each command under the volume's lock, and tells a second one so."""
-    needs("flock")
+    """A container starts the program, and nothing before it. A second one that serves the file is refused."""
     text = bytes_of(os.path.join(top, "contrib", "Containerfile")).decode()
-    words = json.loads("".join(re.findall(r"^ENTRYPOINT (.*)$", text, re.M)))
-    expect(words[-1], "lazyset", "what a container starts")
-    before = [word.replace("/set/", folder + "/") for word in words[:-1]]
+    expect(json.loads("".join(re.findall(r"^ENTRYPOINT (.*)$", text, re.M))), ["lazyset"], "what a container starts")
     file = os.path.join(folder, "keys")
-    expect(program.run("make", file, "4", before=before), Ended("made 4\n", 0), "make")
-    holder = subprocess.Popen([*before, program.path, "serve", file, "0", "1"], stdout=subprocess.PIPE, stderr=subprocess.DEVNULL, text=True)
-    with holder as service:
-        assert service.stdout is not None
-        expect(service.stdout.readline().split()[:1], ["listening"], "serve")
-        expect(program.run("run", file, before=before), Ended("", LOCKED), "a second one")
-        service.terminate()
+    expect(program.run("make", file, "4"), Ended("made 4\n", 0), "make")
+    with Service(program, file, 1):
+        expect(program.run("serve", file, "0", "1"), Ended("nofile\n", 3), "a second service")
+        expect(program.run("check", file), Ended("good\n", 0), "a check beside it")
+
+
+def try_health(program: Program, folder: str, top: str) -> None:
+    """A container is healthy where its service answers a lookup, and not where it is stopped, halted or gone."""
+    needs("bash")
+    text = bytes_of(os.path.join(top, "contrib", "Containerfile")).decode().replace("\\\n", "")
+    words = json.loads("".join(re.findall(r"^HEALTHCHECK (?:--\S+ )*CMD (.*)$", text, re.M)))
+
+    def status(port: int) -> int:
+        said = subprocess.run(words, env={**os.environ, "PORT": str(port)}, stdin=subprocess.DEVNULL, stderr=subprocess.DEVNULL, timeout=PATIENCE)
+        return said.returncode
+
+    file = os.path.join(folder, "keys")
+    program.make(file, 4)
+    with Service(program, file, 1) as service:
+        expect(status(service.port), 0, "the health of a service")
+        expect(program.members(file), [], "the keys after a look at its health")
+        service.process.send_signal(signal.SIGSTOP)
+        # On a busy machine its threads go on for a while: this waits for the last of them.
+        os.waitpid(service.process.pid, os.WUNTRACED)
+        expect(status(service.port), 1, "the health of a service that hangs")
+    expect(status(service.port), 1, "the health of a service that is gone")
+    with socket.create_server(("127.0.0.1", 0)) as listener:
+        threading.Thread(target=tell_halted, args=(listener,), daemon=True).start()
+        expect(status(listener.getsockname()[1]), 1, "the health of a service whose device failed")
+
+
+def tell_halted(listener: socket.socket) -> None:
+    """Answers one client as a service does whose device failed."""
+    client, _ = listener.accept()
+    with client:
+        client.recv(64)
+        client.sendall(b"halted\n")

@@ -44,11 +44,19 @@ def expect_refused(program: Program, old: str, path: str) -> None:
     expect(program.run_loud("renew", old, path, "2"), told, f"renewing into {path}")
 
 
+def try_pipes(program: Program, pipe: str) -> None:
+    """A pipe is no file: what reads one would wait for somebody to write."""
+    for words in (("info", pipe), ("check", pipe), ("check", pipe, "--keys")):
+        expect(program.run_loud(*words, patience=10.0), (NO_FILE, f"lazyset: {pipe}: it is a pipe\n"), " ".join(words))
+
+
 def try_irregular(program: Program, folder: str) -> None:
     """Each is refused. What a block device holds stays as it is."""
     old, image = os.path.join(folder, "old"), os.path.join(folder, "image")
     program.make(old, 2)
-    for path in irregular(folder):
+    paths = irregular(folder)
+    try_pipes(program, paths[0])
+    for path in paths:
         expect_refused(program, old, path)
     with open(image, "wb") as new:
         new.write(TEXT.ljust(1 << 20, b"\0"))

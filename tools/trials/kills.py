@@ -124,12 +124,13 @@ def refuses(program: Program, folder: str, text: str, flaw: str) -> None:
 
 def try_kills(program: Program, folder: str, kills: int, seed: int, loaded: Loaded = EIGHT) -> None:
     """So many kills, in histories that are all judged good; spoiled ones aren't."""
-    answered = under_way = done = 0
+    answered = under_way = done = judged = 0
     while done < kills:
         histories = killed_histories(program, folder, loaded, min(KILLS_OF_A_HISTORY, kills - done), seed + done)
         done += len(histories[0].lives)
         for history in histories:
             text = judge(program, folder, history)
+            judged += 1
             for life in history.lives:
                 replies = load.count_replies(life.calls)
                 answered, under_way = answered + replies[0], under_way + replies[1]
@@ -139,4 +140,4 @@ def try_kills(program: Program, folder: str, kills: int, seed: int, loaded: Load
             refuses(program, folder, lost(text), "5")
     if answered < 10 * kills or under_way == 0:
         raise Wrong(f"too little load: {answered} answered, {under_way} under way")
-    print(f"         {kills} kills: {answered} calls answered, {under_way} cut off", flush=True)
+    print(f"         {kills} kills, {judged} histories judged good: {answered} calls answered, {under_way} cut off", flush=True)

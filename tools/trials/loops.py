@@ -12,7 +12,7 @@ from typing import List
 from lazyset import Lazyset, Reply
 from trials import guests, kills, load
 from trials.crowd import Crowd, needs_descriptors
-from trials.faults import CAUSES, DEVICE_FAILED, failing, needs_strace
+from trials.faults import CAUSES, DEVICE_FAILED, failing, needs_strace, news_of
 from trials.guests import connect, received, served
 from trials.history import History
 from trials.process import expect_rest, memory, processor_seconds
@@ -331,7 +331,7 @@ def try_device(program: Program, folder: str, seed: int) -> None:
         with logged(program, file, PASSES, *at_once(HALTS), before=failing(file, call, number)) as service:
             calls = load.finish(load.start(HALTS, service.port, seed + number))
             expect(service.service.wait(), 1, "the status of a service whose device failed")
-            said = [line for line in service.lines() if not line.startswith("full: ")]
+            said = news_of(service.lines())
         expect(said, [DEVICE_FAILED, f"lazyset: {CAUSES[call]}"], "the log")
         halted = sum(it.reply is Reply.HALTED for it in calls)
         if halted == 0:
@@ -356,7 +356,7 @@ def try_end(program: Program, folder: str) -> None:
             began = time.monotonic()
             expect(service.service.wait(), 1, "the status of a service whose device failed")
             expect(time.monotonic() - began < 5, True, "that it ends at once")
-        expect(service.lines(), [DEVICE_FAILED, f"lazyset: {CAUSES['fdatasync']}"], "the log")
+        expect(news_of(service.lines()), [DEVICE_FAILED, f"lazyset: {CAUSES['fdatasync']}"], "the log")
 
 
 TRIALS = (

@@ -37,9 +37,12 @@ class Logged:
         self._file = file
 
     def lines(self) -> List[str]:
-        """The lines after the first one, without the file's name."""
+        """The lines after those of the start, without the file's name."""
         self._log.seek(0)
-        return [line.replace(f"{self._file}: ", "").rstrip("\n") for line in self._log][1:]
+        lines = [line.replace(f"{self._file}: ", "").rstrip("\n") for line in self._log]
+        begins = [line.split(" ")[0].rstrip(":") for line in lines[:3]]
+        expect(begins, ["opening", "opened", "serving"], "the log's first words")
+        return lines[3:]
 
     def ask(self, *lines: str) -> List[str]:
         """The replies of a session."""
@@ -48,8 +51,8 @@ class Logged:
             return client.makefile().read().split()
 
 
-def members_file(file: str, form: int, count: int) -> None:
-    put(file, held(form, count, [Key(0, key) for key in range(count)]))
+def members_file(file: str, form: int, count: int, slots: int = 0) -> None:
+    put(file, held(form, slots or count, [Key(0, key) for key in range(count)]))
 
 
 def try_lists(program: Program, folder: str) -> None:
@@ -67,15 +70,21 @@ def try_lists(program: Program, folder: str) -> None:
 
 
 def try_full(program: Program, folder: str, *options: str) -> None:
-    """The first `full` is told, and no other."""
+    """A share of the slots that is reached is told once, and `full` each time that it becomes so again."""
     file = os.path.join(folder, "full")
-    program.make(file, 1)
+    members_file(file, 2, 0, 20)
+    full = "full: no slot was free for a new key"
     with logged(program, file, 2, *options) as service:
-        expect(service.ask("add 1", "has 1"), ["yes", "yes"], "replies")
+        expect(service.ask(*(f"add {key}" for key in range(15))), ["yes"] * 15, "replies")
         expect(service.lines(), [], "the log before")
-        expect(service.ask("add 2", "add 3"), ["full", "full"], "replies")
-        expect(service.ask("add 2"), ["full"], "another client's reply")
-        expect(service.lines(), ["full: no slot was free for a new key"], "the log")
+        expect(service.ask(*(f"add {key}" for key in range(15, 20))), ["yes"] * 5, "replies")
+        shares = [f"{share} % full: {members} members in 20 slots" for share, members in ((80, 16), (90, 18), (95, 19))]
+        expect(service.lines(), shares, "the log of the shares")
+        expect(service.ask("add 20", "add 21"), ["full", "full"], "replies")
+        expect(service.ask("add 20"), ["full"], "another client's reply")
+        expect(service.lines(), [*shares, full], "the log")
+        expect(service.ask("remove 0", "add 20", "add 21"), ["yes", "yes", "full"], "replies once a twentieth was free")
+        expect(service.lines(), [*shares, full, full], "the log after it was full again")
 
 
 def replaces(file: str) -> None:
@@ -95,7 +104,7 @@ CHANGES = (
 
 
 def try_changes(program: Program, folder: str, *options: str) -> None:
-    """A file that is deleted, replaced or cut under a service is told once, at the next connection."""
+    """A file that is deleted, replaced or cut under a service is told once, at the next connection, and the next change is `halted`."""
     for number, (change, why) in enumerate(CHANGES):
         try_change(program, os.path.join(folder, f"file-{number}"), change, why, *options)
 
@@ -107,9 +116,11 @@ def try_change(program: Program, file: str, change: Callable[[str], None], why: 
         expect(service.ask("add 1"), ["yes"], "a reply")
         expect(service.lines(), [], "the log before")
         change(file)
-        for key in (2, 3):
-            expect(service.ask(f"add {key}"), ["yes"], "a reply after that")
-        expect(service.lines(), [f"{why}: what is answered may be lost at the end"], "the log")
+        expect(service.ask("has 1"), ["yes"], "a lookup after that")
+        expect(service.ask("add 2", "add 3"), ["halted"], "a change after that")
+        expect(service.service.wait(), 1, "the status")
+        ends = service.lines()
+        expect(ends[:3], [f"{why}: no further change is answered", DEVICE_FAILED, f"lazyset: {why}"], "the log")
 
 
 def try_threads(program: Program, folder: str) -> None:
@@ -123,7 +134,7 @@ def try_threads(program: Program, folder: str) -> None:
         for key in (1, 2):
             expect(service.ask(f"add {key}"), ["yes"], "a reply")
         expect(service.service.wait(), 1, "the status of a service without all its threads")
-        expect(service.lines(), ["no thread for 2 of 4 passes"], "the log")
+        expect(service.lines()[0], "2 passes serve nobody: no thread is left", "the log")
 
 
 def try_end(program: Program, folder: str) -> None:
@@ -140,7 +151,7 @@ def try_end(program: Program, folder: str) -> None:
         began = time.monotonic()
         expect(service.service.wait(), 1, "the status of a service whose device failed")
         expect(time.monotonic() - began < 10, True, "that it ends at once")
-        expect(service.lines(), [DEVICE_FAILED, f"lazyset: {CAUSES['fdatasync']}"], "the log")
+        expect(service.lines()[:2], [DEVICE_FAILED, f"lazyset: {CAUSES['fdatasync']}"], "the log")
 
 
 def try_pauses(program: Program, folder: str) -> None:
@@ -148,7 +159,7 @@ def try_pauses(program: Program, folder: str) -> None:
     needs_strace()
     file, trace = os.path.join(folder, "pauses"), os.path.join(folder, "trace")
     program.make(file, 4)
-    before = ["sh", "-c", 'ulimit -n 6 && exec "$@"', "sh", "strace", "-f", "-qq", "-o", trace, "-e", "trace=accept,accept4"]
+    before = ["sh", "-c", 'ulimit -n 7 && exec "$@"', "sh", "strace", "-f", "-qq", "-o", trace, "-e", "trace=accept,accept4"]
     if subprocess.run([*before[:4], "true"]).returncode:
         raise Skip("no limit can be set")
     with logged(program, file, 1, before=before) as service:

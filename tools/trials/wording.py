@@ -25,7 +25,7 @@ OPENED: Tuple[Tuple[bytes, str, bool, str], ...] = (
 )
 
 # How many slots a file may have.
-FEW = "a file has 1 to 65536 slots"
+FEW = "a file has 1 to 65536 slots; with --format 3 it has up to 16777216"
 MILLIONS = "a file of format 3 has 1 to 16777216 slots"
 NO_ROOM = "so many keys have no room in so many slots"
 
@@ -73,7 +73,8 @@ def try_refusals(program: Program, folder: str) -> None:
     def expect_words(line: str, why: str, *words: str, lines: str = "") -> None:
         found = program.run_loud(*words, *({"run": (), "serve": ("0", "1")}.get(words[0], ())), lines=lines)
         named = " ".join(words if words[0] == "renew" else words[:2]).replace(f"{file} {new} ", f"{file} {new}\n").split("\n")[0]
-        expect(found, (Ended(f"{line}\n", 3), f"lazyset: {named}: {line}: {why}\n"), " ".join(words))
+        opening = f"{file}: opening\n" if words[0] == "serve" else ""
+        expect(found, (Ended(f"{line}\n", 3), f"{opening}lazyset: {named}: {line}: {why}\n"), " ".join(words))
 
     for text, line, is_checked, why in OPENED:
         put(file, text)
@@ -137,8 +138,16 @@ def try_port(program: Program, folder: str) -> None:
     put(file, ONE_SLOT)
     with socket.create_server(("127.0.0.1", 0)) as other:
         found = program.run_loud("serve", file, str(other.getsockname()[1]), "1")
-    said = f"lazyset: serve {file}: noport: Address already in use (os error 98)\n"
+    said = f"{file}: opening\nlazyset: serve {file}: noport: Address already in use (os error 98)\n"
     expect(found, (Ended("noport\n", 1), said), "a service whose port is taken")
+
+
+def try_command_line(program: Program) -> None:
+    """A command line that isn't understood is told on standard output, and in a line on standard error."""
+    ended, said = program.run_loud("check", "f", "--kyes")
+    expect(ended.status, 2, "the status")
+    expect(said, f"lazyset: {ended.text.splitlines()[0]}\n", "what it says on standard error")
+    expect("--kyes" in said, True, "whether that names the word")
 
 
 def try_reads(program: Program, folder: str) -> None:

@@ -1,0 +1,62 @@
+"""Two processes on one file: the second one is refused, and changes nothing."""
+
+from __future__ import annotations
+
+import fcntl
+import os
+import socket
+from typing import Tuple
+
+from trials.files import bytes_in
+from trials.program import PATIENCE, Ended, Program, Service
+from trials.report import expect
+
+NO_FILE = Ended("nofile\n", 3)
+
+
+def taken(path: str) -> Tuple[Ended, str]:
+    return NO_FILE, f"lazyset: {path}: another process has it open\n"
+
+
+def ask(port: int, *lines: str) -> str:
+    with socket.create_connection(("127.0.0.1", port), PATIENCE) as client:
+        client.sendall("".join(f"{line}\n" for line in (*lines, "quit")).encode())
+        return client.makefile().read()
+
+
+def try_locks(program: Program, folder: str) -> None:
+    """While a service has the file no other command may write it, and those that read it may."""
+    file, other, new = (os.path.join(folder, name) for name in ("served", "other", "new"))
+    program.make(file, 4)
+    program.make(other, 4)
+    with Service(program, file, 1) as service:
+        expect(ask(service.port, "add 1"), "yes\n", "a reply")
+        before = bytes_in(file)
+        for words in (("run", file), ("serve", file, "0", "1"), ("make", file, "8"), ("make", file, "8", "--keys"), ("grow", file, "8")):
+            expect(program.run_loud(*words), taken(file), f"{words[0]} of a file that is served")
+        expect(program.run_loud("renew", other, file, "8"), taken(file), "a renewal into a file that is served")
+        expect(program.run_loud("renew", file, new, "8"), taken(file), "a renewal of a file that is served")
+        expect(os.path.exists(new), False, "whether that made a file")
+        expect(program.run("info", file), Ended("format 2\nslots 4\nmembers 1\nfree 3\ngood\n", 0), "info")
+        expect(program.run("check", file), Ended("slot 0 key 1\ngood\n", 0), "check")
+        expect(bytes_in(file), before, "the file's bytes")
+        expect(ask(service.port, "has 1", "add 2"), "yes\nyes\n", "replies")
+    expect(program.run("run", file, lines="has 1\nhas 2\n"), Ended("yes\nyes\n", 0), "a run after the service")
+    try_shared(program, file, os.path.join(folder, "renewed"))
+    try_itself(program, file)
+
+
+def try_shared(program: Program, old: str, new: str) -> None:
+    """A renewal reads a file that others only read, and keeps those away who would write it."""
+    with open(old, "rb") as reading:
+        fcntl.flock(reading, fcntl.LOCK_SH)
+        expect(program.run("renew", old, new, "8"), Ended("renewed 2\n", 0), "a renewal beside a reader")
+        expect(program.run_loud("run", old), taken(old), "a run beside a reader")
+    with open(old, "rb") as writing:
+        fcntl.flock(writing, fcntl.LOCK_EX)
+        expect(program.run_loud("renew", old, new, "8"), taken(old), "a renewal beside a writer")
+
+
+def try_itself(program: Program, file: str) -> None:
+    """A file isn't kept away from itself."""
+    expect(program.run("renew", file, file, "8"), Ended("refused new 1\n", 3), "a renewal into itself")
