@@ -1,6 +1,6 @@
 -- A list of keys that is read in pieces.
 use Rattle.std.proofs.Common.{◌≡◌, ◌≢◌, inl, inr, ℕ, ◌+◌, ◌-◌, ◌<◌, ◌≤◌, List, [], ◌∷◌, ◌++◌, length, take, drop, get_or, true, false, Option, Some, None, refl, sym, ap, subst, ◌∙◌, arith, append_assoc, length-append, decimal}
-use Rattle.std.specs.Prelude.{IfErr, IfOk, IfSome, Result, Ok, Err, ◌&&◌, ◌==◌, nat_lt, nat_eq, ◌||◌}
+use Rattle.std.specs.Prelude.{IfErr, IfOk, IfSome, map, Result, Ok, Err, ◌&&◌, ◌==◌, nat_lt, nat_eq, ◌||◌}
 use Rattle.std.specs.Io.KnownBytes.{Consumes, IsAtEnd}
 use Rattle.std.proofs.lemmas.Bool.{cond_both}
 use Rattle.std.proofs.lemmas.Bool.Decides.{nat_tests}
@@ -13,9 +13,10 @@ use Rattle.lz_slot.specs.Texts.{Spells}
 use Rattle.lz_slot.specs.declared.format.Format.{Format}
 use Rattle.lz_slot.proofs.Files.ExactBytes.{key_of_format}
 use Rattle.lz_slot.proofs.Texts.Cuts.{cut_at, first_cut, lacks_more, stands}
+use Rattle.lz_judge.specs.Places.{IsTable}
 use Rattle.lz_proto.specs.Lines.{has_line_feed, line_feed, without_return}
 use Rattle.lz_vault.specs.Makes.{MayBeMembers}
-use Rattle.lazyset_offline.specs.Lists.{AddsKey, AreSeen, HasFirstLine, HasNoKey, IsLineFaultOf, IsListFaultOf, Lists, nothing, SpellsKey}
+use Rattle.lazyset_offline.specs.Lists.{AddsKey, HasFirstLine, HasNoKey, IsLineFaultOf, IsListFaultOf, Lists, nothing, SpellsKey}
 use Rattle.lazyset_offline.specs.ListParts.{BeginsList, EndsWith, FailsAtEnd, FailsIn, GoesOn, HasRead, IsOpenList, Leaves}
 use Rattle.lazyset_offline.specs.declared.list.KeyList.{KeyList}
 use Rattle.lazyset_offline.specs.declared.list.ListFault.{ListFault}
@@ -129,7 +130,7 @@ line_read old part line new kept clear is adds same empty = record {
 
 -- what a list is then
 pub line_kept : (old : KeyList) (part line : List ℕ) (new : KeyList) → IsOpenList old → has_line_feed part ≡ false → line ≡ old.line.items ++ part → AddsKey old.format line old.keys.items new.keys.items
-    → new.format ≡ old.format → new.line.items ≡ [] → AreSeen new.seen new.keys.items → IsOpenList new
+    → new.format ≡ old.format → new.line.items ≡ [] → IsTable (map Some new.keys.items) new.seen → IsOpenList new
 line_kept old part line new kept clear is adds same empty seen = record {
   seen = seen;
   clear = ap has_line_feed empty;
@@ -196,9 +197,9 @@ begins format list same none empty = record {
       (subst (λ (l : List ℕ). Leaves list.format text (l ++ text) []) (sym empty) (record { above = []; whole = refl; lists = record { spelled = nothing; once = none_twice } }));
 }
 
-pub opens : (list : KeyList) → AreSeen list.seen [] → list.keys.items ≡ [] → list.line.items ≡ [] → IsOpenList list
+pub opens : (list : KeyList) → IsTable [] list.seen → list.keys.items ≡ [] → list.line.items ≡ [] → IsOpenList list
 opens list seen none empty = record {
-  seen = subst (λ (ks : List ℕ). AreSeen list.seen ks) (sym none) seen;
+  seen = subst (λ (ks : List ℕ). IsTable (map Some ks) list.seen) (sym none) seen;
   clear = ap has_line_feed empty;
   above = [];
   lists = subst (λ (ks : List ℕ). Lists list.format [] ks) (sym none) (record { spelled = nothing; once = none_twice });

@@ -1,9 +1,9 @@
 -- A list of keys that is read a line at a time.
-use Rattle.std.proofs.Common.{◌≡◌, ℕ, zero, suc, ◌<◌, ◌≤◌, List, [], ◌∷◌, ◌++◌, length, get_or, false, Ok, Err, refl, sym, subst, ⊎_elim, arith, append_assoc}
-use Rattle.std.specs.Prelude.{nat_eq}
+use Rattle.std.proofs.Common.{◌≡◌, ◌≢◌, ℕ, zero, suc, ◌<◌, ◌≤◌, List, [], ◌∷◌, ◌++◌, length, get_or, true, false, Option, Some, None, Ok, Err, refl, sym, ap, subst, ◌∙◌, ⊎_elim, arith, append_assoc}
+use Rattle.std.specs.Prelude.{map, nat_eq, is_some, MatchOption}
 use Rattle.std.specs.Cmp.{nat_eq_equiv}
 use Rattle.std.specs.List.{IsDistinct, list_any}
-use Rattle.std.proofs.lemmas.Bool.{cases_lt}
+use Rattle.std.proofs.lemmas.Bool.{cases_lt, eq-eqb}
 use Rattle.std.proofs.lemmas.Bool.Decides.{nat_tests}
 use Rattle.std.proofs.lemmas.Map.Keys.{IsDistinct-push, apart_from_distinct}
 use Rattle.lz_slot.specs.Rooms.{largest_of}
@@ -45,6 +45,25 @@ spelled_more format _ _ line k (more first rest j js clear_first spells_first sp
 unlike : (ks : List ℕ) (k : ℕ) → members ks k ≡ false → list_any (nat_eq k) ks ≡ false
 unlike [] k none = refl
 unlike (q ∷ ks) k none = let rest : members ks k ≡ false = grind (arith, nat_tests) in let ih = unlike ks k rest in grind (arith, nat_tests)
+
+-- a key that stands somewhere among them is one of them, and one that stands nowhere isn't
+member_at : (ks : List ℕ) (i k : ℕ) → get_or (map Some ks) i None ≡ Some k → members ks k ≡ true
+member_at [] i k is = absurd cc
+member_at (q ∷ ks) zero k is = let same : q ≡ k = cc in let here = eq-eqb q k same in grind (arith, nat_tests, here)
+member_at (q ∷ ks) (suc i) k is = let ih = member_at ks i k is in grind (arith, nat_tests, ih)
+
+member_nowhere : (ks : List ℕ) (k : ℕ) → ((i : ℕ) → get_or (map Some ks) i None ≢ Some k) → members ks k ≡ false
+member_nowhere [] k none = refl
+member_nowhere (q ∷ ks) k none =
+    let other : q ≢ k = λ same. none 0 (ap Some same) in
+    let ih = member_nowhere ks k (λ i. none (suc i)) in
+    grind (arith, nat_tests, other, ih)
+
+-- what was found in a table of them tells whether it is one of them
+pub member_found : (ks : List ℕ) (k rank : ℕ) (found : Option ℕ) → rank ≡ k
+    → MatchOption found ((i : ℕ) → get_or (map Some ks) i None ≢ Some rank) (λ i. get_or (map Some ks) i None ≡ Some rank) → members ks k ≡ is_some found
+member_found ks k rank None same none = member_nowhere ks k (λ i is. none i (is ∙ ap Some (sym same)))
+member_found ks k rank (Some i) same at = member_at ks i k (at ∙ ap Some same)
 
 pub none_twice : IsDistinct nat_eq []
 unfolding IsDistinct

@@ -1,8 +1,9 @@
 -- A list of keys that is read in pieces.
-use Rattle.std.specs.Prelude.{◌≡◌, ℕ, false, List, [], ◌++◌}
+use Rattle.std.specs.Prelude.{◌≡◌, ℕ, false, List, [], ◌++◌, Some, map}
 use Rattle.lz_slot.specs.declared.format.Format.{Format}
+use Rattle.lz_judge.specs.Places.{IsTable}
 use Rattle.lz_proto.specs.Lines.{has_line_feed}
-use Rattle.lazyset_offline.specs.Lists.{AreSeen, IsListFaultOf, Lists}
+use Rattle.lazyset_offline.specs.Lists.{IsListFaultOf, Lists}
 use Rattle.lazyset_offline.specs.declared.list.KeyList.{KeyList}
 use Rattle.lazyset_offline.specs.declared.list.ListFault.{ListFault}
 
@@ -16,9 +17,9 @@ pub record Leaves (format : Format) (text rest ks : List ℕ) : Type 0 where
 abbrev pub HasRead : List ℕ → KeyList → List ℕ → Type 0
 HasRead text list after = Leaves list.format text (list.line.items ++ after) list.keys.items
 
--- the keys are those of some lines, and were seen, and the next line hasn't ended
+-- the keys are those of some lines, and this is their table, and the next line hasn't ended
 pub record IsOpenList (list : KeyList) : Type 0 where
-  pub seen : AreSeen list.seen list.keys.items
+  pub seen : IsTable (map Some list.keys.items) list.seen
   pub clear : has_line_feed list.line.items ≡ false
   pub above : List ℕ
   pub lists : Lists list.format above list.keys.items

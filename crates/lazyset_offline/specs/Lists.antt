@@ -1,7 +1,6 @@
 -- What a list of keys is: lines that end, each of which spells a key, and no key twice. A text is a list of bytes.
 use Rattle.std.specs.Prelude.{◌≡◌, ◌≢◌, ℕ, ◌+◌, ◌≤◌, false, nat_eq, List, [], ◌∷◌, ◌++◌, length, IsTrue}
 use Rattle.std.specs.List.{IsDistinct}
-use Rattle.std.specs.HashSet.{HashSet, contains}
 use Rattle.lz_slot.specs.Rooms.{largest_of}
 use Rattle.lz_slot.specs.Sets.{members}
 use Rattle.lz_slot.specs.Texts.{Spells}
@@ -67,7 +66,3 @@ IsLineFaultOf format line ks (Line number) = (number ≡ length ks + 1) × ((k :
 IsLineFaultOf format line ks (Twice number) = (number ≡ length ks + 1) × ((k : ℕ) × SpellsKey format line k × IsTrue (members ks k))
 IsLineFaultOf format line ks Read = ⊥
 IsLineFaultOf format line ks Memory = Unit {0}
-
--- the table has these keys, and no others
-abbrev pub AreSeen : {S : Type 0} → HashSet ℕ S → List ℕ → Type 0
-AreSeen seen ks = (k : ℕ) → contains nat_eq seen k ≡ members ks k

@@ -1,15 +1,16 @@
 //! A list of keys out of a reader, one a line.
-ghost use Rattle.std.specs.Prelude.{◌≡◌, ◌+◌, ◌++◌, ◌∷◌, [], ℕ, false, IfOk, IfErr, IfNone, IfSome, OnOk, length};
+ghost use Rattle.std.specs.Prelude.{◌≡◌, ◌+◌, ◌++◌, ◌∷◌, [], ℕ, false, IfOk, IfErr, IfNone, IfSome, OnOk, Some, length, map};
+ghost use Rattle.lz_judge.specs.Places.{IsTable};
 ghost use Rattle.lz_proto.specs.Lines.{has_line_feed, line_feed};
 ghost use Rattle.lz_vault.specs.Makes.{MayBeMembers};
-ghost use Rattle.lazyset_offline.specs.Lists.{AddsKey, AreSeen, IsLineFaultOf, IsListFaultOf, Lists, SpellsKey};
+ghost use Rattle.lazyset_offline.specs.Lists.{AddsKey, IsLineFaultOf, IsListFaultOf, Lists, SpellsKey};
 ghost use Rattle.lazyset_offline.specs.ListParts.{BeginsList, EndsWith, FailsAtEnd, FailsIn, GoesOn, IsOpenList};
 
+use lz_judge::Places;
 use lz_proto::{MOST_PIECE, receive, without_return};
 use lz_slot::{Format, Key, read_key};
 use memchr::memchr;
 use std::alloc::Global;
-use std::collections::HashSet;
 use std::io::Read;
 
 // The most bytes of a line with a key: those of a room, a colon, a number and a carriage return.
@@ -55,12 +56,12 @@ pub fn read_list<R: Read>(
     Err(ListFault::Read)
 }
 
-/// A list that was read so far: its keys, which were seen, and the beginning of a line that hasn't ended yet.
+/// A list that was read so far: its keys, the table of them, and the beginning of a line that hasn't ended yet.
 #[derive(Drop)]
 struct KeyList {
     format: Format,
     keys: Vec<Key>,
-    seen: HashSet<u64>,
+    seen: Places,
     line: Vec<u8>,
 }
 
@@ -72,7 +73,7 @@ impl KeyList {
         KeyList {
             format,
             keys: Vec::new(alloc),
-            seen: HashSet::new(alloc),
+            seen: Places::new(alloc),
             line: Vec::new(alloc),
         }
     }
@@ -122,8 +123,8 @@ impl KeyList {
 
     // Adds the key of the line that was read.
     fn add_line(&mut self) -> Result<(), ListFault>
-        requires { AreSeen self.old.seen self.old.keys.items }
-        ensures seen { OnOk result (AreSeen self.new.seen self.new.keys.items) }
+        requires { IsTable (map Some self.old.keys.items) self.old.seen }
+        ensures seen { OnOk result (IsTable (map Some self.new.keys.items) self.new.seen) }
         ensures ok { OnOk result (AddsKey self.old.format self.old.line.items self.old.keys.items self.new.keys.items) }
         ensures format { self.new.format ≡ self.old.format }
         ensures err { IfErr result (IsLineFaultOf self.old.format self.old.line.items self.old.keys.items) }
@@ -132,15 +133,16 @@ impl KeyList {
         let Some(key) = key_on(self.line.as_slice(), self.format) else {
             return Err(ListFault::Line(number));
         };
-        match self.seen.insert(key.rank()) {
-            Ok(true) => {}
-            Ok(false) => return Err(ListFault::Twice(number)),
-            Err(_) => return Err(ListFault::Memory),
+        if self.seen.find(self.keys.as_slice(), key.rank()).is_some() {
+            return Err(ListFault::Twice(number));
         }
-        match self.keys.push(key) {
-            Ok(()) => Ok(()),
-            Err(_) => Err(ListFault::Memory),
-        }
+        let Ok(()) = self.keys.push(key) else {
+            return Err(ListFault::Memory);
+        };
+        let Ok(()) = self.seen.add(self.keys.as_slice()) else {
+            return Err(ListFault::Memory);
+        };
+        Ok(())
     }
 
     // Keeps a part of a line that goes on, unless it is longer already than the text of a key.

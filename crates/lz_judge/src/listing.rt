@@ -17,7 +17,8 @@ use std::collections::{BTreeMap, BTreeSet};
 /// The lesser of two numbers, one of which may be missing.
 pub fn lesser(least: Option<u64>, number: u64) -> Option<u64>
     ensures one { (result ≡ Some number) ⊎ ((result ≡ least) × IsSome result) }
-    ensures least { IfSome result (λ i. i ≤ number) }
+    ensures low { IfSome result (λ i. i ≤ number) }
+    ensures least { IfSome least (λ j. IfSome result (λ i. i ≤ j)) }
 {
     match least {
         Some(other) if other < number => Some(other),

@@ -2,6 +2,7 @@
 ghost use Rattle.std.specs.Prelude.{◌≡◌, ◌≢◌, ◌↔◌, ◌+◌, ◌<◌, [], ◌++◌, ◌∷◌, ℕ, IfOk, IfSome, IsTrue, List, MatchOption, None, OnOk, Option, Some, length, map, slice_index_or};
 ghost use Rattle.lz_judge.specs.Places.{IsFree, IsTable, place_of};
 
+use lz_slot::Key;
 use std::alloc::{AllocError, Global};
 
 // An odd number whose products scatter the keys.
@@ -19,6 +20,16 @@ pub trait Keyed {
 
     fn keyed(&self) -> Option<u64>
         ensures { result ≡ key self.now };
+}
+
+impl Keyed for Key {
+    ghost use Rattle.std.specs.Prelude.{Some};
+
+    ghost key = { Some };
+
+    fn keyed(&self) -> Option<u64> {
+        Some(self.rank())
+    }
 }
 
 /// A table of the keys of a list's items, in 8 to 16 bytes an item: each key has a row that names an item with this key.

@@ -1,17 +1,16 @@
 -- What is read again of two files, of which one was renewed into the other.
-use Rattle.std.proofs.Common.{◌≡◌, ⊎_elim, inl, inr, ℕ, zero, suc, ◌+◌, ◌*◌, ◌≤◌, ◌<◌, List, [], ◌∷◌, ◌++◌, length, get_or, take, IsTrue, refl, sym, ◌∙◌, ap, subst, arith}
-use Rattle.std.specs.Prelude.{map, All}
+use Rattle.std.proofs.Common.{◌≡◌, ⊎_elim, ℕ, zero, suc, ◌+◌, ◌≤◌, ◌<◌, List, [], ◌∷◌, ◌++◌, length, get_or, take, refl, sym, ◌∙◌, ap, arith}
+use Rattle.std.specs.Prelude.{map}
 use Rattle.std.proofs.lemmas.Bool.{cases_lt}
 use Rattle.std.proofs.lemmas.List.{append-nil, map-append, take_all, take_more}
 use Rattle.lz_slot.specs.Rooms.{largest_of}
-use Rattle.lz_slot.specs.Sets.{members}
 use Rattle.lz_slot.specs.declared.format.Format.{Format}
-use Rattle.lz_slot.specs.Bytes.{Holds, format_of, held, held_key, slot_at, slot_bytes, slot_read}
+use Rattle.lz_slot.specs.Bytes.{format_of, held, held_key, slot_at, slot_bytes, slot_read}
 use Rattle.lz_slot.specs.declared.slot.SlotRead.{SlotRead}
 use Rattle.lz_slot.specs.declared.slot.SlotRead.TheVariants.{Closed, Member}
 use Rattle.lz_slot.proofs.Files.ExactBytes.{slot_reads_back}
 use Rattle.lz_disk.specs.Images.{Medium}
-use Rattle.lz_vault.specs.Makes.{IsRenewed, slot_text}
+use Rattle.lz_vault.specs.Makes.{IsRenewed}
 use Rattle.lz_vault.specs.Renewals.{AreHeldBy}
 use Rattle.lz_vault.proofs.FilledTexts.{text_blank, text_open}
 use Rattle.lz_vault.proofs.MakingTexts.{slot_closed}
