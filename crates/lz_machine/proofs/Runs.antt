@@ -3,6 +3,7 @@ pub mod Shape
 pub mod CallerTable
 pub mod NextEvent
 pub mod Course
+pub mod Outcomes
 pub mod EventRange
 pub mod Twins
 pub mod EventOrder

@@ -1,5 +1,8 @@
 pub mod Reached
 pub mod Marks
+pub mod LateCalls
+pub mod DeviceFailures
+pub mod HaltRows
 pub mod MovedCall
 pub mod MovedLoad
 pub mod Timeliness

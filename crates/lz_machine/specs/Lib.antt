@@ -7,6 +7,7 @@ pub mod Runs
 pub mod Points
 pub mod Laws
 pub mod Marks
+pub mod Halts
 pub mod InTime
 pub mod Formats
 pub mod Ledgers

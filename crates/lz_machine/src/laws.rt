@@ -7,6 +7,7 @@ ghost use Rattle.lz_machine.specs.FreedSlots.{FreedIsAllFree};
 ghost use Rattle.lz_machine.specs.JoinedRuns.{LeftIsStart, RunsJoin};
 ghost use Rattle.lz_machine.specs.Laws.{EveryHistory, WhatLasts, WalksMove};
 ghost use Rattle.lz_machine.specs.Formats.{FormatsStay};
+ghost use Rattle.lz_machine.specs.Halts.{FailsOnce, HaltsLast};
 ghost use Rattle.lz_machine.specs.InTime.{NeverLate};
 ghost use Rattle.lz_machine.specs.Marks.{MarksTell};
 ghost use Rattle.lz_machine.specs.NextEvents.{NextIsKnown};
@@ -43,6 +44,18 @@ pub fn walks_move()
 /// and a call ends once: an answered call stays answered.
 pub fn marks_tell()
     ensures { MarksTell }
+{}
+
+/// A call that is made after another was cut off is told that its pass is worn, that the file is too old, or that the service has
+/// halted, and nothing else: across all actors, until the next open. A call that was open by then may still be answered.
+pub fn halts_last()
+    ensures { HaltsLast }
+{}
+
+/// In each life one device call fails at most, since the vault is dead then; and no more calls are told, or are to be told, that the
+/// device failed in them.
+pub fn fails_once()
+    ensures { FailsOnce }
 {}
 
 /// Where no other actor takes a step, each life is a plain set's: its calls end one after the other, each answer is that of

@@ -1,24 +1,34 @@
 -- What a hold has played.
-use Rattle.std.proofs.Common.{◌≡◌, ℕ, List, ◌∷◌, ◌++◌, map, refl, sym, ap, ◌∙◌, append_assoc}
+use Rattle.std.proofs.Common.{◌≡◌, ◌≢◌, ℕ, List, [], ◌∷◌, ◌++◌, map, Option, Some, refl, sym, ap, ◌∙◌, subst, append_assoc}
+use Rattle.std.proofs.lemmas.Option.{none-some, same_Some}
 use Rattle.lz_slot.specs.declared.command.Command.{Command}
+use Rattle.lz_slot.specs.declared.format.Format.{Format}
+use Rattle.lz_list.specs.declared.publishing.Publishing.{Publishing}
 use Rattle.lz_list.specs.Words.{Words}
 use Rattle.lz_machine.specs.declared.caller.Progress.{Progress}
 use Rattle.lz_machine.specs.declared.caller.Progress.TheVariants.{Playing, LoadsHalt, Walking, Reserving, SeeingPins, Claiming, Checking, Answering}
 use Rattle.lz_machine.specs.declared.event.Event.{Event}
-use Rattle.lz_machine.specs.declared.event.Event.TheVariants.{SeePin}
+use Rattle.lz_machine.specs.declared.event.Event.TheVariants.{SeePin, Sync as SyncOf}
+use Rattle.lz_machine.specs.declared.event.Outcome.{Outcome}
+use Rattle.lz_machine.specs.declared.event.Outcome.TheVariants.{OldFile}
+use Rattle.lz_machine.specs.declared.event.Reply.{Reply}
 use Rattle.lz_machine.specs.Calls.{event_at, loaded}
 use Rattle.lz_machine.specs.declared.kind.Kind.{Kind}
+use Rattle.lz_machine.specs.declared.kind.Kind.TheVariants.{Hop, Invoke, Sync}
 use Rattle.lz_machine.specs.Kinds.{kind_of}
 use Rattle.lz_machine.specs.Orders.{Calling, shape_with}
+use Rattle.lz_machine.specs.Runs.{reply_at}
 use Rattle.lz_machine.specs.Yards.{Shape}
+use Rattle.lz_caller.specs.Begun.{begun_after}
 use Rattle.lz_board.specs.declared.view.Note.{Note}
 use Rattle.lz_board.specs.declared.view.Part.{Part}
-use Rattle.lz_board.specs.declared.view.What.TheVariants.{Played}
+use Rattle.lz_board.specs.declared.view.Load.{Load}
+use Rattle.lz_board.specs.declared.view.What.TheVariants.{Called, Played}
 use Rattle.lz_board.specs.Notes.{load_note, note_by}
 use Rattle.lz_board.specs.Seats.{BoardId}
 use Rattle.lz_tie.specs.declared.playing.Turn.{Turn}
 use Rattle.lz_tie.specs.Held.{Advanced}
-use Rattle.lz_set.specs.Stages.{HasPlayed, StepsOn}
+use Rattle.lz_set.specs.Stages.{HasPlayed, NoneOf, PlaysOne, StepsOn, StepsWithout}
 
 -- neither a loaded pin word nor the yard's shape makes it another kind of event
 kind_loaded : (words : Words) (e : Event) → kind_of (loaded words e) ≡ kind_of e
@@ -35,16 +45,15 @@ kind_at one other c (Claiming aim pred curr) = refl
 kind_at one other c (Checking aim curr) = refl
 kind_at one other c (Answering reply) = refl
 
-pub has_played : (b : BoardId) (was is : List Note) (k : Calling) (t : Turn) (before after : Part) → Advanced b was is k t before after
-    → HasPlayed (kind_of (event_at (shape_with k) k.command k.progress)) before after
-has_played b was is k t before after a =
+pub plays_one : (b : BoardId) (was is : List Note) (k : Calling) (t : Turn) (before after : Part) → Advanced b was is k t before after
+    → PlaysOne (kind_of (event_at (shape_with k) k.command k.progress)) before after
+plays_one b was is k t before after a =
     let yard = a.turned.service.yard in
     let caller = a.turned.caller in
     let loads = map (load_note before.number) before.loads in (
       a.event,
       t.outcome,
       t.published,
-      loads,
       a.holds.steps ∙ ap (λ (p : ℕ). note_by p (Played a.event t.outcome) t.published ∷ (loads ++ before.steps)) (sym a.holds.number),
       sym (ap kind_of a.turned.next) ∙ kind_loaded yard.words (event_at yard.shape caller.command caller.progress)
           ∙ ap (λ (c : Command). kind_of (event_at yard.shape c caller.progress)) a.turned.command
@@ -52,14 +61,58 @@ has_played b was is k t before after a =
           ∙ kind_at yard.shape (shape_with k) k.command k.progress,
     )
 
--- an event is a step, and what came before it is older
-pub steps_played : (kind : Kind) (h h' : Part) → HasPlayed kind h h' → StepsOn h h'
-steps_played kind h h' p = (note_by h'.number (Played p.0 p.1) p.2 ∷ p.3, p.4)
-
-pub steps_then : (h mid h' : Part) → StepsOn h mid → StepsOn mid h' → StepsOn h h'
-steps_then h mid h' one two = (two.0 ++ one.0, two.1 ∙ ap (λ (l : List Note). two.0 ++ l) one.1 ∙ sym (append_assoc two.0 one.0 h.steps))
+pub has_played : (kind : Kind) (h h' : Part) → PlaysOne kind h h' → HasPlayed kind h h'
+has_played kind h h' p = (p.0, p.1, p.2, map (load_note h.number) h.loads, p.3, p.4)
 
 pub played_then : (kind : Kind) (h mid h' : Part) → StepsOn h mid → HasPlayed kind mid h' → HasPlayed kind h h'
 played_then kind h mid h' one p =
     let n = note_by h'.number (Played p.0 p.1) p.2 in
     (p.0, p.1, p.2, p.3 ++ one.0, p.4 ∙ ap (λ (l : List Note). n ∷ (p.3 ++ l)) one.1 ∙ ap (λ (l : List Note). n ∷ l) (sym (append_assoc p.3 one.0 h.steps)), p.5)
+
+-- loads are no syncs
+loads_without : (p : ℕ) (loads : List Load) → NoneOf Sync (map (load_note p) loads)
+loads_without p [] = tt
+loads_without p (h ∷ hs) = ((λ is. let same : Hop ≡ Sync = same_Some Hop Sync is in cc), loads_without p hs)
+
+none_both : (kind : Kind) (new old : List Note) → NoneOf kind new → NoneOf kind old → NoneOf kind (new ++ old)
+none_both kind [] old one two = two
+none_both kind (n ∷ ns) old one two = (one.0, none_both kind ns old one.1 two)
+
+-- nor is an event of another kind
+pub one_without : (kind : Kind) (h h' : Part) → kind ≢ Sync → PlaysOne kind h h' → StepsWithout Sync h h'
+one_without kind h h' other p = (
+  note_by h'.number (Played p.0 p.1) p.2 ∷ map (load_note h.number) h.loads,
+  p.3,
+  ((λ is. other (sym p.4 ∙ same_Some _ _ is)), loads_without h.number h.loads),
+)
+
+pub without_then : (kind : Kind) (h mid h' : Part) → StepsWithout kind h mid → StepsWithout kind mid h' → StepsWithout kind h h'
+without_then kind h mid h' one two =
+    (two.0 ++ one.0, two.1 ∙ ap (λ (l : List Note). two.0 ++ l) one.1 ∙ sym (append_assoc two.0 one.0 h.steps), none_both kind two.0 one.0 two.2 one.2)
+
+-- a call that was just made: its pass has the loads that it had made, and the step that made it
+pub call_without : (F : Format) (c : Command) (x : Option Publishing) (h h' : Part) → h'.steps ≡ note_by h.number (Called c F) x ∷ (map (load_note h.number) h.loads ++ h.steps) → StepsWithout Sync h h'
+call_without F c x h h' steps = (
+  note_by h.number (Called c F) x ∷ map (load_note h.number) h.loads,
+  steps,
+  ((λ is. let same : Invoke ≡ Sync = same_Some Invoke Sync is in cc), loads_without h.number h.loads),
+)
+
+-- events that are no syncs: by their shape, the first of a call, and its last
+pub not_sync : (e : Event) → ((s : ℕ) → e ≢ SyncOf s) → kind_of e ≢ Sync
+not_sync (SyncOf s) other = absurd (other s refl)
+not_sync e other = λ is. cc
+
+pub begins_otherwise : (k : Calling) (o : Outcome) → k.progress ≡ begun_after o → kind_of (event_at (shape_with k) k.command k.progress) ≢ Sync
+begins_otherwise k o at = subst (λ (p : Progress). kind_of (event_at (shape_with k) k.command p) ≢ Sync) (sym at) (go o)
+  where
+    go : (o : Outcome) → kind_of (event_at (shape_with k) k.command (begun_after o)) ≢ Sync
+    go OldFile = λ is. cc
+    go o = λ is. cc
+
+pub answers_otherwise : (k : Calling) (reply : Reply) → reply_at k.progress ≡ Some reply → kind_of (event_at (shape_with k) k.command k.progress) ≢ Sync
+answers_otherwise k reply = go k.progress
+  where
+    go : (at : Progress) → reply_at at ≡ Some reply → kind_of (event_at (shape_with k) k.command at) ≢ Sync
+    go (Answering other) is = λ is. cc
+    go at is = absurd (none-some reply is)

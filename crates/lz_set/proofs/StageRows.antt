@@ -1,23 +1,26 @@
 -- Worked rows: where calls stand that stopped.
-use Rattle.std.proofs.Common.{List, [], ◌∷◌, length, Some, None, is_some, refl, ap, arith, length-append}
+use Rattle.std.proofs.Common.{◌≡◌, ◌≢◌, List, [], ◌∷◌, ◌++◌, length, Option, Some, None, is_some, refl, sym, ap, arith, length-append}
+use Rattle.std.proofs.lemmas.Option.{same_Some}
 use mathlib.Core.Bool.{false≢true}
 use Rattle.lz_slot.specs.declared.command.Command.TheVariants.{Add}
+use Rattle.lz_slot.specs.declared.format.Format.TheVariants.{One}
 use Rattle.lz_list.specs.declared.place.Place.TheVariants.{Bucket}
 use Rattle.lz_machine.specs.declared.caller.Progress.{Progress}
 use Rattle.lz_machine.specs.declared.caller.Progress.TheVariants.{Playing, LoadsHalt, Claiming, Checking, Answering}
 use Rattle.lz_machine.specs.declared.caller.Sequence.TheVariants.{Adding}
-use Rattle.lz_machine.specs.declared.event.Event.TheVariants.{Claim}
+use Rattle.lz_machine.specs.declared.event.Event.TheVariants.{Claim, Sync}
 use Rattle.lz_machine.specs.declared.event.Outcome.TheVariants as found
 use Rattle.lz_machine.specs.declared.event.Reply.TheVariants.{No}
+use Rattle.lz_machine.specs.declared.kind.Kind.{Kind}
 use Rattle.lz_machine.specs.declared.kind.Kind.TheVariants as kind
 use Rattle.lz_machine.specs.Orders.{Calling}
 use Rattle.lz_board.specs.declared.view.Note.{Note}
 use Rattle.lz_board.specs.declared.view.Part.{Part}
-use Rattle.lz_board.specs.declared.view.What.TheVariants.{Played}
+use Rattle.lz_board.specs.declared.view.What.TheVariants.{Called, Played}
 use Rattle.lz_board.specs.Notes.{note_by}
 use Rattle.lz_board.specs.Plays.{no_sizes}
 use Rattle.lz_set.specs.declared.underway.Stage.TheVariants.{Syncs, Busy, Answers}
-use Rattle.lz_set.specs.Stages.{HasPlayed, StandsAt}
+use Rattle.lz_set.specs.Stages.{HasPlayed, NoneOf, PlaysOne, StandsAt, StepsWithout, kind_of_step}
 
 -- an adding of 9 in slot 1 that has come so far
 abbrev call_at : Progress → Calling
@@ -55,3 +58,38 @@ claimed_since = (Claim (Bucket 0) None, found.Busy, None, [], refl, refl)
 -- an older one doesn't count
 claimed_before : HasPlayed kind.Claim (pass_with (claim ∷ [])) (pass_with (claim ∷ [])) → ⊥
 claimed_before h = let more = length-append h.3 (claim ∷ []) in let is = ap length h.4 in absurd (omega (arith, more, is))
+
+-- and neither does a step besides
+claimed_once : PlaysOne kind.Claim (pass_with []) (pass_with (claim ∷ []))
+claimed_once = (Claim (Bucket 0) None, found.Busy, None, refl, refl)
+
+claimed_twice : PlaysOne kind.Claim (pass_with []) (pass_with (claim ∷ claim ∷ [])) → ⊥
+claimed_twice h = let is = ap length h.3 in omega (arith, is)
+
+-- a sync, and what a pass has made without one
+abbrev sync : Note
+sync = note_by 1 (Played (Sync 1) found.Done) None
+
+no_sync : kind_of_step claim.what ≢ Some kind.Sync
+no_sync is = let same : kind.Claim ≡ kind.Sync = same_Some kind.Claim kind.Sync is in cc
+
+nothing_since : StepsWithout kind.Sync (pass_with (sync ∷ [])) (pass_with (sync ∷ []))
+nothing_since = ([], refl, tt)
+
+synced_before : StepsWithout kind.Sync (pass_with (sync ∷ [])) (pass_with (claim ∷ sync ∷ []))
+synced_before = (claim ∷ [], refl, (no_sync, tt))
+
+abbrev newest : List Note → Option Kind
+newest [] = None
+newest (n ∷ ns) = kind_of_step n.what
+
+synced_since : StepsWithout kind.Sync (pass_with []) (pass_with (sync ∷ [])) → ⊥
+synced_since h = go h.0 h.1 h.2
+  where
+    go : (more : List Note) → sync ∷ [] ≡ more ++ [] → NoneOf kind.Sync more → ⊥
+    go [] is none = let same = ap length is in omega (arith, same)
+    go (n ∷ ns) is none = none.0 (sym (ap newest is))
+
+-- a call that is made is an Invoke
+invoked : NoneOf kind.Invoke (note_by 1 (Called (Add 9) One) None ∷ []) → ⊥
+invoked h = h.0 refl

@@ -45,4 +45,4 @@ pub record IsBlank (b : BoardId) (p : Pen) (y : Yard) (disk : Device) (ps : List
 pub record MayBeNamed {D : Type 0} (device : D → Device) (b : BoardId) (first : Device) (F : Format) (blank : BlankOver D) : Type 0 where
   pub board : blank.board ≡ b
   pub since : LeftSince b first [] (device blank.disk)
-  pub life : LivesOn F first blank.yard (device blank.disk)
+  pub life : LivesOn F first [] blank.yard (device blank.disk)

@@ -1,8 +1,9 @@
 -- What a set leaves that was closed.
-use Rattle.std.specs.Prelude.{◌≡◌, ◌⊎◌, ◌≤◌, ◌<◌, All, List, map}
+use Rattle.std.specs.Prelude.{◌≡◌, ◌⊎◌, ◌+◌, ◌≤◌, ◌<◌, All, List, map}
 use Rattle.lz_disk.specs.Devices.{Device}
 use Rattle.lz_vault.specs.Vaults.{last_sync}
 use Rattle.lz_list.specs.Traces.{halt_word}
+use Rattle.lz_machine.specs.Halts.{HaltLasts, told_device}
 use Rattle.lz_machine.specs.Marks.{IsTold}
 use Rattle.lz_machine.specs.Yards.{Yard}
 use Rattle.lz_board.specs.declared.view.Note.{Note}
@@ -19,14 +20,17 @@ use Rattle.lz_tie.specs.Sessions.{TellsAlone}
 
 -- Whatever a crash leaves of the disk now explains what these notes show of calls and answers, and each text that a crash might
 -- have left since it was like `first` what a beginning of them shows. Each call that they show was made by a pass of the set that had
--- none open, and has ended once at most. They are a run of the machine, which led to this yard; where the set was halted in it, the
--- disk's last sync was made, or the device has failed since.
+-- none open, and has ended once at most; none that was made after another was cut off is answered. One call at most was told that the
+-- device failed in it, and only where it has failed since. They are a run of the machine, which led to this yard; where the set was
+-- halted in it, the disk's last sync was made, or the device has failed since.
 pub record IsLeft (b : BoardId) (first : Device) (ns : List Note) (disk : Device) : Type 0 where
   pub now : HasHistory b ns disk
   pub ever : ExplainedSince b first ns disk
   pub honest : disk.honest ≡ first.honest
-  pub faults : first.faults ≤ disk.faults
   pub told : IsTold (marks_in (shape_of_sizes b.sizes) ns)
+  pub halts : HaltLasts (marks_in (shape_of_sizes b.sizes) ns)
+  pub device : told_device (marks_in (shape_of_sizes b.sizes) ns) ≤ 1
+  pub faults : first.faults + told_device (marks_in (shape_of_sizes b.sizes) ns) ≤ disk.faults
   pub passes : AreOfPasses b.sizes.passes (marks_in (shape_of_sizes b.sizes) ns)
   pub yard : Yard
   pub locked : IsLocked b ns yard disk

@@ -1,5 +1,5 @@
 -- How a call under way is played on.
-use Rattle.std.specs.Prelude.{◌≡◌, ℕ, List, ◌∷◌, ◌++◌, Option, Some}
+use Rattle.std.specs.Prelude.{◌≡◌, ◌≢◌, ℕ, List, [], ◌∷◌, ◌++◌, map, Option, Some, None}
 use Rattle.lz_list.specs.declared.place.Place.{Place}
 use Rattle.lz_list.specs.declared.publishing.Publishing.{Publishing}
 use Rattle.lz_machine.specs.declared.event.Event.{Event}
@@ -7,14 +7,16 @@ use Rattle.lz_machine.specs.declared.event.Event.TheVariants.{Claim, Sync}
 use Rattle.lz_machine.specs.declared.event.Outcome.{Outcome}
 use Rattle.lz_machine.specs.declared.event.Reply.{Reply}
 use Rattle.lz_machine.specs.declared.kind.Kind.{Kind}
+use Rattle.lz_machine.specs.declared.kind.Kind.TheVariants.{Invoke}
 use Rattle.lz_machine.specs.Calls.{event_at}
 use Rattle.lz_machine.specs.Kinds.{kind_of}
 use Rattle.lz_machine.specs.Orders.{Calling, shape_with}
 use Rattle.lz_machine.specs.Runs.{reply_at}
 use Rattle.lz_board.specs.declared.view.Note.{Note}
 use Rattle.lz_board.specs.declared.view.Part.{Part}
-use Rattle.lz_board.specs.declared.view.What.TheVariants.{Played}
-use Rattle.lz_board.specs.Notes.{note_by}
+use Rattle.lz_board.specs.declared.view.What.{What}
+use Rattle.lz_board.specs.declared.view.What.TheVariants.{Called, Played, Found}
+use Rattle.lz_board.specs.Notes.{load_note, note_by}
 use Rattle.lz_set.specs.declared.underway.Stage.{Stage}
 use Rattle.lz_set.specs.declared.underway.Stage.TheVariants.{Syncs, Busy, Answers}
 
@@ -31,3 +33,23 @@ StepsOn h h' = (more : List Note) × (h'.steps ≡ more ++ h.steps)
 -- its newest step since is an event of this kind
 abbrev pub HasPlayed : Kind → Part → Part → Type 0
 HasPlayed kind h h' = (e : Event) × (o : Outcome) × (x : Option Publishing) × (more : List Note) × (h'.steps ≡ note_by h'.number (Played e o) x ∷ (more ++ h.steps)) × (kind_of e ≡ kind)
+
+-- its newest step since is an event of this kind, and the others are the loads that it had made
+abbrev pub PlaysOne : Kind → Part → Part → Type 0
+PlaysOne kind h h' =
+    (e : Event) × (o : Outcome) × (x : Option Publishing) × (h'.steps ≡ note_by h'.number (Played e o) x ∷ (map (load_note h.number) h.loads ++ h.steps)) × (kind_of e ≡ kind)
+
+-- the kind of a step; a pin word that was found is no event
+abbrev pub kind_of_step : What → Option Kind
+kind_of_step (Called c format) = Some Invoke
+kind_of_step (Played e o) = Some (kind_of e)
+kind_of_step (Found q v) = None
+
+-- no step of these is an event of this kind
+abbrev pub NoneOf : Kind → List Note → Type 0
+NoneOf kind [] = Unit {0}
+NoneOf kind (n ∷ ns) = (kind_of_step n.what ≢ Some kind) × NoneOf kind ns
+
+-- the pass has made no steps since, or some, of which none is an event of this kind
+abbrev pub StepsWithout : Kind → Part → Part → Type 0
+StepsWithout kind h h' = (more : List Note) × (h'.steps ≡ more ++ h.steps) × NoneOf kind more

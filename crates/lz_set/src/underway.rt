@@ -1,5 +1,5 @@
 //! A call as a value, and how it is played on.
-ghost use Rattle.std.specs.Prelude.{◌≡◌, IsTrue, None, Some};
+ghost use Rattle.std.specs.Prelude.{◌≡◌, ◌≢◌, IsTrue, None, Some};
 ghost use Rattle.lz_slot.specs.declared.command.Command.{Command as Asked};
 ghost use Rattle.lz_slot.specs.declared.format.Format.{Format};
 ghost use Rattle.lz_machine.specs.Calls.{event_at};
@@ -14,7 +14,7 @@ ghost use Rattle.lz_tie.specs.Counting.{Counts, CountsOn, IsCounted};
 ghost use Rattle.lz_tie.specs.OneCaller.{IsPlainAnswer, keys_in};
 ghost use Rattle.lz_set.specs.Answers.{reply_of};
 ghost use Rattle.lz_set.specs.Names.{MayCall};
-ghost use Rattle.lz_set.specs.Stages.{HasPlayed, StandsAt, StepsOn};
+ghost use Rattle.lz_set.specs.Stages.{HasPlayed, PlaysOne, StandsAt, StepsWithout};
 
 use crate::fault::Fault;
 use crate::gate::StepGate;
@@ -65,6 +65,7 @@ impl<D: Disk, G: StepGate, N: Named> Set<D, G, N> {
         requires pass { MayCall N.board pass.old }
         ensures pass { IsOf N.board pass.new }
         ensures counts { Counts N.board command N.format (part pass.old) result (part pass.new) }
+        ensures steps { StepsWithout Kind.Sync (part pass.old) (part pass.new) }
     {
         self.invoke(rt, pass, command, self.commits.come(false))
     }
@@ -76,6 +77,7 @@ impl<D: Disk, G: StepGate, N: Named> Set<D, G, N> {
         ensures pass { IsOf N.board pass.new }
         ensures counts { CountsOn N.board call.old (part pass.old) call.new (part pass.new) }
         ensures stands { StandsAt result call.new }
+        ensures steps { StepsWithout Kind.Sync (part pass.old) (part pass.new) }
         ensures claimed { result ≡ Stage.Busy → HasPlayed Kind.Claim (part pass.old) (part pass.new) }
     {
         let (stage, _kept) = self.play(rt, pass, call, None);
@@ -101,6 +103,7 @@ impl<D: Disk, G: StepGate, N: Named> Set<D, G, N> {
         requires counted { IsCounted N.board call (part pass.old) }
         requires stands { StandsAt Stage.Answers call }
         ensures pass { MayCall N.board pass.new }
+        ensures steps { StepsWithout Kind.Sync (part pass.old) (part pass.new) }
         ensures answers { (c : Asked) (format : Format) (before : Part) → before.sizes ≡ N.board.sizes → Counts N.board c format before call (part pass.old) → Answers format c (reply_of result) before (part pass.new) }
         ensures plain { N.board.sizes.passes ≡ 1 → (c : Asked) (format : Format) (before : Part) → before.sizes ≡ N.board.sizes → Counts N.board c format before call (part pass.old)
             → IsPlainAnswer format N.board.sizes.slots c (reply_of result) (keys_in before.known) (keys_in (part pass.new).known) }
@@ -143,6 +146,7 @@ impl<D: Disk, G: StepGate, N: Named> Set<D, G, N> {
         requires pass { MayCall N.board pass.old }
         ensures pass { IsOf N.board pass.new }
         ensures counts { Counts N.board command N.format (part pass.old) result (part pass.new) }
+        ensures steps { StepsWithout Kind.Sync (part pass.old) (part pass.new) }
     {
         let mut stay = stay;
         let mut locked = self.lock(rt, None, &mut stay);
@@ -169,6 +173,7 @@ impl<D: Disk, G: StepGate, N: Named> Set<D, G, N> {
         ensures pass { IsOf N.board pass.new }
         ensures counts { CountsOn N.board call.old (part pass.old) call.new (part pass.new) }
         ensures stands { StandsAt result.0 call.new }
+        ensures steps { StepsWithout Kind.Sync (part pass.old) (part pass.new) }
         ensures claimed { result.0 ≡ Stage.Busy → HasPlayed Kind.Claim (part pass.old) (part pass.new) }
     {
         let mut kept = kept;
@@ -204,7 +209,7 @@ impl<D: Disk, G: StepGate, N: Named> Set<D, G, N> {
         requires going { reply_at call.old.progress ≡ None }
         ensures pass { IsOf N.board pass.new }
         ensures counts { CountsOn N.board call.old (part pass.old) call.new (part pass.new) }
-        ensures steps { StepsOn (part pass.old) (part pass.new) }
+        ensures steps { kind_of event ≢ Kind.Sync → StepsWithout Kind.Sync (part pass.old) (part pass.new) }
         ensures busy { IsTrue result.0 → StandsAt Stage.Busy call.new × HasPlayed Kind.Claim (part pass.old) (part pass.new) }
     {
         let looked = event;
@@ -242,7 +247,7 @@ impl<D: Disk, G: StepGate, N: Named> Set<D, G, N> {
         requires going { reply_at call.old.progress ≡ None }
         ensures pass { IsOf N.board pass.new }
         ensures counts { CountsOn N.board call.old (part pass.old) call.new (part pass.new) }
-        ensures played { HasPlayed kind (part pass.old) (part pass.new) }
+        ensures played { PlaysOne kind (part pass.old) (part pass.new) }
     {
         let mut locked = self.lock(rt, kept, &mut call.stay);
         locked.turn_on(&self.board, pass, &mut call.caller);
@@ -285,6 +290,7 @@ impl<D: Disk, G: StepGate, N: Named> Set<D, G, N> {
         requires counted { IsCounted N.board call (part pass.old) }
         requires stands { StandsAt Stage.Answers call }
         ensures pass { MayCall N.board pass.new }
+        ensures steps { StepsWithout Kind.Sync (part pass.old) (part pass.new) }
         ensures answers { (c : Asked) (format : Format) (before : Part) → before.sizes ≡ N.board.sizes → Counts N.board c format before call (part pass.old) → Answers format c (reply_of result) before (part pass.new) }
         ensures plain { N.board.sizes.passes ≡ 1 → (c : Asked) (format : Format) (before : Part) → before.sizes ≡ N.board.sizes → Counts N.board c format before call (part pass.old)
             → IsPlainAnswer format N.board.sizes.slots c (reply_of result) (keys_in before.known) (keys_in (part pass.new).known) }

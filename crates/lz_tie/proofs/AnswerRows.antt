@@ -10,6 +10,7 @@ use Rattle.lz_machine.specs.declared.event.Event.TheVariants.{Pin, Reserve, Answ
 use Rattle.lz_machine.specs.declared.event.Outcome.TheVariants.{Done}
 use Rattle.lz_machine.specs.declared.event.Reply.TheVariants.{Yes, Worn, Device}
 use Rattle.lz_machine.specs.Yards.{Shape}
+use Rattle.lz_machine.specs.Halts.{IsLateReply}
 use Rattle.lz_board.specs.declared.view.What.TheVariants.{Called, Played, Found}
 use Rattle.lz_board.specs.declared.view.Note.{Note}
 use Rattle.lz_board.specs.declared.view.Load.{Load}
@@ -19,7 +20,7 @@ use Rattle.lz_board.specs.Notes.{note_by, load_note, splice, pin_after}
 use Rattle.lz_board.specs.Addresses.{index, word_at}
 use Rattle.lz_board.specs.Glances.{Glanced, GlancedUnsettled}
 use Rattle.lz_board.specs.Plays.{fresh, knowing}
-use Rattle.lz_tie.specs.Answers.{Added, AreWithin, IsLateReply, IsOneCall, Met, Removed}
+use Rattle.lz_tie.specs.Answers.{Added, AreWithin, IsOneCall, Met, Removed}
 
 -- key 9 was found in slot 0
 abbrev P0 : Trace

@@ -1,2 +1,3 @@
 pub mod HeldLives
 pub mod HaltedVault
+pub mod ToldFailures

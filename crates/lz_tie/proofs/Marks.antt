@@ -3,6 +3,7 @@ pub mod OneLife
 pub mod RunningSet
 pub mod MarkRows
 pub mod OwnCalls
+pub mod CutCalls
 pub mod ToldCalls
 pub mod GrownMarks
 pub mod WholeHistory

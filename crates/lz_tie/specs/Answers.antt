@@ -13,6 +13,7 @@ use Rattle.lz_machine.specs.declared.event.Outcome.TheVariants.{Done, NoSlot}
 use Rattle.lz_machine.specs.declared.event.Reply.{Reply}
 use Rattle.lz_machine.specs.declared.event.Reply.TheVariants.{Yes, No, Full, Worn, OldFile, Halted, Device}
 use Rattle.lz_machine.specs.declared.caller.Progress.TheVariants.{Answering}
+use Rattle.lz_machine.specs.Halts.{IsLateReply}
 use Rattle.lz_machine.specs.Yards.{Shape}
 use Rattle.lz_machine.specs.Table.{last_pin, is_old}
 use Rattle.lz_slot.specs.Sets.{HasMembers}
@@ -110,13 +111,6 @@ pub record IsOneCall (shape : Shape) (p : ℕ) (format : Format) (c : Command) (
   pub only : AreWithin within
   pub answers : place shape (within ++ note_by p (Called c format) None ∷ []) ≡ Some (c, Answering reply)
 
--- these are the replies to a call that begins after the halt: it changes nothing
-abbrev pub IsLateReply : Reply → Type 0
-IsLateReply Worn = Unit {0}
-IsLateReply OldFile = Unit {0}
-IsLateReply Halted = Unit {0}
-IsLateReply reply = ⊥
-
 -- A pass's part before a call and after it, on a file of this format.
 pub record Answers (format : Format) (c : Command) (reply : Reply) (before after : Part) : Type 0 where
   pub number : after.number ≡ before.number
@@ -127,6 +121,7 @@ pub record Answers (format : Format) (c : Command) (reply : Reply) (before after
   -- what it has seen was lawful; in a set of one pass nothing was changed but by its calls
   pub lawful : Lawful before.sizes.buckets before.sizes.slots after.known
   pub alone : before.sizes.passes ≡ 1 → OnlyOwn before.number before.known after.known
+  -- one that begins after the halt changes nothing
   pub late : halt_word before.known ≡ 1 → IsLateReply reply
 
 -- After two passes have met, each has seen all that either had seen, what one has seen begins what the other has, and all else

@@ -1,7 +1,7 @@
 -- The marks that notes show: what can be seen of the calls from outside. Notes and marks stand newest first.
 use Rattle.std.specs.Prelude.{◌≡◌, ℕ, suc, ◌≤◌, ◌==◌, if◌then◌else◌, List, [], ◌∷◌, ◌++◌, Option, Some, None}
 use Rattle.lz_slot.specs.declared.command.Command.{Command}
-use Rattle.lz_slot.specs.declared.history.Mark.TheVariants.{Call}
+use Rattle.lz_slot.specs.declared.history.Mark.TheVariants.{Call, Cut}
 use Rattle.lz_slot.specs.Histories.{History}
 use Rattle.lz_machine.specs.declared.caller.Progress.{Progress}
 use Rattle.lz_machine.specs.declared.event.Reply.{Reply}
@@ -57,3 +57,9 @@ abbrev pub AreOfPasses : ℕ → History → Type 0
 AreOfPasses passes [] = Unit {0}
 AreOfPasses passes (Call i q c ∷ M) = (1 ≤ q) × (q ≤ passes) × AreOfPasses passes M
 AreOfPasses passes (m ∷ M) = AreOfPasses passes M
+
+-- no call of the history was cut off
+abbrev pub NoneIsCut : History → Type 0
+NoneIsCut [] = Unit {0}
+NoneIsCut (Cut i why ∷ M) = ⊥
+NoneIsCut (m ∷ M) = NoneIsCut M

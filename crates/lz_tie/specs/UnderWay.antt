@@ -8,11 +8,12 @@ use Rattle.lz_allot.specs.declared.counts.Counts.{Counts}
 use Rattle.lz_list.specs.declared.publishing.Publishing.TheVariants.{Linked as linked, Marked as marked, Unlinked as unlinked}
 use Rattle.lz_list.specs.Traces.{Trace, Begins, halt_word, member}
 use Rattle.lz_machine.specs.declared.caller.Progress.{Progress}
-use Rattle.lz_machine.specs.declared.caller.Progress.TheVariants.{Playing, LoadsHalt, Answering}
-use Rattle.lz_machine.specs.declared.caller.Sequence.TheVariants.{Pinning, Adding, Removing, Halting}
+use Rattle.lz_machine.specs.declared.caller.Progress.TheVariants.{Playing, Answering}
+use Rattle.lz_machine.specs.declared.caller.Sequence.TheVariants.{Adding, Removing, Halting}
 use Rattle.lz_machine.specs.declared.event.Outcome.TheVariants.{NoSlot}
 use Rattle.lz_machine.specs.declared.event.Reply.TheVariants.{Yes, Full, OldFile, Halted, Device}
 use Rattle.lz_machine.specs.CallersSound.{is_before_pin, side_of}
+use Rattle.lz_machine.specs.Halts.{IsLate}
 use Rattle.lz_machine.specs.Table.{is_old}
 use Rattle.lz_machine.specs.Yards.{IsInside}
 use Rattle.lz_board.specs.declared.view.What.TheVariants.{Called}
@@ -21,7 +22,7 @@ use Rattle.lz_board.specs.declared.view.Part.{Part}
 use Rattle.lz_board.specs.Notes.{Extends, note_by}
 use Rattle.lz_board.specs.Glances.{Changes}
 use Rattle.lz_board.specs.Seats.{BoardId}
-use Rattle.lz_tie.specs.Answers.{AreWithin, IsLateReply, MayHaveChanged, last_reserve}
+use Rattle.lz_tie.specs.Answers.{AreWithin, MayHaveChanged, last_reserve}
 use Rattle.lz_tie.specs.Holds.{HasCall}
 
 -- its own adding of key k in some slot
@@ -64,13 +65,6 @@ pub record FoundFull (slots passes : ℕ) (counts : Counts) (within : List Note)
   pub free : counts.free ≡ 0
   pub sum : counts.free + counts.taken + counts.limbo ≡ slots
   pub alone : passes ≡ 1 → HasMembers (λ j. member j known) slots
-
--- A call that began after the halt has come no further than the load of the halt word.
-abbrev pub IsLate : Progress → Type 0
-IsLate (Playing Pinning i) = Unit {0}
-IsLate LoadsHalt = Unit {0}
-IsLate (Answering reply) = IsLateReply reply
-IsLate at = ⊥
 
 -- A call of command c, made by the pass that had this part before, has come to `at`; the pass's part is now h.
 pub record UnderWay (b : BoardId) (c : Command) (format : Format) (before : Part) (at : Progress) (h : Part) : Type 0 where

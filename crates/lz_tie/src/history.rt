@@ -1,8 +1,9 @@
 //! What a set that runs says of what its callers have seen.
-ghost use Rattle.std.specs.Prelude.{◌≡◌, ◌∷◌, Some};
+ghost use Rattle.std.specs.Prelude.{◌≡◌, ◌+◌, ◌≤◌, ◌∷◌, Some};
 ghost use Rattle.lz_slot.specs.declared.command.Command.{Command as Asked};
 ghost use Rattle.lz_slot.specs.declared.format.Format.{Format};
 ghost use Rattle.lz_machine.specs.declared.event.Reply.{Reply};
+ghost use Rattle.lz_machine.specs.Halts.{HaltLasts, told_device};
 ghost use Rattle.lz_machine.specs.Marks.{IsTold};
 ghost use Rattle.lz_board.specs.declared.view.Part.{Part};
 ghost use Rattle.lz_board.specs.Notes.{Extends, shape_of_sizes, trace_of};
@@ -23,11 +24,15 @@ use lz_disk::Disk;
 impl<N: Named, D: Disk> Locked<N, D> {
     /// What holds each time the lock is got: whatever a crash leaves of an honest device's disk then holds a set, to which the
     /// calls that were made and answered lead, and in which what was settled is. Each call of that history was made by a
-    /// pass that had none open, and has ended once at most. The notes are a run of the machine, which led to this yard.
+    /// pass that had none open, and has ended once at most; none that was made after another was cut off is answered; and the device
+    /// has failed at least as often as calls were told so. The notes are a run of the machine, which led to this yard.
     pub fn holds(&self)
         ensures history { HasHistory N.board self.now.notes (D.device self.now.disk) }
         ensures told { IsTold (marks_in (shape_of_sizes N.board.sizes) self.now.notes) }
         ensures passes { AreOfPasses N.board.sizes.passes (marks_in (shape_of_sizes N.board.sizes) self.now.notes) }
+        ensures halts { HaltLasts (marks_in (shape_of_sizes N.board.sizes) self.now.notes) }
+        ensures device { told_device (marks_in (shape_of_sizes N.board.sizes) self.now.notes) ≤ 1 }
+        ensures faults { N.first.faults + told_device (marks_in (shape_of_sizes N.board.sizes) self.now.notes) ≤ (D.device self.now.disk).faults }
         ensures locked { IsLocked N.board self.now.notes self.now.yard (D.device self.now.disk) }
     {
         let _ = &self.yard;

@@ -36,7 +36,7 @@ impl<N: Named, D: Disk> Model for Locked<N, D> {
     ghost view = { λ l. record { notes = notes l.pen; yard = l.yard.yard; disk = l.yard.disk } };
 
     ghost invariant = { λ l. IsPenOf N.board l.pen × IsLocked N.board (notes l.pen) l.yard.yard (D.device l.yard.disk)
-        × LeftSince N.board N.first (notes l.pen) (D.device l.yard.disk) × LivesOn N.format N.first l.yard.yard (D.device l.yard.disk) };
+        × LeftSince N.board N.first (notes l.pen) (D.device l.yard.disk) × LivesOn N.format N.first (notes l.pen) l.yard.yard (D.device l.yard.disk) };
 }
 
 impl<N: Named, D: Disk> Locked<N, D> {
@@ -45,7 +45,7 @@ impl<N: Named, D: Disk> Locked<N, D> {
         requires pen { IsPenOf N.board pen }
         requires yard { IsLocked N.board (notes pen) yard.yard (D.device yard.disk) }
         requires left { LeftSince N.board N.first (notes pen) (D.device yard.disk) }
-        requires life { LivesOn N.format N.first yard.yard (D.device yard.disk) }
+        requires life { LivesOn N.format N.first (notes pen) yard.yard (D.device yard.disk) }
         ensures { result ≡ record { notes = notes pen; yard = yard.yard; disk = yard.disk } }
     {
         Locked {
@@ -90,7 +90,7 @@ impl<N: Named, D: Disk> Locked<N, D> {
     pub fn moments(&self)
         ensures left { LeftSince N.board N.first self.now.notes (D.device self.now.disk) }
         ensures explained { ExplainedSince N.board N.first self.now.notes (D.device self.now.disk) }
-        ensures life { LivesOn N.format N.first self.now.yard (D.device self.now.disk) }
+        ensures life { LivesOn N.format N.first self.now.notes self.now.yard (D.device self.now.disk) }
     {
         let _ = &self.yard;
     }
@@ -100,7 +100,7 @@ impl<N: Named, D: Disk> Locked<N, D> {
         ensures disk { result ≡ self.disk }
         ensures left { LeftSince N.board N.first self.notes (D.device result) }
         ensures explained { ExplainedSince N.board N.first self.notes (D.device result) }
-        ensures life { LivesOn N.format N.first self.yard (D.device result) }
+        ensures life { LivesOn N.format N.first self.notes self.yard (D.device result) }
         ensures over { halt_word (trace_of N.board.opened self.notes) ≡ 1 → (last_sync ≤ self.yard.vault.syncs) ⊎ (N.first.faults < (D.device result).faults) }
     {
         self.yard.close()

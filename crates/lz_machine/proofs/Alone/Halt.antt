@@ -147,16 +147,16 @@ pub halted_dead : (start : Start) (steps : List Transition) (service : Service) 
 halted_dead start steps service disk runs state halt = (subst DeadAt state (reached_dead start steps runs)) halt
 
 -- what is about to be answered
-replies : (at : Progress) (reply : Reply) → reply_at at ≡ Some reply → at ≡ Answering reply
+pub replies : (at : Progress) (reply : Reply) → reply_at at ≡ Some reply → at ≡ Answering reply
 replies (Answering other) reply is = ap Answering (same_Some other reply is)
 replies _ reply is = absurd (none-some reply is)
 
-halted_word : (v : View) (c : Command) (P0 P : Trace) (changed : Option ℕ) → Relies v c (Answering Halted) P0 P changed → halt_word P ≡ 1
+pub halted_word : (v : View) (c : Command) (P0 P : Trace) (changed : Option ℕ) → Relies v c (Answering Halted) P0 P changed → halt_word P ≡ 1
 halted_word v (Add k) P0 P changed h = h.0
 halted_word v (Remove k) P0 P changed h = h.0
 halted_word v (Has k) P0 P changed h = h.0
 
-device_word : (v : View) (c : Command) (P0 P : Trace) (changed : Option ℕ) → Relies v c (Answering Device) P0 P changed → halt_word P ≡ 1
+pub device_word : (v : View) (c : Command) (P0 P : Trace) (changed : Option ℕ) → Relies v c (Answering Device) P0 P changed → halt_word P ≡ 1
 device_word v (Add k) P0 P changed h = h.0
 device_word v (Remove k) P0 P changed h = h.0
 device_word v (Has k) P0 P changed h = h.0

@@ -30,7 +30,7 @@ called_before m M i c other (a, inl e) = absurd (false≢true (sym other ∙ ap 
 called_before m M i c other (a, inr there) = (a, there)
 
 -- an open call was made
-open_called : (M : History) (i a : ℕ) → IsOpenCall M i a → (c : Command) × IsCalled M i c
+pub open_called : (M : History) (i a : ℕ) → IsOpenCall M i a → (c : Command) × IsCalled M i c
 open_called (Call j b c ∷ M) i a (inl now) = (c, (b, inl (ap (λ (q : ℕ). Call q b c) now.0)))
 open_called (Call j b c ∷ M) i a (inr before) = let there = open_called M i a before in (there.0, (there.1.0, inr there.1.1))
 open_called (Answer j answer ∷ M) i a h = let there = open_called M i a h.1 in (there.0, (there.1.0, inr there.1.1))
@@ -39,19 +39,19 @@ open_called (Cut j why ∷ M) i a h = let there = open_called M i a h.1 in (ther
 open_called _ i a h = absurd h
 
 -- what the marks and the callers say of each other
-record AreOpen (callers : List (Option Caller)) (M : History) : Type 0 where
-  has : (a : ℕ) (caller : Caller) → caller_at callers a ≡ Some caller → IsOpenCall M caller.number a
-  only : (a i : ℕ) → IsOpenCall M i a → (caller : Caller) × (caller_at callers a ≡ Some caller) × (caller.number ≡ i)
-  apart : (a b i : ℕ) → IsOpenCall M i a → IsOpenCall M i b → a ≡ b
+pub record AreOpen (callers : List (Option Caller)) (M : History) : Type 0 where
+  pub has : (a : ℕ) (caller : Caller) → caller_at callers a ≡ Some caller → IsOpenCall M caller.number a
+  pub only : (a i : ℕ) → IsOpenCall M i a → (caller : Caller) × (caller_at callers a ≡ Some caller) × (caller.number ≡ i)
+  pub apart : (a b i : ℕ) → IsOpenCall M i a → IsOpenCall M i b → a ≡ b
 
-abbrev OpenCalls : State → History → Type 0
+abbrev pub OpenCalls : State → History → Type 0
 OpenCalls (Up service disk) M = (length service.callers ≡ service.yard.shape.passes) × AreOpen service.callers M
 OpenCalls (Down shape disk) M = (a i : ℕ) → IsOpenCall M i a → ⊥
 
-record Tells (calls : ℕ) (w : State) (M : History) : Type 0 where
-  told : IsTold M
-  numbered : (i : ℕ) (c : Command) → IsCalled M i c → i ≤ calls
-  open_calls : OpenCalls w M
+pub record Tells (calls : ℕ) (w : State) (M : History) : Type 0 where
+  pub told : IsTold M
+  pub numbered : (i : ℕ) (c : Command) → IsCalled M i c → i ≤ calls
+  pub open_calls : OpenCalls w M
 
 -- a reply ends its call, and leaves the others
 ends_open : (M : History) (i j a : ℕ) (reply : Reply) → IsOpenCall (mark_of i reply ∷ M) j a → (i ≢ j) × IsOpenCall M j a
@@ -231,7 +231,7 @@ step_tells : (calls : ℕ) (w : State) (M : History) (step : Transition) → May
 step_tells calls (Up service disk) M step may h = up_tells calls service.yard service.callers disk M h step may
 step_tells calls (Down shape disk) M step may h = down_tells calls shape disk M h step may
 
-run_tells : (start : Start) (steps : List Transition) → IsRun (first_point start) steps → Tells (run (first_point start) steps).calls (run (first_point start) steps).state (run (first_point start) steps).marks
+pub run_tells : (start : Start) (steps : List Transition) → IsRun (first_point start) steps → Tells (run (first_point start) steps).calls (run (first_point start) steps).state (run (first_point start) steps).marks
 run_tells start [] runs = record {
   told = tt;
   numbered = λ i c is. absurd is.1;

@@ -22,6 +22,7 @@ use Rattle.lz_machine.specs.CallersSound.{is_before_pin, side_of}
 use Rattle.lz_machine.specs.Laws.{hop_of}
 use Rattle.lz_machine.specs.Orders.{IsLoading}
 use Rattle.lz_machine.specs.Runs.{reply_at}
+use Rattle.lz_machine.specs.Halts.{IsLate}
 use Rattle.lz_board.specs.declared.view.Sizes.{Sizes}
 use Rattle.lz_board.specs.declared.view.What.TheVariants.{Played}
 use Rattle.lz_board.specs.declared.view.Load.{Load}
@@ -35,7 +36,7 @@ use Rattle.lz_board.proofs.Upkeep.Address.{shared_boards, decode}
 use Rattle.lz_board.proofs.Walk.GlanceAnswer.{halt_since}
 use Rattle.std.proofs.lemmas.List.Elements.{filter-append}
 use Rattle.lz_tie.specs.NotedRuns.{IsHopAt}
-use Rattle.lz_tie.specs.UnderWay.{IsLate, OwnAt, UnderWay}
+use Rattle.lz_tie.specs.UnderWay.{OwnAt, UnderWay}
 use Rattle.lz_tie.proofs.Calls.OwnChanges.{calm_none}
 use Rattle.lz_tie.proofs.Calls.NextPlace.{Onward, hop_onward, halt_onward}
 use Rattle.lz_tie.proofs.Calls.CallTurn.{not_old, not_full}

@@ -13,6 +13,7 @@ use Rattle.lz_machine.specs.Calls.{begun, event_at, first_progress}
 use Rattle.lz_machine.specs.CallersSound.{is_before_pin, side_of}
 use Rattle.lz_machine.specs.Orders.{HasPass}
 use Rattle.lz_machine.specs.Table.{is_old}
+use Rattle.lz_machine.specs.Halts.{IsLate}
 use Rattle.lz_board.specs.declared.view.What.TheVariants.{Called}
 use Rattle.lz_board.specs.declared.view.Note.{Note}
 use Rattle.lz_board.specs.declared.view.Load.{Load}
@@ -22,7 +23,7 @@ use Rattle.lz_board.specs.Glances.{Changes}
 use Rattle.lz_board.specs.Seats.{BoardId}
 use Rattle.lz_tie.specs.Holds.{IsIdle, HoldNotes}
 use Rattle.lz_tie.specs.NotedRuns.{AreNext}
-use Rattle.lz_tie.specs.UnderWay.{IsLate, OwnAt, UnderWay}
+use Rattle.lz_tie.specs.UnderWay.{OwnAt, UnderWay}
 use Rattle.lz_tie.proofs.Calls.OwnChanges.{calm, old_none}
 use Rattle.lz_tie.proofs.Calls.NextPlace.{is_full}
 use Rattle.lz_tie.proofs.Calls.CallTurn.{says_old, not_full}

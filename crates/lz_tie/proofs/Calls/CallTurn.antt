@@ -27,6 +27,7 @@ use Rattle.lz_machine.specs.CallersSound.{View, view_of, Relies, IsCaller, is_be
 use Rattle.lz_machine.specs.Laws.{hop_of}
 use Rattle.lz_machine.specs.Orders.{HasPass}
 use Rattle.lz_machine.specs.Runs.{Caller, run, first_point, reply_at}
+use Rattle.lz_machine.specs.Halts.{IsLate}
 use Rattle.lz_machine.proofs.Alone.FullSet.{full_of_one_pass}
 use Rattle.lz_machine.proofs.Frames.OneActor.{caller_range}
 use Rattle.lz_machine.proofs.Theorem.NoSlotCounts.{counts_are_right}
@@ -41,7 +42,7 @@ use Rattle.lz_board.specs.Notes.{note_by, as_list, own, trace_of, load_note, sha
 use Rattle.lz_board.specs.Seats.{BoardId}
 use Rattle.lz_tie.specs.Answers.{IsWithin, last_reserve, reserved_by}
 use Rattle.lz_tie.specs.Holds.{HoldNotes, Turned}
-use Rattle.lz_tie.specs.UnderWay.{IsLate, OwnAt, FoundFull, UnderWay}
+use Rattle.lz_tie.specs.UnderWay.{OwnAt, FoundFull, UnderWay}
 use Rattle.lz_tie.proofs.Reading.PinWords.{is_pinning}
 use Rattle.lz_tie.proofs.Calls.OwnChanges.{calm, calm_none, worn_none, full_none}
 use Rattle.lz_tie.proofs.Calls.TurnResult.{IsRefused, played_or_refused, pin_gives}

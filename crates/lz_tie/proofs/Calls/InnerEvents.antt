@@ -17,7 +17,7 @@ use Rattle.lz_machine.specs.Runs.{reply_at}
 use Rattle.lz_board.specs.declared.view.What.TheVariants.{Played}
 use Rattle.lz_board.specs.Notes.{pin_after_played}
 use Rattle.lz_tie.specs.Answers.{IsWithin}
-use Rattle.lz_tie.specs.UnderWay.{IsLate}
+use Rattle.lz_machine.specs.Halts.{IsLate}
 use Rattle.lz_tie.proofs.Reading.PinWords.{is_pinning}
 use Rattle.lz_tie.proofs.Calls.NextPlace.{IsPlain}
 

@@ -20,6 +20,7 @@ use Rattle.lz_machine.specs.Orders.{HasPass}
 use Rattle.lz_machine.specs.Runs.{reply_at}
 use Rattle.lz_machine.specs.Table.{is_old}
 use Rattle.lz_machine.specs.Yards.{IsInside}
+use Rattle.lz_machine.specs.Halts.{IsLate}
 use Rattle.lz_board.specs.declared.view.Sizes.{Sizes}
 use Rattle.lz_board.specs.declared.view.What.TheVariants.{Called, Played}
 use Rattle.lz_board.specs.declared.view.Note.{Note}
@@ -33,7 +34,7 @@ use Rattle.lz_board.proofs.Upkeep.Splice.{trace_splice}
 use Rattle.lz_tie.specs.Answers.{IsWithin, AreWithin}
 use Rattle.lz_tie.specs.Holds.{HasCall, HoldNotes}
 use Rattle.lz_tie.specs.NotedRuns.{AreNext}
-use Rattle.lz_tie.specs.UnderWay.{IsLate, OwnAt, FoundFull, UnderWay}
+use Rattle.lz_tie.specs.UnderWay.{OwnAt, FoundFull, UnderWay}
 
 -- it has seen all that was published, and last what the hold published
 pub known_after : (opened : Trace) (was is : List Note) (n : Note) (h h' : Part) → HoldNotes opened was is n h h' → h'.known ≡ as_list n.published ++ trace_of opened was

@@ -1,6 +1,6 @@
 -- One hold, from the step of the pass that has joined the pen to what the lock keeps and the pass has.
-use Rattle.std.proofs.Common.{◌≡◌, ◌≢◌, ◌<◌, ◌≤◌, ℕ, suc, Bool, true, false, List, [], ◌∷◌, ◌++◌, refl, sym, ap, ◌∙◌, subst}
-use Rattle.std.specs.Prelude.{if◌then◌else◌, Option, None}
+use Rattle.std.proofs.Common.{◌≡◌, ◌≢◌, ◌<◌, ◌≤◌, ℕ, suc, Bool, true, false, List, [], ◌∷◌, ◌++◌, refl, sym, ap, ◌∙◌, subst, arith}
+use Rattle.std.specs.Prelude.{◌+◌, if◌then◌else◌, Option, None}
 use Rattle.lz_slot.specs.declared.command.Command.{Command}
 use Rattle.lz_slot.specs.declared.format.Format.{Format}
 use Rattle.lz_slot.specs.Limits.{largest_key}
@@ -30,7 +30,7 @@ use Rattle.lz_board.specs.Seats.{BoardId, IsPenOf, notes}
 use Rattle.lz_tie.specs.declared.playing.Turn.{Turn}
 use Rattle.lz_tie.specs.Held.{Began, Gave, Held, IsNextOf, MayAsk, WentOn, found_for}
 use Rattle.lz_tie.specs.Holds.{HoldNotes, InHold, IsIdle, IsLocked, IsTurn, MayTurn, Turned, begins_with, what_of}
-use Rattle.lz_tie.specs.Lives.{KeepsLife, LivesOn}
+use Rattle.lz_tie.specs.Lives.{KeepsLife, LivesOn, faults_in, faults_with}
 use Rattle.lz_tie.specs.Marks.{last_call_number}
 use Rattle.lz_tie.specs.Moments.{MomentsGoOn, LeftSince}
 use Rattle.lz_tie.specs.NotedRuns.{seen_event}
@@ -38,6 +38,7 @@ use Rattle.lz_tie.specs.OnePass.{OnlyOwn}
 use Rattle.lz_tie.proofs.Hold.Joining.{joined_turn, seen_turned}
 use Rattle.lz_tie.proofs.Hold.PinSight.{found_turn}
 use Rattle.lz_tie.proofs.Lives.HeldLives.{life_on}
+use Rattle.lz_tie.proofs.Lives.ToldFailures.{fault_counted, faults_held}
 use Rattle.lz_tie.proofs.Marks.GrownMarks.{call_shows, turn_shows}
 use Rattle.lz_tie.proofs.Moments.HeldMoments.{ComesTo, held_again, hold_explains}
 use Rattle.lz_tie.proofs.Reading.OnePass.{alone_trace, opened_known, own_trace}
@@ -50,6 +51,7 @@ pub record Stepped (b : BoardId) (F : Format) (ns is : List Note) (y y' : Yard) 
   pub locked : IsLocked b is y' dev'
   pub life : KeepsLife y dev y' dev'
   pub device : t.outcome ≡ Fault → dev.faults < dev'.faults
+  pub faults : faults_in is + dev.faults ≤ faults_in ns + dev'.faults
   pub gave : Gave b F ns is t h h' e
 
 -- of what a hold notes only one thing rests on what the pass has seen
@@ -144,8 +146,10 @@ module _ (b : BoardId) (F : Format) (ns found is : List Note) (y y' : Yard) (dev
         opened = opened_known b ns h knows;
       }
 
-  stepped : (e : Event) (t : Turn) → (t.outcome ≡ Fault → dev.faults < dev'.faults) → Gave b F ns is t h h' e → Stepped b F ns is y y' dev dev' e t h h'
-  stepped e t device gave = record { found = found; comes = comes; on = on; locked = hold.locked; life = life; device = device; gave = gave }
+  stepped : (e : Event) (t : Turn) (n : Note) → (t.outcome ≡ Fault → dev.faults < dev'.faults) → faults_with n.what (faults_in found) + dev.faults ≤ faults_in found + dev'.faults → HoldNotes b.opened found is n hj h' → Gave b F ns is t h h' e → Stepped b F ns is y y' dev dev' e t h h'
+  stepped e t n device counted H gave =
+      let held = faults_held b.opened found is n hj h' H in let same = comes.faults in
+      record { found = found; comes = comes; on = on; locked = hold.locked; life = life; device = device; faults = omega (arith, held, same, counted); gave = gave }
 
   abbrev After : Event → Turn → Type 0
   After e t = Stepped b F ns is y y' dev dev' e t h h'
@@ -154,27 +158,27 @@ module _ (b : BoardId) (F : Format) (ns found is : List Note) (y y' : Yard) (dev
   pub stepped_call : (e : Event) (c : Command) → e ≡ Invoke c → (t : Turn) → t ≡ record { outcome = begins_with y.vault.format c; published = None } → y.vault.format ≡ F → h.loads ≡ []
       → (mid : List Note) (q v : ℕ) → mid ≡ ns → found ≡ found_note q v ∷ mid → h.number ≡ q → h.pin ≡ v → HoldNotes b.opened found is (note_by hj.number (Called c y.vault.format) t.published) hj h' → After e t
   stepped_call e c event t gave format none mid q v same at number pin H = subst (λ (x : Event). After x t) (sym event)
-      (stepped (Invoke c) t (λ fault. absurd (no_fault y.vault.format c (ap (λ (x : Turn). x.outcome) (sym gave) ∙ fault))) (began c t gave format none (at ∙ (λ i. found_note (sym number i) (sym pin i) ∷ same i)) H))
+      (stepped (Invoke c) t (note_by hj.number (Called c y.vault.format) t.published) (λ fault. absurd (no_fault y.vault.format c (ap (λ (x : Turn). x.outcome) (sym gave) ∙ fault))) (let more = life.faults in omega (arith, more)) H (began c t gave format none (at ∙ (λ i. found_note (sym number i) (sym pin i) ∷ same i)) H))
 
   -- one of an event that looks at a pin word, and one of any other
   pub stepped_look : (e : Event) (q o v : ℕ) → e ≡ SeePin q o → (t : Turn) → (t.outcome ≡ Fault → dev.faults < dev'.faults) → (mid : List Note) → mid ≡ ns → found ≡ found_note q v ∷ mid → HoldNotes b.opened found is (note_by hj.number (Played (SeePin q v) t.outcome) t.published) hj h'
       → ((c : Calling) → IsTurn found hj c (SeePin q v) → Turned b.opened found hj c.command c.progress (SeePin q v) t.outcome t.published) → After e t
   stepped_look e q o v event t device mid same at H gave = subst (λ (x : Event). After x t) (sym event)
-      (stepped (SeePin q o) t device (went (SeePin q o) (SeePin q v) t (at ∙ ap (λ r. found_note q v ∷ r) same) (λ c next. found_turn mid found h c q o v next at) H gave))
+      (stepped (SeePin q o) t (note_by hj.number (Played (SeePin q v) t.outcome) t.published) device (fault_counted (SeePin q v) t.outcome (faults_in found) dev dev' life.faults device) H (went (SeePin q o) (SeePin q v) t (at ∙ ap (λ r. found_note q v ∷ r) same) (λ c next. found_turn mid found h c q o v next at) H gave))
 
   pub stepped_other : (e : Event) → ((c : Command) → e ≢ Invoke c) → ((q o : ℕ) → e ≢ SeePin q o) → (t : Turn) → (t.outcome ≡ Fault → dev.faults < dev'.faults) → found ≡ ns → HoldNotes b.opened found is (note_by hj.number (what_of y.vault.format e t.outcome) t.published) hj h'
       → ((c : Calling) → IsTurn found hj c e → Turned b.opened found hj c.command c.progress e t.outcome t.published) → After e t
   stepped_other e no_call no_look t device same told gave =
       let H = subst (λ (w : What). HoldNotes b.opened found is (note_by hj.number w t.published) hj h') (other_what y.vault.format e t.outcome no_call) told in
-      stepped e t device (other_gave b F ns is t h h' e no_call (went e e t (found_other e no_look found ns same) (other_turn found h e no_look) H gave))
+      stepped e t (note_by hj.number (Played e t.outcome) t.published) device (fault_counted e t.outcome (faults_in found) dev dev' life.faults device) H (other_gave b F ns is t h h' e no_call (went e e t (found_other e no_look found ns same) (other_turn found h e no_look) H gave))
 
 -- Cut off: what the lock keeps, and what the hold promises.
 module _ (b : BoardId) (F : Format) (first dev dev' : Device) (ns is : List Note) (y y' : Yard) (e : Event) (t : Turn) (h h' h'' : Part) (s : Stepped b F ns is y y' dev dev' e t h h')
     (locked : IsLocked b ns y dev) (pen : Pen) (of_board : IsPenOf b pen) (noted : notes pen ≡ is) where
-  pub keeps : LeftSince b first ns dev → LivesOn F first y dev → IsPenOf b pen × IsLocked b (notes pen) y' dev' × LeftSince b first (notes pen) dev' × LivesOn F first y' dev'
+  pub keeps : LeftSince b first ns dev → LivesOn F first ns y dev → IsPenOf b pen × IsLocked b (notes pen) y' dev' × LeftSince b first (notes pen) dev' × LivesOn F first (notes pen) y' dev'
   keeps left life =
       let kept = held_again b first dev dev' ns s.found is s.comes s.on y y' locked s.locked pen of_board noted left in
-      (kept.0, kept.1, kept.2, life_on F first y y' dev dev' s.life life)
+      (kept.0, kept.1, kept.2, subst (λ (r : List Note). LivesOn F first r y' dev') (sym noted) (life_on F first ns is y y' dev dev' s.life s.faults life))
 
   pub held : h'' ≡ h' → Held b F ns (notes pen) dev dev' e t h h''
   held part = record {

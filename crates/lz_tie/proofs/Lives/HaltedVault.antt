@@ -24,5 +24,5 @@ dead_halted b ns y dev locked halted =
     ap (λ (v : Vaulted). v.dead) tie.yard.vault ∙ halted_dead tie.start tie.steps tie.service tie.medium tie.runs tie.state (there.up.sound.trace.halt ∙ ap halt_word trace ∙ halted)
 
 -- no sync was left, or the device has failed
-pub over_halted : (b : BoardId) (ns : List Note) (y : Yard) (dev first : Device) (F : Format) → IsLocked b ns y dev → LivesOn F first y dev → halt_word (trace_of b.opened ns) ≡ 1 → (last_sync ≤ y.vault.syncs) ⊎ (first.faults < dev.faults)
+pub over_halted : (b : BoardId) (ns : List Note) (y : Yard) (dev first : Device) (F : Format) → IsLocked b ns y dev → LivesOn F first ns y dev → halt_word (trace_of b.opened ns) ≡ 1 → (last_sync ≤ y.vault.syncs) ⊎ (first.faults < dev.faults)
 over_halted b ns y dev first F locked lives halted = lives.dead (dead_halted b ns y dev locked halted)

@@ -1,5 +1,5 @@
 -- One hold: the file's format stays, and a vault dies only for want of a sync or because the device failed.
-use Rattle.std.proofs.Common.{◌≡◌, ◌≢◌, ◌⊎◌, inl, inr, ⊎_elim, ℕ, ◌≤◌, ◌<◌, ◌==◌, Bool, true, false, not, ◌&&◌, refl, sym, ap, ◌∙◌, subst, arith, le_refl}
+use Rattle.std.proofs.Common.{◌≡◌, ◌≢◌, ◌⊎◌, inl, inr, ⊎_elim, ℕ, ◌+◌, ◌≤◌, ◌<◌, ◌==◌, Bool, true, false, List, not, ◌&&◌, refl, sym, ap, ◌∙◌, subst, arith, le_refl}
 use Rattle.std.specs.Prelude.{if◌then◌else◌}
 use Rattle.std.proofs.lemmas.Bool.Decides.{nat_tests}
 use Rattle.lz_slot.specs.declared.format.Format.{Format}
@@ -19,7 +19,8 @@ use Rattle.lz_machine.specs.Runs.{with_words}
 use Rattle.lz_yard.specs.declared.told.Told.{Told}
 use Rattle.lz_yard.specs.Steps.{Played as PlayedOver}
 use Rattle.lz_yard.proofs.Events.KeptFit.{fault_or_not}
-use Rattle.lz_tie.specs.Lives.{LivesOn, KeepsLife}
+use Rattle.lz_board.specs.declared.view.Note.{Note}
+use Rattle.lz_tie.specs.Lives.{LivesOn, KeepsLife, faults_in}
 
 -- only a sync dies by itself, where none is left
 alive_dies : (y : Yard) (a pin : ℕ) (e : Event) → course_alive y a pin e ≡ Dies → is_spent y ≡ true
@@ -81,14 +82,14 @@ held_keeps y y1 z q pin is p e o told dev dev1 dev' same played =
       dead = subst (λ (x : Vaulted × Device). z.vault.dead ≡ true → (x.0.dead ≡ true) ⊎ ((last_sync ≤ z.vault.syncs) ⊎ (x.1.faults < dev'.faults))) (λ i. (vault i, same i)) kept.dead;
     }
 
--- a life goes on over such a step
-pub life_on : (F : Format) (first : Device) (y z : Yard) (dev dev' : Device) → KeepsLife y dev z dev' → LivesOn F first y dev → LivesOn F first z dev'
-life_on F first y z dev dev' kept lives =
+-- a life goes on over such a step, as the notes do
+pub life_on : (F : Format) (first : Device) (ns is : List Note) (y z : Yard) (dev dev' : Device) → KeepsLife y dev z dev' → faults_in is + dev.faults ≤ faults_in ns + dev'.faults → LivesOn F first ns y dev → LivesOn F first is z dev'
+life_on F first ns is y z dev dev' kept counted lives =
     let faults = lives.faults in let more = kept.faults in let syncs = kept.syncs in
     record {
       format = kept.format ∙ lives.format;
       honest = kept.honest ∙ lives.honest;
-      faults = omega (arith, faults, more);
+      faults = omega (arith, faults, counted);
       dead = λ dead. ⊎_elim
           (λ was. ⊎_elim (λ spent. inl (omega (arith, spent, syncs))) (λ failed. inr (omega (arith, failed, more))) (lives.dead was))
           (λ now. ⊎_elim (λ spent. inl spent) (λ failed. inr (omega (arith, failed, faults))) now)

@@ -5,14 +5,15 @@ use Rattle.lz_slot.specs.declared.command.Command.TheVariants.{Add, Has}
 use Rattle.lz_slot.specs.declared.format.Format.TheVariants.{Two}
 use Rattle.lz_slot.specs.declared.history.Mark.TheVariants.{Call, Answer as answer, Refused}
 use Rattle.lz_slot.specs.declared.history.Refusal.TheVariants.{Full}
-use Rattle.lz_list.specs.declared.word.Word.TheVariants.{Head, Link, Key, Halt}
-use Rattle.lz_machine.specs.declared.event.Event.TheVariants.{Pin, Answer}
-use Rattle.lz_machine.specs.declared.event.Outcome.TheVariants.{Done}
+use Rattle.lz_list.specs.declared.word.Word.TheVariants.{Head, Link, Key, Halt as HaltWord}
+use Rattle.lz_machine.specs.declared.event.Event.TheVariants.{Pin, WriteOpen, Answer, Halt}
+use Rattle.lz_machine.specs.declared.event.Outcome.TheVariants.{Done, Fault, Dead}
 use Rattle.lz_machine.specs.declared.event.Reply.TheVariants.{Yes}
 use Rattle.lz_machine.specs.Yards.{Shape}
 use Rattle.lz_board.specs.declared.view.What.TheVariants.{Called, Played, Found}
 use Rattle.lz_board.specs.declared.view.Note.{Note}
 use Rattle.lz_board.specs.Notes.{note_by, load_note, steps_of}
+use Rattle.lz_tie.specs.Lives.{faults_in}
 use Rattle.lz_tie.specs.Marks.{calls_in, last_call_number, marks_in, Shows, AreOfPasses}
 use Rattle.lz_tie.specs.OwnCalls.{AsAnswered, AsRefused, SeenCall, calls_of, told}
 
@@ -30,7 +31,7 @@ abbrev answered : List Note
 answered =
     note_by 2 (Played Answer Done) None
     ∷ load_note 2 (record { word = Link 0; value = 8589934592; at = 4 }) ∷ load_note 2 (record { word = Key 0; value = 9; at = 4 })
-    ∷ load_note 2 (record { word = Head 0; value = 1; at = 4 }) ∷ load_note 2 (record { word = Halt; value = 0; at = 4 }) ∷ both
+    ∷ load_note 2 (record { word = Head 0; value = 1; at = 4 }) ∷ load_note 2 (record { word = HaltWord; value = 0; at = 4 }) ∷ both
 
 calls_are : marks_in shape both ≡ Call 2 1 (Add 12) ∷ Call 1 2 (Has 9) ∷ []
 calls_are = refl
@@ -58,6 +59,13 @@ calls_count = refl
 
 number_is : last_call_number 2 answered ≡ 1
 number_is = refl
+
+-- a step whose device call failed counts, and no other
+fails_once : faults_in (note_by 2 (Played WriteOpen Fault) None ∷ answered) ≡ 1
+fails_once = refl
+
+fails_never : faults_in (note_by 2 (Played Halt Dead) None ∷ answered) ≡ 0
+fails_never = refl
 
 -- an Answer without a call shows nothing
 nothing_shown : marks_in shape (note_by 1 (Played Answer Done) None ∷ []) ≡ []

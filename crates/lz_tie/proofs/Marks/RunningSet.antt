@@ -52,7 +52,7 @@ module _ (b : BoardId) (ns : List Note) (start : Start) (steps : List Transition
   shape_is : shape_of_sizes b.sizes ≡ start.shape
   shape_is = ap shape_of_sizes sizes
 
-  reached : Reached start (Up service medium) marks (trace_of b.opened ns)
+  pub reached : Reached start (Up service medium) marks (trace_of b.opened ns)
   reached = record {
     steps = steps;
     starts = starts;
@@ -91,6 +91,9 @@ pub locked_sizes : (b : BoardId) (ns : List Note) (y : Yard) (dev : Device) (loc
 locked_sizes b ns y dev locked =
     let tie = locked.tied in
     locked.sizes ∙ ap sizes_of (tie.yard.shape ∙ subst (λ (w : State). shape_in w ≡ tie.start.shape) tie.state (run_keeps_shape (first_point tie.start) tie.steps))
+
+pub locked_reached : (b : BoardId) (ns : List Note) (y : Yard) (dev : Device) (locked : IsLocked b ns y dev) → Reached locked.tied.start (Up locked.tied.service locked.tied.medium) (marks_in (shape_of_sizes b.sizes) ns) (trace_of b.opened ns)
+locked_reached b ns y dev locked = let tie = locked.tied in reached b ns tie.start tie.steps (locked_sizes b ns y dev locked) tie.starts tie.runs tie.reads tie.begins tie.service tie.medium tie.state
 
 pub history_of : (b : BoardId) (ns : List Note) (y : Yard) (dev : Device) → IsLocked b ns y dev → HasHistory b ns dev
 history_of b ns y dev locked = λ honest t image.

@@ -6,22 +6,23 @@ use Rattle.lz_disk.specs.Images.{Medium}
 use Rattle.lz_slot.specs.Histories.{History}
 use Rattle.lz_machine.specs.declared.event.Reply.{Reply}
 use Rattle.lz_machine.specs.declared.event.Reply.TheVariants.{Yes, No, Full, Worn, OldFile, Halted, Device as device_failed}
+use Rattle.lz_machine.specs.Halts.{HaltLasts}
 use Rattle.lz_machine.specs.Marks.{IsTold}
 use Rattle.lz_machine.specs.Runs.{Start, State, Up, Service, Caller, Transition, Calls, Turn, Fails, run, IsRun, MayStep, first_point, caller_at, mark_of, mark_of_turn}
 use Rattle.lz_machine.specs.Yards.{Shape, Yard}
 use Rattle.lz_machine.proofs.Frames.OneActor.{caller_range}
+use Rattle.lz_machine.proofs.Theorem.LateCalls.{halts_last}
 use Rattle.lz_machine.proofs.Theorem.Marks.{marks_tell}
 use Rattle.lz_board.specs.declared.view.What.{What}
 use Rattle.lz_board.specs.declared.view.What.TheVariants.{Called, Played, Found}
 use Rattle.lz_board.specs.declared.view.Note.{Note}
-use Rattle.lz_board.specs.Notes.{place, shape_of_sizes, steps_of}
+use Rattle.lz_board.specs.Notes.{place, shape_of_sizes, steps_of, trace_of}
 use Rattle.lz_board.specs.Seats.{BoardId}
 use Rattle.lz_tie.specs.NotedRuns.{TellsTurn, TellsFault, TellsStep, TellsOne, TellsOf, ReadsAs}
 use Rattle.lz_tie.specs.Holds.{IsLocked}
 use Rattle.lz_tie.specs.Marks.{last_call_number, reply_in, marks_with, marks_in, AreOfPasses}
 use Rattle.lz_tie.proofs.Reading.CallPlaces.{Placed, place_reads, run_before}
-use Rattle.lz_tie.proofs.Marks.RunMarks.{marks_read}
-use Rattle.lz_tie.proofs.Marks.RunningSet.{locked_sizes}
+use Rattle.lz_tie.proofs.Marks.RunningSet.{locked_reached, locked_sizes}
 
 -- the note is by one of the passes
 abbrev InRange : ℕ → Note → Type 0
@@ -91,11 +92,11 @@ module _ (b : BoardId) (ns : List Note) (y : Yard) (dev : Device) (locked : IsLo
 
   -- the marks stand in the order of a run
   pub history_told : IsTold (marks_in (shape_of_sizes b.sizes) ns)
-  history_told =
-      let tie = locked.tied in
-      let p = run (first_point tie.start) tie.steps in
-      subst IsTold ((marks_read tie.start ns tie.steps tie.runs tie.reads).0 ∙ ap (λ (s : Shape). marks_in s ns) shape_is)
-      (marks_tell tie.start p.state p.marks p.trace record { steps = tie.steps; starts = tie.starts; runs = tie.runs; state = refl; marks = refl; trace = refl })
+  history_told = marks_tell locked.tied.start (Up locked.tied.service locked.tied.medium) (marks_in (shape_of_sizes b.sizes) ns) (trace_of b.opened ns) (locked_reached b ns y dev locked)
+
+  -- a call that was made after another was cut off isn't answered
+  pub history_halts : HaltLasts (marks_in (shape_of_sizes b.sizes) ns)
+  history_halts = halts_last locked.tied.start (Up locked.tied.service locked.tied.medium) (marks_in (shape_of_sizes b.sizes) ns) (trace_of b.opened ns) (locked_reached b ns y dev locked)
 
   -- and each call is one of a pass
   pub history_passes : AreOfPasses b.sizes.passes (marks_in (shape_of_sizes b.sizes) ns)

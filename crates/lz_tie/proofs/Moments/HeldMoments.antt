@@ -23,6 +23,7 @@ use Rattle.lz_board.specs.Seats.{BoardId, IsPenOf, notes}
 use Rattle.lz_board.proofs.Upkeep.Splice.{trace_splice}
 use Rattle.lz_tie.specs.NotedRuns.{AreNext}
 use Rattle.lz_tie.specs.Holds.{IsLocked, InHold, MayTurn}
+use Rattle.lz_tie.specs.Lives.{faults_in}
 use Rattle.lz_tie.specs.RunningSets.{Explains}
 use Rattle.lz_tie.specs.Marks.{calls_in, marks_in, marks_with, last_call_number}
 use Rattle.lz_tie.specs.Moments.{IsLeftBy, LeftSince, GrowsTo, MomentsGoOn, HoldExplains, ExplainsBegun, ExplainedSince}
@@ -100,9 +101,10 @@ pub record ComesTo (b : BoardId) (ns was : List Note) : Type 0 where
   pub marks : (shape : Shape) → marks_in shape was ≡ marks_in shape ns
   pub number : (p : ℕ) → last_call_number p was ≡ last_call_number p ns
   pub calls : calls_in was ≡ calls_in ns
+  pub faults : faults_in was ≡ faults_in ns
 
 pub comes : (b : BoardId) (ns ns' : List Note) → ns' ≡ ns → ComesTo b ns ns'
-comes b ns ns' notes = subst (ComesTo b ns) (sym notes) (record { left = λ t l. l; grows = same_grows b ns; trace = refl; marks = λ shape. refl; number = λ p. refl; calls = refl })
+comes b ns ns' notes = subst (ComesTo b ns) (sym notes) (record { left = λ t l. l; grows = same_grows b ns; trace = refl; marks = λ shape. refl; number = λ p. refl; calls = refl; faults = refl })
 
 pub finds : (b : BoardId) (q v : ℕ) (ns mid was : List Note) → mid ≡ ns → was ≡ found_note q v ∷ mid → ComesTo b ns was
 finds b q v ns mid was same found = subst (ComesTo b ns) (sym (found ∙ ap (λ r. found_note q v ∷ r) same)) record {
@@ -112,6 +114,7 @@ finds b q v ns mid was same found = subst (ComesTo b ns) (sym (found ∙ ap (λ 
   marks = λ shape. refl;
   number = λ p. refl;
   calls = refl;
+  faults = refl;
 }
 
 -- What might have been left goes on over a hold, from the lock's notes ns to these.

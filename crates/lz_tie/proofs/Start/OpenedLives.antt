@@ -1,5 +1,5 @@
 -- A set's life as it begins: its vault isn't dead.
-use Rattle.std.proofs.Common.{ℕ, refl, sym, ◌∙◌, le_refl}
+use Rattle.std.proofs.Common.{ℕ, [], refl, sym, ◌∙◌, arith}
 use mathlib.Core.Bool.{false≢true}
 use Rattle.lz_disk.specs.Devices.{Device}
 use Rattle.lz_machine.specs.Yards.{Yard}
@@ -7,10 +7,10 @@ use Rattle.lz_yard.specs.Filling.{OpensYard}
 use Rattle.lz_tie.specs.Lives.{LivesOn}
 
 -- since the open was done
-pub now_lives : (before after : Device) (buckets passes : ℕ) (y : Yard) → OpensYard before after buckets passes y → LivesOn y.vault.format after y after
+pub now_lives : (before after : Device) (buckets passes : ℕ) (y : Yard) → OpensYard before after buckets passes y → LivesOn y.vault.format after [] y after
 now_lives before after buckets passes y opens = record {
   format = refl;
   honest = refl;
-  faults = le_refl after.faults;
+  faults = omega arith;
   dead = λ dead. absurd (false≢true (sym opens.vault.fresh.1 ∙ dead));
 }

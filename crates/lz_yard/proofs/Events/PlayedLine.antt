@@ -1,57 +1,21 @@
 -- A line from what became of its event.
-use Rattle.std.proofs.Common.{◌≡◌, ◌≢◌, ℕ, Bool, true, false, refl, ap, sym, ◌∙◌, subst, List, []}
-use Rattle.std.specs.Prelude.{Option, Some, None, IfSome, Ok, Err, if◌then◌else◌, option_to_list}
+use Rattle.std.proofs.Common.{◌≡◌, ◌≢◌, ℕ, refl, ap, sym, ◌∙◌, subst, []}
+use Rattle.std.specs.Prelude.{Option, None, IfSome, Ok, Err, option_to_list}
 use Rattle.lz_disk.specs.Devices.{Device}
 use Rattle.lz_vault.specs.Vaults.{DeviceCall, NoCall, Succeeds, Fails, died}
 use Rattle.lz_vault.specs.declared.vault.VaultFault.{VaultFault}
-use Rattle.lz_allot.specs.Uses.{Use, lowest_free, collect}
-use Rattle.lz_list.specs.Locks.{is_pair_free, check}
 use Rattle.lz_list.specs.Lists.{IsWord}
 use Rattle.lz_list.specs.declared.word.Word.{Word}
 use Rattle.lz_machine.specs.declared.event.Event.{Event}
-use Rattle.lz_machine.specs.declared.event.Event.TheVariants.{Invoke, Pin, Hop, Reserve, WriteKey, Claim, Check, WriteOpen, Link, WriteClose, Mark, Release, Sync, Settle, Unlink, Retire, SeePin, Answer, Halt}
 use Rattle.lz_machine.specs.declared.event.Outcome.{Outcome}
-use Rattle.lz_machine.specs.declared.event.Outcome.TheVariants.{Done, Taken, Busy, True, False, Early, OldFile, Fault, Dead}
+use Rattle.lz_machine.specs.declared.event.Outcome.TheVariants.{Fault, Dead}
 use Rattle.lz_machine.specs.declared.course.Course.TheVariants.{Refused, Dies, Plays}
-use Rattle.lz_machine.specs.declared.actor.Actor.{Actor}
 use Rattle.lz_machine.specs.Yards.{Yard, actor_at}
-use Rattle.lz_machine.specs.Table.{course, call_of, call_on, line, line_call, line_changes, line_on, line_publishes, changed_on, published_on, outcome_of, slot_found, is_sure, with_vault, is_old}
+use Rattle.lz_machine.specs.Table.{course, call_of, call_on, line, line_call, line_changes, line_on, line_publishes, changed_on, published_on, with_vault}
+use Rattle.lz_machine.proofs.Runs.Outcomes.{dead_no_fault, no_fault}
 use Rattle.lz_yard.specs.Steps.{IsDone, Played, Tells, nothing_told, value_of}
 use Rattle.lz_yard.specs.declared.told.Told.{Told}
 use Rattle.lz_yard.specs.Parts.{Known, Does}
-
-slot_no_fault : (o : Option ℕ) (uses : List Use) → slot_found o uses ≢ Fault
-slot_no_fault (Some s) uses = λ h. cc
-slot_no_fault None uses = λ h. cc
-
-dead_no_fault : Dead ≢ Fault
-dead_no_fault = λ h. cc
-
-bool_no_fault : (b : Bool) (x y : Outcome) → x ≢ Fault → y ≢ Fault → (if b then x else y) ≢ Fault
-bool_no_fault true x y p q = p
-bool_no_fault false x y p q = q
-
--- what an event that is done answers is no fault
-pub no_fault : (y : Yard) (actor : Actor) (e : Event) → outcome_of y actor e ≢ Fault
-no_fault y actor (Invoke c) = bool_no_fault (is_old y.vault.format c) OldFile Done (λ h. cc) (λ h. cc)
-no_fault y actor Pin = λ h. cc
-no_fault y actor (Hop word) = λ h. cc
-no_fault y actor Reserve = slot_no_fault (lowest_free (collect y.uses)) (collect y.uses)
-no_fault y actor (WriteKey k) = λ h. cc
-no_fault y actor (Claim pred curr) = bool_no_fault (is_pair_free y.locks pred curr) Taken Busy (λ h. cc) (λ h. cc)
-no_fault y actor Check = bool_no_fault (check y.words actor.pred actor.curr) True False (λ h. cc) (λ h. cc)
-no_fault y actor WriteOpen = λ h. cc
-no_fault y actor Link = λ h. cc
-no_fault y actor WriteClose = λ h. cc
-no_fault y actor Mark = λ h. cc
-no_fault y actor Release = λ h. cc
-no_fault y actor (Sync s) = λ h. cc
-no_fault y actor (Settle s) = bool_no_fault (is_sure y s) Done Early (λ h. cc) (λ h. cc)
-no_fault y actor Unlink = λ h. cc
-no_fault y actor Retire = λ h. cc
-no_fault y actor (SeePin p value) = λ h. cc
-no_fault y actor Answer = λ h. cc
-no_fault y actor Halt = λ h. cc
 
 module _ (y : Yard) (a : ℕ) (e : Event) where
   -- it is played, and done

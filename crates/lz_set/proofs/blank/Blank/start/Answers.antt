@@ -19,4 +19,6 @@ new-locked-requires-clause-left g c =
     (subst (λ disk. LeftSince g.N.Named.board g.N.Named.first [] (g.D.Disk.device disk)) (sym (ap (λ v. v.disk) c.self.view_is)) c.requires.since)
 
 pub new-locked-requires-clause-life : goal.new-locked-requires-clause-life
-new-locked-requires-clause-life g c = subst (λ v. LivesOn g.N.Named.format g.N.Named.first v.yard (g.D.Disk.device v.disk)) (sym c.self.view_is) c.requires.life
+new-locked-requires-clause-life g c =
+    subst (λ (ns : List Note). LivesOn g.N.Named.format g.N.Named.first ns c.self.inside.yard.yard (g.D.Disk.device c.self.inside.yard.disk)) (sym c.self.invariant.notes)
+    (subst (λ v. LivesOn g.N.Named.format g.N.Named.first [] v.yard (g.D.Disk.device v.disk)) (sym c.self.view_is) c.requires.life)

@@ -1,5 +1,8 @@
-use Rattle.std.proofs.Common.{sym, subst}
+use Rattle.std.proofs.Common.{◌+◌, ◌≤◌, sym, subst}
+use Rattle.lz_machine.specs.Halts.{told_device}
+use Rattle.lz_board.specs.Notes.{shape_of_sizes}
 use Rattle.lz_tie.specs.Holds.{IsLocked}
+use Rattle.lz_tie.specs.Marks.{marks_in}
 use Rattle.lz_tie.specs.RunningSets.{HasHistory}
 use Rattle.lz_set.proofs.set.Set.close.Goals as goal
 
@@ -14,8 +17,10 @@ returns g c =
           now = subst (λ disk. HasHistory g.N.Named.board ns (g.D.Disk.device disk)) (sym c.close.ensures.disk) c.holds.ensures.history;
           ever = c.close.ensures.explained;
           honest = c.close.ensures.life.honest;
-          faults = c.close.ensures.life.faults;
           told = c.holds.ensures.told;
+          halts = c.holds.ensures.halts;
+          device = c.holds.ensures.device;
+          faults = subst (λ disk. g.N.Named.first.faults + told_device (marks_in (shape_of_sizes g.N.Named.board.sizes) ns) ≤ (g.D.Disk.device disk).faults) (sym c.close.ensures.disk) c.holds.ensures.faults;
           passes = c.holds.ensures.passes;
           yard = yard;
           locked = subst (λ disk. IsLocked g.N.Named.board ns yard (g.D.Disk.device disk)) (sym c.close.ensures.disk) c.holds.ensures.locked;

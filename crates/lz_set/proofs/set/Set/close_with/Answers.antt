@@ -1,10 +1,12 @@
-use Rattle.std.proofs.Common.{◌≡◌, List, All, map, sym, ap, subst}
+use Rattle.std.proofs.Common.{◌≡◌, ◌+◌, ◌≤◌, List, All, map, sym, ap, subst}
+use Rattle.lz_machine.specs.Halts.{told_device}
 use Rattle.lz_board.specs.declared.view.Note.{Note}
 use Rattle.lz_board.specs.declared.view.Part.{Part}
-use Rattle.lz_board.specs.Notes.{Extends, trace_of}
+use Rattle.lz_board.specs.Notes.{Extends, shape_of_sizes, trace_of}
 use Rattle.lz_board.specs.Plays.{knowing}
 use Rattle.lz_board.specs.Seats.{part}
 use Rattle.lz_tie.specs.Holds.{IsLocked}
+use Rattle.lz_tie.specs.Marks.{marks_in}
 use Rattle.lz_tie.specs.RunningSets.{HasHistory}
 use Rattle.lz_set.specs.Left.{IsWelcome}
 use Rattle.lz_set.proofs.set.Set.close_with.Goals as goal
@@ -22,8 +24,10 @@ returns-clause-left g c =
         now = subst (λ disk. HasHistory b ns (g.D.Disk.device disk)) (sym c.close.ensures.disk) c.holds.ensures.history;
         ever = c.close.ensures.explained;
         honest = c.close.ensures.life.honest;
-        faults = c.close.ensures.life.faults;
         told = c.holds.ensures.told;
+        halts = c.holds.ensures.halts;
+        device = c.holds.ensures.device;
+        faults = subst (λ disk. g.N.Named.first.faults + told_device (marks_in (shape_of_sizes b.sizes) ns) ≤ (g.D.Disk.device disk).faults) (sym c.close.ensures.disk) c.holds.ensures.faults;
         passes = c.holds.ensures.passes;
         yard = yard;
         locked = subst (λ disk. IsLocked b ns yard (g.D.Disk.device disk)) (sym c.close.ensures.disk) c.holds.ensures.locked;

@@ -5,8 +5,8 @@ use Rattle.lz_machine.specs.Kinds.{kind_of}
 use Rattle.lz_machine.specs.Orders.{Calling, shape_with}
 use Rattle.lz_board.specs.Seats.{part}
 use Rattle.lz_tie.specs.Counting.{CountsOn}
-use Rattle.lz_set.specs.Stages.{HasPlayed}
-use Rattle.lz_set.proofs.Plays.{has_played}
+use Rattle.lz_set.specs.Stages.{PlaysOne}
+use Rattle.lz_set.proofs.Plays.{plays_one}
 use Rattle.lz_set.proofs.set.Set.hold.Goals as goal
 
 pub returns-clause-counts : goal.returns-clause-counts
@@ -15,6 +15,6 @@ returns-clause-counts g c =
 
 pub returns-clause-played : goal.returns-clause-played
 returns-clause-played g c =
-    subst (λ (kind : Kind). HasPlayed kind (part c.args.pass.now) (part c.turn_on.new.pass))
+    subst (λ (kind : Kind). PlaysOne kind (part c.args.pass.now) (part c.turn_on.new.pass))
     (ap (λ (k : Calling). kind_of (event_at (shape_with k) k.command k.progress)) c.call.view_is ∙ sym c.requires.kind)
-    (has_played _ _ _ _ _ _ _ c.turn_on.ensures.advanced)
+    (plays_one _ _ _ _ _ _ _ c.turn_on.ensures.advanced)

@@ -1,11 +1,11 @@
 use Rattle.std.proofs.Common.{◌≡◌, true, Option, Some, None, is_some, refl, sym, ap, ◌∙◌}
 use mathlib.Core.Bool.{false≢true}
 use Rattle.lz_machine.specs.declared.event.Reply.{Reply}
-use Rattle.lz_machine.specs.declared.kind.Kind.TheVariants.{Claim}
+use Rattle.lz_machine.specs.declared.kind.Kind.TheVariants.{Claim, Sync}
 use Rattle.lz_machine.specs.Orders.{Calling}
 use Rattle.lz_machine.specs.Runs.{reply_at}
 use Rattle.lz_board.specs.Seats.{part}
-use Rattle.lz_set.proofs.Plays.{played_then, steps_then}
+use Rattle.lz_set.proofs.Plays.{not_sync, played_then, without_then}
 use Rattle.lz_set.proofs.set.Set.play.Goals as goal
 
 some_is : (o : Option Reply) → is_some o ≡ true → (reply : Reply) × (o ≡ Some reply)
@@ -28,11 +28,15 @@ returns-then-is_busy-clause-counts g c = λ asked format before counts.
 
 pub returns-then-is_busy-clause-claimed : goal.returns-then-is_busy-clause-claimed
 returns-then-is_busy-clause-claimed g c = λ busy.
-    played_then Claim (part c.args.pass.now) (part c.loop.pass) (part c.turn-is_busy.new.pass) c.loop.invariant.steps (c.turn-is_busy.ensures.busy c.if-is_busy.true).1
+    played_then Claim (part c.args.pass.now) (part c.loop.pass) (part c.turn-is_busy.new.pass) (c.loop.invariant.steps.0, c.loop.invariant.steps.1) (c.turn-is_busy.ensures.busy c.if-is_busy.true).1
+
+pub returns-then-is_busy-clause-steps : goal.returns-then-is_busy-clause-steps
+returns-then-is_busy-clause-steps g c =
+    without_then Sync (part c.args.pass.now) (part c.loop.pass) (part c.turn-is_busy.new.pass) c.loop.invariant.steps (c.turn-is_busy.ensures.steps (not_sync c.next-event.result c.in_default.not-Sync))
 
 pub loop-preserved : goal.loop-preserved
 loop-preserved g c = record {
   pass = c.turn-is_busy.ensures.pass;
-  steps = steps_then (part c.args.pass.now) (part c.loop.pass) (part c.turn-is_busy.new.pass) c.loop.invariant.steps c.turn-is_busy.ensures.steps;
+  steps = without_then Sync (part c.args.pass.now) (part c.loop.pass) (part c.turn-is_busy.new.pass) c.loop.invariant.steps (c.turn-is_busy.ensures.steps (not_sync c.next-event.result c.in_default.not-Sync));
   counts = λ asked format before counts. c.turn-is_busy.ensures.counts asked format before (c.loop.invariant.counts asked format before counts);
 }

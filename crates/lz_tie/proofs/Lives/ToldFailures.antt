@@ -1,0 +1,89 @@
+-- How many steps of the notes failed: a load is none of them, and a hold's step is one only where the device failed in it.
+use Rattle.std.proofs.Common.{◌≡◌, ◌<◌, ℕ, zero, suc, ◌+◌, ◌≤◌, List, [], ◌∷◌, ◌++◌, refl, sym, ap, ◌∙◌, subst, arith}
+use Rattle.std.specs.Prelude.{replicate, Option, Some, None}
+use Rattle.lz_disk.specs.Devices.{Device}
+use Rattle.lz_list.specs.Traces.{Trace}
+use Rattle.lz_machine.specs.declared.event.Event.{Event}
+use Rattle.lz_machine.specs.declared.event.Outcome.{Outcome}
+use Rattle.lz_machine.specs.declared.event.Outcome.TheVariants.{Fault}
+use Rattle.lz_machine.specs.Halts.{failed_in, told_device}
+use Rattle.lz_machine.specs.Runs.{State, Up, Down, Service, Caller, Point, Transition, Calls, Turn, Fails, Looks, caller_at, first_point, run}
+use Rattle.lz_machine.specs.Yards.{Yard}
+use Rattle.lz_machine.proofs.Theorem.DeviceFailures.{fails_once}
+use Rattle.lz_board.specs.declared.view.What.{What}
+use Rattle.lz_board.specs.declared.view.What.TheVariants.{Called, Played, Found}
+use Rattle.lz_board.specs.declared.view.Note.{Note}
+use Rattle.lz_board.specs.declared.view.Load.{Load}
+use Rattle.lz_board.specs.declared.view.Part.{Part}
+use Rattle.lz_board.specs.declared.view.Sizes.{Sizes}
+use Rattle.lz_board.specs.Notes.{insert_load, shape_of_sizes, splice}
+use Rattle.lz_board.specs.Seats.{BoardId}
+use Rattle.lz_board.proofs.Upkeep.Splice.{at_place}
+use Rattle.lz_tie.specs.Holds.{HoldNotes, IsLocked}
+use Rattle.lz_tie.specs.Lives.{faults_in, faults_with}
+use Rattle.lz_tie.specs.Marks.{marks_in}
+use Rattle.lz_tie.specs.NotedRuns.{ReadsAs, TellsFault, TellsOne, TellsOf, TellsStep}
+use Rattle.lz_tie.proofs.Marks.RunMarks.{marks_read}
+use Rattle.lz_tie.proofs.Marks.RunningSet.{locked_sizes}
+
+module _ (opened : Trace) (p : ℕ) where
+  faults_insert : (h : Load) (ns : List Note) → faults_in (insert_load opened p h ns) ≡ faults_in ns
+  faults_insert h [] = refl
+  faults_insert h (x ∷ xs) = at_place opened (λ r. faults_in r ≡ faults_in (x ∷ xs)) p h x xs (λ _. ap (faults_with x.what) (faults_insert h xs)) (λ _. refl)
+
+  faults_splice : (hs : List Load) (ns : List Note) → faults_in (splice opened p hs ns) ≡ faults_in ns
+  faults_splice [] ns = refl
+  faults_splice (h ∷ hs) ns = faults_insert h (splice opened p hs ns) ∙ faults_splice hs ns
+
+-- after a hold's step
+pub faults_held : (opened : Trace) (was is : List Note) (n : Note) (h h' : Part) → HoldNotes opened was is n h h' → faults_in is ≡ faults_with n.what (faults_in was)
+faults_held opened was is n h h' holds = ap faults_in holds.notes ∙ ap (faults_with n.what) (faults_splice opened h.number h.loads was)
+
+pub fault_counted : (e : Event) (o : Outcome) (faults : ℕ) (old new : Device) → old.faults ≤ new.faults → (o ≡ Fault → old.faults < new.faults) → faults_with (Played e o) faults + old.faults ≤ faults + new.faults
+fault_counted e Fault faults old new more device = let risen = device refl in omega (arith, risen)
+fault_counted e o faults old new more device = omega (arith, more)
+
+-- the run as which notes are read
+more_faults : (w : What) (faults : ℕ) → faults ≤ faults_with w faults
+more_faults (Played e Fault) faults = omega arith
+more_faults w faults = omega arith
+
+fault_failed : (service : Service) (q : Option Caller) (n : Note) (faults : ℕ) → TellsFault service q n → faults_with n.what faults ≡ suc faults
+fault_failed service None n faults tells = absurd tells
+fault_failed service (Some caller) n faults tells = ap (λ (w : What). faults_with w faults) tells.0
+
+step_failed : (w : State) (n : Note) (step : Transition) (before : List Transition) (faults : ℕ) → TellsStep w n step → failed_in before ≤ faults → failed_in (step ∷ before) ≤ faults_with n.what faults
+step_failed (Up service disk) n (Calls a c) before faults tells past = let more = more_faults n.what faults in omega (arith, more, past)
+step_failed (Up service disk) n (Turn a) before faults tells past = let more = more_faults n.what faults in omega (arith, more, past)
+step_failed (Up service disk) n (Fails a new) before faults tells past = let is = fault_failed service (caller_at service.callers a) n faults tells.1 in omega (arith, is, past)
+step_failed (Up service disk) n _ before faults tells past = absurd tells
+step_failed (Down shape disk) n _ before faults tells past = absurd tells
+
+looks_failed : (k q : ℕ) (before : List Transition) → failed_in (replicate k (Looks q) ++ before) ≡ failed_in before
+looks_failed zero q before = refl
+looks_failed (suc k) q before = looks_failed k q before
+
+failed_read : (p : Point) (ns : List Note) (steps : List Transition) → ReadsAs p ns steps → failed_in steps ≤ faults_in ns
+failed_read p [] steps reads = let none = ap failed_in reads in omega (arith, none)
+failed_read p (n ∷ ns) steps (new, before, is, tells, rest) = subst (λ (l : List Transition). failed_in l ≤ faults_with n.what (faults_in ns)) (sym is) (go n.what (failed_read p ns before rest) tells)
+  where
+    one : failed_in before ≤ faults_in ns → TellsOne (run p before).state n new → failed_in (new ++ before) ≤ faults_with n.what (faults_in ns)
+    one past t = subst (λ (l : List Transition). failed_in (l ++ before) ≤ faults_with n.what (faults_in ns)) (sym t.steps) (step_failed (run p before).state n t.step before (faults_in ns) t.tells past)
+
+    go : (what : What) → failed_in before ≤ faults_in ns → TellsOf (run p before).state n what new → failed_in (new ++ before) ≤ faults_with n.what (faults_in ns)
+    go (Called c format) past t = one past t
+    go (Played e o) past t = one past t
+    go (Found q v) past t =
+        let none = ap (λ (l : List Transition). failed_in (l ++ before)) t.2.steps ∙ looks_failed t.2.looks q before in
+        let more = more_faults n.what (faults_in ns) in
+        omega (arith, none, more, past)
+
+-- At most one call is told that the device failed, and only where a step did.
+pub failures_told : (b : BoardId) (ns : List Note) (y : Yard) (dev : Device) → IsLocked b ns y dev
+    → (told_device (marks_in (shape_of_sizes b.sizes) ns) ≤ 1) × (told_device (marks_in (shape_of_sizes b.sizes) ns) ≤ faults_in ns)
+failures_told b ns y dev locked =
+    let tie = locked.tied in
+    let all = fails_once tie.start tie.steps tie.runs in
+    let shows = (marks_read tie.start ns tie.steps tie.runs tie.reads).0 ∙ ap (λ (z : Sizes). marks_in (shape_of_sizes z) ns) (sym (locked_sizes b ns y dev locked)) in
+    let once = all.0 in let told = all.1 in let same = ap told_device shows in let read = failed_read (first_point tie.start) ns tie.steps tie.reads in
+    (omega (arith, once, told, same), omega (arith, told, read, same))
