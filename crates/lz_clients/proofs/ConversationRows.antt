@@ -1,9 +1,8 @@
 -- Worked conversations.
-use Rattle.std.proofs.Common.{◌≡◌, ℕ, List, [], ◌∷◌, ◌++◌, Some, None, false, refl, sym, subst, ◌∙◌, arith, codes}
+use Rattle.std.proofs.Common.{◌≡◌, ℕ, List, [], ◌∷◌, ◌++◌, ◌+◌, suc, length, Option, Some, None, false, refl, sym, ap, subst, ◌∙◌, arith, codes, length-append}
 use Rattle.std.proofs.lemmas.List.{append-nil}
-use Rattle.std.proofs.lemmas.List.Elements.{All-nil, All-cons, All-contains}
 use Rattle.lz_proto.specs.declared.request.Request.{Request}
-use Rattle.lz_proto.specs.declared.request.Request.TheVariants.{Add, Has}
+use Rattle.lz_proto.specs.declared.request.Request.TheVariants.{Add, Has, Quit}
 use Rattle.lz_proto.specs.declared.fault.Bad.TheVariants.{NoNumber}
 use Rattle.lz_proto.specs.declared.item.Item.{Item}
 use Rattle.lz_proto.specs.declared.item.Item.TheVariants.{Asks, Faulty}
@@ -15,18 +14,23 @@ use Rattle.lz_proto.specs.Pieces.{Reads}
 use Rattle.lz_proto.specs.Sessions.{Serves, session_text}
 use Rattle.lz_proto.proofs.LineReads.{item_read}
 use Rattle.lz_proto.proofs.Texts.{only}
-use Rattle.lz_clients.specs.Conversations.{IsAt, IsIn, given}
+use Rattle.lz_board.specs.declared.pass.Pass.{Pass}
+use Rattle.lz_serve.specs.Grants.{Grant}
+use Rattle.lz_clients.specs.Conversations.{IsAt, IsGranted}
 
 -- a request and a fault
-abbrev lines : List ℕ
+abbrev pub lines : List ℕ
 lines = codes "add 1\nhas x\n"
 
 abbrev items : List Item
 items = Asks (Add 1) ∷ Faulty NoNumber ∷ []
 
--- the promise that the request gets this reply
-abbrev gets : Reply → Request → Reply → Type 0
-gets reply = IsIn ((Add 1, reply) ∷ [])
+-- the request was granted this reply, and nothing else was
+abbrev get : Pass → Reply → Grant
+get pass reply = record { question = record { connection = 1; line = 1; request = Add 1; before = pass }; reply = reply; after = pass }
+
+abbrev gets : Pass → Reply → List Grant
+gets pass reply = get pass reply ∷ []
 
 lines_read : Reads lines items (Some [])
 lines_read = (
@@ -37,23 +41,23 @@ lines_read = (
 )
 
 -- the lines came, and nothing was carried out
-has_come : IsAt (gets Yes) lines [] (record { kept = Some []; whole = false; waiting = items; asked = None; unsent = []; ended = ends.Done })
+has_come : IsAt [] lines [] (record { kept = Some []; whole = false; waiting = items; asked = None; unsent = []; ended = ends.Done })
 has_come = record { done = []; came = lines_read; answered = record { replies = []; served = refl; text = refl; ends = refl } }
 
 -- the request is asked
-is_asked : IsAt (gets Yes) lines [] (record { kept = Some []; whole = false; waiting = Faulty NoNumber ∷ []; asked = Some (Add 1); unsent = []; ended = ends.Done })
+is_asked : IsAt [] lines [] (record { kept = Some []; whole = false; waiting = Faulty NoNumber ∷ []; asked = Some (Add 1); unsent = []; ended = ends.Done })
 is_asked = record { done = []; came = lines_read; answered = record { replies = []; served = refl; text = refl; ends = refl } }
 
 -- its reply is to be sent
-is_replied : IsAt (gets Yes) lines [] (record { kept = Some []; whole = false; waiting = Faulty NoNumber ∷ []; asked = None; unsent = codes "yes\n"; ended = ends.Done })
-is_replied = record { done = Asks (Add 1) ∷ []; came = lines_read; answered = record { replies = Yes ∷ []; served = (tt, (0, omega arith, refl), refl); text = refl; ends = refl } }
+is_replied : (p : Pass) → IsAt (gets p Yes) lines [] (record { kept = Some []; whole = false; waiting = Faulty NoNumber ∷ []; asked = None; unsent = codes "yes\n"; ended = ends.Done })
+is_replied p = record { done = Asks (Add 1) ∷ []; came = lines_read; answered = record { replies = Yes ∷ []; served = (gets p Yes, (get p Yes, refl, refl, refl), refl); text = refl; ends = refl } }
 
 -- the fault was told too, and a part of both texts was sent
-is_half_sent : IsAt (gets Yes) lines (codes "yes\nba") (record { kept = Some []; whole = false; waiting = []; asked = None; unsent = codes "d 3\n"; ended = ends.Done })
-is_half_sent = record { done = items; came = lines_read; answered = record { replies = Yes ∷ []; served = (tt, (0, omega arith, refl), refl); text = refl; ends = refl } }
+is_half_sent : (p : Pass) → IsAt (gets p Yes) lines (codes "yes\nba") (record { kept = Some []; whole = false; waiting = []; asked = None; unsent = codes "d 3\n"; ended = ends.Done })
+is_half_sent p = record { done = items; came = lines_read; answered = record { replies = Yes ∷ []; served = (gets p Yes, (get p Yes, refl, refl, refl), refl); text = refl; ends = refl } }
 
-is_sent : IsAt (gets Yes) lines (codes "yes\nbad 3\n") (record { kept = Some []; whole = false; waiting = []; asked = None; unsent = []; ended = ends.Done })
-is_sent = record { done = items; came = lines_read; answered = record { replies = Yes ∷ []; served = (tt, (0, omega arith, refl), refl); text = refl; ends = refl } }
+is_sent : (p : Pass) → IsAt (gets p Yes) lines (codes "yes\nbad 3\n") (record { kept = Some []; whole = false; waiting = []; asked = None; unsent = []; ended = ends.Done })
+is_sent p = record { done = items; came = lines_read; answered = record { replies = Yes ∷ []; served = (gets p Yes, (get p Yes, refl, refl, refl), refl); text = refl; ends = refl } }
 
 -- What must not hold.
 
@@ -74,8 +78,8 @@ fault_begins : (replies : List Reply) → codes "yes\nbad 3\n" ≡ session_text 
 fault_begins replies e = cc
 
 -- a reply's text before that of an earlier fault
-not_before_a_fault : ¬ IsAt (gets Yes) (codes "has x\nadd 1\n") [] (record { kept = Some []; whole = false; waiting = []; asked = None; unsent = codes "yes\nbad 3\n"; ended = ends.Done })
-not_before_a_fault at =
+not_before_a_fault : (grants : List Grant) → ¬ IsAt grants (codes "has x\nadd 1\n") [] (record { kept = Some []; whole = false; waiting = []; asked = None; unsent = codes "yes\nbad 3\n"; ended = ends.Done })
+not_before_a_fault grants at =
     let done = only_items (codes "has x\nadd 1\n") (Faulty NoNumber ∷ Asks (Add 1) ∷ []) at.done turned_read at.came in
     fault_begins at.answered.replies (subst (λ (all : List Item). codes "yes\nbad 3\n" ≡ session_text all at.answered.replies) done at.answered.text)
 
@@ -89,31 +93,88 @@ ends_there (Worn ∷ replies) e = cc
 ends_there (OldFile ∷ replies) e = cc
 
 -- a text after `halted`
-not_after_halted : ¬ IsAt (gets Halted) lines [] (record { kept = Some []; whole = false; waiting = []; asked = None; unsent = codes "halted\nbad 3\n"; ended = ends.Halted })
-not_after_halted at =
+not_after_halted : (grants : List Grant) → ¬ IsAt grants lines [] (record { kept = Some []; whole = false; waiting = []; asked = None; unsent = codes "halted\nbad 3\n"; ended = ends.Halted })
+not_after_halted grants at =
     let done = only_items lines items at.done lines_read at.came in
     ends_there at.answered.replies (subst (λ (all : List Item). codes "halted\nbad 3\n" ≡ session_text all at.answered.replies) done at.answered.text)
 
 has_read : Reads (codes "has 1\n") (Asks (Has 1) ∷ []) (Some [])
 has_read = (refl, λ rest more its. line (codes "has 1") (Asks (Has 1)) rest more refl (item_read (codes "has 1")) (λ e. cc) its)
 
-no_reply : (reply : Reply) → gets Yes (Has 1) reply → ⊥
-no_reply reply held =
-    let of_add : Has 1 ≡ Add 1 =
-    All-contains (λ (pair : Request × Reply). pair.0 ≡ Add 1) ((Add 1, Yes) ∷ []) (Has 1, reply) (All-cons (λ (pair : Request × Reply). pair.0 ≡ Add 1) (Add 1, Yes) [] refl (All-nil (λ (pair : Request × Reply). pair.0 ≡ Add 1))) held in
-    cc
+abbrev first_request : List Grant → Option Request
+first_request [] = None
+first_request (g ∷ grants) = Some g.question.request
 
-unserved : (replies : List Reply) → Serves (given (gets Yes)) tt (Asks (Has 1) ∷ []) replies tt → ⊥
-unserved [] s = s
-unserved (Yes ∷ replies) s = no_reply Yes s.1
-unserved (No ∷ replies) s = no_reply No s.1
-unserved (Full ∷ replies) s = no_reply Full s.1
-unserved (Halted ∷ replies) s = no_reply Halted s.0
-unserved (Worn ∷ replies) s = no_reply Worn s.1
-unserved (OldFile ∷ replies) s = no_reply OldFile s.1
+no_reply : (p : Pass) (reply : Reply) (mid : List Grant) → IsGranted [] (Has 1) reply mid → gets p Yes ≡ mid → ⊥
+no_reply p reply mid so is =
+    let first : Some (Add 1) ≡ Some so.0.question.request = ap first_request (is ∙ so.1) in
+    let other = so.2 in
+    absurd (cc)
 
--- a reply that is promised for another request
-not_of_another : ¬ IsAt (gets Yes) (codes "has 1\n") [] (record { kept = Some []; whole = false; waiting = []; asked = None; unsent = codes "yes\n"; ended = ends.Done })
-not_of_another at =
+unserved : (p : Pass) (replies : List Reply) → Serves IsGranted [] (Asks (Has 1) ∷ []) replies (gets p Yes) → ⊥
+unserved p [] s = s
+unserved p (Yes ∷ []) s = no_reply p Yes s.0 s.1 s.2
+unserved p (No ∷ []) s = no_reply p No s.0 s.1 s.2
+unserved p (Full ∷ []) s = no_reply p Full s.0 s.1 s.2
+unserved p (Halted ∷ replies) s = no_reply p Halted (gets p Yes) s.0 refl
+unserved p (Worn ∷ []) s = no_reply p Worn s.0 s.1 s.2
+unserved p (OldFile ∷ []) s = no_reply p OldFile s.0 s.1 s.2
+unserved p (Yes ∷ r ∷ replies) s = s.2
+unserved p (No ∷ r ∷ replies) s = s.2
+unserved p (Full ∷ r ∷ replies) s = s.2
+unserved p (Worn ∷ r ∷ replies) s = s.2
+unserved p (OldFile ∷ r ∷ replies) s = s.2
+
+-- a reply that was granted to another request
+not_of_another : (p : Pass) → ¬ IsAt (gets p Yes) (codes "has 1\n") [] (record { kept = Some []; whole = false; waiting = []; asked = None; unsent = codes "yes\n"; ended = ends.Done })
+not_of_another p at =
     let done = only_items (codes "has 1\n") (Asks (Has 1) ∷ []) at.done has_read at.came in
-    unserved at.answered.replies (subst (λ (all : List Item). Serves (given (gets Yes)) tt all at.answered.replies tt) done at.answered.served)
+    unserved p at.answered.replies (subst (λ (all : List Item). Serves IsGranted [] all at.answered.replies (gets p Yes)) done at.answered.served)
+
+abbrev both : List Item
+both = Asks (Add 1) ∷ Asks (Add 1) ∷ []
+
+both_read : Reads (codes "add 1\nadd 1\n") both (Some [])
+both_read = (
+  refl,
+  λ rest more its.
+      line (codes "add 1") (Asks (Add 1)) (codes "add 1\n" ++ rest) (Asks (Add 1) ∷ more) refl (item_read (codes "add 1")) (λ e. cc)
+      (line (codes "add 1") (Asks (Add 1)) rest more refl (item_read (codes "add 1")) (λ e. cc) its),
+)
+
+-- there are as many grants as replies
+as_many : (old new : List Grant) (asked : List Item) (replies : List Reply) → Serves IsGranted old asked replies new → length new ≡ length old + length replies
+as_many old new [] [] s = let e : length new ≡ length old = ap (λ (x : List Grant). length x) s in omega (arith, e)
+as_many old new [] (reply ∷ replies) s = absurd s
+as_many old new (Faulty bad ∷ asked) replies s = as_many old new asked replies s
+as_many old new (Asks Quit ∷ asked) [] s = let e : length new ≡ length old = ap (λ (x : List Grant). length x) s in omega (arith, e)
+as_many old new (Asks Quit ∷ asked) (reply ∷ replies) s = absurd s
+as_many old new (Asks request ∷ asked) [] s = absurd s
+as_many old new (Asks request ∷ asked) (Halted ∷ replies) s =
+    let e : length new ≡ length old + 1 = ap (λ (x : List Grant). length x) s.0.1 ∙ length-append old (s.0.0 ∷ []) in
+    let n : length replies ≡ 0 = ap (λ (x : List Reply). length x) s.1 in
+    omega (arith, e, n)
+as_many old new (Asks request ∷ asked) (reply ∷ replies) s =
+    let e : length s.0 ≡ length old + 1 = ap (λ (x : List Grant). length x) s.1.1 ∙ length-append old (s.1.0 ∷ []) in
+    let n : length new ≡ length s.0 + length replies = as_many s.0 new asked replies s.2 in
+    omega (arith, e, n)
+
+not_two : (p : Pass) (first second : Reply) (replies : List Reply) → Serves IsGranted [] both (first ∷ second ∷ replies) (gets p Yes) → ⊥
+not_two p first second replies s = let n : 1 ≡ 0 + suc (suc (length replies)) = as_many [] (gets p Yes) both (first ∷ second ∷ replies) s in absurd (omega (arith, n))
+
+one_for_two : (p : Pass) (replies : List Reply) → Serves IsGranted [] both replies (gets p Yes) → codes "yes\nyes\n" ≡ session_text both replies → ⊥
+one_for_two p [] s e = s
+one_for_two p (Halted ∷ replies) s e = cc
+one_for_two p (Yes ∷ []) s e = s.2
+one_for_two p (No ∷ []) s e = s.2
+one_for_two p (Full ∷ []) s e = s.2
+one_for_two p (Worn ∷ []) s e = s.2
+one_for_two p (OldFile ∷ []) s e = s.2
+one_for_two p (first ∷ second ∷ replies) s e = not_two p first second replies s
+
+-- two lines that ask the same, of which one was granted a reply
+not_both_by_one : (p : Pass) → ¬ IsAt (gets p Yes) (codes "add 1\nadd 1\n") [] (record { kept = Some []; whole = false; waiting = []; asked = None; unsent = codes "yes\nyes\n"; ended = ends.Done })
+not_both_by_one p at =
+    let done = only_items (codes "add 1\nadd 1\n") both at.done both_read at.came in
+    one_for_two p at.answered.replies (subst (λ (all : List Item). Serves IsGranted [] all at.answered.replies (gets p Yes)) done at.answered.served)
+    (subst (λ (all : List Item). codes "yes\nyes\n" ≡ session_text all at.answered.replies) done at.answered.text)

@@ -1,5 +1,5 @@
+pub mod Askers
 pub mod ConversationRows
-pub mod Promises
 pub mod Standings
 pub mod StreamRows
 pub mod TalksOnStreams

@@ -1,17 +1,16 @@
 -- Worked rows of what a stream gives and takes, most of which must not hold.
 use Rattle.std.proofs.Common.{◌≡◌, ℕ, Bool, true, false, List, [], ◌∷◌, ◌++◌, Option, Some, None, refl, sym, ◌∙◌, subst}
 use mathlib.Core.Bool.{true≢false}
-use Rattle.lz_proto.specs.declared.request.Request.{Request}
-use Rattle.lz_proto.specs.declared.reply.Reply.{Reply}
 use Rattle.lz_proto.specs.declared.item.Item.{Item}
 use Rattle.lz_proto.specs.declared.end.End.{End}
 use Rattle.lz_proto.specs.Lines.{nothing}
 use Rattle.lz_proto.specs.Pieces.{Reads}
 use Rattle.lz_proto.specs.Sessions.{Answered}
 use Rattle.lz_proto.proofs.Texts.{only, some_items}
+use Rattle.lz_serve.specs.Grants.{Grant}
 use Rattle.lz_clients.specs.declared.stream.Received.TheVariants as received
 use Rattle.lz_clients.specs.declared.stream.Taken.TheVariants as taken
-use Rattle.lz_clients.specs.Conversations.{CameFrom, asked_items, given}
+use Rattle.lz_clients.specs.Conversations.{CameFrom, IsGranted, asked_items}
 use Rattle.lz_clients.specs.Streams.{IsFresh, MayTake, Receives, Takes, Traffic}
 
 -- of three bytes two were taken
@@ -39,17 +38,17 @@ no_items items (Some left) reads =
     let more = some_items (left ++ []) in
     empty_front items more.0 (only [] [] nothing (items ++ more.0) (reads.1 [] more.0 more.1))
 
-silent : (P : Request → Reply → Type 0) (done : List Item) (written : List ℕ) (ended : End) → done ≡ [] → Answered (given P) tt done tt written ended → written ≡ []
-silent P [] written ended none answered = answered.text
-silent P (item ∷ done) written ended none answered = absurd (cc)
+silent : (grants : List Grant) (done : List Item) (written : List ℕ) (ended : End) → done ≡ [] → Answered IsGranted [] done grants written ended → written ≡ []
+silent grants [] written ended none answered = answered.text
+silent grants (item ∷ done) written ended none answered = absurd (cc)
 
 -- something is told to a client that has sent nothing
-told_unasked : (P : Request → Reply → Type 0) (text : List ℕ) → MayTake P (Some (record { received = []; ended = false; taken = [] })) (1 ∷ text) → ⊥
+told_unasked : (P : List Grant → Type 0) (text : List ℕ) → MayTake P (Some (record { received = []; ended = false; taken = [] })) (1 ∷ text) → ⊥
 told_unasked P text may =
     let t = may.0 in
-    let at = may.1.0 in
-    let came : CameFrom false [] (at.done ++ (asked_items t.asked ++ t.waiting)) t.kept = subst (λ (whole : Bool). CameFrom whole [] (at.done ++ (asked_items t.asked ++ t.waiting)) t.kept) may.1.1 at.came in
+    let at = may.1.2 in
+    let came : CameFrom false [] (at.done ++ (asked_items t.asked ++ t.waiting)) t.kept = subst (λ (whole : Bool). CameFrom whole [] (at.done ++ (asked_items t.asked ++ t.waiting)) t.kept) may.1.3 at.came in
     let none : at.done ≡ [] = empty_front at.done (asked_items t.asked ++ t.waiting) (no_items (at.done ++ (asked_items t.asked ++ t.waiting)) t.kept came) in
-    let unsent : t.unsent ≡ [] = silent P at.done t.unsent t.ended none at.answered in
+    let unsent : t.unsent ≡ [] = silent may.1.0 at.done t.unsent t.ended none at.answered in
     let begins = may.3 in
     absurd (cc)

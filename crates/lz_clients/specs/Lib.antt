@@ -1,2 +1,3 @@
 pub mod Conversations
 pub mod Streams
+pub mod Clients

@@ -1,7 +1,6 @@
 -- What a stream has given and taken, and what it may be given to take.
 use Rattle.std.specs.Prelude.{◌≡◌, ℕ, Bool, true, false, List, [], ◌++◌, take, ⊤, Option, None, Some}
-use Rattle.lz_proto.specs.declared.request.Request.{Request}
-use Rattle.lz_proto.specs.declared.reply.Reply.{Reply}
+use Rattle.lz_serve.specs.Grants.{Grant}
 use Rattle.lz_clients.specs.Conversations.{IsAt, Talk}
 use Rattle.lz_clients.specs.declared.stream.Received.{Received}
 use Rattle.lz_clients.specs.declared.stream.Received.TheVariants as received
@@ -40,13 +39,13 @@ Takes (Some t) after taken.Later text = after ≡ Some t
 Takes (Some t) after taken.Failed text = after ≡ Some t
 
 -- The conversation is that of the stream: it came of all that was received, all that it told was taken or is still to be sent, and each
--- of its replies is one that is promised for its request.
-abbrev pub IsTalkOf : (Request → Reply → Type 0) → Option Traffic → Talk → Type 0
+-- of its replies was granted, in an order that is promised.
+abbrev pub IsTalkOf : (List Grant → Type 0) → Option Traffic → Talk → Type 0
 IsTalkOf P None t = ⊤
-IsTalkOf P (Some traffic) t = IsAt P traffic.received traffic.taken t × (t.whole ≡ traffic.ended)
+IsTalkOf P (Some traffic) t = (grants : List Grant) × P grants × IsAt grants traffic.received traffic.taken t × (t.whole ≡ traffic.ended)
 
 -- the text is the next to be sent in a conversation of the stream
-abbrev pub MayTake : (Request → Reply → Type 0) → Option Traffic → List ℕ → Type 0
+abbrev pub MayTake : (List Grant → Type 0) → Option Traffic → List ℕ → Type 0
 MayTake P traffic text = (t : Talk) × IsTalkOf P traffic t × (rest : List ℕ) × (t.unsent ≡ text ++ rest)
 
 -- nothing has come and nothing was sent yet

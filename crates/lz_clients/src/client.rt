@@ -1,19 +1,25 @@
 //! One client of the loop.
-ghost use Rattle.std.specs.Prelude.{◌≡◌, ◌≢◌, ◌≤◌, IfSome, None, Some, length};
-ghost use Rattle.lz_proto.specs.declared.request.Request.{Request as Asked};
+ghost use Rattle.std.specs.Prelude.{◌≡◌, ◌+◌, ◌≤◌, ◌++◌, [], ◌∷◌, IfSome, List, None, Some, length};
+ghost use Rattle.lz_serve.specs.Grants.{Grant, IsGrant};
 ghost use Rattle.lz_clients.specs.Streams.{IsFresh};
 
 use crate::conversation::Conversation;
 use crate::stream::{Received, Stream, Taken};
-use lz_proto::{Reply, Request};
+use lz_serve::{Granted, Question};
+use lz_set::{Named, Pass};
 use std::alloc::Global;
 use std::marker::Model;
+use std::snapshot::Snapshot;
 
 /// A connection with its conversation. What is sent on it is what the conversation tells.
 #[derive(Drop)]
 pub struct Client<S: Stream> {
     stream: S,
     talk: Conversation,
+    /// The connection's number, how many lines were asked, and the pass to which the newest was put, as it was then.
+    connection: u64,
+    lines: u64,
+    by: Option<Snapshot<Pass>>,
     /// The client's text has ended.
     ended: bool,
     /// The connection is lost, or memory was missing for what came: nothing more is sent.
@@ -21,13 +27,13 @@ pub struct Client<S: Stream> {
 }
 
 impl<S: Stream> Model for Client<S> {
-    ghost use Rattle.std.specs.Prelude.{◌≡◌, false};
-    ghost use Rattle.lz_clients.specs.Conversations.{Talk};
+    ghost use Rattle.std.specs.Prelude.{◌≡◌, false, option_map};
+    ghost use Rattle.lz_clients.specs.Clients.{Asker, question_of};
     ghost use Rattle.lz_clients.specs.Streams.{IsTalkOf};
 
-    ghost Value = { Talk };
+    ghost Value = { Asker };
 
-    ghost view = { λ c. c.talk };
+    ghost view = { λ c. record { connection = c.connection; lines = c.lines; asked = question_of c.connection c.lines (option_map (λ by. by.value) c.by) c.talk.asked } };
 
     ghost invariant = { λ c. (c.ended ≡ false → c.talk.whole ≡ false) × (c.lost ≡ false → IsTalkOf S.promised (S.traffic c.stream) c.talk) };
 }
@@ -35,14 +41,27 @@ impl<S: Stream> Model for Client<S> {
 impl<S: Stream> Client<S> {
     /// A client of which nothing has come yet.
     pub fn new(alloc: Global, stream: S) -> Client<S>
-        requires { IsFresh (S.traffic stream) }
+        requires fresh { IsFresh (S.traffic stream) }
+        requires promised { S.promised [] }
+        ensures { result ≡ record { connection = 0; lines = 0; asked = None } }
     {
         Client {
             stream,
             talk: Conversation::new(alloc),
+            connection: 0,
+            lines: 0,
+            by: None,
             ended: false,
             lost: false,
         }
+    }
+
+    /// Its connection has this number from now on.
+    pub(crate) fn number(&mut self, connection: u64)
+        requires { self.old.asked ≡ None }
+        ensures { self.new ≡ record self.old { connection = connection } }
+    {
+        self.connection = connection;
     }
 
     /// Reads a piece, if there is one, and says whether there may be more. The buffer has room for one.
@@ -76,7 +95,7 @@ impl<S: Stream> Client<S> {
 
     /// Sends what is unsent, until the connection takes no more.
     pub fn write(&mut self)
-        ensures { self.new.asked ≡ self.old.asked }
+        ensures { self.new ≡ self.old }
     {
         'tries: for _ in 0..u64::MAX {
             if !self.send() {
@@ -87,7 +106,7 @@ impl<S: Stream> Client<S> {
 
     // Sends a beginning of what is unsent, if something is, and says whether some was taken.
     fn send(&mut self) -> bool
-        ensures { self.new.asked ≡ self.old.asked }
+        ensures { self.new ≡ self.old }
     {
         if self.lost || self.talk.unsent().is_empty() {
             return false;
@@ -105,16 +124,25 @@ impl<S: Stream> Client<S> {
         }
     }
 
-    /// The request that is to be answered next, if one has come. The faults before it are told.
-    pub fn ask(&mut self) -> Option<Request>
-        ensures asked { IfSome result (λ request. self.new.asked ≡ Some request) }
-        ensures quit { IfSome result (λ request. request ≢ Request.Quit) }
+    /// The request that is to be answered next, if one has come and none is being answered, as a question to this pass. The faults
+    /// before it are told.
+    pub fn ask(&mut self, pass: &Pass) -> Option<Question>
+        ensures asked { IfSome result (λ question. (self.old.asked ≡ None) × (self.new.asked ≡ Some question)) }
+        ensures before { IfSome result (λ question. question.before ≡ pass.now) }
+        ensures lines { IfSome result (λ question. self.new.lines ≡ self.old.lines + 1) }
+        ensures connection { self.new.connection ≡ self.old.connection }
+        ensures none { result ≡ None → self.new ≡ self.old }
     {
-        if self.lost || self.talk.asked().is_some() {
+        if self.lost || self.talk.asked().is_some() || self.lines == u64::MAX {
             return None;
         }
         match self.talk.next() {
-            Ok(request) => request,
+            Ok(Some(request)) => {
+                self.lines += 1;
+                self.by = Some(Snapshot::of(pass));
+                Some(Question::new(self.connection, self.lines, request, pass))
+            }
+            Ok(None) => None,
             Err(_) => {
                 self.lost = true;
                 None
@@ -122,10 +150,12 @@ impl<S: Stream> Client<S> {
         }
     }
 
-    /// Tells the reply to the request that was asked.
-    pub fn reply(&mut self, reply: Reply)
-        requires { (request : Asked) × (self.old.asked ≡ Some request) × S.promised request reply }
+    /// Tells the reply that was granted to the question that was asked.
+    pub fn reply<N: Named>(&mut self, granted: Granted<N>)
+        requires asked { self.old.asked ≡ Some granted.question }
+        requires promised { (grants : List Grant) → S.promised grants → IsGrant N.board N.format granted → S.promised (grants ++ granted ∷ []) }
     {
+        let reply = granted.reply();
         match self.talk.reply(reply) {
             Ok(()) => {}
             Err(_) => self.lost = true,

@@ -2,7 +2,7 @@
 ghost use Rattle.std.specs.Prelude.{◌≡◌, ◌≢◌, ◌↔◌, ◌⊎◌, ◌≤◌, [], ◌∷◌, ◌++◌, length, drop, Some, None, true, false, IfOk, OnOk, OnErr, IfSome, IsNone, IsTrue};
 ghost use Rattle.lz_proto.specs.Sessions.{bad_text, reply_text};
 ghost use Rattle.lz_proto.specs.Steps.{end_after};
-ghost use Rattle.lz_clients.specs.Conversations.{Fed, GoesOn, IsAt, IsIn, IsOver, Replied, Sent, nothing_yet};
+ghost use Rattle.lz_clients.specs.Conversations.{Fed, GoesOn, IsAt, IsOver, Replied, Sent, nothing_yet};
 
 use lz_proto::{Bad, End, Item, Lines, Reply, Request, bad_text, reply_text};
 use std::alloc::{AllocError, Global};
@@ -44,7 +44,7 @@ impl Model for Conversation {
 impl Conversation {
     pub fn new(alloc: Global) -> Conversation
         ensures nothing { result ≡ nothing_yet }
-        ensures begins { IsAt (IsIn []) [] [] result }
+        ensures begins { IsAt [] [] [] result }
     {
         Conversation {
             lines: Some(Lines::new(alloc)),

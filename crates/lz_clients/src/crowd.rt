@@ -1,10 +1,11 @@
 //! The clients of the loop.
-ghost use Rattle.std.specs.Prelude.{◌≡◌, ◌≢◌, IfSome, Some};
+ghost use Rattle.std.specs.Prelude.{◌≡◌, IfSome, None, Some};
 
 use crate::client::Client;
 use crate::place::{Place, Wish};
 use crate::stream::Stream;
-use lz_proto::Request;
+use lz_serve::Question;
+use lz_set::Pass;
 use std::alloc::{AllocError, Global};
 use std::collections::VecDeque;
 use std::time::Duration;
@@ -96,12 +97,16 @@ impl<S: Stream> Crowd<S> {
         self.vacant.last().copied()
     }
 
-    /// Admits a client under the token that `vacancy` gave.
-    pub fn admit(&mut self, client: Client<S>, buffer: &mut [u8]) {
+    /// Admits a client under the token that `vacancy` gave. Its number is how many were admitted.
+    pub fn admit(&mut self, client: Client<S>, buffer: &mut [u8])
+        requires { client.asked ≡ None }
+    {
         let Some(token) = self.vacant.pop() else {
             return;
         };
         self.admitted = self.admitted.saturating_add(1);
+        let mut client = client;
+        client.number(self.admitted);
         let now = self.now;
         if let Some(place) = self.places.get_mut(token) {
             place.admit(client, now);
@@ -127,24 +132,33 @@ impl<S: Stream> Crowd<S> {
         self.tend(token, buffer);
     }
 
-    /// The client whose turn it is, with its token and its request, if it has one.
-    pub fn take_turn(&mut self, buffer: &mut [u8]) -> Option<(usize, Client<S>, Request)>
-        ensures { IfSome result (λ turn. (turn.1.asked ≡ Some turn.2) × (turn.2 ≢ Request.Quit)) }
+    /// The client whose turn it is, with its token and its question to this pass, if it has one.
+    pub fn take_turn(
+        &mut self,
+        pass: &Pass,
+        buffer: &mut [u8],
+    ) -> Option<(usize, Client<S>, Question)>
+        ensures { IfSome result (λ turn. (turn.1.asked ≡ Some turn.2) × (turn.2.before ≡ pass.now)) }
     {
         let token = self.queue.pop_front()?;
         let place = self.places.get_mut(token)?;
-        if let Some((client, request)) = place.take_turn() {
-            return Some((token, client, request));
+        if let Some((client, question)) = place.take_turn(pass) {
+            return Some((token, client, question));
         }
         self.tend(token, buffer);
         None
     }
 
-    /// The client of this token with the request that waits, if one does. Where none does it is read once more.
-    pub fn take_last(&mut self, token: usize, buffer: &mut [u8]) -> Option<(Client<S>, Request)>
-        ensures { IfSome result (λ last. (last.0.asked ≡ Some last.1) × (last.1 ≢ Request.Quit)) }
+    /// The client of this token with the question to this pass that waits, if one does. Where none does it is read once more.
+    pub fn take_last(
+        &mut self,
+        token: usize,
+        pass: &Pass,
+        buffer: &mut [u8],
+    ) -> Option<(Client<S>, Question)>
+        ensures { IfSome result (λ last. (last.0.asked ≡ Some last.1) × (last.1.before ≡ pass.now)) }
     {
-        self.places.get_mut(token)?.take_last(buffer)
+        self.places.get_mut(token)?.take_last(pass, buffer)
     }
 
     /// Notes the time by the system's clock. Its own goes on as that does, but not by more than a second at once.

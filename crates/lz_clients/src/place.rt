@@ -1,9 +1,10 @@
 //! The place of one connection.
-ghost use Rattle.std.specs.Prelude.{◌≡◌, ◌≢◌, IfSome, Some};
+ghost use Rattle.std.specs.Prelude.{◌≡◌, IfSome, Some};
 
 use crate::client::Client;
 use crate::stream::Stream;
-use lz_proto::Request;
+use lz_serve::Question;
+use lz_set::Pass;
 
 /// How many pieces of one client are read in a turn, at most.
 const MOST_READS: usize = 16;
@@ -81,31 +82,35 @@ impl<S: Stream> Place<S> {
         !was_queued
     }
 
-    /// Hands its client out with the request whose turn it is, if it has one.
-    pub(crate) fn take_turn(&mut self) -> Option<(Client<S>, Request)>
-        ensures { IfSome result (λ turn. (turn.0.asked ≡ Some turn.1) × (turn.1 ≢ Request.Quit)) }
+    /// Hands its client out with the question to this pass whose turn it is, if it has one.
+    pub(crate) fn take_turn(&mut self, pass: &Pass) -> Option<(Client<S>, Question)>
+        ensures { IfSome result (λ turn. (turn.0.asked ≡ Some turn.1) × (turn.1.before ≡ pass.now)) }
     {
         self.queued = false;
         let mut client = self.client.take()?;
         if !client.has_unsent() {
-            if let Some(request) = client.ask() {
-                return Some((client, request));
+            if let Some(question) = client.ask(pass) {
+                return Some((client, question));
             }
         }
         self.client = Some(client);
         None
     }
 
-    /// Hands its client out with the request that waits, if one does. Where none does it is read once more.
-    pub(crate) fn take_last(&mut self, buffer: &mut [u8]) -> Option<(Client<S>, Request)>
-        ensures { IfSome result (λ last. (last.0.asked ≡ Some last.1) × (last.1 ≢ Request.Quit)) }
+    /// Hands its client out with the question to this pass that waits, if one does. Where none does it is read once more.
+    pub(crate) fn take_last(
+        &mut self,
+        pass: &Pass,
+        buffer: &mut [u8],
+    ) -> Option<(Client<S>, Question)>
+        ensures { IfSome result (λ last. (last.0.asked ≡ Some last.1) × (last.1.before ≡ pass.now)) }
     {
         let mut client = self.client.take()?;
         if !client.waits() {
             let _ = client.read(buffer);
         }
-        if let Some(request) = client.ask() {
-            return Some((client, request));
+        if let Some(question) = client.ask(pass) {
+            return Some((client, question));
         }
         self.client = Some(client);
         None

@@ -175,7 +175,7 @@ impl<'a> Stream for Socket<'a> {
 
     ghost traffic = { λ _. None };
 
-    ghost promised = { λ _ _. ⊤ };
+    ghost promised = { λ _. ⊤ };
 
     fn receive(&mut self, buffer: &mut [u8]) -> Received {
         'tries: for _ in 0..u64::MAX {

@@ -28,16 +28,15 @@ pub enum Taken {
 
 /// A connection whose calls don't wait. What is sent on it may be nothing but what its client's session tells: `take` requires that.
 pub trait Stream: Drop {
-    ghost use Rattle.std.specs.Prelude.{Option};
-    ghost use Rattle.lz_proto.specs.declared.request.Request.{Request};
-    ghost use Rattle.lz_proto.specs.declared.reply.Reply.{Reply};
+    ghost use Rattle.std.specs.Prelude.{List, Option};
+    ghost use Rattle.lz_serve.specs.Grants.{Grant};
     ghost use Rattle.lz_clients.specs.Streams.{Traffic};
 
     /// What came and went, where that is known.
     ghost traffic: { Self → Option Traffic };
 
-    /// Which reply a request may get.
-    ghost promised: { Request → Reply → Type 0 };
+    /// What is so of the replies that are told on it, in their order.
+    ghost promised: { List Grant → Type 0 };
 
     /// Puts what the client has sent next at the front of the buffer.
     fn receive(&mut self, buffer: &mut [u8]) -> Received

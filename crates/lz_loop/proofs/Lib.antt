@@ -1,4 +1,1 @@
-pub mod Askings
-pub mod AskingRows
-pub mod FreePasses
-pub mod HandedBack
+pub mod RunningLoops

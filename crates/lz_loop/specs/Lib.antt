@@ -1,4 +1,1 @@
-pub mod Askings
-pub mod Answered
-pub mod PassReplies
-pub mod Shares
+pub mod Promised

@@ -1,19 +1,13 @@
 //! The passes of the loop, and what they answer.
-ghost use Rattle.std.specs.Prelude.{◌≡◌, ◌+◌, ◌≤◌, ◌<◌, IfOk, true, false, All, vec_capacity, vec_len};
-ghost use Rattle.std.specs.List.{Any};
-ghost use Rattle.lz_proto.specs.declared.request.Request.{Request as Asked};
-ghost use Rattle.lz_proto.specs.declared.reply.Reply.{Reply as Said};
-ghost use Rattle.lz_set.specs.Names.{MayCall};
-ghost use Rattle.lz_serve.specs.Halts.{IsCalmAfter, SawHalt};
-ghost use Rattle.lz_loop.specs.PassReplies.{Promised};
+ghost use Rattle.std.specs.Prelude.{◌≡◌, ◌+◌, ◌≤◌, ◌<◌, IfOk, true, vec_capacity, vec_len};
+ghost use Rattle.lz_serve.specs.Grants.{Promises};
 
-use crate::free_pass::FreePass;
 use crate::moments::{MOMENT, Moments};
 use crate::working::{Played, Working};
 use lz_clients::{Crowd, Stream};
 use lz_disk::Disk;
-use lz_serve::{Given, Observer, Verb};
-use lz_set::{Named, Pass, Set, StepGate};
+use lz_serve::{FreePass, Given, Observer, Verb};
+use lz_set::{Named, Set, StepGate};
 use std::alloc::{AllocError, Global};
 use std::mem::swap;
 use std::sync::Wait;
@@ -75,29 +69,22 @@ impl<S: Stream, N: Named, B: Given> Room<S, N, B> {
         })
     }
 
-    /// Takes a pass in, which is free.
-    pub(crate) fn take_in(&mut self, pass: Pass)
-        requires room { self.old.given < self.old.most }
-        requires may_call { MayCall N.board pass }
-        requires calm { IsCalmAfter B.parts pass }
+    /// Takes a free pass in.
+    pub(crate) fn take_in(&mut self, free: FreePass<N, B>)
+        requires { self.old.given < self.old.most }
         ensures given { self.new.given ≡ self.old.given + 1 }
         ensures most { self.new.most ≡ self.old.most }
     {
-        let Ok(()) = self.free.push(FreePass::new(pass, false)) else {
+        let Ok(()) = self.free.push(free) else {
             unreachable!()
         };
         self.given += 1;
     }
 
-    /// The passes, and whether a reply of one told that the service halted.
-    pub(crate) fn into_passes(self, room: Vec<Pass>) -> (Vec<Pass>, bool)
-        requires rests { vec_len self.free ≡ self.given }
-        requires empty { vec_len room ≡ 0 }
-        requires room { self.given ≤ vec_capacity room }
-        ensures may_call { All (MayCall N.board) result.0.items }
-        ensures count { vec_len result.0 ≡ self.given }
-        ensures halted { result.1 ≡ true → Any SawHalt result.0.items }
-        ensures calm { result.1 ≡ false → All (IsCalmAfter B.parts) result.0.items }
+    /// The passes, once each is free.
+    pub(crate) fn into_free(self) -> Vec<FreePass<N, B>>
+        requires { vec_len self.free ≡ self.given }
+        ensures { vec_len result ≡ self.given }
     {
         let Room {
             crowd: _,
@@ -112,7 +99,7 @@ impl<S: Stream, N: Named, B: Given> Room<S, N, B> {
             sendings: _,
             tries: _,
         } = self;
-        hand_back(free, room)
+        free
     }
 
     /// Begins to answer requests that wait, by the passes that are free.
@@ -159,7 +146,7 @@ impl<S: Stream, N: Named, B: Given> Room<S, N, B> {
         G: StepGate,
         R: Wait + Clock,
         O: Observer,
-        requires { (request : Asked) (reply : Said) → Promised N.board N.format request reply → S.promised request reply }
+        requires { Promises N.board N.format S.promised }
         ensures { self.new.given ≡ self.old.given }
     {
         let tries = self.tries.pass(rt.monotonic().ok());
@@ -227,7 +214,7 @@ impl<S: Stream, N: Named, B: Given> Room<S, N, B> {
         G: StepGate,
         R: Wait + Clock,
         O: Observer,
-        requires { (request : Asked) (reply : Said) → Promised N.board N.format request reply → S.promised request reply }
+        requires { Promises N.board N.format S.promised }
         ensures given { self.new.given ≡ self.old.given }
         ensures rests { vec_len self.new.free ≡ self.new.given }
     {
@@ -255,7 +242,7 @@ impl<S: Stream, N: Named, B: Given> Room<S, N, B> {
         R: Wait + Clock,
         O: Observer,
         requires rests { vec_len self.old.free ≡ self.old.given }
-        requires promised { (request : Asked) (reply : Said) → Promised N.board N.format request reply → S.promised request reply }
+        requires promised { Promises N.board N.format S.promised }
         ensures given { self.new.given ≡ self.old.given }
         ensures rests { vec_len self.new.free ≡ self.new.given }
     {
@@ -320,27 +307,6 @@ impl<S: Stream, N: Named, B: Given> Room<S, N, B> {
     }
 }
 
-// The passes, in their order, and whether a reply of one told that the service halted.
-fn hand_back<N: Named, B: Given>(free: Vec<FreePass<N, B>>, room: Vec<Pass>) -> (Vec<Pass>, bool)
-    requires empty { vec_len room ≡ 0 }
-    requires room { vec_len free ≤ vec_capacity room }
-    ensures may_call { All (MayCall N.board) result.0.items }
-    ensures count { vec_len result.0 ≡ vec_len free }
-    ensures halted { result.1 ≡ true → Any SawHalt result.0.items }
-    ensures calm { result.1 ≡ false → All (IsCalmAfter B.parts) result.0.items }
-{
-    let mut passes = room;
-    let mut halted = false;
-    for pass in free {
-        let (pass, found) = pass.into_parts();
-        halted = halted || found;
-        let Ok(()) = passes.push(pass) else {
-            unreachable!()
-        };
-    }
-    (passes, halted)
-}
-
 // Begins to answer the request whose turn it is, if there is one.
 fn begin_next<S, D, G, N, B, R>(
     rt: &R,
@@ -360,11 +326,11 @@ where
     if free.halted() {
         return Err(free);
     }
-    let Some((token, client, request)) = crowd.take_turn(buffer) else {
+    let Some((token, client, question)) = crowd.take_turn(free.pass(), buffer) else {
         return Err(free);
     };
     let (pass, _) = free.into_parts();
-    Ok(Working::begin(rt, set, pass, token, client, request))
+    Ok(Working::begin(rt, set, pass, token, client, question))
 }
 
 // Answers the request of the client of this token by this pass, if one waits.
@@ -385,16 +351,16 @@ where
     B: Given,
     R: Wait + Clock,
     O: Observer,
-    requires { (request : Asked) (reply : Said) → Promised N.board N.format request reply → S.promised request reply }
+    requires { Promises N.board N.format S.promised }
 {
-    let Some((client, request)) = crowd.take_last(token, buffer) else {
+    let Some((client, question)) = crowd.take_last(token, free.pass(), buffer) else {
         return free;
     };
-    let verb = Verb::of(&request);
-    let (free, reply) = free.answer(rt, set, request);
-    observer.answered(verb, reply);
+    let verb = Verb::of(&question.request());
+    let (free, granted) = free.answer(rt, set, question);
+    observer.answered(verb, granted.reply());
     let mut client = client;
-    client.reply(reply);
+    client.reply(granted);
     crowd.take_back(token, client, buffer);
     free
 }

@@ -1,18 +1,17 @@
 //! The loop.
-ghost use Rattle.std.specs.Prelude.{◌≡◌, ◌+◌, ◌≤◌, [], IfOk, true, false, All, vec_capacity, vec_len};
+ghost use Rattle.std.specs.Prelude.{◌≡◌, ◌≤◌, [], IfOk, true, false, All, vec_capacity, vec_len};
 ghost use Rattle.std.specs.List.{Any};
-ghost use Rattle.lz_proto.specs.declared.request.Request.{Request as Asked};
-ghost use Rattle.lz_proto.specs.declared.reply.Reply.{Reply as Said};
 ghost use Rattle.lz_board.specs.Seats.{part};
 ghost use Rattle.lz_set.specs.Names.{MayCall};
+ghost use Rattle.lz_serve.specs.Grants.{Promises};
 ghost use Rattle.lz_serve.specs.Halts.{IsCalm, IsCalmAfter, SawHalt};
-ghost use Rattle.lz_loop.specs.PassReplies.{Promised};
 
 use crate::room::Room;
+use crate::shares::set_free;
 use lz_clients::{Client, Crowd, Poller, Stream};
 use lz_disk::Disk;
 use lz_proto::MOST_PIECE;
-use lz_serve::{Given, Lack, Observer, Served};
+use lz_serve::{FreePass, Given, Lack, Observer, Served, hand_back, none_served};
 use lz_set::{Named, Pass, Set, StepGate};
 use std::alloc::{AllocError, Global};
 use std::marker::Brand;
@@ -40,7 +39,7 @@ pub struct RoomBounds {
 /// Serves connections by these passes in one thread, until a client was told that the service halted, here or by another loop, which
 /// sets `told`, the observer says that it is to end, or so many connections were served. Then the calls under way are played to their
 /// answers, and what is unsent is sent. Where the service halted each request that waits is answered too. The loop whose client was told
-/// so first tells the observer. Where no memory is left for its clients it serves none, and its passes are gone.
+/// so first tells the observer. Where no memory is left for its clients it serves none.
 pub fn serve_room<D, G, N, R, O, P>(
     rt: &R,
     poller: &mut P,
@@ -58,9 +57,10 @@ where
     O: Observer,
     P: Poller,
     requires may_call { All (MayCall N.board) passes.items }
-    requires promised { (request : Asked) (reply : Said) → Promised N.board N.format request reply → P.Stream.promised request reply }
+    requires promised { Promises N.board N.format P.Stream.promised }
     ensures may_call { All (MayCall N.board) result.passes.items }
-    ensures count { vec_len result.passes + result.threadless ≡ vec_len passes }
+    ensures count { vec_len result.passes ≡ vec_len passes }
+    ensures unserved { result.unserved ≡ true → result.passes.items ≡ passes.items }
     ensures halted { result.halted ≡ true → Any SawHalt result.passes.items }
     ensures calm { All (λ pass. IsCalm (part pass)) passes.items → result.halted ≡ false → All (λ pass. IsCalm (part pass)) result.passes.items }
 {
@@ -87,76 +87,85 @@ where
     P: Poller,
     requires may_call { All (MayCall N.board) passes.items }
     requires calm { All (IsCalmAfter B.parts) passes.items }
-    requires promised { (request : Asked) (reply : Said) → Promised N.board N.format request reply → P.Stream.promised request reply }
+    requires promised { Promises N.board N.format P.Stream.promised }
     ensures may_call { All (MayCall N.board) result.passes.items }
-    ensures count { vec_len result.passes + result.threadless ≡ vec_len passes }
+    ensures count { vec_len result.passes ≡ vec_len passes }
+    ensures unserved { result.unserved ≡ true → result.passes.items ≡ passes.items }
     ensures halted { result.halted ≡ true → Any SawHalt result.passes.items }
     ensures calm { result.halted ≡ false → All (IsCalmAfter B.parts) result.passes.items }
 {
-    let given = passes.len();
-    let Ok((room, done)) = make_room::<P::Stream, N, B>(rt.alloc(), given, bounds.connections)
-    else {
-        return none_served(rt.alloc(), given, observer, Lack::Memory);
+    let Ok((room, free, done)) = make_room::<P::Stream, N, B>(
+        rt.alloc(),
+        passes.len(),
+        bounds.connections,
+    ) else {
+        return none_served(passes, observer, Lack::Memory);
     };
-    let mut room = take_in_all(room, passes);
-    run(rt, poller, set, &mut room, bounds, observer, told);
-    let (passes, halted) = room.into_passes(done);
-    Served {
-        passes,
-        halted,
-        threadless: 0,
-    }
+    let room = take_in_all(room, set_free(passes, free));
+    hand_back(
+        serve_in(rt, poller, set, room, bounds, observer, told),
+        done,
+    )
 }
 
-/// None of so many passes can be served, for this reason.
-pub(crate) fn none_served<O: Observer>(
-    alloc: Global,
-    passes: usize,
-    observer: &O,
-    why: Lack,
-) -> Served
-    ensures none { result.passes.items ≡ [] }
-    ensures halted { result.halted ≡ false }
-    ensures threadless { result.threadless ≡ passes }
-{
-    observer.unserved(passes, why);
-    Served {
-        passes: Vec::new(alloc),
-        halted: false,
-        threadless: passes,
-    }
-}
+type Rooms<S, N, B> = (Room<S, N, B>, Vec<FreePass<N, B>>, Vec<Pass>);
 
-// Room for so many passes and clients, and for the passes that are handed back.
-fn make_room<S: Stream, N: Named, B: Given>(
+/// Room for so many passes and clients, and for the passes that are handed back.
+pub(crate) fn make_room<S: Stream, N: Named, B: Given>(
     alloc: Global,
     passes: usize,
     clients: usize,
-) -> Result<(Room<S, N, B>, Vec<Pass>), AllocError>
+) -> Result<Rooms<S, N, B>, AllocError>
     ensures room { IfOk result (λ made. (made.0.given ≡ 0) × (made.0.most ≡ passes)) }
-    ensures done { IfOk result (λ made. (vec_len made.1 ≡ 0) × (passes ≤ vec_capacity made.1)) }
+    ensures free { IfOk result (λ made. (vec_len made.1 ≡ 0) × (passes ≤ vec_capacity made.1)) }
+    ensures done { IfOk result (λ made. (vec_len made.2 ≡ 0) × (passes ≤ vec_capacity made.2)) }
 {
     let room = Room::new(alloc, passes, clients)?;
+    let free = Vec::with_capacity(alloc, passes)?;
     let done = Vec::with_capacity(alloc, passes)?;
-    Ok((room, done))
+    Ok((room, free, done))
 }
 
-// Takes all these passes in.
-fn take_in_all<S: Stream, N: Named, B: Given>(
+/// Takes all these passes in.
+pub(crate) fn take_in_all<S: Stream, N: Named, B: Given>(
     room: Room<S, N, B>,
-    passes: Vec<Pass>,
+    passes: Vec<FreePass<N, B>>,
 ) -> Room<S, N, B>
     requires empty { room.given ≡ 0 }
     requires room { vec_len passes ≤ room.most }
-    requires may_call { All (MayCall N.board) passes.items }
-    requires calm { All (IsCalmAfter B.parts) passes.items }
     ensures { result.given ≡ vec_len passes }
 {
     let mut room = room;
-    for pass in passes {
-        room.take_in(pass);
+    for free in passes {
+        room.take_in(free);
     }
     room
+}
+
+/// Serves by the passes of this room, and hands them back.
+pub(crate) fn serve_in<D, G, N, B, R, O, P>(
+    rt: &R,
+    poller: &mut P,
+    set: &Set<D, G, N>,
+    room: Room<P::Stream, N, B>,
+    bounds: RoomBounds,
+    observer: &O,
+    told: &AtomicBool,
+) -> Vec<FreePass<N, B>>
+where
+    D: Disk,
+    G: StepGate,
+    N: Named,
+    B: Given,
+    R: Wait + Clock + AllocGlobal,
+    O: Observer,
+    P: Poller,
+    requires promised { Promises N.board N.format P.Stream.promised }
+    ensures { vec_len result ≡ room.given }
+{
+    let mut room = room;
+    run(rt, poller, set, &mut room, bounds, observer, told);
+    room.into_free()
 }
 
 // Turn after turn, until the loop ends. Then all calls under way are answered.
@@ -177,7 +186,7 @@ where
     R: Wait + Clock + AllocGlobal,
     O: Observer,
     P: Poller,
-    requires promised { (request : Asked) (reply : Said) → Promised N.board N.format request reply → P.Stream.promised request reply }
+    requires promised { Promises N.board N.format P.Stream.promised }
     ensures given { room.new.given ≡ room.old.given }
     ensures rests { vec_len room.new.free ≡ room.new.given }
 {
@@ -243,6 +252,7 @@ where
     R: AllocGlobal,
     O: Observer,
     P: Poller,
+    requires { P.Stream.promised [] }
 {
     for _ in 0..crowd.most() {
         if sessions != 0 && crowd.admitted() >= sessions {

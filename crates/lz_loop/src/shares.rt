@@ -1,184 +1,89 @@
-//! What each of several loops has of a set's passes and connections.
-ghost use Rattle.std.specs.Prelude.{◌≡◌, ◌<◌, ◌≤◌, true, false, All, vec_len};
-ghost use Rattle.std.specs.List.{Any, list_any};
+//! What each of several loops has of a set's passes, and hands back.
+ghost use Rattle.std.specs.Prelude.{◌≡◌, ◌+◌, ◌≤◌, All, vec_capacity, vec_len};
 ghost use Rattle.lz_set.specs.Names.{MayCall};
-ghost use Rattle.lz_serve.specs.Halts.{IsCalmAfter, SawHalt};
-ghost use Rattle.lz_loop.specs.Shares.{saw_halt};
+ghost use Rattle.lz_serve.specs.Halts.{IsCalmAfter};
+ghost use Rattle.lz_loop.specs.Promised.{promised};
 
-use lz_clients::Sockets;
-use lz_serve::{Given, Served};
+use lz_serve::{FreePass, Given};
 use lz_set::{Named, Pass};
 use std::alloc::Global;
-use std::marker::PhantomData;
-use std::mem;
-use std::thread::{JoinHandle, Threads};
-use std::time::Clock;
+use std::thread::{Promise, PromisedHandle, Threads};
 
-/// Passes that may call. None of their calls was cut off, if none was of the passes that B names.
-#[derive(Drop)]
-pub(crate) struct Group<N: Named, B: Given> {
+/// These passes as free ones, for which there is room.
+pub(crate) fn set_free<N: Named, B: Given>(
     passes: Vec<Pass>,
-    of: PhantomData<N>,
-    among: PhantomData<B>,
-    ghost may_call: { All (MayCall N.board) passes.items },
-    ghost calm: { All (IsCalmAfter B.parts) passes.items },
+    room: Vec<FreePass<N, B>>,
+) -> Vec<FreePass<N, B>>
+    requires may_call { All (MayCall N.board) passes.items }
+    requires calm { All (IsCalmAfter B.parts) passes.items }
+    requires empty { vec_len room ≡ 0 }
+    requires room { vec_len passes ≤ vec_capacity room }
+    ensures { vec_len result ≡ vec_len passes }
+{
+    let mut free = room;
+    let mut passes = passes;
+    while let Some(pass) = passes.pop() {
+        let Ok(()) = free.push(FreePass::new(pass, false)) else {
+            unreachable!()
+        };
+    }
+    free
 }
 
-impl<N: Named, B: Given> Group<N, B> {
-    pub(crate) fn new(passes: Vec<Pass>) -> Group<N, B>
-        requires may_call { All (MayCall N.board) passes.items }
-        requires calm { All (IsCalmAfter B.parts) passes.items }
-    {
-        Group {
-            passes,
-            of: PhantomData,
-            among: PhantomData,
-        }
-    }
-
-    pub(crate) fn len(&self) -> usize {
-        self.passes.len()
-    }
-
-    pub(crate) fn into_passes(self) -> Vec<Pass>
-        ensures may_call { All (MayCall N.board) result.items }
-        ensures calm { All (IsCalmAfter B.parts) result.items }
-    {
-        let Group {
-            passes,
-            of: _,
-            among: _,
-        } = self;
-        passes
-    }
-
-    // Takes the share of the first of so many loops out. None where no memory is left.
-    fn take_share(&mut self, loops: usize) -> Option<Group<N, B>>
-        requires { 0 < loops }
-    {
-        let rest = self.passes.split_off(self.passes.len() / loops).ok()?;
-        Some(Group {
-            passes: mem::replace(&mut self.passes, rest),
-            of: PhantomData,
-            among: PhantomData,
-        })
-    }
-}
-
-/// What one of several loops serves with.
-#[derive(Drop)]
-pub(crate) struct Share<'a, R: Clock, N: Named, B: Given> {
-    pub(crate) sockets: Sockets<'a, R>,
-    pub(crate) passes: Group<N, B>,
-    pub(crate) connections: usize,
-}
-
-/// A share for each of these sockets; fewer where memory is missing.
-pub(crate) fn shares_of<'a, R: Clock, N: Named, B: Given>(
+/// A share of these passes for the next of so many loops: none where no memory is left.
+pub(crate) fn take_share<N: Named, B: Given>(
     alloc: Global,
-    sockets: Vec<Sockets<'a, R>>,
-    passes: Group<N, B>,
-    connections: usize,
-) -> Vec<Share<'a, R, N, B>> {
-    let mut all = Vec::new(alloc);
-    let mut sockets = sockets;
-    let mut left = passes;
-    let mut room = connections;
-    let loops = sockets.len();
-    for started in 0..loops {
-        let Some(sockets) = sockets.pop() else {
-            break;
-        };
-        let Some(passes) = left.take_share(loops - started) else {
-            break;
-        };
-        let connections = room / (loops - started);
-        room -= connections;
-        let share = Share {
-            sockets,
-            passes,
-            connections,
-        };
-        if all.push(share).is_err() {
-            break;
-        }
+    free: &mut Vec<FreePass<N, B>>,
+    loops: usize,
+) -> Vec<FreePass<N, B>>
+    ensures { vec_len result + vec_len free.new ≡ vec_len free.old }
+{
+    let rest = free.len().saturating_sub(free.len() / loops.max(1));
+    match free.split_off(rest) {
+        Ok(share) => share,
+        Err(_) => Vec::new(alloc),
     }
-    all
 }
 
-/// The passes of a loop that has ended, and whether it found the set halted. Where it didn't, no call of these passes was cut off, if
-/// none was of the passes that B names.
+/// Puts some passes to the others, where there is room for them.
+pub(crate) fn add_all<N: Named, B: Given>(free: &mut Vec<FreePass<N, B>>, more: Vec<FreePass<N, B>>)
+    requires { vec_len free.old + vec_len more ≤ vec_capacity free.old }
+    ensures count { vec_len free.new ≡ vec_len free.old + vec_len more }
+    ensures room { vec_capacity free.old ≤ vec_capacity free.new }
+{
+    let mut more = more;
+    let Ok(()) = free.append(&mut more) else {
+        unreachable!()
+    };
+}
+
+/// How many passes a loop hands back.
 #[derive(Drop)]
-pub(crate) struct Finished<N: Named, B: Given> {
-    passes: Vec<Pass>,
-    halted: bool,
-    of: PhantomData<N>,
-    among: PhantomData<B>,
-    ghost may_call: { All (MayCall N.board) passes.items },
-    ghost seen: { halted ≡ true → list_any saw_halt passes.items ≡ true },
-    ghost calm: { halted ≡ false → All (IsCalmAfter B.parts) passes.items },
+pub(crate) struct HandsBack {
+    pub(crate) count: usize,
 }
 
-impl<N: Named, B: Given> Finished<N, B> {
-    /// A loop ended so.
-    pub(crate) fn new(served: Served) -> Finished<N, B>
-        requires may_call { All (MayCall N.board) served.passes.items }
-        requires seen { served.halted ≡ true → Any SawHalt served.passes.items }
-        requires calm { served.halted ≡ false → All (IsCalmAfter B.parts) served.passes.items }
-    {
-        let Served {
-            passes,
-            halted,
-            threadless: _,
-        } = served;
-        Finished {
-            passes,
-            halted,
-            of: PhantomData,
-            among: PhantomData,
-        }
-    }
+impl<N: Named, B: Given> Promise<Vec<FreePass<N, B>>> for HandsBack {
+    ghost use Rattle.std.specs.Prelude.{◌≡◌, vec_len};
 
-    fn into_parts(self) -> (Vec<Pass>, bool)
-        ensures may_call { All (MayCall N.board) result.0.items }
-        ensures seen { result.1 ≡ true → Any SawHalt result.0.items }
-        ensures calm { result.1 ≡ false → All (IsCalmAfter B.parts) result.0.items }
-    {
-        let Finished {
-            passes,
-            halted,
-            of: _,
-            among: _,
-        } = self;
-        (passes, halted)
-    }
+    ghost kept_by = { λ promise free. vec_len free ≡ promise.count };
 }
 
-/// Waits for each loop, in their order. Hands back so many passes at most, and says whether one of the loops found the set halted.
+/// A loop that runs in a thread of its own.
+pub(crate) type Running<N, B> = PromisedHandle<Vec<FreePass<N, B>>, HandsBack>;
+
+/// Waits for each loop, and puts its passes to the others, where there is room for them.
 pub(crate) fn join_all<N: Named, B: Given, R: Threads>(
     rt: &R,
-    threads: Vec<JoinHandle<Finished<N, B>>>,
-    room: Vec<Pass>,
-    most: usize,
-) -> (Vec<Pass>, bool)
-    requires empty { vec_len room ≡ 0 }
-    ensures may_call { All (MayCall N.board) result.0.items }
-    ensures count { vec_len result.0 ≤ most }
-    ensures halted { result.1 ≡ true → Any SawHalt result.0.items }
-    ensures calm { result.1 ≡ false → All (IsCalmAfter B.parts) result.0.items }
+    threads: Vec<Running<N, B>>,
+    free: Vec<FreePass<N, B>>,
+) -> Vec<FreePass<N, B>>
+    requires { vec_len free + promised threads.items ≤ vec_capacity free }
+    ensures { vec_len result ≡ vec_len free + promised threads.items }
 {
-    let mut passes = room;
-    let mut halted = false;
+    let mut free = free;
     for thread in threads {
-        let (mut share, found) = thread.join(rt).into_parts();
-        // A loop hands back no more than it was given, for which there is room.
-        if share.len() > most - passes.len() {
-            continue;
-        }
-        let Ok(()) = passes.append(&mut share) else {
-            continue;
-        };
-        halted = halted || found;
+        add_all(&mut free, thread.join(rt));
     }
-    (passes, halted)
+    free
 }

@@ -1,17 +1,13 @@
 //! A client's request that a pass is answering.
-ghost use Rattle.std.specs.Prelude.{◌≡◌, ◌≢◌, Some, true, false};
-ghost use Rattle.lz_proto.specs.declared.request.Request.{Request as Asked};
-ghost use Rattle.lz_proto.specs.declared.reply.Reply.{Reply as Said};
+ghost use Rattle.std.specs.Prelude.{◌≡◌, Some, true, false};
 ghost use Rattle.lz_set.specs.Names.{MayCall};
+ghost use Rattle.lz_serve.specs.Grants.{Promises};
 ghost use Rattle.lz_serve.specs.Halts.{IsCalmAfter};
-ghost use Rattle.lz_loop.specs.PassReplies.{Promised};
 
-use crate::asking::{Answered, Asking};
-use crate::free_pass::FreePass;
 use lz_clients::{Client, Stream};
 use lz_disk::Disk;
-use lz_proto::{Reply, Request};
-use lz_serve::{Given, Observer};
+use lz_proto::Reply;
+use lz_serve::{Answered, Asking, FreePass, Given, Observer, Question};
 use lz_set::{Named, Pass, Set, Stage, StepGate};
 use std::marker::Model;
 use std::sync::Wait;
@@ -35,7 +31,7 @@ impl<S: Stream, N: Named, B: Given> Model for Working<S, N, B> {
 
     ghost view = { λ w. w.syncs };
 
-    ghost invariant = { λ w. (w.client.asked ≡ Some w.asking.request) × (w.syncs ≡ true → IsSomeAnd w.asking.call (λ call. StandsAt Syncs call)) };
+    ghost invariant = { λ w. (w.client.asked ≡ Some w.asking.question) × (w.syncs ≡ true → IsSomeAnd w.asking.call (λ call. StandsAt Syncs call)) };
 }
 
 /// What became of a call that was played on.
@@ -50,21 +46,21 @@ pub(crate) enum Played<S: Stream, N: Named, B: Given> {
 }
 
 impl<S: Stream, N: Named, B: Given> Working<S, N, B> {
-    /// Begins to answer the request that the client was asked for.
+    /// Begins to answer the client's question to this pass.
     pub(crate) fn begin<D: Disk, G: StepGate, R: Wait>(
         rt: &R,
         set: &Set<D, G, N>,
         pass: Pass,
         token: usize,
         client: Client<S>,
-        request: Request,
+        question: Question,
     ) -> Working<S, N, B>
         requires may_call { MayCall N.board pass }
         requires calm { IsCalmAfter B.parts pass }
-        requires asked { client.asked ≡ Some request }
-        requires request { request ≢ Request.Quit }
+        requires asked { client.asked ≡ Some question }
+        requires before { question.before ≡ pass }
     {
-        let asking = Asking::begin(rt, set, pass, request);
+        let asking = Asking::begin(rt, set, pass, question);
         Working {
             client,
             token,
@@ -88,7 +84,7 @@ impl<S: Stream, N: Named, B: Given> Working<S, N, B> {
         G: StepGate,
         R: Wait,
         O: Observer,
-        requires { (request : Asked) (reply : Said) → Promised N.board N.format request reply → S.promised request reply }
+        requires { Promises N.board N.format S.promised }
     {
         if self.waits() && !tries {
             return Played::Stands(self);
@@ -113,10 +109,11 @@ impl<S: Stream, N: Named, B: Given> Working<S, N, B> {
         }
         match asking.answer(rt, set) {
             Answered::Again(asking) => ask_again(client, token, asking),
-            Answered::Replied(pass, reply) => {
+            Answered::Replied(pass, granted) => {
+                let reply = granted.reply();
                 observer.answered(verb, reply);
                 let mut client = client;
-                client.reply(reply);
+                client.reply(granted);
                 let ends = matches!(reply, Reply::Halted);
                 go_on(rt, set, token, client, FreePass::new(pass, ends), halted)
             }
@@ -148,7 +145,7 @@ fn ask_again<S: Stream, N: Named, B: Given>(
     token: usize,
     asking: Asking<N, B>,
 ) -> Played<S, N, B>
-    requires { client.asked ≡ Some asking.request }
+    requires { client.asked ≡ Some asking.question }
 {
     let waits = asking.waits();
     let working = Working {
@@ -185,10 +182,10 @@ where
         return Played::Rests(token, client, free);
     }
     let mut client = client;
-    match client.ask() {
-        Some(request) => {
+    match client.ask(free.pass()) {
+        Some(question) => {
             let (pass, _) = free.into_parts();
-            Played::GoesOn(Working::begin(rt, set, pass, token, client, request))
+            Played::GoesOn(Working::begin(rt, set, pass, token, client, question))
         }
         None => Played::Rests(token, client, free),
     }

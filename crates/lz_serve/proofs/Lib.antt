@@ -3,5 +3,8 @@ pub mod Kept
 pub mod Halting
 pub mod Seats
 pub mod HaltRows
-pub mod HandedBack
+pub mod JoinedPasses
 pub mod ReplyRows
+pub mod Askings
+pub mod FreePasses
+pub mod AskingRows

@@ -3,3 +3,6 @@ pub mod Halts
 pub mod Options
 pub mod Texts
 pub mod Verbs
+pub mod Grants
+pub mod Askings
+pub mod Answered

@@ -53,12 +53,10 @@ impl fmt::Display for Serving {
     }
 }
 
-/// Why passes serve nobody.
+/// Why a service serves nobody.
 #[derive(Debug, Drop)]
 pub enum Lack {
-    /// There is no thread for them.
-    Thread,
-    /// There is no memory for them and their clients.
+    /// There is no memory for its passes and clients.
     Memory,
     /// The system refused what a loop needs.
     System(io::Error),
@@ -67,7 +65,6 @@ pub enum Lack {
 impl fmt::Display for Lack {
     fn fmt<W: fmt::Write>(&self, f: &mut fmt::Formatter<W>) -> fmt::Result {
         match self {
-            Lack::Thread => f.write_str("no thread is left"),
             Lack::Memory => f.write_str("out of memory"),
             Lack::System(error) => write!(f, "{error}"),
         }
@@ -103,8 +100,11 @@ pub trait Observer: Drop {
     /// The service can't listen on its port.
     fn no_port(&self, error: io::Error);
 
-    /// So many passes serve nobody. They are gone.
-    fn unserved(&self, passes: usize, why: Lack);
+    /// The service serves nobody, for this reason.
+    fn unserved(&self, why: Lack);
+
+    /// No thread can be made for a pass, or for a loop: the thread that makes them serves in its place, until it is done.
+    fn threadless(&self);
 
     /// A connection was accepted.
     fn accepted(&self);

@@ -4,6 +4,7 @@ ghost use Rattle.lz_board.specs.Seats.{part};
 ghost use Rattle.lz_set.specs.Names.{MayCall};
 ghost use Rattle.lz_serve.specs.Halts.{IsCalm, IsCalmAfter, SawHalt};
 
+use crate::free_pass::FreePass;
 use crate::given::Given;
 use crate::guest::{Incoming, Outgoing};
 use crate::observed::Observed;
@@ -13,8 +14,7 @@ use crate::server::Bounds;
 use lz_disk::Disk;
 use lz_proto::session;
 use lz_set::{Named, Pass, Set, StepGate};
-use std::io::Read;
-use std::marker::PhantomData;
+use std::io::{ErrorKind, Read};
 use std::net::{Shutdown, TcpListener, TcpStream};
 use std::os::fd::OwnedFd;
 use std::sync::Wait;
@@ -34,36 +34,6 @@ const FAREWELL: u64 = 100;
 
 const FAREWELLS: usize = 16;
 
-/// A pass whose thread is done, and whether a client of it was told that the service halted, which ended the thread. Where none
-/// was, no call of the pass was cut off, if none was of the passes that B names.
-#[derive(Drop)]
-pub(crate) struct Finished<N: Named, B: Given> {
-    halted: bool,
-    pass: Pass,
-    of: PhantomData<N>,
-    among: PhantomData<B>,
-    ghost may_call: { MayCall N.board pass },
-    ghost seen: { halted ≡ true → SawHalt pass },
-    ghost calm: { halted ≡ false → IsCalmAfter B.parts pass },
-}
-
-impl<N: Named, B: Given> Finished<N, B> {
-    /// The pass, and whether a client of it was told that the service halted.
-    pub(crate) fn into_parts(self) -> (Pass, bool)
-        ensures may_call { MayCall N.board result.0 }
-        ensures seen { result.1 ≡ true → SawHalt result.0 }
-        ensures calm { result.1 ≡ false → IsCalmAfter B.parts result.0 }
-    {
-        let Finished {
-            halted,
-            pass,
-            of: _,
-            among: _,
-        } = self;
-        (pass, halted)
-    }
-}
-
 /// Serves by this pass, until a client was told that the service halted, it has served as many as it may, or the service is to end.
 /// The first thread that tells of a halt tells the observer too.
 pub(crate) fn serve_pass<D, G, N, B, R, O>(
@@ -74,7 +44,7 @@ pub(crate) fn serve_pass<D, G, N, B, R, O>(
     bounds: Bounds,
     observer: &O,
     told: &AtomicBool,
-) -> Finished<N, B>
+) -> FreePass<N, B>
 where
     D: Disk,
     G: StepGate,
@@ -92,19 +62,18 @@ where
         observer.halted();
         close_listener(listener);
     }
-    Finished {
-        halted,
-        pass: observed.seated.into_pass(),
-        of: PhantomData,
-        among: PhantomData,
-    }
+    FreePass::new(observed.seated.into_pass(), halted)
 }
 
 /// Has each wait for a connection end with a fault, now and later. (A listener has no call for this, and a stream has.) When out of
-/// descriptors it does nothing: then each thread that waits ends with its next client.
+/// descriptors it does nothing: then each thread that waits ends with its next client. Nor does it where each wait has an end anyway, as
+/// at a socket that isn't the service's alone.
 pub fn close_listener(listener: &TcpListener) {
     if let Ok(same) = listener.try_clone() {
-        let _ = TcpStream::from(OwnedFd::from(same)).shutdown(Shutdown::Both);
+        let same = TcpStream::from(OwnedFd::from(same));
+        if let Ok(None) = same.read_timeout() {
+            let _ = same.shutdown(Shutdown::Both);
+        }
     }
 }
 
@@ -128,12 +97,17 @@ where
 {
     let mut served = 0u64;
     let mut pause = PAUSE;
+    if is_ended(observed.observer, told) {
+        return false;
+    }
     for stream in listener.incoming() {
-        if told.load(Ordering::SeqCst) || observed.observer.stops() {
+        if is_ended(observed.observer, told) {
             return false;
         }
         let stream = match stream {
             Ok(stream) => stream,
+            // Nobody came.
+            Err(error) if error.kind() == ErrorKind::WouldBlock => continue,
             Err(error) => {
                 observed.observer.unaccepted(error);
                 thread::sleep(rt, Duration::from_millis(pause));
@@ -149,11 +123,17 @@ where
             return true;
         }
         served = served.wrapping_add(1);
-        if served == bounds.sessions {
+        // Who waits at a listener that stays is left to the next service.
+        if served == bounds.sessions || is_ended(observed.observer, told) {
             return false;
         }
     }
     false
+}
+
+// Whether a client of some pass was told that the service halted, or the service is to end.
+fn is_ended<O: Observer>(observer: &O, told: &AtomicBool) -> bool {
+    told.load(Ordering::SeqCst) || observer.stops()
 }
 
 // Serves one connection, and says whether the pass has ever replied that the service halted, even where the reply wasn't written.

@@ -1,22 +1,23 @@
 //! Sessions over the network, in a thread for each pass.
-ghost use Rattle.std.specs.Prelude.{◌≡◌, ◌+◌, ◌≤◌, true, false, All, IfSome, vec_capacity, vec_len};
+ghost use Rattle.std.specs.Prelude.{◌≡◌, ◌+◌, ◌≤◌, [], true, false, All, IfOk, vec_capacity, vec_len};
 ghost use Rattle.std.specs.List.{Any};
 ghost use Rattle.lz_board.specs.Seats.{part};
 ghost use Rattle.lz_set.specs.Names.{MayCall};
 ghost use Rattle.lz_serve.specs.Halts.{IsCalm, IsCalmAfter, SawHalt};
 
+use crate::free_pass::{FreePass, hand_back};
 use crate::given::Given;
 use crate::observer::{Lack, Observer};
-use crate::pass_thread::{Finished, serve_pass};
+use crate::pass_thread::serve_pass;
 use lz_disk::Disk;
 use lz_set::{Named, Pass, Set, StepGate};
-use std::alloc::Global;
+use std::alloc::{AllocError, Global};
 use std::marker::Brand;
 use std::net::TcpListener;
 use std::sync::Wait;
 use std::sync::atomic::AtomicBool;
 use std::thread;
-use std::thread::{JoinHandle, Threads};
+use std::thread::{JoinHandle, SpawnError, Threads};
 use std::time::{Clock, Duration};
 
 /// When sessions and passes end.
@@ -31,17 +32,32 @@ pub struct Bounds {
 /// How a service ended.
 #[derive(Drop)]
 pub struct Served {
-    /// The passes whose threads are done, in the order in which they were given.
+    /// The passes, each as it was given or as its thread left it.
     pub passes: Vec<Pass>,
     /// A call of these passes was answered that the set is halted or that the device failed, also where the client didn't get the reply.
     pub halted: bool,
-    /// For how many passes no thread could be made. These are gone.
-    pub threadless: usize,
+    /// It served nobody, as the observer was told, and the passes are those that were given.
+    pub unserved: bool,
+}
+
+/// Nobody is served by these passes, for this reason.
+pub fn none_served<O: Observer>(passes: Vec<Pass>, observer: &O, why: Lack) -> Served
+    ensures passes { result.passes ≡ passes }
+    ensures halted { result.halted ≡ false }
+    ensures unserved { result.unserved ≡ true }
+{
+    observer.unserved(why);
+    Served {
+        passes,
+        halted: false,
+        unserved: true,
+    }
 }
 
 /// Serves connections with a thread for each pass, which serves one connection after the other: so many of them, or
 /// without an end where `bounds.sessions` is 0. A session that ended with a fault, or because its client was idle, counts too. A thread ends as well after a session that
-/// found the set halted; the first one tells the observer. A connection for which no thread is free waits in the listener's queue.
+/// found the set halted; the first one tells the observer. A connection for which no thread is free waits in the listener's queue. Where no
+/// thread can be made for a pass, this one serves by it before it tries the next.
 pub fn serve<D, G, N, R, O>(
     rt: &R,
     listener: &TcpListener,
@@ -58,7 +74,8 @@ where
     O: Observer + Sync,
     requires may_call { All (MayCall N.board) passes.items }
     ensures may_call { All (MayCall N.board) result.passes.items }
-    ensures count { vec_len result.passes + result.threadless ≡ vec_len passes }
+    ensures count { vec_len result.passes ≡ vec_len passes }
+    ensures unserved { result.unserved ≡ true → result.passes.items ≡ passes.items }
     ensures halted { result.halted ≡ true → Any SawHalt result.passes.items }
     ensures calm { All (λ pass. IsCalm (part pass)) passes.items → result.halted ≡ false → All (λ pass. IsCalm (part pass)) result.passes.items }
 {
@@ -86,7 +103,8 @@ where
     requires may_call { All (MayCall N.board) passes.items }
     requires calm { All (IsCalmAfter B.parts) passes.items }
     ensures may_call { All (MayCall N.board) result.passes.items }
-    ensures count { vec_len result.passes + result.threadless ≡ vec_len passes }
+    ensures count { vec_len result.passes ≡ vec_len passes }
+    ensures unserved { result.unserved ≡ true → result.passes.items ≡ passes.items }
     ensures halted { result.halted ≡ true → Any SawHalt result.passes.items }
     ensures calm { result.halted ≡ false → All (IsCalmAfter B.parts) result.passes.items }
 {
@@ -97,80 +115,74 @@ where
             requires may_call { All (MayCall N.board) passes.items }
             requires calm { All (IsCalmAfter B.parts) passes.items }
             ensures may_call { All (MayCall N.board) result.passes.items }
-            ensures count { vec_len result.passes + result.threadless ≡ vec_len passes }
+            ensures count { vec_len result.passes ≡ vec_len passes }
+            ensures unserved { result.unserved ≡ true → result.passes.items ≡ passes.items }
             ensures halted { result.halted ≡ true → Any SawHalt result.passes.items }
             ensures calm { result.halted ≡ false → All (IsCalmAfter B.parts) result.passes.items }
         {
             let given = passes.len();
-            let Some((mut threads, done)) = room_for::<N, B>(rt.alloc(), given) else {
-                observer.unserved(given, Lack::Memory);
-                return Served {
-                    passes: Vec::new(rt.alloc()),
-                    halted: false,
-                    threadless: given,
-                };
+            let Ok((mut threads, mut free, done)) = room_for::<N, B>(rt.alloc(), given) else {
+                return none_served(passes, observer, Lack::Memory);
             };
             for pass in passes {
                 let thread = scope.spawn(
-                    move || -> Finished<N, B>
+                    move || -> FreePass<N, B>
                         requires may_call { MayCall N.board pass }
                         requires calm { IsCalmAfter B.parts pass }
                     { serve_pass(rt, listener, set, pass, bounds, observer, told) },
                 );
-                let Ok(thread) = thread else {
-                    continue;
-                };
-                let Ok(()) = threads.push(thread) else {
-                    unreachable!()
-                };
+                match thread {
+                    Ok(thread) => {
+                        let Ok(()) = threads.push(thread) else {
+                            unreachable!()
+                        };
+                    }
+                    Err(refused) => {
+                        let SpawnError { value: serve_here } = refused;
+                        observer.threadless();
+                        let Ok(()) = free.push(serve_here()) else {
+                            unreachable!()
+                        };
+                    }
+                }
             }
-            let threadless = given - threads.len();
-            if threadless > 0 {
-                observer.unserved(threadless, Lack::Thread);
-            }
-            let (passes, halted) = join_all(rt, threads, done);
-            Served {
-                passes,
-                halted,
-                threadless,
-            }
+            hand_back(join_all(rt, threads, free), done)
         },
     )
 }
 
-type Rooms<N, B> = (Vec<JoinHandle<Finished<N, B>>>, Vec<Pass>);
+type Rooms<N, B> = (
+    Vec<JoinHandle<FreePass<N, B>>>,
+    Vec<FreePass<N, B>>,
+    Vec<Pass>,
+);
 
 // Room for so many threads, and for the passes that they hand back.
-fn room_for<N: Named, B: Given>(alloc: Global, count: usize) -> Option<Rooms<N, B>>
-    ensures threads { IfSome result (λ rooms. (vec_len rooms.0 ≡ 0) × (count ≤ vec_capacity rooms.0)) }
-    ensures passes { IfSome result (λ rooms. (vec_len rooms.1 ≡ 0) × (count ≤ vec_capacity rooms.1)) }
+fn room_for<N: Named, B: Given>(alloc: Global, count: usize) -> Result<Rooms<N, B>, AllocError>
+    ensures threads { IfOk result (λ rooms. (vec_len rooms.0 ≡ 0) × (count ≤ vec_capacity rooms.0)) }
+    ensures free { IfOk result (λ rooms. (vec_len rooms.1 ≡ 0) × (count ≤ vec_capacity rooms.1)) }
+    ensures done { IfOk result (λ rooms. (vec_len rooms.2 ≡ 0) × (count ≤ vec_capacity rooms.2)) }
 {
-    let threads = Vec::with_capacity(alloc, count).ok()?;
-    let passes = Vec::with_capacity(alloc, count).ok()?;
-    Some((threads, passes))
+    let threads = Vec::with_capacity(alloc, count)?;
+    let free = Vec::with_capacity(alloc, count)?;
+    let done = Vec::with_capacity(alloc, count)?;
+    Ok((threads, free, done))
 }
 
-// Waits for each thread, in the order of the passes. Hands these back, and says whether one of the threads found the set halted.
+// Waits for each thread, and puts its pass to the others, where there is room for it.
 fn join_all<N: Named, B: Given, R: Threads>(
     rt: &R,
-    threads: Vec<JoinHandle<Finished<N, B>>>,
-    room: Vec<Pass>,
-) -> (Vec<Pass>, bool)
-    requires empty { vec_len room ≡ 0 }
-    requires room { vec_len threads ≤ vec_capacity room }
-    ensures may_call { All (MayCall N.board) result.0.items }
-    ensures count { vec_len result.0 ≡ vec_len threads }
-    ensures halted { result.1 ≡ true → Any SawHalt result.0.items }
-    ensures calm { result.1 ≡ false → All (IsCalmAfter B.parts) result.0.items }
+    threads: Vec<JoinHandle<FreePass<N, B>>>,
+    free: Vec<FreePass<N, B>>,
+) -> Vec<FreePass<N, B>>
+    requires { vec_len free + vec_len threads ≤ vec_capacity free }
+    ensures { vec_len result ≡ vec_len free + vec_len threads }
 {
-    let mut passes = room;
-    let mut halted = false;
+    let mut free = free;
     for thread in threads {
-        let (pass, found) = thread.join(rt).into_parts();
-        halted = halted || found;
-        let Ok(()) = passes.push(pass) else {
+        let Ok(()) = free.push(thread.join(rt)) else {
             unreachable!()
         };
     }
-    (passes, halted)
+    free
 }

@@ -1,7 +1,7 @@
 use Rattle.std.proofs.lemmas.List.Elements.{All-map}
 use Rattle.lz_board.specs.Seats.{part}
 use Rattle.lz_serve.specs.Halts.{IsCalm}
-use Rattle.lz_serve.proofs.HandedBack.{each_part}
+use Rattle.lz_serve.proofs.JoinedPasses.{each_part}
 use Rattle.lz_loop.proofs.loops.serve_loops.Goals as goal
 
 pub serve_shares-requires-clause-calm : goal.serve_shares-requires-clause-calm

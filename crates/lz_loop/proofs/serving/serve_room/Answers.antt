@@ -1,7 +1,7 @@
 use Rattle.std.proofs.lemmas.List.Elements.{All-map}
 use Rattle.lz_board.specs.Seats.{part}
 use Rattle.lz_serve.specs.Halts.{IsCalm}
-use Rattle.lz_serve.proofs.HandedBack.{each_part}
+use Rattle.lz_serve.proofs.JoinedPasses.{each_part}
 use Rattle.lz_loop.proofs.serving.serve_room.Goals as goal
 
 pub serve_among-requires-clause-calm : goal.serve_among-requires-clause-calm

@@ -1,14 +1,8 @@
-use Rattle.std.specs.Prelude.{◌≡◌, ◌+◌, ◌≤◌, true, false, All, vec_capacity, vec_items, vec_len}
-use Rattle.std.specs.List.{Any}
+use Rattle.std.specs.Prelude.{◌≡◌, ◌+◌, ◌≤◌, vec_capacity, vec_len}
 use Rattle.std.specs.Vec.Iter.{into_iter_len}
-use Rattle.lz_set.specs.Names.{MayCall}
-use Rattle.lz_serve.specs.Halts.{IsCalmAfter, SawHalt}
 use Rattle.lz_serve.proofs.server.join_all.Given as goal
 
 abbrev pub invariant-loop-thread : goal.invariant-loop-thread
 invariant-loop-thread g l =
-    (vec_len l.passes + into_iter_len l.thread-iterator ≡ vec_len l.fn.threads)
-    × (vec_len l.fn.threads ≤ vec_capacity l.passes)
-    × All (MayCall g.N.Named.board) (vec_items l.passes)
-    × (l.halted ≡ true → Any SawHalt (vec_items l.passes))
-    × (l.halted ≡ false → All (IsCalmAfter g.B.Given.parts) (vec_items l.passes))
+    (vec_len l.free + into_iter_len l.thread-iterator ≡ vec_len l.fn.free + vec_len l.fn.threads)
+    × (vec_len l.fn.free + vec_len l.fn.threads ≤ vec_capacity l.free)

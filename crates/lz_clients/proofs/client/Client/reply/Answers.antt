@@ -1,14 +1,20 @@
-use Rattle.std.proofs.Common.{◌≡◌, Some, ap, ◌∙◌}
-use Rattle.lz_clients.specs.Conversations.{Talk}
+use Rattle.std.proofs.Common.{◌≡◌, Some, ap, ◌∙◌, subst}
+use Rattle.lz_proto.specs.declared.reply.Reply.{Reply}
+use Rattle.lz_clients.specs.Conversations.{Replied, Talk}
+use Rattle.lz_clients.proofs.Askers.{asked_there}
 use Rattle.lz_clients.proofs.TalksOnStreams.{replied_there}
 use Rattle.lz_clients.proofs.client.Client.reply.Goals as goal
 
 pub invariant_of-self : goal.invariant_of-self
 invariant_of-self g c =
     let was = c.self.invariant in
-    let request = c.requires.0 in
-    let whole : c.reply.new.self.whole ≡ c.self.inside.talk.whole = ap (λ (t : Talk). t.whole) c.in-Ok.ensures.others in
-    let asked : c.self.inside.talk.asked ≡ Some request = ap (λ (t : Talk). t.asked) c.self.view_is ∙ c.requires.1 in (
+    let granted = c.args.granted in
+    let told = c.reply-reply.ensures in
+    let old = c.self.inside.talk in
+    let new = c.reply.new.self in
+    let whole : new.whole ≡ old.whole = ap (λ (t : Talk). t.whole) c.in-Ok.ensures.others in
+    let asked : old.asked ≡ Some granted.question.request = asked_there _ _ _ old.asked granted.question (ap (λ a. a.asked) c.self.view_is ∙ c.requires.asked) in
+    let step : Replied granted.reply old new = subst (λ (r : Reply). Replied r old new) told.reply c.in-Ok.ensures.ok in (
       λ going. whole ∙ was.0 going,
-      λ kept. replied_there g.S.Stream.promised (g.S.Stream.traffic c.self.inside.stream) request c.args.reply c.self.inside.talk c.reply.new.self c.in-Ok.ensures.ok asked c.requires.2 whole (was.1 kept),
+      λ kept. replied_there g.S.Stream.promised (g.S.Stream.traffic c.self.inside.stream) granted old new step asked (λ grants so. c.requires.promised grants so told.granted) whole (was.1 kept),
     )

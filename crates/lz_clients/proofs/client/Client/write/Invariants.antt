@@ -2,4 +2,4 @@ use Rattle.std.specs.Prelude.{◌≡◌}
 use Rattle.lz_clients.proofs.client.Client.write.Given as goal
 
 abbrev pub invariant-tries : goal.invariant-tries
-invariant-tries g l = l.self.asked ≡ l.fn.self.asked
+invariant-tries g l = l.self ≡ l.fn.self

@@ -1,14 +1,13 @@
 use Rattle.std.proofs.Common.{Some, None, [], ◌∷◌, append_assoc, rules}
 use Rattle.lz_proto.specs.declared.item.Item.TheVariants.{Faulty}
-use Rattle.lz_clients.specs.Conversations.{IsIn}
 use Rattle.lz_clients.proofs.Standings.{finished}
 use Rattle.lz_clients.proofs.conversation.Conversation.finish.Goals as goal
 
 pub returns-in-Some-end-clause-ok : goal.returns-in-Some-end-clause-ok
-returns-in-Some-end-clause-ok c promise text sent at =
+returns-in-Some-end-clause-ok c grants text sent at =
     let fault = c.in-Some-end.bad in
     let after = append_assoc c.self.inside.items.items c.self.inside.newest.items (Faulty fault ∷ []) in
-    finished (IsIn promise) text sent c.args.self.now (Some fault) _ c.requires (search rules) (search (rules, after)) at
+    finished grants text sent c.args.self.now (Some fault) _ c.requires (search rules) (search (rules, after)) at
 
 pub returns-in_default-end-clause-ok : goal.returns-in_default-end-clause-ok
-returns-in_default-end-clause-ok c promise text sent at = finished (IsIn promise) text sent c.args.self.now None _ c.requires (search rules) (search rules) at
+returns-in_default-end-clause-ok c grants text sent at = finished grants text sent c.args.self.now None _ c.requires (search rules) (search rules) at

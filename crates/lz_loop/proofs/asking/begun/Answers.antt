@@ -1,5 +1,0 @@
-use Rattle.lz_loop.proofs.Askings.{steps_begun}
-use Rattle.lz_loop.proofs.asking.begun.Goals as goal
-
-pub returns-in-None-clause-steps : goal.returns-in-None-clause-steps
-returns-in-None-clause-steps g c = steps_begun c.begin.ensures.counts

@@ -1,0 +1,14 @@
+use Rattle.std.specs.Prelude.{◌≡◌, ◌+◌, ◌≤◌, true, false, All, vec_capacity, vec_items, vec_len}
+use Rattle.std.specs.List.{Any}
+use Rattle.std.specs.Vec.Iter.{into_iter_len}
+use Rattle.lz_set.specs.Names.{MayCall}
+use Rattle.lz_serve.specs.Halts.{IsCalmAfter, SawHalt}
+use Rattle.lz_serve.proofs.free_pass.hand_back.Given as goal
+
+abbrev pub invariant-loop-pass : goal.invariant-loop-pass
+invariant-loop-pass g l =
+    (vec_len l.passes + into_iter_len l.pass-iterator ≡ vec_len l.fn.free)
+    × (vec_len l.fn.free ≤ vec_capacity l.passes)
+    × All (MayCall g.N.Named.board) (vec_items l.passes)
+    × (l.halted ≡ true → Any SawHalt (vec_items l.passes))
+    × (l.halted ≡ false → All (IsCalmAfter g.B.Given.parts) (vec_items l.passes))

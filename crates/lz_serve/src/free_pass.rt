@@ -1,0 +1,126 @@
+//! A pass that answers nothing.
+ghost use Rattle.std.specs.Prelude.{◌≡◌, ◌≤◌, [], true, false, All, vec_capacity, vec_len};
+ghost use Rattle.std.specs.List.{Any};
+ghost use Rattle.lz_set.specs.Names.{MayCall};
+ghost use Rattle.lz_serve.specs.Halts.{IsCalmAfter, SawHalt};
+ghost use Rattle.lz_serve.specs.Replies.{says_halted};
+
+use crate::asking::{Granted, grant};
+use crate::given::Given;
+use crate::question::Question;
+use crate::server::Served;
+use lz_disk::Disk;
+use lz_proto::Reply;
+use lz_set::{Named, Pass, Set, StepGate};
+use std::marker::PhantomData;
+use std::sync::Wait;
+use std::time::Clock;
+
+/// A pass that answers nothing, and whether a reply of it told that the service halted. Where none did, no call of it was cut off, if
+/// none was of the passes that B names.
+#[derive(Drop)]
+pub struct FreePass<N: Named, B: Given> {
+    halted: bool,
+    pass: Pass,
+    of: PhantomData<N>,
+    among: PhantomData<B>,
+    ghost may_call: { MayCall N.board pass },
+    ghost seen: { halted ≡ true → SawHalt pass },
+    ghost calm: { halted ≡ false → IsCalmAfter B.parts pass },
+}
+
+impl<N: Named, B: Given> FreePass<N, B> {
+    pub fn new(pass: Pass, halted: bool) -> FreePass<N, B>
+        requires may_call { MayCall N.board pass }
+        requires seen { halted ≡ true → SawHalt pass }
+        requires calm { halted ≡ false → IsCalmAfter B.parts pass }
+        ensures { (result.halted ≡ halted) × (result.pass ≡ pass) }
+    {
+        FreePass {
+            halted,
+            pass,
+            of: PhantomData,
+            among: PhantomData,
+        }
+    }
+
+    /// Whether a reply of it told that the service halted.
+    pub fn halted(&self) -> bool
+        ensures { result ≡ self.now.halted }
+    {
+        self.halted
+    }
+
+    /// The pass.
+    pub fn pass(&self) -> &Pass
+        ensures { result.now ≡ self.now.pass }
+    {
+        &self.pass
+    }
+
+    /// Answers a question to its end. It may wait for other passes.
+    pub fn answer<D: Disk, G: StepGate, R: Wait + Clock>(
+        self,
+        rt: &R,
+        set: &Set<D, G, N>,
+        question: Question,
+    ) -> (FreePass<N, B>, Granted<N>)
+        requires { question.before ≡ self.pass }
+        ensures { result.1.question ≡ question }
+    {
+        let (pass, was_halted) = self.into_parts();
+        let (pass, granted) = grant(rt, set, pass, question);
+        let reply = granted.reply();
+        let halted = was_halted || says_halted(reply);
+        (FreePass::new(pass, halted), granted)
+    }
+
+    /// The pass, and whether a reply of it told that the service halted.
+    pub fn into_parts(self) -> (Pass, bool)
+        ensures same { (result.0 ≡ self.pass) × (result.1 ≡ self.halted) }
+        ensures may_call { MayCall N.board result.0 }
+        ensures seen { result.1 ≡ true → SawHalt result.0 }
+        ensures calm { result.1 ≡ false → IsCalmAfter B.parts result.0 }
+    {
+        let FreePass {
+            halted,
+            pass,
+            of: _,
+            among: _,
+        } = self;
+        (pass, halted)
+    }
+}
+
+/// The end of a service by these passes, for which there is room.
+pub fn hand_back<N: Named, B: Given>(free: Vec<FreePass<N, B>>, room: Vec<Pass>) -> Served
+    requires empty { vec_len room ≡ 0 }
+    requires room { vec_len free ≤ vec_capacity room }
+    ensures may_call { All (MayCall N.board) result.passes.items }
+    ensures count { vec_len result.passes ≡ vec_len free }
+    ensures unserved { result.unserved ≡ false }
+    ensures halted { result.halted ≡ true → Any SawHalt result.passes.items }
+    ensures calm { result.halted ≡ false → All (IsCalmAfter B.parts) result.passes.items }
+{
+    let mut passes = room;
+    let mut halted = false;
+    for pass in free {
+        let (pass, found) = pass.into_parts();
+        halted = halted || found;
+        let Ok(()) = passes.push(pass) else {
+            unreachable!()
+        };
+    }
+    Served {
+        passes,
+        halted,
+        unserved: false,
+    }
+}
+
+// Whether the reply tells a client that the service halted.
+fn says_halted(reply: Reply) -> bool
+    ensures { result ≡ says_halted reply }
+{
+    matches!(reply, Reply::Halted)
+}
