@@ -1,4 +1,4 @@
-# Installs the program, its man page, the completion of bash, the unit of systemd, pages for operators, and `ask`, the client for the shell:
+# Installs the program, its man page, the completion of bash, the units of systemd, pages for operators, and `ask`, the client for the shell:
 #
 #     make                                      gets the program (./first-run)
 #     make install                              below /usr/local
@@ -21,6 +21,7 @@ MAN = $(PREFIX)/share/man/man1
 DOC = $(PREFIX)/share/doc/lazyset
 COMPLETIONS = $(PREFIX)/share/bash-completion/completions
 UNITS = $(PREFIX)/lib/systemd/system
+PARTS = lazyset@.service lazyset@.socket
 PAGES = OPERATIONS.md PROTOCOL.md RECIPES.md
 
 .PHONY: all install uninstall check gate bench
@@ -44,10 +45,10 @@ install:
 	install -D -m 644 docs/lazyset.1 "$(DESTDIR)$(MAN)/lazyset.1"
 	install -D -m 644 -t "$(DESTDIR)$(DOC)" $(PAGES:%=docs/%)
 	install -D -m 644 contrib/lazyset.bash "$(DESTDIR)$(COMPLETIONS)/lazyset"
-	install -D -m 644 contrib/lazyset@.service "$(DESTDIR)$(UNITS)/lazyset@.service"
-	sed -i 's|/usr/local/|$(PREFIX)/|' "$(DESTDIR)$(UNITS)/lazyset@.service"
+	install -D -m 644 -t "$(DESTDIR)$(UNITS)" $(PARTS:%=contrib/%)
+	sed -i 's|/usr/local/|$(PREFIX)/|' $(PARTS:%="$(DESTDIR)$(UNITS)/%")
 
 uninstall:
 	rm -f "$(DESTDIR)$(BIN)/lazyset" "$(DESTDIR)$(LIB)/ask" "$(DESTDIR)$(MAN)/lazyset.1" $(PAGES:%="$(DESTDIR)$(DOC)/%")
-	rm -f "$(DESTDIR)$(COMPLETIONS)/lazyset" "$(DESTDIR)$(UNITS)/lazyset@.service"
+	rm -f "$(DESTDIR)$(COMPLETIONS)/lazyset" $(PARTS:%="$(DESTDIR)$(UNITS)/%")
 	rmdir "$(DESTDIR)$(LIB)" "$(DESTDIR)$(DOC)" 2> /dev/null || true

@@ -4,8 +4,10 @@ use std::fs::File;
 use std::os::unix::fs::FileExt;
 use std::rt::Files;
 
-// The system's table of connections, and its word for one that listens (proc(5)).
+// The system's tables of connections, over IPv4 and over IPv6, and their word for one that listens (proc(5)).
 const TABLE: &str = "/proc/net/tcp";
+
+const TABLE_OF_SIX: &str = "/proc/net/tcp6";
 
 const LISTENS: &str = "0A";
 
@@ -19,9 +21,10 @@ pub struct Backlog {
 }
 
 impl Backlog {
-    pub fn new<R: Files<File = File>>(rt: &R) -> Backlog {
+    pub fn new<R: Files<File = File>>(rt: &R, is_of_six: bool) -> Backlog {
+        let table = if is_of_six { TABLE_OF_SIX } else { TABLE };
         Backlog {
-            table: File::open(rt, TABLE).ok(),
+            table: File::open(rt, table).ok(),
         }
     }
 

@@ -12,6 +12,7 @@ use crate::files::{
     say_cause, shown, take_away_empty, take_lock,
 };
 use crate::growing::grow;
+use crate::handed::handed;
 use crate::heard::Heard;
 use crate::service::{Until, serve};
 use crate::words::words_of;
@@ -111,8 +112,10 @@ where
             until_eof,
         } => {
             let until = Until { control, until_eof };
+            // Before anything else is opened, which might get its number.
+            let handed = handed(rt);
             let disk = open_for(rt, file, options.buckets)?;
-            serve(rt, writer, file, disk, options, until)
+            serve(rt, writer, file, disk, options, until, handed)
         }
         Request::Stop { path, within } => ask_to_stop(rt, path, within),
         Request::Info { file } => survey(rt, writer, file, Shown::Counts),

@@ -240,10 +240,16 @@ where
         );
     }
 
-    fn unserved(&self, passes: usize, why: Lack) {
+    fn unserved(&self, why: Lack) {
+        self.say(Level::Error, format_args!("it serves nobody: {why}"));
+    }
+
+    fn threadless(&self) {
         self.say(
-            Level::Error,
-            format_args!("{passes} passes serve nobody: {why}"),
+            Level::Warning,
+            format_args!(
+                "no thread can be made: the one that starts the others serves in its place"
+            ),
         );
     }
 

@@ -10,6 +10,7 @@ mod fault;
 mod files;
 mod gauge;
 mod growing;
+mod handed;
 mod heard;
 mod level;
 mod log;

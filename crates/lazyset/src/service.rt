@@ -6,6 +6,7 @@ use crate::backlog::Backlog;
 use crate::control::Control;
 use crate::ending::has_ended;
 use crate::fault::Fault;
+use crate::handed::is_of_six;
 use crate::level::is_journal;
 use crate::log::{Log, Stoppable, Surroundings};
 use crate::ready::Ready;
@@ -19,9 +20,9 @@ use std::os::unix::net::UnixStream;
 use std::rt::{Env, Files};
 use std::sync::Wait;
 use std::sync::atomic::{AtomicBool, Ordering};
-use std::thread;
 use std::thread::Threads;
 use std::time::Clock;
+use std::{io, thread};
 
 /// What a service is asked to stop by, besides signals.
 #[derive(Clone, Copy)]
@@ -32,7 +33,8 @@ pub struct Until<'a> {
     pub until_eof: bool,
 }
 
-/// Serves the set of this file. Who asked for its end hears of it once the file is closed.
+/// Serves the set of this file, at the listener that was handed over, where one was. Who asked for its end hears of it once the file is
+/// closed.
 pub fn serve<R, W>(
     rt: &R,
     writer: &mut W,
@@ -40,6 +42,7 @@ pub fn serve<R, W>(
     disk: FileDisk,
     options: ServeOptions,
     until: Until<'_>,
+    handed: Option<io::Result<TcpListener>>,
 ) -> Result<Status, Fault>
 where
     R: Env + Files<File = File> + Eprint + AllocGlobal,
@@ -62,7 +65,7 @@ where
     let around = Surroundings {
         has_levels: is_journal(rt),
         ready: Ready::new(rt),
-        backlog: Backlog::new(rt),
+        backlog: Backlog::new(rt, is_of_six(&handed)),
     };
     let log = Log::new(rt, file, watched, around);
     let (status, disk, waiting) = serve_until(
@@ -71,6 +74,7 @@ where
         &log,
         disk,
         options,
+        handed,
         control.as_ref(),
         until.until_eof,
     );
@@ -91,6 +95,7 @@ fn serve_until<R, W, O>(
     log: &O,
     disk: FileDisk,
     options: ServeOptions,
+    handed: Option<io::Result<TcpListener>>,
     control: Option<&Control>,
     until_eof: bool,
 ) -> (Status, FileDisk, Vec<UnixStream>)
@@ -124,7 +129,7 @@ where
             } else {
                 None
             };
-            let (status, disk) = serve_on(rt, writer, log, disk, options);
+            let (status, disk) = serve_on(rt, writer, log, disk, options, handed);
             is_over.store(true, Ordering::SeqCst);
             if let Some(control) = control {
                 control.close();

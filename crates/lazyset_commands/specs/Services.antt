@@ -1,6 +1,6 @@
 -- What a service of a set does: its passes are served, each by a thread, or by loops.
 use Rattle.std.specs.Prelude.{◌≡◌, ◌⊎◌, ◌≤◌, ◌<◌, ℕ, All, List, [], ◌∷◌, ◌++◌, codes, decimal, length, Option, Result, Ok, Err}
-use Rattle.std.specs.Io.KnownBytes.{Appends}
+use Rattle.std.specs.List.{Any}
 use Rattle.lz_disk.specs.Devices.{Device}
 use Rattle.lz_vault.specs.Opens.{IsRefusedFor}
 use Rattle.lz_vault.specs.Vaults.{last_sync}
@@ -8,12 +8,13 @@ use Rattle.lz_vault.specs.declared.opening.OpenFault.{OpenFault}
 use Rattle.lz_yard.specs.Filling.{OpensYard}
 use Rattle.lz_board.specs.declared.view.Note.{Note}
 use Rattle.lz_board.specs.declared.view.Part.{Part}
+use Rattle.lz_board.specs.Notes.{shape_of_sizes}
 use Rattle.lz_board.specs.Opened.{opened_by}
 use Rattle.lz_board.specs.Seats.{BoardId}
 use Rattle.lz_tie.specs.Holds.{sizes_of}
+use Rattle.lz_tie.specs.Marks.{NoneIsCut, marks_in}
 use Rattle.lz_set.specs.Blanks.{BlankOver}
 use Rattle.lz_set.specs.Left.{IsLeft, IsLeftWith}
-use Rattle.lz_serve.specs.Halts.{IsCalm}
 use Rattle.lazyset_offline.specs.Ends.{open_status}
 use Rattle.lazyset_offline.specs.Refusals.{refusal_text}
 use Rattle.lz_proto.specs.Steps.{SendTells}
@@ -23,15 +24,25 @@ use Rattle.lazyset_offline.specs.Tellings.{Tells}
 use Rattle.lazyset_offline.specs.declared.status.Status.{Status}
 use Rattle.lazyset_offline.specs.declared.status.Status.TheVariants.{Done, Failed}
 
--- Passes of a set were served, and have ended with these parts: what is left of the disk tells a history, in which their calls are those
--- that they made, with the replies that they got. It is done only where each pass was served, and no call of theirs was answered that the
--- set is halted or that the device failed. It has failed only where a pass wasn't served, the device failed, or it has made its last sync.
+-- each pass of the set is among these
+abbrev pub AreAllPasses : BoardId → List Part → Type 0
+AreAllPasses b parts = (k : ℕ) → 1 ≤ k → k ≤ b.sizes.passes → Any (λ h. h.number ≡ k) parts
+
+-- none of these passes has made a call
+abbrev pub AreUnused : List Part → Type 0
+AreUnused parts = All (λ h. h.steps ≡ []) parts
+
+-- Passes of a set were served, and have ended with these parts, as many as it has: what is left of the disk tells a history, in which
+-- their calls are those that they made, with the replies that they got. It is done only where they are all of the set's, and no call of
+-- the history was answered that the set is halted or that the device failed. It has failed only where they aren't all, none has made a
+-- call, the device failed, or it has made its last sync.
 pub record ServedPasses (b : BoardId) (first : Device) (status : Status) (disk : Device) : Type 0 where
   pub ended : List Part
   pub met : List Part
   pub left : IsLeftWith b first disk ended met
-  pub whole : status ≡ Done → (length ended ≡ b.sizes.passes) × All IsCalm ended
-  pub failed : status ≡ Failed → (length ended < b.sizes.passes) ⊎ ((last_sync ≤ left.left.yard.vault.syncs) ⊎ (first.faults < disk.faults))
+  pub count : length ended ≡ b.sizes.passes
+  pub whole : status ≡ Done → AreAllPasses b ended × NoneIsCut (marks_in (shape_of_sizes b.sizes) left.notes)
+  pub failed : status ≡ Failed → ¬ AreAllPasses b ended ⊎ (AreUnused ended ⊎ ((last_sync ≤ left.left.yard.vault.syncs) ⊎ (first.faults < disk.faults)))
   pub other : (status ≡ Done) ⊎ (status ≡ Failed)
 
 -- the line that names the port on which a service listens

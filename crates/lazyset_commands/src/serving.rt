@@ -1,6 +1,6 @@
 //! The command that serves a set over the network.
-ghost use Rattle.std.specs.Prelude.{◌≡◌, ◌⊎◌, ◌+◌, ◌≤◌, ◌<◌, All, Ok, Err, true, false, vec_len};
-ghost use Rattle.std.specs.List.{Any};
+ghost use Rattle.std.specs.Prelude.{◌≡◌, ◌⊎◌, ◌≤◌, ◌==◌, ℕ, All, Ok, Err, true, false, vec_len};
+ghost use Rattle.std.specs.List.{Any, list_any};
 ghost use Rattle.lz_slot.specs.Limits.{most_buckets, most_passes};
 ghost use Rattle.lz_board.specs.Seats.{part};
 ghost use Rattle.lz_set.specs.Blanks.{AreNew, MayBeNamed};
@@ -26,17 +26,19 @@ use std::time::Clock;
 // What is said where the service can't listen.
 const NO_PORT: &[u8] = b"noport\n";
 
-/// Opens the set that the disk holds and serves it on a port of 127.0.0.1, with a thread for each pass, each of which serves
-/// one connection after the other, or with loops, each of which serves many connections. The observer is told once the service stands, and
-/// where the device failed. Says `listening P` before the first connection, `refused N` of a refused open as a run does, and `noport` where
-/// it can't listen there. It serves nobody where `listening P` can't be written. It ends when each pass, or loop, has served its sessions, and hands the disk back: Failed where a call was
-/// answered that the set is halted or that the device failed, or where there was no thread for a pass.
+/// Opens the set that the disk holds and serves it at the listener that was handed over, or else on a port of 127.0.0.1, with a thread for
+/// each pass, each of which serves one connection after the other, or with loops, each of which serves many connections. The observer is
+/// told once the service stands, and where the device failed. Says `listening P` before the first connection, `refused N` of a refused open
+/// as a run does, and `noport` where it can't listen there. It serves nobody where `listening P` can't be written. It ends when each pass,
+/// or loop, has served its sessions, and hands the disk back: Failed where a call was answered that the set is halted or that the device
+/// failed, or where nobody was served, as when out of memory.
 pub fn serve_on<R, W, O, D>(
     rt: &R,
     writer: &mut W,
     observer: &O,
     disk: D,
     options: ServeOptions,
+    handed: Option<io::Result<TcpListener>>,
 ) -> (Status, D)
 where
     R: Net<Listener = TcpListener, Stream = TcpStream>,
@@ -53,7 +55,7 @@ where
     ensures faults { (D.device disk).faults ≤ (D.device result.1).faults }
 {
     match Set::open(rt.alloc(), disk, NoGate, options.buckets, options.passes) {
-        Ok(blank) => serve_blank::<R, W, O, D, Brand>(rt, writer, observer, blank, options),
+        Ok(blank) => serve_blank::<R, W, O, D, Brand>(rt, writer, observer, blank, options, handed),
         Err(refused) => {
             let Refused { disk, fault } = refused;
             (refuse(writer, fault), disk)
@@ -68,6 +70,7 @@ fn serve_blank<R, W, O, D, N>(
     observer: &O,
     blank: Blank<D, NoGate>,
     options: ServeOptions,
+    handed: Option<io::Result<TcpListener>>,
 ) -> (Status, D)
 where
     R: Net<Listener = TcpListener, Stream = TcpStream>,
@@ -87,7 +90,7 @@ where
         loops: options.loops,
     };
     let (set, passes) = blank.start::<N>();
-    let (listener, port) = match listen(rt, options.port) {
+    let (listener, port) = match listen(rt, options.port, handed) {
         Ok(taken) => taken,
         Err(error) => {
             observer.no_port(error);
@@ -119,14 +122,16 @@ where
     requires new { AreNew N.board passes.items }
     ensures { ServedPasses N.board N.first result.0 (D.device result.1) }
 {
+    let given = passes.len();
     let Served {
         passes,
         halted,
-        threadless,
+        unserved,
     } = serve_set(rt, listener, &set, passes, options, observer);
+    let all = has_each(&passes, given);
     let mut passes = passes;
     let disk = set.close_with(passes.as_mut_slice());
-    (status_of_service(halted, threadless), disk)
+    (status_of_service(halted, unserved, all), disk)
 }
 
 // Serves by loops where there are any, and else by a thread for each pass.
@@ -145,7 +150,8 @@ where
     N: Named + Send + Sync,
     requires may_call { All (MayCall N.board) passes.items }
     ensures may_call { All (MayCall N.board) result.passes.items }
-    ensures count { vec_len result.passes + result.threadless ≡ vec_len passes }
+    ensures count { vec_len result.passes ≡ vec_len passes }
+    ensures unserved { result.unserved ≡ true → result.passes.items ≡ passes.items }
     ensures halted { result.halted ≡ true → Any SawHalt result.passes.items }
     ensures calm { All (λ pass. IsCalm (part pass)) passes.items → result.halted ≡ false → All (λ pass. IsCalm (part pass)) result.passes.items }
 {
@@ -164,25 +170,52 @@ where
     }
 }
 
-// The status after a service.
-fn status_of_service(halted: bool, threadless: usize) -> Status
-    ensures done { result ≡ Status.Done → (halted ≡ false) × (threadless ≡ 0) }
-    ensures failed { result ≡ Status.Failed → (halted ≡ true) ⊎ (0 < threadless) }
+// Whether the passes of all these numbers, from 1 on, are among them.
+fn has_each(passes: &[Pass], given: usize) -> bool
+    ensures each { result ≡ true → (k : ℕ) → 1 ≤ k → k ≤ given → list_any (λ p. p.number == k) passes.now ≡ true }
+    ensures not_each { result ≡ false → (k : ℕ) × (1 ≤ k) × (k ≤ given) × (list_any (λ p. p.number == k) passes.now ≡ false) }
+{
+    for number in 1..=given {
+        if !has_number(passes, number) {
+            return false;
+        }
+    }
+    true
+}
+
+// Whether the pass of this number is among them.
+fn has_number(passes: &[Pass], number: usize) -> bool
+    ensures { result ≡ list_any (λ p. p.number == number) passes.now }
+{
+    passes.iter().any(|pass| pass.number() == number)
+}
+
+// The status after a service, and whether each of its passes was handed back.
+fn status_of_service(halted: bool, unserved: bool, all: bool) -> Status
+    ensures done { result ≡ Status.Done → (halted ≡ false) × (all ≡ true) }
+    ensures failed { result ≡ Status.Failed → (halted ≡ true) ⊎ ((unserved ≡ true) ⊎ (all ≡ false)) }
     ensures other { (result ≡ Status.Done) ⊎ (result ≡ Status.Failed) }
 {
-    if halted || threadless > 0 {
+    if halted || unserved || !all {
         Status::Failed
     } else {
         Status::Done
     }
 }
 
-// A listener on a port of the loopback interface, and its port.
-fn listen<R>(rt: &R, port: u16) -> io::Result<(TcpListener, u16)>
+// The listener that was handed over, or else one on a port of the loopback interface, and its port.
+fn listen<R>(
+    rt: &R,
+    port: u16,
+    handed: Option<io::Result<TcpListener>>,
+) -> io::Result<(TcpListener, u16)>
 where
     R: Net<Listener = TcpListener, Stream = TcpStream>,
 {
-    let listener = TcpListener::bind(rt, ("127.0.0.1", port))?;
+    let listener = match handed {
+        Some(handed) => handed?,
+        None => TcpListener::bind(rt, ("127.0.0.1", port))?,
+    };
     let taken = listener.local_addr()?.port();
     Ok((listener, taken))
 }

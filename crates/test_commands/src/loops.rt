@@ -47,9 +47,11 @@ impl Observer for Counts {
         drop(error);
     }
 
-    fn unserved(&self, _passes: usize, why: Lack) {
+    fn unserved(&self, why: Lack) {
         drop(why);
     }
+
+    fn threadless(&self) {}
 
     fn accepted(&self) {
         self.accepted.set(self.accepted.get().wrapping_add(1));

@@ -95,7 +95,7 @@ impl<'a> Stream for Wire<'a> {
 
     ghost traffic = { λ _. None };
 
-    ghost promised = { λ _ _. ⊤ };
+    ghost promised = { λ _. ⊤ };
 
     fn receive(&mut self, buffer: &mut [u8]) -> Received {
         match self.network.try_borrow_mut() {
