@@ -1,4 +1,4 @@
-"""The examples of the pages, run as they are printed."""
+"""The examples of the pages, run as they are printed. A page has no other commands than these and those that are listed here."""
 
 from __future__ import annotations
 
@@ -11,7 +11,7 @@ import threading
 import time
 from dataclasses import dataclass, field
 from queue import Empty, Queue
-from typing import Iterator, List, Optional, Sequence
+from typing import Dict, List, Optional, Sequence, Tuple
 
 from trials.report import Skip, Wrong
 
@@ -19,6 +19,43 @@ PROMPT = "    $ "
 INDENT = "    "
 END = "end-of-example"
 PATIENCE = 20.0
+
+# How long a port is waited for that the page before has served on.
+MOST_WAIT = 5.0
+
+# What stands on a page without a prompt isn't run. Each such command of each page, and why.
+ROOT = "root alone may"
+SYSTEMD = "systemd as process 1"
+DOCKER = "docker"
+NOT_RUN: Dict[str, Dict[str, str]] = {
+    "README.md": {
+        "./first-run": "it has trials of its own",
+        "docker build -f contrib/Containerfile -t lazyset dist": DOCKER,
+        "PATH=$PWD/crates/lazyset/out:$PATH": "the shell has the program that is tried on its path",
+    },
+    "RECIPES.md": {
+        "docker build -f contrib/Containerfile -t lazyset dist": DOCKER,
+        "docker run --rm -v keys:/set lazyset make keys 1000": DOCKER,
+        "docker run --init -d --name keys -v keys:/set lazyset serve keys 7000 8 --buckets 1000 --control /run/lazyset/control": DOCKER,
+        "docker run --rm --network container:keys CLIENT": DOCKER,
+    },
+    "OPERATIONS.md": {
+        "make install": ROOT,
+        "mkdir -p /etc/lazyset && printf 'PORT=7001\\n' > /etc/lazyset/tickets": ROOT,
+        "mkdir -p -m 700 /var/lib/private && mkdir -p /var/lib/private/lazyset/tickets": ROOT,
+        "lazyset make /var/lib/private/lazyset/tickets/set 1000": ROOT,
+        "systemctl daemon-reload": SYSTEMD,
+        "systemctl enable --now lazyset@tickets": SYSTEMD,
+        "systemctl disable --now lazyset@tickets": SYSTEMD,
+        "systemctl enable --now lazyset@tickets.socket": SYSTEMD,
+        "systemctl stop lazyset@tickets": SYSTEMD,
+        "lazyset grow /var/lib/lazyset/tickets/set 2000": ROOT,
+        "systemctl start lazyset@tickets": SYSTEMD,
+    },
+}
+
+# What `make install` lays down elsewhere, and what it is a copy of.
+INSTALLED = ("/usr/local/lib/lazyset/ask", "clients/shell/ask")
 
 # What the examples call beside the program and the shell's own words.
 TOOLS = ("nc", "bash", "strace", "python3", "xxd", "od", "flock")
@@ -36,28 +73,49 @@ class Example:
     printed: List[str] = field(default_factory=list)
 
 
-def examples_of(text: str) -> Iterator[Example]:
-    """The commands of a page's indented blocks that begin with a prompt, with the lines below each. A command with a here-document
-    (`<< 'END'`) goes on to the line with its word."""
-    example: Optional[Example] = None
+def displays_of(text: str) -> str:
+    """The literal displays of a man page as indented blocks, in the same lines, and nothing else of it."""
+    lines: List[str] = []
+    is_literal = False
+    for line in text.splitlines():
+        is_literal = line.startswith(".Bd -literal") or (is_literal and line != ".Ed")
+        lines.append(INDENT + line.replace("\\e", "\\") if is_literal and not line.startswith(".") else "")
+    return "\n".join(lines)
+
+
+def examples_of(text: str) -> Tuple[List[Example], List[Example]]:
+    """The commands of a page's indented blocks that begin with a prompt, with the lines below each, and the lines of such blocks that stand
+    below no prompt, without a comment. A command with a here-document (`<< 'END'`) goes on to the line with its word."""
+    examples: List[Example] = []
+    others: List[Example] = []
+    is_below = False
     end_of_command = ""
     for number, line in enumerate(text.splitlines(), 1):
-        if example and end_of_command:
-            example.command += "\n" + line[len(INDENT) :]
+        if end_of_command:
+            examples[-1].command += "\n" + line[len(INDENT) :]
             if line == INDENT + end_of_command:
                 end_of_command = ""
         elif line.startswith(PROMPT):
-            if example:
-                yield example
-            example = Example(number, line[len(PROMPT) :])
+            examples.append(Example(number, line[len(PROMPT) :]))
+            is_below = True
             end_of_command = "".join(re.findall(r"<< '(\w+)'$", line))
-        elif line.startswith(INDENT) and example:
-            example.printed.append(line[len(INDENT) :])
-        elif example:
-            yield example
-            example = None
-    if example:
-        yield example
+        elif line.startswith(INDENT) and is_below:
+            examples[-1].printed.append(line[len(INDENT) :])
+        elif line.startswith(INDENT):
+            others.append(Example(number, re.sub(r" +# .*", "", line[len(INDENT) :])))
+        else:
+            is_below = False
+    return examples, others
+
+
+def see_listed(others: Sequence[Example], listed: Dict[str, str]) -> None:
+    """Each command that isn't run is listed, and each that is listed is there."""
+    for other in others:
+        if other.command not in listed:
+            raise Wrong(f"line {other.line}: {other.command!r} is neither run nor listed")
+    gone = sorted(set(listed) - {other.command for other in others})
+    if gone:
+        raise Wrong(f"listed and not there: {gone}")
 
 
 class Shell:
@@ -90,8 +148,11 @@ class Shell:
     def run(self, command: str, wanted: int) -> List[str]:
         """What a command prints. One that goes on behind it may print its lines late, so as many as wanted are awaited."""
         assert self.process.stdin is not None
-        self.process.stdin.write(f"{command}\necho {END}\n")
-        self.process.stdin.flush()
+        try:
+            self.process.stdin.write(f"{command}\necho {END}\n")
+            self.process.stdin.flush()
+        except BrokenPipeError:
+            raise Wrong(f"the shell has ended before {command!r}") from None
         lines: List[str] = []
         has_ended = False
         latest = time.monotonic() + PATIENCE
@@ -124,25 +185,31 @@ def missing(examples: Sequence[Example]) -> List[str]:
 
 
 def taken_ports(examples: Sequence[Example]) -> List[str]:
-    """The ports that the examples serve on and that another program has."""
+    """The ports that the examples serve on and that another program has, and doesn't leave."""
     asked = {port for example in examples for port in re.findall(r"serve \S+ (\d+)", example.command)}
     return [port for port in sorted(asked) if _is_taken(int(port))]
 
 
 def _is_taken(port: int) -> bool:
-    try:
-        with socket.create_server(("127.0.0.1", port)):
-            return False
-    except OSError:
-        return True
+    latest = time.monotonic() + MOST_WAIT
+    while time.monotonic() < latest:
+        try:
+            with socket.create_server(("127.0.0.1", port)):
+                return False
+        except OSError:
+            time.sleep(0.1)
+    return True
 
 
 def try_page(program: str, folder: str, page: str) -> None:
-    """Runs a page's examples one after another, in one shell and one folder."""
+    """Runs a page's examples one after another, in one shell and one folder. What else stands there as a command is listed above."""
     with open(page, encoding="utf-8") as file:
-        examples = list(examples_of(file.read()))
+        text = file.read()
+    name = os.path.basename(page)
+    examples, others = examples_of(displays_of(text) if name.endswith(".1") else text)
     if not examples:
         raise Wrong("it has no examples")
+    see_listed(others, NOT_RUN.get(name, {}))
     for absent in missing(examples):
         raise Skip(f"{absent} isn't installed")
     for port in taken_ports(examples):
@@ -150,7 +217,7 @@ def try_page(program: str, folder: str, page: str) -> None:
     shell = Shell(folder, program)
     try:
         for example in examples:
-            printed = shell.run(example.command, len(example.printed))
+            printed = shell.run(example.command.replace(*INSTALLED), len(example.printed))
             if printed != example.printed:
                 raise Wrong(f"line {example.line}: {example.command!r} printed {printed}, not {example.printed}")
     finally:

@@ -20,6 +20,7 @@ FILES = {
     "bin/lazyset": 0o755,
     "lib/lazyset/ask": 0o755,
     "lib/systemd/system/lazyset@.service": 0o644,
+    "lib/systemd/system/lazyset@.socket": 0o644,
     "share/bash-completion/completions/lazyset": 0o644,
     "share/doc/lazyset/OPERATIONS.md": 0o644,
     "share/doc/lazyset/PROTOCOL.md": 0o644,
@@ -32,6 +33,7 @@ MODULES = ("__init__.py", "claims.py", "commands.py", "connection.py", "errors.p
 
 PACKED = [
     "lib/systemd/system/lazyset@.service",
+    "lib/systemd/system/lazyset@.socket",
     "usr/bin/lazyset",
     "usr/lib/lazyset/ask",
     *(f"usr/lib/python3/dist-packages/lazyset/{name}" for name in MODULES),
@@ -81,10 +83,10 @@ def try_make(program: Program, folder: str, top: str) -> None:
     expect(modes_in(os.path.join(folder, "opt", "set")), FILES, "what is installed")
     place = os.path.join(folder, "opt", "set")
     expect(bytes_of(os.path.join(place, "bin", "lazyset")) == bytes_of(program.path), True, "the program's bytes")
-    unit = bytes_of(os.path.join(place, "lib", "systemd", "system", "lazyset@.service")).decode()
+    unit, port = (bytes_of(os.path.join(place, "lib", "systemd", "system", f"lazyset@.{kind}")).decode() for kind in ("service", "socket"))
     expect(re.findall(r"^Exec\w+=-?(\S+) (?:serve|stop) ", unit, re.M), ["/opt/set/bin/lazyset"] * 2, "what the unit starts")
-    page = re.findall(r"^Documentation=file:(.*)$", unit, re.M)
-    expect(page, ["/opt/set/share/doc/lazyset/OPERATIONS.md"], "the page that the unit names")
+    pages = re.findall(r"^Documentation=file:(.*)$", unit + port, re.M)
+    expect(pages, ["/opt/set/share/doc/lazyset/OPERATIONS.md"] * 2, "the pages that the units name")
     said([*words, "uninstall"])
     expect(modes_in(folder), {}, "what is left")
 

@@ -87,6 +87,7 @@ class Service:
         *options: str,
         before: Sequence[str] = (),
         log: Union[int, IO[str]] = subprocess.DEVNULL,
+        kept: Sequence[int] = (),
     ) -> None:
         self.process = subprocess.Popen(
             [*before, program.path, "serve", file, "0", str(passes), *options],
@@ -94,6 +95,7 @@ class Service:
             stderr=log,
             text=True,
             start_new_session=True,
+            pass_fds=kept,
         )
         assert self.process.stdout is not None
         self.told = self.process.stdout.readline()

@@ -114,10 +114,10 @@ def try_more(unit: Unit) -> None:
 
 
 def try_verify(program: Program, folder: str, top: str) -> None:
-    """systemd has nothing to say of the unit that `make install` lays down, and the page that it names is there."""
+    """systemd has nothing to say of the units that `make install` lays down, and the page that they name is there."""
     needs("systemd-analyze", "make")
     said(["make", "-s", "-C", top, f"PROGRAM={program.path}", f"PREFIX={folder}", "install"])
-    unit = os.path.join(folder, "lib", "systemd", "system", "lazyset@.service")
-    expect(said(["systemd-analyze", "verify", unit]), "", "systemd-analyze verify")
-    pages = re.findall(r"^Documentation=file:(.*)$", read(unit), re.M)
-    expect([os.path.exists(it) for it in pages], [True], f"the pages {pages}")
+    units = [os.path.join(folder, "lib", "systemd", "system", f"lazyset@{name}") for name in (".service", ".socket")]
+    expect(said(["systemd-analyze", "verify", *units]), "", "systemd-analyze verify")
+    pages = [page for unit in units for page in re.findall(r"^Documentation=file:(.*)$", read(unit), re.M)]
+    expect([os.path.exists(it) for it in pages], [True, True], f"the pages {pages}")

@@ -19,6 +19,8 @@ from trials.plain import held
 from trials.program import PATIENCE, Key, Program, Service
 from trials.report import Skip, expect
 
+THREADLESS = "no thread can be made: the one that starts the others serves in its place"
+
 
 @contextmanager
 def logged(program: Program, file: str, passes: int, *options: str, before: Sequence[str] = ()) -> Iterator["Logged"]:
@@ -124,17 +126,17 @@ def try_change(program: Program, file: str, change: Callable[[str], None], why: 
 
 
 def try_threads(program: Program, folder: str) -> None:
-    """Where two of four threads can't be made the log says so, and the others serve."""
+    """Where two of four threads can't be made the log says so, and the thread that makes them serves in their place."""
     needs_strace()
     file = os.path.join(folder, "threads")
     program.make(file, 4)
     calls = "clone,clone3"
     before = ["strace", "-f", "-qq", "-o", os.devnull, "-e", f"trace={calls}", "-e", f"inject={calls}:error=EAGAIN:when=3+"]
     with logged(program, file, 4, "--sessions", "1", before=before) as service:
-        for key in (1, 2):
+        for key in (1, 2, 3, 4):
             expect(service.ask(f"add {key}"), ["yes"], "a reply")
-        expect(service.service.wait(), 1, "the status of a service without all its threads")
-        expect(service.lines()[0], "2 passes serve nobody: no thread is left", "the log")
+        expect(service.service.wait(), 0, "the status of a service without all its threads")
+        expect(service.lines()[:2], [THREADLESS] * 2, "the log")
 
 
 def try_end(program: Program, folder: str) -> None:
