@@ -1,12 +1,12 @@
 // Loads a set service, or Redis, over TCP, and tells how many commands a second were answered.
 //
-//     load WHAT PORT CONNECTIONS DEPTH VERB FIRST COUNT SECONDS
+//     load WHAT PORT CONNECTIONS DEPTH VERB FIRST COUNT SECONDS [once]
 //
 // WHAT is lazyset or redis. On each connection DEPTH commands are sent at once, and the next ones when all of them are answered. There
 // are up to 16 threads, each with a share of the connections: with fewer of them a service of many threads leaves too little processor to
 // the load, with more the load leaves too little to a service of one.
 // VERB is add, remove or has; the COUNT keys from FIRST on (a power of two), in a scattered order, are dealt to the connections in turn.
-// An add or a remove takes each key once, has goes round. It ends after SECONDS, or when the keys are used up, and prints how many
+// An add or a remove takes each key once, has goes round, but for `once`. It ends after SECONDS, or when the keys are used up, and prints how many
 // commands were answered, how many of them changed or found something, and the seconds that it took.
 #include <arpa/inet.h>
 #include <netinet/tcp.h>
@@ -32,6 +32,7 @@ struct options {
     unsigned long first;
     unsigned long count;
     double seconds;
+    int goes_round;
     int threads;
 };
 
@@ -153,7 +154,7 @@ static int send_next(struct connection *it) {
     }
     for (; it->wanted < options.depth; it->wanted++) {
         if (it->place >= options.count) {
-            if (options.verb != HAS) {
+            if (!options.goes_round) {
                 break;
             }
             it->place = (unsigned long)it->index;
@@ -213,6 +214,7 @@ static int read_options(char **words) {
     options.first = strtoul(words[6], NULL, 10);
     options.count = strtoul(words[7], NULL, 10);
     options.seconds = atof(words[8]);
+    options.goes_round = options.verb == HAS && words[9] == NULL;
     options.threads = options.connections < MOST_THREADS ? options.connections : MOST_THREADS;
     return options.connections >= 1 && options.connections <= MOST_CONNECTIONS && options.depth >= 1 &&
            options.depth <= MOST_DEPTH && options.count >= (unsigned long)options.connections;
@@ -241,8 +243,8 @@ int main(int count, char **words) {
     static struct worker workers[MOST_THREADS];
     unsigned long answered = 0, yes = 0;
     int failed = 0;
-    if (count != 9 || !read_options(words)) {
-        fprintf(stderr, "load WHAT PORT CONNECTIONS DEPTH VERB FIRST COUNT SECONDS\n");
+    if (count < 9 || count > 10 || !read_options(words)) {
+        fprintf(stderr, "load WHAT PORT CONNECTIONS DEPTH VERB FIRST COUNT SECONDS [once]\n");
         return 2;
     }
     pthread_barrier_init(&begin, NULL, (unsigned)options.threads + 1);

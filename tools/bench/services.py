@@ -18,7 +18,8 @@ HERE = os.path.dirname(os.path.abspath(__file__))
 
 SLOTS = 65536
 BUCKETS = 4096
-MOST_PASSES = 64
+MOST_THREADS = 64
+MOST_PASSES = 1024
 
 # How much longer a sync takes on the slow device, in microseconds, and by what: each call waits before it begins.
 DELAY = 1000
@@ -70,10 +71,10 @@ class Bench:
         return told_by(self.start_load(target, port, verb, connections, depth, 0, count, seconds))
 
     def start_load(
-        self, target: str, port: int, verb: str, connections: int, depth: int, first: int, count: int, seconds: float
+        self, target: str, port: int, verb: str, connections: int, depth: int, first: int, count: int, seconds: float, once: bool = False
     ) -> "subprocess.Popen[str]":
         what = "redis" if target == "redis" else "lazyset"
-        words = [what, str(port), str(connections), str(depth), verb, str(first), str(count), str(seconds)]
+        words = [what, str(port), str(connections), str(depth), verb, str(first), str(count), str(seconds), *["once"] * once]
         return subprocess.Popen([self.path("load"), *words], stdout=subprocess.PIPE, text=True)
 
     def slowed(self) -> List[str]:
@@ -112,7 +113,7 @@ def switches(pid: int) -> int:
 
 def serves(target: str, connections: int) -> bool:
     """Whether a target serves so many connections at once: one with a thread for each has few."""
-    return target != "threads" or connections <= MOST_PASSES
+    return target != "threads" or connections <= MOST_THREADS
 
 
 def service(bench: Bench, target: str, members: int, connections: int, before: Sequence[str] = ()) -> "contextlib.AbstractContextManager[Served]":
