@@ -1,15 +1,20 @@
 -- The numbers of a request.
-use Rattle.std.specs.Prelude.{◌≡◌, ◌≤◌, ℕ, IfSome}
+use Rattle.std.specs.Prelude.{◌≡◌, ◌≤◌, ℕ, IfSome, None}
 use Rattle.lz_slot.specs.Limits.{last_room, most_buckets, most_buckets_of, most_passes, most_rehearsed}
 use Rattle.lz_slot.specs.Rooms.{last_room_of}
 use Rattle.lz_serve.specs.declared.observer.Loops.{Loops}
-use Rattle.lz_serve.specs.Options.{most_connections}
+use Rattle.lz_serve.specs.declared.options.ServeOptions.{ServeOptions}
+use Rattle.lz_serve.specs.Options.{most_connections, most_threads}
 use Rattle.lazyset_command_line.specs.declared.request.Request.{Request}
 use Rattle.lazyset_command_line.specs.declared.request.Request.TheVariants.{Renew, Grow, Run, Serve, Rehearse}
 
--- loops of so many passes, each of which has a pass and a connection at least
+-- loops of so many passes, each of which has a thread, and a pass and a connection at least
 abbrev pub AreWithin : ℕ → Loops → Type 0
-AreWithin passes l = ((1 ≤ l.count) × (l.count ≤ passes)) × (l.count ≤ l.connections) × (l.connections ≤ most_connections)
+AreWithin passes l = ((1 ≤ l.count) × (l.count ≤ most_threads)) × (l.count ≤ passes) × (l.count ≤ l.connections) × (l.connections ≤ most_connections)
+
+-- a service has so many passes; without loops each of them has a thread
+abbrev pub ArePasses : ServeOptions → Type 0
+ArePasses options = ((1 ≤ options.passes) × (options.passes ≤ most_passes)) × (options.loops ≡ None → options.passes ≤ most_threads)
 
 -- its numbers and its format are those with which the command may be run
 abbrev pub IsWithin : Request → Type 0
@@ -17,7 +22,7 @@ IsWithin (Renew old new slots format) = last_room_of format ≡ last_room
 IsWithin (Grow file slots format) = IfSome format (λ f. last_room_of f ≡ last_room)
 IsWithin (Run file buckets) = (1 ≤ buckets) × (buckets ≤ most_buckets)
 IsWithin (Serve file options control until_eof) =
-    ((1 ≤ options.passes) × (options.passes ≤ most_passes)) × ((1 ≤ options.buckets) × (options.buckets ≤ most_buckets)) × IfSome options.loops (AreWithin options.passes)
+    ArePasses options × ((1 ≤ options.buckets) × (options.buckets ≤ most_buckets)) × IfSome options.loops (AreWithin options.passes)
 IsWithin (Rehearse slots buckets format) =
     ((1 ≤ slots) × (slots ≤ most_rehearsed)) × (1 ≤ buckets) × (buckets ≤ most_buckets_of format)
 IsWithin request = Unit {0}

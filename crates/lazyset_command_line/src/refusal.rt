@@ -28,18 +28,26 @@ pub fn refusal_of(alloc: Global, error: Error) -> Refusal {
     }
 }
 
-/// So many buckets are more than a set in a file of this format may have. Where the command line itself knows the most, it says the same.
+/// So many buckets are more than a set in a file of this format may have.
 pub fn too_many_buckets(alloc: Global, buckets: u64, format: Format) -> Refusal {
-    let most = format.most_buckets();
-    let text = format!(in alloc;
-        "error: invalid value '{buckets}' for '--buckets <B>': {buckets} is not in 1..={most}\n\nFor more information, try '--help'.\n"
-    );
-    not_understood(text)
+    not_within(alloc, "--buckets <B>", buckets, format.most_buckets())
+}
+
+/// A service can't have so many passes, but up to so many.
+pub fn bad_passes(alloc: Global, passes: u64, most: usize) -> Refusal {
+    not_within(alloc, "<PASSES>", passes, most)
 }
 
 /// Each loop needs a pass.
 pub fn too_many_loops(alloc: Global) -> Refusal {
     not_understood(format!(in alloc; "error: '--loops <L>' is more than '<PASSES>'\n"))
+}
+
+// Where the command line itself knows the most, it says the same.
+fn not_within(alloc: Global, name: &str, value: u64, most: usize) -> Refusal {
+    not_understood(format!(in alloc;
+        "error: invalid value '{value}' for '{name}': {value} is not in 1..={most}\n\nFor more information, try '--help'.\n"
+    ))
 }
 
 fn not_understood(text: Result<String, AllocError>) -> Refusal {

@@ -1,13 +1,13 @@
 //! What a command line asks for.
 ghost use Rattle.std.specs.Prelude.{◌≡◌, ◌≤◌, IfOk, IfSome};
-ghost use Rattle.lz_slot.specs.Limits.{last_room, most_buckets, most_passes};
+ghost use Rattle.lz_slot.specs.Limits.{last_room, most_buckets};
 ghost use Rattle.lz_slot.specs.Rooms.{last_room_of};
-ghost use Rattle.lazyset_command_line.specs.Requests.{AreWithin, IsWithin};
+ghost use Rattle.lazyset_command_line.specs.Requests.{ArePasses, AreWithin, IsWithin};
 
 use crate::command::command_line;
-use crate::refusal::{Refusal, refusal_of, too_many_buckets, too_many_loops};
+use crate::refusal::{Refusal, bad_passes, refusal_of, too_many_buckets, too_many_loops};
 use clap::ArgMatches;
-use lz_serve::{Loops, MOST_CONNECTIONS, ServeOptions};
+use lz_serve::{Loops, MOST_CONNECTIONS, MOST_THREADS, ServeOptions};
 use lz_slot::{Format, LAST_ROOM, MOST_BUCKETS, MOST_PASSES, MOST_REHEARSED};
 use std::alloc::{AllocError, Global};
 use std::fmt;
@@ -111,10 +111,14 @@ pub fn read<'a>(alloc: Global, words: &'a [String]) -> Result<Request<'a>, Refus
     }
 }
 
-// The faults that the table of words doesn't show: a format has its own most buckets, and each loop needs a pass.
+// The faults that the table of words doesn't show: a format has its own most buckets, loops may have more passes than there are
+// threads, and each loop needs a pass.
 fn misfit(alloc: Global, matches: &ArgMatches<'_>) -> Refusal {
-    match rehearsed(matches) {
-        Some((buckets, format)) => too_many_buckets(alloc, buckets, format),
+    if let Some((buckets, format)) = rehearsed(matches) {
+        return too_many_buckets(alloc, buckets, format);
+    }
+    match beyond(matches) {
+        Some((passes, most)) => bad_passes(alloc, passes, most),
         None => too_many_loops(alloc),
     }
 }
@@ -124,6 +128,21 @@ fn rehearsed(matches: &ArgMatches<'_>) -> Option<(u64, Format)> {
     match matches.subcommand()? {
         ("rehearse", words) => Some((number(words, "buckets")?, format_of(words)?)),
         _ => None,
+    }
+}
+
+// The passes of a service that can't have them, and how many it may have.
+fn beyond(matches: &ArgMatches<'_>) -> Option<(u64, usize)> {
+    let ("serve", words) = matches.subcommand()? else {
+        return None;
+    };
+    let most = match words.get_str("connections") {
+        Some(_) => MOST_PASSES,
+        None => MOST_THREADS,
+    };
+    match number_within(words, "PASSES", most) {
+        Some(_) => None,
+        None => Some((number(words, "PASSES")?, most)),
     }
 }
 
@@ -223,16 +242,18 @@ fn stop<'a>(words: &ArgMatches<'a>) -> Option<Request<'a>>
 
 // How the command line asks to serve.
 fn serve_options(matches: &ArgMatches<'_>) -> Option<ServeOptions>
-    ensures passes { IfSome result (λ options. (1 ≤ options.passes) × (options.passes ≤ most_passes)) }
+    ensures passes { IfSome result ArePasses }
     ensures buckets { IfSome result (λ options. (1 ≤ options.buckets) × (options.buckets ≤ most_buckets)) }
     ensures loops { IfSome result (λ options. IfSome options.loops (AreWithin options.passes)) }
 {
     let port = u16::try_from(number(matches, "PORT")?).ok()?;
-    let passes = number_within(matches, "PASSES", MOST_PASSES)?;
     let buckets = number_within(matches, "buckets", MOST_BUCKETS)?;
-    let loops = match matches.get_str("connections") {
-        Some(_) => Some(loops_of(matches, passes)?),
-        None => None,
+    let (passes, loops) = match matches.get_str("connections") {
+        Some(_) => {
+            let passes = number_within(matches, "PASSES", MOST_PASSES)?;
+            (passes, Some(loops_of(matches, passes)?))
+        }
+        None => (number_within(matches, "PASSES", MOST_THREADS)?, None),
     };
     Some(ServeOptions {
         port,
@@ -244,14 +265,14 @@ fn serve_options(matches: &ArgMatches<'_>) -> Option<ServeOptions>
     })
 }
 
-// The loops that the command line asks for, each of which needs a pass and a connection.
+// The loops that the command line asks for, each of which needs a thread, a pass and a connection.
 fn loops_of(matches: &ArgMatches<'_>, passes: usize) -> Option<Loops>
     requires { 1 ≤ passes }
     ensures { IfSome result (AreWithin passes) }
 {
     let connections = number_within(matches, "connections", MOST_CONNECTIONS)?;
     let count = match matches.get_str("loops") {
-        Some(_) => number_within(matches, "loops", passes)?,
+        Some(_) => number_within(matches, "loops", passes.min(MOST_THREADS))?,
         None => 1,
     };
     Some(Loops {

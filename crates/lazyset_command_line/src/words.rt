@@ -1,6 +1,6 @@
 //! The commands and their words, as a table.
-use lz_serve::MOST_CONNECTIONS;
-use lz_slot::{MOST_BUCKETS, MOST_PASSES, MOST_REHEARSED};
+use lz_serve::{MOST_CONNECTIONS, MOST_THREADS};
+use lz_slot::{MOST_BUCKETS, MOST_REHEARSED};
 
 /// What a word may be.
 #[derive(Clone, Copy)]
@@ -77,7 +77,7 @@ pub const SHEETS: [Sheet; 10] = [
     Sheet {
         name: "serve",
         about: "Answers the lines of many connections at once, as `run` does",
-        notes: "Prints `listening PORT` when clients can connect, `refused N` as `run` does, or `noport`. Standard error is its log.\n\nIt locks the file: where another process has it, it says `nofile`.\n\nExample: lazyset serve f 7000 8 --buckets 1024 --idle 600\n\nFor thousands of connections: lazyset serve f 7000 64 --buckets 4096 --connections 5000",
+        notes: "Prints `listening PORT` when clients can connect, `refused N` as `run` does, or `noport`. Standard error is its log.\n\nIt locks the file: where another process has it, it says `nofile`.\n\nExample: lazyset serve f 7000 8 --buckets 1024 --idle 600\n\nFor thousands of connections: lazyset serve f 7000 1024 --buckets 4096 --connections 5000",
         words: &[
             FILE,
             PORT,
@@ -252,10 +252,10 @@ const PORT: Word = Word {
 const PASSES: Word = Word {
     id: "PASSES",
     value_name: None,
-    form: Form::Within(1, MOST_PASSES as i64),
+    form: Form::Number,
     default: None,
     beside: Beside::Anything,
-    help: "How many commands are carried out at once, 1 to 64; without --connections also how many connections are served, each by a thread. Further ones wait",
+    help: "How many commands are carried out at once, 1 to 64, or to 1024 with --connections; without it also how many connections are served, each by a thread. Further ones wait",
 };
 
 const CONNECTIONS: Word = Word {
@@ -270,10 +270,10 @@ const CONNECTIONS: Word = Word {
 const LOOPS: Word = Word {
     id: "loops",
     value_name: Some("L"),
-    form: Form::Within(1, MOST_PASSES as i64),
+    form: Form::Within(1, MOST_THREADS as i64),
     default: None,
     beside: Beside::Needs("connections"),
-    help: "How many threads serve the connections, at most PASSES; 1 unless given",
+    help: "How many threads serve the connections, 1 to 64 and at most PASSES; 1 unless given",
 };
 
 const SESSIONS: Word = Word {

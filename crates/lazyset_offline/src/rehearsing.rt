@@ -1,6 +1,6 @@
 //! The command that rehearses a script.
 ghost use Rattle.std.specs.Prelude.{◌≡◌, ◌⊎◌, ◌≤◌};
-ghost use Rattle.lz_slot.specs.Limits.{most_buckets, most_passes, most_rehearsed};
+ghost use Rattle.lz_slot.specs.Limits.{most_actors, most_buckets, most_rehearsed};
 ghost use Rattle.lz_slot.specs.declared.format.Format.{Format as AFormat};
 ghost use Rattle.lz_machine.specs.Yards.{Shape};
 ghost use Rattle.lz_core.specs.Worlds.{IsNew};
@@ -31,11 +31,11 @@ pub fn rehearse_on<R: Read, W: Write + Drop>(
 ) -> Status
     requires slots { (1 ≤ slots) × (slots ≤ most_rehearsed) }
     requires buckets { (1 ≤ buckets) × (buckets ≤ most_buckets) }
-    ensures told { IsRehearsed (record { slots = slots; buckets = buckets; passes = most_passes }) format (R.remaining reader.old) result (W.contents writer.old) (W.contents writer.new) }
+    ensures told { IsRehearsed (record { slots = slots; buckets = buckets; passes = most_actors }) format (R.remaining reader.old) result (W.contents writer.old) (W.contents writer.new) }
     ensures done { result ≡ Status.Done → OfScript (λ lines.
-        RehearsedAll (record { slots = slots; buckets = buckets; passes = most_passes }) format lines result (W.contents writer.old) (W.contents writer.new)) (R.remaining reader.old) }
+        RehearsedAll (record { slots = slots; buckets = buckets; passes = most_actors }) format lines result (W.contents writer.old) (W.contents writer.new)) (R.remaining reader.old) }
     ensures refused { result ≡ Status.Refused → IsUnread (R.remaining reader.old) result (W.contents writer.old) (W.contents writer.new) ⊎ OfScript (λ lines.
-        RehearsedTo (record { slots = slots; buckets = buckets; passes = most_passes }) format lines result (W.contents writer.old) (W.contents writer.new)) (R.remaining reader.old) }
+        RehearsedTo (record { slots = slots; buckets = buckets; passes = most_actors }) format lines result (W.contents writer.old) (W.contents writer.new)) (R.remaining reader.old) }
     ensures other { (result ≡ Status.Done) ⊎ (result ≡ Status.Refused) ⊎ (result ≡ Status.Failed) }
 {
     match Script::read(alloc, reader) {
@@ -57,7 +57,7 @@ fn rehearse_lines<W: Write + Drop>(
 ) -> Status
     requires slots { (1 ≤ slots) × (slots ≤ most_rehearsed) }
     requires buckets { (1 ≤ buckets) × (buckets ≤ most_buckets) }
-    ensures { IsRehearsal (record { slots = slots; buckets = buckets; passes = most_passes }) format lines.now result (W.contents writer.old) (W.contents writer.new)
+    ensures { IsRehearsal (record { slots = slots; buckets = buckets; passes = most_actors }) format lines.now result (W.contents writer.old) (W.contents writer.new)
         ⊎ LacksMemory (W.contents writer.old) (W.contents writer.new) result }
 {
     match World::new(alloc, slots, buckets, format) {

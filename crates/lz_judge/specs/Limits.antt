@@ -1,6 +1,5 @@
 -- The limits of a history.
 use Rattle.std.specs.Prelude.{ℕ}
-use Rattle.lz_slot.specs.Limits.{most_passes}
 
 -- the most calls of a history
 abbrev pub most_calls : ℕ
@@ -13,10 +12,6 @@ most_bytes = 4_194_304
 -- the largest place of a point
 abbrev pub largest_place : ℕ
 largest_place = 999_999_999_999
-
--- actors count from 1 up to this one
-abbrev pub most_actors : ℕ
-most_actors = most_passes
 
 -- the faults of an open count from 1 up to this one
 abbrev pub most_faults : ℕ

@@ -3,6 +3,7 @@ use Rattle.std.specs.Prelude.{ℕ, ◌+◌, ◌==◌, Bool, true, false, nat_le,
 use Rattle.std.specs.List.{slice_split}
 use Rattle.std.specs.Cmp.Lexicographic.{pointwise}
 use denote.Ref.{Bor}
+use Rattle.lz_slot.specs.Limits.{most_actors}
 use Rattle.lz_slot.specs.Numerals.{largest_read, number_in}
 use Rattle.lz_slot.specs.Texts.{key_read}
 use Rattle.lz_slot.specs.declared.spelling.KeyFault.{KeyFault}
@@ -15,7 +16,7 @@ use Rattle.lz_slot.specs.declared.history.Refusal.TheVariants.{Full, Worn, OldFi
 use Rattle.lz_slot.specs.declared.history.Mark.TheVariants as mark
 use Rattle.lz_judge.specs.declared.line.Line.{Line}
 use Rattle.lz_judge.specs.declared.line.Line.TheVariants.{Seen, Placed, Other}
-use Rattle.lz_judge.specs.Limits.{largest_place, most_actors, most_faults}
+use Rattle.lz_judge.specs.Limits.{largest_place, most_faults}
 
 -- the words of a text, parted by one space each
 abbrev pub words_of : List ℕ → List (List ℕ)

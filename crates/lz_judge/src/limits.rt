@@ -1,7 +1,5 @@
 //! The limits of a history. Contracts and definitions take the same numbers from `specs/Limits.antt`.
 
-use lz_slot::MOST_PASSES;
-
 /// The most calls of a history.
 pub const MOST_CALLS: usize = 100_000;
 
@@ -10,9 +8,6 @@ pub const MOST_BYTES: usize = 4_194_304;
 
 /// The largest place of a point.
 pub const MAX_PLACE: u64 = 999_999_999_999;
-
-/// Actors count from 1 up to this one, since each may have a call open.
-pub(crate) const MOST_ACTORS: u64 = MOST_PASSES as u64;
 
 /// The faults of an open count from 1 up to this one.
 pub(crate) const MOST_FAULTS: u64 = 8;

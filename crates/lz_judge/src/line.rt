@@ -1,13 +1,13 @@
 //! One line of a history.
 ghost use Rattle.std.specs.Prelude.{◌≡◌, ◌≤◌, ◌∷◌, ℕ, IfOk, IfSome, Some, option_and_then, option_map};
+ghost use Rattle.lz_slot.specs.Limits.{most_actors};
 ghost use Rattle.lz_slot.specs.Numerals.{largest_read, number_in};
-ghost use Rattle.lz_judge.specs.Limits.{most_actors};
 ghost use Rattle.lz_judge.specs.Lines.{IsLow};
 ghost use Rattle.lz_judge.specs.LinesRead.{is_word, answer_read, answered_read, at_end, busy_read, call_read, command_named, cut_read, fault_read, key_from, key_named, keys_from, line_read, open_read, other_read, point_read, refusal_read, refused_read, show_read, take_word, words_behind, words_of};
 
 use crate::history::Point;
-use crate::limits::{MAX_PLACE, MOST_ACTORS, MOST_FAULTS};
-use lz_slot::{Command, Cut, Found, Key, Mark, Refusal, read_key};
+use crate::limits::{MAX_PLACE, MOST_FAULTS};
+use lz_slot::{Command, Cut, Found, Key, MOST_ACTORS, Mark, Refusal, read_key};
 use memchr::memchr;
 use std::alloc::{AllocError, Global};
 

@@ -1,7 +1,7 @@
 -- What is written of a rehearsal says the marks that were seen, and is read as their history.
 use Rattle.std.proofs.Common.{◌≡◌, ℕ, ◌≤◌, List, [], ◌∷◌, ◌++◌, length, reverse, codes, decimal, Option, None, Some, IsSomeAnd, refl, sym, ap, subst, ◌∙◌, arith}
 use Rattle.std.proofs.lemmas.List.{append-nil}
-use Rattle.lz_slot.specs.Limits.{most_passes}
+use Rattle.lz_slot.specs.Limits.{most_actors}
 use Rattle.lz_slot.specs.MarkTexts.{keys_text}
 use Rattle.lz_slot.specs.declared.history.Mark.{Mark}
 use Rattle.lz_judge.specs.MarkLines.{AreMarksOfRun, AscendFrom}
@@ -39,15 +39,15 @@ has_call : (service : Service) (a : ℕ) (caller : Option Caller) (P : Event →
 has_call service a None P at is = absurd is
 has_call service a (Some caller) P at is = caller_range service.callers a caller at
 
-actor_range : (start : Start) (p : Point) (w new : State) (a : ℕ) (kind : Kind) (outcome : Outcome) → IsReached start p → p.state ≡ w → IsTold w a kind outcome new
-    → (1 ≤ a) × (a ≤ most_passes)
-actor_range start p (Up service disk) new a kind outcome reached at told =
+actor_range : (start : Start) → start.shape.passes ≤ most_actors → (p : Point) (w new : State) (a : ℕ) (kind : Kind) (outcome : Outcome) → IsReached start p → p.state ≡ w → IsTold w a kind outcome new
+    → (1 ≤ a) × (a ≤ most_actors)
+actor_range start few p (Up service disk) new a kind outcome reached at told =
     let within = has_call service a (caller_at service.callers a) _ refl told in
     let sound = subst (IsSound start) reached.point (reached_sound start reached.steps reached.starts reached.runs) in
     let count = (up_at start p service disk sound at).up.sound.callers.count in
     let shape : service.yard.shape ≡ start.shape = subst (λ (q : State). shape_of q ≡ start.shape) at (shape_kept start p reached) in
-    (within.0, omega (arith, within.1, count, ap (λ (s : Shape). s.passes) shape, reached.starts.passes.1))
-actor_range start p (Down shape disk) new a kind outcome reached at told = absurd told
+    (within.0, omega (arith, within.1, count, ap (λ (s : Shape). s.passes) shape, few))
+actor_range start few p (Down shape disk) new a kind outcome reached at told = absurd told
 
 -- the keys that are shown are keys of the service
 keys_ascend : (start : Start) (p : Point) (w : State) (keys : List ℕ) → IsReached start p → p.state ≡ w → IsUp w → Shows w keys → Ascend keys → AscendFrom 0 keys
@@ -63,7 +63,7 @@ record IsOn (start : Start) (w : WorldOver) : Type 0 where
   reached : IsReached start point
   at : IsAt w.state w.calls point
 
-module _ (start : Start) where
+module _ (start : Start) (most : start.shape.passes ≤ most_actors) where
   on_after : (old new : WorldOver) (plays : List PlayStep) (marks : List Mark) → IsOn start old → PlaysOn old plays marks new → IsOn start new
   on_after old new plays marks on goes =
       let leads = goes on.point on.at in
@@ -76,7 +76,7 @@ module _ (start : Start) where
   turns_say a awaited _ _ _ _ _ on (enough w) = said.nothing
   turns_say a awaited _ _ _ _ _ on (ended n old new kind outcome mark is) = says_one mark (of_run old new (step.Turn a ∷ []) (mark ∷ []) on is.0).0
   turns_say a awaited _ _ _ _ _ on (busy n old new kind is) =
-      let range = actor_range start on.point old.state new.state a kind Busy on.reached on.at.state is.1 in
+      let range = actor_range start most on.point old.state new.state a kind Busy on.reached on.at.state is.1 in
       says_silence (codes "busy " ++ decimal a) (busy_silent a range.0 range.1)
   turns_say a awaited _ _ _ _ _ on (met n old new kind outcome is free same) = said.nothing
   turns_say a awaited _ _ _ _ _ on (again n old mid new kind outcome marks text is free other rest) =
@@ -111,8 +111,9 @@ module _ (start : Start) where
 pub rehearsals_read_back : RehearsalsReadBack
 rehearsals_read_back shape format first last lines marks text new rehearsed few fits =
     let start = new.start in
+    let most : start.shape.passes ≤ most_actors = subst (λ (s : Shape). s.passes ≤ most_actors) (sym new.shape) new.few in
     let play = play_of first last lines marks text rehearsed in
     let leads = play.1 (first_point start) new.at in
     let lawful = subst IsLawful (leads.played.all_marks ∙ append-nil (reverse marks)) (run_lawful start leads.played.steps new.starts leads.played.runs) in
     let on : IsOn start first = record { point = first_point start; reached = record { steps = []; starts = new.starts; runs = tt; point = refl }; at = new.at } in
-    said_reads marks text (rehearsal_says start first last lines marks text on rehearsed) lawful few fits
+    said_reads marks text (rehearsal_says start most first last lines marks text on rehearsed) lawful few fits

@@ -1,13 +1,13 @@
 -- The lines of the members, and of an actor that found a lock taken: they say nothing of the history.
 use Rattle.std.proofs.Common.{◌≡◌, ℕ, ◌≤◌, List, [], ◌∷◌, ◌++◌, map, codes, decimal, Option, Some, arith, refl, ap, ◌∙◌}
 use Rattle.std.specs.Prelude.{option_map}
+use Rattle.lz_slot.specs.Limits.{most_actors}
 use Rattle.lz_slot.specs.Texts.{key_text}
 use Rattle.lz_slot.specs.MarkTexts.{keys_text}
 use Rattle.lz_slot.proofs.Texts.Numerals.{decimal_read}
 use Rattle.lz_slot.proofs.Texts.Spellings.{decimal_lacks, lacks_join}
 use Rattle.lz_judge.specs.declared.line.Line.{Line}
 use Rattle.lz_judge.specs.declared.line.Line.TheVariants.{Other}
-use Rattle.lz_judge.specs.Limits.{most_actors}
 use Rattle.lz_judge.specs.LinesRead.{actor_number, at_end, line_read}
 use Rattle.lz_judge.specs.MarkLines.{AscendFrom}
 use Rattle.lz_judge.specs.TextsRead.{IsClear}

@@ -1,10 +1,5 @@
 -- The limits of a script.
 use Rattle.std.specs.Prelude.{ℕ}
-use Rattle.lz_slot.specs.Limits.{most_passes}
-
--- the most callers that a rehearsal has at once
-abbrev pub most_actors : ℕ
-most_actors = most_passes
 
 -- the most turns that one line plays
 abbrev pub most_turns : ℕ

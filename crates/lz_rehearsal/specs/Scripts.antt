@@ -9,10 +9,11 @@ use Rattle.lz_disk.specs.declared.memory.Pick.TheVariants.{Old, New, Byte, Part}
 use Rattle.lz_proto.specs.Lines.{has_line_feed, line_feed}
 use Rattle.lz_machine.specs.declared.kind.Kind.{Kind}
 use Rattle.lz_machine.specs.declared.kind.Kind.TheVariants as kind
+use Rattle.lz_slot.specs.Limits.{most_actors}
 use Rattle.lz_slot.specs.Numerals.{number_in}
 use Rattle.lz_slot.specs.Texts.{key_read, parted}
 use Rattle.lz_slot.specs.declared.spelling.KeyFault.{KeyFault}
-use Rattle.lz_rehearsal.specs.Limits.{most_actors, most_kept, most_length, most_lines, most_turns}
+use Rattle.lz_rehearsal.specs.Limits.{most_kept, most_length, most_lines, most_turns}
 use Rattle.lz_rehearsal.specs.declared.line.Line.{Line}
 use Rattle.lz_rehearsal.specs.declared.line.Line.TheVariants.{Call, Turn, Until, Finish, Trip, Stop, Crash, Open, Show}
 

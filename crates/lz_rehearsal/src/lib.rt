@@ -13,7 +13,7 @@ mod rehearsal;
 mod script;
 mod telling;
 
-pub use limits::{MOST_ACTORS, MOST_KEPT, MOST_LENGTH, MOST_LINES, MOST_TURNS};
+pub use limits::{MOST_KEPT, MOST_LENGTH, MOST_LINES, MOST_TURNS};
 pub use line::{Line, read_line};
 pub use rehearsal::{RehearsalFault, rehearse};
 pub use script::{Script, ScriptFault};

@@ -1,8 +1,4 @@
 //! The limits of a script. Contracts and definitions take the same numbers from `specs/Limits.antt`.
-use lz_slot::MOST_PASSES;
-
-/// The most callers that a rehearsal has at once.
-pub const MOST_ACTORS: u64 = MOST_PASSES as u64;
 
 /// The most turns that one line plays.
 pub const MOST_TURNS: u64 = 1_000_000;

@@ -3,10 +3,10 @@ ghost use Rattle.std.specs.Prelude.{◌≡◌, ◌≤◌, IfSome, option_map};
 ghost use Rattle.lz_slot.specs.Texts.{parted};
 ghost use Rattle.lz_rehearsal.specs.Scripts.{actor_read, bare, byte_read, call_read, command_read, crash_read, finish_read, hex_digit, kind_read, line_read, pick_read, space, turn_read, until_read};
 
-use crate::limits::{MOST_ACTORS, MOST_KEPT, MOST_LENGTH, MOST_TURNS};
+use crate::limits::{MOST_KEPT, MOST_LENGTH, MOST_TURNS};
 use lz_core::Kind;
 use lz_disk::Pick;
-use lz_slot::{Command, read_key, read_number};
+use lz_slot::{Command, MOST_ACTORS, read_key, read_number};
 use memchr::memchr;
 
 /// What one line of a script asks for. Actors count from 1.

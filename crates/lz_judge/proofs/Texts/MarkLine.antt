@@ -7,7 +7,7 @@ use Rattle.std.proofs.lemmas.Bool.Decides.{nat_tests}
 use Rattle.std.proofs.lemmas.List.{append-nil, reverse-append}
 use Rattle.std.proofs.lemmas.List.Elements.{All-nil, All-cons}
 use Rattle.std.proofs.lemmas.List.Splits.{slice_split_at, slice_split_none}
-use Rattle.lz_slot.specs.Limits.{largest_key}
+use Rattle.lz_slot.specs.Limits.{largest_key, most_actors}
 use Rattle.lz_slot.specs.Sets.{key_of}
 use Rattle.lz_slot.specs.Numerals.{largest_read, number_in}
 use Rattle.lz_slot.specs.Texts.{key_text}
@@ -28,7 +28,7 @@ use Rattle.lz_judge.specs.declared.line.Line.{Line}
 use Rattle.lz_judge.specs.declared.line.Line.TheVariants.{Seen}
 use Rattle.lz_judge.specs.LinesRead.{actor_number, answer_read, at_end, call_number, command_named, found_read, is_word, key_from, key_named, key_told, keys_from, kind_read, line_read, not_below, refusal_read, with_word, words_of}
 use Rattle.lz_judge.specs.MarkLines.{AscendFrom, IsMarkOfRun, ReadsMark, MarksReadBack, HistoriesReadBack}
-use Rattle.lz_judge.specs.Limits.{most_bytes, most_actors, most_faults}
+use Rattle.lz_judge.specs.Limits.{most_bytes, most_faults}
 use Rattle.lz_judge.specs.TextsRead.{Reads, nothing, line}
 
 -- no byte of a word is this one
