@@ -206,6 +206,28 @@ module _ (kinds : List Kind) (free : List Bool) (queue : List ℕ) (capacity : �
       sum = rw (told_freed, old.sum) (sym (counts_collected (uses_told kinds queue rows) k limbo_freed));
     }
 
+  row_kept : (row : Row) → row_freed 0 row ≡ row
+  row_kept row =
+      let met : row.met - 0 ≡ row.met = omega arith in
+      let left : row.left - 0 ≡ row.left = omega arith in
+      rw (met, left) refl
+
+  rows_kept : (xs : List Row) → rows_freed 0 xs ≡ xs
+  rows_kept [] = refl
+  rows_kept (x ∷ xs) = ap (λ (row : Row). row ∷ rows_freed 0 xs) (row_kept x) ∙ ap (λ (ys : List Row). x ∷ ys) (rows_kept xs)
+
+  -- No slot is freed.
+  module _ (none : 0 ≡ least_left rows) where
+    pub rows_stay : rows ≡ rows_freed 0 rows
+    rows_stay = sym (rows_kept rows)
+
+    pub uses_stay : uses_told kinds queue rows ≡ collect (uses_told kinds queue rows)
+    uses_stay = ap (uses_told kinds queue) rows_stay ∙ told_freed 0 none
+
+  -- Where none waits, no pass has left any.
+  pub none_left : length queue ≡ 0 → 0 ≡ least_left rows
+  none_left empty = omega (arith, least_few (least_left rows) refl)
+
 -- Slots of which some are taken from the first.
 module _ (n passes : ℕ) (taken : List ℕ) where
   any_cases : (s : ℕ) (xs : List ℕ) → ((list_any (λ t. t == s) xs ≡ true) × ((i : ℕ) × (i < length xs) × (get_or xs i 0 ≡ s)))

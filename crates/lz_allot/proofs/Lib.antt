@@ -1,4 +1,6 @@
 pub mod Trees
+pub mod SetSlots
+pub mod LowestSlot
 pub mod FilledPlaces
 pub mod ToldUses
 pub mod SightChanges

@@ -1,29 +1,37 @@
--- A tree of booleans in one list: the root is node 1, node k has the children 2k and 2k + 1, and the leaves come last.
-use Rattle.std.specs.Prelude.{◌≡◌, ℕ, ◌+◌, ◌*◌, ◌^◌, ◌<◌, ◌≤◌, Bool, true, false, ◌||◌, List, length, slice_index_or}
+-- A tree of words in one list: the root is node 0, node k has the children 64k + 1 to 64k + 64, and the leaves come last.
+use Rattle.std.specs.Prelude.{◌≡◌, ℕ, zero, suc, ◌+◌, ◌*◌, ◌-◌, ◌/◌, ◌%◌, ◌<◌, ◌≤◌, ◌==◌, nat_lt, Bool, false, List, length, map, slice_index_or}
+use Rattle.std.specs.Int.{bit_at}
+use Rattle.std.specs.List.{range_with_len}
 use Rattle.lz_slot.specs.Limits.{most_slots}
 
--- node k
-abbrev pub node_at : List Bool → ℕ → Bool
-node_at nodes k = slice_index_or nodes k false
+-- the word of node k
+abbrev pub word_at : List ℕ → ℕ → ℕ
+word_at words k = slice_index_or words k 0
 
--- a node is true where one of its children is
-abbrev pub IsJoined : List Bool → ℕ → Type 0
-IsJoined nodes k = node_at nodes k ≡ (node_at nodes (2 * k) || node_at nodes (2 * k + 1))
+-- what the word above node k tells of it
+abbrev pub is_told : List ℕ → ℕ → Bool
+is_told words k = bit_at (word_at words ((k - 1) / 64)) ((k - 1) % 64) == 1
 
--- A tree whose first leaves are those of the slots; the other leaves are false.
-pub record IsTree (nodes : List Bool) (width slots : ℕ) : Type 0 where
+-- what a tree shows: what is told of each leaf that is a slot
+abbrev pub shown : List ℕ → ℕ → ℕ → List Bool
+shown words first slots = map (λ s. is_told words (first + s)) (range_with_len 0 slots)
+
+-- the first node at this depth
+abbrev pub start_of : ℕ → ℕ
+start_of zero = 0
+start_of (suc depth) = 64 * start_of depth + 1
+
+-- a number that is the first node at some depth
+pub record IsStart (first : ℕ) : Type 0 where
   pub levels : ℕ
-  pub power : width ≡ 2 ^ levels
-  pub size : length nodes ≡ 2 * width
-  pub range : (slots ≤ most_slots) × (slots ≤ width) × (width ≤ 2 ^ 62)
-  pub joined : (k : ℕ) → 1 ≤ k → k < width → IsJoined nodes k
-  pub rest : (i : ℕ) → slots ≤ i → i < width → node_at nodes (width + i) ≡ false
+  pub start : first ≡ start_of levels
+  pub least : 1 ≤ first
+  pub most : first ≤ 2 * most_slots
 
--- A node that is true, while no node before it on its level is.
-pub record IsLowest (nodes : List Bool) (width node : ℕ) : Type 0 where
-  pub depth : ℕ
-  pub within : 2 ^ depth ≤ width
-  pub low : 2 ^ depth ≤ node
-  pub high : node < 2 * 2 ^ depth
-  pub is_true : node_at nodes node ≡ true
-  pub before : (k : ℕ) → 2 ^ depth ≤ k → k < node → node_at nodes k ≡ false
+-- A tree whose first leaves are those of the slots; nothing is told of the other leaves.
+pub record IsTree (words : List ℕ) (first slots : ℕ) : Type 0 where
+  pub start : IsStart first
+  pub range : (slots ≤ most_slots) × (slots ≤ 63 * first + 1)
+  pub size : first + slots ≤ 64 * length words
+  pub told : (k : ℕ) → 1 ≤ k → k < first → is_told words k ≡ nat_lt 0 (word_at words k)
+  pub rest : (k : ℕ) → first + slots ≤ k → is_told words k ≡ false

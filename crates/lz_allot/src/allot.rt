@@ -133,7 +133,13 @@ impl Allot {
         ensures least { result ≡ least_left self.old.rows }
         ensures rows { self.new.rows ≡ rows_freed result self.old.rows }
     {
+        if self.limbo.is_empty() {
+            return 0;
+        }
         let freed = least_left(&self.rows);
+        if freed == 0 {
+            return 0;
+        }
         free_first(&mut self.limbo, &mut self.kinds, &mut self.free, freed);
         drop_first(&mut self.rows, freed);
         self.counts.free += freed;

@@ -1,5 +1,6 @@
 //! Which slots are free, in a tree by which the lowest is found.
-ghost use Rattle.std.specs.Prelude.{◌≡◌, ◌+◌, ◌<◌, ◌≤◌, Bool, false, length, map, replicate, slice_set, position, IfOk};
+ghost use Rattle.std.specs.Prelude.{◌≡◌, ◌≢◌, ℕ, ◌<◌, ◌≤◌, false, if◌then◌else◌, length, map, replicate, slice_set, position, IfOk};
+ghost use Rattle.std.specs.Int.{bit_at};
 ghost use Rattle.lz_slot.specs.Limits.{most_slots};
 ghost use Rattle.lz_allot.specs.Allots.{is_free_kind};
 
@@ -8,24 +9,24 @@ use lz_slot::Slot;
 use std::alloc::{AllocError, Global};
 use std::marker::Model;
 
-// Which slots are free. A node is true where a slot below it is free: the root is node 1, node k has the children 2k and
-// 2k + 1, and the slots are the nodes from `width` on.
+// Which slots are free. Each word tells by its bits of 64 nodes below it: the root is node 0, node k has the children from
+// 64 * k + 1 on, and the slots are the nodes from `first` on. A bit is set where a slot is free at its node or below.
 #[derive(Drop)]
 pub(crate) struct FreeSlots {
-    nodes: Vec<bool>,
-    width: usize,
+    words: Vec<u64>,
+    first: usize,
     slots: usize,
 }
 
 impl Model for FreeSlots {
-    ghost use Rattle.std.specs.Prelude.{Bool, List, take, drop};
-    ghost use Rattle.lz_allot.specs.Trees.{IsTree};
+    ghost use Rattle.std.specs.Prelude.{Bool, List};
+    ghost use Rattle.lz_allot.specs.Trees.{IsTree, shown};
 
     ghost Value = { List Bool };
 
-    ghost view = { λ f. take f.slots (drop f.width f.nodes.items) };
+    ghost view = { λ f. shown f.words.items f.first f.slots };
 
-    ghost invariant = { λ f. IsTree f.nodes.items f.width f.slots };
+    ghost invariant = { λ f. IsTree f.words.items f.first f.slots };
 }
 
 impl FreeSlots {
@@ -34,25 +35,30 @@ impl FreeSlots {
         requires { slots ≤ most_slots }
         ensures { IfOk result (λ free. free ≡ replicate slots false) }
     {
-        let width = slots.next_power_of_two();
-        let nodes = vec![in alloc; false; 2 * width]?;
+        let mut first = 1;
+        while 63 * first + 1 < slots {
+            first = 64 * first + 1;
+        }
+        let words = vec![in alloc; 0; (first + slots) / 64 + 1]?;
         Ok(FreeSlots {
-            nodes,
-            width,
+            words,
+            first,
             slots,
         })
     }
 
-    // A slot is free from now on, or isn't.
+    // A slot is free from now on, or isn't. A word that stays zero, or stays another than zero, is no news above it.
     pub(crate) fn set(&mut self, slot: Slot, is_free: bool)
         requires { slot < length self.old }
         ensures { self.new ≡ slice_set self.old slot is_free }
     {
-        let mut node = self.width + slot.index() as usize;
-        self.nodes[node] = is_free;
-        while node > 1 {
-            node /= 2;
-            self.nodes[node] = self.nodes[2 * node] || self.nodes[2 * node + 1];
+        let mut node = self.first + slot.index() as usize;
+        while node > 0 {
+            let above = (node - 1) / 64;
+            let was = self.words[above];
+            let now = with_bit(was, (node - 1) % 64, is_free);
+            self.words[above] = now;
+            node = if (was == 0) == (now == 0) { 0 } else { above };
         }
     }
 
@@ -60,17 +66,27 @@ impl FreeSlots {
     pub(crate) fn lowest(&self) -> Option<Slot>
         ensures { result ≡ position (λ is_free. is_free) self.now }
     {
-        if !self.nodes[1] {
+        if self.words[0] == 0 {
             return None;
         }
-        let mut node = 1;
-        while node < self.width {
-            node *= 2;
-            if !self.nodes[node] {
-                node += 1;
-            }
+        let mut node = 0;
+        while node < self.first {
+            node = 64 * node + 1 + self.words[node].trailing_zeros() as usize;
         }
-        Some(Slot::new((node - self.width) as u32))
+        Some(Slot::new((node - self.first) as u32))
+    }
+}
+
+// A word with this bit set, or not.
+fn with_bit(word: u64, bit: usize, is_set: bool) -> u64
+    requires { bit < 64 }
+    ensures set { bit_at result bit ≡ (if is_set then 1 else 0) }
+    ensures others { (i : ℕ) → i < 64 → i ≢ bit → bit_at result i ≡ bit_at word i }
+{
+    if is_set {
+        word | 1 << bit
+    } else {
+        word & !(1 << bit)
     }
 }
 

@@ -1,12 +1,34 @@
-use Rattle.std.proofs.Common.{◌≡◌, ◌∙◌, ap, length, take, drop, ◌++◌, arith, List}
+use Rattle.std.proofs.Common.{◌≡◌, ◌∙◌, sym, ap, length, take, drop, ◌++◌, arith, List, deque_len}
 use Rattle.std.proofs.lemmas.List.{get_or_default, length-map}
+use Rattle.std.proofs.lemmas.Bool.{eqb-true}
 use Rattle.lz_allot.specs.declared.kind.Kind.{Kind}
 use Rattle.lz_allot.specs.declared.kind.Kind.TheVariants as kind
 use Rattle.lz_allot.specs.Rows.{least_left, row_freed, rows_freed, first_row}
 use Rattle.lz_allot.specs.Allots.{set_each}
 use Rattle.lz_allot.proofs.FilledPlaces.{length-set_each, written_whole}
-use Rattle.lz_allot.proofs.CallEffects.{least, least_few, total, in_limbo, told_freed, limbo_freed, allot_freed}
+use Rattle.lz_allot.proofs.CallEffects.{least, least_few, total, in_limbo, told_freed, limbo_freed, allot_freed, none_left, rows_stay, uses_stay}
 use Rattle.lz_allot.proofs.allot.Allot.collect.Goals as goal
+
+pub returns-then-is_empty : goal.returns-then-is_empty
+returns-then-is_empty c =
+    let empty = eqb-true (deque_len c.self.inside.limbo) 0 (sym c.is_empty.ensures ∙ c.if-is_empty.true) in
+    let none = none_left _ _ _ _ _ _ c.self.invariant (omega (arith, empty)) in
+    rw (← c.self.view_is) (record {
+      uses = uses_stay _ _ _ _ _ _ c.self.invariant none;
+      count = omega arith;
+      least = none;
+      rows = rows_stay _ _ _ _ _ _ c.self.invariant none;
+    })
+
+pub returns-then-freed-eq0 : goal.returns-then-freed-eq0
+returns-then-freed-eq0 c =
+    let none = sym c.if-freed-eq0.true ∙ c.least_left-freed.ensures ∙ ap least_left c.deref.ensures.value in
+    rw (← c.self.view_is) (record {
+      uses = uses_stay _ _ _ _ _ _ c.self.invariant none;
+      count = omega arith;
+      least = none;
+      rows = rows_stay _ _ _ _ _ _ c.self.invariant none;
+    })
 
 pub free_first-requires-clause-count : goal.free_first-requires-clause-count
 free_first-requires-clause-count c =

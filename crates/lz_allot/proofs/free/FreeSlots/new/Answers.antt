@@ -1,10 +1,11 @@
-use Rattle.std.proofs.Common.{◌≡◌, ◌*◌, ◌-◌, ◌≤◌, false, replicate, arith, rules}
-use Rattle.std.proofs.lemmas.List.{take-replicate, drop-replicate}
+use Rattle.std.proofs.Common.{◌≡◌, ◌+◌, ◌/◌, replicate, rules}
+use Rattle.lz_allot.proofs.Trees.{next_start, empty_shown}
 use Rattle.lz_allot.proofs.free.FreeSlots.new.Goals as goal
+
+pub loop-first-preserved : goal.loop-first-preserved
+loop-first-preserved c = next_start c.loop-first.first c.args.slots c.loop-first.invariant c.requires c.loop-first-test.true
 
 pub returns : goal.returns
 returns c =
-    let width = c.next_power_of_two-width.result in
-    let items : c.in_ok-nodes.nodes.items ≡ replicate (2 * width) false = search rules in
-    let fits : c.args.slots ≤ 2 * width - width = omega (arith, c.next_power_of_two-width.ensures.lower_bound) in
-    rw (items, drop-replicate width (2 * width) false) (take-replicate c.args.slots (2 * width - width) false fits)
+    let items : c.in_ok-words.words.items ≡ replicate ((c.loop-first.first + c.args.slots) / 64 + 1) 0 = search rules in
+    rw items (empty_shown ((c.loop-first.first + c.args.slots) / 64 + 1) c.loop-first.first c.args.slots)
