@@ -1,5 +1,6 @@
 -- What contracts see of a world, and what a play does to it.
 use Rattle.std.specs.Prelude.{◌≡◌, ◌≢◌, ◌⊎◌, ◌↔◌, ℕ, suc, Bool, true, false, if◌then◌else◌, ◌-◌, ◌<◌, ◌≤◌, IsTrue, IsNone, IsSome, IsSomeAnd, List, [], ◌∷◌, ◌++◌, length, map, reverse, take, slice_get, slice_index_or, Option, Some, None}
+use Rattle.lz_slot.specs.Limits.{most_actors}
 use Rattle.lz_slot.specs.declared.history.Mark.{Mark}
 use Rattle.lz_slot.specs.Sets.{Keys, Same, members}
 use Rattle.lz_slot.specs.Histories.{ChainTo, lives}
@@ -21,6 +22,7 @@ use Rattle.lz_vault.specs.Opens.{open_fault_number}
 use Rattle.lz_vault.specs.declared.opening.OpenFault.{OpenFault}
 use Rattle.lz_vault.specs.declared.opening.OpenFault.TheVariants.{Device, Memory}
 use Rattle.lz_machine.specs.Yards.{Shape}
+use Rattle.lz_yard.specs.declared.told.Told.{Told}
 use Rattle.lz_yard.specs.Parts.{YardOver}
 use Rattle.lz_machine.specs.Table.{line, line_failed, needs}
 use Rattle.lz_machine.specs.Orders.{shape_with}
@@ -110,11 +112,12 @@ pub record IsWorld (shape : Shape) (over : Option (YardOver Past)) (disk : Optio
   pub on_it : (i : ℕ) (call : Option OpenCall) → slice_get callers i ≡ Some call → IsCallOn shape call
   pub ran : HasRun shape (state_shown shape over disk callers) calls
 
--- a world that was just made: its run begins with a file of the format that holds the empty set
+-- a world that was just made: it has no more actors than a history may have, and its run begins with a file of the format that holds the empty set
 pub record IsNew (its_shape : Shape) (format : Format) (w : WorldOver) : Type 0 where
   pub start : Start
   pub starts : IsStart start
   pub shape : start.shape ≡ its_shape
+  pub few : its_shape.passes ≤ most_actors
   pub empty : Same (start_keys start) (members [])
   pub named : format_of start.text ≡ format
   pub at : IsAt w.state w.calls (first_point start)
@@ -277,6 +280,6 @@ fault_told fault tripped = Some (open_fault_number fault)
 
 -- an event was played on an open yard
 abbrev pub StepsOn : Option (YardOver Past) → ℕ → Event → Outcome → Option (YardOver Past) → Type 0
-StepsOn (Some old) a e outcome (Some new) = Played old.yard a e outcome new.yard new.told (device_of old.disk) (device_of new.disk)
+StepsOn (Some old) a e outcome (Some new) = (told : Told) × Played old.yard a e outcome new.yard told (device_of old.disk) (device_of new.disk)
 StepsOn None a e outcome new = new ≡ None
 StepsOn (Some old) a e outcome None = ⊥

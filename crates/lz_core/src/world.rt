@@ -14,14 +14,14 @@ use crate::shown::members_of;
 use lz_caller::Caller;
 use lz_disk::{MemoryDisk, Pick};
 use lz_machine::{Event, Kind, Outcome};
-use lz_slot::{Command, Format, Found, Key, MOST_PASSES, Mark};
+use lz_slot::{Command, Format, Found, Key, MOST_ACTORS, Mark};
 use lz_vault::make;
 use lz_yard::Yard;
 use std::alloc::{AllocError, Global};
 use std::marker::Model;
 
-/// How many actors a world has.
-pub const ACTORS: usize = MOST_PASSES;
+/// How many actors a world has: as many as a history may have.
+pub const ACTORS: usize = MOST_ACTORS as usize;
 
 /// Why a play ended before its last step. Steps count from 1, and a turn by itself is step 1.
 #[derive(Clone, Copy, Debug, PartialEq, Eq)]
@@ -377,6 +377,6 @@ fn step_on(yard: &mut Option<Yard<MemoryDisk>>, actor: usize, event: Event) -> O
 {
     match yard {
         None => Outcome::NotNow,
-        Some(yard) => yard.step(actor, event),
+        Some(yard) => yard.step(actor, event).outcome,
     }
 }

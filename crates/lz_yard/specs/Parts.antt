@@ -4,7 +4,6 @@ use Rattle.lz_disk.specs.Devices.{Device}
 use Rattle.lz_vault.specs.Vaults.{NoCall, Succeeds, Fails, last_sync}
 use Rattle.lz_vault.specs.declared.vault.VaultFault.{VaultFault}
 use Rattle.lz_allot.specs.Uses.{Use}
-use Rattle.lz_yard.specs.declared.told.Told.{Told}
 use Rattle.lz_machine.specs.declared.event.Event.{Event}
 use Rattle.lz_machine.specs.declared.event.Outcome.{Outcome}
 use Rattle.lz_machine.specs.declared.course.Course.{Course}
@@ -13,10 +12,9 @@ use Rattle.lz_machine.specs.declared.actor.Actor.{Actor}
 use Rattle.lz_machine.specs.Yards.{Yard, actor_at}
 use Rattle.lz_machine.specs.Table.{needs, course, is_played_dead, call_of, yard_done, outcome_of, with_vault, vault_failed}
 
--- The yard, what the last step told, and the disk.
+-- The yard and the disk.
 pub record YardOver (D : Type 0) : Type 0 where
   pub yard : Yard
-  pub told : Told
   pub disk : D
 
 -- Its parts: the yard, with the number of passes that the slots' uses know, and the disk.

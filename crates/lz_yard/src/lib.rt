@@ -14,4 +14,5 @@ mod told;
 mod yard;
 mod yard_disk;
 
+pub use told::{Stepped, Told};
 pub use yard::Yard;

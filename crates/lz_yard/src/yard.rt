@@ -8,15 +8,15 @@ ghost use Rattle.lz_vault.specs.Opens.{IsRefusedFor};
 ghost use Rattle.lz_yard.specs.Filling.{OpensYard};
 ghost use Rattle.lz_machine.specs.Ready.{IsEventOf};
 ghost use Rattle.lz_machine.specs.Runs.{MayPlay, with_words};
-ghost use Rattle.lz_yard.specs.Steps.{Played, nothing_told};
+ghost use Rattle.lz_yard.specs.Steps.{Played};
 ghost use Rattle.lz_machine.specs.Table.{needs};
 
 use crate::filling::Tables;
 use crate::parts::Parts;
-use crate::told::{Told, nothing_told};
+use crate::told::{Stepped, untold};
 use lz_allot::Counts;
 use lz_disk::Disk;
-use lz_list::{Publishing, Word, Words};
+use lz_list::{Word, Words};
 use lz_machine::{Course, Event, Outcome};
 use lz_slot::Format;
 use lz_vault::{OpenFault, Opened, Refused, Vault};
@@ -28,20 +28,16 @@ use std::marker::Model;
 #[derive(Drop)]
 pub struct Yard<D: Disk> {
     pub(crate) parts: Parts<D>,
-    // What the last step told.
-    told: Told,
 }
 
 impl<D: Disk> Model for Yard<D> {
-    ghost use Rattle.std.specs.Prelude.{IfSome};
-    ghost use Rattle.lz_list.specs.Lists.{IsWord};
     ghost use Rattle.lz_yard.specs.Parts.{PartsFit, YardOver};
 
     ghost Value = { YardOver D };
 
-    ghost view = { λ y. record { yard = y.parts.yard; told = y.told; disk = y.parts.disk } };
+    ghost view = { λ y. record { yard = y.parts.yard; disk = y.parts.disk } };
 
-    ghost invariant = { λ y. PartsFit y.parts.yard y.parts.rows × IfSome y.told.changed (IsWord y.parts.yard.words) };
+    ghost invariant = { λ y. PartsFit y.parts.yard y.parts.rows };
 }
 
 impl<D: Disk> Yard<D> {
@@ -56,7 +52,6 @@ impl<D: Disk> Yard<D> {
         requires buckets { (1 ≤ buckets) × (buckets ≤ most_buckets) }
         requires passes { (1 ≤ passes) × (passes ≤ most_passes) }
         ensures ok { IfOk result (λ yard. OpensYard (D.device disk) (D.device yard.disk) buckets passes yard.yard) }
-        ensures told { IfOk result (λ yard. yard.told ≡ nothing_told) }
         ensures err { IfErr result (λ refused. IsRefusedFor (D.device disk) (D.device refused.disk) refused.fault) }
     {
         let Opened { vault, members } = Vault::open_with_members(alloc, disk)?;
@@ -71,7 +66,6 @@ impl<D: Disk> Yard<D> {
                     allot: tables.allot,
                     actors: tables.actors,
                 },
-                told: nothing_told(),
             }),
             Err(AllocError) => Err(Refused {
                 disk: vault.close(),
@@ -85,30 +79,27 @@ impl<D: Disk> Yard<D> {
     /// Where what the event needs doesn't hold it answers NotNow, and on a dead vault most kinds answer Dead; either changes
     /// nothing. Fault where the event's device call failed; from then on the vault is dead.
     #[tactic(auto, using(crate::proofs::Events::PlayedLine::line_rules))]
-    pub fn step(&mut self, actor: usize, event: Event) -> Outcome
+    pub fn step(&mut self, actor: usize, event: Event) -> Stepped
         requires actor { (1 ≤ actor) × (actor ≤ self.old.yard.shape.passes) }
         requires event { IsEventOf self.old.yard event }
         requires may { needs self.old.yard actor event ≡ true → MayPlay self.old.yard (D.device self.old.disk).honest (D.device self.old.disk).medium actor event }
-        ensures played { Played self.old.yard actor event result self.new.yard self.new.told (D.device self.old.disk) (D.device self.new.disk) }
+        ensures played { Played self.old.yard actor event result.outcome self.new.yard result.told (D.device self.old.disk) (D.device self.new.disk) }
+        ensures word { IfSome result.told.changed (IsWord self.new.yard.words) }
         ensures shape { self.new.yard.shape ≡ self.old.yard.shape }
     {
         let asked = event;
         let played = event;
-        self.told = nothing_told();
         match self.parts.course(actor, asked) {
-            Course::Refused(outcome) => outcome,
+            Course::Refused(outcome) => untold(outcome),
             Course::Dies => {
                 self.parts.die();
-                Outcome::Dead
+                untold(Outcome::Dead)
             }
             Course::Plays => {
                 let told = self.parts.tell(actor, event);
                 match self.parts.play(actor, played) {
-                    Ok(outcome) => {
-                        self.told = told;
-                        outcome
-                    }
-                    Err(_) => Outcome::Fault,
+                    Ok(outcome) => Stepped { outcome, told },
+                    Err(_) => untold(Outcome::Fault),
                 }
             }
         }
@@ -118,7 +109,7 @@ impl<D: Disk> Yard<D> {
     pub fn note_pin(&mut self, actor: usize, value: u64)
         requires { (1 ≤ actor) × (actor ≤ self.old.yard.shape.passes) }
         ensures yard { self.new.yard ≡ with_words self.old.yard (set self.old.yard.words (Word.Pin actor) value) }
-        ensures rest { (self.new.told ≡ self.old.told) × (self.new.disk ≡ self.old.disk) }
+        ensures disk { self.new.disk ≡ self.old.disk }
     {
         self.parts.set_pin(actor, value);
     }
@@ -147,28 +138,6 @@ impl<D: Disk> Yard<D> {
         ensures { result ≡ self.now.yard.vault.format }
     {
         self.parts.vault.format()
-    }
-
-    /// The word that the last `step` changed, if it changed one.
-    pub fn changed(&self) -> Option<Word>
-        ensures changed { result ≡ self.now.told.changed }
-        ensures word { IfSome result (λ word. IsWord self.now.yard.words word) }
-    {
-        self.told.changed
-    }
-
-    /// What that word was before, 0 where none was changed.
-    pub fn before(&self) -> u64
-        ensures { result ≡ self.now.told.before }
-    {
-        self.told.before
-    }
-
-    /// What the last `step` published, if it published something.
-    pub fn published(&self) -> Option<Publishing>
-        ensures { result ≡ self.now.told.published }
-    {
-        self.told.published
     }
 
     /// Ends the life, and hands the disk back as it is.

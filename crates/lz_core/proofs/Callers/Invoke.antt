@@ -21,6 +21,7 @@ use Rattle.lz_machine.specs.Yards.{Shape, Yard, actor_at}
 use Rattle.lz_machine.specs.Table.{is_old, call_on, line_on}
 use Rattle.lz_machine.specs.Calls.{begun}
 use Rattle.lz_machine.specs.Runs.{Caller, Service, Up, Calls, Point, Reached, caller_at, invoked, state_after}
+use Rattle.lz_yard.specs.declared.told.Told.{Told}
 use Rattle.lz_yard.specs.Parts.{YardOver}
 use Rattle.lz_yard.specs.Steps.{Played}
 use Rattle.lz_caller.specs.Begun.{begun_after}
@@ -79,7 +80,7 @@ module _ (shape : Shape) (over : YardOver Past) (disk : Option Past) (callers : 
     };
   }
 
-  module _ (over' : YardOver Past) (outcome : Outcome) (event : Played over.yard a (Invoke c) outcome over'.yard over'.told (device_of over.disk) (device_of over'.disk)) where
+  module _ (over' : YardOver Past) (outcome : Outcome) (news : Told) (event : Played over.yard a (Invoke c) outcome over'.yard news (device_of over.disk) (device_of over'.disk)) where
     abbrev disk_now : Medium
     disk_now = after over'.disk.start over'.disk.records
 
@@ -131,7 +132,7 @@ module _ (shape : Shape) (disk : Option Past) (callers : List (Option OpenCall))
       (world_shown shape yard' disk (slice_set callers (a - 1) (Some (made shape (calls + 1) c outcome))) (calls + 1) tripped)
   call_runs None yard' outcome is ran steps = absurd (false≢true is)
   call_runs (Some over) None outcome is ran steps = absurd steps
-  call_runs (Some over) (Some over') outcome is ran steps = call_goes shape over disk callers calls a c low high key free ran tripped over' outcome steps
+  call_runs (Some over) (Some over') outcome is ran steps = call_goes shape over disk callers calls a c low high key free ran tripped over' outcome steps.0 steps.1
 
   pub call_world : (yard yard' : Option (YardOver Past)) (outcome : Outcome) → IsSome yard → IsWorld shape yard disk callers calls → StepsOn yard a (Invoke c) outcome yard'
       → IsWorld shape yard' disk (slice_set callers (a - 1) (Some (made shape (calls + 1) c outcome))) (calls + 1)

@@ -18,6 +18,7 @@ use Rattle.lz_machine.specs.Table.{line, line_call}
 use Rattle.lz_machine.specs.Orders.{MayTake}
 use Rattle.lz_yard.specs.Steps.{Played}
 use Rattle.lz_machine.specs.Runs.{Transition, Caller, Service, Up, Turn, Fails, HasFault, caller_at, next_event, reply_at, moved_on, marks_of_turn, mark_of_turn}
+use Rattle.lz_yard.specs.declared.told.Told.{Told}
 use Rattle.lz_yard.specs.Parts.{YardOver}
 use Rattle.lz_machine.proofs.Runs.CallerEvent.{Next}
 use Rattle.lz_machine.proofs.Theorem.Timing.{may_take}
@@ -67,7 +68,7 @@ one_mark (Some mark) = refl
 
 -- A world with an open service goes on by this event, where its device was tripped or not.
 module _ (shape : Shape) (over : YardOver Past) (disk : Option Past) (callers : List (Option OpenCall)) (calls a : ℕ) (world : IsWorld shape (Some over) disk callers calls) (e : Event) (is : next_of (state_shown shape (Some over) disk callers) a ≡ Some e)
-    (tripped : Bool) (over' : YardOver Past) (outcome : Outcome) (call' : Option OpenCall) (event : Played over.yard a e outcome over'.yard over'.told (device_of (armed tripped over.disk)) (device_of over'.disk))
+    (tripped : Bool) (over' : YardOver Past) (outcome : Outcome) (call' : Option OpenCall) (news : Told) (event : Played over.yard a e outcome over'.yard news (device_of (armed tripped over.disk)) (device_of over'.disk))
     (shown : call_shown call' ≡ call_after (slice_index_or callers (a - 1) None) outcome) where
   abbrev served : Service
   served = service shape over disk callers calls a world e is
@@ -107,7 +108,7 @@ module _ (shape : Shape) (over : YardOver Past) (disk : Option Past) (callers : 
       shown
       ∙ ap (λ (q : Option OpenCall). call_after q outcome) there
       ∙ ap (λ (at : Progress). moved_on (reply_at own.0.caller.progress) (shown_of own.0) at) (to_progress shape own.0 outcome on_own)
-      ∙ ap (λ (s : Shape). moved s (shown_of own.0) outcome) (sym (same_shape shape over disk callers calls a world e is) ∙ sym (played_shape over.yard a e outcome over'.yard over'.told before (device_of over'.disk) event))
+      ∙ ap (λ (s : Shape). moved s (shown_of own.0) outcome) (sym (same_shape shape over disk callers calls a world e is) ∙ sym (played_shape over.yard a e outcome over'.yard news before (device_of over'.disk) event))
       ∙ ap (λ (c : Caller). moved over'.yard.shape c outcome) (sym own.2)
 
   callers_are : set_of_pass (map call_shown callers) a (moved over'.yard.shape asks.caller outcome) ≡ map call_shown (slice_set callers (a - 1) call')
@@ -122,17 +123,17 @@ module _ (shape : Shape) (over : YardOver Past) (disk : Option Past) (callers : 
   told_by : (marks : List Mark) → marks ≡ marks_of_turn (call_shown (slice_index_or callers (a - 1) None)) → marks_of_turn (caller_at served.callers a) ≡ marks
   told_by marks same = ap marks_of_turn (shown_caller callers a low) ∙ sym same
 
-  event_here : Played over.yard a (next_event over.yard asks.caller) outcome over'.yard over'.told before (device_of over'.disk)
-  event_here = subst (λ (ev : Event). Played over.yard a ev outcome over'.yard over'.told before (device_of over'.disk)) (sym asks.event) event
+  event_here : Played over.yard a (next_event over.yard asks.caller) outcome over'.yard news before (device_of over'.disk)
+  event_here = subst (λ (ev : Event). Played over.yard a ev outcome over'.yard news before (device_of over'.disk)) (sym asks.event) event
 
   goes_done : (marks : List Mark) → marks_of_turn (caller_at served.callers a) ≡ reverse marks → outcome ≢ Fault → Goes old (TurnOf a) (Turn a) marks new
   goes_done marks told other =
-      let by = done world.ran.start world.ran.point world.ran.reached served disk_then world.ran.at.state a asks.caller asks.at before (device_of over'.disk) over'.yard outcome over'.told (λ honest. refl) other event_here in
+      let by = done world.ran.start world.ran.point world.ran.reached served disk_then world.ran.at.state a asks.caller asks.at before (device_of over'.disk) over'.yard outcome news (λ honest. refl) other event_here in
       record { is = inl refl; may = by.may; to = by.to (suc calls) ∙ after_is by.medium (by.device refl); counts = refl; told = told }
 
   goes_failed : (marks : List Mark) → marks_of_turn (caller_at served.callers a) ≡ reverse marks → outcome ≡ Fault → (left : Medium) × Goes old (TurnOf a) (Fails a left) marks new
   goes_failed marks told fault =
-      let by = failed world.ran.start world.ran.point world.ran.reached served disk_then world.ran.at.state a asks.caller asks.at before (device_of over'.disk) over'.yard outcome over'.told (λ honest. refl) fault event_here true refl in
+      let by = failed world.ran.start world.ran.point world.ran.reached served disk_then world.ran.at.state a asks.caller asks.at before (device_of over'.disk) over'.yard outcome news (λ honest. refl) fault event_here true refl in
       let fails = subst (λ (o : Option Caller). HasFault served disk_then a o by.0) asks.at by.1.may in
       let silent : marks_of_turn (caller_at served.callers a) ≡ [] = ap marks_of_turn asks.at ∙ ap (mark_of_turn asks.caller.number) (fault_no_reply over.yard a asks.caller.command asks.caller.progress disk_then by.0 fails) in
       (by.0, record { is = inr (by.0, refl); may = by.1.may; to = by.1.to (suc calls) ∙ after_is by.1.medium (by.1.device refl); counts = refl; told = sym silent ∙ told })
@@ -170,9 +171,9 @@ take_by : (call : Option OpenCall) (own : OpenCall) (outcome : Outcome) → call
 take_by call own outcome at may = rw at may
 
 pub takes_on : (shape : Shape) (over : YardOver Past) (disk : Option Past) (callers : List (Option OpenCall)) (calls a : ℕ) (world : IsWorld shape (Some over) disk callers calls) (e : Event) (is : next_of (state_shown shape (Some over) disk callers) a ≡ Some e)
-    (tripped : Bool) (over' : YardOver Past) (outcome : Outcome) (event : Played over.yard a e outcome over'.yard over'.told (device_of (armed tripped over.disk)) (device_of over'.disk))
+    (tripped : Bool) (over' : YardOver Past) (outcome : Outcome) (news : Told) (event : Played over.yard a e outcome over'.yard news (device_of (armed tripped over.disk)) (device_of over'.disk))
     → IfSome (slice_index_or callers (a - 1) None) (λ under_way. MayTake under_way.caller.progress outcome)
-takes_on shape over disk callers calls a world e is tripped over' outcome event =
+takes_on shape over disk callers calls a world e is tripped over' outcome news event =
     let asks = next shape over disk callers calls a world e is in
     let low = (in_range shape over disk callers calls a world e is).0 in
     let own = of_set (of_pass callers a None) asks.caller (sym (asked_shown callers a) ∙ asks.at) in

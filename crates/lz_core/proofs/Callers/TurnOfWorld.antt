@@ -44,7 +44,7 @@ module _ (shape : Shape) (disk : Option Past) (callers : List (Option OpenCall))
       → IfSome (slice_index_or callers (a - 1) None) (λ under_way. MayTake under_way.caller.progress outcome)
   takes None yard' outcome world is steps = absurd (no_next world is)
   takes (Some over) None outcome world is steps = absurd steps
-  takes (Some over) (Some over') outcome world is steps = takes_on shape over disk callers calls a world e is tripped over' outcome steps
+  takes (Some over) (Some over') outcome world is steps = takes_on shape over disk callers calls a world e is tripped over' outcome steps.0 steps.1
 
   pub kept : (yard yard' : Option (YardOver Past)) (outcome : Outcome) (call' : Option OpenCall) → IsWorld shape yard disk callers calls → next_of (state_shown shape yard disk callers) a ≡ Some e → StepsOn (armed_yard tripped yard) a e outcome yard'
       → call_shown call' ≡ call_after (slice_index_or callers (a - 1) None) outcome
@@ -52,7 +52,7 @@ module _ (shape : Shape) (disk : Option Past) (callers : List (Option OpenCall))
       → IsWorld shape yard' disk (slice_set callers (a - 1) call') calls
   kept None yard' outcome call' world is steps shown on = absurd (no_next world is)
   kept (Some over) None outcome call' world is steps shown on = absurd steps
-  kept (Some over) (Some over') outcome call' world is steps shown on = world_on shape over disk callers calls a world e is tripped over' outcome call' steps shown (on (called_on shape over disk callers calls a world e is)) (has_one disk world.one)
+  kept (Some over) (Some over') outcome call' world is steps shown on = world_on shape over disk callers calls a world e is tripped over' outcome call' steps.0 steps.1 shown (on (called_on shape over disk callers calls a world e is)) (has_one disk world.one)
     where
       has_one : (d : Option Past) → HasOne (Some over) d → HasOne (Some over') d
       has_one None one = tt
@@ -64,7 +64,7 @@ module _ (shape : Shape) (disk : Option Past) (callers : List (Option OpenCall))
       → TakesTurn (world_shown shape yard disk callers calls tripped) a outcome (mark_list mark) (world_shown shape yard' disk (slice_set callers (a - 1) call') calls tripped)
   tells None yard' outcome call' mark world is steps shown told = absurd (no_next world is)
   tells (Some over) None outcome call' mark world is steps shown told = absurd steps
-  tells (Some over) (Some over') outcome call' mark world is steps shown told = turn_taken shape over disk callers calls a world e is tripped over' outcome call' steps shown mark told
+  tells (Some over) (Some over') outcome call' mark world is steps shown told = turn_taken shape over disk callers calls a world e is tripped over' outcome call' steps.0 steps.1 shown mark told
 
   open_here : (over : YardOver Past) (world : IsWorld shape (Some over) disk callers calls) → next_of (state_shown shape (Some over) disk callers) a ≡ Some e → (1 ≤ a) × IsSome (call_shown (slice_index_or callers (a - 1) None))
   open_here over world is =
@@ -88,8 +88,8 @@ module _ (shape : Shape) (disk : Option Past) (callers : List (Option OpenCall))
   tells_outcome None yard' outcome callers' world is steps = absurd (no_next world is)
   tells_outcome (Some over) None outcome callers' world is steps = absurd steps
   tells_outcome (Some over) (Some over') outcome callers' world is steps = elim (fault_or_not outcome) [
-    | inl fault ↦ inr (fault, (steps.failed fault).yard)
-    | inr other ↦ inl ((steps.done other).answer, (steps.done other).yard)
+    | inl fault ↦ inr (fault, (steps.1.failed fault).yard)
+    | inr other ↦ inl ((steps.1.done other).answer, (steps.1.done other).yard)
   ]
 
 -- a place that is there, whatever stands for one that isn't

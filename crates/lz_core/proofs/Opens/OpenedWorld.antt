@@ -1,7 +1,7 @@
 -- A world whose disk is opened.
 use Rattle.std.proofs.Common.{◌≡◌, inl, inr, ℕ, Bool, IsTrue, if◌then◌else◌, zero, suc, ◌≤◌, false, List, [], ◌∷◌, length, map, slice_get, ◌%◌, ◌==◌, Option, Some, None, refl, sym, ap, ◌∙◌, subst, arith, replicate}
 use Rattle.std.proofs.lemmas.List.{length-map, length-replicate}
-use Rattle.lz_slot.specs.Limits.{most_buckets, most_passes}
+use Rattle.lz_slot.specs.Limits.{most_actors, most_buckets}
 use Rattle.lz_slot.specs.declared.history.Mark.TheVariants.{Opened as opened}
 use Rattle.lz_slot.specs.declared.format.Format.{Format}
 use Rattle.lz_slot.specs.Bytes.{Holds}
@@ -121,13 +121,13 @@ module _ (shape : Shape) (before : Past) (over : YardOver Past) (opens : OpensYa
     }
 
   -- and a disk that was just made begins a run
-  module _ (format : Format) (some : (1 ≤ shape.buckets) × (shape.buckets ≤ most_buckets)) (few : (1 ≤ shape.passes) × (shape.passes ≤ most_passes)) (made : IsFresh disk format shape.slots)
+  module _ (format : Format) (some : (1 ≤ shape.buckets) × (shape.buckets ≤ most_buckets)) (few : (1 ≤ shape.passes) × (shape.passes ≤ most_actors)) (made : IsFresh disk format shape.slots)
       (callers : List (Option OpenCall)) (none : callers ≡ replicate shape.passes None) where
     abbrev first : Start
     first = record { shape = shape; text = disk.seen }
 
     starts : IsStart first
-    starts = record { buckets = some; passes = few; bytes = bytes_read; text = listed disk.seen shape.slots (members []) made.empty }
+    starts = record { buckets = some; passes = (few.0, omega (arith, few.1)); bytes = bytes_read; text = listed disk.seen shape.slots (members []) made.empty }
 
     first_state : state_shown shape (Some over) None callers ≡ Up (opened_service shape disk.seen) (at_rest disk.seen)
     first_state = state_opened (members []) None callers made.empty none
@@ -137,6 +137,7 @@ module _ (shape : Shape) (before : Past) (over : YardOver Past) (opens : OpensYa
       start = first;
       starts = starts;
       shape = refl;
+      few = few.1;
       empty = one_set disk.seen shape.slots (start_keys first) (members []) (listed disk.seen shape.slots (members []) made.empty) made.empty;
       named = made.named;
       at = record { state = sym first_state; calls = refl };

@@ -30,7 +30,7 @@ use Rattle.lz_machine.specs.declared.actor.Hold.TheVariants.{Locks}
 use Rattle.lz_machine.specs.declared.actor.Actor.{Actor}
 use Rattle.lz_machine.specs.Yards.{Yard, actor_at, cell_at}
 use Rattle.lz_machine.specs.Table.{course, call_of, cells_after, words_after, uses_after, actors_after, given_back, reserved, kept_slot, is_unused, is_sure, is_spent, line_failed, pin_of, stays_out, with_hold, with_slot, with_vault, yard_done, needs}
-use Rattle.lz_yard.specs.Steps.{Played, Tells, nothing_told}
+use Rattle.lz_yard.specs.Steps.{Played, Tells}
 use Rattle.lz_yard.specs.declared.told.Told.{Told}
 use Rattle.lz_machine.specs.Ready.{IsEventOf, IsReady}
 use Rattle.lz_machine.specs.Runs.{MayPlay, with_words}
@@ -265,31 +265,28 @@ some_there : (old new : Words) → SameSizes old new → (word : Option Word) �
 some_there old new same None is = tt
 some_there old new same (Some word) is = word_there old new same word is
 
--- What holds of a yard and of what its last step told: the parts fit, and the word is one of the yard's.
-abbrev pub Stands : Yard → ℕ → Told → Type 0
-Stands y known told = PartsFit y known × IfSome told.changed (IsWord y.words)
+-- the parts fit after each course that changes something, and after a device failure
+module _ (y : Yard) (known : ℕ) (fits : PartsFit y known) (new : Yard) (rows : ℕ) (same : rows ≡ known) where
+  fits_still : PartsFit new known → PartsFit new rows
+  fits_still = subst (PartsFit new) (sym same)
 
--- it holds after each course that changes something, and after a device failure
-module _ (y : Yard) (known : ℕ) (fits : PartsFit y known) (new : Yard) (rows : ℕ) (told : Told) (same : rows ≡ known) where
-  stands : PartsFit new known → IfSome told.changed (IsWord new.words) → Stands new rows told
-  stands fit there = (subst (PartsFit new) (sym same) fit, there)
-
-  untold : told ≡ nothing_told → IfSome told.changed (IsWord new.words)
-  untold nothing = subst (λ (t : Told). IfSome t.changed (IsWord new.words)) (sym nothing) tt
-
-  pub stands_dead : new ≡ with_vault y (died y.vault) → told ≡ nothing_told → Stands new rows told
-  stands_dead is nothing = stands (subst (λ (q : Yard). PartsFit q known) (sym is) (died_fits y known fits)) (untold nothing)
+  pub fits_dead : new ≡ with_vault y (died y.vault) → PartsFit new rows
+  fits_dead is = fits_still (subst (λ (q : Yard). PartsFit q known) (sym is) (died_fits y known fits))
 
   module _ (a : ℕ) (e : Event) (before after : Device) where
-    pub stands_done : (outcome : Outcome) → (1 ≤ a) × (a ≤ y.shape.passes) → IsEventOf y e → Known Plays y a e → Does y a e (Ok outcome) new before after
-        → Tells y (actor_at y a) a e told → Stands new rows told
-    stands_done outcome actor is plays done tells = stands
-        (subst (λ (q : Yard). PartsFit q known) (sym done.0) (done_fits y known fits a actor.0 (omega (arith, actor.1, fits.actors)) e is plays.0))
-        (subst (λ (q : Yard). IfSome told.changed (IsWord q.words)) (sym done.0)
-        (some_there y.words (words_after y (actor_at y a) a e) (words_sizes y (actor_at y a) a e) told.changed tells.there))
+    pub fits_done : (outcome : Outcome) → (1 ≤ a) × (a ≤ y.shape.passes) → IsEventOf y e → Known Plays y a e → Does y a e (Ok outcome) new before after → PartsFit new rows
+    fits_done outcome actor is plays done =
+        fits_still (subst (λ (q : Yard). PartsFit q known) (sym done.0) (done_fits y known fits a actor.0 (omega (arith, actor.1, fits.actors)) e is plays.0))
 
-    pub stands_failed : (fault : VaultFault) → Does y a e (Err fault) new before after → told ≡ nothing_told → Stands new rows told
-    stands_failed fault failed nothing = stands (subst (λ (q : Yard). PartsFit q known) (sym failed.0) (failed_fits y known fits a e)) (untold nothing)
+    pub fits_failed : (fault : VaultFault) → Does y a e (Err fault) new before after → PartsFit new rows
+    fits_failed fault failed = fits_still (subst (λ (q : Yard). PartsFit q known) (sym failed.0) (failed_fits y known fits a e))
+
+-- the word that is told is there after the event too
+pub word_stays : (y : Yard) (a : ℕ) (e : Event) (outcome : Outcome) (new : Yard) (told : Told) (before after : Device)
+    → Does y a e (Ok outcome) new before after → Tells y (actor_at y a) a e told → IfSome told.changed (IsWord new.words)
+word_stays y a e outcome new told before after done tells =
+    subst (λ (q : Yard). IfSome told.changed (IsWord q.words)) (sym done.0)
+    (some_there y.words (words_after y (actor_at y a) a e) (words_sizes y (actor_at y a) a e) told.changed tells.there)
 
 -- an event that is played is ready
 pub is_ready : (y : Yard) (known : ℕ) (honest : Bool) (disk : Medium) (a : ℕ) (e : Event) → PartsFit y known → (1 ≤ a) × (a ≤ y.shape.passes) → IsEventOf y e
@@ -304,23 +301,21 @@ played_shape y a e outcome new told before after played = elim (fault_or_not out
   | inr other ↦ ap (λ (q : Yard). q.shape) (played.done other).yard ∙ line_keeps_shape (course y a e) y (actor_at y a) a e
 ]
 
--- it holds after a word was set
-pub set_fits : (y : Yard) (known : ℕ) (word : Word) (x : ℕ) (new : Yard) (rows : ℕ) (told : Told)
-    → Stands y known told → new ≡ with_words y (set y.words word x) → rows ≡ known → Stands new rows told
-set_fits y known word x new rows told (fits, there) is same =
+-- they fit after a word was set
+pub set_fits : (y : Yard) (known : ℕ) (word : Word) (x : ℕ) (new : Yard) (rows : ℕ)
+    → PartsFit y known → new ≡ with_words y (set y.words word x) → rows ≡ known → PartsFit new rows
+set_fits y known word x new rows fits is same =
     let words = set_sizes y.words word x in
-    subst (λ (n : ℕ). Stands new n told) (sym same) (subst (λ (q : Yard). Stands q known told) (sym is) (
-      record {
-        cells = fits.cells;
-        heads = words.heads ∙ fits.heads;
-        links = words.links ∙ fits.links;
-        keys = words.keys ∙ fits.keys;
-        pins = words.pins ∙ fits.pins;
-        uses = fits.uses;
-        rows = fits.rows;
-        actors = fits.actors;
-        syncs = fits.syncs;
-        hands = fits.hands;
-      },
-      some_there y.words (set y.words word x) words told.changed there,
-    ))
+    subst (λ (n : ℕ). PartsFit new n) (sym same) (subst (λ (q : Yard). PartsFit q known) (sym is)
+    (record {
+      cells = fits.cells;
+      heads = words.heads ∙ fits.heads;
+      links = words.links ∙ fits.links;
+      keys = words.keys ∙ fits.keys;
+      pins = words.pins ∙ fits.pins;
+      uses = fits.uses;
+      rows = fits.rows;
+      actors = fits.actors;
+      syncs = fits.syncs;
+      hands = fits.hands;
+    }))

@@ -1,17 +1,11 @@
-use Rattle.std.proofs.Common.{refl, sym, ap, subst, IsTrue}
-use Rattle.std.specs.Prelude.{IfSome}
+use Rattle.std.proofs.Common.{refl, ap, subst, IsTrue}
 use Rattle.lz_disk.specs.Images.{Medium, AreBytes}
-use Rattle.lz_list.specs.Lists.{IsWord}
-use Rattle.lz_yard.specs.declared.told.Told.{Told}
 use Rattle.lz_yard.proofs.Opening.FilledTables.{opened_fits}
 use Rattle.lz_yard.proofs.Opening.FirstYard.{first_yard}
 use Rattle.lz_yard.proofs.yard.Yard.open.Goals as goal
 
 pub invariant_of-result : goal.invariant_of-result
-invariant_of-result g c = (
-  opened_fits _ _ _ _ _ _ _ c.in-Ok.ensures c.slots.ensures.count c.in_ok-vault.ensures.ok.fresh.0,
-  subst (λ (told : Told). IfSome told.changed (IsWord c.in-Ok.tables.list.words)) (sym c.nothing_told.ensures) tt,
-)
+invariant_of-result g c = opened_fits _ _ _ _ _ _ _ c.in-Ok.ensures c.slots.ensures.count c.in_ok-vault.ensures.ok.fresh.0
 
 pub returns-in-Ok-clause-ok : goal.returns-in-Ok-clause-ok
 returns-in-Ok-clause-ok g c =
