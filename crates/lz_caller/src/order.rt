@@ -1,13 +1,13 @@
 //! What a call plays next: its sequences, and what follows a walk or a check.
-ghost use Rattle.std.specs.Prelude.{◌≡◌, ◌<◌, length};
+ghost use Rattle.std.specs.Prelude.{◌≡◌, ◌<◌, ◌≤◌, ℕ, length};
+ghost use Rattle.lz_slot.specs.declared.command.Command.{Command as Asked};
 ghost use Rattle.lz_flush.specs.Settling.{may_answer};
-ghost use Rattle.lz_list.specs.Hops.{told};
-ghost use Rattle.lz_machine.specs.Orders.{IsEverywhere};
-ghost use Rattle.lz_machine.specs.Calls.{changes, event_of, events_of, goes_on, halt_loaded, hops_on, rests, walked};
+ghost use Rattle.lz_machine.specs.Orders.{IsEverywhere, IsProgress};
+ghost use Rattle.lz_machine.specs.Calls.{after_check, after_claim, after_reserve, changes, event_of, events_of, goes_on, halt_loaded, halts, rests, walked};
 
 use lz_flush::{Need, may_answer};
-use lz_list::{Flags, Hop, Look, Met, Place};
-use lz_machine::{Event, Progress, Reply, Sequence};
+use lz_list::{Flags, Look, Met, Place};
+use lz_machine::{Event, Outcome, Progress, Reply, Sequence};
 use lz_slot::{Command, Slot};
 
 // How many events a sequence has.
@@ -74,6 +74,14 @@ pub(crate) fn follower_of(sequence: Sequence) -> Progress
     }
 }
 
+// A call over a device that fails halts the service, and gives this reply.
+pub(crate) fn halts(reply: Reply) -> Progress
+    ensures follows { result ≡ halts reply }
+    ensures inside { IsEverywhere result }
+{
+    Progress::Playing(Sequence::Halting(reply), 0)
+}
+
 // A call whose first load finds the service over answers that.
 pub(crate) fn halt_loaded(value: u64) -> Progress
     ensures follows { result ≡ halt_loaded value }
@@ -98,7 +106,7 @@ fn rests(slot: Slot, flags: Flags, reply: Reply) -> Progress
 }
 
 // What a call does where its walk has ended.
-fn walked(
+pub(crate) fn walked(
     command: Command,
     aim: Option<Slot>,
     pred: Place,
@@ -129,19 +137,8 @@ fn walked(
     }
 }
 
-// What follows a hop of a walk that looks there afterwards.
-pub(crate) fn hopped(command: Command, aim: Option<Slot>, look: Look, hop: Hop) -> Progress
-    ensures follows { result ≡ hops_on command aim (told look hop) }
-    ensures inside { IsEverywhere result }
-{
-    match hop {
-        Hop::More => Progress::Walking(aim, look),
-        Hop::End { pred, curr, met } => walked(command, aim, pred, curr, met),
-    }
-}
-
 // What a call does under its locks, once they were checked.
-pub(crate) fn changes(command: Command, aim: Option<Slot>, curr: Option<Slot>) -> Progress
+fn changes(command: Command, aim: Option<Slot>, curr: Option<Slot>) -> Progress
     ensures follows { result ≡ changes command aim curr }
     ensures inside { IsEverywhere result }
 {
@@ -150,5 +147,50 @@ pub(crate) fn changes(command: Command, aim: Option<Slot>, curr: Option<Slot>) -
         (Command::Add(_), Some(slot), _) => Progress::Playing(Sequence::Adding(slot), 0),
         (Command::Remove(_), _, Some(slot)) => Progress::Playing(Sequence::Removing(slot), 0),
         _ => Progress::Playing(Sequence::Releasing(kept), 0),
+    }
+}
+
+// A call that finds no slot looks at each pin word, and asks once more.
+pub(crate) fn after_reserve(again: bool, outcome: Outcome) -> Progress
+    ensures follows { result ≡ after_reserve again outcome }
+    ensures inside { (passes : ℕ) → (c : Asked) → 1 ≤ passes → IsProgress passes c result }
+{
+    match outcome {
+        Outcome::Slot(slot) => Progress::Playing(Sequence::Writing(slot), 0),
+        Outcome::NoSlot(counts) if again => Progress::Answering(Reply::Full(counts)),
+        Outcome::NoSlot(_) => Progress::SeeingPins(1),
+        _ => Progress::Reserving(again),
+    }
+}
+
+pub(crate) fn after_claim(
+    aim: Option<Slot>,
+    pred: Place,
+    curr: Option<Slot>,
+    outcome: Outcome,
+) -> Progress
+    ensures follows { result ≡ after_claim aim pred curr outcome }
+    ensures inside { IsEverywhere result }
+{
+    match outcome {
+        Outcome::Taken => Progress::Checking(aim, curr),
+        _ => Progress::Claiming(aim, pred, curr),
+    }
+}
+
+// Where what it claimed isn't as it saw it, it gives the locks back and walks again.
+pub(crate) fn after_check(
+    command: Command,
+    aim: Option<Slot>,
+    curr: Option<Slot>,
+    outcome: Outcome,
+) -> Progress
+    ensures follows { result ≡ after_check command aim curr outcome }
+    ensures inside { IsEverywhere result }
+{
+    match outcome {
+        Outcome::True => changes(command, aim, curr),
+        Outcome::False => Progress::Playing(Sequence::Releasing(aim), 0),
+        _ => Progress::Checking(aim, curr),
     }
 }

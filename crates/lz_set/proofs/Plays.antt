@@ -53,8 +53,8 @@ plays_one b was is k t before after a =
     let loads = map (load_note before.number) before.loads in (
       a.event,
       t.outcome,
-      t.published,
-      a.holds.steps ∙ ap (λ (p : ℕ). note_by p (Played a.event t.outcome) t.published ∷ (loads ++ before.steps)) (sym a.holds.number),
+      t.published.value,
+      a.holds.steps ∙ ap (λ (p : ℕ). note_by p (Played a.event t.outcome) t.published.value ∷ (loads ++ before.steps)) (sym a.holds.number),
       sym (ap kind_of a.turned.next) ∙ kind_loaded yard.words (event_at yard.shape caller.command caller.progress)
           ∙ ap (λ (c : Command). kind_of (event_at yard.shape c caller.progress)) a.turned.command
           ∙ ap (λ (at : Progress). kind_of (event_at yard.shape k.command at)) a.turned.progress
@@ -116,3 +116,10 @@ answers_otherwise k reply = go k.progress
     go : (at : Progress) → reply_at at ≡ Some reply → kind_of (event_at (shape_with k) k.command at) ≢ Sync
     go (Answering other) is = λ is. cc
     go at is = absurd (none-some reply is)
+
+-- loads of a walk make no step, and the hold after them is of an event that is no sync
+pub walked_without : (h mid h' : Part) → StepsWithout Sync h mid → h'.steps ≡ mid.steps → StepsWithout Sync h h'
+walked_without h mid h' one same = (one.0, same ∙ one.1, one.2)
+
+pub turned_without : (e : Event) (h mid h' : Part) → ((s : ℕ) → e ≢ SyncOf s) → StepsWithout Sync h mid → PlaysOne (kind_of e) mid h' → StepsWithout Sync h h'
+turned_without e h mid h' other one p = without_then Sync h mid h' one (one_without (kind_of e) mid h' (not_sync e other) p)

@@ -17,14 +17,14 @@ const LOOKS: u32 = 100;
 /// plays on as a value never runs, and never waits here. The counts go down only under the lock, so nobody goes to sleep over a
 /// count that has just become 0.
 ///
-/// No call waits for ever. Whoever runs waits for nothing but the lock, whose holders wait for nothing but the device (each sync
-/// returns, also one that fails). So whoever runs comes to an answer, to a sync or to a taken node, and runs no more. With the
-/// last of them the sync is played: by that call itself, where it came to a sync, and else by one of those that wait,
-/// which it wakes. While new calls come all the time, as many answers as there are passes end the wait. After the sync all that
-/// waited for it go on, whatever it gave: over a dead device each is told so by its own. A node is held by a call that
-/// runs, or waits for a sync, or is in a gate, or is a value; the first two are done with it by and by, and the owner of the
-/// last is to play it on. Each wakes those that wait for the node, and one that is freed between a claim and the wait after it
-/// is not missed: the claim has noted how often one had been freed.
+/// No call waits for ever. Whoever runs waits for nothing but the lock, whose holders, a `Kept`'s too, wait for nothing but the
+/// device (each sync returns, also one that fails). So whoever runs comes to an answer, to a sync or to a taken node, and runs
+/// no more. With the last of them the sync is played: by that call itself, where it came to a sync, and else by one of those
+/// that wait, which it wakes. While new calls come all the time, as many answers as there are passes end the wait. After the
+/// sync all that waited for it go on, whatever it gave: over a dead device each is told so by its own. A node is held by a call
+/// that runs, or waits for a sync, or is in a gate, or is a value; the first two are done with it by and by, and the owner of
+/// the last is to play it on. Each wakes those that wait for the node, and one that is freed between a claim and the wait after
+/// it is not missed: the claim has noted how often one had been freed.
 #[derive(Drop)]
 pub(crate) struct GroupCommit {
     // How many syncs had a group to close: the number of the open one.

@@ -5,7 +5,7 @@
 //! other event of it is one hold of the lock, which is kept from one to the next where no gate watches. A sync waits until all
 //! calls that run have come to one of theirs, and covers what they wrote.
 //! A thread that is to have many calls under way plays each as a value, `Underway`: `begin`, `go_on` from one stage to the next,
-//! `sync` where the call stands before one, and `answer`.
+//! `sync` where the call stands before one, and `answer`. By one `Kept` (`keep`) it keeps the lock from one of these to the next.
 //! `glance` looks up without any lock. A program's work stands in a function
 //! generic in the set's name, which is called with std's `Brand`:
 //!
@@ -32,12 +32,14 @@ mod closing;
 mod fault;
 mod gate;
 mod group_commit;
+mod kept;
 mod set;
 mod underway;
 
 pub use blank::Blank;
 pub use fault::Fault;
 pub use gate::{NoGate, StepGate};
+pub use kept::Kept;
 pub use lz_board::{Glance, GlanceFault, Pass};
 pub use lz_tie::Named;
 pub use set::Set;

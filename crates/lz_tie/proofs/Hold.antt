@@ -1,3 +1,4 @@
+pub mod Exchanges
 pub mod OtherPins
 pub mod NextStep
 pub mod OneWord

@@ -56,8 +56,8 @@ pub record Advanced (b : BoardId) (was is : List Note) (k : Calling) (t : Turn) 
   pub found : List Note
   pub on : found ≡ found_for event was
   pub turn : IsTurn found before k event
-  pub holds : HoldNotes b.opened found is (note_by before.number (Played event t.outcome) t.published) before after
-  pub turned : Turned b.opened found before k.command k.progress event t.outcome t.published
+  pub holds : HoldNotes b.opened found is (note_by before.number (Played event t.outcome) t.published.value) before after
+  pub turned : Turned b.opened found before k.command k.progress event t.outcome t.published.value
   pub alone : b.sizes.passes ≡ 1 → trace_of b.opened found ≡ before.known
   pub own : b.sizes.passes ≡ 1 → OnlyOwn before.number b.opened (trace_of b.opened found)
 

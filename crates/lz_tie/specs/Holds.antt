@@ -1,5 +1,5 @@
 -- The value under the lock, and what one hold promises.
-use Rattle.std.specs.Prelude.{◌≡◌, ◌≢◌, ℕ, ◌%◌, ◌==◌, ◌≤◌, false, if◌then◌else◌, List, [], ◌∷◌, ◌++◌, map, length, Option, Some, None}
+use Rattle.std.specs.Prelude.{◌≡◌, ◌≢◌, ◌%◌, ◌==◌, ◌≤◌, false, if◌then◌else◌, List, [], ◌∷◌, ◌++◌, map, length, Option, Some, None}
 use Rattle.lz_slot.specs.declared.command.Command.{Command}
 use Rattle.lz_slot.specs.declared.format.Format.{Format}
 use Rattle.lz_slot.specs.Histories.{History}
@@ -9,9 +9,6 @@ use Rattle.lz_disk.specs.Devices.{Device}
 use Rattle.lz_disk.specs.Images.{Medium}
 use Rattle.lz_vault.specs.Vaults.{NoCall}
 use Rattle.lz_list.specs.declared.publishing.Publishing.{Publishing}
-use Rattle.lz_list.specs.declared.word.Word.{Word}
-use Rattle.lz_list.specs.declared.word.Word.TheVariants.{Pin as pin_at, Halt as halt_word}
-use Rattle.lz_list.specs.Words.{Words, get}
 use Rattle.lz_list.specs.Traces.{Trace, Lawful}
 use Rattle.lz_list.specs.Pinned.{IsQuiet}
 use Rattle.lz_machine.specs.declared.caller.Progress.{Progress}
@@ -37,7 +34,6 @@ use Rattle.lz_board.specs.Kept.{is_calling, Knows, PinTold}
 use Rattle.lz_machine.specs.Yards.{IsInside}
 use Rattle.lz_board.specs.Plays.{no_sizes, noted, found_note}
 use Rattle.lz_board.specs.Seats.{BoardId}
-use Rattle.lz_tie.specs.declared.playing.Exchange.{Exchange}
 use Rattle.lz_tie.specs.NotedRuns.{AreNext, IsTied, seen_event}
 use Rattle.lz_tie.specs.Reuse.{ReuseTold}
 
@@ -126,16 +122,6 @@ pub record Turned (opened : Trace) (ns : List Note) (h : Part) (c : Command) (at
   -- where the pass is inside, what its call may rely on since it went in, with the change that was made for it since
   pub stands : IsInside h.pin
       → CallerSound (view_of service.yard.shape service.yard.vault service.yard.actors h.number) h.pin (Some caller) h.begun (trace_of opened ns) (own_change h.number (length h.begun) (trace_of opened ns))
-
--- The exchange on the board that goes with a turn's note: of the word that the turn changed, or of the halt word from 2 to 2
--- where it changed none. There is none where the pass's own pin word was changed.
-abbrev pub IsExchange : Words → Option Word → ℕ → Option Exchange → Type 0
-IsExchange words None before None = ⊥
-IsExchange words None before (Some x) = (x.word ≡ halt_word) × (x.before ≡ 2) × (x.after ≡ 2)
-IsExchange words (Some (pin_at q)) before None = Unit {0}
-IsExchange words (Some (pin_at q)) before (Some x) = ⊥
-IsExchange words (Some w) before None = ⊥
-IsExchange words (Some w) before (Some x) = (x.word ≡ w) × (x.before ≡ before) × (x.after ≡ get words w)
 
 -- One hold of the lock, for a pass: the notes got its loads and then its event, the pass's own steps the same, and it has
 -- seen all that was published until then. What came since it last looked was not published for it.

@@ -34,7 +34,7 @@ use lz_board::{Board, Pass};
 use lz_caller::Caller;
 use lz_disk::Disk;
 use lz_list::Word;
-use lz_machine::{Event, Outcome, Reply};
+use lz_machine::{Event, Reply};
 use lz_slot::Command;
 
 /// A load of the call's next word, without the lock: its caller takes the value.
@@ -48,7 +48,7 @@ pub fn load_next(board: &Board, pass: &mut Pass, caller: &mut Caller, word: Word
     ensures goes { CountsOn (id_of board.now) caller.old (part pass.old) caller.new (part pass.new) }
 {
     let value = board.load(pass, word);
-    caller.take(Outcome::Value(value));
+    caller.load(value);
     value
 }
 
@@ -82,13 +82,21 @@ impl<N: Named, D: Disk> Locked<N, D> {
         Caller::begun(asked, buckets, passes, turn.outcome)
     }
 
-    /// One more hold of a call that isn't about to answer: plays its next event, which is no load, and its caller takes the
-    /// outcome.
-    pub fn turn_on(&mut self, board: &Board, pass: &mut Pass, caller: &mut Caller) -> Turn
+    /// One more hold of a call that isn't about to answer: plays its next event, which is this one and no load, and its caller
+    /// takes the outcome.
+    #[inline(always)]
+    pub fn turn_on(
+        &mut self,
+        board: &Board,
+        pass: &mut Pass,
+        caller: &mut Caller,
+        event: Event,
+    ) -> Turn
         requires board { id_of board.now ≡ N.board }
         requires pass { IsOf N.board pass.old }
         requires counted { IsCounted N.board caller.old (part pass.old) }
-        requires load { hop_of (event_at (shape_with caller.old) caller.old.command caller.old.progress) ≡ None }
+        requires event { event ≡ event_at (shape_with caller.old) caller.old.command caller.old.progress }
+        requires load { hop_of event ≡ None }
         requires going { reply_at caller.old.progress ≡ None }
         ensures pass { IsOf N.board pass.new }
         ensures moments { HoldExplains N.board self.old.notes self.new.notes (D.device self.old.disk) (D.device self.new.disk) }
@@ -98,7 +106,6 @@ impl<N: Named, D: Disk> Locked<N, D> {
         ensures caller { caller.new ≡ record caller.old { progress = progress_after (shape_with caller.old) caller.old.command caller.old.progress result.outcome } }
         ensures goes { CountsOn N.board caller.old (part pass.old) caller.new (part pass.new) }
     {
-        let event = caller.next();
         let turn = self.hold(board, pass, event);
         caller.take(turn.outcome);
         turn

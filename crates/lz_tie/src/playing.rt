@@ -6,7 +6,7 @@ ghost use Rattle.lz_machine.specs.declared.event.Outcome.TheVariants.{Fault};
 ghost use Rattle.lz_machine.specs.Orders.{Calling};
 ghost use Rattle.lz_board.specs.Notes.{note_by};
 ghost use Rattle.lz_board.specs.Seats.{Carries, IsAtHand, carried, id_of, notes};
-ghost use Rattle.lz_tie.specs.Holds.{HoldNotes, InHold, IsExchange, IsTurn, MayTurn, Turned, begins_with, what_of};
+ghost use Rattle.lz_tie.specs.Holds.{HoldNotes, InHold, IsTurn, MayTurn, Turned, begins_with, what_of};
 ghost use Rattle.lz_tie.specs.Lives.{KeepsLife};
 ghost use Rattle.lz_tie.specs.Moments.{MomentsGoOn};
 
@@ -15,45 +15,14 @@ use lz_disk::Disk;
 use lz_list::{Publishing, Word};
 use lz_machine::{Event, Outcome};
 use lz_slot::Format;
-use lz_yard::Yard;
+use lz_yard::{Stepped, Told, Yard};
+use std::snapshot::Snapshot;
 
-/// What a turn gave: its outcome, and what it published.
-#[derive(Clone, Copy)]
+/// What a turn gave: its outcome, and what it published, which has no bytes.
+#[derive(Drop)]
 pub struct Turn {
     pub outcome: Outcome,
-    pub published: Option<Publishing>,
-}
-
-// An exchange on the board: the word, what it was, and what it becomes.
-#[derive(Drop)]
-pub(crate) struct Exchange {
-    pub(crate) word: Word,
-    pub(crate) before: u64,
-    pub(crate) after: u64,
-}
-
-// The exchange that goes with the note of the yard's last step. A pass's own pin word is counted up otherwise.
-fn exchange_of<D: Disk>(yard: &Yard<D>) -> Option<Exchange>
-    ensures { IsExchange yard.now.yard.words yard.now.told.changed yard.now.told.before result }
-{
-    match yard.changed() {
-        Some(Word::Pin(_)) => None,
-        Some(word) => {
-            let changed = word;
-            let before = yard.before();
-            let after = yard.words().get(word);
-            Some(Exchange {
-                word: changed,
-                before,
-                after,
-            })
-        }
-        None => Some(Exchange {
-            word: Word::Halt,
-            before: 2,
-            after: 2,
-        }),
-    }
+    pub published: Snapshot<Option<Publishing>>,
 }
 
 // What the note of an event tells, on a file of this format.
@@ -66,7 +35,8 @@ fn what_of(format: Format, event: Event, outcome: Outcome) -> What
     }
 }
 
-// Plays an Invoke or the next event of the pass's call, notes it, and stores the word that it changes.
+// Plays an Invoke or the next event of the pass's call, notes it, and stores the word that it changes: a pass's own pin word is counted up.
+// Where it changes none, the note goes with an exchange of the halt word that fails, since that is never 2.
 pub(crate) fn play_joined<D: Disk>(
     board: &Board,
     pen: &mut Pen,
@@ -81,9 +51,9 @@ pub(crate) fn play_joined<D: Disk>(
     ensures carries { Carries (id_of board.now) pen.new }
     ensures hold { InHold (id_of board.now) (notes pen.new) yard.new.yard (D.device yard.new.disk) (carried pen.new) }
     ensures hand { IsAtHand (id_of board.now) pass.new (carried pen.new) }
-    ensures holds { HoldNotes (id_of board.now).opened (notes pen.old) (notes pen.new) (note_by (carried pen.old).number (what_of yard.old.yard.vault.format event result.outcome) result.published) (carried pen.old) (carried pen.new) }
-    ensures turned { (c : Calling) → IsTurn (notes pen.old) (carried pen.old) c event → Turned (id_of board.now).opened (notes pen.old) (carried pen.old) c.command c.progress event result.outcome result.published }
-    ensures began { (c : Asked) → event ≡ Invoke c → result ≡ record { outcome = begins_with yard.old.yard.vault.format c; published = None } }
+    ensures holds { HoldNotes (id_of board.now).opened (notes pen.old) (notes pen.new) (note_by (carried pen.old).number (what_of yard.old.yard.vault.format event result.outcome) result.published.value) (carried pen.old) (carried pen.new) }
+    ensures turned { (c : Calling) → IsTurn (notes pen.old) (carried pen.old) c event → Turned (id_of board.now).opened (notes pen.old) (carried pen.old) c.command c.progress event result.outcome result.published.value }
+    ensures began { (c : Asked) → event ≡ Invoke c → (result.outcome ≡ begins_with yard.old.yard.vault.format c) × (result.published.value ≡ None) }
     ensures moments { MomentsGoOn (id_of board.now) (notes pen.old) (notes pen.new) (D.device yard.old.disk) (D.device yard.new.disk) }
     ensures life { KeepsLife yard.old.yard (D.device yard.old.disk) yard.new.yard (D.device yard.new.disk) }
     ensures device { result.outcome ≡ Fault → (D.device yard.old.disk).faults < (D.device yard.new.disk).faults }
@@ -91,26 +61,30 @@ pub(crate) fn play_joined<D: Disk>(
     let number = pass.number();
     yard.note_pin(number, pass.pin());
     let noted = event;
-    let outcome = yard.step(number, event);
-    let told = outcome;
-    let published = yard.published();
-    let shown = published;
-    let what = what_of(yard.format(), noted, told);
+    let Stepped { outcome, told } = yard.step(number, event);
+    let Told {
+        changed,
+        before,
+        published,
+    } = told;
+    let answered = outcome;
+    let what = what_of(yard.format(), noted, answered);
     let note = Note {
         by: number,
         what,
-        published: shown,
+        published,
     };
-    match exchange_of(yard) {
-        Some(exchange) => {
-            let Exchange {
-                word,
-                before,
-                after,
-            } = exchange;
-            board.note(pen, word, before, after, &note);
+    match changed {
+        Some(Word::Pin(_)) => board.shift(pen, pass, &note),
+        Some(word) => {
+            let other = word;
+            let after = yard.words().get(word);
+            board.note(pen, other, before, after, &note);
         }
-        None => board.shift(pen, pass, &note),
+        None => board.note(pen, Word::Halt, 2, 2, &note),
     }
-    Turn { outcome, published }
+    Turn {
+        outcome,
+        published: Snapshot::of(&note.published),
+    }
 }

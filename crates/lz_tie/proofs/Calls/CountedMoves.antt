@@ -231,7 +231,7 @@ module _ (b : BoardId) (c : Command) (format : Format) (before : Part) (k : Call
         command = C.command;
         buckets = C.buckets;
         passes = C.passes;
-        under = caller_turned b c format before k on_board h C.under b.opened A.found is A.event t.outcome t.published h' A.holds A.turned A.turn.load going;
+        under = caller_turned b c format before k on_board h C.under b.opened A.found is A.event t.outcome t.published.value h' A.holds A.turned A.turn.load going;
         walk = next_walk b.sizes walkable (shape_with k) k.command h'.begun h'.known k.progress t.outcome no_load;
       })
 
@@ -260,15 +260,15 @@ module _ (b : BoardId) (c : Command) (format : Format) (before : Part) (k : Call
       event_now : A.event ≡ Answer
       event_now = A.turn.event ∙ ap (seen_event (λ q. pin_after q A.found)) (event_here ∙ sym answers_next)
 
-      holds_now : HoldNotes b.opened A.found is (note_by h.number (Played Answer t.outcome) t.published) h h'
-      holds_now = subst (λ (e : Event). HoldNotes b.opened A.found is (note_by h.number (Played e t.outcome) t.published) h h') event_now A.holds
+      holds_now : HoldNotes b.opened A.found is (note_by h.number (Played Answer t.outcome) t.published.value) h h'
+      holds_now = subst (λ (e : Event). HoldNotes b.opened A.found is (note_by h.number (Played e t.outcome) t.published.value) h h') event_now A.holds
 
-      turned_now : Turned b.opened A.found h c (Answering reply) Answer t.outcome t.published
-      turned_now = subst (λ (q : Command × Progress × Event). Turned b.opened A.found h q.0 q.1 q.2 t.outcome t.published) (λ i. (C.command i, answering i, event_now i)) A.turned
+      turned_now : Turned b.opened A.found h c (Answering reply) Answer t.outcome t.published.value
+      turned_now = subst (λ (q : Command × Progress × Event). Turned b.opened A.found h q.0 q.1 q.2 t.outcome t.published.value) (λ i. (C.command i, answering i, event_now i)) A.turned
 
       module _ (same : before.sizes ≡ b.sizes) where
         pub answers_so : Answers format c reply before h'
-        answers_so = answered b c format before reply h A.found is t.outcome t.published h' under_now holds_now turned_now same A.alone A.own
+        answers_so = answered b c format before reply h A.found is t.outcome t.published.value h' under_now holds_now turned_now same A.alone A.own
 
         -- in a set of one pass that of the plain set
         pub plain_so : b.sizes.passes ≡ 1 → IsPlainAnswer format b.sizes.slots c reply (keys_in before.known) (keys_in h'.known)
@@ -276,7 +276,7 @@ module _ (b : BoardId) (c : Command) (format : Format) (before : Part) (k : Call
             (one_caller format c reply before h' answers_so (ap (λ (z : Sizes). z.passes) same ∙ one))
 
       pub then_idle : IsIdle b.sizes h'
-      then_idle = idle_again b c format before reply h A.found is t.outcome t.published h' under_now holds_now turned_now
+      then_idle = idle_again b c format before reply h A.found is t.outcome t.published.value h' under_now holds_now turned_now
 
 -- A load.
 abbrev SharedIn : Sizes → Option Word → Type 0

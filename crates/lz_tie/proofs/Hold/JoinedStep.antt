@@ -1,10 +1,9 @@
 -- The step of a pass that has joined the pen, in the words of the code that plays it: its number and its pin word are read at run time.
 use Rattle.std.proofs.Common.{◌≡◌, ℕ, List, refl, sym, ap, ◌∙◌, subst}
-use Rattle.std.specs.Prelude.{Option, None}
+use Rattle.std.specs.Prelude.{None}
 use Rattle.lz_slot.specs.declared.command.Command.{Command}
 use Rattle.lz_slot.specs.declared.format.Format.{Format}
 use Rattle.lz_disk.specs.Devices.{Device}
-use Rattle.lz_list.specs.declared.publishing.Publishing.{Publishing}
 use Rattle.lz_list.specs.declared.word.Word.TheVariants.{Pin as pin_at}
 use Rattle.lz_list.specs.Words.{set}
 use Rattle.lz_machine.specs.declared.event.Event.{Event}
@@ -24,7 +23,6 @@ use Rattle.lz_board.specs.Notes.{note_by}
 use Rattle.lz_board.specs.Noting.{KeepsPin, MovesPin}
 use Rattle.lz_board.specs.Plays.{noted, noted_part, moved_part}
 use Rattle.lz_board.specs.Seats.{BoardId}
-use Rattle.lz_tie.specs.declared.playing.Turn.{Turn}
 use Rattle.lz_tie.specs.Holds.{InHold, IsTurn, MayTurn, Turned, HoldNotes, begins_with, what_of}
 use Rattle.lz_tie.proofs.Hold.NotedStep as step
 use Rattle.lz_tie.proofs.Hold.NotedStep.{NotedStep}
@@ -52,8 +50,7 @@ module _ (b : BoardId) (ns : List Note) (y : Yard) (dev : Device) (h : Part) (ho
   pub may_play : MayPlay y1 dev1.honest dev1.medium p e
   may_play = subst (λ (q : Yard × Device × ℕ). MayPlay q.0 q.1.honest q.1.medium q.2 e) (λ i. (sym there i, sym same i, sym number i)) plays
 
-  module _ (o : Outcome) (z' : Yard) (told : Told) (dev' : Device) (played : PlayedOver y1 p e o z' told dev1 dev') (shape : z'.shape ≡ y1.shape) (x : Option Publishing) (shown : x ≡ told.published)
-      (what : What) (tells : what ≡ what_of z'.vault.format e o) where
+  module _ (o : Outcome) (z' : Yard) (told : Told) (dev' : Device) (played : PlayedOver y1 p e o z' told dev1 dev') (shape : z'.shape ≡ y1.shape) (what : What) (tells : what ≡ what_of z'.vault.format e o) where
     gave : PlayedOver z h.number e o z' told dev dev'
     gave = subst (λ (q : Yard × ℕ × Device). PlayedOver q.0 q.1 e o z' told q.2 dev') (λ i. (there i, number i, same i)) played
 
@@ -61,7 +58,7 @@ module _ (b : BoardId) (ns : List Note) (y : Yard) (dev : Device) (h : Part) (ho
     same_shape = shape ∙ ap (λ (q : Yard). q.shape) there
 
     abbrev n : Note
-    n = note_by h.number (what_of y.vault.format e o) x
+    n = note_by h.number (what_of y.vault.format e o) told.published
 
     same_what : what ≡ what_of y.vault.format e o
     same_what = tells ∙ go e may gave
@@ -78,30 +75,30 @@ module _ (b : BoardId) (ns : List Note) (y : Yard) (dev : Device) (h : Part) (ho
         go e may done = turn_of.noted_turn b ns y dev h hold may.0 e may.1 o z' told dev' done same_shape
 
     -- the note as the code has it
-    pub noting : NotedStep b ns h z' told dev' (note_by p what x)
-    noting = subst (NotedStep b ns h z' told dev') (λ i. note_by (sym number i) (sym same_what i) (sym shown i)) noted_so
+    pub noting : NotedStep b ns h z' told dev' (note_by p what told.published)
+    noting = subst (NotedStep b ns h z' told dev') (λ i. note_by (sym number i) (sym same_what i) told.published) noted_so
 
-    pub turned : (c : Calling) → IsTurn ns h c e → Turned b.opened ns h c.command c.progress e o x
-    turned c turn = subst (Turned b.opened ns h c.command c.progress e o) (sym shown) (turn_of.turned b ns y dev h hold c e turn o z' told dev' gave same_shape)
+    pub turned : (c : Calling) → IsTurn ns h c e → Turned b.opened ns h c.command c.progress e o told.published
+    turned c turn = turn_of.turned b ns y dev h hold c e turn o z' told dev' gave same_shape
 
-    pub began : (c : Command) → e ≡ Invoke c → (t : Turn) → t ≡ record { outcome = o; published = x } → t ≡ record { outcome = begins_with y.vault.format c; published = None }
-    began c is t turn = turn ∙ go (subst (MayTurn b.sizes ns h) is may) (subst (λ (e : Event). PlayedOver z h.number e o z' told dev dev') is gave)
+    pub began : (c : Command) → e ≡ Invoke c → (o ≡ begins_with y.vault.format c) × (told.published ≡ None)
+    began c is = go (subst (MayTurn b.sizes ns h) is may) (subst (λ (e : Event). PlayedOver z h.number e o z' told dev dev') is gave)
       where
-        go : MayTurn b.sizes ns h (Invoke c) → PlayedOver z h.number (Invoke c) o z' told dev dev' → ◌≡◌ {A = Turn} (record { outcome = o; published = x }) (record { outcome = begins_with y.vault.format c; published = None })
-        go may done = λ i. record { outcome = call.outcome_is b ns y dev h hold c may o z' told dev' done i; published = (shown ∙ call.nothing b ns y dev h hold c may o z' told dev' done) i }
+        go : MayTurn b.sizes ns h (Invoke c) → PlayedOver z h.number (Invoke c) o z' told dev dev' → (o ≡ begins_with y.vault.format c) × (told.published ≡ None)
+        go may done = (call.outcome_is b ns y dev h hold c may o z' told dev' done, call.nothing b ns y dev h hold c may o z' told dev' done)
 
     -- the notes and the part after it
-    module _ (ns' : List Note) (h' : Part) (notes : ns' ≡ noted b.opened ns h (note_by p what x)) where
+    module _ (ns' : List Note) (h' : Part) (notes : ns' ≡ noted b.opened ns h (note_by p what told.published)) where
       abbrev After : List Note → Part → Type 0
       After r q = InHold b r z' dev' q × HoldNotes b.opened ns r n h q
 
-      as_told : (r : List Note) (q : Part) → HoldNotes b.opened ns r (note_by p what x) h q → HoldNotes b.opened ns r n h q
-      as_told r q H = subst (λ (m : Note). HoldNotes b.opened ns r m h q) (λ i. note_by (number i) (same_what i) x) H
+      as_told : (r : List Note) (q : Part) → HoldNotes b.opened ns r (note_by p what told.published) h q → HoldNotes b.opened ns r n h q
+      as_told r q H = subst (λ (m : Note). HoldNotes b.opened ns r m h q) (λ i. note_by (number i) (same_what i) told.published) H
 
-      pub after_note : h' ≡ noted_part b.opened ns (note_by p what x) h → KeepsPin h (note_by p what x) → After ns' h'
+      pub after_note : h' ≡ noted_part b.opened ns (note_by p what told.published) h → KeepsPin h (note_by p what told.published) → After ns' h'
       after_note part keeps = subst (λ (q : List Note × Part). After q.0 q.1) (λ i. (sym notes i, sym part i))
-          (step.hold_noted b ns y dev h hold z' told dev' (note_by p what x) noting keeps, as_told _ _ (step.holds_noted b ns y dev h hold z' told dev' (note_by p what x) noting keeps))
+          (step.hold_noted b ns y dev h hold z' told dev' (note_by p what told.published) noting keeps, as_told _ _ (step.holds_noted b ns y dev h hold z' told dev' (note_by p what told.published) noting keeps))
 
-      pub after_move : h' ≡ moved_part b.opened ns (note_by p what x) h → MovesPin h (note_by p what x) → After ns' h'
+      pub after_move : h' ≡ moved_part b.opened ns (note_by p what told.published) h → MovesPin h (note_by p what told.published) → After ns' h'
       after_move part moves = subst (λ (q : List Note × Part). After q.0 q.1) (λ i. (sym notes i, sym part i))
-          (step.hold_moved b ns y dev h hold z' told dev' (note_by p what x) noting moves, as_told _ _ (step.holds_moved b ns y dev h hold z' told dev' (note_by p what x) noting moves))
+          (step.hold_moved b ns y dev h hold z' told dev' (note_by p what told.published) noting moves, as_told _ _ (step.holds_moved b ns y dev h hold z' told dev' (note_by p what told.published) noting moves))

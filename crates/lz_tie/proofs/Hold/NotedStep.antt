@@ -14,8 +14,8 @@ use Rattle.lz_board.specs.Noting.{MayNote, KeepsPin, MovesPin, Writes}
 use Rattle.lz_board.specs.Plays.{noted, noted_part, moved_part}
 use Rattle.lz_board.specs.Seats.{BoardId}
 use Rattle.lz_board.proofs.Upkeep.PartUpkeep.{trace_noted, knows_noted, knows_moved, told_own}
-use Rattle.lz_tie.specs.declared.playing.Exchange.{Exchange}
-use Rattle.lz_tie.specs.Holds.{IsLocked, InHold, IsExchange, HoldNotes}
+use Rattle.lz_tie.specs.Holds.{IsLocked, InHold, HoldNotes}
+use Rattle.lz_tie.proofs.Hold.Exchanges.{Exchange, IsExchange}
 
 -- The step may be noted with its exchange, and the lock keeps its invariant with the note.
 pub record NotedStep (b : BoardId) (ns : List Note) (h : Part) (z' : Yard) (told : Told) (dev' : Device) (n : Note) : Type 0 where

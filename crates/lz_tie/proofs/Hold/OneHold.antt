@@ -110,32 +110,32 @@ module _ (b : BoardId) (F : Format) (ns found is : List Note) (y y' : Yard) (dev
   same_number = ap (λ (q : Part). q.number) part
 
   -- the next event of a call, on the notes in which its pin word was found
-  went : (e' e : Event) (t : Turn) → found ≡ found_for e ns → ((c : Calling) → IsNextOf h c e' → IsTurn found h c e) → HoldNotes b.opened found is (note_by hj.number (Played e t.outcome) t.published) hj h'
-      → ((c : Calling) → IsTurn found hj c e → Turned b.opened found hj c.command c.progress e t.outcome t.published) → (k : Calling) → IsNextOf h k e' → WentOn b ns is k t h h'
+  went : (e' e : Event) (t : Turn) → found ≡ found_for e ns → ((c : Calling) → IsNextOf h c e' → IsTurn found h c e) → HoldNotes b.opened found is (note_by hj.number (Played e t.outcome) t.published.value) hj h'
+      → ((c : Calling) → IsTurn found hj c e → Turned b.opened found hj c.command c.progress e t.outcome t.published.value) → (k : Calling) → IsNextOf h k e' → WentOn b ns is k t h h'
   went e' e t on turns H gave k next =
       let turn = turns k next in
       let turn_j = joined_turn found found h hj seen k e turn refl part in
-      let H' = subst (λ (p : ℕ). HoldNotes b.opened found is (note_by p (Played e t.outcome) t.published) hj h') same_number H in
+      let H' = subst (λ (p : ℕ). HoldNotes b.opened found is (note_by p (Played e t.outcome) t.published.value) hj h') same_number H in
       record {
         advanced = record {
           event = e;
           found = found;
           on = on;
           turn = turn;
-          holds = before_join b.opened found is (note_by h.number (Played e t.outcome) t.published) h hj h' seen part since H';
-          turned = seen_turned b.opened found found h hj seen k.command k.progress e t.outcome t.published refl part (gave k turn_j);
+          holds = before_join b.opened found is (note_by h.number (Played e t.outcome) t.published.value) h hj h' seen part since H';
+          turned = seen_turned b.opened found found h hj seen k.command k.progress e t.outcome t.published.value refl part (gave k turn_j);
           alone = λ one. comes.trace ∙ alone_trace b ns y dev h locked knows one;
           own = λ one. subst (OnlyOwn h.number b.opened) (sym comes.trace) (own_trace b ns y dev h locked knows one);
         };
-        shows = turn_shows b found is hj h' joint.knows k e t.outcome t.published turn_j.call H
+        shows = turn_shows b found is hj h' joint.knows k e t.outcome t.published.value turn_j.call H
             ∙ (λ i. mark_of_turn ((ap (λ p. last_call_number p found) same_number ∙ comes.number h.number) i) (reply_at k.progress) ++ comes.marks (shape_of_sizes b.sizes) i);
       }
 
-  began : (c : Command) (t : Turn) → t ≡ record { outcome = begins_with y.vault.format c; published = None } → y.vault.format ≡ F → h.loads ≡ [] → found ≡ found_note h.number h.pin ∷ ns
-      → HoldNotes b.opened found is (note_by hj.number (Called c y.vault.format) t.published) hj h' → Began b F ns is c t h h'
+  began : (c : Command) (t : Turn) → (t.outcome ≡ begins_with y.vault.format c) × (t.published.value ≡ None) → y.vault.format ≡ F → h.loads ≡ [] → found ≡ found_note h.number h.pin ∷ ns
+      → HoldNotes b.opened found is (note_by hj.number (Called c y.vault.format) t.published.value) hj h' → Began b F ns is c t h h'
   began c t gave format none at told =
-      let H = subst (λ (x : Option Publishing). HoldNotes b.opened found is (note_by hj.number (Called c y.vault.format) x) hj h') (ap (λ (q : Turn). q.published) gave) told in
-      let outcome : t.outcome ≡ begins_with F c = ap (λ (q : Turn). q.outcome) gave ∙ ap (λ (q : Format). begins_with q c) format in
+      let H = subst (λ (x : Option Publishing). HoldNotes b.opened found is (note_by hj.number (Called c y.vault.format) x) hj h') gave.1 told in
+      let outcome : t.outcome ≡ begins_with F c = gave.0 ∙ ap (λ (q : Format). begins_with q c) format in
       let H' = subst (λ (q : ℕ × Format). HoldNotes b.opened found is (note_by q.0 (Called c q.1) None) hj h') (λ i. (same_number i, format i)) H in
       let H'' = before_join b.opened found is (note_by h.number (Called c F) None) h hj h' seen part since H' in
       record {
@@ -155,22 +155,22 @@ module _ (b : BoardId) (F : Format) (ns found is : List Note) (y y' : Yard) (dev
   After e t = Stepped b F ns is y y' dev dev' e t h h'
 
   -- a call's first hold
-  pub stepped_call : (e : Event) (c : Command) → e ≡ Invoke c → (t : Turn) → t ≡ record { outcome = begins_with y.vault.format c; published = None } → y.vault.format ≡ F → h.loads ≡ []
-      → (mid : List Note) (q v : ℕ) → mid ≡ ns → found ≡ found_note q v ∷ mid → h.number ≡ q → h.pin ≡ v → HoldNotes b.opened found is (note_by hj.number (Called c y.vault.format) t.published) hj h' → After e t
+  pub stepped_call : (e : Event) (c : Command) → e ≡ Invoke c → (t : Turn) → (t.outcome ≡ begins_with y.vault.format c) × (t.published.value ≡ None) → y.vault.format ≡ F → h.loads ≡ []
+      → (mid : List Note) (q v : ℕ) → mid ≡ ns → found ≡ found_note q v ∷ mid → h.number ≡ q → h.pin ≡ v → HoldNotes b.opened found is (note_by hj.number (Called c y.vault.format) t.published.value) hj h' → After e t
   stepped_call e c event t gave format none mid q v same at number pin H = subst (λ (x : Event). After x t) (sym event)
-      (stepped (Invoke c) t (note_by hj.number (Called c y.vault.format) t.published) (λ fault. absurd (no_fault y.vault.format c (ap (λ (x : Turn). x.outcome) (sym gave) ∙ fault))) (let more = life.faults in omega (arith, more)) H (began c t gave format none (at ∙ (λ i. found_note (sym number i) (sym pin i) ∷ same i)) H))
+      (stepped (Invoke c) t (note_by hj.number (Called c y.vault.format) t.published.value) (λ fault. absurd (no_fault y.vault.format c (sym gave.0 ∙ fault))) (let more = life.faults in omega (arith, more)) H (began c t gave format none (at ∙ (λ i. found_note (sym number i) (sym pin i) ∷ same i)) H))
 
   -- one of an event that looks at a pin word, and one of any other
-  pub stepped_look : (e : Event) (q o v : ℕ) → e ≡ SeePin q o → (t : Turn) → (t.outcome ≡ Fault → dev.faults < dev'.faults) → (mid : List Note) → mid ≡ ns → found ≡ found_note q v ∷ mid → HoldNotes b.opened found is (note_by hj.number (Played (SeePin q v) t.outcome) t.published) hj h'
-      → ((c : Calling) → IsTurn found hj c (SeePin q v) → Turned b.opened found hj c.command c.progress (SeePin q v) t.outcome t.published) → After e t
+  pub stepped_look : (e : Event) (q o v : ℕ) → e ≡ SeePin q o → (t : Turn) → (t.outcome ≡ Fault → dev.faults < dev'.faults) → (mid : List Note) → mid ≡ ns → found ≡ found_note q v ∷ mid → HoldNotes b.opened found is (note_by hj.number (Played (SeePin q v) t.outcome) t.published.value) hj h'
+      → ((c : Calling) → IsTurn found hj c (SeePin q v) → Turned b.opened found hj c.command c.progress (SeePin q v) t.outcome t.published.value) → After e t
   stepped_look e q o v event t device mid same at H gave = subst (λ (x : Event). After x t) (sym event)
-      (stepped (SeePin q o) t (note_by hj.number (Played (SeePin q v) t.outcome) t.published) device (fault_counted (SeePin q v) t.outcome (faults_in found) dev dev' life.faults device) H (went (SeePin q o) (SeePin q v) t (at ∙ ap (λ r. found_note q v ∷ r) same) (λ c next. found_turn mid found h c q o v next at) H gave))
+      (stepped (SeePin q o) t (note_by hj.number (Played (SeePin q v) t.outcome) t.published.value) device (fault_counted (SeePin q v) t.outcome (faults_in found) dev dev' life.faults device) H (went (SeePin q o) (SeePin q v) t (at ∙ ap (λ r. found_note q v ∷ r) same) (λ c next. found_turn mid found h c q o v next at) H gave))
 
-  pub stepped_other : (e : Event) → ((c : Command) → e ≢ Invoke c) → ((q o : ℕ) → e ≢ SeePin q o) → (t : Turn) → (t.outcome ≡ Fault → dev.faults < dev'.faults) → found ≡ ns → HoldNotes b.opened found is (note_by hj.number (what_of y.vault.format e t.outcome) t.published) hj h'
-      → ((c : Calling) → IsTurn found hj c e → Turned b.opened found hj c.command c.progress e t.outcome t.published) → After e t
+  pub stepped_other : (e : Event) → ((c : Command) → e ≢ Invoke c) → ((q o : ℕ) → e ≢ SeePin q o) → (t : Turn) → (t.outcome ≡ Fault → dev.faults < dev'.faults) → found ≡ ns → HoldNotes b.opened found is (note_by hj.number (what_of y.vault.format e t.outcome) t.published.value) hj h'
+      → ((c : Calling) → IsTurn found hj c e → Turned b.opened found hj c.command c.progress e t.outcome t.published.value) → After e t
   stepped_other e no_call no_look t device same told gave =
-      let H = subst (λ (w : What). HoldNotes b.opened found is (note_by hj.number w t.published) hj h') (other_what y.vault.format e t.outcome no_call) told in
-      stepped e t (note_by hj.number (Played e t.outcome) t.published) device (fault_counted e t.outcome (faults_in found) dev dev' life.faults device) H (other_gave b F ns is t h h' e no_call (went e e t (found_other e no_look found ns same) (other_turn found h e no_look) H gave))
+      let H = subst (λ (w : What). HoldNotes b.opened found is (note_by hj.number w t.published.value) hj h') (other_what y.vault.format e t.outcome no_call) told in
+      stepped e t (note_by hj.number (Played e t.outcome) t.published.value) device (fault_counted e t.outcome (faults_in found) dev dev' life.faults device) H (other_gave b F ns is t h h' e no_call (went e e t (found_other e no_look found ns same) (other_turn found h e no_look) H gave))
 
 -- Cut off: what the lock keeps, and what the hold promises.
 module _ (b : BoardId) (F : Format) (first dev dev' : Device) (ns is : List Note) (y y' : Yard) (e : Event) (t : Turn) (h h' h'' : Part) (s : Stepped b F ns is y y' dev dev' e t h h')

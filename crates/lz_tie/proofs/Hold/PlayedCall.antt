@@ -29,8 +29,8 @@ use Rattle.lz_board.specs.Noting.{MayNote, Writes}
 use Rattle.lz_board.specs.Plays.{noted}
 use Rattle.lz_board.specs.Seats.{BoardId}
 use Rattle.lz_tie.specs.NotedRuns.{SameButAllPins, IsTied}
-use Rattle.lz_tie.specs.declared.playing.Exchange.{Exchange}
-use Rattle.lz_tie.specs.Holds.{sizes_of, IsExchange, IsLocked, InHold, MayTurn, begins_with}
+use Rattle.lz_tie.specs.Holds.{sizes_of, IsLocked, InHold, MayTurn, begins_with}
+use Rattle.lz_tie.proofs.Hold.Exchanges.{Exchange, IsExchange}
 use Rattle.lz_tie.specs.Reuse.{ReuseTold}
 use Rattle.lz_tie.proofs.Reuse.EventUpkeep.{silent_told, hands_after}
 use Rattle.lz_tie.proofs.Hold.NotedStep.{NotedStep}

@@ -39,9 +39,9 @@ use Rattle.lz_board.specs.Noting.{Sighting, MayNote, MayPrepare, KeepsPin, Moves
 use Rattle.lz_board.specs.Plays.{noted, found_note}
 use Rattle.lz_board.specs.Seats.{BoardId}
 use Rattle.lz_board.proofs.Upkeep.Splice.{trace_splice, pin_splice}
-use Rattle.lz_tie.specs.declared.playing.Exchange.{Exchange}
 use Rattle.lz_tie.specs.NotedRuns.{AreNext, SameButAllPins, IsTied, seen_event}
-use Rattle.lz_tie.specs.Holds.{sizes_of, IsLocked, InHold, IsTurn, SeesPin, Turned, IsExchange}
+use Rattle.lz_tie.specs.Holds.{sizes_of, IsLocked, InHold, IsTurn, SeesPin, Turned}
+use Rattle.lz_tie.proofs.Hold.Exchanges.{Exchange, IsExchange}
 use Rattle.lz_tie.specs.Reuse.{ReuseTold}
 use Rattle.lz_tie.proofs.Reuse.SightUpkeep.{noted_same}
 use Rattle.lz_tie.proofs.Reuse.EventUpkeep.{is_reusing, reusing_silent, leaves, slot_in, silent_told, plain_told, reserve_told, retired_told, seen_told, answered_told}

@@ -4,11 +4,11 @@ use Rattle.lz_board.specs.Seats.{part}
 use Rattle.lz_tie.specs.Counting.{Counts}
 use Rattle.lz_set.proofs.set.Set.call.Goals as goal
 
-pub sync_for_all-kept-requires-clause-counted : goal.sync_for_all-kept-requires-clause-counted
-sync_for_all-kept-requires-clause-counted g c =
+pub sync_for_all-requires-clause-counted : goal.sync_for_all-requires-clause-counted
+sync_for_all-requires-clause-counted g c =
     let asked = c.args.command in
     let before = part c.args.pass.now in
-    (asked, g.N.Named.format, before, c.play-stage.ensures.counts asked g.N.Named.format before c.loop.invariant.counts)
+    (asked, g.N.Named.format, before, c.go_on.ensures.counts asked g.N.Named.format before c.loop.invariant.counts)
 
 pub loop-preserved-in-Syncs : goal.loop-preserved-in-Syncs
 loop-preserved-in-Syncs g c =
@@ -16,8 +16,8 @@ loop-preserved-in-Syncs g c =
     let format = g.N.Named.format in
     let before = part c.args.pass.now in
     record {
-      pass = c.sync_for_all-kept.ensures.pass;
-      counts = c.sync_for_all-kept.ensures.counts asked format before (c.play-stage.ensures.counts asked format before c.loop.invariant.counts);
+      pass = c.sync_for_all.ensures.pass;
+      counts = c.sync_for_all.ensures.counts asked format before (c.go_on.ensures.counts asked format before c.loop.invariant.counts);
     }
 
 pub loop-preserved : goal.loop-preserved
@@ -26,27 +26,27 @@ loop-preserved g c =
     let format = g.N.Named.format in
     let before = part c.args.pass.now in
     record {
-      pass = c.play-stage.ensures.pass;
-      counts = subst (λ (k : Calling). Counts g.N.Named.board asked format before k (part c.play-stage.new.pass)) (sym c.call.view_is)
-          (c.play-stage.ensures.counts asked format before c.loop.invariant.counts);
+      pass = c.go_on.ensures.pass;
+      counts = subst (λ (k : Calling). Counts g.N.Named.board asked format before k (part c.go_on.new.pass)) (sym c.call.view_is)
+          (c.go_on.ensures.counts asked format before c.loop.invariant.counts);
     }
 
-pub end-requires-clause-counted : goal.end-requires-clause-counted
-end-requires-clause-counted g c =
+pub end-answer-requires-clause-counted : goal.end-answer-requires-clause-counted
+end-answer-requires-clause-counted g c =
     let asked = c.args.command in
     let before = part c.args.pass.now in
-    (asked, g.N.Named.format, before, c.play-stage.ensures.counts asked g.N.Named.format before c.loop.invariant.counts)
+    (asked, g.N.Named.format, before, c.go_on.ensures.counts asked g.N.Named.format before c.loop.invariant.counts)
 
 pub returns-in-Answers-clause-answers : goal.returns-in-Answers-clause-answers
 returns-in-Answers-clause-answers g c =
     let asked = c.args.command in
     let format = g.N.Named.format in
     let before = part c.args.pass.now in
-    c.end.ensures.answers asked format before c.requires.pass.0.2.sized (c.play-stage.ensures.counts asked format before c.loop.invariant.counts)
+    c.end-answer.ensures.answers asked format before c.requires.pass.0.2.sized (c.go_on.ensures.counts asked format before c.loop.invariant.counts)
 
 pub returns-in-Answers-clause-plain : goal.returns-in-Answers-clause-plain
 returns-in-Answers-clause-plain g c = λ one.
     let asked = c.args.command in
     let format = g.N.Named.format in
     let before = part c.args.pass.now in
-    c.end.ensures.plain one asked format before c.requires.pass.0.2.sized (c.play-stage.ensures.counts asked format before c.loop.invariant.counts)
+    c.end-answer.ensures.plain one asked format before c.requires.pass.0.2.sized (c.go_on.ensures.counts asked format before c.loop.invariant.counts)

@@ -2,7 +2,7 @@ use Rattle.lz_machine.specs.declared.kind.Kind.TheVariants.{Sync}
 use Rattle.lz_board.specs.Seats.{IsOf, part}
 use Rattle.lz_tie.specs.Counting.{CountsOn}
 use Rattle.lz_set.specs.Stages.{StepsWithout}
-use Rattle.lz_set.proofs.set.Set.play.Given as goal
+use Rattle.lz_set.proofs.set.Set.go_on.Given as goal
 
 abbrev pub invariant-loop : goal.invariant-loop
 invariant-loop g l = record {

@@ -1,0 +1,73 @@
+use Rattle.std.proofs.Common.{◌≡◌, true, Option, Some, None, is_some, refl, sym, ap, ◌∙◌, subst}
+use mathlib.Core.Bool.{false≢true}
+use Rattle.lz_machine.specs.declared.event.Reply.{Reply}
+use Rattle.lz_machine.specs.declared.kind.Kind.{Kind}
+use Rattle.lz_machine.specs.declared.kind.Kind.TheVariants.{Claim}
+use Rattle.lz_machine.specs.Calls.{event_at}
+use Rattle.lz_machine.specs.Laws.{hop_of}
+use Rattle.lz_machine.specs.Orders.{Calling, shape_with}
+use Rattle.lz_machine.specs.Runs.{reply_at}
+use Rattle.lz_board.specs.Seats.{part}
+use Rattle.lz_set.specs.Stages.{PlaysOne}
+use Rattle.lz_set.proofs.Plays.{has_played, played_then, turned_without, walked_without}
+use Rattle.lz_set.proofs.set.Set.go_on.Goals as goal
+
+some_is : (o : Option Reply) → is_some o ≡ true → (reply : Reply) × (o ≡ Some reply)
+some_is None is = absurd (false≢true is)
+some_is (Some reply) is = (reply, refl)
+
+pub walk-requires-clause-counted : goal.walk-requires-clause-counted
+walk-requires-clause-counted g c =
+    let was = c.requires.counted in
+    (was.0, was.1, was.2, c.loop.invariant.counts was.0 was.1 was.2 was.3)
+
+pub returns-then-is_some-clause-counts : goal.returns-then-is_some-clause-counts
+returns-then-is_some-clause-counts g c = λ asked format before counts. c.walk.ensures.counts asked format before (c.loop.invariant.counts asked format before counts)
+
+pub returns-then-is_some-clause-stands : goal.returns-then-is_some-clause-stands
+returns-then-is_some-clause-stands g c =
+    let got : (reply : Reply) × (c.reply.result ≡ Some reply) = some_is c.reply.result (sym c.is_some.ensures ∙ c.if-is_some.true) in
+    (got.0, ap (λ (k : Calling). reply_at k.progress) (sym c.call.view_is) ∙ sym c.reply.ensures ∙ got.1)
+
+pub returns-then-is_some-clause-steps : goal.returns-then-is_some-clause-steps
+returns-then-is_some-clause-steps g c = walked_without (part c.args.pass.now) (part c.loop.pass) (part c.walk.new.pass) c.loop.invariant.steps c.walk.ensures.steps
+
+pub returns-in-Sync-clause-counts : goal.returns-in-Sync-clause-counts
+returns-in-Sync-clause-counts g c = λ asked format before counts. c.walk.ensures.counts asked format before (c.loop.invariant.counts asked format before counts)
+
+pub returns-in-Sync-clause-steps : goal.returns-in-Sync-clause-steps
+returns-in-Sync-clause-steps g c = walked_without (part c.args.pass.now) (part c.loop.pass) (part c.walk.new.pass) c.loop.invariant.steps c.walk.ensures.steps
+
+pub turn-requires-clause-counted : goal.turn-requires-clause-counted
+turn-requires-clause-counted g c =
+    let was = c.requires.counted in
+    (was.0, was.1, was.2, c.walk.ensures.counts was.0 was.1 was.2 (c.loop.invariant.counts was.0 was.1 was.2 was.3))
+
+pub turn-requires-clause-event : goal.turn-requires-clause-event
+turn-requires-clause-event g c = c.next-event.ensures.event ∙ ap (λ (k : Calling). event_at (shape_with k) k.command k.progress) c.call.view_is
+
+pub turn-requires-clause-load : goal.turn-requires-clause-load
+turn-requires-clause-load g c = ap hop_of (turn-requires-clause-event g c) ∙ c.walk.ensures.loaded
+
+pub returns-then-is_taken-clause-counts : goal.returns-then-is_taken-clause-counts
+returns-then-is_taken-clause-counts g c = λ asked format before counts.
+    c.turn.ensures.counts asked format before (c.walk.ensures.counts asked format before (c.loop.invariant.counts asked format before counts))
+
+pub returns-then-is_taken-clause-steps : goal.returns-then-is_taken-clause-steps
+returns-then-is_taken-clause-steps g c =
+    turned_without c.next-event.result (part c.args.pass.now) (part c.walk.new.pass) (part c.turn.new.pass) c.in_default.not-Sync
+    (walked_without (part c.args.pass.now) (part c.loop.pass) (part c.walk.new.pass) c.loop.invariant.steps c.walk.ensures.steps) c.turn.ensures.played
+
+pub returns-then-is_taken-clause-claimed : goal.returns-then-is_taken-clause-claimed
+returns-then-is_taken-clause-claimed g c = λ busy.
+    played_then Claim (part c.args.pass.now) (part c.walk.new.pass) (part c.turn.new.pass) (c.loop.invariant.steps.0, c.walk.ensures.steps ∙ c.loop.invariant.steps.1)
+    (has_played Claim (part c.walk.new.pass) (part c.turn.new.pass)
+    (subst (λ (kind : Kind). PlaysOne kind (part c.walk.new.pass) (part c.turn.new.pass)) (c.is_taken.ensures.claimed c.if-is_taken.true) c.turn.ensures.played))
+
+pub loop-preserved : goal.loop-preserved
+loop-preserved g c = record {
+  pass = c.turn.ensures.pass;
+  steps = turned_without c.next-event.result (part c.args.pass.now) (part c.walk.new.pass) (part c.turn.new.pass) c.in_default.not-Sync
+      (walked_without (part c.args.pass.now) (part c.loop.pass) (part c.walk.new.pass) c.loop.invariant.steps c.walk.ensures.steps) c.turn.ensures.played;
+  counts = λ asked format before counts. c.turn.ensures.counts asked format before (c.walk.ensures.counts asked format before (c.loop.invariant.counts asked format before counts));
+}
