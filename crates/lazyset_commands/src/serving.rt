@@ -10,9 +10,8 @@ ghost use Rattle.lazyset_commands.specs.Services.{HadNoPort, HadPort, RanService
 
 use lazyset_offline::{Status, refuse, send_line, tell};
 use lz_disk::Disk;
-use lz_loop::{LoopBounds, serve_loops};
 use lz_proto::SessionFault;
-use lz_serve::{Loops, Observer, ServeOptions, Served, Serving, serve};
+use lz_serve::{Observer, ServeOptions, Served, Serving, serve, serve_loops};
 use lz_set::{Blank, Named, NoGate, Pass, Set};
 use lz_vault::Refused;
 use std::io;
@@ -157,15 +156,7 @@ where
 {
     let bounds = options.bounds();
     match options.loops {
-        Some(Loops { count, connections }) => {
-            let bounds = LoopBounds {
-                connections,
-                loops: count,
-                sessions: bounds.sessions,
-                idle: bounds.idle,
-            };
-            serve_loops(rt, listener, set, passes, bounds, observer)
-        }
+        Some(loops) => serve_loops(rt, listener, set, passes, loops, bounds, observer),
         None => serve(rt, listener, set, passes, bounds, observer),
     }
 }

@@ -36,7 +36,7 @@ module _ (b : BoardId) (F : Format) (given : List Part) (a : Asked) (is : IsAski
   alone_twice : b.sizes.passes ≡ 1 → a.tries ≡ 1 → ⊥
   alone_twice one twice =
       let earlier = subst (λ (n : ℕ). AreAskedAgain b F is.c n a.question.before is.middle) twice is.earlier in
-      alone_once b 0 earlier.2.answer one earlier.2.again
+      alone_once b 0 earlier.2.earlier earlier.2.answer one earlier.2.again
 
 -- a question is no other
 other_request : (old new : Asked) → IsSameQuestion old new → old.question.request ≡ Has 7 → new.question.request ≡ Has 8 → ⊥

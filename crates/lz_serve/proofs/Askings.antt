@@ -71,13 +71,13 @@ module _ (b : BoardId) (F : Format) (given : List Part) where
       }
 
       -- one more is to begin
-      pub asked_again : AskedUpTo b F is.c a.tries a.question.before answer new → asks_again b a.tries answer ≡ true → MayCall b new → IsAsking b F given (record a { pass = new; call = None; tries = a.tries + 1 })
-      asked_again upto again may_call = record {
+      pub asked_again : (beside : Bool) → AskedUpTo b F is.c a.tries a.question.before answer new → asks_again b a.tries beside answer ≡ true → MayCall b new → IsAsking b F given (record a { pass = new; call = None; tries = a.tries + 1 })
+      asked_again beside upto again may_call = record {
         seated = may_call.0;
         c = is.c;
         asked = is.asked;
         middle = new;
-        earlier = one_more upto again;
+        earlier = one_more upto beside again;
         sized = may_call.0.2.sized;
         counts = (refl, may_call);
         calm = is.calm;

@@ -1,5 +1,4 @@
 pub mod Mapped
-pub mod Kept
 pub mod Halting
 pub mod Seats
 pub mod HaltRows
@@ -8,3 +7,9 @@ pub mod ReplyRows
 pub mod Askings
 pub mod FreePasses
 pub mod AskingRows
+pub mod ConversationRows
+pub mod LinesUnderWay
+pub mod Standings
+pub mod StreamRows
+pub mod TalksOnStreams
+pub mod RunningLoops

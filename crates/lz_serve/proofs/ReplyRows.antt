@@ -56,32 +56,35 @@ module _ (b : BoardId) (F : Format) (old new : Pass) where
   -- with two passes `full` isn't told at once while three slots wait
   full_while_slots_wait : b.sizes.passes ≡ 2 → (s : SeatAnswers b F old (Add 8) Full new) → s.tries ≡ 0 → s.answer ≡ Err (fault.Full (record { free = 0; taken = 5; limbo = 3 })) → ⊥
   full_while_slots_wait two s none full =
-      let final = subst (λ (a : Result Bool Fault). asks_again b 0 a ≡ false) full (subst (λ (n : ℕ). asks_again b n s.answer ≡ false) none s.final) in
+      let final = subst (λ (a : Result Bool Fault). asks_again b 0 false a ≡ false) full (subst (λ (n : ℕ). asks_again b n false s.answer ≡ false) none s.final) in
       true≢false (sym (ap (λ (n : ℕ). not (n == 1)) two) ∙ final)
 
   -- a second call isn't made after `yes`
   again_after_yes : (s : IsAskedAgain b F (command.Add 8) 0 old new) → s.answer ≡ Ok true → ⊥
-  again_after_yes s is = true≢false (subst (λ (a : Result Bool Fault). true ≡ asks_again b 0 a) is (sym s.again))
+  again_after_yes s is = true≢false (subst (λ (a : Result Bool Fault). true ≡ asks_again b 0 s.earlier a) is (sym s.again))
 
   -- nor is one in a set of one pass
   alone_twice : b.sizes.passes ≡ 1 → IsAskedAgain b F (command.Add 8) 0 old new → ⊥
-  alone_twice one s = alone_once b 0 s.answer one s.again
+  alone_twice one s = alone_once b 0 s.earlier s.answer one s.again
 
   -- nor is a lookup made twice
   has_twice : IsAskedAgain b F (command.Has 7) 0 old new → ⊥
-  has_twice s = never_full F (part old) (part new) s.answer (told_full b 0 s.answer s.again) s.answered.call
+  has_twice s = never_full F (part old) (part new) s.answer (told_full b 0 s.earlier s.answer s.again) s.answered.call
 
   -- nor are more than a thousand made after the first
   many_more : AreAskedAgain b F (command.Add 8) 1_001 old new → ⊥
-  many_more (middle, before, last) = true≢false (sym last.again ∙ told_at_last b last.answer)
+  many_more (middle, before, last) = true≢false (sym last.again ∙ told_at_last b last.earlier last.answer)
 
 -- with three passes one more call is made while a slot waits, up to the last, and none where all slots have members
 module _ (b : BoardId) (three : b.sizes.passes ≡ 3) where
-  asked_while_one_waits : asks_again b 999 (Err (fault.Full (record { free = 0; taken = 7; limbo = 1 }))) ≡ true
+  asked_while_one_waits : asks_again b 999 false (Err (fault.Full (record { free = 0; taken = 7; limbo = 1 }))) ≡ true
   asked_while_one_waits = ap (λ (n : ℕ). not (n == 1)) three
 
-  told_at_last_while_one_waits : asks_again b 1_000 (Err (fault.Full (record { free = 0; taken = 7; limbo = 1 }))) ≡ false
+  told_at_last_while_one_waits : asks_again b 1_000 true (Err (fault.Full (record { free = 0; taken = 7; limbo = 1 }))) ≡ false
   told_at_last_while_one_waits = refl
 
-  told_of_members : asks_again b 0 (Err (fault.Full (record { free = 0; taken = 8; limbo = 0 }))) ≡ false
+  told_of_members : asks_again b 0 false (Err (fault.Full (record { free = 0; taken = 8; limbo = 0 }))) ≡ false
   told_of_members = refl
+
+  asked_beside_a_removal : asks_again b 0 true (Err (fault.Full (record { free = 0; taken = 8; limbo = 0 }))) ≡ true
+  asked_beside_a_removal = ap (λ (n : ℕ). not (n == 1)) three

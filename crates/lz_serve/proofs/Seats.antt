@@ -1,4 +1,4 @@
--- Sessions of a seat, which remembers whether it has ever replied that the service halted.
+-- What a seat answers, call after call, and its session.
 use Rattle.std.proofs.Common.{◌≡◌, ◌==◌, ℕ, zero, suc, ◌+◌, nat_lt, All, Bool, true, false, not, ◌&&◌, ◌||◌, List, Option, Some, Result, Ok, Err, refl, sym, ap, ◌∙◌, subst, arith}
 use mathlib.Core.Bool.{true≢false}
 use Rattle.std.proofs.lemmas.List.Elements.{All-cons, All-same}
@@ -27,7 +27,6 @@ use Rattle.lz_tie.proofs.Replies.SeenMore.{seen_more}
 use Rattle.lz_serve.specs.Halts.{IsCalm, was_cut}
 use Rattle.lz_serve.specs.Replies.{AreAskedAgain, IsCallAnswered, SeatAnswers, asks_again, client_reply, command_of, most_tries, says_halted}
 use Rattle.lz_serve.proofs.Halting.{answer_word}
-use Rattle.lz_serve.proofs.Kept.{session_keeps}
 use Rattle.lz_serve.proofs.Mapped.{known_session}
 
 -- an answer of which a client isn't told that the service halted doesn't cut its call off
@@ -49,38 +48,52 @@ calm_after b F c answer old new is sized quiet calm =
     subst (λ (z : Sizes). All P (told (shape_of_sizes z) (part new).steps)) (is.sized ∙ sym sized) newest
 
 -- an answer after which one more call is made is told as full
-pub told_full : (b : BoardId) (tries : ℕ) (answer : Result Bool Fault) → asks_again b tries answer ≡ true → client_reply answer ≡ reply.Full
-told_full b tries (Ok is) again = absurd (true≢false (sym again))
-told_full b tries (Err (fault.Full counts)) again = refl
-told_full b tries (Err fault.Worn) again = absurd (true≢false (sym again))
-told_full b tries (Err fault.OldFile) again = absurd (true≢false (sym again))
-told_full b tries (Err fault.Halted) again = absurd (true≢false (sym again))
-told_full b tries (Err fault.Device) again = absurd (true≢false (sym again))
+pub told_full : (b : BoardId) (tries : ℕ) (earlier : Bool) (answer : Result Bool Fault) → asks_again b tries earlier answer ≡ true → client_reply answer ≡ reply.Full
+told_full b tries earlier (Ok is) again = absurd (true≢false (sym again))
+told_full b tries earlier (Err (fault.Full counts)) again = refl
+told_full b tries earlier (Err fault.Worn) again = absurd (true≢false (sym again))
+told_full b tries earlier (Err fault.OldFile) again = absurd (true≢false (sym again))
+told_full b tries earlier (Err fault.Halted) again = absurd (true≢false (sym again))
+told_full b tries earlier (Err fault.Device) again = absurd (true≢false (sym again))
 
 not_one : (x y : Bool) (n : ℕ) → n ≡ 1 → (x && y && not (n == 1)) ≡ false
 not_one true true n one = ap (λ (m : ℕ). not (m == 1)) one
 not_one true false n one = refl
 not_one false y n one = refl
 
+no_more : (x y h z : Bool) → (x && (y || h) && z) ≡ false → (x && (y || false) && z) ≡ false
+no_more true true h z is = is
+no_more true false h z is = refl
+no_more false y h z is = refl
+
+-- where none is made though an earlier line wasn't answered, none is where each was
+unasked : (b : BoardId) (tries : ℕ) (earlier : Bool) (answer : Result Bool Fault) → asks_again b tries earlier answer ≡ false → asks_again b tries false answer ≡ false
+unasked b tries earlier (Ok is) final = refl
+unasked b tries earlier (Err (fault.Full counts)) final = no_more (nat_lt tries most_tries) (not (counts.limbo == 0)) earlier (not (b.sizes.passes == 1)) final
+unasked b tries earlier (Err fault.Worn) final = refl
+unasked b tries earlier (Err fault.OldFile) final = refl
+unasked b tries earlier (Err fault.Halted) final = refl
+unasked b tries earlier (Err fault.Device) final = refl
+
 -- a set of one pass is asked once
-pub alone_once : (b : BoardId) (tries : ℕ) (answer : Result Bool Fault) → b.sizes.passes ≡ 1 → asks_again b tries answer ≡ true → ⊥
-alone_once b tries (Ok is) one again = true≢false (sym again)
-alone_once b tries (Err (fault.Full counts)) one again = true≢false (sym again ∙ not_one (nat_lt tries most_tries) (not (counts.limbo == 0)) b.sizes.passes one)
-alone_once b tries (Err fault.Worn) one again = true≢false (sym again)
-alone_once b tries (Err fault.OldFile) one again = true≢false (sym again)
-alone_once b tries (Err fault.Halted) one again = true≢false (sym again)
-alone_once b tries (Err fault.Device) one again = true≢false (sym again)
+pub alone_once : (b : BoardId) (tries : ℕ) (earlier : Bool) (answer : Result Bool Fault) → b.sizes.passes ≡ 1 → asks_again b tries earlier answer ≡ true → ⊥
+alone_once b tries earlier (Ok is) one again = true≢false (sym again)
+alone_once b tries earlier (Err (fault.Full counts)) one again = true≢false (sym again ∙ not_one (nat_lt tries most_tries) (not (counts.limbo == 0) || earlier) b.sizes.passes one)
+alone_once b tries earlier (Err fault.Worn) one again = true≢false (sym again)
+alone_once b tries earlier (Err fault.OldFile) one again = true≢false (sym again)
+alone_once b tries earlier (Err fault.Halted) one again = true≢false (sym again)
+alone_once b tries earlier (Err fault.Device) one again = true≢false (sym again)
 
 module _ (b : BoardId) (F : Format) (c : Command) where
   -- what each call keeps, after which one more is made, all of them keep
-  all_keep : (P : Pass → Type 0) → ((tries : ℕ) (answer : Result Bool Fault) (p q : Pass) → IsCallAnswered b F c answer p q → asks_again b tries answer ≡ true → P p → P q)
+  all_keep : (P : Pass → Type 0) → ((tries : ℕ) (earlier : Bool) (answer : Result Bool Fault) (p q : Pass) → IsCallAnswered b F c answer p q → asks_again b tries earlier answer ≡ true → P p → P q)
       → (tries : ℕ) (old new : Pass) → AreAskedAgain b F c tries old new → P old → P new
   all_keep P each zero old new same holds = subst P (sym same) holds
-  all_keep P each (suc n) old new (middle, before, last) holds = each n last.answer middle new last.answered last.again (all_keep P each n old middle before holds)
+  all_keep P each (suc n) old new (middle, before, last) holds = each n last.earlier last.answer middle new last.answered last.again (all_keep P each n old middle before holds)
 
   none_alone : (tries : ℕ) (old new : Pass) → b.sizes.passes ≡ 1 → AreAskedAgain b F c tries old new → new ≡ old
   none_alone zero old new one same = same
-  none_alone (suc n) old new one (middle, before, last) = absurd (alone_once b n last.answer one last.again)
+  none_alone (suc n) old new one (middle, before, last) = absurd (alone_once b n last.earlier last.answer one last.again)
 
 -- Up to now so many calls were made for this command after its first one, and the last of them all was answered so.
 pub record AskedUpTo (b : BoardId) (F : Format) (c : Command) (tries : ℕ) (old : Pass) (answer : Result Bool Fault) (new : Pass) : Type 0 where
@@ -89,27 +102,27 @@ pub record AskedUpTo (b : BoardId) (F : Format) (c : Command) (tries : ℕ) (old
   pub last : IsCallAnswered b F c answer middle new
 
 module _ {b : BoardId} {F : Format} {c : Command} {tries : ℕ} {old : Pass} {answer : Result Bool Fault} {new : Pass} (upto : AskedUpTo b F c tries old answer new) where
-  pub one_more : asks_again b tries answer ≡ true → AreAskedAgain b F c (tries + 1) old new
-  one_more again =
+  pub one_more : (earlier : Bool) → asks_again b tries earlier answer ≡ true → AreAskedAgain b F c (tries + 1) old new
+  one_more earlier again =
       let next : suc tries ≡ tries + 1 = omega arith in
-      subst (λ (n : ℕ). AreAskedAgain b F c n old new) next (upto.middle, upto.before, record { answer = answer; answered = upto.last; again = again })
+      subst (λ (n : ℕ). AreAskedAgain b F c n old new) next (upto.middle, upto.before, record { answer = answer; answered = upto.last; earlier = earlier; again = again })
 
   -- one more is made
-  pub asked_more : {next : Result Bool Fault} {newest : Pass} → asks_again b tries answer ≡ true → IsCallAnswered b F c next new newest → AskedUpTo b F c (tries + 1) old next newest
-  asked_more {next} {newest} again last = record { middle = new; before = one_more again; last = last }
+  pub asked_more : (earlier : Bool) {next : Result Bool Fault} {newest : Pass} → asks_again b tries earlier answer ≡ true → IsCallAnswered b F c next new newest → AskedUpTo b F c (tries + 1) old next newest
+  asked_more earlier {next} {newest} again last = record { middle = new; before = one_more earlier again; last = last }
 
   -- or the answer is told
-  pub seat_told : {request : Request} {r : Reply} → command_of request ≡ Some c → asks_again b tries answer ≡ false → r ≡ client_reply answer → SeatAnswers b F old request r new
-  seat_told asked final told = record { c = c; asked = asked; tries = tries; middle = upto.middle; before = upto.before; answer = answer; last = upto.last; final = final; told = told }
+  pub seat_told : {request : Request} {r : Reply} (earlier : Bool) → command_of request ≡ Some c → asks_again b tries earlier answer ≡ false → r ≡ client_reply answer → SeatAnswers b F old request r new
+  seat_told earlier asked final told = record { c = c; asked = asked; tries = tries; middle = upto.middle; before = upto.before; answer = answer; last = upto.last; final = unasked b tries earlier answer final; told = told }
 
 -- the last call that may be made is
-pub told_at_last : (b : BoardId) (answer : Result Bool Fault) → asks_again b most_tries answer ≡ false
-told_at_last b (Ok is) = refl
-told_at_last b (Err (fault.Full counts)) = refl
-told_at_last b (Err fault.Worn) = refl
-told_at_last b (Err fault.OldFile) = refl
-told_at_last b (Err fault.Halted) = refl
-told_at_last b (Err fault.Device) = refl
+pub told_at_last : (b : BoardId) (earlier : Bool) (answer : Result Bool Fault) → asks_again b most_tries earlier answer ≡ false
+told_at_last b earlier (Ok is) = refl
+told_at_last b earlier (Err (fault.Full counts)) = refl
+told_at_last b earlier (Err fault.Worn) = refl
+told_at_last b earlier (Err fault.OldFile) = refl
+told_at_last b earlier (Err fault.Halted) = refl
+told_at_last b earlier (Err fault.Device) = refl
 
 module _ (b : BoardId) (F : Format) (old new : Pass) (request : Request) (r : Reply) (answers : SeatAnswers b F old request r new) where
   -- in a set of one pass there was no other call
@@ -118,7 +131,7 @@ module _ (b : BoardId) (F : Format) (old new : Pass) (request : Request) (r : Re
 
   -- a pass that has seen the halt still has after its answer
   pub saw_before : halt_word (part old).known ≡ 1 → halt_word (part new).known ≡ 1
-  saw_before seen = saw_more answers.answer answers.middle new answers.last (all_keep b F answers.c (λ p. halt_word (part p).known ≡ 1) (λ tries answer p q is again. saw_more answer p q is) answers.tries old answers.middle answers.before seen)
+  saw_before seen = saw_more answers.answer answers.middle new answers.last (all_keep b F answers.c (λ p. halt_word (part p).known ≡ 1) (λ tries earlier answer p q is again. saw_more answer p q is) answers.tries old answers.middle answers.before seen)
     where
       saw_more : (answer : Result Bool Fault) (p q : Pass) → IsCallAnswered b F answers.c answer p q → halt_word (part p).known ≡ 1 → halt_word (part q).known ≡ 1
       saw_more answer p q is = halt_since (part p).known (part q).known (seen_more F answers.c (reply_of answer) (part p) (part q) is.call)
@@ -137,42 +150,11 @@ module _ (b : BoardId) (F : Format) (old new : Pass) (request : Request) (r : Re
       calm_after b F answers.c answers.answer answers.middle new answers.last sized (subst (λ (s : Reply). says_halted s ≡ false) answers.told quiet)
       (all_keep b F answers.c (λ p. (part p).sizes ≡ b.sizes → IsCalm (part p)) still answers.tries old answers.middle answers.before (λ _. calm) answers.last.sized)
     where
-      still : (tries : ℕ) (answer : Result Bool Fault) (p q : Pass) → IsCallAnswered b F answers.c answer p q → asks_again b tries answer ≡ true → ((part p).sizes ≡ b.sizes → IsCalm (part p)) → (part q).sizes ≡ b.sizes → IsCalm (part q)
-      still tries answer p q is again was sized = calm_after b F answers.c answer p q is sized (ap says_halted (told_full b tries answer again)) (was is.sized)
+      still : (tries : ℕ) (earlier : Bool) (answer : Result Bool Fault) (p q : Pass) → IsCallAnswered b F answers.c answer p q → asks_again b tries earlier answer ≡ true → ((part p).sizes ≡ b.sizes → IsCalm (part p)) → (part q).sizes ≡ b.sizes → IsCalm (part q)
+      still tries earlier answer p q is again was sized = calm_after b F answers.c answer p q is sized (ap says_halted (told_full b tries earlier answer again)) (was is.sized)
 
-pub or_true : (a b : Bool) → b ≡ true → true ≡ (a || b)
-or_true true b is = refl
-or_true false b is = sym is
-
-pub or_false : (a b : Bool) → b ≡ false → a ≡ (a || b)
-or_false true b is = refl
-or_false false b is = sym is
-
-neither : (a b : Bool) → (a || b) ≡ false → (a ≡ false) × (b ≡ false)
-neither true b is = absurd (true≢false is)
-neither false b is = (refl, is)
-
-module _ {X : Type 0} (pass_of : X → Pass) (halted_of : X → Bool) (b : BoardId) (F : Format) where
-  abbrev pub seat_answers : X → Request → Reply → X → Type 0
-  seat_answers old request reply new = SeatAnswers b F (pass_of old) request reply (pass_of new) × (halted_of new ≡ (halted_of old || says_halted reply))
-
+module _ {X : Type 0} (pass_of : X → Pass) (b : BoardId) (F : Format) where
   -- the session of a seat is one of its pass
   pub seat_session : (input after : Option (List ℕ)) (old new : X) (p q : Pass) (r : Result End SessionFault) (written : List ℕ) → pass_of old ≡ p → pass_of new ≡ q
-      → SessionTells seat_answers input after old new written r → SessionTells (SeatAnswers b F) input after p q written r
-  seat_session = known_session pass_of seat_answers (SeatAnswers b F) (λ old request reply new so. so.0)
-
-  -- it was not told of a halt before, and stays calm
-  abbrev KeepsCalm : X → X → Type 0
-  KeepsCalm old new = halted_of new ≡ false → (halted_of old ≡ false) × (IsCalm (part (pass_of old)) → IsCalm (part (pass_of new)))
-
-  answer_keeps : (old : X) (request : Request) (r : Reply) (new : X) → (part (pass_of new)).sizes ≡ b.sizes → seat_answers old request r new → KeepsCalm old new
-  answer_keeps old request r new sized so quiet =
-      let are = neither (halted_of old) (says_halted r) (sym so.1 ∙ quiet) in
-      (are.0, stays_calm b F (pass_of old) (pass_of new) request r so.0 sized are.1)
-
-  -- a pass stays calm over a session after which its seat has never replied that the service halted
-  pub calm_session : ((x : X) → (part (pass_of x)).sizes ≡ b.sizes) → (input after : Option (List ℕ)) (old new : X) (r : Result End SessionFault) (written : List ℕ)
-      → SessionTells seat_answers input after old new written r → halted_of new ≡ false → IsCalm (part (pass_of old)) → IsCalm (part (pass_of new))
-  calm_session sized input after old new r written tells quiet =
-      (session_keeps seat_answers KeepsCalm (λ x still. (still, λ calm. calm)) (λ x y z first last still. let l = last still in let f = first l.0 in (f.0, λ calm. l.1 (f.1 calm)))
-      (λ o request reply n. answer_keeps o request reply n (sized n)) input after old new r written tells quiet).1
+      → SessionTells (λ o request reply n. SeatAnswers b F (pass_of o) request reply (pass_of n)) input after old new written r → SessionTells (SeatAnswers b F) input after p q written r
+  seat_session = known_session pass_of (λ o request reply n. SeatAnswers b F (pass_of o) request reply (pass_of n)) (SeatAnswers b F) (λ old request reply new so. so)

@@ -1,5 +1,5 @@
 -- Questions that are put to passes, and the replies that these grant.
-use Rattle.std.specs.Prelude.{ℕ, List, [], ◌∷◌, ◌++◌}
+use Rattle.std.specs.Prelude.{◌≡◌, ℕ, List, [], ◌∷◌, ◌++◌}
 use Rattle.lz_slot.specs.declared.format.Format.{Format}
 use Rattle.lz_proto.specs.declared.request.Request.{Request}
 use Rattle.lz_proto.specs.declared.reply.Reply.{Reply}
@@ -19,6 +19,13 @@ pub record Grant : Type 0 where
   pub question : Posed
   pub reply : Reply
   pub after : Pass
+
+-- The reply was granted to this request, the line of this number on this connection.
+pub record IsOfLine (connection number : ℕ) (request : Request) (reply : Reply) (g : Grant) : Type 0 where
+  pub of_connection : g.question.connection ≡ connection
+  pub of_number : g.question.line ≡ number
+  pub of_request : g.question.request ≡ request
+  pub of_reply : g.reply ≡ reply
 
 -- The pass answered the question so, as a seat does, on this board over a file of this format.
 abbrev pub IsGrant : BoardId → Format → Grant → Type 0

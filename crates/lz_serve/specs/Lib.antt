@@ -6,3 +6,8 @@ pub mod Verbs
 pub mod Grants
 pub mod Askings
 pub mod Answered
+pub mod Lines
+pub mod Conversations
+pub mod Streams
+pub mod Clients
+pub mod Promised

@@ -7,6 +7,10 @@ use Rattle.std.specs.declared.time.Duration.{Duration}
 abbrev pub most_connections : ℕ
 most_connections = 10000
 
+-- the most threads that serve, each of which is a loop or has a pass
+abbrev pub most_threads : ℕ
+most_threads = 64
+
 -- so many seconds are the bound on how long a client is waited for; 0 is none
 abbrev pub IsIdleBound : ℕ → Option Duration → Type 0
 IsIdleBound zero idle = idle ≡ None

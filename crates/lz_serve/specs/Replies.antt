@@ -1,5 +1,5 @@
 -- What the service of one pass replies.
-use Rattle.std.specs.Prelude.{◌≡◌, ◌==◌, ℕ, zero, suc, nat_lt, Bool, true, false, not, ◌&&◌, Result, Ok, Err, Option, Some, None}
+use Rattle.std.specs.Prelude.{◌≡◌, ◌==◌, ℕ, zero, suc, nat_lt, Bool, true, false, not, ◌&&◌, ◌||◌, Result, Ok, Err, Option, Some, None}
 use Rattle.lz_slot.specs.declared.command.Command.{Command}
 use Rattle.lz_slot.specs.declared.format.Format.{Format}
 use Rattle.lz_slot.specs.declared.command.Command.TheVariants as command
@@ -48,17 +48,18 @@ pub record IsCallAnswered (b : BoardId) (F : Format) (c : Command) (answer : Res
 abbrev pub most_tries : ℕ
 most_tries = 1_000
 
--- Whether one more call is made after one that was answered so, and so many more before it: no slot was free, and slots wait for
--- calls that end, which in a set of one pass none does.
-abbrev pub asks_again : BoardId → ℕ → Result Bool Fault → Bool
-asks_again b tries (Err (Full counts)) = nat_lt tries most_tries && not (counts.limbo == 0) && not (b.sizes.passes == 1)
-asks_again b tries answer = false
+-- Whether one more call is made after one that was answered so, and so many more before it: no slot was free, and slots wait for calls
+-- that end, or an earlier line wasn't answered, which may free one. In a set of one pass there is no other call.
+abbrev pub asks_again : BoardId → ℕ → Bool → Result Bool Fault → Bool
+asks_again b tries earlier (Err (Full counts)) = nat_lt tries most_tries && (not (counts.limbo == 0) || earlier) && not (b.sizes.passes == 1)
+asks_again b tries earlier answer = false
 
 -- A call of the pass for this command, after so many, was answered so that one more is made.
 pub record IsAskedAgain (b : BoardId) (F : Format) (c : Command) (tries : ℕ) (old new : Pass) : Type 0 where
   pub answer : Result Bool Fault
   pub answered : IsCallAnswered b F c answer old new
-  pub again : asks_again b tries answer ≡ true
+  pub earlier : Bool
+  pub again : asks_again b tries earlier answer ≡ true
 
 -- so many calls were, one after the other
 abbrev pub AreAskedAgain : BoardId → Format → Command → ℕ → Pass → Pass → Type 0
@@ -75,5 +76,5 @@ pub record SeatAnswers (b : BoardId) (F : Format) (old : Pass) (request : Reques
   pub before : AreAskedAgain b F c tries old middle
   pub answer : Result Bool Fault
   pub last : IsCallAnswered b F c answer middle new
-  pub final : asks_again b tries answer ≡ false
+  pub final : asks_again b tries false answer ≡ false
   pub told : reply ≡ client_reply answer

@@ -1,32 +1,33 @@
 //! A request that a pass is answering, as a value.
-ghost use Rattle.std.specs.Prelude.{◌≡◌, ◌≢◌, ◌+◌, ◌&&◌, IsSomeAnd, None, Some, is_none, nat_lt};
+ghost use Rattle.std.specs.Prelude.{◌≡◌, ◌≢◌, ◌+◌, ◌<◌, ◌&&◌, IsSomeAnd, None, Some, is_none, nat_lt, true};
 ghost use Rattle.lz_slot.specs.declared.command.Command.{Command as Asks};
 ghost use Rattle.lz_board.specs.declared.pass.Pass.{Pass as Seen};
 ghost use Rattle.lz_board.specs.Seats.{IsOf, part};
 ghost use Rattle.lz_tie.specs.Counting.{Counts};
 ghost use Rattle.lz_set.specs.Names.{MayCall};
-ghost use Rattle.lz_set.specs.Stages.{HasPlayed, StandsAt, StepsOn};
+ghost use Rattle.lz_set.specs.Stages.{HasPlayed, StandsAt, StepsWithout};
 ghost use Rattle.lz_machine.specs.declared.kind.Kind.TheVariants as kind;
 ghost use Rattle.lz_serve.specs.Askings.{IsCounting, IsSameQuestion};
 ghost use Rattle.lz_serve.specs.Grants.{IsGrant};
 ghost use Rattle.lz_serve.specs.Halts.{IsCalmAfter, SawHalt};
-ghost use Rattle.lz_serve.specs.Replies.{command_of};
+ghost use Rattle.lz_serve.specs.Replies.{asks_again, client_reply, command_of, most_tries, says_halted};
 
+use crate::client::Question;
 use crate::given::Given;
 use crate::observer::Verb;
-use crate::question::Question;
-use crate::seated::{asks_again, client_reply};
 use lz_disk::Disk;
-use lz_proto::{Reply, Request};
-use lz_set::{Named, Pass, Set, Stage, StepGate, Underway};
-use lz_slot::Command;
-use std::marker::{Brand, Model, PhantomData};
+use lz_proto::Reply;
+use lz_set::{Fault, Kept, Named, Pass, Set, Stage, StepGate, Underway};
+use std::marker::{Model, PhantomData};
 use std::snapshot::Snapshot;
 use std::sync::Wait;
 use std::thread;
 use std::time::{Clock, Duration};
 
-/// For how many milliseconds a call that waits for others is left alone.
+/// How many calls a request has at most after its first one, while slots wait for calls that end. A pass that waits makes the first of them
+/// at once, and waits for a millisecond before each further one: for a second in all, beside what the calls take.
+const MOST_TRIES: usize = 1_000;
+
 const PAUSE: u64 = 1;
 
 /// A request that a pass is answering. It has the pass until it is replied to, and its owner is to play it on until then, since
@@ -81,6 +82,13 @@ impl<N: Named> Granted<N> {
     {
         self.reply
     }
+
+    /// The question.
+    pub(crate) fn question(&self) -> &Question
+        ensures { result.now ≡ self.now.question }
+    {
+        &self.question
+    }
 }
 
 /// What became of a call that was answered.
@@ -88,7 +96,7 @@ impl<N: Named> Granted<N> {
 pub enum Answered<N: Named, B: Given> {
     /// The request has its reply.
     Replied(Pass, Granted<N>),
-    /// No slot was free, slots wait for calls that end, and one more call is yet to begin.
+    /// No slot was free, and one more call is yet to begin.
     Again(Asking<N, B>),
 }
 
@@ -96,9 +104,10 @@ impl<N: Named, B: Given> Asking<N, B> {
     ghost use Rattle.lz_serve.specs.Answered.{IfAgain, IfReplied};
 
     /// Begins to answer a question by the pass to which it was put, which has made no call since.
-    pub fn begin<D: Disk, G: StepGate, R: Wait>(
+    pub fn begin<'a, D: Disk, G: StepGate, R: Wait>(
         rt: &R,
-        set: &Set<D, G, N>,
+        set: &'a Set<D, G, N>,
+        kept: &mut Kept<'a, D, N>,
         pass: Pass,
         question: Question,
     ) -> Asking<N, B>
@@ -109,7 +118,7 @@ impl<N: Named, B: Given> Asking<N, B> {
         ensures tries { result.tries ≡ 0 }
     {
         let mut pass = pass;
-        let call = set.begin(rt, &mut pass, command_for(&question));
+        let call = set.begin(rt, kept, &mut pass, question.command());
         Asking {
             question,
             pass,
@@ -120,20 +129,31 @@ impl<N: Named, B: Given> Asking<N, B> {
         }
     }
 
+    /// The number of its line on its connection.
+    pub(crate) fn line(&self) -> u64 {
+        self.question.line()
+    }
+
     /// What is asked for.
     pub fn verb(&self) -> Verb {
         Verb::of(&self.question.request())
     }
 
     /// Plays the call on up to a stage, and no Sync. It begins where it hasn't yet, and one that was busy claims its node again.
-    pub fn go_on<D: Disk, G: StepGate, R: Wait>(&mut self, rt: &R, set: &Set<D, G, N>) -> Stage
+    pub fn go_on<'a, D: Disk, G: StepGate, R: Wait>(
+        &mut self,
+        rt: &R,
+        set: &'a Set<D, G, N>,
+        kept: &mut Kept<'a, D, N>,
+    ) -> Stage
         ensures stands { IsSomeAnd self.new.call (λ call. StandsAt result call) }
         ensures claimed { result ≡ Stage.Busy → HasPlayed kind.Claim (part self.old.pass) (part self.new.pass) }
+        ensures steps { StepsWithout kind.Sync (part self.old.pass) (part self.new.pass) }
         ensures same { IsSameQuestion self.old self.new }
     {
         let call = self.call.take();
-        let mut call = begun(rt, set, &mut self.pass, call, &self.question);
-        let stage = set.go_on(rt, &mut self.pass, &mut call);
+        let mut call = begun(rt, set, kept, &mut self.pass, call, &self.question);
+        let stage = set.go_on(rt, kept, &mut self.pass, &mut call);
         self.call = Some(call);
         stage
     }
@@ -146,7 +166,12 @@ impl<N: Named, B: Given> Asking<N, B> {
     }
 
     /// Plays the Sync before which the call stands.
-    pub fn sync<D: Disk, G: StepGate, R: Wait>(&mut self, rt: &R, set: &Set<D, G, N>)
+    pub fn sync<'a, D: Disk, G: StepGate, R: Wait>(
+        &mut self,
+        rt: &R,
+        set: &'a Set<D, G, N>,
+        kept: &mut Kept<'a, D, N>,
+    )
         requires { IsSomeAnd self.old.call (λ call. StandsAt Stage.Syncs call) }
         ensures played { HasPlayed kind.Sync (part self.old.pass) (part self.new.pass) }
         ensures same { IsSameQuestion self.old self.new }
@@ -154,12 +179,18 @@ impl<N: Named, B: Given> Asking<N, B> {
         let Some(call) = self.call.as_mut() else {
             unreachable!();
         };
-        set.sync(rt, &mut self.pass, call);
+        set.sync(rt, kept, &mut self.pass, call);
     }
 
     /// Answers the call. Where no slot was free and slots wait for calls that end, it is answered to nobody, and one more is to
     /// begin; up to a bound, in a set of several passes.
-    pub fn answer<D: Disk, G: StepGate, R: Wait>(self, rt: &R, set: &Set<D, G, N>) -> Answered<N, B>
+    pub fn answer<'a, D: Disk, G: StepGate, R: Wait>(
+        self,
+        rt: &R,
+        set: &'a Set<D, G, N>,
+        kept: &mut Kept<'a, D, N>,
+        earlier: bool,
+    ) -> Answered<N, B>
         requires { IsSomeAnd self.call (λ call. StandsAt Stage.Answers call) }
         ensures may_call { IfReplied result (λ pass granted. MayCall N.board pass) }
         ensures granted { IfReplied result (λ pass granted. (granted.question ≡ self.question) × (granted.after ≡ pass)) }
@@ -179,8 +210,8 @@ impl<N: Named, B: Given> Asking<N, B> {
             unreachable!();
         };
         let mut pass = pass;
-        let answer = set.answer(rt, &mut pass, call);
-        if asks_again(set, tries, answer) {
+        let answer = set.answer(rt, kept, &mut pass, call);
+        if asks_again(set, tries, earlier, answer) {
             return Answered::Again(Asking {
                 question,
                 pass,
@@ -202,56 +233,82 @@ impl<N: Named, B: Given> Asking<N, B> {
 }
 
 /// Answers a question to its end. It may wait for other passes.
-pub fn grant<D: Disk, G: StepGate, N: Named, R: Wait + Clock>(
+pub(crate) fn grant<D: Disk, G: StepGate, N: Named, R: Wait + Clock>(
     rt: &R,
     set: &Set<D, G, N>,
-    pass: Pass,
+    pass: &mut Pass,
     question: Question,
-) -> (Pass, Granted<N>)
-    requires may_call { MayCall N.board pass }
-    requires before { question.before ≡ pass }
-    ensures may_call { MayCall N.board result.0 }
-    ensures granted { (result.1.question ≡ question) × (result.1.after ≡ result.0) }
+) -> Granted<N>
+    requires may_call { MayCall N.board pass.old }
+    requires before { question.before ≡ pass.old }
+    ensures may_call { MayCall N.board pass.new }
+    ensures granted { (result.question ≡ question) × (result.after ≡ pass.new) }
 {
-    grant_among::<D, G, N, Brand, R>(rt, set, pass, question)
+    let mut answer = set.call(rt, pass, question.command());
+    let mut tries = 0;
+    'calls: while asks_again(set, tries, false, answer) {
+        // While it looked for a slot the pass was inside, and may have held up all that wait. Its answer has shown it outside.
+        if tries > 0 {
+            thread::sleep(rt, Duration::from_millis(PAUSE));
+        }
+        answer = set.call(rt, pass, question.command());
+        tries += 1;
+    }
+    let reply = client_reply(answer);
+    let after = Snapshot::of(&*pass);
+    Granted {
+        question,
+        reply,
+        after,
+        of: PhantomData,
+    }
 }
 
-// The same. B names the pass.
-fn grant_among<D: Disk, G: StepGate, N: Named, B: Given, R: Wait + Clock>(
-    rt: &R,
+/// Whether one more call is made for a request, after one that was answered so, and so many more before it: no slot was free, and
+/// slots wait for calls that end, or an earlier line of its connection isn't answered, which may free one. One pass alone has no others' calls to wait for.
+fn asks_again<D: Disk, G: StepGate, N: Named>(
     set: &Set<D, G, N>,
-    pass: Pass,
-    question: Question,
-) -> (Pass, Granted<N>)
-    requires may_call { MayCall N.board pass }
-    requires calm { IsCalmAfter B.parts pass }
-    requires before { question.before ≡ pass }
-    ensures may_call { MayCall N.board result.0 }
-    ensures granted { (result.1.question ≡ question) × (result.1.after ≡ result.0) }
+    tries: usize,
+    earlier: bool,
+    answer: Result<bool, Fault>,
+) -> bool
+    ensures again { result ≡ asks_again N.board tries earlier answer }
+    ensures few { result ≡ true → tries < most_tries }
 {
-    let mut asking = Asking::<N, B>::begin(rt, set, pass, question);
-    'plays: for _ in rt.forever() {
-        match asking.go_on(rt, set) {
-            Stage::Syncs => asking.sync(rt, set),
-            Stage::Busy => thread::sleep(rt, Duration::from_millis(PAUSE)),
-            Stage::Answers => match asking.answer(rt, set) {
-                Answered::Replied(pass, granted) => return (pass, granted),
-                Answered::Again(next) => {
-                    if next.waits() {
-                        thread::sleep(rt, Duration::from_millis(PAUSE));
-                    }
-                    asking = next;
-                }
-            },
+    match answer {
+        Err(Fault::Full(counts)) => {
+            tries < MOST_TRIES && (counts.limbo != 0 || earlier) && set.passes() != 1
         }
+        _ => false,
     }
-    unreachable!()
+}
+
+// The reply that tells what a call answered.
+fn client_reply(answer: Result<bool, Fault>) -> Reply
+    ensures { result ≡ client_reply answer }
+{
+    match answer {
+        Ok(true) => Reply::Yes,
+        Ok(false) => Reply::No,
+        Err(Fault::Full(_)) => Reply::Full,
+        Err(Fault::Worn) => Reply::Worn,
+        Err(Fault::OldFile) => Reply::OldFile,
+        Err(Fault::Halted | Fault::Device) => Reply::Halted,
+    }
+}
+
+/// Whether the reply tells a client that the service halted.
+pub(crate) fn says_halted(reply: Reply) -> bool
+    ensures { result ≡ says_halted reply }
+{
+    matches!(reply, Reply::Halted)
 }
 
 // The call for what the question asks, which begins where it hasn't yet.
-fn begun<D: Disk, G: StepGate, N: Named, R: Wait>(
+fn begun<'a, D: Disk, G: StepGate, N: Named, R: Wait>(
     rt: &R,
-    set: &Set<D, G, N>,
+    set: &'a Set<D, G, N>,
+    kept: &mut Kept<'a, D, N>,
     pass: &mut Pass,
     call: Option<Underway>,
     question: &Question,
@@ -260,22 +317,10 @@ fn begun<D: Disk, G: StepGate, N: Named, R: Wait>(
     requires rests { call ≡ None → MayCall N.board pass.old }
     ensures pass { IsOf N.board pass.new }
     ensures counts { (c : Asks) (middle : Seen) → command_of question.now.request ≡ Some c → IsCounting N.board N.format c middle call pass.old → Counts N.board c N.format (part middle) result (part pass.new) }
-    ensures steps { StepsOn (part pass.old) (part pass.new) }
+    ensures steps { StepsWithout kind.Sync (part pass.old) (part pass.new) }
 {
     match call {
         Some(call) => call,
-        None => set.begin(rt, pass, command_for(question)),
-    }
-}
-
-// The command that a question asks for.
-fn command_for(question: &Question) -> Command
-    ensures { command_of question.now.request ≡ Some result }
-{
-    match question.request() {
-        Request::Add(key) => Command::Add(key),
-        Request::Remove(key) => Command::Remove(key),
-        Request::Has(key) => Command::Has(key),
-        Request::Quit => unreachable!(),
+        None => set.begin(rt, kept, pass, question.command()),
     }
 }

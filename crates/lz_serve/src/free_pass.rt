@@ -3,14 +3,12 @@ ghost use Rattle.std.specs.Prelude.{◌≡◌, ◌≤◌, [], true, false, All, 
 ghost use Rattle.std.specs.List.{Any};
 ghost use Rattle.lz_set.specs.Names.{MayCall};
 ghost use Rattle.lz_serve.specs.Halts.{IsCalmAfter, SawHalt};
-ghost use Rattle.lz_serve.specs.Replies.{says_halted};
 
-use crate::asking::{Granted, grant};
+use crate::asking::{Granted, grant, says_halted};
+use crate::client::Question;
 use crate::given::Given;
-use crate::question::Question;
 use crate::server::Served;
 use lz_disk::Disk;
-use lz_proto::Reply;
 use lz_set::{Named, Pass, Set, StepGate};
 use std::marker::PhantomData;
 use std::sync::Wait;
@@ -60,19 +58,20 @@ impl<N: Named, B: Given> FreePass<N, B> {
 
     /// Answers a question to its end. It may wait for other passes.
     pub fn answer<D: Disk, G: StepGate, R: Wait + Clock>(
-        self,
+        &mut self,
         rt: &R,
         set: &Set<D, G, N>,
         question: Question,
-    ) -> (FreePass<N, B>, Granted<N>)
-        requires { question.before ≡ self.pass }
-        ensures { result.1.question ≡ question }
+    ) -> Granted<N>
+        requires { question.before ≡ self.old.pass }
+        ensures { (result.question ≡ question) × (result.after ≡ self.new.pass) }
     {
-        let (pass, was_halted) = self.into_parts();
-        let (pass, granted) = grant(rt, set, pass, question);
+        let granted = grant(rt, set, &mut self.pass, question);
         let reply = granted.reply();
-        let halted = was_halted || says_halted(reply);
-        (FreePass::new(pass, halted), granted)
+        if says_halted(reply) {
+            self.halted = true;
+        }
+        granted
     }
 
     /// The pass, and whether a reply of it told that the service halted.
@@ -116,11 +115,4 @@ pub fn hand_back<N: Named, B: Given>(free: Vec<FreePass<N, B>>, room: Vec<Pass>)
         halted,
         unserved: false,
     }
-}
-
-// Whether the reply tells a client that the service halted.
-fn says_halted(reply: Reply) -> bool
-    ensures { result ≡ says_halted reply }
-{
-    matches!(reply, Reply::Halted)
 }

@@ -1,27 +1,52 @@
 //! A set that is served over the network.
 //!
-//! Each pass of a set has a thread of its own, which serves one connection after the other: a session of lines and replies.
-//! A client that goes away, sends half a line or stops reading ends its own session alone.
+//! A client that goes away, sends half a line or stops reading ends its own session alone. There are two shapes of a service:
+//!
+//! - A thread for each pass, which serves one connection after the other: a session of lines and replies (`serve`).
+//! - Loops with many connections each (`serve_loops`). A connection's conversation is a value (`Conversation`), a `Client` is one on its
+//!   connection (`Stream`), a `Crowd` has them all, and a `Poller` tells which can be read or written (`Sockets` the system's). A request
+//!   that a pass is answering is a value too (`Asking`): one thread plays many on up to a sync, and then one sync for all (`serve_loop`).
 #![tactic(auto)]
 
 mod asking;
+mod client;
+mod conversation;
+mod crowd;
+mod desk;
 mod free_pass;
 mod given;
 mod guest;
-mod observed;
+mod line;
+mod loads;
+mod loops;
+mod moments;
 mod observer;
 mod options;
 mod pass_thread;
-mod question;
+mod place;
+mod poller;
 mod seated;
 mod server;
+mod serving;
+mod shares;
+mod sockets;
+mod stream;
+mod workers;
+mod working;
 
-pub use asking::{Answered, Asking, Granted, grant};
-pub use free_pass::{FreePass, hand_back};
+pub use asking::{Answered, Asking, Granted};
+pub use client::{Client, Question};
+pub use conversation::Conversation;
+pub use crowd::Crowd;
+pub use free_pass::FreePass;
 pub use given::Given;
+pub use line::Line;
+pub use loops::serve_loops;
 pub use observer::{Lack, Loops, Observer, Serving, Verb};
-pub use options::{MOST_CONNECTIONS, ServeOptions};
-pub use pass_thread::close_listener;
-pub use question::Question;
-pub use seated::{Seated, asks_again, client_reply};
+pub use options::{MOST_CONNECTIONS, MOST_THREADS, ServeOptions};
+pub use pass_thread::{close_listener, serve_client};
+pub use poller::Poller;
+pub use seated::Seated;
 pub use server::{Bounds, Served, none_served, serve};
+pub use serving::serve_loop;
+pub use stream::{Received, Stream, Taken};

@@ -26,6 +26,18 @@ pub struct Loops {
     pub connections: usize,
 }
 
+impl Loops {
+    ghost use Rattle.std.specs.Prelude.{max, min};
+
+    /// How many of them serve so many passes: none without a pass and a connection of its own, and one in any case.
+    pub fn count_for(&self, passes: usize) -> usize
+        ensures { result ≡ max 1 (min passes (min self.now.count self.now.connections)) }
+    {
+        let most = self.count.min(self.connections);
+        passes.min(most).max(1)
+    }
+}
+
 impl fmt::Display for Serving {
     ghost use Rattle.std.specs.Prelude.{Some};
     ghost use Rattle.lz_serve.specs.Texts.{serving_text};

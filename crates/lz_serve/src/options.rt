@@ -9,12 +9,16 @@ use std::time::Duration;
 /// The most connections that loops serve at once.
 pub const MOST_CONNECTIONS: usize = 10_000;
 
+/// The most threads that serve, each of which is a loop or has a pass.
+pub const MOST_THREADS: usize = 64;
+
 /// How a set is served.
 #[derive(Clone, Copy, Debug, PartialEq, Eq)]
 pub struct ServeOptions {
     /// The port of the loopback interface; 0 for any that is free.
     pub port: u16,
-    /// How many commands are carried out at once, 1 to 64; without loops each pass has a thread, and a connection.
+    /// How many commands are carried out at once, 1 to `MOST_PASSES`; without loops each pass has a thread, and a connection, so
+    /// there are at most `MOST_THREADS`.
     pub passes: usize,
     /// The loops that serve the connections, where passes don't.
     pub loops: Option<Loops>,

@@ -1,19 +1,17 @@
 //! The thread of a pass, which serves one connection after the other.
-ghost use Rattle.std.specs.Prelude.{◌≡◌, true, false};
-ghost use Rattle.lz_board.specs.Seats.{part};
-ghost use Rattle.lz_set.specs.Names.{MayCall};
-ghost use Rattle.lz_serve.specs.Halts.{IsCalm, IsCalmAfter, SawHalt};
+ghost use Rattle.std.specs.Prelude.{◌≡◌, vec_len};
+ghost use Rattle.lz_serve.specs.Grants.{Promises};
 
+use crate::client::Client;
 use crate::free_pass::FreePass;
 use crate::given::Given;
-use crate::guest::{Incoming, Outgoing};
-use crate::observed::Observed;
-use crate::observer::Observer;
-use crate::seated::Seated;
+use crate::guest::Guest;
+use crate::observer::{Observer, Verb};
 use crate::server::Bounds;
+use crate::stream::Stream;
 use lz_disk::Disk;
-use lz_proto::session;
-use lz_set::{Named, Pass, Set, StepGate};
+use lz_proto::MOST_PIECE;
+use lz_set::{Named, Set, StepGate};
 use std::io::{ErrorKind, Read};
 use std::net::{Shutdown, TcpListener, TcpStream};
 use std::os::fd::OwnedFd;
@@ -34,35 +32,155 @@ const FAREWELL: u64 = 100;
 
 const FAREWELLS: usize = 16;
 
-/// Serves by this pass, until a client was told that the service halted, it has served as many as it may, or the service is to end.
-/// The first thread that tells of a halt tells the observer too.
-pub(crate) fn serve_pass<D, G, N, B, R, O>(
+/// Serves connections of a listener, one after the other.
+#[derive(Drop)]
+pub(crate) struct Host<
+    'a,
+    D: Disk,
+    G: StepGate,
+    N: Named,
+    R: Wait + Clock + AllocGlobal,
+    O: Observer,
+> {
+    pub(crate) rt: &'a R,
+    pub(crate) listener: &'a TcpListener,
+    pub(crate) set: &'a Set<D, G, N>,
+    pub(crate) bounds: Bounds,
+    pub(crate) observer: &'a O,
+    /// A client of some thread was told that the service halted.
+    pub(crate) told: &'a AtomicBool,
+}
+
+impl<'a, D: Disk, G: StepGate, N: Named, R: Wait + Clock + AllocGlobal, O: Observer> Host<
+    'a,
+    D,
+    G,
+    N,
+    R,
+    O,
+> {
+    /// One more that serves the same.
+    pub(crate) fn again(&self) -> Host<'a, D, G, N, R, O> {
+        Host {
+            rt: self.rt,
+            listener: self.listener,
+            set: self.set,
+            bounds: self.bounds,
+            observer: self.observer,
+            told: self.told,
+        }
+    }
+
+    /// Serves by each of these passes in turn.
+    pub(crate) fn serve<B: Given>(&self, share: Vec<FreePass<N, B>>) -> Vec<FreePass<N, B>>
+        ensures { vec_len result ≡ vec_len share }
+    {
+        let mut share = share;
+        for free in share.iter_mut() {
+            self.serve_by(free);
+        }
+        share
+    }
+
+    // Serves by this pass, until a client was told that the service halted, it has served as many as it may, or the service is to end.
+    // The first thread that tells of a halt tells the observer too.
+    fn serve_by<B: Given>(&self, free: &mut FreePass<N, B>) {
+        self.serve_sessions(free);
+        if free.halted() && !self.told.swap(true, Ordering::SeqCst) {
+            self.observer.halted();
+            close_listener(self.listener);
+        }
+    }
+
+    // Serves one connection after the other, so many of them, or without an end at 0, and no more once it was told that the service halted.
+    fn serve_sessions<B: Given>(&self, free: &mut FreePass<N, B>) {
+        let mut served = 0u64;
+        let mut pause = PAUSE;
+        if self.is_ended() {
+            return;
+        }
+        for stream in self.listener.incoming() {
+            if self.is_ended() {
+                return;
+            }
+            let stream = match stream {
+                Ok(stream) => stream,
+                // Nobody came.
+                Err(error) if error.kind() == ErrorKind::WouldBlock => continue,
+                Err(error) => {
+                    self.observer.unaccepted(error);
+                    thread::sleep(self.rt, Duration::from_millis(pause));
+                    pause = pause.saturating_mul(2).min(LONGEST_PAUSE);
+                    continue;
+                }
+            };
+            pause = PAUSE;
+            served = served.wrapping_add(1);
+            self.serve_stream(&stream, served, free);
+            // Who waits at a listener that stays is left to the next service.
+            if free.halted() || served == self.bounds.sessions || self.is_ended() {
+                return;
+            }
+        }
+    }
+
+    // Whether a client of some pass was told that the service halted, or the service is to end.
+    fn is_ended(&self) -> bool {
+        self.told.load(Ordering::SeqCst) || self.observer.stops()
+    }
+
+    // Serves one connection, which has this number.
+    fn serve_stream<B: Given>(&self, stream: &TcpStream, number: u64, free: &mut FreePass<N, B>) {
+        self.observer.accepted();
+        let guest = Guest::new(stream, self.observer, self.bounds.idle);
+        let mut client = Client::new(self.rt.alloc(), number, guest);
+        serve_client(self.rt, self.set, &mut client, free, self.observer);
+        take_leave(stream);
+        self.observer.parted();
+    }
+}
+
+/// Answers a client's requests by this pass, each before the next begins, and sends each reply before that: up to the end of the client's
+/// text, `quit`, a reply that the service halted, or the end of the service.
+pub fn serve_client<S, D, G, N, B, R, O>(
     rt: &R,
-    listener: &TcpListener,
     set: &Set<D, G, N>,
-    pass: Pass,
-    bounds: Bounds,
+    client: &mut Client<S>,
+    free: &mut FreePass<N, B>,
     observer: &O,
-    told: &AtomicBool,
-) -> FreePass<N, B>
+)
 where
+    S: Stream,
     D: Disk,
     G: StepGate,
     N: Named,
     B: Given,
-    R: Wait + Clock + AllocGlobal,
+    R: Wait + Clock,
     O: Observer,
-    requires may_call { MayCall N.board pass }
-    requires calm { IsCalmAfter B.parts pass }
+    requires { Promises N.board N.format S.promised }
 {
-    let seated = Seated::new(rt, set, pass);
-    let mut observed = Observed { seated, observer };
-    let halted = serve_sessions(rt, listener, &mut observed, bounds, told);
-    if halted && !told.swap(true, Ordering::SeqCst) {
-        observer.halted();
-        close_listener(listener);
+    let mut buffer = [0; MOST_PIECE];
+    'turns: for _ in rt.forever() {
+        if observer.stops() || client.is_over() {
+            return;
+        }
+        let question = client.ask(free.pass());
+        // The texts of faulty lines before it.
+        client.write();
+        match question {
+            Some(question) => {
+                let verb = Verb::of(&question.request());
+                let granted = free.answer(rt, set, question);
+                observer.answered(verb, granted.reply());
+                client.reply(granted);
+                client.write();
+            }
+            None if client.is_over() => return,
+            None => {
+                let _ = client.read(&mut buffer);
+            }
+        }
     }
-    FreePass::new(observed.seated.into_pass(), halted)
 }
 
 /// Has each wait for a connection end with a fault, now and later. (A listener has no call for this, and a stream has.) When out of
@@ -75,89 +193,6 @@ pub fn close_listener(listener: &TcpListener) {
             let _ = same.shutdown(Shutdown::Both);
         }
     }
-}
-
-// Serves one connection after the other, so many of them, or without an end at 0, and no more once it was told that the service
-// halted. Says whether it ended because a client of its own was told so.
-fn serve_sessions<D, G, N, R, O>(
-    rt: &R,
-    listener: &TcpListener,
-    observed: &mut Observed<'_, D, G, N, R, O>,
-    bounds: Bounds,
-    told: &AtomicBool,
-) -> bool
-where
-    D: Disk,
-    G: StepGate,
-    N: Named,
-    R: Wait + Clock + AllocGlobal,
-    O: Observer,
-    ensures seen { result ≡ true → SawHalt observed.new.seated.pass }
-    ensures calm { result ≡ false → IsCalm (part observed.old.seated.pass) → IsCalm (part observed.new.seated.pass) }
-{
-    let mut served = 0u64;
-    let mut pause = PAUSE;
-    if is_ended(observed.observer, told) {
-        return false;
-    }
-    for stream in listener.incoming() {
-        if is_ended(observed.observer, told) {
-            return false;
-        }
-        let stream = match stream {
-            Ok(stream) => stream,
-            // Nobody came.
-            Err(error) if error.kind() == ErrorKind::WouldBlock => continue,
-            Err(error) => {
-                observed.observer.unaccepted(error);
-                thread::sleep(rt, Duration::from_millis(pause));
-                pause = pause.saturating_mul(2).min(LONGEST_PAUSE);
-                continue;
-            }
-        };
-        pause = PAUSE;
-        observed.observer.accepted();
-        let halted = serve_stream(rt, &stream, observed, bounds.idle);
-        observed.observer.parted();
-        if halted {
-            return true;
-        }
-        served = served.wrapping_add(1);
-        // Who waits at a listener that stays is left to the next service.
-        if served == bounds.sessions || is_ended(observed.observer, told) {
-            return false;
-        }
-    }
-    false
-}
-
-// Whether a client of some pass was told that the service halted, or the service is to end.
-fn is_ended<O: Observer>(observer: &O, told: &AtomicBool) -> bool {
-    told.load(Ordering::SeqCst) || observer.stops()
-}
-
-// Serves one connection, and says whether the pass has ever replied that the service halted, even where the reply wasn't written.
-fn serve_stream<D, G, N, R, O>(
-    rt: &R,
-    stream: &TcpStream,
-    observed: &mut Observed<'_, D, G, N, R, O>,
-    idle: Option<Duration>,
-) -> bool
-where
-    D: Disk,
-    G: StepGate,
-    N: Named,
-    R: Wait + Clock + AllocGlobal,
-    O: Observer,
-    ensures seen { result ≡ true → SawHalt observed.new.seated.pass }
-    ensures calm { result ≡ false → IsCalm (part observed.old.seated.pass) → IsCalm (part observed.new.seated.pass) }
-{
-    let mut reader = Incoming::new(stream, observed.observer, idle);
-    let mut writer = Outgoing::new(stream, observed.observer, idle);
-    // What the seat has replied counts, also where the client didn't get it.
-    let _ = session(rt.alloc(), &mut reader, &mut writer, observed);
-    take_leave(stream);
-    observed.seated.halted()
 }
 
 // Ends the replies, and reads for a while what is still sent.

@@ -1,14 +1,14 @@
-//! Sessions over the network, in a thread for each pass.
-ghost use Rattle.std.specs.Prelude.{◌≡◌, ◌+◌, ◌≤◌, [], true, false, All, IfOk, vec_capacity, vec_len};
+//! A service by a thread for each pass, and how a service ends.
+ghost use Rattle.std.specs.Prelude.{◌≡◌, [], true, false, All, vec_len};
 ghost use Rattle.std.specs.List.{Any};
 ghost use Rattle.lz_board.specs.Seats.{part};
 ghost use Rattle.lz_set.specs.Names.{MayCall};
 ghost use Rattle.lz_serve.specs.Halts.{IsCalm, IsCalmAfter, SawHalt};
 
-use crate::free_pass::{FreePass, hand_back};
 use crate::given::Given;
 use crate::observer::{Lack, Observer};
-use crate::pass_thread::serve_pass;
+use crate::pass_thread::Host;
+use crate::workers::{Worker, serve_by};
 use lz_disk::Disk;
 use lz_set::{Named, Pass, Set, StepGate};
 use std::alloc::{AllocError, Global};
@@ -16,8 +16,7 @@ use std::marker::Brand;
 use std::net::TcpListener;
 use std::sync::Wait;
 use std::sync::atomic::AtomicBool;
-use std::thread;
-use std::thread::{JoinHandle, SpawnError, Threads};
+use std::thread::Threads;
 use std::time::{Clock, Duration};
 
 /// When sessions and passes end.
@@ -57,7 +56,7 @@ pub fn none_served<O: Observer>(passes: Vec<Pass>, observer: &O, why: Lack) -> S
 /// Serves connections with a thread for each pass, which serves one connection after the other: so many of them, or
 /// without an end where `bounds.sessions` is 0. A session that ended with a fault, or because its client was idle, counts too. A thread ends as well after a session that
 /// found the set halted; the first one tells the observer. A connection for which no thread is free waits in the listener's queue. Where no
-/// thread can be made for a pass, this one serves by it before it tries the next.
+/// thread can be made for a pass, this one serves by it before it tries the next. One pass serves in this thread.
 pub fn serve<D, G, N, R, O>(
     rt: &R,
     listener: &TcpListener,
@@ -80,18 +79,23 @@ where
     ensures calm { All (λ pass. IsCalm (part pass)) passes.items → result.halted ≡ false → All (λ pass. IsCalm (part pass)) result.passes.items }
 {
     let told = AtomicBool::new(false);
-    serve_passes::<D, G, N, Brand, R, O>(rt, listener, set, passes, bounds, observer, &told)
+    let own = Host {
+        rt,
+        listener,
+        set,
+        bounds,
+        observer,
+        told: &told,
+    };
+    serve_hosts::<D, G, N, Brand, R, O>(rt, own, passes, observer)
 }
 
-// The same, where it is known whether the observer was told that the set is halted. B names the passes.
-fn serve_passes<D, G, N, B, R, O>(
+// Serves by this host and one more for each further pass. B names the passes.
+fn serve_hosts<D, G, N, B, R, O>(
     rt: &R,
-    listener: &TcpListener,
-    set: &Set<D, G, N>,
+    own: Host<'_, D, G, N, R, O>,
     passes: Vec<Pass>,
-    bounds: Bounds,
     observer: &O,
-    told: &AtomicBool,
 ) -> Served
 where
     D: Disk + Send,
@@ -108,81 +112,35 @@ where
     ensures halted { result.halted ≡ true → Any SawHalt result.passes.items }
     ensures calm { result.halted ≡ false → All (IsCalmAfter B.parts) result.passes.items }
 {
-    thread::scope(
-        thread::scope_env(),
-        rt,
-        move |scope| -> Served
-            requires may_call { All (MayCall N.board) passes.items }
-            requires calm { All (IsCalmAfter B.parts) passes.items }
-            ensures may_call { All (MayCall N.board) result.passes.items }
-            ensures count { vec_len result.passes ≡ vec_len passes }
-            ensures unserved { result.unserved ≡ true → result.passes.items ≡ passes.items }
-            ensures halted { result.halted ≡ true → Any SawHalt result.passes.items }
-            ensures calm { result.halted ≡ false → All (IsCalmAfter B.parts) result.passes.items }
-        {
-            let given = passes.len();
-            let Ok((mut threads, mut free, done)) = room_for::<N, B>(rt.alloc(), given) else {
-                return none_served(passes, observer, Lack::Memory);
-            };
-            for pass in passes {
-                let thread = scope.spawn(
-                    move || -> FreePass<N, B>
-                        requires may_call { MayCall N.board pass }
-                        requires calm { IsCalmAfter B.parts pass }
-                    { serve_pass(rt, listener, set, pass, bounds, observer, told) },
-                );
-                match thread {
-                    Ok(thread) => {
-                        let Ok(()) = threads.push(thread) else {
-                            unreachable!()
-                        };
-                    }
-                    Err(refused) => {
-                        let SpawnError { value: serve_here } = refused;
-                        observer.threadless();
-                        let Ok(()) = free.push(serve_here()) else {
-                            unreachable!()
-                        };
-                    }
-                }
-            }
-            hand_back(join_all(rt, threads, free), done)
-        },
-    )
-}
-
-type Rooms<N, B> = (
-    Vec<JoinHandle<FreePass<N, B>>>,
-    Vec<FreePass<N, B>>,
-    Vec<Pass>,
-);
-
-// Room for so many threads, and for the passes that they hand back.
-fn room_for<N: Named, B: Given>(alloc: Global, count: usize) -> Result<Rooms<N, B>, AllocError>
-    ensures threads { IfOk result (λ rooms. (vec_len rooms.0 ≡ 0) × (count ≤ vec_capacity rooms.0)) }
-    ensures free { IfOk result (λ rooms. (vec_len rooms.1 ≡ 0) × (count ≤ vec_capacity rooms.1)) }
-    ensures done { IfOk result (λ rooms. (vec_len rooms.2 ≡ 0) × (count ≤ vec_capacity rooms.2)) }
-{
-    let threads = Vec::with_capacity(alloc, count)?;
-    let free = Vec::with_capacity(alloc, count)?;
-    let done = Vec::with_capacity(alloc, count)?;
-    Ok((threads, free, done))
-}
-
-// Waits for each thread, and puts its pass to the others, where there is room for it.
-fn join_all<N: Named, B: Given, R: Threads>(
-    rt: &R,
-    threads: Vec<JoinHandle<FreePass<N, B>>>,
-    free: Vec<FreePass<N, B>>,
-) -> Vec<FreePass<N, B>>
-    requires { vec_len free + vec_len threads ≤ vec_capacity free }
-    ensures { vec_len result ≡ vec_len free + vec_len threads }
-{
-    let mut free = free;
-    for thread in threads {
-        let Ok(()) = free.push(thread.join(rt)) else {
-            unreachable!()
-        };
+    match hosts_like(rt.alloc(), &own, passes.len().saturating_sub(1)) {
+        Ok(others) => serve_by::<D, G, N, B, R, O>(
+            rt,
+            Worker::Host(own),
+            None,
+            others,
+            passes,
+            observer,
+        ),
+        Err(AllocError) => none_served(passes, observer, Lack::Memory),
     }
-    free
+}
+
+// So many more hosts that serve the same.
+fn hosts_like<'a, D, G, N, R, O>(
+    alloc: Global,
+    host: &Host<'a, D, G, N, R, O>,
+    count: usize,
+) -> Result<Vec<Worker<'a, D, G, N, R, O>>, AllocError>
+where
+    D: Disk,
+    G: StepGate,
+    N: Named,
+    R: Wait + Clock + AllocGlobal,
+    O: Observer,
+{
+    let mut hosts = Vec::new(alloc);
+    for _ in 0..count {
+        hosts.push(Worker::Host(host.again()))?;
+    }
+    Ok(hosts)
 }

@@ -3,7 +3,7 @@ ghost use Rattle.std.specs.Prelude.{◌≤◌, length};
 
 use crate::loops::{Ended, PASSES, all_scripts, network_of, serve_on};
 use crate::network::Network;
-use crate::scripts::{Script, script_of};
+use crate::scripts::{KEYS, Script, script_of};
 use std::alloc::Global;
 use std::cell::RefCell;
 use std::process::Abort;
@@ -52,21 +52,33 @@ fn lines_of(told: &[u8]) -> u64 {
     }
 }
 
-// Whether the keys of a client are those after some number of its lines, between these two.
-fn are_left(alloc: Global, keys: &[u64], client: u64, least: u64, most: u64) -> Option<bool> {
+// Whether a client's key of this index is as it was after some number of its lines, between these two.
+fn is_left(
+    alloc: Global,
+    keys: &[u64],
+    client: u64,
+    index: usize,
+    least: u64,
+    most: u64,
+) -> Option<bool> {
+    let key = client.wrapping_mul(10).wrapping_add(index as u64);
     for count in least..most.wrapping_add(1) {
         let script = script_of(alloc, client, count)?;
-        let mut key = client.wrapping_mul(10);
-        let mut same = true;
-        for member in script.members {
-            same = same && member == keys.contains(&key);
-            key = key.wrapping_add(1);
-        }
-        if same {
+        if *script.members.get(index)? == keys.contains(&key) {
             return Some(true);
         }
     }
     Some(false)
+}
+
+// Whether each key of a client is. Lines of other keys are carried out side by side, so each is by itself.
+fn are_left(alloc: Global, keys: &[u64], client: u64, least: u64, most: u64) -> Option<bool> {
+    for index in 0..KEYS {
+        if !is_left(alloc, keys, client, index, least, most)? {
+            return Some(false);
+        }
+    }
+    Some(true)
 }
 
 // Whether each client was told a beginning of its replies, and the keys that are left are those of what it was told, or of so many

@@ -7,9 +7,8 @@ ghost use Rattle.lz_set.specs.Blanks.{MayBeNamed};
 use crate::network::{Network, Switch, side_of};
 use crate::scripts::{Script, script_of};
 use lz_disk::MemoryDisk;
-use lz_loop::{RoomBounds, serve_room};
 use lz_proto::Reply;
-use lz_serve::{Lack, Observer, Serving, Verb};
+use lz_serve::{Bounds, Lack, Observer, Serving, Verb, serve_loop};
 use lz_set::{Blank, Named, NoGate, Pass, Set};
 use std::alloc::Global;
 use std::cell::{Cell, RefCell};
@@ -108,13 +107,12 @@ fn serve_all<N: Named, R: Wait + Clock + AllocGlobal>(
         clients: CLIENTS,
         places: PLACES,
     };
-    let bounds = RoomBounds {
-        connections: PLACES,
+    let bounds = Bounds {
         sessions: CLIENTS as u64,
         idle: None,
     };
     let told = AtomicBool::new(false);
-    let served = serve_room(rt, &mut switch, set, passes, bounds, counts, &told);
+    let served = serve_loop(rt, &mut switch, set, passes, PLACES, bounds, counts, &told);
     (served.passes.len(), served.halted)
 }
 

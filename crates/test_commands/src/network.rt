@@ -1,8 +1,8 @@
 //! Connections in memory. A seed says when one can be read or written, and in which pieces.
 ghost use Rattle.std.specs.Prelude.{◌≡◌, ◌≢◌, ◌≤◌, ◌<◌, length};
-ghost use Rattle.lz_clients.specs.Streams.{counted, sent};
+ghost use Rattle.lz_serve.specs.Streams.{counted, sent};
 
-use lz_clients::{Poller, Received, Stream, Taken};
+use lz_serve::{Poller, Received, Stream, Taken};
 use std::alloc::Global;
 use std::cell::RefCell;
 use std::io;

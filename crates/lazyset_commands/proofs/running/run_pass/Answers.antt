@@ -14,8 +14,8 @@ returns g c =
     let left = c.close_with-disk.ensures.left in
     let tells = c.session-ended.ensures in
     let welcome = one_welcome b left.notes c.into_pass-pass.result c.from_mut.result.now c.close_with-disk.new.passes c.from_mut.ensures.value left.seen left.welcome in
-    let told = seat_session (λ s. s.pass) (λ s. s.halted) b F _ _ c.new-seated.result c.session-ended.new.service
-    c.args.pass c.into_pass-pass.result c.session-ended.result tells.0 c.new-seated.ensures.pass (sym c.into_pass-pass.ensures.same) tells.2
+    let told = seat_session (λ s. s.pass) b F _ _ c.new-seated.result c.session-ended.new.service
+    c.args.pass c.into_pass-pass.result c.session-ended.result tells.0 c.new-seated.ensures (sym c.into_pass-pass.ensures.same) tells.2
     in
     let since = one_since (trace_of b.opened left.notes) c.into_pass-pass.result c.from_mut.result.now c.from_mut.ensures.value left.since in
     record {

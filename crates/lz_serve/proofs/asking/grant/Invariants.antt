@@ -1,6 +1,16 @@
-use Rattle.std.specs.Prelude.{[], ◌∷◌}
-use Rattle.lz_board.specs.Seats.{part}
+use Rattle.std.specs.Prelude.{◌≡◌, ◌≤◌, ◌-◌, Some}
+use Rattle.lz_slot.specs.declared.command.Command.{Command}
+use Rattle.lz_set.specs.Names.{MayCall}
+use Rattle.lz_serve.specs.Replies.{command_of, most_tries}
+use Rattle.lz_serve.proofs.Seats.{AskedUpTo}
 use Rattle.lz_serve.proofs.asking.grant.Given as goal
 
-abbrev pub ghosts-grant_among : goal.ghosts-grant_among
-ghosts-grant_among g a = record { parts = part a.pass ∷ [] }
+abbrev pub invariant-calls : goal.invariant-calls
+invariant-calls g l = record {
+  may_call : MayCall g.N.Named.board l.pass;
+  asked : (c : Command) → command_of l.fn.question.request ≡ Some c → AskedUpTo g.N.Named.board g.N.Named.format c l.tries l.fn.pass l.answer l.pass;
+  few : l.tries ≤ most_tries;
+}
+
+abbrev pub decreases-calls : goal.decreases-calls
+decreases-calls g l = most_tries - l.tries

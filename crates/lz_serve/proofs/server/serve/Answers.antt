@@ -4,8 +4,8 @@ use Rattle.lz_serve.specs.Halts.{IsCalm}
 use Rattle.lz_serve.proofs.JoinedPasses.{each_part}
 use Rattle.lz_serve.proofs.server.serve.Goals as goal
 
-pub serve_passes-requires-clause-calm : goal.serve_passes-requires-clause-calm
-serve_passes-requires-clause-calm g c = λ κs lives k d low calm. each_part IsCalm c.args.passes.items calm k d low
+pub serve_hosts-requires-clause-calm : goal.serve_hosts-requires-clause-calm
+serve_hosts-requires-clause-calm g c = λ κs lives k d low calm. each_part IsCalm c.args.passes.items calm k d low
 
 pub returns-clause-calm : goal.returns-clause-calm
-returns-clause-calm g c = λ calm quiet k d low. c.serve_passes.ensures.calm quiet k d low (All-map IsCalm (λ p. part p) c.args.passes.items calm)
+returns-clause-calm g c = λ calm quiet k d low. c.serve_hosts.ensures.calm quiet k d low (All-map IsCalm (λ p. part p) c.args.passes.items calm)

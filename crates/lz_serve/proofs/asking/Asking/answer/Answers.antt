@@ -12,7 +12,7 @@ invariant_of-result g c =
     let given = g.B.Given.parts in
     let is = c.self.invariant in
     let told = c.answer-answer in
-    asked_again b F given is c.in-Some.is told.result told.new.pass (answered b F given is c.in-Some.is told.result told.new.pass told.ensures.answers told.ensures.plain)
+    asked_again b F given is c.in-Some.is told.result told.new.pass c.args.earlier (answered b F given is c.in-Some.is told.result told.new.pass told.ensures.answers told.ensures.plain)
     (sym c.asks_again.ensures.again ∙ c.if-asks_again.true) told.ensures.pass
 
 pub invariant_of-granted : goal.invariant_of-granted
@@ -22,7 +22,7 @@ invariant_of-granted g c =
     let given = g.B.Given.parts in
     let is = c.self.invariant in
     let told = c.answer-answer in
-    let seat = seat_told (answered b F given is c.in-Some.is told.result told.new.pass told.ensures.answers told.ensures.plain) is.asked (sym c.asks_again.ensures.again ∙ c.if-asks_again.false) c.client_reply.ensures in
+    let seat = seat_told (answered b F given is c.in-Some.is told.result told.new.pass told.ensures.answers told.ensures.plain) c.args.earlier is.asked (sym c.asks_again.ensures.again ∙ c.if-asks_again.false) c.client_reply.ensures in
     subst (λ (p : Pass). SeatAnswers b F c.self.inside.question.before c.self.inside.question.request c.client_reply.result p) (sym c.of-after.ensures) seat
 
 pub returns : goal.returns
@@ -32,7 +32,7 @@ returns g c =
     let given = g.B.Given.parts in
     let is = c.self.invariant in
     let told = c.answer-answer in
-    let seat = seat_told (answered b F given is c.in-Some.is told.result told.new.pass told.ensures.answers told.ensures.plain) is.asked (sym c.asks_again.ensures.again ∙ c.if-asks_again.false) c.client_reply.ensures in
+    let seat = seat_told (answered b F given is c.in-Some.is told.result told.new.pass told.ensures.answers told.ensures.plain) c.args.earlier is.asked (sym c.asks_again.ensures.again ∙ c.if-asks_again.false) c.client_reply.ensures in
     record {
       may_call = told.ensures.pass;
       granted = search rules;

@@ -1,3 +1,0 @@
-pub mod Conversations
-pub mod Streams
-pub mod Clients

@@ -1,9 +1,0 @@
-use Rattle.std.specs.Prelude.{◌≡◌, ◌+◌, ◌≤◌, vec_capacity, vec_len}
-use Rattle.std.specs.Vec.Iter.{into_iter_items}
-use Rattle.lz_loop.specs.Promised.{promised}
-use Rattle.lz_loop.proofs.shares.join_all.Given as goal
-
-abbrev pub invariant-loop-thread : goal.invariant-loop-thread
-invariant-loop-thread g l =
-    (vec_len l.free + promised (into_iter_items l.thread-iterator) ≡ vec_len l.fn.free + promised l.fn.threads.items)
-    × (vec_len l.free + promised (into_iter_items l.thread-iterator) ≤ vec_capacity l.free)

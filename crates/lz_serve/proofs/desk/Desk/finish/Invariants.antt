@@ -1,0 +1,5 @@
+use Rattle.std.specs.Prelude.{◌≡◌}
+use Rattle.lz_serve.proofs.desk.Desk.finish.Given as goal
+
+abbrev pub invariant-plays : goal.invariant-plays
+invariant-plays g l = l.self.given ≡ l.fn.self.given

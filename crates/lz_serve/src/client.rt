@@ -1,0 +1,329 @@
+//! One client, and the questions that its lines put.
+ghost use Rattle.std.specs.Prelude.{◌≡◌, ◌≢◌, ◌+◌, ◌≤◌, ◌<◌, ◌++◌, [], ◌∷◌, IfSome, List, None, Some, length, true};
+ghost use Rattle.lz_serve.specs.Grants.{Grant, IsGrant};
+ghost use Rattle.lz_serve.specs.Lines.{IsFree, awaited, key_asked};
+ghost use Rattle.lz_serve.specs.Replies.{command_of};
+ghost use Rattle.lz_serve.specs.Streams.{IsFresh};
+
+use crate::asking::Granted;
+use crate::conversation::Conversation;
+use crate::stream::{Received, Stream, Taken};
+use lz_proto::Request;
+use lz_set::{Named, Pass};
+use lz_slot::Command;
+use std::alloc::Global;
+use std::marker::Model;
+use std::snapshot::Snapshot;
+
+/// A request with the number of its connection and that of its line there. Contracts see the pass that is to answer it too, as it was
+/// when the question was put. It can't be copied, and a reply to it uses it up.
+#[derive(Drop)]
+pub struct Question {
+    connection: u64,
+    line: u64,
+    request: Request,
+    before: Snapshot<Pass>,
+}
+
+impl Model for Question {
+    ghost use Rattle.std.specs.Prelude.{◌≢◌};
+    ghost use Rattle.lz_proto.specs.declared.request.Request.TheVariants.{Quit};
+    ghost use Rattle.lz_serve.specs.Grants.{Posed};
+
+    ghost Value = { Posed };
+
+    ghost view = { λ q. record { connection = q.connection; line = q.line; request = q.request; before = q.before.value } };
+
+    ghost invariant = { λ q. q.request ≢ Quit };
+}
+
+impl Question {
+    // The line of this number on a connection is put to a pass. Nobody but the client of that connection makes one, and one for each line.
+    fn new(connection: u64, line: u64, request: Request, pass: &Pass) -> Question
+        requires { request ≢ Request.Quit }
+        ensures { result ≡ record { connection = connection; line = line; request = request; before = pass.now } }
+    {
+        Question {
+            connection,
+            line,
+            request,
+            before: Snapshot::of(pass),
+        }
+    }
+
+    /// A request is put to a pass that is of no connection.
+    pub fn of_none(request: Request, pass: &Pass) -> Question
+        requires { request ≢ Request.Quit }
+        ensures { result ≡ record { connection = 0; line = 0; request = request; before = pass.now } }
+    {
+        Question::new(0, 0, request, pass)
+    }
+
+    /// The number of its connection; 0 where it is of none.
+    pub(crate) fn connection(&self) -> u64
+        ensures { result ≡ self.now.connection }
+    {
+        self.connection
+    }
+
+    /// The number of its line on that connection.
+    pub(crate) fn line(&self) -> u64
+        ensures { result ≡ self.now.line }
+    {
+        self.line
+    }
+
+    /// What is asked.
+    pub fn request(&self) -> Request
+        ensures request { result ≡ self.now.request }
+        ensures asks { result ≢ Request.Quit }
+    {
+        self.request
+    }
+
+    /// The command that it asks for.
+    pub(crate) fn command(&self) -> Command
+        ensures { command_of self.now.request ≡ Some result }
+    {
+        match self.request {
+            Request::Add(key) => Command::Add(key),
+            Request::Remove(key) => Command::Remove(key),
+            Request::Has(key) => Command::Has(key),
+            Request::Quit => unreachable!(),
+        }
+    }
+}
+
+/// A connection with its conversation. What is sent on it is what the conversation tells.
+#[derive(Drop)]
+pub struct Client<S: Stream> {
+    stream: S,
+    talk: Conversation,
+    connection: u64,
+    /// The next line waits for a reply to one that is under way.
+    held: bool,
+    /// The client's text has ended.
+    ended: bool,
+    /// The connection is lost, or memory was missing for what came: nothing more is sent.
+    lost: bool,
+}
+
+impl<S: Stream> Model for Client<S> {
+    ghost use Rattle.std.specs.Prelude.{◌≡◌, ◌+◌, false, length};
+    ghost use Rattle.lz_serve.specs.Clients.{Asker};
+    ghost use Rattle.lz_serve.specs.Lines.{AreEarned};
+    ghost use Rattle.lz_serve.specs.Streams.{IsTalkOf};
+
+    ghost Value = { Asker };
+
+    ghost view = { λ c. record { connection = c.connection; lines = c.talk.told + length c.talk.under; under = c.talk.under } };
+
+    ghost invariant = { λ c. (c.ended ≡ false → c.talk.whole ≡ false)
+        × AreEarned S.promised c.connection c.talk.told c.talk.under
+        × (c.lost ≡ false → IsTalkOf S.promised c.connection (S.traffic c.stream) c.talk) };
+}
+
+impl<S: Stream> Client<S> {
+    /// The client of the connection with this number, of which nothing has come yet.
+    pub fn new(alloc: Global, number: u64, stream: S) -> Client<S>
+        requires fresh { IsFresh (S.traffic stream) }
+        requires promised { S.promised [] }
+        ensures { result ≡ record { connection = number; lines = 0; under = [] } }
+    {
+        Client {
+            stream,
+            talk: Conversation::new(alloc),
+            connection: number,
+            held: false,
+            ended: false,
+            lost: false,
+        }
+    }
+
+    /// Reads a piece, if there is one, and says whether there may be more. The buffer has room for one.
+    pub(crate) fn read(&mut self, buffer: &mut [u8]) -> bool {
+        if self.lost || self.ended {
+            return false;
+        }
+        match self.stream.receive(buffer) {
+            Received::Count(count) => match self.talk.feed(&buffer[..count]) {
+                Ok(()) => true,
+                Err(_) => {
+                    self.lost = true;
+                    false
+                }
+            },
+            Received::Later => false,
+            Received::Over => {
+                self.ended = true;
+                match self.talk.finish() {
+                    Ok(()) => {}
+                    Err(_) => self.lost = true,
+                }
+                false
+            }
+            Received::Failed => {
+                self.lost = true;
+                false
+            }
+        }
+    }
+
+    /// Sends what is unsent, until the connection takes no more.
+    pub fn write(&mut self)
+        ensures { self.new ≡ self.old }
+    {
+        'tries: for _ in 0..u64::MAX {
+            if !self.send() {
+                return;
+            }
+        }
+    }
+
+    // Sends a beginning of what is unsent, if something is, and says whether some was taken.
+    fn send(&mut self) -> bool
+        ensures { self.new ≡ self.old }
+    {
+        if self.lost || self.talk.unsent().is_empty() {
+            return false;
+        }
+        match self.stream.take(self.talk.unsent()) {
+            Taken::Count(count) => {
+                self.talk.sent(count);
+                true
+            }
+            Taken::Later => false,
+            Taken::Failed => {
+                self.lost = true;
+                false
+            }
+        }
+    }
+
+    /// The next line, if one has come, as a question to this pass. It is under way then, beside those before it; one waits until those
+    /// that asked for the same key were answered. The faults before it are told.
+    pub fn ask(&mut self, pass: &Pass) -> Option<Question>
+        ensures asked { IfSome result (λ question. self.new.under ≡ self.old.under ++ awaited question.request ∷ []) }
+        ensures free { IfSome result (λ question. IsFree self.old.under (key_asked question.request)) }
+        ensures before { IfSome result (λ question. question.before ≡ pass.now) }
+        ensures number { IfSome result (λ question. (question.connection ≡ self.new.connection) × (question.line ≡ self.new.lines)) }
+        ensures lines { IfSome result (λ question. self.new.lines ≡ self.old.lines + 1) }
+        ensures connection { self.new.connection ≡ self.old.connection }
+        ensures none { result ≡ None → self.new ≡ self.old }
+    {
+        if self.lost {
+            return None;
+        }
+        match self.talk.next() {
+            Ok(Some(request)) => {
+                let line = self.talk.lines();
+                Some(Question::new(self.connection, line, request, pass))
+            }
+            Ok(None) => {
+                self.held = self.talk.waits();
+                None
+            }
+            Err(_) => {
+                self.lost = true;
+                None
+            }
+        }
+    }
+
+    /// Takes the reply that was granted to a line of its own that awaits one, and no other, and tells those that no earlier line
+    /// holds up.
+    pub fn reply<N: Named>(&mut self, granted: Granted<N>)
+        requires promised { (grants : List Grant) → S.promised grants → IsGrant N.board N.format granted → S.promised (grants ++ granted ∷ []) }
+        ensures connection { self.new.connection ≡ self.old.connection }
+        ensures lines { self.new.lines ≡ self.old.lines }
+    {
+        let question = granted.question();
+        if question.connection() != self.connection {
+            return;
+        }
+        let reply = granted.reply();
+        if self.talk.note(question.line(), question.request(), reply) {
+            self.held = false;
+            while self.tell() {}
+        }
+    }
+
+    // Tells the reply that is ready, if there is one, and says whether there was.
+    fn tell(&mut self) -> bool
+        ensures connection { self.new.connection ≡ self.old.connection }
+        ensures lines { self.new.lines ≡ self.old.lines }
+        ensures fewer { result ≡ true → length self.new.under < length self.old.under }
+    {
+        if self.lost {
+            return false;
+        }
+        let Some(reply) = self.talk.ready() else {
+            return false;
+        };
+        match self.talk.tell(reply) {
+            Ok(()) => true,
+            Err(_) => {
+                self.lost = true;
+                false
+            }
+        }
+    }
+
+    /// Whether something is still to be sent.
+    pub(crate) fn has_unsent(&self) -> bool {
+        !self.lost && !self.talk.unsent().is_empty()
+    }
+
+    /// Whether lines are under way.
+    pub(crate) fn is_asked(&self) -> bool {
+        self.talk.is_asked()
+    }
+
+    /// Whether a line before the one of this number isn't answered.
+    pub(crate) fn has_earlier(&self, line: u64) -> bool {
+        self.talk.is_asked() && self.talk.told().saturating_add(1) < line
+    }
+
+    /// Whether it has a line for which a pass may be had.
+    pub(crate) fn may_ask(&self) -> bool {
+        !self.held && self.waits()
+    }
+
+    /// Whether something has come that wasn't carried out yet.
+    pub(crate) fn waits(&self) -> bool {
+        !self.lost && self.talk.waits()
+    }
+
+    /// Whether nothing more is to be told.
+    pub(crate) fn is_over(&self) -> bool {
+        self.lost || self.talk.is_over() && self.talk.unsent().is_empty()
+    }
+
+    /// Whether there is more to do for it before it is read again.
+    pub(crate) fn is_occupied(&self) -> bool {
+        self.is_over() || self.has_unsent() || self.waits()
+    }
+
+    /// Where it has nothing to do, it keeps no more room than a little.
+    pub(crate) fn rest(&mut self) {
+        if !self.is_occupied() && !self.is_asked() {
+            self.talk.rest();
+        }
+    }
+
+    /// Tells nothing more.
+    pub(crate) fn leave(&mut self) {
+        self.lost = true;
+        self.stream.leave();
+    }
+
+    /// Throws a piece away that came after the end, and says whether there may be more at once; none where nothing more will come.
+    pub(crate) fn pass_over(&mut self, buffer: &mut [u8]) -> Option<bool> {
+        self.lost = true;
+        match self.stream.receive(buffer) {
+            Received::Count(_) => Some(true),
+            Received::Later => Some(false),
+            Received::Over | Received::Failed => None,
+        }
+    }
+}

@@ -1,0 +1,288 @@
+//! The clients of the loop.
+ghost use Rattle.std.specs.Prelude.{◌≡◌, [], IfSome};
+ghost use Rattle.lz_serve.specs.Grants.{Promises};
+ghost use Rattle.lz_serve.specs.Streams.{IsFresh};
+
+use crate::asking::Granted;
+use crate::client::{Client, Question};
+use crate::place::{Place, Wish};
+use crate::stream::Stream;
+use lz_set::{Named, Pass};
+use std::alloc::{AllocError, Global};
+use std::collections::VecDeque;
+use std::time::Duration;
+
+/// For how many milliseconds a turn counts at most: in a longer one the loop didn't listen, and no client was silent.
+const LONGEST_TURN: u64 = 1_000;
+
+/// After how many milliseconds it is looked again which clients were silent for too long.
+const TENTH: u64 = 100;
+
+/// The clients of the loop, each at a place with a number, its token. Those that have a line for a pass wait in a queue, each once. One
+/// that has more after it waits behind the others.
+#[derive(Drop)]
+pub struct Crowd<S: Stream> {
+    places: Vec<Place<S>>,
+    vacant: Vec<usize>,
+    queue: VecDeque<usize>,
+    /// Those that were answered, or had no line in their turn, and weren't tended to since.
+    back: VecDeque<usize>,
+    /// How many were admitted, and how many of these have left.
+    admitted: u64,
+    parted: u64,
+    /// Of how many that are here the session is over.
+    leaving: usize,
+    /// The time by its own clock, in milliseconds, and when it was looked last which clients were silent.
+    now: u64,
+    looked: u64,
+    /// The time by the system's clock, as it was noted last.
+    noted: Option<Duration>,
+}
+
+impl<S: Stream> Crowd<S> {
+    /// Room for so many clients at once.
+    pub fn new(alloc: Global, most: usize) -> Result<Crowd<S>, AllocError> {
+        let mut places = Vec::with_capacity(alloc, most)?;
+        let mut vacant = Vec::with_capacity(alloc, most)?;
+        let queue = VecDeque::with_capacity(alloc, most)?;
+        let back = VecDeque::with_capacity(alloc, most)?;
+        for token in 0..most {
+            places.push(Place::empty())?;
+            vacant.push(token)?;
+        }
+        Ok(Crowd {
+            places,
+            vacant,
+            queue,
+            back,
+            admitted: 0,
+            parted: 0,
+            leaving: 0,
+            now: 0,
+            looked: 0,
+            noted: None,
+        })
+    }
+
+    /// How many places there are.
+    pub fn most(&self) -> usize {
+        self.places.len()
+    }
+
+    /// How many clients were admitted.
+    pub fn admitted(&self) -> u64 {
+        self.admitted
+    }
+
+    /// How many clients have left.
+    pub fn parted(&self) -> u64 {
+        self.parted
+    }
+
+    /// Whether all have left.
+    pub fn is_empty(&self) -> bool {
+        self.vacant.len() == self.places.len()
+    }
+
+    /// Whether none waits for its turn.
+    pub fn is_quiet(&self) -> bool {
+        self.queue.is_empty()
+    }
+
+    /// Whether a client is waited for whose session is over.
+    pub fn is_left(&self) -> bool {
+        self.leaving > 0
+    }
+
+    /// A token that no client has, if there is one.
+    pub fn vacancy(&self) -> Option<usize> {
+        self.vacant.last().copied()
+    }
+
+    /// Admits the client of this connection under the token that `vacancy` gave. Its number is how many were admitted.
+    pub fn admit(&mut self, alloc: Global, stream: S, buffer: &mut [u8])
+        requires fresh { IsFresh (S.traffic stream) }
+        requires promised { S.promised [] }
+    {
+        let Some(token) = self.vacant.pop() else {
+            return;
+        };
+        self.admitted = self.admitted.saturating_add(1);
+        let now = self.now;
+        let client = Client::new(alloc, self.admitted, stream);
+        if let Some(place) = self.places.get_mut(token) {
+            place.admit(client, now);
+        }
+        self.tend(token, buffer);
+    }
+
+    /// The connection with this token can be read or written.
+    pub fn hear(&mut self, token: usize, buffer: &mut [u8]) {
+        let now = self.now;
+        if let Some(place) = self.places.get_mut(token) {
+            place.hear(now);
+        }
+        self.tend(token, buffer);
+    }
+
+    /// Hands a reply to the client of this token, if that is still the one whose line was answered.
+    pub fn reply<N: Named>(&mut self, token: usize, granted: Granted<N>)
+        requires { Promises N.board N.format S.promised }
+    {
+        let now = self.now;
+        let Some(place) = self.places.get_mut(token) else {
+            return;
+        };
+        if place.reply(granted, now) {
+            self.enqueue(token);
+        }
+        self.give_back(token);
+    }
+
+    /// Whether an earlier line of the client of this token isn't answered.
+    pub fn has_earlier(&self, token: usize, line: u64) -> bool {
+        self.places
+            .get(token)
+            .is_some_and(|place| place.has_earlier(line))
+    }
+
+    /// Does for those that were answered, or had no line, what needs no pass.
+    pub fn tend_back(&mut self, buffer: &mut [u8]) {
+        'tokens: for _ in 0..self.back.len() {
+            let Some(token) = self.back.pop_front() else {
+                return;
+            };
+            self.tend(token, buffer);
+        }
+    }
+
+    /// The question to this pass whose turn it is, if there is one, with the token of its client.
+    pub fn take_turn(&mut self, pass: &Pass) -> Option<(usize, Question)>
+        ensures { IfSome result (λ turn. turn.1.before ≡ pass.now) }
+    {
+        'tokens: for _ in 0..self.queue.len() {
+            let token = self.queue.pop_front()?;
+            let place = self.places.get_mut(token)?;
+            let question = place.take_turn(pass);
+            if place.may_ask() {
+                self.enqueue(token);
+            }
+            match question {
+                Some(question) => return Some((token, question)),
+                None => self.give_back(token),
+            }
+        }
+        None
+    }
+
+    /// The question to this pass that the client of this token has, if it has one. Where none waits it is read once more.
+    pub fn take_last(&mut self, token: usize, pass: &Pass, buffer: &mut [u8]) -> Option<Question>
+        ensures { IfSome result (λ question. question.before ≡ pass.now) }
+    {
+        self.places.get_mut(token)?.take_last(pass, buffer)
+    }
+
+    /// Notes the time by the system's clock. Its own goes on as that does, but not by more than a second at once.
+    pub fn note_time(&mut self, now: Duration) {
+        if let Some(passed) = self.noted.and_then(|noted| now.checked_sub(noted)) {
+            let counted = millis(passed).min(LONGEST_TURN);
+            self.now = self.now.saturating_add(counted);
+        }
+        self.noted = Some(now);
+    }
+
+    /// Closes the connections on which nothing came or went for longer than so, and those of clients that don't leave, ten times in a
+    /// second.
+    pub fn close_idle(&mut self, idle: Option<Duration>) {
+        if self.now.saturating_sub(self.looked) < TENTH {
+            return;
+        }
+        self.looked = self.now;
+        let idle = idle.map(millis);
+        for token in 0..self.places.len() {
+            let Some(place) = self.places.get_mut(token) else {
+                return;
+            };
+            if place.is_idle(self.now, idle) {
+                self.close(token);
+            }
+        }
+    }
+
+    /// Ends each session, once what is unsent is sent.
+    pub fn part_all(&mut self, buffer: &mut [u8]) {
+        for token in 0..self.places.len() {
+            if let Some(place) = self.places.get_mut(token) {
+                place.part();
+            }
+            self.tend(token, buffer);
+        }
+    }
+
+    /// Closes each connection.
+    pub fn close_all(&mut self) {
+        for token in 0..self.places.len() {
+            self.close(token);
+        }
+    }
+
+    // Does for a client what needs no pass, and queues it where it wants a turn.
+    fn tend(&mut self, token: usize, buffer: &mut [u8]) {
+        let Some(place) = self.places.get_mut(token) else {
+            return;
+        };
+        let was_leaving = place.leaves();
+        let wish = place.tend(buffer);
+        if place.leaves() && !was_leaving {
+            place.end(self.now);
+            self.leaving = self.leaving.saturating_add(1);
+        }
+        match wish {
+            Wish::Nothing => {}
+            Wish::Turn => self.enqueue(token),
+            Wish::Close => self.close(token),
+        }
+    }
+
+    // Its client waits for its turn, if it doesn't already. There is room for each.
+    fn enqueue(&mut self, token: usize) {
+        let Some(place) = self.places.get_mut(token) else {
+            return;
+        };
+        if place.queue() && self.queue.push_back(token).is_err() {
+            self.close(token);
+        }
+    }
+
+    // Its client is to be tended to, if it isn't already. There is room for each.
+    fn give_back(&mut self, token: usize) {
+        let Some(place) = self.places.get_mut(token) else {
+            return;
+        };
+        if place.give_back() && self.back.push_back(token).is_err() {
+            self.close(token);
+        }
+    }
+
+    // Closes a connection, where there is one. Its token may be had again.
+    fn close(&mut self, token: usize) {
+        let Some(place) = self.places.get_mut(token) else {
+            return;
+        };
+        if place.leaves() {
+            self.leaving = self.leaving.saturating_sub(1);
+        }
+        if place.close() {
+            self.parted = self.parted.saturating_add(1);
+            // There is room for each.
+            let _ = self.vacant.push(token);
+        }
+    }
+}
+
+// A time in whole milliseconds.
+fn millis(time: Duration) -> u64 {
+    time.as_secs()
+        .saturating_mul(1_000)
+        .saturating_add(u64::from(time.subsec_millis()))
+}

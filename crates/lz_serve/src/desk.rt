@@ -1,0 +1,368 @@
+//! What a loop works at: its clients, its passes, and the calls under way.
+ghost use Rattle.std.specs.Prelude.{◌≡◌, ◌+◌, ◌≤◌, ◌<◌, IfOk, true, vec_capacity, vec_len};
+ghost use Rattle.lz_serve.specs.Grants.{Promises};
+
+use crate::crowd::Crowd;
+use crate::free_pass::FreePass;
+use crate::given::Given;
+use crate::moments::{MOMENT, Moments};
+use crate::observer::{Observer, Verb};
+use crate::stream::Stream;
+use crate::working::{Played, Working};
+use lz_disk::Disk;
+use lz_set::{Kept, Named, Set, StepGate};
+use std::alloc::{AllocError, Global};
+use std::sync::Wait;
+use std::time::{Clock, Duration};
+
+/// For how many milliseconds it is waited for something to be heard, at most; and while a client is waited for that is to leave.
+const PATIENCE: u64 = 1_000;
+
+const SHORT_PATIENCE: u64 = 100;
+
+/// The clients of a loop, and its passes: those that are free, and those that answer a request. No pass is lost.
+#[derive(Drop)]
+pub(crate) struct Desk<S: Stream, N: Named, B: Given> {
+    pub(crate) crowd: Crowd<S>,
+    free: Vec<FreePass<N, B>>,
+    /// The calls under way.
+    calls: Vec<Working<N, B>>,
+    /// For how many passes there is room, and how many were taken in.
+    most: usize,
+    given: usize,
+    halted: bool,
+    /// No further request is begun.
+    ends: bool,
+    /// Of how many clients that have left the observer was told.
+    parted: u64,
+    /// When calls that wait for slots are made again.
+    tries: Moments,
+    ghost fit: { given ≤ most },
+    ghost count: { vec_len free + vec_len calls ≡ given },
+    ghost spare_free: { most ≤ vec_capacity free },
+    ghost spare_calls: { most ≤ vec_capacity calls },
+}
+
+impl<S: Stream, N: Named, B: Given> Desk<S, N, B> {
+    /// One for so many passes and clients, with none yet.
+    pub(crate) fn new(
+        alloc: Global,
+        passes: usize,
+        clients: usize,
+    ) -> Result<Desk<S, N, B>, AllocError>
+        ensures { IfOk result (λ desk. (desk.given ≡ 0) × (desk.most ≡ passes)) }
+    {
+        Ok(Desk {
+            crowd: Crowd::new(alloc, clients)?,
+            free: Vec::with_capacity(alloc, passes)?,
+            calls: Vec::with_capacity(alloc, passes)?,
+            most: passes,
+            given: 0,
+            halted: false,
+            ends: false,
+            parted: 0,
+            tries: Moments::new(),
+        })
+    }
+
+    /// Takes a free pass in.
+    pub(crate) fn take_in(&mut self, free: FreePass<N, B>)
+        requires { self.old.given < self.old.most }
+        ensures given { self.new.given ≡ self.old.given + 1 }
+        ensures most { self.new.most ≡ self.old.most }
+    {
+        let Ok(()) = self.free.push(free) else {
+            unreachable!()
+        };
+        self.given += 1;
+    }
+
+    /// The passes, once each is free.
+    pub(crate) fn into_free(self) -> Vec<FreePass<N, B>>
+        requires { vec_len self.free ≡ self.given }
+        ensures { vec_len result ≡ self.given }
+    {
+        let Desk {
+            crowd: _,
+            free,
+            calls: _,
+            most: _,
+            given: _,
+            halted: _,
+            ends: _,
+            parted: _,
+            tries: _,
+        } = self;
+        free
+    }
+
+    /// Begins to answer lines that wait, by the passes that are free: one of each client before a second of any.
+    pub(crate) fn begin_all<D: Disk, G: StepGate, R: Wait>(&mut self, rt: &R, set: &Set<D, G, N>)
+        ensures { self.new.given ≡ self.old.given }
+    {
+        let mut kept = set.keep();
+        'passes: for _ in 0..self.free.len() {
+            let Some(free) = self.free.pop() else {
+                return;
+            };
+            match begin_next(rt, set, &mut kept, &mut self.crowd, free, self.ends) {
+                Ok(working) => {
+                    let Ok(()) = self.calls.push(working) else {
+                        unreachable!()
+                    };
+                }
+                Err(free) => {
+                    put_free(&mut self.free, free);
+                    return;
+                }
+            }
+        }
+    }
+
+    /// Plays each call on, up to a Sync or a taken node. One that is answered is told, and its pass begins the line whose turn it is. One
+    /// that waits for slots is made again once a moment.
+    pub(crate) fn play_all<D, G, R, O>(
+        &mut self,
+        rt: &R,
+        set: &Set<D, G, N>,
+        observer: &O,
+        buffer: &mut [u8],
+    )
+    where
+        D: Disk,
+        G: StepGate,
+        R: Wait + Clock,
+        O: Observer,
+        requires { Promises N.board N.format S.promised }
+        ensures { self.new.given ≡ self.old.given }
+    {
+        let tries = self.tries.pass(rt.monotonic().ok());
+        let mut kept = set.keep();
+        let mut at = 0;
+        'calls: for _ in rt.forever() {
+            if at >= self.calls.len() {
+                break;
+            }
+            if !self.calls[at].play(rt, set, &mut kept, tries) {
+                at += 1;
+                continue;
+            }
+            let working = self.calls.swap_remove(at);
+            let (token, line) = working.line();
+            let earlier = self.crowd.has_earlier(token, line);
+            match working.answer(rt, set, &mut kept, observer, earlier) {
+                Played::Stands(working) => {
+                    put_back(&mut self.calls, at, working);
+                    at += 1;
+                }
+                Played::GoesOn(working) => put_back(&mut self.calls, at, working),
+                Played::Replied(token, granted, free) => {
+                    self.halted = self.halted || free.halted();
+                    self.ends = self.ends || self.halted;
+                    self.crowd.reply(token, granted);
+                    match begin_next(rt, set, &mut kept, &mut self.crowd, free, self.ends) {
+                        Ok(working) => put_back(&mut self.calls, at, working),
+                        Err(free) => put_free(&mut self.free, free),
+                    }
+                }
+            }
+        }
+        drop(kept);
+        self.crowd.tend_back(buffer);
+    }
+
+    /// Plays the Sync of each call that stands before one. The first calls the device, and the others find their slots covered.
+    pub(crate) fn sync_all<D: Disk, G: StepGate, R: Wait>(&mut self, rt: &R, set: &Set<D, G, N>)
+        ensures { self.new.given ≡ self.old.given }
+    {
+        let mut kept = set.keep();
+        for working in self.calls.iter_mut() {
+            working.sync(rt, set, &mut kept);
+        }
+    }
+
+    /// Plays each call to its answer.
+    pub(crate) fn finish<D, G, R, O>(
+        &mut self,
+        rt: &R,
+        set: &Set<D, G, N>,
+        observer: &O,
+        buffer: &mut [u8],
+    )
+    where
+        D: Disk,
+        G: StepGate,
+        R: Wait + Clock,
+        O: Observer,
+        requires { Promises N.board N.format S.promised }
+        ensures given { self.new.given ≡ self.old.given }
+        ensures rests { vec_len self.new.free ≡ self.new.given }
+    {
+        self.ends = true;
+        'plays: for _ in rt.forever() {
+            if self.rests() {
+                break;
+            }
+            self.play_all(rt, set, observer, buffer);
+            self.sync_all(rt, set);
+        }
+    }
+
+    /// Answers each client whose request waits, by a pass that is free. The set has halted, which is what it tells then.
+    pub(crate) fn answer_last<D, G, R, O>(
+        &mut self,
+        rt: &R,
+        set: &Set<D, G, N>,
+        observer: &O,
+        buffer: &mut [u8],
+    )
+    where
+        D: Disk,
+        G: StepGate,
+        R: Wait + Clock,
+        O: Observer,
+        requires rests { vec_len self.old.free ≡ self.old.given }
+        requires promised { Promises N.board N.format S.promised }
+        ensures given { self.new.given ≡ self.old.given }
+        ensures rests { vec_len self.new.free ≡ self.new.given }
+    {
+        'places: for token in 0..self.crowd.most() {
+            let Some(free) = self.free.last_mut() else {
+                return;
+            };
+            answer_one(rt, set, &mut self.crowd, token, free, observer, buffer);
+        }
+    }
+
+    /// Tells the observer of each client that has left since it was told last.
+    pub(crate) fn tell_parted<O: Observer>(&mut self, observer: &O)
+        ensures given { self.new.given ≡ self.old.given }
+        ensures free { vec_len self.new.free ≡ vec_len self.old.free }
+    {
+        for _ in self.parted..self.crowd.parted() {
+            observer.parted();
+        }
+        self.parted = self.crowd.parted();
+    }
+
+    /// For how long it is waited for something to be heard: not at all where there is something else to do.
+    pub(crate) fn patience(&self) -> Duration {
+        let patience = match (self.is_busy(), self.crowd.is_left()) {
+            (true, _) if self.only_waits() => MOMENT,
+            (true, _) => 0,
+            (false, true) => SHORT_PATIENCE,
+            (false, false) => PATIENCE,
+        };
+        Duration::from_millis(patience)
+    }
+
+    // Whether each call waits for slots, and no other can begin.
+    fn only_waits(&self) -> bool {
+        self.calls.iter().all(Working::waits) && (self.free.is_empty() || self.crowd.is_quiet())
+    }
+
+    // Whether there is something to do, with nothing heard of the connections.
+    fn is_busy(&self) -> bool {
+        !self.rests() || !self.free.is_empty() && !self.crowd.is_quiet()
+    }
+
+    /// Whether a client was told that the service halted, or so many connections were served; 0 for no end.
+    pub(crate) fn is_done(&self, sessions: u64) -> bool {
+        self.ends || sessions != 0 && self.crowd.admitted() >= sessions && self.crowd.is_empty()
+    }
+
+    /// Whether a reply has told that the service halted.
+    pub(crate) fn halted(&self) -> bool {
+        self.halted
+    }
+
+    /// Whether no pass answers a request.
+    pub(crate) fn rests(&self) -> bool
+        ensures { result ≡ true → vec_len self.now.free ≡ self.now.given }
+    {
+        self.calls.is_empty()
+    }
+}
+
+// A pass is free. There is room for it.
+fn put_free<N: Named, B: Given>(passes: &mut Vec<FreePass<N, B>>, free: FreePass<N, B>)
+    requires { vec_len passes.old < vec_capacity passes.old }
+    ensures count { vec_len passes.new ≡ vec_len passes.old + 1 }
+    ensures spare { vec_capacity passes.old ≤ vec_capacity passes.new }
+{
+    let Ok(()) = passes.push(free) else {
+        unreachable!()
+    };
+}
+
+// A call goes on at this place, from which it was taken.
+fn put_back<N: Named, B: Given>(calls: &mut Vec<Working<N, B>>, at: usize, working: Working<N, B>)
+    requires { vec_len calls.old < vec_capacity calls.old }
+    ensures count { vec_len calls.new ≡ vec_len calls.old + 1 }
+    ensures spare { vec_capacity calls.old ≤ vec_capacity calls.new }
+{
+    let last = calls.len();
+    let Ok(()) = calls.push(working) else {
+        unreachable!()
+    };
+    if at < last {
+        calls.swap(at, last);
+    }
+}
+
+// Begins to answer the line whose turn it is by this pass, if there is one and the service goes on.
+fn begin_next<'a, S, D, G, N, B, R>(
+    rt: &R,
+    set: &'a Set<D, G, N>,
+    kept: &mut Kept<'a, D, N>,
+    crowd: &mut Crowd<S>,
+    free: FreePass<N, B>,
+    ends: bool,
+) -> Result<Working<N, B>, FreePass<N, B>>
+where
+    S: Stream,
+    D: Disk,
+    G: StepGate,
+    N: Named,
+    B: Given,
+    R: Wait,
+{
+    if ends || free.halted() {
+        return Err(free);
+    }
+    let Some((token, question)) = crowd.take_turn(free.pass()) else {
+        return Err(free);
+    };
+    let (pass, _) = free.into_parts();
+    Ok(Working::begin(rt, set, kept, pass, token, question))
+}
+
+// Answers the request of the client of this token by this pass, if one waits.
+fn answer_one<S, D, G, N, B, R, O>(
+    rt: &R,
+    set: &Set<D, G, N>,
+    crowd: &mut Crowd<S>,
+    token: usize,
+    free: &mut FreePass<N, B>,
+    observer: &O,
+    buffer: &mut [u8],
+)
+where
+    S: Stream,
+    D: Disk,
+    G: StepGate,
+    N: Named,
+    B: Given,
+    R: Wait + Clock,
+    O: Observer,
+    requires { Promises N.board N.format S.promised }
+{
+    let Some(question) = crowd.take_last(token, free.pass(), buffer) else {
+        return;
+    };
+    let verb = Verb::of(&question.request());
+    let granted = free.answer(rt, set, question);
+    observer.answered(verb, granted.reply());
+    crowd.reply(token, granted);
+    crowd.tend_back(buffer);
+}

@@ -1,0 +1,42 @@
+//! A line that is under way.
+ghost use Rattle.std.specs.Prelude.{◌≡◌, ◌≢◌, None, false};
+ghost use Rattle.lz_serve.specs.Lines.{awaited, key_asked};
+
+use lz_proto::{Reply, Request};
+use lz_slot::Key;
+
+/// A line that was handed out, and its reply, once that was granted.
+#[derive(Clone, Copy, Debug)]
+pub struct Line {
+    pub request: Request,
+    pub reply: Option<Reply>,
+}
+
+impl Line {
+    /// One that awaits its reply.
+    pub(crate) fn new(request: &Request) -> Line
+        ensures { result ≡ awaited request.now }
+    {
+        Line {
+            request: *request,
+            reply: None,
+        }
+    }
+
+    /// Whether it asked for this key and awaits its reply.
+    pub(crate) fn awaits(&self, key: Option<Key>) -> bool
+        ensures { result ≡ false → self.now.reply ≡ None → key_asked self.now.request ≢ key }
+    {
+        self.reply.is_none() && key_asked(&self.request) == key
+    }
+}
+
+/// The key for which a request asks.
+pub(crate) fn key_asked(request: &Request) -> Option<Key>
+    ensures { result ≡ key_asked request.now }
+{
+    match request {
+        Request::Add(key) | Request::Remove(key) | Request::Has(key) => Some(*key),
+        Request::Quit => None,
+    }
+}

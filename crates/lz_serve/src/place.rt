@@ -1,0 +1,220 @@
+//! The place of one connection.
+ghost use Rattle.std.specs.Prelude.{◌≡◌, IfSome};
+ghost use Rattle.lz_serve.specs.Grants.{Promises};
+
+use crate::asking::Granted;
+use crate::client::{Client, Question};
+use crate::stream::Stream;
+use lz_set::{Named, Pass};
+
+/// How many pieces of one client are read in a turn, at most.
+const MOST_READS: usize = 16;
+
+/// For how many milliseconds a client whose session is over is waited for.
+const FAREWELL: u64 = 100;
+
+/// What the client of a place wants.
+#[derive(Clone, Copy, PartialEq, Eq)]
+pub(crate) enum Wish {
+    /// Nothing, until it can be read or written again.
+    Nothing,
+    /// Its turn: it has a request, or there may be more to read.
+    Turn,
+    /// Nothing more: its connection is to be closed.
+    Close,
+}
+
+/// The place of one connection.
+#[derive(Drop)]
+pub(crate) struct Place<S: Stream> {
+    client: Option<Client<S>>,
+    /// There may be something to read.
+    readable: bool,
+    /// It waits for its turn.
+    queued: bool,
+    /// It was answered, and wasn't tended to since.
+    back: bool,
+    /// Its session is to end once all is sent, whatever waits.
+    parts: bool,
+    /// Its session is over, and what it still sends is thrown away.
+    leaves: bool,
+    /// In which millisecond something came or went last.
+    moved: u64,
+}
+
+impl<S: Stream> Place<S> {
+    pub(crate) fn empty() -> Place<S> {
+        Place {
+            client: None,
+            readable: false,
+            queued: false,
+            back: false,
+            parts: false,
+            leaves: false,
+            moved: 0,
+        }
+    }
+
+    /// Takes a client in that is new, in this millisecond.
+    pub(crate) fn admit(&mut self, client: Client<S>, now: u64) {
+        self.client = Some(client);
+        self.readable = true;
+        self.queued = false;
+        self.back = false;
+        self.parts = false;
+        self.leaves = false;
+        self.moved = now;
+    }
+
+    /// Hands a reply to its client, if that is still the one whose line was answered, and says whether this has one for a pass.
+    pub(crate) fn reply<N: Named>(&mut self, granted: Granted<N>, now: u64) -> bool
+        requires { Promises N.board N.format S.promised }
+    {
+        let Some(client) = &mut self.client else {
+            return false;
+        };
+        client.reply(granted);
+        self.moved = now;
+        self.may_ask()
+    }
+
+    /// Its connection can be read or written. One whose session is over is waited for no longer because of that.
+    pub(crate) fn hear(&mut self, now: u64) {
+        self.readable = true;
+        if !self.leaves {
+            self.moved = now;
+        }
+    }
+
+    /// Notes that it waits for its turn, and says whether it didn't.
+    pub(crate) fn queue(&mut self) -> bool {
+        let was_queued = self.queued;
+        self.queued = true;
+        !was_queued
+    }
+
+    /// Notes that it is to be tended to, and says whether it wasn't.
+    pub(crate) fn give_back(&mut self) -> bool {
+        let was_back = self.back;
+        self.back = true;
+        !was_back
+    }
+
+    /// Its client's question to this pass, whose turn it is, if it has one.
+    pub(crate) fn take_turn(&mut self, pass: &Pass) -> Option<Question>
+        ensures { IfSome result (λ question. question.before ≡ pass.now) }
+    {
+        self.queued = false;
+        self.client.as_mut()?.ask(pass)
+    }
+
+    /// Whether its client has a line for a pass.
+    pub(crate) fn may_ask(&self) -> bool {
+        match &self.client {
+            Some(client) => !self.parts && client.may_ask(),
+            None => false,
+        }
+    }
+
+    /// Its client's question to this pass that waits, if one does. Where none does it is read once more.
+    pub(crate) fn take_last(&mut self, pass: &Pass, buffer: &mut [u8]) -> Option<Question>
+        ensures { IfSome result (λ question. question.before ≡ pass.now) }
+    {
+        let client = self.client.as_mut()?;
+        if !client.waits() {
+            let _ = client.read(buffer);
+        }
+        client.ask(pass)
+    }
+
+    /// Does for its client what needs no pass.
+    pub(crate) fn tend(&mut self, buffer: &mut [u8]) -> Wish {
+        self.back = false;
+        let Some(client) = &mut self.client else {
+            return Wish::Nothing;
+        };
+        if self.leaves {
+            return see_off(client, buffer);
+        }
+        client.write();
+        for _ in 0..MOST_READS {
+            if self.parts || !self.readable || client.is_occupied() {
+                break;
+            }
+            self.readable = client.read(buffer);
+        }
+        if client.is_over() || self.parts && !client.has_unsent() {
+            self.leaves = true;
+            client.leave();
+            return see_off(client, buffer);
+        }
+        if client.has_unsent() || self.parts {
+            return Wish::Nothing;
+        }
+        if self.readable && !client.waits() || client.may_ask() {
+            return Wish::Turn;
+        }
+        client.rest();
+        Wish::Nothing
+    }
+
+    /// Its session is to end once all is sent, whatever waits.
+    pub(crate) fn part(&mut self) {
+        self.parts = true;
+        self.queued = false;
+    }
+
+    /// Its session has ended in this millisecond.
+    pub(crate) fn end(&mut self, now: u64) {
+        self.moved = now;
+    }
+
+    /// Whether an earlier line of its client isn't answered.
+    pub(crate) fn has_earlier(&self, line: u64) -> bool {
+        match &self.client {
+            Some(client) => client.has_earlier(line),
+            None => false,
+        }
+    }
+
+    /// Whether its session is over.
+    pub(crate) fn leaves(&self) -> bool {
+        self.leaves
+    }
+
+    /// Whether its client is to be closed since nothing came or went for more milliseconds than so. One whose session is over isn't
+    /// waited for so long.
+    pub(crate) fn is_idle(&self, now: u64, idle: Option<u64>) -> bool {
+        match &self.client {
+            Some(client) if !self.queued && !client.is_asked() => {}
+            _ => return false,
+        }
+        let still = now.saturating_sub(self.moved);
+        match idle {
+            Some(most) if still > most => true,
+            _ => self.leaves && still >= FAREWELL,
+        }
+    }
+
+    /// Closes its connection, and says whether there was one.
+    pub(crate) fn close(&mut self) -> bool {
+        let was_taken = self.client.is_some();
+        self.client = None;
+        self.queued = false;
+        self.leaves = false;
+        was_taken
+    }
+}
+
+// Throws away what a client sends after its session's end: a connection that is closed over unread bytes is reset, and the client
+// may lose its last replies.
+fn see_off<S: Stream>(client: &mut Client<S>, buffer: &mut [u8]) -> Wish {
+    for _ in 0..MOST_READS {
+        match client.pass_over(buffer) {
+            Some(true) => {}
+            Some(false) => return Wish::Nothing,
+            None => return Wish::Close,
+        }
+    }
+    Wish::Close
+}

@@ -1,0 +1,22 @@
+//! What tells a loop of its connections.
+use crate::stream::Stream;
+use std::io;
+use std::time::Duration;
+
+/// Connections that come, and those that can be read or written.
+pub trait Poller {
+    ghost use Rattle.std.specs.Prelude.{IfOk, IfSome};
+    ghost use Rattle.lz_serve.specs.Streams.{IsFresh};
+
+    type Stream: Stream;
+
+    /// Waits until a connection has come, or one can be read or written, but not for longer than so. Puts the tokens of those that
+    /// can be read or written at the end of `ready`: each of which that is so since its last `Later`. Where the system or memory
+    /// fails it puts none, after a pause.
+    fn poll(&mut self, patience: Duration, ready: &mut Vec<usize>);
+
+    /// A connection that has come, if there is one, which has this token from now on. Its stream is dropped before another one gets
+    /// the token. Where the system fails the connection may wait.
+    fn accept(&mut self, token: usize) -> io::Result<Option<Self::Stream>>
+        ensures { IfOk result (λ came. IfSome came (λ stream. IsFresh (Self.Stream.traffic stream))) };
+}

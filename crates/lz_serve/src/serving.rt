@@ -1,0 +1,331 @@
+//! The loop.
+ghost use Rattle.std.specs.Prelude.{◌≡◌, ◌≤◌, [], IfOk, true, false, All, vec_capacity, vec_len};
+ghost use Rattle.std.specs.List.{Any};
+ghost use Rattle.lz_board.specs.Seats.{part};
+ghost use Rattle.lz_set.specs.Names.{MayCall};
+ghost use Rattle.lz_serve.specs.Grants.{Promises};
+ghost use Rattle.lz_serve.specs.Halts.{IsCalm, IsCalmAfter, SawHalt};
+
+use crate::crowd::Crowd;
+use crate::desk::Desk;
+use crate::free_pass::{FreePass, hand_back};
+use crate::given::Given;
+use crate::observer::{Lack, Observer};
+use crate::poller::Poller;
+use crate::server::{Bounds, Served, none_served};
+use crate::shares::set_free;
+use crate::stream::Stream;
+use lz_disk::Disk;
+use lz_proto::MOST_PIECE;
+use lz_set::{Named, Pass, Set, StepGate};
+use std::alloc::{AllocError, Global};
+use std::marker::Brand;
+use std::sync::Wait;
+use std::sync::atomic::{AtomicBool, Ordering};
+use std::time::{Clock, Duration};
+
+/// For how many milliseconds, at its end, a loop goes on sending replies that are slowly taken, and how long each turn is then at most.
+const FAREWELL: u64 = 1_000;
+
+const FAREWELL_TURN: u64 = 100;
+
+/// Serves connections, so many at once, by these passes in one thread, until a client was told that the service halted, here or by another loop, which
+/// sets `told`, the observer says that it is to end, or so many connections were served. Then the calls under way are played to their
+/// answers, and what is unsent is sent. Where the service halted each request that waits is answered too. The loop whose client was told
+/// so first tells the observer. Where no memory is left for its clients it serves none.
+pub fn serve_loop<D, G, N, R, O, P>(
+    rt: &R,
+    poller: &mut P,
+    set: &Set<D, G, N>,
+    passes: Vec<Pass>,
+    connections: usize,
+    bounds: Bounds,
+    observer: &O,
+    told: &AtomicBool,
+) -> Served
+where
+    D: Disk,
+    G: StepGate,
+    N: Named,
+    R: Wait + Clock + AllocGlobal,
+    O: Observer,
+    P: Poller,
+    requires may_call { All (MayCall N.board) passes.items }
+    requires promised { Promises N.board N.format P.Stream.promised }
+    ensures may_call { All (MayCall N.board) result.passes.items }
+    ensures count { vec_len result.passes ≡ vec_len passes }
+    ensures unserved { result.unserved ≡ true → result.passes.items ≡ passes.items }
+    ensures halted { result.halted ≡ true → Any SawHalt result.passes.items }
+    ensures calm { All (λ pass. IsCalm (part pass)) passes.items → result.halted ≡ false → All (λ pass. IsCalm (part pass)) result.passes.items }
+{
+    serve_among::<D, G, N, Brand, R, O, P>(
+        rt,
+        poller,
+        set,
+        passes,
+        connections,
+        bounds,
+        observer,
+        told,
+    )
+}
+
+// The same. B names the passes.
+fn serve_among<D, G, N, B, R, O, P>(
+    rt: &R,
+    poller: &mut P,
+    set: &Set<D, G, N>,
+    passes: Vec<Pass>,
+    connections: usize,
+    bounds: Bounds,
+    observer: &O,
+    told: &AtomicBool,
+) -> Served
+where
+    D: Disk,
+    G: StepGate,
+    N: Named,
+    B: Given,
+    R: Wait + Clock + AllocGlobal,
+    O: Observer,
+    P: Poller,
+    requires may_call { All (MayCall N.board) passes.items }
+    requires calm { All (IsCalmAfter B.parts) passes.items }
+    requires promised { Promises N.board N.format P.Stream.promised }
+    ensures may_call { All (MayCall N.board) result.passes.items }
+    ensures count { vec_len result.passes ≡ vec_len passes }
+    ensures unserved { result.unserved ≡ true → result.passes.items ≡ passes.items }
+    ensures halted { result.halted ≡ true → Any SawHalt result.passes.items }
+    ensures calm { result.halted ≡ false → All (IsCalmAfter B.parts) result.passes.items }
+{
+    let Ok((desk, free, done)) = make_desk::<P::Stream, N, B>(rt.alloc(), passes.len(), connections)
+    else {
+        return none_served(passes, observer, Lack::Memory);
+    };
+    let desk = take_in_all(desk, set_free(passes, free));
+    hand_back(
+        serve_in(rt, poller, set, desk, bounds, observer, told),
+        done,
+    )
+}
+
+type Rooms<S, N, B> = (Desk<S, N, B>, Vec<FreePass<N, B>>, Vec<Pass>);
+
+// A desk for so many passes and clients, and for the passes that are handed back.
+fn make_desk<S: Stream, N: Named, B: Given>(
+    alloc: Global,
+    passes: usize,
+    clients: usize,
+) -> Result<Rooms<S, N, B>, AllocError>
+    ensures desk { IfOk result (λ made. (made.0.given ≡ 0) × (made.0.most ≡ passes)) }
+    ensures free { IfOk result (λ made. (vec_len made.1 ≡ 0) × (passes ≤ vec_capacity made.1)) }
+    ensures done { IfOk result (λ made. (vec_len made.2 ≡ 0) × (passes ≤ vec_capacity made.2)) }
+{
+    let desk = Desk::new(alloc, passes, clients)?;
+    let free = Vec::with_capacity(alloc, passes)?;
+    let done = Vec::with_capacity(alloc, passes)?;
+    Ok((desk, free, done))
+}
+
+/// Takes all these passes in.
+pub(crate) fn take_in_all<S: Stream, N: Named, B: Given>(
+    desk: Desk<S, N, B>,
+    passes: Vec<FreePass<N, B>>,
+) -> Desk<S, N, B>
+    requires empty { desk.given ≡ 0 }
+    requires desk { vec_len passes ≤ desk.most }
+    ensures { result.given ≡ vec_len passes }
+{
+    let mut desk = desk;
+    for free in passes {
+        desk.take_in(free);
+    }
+    desk
+}
+
+/// Serves by the passes of this desk, and hands them back.
+pub(crate) fn serve_in<D, G, N, B, R, O, P>(
+    rt: &R,
+    poller: &mut P,
+    set: &Set<D, G, N>,
+    desk: Desk<P::Stream, N, B>,
+    bounds: Bounds,
+    observer: &O,
+    told: &AtomicBool,
+) -> Vec<FreePass<N, B>>
+where
+    D: Disk,
+    G: StepGate,
+    N: Named,
+    B: Given,
+    R: Wait + Clock + AllocGlobal,
+    O: Observer,
+    P: Poller,
+    requires promised { Promises N.board N.format P.Stream.promised }
+    ensures { vec_len result ≡ desk.given }
+{
+    let mut desk = desk;
+    run(rt, poller, set, &mut desk, bounds, observer, told);
+    desk.into_free()
+}
+
+// Turn after turn, until the loop ends. Then all calls under way are answered.
+fn run<D, G, N, B, R, O, P>(
+    rt: &R,
+    poller: &mut P,
+    set: &Set<D, G, N>,
+    desk: &mut Desk<P::Stream, N, B>,
+    bounds: Bounds,
+    observer: &O,
+    told: &AtomicBool,
+)
+where
+    D: Disk,
+    G: StepGate,
+    N: Named,
+    B: Given,
+    R: Wait + Clock + AllocGlobal,
+    O: Observer,
+    P: Poller,
+    requires promised { Promises N.board N.format P.Stream.promised }
+    ensures given { desk.new.given ≡ desk.old.given }
+    ensures rests { vec_len desk.new.free ≡ desk.new.given }
+{
+    let mut buffer = [0; MOST_PIECE];
+    let mut ready = Vec::new(rt.alloc());
+    'turns: for _ in rt.forever() {
+        if desk.is_done(bounds.sessions) || is_ended(observer, told) {
+            break;
+        }
+        admit(
+            rt,
+            poller,
+            &mut desk.crowd,
+            bounds.sessions,
+            observer,
+            &mut buffer,
+        );
+        let patience = desk.patience();
+        listen(
+            rt,
+            poller,
+            &mut desk.crowd,
+            patience,
+            bounds.idle,
+            &mut ready,
+            &mut buffer,
+        );
+        if is_ended(observer, told) {
+            break;
+        }
+        desk.begin_all(rt, set);
+        desk.play_all(rt, set, observer, &mut buffer);
+        desk.sync_all(rt, set);
+        desk.tell_parted(observer);
+    }
+    desk.finish(rt, set, observer, &mut buffer);
+    if desk.halted() && !told.swap(true, Ordering::SeqCst) {
+        observer.halted();
+    }
+    if told.load(Ordering::SeqCst) {
+        desk.answer_last(rt, set, observer, &mut buffer);
+    }
+    take_leave(rt, poller, &mut desk.crowd, &mut ready, &mut buffer);
+    desk.tell_parted(observer);
+}
+
+// Whether a client of some loop was told that the service halted, or the service is to end.
+fn is_ended<O: Observer>(observer: &O, told: &AtomicBool) -> bool {
+    told.load(Ordering::SeqCst) || observer.stops()
+}
+
+// Admits those that have come, up to so many over the loop's life; 0 for no end.
+fn admit<R, O, P>(
+    rt: &R,
+    poller: &mut P,
+    crowd: &mut Crowd<P::Stream>,
+    sessions: u64,
+    observer: &O,
+    buffer: &mut [u8],
+)
+where
+    R: AllocGlobal,
+    O: Observer,
+    P: Poller,
+    requires { P.Stream.promised [] }
+{
+    for _ in 0..crowd.most() {
+        if sessions != 0 && crowd.admitted() >= sessions {
+            return;
+        }
+        let Some(token) = crowd.vacancy() else {
+            return observer.crowded();
+        };
+        match poller.accept(token) {
+            Ok(Some(stream)) => {
+                observer.accepted();
+                crowd.admit(rt.alloc(), stream, buffer);
+            }
+            Ok(None) => return,
+            Err(error) => return observer.unaccepted(error),
+        }
+    }
+}
+
+// Hears which connections can be read or written, for which it waits for so long, and then closes those that were idle.
+fn listen<R, P>(
+    rt: &R,
+    poller: &mut P,
+    crowd: &mut Crowd<P::Stream>,
+    patience: Duration,
+    idle: Option<Duration>,
+    ready: &mut Vec<usize>,
+    buffer: &mut [u8],
+)
+where
+    R: Clock,
+    P: Poller,
+{
+    ready.clear();
+    poller.poll(patience, ready);
+    if let Ok(now) = rt.monotonic() {
+        crowd.note_time(now);
+    }
+    for token in ready.iter() {
+        crowd.hear(*token, buffer);
+    }
+    crowd.close_idle(idle);
+}
+
+// Sends what is unsent and ends each session. Clients that take no more of their replies, or don't leave, are waited for only a while.
+fn take_leave<R, P>(
+    rt: &R,
+    poller: &mut P,
+    crowd: &mut Crowd<P::Stream>,
+    ready: &mut Vec<usize>,
+    buffer: &mut [u8],
+)
+where
+    R: Clock,
+    P: Poller,
+{
+    crowd.part_all(buffer);
+    let patience = Duration::from_millis(FAREWELL_TURN);
+    if let Ok(began) = rt.monotonic() {
+        'turns: for _ in 0..u64::MAX {
+            if crowd.is_empty() || !is_within(rt, began) {
+                break;
+            }
+            listen(rt, poller, crowd, patience, None, ready, buffer);
+        }
+    }
+    crowd.close_all();
+}
+
+// Whether it is no later than a farewell's time after this.
+fn is_within<R: Clock>(rt: &R, began: Duration) -> bool {
+    match rt.monotonic() {
+        Ok(now) => now.saturating_sub(began) < Duration::from_millis(FAREWELL),
+        Err(_) => false,
+    }
+}
