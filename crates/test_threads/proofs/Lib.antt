@@ -1,1 +1,3 @@
 pub mod TwoSlots
+pub mod ToldRows
+pub mod ToldTexts

@@ -1,2 +1,3 @@
 pub mod NineFound
 pub mod Plays
+pub mod Tapes

@@ -20,6 +20,8 @@ mod plots;
 #[cfg(test)]
 mod talks;
 #[cfg(test)]
+mod tapes;
+#[cfg(test)]
 mod threads;
 #[cfg(test)]
 mod values;

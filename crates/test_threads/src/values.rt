@@ -7,7 +7,7 @@ ghost use Rattle.test_threads.specs.Plays.{IsPlay};
 
 use crate::partners::two_passes;
 use lz_disk::MemoryDisk;
-use lz_set::{Blank, Fault, Named, NoGate, Pass, Set, Stage, Underway};
+use lz_set::{Blank, Fault, Kept, Named, NoGate, Pass, Set, Stage, Underway};
 use lz_slot::{Command, Key};
 use std::alloc::Global;
 use std::marker::Brand;
@@ -16,6 +16,8 @@ use std::test::Fail;
 use test_support::{keys_in, made};
 
 type Shared<N> = Set<MemoryDisk, NoGate, N>;
+
+type Lock<'a, N> = Kept<'a, MemoryDisk, N>;
 
 type Answer = Result<bool, Fault>;
 
@@ -26,31 +28,48 @@ pub struct Play {
     call: Underway,
 }
 
-fn begin<N: Named, R: Wait>(rt: &R, set: &Shared<N>, pass: Pass, command: Command) -> Play
+fn begin<'a, N: Named, R: Wait>(
+    rt: &R,
+    set: &'a Shared<N>,
+    kept: &mut Lock<'a, N>,
+    pass: Pass,
+    command: Command,
+) -> Play
     requires { MayCall N.board pass }
     ensures { IsPlay N.board result.pass result.call }
 {
     let mut pass = pass;
-    let call = set.begin(rt, &mut pass, command);
+    let call = set.begin(rt, kept, &mut pass, command);
     Play { pass, call }
 }
 
 // Whether the call comes to a stop at this stage.
-fn comes_to<N: Named, R: Wait>(rt: &R, set: &Shared<N>, play: &mut Play, stage: Stage) -> bool
+fn comes_to<'a, N: Named, R: Wait>(
+    rt: &R,
+    set: &'a Shared<N>,
+    kept: &mut Lock<'a, N>,
+    play: &mut Play,
+    stage: Stage,
+) -> bool
     requires { IsPlay N.board play.old.pass play.old.call }
     ensures { IsPlay N.board play.new.pass play.new.call }
 {
-    set.go_on(rt, &mut play.pass, &mut play.call) == stage
+    set.go_on(rt, kept, &mut play.pass, &mut play.call) == stage
 }
 
 // Whether the call comes to a Sync, which it plays then.
-fn syncs<N: Named, R: Wait>(rt: &R, set: &Shared<N>, play: &mut Play) -> bool
+fn syncs<'a, N: Named, R: Wait>(
+    rt: &R,
+    set: &'a Shared<N>,
+    kept: &mut Lock<'a, N>,
+    play: &mut Play,
+) -> bool
     requires { IsPlay N.board play.old.pass play.old.call }
     ensures { IsPlay N.board play.new.pass play.new.call }
 {
-    match set.go_on(rt, &mut play.pass, &mut play.call) {
+    match set.go_on(rt, kept, &mut play.pass, &mut play.call) {
         Stage::Syncs => {
-            set.sync(rt, &mut play.pass, &mut play.call);
+            set.sync(rt, kept, &mut play.pass, &mut play.call);
             true
         }
         _ => false,
@@ -58,14 +77,19 @@ fn syncs<N: Named, R: Wait>(rt: &R, set: &Shared<N>, play: &mut Play) -> bool
 }
 
 // The answer of a call that comes to it.
-fn answer<N: Named, R: Wait>(rt: &R, set: &Shared<N>, play: Play) -> Option<(Pass, Answer)>
+fn answer<'a, N: Named, R: Wait>(
+    rt: &R,
+    set: &'a Shared<N>,
+    kept: &mut Lock<'a, N>,
+    play: Play,
+) -> Option<(Pass, Answer)>
     requires { IsPlay N.board play.pass play.call }
     ensures { IfSome result (λ r. MayCall N.board r.0) }
 {
     let Play { mut pass, mut call } = play;
-    match set.go_on(rt, &mut pass, &mut call) {
+    match set.go_on(rt, kept, &mut pass, &mut call) {
         Stage::Answers => {
-            let answer = set.answer(rt, &mut pass, call);
+            let answer = set.answer(rt, kept, &mut pass, call);
             Some((pass, answer))
         }
         _ => None,
@@ -73,9 +97,10 @@ fn answer<N: Named, R: Wait>(rt: &R, set: &Shared<N>, play: Play) -> Option<(Pas
 }
 
 // Whether each of the three comes to a Sync, before any of them is played.
-fn all_come<N: Named, R: Wait>(
+fn all_come<'a, N: Named, R: Wait>(
     rt: &R,
-    set: &Shared<N>,
+    set: &'a Shared<N>,
+    kept: &mut Lock<'a, N>,
     one: &mut Play,
     two: &mut Play,
     three: &mut Play,
@@ -87,16 +112,17 @@ fn all_come<N: Named, R: Wait>(
     ensures two { IsPlay N.board two.new.pass two.new.call }
     ensures three { IsPlay N.board three.new.pass three.new.call }
 {
-    let one = comes_to(rt, set, one, Stage::Syncs);
-    let two = comes_to(rt, set, two, Stage::Syncs);
-    let three = comes_to(rt, set, three, Stage::Syncs);
+    let one = comes_to(rt, set, kept, one, Stage::Syncs);
+    let two = comes_to(rt, set, kept, two, Stage::Syncs);
+    let three = comes_to(rt, set, kept, three, Stage::Syncs);
     one && two && three
 }
 
 // Whether each of the three plays its Sync.
-fn all_sync<N: Named, R: Wait>(
+fn all_sync<'a, N: Named, R: Wait>(
     rt: &R,
-    set: &Shared<N>,
+    set: &'a Shared<N>,
+    kept: &mut Lock<'a, N>,
     one: &mut Play,
     two: &mut Play,
     three: &mut Play,
@@ -108,9 +134,9 @@ fn all_sync<N: Named, R: Wait>(
     ensures two { IsPlay N.board two.new.pass two.new.call }
     ensures three { IsPlay N.board three.new.pass three.new.call }
 {
-    let one = syncs(rt, set, one);
-    let two = syncs(rt, set, two);
-    let three = syncs(rt, set, three);
+    let one = syncs(rt, set, kept, one);
+    let two = syncs(rt, set, kept, two);
+    let three = syncs(rt, set, kept, three);
     one && two && three
 }
 
@@ -119,25 +145,26 @@ fn overlap<N: Named, R: Wait>(rt: &R, set: &Shared<N>, passes: Vec<Pass>) -> Opt
     requires { All (MayCall N.board) passes.items }
 {
     let mut passes = passes;
+    let mut kept = set.keep();
     let (first, second) = two_passes::<N>(&mut passes)?;
     let (third, fourth) = two_passes::<N>(&mut passes)?;
     let twenty = Key::new(20)?;
-    let mut one = begin(rt, set, first, Command::Add(twenty));
-    let mut two = begin(rt, set, second, Command::Add(Key::new(10)?));
-    let mut three = begin(rt, set, third, Command::Add(Key::new(30)?));
-    let written = all_come(rt, set, &mut one, &mut two, &mut three);
-    let sure = all_sync(rt, set, &mut one, &mut two, &mut three);
-    let linked = all_come(rt, set, &mut one, &mut two, &mut three);
-    let mut look = begin(rt, set, fourth, Command::Has(twenty));
-    let looked = syncs(rt, set, &mut look);
-    let settled = all_sync(rt, set, &mut one, &mut two, &mut three);
+    let mut one = begin(rt, set, &mut kept, first, Command::Add(twenty));
+    let mut two = begin(rt, set, &mut kept, second, Command::Add(Key::new(10)?));
+    let mut three = begin(rt, set, &mut kept, third, Command::Add(Key::new(30)?));
+    let written = all_come(rt, set, &mut kept, &mut one, &mut two, &mut three);
+    let sure = all_sync(rt, set, &mut kept, &mut one, &mut two, &mut three);
+    let linked = all_come(rt, set, &mut kept, &mut one, &mut two, &mut three);
+    let mut look = begin(rt, set, &mut kept, fourth, Command::Has(twenty));
+    let looked = syncs(rt, set, &mut kept, &mut look);
+    let settled = all_sync(rt, set, &mut kept, &mut one, &mut two, &mut three);
     if !(written && sure && linked && looked && settled) {
         return None;
     }
-    let (_, three) = answer(rt, set, three)?;
-    let (_, look) = answer(rt, set, look)?;
-    let (_, one) = answer(rt, set, one)?;
-    let (_, two) = answer(rt, set, two)?;
+    let (_, three) = answer(rt, set, &mut kept, three)?;
+    let (_, look) = answer(rt, set, &mut kept, look)?;
+    let (_, one) = answer(rt, set, &mut kept, one)?;
+    let (_, two) = answer(rt, set, &mut kept, two)?;
     Some([one, two, three, look])
 }
 
@@ -153,21 +180,23 @@ fn meet_at_a_node<N: Named, R: Wait>(
     let (mut first, second) = two_passes::<N>(&mut passes)?;
     let (five, ten) = (Key::new(5)?, Key::new(10)?);
     let was_added = set.add(rt, &mut first, ten);
-    let mut removal = begin(rt, set, first, Command::Remove(ten));
-    let mut addition = begin(rt, set, second, Command::Add(five));
-    let closed = comes_to(rt, set, &mut removal, Stage::Syncs);
-    let written = syncs(rt, set, &mut addition);
-    let busy = comes_to(rt, set, &mut addition, Stage::Busy);
-    let still_busy = comes_to(rt, set, &mut addition, Stage::Busy);
-    let marked = syncs(rt, set, &mut removal);
+    let mut kept = set.keep();
+    let mut removal = begin(rt, set, &mut kept, first, Command::Remove(ten));
+    let mut addition = begin(rt, set, &mut kept, second, Command::Add(five));
+    let closed = comes_to(rt, set, &mut kept, &mut removal, Stage::Syncs);
+    let written = syncs(rt, set, &mut kept, &mut addition);
+    let busy = comes_to(rt, set, &mut kept, &mut addition, Stage::Busy);
+    let still_busy = comes_to(rt, set, &mut kept, &mut addition, Stage::Busy);
+    let marked = syncs(rt, set, &mut kept, &mut removal);
     if !(closed && written && busy && still_busy && marked) {
         return None;
     }
-    let (mut first, removed) = answer(rt, set, removal)?;
-    if !syncs(rt, set, &mut addition) {
+    let (mut first, removed) = answer(rt, set, &mut kept, removal)?;
+    if !syncs(rt, set, &mut kept, &mut addition) {
         return None;
     }
-    let (_, added) = answer(rt, set, addition)?;
+    let (_, added) = answer(rt, set, &mut kept, addition)?;
+    kept.give_back();
     Some([was_added, removed, added, set.has(rt, &mut first, ten)])
 }
 

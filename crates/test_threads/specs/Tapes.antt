@@ -1,0 +1,29 @@
+-- What may have been sent to a client whose text is known.
+use Rattle.std.specs.Prelude.{◌≡◌, ◌≤◌, ℕ, All, Bool, true, List, [], ◌++◌, length}
+use Rattle.lz_slot.specs.declared.format.Format.{Format}
+use Rattle.lz_proto.specs.declared.item.Item.{Item}
+use Rattle.lz_proto.specs.declared.end.End.{End}
+use Rattle.lz_proto.specs.Lines.{Items}
+use Rattle.lz_proto.specs.Sessions.{Answered}
+use Rattle.lz_board.specs.Seats.{BoardId}
+use Rattle.lz_serve.specs.Conversations.{IsGranted}
+use Rattle.lz_serve.specs.Grants.{Grant, IsGrant}
+
+-- It is a beginning of what the client is told of the first items of its text: each request was
+-- granted its reply, as the line of its number on one connection, by a pass of this board.
+pub record IsTold (b : BoardId) (F : Format) (text sent : List ℕ) : Type 0 where
+  pub items : List Item
+  pub more : List Item
+  pub its : Items text (items ++ more)
+  pub grants : List Grant
+  pub granted : All (IsGrant b F) grants
+  pub rest : List ℕ
+  pub ended : End
+  pub connection : ℕ
+  pub answered : Answered (IsGranted connection) [] items grants (sent ++ rest) ended
+
+-- So much of the client's text has come, all of it where it has ended, and this was sent.
+pub record IsTape (b : BoardId) (F : Format) (text : List ℕ) (read : ℕ) (ended : Bool) (sent : List ℕ) : Type 0 where
+  pub within : read ≤ length text
+  pub whole : ended ≡ true → read ≡ length text
+  pub told : IsTold b F text sent
