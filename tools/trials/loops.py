@@ -16,11 +16,13 @@ from trials.faults import CAUSES, DEVICE_FAILED, failing, needs_strace, news_of
 from trials.guests import connect, received, served
 from trials.history import History
 from trials.process import expect_rest, memory, processor_seconds
-from trials.program import Key, Program, Service
+from trials.program import Key, Program, Service, not_within
 from trials.report import Wrong, expect
 from trials.watch import logged
 
 PASSES = 4
+MOST_THREADS = 64
+MOST_PASSES = 1024
 
 THOUSAND = 1000
 OWN_KEYS = 8
@@ -28,6 +30,7 @@ OWN_KEYS = 8
 # What 300 clients ask for: five groups of them, each of the keys of two rooms, and fewer slots than keys.
 ROOMS = tuple([Key(room, number) for room in (group, group + 8) for number in range(12)] for group in range(5))
 CROWD = kills.Loaded(100, PASSES, ("--connections", "300"), 60, ROOMS)
+AT_ONCE = CROWD._replace(passes=MOST_PASSES)
 FOUR_LOOPS = kills.Loaded(40, PASSES, ("--connections", "120", "--loops", "4"), 60, ROOMS[:2])
 
 # Commands of a client that reads late, of which one in twenty is an addition.
@@ -42,6 +45,9 @@ FLOODS = 4
 MOST_GROWTH, MOST_SENT = 4 << 20, 32 << 20
 
 HALTS = 48
+
+# How many lines one client sends at once.
+BATCH = 500
 
 
 def at_once(connections: int) -> List[str]:
@@ -68,6 +74,43 @@ def try_thousand(program: Program, folder: str) -> None:
             expect(crowd.last([b"quit\n"] * THOUSAND), [b""] * THOUSAND, "the end of all connections")
         expect(service.wait(), 0, "the status of a service whose sessions ended")
     expect(program.members(file), [Key(0, key) for key in range(most + 1)], "the keys of the file")
+
+
+def try_most_passes(program: Program, folder: str) -> None:
+    """As many passes as there may be, over a device that takes its time: a first addition is on its way to its sync, and all others
+    come meanwhile. They share the next syncs, so all of them are under way at once: of 64 at a time they would take many more."""
+    needs_strace()
+    needs_descriptors(2 * MOST_PASSES)
+    file, log = os.path.join(folder, "most"), os.path.join(folder, "log")
+    program.make(file, MOST_PASSES)
+    slowed = ["strace", "-f", "-qq", "-o", log, "--seccomp-bpf", "-e", "trace=fdatasync", "-e", "inject=fdatasync:delay_enter=300000"]
+    options = ("--buckets", "1024", "--sessions", str(MOST_PASSES), *at_once(MOST_PASSES))
+    with Service(program, file, MOST_PASSES, *options, before=slowed) as service:
+        with Crowd(service.port, MOST_PASSES) as crowd:
+            lines = [f"add {client}\n".encode() for client in range(MOST_PASSES)]
+            expect(crowd.exchange(lines), [b"yes\n"] * MOST_PASSES, "additions on all connections")
+            expect(crowd.last([b"quit\n"] * MOST_PASSES), [b""] * MOST_PASSES, "the end of all connections")
+        expect(service.wait(), 0, "the status of a service whose sessions ended")
+    expect(program.members(file), [Key(0, key) for key in range(MOST_PASSES)], "the keys of the file")
+    with open(log, encoding="ascii", errors="replace") as text:
+        syncs = sum("fdatasync(" in line for line in text)
+    if syncs >= MOST_PASSES // MOST_THREADS:
+        raise Wrong(f"{MOST_PASSES} additions took {syncs} syncs")
+    print(f"         {MOST_PASSES} additions took {syncs} syncs", flush=True)
+
+
+def try_passes(program: Program, folder: str) -> None:
+    """More passes than there are threads are for loops alone, and there is a most of them too."""
+    file = os.path.join(folder, "passes")
+    program.make(file, 4)
+    for words, most in (([], MOST_THREADS), (at_once(2000), MOST_PASSES)):
+        for passes in (0, most + 1, MOST_PASSES + 1):
+            expect(program.run("serve", file, "0", str(passes), *words), not_within("<PASSES>", passes, most), f"{passes} passes {words}")
+        with Service(program, file, most, *words) as service:
+            with Lazyset(service.port) as keys:
+                expect(keys.has(1), False, f"a lookup by a service of {most} passes")
+    expect(program.run("serve", file, "0", "65", *at_once(100), "--loops", "65").status, 2, "the status of more loops than there are threads")
+    expect(program.members(file), [], "the keys of the file")
 
 
 def try_four_loops(program: Program, folder: str) -> None:
@@ -292,6 +335,30 @@ def try_pipelines(program: Program, folder: str) -> None:
     expect(program.members(os.path.join(folder, "pipelines")), [], "the keys of the file")
 
 
+def try_batch(program: Program, folder: str) -> None:
+    """One client sends many lines at once: those of different keys share their syncs, those of one key are carried out in turn, and the replies
+    come in the order of the lines."""
+    needs_strace()
+    file, log = os.path.join(folder, "batch"), os.path.join(folder, "log")
+    program.make(file, BATCH)
+    traced = ["strace", "-f", "-qq", "-o", log, "--seccomp-bpf", "-e", "trace=fdatasync"]
+    with Service(program, file, MOST_THREADS, "--buckets", "64", "--sessions", "1", *at_once(1), before=traced) as service:
+        with Crowd(service.port, 1) as client:
+            texts = ["".join(f"{verb} {key}\n" for key in range(BATCH)) for verb in ("add", "has", "add")]
+            expect(client.exchange([texts[0].encode()]), [b"yes\n" * BATCH], "additions at once")
+            expect(client.exchange([(texts[1] + texts[2]).encode()]), [b"yes\n" * BATCH + b"no\n" * BATCH], "lookups and additions at once")
+            one = "remove 7\nhas 7\nadd 7\nbad\nadd 7\n" * 20
+            expect(client.exchange([one.encode()]), [b"yes\nno\nyes\nbad 2\nno\n" * 20], "lines of one key at once")
+            expect(client.last([b"add 1\nquit\nadd 2\n"]), [b"no\n"], "the end")
+        expect(service.wait(), 0, "the status of a service whose session ended")
+    expect(program.members(file), [Key(0, key) for key in range(BATCH)], "the keys of the file")
+    with open(log, encoding="ascii", errors="replace") as text:
+        syncs = sum("fdatasync(" in line for line in text)
+    # Of the lines of one key each change has two syncs to itself, or one.
+    if syncs >= BATCH // 4 + 4 * 20:
+        raise Wrong(f"{BATCH} additions at once, and {4 * 20} changes of one key, took {syncs} syncs")
+
+
 def try_quit(program: Program, folder: str) -> None:
     """What comes after `quit` in the same piece isn't carried out; nor is it where the piece ends within a line."""
     count = 32
@@ -361,6 +428,8 @@ def try_end(program: Program, folder: str) -> None:
 
 TRIALS = (
     ("a thousand connections", try_thousand),
+    ("the most passes", try_most_passes),
+    ("passes out of range", try_passes),
     ("four of them", try_four_loops),
     ("their words", try_words),
     ("clients that read late", try_late_reader),
@@ -371,6 +440,7 @@ TRIALS = (
     ("clients that leave", try_leavers),
     ("more clients than are served at once", try_more),
     ("sixteen lines at once", try_pipelines),
+    ("one client's batch", try_batch),
     ("what comes after quit", try_quit),
     ("silent clients", try_idle),
     ("the end once a device failed", try_end),

@@ -36,6 +36,11 @@ class Ended(NamedTuple):
     status: int
 
 
+def not_within(name: str, number: int, most: int) -> Ended:
+    """What is said of a number of the command line that isn't 1 to the most."""
+    return Ended(f"error: invalid value '{number}' for '{name}': {number} is not in 1..={most}\n\nFor more information, try '--help'.\n", 2)
+
+
 @dataclass(frozen=True)
 class Program:
     """The built program."""

@@ -11,7 +11,7 @@ from typing import List, Tuple
 from trials import transcripts
 from trials.files import bytes_in, changed, put
 from trials.plain import FORMATS, MOST_BUCKETS, Plain, Survey
-from trials.program import PATIENCE, Ended, Program, Service
+from trials.program import PATIENCE, Ended, Program, Service, not_within
 from trials.report import Skip, expect
 from trials.transcripts import Transcript
 
@@ -108,8 +108,7 @@ def try_other_lists(program: Program, folder: str) -> None:
 
 def no_buckets(buckets: int, most: int) -> Ended:
     """What is said of more lists than there may be, or of none."""
-    why = f"invalid value '{buckets}' for '--buckets <B>': {buckets} is not in 1..={most}"
-    return Ended(f"error: {why}\n\nFor more information, try '--help'.\n", 2)
+    return not_within("--buckets <B>", buckets, most)
 
 
 def try_most_lists(program: Program, folder: str) -> None:

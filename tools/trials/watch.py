@@ -126,12 +126,12 @@ def try_change(program: Program, file: str, change: Callable[[str], None], why: 
 
 
 def try_threads(program: Program, folder: str) -> None:
-    """Where two of four threads can't be made the log says so, and the thread that makes them serves in their place."""
+    """Where two of three further threads can't be made the log says so, and the thread that makes them serves in their place."""
     needs_strace()
     file = os.path.join(folder, "threads")
     program.make(file, 4)
     calls = "clone,clone3"
-    before = ["strace", "-f", "-qq", "-o", os.devnull, "-e", f"trace={calls}", "-e", f"inject={calls}:error=EAGAIN:when=3+"]
+    before = ["strace", "-f", "-qq", "-o", os.devnull, "-e", f"trace={calls}", "-e", f"inject={calls}:error=EAGAIN:when=2+"]
     with logged(program, file, 4, "--sessions", "1", before=before) as service:
         for key in (1, 2, 3, 4):
             expect(service.ask(f"add {key}"), ["yes"], "a reply")
