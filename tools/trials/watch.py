@@ -85,7 +85,8 @@ def try_full(program: Program, folder: str, *options: str) -> None:
         expect(service.ask("add 20", "add 21"), ["full", "full"], "replies")
         expect(service.ask("add 20"), ["full"], "another client's reply")
         expect(service.lines(), [*shares, full], "the log")
-        expect(service.ask("remove 0", "add 20", "add 21"), ["yes", "yes", "full"], "replies once a twentieth was free")
+        expect(service.ask("remove 0", "add 20"), ["yes", "yes"], "replies once a twentieth was free")
+        expect(service.ask("add 21"), ["full"], "a reply after that")
         expect(service.lines(), [*shares, full, full], "the log after it was full again")
 
 
