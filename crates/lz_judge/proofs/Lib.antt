@@ -1,6 +1,6 @@
 pub mod PlaceTables
 pub mod Surveys
-pub mod Passes
+pub mod Readings
 pub mod Lives
 pub mod Texts
 pub mod KeysOutside

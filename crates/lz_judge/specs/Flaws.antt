@@ -78,7 +78,7 @@ IsFlaw h (WrongReply i) =
     (S : Keys) × (c : Command) × (answer : Bool) × IsReached (IsPoint h.points) h.marks i S × IsCalled h.marks i c × IsAnswered h.marks i answer × (reply c (S (key_of c)) ≢ answer)
 IsFlaw h (WrongSet n) = IsWrongSet (IsPoint h.points) h.marks n
 
--- the turn at which the judge looks for a flaw; one pass looks at replies and at sets
+-- the turn at which the judge looks for a flaw; one reading looks at replies and at sets
 abbrev pub flaw_turn : Flaw → ℕ
 flaw_turn (NeverCalled i) = 1
 flaw_turn (ListedTwice i) = 2

@@ -5,7 +5,7 @@ pub mod Limits
 pub mod Renewals
 pub mod Records
 pub mod Flaws
-pub mod Passes
+pub mod Readings
 pub mod Plays
 pub mod Verdicts
 pub mod Ledgers

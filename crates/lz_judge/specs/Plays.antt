@@ -12,7 +12,7 @@ use Rattle.lz_slot.specs.declared.history.Mark.TheVariants.{Stop, Crash, Opened,
 use Rattle.lz_slot.specs.Histories.{IsAnswered, IsBefore, IsCalled, IsRefused, Life, lives}
 use Rattle.lz_judge.specs.Records.{IsLawful, IsMade}
 use Rattle.lz_judge.specs.Flaws.{IsInOrder, IsLifeBefore, IsMadeBefore, IsReached, IsWrongSet, Leads, OrderedChain, opens}
-use Rattle.lz_judge.specs.Passes.{IsAt}
+use Rattle.lz_judge.specs.Readings.{IsAt}
 use Rattle.lz_judge.specs.declared.playing.Listed.{Listed}
 
 -- the set has the keys of S
@@ -69,7 +69,7 @@ pub record IsLife (places : BTreeMap ℕ ℕ) (H : List Mark) (life : BTreeMap �
   pub listed : (p : ℕ) (l : Listed) → tree.get nat_cmp life p ≡ Some l → IsCalled H l.call l.command × IsAt places l.call p
   pub all : (i p : ℕ) → IsMade H i → IsAt places i p → (l : Listed) × (tree.get nat_cmp life p ≡ Some l) × (l.call ≡ i)
 
--- what the passes before have found of the calls of M
+-- what the readings before have found of the calls of M
 pub record IsKnown (places : BTreeMap ℕ ℕ) (answers : BTreeMap ℕ Bool) (M : List Mark) : Type 0 where
   pub lawful : IsLawful M
   pub refused : (i : ℕ) → IsRefused M i → tree.get nat_cmp places i ≡ None

@@ -7,7 +7,7 @@ use Rattle.lz_slot.specs.declared.history.Mark.{Mark}
 use Rattle.lz_slot.specs.Histories.{IsAnswered, IsRefused, count_of}
 use Rattle.lz_judge.specs.declared.history.Point.{Point}
 use Rattle.lz_judge.specs.Records.{IsMade, IsPoint}
-use Rattle.lz_judge.specs.Passes.{IsAt}
+use Rattle.lz_judge.specs.Readings.{IsAt}
 
 -- each call with a point has this one place, no refused call has one, and each answered call has
 pub record AreListed (M : List Mark) (points : List Point) (places : BTreeMap ℕ ℕ) : Type 0 where

@@ -3,7 +3,7 @@ ghost use Rattle.std.specs.Prelude.{◌≡◌, ℕ, OnOk, IfOk, ◌∷◌, [], r
 ghost use Rattle.std.specs.BTreeMap as tree;
 ghost use Rattle.std.specs.Ordering.{nat_cmp};
 ghost use Rattle.lz_slot.specs.declared.history.Mark.{Mark as AMark};
-ghost use Rattle.lz_judge.specs.Passes.{IsCensus, HasPlaces};
+ghost use Rattle.lz_judge.specs.Readings.{IsCensus, HasPlaces};
 ghost use Rattle.lz_judge.specs.declared.history.Point.{Point as APoint};
 
 use crate::history::Point;

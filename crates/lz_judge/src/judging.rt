@@ -4,7 +4,7 @@ ghost use Rattle.lz_slot.specs.Sets.{Keys, members};
 ghost use Rattle.lz_slot.specs.Histories.{AreChain, lives};
 ghost use Rattle.lz_judge.specs.Records.{ArePlaces, IsLawful, IsPoint};
 ghost use Rattle.lz_judge.specs.Flaws.{IsFirstKind, IsFlaw, OrderedChain};
-ghost use Rattle.lz_judge.specs.Passes.{HasPlaces, IsCensus, Ordered};
+ghost use Rattle.lz_judge.specs.Readings.{HasPlaces, IsCensus, Ordered};
 ghost use Rattle.lz_judge.specs.Verdicts.{AreCalled, AreListed};
 ghost use Rattle.lz_judge.specs.declared.flaw.Flaw.{Flaw as AFlaw};
 

@@ -7,7 +7,7 @@ ghost use Rattle.std.specs.BTreeSet.{BTreeSet as TreeSet};
 ghost use Rattle.std.specs.Ordering.{nat_cmp};
 ghost use Rattle.lz_slot.specs.declared.history.Mark.{Mark as AMark};
 ghost use Rattle.lz_judge.specs.declared.history.Point.{Point as APoint};
-ghost use Rattle.lz_judge.specs.Passes.{Strangers, Twice, RefusedOnes, UnlistedOnes};
+ghost use Rattle.lz_judge.specs.Readings.{Strangers, Twice, RefusedOnes, UnlistedOnes};
 
 use crate::history::Point;
 use lz_slot::Mark;

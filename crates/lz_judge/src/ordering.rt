@@ -6,7 +6,7 @@ ghost use Rattle.lz_slot.specs.declared.command.Command.{Command as ACommand};
 ghost use Rattle.lz_slot.specs.declared.history.Mark.{Mark as AMark};
 ghost use Rattle.lz_judge.specs.Limits.{largest_place};
 ghost use Rattle.lz_judge.specs.Records.{IsLawful};
-ghost use Rattle.lz_judge.specs.Passes.{AreLow, Floored, IsAt, Ordered};
+ghost use Rattle.lz_judge.specs.Readings.{AreLow, Floored, IsAt, Ordered};
 
 use crate::listing::lesser;
 use lz_slot::Mark;

@@ -7,7 +7,7 @@ ghost use Rattle.lz_slot.specs.Sets.{Keys, after, key_of, members, reply, Same};
 ghost use Rattle.lz_slot.specs.declared.history.Mark.{Mark as AMark};
 ghost use Rattle.lz_slot.specs.declared.command.Command.{Command as ACommand};
 ghost use Rattle.lz_judge.specs.Flaws.{IsWrongSet, OrderedChain, opens};
-ghost use Rattle.lz_judge.specs.Passes.{IsAt};
+ghost use Rattle.lz_judge.specs.Readings.{IsAt};
 ghost use Rattle.lz_judge.specs.Plays.{Compared, Finds, Finishes, IsKnown, IsLife, IsSet, IsWrong, Played, Plays, Ran, this_life};
 ghost use Rattle.lz_slot.specs.Histories.{lives};
 

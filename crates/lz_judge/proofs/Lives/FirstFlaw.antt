@@ -7,7 +7,7 @@ use Rattle.lz_judge.specs.Records.{IsMade, IsPoint, Record}
 use Rattle.lz_judge.specs.Flaws.{IsFirstKind, IsFlaw, flaw_turn}
 use Rattle.lz_judge.specs.declared.flaw.Flaw.{Flaw}
 use Rattle.lz_judge.specs.declared.flaw.Flaw.TheVariants.{Unlisted, NeverCalled, Misordered, WrongReply, WrongSet, ListedTwice, RefusedListed}
-use Rattle.lz_judge.specs.Passes.{IsAt}
+use Rattle.lz_judge.specs.Readings.{IsAt}
 use Rattle.lz_judge.specs.Plays.{IsKnown}
 use Rattle.lz_judge.specs.Verdicts.{AreCalled, AreListed}
 

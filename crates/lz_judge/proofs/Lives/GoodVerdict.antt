@@ -12,7 +12,7 @@ use Rattle.lz_judge.specs.Records.{IsLawful, IsMade, IsPoint, Record}
 use Rattle.lz_judge.specs.Flaws.{IsFlaw, IsInOrder, IsLifeBefore, IsReached, IsWrongSet, Leads, OrderedChain}
 use Rattle.lz_judge.specs.declared.flaw.Flaw.{Flaw}
 use Rattle.lz_judge.specs.declared.flaw.Flaw.TheVariants.{Unlisted, NeverCalled, Misordered, WrongReply, WrongSet, ListedTwice, RefusedListed}
-use Rattle.lz_judge.specs.Passes.{IsAt, is_made}
+use Rattle.lz_judge.specs.Readings.{IsAt, is_made}
 use Rattle.lz_judge.specs.Plays.{IsKnown, lives_before, this_start}
 use Rattle.lz_judge.specs.Verdicts.{AreCalled, AreListed}
 use Rattle.lz_judge.proofs.Lives.LawfulHistory.{made_more}

@@ -17,7 +17,7 @@ use Rattle.lz_slot.specs.declared.history.Mark.{Mark}
 use Rattle.lz_slot.specs.Histories.{IsAnswered, IsCalled, IsEarlier, IsListed, Runs, count_of}
 use Rattle.lz_slot.proofs.Sets.{after_same}
 use Rattle.lz_judge.specs.Records.{IsMade}
-use Rattle.lz_judge.specs.Passes.{IsAt}
+use Rattle.lz_judge.specs.Readings.{IsAt}
 use Rattle.lz_judge.specs.Plays.{IsLife, Plays}
 use Rattle.lz_judge.specs.declared.playing.Listed.{Listed}
 

@@ -12,7 +12,7 @@ use Rattle.lz_judge.proofs.Lives.CurrentLife.{answered_life, life_made, life_mar
 use Rattle.lz_slot.proofs.Sets.{after_same}
 use Rattle.lz_slot.proofs.Listings.{earlier_append, listed_append, listed_left, listed_right}
 use Rattle.lz_judge.proofs.Lives.PastLife.{made_split, past_before, past_made_all, past_mark}
-use Rattle.lz_judge.proofs.Passes.PassTable.{told_made}
+use Rattle.lz_judge.proofs.Readings.ReadingTable.{told_made}
 
 -- a call has one command
 one_command : (M : List Mark) (i : ℕ) (c d : Command) → IsLawful M → IsCalled M i c → IsCalled M i d → c ≡ d

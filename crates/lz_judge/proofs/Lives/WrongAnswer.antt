@@ -12,7 +12,7 @@ use Rattle.lz_slot.specs.declared.history.Mark.TheVariants.{Call, Answer, Refuse
 use Rattle.lz_slot.specs.Histories.{IsCalled, IsEarlier, IsListed}
 use Rattle.lz_judge.specs.Records.{IsMade}
 use Rattle.lz_judge.specs.Flaws.{IsInOrder, Leads, opens}
-use Rattle.lz_judge.specs.Passes.{IsAt}
+use Rattle.lz_judge.specs.Readings.{IsAt}
 use Rattle.lz_judge.specs.Plays.{Compared, Finds, Follows, IsKnown, IsLife, IsSet, IsWrong, Ran, WrongAt, past_of, this_life}
 use Rattle.lz_judge.specs.declared.playing.Listed.{Listed}
 use Rattle.lz_judge.proofs.Lives.CurrentLife.{life_made, life_mark}

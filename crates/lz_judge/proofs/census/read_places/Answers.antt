@@ -2,8 +2,8 @@ use Rattle.std.proofs.Common.{List, sym, subst, take}
 use Rattle.std.specs.Prelude.{reverse}
 use Rattle.std.proofs.lemmas.List.{take_all}
 use Rattle.lz_judge.specs.declared.history.Point.{Point}
-use Rattle.lz_judge.specs.Passes.{HasPlaces}
-use Rattle.lz_judge.proofs.Passes.NextMark.{newest_at}
+use Rattle.lz_judge.specs.Readings.{HasPlaces}
+use Rattle.lz_judge.proofs.Readings.NextMark.{newest_at}
 use Rattle.lz_judge.proofs.census.read_places.Goals as goal
 
 pub loop-point-preserved : goal.loop-point-preserved

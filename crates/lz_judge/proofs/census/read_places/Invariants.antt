@@ -1,6 +1,6 @@
 use Rattle.std.proofs.Common.{take}
 use Rattle.std.specs.Prelude.{reverse}
-use Rattle.lz_judge.specs.Passes.{HasPlaces}
+use Rattle.lz_judge.specs.Readings.{HasPlaces}
 use Rattle.lz_judge.proofs.census.read_places.Given as goal
 
 abbrev pub invariant-loop-point : goal.invariant-loop-point

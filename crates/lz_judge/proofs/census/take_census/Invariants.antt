@@ -1,6 +1,6 @@
 use Rattle.std.proofs.Common.{take}
 use Rattle.std.specs.Prelude.{reverse}
-use Rattle.lz_judge.specs.Passes.{IsCensus}
+use Rattle.lz_judge.specs.Readings.{IsCensus}
 use Rattle.lz_judge.proofs.census.take_census.Given as goal
 
 abbrev pub invariant-loop-mark : goal.invariant-loop-mark

@@ -3,8 +3,8 @@ use Rattle.std.specs.Prelude.{reverse}
 use Rattle.lz_slot.specs.Sets.{members}
 use Rattle.lz_slot.specs.Histories.{lives}
 use Rattle.lz_judge.specs.Records.{IsPoint}
-use Rattle.lz_judge.specs.Passes.{IsAt, Ordered}
-use Rattle.lz_judge.proofs.Passes.PassTable.{chain_same, known_all, place_point, places_low, wrong_flaw, wrong_set_flaw}
+use Rattle.lz_judge.specs.Readings.{IsAt, Ordered}
+use Rattle.lz_judge.proofs.Readings.ReadingTable.{chain_same, known_all, place_point, places_low, wrong_flaw, wrong_set_flaw}
 use Rattle.lz_judge.proofs.Lives.FirstFlaw.{behind_order, behind_points}
 use Rattle.lz_judge.proofs.Lives.GoodVerdict.{flawless}
 use Rattle.lz_judge.proofs.judging.first_flaw.Goals as goal

@@ -7,7 +7,7 @@ use Rattle.lz_judge.specs.declared.flaw.Flaw.{Flaw}
 use Rattle.lz_judge.specs.declared.history.Point.{Point}
 use Rattle.lz_judge.specs.Records.{ArePlaces, IsLawful, IsPoint, Record}
 use Rattle.lz_judge.specs.Flaws.{IsFlaw, OrderedChain}
-use Rattle.lz_judge.proofs.Passes.PassTable.{ordered_chain}
+use Rattle.lz_judge.proofs.Readings.ReadingTable.{ordered_chain}
 use Rattle.lz_judge.proofs.judging.judge.Goals as goal
 
 pub first_flaw-requires-clause-lawful : goal.first_flaw-requires-clause-lawful

@@ -1,6 +1,6 @@
 use Rattle.std.proofs.Common.{take}
 use Rattle.std.specs.Prelude.{reverse}
-use Rattle.lz_judge.specs.Passes.{Twice}
+use Rattle.lz_judge.specs.Readings.{Twice}
 use Rattle.lz_judge.proofs.listing.listed_twice.Given as goal
 
 abbrev pub invariant-loop-point : goal.invariant-loop-point

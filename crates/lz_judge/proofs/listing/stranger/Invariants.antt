@@ -1,6 +1,6 @@
 use Rattle.std.proofs.Common.{take}
 use Rattle.std.specs.Prelude.{reverse}
-use Rattle.lz_judge.specs.Passes.{Strangers}
+use Rattle.lz_judge.specs.Readings.{Strangers}
 use Rattle.lz_judge.proofs.listing.stranger.Given as goal
 
 abbrev pub invariant-loop-point : goal.invariant-loop-point

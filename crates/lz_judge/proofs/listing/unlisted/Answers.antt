@@ -2,8 +2,8 @@ use Rattle.std.proofs.Common.{List, sym, subst, take}
 use Rattle.std.specs.Prelude.{reverse}
 use Rattle.std.proofs.lemmas.List.{take_all}
 use Rattle.lz_slot.specs.declared.history.Mark.{Mark}
-use Rattle.lz_judge.specs.Passes.{UnlistedOnes}
-use Rattle.lz_judge.proofs.Passes.NextMark.{newest_more}
+use Rattle.lz_judge.specs.Readings.{UnlistedOnes}
+use Rattle.lz_judge.proofs.Readings.NextMark.{newest_more}
 use Rattle.lz_judge.proofs.listing.unlisted.Goals as goal
 
 pub loop-mark-preserved : goal.loop-mark-preserved

@@ -1,6 +1,6 @@
 use Rattle.std.proofs.Common.{take}
 use Rattle.std.specs.Prelude.{reverse}
-use Rattle.lz_judge.specs.Passes.{UnlistedOnes}
+use Rattle.lz_judge.specs.Readings.{UnlistedOnes}
 use Rattle.lz_judge.proofs.listing.unlisted.Given as goal
 
 abbrev pub invariant-loop-mark : goal.invariant-loop-mark

@@ -1,7 +1,7 @@
 use Rattle.std.proofs.Common.{◌∙◌, sym, subst, ◌∷◌}
 use Rattle.lz_slot.specs.declared.history.Mark.{Mark}
-use Rattle.lz_judge.specs.Passes.{UnlistedOnes}
-use Rattle.lz_judge.proofs.Passes.NextMark.{unlisted_listed, unlisted_more, unlisted_other, some_there, none_there}
+use Rattle.lz_judge.specs.Readings.{UnlistedOnes}
+use Rattle.lz_judge.proofs.Readings.NextMark.{unlisted_listed, unlisted_more, unlisted_other, some_there, none_there}
 use Rattle.lz_judge.proofs.listing.with_answered.Goals as goal
 
 pub returns-then-contains_key : goal.returns-then-contains_key

@@ -1,7 +1,7 @@
 use Rattle.std.proofs.Common.{◌∙◌, sym, subst, ◌∷◌}
 use Rattle.lz_slot.specs.declared.history.Mark.{Mark}
-use Rattle.lz_judge.specs.Passes.{RefusedOnes}
-use Rattle.lz_judge.proofs.Passes.NextMark.{refused_unlisted, refused_more, some_there, none_there}
+use Rattle.lz_judge.specs.Readings.{RefusedOnes}
+use Rattle.lz_judge.proofs.Readings.NextMark.{refused_unlisted, refused_more, some_there, none_there}
 use Rattle.lz_judge.proofs.listing.with_refused.Goals as goal
 
 pub returns-then-contains_key : goal.returns-then-contains_key

@@ -2,9 +2,9 @@ use Rattle.std.proofs.Common.{sym, subst, List, take, ◌+◌}
 use Rattle.std.specs.Prelude.{reverse}
 use Rattle.lz_slot.specs.declared.history.Mark.{Mark}
 use Rattle.lz_judge.specs.Records.{IsLawful}
-use Rattle.lz_judge.specs.Passes.{Floored}
+use Rattle.lz_judge.specs.Readings.{Floored}
 use Rattle.lz_judge.proofs.Lives.LawfulHistory.{lawful_so_far}
-use Rattle.lz_judge.proofs.Passes.NextMark.{newest_more}
+use Rattle.lz_judge.proofs.Readings.NextMark.{newest_more}
 use Rattle.lz_judge.proofs.ordering.misordered.Goals as goal
 
 pub loop-mark-init : goal.loop-mark-init

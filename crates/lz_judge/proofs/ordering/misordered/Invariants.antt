@@ -1,6 +1,6 @@
 use Rattle.std.proofs.Common.{take}
 use Rattle.std.specs.Prelude.{reverse}
-use Rattle.lz_judge.specs.Passes.{Floored}
+use Rattle.lz_judge.specs.Readings.{Floored}
 use Rattle.lz_judge.proofs.ordering.misordered.Given as goal
 
 abbrev pub invariant-loop-mark : goal.invariant-loop-mark

@@ -6,7 +6,7 @@ use Rattle.std.proofs.lemmas.Bool.{both_ways}
 use Rattle.lz_slot.specs.Sets.{key_of, reply}
 use Rattle.std.proofs.Common.{◌≡◌, sym, ◌∙◌, Some, None}
 use Rattle.std.proofs.lemmas.Option.{same_Some}
-use Rattle.lz_judge.proofs.Passes.NextMark.{lesser_one, lesser_some}
+use Rattle.lz_judge.proofs.Readings.NextMark.{lesser_one, lesser_some}
 use Rattle.lz_judge.proofs.playing.answer.Goals as goal
 
 pub returns-then-told-reply-clause-plays : goal.returns-then-told-reply-clause-plays

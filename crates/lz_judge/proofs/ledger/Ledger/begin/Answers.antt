@@ -1,6 +1,6 @@
 use Rattle.std.proofs.Common.{◌∙◌, sym}
-use Rattle.lz_judge.proofs.Passes.NextMark.{fresh_if_new, none_there, some_there}
-use Rattle.lz_judge.proofs.Passes.LedgerMark.{ledger_begun, may_begin}
+use Rattle.lz_judge.proofs.Readings.NextMark.{fresh_if_new, none_there, some_there}
+use Rattle.lz_judge.proofs.Readings.LedgerMark.{ledger_begun, may_begin}
 use Rattle.lz_judge.proofs.ledger.Ledger.begin.Goals as goal
 
 pub returns-then-contains_key-clause-refuses : goal.returns-then-contains_key-clause-refuses

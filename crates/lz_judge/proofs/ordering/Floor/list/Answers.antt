@@ -1,6 +1,6 @@
 use Rattle.std.proofs.Common.{inl, inr, arith}
-use Rattle.lz_judge.proofs.Passes.NextMark.{fresh_if_new, not_new}
-use Rattle.lz_judge.proofs.Passes.CallFloor.{floored_fine, floored_bad}
+use Rattle.lz_judge.proofs.Readings.NextMark.{fresh_if_new, not_new}
+use Rattle.lz_judge.proofs.Readings.CallFloor.{floored_fine, floored_bad}
 use Rattle.lz_judge.proofs.ordering.Floor.list.Goals.{then-not-is_new-via-then-not-is_new, then-not-is_new-via-else-not-is_new+then-place-self}
 use Rattle.lz_judge.proofs.ordering.Floor.list.Goals as goal
 

@@ -1,4 +1,4 @@
-use Rattle.lz_judge.proofs.Passes.CallFloor.{floored_none}
+use Rattle.lz_judge.proofs.Readings.CallFloor.{floored_none}
 use Rattle.lz_judge.proofs.ordering.Floor.new.Goals as goal
 
 pub returns : goal.returns

@@ -1,5 +1,5 @@
 use Rattle.std.proofs.Common.{sym}
-use Rattle.lz_judge.proofs.Passes.CallTurn.{played_listed, played_unlisted}
+use Rattle.lz_judge.proofs.Readings.CallTurn.{played_listed, played_unlisted}
 use Rattle.lz_judge.proofs.playing.Play.list.Goals as goal
 
 pub returns-in_ok-insert-clause-played : goal.returns-in_ok-insert-clause-played

@@ -1,5 +1,5 @@
 use Rattle.std.proofs.Common.{refl}
-use Rattle.lz_judge.proofs.Passes.CallTurn.{played_none}
+use Rattle.lz_judge.proofs.Readings.CallTurn.{played_none}
 use Rattle.lz_judge.proofs.Lives.WrongAnswer.{compared_none, ran_none}
 use Rattle.lz_judge.proofs.playing.Play.new.Goals as goal
 

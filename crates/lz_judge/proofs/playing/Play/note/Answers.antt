@@ -8,8 +8,8 @@ use Rattle.lz_slot.specs.declared.history.Mark.TheVariants.{Call, Opened}
 use Rattle.lz_judge.specs.Plays.{Compared, IsKnown, Played, Ran}
 use Rattle.lz_judge.specs.Flaws.{opens}
 use Rattle.lz_judge.specs.declared.playing.Listed.{Listed}
-use Rattle.lz_judge.proofs.Passes.CallTurn.{known_rest, played_opened, played_rest}
-use Rattle.lz_judge.proofs.Passes.NextMark.{on_ok}
+use Rattle.lz_judge.proofs.Readings.CallTurn.{known_rest, played_opened, played_rest}
+use Rattle.lz_judge.proofs.Readings.NextMark.{on_ok}
 use Rattle.lz_judge.proofs.Lives.WrongAnswer.{compared_opened, compared_rest, ran_opened, ran_rest}
 use Rattle.lz_judge.proofs.playing.Play.note.Goals as goal
 

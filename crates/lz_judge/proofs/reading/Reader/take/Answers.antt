@@ -9,7 +9,7 @@ use Rattle.lz_judge.specs.Records.{ArePlaces}
 use Rattle.lz_judge.specs.TextsRead.{MayCome}
 use Rattle.lz_judge.specs.declared.line.Line.{Line}
 use Rattle.lz_judge.specs.declared.line.Line.TheVariants.{Seen, Placed, Other}
-use Rattle.lz_judge.proofs.Passes.NextMark.{if_ok}
+use Rattle.lz_judge.proofs.Readings.NextMark.{if_ok}
 use Rattle.lz_judge.proofs.reading.Reader.take.Goals as goal
 
 pub returns-in-Some-Seen-clause-reads : goal.returns-in-Some-Seen-clause-reads

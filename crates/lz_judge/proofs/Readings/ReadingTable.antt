@@ -15,7 +15,7 @@ use Rattle.lz_judge.specs.Limits.{largest_place}
 use Rattle.lz_judge.specs.Records.{ArePlaces, IsLawful, IsMade, IsPoint, actor_of}
 use Rattle.lz_judge.specs.Flaws.{IsFlaw, IsInOrder, IsWrongSet, OrderedChain}
 use Rattle.lz_judge.specs.declared.flaw.Flaw.TheVariants.{WrongReply}
-use Rattle.lz_judge.specs.Passes.{AreLow, HasPlaces, IsAt, Ordered, answer_of, is_made, place_of}
+use Rattle.lz_judge.specs.Readings.{AreLow, HasPlaces, IsAt, Ordered, answer_of, is_made, place_of}
 use Rattle.lz_judge.specs.Plays.{IsKnown, IsWrong}
 use Rattle.lz_judge.specs.Verdicts.{AreListed}
 use Rattle.lz_judge.proofs.Lives.LawfulHistory.{made_more, open_made}

@@ -13,9 +13,9 @@ use Rattle.lz_slot.specs.declared.history.Mark.{Mark}
 use Rattle.lz_slot.specs.declared.history.Mark.TheVariants.{Call, Answer, Refused, Cut, Stop, Crash, Opened, OpenFailed}
 use Rattle.lz_judge.specs.Records.{IsMade}
 use Rattle.lz_judge.specs.Flaws.{IsMisplaced, IsPast}
-use Rattle.lz_judge.specs.Passes.{Floored, IsAt, Ordered}
+use Rattle.lz_judge.specs.Readings.{Floored, IsAt, Ordered}
 use Rattle.lz_judge.proofs.Lives.LawfulHistory.{made_cases, made_less, made_more}
-use Rattle.lz_judge.proofs.Passes.NextMark.{IsLesser, lesser_one, lesser_some}
+use Rattle.lz_judge.proofs.Readings.NextMark.{IsLesser, lesser_one, lesser_some}
 
 misplaced_more : (M : List Mark) (m : Mark) (i j p q : ℕ) → IsMisplaced M i j p q → IsMisplaced (m ∷ M) i j p q
 misplaced_more M m i j p q (made, why) = (inr made, ⊎_elim (λ same. inl same) (λ (order, le). inr (⊎_elim (λ told. inl (inr told)) (λ past. inr (inr past)) order, le)) why)

@@ -1,4 +1,4 @@
--- What each pass over a history has found when it has come as far as the marks M, or the points.
+-- What each reading of a history has found when it has come as far as the marks M, or the points.
 use Rattle.std.specs.Prelude.{◌≡◌, ◌≢◌, ◌⊎◌, ◌↔◌, ℕ, ◌<◌, ◌≤◌, ◌==◌, Bool, true, false, if◌then◌else◌, List, [], ◌∷◌, map, Option, None, Some}
 use Rattle.std.specs.BTreeMap as tree
 use Rattle.std.specs.BTreeSet as set

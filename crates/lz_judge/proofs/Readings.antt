@@ -1,5 +1,5 @@
 pub mod NextMark
 pub mod CallFloor
 pub mod CallTurn
-pub mod PassTable
+pub mod ReadingTable
 pub mod LedgerMark

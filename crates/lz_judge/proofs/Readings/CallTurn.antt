@@ -17,7 +17,7 @@ use Rattle.lz_slot.specs.declared.history.Mark.TheVariants.{Call, Answer, Refuse
 use Rattle.lz_slot.specs.Histories.{Fits, IsCalled, IsListed, Life, lives}
 use Rattle.lz_judge.specs.Records.{IsMade}
 use Rattle.lz_judge.specs.Flaws.{IsInOrder, OrderedChain}
-use Rattle.lz_judge.specs.Passes.{IsAt}
+use Rattle.lz_judge.specs.Readings.{IsAt}
 use Rattle.lz_judge.specs.Plays.{Finishes, IsKnown, IsLife, IsSet, Played, Plays, lives_before, this_life, this_start}
 use Rattle.lz_judge.specs.declared.playing.Listed.{Listed}
 use Rattle.lz_judge.proofs.Lives.LawfulHistory.{made_cases, made_less, so_far}

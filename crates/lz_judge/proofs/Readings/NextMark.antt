@@ -14,7 +14,7 @@ use Rattle.lz_slot.specs.declared.history.Mark.TheVariants.{Answer, Refused}
 use Rattle.lz_slot.specs.Histories.{IsAnswered, IsRefused}
 use Rattle.lz_judge.specs.declared.history.Point.{Point}
 use Rattle.lz_judge.specs.Records.{IsPoint}
-use Rattle.lz_judge.specs.Passes.{Strangers, RefusedOnes, UnlistedOnes}
+use Rattle.lz_judge.specs.Readings.{Strangers, RefusedOnes, UnlistedOnes}
 
 -- one element more of a list that is read newest first
 pub newest_at : {X : Type 0} (xs : List X) (i : ℕ) (d : X) → i < length xs → reverse (take (i + 1) xs) ≡ get_or xs i d ∷ reverse (take i xs)
