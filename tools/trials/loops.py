@@ -3,6 +3,7 @@
 from __future__ import annotations
 
 import os
+import re
 import socket
 import threading
 import time
@@ -49,9 +50,43 @@ HALTS = 48
 # How many lines one client sends at once.
 BATCH = 500
 
+# How many lookups are made one by one, and how often a service whose places are all taken may look at the system's table for them.
+LOOKUPS, FEW_LOOKS = 300, 10
+
 
 def at_once(connections: int) -> List[str]:
     return ["--connections", str(connections)]
+
+
+def try_full_house(program: Program, folder: str) -> None:
+    """A loop whose places are all taken looks once in a second whether further clients wait, and not at each turn."""
+    needs_strace()
+    file, log = os.path.join(folder, "house"), os.path.join(folder, "looks")
+    program.make(file, 4)
+    traced = ["strace", "-f", "-qq", "-o", log, "-e", "trace=openat,pread64"]
+    with Service(program, file, 1, *at_once(1), before=traced) as service, Lazyset(service.port) as client:
+        began = time.monotonic()
+        replies = [client.has(key) for key in range(LOOKUPS)]
+        seconds = time.monotonic() - began
+    expect(replies, [False] * LOOKUPS, "replies")
+    with open(log, encoding="ascii", errors="replace") as lines:
+        text = lines.read()
+    table = re.findall(r'"/proc/net/tcp", .*\) = (\d+)', text)
+    looks = len(re.findall(rf'pread64\({"".join(table)}, "", ', text))
+    if not 1 <= looks <= FEW_LOOKS + seconds:
+        raise Wrong(f"the table was read to its end {looks} times during {LOOKUPS} lookups in {seconds:.1f} s")
+
+
+def try_lists(program: Program, folder: str) -> None:
+    """Where no buckets are named a loop has as many as slots, or as the file's format allows; threads have one."""
+    for form, slots, wanted in ((2, 5000, 4096), (2, 100, 100), (3, 5000, 5000), (1, 1, 1)):
+        file = os.path.join(folder, f"lists-{form}-{slots}")
+        expect(program.run("make", file, str(slots), "--format", str(form)).status, 0, "the status of a making")
+        for options, buckets in ((at_once(2), wanted), ([], 1), ([*at_once(2), "--buckets", "3"], 3)):
+            with logged(program, file, 2, *options) as service:
+                tail = ", connections 2, loops 1" if "--connections" in options else ""
+                told = [line for line in service.all_lines() if line.startswith("serving: ")]
+                expect(told, [f"serving: slots {slots}, members 0, buckets {buckets}, passes 2{tail}"], "what it serves")
 
 
 def try_thousand(program: Program, folder: str) -> None:
@@ -427,6 +462,8 @@ def try_end(program: Program, folder: str) -> None:
 
 
 TRIALS = (
+    ("all places taken", try_full_house),
+    ("as many buckets as slots", try_lists),
     ("a thousand connections", try_thousand),
     ("the most passes", try_most_passes),
     ("passes out of range", try_passes),

@@ -38,10 +38,14 @@ class Logged:
         self._log = log
         self._file = file
 
-    def lines(self) -> List[str]:
-        """The lines after those of the start, without the file's name."""
+    def all_lines(self) -> List[str]:
+        """The lines, without the file's name."""
         self._log.seek(0)
-        lines = [line.replace(f"{self._file}: ", "").rstrip("\n") for line in self._log]
+        return [line.replace(f"{self._file}: ", "").rstrip("\n") for line in self._log]
+
+    def lines(self) -> List[str]:
+        """Those after the lines of the start."""
+        lines = self.all_lines()
         begins = [line.split(" ")[0].rstrip(":") for line in lines[:3]]
         expect(begins, ["opening", "opened", "serving"], "the log's first words")
         return lines[3:]

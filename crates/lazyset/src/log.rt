@@ -147,7 +147,8 @@ where
         if self.guests.load(Ordering::SeqCst) < self.places.load(Ordering::SeqCst) {
             return;
         }
-        if !self.crowded.may(self.second()) {
+        let second = self.second();
+        if !self.crowded.may(second) {
             return;
         }
         let Some(listener) = self.listener.get() else {
@@ -158,7 +159,7 @@ where
         };
         let places = self.places.load(Ordering::SeqCst);
         match self.around.backlog.at(self.rt.alloc(), address.port()) {
-            Some(0) => self.crowded.again(),
+            Some(0) => self.crowded.again(second),
             Some(waiting) => self.say(
                 Level::Warning,
                 format_args!("all {places} places are taken, {waiting} connections wait"),

@@ -28,8 +28,8 @@ impl Seldom {
         true
     }
 
-    /// It wasn't told after all.
-    pub fn again(&self) {
-        self.next.store(0, Ordering::SeqCst);
+    /// It wasn't told in this second after all, and may be told in the next one.
+    pub fn again(&self, second: u64) {
+        self.next.store(second.saturating_add(1), Ordering::SeqCst);
     }
 }
