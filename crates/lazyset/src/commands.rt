@@ -8,7 +8,7 @@ use crate::control::ask_to_stop;
 use crate::counted::Counted;
 use crate::fault::Fault;
 use crate::files::{
-    StandIns, bytes_of, create, format_on, is_absent, is_same, open, open_source, read_front,
+    StandIns, bytes_of, create, header_on, is_absent, is_same, open, open_source, read_front,
     say_cause, shown, take_away_empty, take_lock,
 };
 use crate::growing::grow;
@@ -18,11 +18,11 @@ use crate::service::{Until, serve};
 use crate::words::words_of;
 use lazyset_command_line::{Request, read, too_many_buckets};
 use lazyset_commands::{
-    MOST_JUDGED, Shown, Status, check_of_on, judge_on, make_keys_on, make_on, rehearse_on,
+    MOST_JUDGED, ServeOptions, Shown, Status, check_of_on, judge_on, make_keys_on, make_on, rehearse_on,
     renew_on, run_on, survey_on,
 };
 use lz_disk::{FileDisk, Lock};
-use lz_slot::Format;
+use lz_slot::{Format, Header};
 use std::fs::File;
 use std::io::Write;
 use std::net::{Net, TcpListener, TcpStream};
@@ -108,13 +108,20 @@ where
         Request::Serve {
             file,
             options,
+            is_spread,
             control,
             until_eof,
         } => {
             let until = Until { control, until_eof };
             // Before anything else is opened, which might get its number.
             let handed = handed(rt);
-            let disk = open_for(rt, file, options.buckets)?;
+            let mut disk = open_for(rt, file, options.buckets)?;
+            let buckets = if is_spread {
+                buckets_for(&mut disk)
+            } else {
+                options.buckets
+            };
+            let options = ServeOptions { buckets, ..options };
             serve(rt, writer, file, disk, options, until, handed)
         }
         Request::Stop { path, within } => ask_to_stop(rt, path, within),
@@ -222,7 +229,7 @@ where
 {
     let mut disk = open(rt, file, Lock::Exclusive)?;
     if buckets > Format::Two.most_buckets()
-        && let Some(format) = format_on(&mut disk)
+        && let Some(Header { format, .. }) = header_on(&mut disk)
         && buckets > format.most_buckets()
     {
         let _ = eprintln!(rt;
@@ -233,6 +240,19 @@ where
     }
     disk.watch();
     Ok(disk)
+}
+
+// As many buckets as the file has slots, or as its format allows. One where its head can't be read: its open refuses it.
+#[tactic(auto, using(crate::proofs::Buckets::buckets_of_format))]
+fn buckets_for(disk: &mut FileDisk) -> usize
+    ensures { (1 ≤ result) × (result ≤ most_buckets) }
+{
+    let Some(header) = header_on(disk) else {
+        return 1;
+    };
+    let most = header.format.most_buckets();
+    let slots = usize::try_from(header.slots).unwrap_or(most);
+    slots.clamp(1, most)
 }
 
 fn run_file<R, W>(rt: &R, writer: &mut W, file: &str, buckets: usize) -> Result<Status, Fault>

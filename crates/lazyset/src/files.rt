@@ -4,7 +4,7 @@ use crate::share::{Share, is_terminal};
 use crate::shown_disk::ShownDisk;
 use crate::source::Source;
 use lz_disk::{Cause, Disk, FileDisk, Lock, LockFault};
-use lz_slot::{Format, read_header};
+use lz_slot::{Header, read_header};
 use std::fs::{File, OpenOptions};
 use std::io::{ErrorKind, Read};
 use std::os::fd::{AsRawFd, RawFd};
@@ -109,10 +109,11 @@ where
     }
     let disk = open_or_create(rt, path, true)?;
     drop(disk);
-    match rt.canonicalize(rt.alloc(), path) {
-        Ok(itself) => open_or_create(rt, itself.as_str(), true),
-        Err(error) => Err(no_file(rt, path, error)),
-    }
+    let itself = match rt.canonicalize(rt.alloc(), path) {
+        Ok(itself) => itself,
+        Err(error) => return Err(no_file(rt, path, error)),
+    };
+    open_or_create(rt, itself.as_str(), true)
 }
 
 /// The disk, of which it is said how much of so many bytes was read or written; where none are named, of those that it has.
@@ -143,15 +144,15 @@ pub fn is_same(one: &FileDisk, other: &FileDisk) -> bool {
     one.identity().is_some() && one.identity() == other.identity()
 }
 
-/// The format of the file on this disk, where its head tells one. What is wrong with another file is told by its open.
-pub fn format_on(disk: &mut FileDisk) -> Option<Format> {
+/// The format and the slots of the file on this disk, where its head tells them. What is wrong with another file is told by its open.
+pub fn header_on(disk: &mut FileDisk) -> Option<Header> {
     let mut head = [0; 16];
     let size = disk.size().ok()?;
     if size < 16 {
         return None;
     }
     disk.read(0, &mut head).ok()?;
-    Some(read_header(&head, size).ok()?.format)
+    read_header(&head, size).ok()
 }
 
 /// Says why this file failed, where that is known.

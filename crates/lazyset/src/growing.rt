@@ -4,10 +4,10 @@ ghost use Rattle.lz_slot.specs.Limits.{last_room};
 ghost use Rattle.lz_slot.specs.Rooms.{last_room_of};
 
 use crate::fault::Fault;
-use crate::files::{bytes_of, format_on, no_file, open, say_cause, shown, take_lock};
+use crate::files::{bytes_of, header_on, no_file, open, say_cause, shown, take_lock};
 use lazyset_commands::{Shelf, Standing, Status, grow_on};
 use lz_disk::{DeviceFault, Disk, FileDisk, Lock};
-use lz_slot::Format;
+use lz_slot::{Format, Header};
 use std::fs::{File, Metadata, OpenOptions};
 use std::io;
 use std::io::{ErrorKind, Write};
@@ -115,8 +115,11 @@ where
 fn roomy_format(disk: &mut FileDisk) -> Format
     ensures { last_room_of result ≡ last_room }
 {
-    match format_on(disk) {
-        Some(Format::Three) => Format::Three,
+    match header_on(disk) {
+        Some(Header {
+            format: Format::Three,
+            ..
+        }) => Format::Three,
         _ => Format::Two,
     }
 }

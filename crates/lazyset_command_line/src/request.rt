@@ -46,6 +46,8 @@ pub enum Request<'a> {
     Serve {
         file: &'a str,
         options: ServeOptions,
+        /// It has as many buckets as the file has slots, or as many as its format allows, in place of those of its options.
+        is_spread: bool,
         /// The path of the socket on which it is asked to stop.
         control: Option<&'a str>,
         /// It stops when standard input ends.
@@ -226,6 +228,7 @@ fn serve<'a>(words: &ArgMatches<'a>) -> Option<Request<'a>>
     Some(Request::Serve {
         file: text(words, "FILE")?,
         options,
+        is_spread: options.loops.is_some() && words.get_str("buckets").is_none(),
         control: text(words, "control"),
         until_eof: words.get_flag("until-eof"),
     })
@@ -247,7 +250,10 @@ fn serve_options(matches: &ArgMatches<'_>) -> Option<ServeOptions>
     ensures loops { IfSome result (λ options. IfSome options.loops (AreWithin options.passes)) }
 {
     let port = u16::try_from(number(matches, "PORT")?).ok()?;
-    let buckets = number_within(matches, "buckets", MOST_BUCKETS)?;
+    let buckets = match matches.get_str("buckets") {
+        Some(_) => number_within(matches, "buckets", MOST_BUCKETS)?,
+        None => 1,
+    };
     let (passes, loops) = match matches.get_str("connections") {
         Some(_) => {
             let passes = number_within(matches, "PASSES", MOST_PASSES)?;

@@ -77,7 +77,7 @@ pub const SHEETS: [Sheet; 10] = [
     Sheet {
         name: "serve",
         about: "Answers the lines of many connections at once, as `run` does",
-        notes: "Prints `listening PORT` when clients can connect, `refused N` as `run` does, or `noport`. Standard error is its log.\n\nIt locks the file: where another process has it, it says `nofile`.\n\nExample: lazyset serve f 7000 8 --buckets 1024 --idle 600\n\nFor thousands of connections: lazyset serve f 7000 1024 --buckets 4096 --connections 5000",
+        notes: "Prints `listening PORT` when clients can connect, `refused N` as `run` does, or `noport`. Standard error is its log.\n\nIt locks the file: where another process has it, it says `nofile`.\n\nExample: lazyset serve f 7000 8 --buckets 1024 --idle 600\n\nFor thousands of connections: lazyset serve f 7000 1024 --connections 5000",
         words: &[
             FILE,
             PORT,
@@ -86,7 +86,7 @@ pub const SHEETS: [Sheet; 10] = [
             LOOPS,
             SESSIONS,
             IDLE,
-            BUCKETS,
+            SERVED_BUCKETS,
             CONTROL,
             UNTIL_EOF,
         ],
@@ -238,6 +238,12 @@ const BUCKETS: Word = Word {
     default: Some("1"),
     beside: Beside::Anything,
     help: "The number of hash buckets, 1 to 4096, or to 1048576 with format 3: choose about the number of members",
+};
+
+const SERVED_BUCKETS: Word = Word {
+    default: None,
+    help: "The number of hash buckets, 1 to 4096, or to 1048576 with format 3: choose about the number of members. Where it isn't given 1, and with --connections as many as the file has slots, or as its format allows",
+    ..BUCKETS
 };
 
 const PORT: Word = Word {
