@@ -97,7 +97,7 @@ where
 
 /// The file at this path, as a disk; it is created where it isn't there, and it has to be a regular one: whatever is written into a
 /// block device, say, is lost there. Where a symbolic link was named it is opened again by its own path: it is the name in the
-/// file's own folder that has to be durable.
+/// file's own folder that has to be durable. Its writes are gathered: nobody reads it before it is made.
 pub fn create<R>(rt: &R, path: &str) -> Result<FileDisk, Fault>
 where
     R: Files<File = File> + Eprint + AllocGlobal,
@@ -113,7 +113,9 @@ where
         Ok(itself) => itself,
         Err(error) => return Err(no_file(rt, path, error)),
     };
-    open_or_create(rt, itself.as_str(), true)
+    let mut disk = open_or_create(rt, itself.as_str(), true)?;
+    disk.gather(rt.alloc());
+    Ok(disk)
 }
 
 /// The disk, of which it is said how much of so many bytes was read or written; where none are named, of those that it has.

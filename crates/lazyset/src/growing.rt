@@ -86,7 +86,8 @@ where
         None => roomy_format(&mut old),
     };
     let beside = format!(in rt.alloc(); "{path}.grow")?;
-    let new = create_beside(rt, beside.as_str(), &facts)?;
+    let mut new = create_beside(rt, beside.as_str(), &facts)?;
+    new.gather(rt.alloc());
     let mut name = Name {
         rt,
         path,
