@@ -7,8 +7,10 @@
 // the load, with more the load leaves too little to a service of one.
 // VERB is add, remove or has; the COUNT keys from FIRST on (a power of two), in a scattered order, are dealt to the connections in turn.
 // An add or a remove takes each key once, has goes round, but for `once`. It ends after SECONDS, or when the keys are used up, and prints how many
-// commands were answered, how many of them changed or found something, and the seconds that it took.
+// commands were answered, how many of them changed or found something, the seconds that it took, and for how many milliseconds a connection waited until
+// all that it had sent at once was answered: half of the times no longer than the first figure, 99 of 100 times no longer than the second.
 #include <arpa/inet.h>
+#include <math.h>
 #include <netinet/tcp.h>
 #include <pthread.h>
 #include <stdio.h>
@@ -19,7 +21,7 @@
 #include <time.h>
 #include <unistd.h>
 
-enum { MOST_CONNECTIONS = 10000, MOST_THREADS = 16, MOST_DEPTH = 64, LINE = 96, PIECE = 4096, MOST_READY = 256, SPARE = 64 };
+enum { MOST_CONNECTIONS = 10000, MOST_THREADS = 16, MOST_DEPTH = 1024, LINE = 96, PIECE = 4096, MOST_READY = 256, SPARE = 64, STEPS = 16, WAITS = 40 * STEPS };
 
 enum verb { ADD, REMOVE, HAS };
 
@@ -42,11 +44,12 @@ struct connection {
     int socket;
     unsigned long place;
     int wanted;
+    double sent_at;
     size_t kept;
     char rest[LINE];
 };
 
-// A thread, and how many of its connections go on.
+// A thread, how many of its connections go on, and how often one waited for so many microseconds, by sixteenths of a doubling.
 struct worker {
     pthread_t thread;
     int index;
@@ -54,6 +57,7 @@ struct worker {
     int running;
     unsigned long answered;
     unsigned long yes;
+    unsigned long waits[WAITS];
     int failed;
 };
 
@@ -162,12 +166,37 @@ static int send_next(struct connection *it) {
         length += (size_t)write_command(lines + length, key_at(it->place));
         it->place += (unsigned long)options.connections;
     }
+    it->sent_at = now();
     return send_all(it->socket, lines, length);
+}
+
+static void note_wait(struct worker *worker, double seconds) {
+    int step = (int)(STEPS * log2(1 + 1e6 * seconds));
+    worker->waits[step < WAITS ? step : WAITS - 1]++;
+}
+
+// The milliseconds that were not exceeded in this part of all waits.
+static double wait_of(const struct worker *workers, double part) {
+    unsigned long sums[WAITS] = {0}, all = 0, sum = 0;
+    int step = 0;
+    for (int i = 0; i < options.threads; i++) {
+        for (int j = 0; j < WAITS; j++) {
+            sums[j] += workers[i].waits[j];
+            all += workers[i].waits[j];
+        }
+    }
+    for (; step < WAITS - 1 && (double)(sum += sums[step]) < part * (double)all; step++) {
+    }
+    return 1e-3 * (exp2((double)(step + 1) / STEPS) - 1);
 }
 
 // Takes what has come on a connection, and goes on with it where all is answered.
 static void go_on(struct worker *worker, struct connection *it) {
-    int failed = take_replies(worker, it) != 0 || (it->wanted == 0 && send_next(it) != 0);
+    int failed = take_replies(worker, it) != 0;
+    if (!failed && it->wanted == 0) {
+        note_wait(worker, now() - it->sent_at);
+        failed = send_next(it) != 0;
+    }
     if (failed || it->wanted == 0) {
         worker->failed |= failed;
         worker->running--;
@@ -263,6 +292,6 @@ int main(int count, char **words) {
         yes += workers[i].yes;
         failed += workers[i].failed;
     }
-    printf("%lu %lu %.6f\n", answered, yes, now() - began);
+    printf("%lu %lu %.6f %.3f %.3f\n", answered, yes, now() - began, wait_of(workers, 0.5), wait_of(workers, 0.99));
     return failed != 0;
 }

@@ -17,9 +17,13 @@ from typing import Iterator, List, NamedTuple, Sequence
 HERE = os.path.dirname(os.path.abspath(__file__))
 
 SLOTS = 65536
+# As many lists as a file of format 2 may have; one of format 3 may have one for each of these slots.
 BUCKETS = 4096
 MOST_THREADS = 64
 MOST_PASSES = 1024
+
+# A loop over a file of format 2, and over how many connections it is measured.
+FEW, FEW_CONNECTIONS = "loop of format 2", 64
 
 # How much longer a sync takes on the slow device, in microseconds, and by what: each call waits before it begins.
 DELAY = 1000
@@ -39,6 +43,9 @@ class Told(NamedTuple):
     answered: int
     yes: int
     seconds: float
+    # For how many milliseconds a connection waited, half of the times and 99 of 100 times at most.
+    half: float = 0
+    most: float = 0
 
     def done(self, verb: str) -> int:
         """How many commands count: of changes those that changed something."""
@@ -59,8 +66,12 @@ class Bench:
 
     def build(self) -> None:
         for name in ("load", "floor"):
-            source = os.path.join(HERE, f"{name}.c")
-            subprocess.run(["cc", "-O2", "-pthread", "-o", self.path(name), source], check=True)
+            self.compile(name, name)
+
+    def compile(self, name: str, source: str, *words: str) -> bool:
+        """Builds a program of a source that lies beside this one, and says whether it could."""
+        built = ["cc", "-O2", "-pthread", "-o", self.path(name), os.path.join(HERE, f"{source}.c"), *words, "-lm"]
+        return subprocess.run(built, check=not words, stderr=subprocess.DEVNULL if words else None).returncode == 0
 
     def has_loops(self) -> bool:
         """Whether the program serves many connections by few threads."""
@@ -92,8 +103,8 @@ def told_by(load: "subprocess.Popen[str]") -> Told:
     told, _ = load.communicate()
     if load.returncode != 0:
         raise SystemExit("the load failed")
-    answered, yes, took = told.split()
-    return Told(int(answered), int(yes), float(took))
+    answered, yes, *times = told.split()
+    return Told(int(answered), int(yes), *map(float, times))
 
 
 def may_have_descriptors() -> None:
@@ -112,22 +123,27 @@ def switches(pid: int) -> int:
 
 
 def serves(target: str, connections: int) -> bool:
-    """Whether a target serves so many connections at once: one with a thread for each has few."""
+    """Whether a target is measured over so many connections at once: one with a thread for each has few."""
+    if target == FEW:
+        return connections == FEW_CONNECTIONS
     return target != "threads" or connections <= MOST_THREADS
 
 
-def service(bench: Bench, target: str, members: int, connections: int, before: Sequence[str] = ()) -> "contextlib.AbstractContextManager[Served]":
-    """The target's service, with so many members, which serves so many connections at once, started behind these words."""
+def service(
+    bench: Bench, target: str, members: int, connections: int, before: Sequence[str] = (), passes: int = 1
+) -> "contextlib.AbstractContextManager[Served]":
+    """The target's service, with so many members, which serves so many connections at once, and so many commands at least, started behind
+    these words."""
     if target == "redis":
         return redis(bench, members, before)
-    passes = min(connections, MOST_PASSES)
-    loop = ["--connections", str(connections), "--loops", str(bench.loops)] if target == "loop" else []
-    return lazyset(bench, SLOTS, members, passes, BUCKETS, loop, before)
+    passes = connections if target == "threads" else min(max(connections, passes), MOST_PASSES)
+    loop = [] if target == "threads" else ["--connections", str(connections), "--loops", str(bench.loops)]
+    return lazyset(bench, SLOTS, members, passes, BUCKETS if target == FEW else SLOTS, loop, before)
 
 
-def write_file(path: str, slots: int, members: int) -> None:
-    """A slot file with the keys below so many, of format 3 where format 2 has no room for its slots."""
-    name = b"LZYSET2" if slots <= SLOTS else b"LZYSET3"
+def write_file(path: str, slots: int, members: int, form: int = 2) -> None:
+    """A slot file of a format, with the keys below so many."""
+    name = b"LZYSET%d" % form
     with open(path, "wb") as file:
         file.write(b"\xa5" + name + slots.to_bytes(8, "big"))
         file.writelines(b"\xa5" + bytes(7) + number.to_bytes(8, "big") for number in range(members))
@@ -141,9 +157,9 @@ def write_file(path: str, slots: int, members: int) -> None:
 def lazyset(
     bench: Bench, slots: int, members: int, passes: int, buckets: int, options: Sequence[str] = (), before: Sequence[str] = ()
 ) -> Iterator[Served]:
-    """A service over a file with so many members."""
+    """A service over a file with so many members, of format 3 where format 2 has no room for its slots or buckets."""
     file = bench.path("f")
-    write_file(file, slots, members)
+    write_file(file, slots, members, 3 if slots > SLOTS or buckets > BUCKETS else 2)
     words = [*before, bench.program, "serve", file, "0", str(passes), "--buckets", str(buckets), *options]
     started = subprocess.Popen(words, stdout=subprocess.PIPE, stderr=subprocess.DEVNULL, text=True, start_new_session=True)
     assert started.stdout is not None
