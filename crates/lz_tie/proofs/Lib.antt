@@ -9,6 +9,8 @@ pub mod Lives
 pub mod AnswerRows
 pub mod OneCallerRows
 pub mod SessionRows
+pub mod KeyByKeyRows
+pub mod LoneClientRows
 pub mod MomentRows
 pub mod Calls
 pub mod Marks

@@ -5,5 +5,10 @@ pub mod LastTurn
 pub mod ReplyRows
 pub mod AnsweredCall
 pub mod FreeSlot
+pub mod OldFiles
+pub mod KeyChanges
+pub mod OneKey
+pub mod KeyByKey
 pub mod OneCaller
 pub mod SeenMore
+pub mod LoneClient

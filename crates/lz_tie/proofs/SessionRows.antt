@@ -40,10 +40,10 @@ steps =
     ∷ load_note 1 (record { word = Head 0; value = 1; at = 4 }) ∷ load_note 1 (record { word = Halt; value = 0; at = 4 })
     ∷ note_by 1 (Played Pin Done) None ∷ note_by 1 (Called (Has 9) Two) None ∷ []
 
-abbrev before : Part
+abbrev pub before : Part
 before = fresh sizes P0 1
 
-abbrev after : Part
+abbrev pub after : Part
 after = record { sizes = sizes; number = 1; pin = 2; begun = P0; known = P0; steps = steps; base = 4; loads = [] }
 
 lawful : Lawful 1 2 P0
@@ -55,7 +55,7 @@ lawful = (
   ),
 )
 
-answers : Answers Two (Has 9) Yes before after
+pub answers : Answers Two (Has 9) Yes before after
 answers = record {
   number = refl;
   new = steps;

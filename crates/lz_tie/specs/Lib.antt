@@ -11,5 +11,7 @@ pub mod RunningSets
 pub mod OwnCalls
 pub mod Moments
 pub mod Sessions
+pub mod KeyByKey
+pub mod LoneClient
 pub mod Lives
 pub mod Held

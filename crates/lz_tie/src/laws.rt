@@ -1,5 +1,7 @@
 //! What follows from the answers that a pass was given. Each function is one law.
 
+ghost use Rattle.lz_tie.specs.KeyByKey.{OneKeyIsPlain, OwnKeysArePlain, PlainCallsAreReplies};
+ghost use Rattle.lz_tie.specs.LoneClient.{InTurnServesKey, LoneClientIsPlain};
 ghost use Rattle.lz_tie.specs.Moments.{AnsweredCallsStay};
 ghost use Rattle.lz_tie.specs.OneCaller.{OneCallerIsPlain};
 ghost use Rattle.lz_tie.specs.Sessions.{MomentsArePlain, SessionIsHeld, SessionIsPlain};
@@ -10,6 +12,33 @@ use lz_disk::Disk;
 /// it has seen after.
 pub fn one_caller_is_plain()
     ensures { OneCallerIsPlain }
+{}
+
+/// In a set of any number of passes each answer is that of a plain set of its key, where no other pass changed the key meanwhile.
+pub fn one_key_is_plain()
+    ensures { OneKeyIsPlain }
+{}
+
+/// In a set of any number of passes the replies to calls about keys that nobody else changes are a plain set's, in the order of the
+/// calls, where those about one key were made one after the other.
+pub fn own_keys_are_plain()
+    ensures { OwnKeysArePlain }
+{}
+
+/// Where each of them is yes or no, they are the replies of that plain set to the list of the commands, and it is the set after them.
+pub fn plain_calls_are_replies()
+    ensures { PlainCallsAreReplies }
+{}
+
+/// Where all of a set's calls that name a key were made one after the other, by whatever passes, nobody else changed it.
+pub fn in_turn_serves_key()
+    ensures { InTurnServesKey }
+{}
+
+/// So the replies to all calls of a set are a plain set's in their order where, for each key, those that name it were made one after the
+/// other: one client may have all others made side by side.
+pub fn lone_client_is_plain()
+    ensures { LoneClientIsPlain }
 {}
 
 /// In a set of one pass the replies to a session are the plain set's: of the set with which the life began, and the one that

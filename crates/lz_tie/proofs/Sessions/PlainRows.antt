@@ -20,15 +20,6 @@ after_told c Yes S = after c S
 after_told c No S = after c S
 after_told c _ S = S
 
-pub after_told_same : (c : Command) (told : Reply) (S T : Keys) → Same S T → Same (after_told c told S) (after_told c told T)
-after_told_same c Yes S T same = after_same c S T same
-after_told_same c No S T same = after_same c S T same
-after_told_same c (Full counts) S T same = same
-after_told_same c Worn S T same = same
-after_told_same c OldFile S T same = same
-after_told_same c Halted S T same = same
-after_told_same c Device S T same = same
-
 -- a call that wasn't cut off leaves that set
 pub row_leaves : (N : ℕ) (c : Command) (told : Reply) (S T : Keys) → cuts_off told ≡ false → PlainRow N c told S T → Same T (after_told c told S)
 row_leaves N (Add k) Yes S T whole row = row.2

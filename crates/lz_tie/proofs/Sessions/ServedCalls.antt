@@ -26,10 +26,6 @@ abbrev pub told_after : AnsweredCalls → List (Command × Option Reply) → Lis
 told_after [] rest = rest
 told_after (call ∷ calls) rest = told_after calls ((call.0, Some call.1) ∷ rest)
 
-pub told_append : (done calls : AnsweredCalls) (rest : List (Command × Option Reply)) → told_after (done ++ calls) rest ≡ told_after calls (told_after done rest)
-told_append [] calls rest = refl
-told_append (call ∷ done) calls rest = told_append done calls ((call.0, Some call.1) ∷ rest)
-
 -- its steps tell them
 pub served_told : (z : Sizes) (F : Format) (calls : AnsweredCalls) (old new : Part) → Served z F calls old new → told (shape_of_sizes z) new.steps ≡ told_after calls (told (shape_of_sizes z) old.steps)
 served_told z F [] old new is = ap (λ (h : Part). told (shape_of_sizes z) h.steps) is

@@ -1,5 +1,5 @@
 -- What is left once a session has ended.
-use Rattle.std.proofs.Common.{◌≡◌, ℕ, List, [], ◌∷◌, sym, ap, ◌∙◌, subst}
+use Rattle.std.proofs.Common.{◌≡◌, ℕ, List, [], sym, ap, ◌∙◌, subst}
 use Rattle.lz_slot.specs.declared.format.Format.{Format}
 use Rattle.lz_slot.specs.Histories.{History, Fits}
 use Rattle.lz_slot.specs.Sets.{Same}
@@ -13,19 +13,13 @@ use Rattle.lz_tie.specs.Marks.{marks_in}
 use Rattle.lz_tie.specs.OneCaller.{keys_in}
 use Rattle.lz_tie.specs.OwnCalls.{told}
 use Rattle.lz_tie.specs.RunningSets.{members_of, Explains}
-use Rattle.lz_tie.specs.Sessions.{AnsweredCalls, PlainRun, NoneCut, CutLast, marks_alone, IsSession, SessionIsPlain, SessionIsHeld}
+use Rattle.lz_tie.specs.Sessions.{AnsweredCalls, PlainRun, NoneCut, marks_alone, IsSession, SessionIsPlain, SessionIsHeld}
 use Rattle.lz_tie.proofs.Sessions.PlainRows.{LeadsTo}
 use Rattle.lz_tie.proofs.Sessions.ServedCalls.{told_after, served_told, plain_served, whole_none, fits_plain, leads_after, plain_to}
 
 -- at first the history leads to the set with which the life began
 pub leads_none : (p : ℕ) (opened : Trace) (old : Part) → old.known ≡ opened → LeadsTo (members_of opened) (marks_alone p []) (keys_in old.known)
 leads_none p opened old known = subst (λ (P : Trace). LeadsTo (members_of opened) (marks_alone p []) (keys_in P)) (sym known) (λ T plain k. sym (plain k))
-
--- none was cut off, so none but the last
-pub cut_last : (calls : AnsweredCalls) → NoneCut calls → CutLast calls
-cut_last [] none = tt
-cut_last (call ∷ []) none = tt
-cut_last (call ∷ next ∷ calls) none = (none.0, cut_last (next ∷ calls) none.1)
 
 module _ (b : BoardId) (F : Format) (ns : List Note) (calls : AnsweredCalls) (before after : Part) (session : IsSession b F ns calls before after) where
   -- the history of the notes

@@ -1,0 +1,94 @@
+-- What is told of keys that nobody else changes is, key by key, what a plain set tells.
+use Rattle.std.proofs.Common.{◌≡◌, inl, inr, ℕ, ◌==◌, if◌then◌else◌, Bool, true, false, List, [], ◌∷◌, ◌++◌, map, refl, sym, ap, ◌∙◌, subst, eq-eqb}
+use Rattle.std.proofs.lemmas.Bool.Decides.{eqb_tells}
+use Rattle.lz_slot.specs.declared.command.Command.{Command}
+use Rattle.lz_slot.specs.declared.format.Format.{Format}
+use Rattle.lz_slot.specs.Sets.{Keys, Same, after, key_of, moved, replies, reply, set_after}
+use Rattle.lz_slot.proofs.Sets.{after_at, after_same, moved_other}
+use Rattle.lz_list.specs.declared.publishing.Publishing.TheVariants.{Linked as linked, Marked as marked}
+use Rattle.lz_list.specs.Traces.{Trace, member}
+use Rattle.lz_machine.specs.declared.event.Reply.{Reply}
+use Rattle.lz_tie.specs.KeyByKey.{AreFor, Untouched, KeyRow, IsKeyAnswer, ServedKey, about, SameBut, PlainCalls, OwnKeysArePlain, plainly, PlainCallsAreReplies}
+use Rattle.lz_tie.specs.Sessions.{AnsweredCalls}
+use Rattle.lz_tie.proofs.Replies.OneKey.{one_key}
+
+leaves : (k : ℕ) (since P : Trace) → AreFor (λ q. ⊥) k since → member k (since ++ P) ≡ member k P
+leaves k [] P none = refl
+leaves k (linked j s q ∷ since) P none = elim (eqb_tells j k) [
+  | inl t ↦ absurd (none.0 t.1)
+  | inr f ↦ ap (λ (d : Bool). if d then true else member k (since ++ P)) f.0 ∙ leaves k since P none.1
+]
+leaves k (marked j s q ∷ since) P none = elim (eqb_tells j k) [
+  | inl t ↦ absurd (none.0 t.1)
+  | inr f ↦ ap (λ (d : Bool). if d then false else member k (since ++ P)) f.0 ∙ leaves k since P none.1
+]
+leaves k (e ∷ since) P none = leaves k since P none
+
+kept : (k : ℕ) (P Q : Trace) → Untouched k P Q → member k Q ≡ member k P
+kept k P Q h = ap (member k) h.goes_on ∙ leaves k h.since P h.all
+
+-- of calls the first names a key or not
+about_first : (k : ℕ) (call : Command × Reply) (calls : AnsweredCalls) (b : Bool) → (key_of call.0 == k) ≡ b → about k (call ∷ calls) ≡ (if b then call ∷ about k calls else about k calls)
+about_first k call calls b is = ap (λ (d : Bool). if d then call ∷ about k calls else about k calls) is
+
+-- the traces P, with R at k
+abbrev with_at : ℕ → Trace → (ℕ → Trace) → ℕ → Trace
+with_at k R P = λ j. if k == j then R else P j
+
+at_it : (k j : ℕ) (R : Trace) (P : ℕ → Trace) → (k == j) ≡ true → with_at k R P j ≡ R
+at_it k j R P is = ap (λ (b : Bool). if b then R else P j) is
+
+at_other : (k j : ℕ) (R : Trace) (P : ℕ → Trace) → (k == j) ≡ false → with_at k R P j ≡ P j
+at_other k j R P is = ap (λ (b : Bool). if b then R else P j) is
+
+pub own_keys : OwnKeysArePlain
+own_keys F [] P Q served = λ k. kept k (P k) (Q k) (served k)
+own_keys F (call ∷ calls) P Q served =
+    let k : ℕ = key_of call.0 in
+    let same : (k == k) ≡ true = eq-eqb k k refl in
+    let here : ServedKey F k (call ∷ about k calls) (P k) (Q k) = subst (λ (l : AnsweredCalls). ServedKey F k l (P k) (Q k)) (about_first k call calls true same) (served k) in
+    let R : Trace = here.1.known in
+    let was : member k here.0.known ≡ member k (P k) = kept k (P k) here.0.known here.2 in
+    let is : member k R ≡ member k (with_at k R P k) = sym (ap (member k) (at_it k k R P same)) in
+    let row : IsKeyAnswer F call.0 call.1 (member k here.0.known) (member k R) = one_key F call.0 call.1 here.0 here.1 here.3 here.4 in
+    let others : SameBut k (λ j. member j (P j)) (λ j. member j (with_at k R P j)) = λ j other. elim (eqb_tells k j) [
+      | inl t ↦ absurd (other (sym t.1))
+      | inr f ↦ ap (member j) (at_other k j R P f.0)
+    ] in
+    let rest : (j : ℕ) → ServedKey F j (about j calls) (with_at k R P j) (Q j) = λ j. elim (eqb_tells k j) [
+      | inl t ↦ subst (λ (T : Trace). ServedKey F j (about j calls) T (Q j)) (sym (at_it k j R P t.0)) (subst (λ (q : ℕ). ServedKey F q (about q calls) R (Q q)) t.1 here.5)
+      | inr f ↦ subst (λ (T : Trace). ServedKey F j (about j calls) T (Q j)) (sym (at_other k j R P f.0)) (subst (λ (l : AnsweredCalls). ServedKey F j l (P j) (Q j)) (about_first j call calls false f.0) (served j))
+    ] in (
+      (λ j. member j (with_at k R P j)),
+      subst (λ (b : Bool). IsKeyAnswer F call.0 call.1 b (member k (with_at k R P k))) was (subst (IsKeyAnswer F call.0 call.1 (member k here.0.known)) is row),
+      others,
+      own_keys F calls (with_at k R P) Q rest,
+    )
+
+-- the set after an answer that is yes or no is the one after its command
+answered : (F : Format) (c : Command) (b : Bool) (S U : Keys) → IsKeyAnswer F c (plainly b) (S (key_of c)) (U (key_of c)) → SameBut (key_of c) S U → (b ≡ reply c (S (key_of c))) × Same U (after c S)
+answered F c b S U h others = (
+  (row b h.row).0,
+  λ j. elim (eqb_tells j (key_of c)) [
+    | inl t ↦ subst (λ (q : ℕ). U q ≡ after c S q) (sym t.1) ((row b h.row).1 ∙ sym (after_at c S (key_of c)))
+    | inr f ↦ others j f.1 ∙ sym (moved_other c j (S j) (λ same. f.1 (sym same))) ∙ sym (after_at c S j)
+  ],
+)
+  where
+    row : (b : Bool) → KeyRow c (plainly b) (S (key_of c)) (U (key_of c)) → (b ≡ reply c (S (key_of c))) × (U (key_of c) ≡ moved (key_of c) c (S (key_of c)))
+    row true r = (sym r.0, r.1)
+    row false r = (sym r.0, r.1)
+
+from_same : (F : Format) (asked : List (Command × Bool)) (S S' T : Keys) → Same S S' → PlainCalls F (map (λ call. (call.0, plainly call.1)) asked) S T
+    → (map (λ call. call.1) asked ≡ replies S' (map (λ call. call.0) asked)) × Same T (set_after S' (map (λ call. call.0) asked))
+from_same F [] S S' T same h = (refl, λ k. h k ∙ same k)
+from_same F (call ∷ asked) S S' T same h =
+    let c : Command = call.0 in
+    let here = answered F c call.1 S h.0 h.1 h.2 in
+    let next : Same h.0 (after c S') = λ j. here.1 j ∙ after_same c S S' same j in
+    let rest = from_same F asked h.0 (after c S') T next h.3 in
+    let told : call.1 ≡ reply c (S' (key_of c)) = here.0 ∙ ap (reply c) (same (key_of c)) in
+    (ap (λ (b : Bool). b ∷ map (λ call. call.1) asked) told ∙ ap (λ (l : List Bool). reply c (S' (key_of c)) ∷ l) rest.0, rest.1)
+
+pub plain_replies : PlainCallsAreReplies
+plain_replies F asked S T h = from_same F asked S S T (λ k. refl) h

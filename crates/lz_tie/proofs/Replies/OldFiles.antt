@@ -1,0 +1,68 @@
+-- An answer tells of an old file exactly where the file can't hold the key of an adding.
+use Rattle.std.proofs.Common.{◌≡◌, ◌⊎◌, ⊎_elim, inl, inr, ℕ, if◌then◌else◌, Bool, true, false, List, [], ◌∷◌, ◌++◌, sym, ap, ◌∙◌}
+use mathlib.Core.Bool.{false≢true}
+use Rattle.std.specs.Prelude.{Option, Some, None}
+use Rattle.std.specs.Cmp.{both_ways}
+use Rattle.std.proofs.lemmas.Option.{none-some}
+use Rattle.lz_slot.specs.declared.command.Command.{Command}
+use Rattle.lz_slot.specs.declared.command.Command.TheVariants.{Add, Remove, Has}
+use Rattle.lz_slot.specs.declared.format.Format.{Format}
+use Rattle.lz_list.specs.Traces.{Trace}
+use Rattle.lz_machine.specs.declared.event.Reply.{Reply}
+use Rattle.lz_machine.specs.declared.event.Reply.TheVariants.{OldFile}
+use Rattle.lz_machine.specs.declared.caller.Progress.{Progress}
+use Rattle.lz_machine.specs.declared.caller.Progress.TheVariants.{Answering}
+use Rattle.lz_machine.specs.Calls.{first_progress}
+use Rattle.lz_machine.specs.Table.{is_old}
+use Rattle.lz_machine.specs.Yards.{Shape}
+use Rattle.lz_board.specs.declared.view.What.{What}
+use Rattle.lz_board.specs.declared.view.What.TheVariants.{Called, Played, Found}
+use Rattle.lz_board.specs.declared.view.Note.{Note}
+use Rattle.lz_board.specs.declared.view.Part.{Part}
+use Rattle.lz_board.specs.Notes.{note_by, place, placed, shape_of_sizes}
+use Rattle.lz_tie.specs.Answers.{Promises, IsWithin, AreWithin, IsOneCall, Answers}
+use Rattle.lz_tie.specs.OneCaller.{tells_old}
+
+-- the answer of a call whose file can't hold its key comes first, and no other does
+abbrev tells_at : Option (Command × Progress) → Bool
+tells_at (Some (c, Answering reply)) = tells_old reply
+tells_at _ = false
+
+module _ (shape : Shape) (p : ℕ) (F : Format) (c : Command) where
+  abbrev called : Note
+  called = note_by p (Called c F) None
+
+  -- a call that began with it has its answer, or has ended
+  abbrev IsToldAt : Option (Command × Progress) → Type 0
+  IsToldAt at = (at ≡ Some (c, Answering OldFile)) ⊎ (at ≡ None)
+
+  told_later : (w : What) (at : Option (Command × Progress)) → IsWithin w → IsToldAt at → IsToldAt (placed shape w at)
+  told_later (Called d format) at within h = absurd within
+  told_later (Found q v) at within h = absurd within
+  told_later (Played e o) at within (inl is) = inr (ap (placed shape (Played e o)) is)
+  told_later (Played e o) at within (inr is) = inr (ap (placed shape (Played e o)) is)
+
+  told_at : (within : List Note) → AreWithin within → is_old F c ≡ true → IsToldAt (place shape (within ++ called ∷ []))
+  told_at [] are old = inl (ap (λ (b : Bool). Some (c, if b then Answering OldFile else first_progress)) old)
+  told_at (n ∷ within) are old = told_later n.what (place shape (within ++ called ∷ [])) are.0 (told_at within are.1 old)
+
+  old_tells : (told : Reply) (new : List Note) → IsOneCall shape p F c told new → is_old F c ≡ true → tells_old told ≡ true
+  old_tells told new one old = ⊎_elim
+      (λ is. ap tells_at (sym one.answers ∙ is))
+      (λ none. absurd (none-some (c, Answering told) (sym none ∙ one.answers)))
+      (told_at one.within one.only old)
+
+-- and it is told of such a key alone
+told_is_old : (shape : Shape) (p : ℕ) (F : Format) (c : Command) (told : Reply) (pin : ℕ) (new : List Note) (P Q : Trace) → Promises shape p F c told pin new P Q → tells_old told ≡ true → is_old F c ≡ true
+told_is_old shape p F (Has k) OldFile pin new P Q h is = h.0
+told_is_old shape p F (Add k) OldFile pin new P Q h is = h.0
+told_is_old shape p F (Remove k) OldFile pin new P Q h is = h.0
+told_is_old shape p F c told pin new P Q h is = absurd (false≢true is)
+
+pub old_is_told : (F : Format) (c : Command) (told : Reply) (before after : Part) → Answers F c told before after → tells_old told ≡ is_old F c
+old_is_told F c told before after answers =
+    let shape = shape_of_sizes before.sizes in
+    let p = before.number in
+    both_ways (tells_old told) (is_old F c)
+    (told_is_old shape p F c told after.pin answers.new before.known after.known answers.promises)
+    (old_tells shape p F c told answers.new answers.one_call)
