@@ -1,5 +1,5 @@
 -- What a run of commands does, by the one pass of a set, and what it leaves of the disk.
-use Rattle.std.specs.Prelude.{◌≡◌, ◌⊎◌, ℕ, ◌≤◌, ◌<◌, Option, Result, Ok, List, [], ◌∷◌, ◌++◌}
+use Rattle.std.specs.Prelude.{◌≡◌, ◌⊎◌, ℕ, ◌≤◌, ◌<◌, false, Option, Result, Ok, List, [], ◌∷◌, ◌++◌}
 use Rattle.std.specs.Io.KnownBytes.{Appends}
 use Rattle.lz_slot.specs.Sets.{Keys}
 use Rattle.lz_slot.specs.Bytes.{Holds}
@@ -43,7 +43,7 @@ pub record ServedSeat (b : BoardId) (first : Device) (F : Format) (status : Stat
   pub done : Pass
   pub ended : Result End SessionFault
   pub status_is : status ≡ session_status ended
-  pub tells : Writes before after (λ written. SessionTells (SeatAnswers b F) input rest begun done written ended)
+  pub tells : Writes before after (λ written. SessionTells (SeatAnswers b F false) input rest begun done written ended)
   pub notes : List Note
   pub left : IsLeft b first notes disk
   pub alone : b.sizes.passes ≡ 1 → TellsAlone b notes (part done)

@@ -26,7 +26,7 @@ module _ (b : BoardId) (F : Format) (given : List Part) (a : Asked) (is : IsAski
 
   -- a first call is made by the pass as it was before
   first_is_made_at_once : a.tries ≡ 0 → is.middle ≡ a.question.before
-  first_is_made_at_once none = subst (λ (n : ℕ). AreAskedAgain b F is.c n a.question.before is.middle) none is.earlier
+  first_is_made_at_once none = subst (λ (n : ℕ). AreAskedAgain b F a.question.earlier is.c n a.question.before is.middle) none is.earlier
 
   -- while a call is yet to begin the pass has moved no further
   waits_outside : a.call ≡ None → a.pass ≡ is.middle
@@ -35,8 +35,8 @@ module _ (b : BoardId) (F : Format) (given : List Part) (a : Asked) (is : IsAski
   -- a set of one pass is asked once
   alone_twice : b.sizes.passes ≡ 1 → a.tries ≡ 1 → ⊥
   alone_twice one twice =
-      let earlier = subst (λ (n : ℕ). AreAskedAgain b F is.c n a.question.before is.middle) twice is.earlier in
-      alone_once b 0 earlier.2.earlier earlier.2.answer one earlier.2.again
+      let earlier = subst (λ (n : ℕ). AreAskedAgain b F a.question.earlier is.c n a.question.before is.middle) twice is.earlier in
+      alone_once b 0 a.question.earlier earlier.2.answer one earlier.2.again
 
 -- a question is no other
 other_request : (old new : Asked) → IsSameQuestion old new → old.question.request ≡ Has 7 → new.question.request ≡ Has 8 → ⊥

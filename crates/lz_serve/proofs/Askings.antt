@@ -59,7 +59,7 @@ module _ (b : BoardId) (F : Format) (given : List Part) where
       pub answered : ((c : Command) (format : Format) (before : Part) → before.sizes ≡ b.sizes → Counts b c format before call (part a.pass) → Answers format c (reply_of answer) before (part new))
           → (b.sizes.passes ≡ 1 → (c : Command) (format : Format) (before : Part) → before.sizes ≡ b.sizes → Counts b c format before call (part a.pass)
           → IsPlainAnswer format b.sizes.slots c (reply_of answer) (keys_in before.known) (keys_in (part new).known))
-          → AskedUpTo b F is.c a.tries a.question.before answer new
+          → AskedUpTo b F a.question.earlier is.c a.tries a.question.before answer new
       answered answers plain = record {
         middle = is.middle;
         before = is.earlier;
@@ -71,23 +71,24 @@ module _ (b : BoardId) (F : Format) (given : List Part) where
       }
 
       -- one more is to begin
-      pub asked_again : (beside : Bool) → AskedUpTo b F is.c a.tries a.question.before answer new → asks_again b a.tries beside answer ≡ true → MayCall b new → IsAsking b F given (record a { pass = new; call = None; tries = a.tries + 1 })
-      asked_again beside upto again may_call = record {
+      pub asked_again : (beside : Bool) → (beside ≡ true → a.question.earlier ≡ true) → AskedUpTo b F a.question.earlier is.c a.tries a.question.before answer new → asks_again b a.tries beside answer ≡ true → MayCall b new
+          → IsAsking b F given (record a { pass = new; call = None; tries = a.tries + 1 })
+      asked_again beside so upto again may_call = record {
         seated = may_call.0;
         c = is.c;
         asked = is.asked;
         middle = new;
-        earlier = one_more upto beside again;
+        earlier = one_more upto beside so again;
         sized = may_call.0.2.sized;
         counts = (refl, may_call);
         calm = is.calm;
       }
 
-  module _ {old : Pass} {request : Request} {reply : Reply} {new : Pass} (seat : SeatAnswers b F old request reply new) where
+  module _ {earlier : Bool} {old : Pass} {request : Request} {reply : Reply} {new : Pass} (seat : SeatAnswers b F earlier old request reply new) where
     -- a pass that replies that the service halted has seen it
     pub saw_halt : reply ≡ Halted → SawHalt new
-    saw_halt halted = saw_now b F old new request reply seat (ap says_halted halted)
+    saw_halt halted = saw_now b F earlier old new request reply seat (ap says_halted halted)
 
     -- and else stays calm
     pub is_calm : MayCall b new → IsCalmAfter given old → reply ≢ Halted → IsCalmAfter given new
-    is_calm may_call calm other = λ all. stays_calm b F old new request reply seat may_call.0.2.sized (quiet reply other) (calm all)
+    is_calm may_call calm other = λ all. stays_calm b F earlier old new request reply seat may_call.0.2.sized (quiet reply other) (calm all)

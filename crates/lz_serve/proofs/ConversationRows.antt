@@ -28,7 +28,7 @@ items = Asks (Add 1) ∷ Faulty NoNumber ∷ []
 
 -- the request was granted this reply, and nothing else was
 abbrev get : Pass → Reply → Grant
-get pass reply = record { question = record { connection = 1; line = 1; request = Add 1; before = pass }; reply = reply; after = pass }
+get pass reply = record { question = record { connection = 1; line = 1; request = Add 1; before = pass; earlier = false }; reply = reply; after = pass }
 
 abbrev gets : Pass → Reply → List Grant
 gets pass reply = get pass reply ∷ []
@@ -185,7 +185,7 @@ not_both_by_one p at =
 
 -- the reply to a later line of the connection
 abbrev late : Pass → Grant
-late p = record { question = record { connection = 1; line = 2; request = Add 1; before = p }; reply = Yes; after = p }
+late p = record { question = record { connection = 1; line = 2; request = Add 1; before = p; earlier = false }; reply = Yes; after = p }
 
 abbrev first_line : List Grant → ℕ
 first_line [] = 0

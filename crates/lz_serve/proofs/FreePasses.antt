@@ -14,14 +14,14 @@ use Rattle.lz_serve.proofs.Seats.{saw_before, saw_now, stays_calm}
 module _ (b : BoardId) (F : Format) (given back : Pass) (g : Grant) (is : IsGrant b F g) (from : g.question.before ≡ given) (to : g.after ≡ back) where
   -- it has seen the halt, if it had
   pub still_saw : SawHalt given → SawHalt back
-  still_saw seen = subst SawHalt to (saw_before b F g.question.before g.after g.question.request g.reply is (subst SawHalt (sym from) seen))
+  still_saw seen = subst SawHalt to (saw_before b F g.question.earlier g.question.before g.after g.question.request g.reply is (subst SawHalt (sym from) seen))
 
   -- or if it was told so
   pub saw_so : says_halted g.reply ≡ true → SawHalt back
-  saw_so says = subst SawHalt to (saw_now b F g.question.before g.after g.question.request g.reply is says)
+  saw_so says = subst SawHalt to (saw_now b F g.question.earlier g.question.before g.after g.question.request g.reply is says)
 
   -- and else it is as calm as it was
   pub still_calm : (parts : List Part) → MayCall b back → IsCalmAfter parts given → says_halted g.reply ≡ false → IsCalmAfter parts back
   still_calm parts may_call calm quiet =
       let there = subst (MayCall b) (sym to) may_call in
-      subst (IsCalmAfter parts) to (λ all. stays_calm b F g.question.before g.after g.question.request g.reply is there.0.2.sized quiet (subst (λ (p : Pass). IsCalm (part p)) (sym from) (calm all)))
+      subst (IsCalmAfter parts) to (λ all. stays_calm b F g.question.earlier g.question.before g.after g.question.request g.reply is there.0.2.sized quiet (subst (λ (p : Pass). IsCalm (part p)) (sym from) (calm all)))

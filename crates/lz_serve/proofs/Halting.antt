@@ -45,7 +45,7 @@ answer_word F c (Err fault.Halted) before after told answers = halted_word F c b
 answer_word F c (Err fault.Device) before after told answers = device_word F c before after answers
 
 module _ (b : BoardId) (F : Format) where
-  items_halt : (items : List Item) (replies : List Reply) (old new : Pass) → Serves (SeatAnswers b F) old items replies new → end_of items replies ≡ ends.Halted → halt_word (part new).known ≡ 1
+  items_halt : (items : List Item) (replies : List Reply) (old new : Pass) → Serves (SeatAnswers b F false) old items replies new → end_of items replies ≡ ends.Halted → halt_word (part new).known ≡ 1
   items_halt [] [] old new served halts = absurd (cc)
   items_halt [] (reply ∷ replies) old new served halts = absurd served
   items_halt (Faulty bad ∷ items) replies old new served halts = items_halt items replies old new served halts
@@ -56,7 +56,7 @@ module _ (b : BoardId) (F : Format) where
   items_halt (Asks request ∷ items) (reply ∷ replies) old new served halts = items_halt items replies served.0 new served.2 halts
 
   -- so has the pass at the end of a session that halted
-  pub session_halts : (r : Result End SessionFault) (input after : Option (List ℕ)) (old new : Pass) (written : List ℕ) → SessionTells (SeatAnswers b F) input after old new written r
+  pub session_halts : (r : Result End SessionFault) (input after : Option (List ℕ)) (old new : Pass) (written : List ℕ) → SessionTells (SeatAnswers b F false) input after old new written r
       → r ≡ Ok ends.Halted → halt_word (part new).known ≡ 1
   session_halts (Ok ended) input after old new written tells is =
       let told = tells.answered in

@@ -39,41 +39,45 @@ never_full F before after (Err fault.OldFile) full answers = absurd (cc)
 never_full F before after (Err fault.Halted) full answers = absurd (cc)
 never_full F before after (Err fault.Device) full answers = absurd (cc)
 
-module _ (b : BoardId) (F : Format) (old new : Pass) where
+module _ (b : BoardId) (F : Format) (earlier : Bool) (old new : Pass) where
   -- in a set of one pass no key is told as a member that is none
-  not_a_member : b.sizes.passes ≡ 1 → keys_in (part old).known 7 ≡ false → SeatAnswers b F old (Has 7) Yes new → ⊥
+  not_a_member : b.sizes.passes ≡ 1 → keys_in (part old).known 7 ≡ false → SeatAnswers b F earlier old (Has 7) Yes new → ⊥
   not_a_member one none s =
-      let plain = (only_call b F old new (Has 7) Yes s one).plain one in
+      let plain = (only_call b F earlier old new (Has 7) Yes s one).plain one in
       let has : s.c ≡ command.Has 7 = let asked = s.asked in cc in
       let told = subst (λ (r : Given). IsPlainAnswer F b.sizes.slots s.c r (keys_in (part old).known) (keys_in (part new).known)) (yes_given s.answer s.told) plain in
       let is = subst (λ (c : Command). IsPlainAnswer F b.sizes.slots c given.Yes (keys_in (part old).known) (keys_in (part new).known)) has told in
       true≢false (sym is.row.0 ∙ none)
 
   -- the call is for the command that was asked, and no other
-  other_command : (reply : Reply) (s : SeatAnswers b F old (Has 7) reply new) → s.c ≡ command.Remove 7 → ⊥
+  other_command : (reply : Reply) (s : SeatAnswers b F earlier old (Has 7) reply new) → s.c ≡ command.Remove 7 → ⊥
   other_command reply s other = let asked = s.asked in absurd (cc)
 
   -- with two passes `full` isn't told at once while three slots wait
-  full_while_slots_wait : b.sizes.passes ≡ 2 → (s : SeatAnswers b F old (Add 8) Full new) → s.tries ≡ 0 → s.answer ≡ Err (fault.Full (record { free = 0; taken = 5; limbo = 3 })) → ⊥
+  full_while_slots_wait : b.sizes.passes ≡ 2 → (s : SeatAnswers b F earlier old (Add 8) Full new) → s.tries ≡ 0 → s.answer ≡ Err (fault.Full (record { free = 0; taken = 5; limbo = 3 })) → ⊥
   full_while_slots_wait two s none full =
       let final = subst (λ (a : Result Bool Fault). asks_again b 0 false a ≡ false) full (subst (λ (n : ℕ). asks_again b n false s.answer ≡ false) none s.final) in
       true≢false (sym (ap (λ (n : ℕ). not (n == 1)) two) ∙ final)
 
   -- a second call isn't made after `yes`
-  again_after_yes : (s : IsAskedAgain b F (command.Add 8) 0 old new) → s.answer ≡ Ok true → ⊥
-  again_after_yes s is = true≢false (subst (λ (a : Result Bool Fault). true ≡ asks_again b 0 s.earlier a) is (sym s.again))
+  again_after_yes : (s : IsAskedAgain b F earlier (command.Add 8) 0 old new) → s.answer ≡ Ok true → ⊥
+  again_after_yes s is = true≢false (subst (λ (a : Result Bool Fault). true ≡ asks_again b 0 earlier a) is (sym s.again))
 
   -- nor is one in a set of one pass
-  alone_twice : b.sizes.passes ≡ 1 → IsAskedAgain b F (command.Add 8) 0 old new → ⊥
-  alone_twice one s = alone_once b 0 s.earlier s.answer one s.again
+  alone_twice : b.sizes.passes ≡ 1 → IsAskedAgain b F earlier (command.Add 8) 0 old new → ⊥
+  alone_twice one s = alone_once b 0 earlier s.answer one s.again
 
   -- nor is a lookup made twice
-  has_twice : IsAskedAgain b F (command.Has 7) 0 old new → ⊥
-  has_twice s = never_full F (part old) (part new) s.answer (told_full b 0 s.earlier s.answer s.again) s.answered.call
+  has_twice : IsAskedAgain b F earlier (command.Has 7) 0 old new → ⊥
+  has_twice s = never_full F (part old) (part new) s.answer (told_full b 0 earlier s.answer s.again) s.answered.call
+
+  -- nor is one while no slot waits, where each earlier line was answered
+  again_where_no_slot_waits : (s : IsAskedAgain b F false (command.Add 8) 0 old new) → s.answer ≡ Err (fault.Full (record { free = 0; taken = 8; limbo = 0 })) → ⊥
+  again_where_no_slot_waits s is = true≢false (subst (λ (a : Result Bool Fault). true ≡ asks_again b 0 false a) is (sym s.again))
 
   -- nor are more than a thousand made after the first
-  many_more : AreAskedAgain b F (command.Add 8) 1_001 old new → ⊥
-  many_more (middle, before, last) = true≢false (sym last.again ∙ told_at_last b last.earlier last.answer)
+  many_more : AreAskedAgain b F earlier (command.Add 8) 1_001 old new → ⊥
+  many_more (middle, before, last) = true≢false (sym last.again ∙ told_at_last b earlier last.answer)
 
 -- with three passes one more call is made while a slot waits, up to the last, and none where all slots have members
 module _ (b : BoardId) (three : b.sizes.passes ≡ 3) where

@@ -75,6 +75,21 @@ unasked b tries earlier (Err fault.OldFile) final = refl
 unasked b tries earlier (Err fault.Halted) final = refl
 unasked b tries earlier (Err fault.Device) final = refl
 
+more_beside : (x y h g z : Bool) → (h ≡ true → g ≡ true) → (x && (y || h) && z) ≡ true → (x && (y || g) && z) ≡ true
+more_beside true true h g z so is = is
+more_beside true false true g z so is = subst (λ (w : Bool). (w && z) ≡ true) (sym (so refl)) is
+more_beside true false false g z so is = absurd (true≢false (sym is))
+more_beside false y h g z so is = is
+
+-- where one is made, one is with an earlier line that wasn't answered wherever that one was so
+still_asked : (b : BoardId) (tries : ℕ) (earlier beside : Bool) (answer : Result Bool Fault) → (earlier ≡ true → beside ≡ true) → asks_again b tries earlier answer ≡ true → asks_again b tries beside answer ≡ true
+still_asked b tries earlier beside (Ok is) so again = again
+still_asked b tries earlier beside (Err (fault.Full counts)) so again = more_beside (nat_lt tries most_tries) (not (counts.limbo == 0)) earlier beside (not (b.sizes.passes == 1)) so again
+still_asked b tries earlier beside (Err fault.Worn) so again = again
+still_asked b tries earlier beside (Err fault.OldFile) so again = again
+still_asked b tries earlier beside (Err fault.Halted) so again = again
+still_asked b tries earlier beside (Err fault.Device) so again = again
+
 -- a set of one pass is asked once
 pub alone_once : (b : BoardId) (tries : ℕ) (earlier : Bool) (answer : Result Bool Fault) → b.sizes.passes ≡ 1 → asks_again b tries earlier answer ≡ true → ⊥
 alone_once b tries earlier (Ok is) one again = true≢false (sym again)
@@ -84,35 +99,36 @@ alone_once b tries earlier (Err fault.OldFile) one again = true≢false (sym aga
 alone_once b tries earlier (Err fault.Halted) one again = true≢false (sym again)
 alone_once b tries earlier (Err fault.Device) one again = true≢false (sym again)
 
-module _ (b : BoardId) (F : Format) (c : Command) where
+module _ (b : BoardId) (F : Format) (beside : Bool) (c : Command) where
   -- what each call keeps, after which one more is made, all of them keep
-  all_keep : (P : Pass → Type 0) → ((tries : ℕ) (earlier : Bool) (answer : Result Bool Fault) (p q : Pass) → IsCallAnswered b F c answer p q → asks_again b tries earlier answer ≡ true → P p → P q)
-      → (tries : ℕ) (old new : Pass) → AreAskedAgain b F c tries old new → P old → P new
+  all_keep : (P : Pass → Type 0) → ((tries : ℕ) (answer : Result Bool Fault) (p q : Pass) → IsCallAnswered b F c answer p q → asks_again b tries beside answer ≡ true → P p → P q)
+      → (tries : ℕ) (old new : Pass) → AreAskedAgain b F beside c tries old new → P old → P new
   all_keep P each zero old new same holds = subst P (sym same) holds
-  all_keep P each (suc n) old new (middle, before, last) holds = each n last.earlier last.answer middle new last.answered last.again (all_keep P each n old middle before holds)
+  all_keep P each (suc n) old new (middle, before, last) holds = each n last.answer middle new last.answered last.again (all_keep P each n old middle before holds)
 
-  none_alone : (tries : ℕ) (old new : Pass) → b.sizes.passes ≡ 1 → AreAskedAgain b F c tries old new → new ≡ old
+  none_alone : (tries : ℕ) (old new : Pass) → b.sizes.passes ≡ 1 → AreAskedAgain b F beside c tries old new → new ≡ old
   none_alone zero old new one same = same
-  none_alone (suc n) old new one (middle, before, last) = absurd (alone_once b n last.earlier last.answer one last.again)
+  none_alone (suc n) old new one (middle, before, last) = absurd (alone_once b n beside last.answer one last.again)
 
 -- Up to now so many calls were made for this command after its first one, and the last of them all was answered so.
-pub record AskedUpTo (b : BoardId) (F : Format) (c : Command) (tries : ℕ) (old : Pass) (answer : Result Bool Fault) (new : Pass) : Type 0 where
+pub record AskedUpTo (b : BoardId) (F : Format) (beside : Bool) (c : Command) (tries : ℕ) (old : Pass) (answer : Result Bool Fault) (new : Pass) : Type 0 where
   pub middle : Pass
-  pub before : AreAskedAgain b F c tries old middle
+  pub before : AreAskedAgain b F beside c tries old middle
   pub last : IsCallAnswered b F c answer middle new
 
-module _ {b : BoardId} {F : Format} {c : Command} {tries : ℕ} {old : Pass} {answer : Result Bool Fault} {new : Pass} (upto : AskedUpTo b F c tries old answer new) where
-  pub one_more : (earlier : Bool) → asks_again b tries earlier answer ≡ true → AreAskedAgain b F c (tries + 1) old new
-  one_more earlier again =
+module _ {b : BoardId} {F : Format} {beside : Bool} {c : Command} {tries : ℕ} {old : Pass} {answer : Result Bool Fault} {new : Pass} (upto : AskedUpTo b F beside c tries old answer new) where
+  pub one_more : (earlier : Bool) → (earlier ≡ true → beside ≡ true) → asks_again b tries earlier answer ≡ true → AreAskedAgain b F beside c (tries + 1) old new
+  one_more earlier so again =
       let next : suc tries ≡ tries + 1 = omega arith in
-      subst (λ (n : ℕ). AreAskedAgain b F c n old new) next (upto.middle, upto.before, record { answer = answer; answered = upto.last; earlier = earlier; again = again })
+      subst (λ (n : ℕ). AreAskedAgain b F beside c n old new) next (upto.middle, upto.before, record { answer = answer; answered = upto.last; again = still_asked b tries earlier beside answer so again })
 
   -- one more is made
-  pub asked_more : (earlier : Bool) {next : Result Bool Fault} {newest : Pass} → asks_again b tries earlier answer ≡ true → IsCallAnswered b F c next new newest → AskedUpTo b F c (tries + 1) old next newest
-  asked_more earlier {next} {newest} again last = record { middle = new; before = one_more earlier again; last = last }
+  pub asked_more : (earlier : Bool) {next : Result Bool Fault} {newest : Pass} → (earlier ≡ true → beside ≡ true) → asks_again b tries earlier answer ≡ true → IsCallAnswered b F c next new newest
+      → AskedUpTo b F beside c (tries + 1) old next newest
+  asked_more earlier {next} {newest} so again last = record { middle = new; before = one_more earlier so again; last = last }
 
   -- or the answer is told
-  pub seat_told : {request : Request} {r : Reply} (earlier : Bool) → command_of request ≡ Some c → asks_again b tries earlier answer ≡ false → r ≡ client_reply answer → SeatAnswers b F old request r new
+  pub seat_told : {request : Request} {r : Reply} (earlier : Bool) → command_of request ≡ Some c → asks_again b tries earlier answer ≡ false → r ≡ client_reply answer → SeatAnswers b F beside old request r new
   seat_told earlier asked final told = record { c = c; asked = asked; tries = tries; middle = upto.middle; before = upto.before; answer = answer; last = upto.last; final = unasked b tries earlier answer final; told = told }
 
 -- the last call that may be made is
@@ -124,14 +140,14 @@ told_at_last b earlier (Err fault.OldFile) = refl
 told_at_last b earlier (Err fault.Halted) = refl
 told_at_last b earlier (Err fault.Device) = refl
 
-module _ (b : BoardId) (F : Format) (old new : Pass) (request : Request) (r : Reply) (answers : SeatAnswers b F old request r new) where
+module _ (b : BoardId) (F : Format) (beside : Bool) (old new : Pass) (request : Request) (r : Reply) (answers : SeatAnswers b F beside old request r new) where
   -- in a set of one pass there was no other call
   pub only_call : b.sizes.passes ≡ 1 → IsCallAnswered b F answers.c answers.answer old new
-  only_call one = subst (λ (p : Pass). IsCallAnswered b F answers.c answers.answer p new) (none_alone b F answers.c answers.tries old answers.middle one answers.before) answers.last
+  only_call one = subst (λ (p : Pass). IsCallAnswered b F answers.c answers.answer p new) (none_alone b F beside answers.c answers.tries old answers.middle one answers.before) answers.last
 
   -- a pass that has seen the halt still has after its answer
   pub saw_before : halt_word (part old).known ≡ 1 → halt_word (part new).known ≡ 1
-  saw_before seen = saw_more answers.answer answers.middle new answers.last (all_keep b F answers.c (λ p. halt_word (part p).known ≡ 1) (λ tries earlier answer p q is again. saw_more answer p q is) answers.tries old answers.middle answers.before seen)
+  saw_before seen = saw_more answers.answer answers.middle new answers.last (all_keep b F beside answers.c (λ p. halt_word (part p).known ≡ 1) (λ tries answer p q is again. saw_more answer p q is) answers.tries old answers.middle answers.before seen)
     where
       saw_more : (answer : Result Bool Fault) (p q : Pass) → IsCallAnswered b F answers.c answer p q → halt_word (part p).known ≡ 1 → halt_word (part q).known ≡ 1
       saw_more answer p q is = halt_since (part p).known (part q).known (seen_more F answers.c (reply_of answer) (part p) (part q) is.call)
@@ -148,13 +164,13 @@ module _ (b : BoardId) (F : Format) (old new : Pass) (request : Request) (r : Re
   pub stays_calm : (part new).sizes ≡ b.sizes → says_halted r ≡ false → IsCalm (part old) → IsCalm (part new)
   stays_calm sized quiet calm =
       calm_after b F answers.c answers.answer answers.middle new answers.last sized (subst (λ (s : Reply). says_halted s ≡ false) answers.told quiet)
-      (all_keep b F answers.c (λ p. (part p).sizes ≡ b.sizes → IsCalm (part p)) still answers.tries old answers.middle answers.before (λ _. calm) answers.last.sized)
+      (all_keep b F beside answers.c (λ p. (part p).sizes ≡ b.sizes → IsCalm (part p)) still answers.tries old answers.middle answers.before (λ _. calm) answers.last.sized)
     where
-      still : (tries : ℕ) (earlier : Bool) (answer : Result Bool Fault) (p q : Pass) → IsCallAnswered b F answers.c answer p q → asks_again b tries earlier answer ≡ true → ((part p).sizes ≡ b.sizes → IsCalm (part p)) → (part q).sizes ≡ b.sizes → IsCalm (part q)
-      still tries earlier answer p q is again was sized = calm_after b F answers.c answer p q is sized (ap says_halted (told_full b tries earlier answer again)) (was is.sized)
+      still : (tries : ℕ) (answer : Result Bool Fault) (p q : Pass) → IsCallAnswered b F answers.c answer p q → asks_again b tries beside answer ≡ true → ((part p).sizes ≡ b.sizes → IsCalm (part p)) → (part q).sizes ≡ b.sizes → IsCalm (part q)
+      still tries answer p q is again was sized = calm_after b F answers.c answer p q is sized (ap says_halted (told_full b tries beside answer again)) (was is.sized)
 
 module _ {X : Type 0} (pass_of : X → Pass) (b : BoardId) (F : Format) where
   -- the session of a seat is one of its pass
   pub seat_session : (input after : Option (List ℕ)) (old new : X) (p q : Pass) (r : Result End SessionFault) (written : List ℕ) → pass_of old ≡ p → pass_of new ≡ q
-      → SessionTells (λ o request reply n. SeatAnswers b F (pass_of o) request reply (pass_of n)) input after old new written r → SessionTells (SeatAnswers b F) input after p q written r
-  seat_session = known_session pass_of (λ o request reply n. SeatAnswers b F (pass_of o) request reply (pass_of n)) (SeatAnswers b F) (λ old request reply new so. so)
+      → SessionTells (λ o request reply n. SeatAnswers b F false (pass_of o) request reply (pass_of n)) input after old new written r → SessionTells (SeatAnswers b F false) input after p q written r
+  seat_session = known_session pass_of (λ o request reply n. SeatAnswers b F false (pass_of o) request reply (pass_of n)) (SeatAnswers b F false) (λ old request reply new so. so)

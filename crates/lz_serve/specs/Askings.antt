@@ -31,7 +31,7 @@ pub record IsAsking (b : BoardId) (F : Format) (given : List Part) (a : Asked) :
   pub c : Command
   pub asked : command_of a.question.request ≡ Some c
   pub middle : Pass
-  pub earlier : AreAskedAgain b F c a.tries a.question.before middle
+  pub earlier : AreAskedAgain b F a.question.earlier c a.tries a.question.before middle
   pub sized : (part middle).sizes ≡ b.sizes
   pub counts : IsCounting b F c middle a.call a.pass
   pub calm : IsCalmAfter given a.question.before

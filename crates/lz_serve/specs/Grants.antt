@@ -1,5 +1,5 @@
 -- Questions that are put to passes, and the replies that these grant.
-use Rattle.std.specs.Prelude.{◌≡◌, ℕ, List, [], ◌∷◌, ◌++◌}
+use Rattle.std.specs.Prelude.{◌≡◌, ℕ, Bool, List, [], ◌∷◌, ◌++◌}
 use Rattle.lz_slot.specs.declared.format.Format.{Format}
 use Rattle.lz_proto.specs.declared.request.Request.{Request}
 use Rattle.lz_proto.specs.declared.reply.Reply.{Reply}
@@ -7,12 +7,14 @@ use Rattle.lz_board.specs.declared.pass.Pass.{Pass}
 use Rattle.lz_board.specs.Seats.{BoardId}
 use Rattle.lz_serve.specs.Replies.{SeatAnswers}
 
--- A request as it was put: the numbers of its connection and of the line there, and the pass that is to answer as it was then.
+-- A request as it was put: the numbers of its connection and of the line there, the pass that is to answer as it was then, and whether an
+-- earlier line of its connection wasn't answered then.
 pub record Posed : Type 0 where
   pub connection : ℕ
   pub line : ℕ
   pub request : Request
   pub before : Pass
+  pub earlier : Bool
 
 -- A reply to a question, and the pass that gave it as it was after that.
 pub record Grant : Type 0 where
@@ -29,7 +31,7 @@ pub record IsOfLine (connection number : ℕ) (request : Request) (reply : Reply
 
 -- The pass answered the question so, as a seat does, on this board over a file of this format.
 abbrev pub IsGrant : BoardId → Format → Grant → Type 0
-IsGrant b F g = SeatAnswers b F g.question.before g.question.request g.reply g.after
+IsGrant b F g = SeatAnswers b F g.question.earlier g.question.before g.question.request g.reply g.after
 
 -- It holds of no grants, and of those of which it holds with one more that a pass of this board gives.
 abbrev pub Promises : BoardId → Format → (List Grant → Type 0) → Type 0

@@ -54,26 +54,27 @@ abbrev pub asks_again : BoardId → ℕ → Bool → Result Bool Fault → Bool
 asks_again b tries earlier (Err (Full counts)) = nat_lt tries most_tries && (not (counts.limbo == 0) || earlier) && not (b.sizes.passes == 1)
 asks_again b tries earlier answer = false
 
--- A call of the pass for this command, after so many, was answered so that one more is made.
-pub record IsAskedAgain (b : BoardId) (F : Format) (c : Command) (tries : ℕ) (old new : Pass) : Type 0 where
+-- A call of the pass for this command, after so many, was answered so that one more is made: where no slot waits, only if an earlier line
+-- of its connection wasn't answered when the question was put.
+pub record IsAskedAgain (b : BoardId) (F : Format) (earlier : Bool) (c : Command) (tries : ℕ) (old new : Pass) : Type 0 where
   pub answer : Result Bool Fault
   pub answered : IsCallAnswered b F c answer old new
-  pub earlier : Bool
   pub again : asks_again b tries earlier answer ≡ true
 
 -- so many calls were, one after the other
-abbrev pub AreAskedAgain : BoardId → Format → Command → ℕ → Pass → Pass → Type 0
-AreAskedAgain b F c zero old new = new ≡ old
-AreAskedAgain b F c (suc tries) old new = (middle : Pass) × AreAskedAgain b F c tries old middle × IsAskedAgain b F c tries middle new
+abbrev pub AreAskedAgain : BoardId → Format → Bool → Command → ℕ → Pass → Pass → Type 0
+AreAskedAgain b F earlier c zero old new = new ≡ old
+AreAskedAgain b F earlier c (suc tries) old new = (middle : Pass) × AreAskedAgain b F earlier c tries old middle × IsAskedAgain b F earlier c tries middle new
 
 -- The reply tells the answer of the pass's last call for what the request asks. One more is made after each answer that says so,
--- and after no other: `full` is told while no slot waits, or at last.
-pub record SeatAnswers (b : BoardId) (F : Format) (old : Pass) (request : Request) (reply : Reply) (new : Pass) : Type 0 where
+-- and after no other: `full` is told while no slot waits, or at last. `earlier` is whether an earlier line of its connection wasn't answered
+-- when the question was put.
+pub record SeatAnswers (b : BoardId) (F : Format) (earlier : Bool) (old : Pass) (request : Request) (reply : Reply) (new : Pass) : Type 0 where
   pub c : Command
   pub asked : command_of request ≡ Some c
   pub tries : ℕ
   pub middle : Pass
-  pub before : AreAskedAgain b F c tries old middle
+  pub before : AreAskedAgain b F earlier c tries old middle
   pub answer : Result Bool Fault
   pub last : IsCallAnswered b F c answer middle new
   pub final : asks_again b tries false answer ≡ false

@@ -210,6 +210,7 @@ impl<N: Named, B: Given> Asking<N, B> {
             unreachable!();
         };
         let mut pass = pass;
+        let earlier = earlier && question.earlier();
         let answer = set.answer(rt, kept, &mut pass, call);
         if asks_again(set, tries, earlier, answer) {
             return Answered::Again(Asking {

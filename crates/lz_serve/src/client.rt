@@ -1,5 +1,5 @@
 //! One client, and the questions that its lines put.
-ghost use Rattle.std.specs.Prelude.{◌≡◌, ◌≢◌, ◌+◌, ◌≤◌, ◌<◌, ◌++◌, [], ◌∷◌, IfSome, List, None, Some, length, true};
+ghost use Rattle.std.specs.Prelude.{◌≡◌, ◌≢◌, ◌↔◌, ◌+◌, ◌≤◌, ◌<◌, ◌++◌, [], ◌∷◌, IfSome, IsTrue, List, None, Some, false, length, true};
 ghost use Rattle.lz_serve.specs.Grants.{Grant, IsGrant};
 ghost use Rattle.lz_serve.specs.Lines.{IsFree, awaited, key_asked};
 ghost use Rattle.lz_serve.specs.Replies.{command_of};
@@ -23,40 +23,44 @@ pub struct Question {
     line: u64,
     request: Request,
     before: Snapshot<Pass>,
+    /// An earlier line of its connection wasn't answered when it was put.
+    earlier: bool,
 }
 
 impl Model for Question {
-    ghost use Rattle.std.specs.Prelude.{◌≢◌};
+    ghost use Rattle.std.specs.Prelude.{◌≡◌, ◌≢◌, ◌<◌, true};
     ghost use Rattle.lz_proto.specs.declared.request.Request.TheVariants.{Quit};
     ghost use Rattle.lz_serve.specs.Grants.{Posed};
 
     ghost Value = { Posed };
 
-    ghost view = { λ q. record { connection = q.connection; line = q.line; request = q.request; before = q.before.value } };
+    ghost view = { λ q. record { connection = q.connection; line = q.line; request = q.request; before = q.before.value; earlier = q.earlier } };
 
-    ghost invariant = { λ q. q.request ≢ Quit };
+    ghost invariant = { λ q. (q.request ≢ Quit) × (q.earlier ≡ true → 1 < q.line) };
 }
 
 impl Question {
     // The line of this number on a connection is put to a pass. Nobody but the client of that connection makes one, and one for each line.
-    fn new(connection: u64, line: u64, request: Request, pass: &Pass) -> Question
-        requires { request ≢ Request.Quit }
-        ensures { result ≡ record { connection = connection; line = line; request = request; before = pass.now } }
+    fn new(connection: u64, line: u64, request: Request, pass: &Pass, earlier: bool) -> Question
+        requires asks { request ≢ Request.Quit }
+        requires later { earlier ≡ true → 1 < line }
+        ensures { result ≡ record { connection = connection; line = line; request = request; before = pass.now; earlier = earlier } }
     {
         Question {
             connection,
             line,
             request,
             before: Snapshot::of(pass),
+            earlier,
         }
     }
 
     /// A request is put to a pass that is of no connection.
     pub fn of_none(request: Request, pass: &Pass) -> Question
         requires { request ≢ Request.Quit }
-        ensures { result ≡ record { connection = 0; line = 0; request = request; before = pass.now } }
+        ensures { result ≡ record { connection = 0; line = 0; request = request; before = pass.now; earlier = false } }
     {
-        Question::new(0, 0, request, pass)
+        Question::new(0, 0, request, pass, false)
     }
 
     /// The number of its connection; 0 where it is of none.
@@ -79,6 +83,13 @@ impl Question {
         ensures asks { result ≢ Request.Quit }
     {
         self.request
+    }
+
+    /// Whether an earlier line of its connection wasn't answered when it was put.
+    pub(crate) fn earlier(&self) -> bool
+        ensures { result ≡ self.now.earlier }
+    {
+        self.earlier
     }
 
     /// The command that it asks for.
@@ -206,6 +217,7 @@ impl<S: Stream> Client<S> {
         ensures asked { IfSome result (λ question. self.new.under ≡ self.old.under ++ awaited question.request ∷ []) }
         ensures free { IfSome result (λ question. IsFree self.old.under (key_asked question.request)) }
         ensures before { IfSome result (λ question. question.before ≡ pass.now) }
+        ensures earlier { IfSome result (λ question. IsTrue question.earlier ↔ (self.old.under ≢ [])) }
         ensures number { IfSome result (λ question. (question.connection ≡ self.new.connection) × (question.line ≡ self.new.lines)) }
         ensures lines { IfSome result (λ question. self.new.lines ≡ self.old.lines + 1) }
         ensures connection { self.new.connection ≡ self.old.connection }
@@ -214,10 +226,17 @@ impl<S: Stream> Client<S> {
         if self.lost {
             return None;
         }
+        let earlier = self.talk.told() < self.talk.lines();
         match self.talk.next() {
             Ok(Some(request)) => {
                 let line = self.talk.lines();
-                Some(Question::new(self.connection, line, request, pass))
+                Some(Question::new(
+                    self.connection,
+                    line,
+                    request,
+                    pass,
+                    earlier,
+                ))
             }
             Ok(None) => {
                 self.held = self.talk.waits();

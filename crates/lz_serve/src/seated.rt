@@ -1,5 +1,5 @@
 //! The service of one pass of a set.
-ghost use Rattle.std.specs.Prelude.{◌≡◌};
+ghost use Rattle.std.specs.Prelude.{◌≡◌, false};
 ghost use Rattle.lz_set.specs.Names.{MayCall};
 ghost use Rattle.lz_serve.specs.Replies.{SeatAnswers};
 
@@ -52,7 +52,7 @@ impl<'a, D: Disk, G: StepGate, N: Named, R: Wait + Clock> Seated<'a, D, G, N, R>
 }
 
 impl<'a, D: Disk, G: StepGate, N: Named, R: Wait + Clock> Service for Seated<'a, D, G, N, R> {
-    ghost answers = { λ old request reply new. SeatAnswers N.board N.format old.pass request reply new.pass };
+    ghost answers = { λ old request reply new. SeatAnswers N.board N.format false old.pass request reply new.pass };
 
     fn ask(&mut self, request: Request) -> Reply {
         let question = Question::of_none(request, &self.pass);

@@ -1,5 +1,5 @@
 -- What a run leaves that served its session by the one pass of a set.
-use Rattle.std.proofs.Common.{◌≡◌, inl, inr, ⊎_elim, ℕ, ◌≤◌, List, [], length, Option, IsTrue, refl, sym, ap, ◌∙◌, subst, arith}
+use Rattle.std.proofs.Common.{◌≡◌, inl, inr, ⊎_elim, ℕ, ◌≤◌, false, List, [], length, Option, IsTrue, refl, sym, ap, ◌∙◌, subst, arith}
 use Rattle.lz_slot.specs.Sets.{Keys}
 use Rattle.lz_slot.specs.Bytes.{Holds, format_of}
 use Rattle.lz_slot.specs.declared.format.Format.{Format}
@@ -111,7 +111,7 @@ module _ {D : Type 0} (device : D → Device) (buckets : ℕ) (state : Status) (
     -- some first ones of the replies
     pub seat_set : IsTimely (device old) → SessionOfSet (PassMayAnswer (format_of seen) N) N S state input rest before later (device old) (device new)
     seat_set timely =
-        let (first, told) = asked_and_told (SeatAnswers b F0) input rest seat.begun seat.done seat.ended seat.tells.0 seat.tells.2 in
+        let (first, told) = asked_and_told (SeatAnswers b F0 false) input rest seat.begun seat.done seat.ended seat.tells.0 seat.tells.2 in
         let opening = opening_leaves (device old) mid timely (inr (ran.opens.vault.medium honest)) (ran.opens.vault.time honest) in
         let was = unwritten (device old) mid timely (inr (ran.opens.vault.medium honest)) in
         of_file (λ F n T. SessionOfSet (PassMayAnswer F n) n T state input rest before later (device old) (device new)) (record {

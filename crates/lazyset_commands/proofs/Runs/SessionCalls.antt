@@ -128,7 +128,7 @@ module _ {X : Type 0} (pass_of : X → Pass) (b : BoardId) (F : Format) (one : b
   N = b.sizes.slots
 
   abbrev pub answers : X → Request → Reply → X → Type 0
-  answers old request reply new = SeatAnswers b F (pass_of old) request reply (pass_of new)
+  answers old request reply new = SeatAnswers b F false (pass_of old) request reply (pass_of new)
 
   -- The calls by which the items got their replies.
   pub record Made (items : List Item) (replies : List Reply) (old new : X) : Type 0 where
@@ -167,7 +167,7 @@ module _ {X : Type 0} (pass_of : X → Pass) (b : BoardId) (F : Format) (one : b
   made_last : (request : Request) (items : List Item) (replies : List Reply) (old new : X) → answers old request Halted new → replies ≡ [] → end_of (Asks request ∷ items) (Halted ∷ replies) ≡ ends.Halted
       → Made (Asks request ∷ items) (Halted ∷ replies) old new
   made_last request items replies old new asked none halts =
-      let told = only_call b F (pass_of old) (pass_of new) request Halted asked one in
+      let told = only_call b F false (pass_of old) (pass_of new) request Halted asked one in
       let r = given_of asked.answer in
       let is : Halted ≡ shown r = asked.told ∙ shown_of asked.answer in
       let may : (S T : Keys) → IsPlainAnswer F N asked.c r S T → PassMayAnswer F N S request Halted T = λ S T a.
@@ -188,7 +188,7 @@ module _ {X : Type 0} (pass_of : X → Pass) (b : BoardId) (F : Format) (one : b
   made_more : (request : Request) (reply : Reply) (items : List Item) (replies : List Reply) (old mid new : X) → reply ≢ Halted → answers old request reply mid → Made items replies mid new
       → Made (Asks request ∷ items) (reply ∷ replies) old new
   made_more request reply items replies old mid new goes asked m =
-      let told = only_call b F (pass_of old) (pass_of mid) request reply asked one in
+      let told = only_call b F false (pass_of old) (pass_of mid) request reply asked one in
       let r = given_of asked.answer in
       let is : reply ≡ shown r = asked.told ∙ shown_of asked.answer in
       let whole : cuts_off r ≡ false = uncut r (λ halted. goes (is ∙ halted)) in

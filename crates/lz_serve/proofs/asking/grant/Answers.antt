@@ -34,7 +34,7 @@ calls-preserved g c =
     record {
       may_call = c.call-answer-in-calls.ensures.pass;
       asked = λ d asked.
-          asked_more (c.calls.invariant.asked d asked) false again
+          asked_more (c.calls.invariant.asked d asked) false (λ is. absurd (cc)) again
           (of_asked g.N.Named.board g.N.Named.format c.args.question.request c.command-in-calls.result c.call-answer-in-calls.result c.calls.pass c.call-answer-in-calls.new.pass c.command-in-calls.ensures
           (record { sized = c.calls.invariant.may_call.0.2.sized; call = c.call-answer-in-calls.ensures.answers; plain = c.call-answer-in-calls.ensures.plain }) d asked);
       few = omega (arith, low);
@@ -45,5 +45,5 @@ invariant_of-result g c =
     let b = g.N.Named.board in
     let F = g.N.Named.format in
     let seat = seat_told (c.calls.invariant.asked c.command.result c.command.ensures) false c.command.ensures (sym c.asks_again.ensures.again ∙ c.calls-test.false) c.client_reply-reply.ensures in
-    subst (λ (p : Pass). SeatAnswers b F p c.args.question.request c.client_reply-reply.result c.of-after.result.value) (sym c.requires.before)
-    (subst (λ (q : Pass). SeatAnswers b F c.args.pass.now c.args.question.request c.client_reply-reply.result q) (sym c.of-after.ensures) seat)
+    subst (λ (p : Pass). SeatAnswers b F c.args.question.earlier p c.args.question.request c.client_reply-reply.result c.of-after.result.value) (sym c.requires.before)
+    (subst (λ (q : Pass). SeatAnswers b F c.args.question.earlier c.args.pass.now c.args.question.request c.client_reply-reply.result q) (sym c.of-after.ensures) seat)

@@ -8,7 +8,7 @@ use Rattle.lz_serve.proofs.asking.grant.Given as goal
 abbrev pub invariant-calls : goal.invariant-calls
 invariant-calls g l = record {
   may_call : MayCall g.N.Named.board l.pass;
-  asked : (c : Command) → command_of l.fn.question.request ≡ Some c → AskedUpTo g.N.Named.board g.N.Named.format c l.tries l.fn.pass l.answer l.pass;
+  asked : (c : Command) → command_of l.fn.question.request ≡ Some c → AskedUpTo g.N.Named.board g.N.Named.format l.fn.question.earlier c l.tries l.fn.pass l.answer l.pass;
   few : l.tries ≤ most_tries;
 }
 
