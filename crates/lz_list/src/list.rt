@@ -1,5 +1,5 @@
 //! The list: its words, its node locks, and what changes them.
-ghost use Rattle.std.specs.Prelude.{◌≡◌, ◌↔◌, ◌⊎◌, ◌<◌, ◌≤◌, ℕ, false, if◌then◌else◌, IfNone, IfOk, IfSome, IsTrue, Option, Some, suc};
+ghost use Rattle.std.specs.Prelude.{◌≡◌, ◌↔◌, ◌<◌, ◌≤◌, ℕ, false, if◌then◌else◌, IfNone, IfOk, IfSome, IsTrue, Option, Some};
 ghost use Rattle.lz_slot.specs.Limits.{most_slots};
 
 use crate::link::{next_to, slot_behind};

@@ -1,5 +1,5 @@
 //! Node locks: who has the lock of each place.
-ghost use Rattle.std.specs.Prelude.{◌≡◌, ◌≤◌, ◌<◌, ℕ, length, replicate, IfOk, Option, Some, None, if◌then◌else◌};
+ghost use Rattle.std.specs.Prelude.{◌≡◌, ◌<◌, replicate, IfOk, Option, Some, None};
 
 use crate::place::Place;
 use lz_slot::Slot;

@@ -1,5 +1,5 @@
 //! The table of words.
-ghost use Rattle.std.specs.Prelude.{◌≡◌, ◌≤◌, ◌<◌, ◌^◌, length, IfOk, IsTrue};
+ghost use Rattle.std.specs.Prelude.{◌≡◌, ◌≤◌, ◌<◌, length, IfOk};
 ghost use Rattle.lz_slot.specs.Limits.{most_slots};
 ghost use Rattle.lz_list.specs.Words.{word_of};
 

@@ -4,9 +4,9 @@ use Rattle.lz_slot.specs.declared.command.Command.{Command}
 use Rattle.lz_slot.specs.Limits.{most_buckets, most_passes}
 use Rattle.lz_list.specs.Hops.{LeadsOn}
 use Rattle.lz_machine.specs.declared.caller.Progress.{Progress}
-use Rattle.lz_machine.specs.declared.caller.Progress.TheVariants.{Playing, LoadsHalt, Walking, Reserving, SeeingPins, Claiming, Checking, Answering}
+use Rattle.lz_machine.specs.declared.caller.Progress.TheVariants.{Playing, LoadsHalt, Walking, SeeingPins}
 use Rattle.lz_machine.specs.declared.event.Event.{Event}
-use Rattle.lz_machine.specs.declared.event.Event.TheVariants.{Invoke, Hop, Reserve, Claim, Check, SeePin, Answer}
+use Rattle.lz_machine.specs.declared.event.Event.TheVariants.{SeePin}
 use Rattle.lz_machine.specs.declared.event.Outcome.{Outcome}
 use Rattle.lz_machine.specs.declared.event.Outcome.TheVariants.{Value}
 use Rattle.lz_machine.specs.Yards.{Shape}
@@ -53,37 +53,6 @@ abbrev pub IsLoading : Progress → Type 0
 IsLoading LoadsHalt = Unit {0}
 IsLoading (Walking aim look) = Unit {0}
 IsLoading _ = ⊥
-
-abbrev pub IsReserving : Progress → Type 0
-IsReserving (Reserving again) = Unit {0}
-IsReserving _ = ⊥
-
-abbrev pub IsSeeingPins : Progress → Type 0
-IsSeeingPins (SeeingPins p) = Unit {0}
-IsSeeingPins _ = ⊥
-
-abbrev pub IsClaiming : Progress → Type 0
-IsClaiming (Claiming aim pred curr) = Unit {0}
-IsClaiming _ = ⊥
-
-abbrev pub IsChecking : Progress → Type 0
-IsChecking (Checking aim curr) = Unit {0}
-IsChecking _ = ⊥
-
-abbrev pub IsAnswering : Progress → Type 0
-IsAnswering (Answering reply) = Unit {0}
-IsAnswering _ = ⊥
-
--- the event is one that comes where a call has come so far; those without a line of their own stand in sequences
-abbrev pub ComesAt : Event → Progress → Type 0
-ComesAt (Invoke c) at = ⊥
-ComesAt (Hop word) at = IsLoading at
-ComesAt Reserve at = IsReserving at
-ComesAt (SeePin p value) at = IsSeeingPins at
-ComesAt (Claim pred curr) at = IsClaiming at
-ComesAt Check at = IsChecking at
-ComesAt Answer at = IsAnswering at
-ComesAt _ at = IsPlaying at
 
 -- a pass whose pin word an event looks at is one of so many
 abbrev pub HasPass : ℕ → Event → Type 0
