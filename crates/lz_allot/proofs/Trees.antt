@@ -1,6 +1,6 @@
 -- What a tree of free slots tells of its nodes, and a new tree.
 use Rattle.std.proofs.Common.{◌≡◌, ◌≢◌, ⊎_elim, ℕ, suc, ◌+◌, ◌*◌, ◌/◌, ◌%◌, ◌-◌, ◌<◌, ◌≤◌, ◌==◌, Bool, true, false, if◌then◌else◌, List, length, get_or, set, replicate, sym, ◌∙◌, ap, arith, get_or-set_other, get_or-set_same}
-use Rattle.std.specs.Prelude.{nat_lt, length}
+use Rattle.std.specs.Prelude.{length}
 use Rattle.std.specs.Int.{bit_at}
 use Rattle.std.proofs.lemmas.List.{ext_get_or, get_or-replicate, length-replicate}
 use Rattle.std.proofs.Math.ListN.{get_or-eq_default}
@@ -8,7 +8,7 @@ use Rattle.std.proofs.lemmas.List.FromFn.{get_or-map-range_with_len, length-map-
 use Rattle.std.proofs.lemmas.Nat.Bits.{bit_at-zero}
 use Rattle.std.proofs.lemmas.Bool.{cases_eq, cases_lt}
 use Rattle.lz_slot.specs.Limits.{most_slots}
-use Rattle.lz_allot.specs.Trees.{word_at, is_told, shown, IsStart, IsTree}
+use Rattle.lz_allot.specs.Trees.{word_at, is_told, shown, IsStart}
 
 -- a word that is zero tells of nothing
 pub nothing_told : (words : List ℕ) (k : ℕ) → word_at words ((k - 1) / 64) ≡ 0 → is_told words k ≡ false
@@ -58,15 +58,6 @@ next_start first slots is most more = record {
 empty_word : (n k : ℕ) → word_at (replicate n 0) k ≡ 0
 empty_word n k =
     ⊎_elim (λ low. get_or-replicate n k 0 0 low) (λ high. get_or-eq_default (replicate n 0) 0 {n = k} (omega (arith, length-replicate {A = ℕ} n 0))) (cases_lt k n)
-
-pub empty_tree : (n first slots : ℕ) → IsStart first → slots ≤ most_slots → slots ≤ 63 * first + 1 → first + slots ≤ 64 * n → IsTree (replicate n 0) first slots
-empty_tree n first slots is most deep size = record {
-  start = is;
-  range = (most, deep);
-  size = omega (arith, size, length-replicate {A = ℕ} n 0);
-  told = λ k low high. nothing_told (replicate n 0) k (empty_word n ((k - 1) / 64)) ∙ sym (ap (nat_lt 0) (empty_word n k));
-  rest = λ k past. nothing_told (replicate n 0) k (empty_word n ((k - 1) / 64));
-}
 
 pub empty_shown : (n first slots : ℕ) → shown (replicate n 0) first slots ≡ replicate slots false
 empty_shown n first slots =

@@ -12,13 +12,11 @@ use Rattle.lz_board.specs.declared.view.Sizes.{Sizes}
 use Rattle.lz_board.specs.declared.view.Note.{Note}
 use Rattle.lz_board.specs.declared.view.Part.{Part}
 use Rattle.lz_board.specs.declared.view.View.{View}
-use Rattle.lz_board.specs.declared.pass.Pass.{Pass}
 use Rattle.lz_board.specs.Notes.{IsShared, trace_of}
 use Rattle.lz_board.specs.Addresses.{index, word_at}
 use Rattle.lz_board.specs.Kept.{is_calling, IsPart, Keeps, PinTold}
 use Rattle.lz_board.specs.Noting.{MayNote, KeepsPin, MovesPin, Writes}
 use Rattle.lz_board.specs.Plays.{Looked, Loaded, Entered, Saw, Noted, Moved, alone, pen_view, found_view, pass_at, Finds}
-use Rattle.lz_board.specs.Seats.{BoardId, IsAtHand}
 use Rattle.lz_board.proofs.Upkeep.Address.{shared_boards, decode}
 use Rattle.lz_board.proofs.Upkeep.LoadStep.{looks, loads, saws}
 use Rattle.lz_board.proofs.Upkeep.StoreStep.{notes_in, moves_in, enters_in}
@@ -57,16 +55,6 @@ module _ (z : Sizes) (opened : Trace) (slots id : ℕ) where
       → Allows (Keeps z opened) slots id me i (λ _. m) (λ _. Entered (step slots i m 0 none) me m)
   enters_at h me i m is at low high idle more most =
       subst (λ (x : Me Note View × ℕ). Allows (Keeps z opened) slots id x.0 x.1 (λ _. m) (λ _. Entered (step slots x.1 m 0 none) x.0 m)) (λ j. (sym is j, sym at j)) (enters_in z opened slots id m h [] low high idle more most)
-
--- a pass whose part keeps its sizes, number and pin word
-pub at_hand : (b : BoardId) (p q : Pass) (h g : Part) → IsAtHand b p h → g.sizes ≡ h.sizes → g.number ≡ h.number → g.pin ≡ h.pin → q.number ≡ p.number → q.pin ≡ p.pin → IsAtHand b q g
-at_hand b p q h g a sizes number pin same_number same_pin = record {
-  sized = sizes ∙ a.sized;
-  numbered = subst (λ n. (1 ≤ n) × (n ≤ b.sizes.passes)) (sym number) a.numbered;
-  number = same_number ∙ a.number ∙ sym number;
-  pin = same_pin ∙ a.pin ∙ sym pin;
-  worn = subst (λ n. n ≤ last_pin) (sym pin) a.worn;
-}
 
 -- a word that was found, by its place
 pub finds_word : (z : Sizes) (h : Part) (seen : Trace) (i found : ℕ) (w : Word) → h.sizes ≡ z → i ≡ index z w → IsShared z w → Finds seen i found h → found ≡ word_after z.buckets seen w

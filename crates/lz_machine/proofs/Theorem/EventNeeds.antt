@@ -1,8 +1,7 @@
 -- What an event of a call needs it has, and its caller may take what it gives.
-use Rattle.std.proofs.Common.{◌≡◌, ◌≢◌, inl, inr, ℕ, zero, suc, ◌<◌, ◌≤◌, ◌+◌, ◌%◌, ◌==◌, if◌then◌else◌, not, ◌&&◌, ◌||◌, Bool, true, false, List, Option, Some, None, is_some, refl, sym, ap, ◌∙◌, subst, arith}
+use Rattle.std.proofs.Common.{◌≡◌, ◌≢◌, inl, inr, ℕ, zero, suc, ◌<◌, ◌≤◌, ◌%◌, ◌==◌, if◌then◌else◌, not, ◌&&◌, ◌||◌, Bool, true, false, List, Option, Some, None, is_some, refl, sym, ap, ◌∙◌, subst, arith}
 use mathlib.Core.Bool.{false≢true}
 use Rattle.std.specs.Prelude.{unwrap_or}
-use Rattle.std.proofs.lemmas.Bool.{cases_eq}
 use Rattle.std.proofs.lemmas.Bool.Decides.{eqb_tells}
 use Rattle.lz_slot.specs.declared.command.Command.{Command}
 use Rattle.lz_slot.specs.declared.command.Command.TheVariants.{Add, Remove, Has}
@@ -249,10 +248,4 @@ pub last_of : (pin : ℕ) → (pin == last_pin) ≡ true → pin ≡ last_pin
 last_of pin is = elim (eqb_tells pin last_pin) [
   | inl same ↦ same.1
   | inr other ↦ absurd (false≢true (sym other.0 ∙ is))
-]
-
-pub odd_of : (pin : ℕ) (out : Bool) → (not (is_outside pin) || out) ≡ true → out ≡ false → (pin + 1) % 2 ≡ 0
-odd_of pin out may fresh = elim (cases_eq (pin % 2) 0) [
-  | inl even ↦ absurd (false≢true (sym (ap (λ (q : Bool). not q || out) (outside_even pin even) ∙ fresh) ∙ may))
-  | inr odd ↦ omega (arith, odd)
 ]
