@@ -1,6 +1,7 @@
 -- The items of texts.
-use Rattle.std.proofs.Common.{◌≡◌, ◌≢◌, ℕ, ◌+◌, ◌-◌, ◌<◌, ◌≤◌, ◌⊎◌, inl, inr, List, [], ◌∷◌, ◌++◌, length, take, drop, get_or, min, Bool, true, false, nat_eq, nat_lt, Option, Some, None, refl, sym, ap, subst, ◌∙◌, arith, rules, append_assoc, length-append}
+use Rattle.std.proofs.Common.{◌≡◌, ◌≢◌, ℕ, ◌+◌, ◌-◌, ◌<◌, ◌≤◌, ◌⊎◌, inl, inr, List, [], ◌∷◌, ◌++◌, length, take, drop, get_or, min, Bool, true, false, nat_eq, nat_lt, Option, Some, None, Result, Ok, Err, IfOk, OnOk, is_ok, if◌then◌else◌, refl, sym, ap, subst, ◌∙◌, arith, rules, append_assoc, length-append}
 use Rattle.std.specs.List.{concat}
+use Rattle.std.proofs.Math.Seq.{take-append-add, take-append_seam}
 use Rattle.std.proofs.lemmas.List.{take-append-drop, drop_more, get_or-take, get_or_default, take_rest, take_all, append-nil, length-take, nil_from_length}
 use Rattle.std.proofs.lemmas.List.Folds.{list_any-append, list_any_none}
 use Rattle.std.proofs.lemmas.Bool.{eq-eqb, eqb-true, cond_both}
@@ -13,7 +14,7 @@ use Rattle.lz_proto.specs.declared.item.Item.{Item}
 use Rattle.lz_proto.specs.declared.item.Item.TheVariants.{Asks, Faulty}
 use Rattle.lz_proto.specs.Lines.{IsItem, Items, nothing, no_end, line, quits, has_line_feed, line_feed, without_return, item_of}
 use Rattle.lz_proto.specs.Limits.{most_kept}
-use Rattle.lz_proto.specs.Pieces.{AnyPieces, Ends, FeedsAll, OneListOfItems, Reads, Feeds, Adds, faults_of, KeepsOf}
+use Rattle.lz_proto.specs.Pieces.{Adds, AnyPieces, Ends, FeedsAll, OneListOfItems, Reads, Feeds, faults_of}
 use Rattle.lz_proto.specs.Reading.{request_read}
 use Rattle.lz_proto.proofs.LineReads.{item_read, item_only}
 
@@ -239,33 +240,52 @@ split_at r e first tail =
 before_first : (r : List ℕ) (e : ℕ) → IsFirstByte (is_byte 10) r (Some e) → has_line_feed (take e r) ≡ false
 before_first r e first = clear_below r e (omega (arith, first.0.high)) first.0.before
 
-first_line : (r : List ℕ) (e : ℕ) (item : Item) → IsFirstByte (is_byte 10) r (Some e) → IsItem (take e r) item → item ≢ Asks Quit
-    → (tail : List ℕ) (more : List Item) → Items (drop (e + 1) r ++ tail) more → Items (r ++ tail) (item ∷ more)
-first_line r e item first says goes tail more left =
-    subst (λ (x : List ℕ). Items x (item ∷ more)) (split_at r e first tail) (line (take e r) item (drop (e + 1) r ++ tail) more (before_first r e first) says goes left)
+-- the items told are those of the text's first lines, up to the rest
+abbrev pub GoesOn : List ℕ → List Item → List ℕ → Type 0
+GoesOn text told rest = (tail : List ℕ) (more : List Item) → Items (rest ++ tail) more → Items (text ++ tail) (told ++ more)
 
-first_quit : (r : List ℕ) (e : ℕ) → IsFirstByte (is_byte 10) r (Some e) → IsItem (take e r) (Asks Quit) → (tail : List ℕ) → Items (r ++ tail) (Asks Quit ∷ [])
-first_quit r e first says tail =
-    subst (λ (x : List ℕ). Items x (Asks Quit ∷ [])) (split_at r e first tail) (quits (take e r) (drop (e + 1) r ++ tail) (before_first r e first) says)
+clear_line : (kept r : List ℕ) (e : ℕ) → has_line_feed kept ≡ false → IsFirstByte (is_byte 10) r (Some e) → has_line_feed (kept ++ take e r) ≡ false
+clear_line kept r e clear first = front_clear kept (take e r) clear ∙ before_first r e first
 
--- a line more was read
-pub after_line : (text rest ended : List ℕ) (e : ℕ) (item : Item) (old new : List Item) (is_quit : Bool)
-    → ((tail : List ℕ) (more : List Item) → Items (rest ++ tail) more → Items (text ++ tail) (old ++ more))
-    → IsFirstByte (is_byte 10) rest (Some e) → ended ≡ drop e rest → Adds (take e rest) item old new is_quit → is_quit ≡ false
-    → (tail : List ℕ) (more : List Item) → Items (take (length ended - 1) (drop 1 ended) ++ tail) more → Items (text ++ tail) (new ++ more)
-after_line text rest ended e item old new is_quit so first from a goes tail more is =
+-- what was kept and the part before place e are a line
+line_at : (kept r : List ℕ) (e : ℕ) → IsFirstByte (is_byte 10) r (Some e) → (tail : List ℕ) → (kept ++ take e r) ++ 10 ∷ (drop (e + 1) r ++ tail) ≡ (kept ++ r) ++ tail
+line_at kept r e first tail =
+    append_assoc kept (take e r) (10 ∷ (drop (e + 1) r ++ tail)) ∙ ap (λ (x : List ℕ). kept ++ x) (split_at r e first tail) ∙ sym (append_assoc kept r tail)
+
+pub first_line : (kept r : List ℕ) (e : ℕ) (item : Item) (old new : List Item) (is_quit : Bool) → has_line_feed kept ≡ false → IsFirstByte (is_byte 10) r (Some e)
+    → Adds (kept ++ take e r) item old new is_quit → is_quit ≡ false → GoesOn (kept ++ r) (item ∷ []) (drop (e + 1) r)
+first_line kept r e item old new is_quit clear first a goes tail more left =
     let other : item ≢ Asks Quit = λ q. let yes : is_quit ≡ true = search (rules, a.told.1 q) in cc in
-    let after : take (length ended - 1) (drop 1 ended) ≡ drop (e + 1) rest = take_rest ended 1 ∙ ap (λ (x : List ℕ). drop 1 x) (from ∙ drop_more rest e 0 first.0.high) in
-    let left : Items (drop (e + 1) rest ++ tail) more = subst (λ (x : List ℕ). Items (x ++ tail) more) after is in
-    rw (a.added, append_assoc old (item ∷ []) more) (so tail (item ∷ more) (first_line rest e item first a.says other tail more left))
+    subst (λ (x : List ℕ). Items x (item ∷ more)) (line_at kept r e first tail) (line (kept ++ take e r) item (drop (e + 1) r ++ tail) more (clear_line kept r e clear first) a.says other left)
 
--- `quit` was read
-pub after_quit : (text rest : List ℕ) (e : ℕ) (item : Item) (old new : List Item) (is_quit : Bool)
-    → ((tail : List ℕ) (more : List Item) → Items (rest ++ tail) more → Items (text ++ tail) (old ++ more))
-    → IsFirstByte (is_byte 10) rest (Some e) → Adds (take e rest) item old new is_quit → is_quit ≡ true → (tail : List ℕ) → Items (text ++ tail) new
-after_quit text rest e item old new is_quit so first a ends tail =
+pub first_quit : (kept r : List ℕ) (e : ℕ) (item : Item) (old new : List Item) (is_quit : Bool) → has_line_feed kept ≡ false → IsFirstByte (is_byte 10) r (Some e)
+    → Adds (kept ++ take e r) item old new is_quit → is_quit ≡ true → Reads (kept ++ r) (item ∷ []) None
+first_quit kept r e item old new is_quit clear first a ends tail =
     let quit : item ≡ Asks Quit = a.told.0 (search rules) in
-    rw (a.added, quit) (so tail (Asks Quit ∷ []) (first_quit rest e first (subst (IsItem (take e rest)) quit a.says) tail))
+    rw quit (subst (λ (x : List ℕ). Items x (Asks Quit ∷ [])) (line_at kept r e first tail)
+    (quits (kept ++ take e r) (drop (e + 1) r ++ tail) (clear_line kept r e clear first) (subst (IsItem (kept ++ take e r)) quit a.says)))
+
+-- what follows the first lines was read
+pub goes_on_read : (text rest : List ℕ) (told items : List Item) (left : Option (List ℕ)) → GoesOn text told rest → Reads rest items left → Reads text (told ++ items) left
+goes_on_read text rest told items None goes read = λ tail. goes tail items (read tail)
+goes_on_read text rest told items (Some left) goes read = (read.0, λ tail more is. rw append_assoc (goes tail (items ++ more) (read.1 tail more is)))
+
+pub goes_on_more : (text rest left : List ℕ) (told items : List Item) → GoesOn text told rest → GoesOn rest items left → GoesOn text (told ++ items) left
+goes_on_more text rest left told items goes more tail others is = rw append_assoc (goes tail (items ++ others) (more tail others is))
+
+-- the first line was read, and then the others
+pub read_rest : (kept piece rest : List ℕ) (e : ℕ) (item : Item) (old now new more : List Item) (is_quit : Bool) (left : Option (List ℕ)) → has_line_feed kept ≡ false
+    → IsFirstByte (is_byte 10) piece (Some e) → Adds (kept ++ take e piece) item old now is_quit → is_quit ≡ false → rest ≡ drop (e + 1) piece → Reads rest more left → new ≡ now ++ more
+    → (items : List Item) × Reads (kept ++ piece) items left × (new ≡ old ++ items)
+read_rest kept piece rest e item old now new more is_quit left clear first a goes from read is = (
+  item ∷ more,
+  goes_on_read (kept ++ piece) (drop (e + 1) piece) (item ∷ []) more left (first_line kept piece e item old now is_quit clear first a goes) (subst (λ (t : List ℕ). Reads t more left) from read),
+  is ∙ ap (λ (x : List Item). x ++ more) a.added ∙ append_assoc old (item ∷ []) more,
+)
+
+-- after a line's end
+pub after_end : (r ended : List ℕ) (e : ℕ) → IsFirstByte (is_byte 10) r (Some e) → ended ≡ drop e r → take (length ended - 1) (drop 1 ended) ≡ drop (e + 1) r
+after_end r ended e first from = take_rest ended 1 ∙ ap (λ (x : List ℕ). drop 1 x) (from ∙ drop_more r e 0 first.0.high)
 
 pub end_items : (kept : List ℕ) → has_line_feed kept ≡ false → length kept ≢ 0 → Items kept (faults_of (Some NoEnd))
 end_items kept clear some = no_end kept (λ e. some (ap length e)) clear
@@ -273,12 +293,28 @@ end_items kept clear some = no_end kept (λ e. some (ap length e)) clear
 pub no_items : (kept : List ℕ) → length kept ≡ 0 → Items kept (faults_of None)
 no_items kept e = subst (λ (t : List ℕ). Items t []) (sym (nil_from_length kept e)) nothing
 
--- what a piece leaves is kept
-pub piece_kept : (kept piece text left front new : List ℕ) (items : List Item) → text ≡ kept ++ piece → Reads text items (Some left)
-    → front ≡ take most_kept left → new ≡ front → KeepsOf kept piece items (Some new)
-piece_kept kept piece text left front new items whole h is same =
-    let told = rw whole at (reads_kept text left items h) in
-    rw (same, is) (told, told.0, omega (arith, length-take most_kept left))
+-- a text without a line's end is kept
+pub no_line : (kept piece new : List ℕ) → has_line_feed kept ≡ false → IsFirstByte (is_byte 10) piece None → new ≡ take most_kept (kept ++ piece) → Reads (kept ++ piece) [] (Some new)
+no_line kept piece new clear none is =
+    rw is (reads_kept (kept ++ piece) (kept ++ piece) [] (front_clear kept piece clear ∙ clear_all piece none, λ rest more its. its))
+
+-- of a line its first 66 bytes tell as much as all
+item_case : (text : List ℕ) (item : Item) (far : Bool) → nat_lt most_kept (length text) ≡ far → IsItem (take most_kept text) item → IsItem text item
+item_case text item true e says =
+    let far : most_kept < length text = grind (arith, nat_tests) in
+    let long : item ≡ Faulty TooLong = item_only (take most_kept text) item says ∙ long_read (take most_kept text) (omega (arith, length-take most_kept text)) in
+    subst (IsItem text) (long_read text (omega arith) ∙ sym long) (item_read text)
+item_case text item false e says =
+    let near : length text ≤ most_kept = grind (arith, nat_tests) in
+    subst (λ (t : List ℕ). IsItem t item) (take_all most_kept text near) says
+
+-- what is kept of a line has its item
+pub adds_kept : {E : Type 0} (r : Result Bool E) (text front : List ℕ) (old new : List Item) → front ≡ take most_kept text → IfOk r (λ is_quit. (item : Item) × Adds front item old new is_quit)
+    → IfOk r (λ is_quit. (item : Item) × Adds text item old new is_quit)
+adds_kept (Ok is_quit) text front old new is a =
+    let says : IsItem (take most_kept text) a.0 = subst (λ (t : List ℕ). IsItem t a.0) is a.1.says in
+    (a.0, record { says = item_case text a.0 (nat_lt most_kept (length text)) refl says; added = a.1.added; told = a.1.told })
+adds_kept (Err fault) text front old new is a = tt
 
 least_case : (n : ℕ) (text : List ℕ) (far : Bool) → nat_lt n (length text) ≡ far → take (min (length text) n) text ≡ take n text
 least_case n text true e =
@@ -291,6 +327,26 @@ least_case n text false e =
 
 pub take_least : (n : ℕ) (text : List ℕ) → take (min (length text) n) text ≡ take n text
 take_least n text = least_case n text (nat_lt n (length text)) refl
+
+pub short_take : (text new : List ℕ) → new ≡ take most_kept text → length new ≤ most_kept
+short_take text new is = rw is (omega (arith, length-take most_kept text))
+
+-- as much more is kept as there is room for
+pub kept_more : (kept more : List ℕ) (n room : ℕ) → n ≡ min (length more) room → room + length kept ≡ most_kept → kept ++ take n more ≡ take most_kept (kept ++ more)
+kept_more kept more n room is whole =
+    let far : most_kept ≡ length kept + room = omega (arith, whole) in
+    ap (λ (k : ℕ). kept ++ take k more) is ∙ ap (λ (x : List ℕ). kept ++ x) (take_least room more) ∙ sym (take-append-add kept more room) ∙ ap (λ (k : ℕ). take k (kept ++ more)) (sym far)
+
+-- what was kept stands before it
+pub kept_before : (kept more : List ℕ) (n : ℕ) → n ≡ length kept → length kept ≤ most_kept → take n (take most_kept (kept ++ more)) ≡ kept
+kept_before kept more n is short =
+    let room = most_kept - length kept in
+    rw (← kept_more kept more (min (length more) room) room refl (omega arith)) (ap (λ (k : ℕ). take k (kept ++ take (min (length more) room) more)) is ∙ take-append_seam kept (take (min (length more) room) more))
+
+-- a text was put behind another, where there was room
+pub extended : {T E : Type 0} (r : Result T E) (old new more whole : List ℕ) → new ≡ (if is_ok r then old ++ more else old) → old ++ more ≡ whole → OnOk r (new ≡ whole)
+extended (Ok x) old new more whole is all = is ∙ all
+extended (Err fault) old new more whole is all = tt
 
 -- the items of the input, where it ends after what was taken
 pub items_end : (taken : List ℕ) (items : List Item) (left : Option (List ℕ)) (fault : Option Bad) → Reads taken items left → Ends left fault → Items (taken ++ []) (items ++ faults_of fault)

@@ -47,12 +47,6 @@ AnyPieces =
 abbrev pub OneListOfItems : Type 0
 OneListOfItems = (text : List ℕ) → (items : List Item) × Items text items × ((others : List Item) → Items text others → others ≡ items)
 
--- For the steps of a `feed`.
-
--- what a piece adds, and what is kept then is clear and short
-abbrev pub KeepsOf : List ℕ → List ℕ → List Item → Option (List ℕ) → Type 0
-KeepsOf kept piece items new = Reads (kept ++ piece) items new × IfSome new (λ text. has_line_feed text ≡ false) × IsShort new
-
 -- The item of a line was added. The answer tells whether it is `quit`.
 pub record Adds (line : List ℕ) (item : Item) (old new : List Item) (is_quit : Bool) : Type 0 where
   pub says : IsItem line item

@@ -1,9 +1,7 @@
 -- Where a conversation stands.
-use Rattle.std.specs.Prelude.{◌≡◌, ◌≢◌, ◌⊎◌, ℕ, Bool, true, false, List, [], ◌∷◌, ◌++◌, drop, length, slice_set, suc, ◌+◌, ◌-◌, take, Option, None, Some, Result, Ok, Err}
+use Rattle.std.specs.Prelude.{◌≡◌, ◌≢◌, ◌⊎◌, ℕ, Bool, true, false, List, [], ◌∷◌, ◌++◌, drop, length, slice_set, suc, ◌+◌, ◌-◌, take, Option, None, Some}
 use Rattle.lz_proto.specs.declared.request.Request.{Request}
 use Rattle.lz_proto.specs.declared.item.Item.{Item}
-use Rattle.lz_proto.specs.declared.item.Item.TheVariants.{Asks, Faulty}
-use Rattle.lz_proto.specs.declared.fault.Bad.{Bad}
 use Rattle.lz_proto.specs.declared.reply.Reply.{Reply}
 use Rattle.lz_proto.specs.declared.end.End.{End}
 use Rattle.lz_proto.specs.declared.end.End.TheVariants.{Done}
@@ -52,11 +50,6 @@ pub record IsAt (connection : ℕ) (grants : List Grant) (text sent : List ℕ) 
   pub came : CameFrom t.whole text (done ++ (items_of t.under ++ t.waiting)) t.kept
   pub answered : Answered (IsGranted connection) [] done grants (sent ++ t.unsent) t.ended
   pub counted : length grants ≡ t.told
-
--- what a line comes to that was parsed so
-abbrev pub item_of : Result Request Bad → Item
-item_of (Ok request) = Asks request
-item_of (Err bad) = Faulty bad
 
 -- no further item will be carried out
 abbrev pub IsOver : Talk → Type 0

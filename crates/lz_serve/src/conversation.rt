@@ -1,9 +1,10 @@
 //! The conversation of one connection, as a value.
-ghost use Rattle.std.specs.Prelude.{◌≡◌, ◌≢◌, ◌↔◌, ◌⊎◌, ◌≤◌, ◌+◌, ◌-◌, [], ◌∷◌, ◌++◌, ℕ, length, drop, slice_get, slice_set, suc, Some, None, true, false, IfOk, OnOk, OnErr, IfSome, IsNone, IsTrue};
+ghost use Rattle.std.specs.Prelude.{◌≡◌, ◌≢◌, ◌↔◌, ◌⊎◌, ◌≤◌, ◌+◌, ◌-◌, [], ◌∷◌, ◌++◌, ℕ, length, drop, slice_get, slice_set, suc, Some, None, true, false, IfOk, OnOk, OnErr, IfSome, IsTrue};
+ghost use Rattle.lz_proto.specs.Lines.{item_of};
 ghost use Rattle.lz_proto.specs.Sessions.{bad_text, reply_text};
 ghost use Rattle.lz_proto.specs.Steps.{end_after};
 ghost use Rattle.lz_serve.specs.declared.line.Line.{Line as ALine};
-ghost use Rattle.lz_serve.specs.Conversations.{Fed, GoesOn, IsAt, IsOver, Noted, Rests, Sent, Told, item_of, nothing_yet};
+ghost use Rattle.lz_serve.specs.Conversations.{Fed, GoesOn, IsAt, IsOver, Noted, Rests, Sent, Told, nothing_yet};
 ghost use Rattle.lz_serve.specs.Lines.{IsFree, StandsAt, awaited, first_reply, key_asked, replied};
 
 use crate::line::{Line, key_asked};
@@ -25,9 +26,8 @@ const LITTLE: usize = 64;
 pub struct Conversation {
     // none once the client's text has ended
     text_lines: Option<Lines>,
-    // the items that wait, and after them those of the newest piece
+    // those that wait
     items: VecDeque<Item>,
-    newest: VecDeque<Item>,
     // how many lines were handed out, how many of them were told their replies, and the others
     lines: u64,
     told: u64,
@@ -43,7 +43,7 @@ impl Model for Conversation {
 
     ghost Value = { Talk };
 
-    ghost view = { λ c. record { kept = kept_of c.text_lines; whole = is_none c.text_lines; waiting = c.items.items ++ c.newest.items; told = c.told; under = c.under.items; unsent = c.text.items; ended = c.ended } };
+    ghost view = { λ c. record { kept = kept_of c.text_lines; whole = is_none c.text_lines; waiting = c.items.items; told = c.told; under = c.under.items; unsent = c.text.items; ended = c.ended } };
 
     ghost invariant = { λ c. All (λ line. line.request ≢ Quit) c.under.items × (c.lines ≡ c.told + length c.under.items) };
 }
@@ -56,7 +56,6 @@ impl Conversation {
         Conversation {
             text_lines: Some(Lines::new(alloc)),
             items: VecDeque::new(alloc),
-            newest: VecDeque::new(alloc),
             lines: 0,
             told: 0,
             under: VecDeque::new(alloc),
@@ -72,10 +71,8 @@ impl Conversation {
         ensures others { OnOk result (self.new ≡ record self.old { kept = self.new.kept; waiting = self.new.waiting }) }
         ensures err { OnErr result (self.new ≡ self.old) }
     {
-        self.items.append(&mut self.newest)?;
         if let Some(lines) = &mut self.text_lines {
-            let items = lines.feed(piece)?;
-            self.newest = VecDeque::from_vec(items);
+            lines.feed_into(piece, &mut self.items)?;
         }
         Ok(())
     }
@@ -87,10 +84,10 @@ impl Conversation {
         ensures others { OnOk result (self.new ≡ record self.old { kept = None; whole = true; waiting = self.new.waiting }) }
         ensures err { OnErr result (self.new ≡ self.old) }
     {
-        self.newest.reserve(1)?;
+        self.items.reserve(1)?;
         if let Some(lines) = self.text_lines.take() {
             if let Some(bad) = lines.end() {
-                self.newest.push_back_reserved(item_of(Err(bad)));
+                self.items.push_back_reserved(item_of(Err(bad)));
             }
         }
         Ok(())
@@ -211,7 +208,7 @@ impl Conversation {
         ensures some { IsTrue result ↔ (self.now.waiting ≢ []) }
         ensures none { result ≡ false → self.now.waiting ≡ [] }
     {
-        first_of(&self.items, &self.newest).is_some()
+        !self.items.is_empty()
     }
 
     /// Whether no further item will be carried out.
@@ -221,18 +218,14 @@ impl Conversation {
         if self.ended != End::Done {
             return true;
         }
-        if self.text_lines.is_some() || !self.under.is_empty() {
-            return false;
-        }
-        first_of(&self.items, &self.newest).is_none()
+        self.text_lines.is_none() && self.under.is_empty() && self.items.is_empty()
     }
 
     /// Gives the room back of what was carried out and sent, but for a little.
     pub fn rest(&mut self)
         ensures { self.new ≡ self.old }
     {
-        self.items.shrink_to_fit();
-        self.newest.shrink_to(FEW);
+        self.items.shrink_to(FEW);
         self.under.shrink_to(1);
         self.text.shrink_to(LITTLE);
     }
@@ -241,11 +234,8 @@ impl Conversation {
     pub fn room(&self) -> (usize, usize)
         ensures unsent { length self.now.unsent ≤ result.1 }
     {
-        let items = self.items.capacity();
         (
-            items
-                .saturating_add(self.newest.capacity())
-                .saturating_add(self.under.capacity()),
+            self.items.capacity().saturating_add(self.under.capacity()),
             self.text.capacity(),
         )
     }
@@ -256,7 +246,7 @@ impl Conversation {
         ensures none { result ≡ None → (self.now.ended ≢ End.Done) ⊎ (self.now.waiting ≡ []) }
     {
         match self.ended {
-            End::Done => first_of(&self.items, &self.newest),
+            End::Done => self.items.front().copied(),
             _ => None,
         }
     }
@@ -290,7 +280,7 @@ impl Conversation {
         ensures err { OnErr result (self.new ≡ self.old) }
     {
         self.text.extend_from_slice(bad_text(bad).as_bytes())?;
-        pass(&mut self.items, &mut self.newest);
+        self.items.pop_front();
         Ok(())
     }
 
@@ -302,7 +292,7 @@ impl Conversation {
         ensures goes { GoesOn self.old self.new }
         ensures quits { self.new ≡ record self.old { waiting = drop 1 self.old.waiting; ended = End.Quit } }
     {
-        pass(&mut self.items, &mut self.newest);
+        self.items.pop_front();
         self.ended = End::Quit;
     }
 
@@ -322,7 +312,7 @@ impl Conversation {
         self.under.reserve(1)?;
         self.under.push_back_reserved(Line::new(&request));
         self.lines += 1;
-        pass(&mut self.items, &mut self.newest);
+        self.items.pop_front();
         Ok(Some(request))
     }
 }
@@ -361,25 +351,5 @@ fn end_after(reply: Reply) -> End
     match reply {
         Reply::Halted => End::Halted,
         _ => End::Done,
-    }
-}
-
-// The first item of two queues, one after the other.
-fn first_of(items: &VecDeque<Item>, newest: &VecDeque<Item>) -> Option<Item>
-    ensures some { IfSome result (λ item. items.now.items ++ newest.now.items ≡ item ∷ drop 1 (items.now.items ++ newest.now.items)) }
-    ensures none { IsNone result ↔ (items.now.items ++ newest.now.items ≡ []) }
-{
-    match items.front() {
-        Some(item) => Some(*item),
-        None => newest.front().copied(),
-    }
-}
-
-// Takes the first item out of two queues.
-fn pass(items: &mut VecDeque<Item>, newest: &mut VecDeque<Item>)
-    ensures { items.new.items ++ newest.new.items ≡ drop 1 (items.old.items ++ newest.old.items) }
-{
-    if items.pop_front().is_none() {
-        newest.pop_front();
     }
 }
