@@ -1,27 +1,28 @@
--- A request that is answered: how its call is played on, and its reply.
-use Rattle.std.proofs.Common.{◌≡◌, ◌≢◌, ◌+◌, true, false, List, [], ◌∷◌, ◌++◌, Result, Bool, Option, Some, None, refl, sym, ap, ◌∙◌, subst, append_assoc}
+-- A pass of a loop that answers a request: how its call is played on, and its reply.
+use Rattle.std.proofs.Common.{◌≡◌, ◌≢◌, ◌+◌, ℕ, true, false, List, [], ◌∷◌, ◌++◌, Result, Bool, Option, Some, None, IsSomeAnd, refl, sym, ap, ◌∙◌, subst, append_assoc}
 use Rattle.lz_slot.specs.declared.command.Command.{Command}
 use Rattle.lz_slot.specs.declared.format.Format.{Format}
 use Rattle.lz_machine.specs.Orders.{Calling}
 use Rattle.lz_proto.specs.declared.request.Request.{Request}
 use Rattle.lz_proto.specs.declared.reply.Reply.{Reply}
-use Rattle.lz_proto.specs.declared.reply.Reply.TheVariants.{Halted}
 use Rattle.lz_board.specs.declared.pass.Pass.{Pass}
 use Rattle.lz_board.specs.declared.view.Part.{Part}
 use Rattle.lz_board.specs.declared.view.What.TheVariants.{Called}
 use Rattle.lz_board.specs.Notes.{note_by}
 use Rattle.lz_board.specs.Seats.{BoardId, IsOf, part}
 use Rattle.lz_tie.specs.Answers.{Answers}
-use Rattle.lz_tie.specs.Counting.{Counts}
+use Rattle.lz_tie.specs.Counting.{Counts, CountsOn}
 use Rattle.lz_tie.specs.OneCaller.{IsPlainAnswer, keys_in}
 use Rattle.lz_set.specs.declared.fault.Fault.{Fault}
 use Rattle.lz_set.specs.Answers.{reply_of}
 use Rattle.lz_set.specs.Names.{MayCall}
-use Rattle.lz_set.specs.Stages.{StepsOn}
-use Rattle.lz_serve.specs.Halts.{IsCalmAfter, SawHalt}
+use Rattle.lz_set.specs.declared.underway.Stage.{Stage}
+use Rattle.lz_set.specs.Stages.{StandsAt, StepsOn}
+use Rattle.lz_serve.specs.Halts.{IsCalmAfter}
 use Rattle.lz_serve.specs.Replies.{SeatAnswers, asks_again, says_halted}
 use Rattle.lz_serve.proofs.Seats.{AskedUpTo, one_more, saw_now, stays_calm}
-use Rattle.lz_serve.specs.Askings.{Asked, IsAsking, IsCounting}
+use Rattle.lz_serve.specs.Grants.{Posed}
+use Rattle.lz_serve.specs.Askings.{IsAnswering, IsCounting, IsResting, RestsOrAnswers, StandsWhere}
 
 -- the steps of a call that has begun
 pub steps_begun : {b : BoardId} {c : Command} {F : Format} {before h : Part} {call : Calling} → Counts b c F before call h → StepsOn before h
@@ -30,15 +31,40 @@ steps_begun {b} {c} {F} {before} {h} {call} counts =
     let under = counts.under in
     (under.within ++ first ∷ [], under.steps ∙ sym (append_assoc under.within (first ∷ []) before.steps))
 
-quiet : (reply : Reply) → reply ≢ Halted → says_halted reply ≡ false
-quiet Halted other = absurd (other refl)
-quiet reply other = refl
+-- where a call stands
+pub stands_there : (stage : Option Stage) (s : Stage) (call : Option Calling) → stage ≡ Some s → StandsWhere stage call → IsSomeAnd call (λ k. StandsAt s k)
+stands_there stage s call there stands = subst (λ (o : Option Stage). StandsWhere o call) there stands
+
+pub stands_at : (s : Stage) (call : Option Calling) (k : Calling) → call ≡ Some k → IsSomeAnd call (λ k. StandsAt s k) → StandsAt s k
+stands_at s call k is stands = subst (λ (o : Option Calling). IsSomeAnd o (λ k. StandsAt s k)) is stands
 
 module _ (b : BoardId) (F : Format) (given : List Part) where
-  module _ {a : Asked} (is : IsAsking b F given a) where
+  -- what answers a question doesn't rest
+  pub answering : (question : Option Posed) (q : Posed) (pass : Pass) (halted : Bool) (call : Option Calling) (tries : ℕ) → question ≡ Some q → RestsOrAnswers b F given question pass halted call tries
+      → IsAnswering b F given q pass call tries
+  answering question q pass halted call tries is so = subst (λ (o : Option Posed). RestsOrAnswers b F given o pass halted call tries) is so
+
+  pub still_answers : (question : Option Posed) (q : Posed) (pass : Pass) (halted : Bool) (call : Option Calling) (tries : ℕ) → question ≡ Some q → IsAnswering b F given q pass call tries
+      → RestsOrAnswers b F given question pass halted call tries
+  still_answers question q pass halted call tries is so = subst (λ (o : Option Posed). RestsOrAnswers b F given o pass halted call tries) (sym is) so
+
+  -- what rests answers none
+  pub resting : (question : Option Posed) (pass : Pass) (halted : Bool) (call : Option Calling) (tries : ℕ) → question ≡ None → RestsOrAnswers b F given question pass halted call tries → IsResting b given pass halted call
+  resting question pass halted call tries is so = subst (λ (o : Option Posed). RestsOrAnswers b F given o pass halted call tries) is so
+
+  pub has_rested : (question : Option Posed) (pass : Pass) (halted : Bool) (call : Option Calling) (tries : ℕ) → question ≡ None → IsResting b given pass halted call → RestsOrAnswers b F given question pass halted call tries
+  has_rested question pass halted call tries is so = subst (λ (o : Option Posed). RestsOrAnswers b F given o pass halted call tries) (sym is) so
+
+  -- nor does what has a call that stands somewhere
+  pub not_resting : (question : Option Posed) (pass : Pass) (halted : Bool) (call : Option Calling) (tries : ℕ) (stage : Option Stage) (s : Stage) → stage ≡ Some s → StandsWhere stage call
+      → RestsOrAnswers b F given question pass halted call tries → question ≡ None → ⊥
+  not_resting question pass halted call tries stage s there stands so none =
+      subst (λ (o : Option Calling). IsSomeAnd o (λ k. StandsAt s k)) (resting question pass halted call tries none so).none (stands_there stage s call there stands)
+
+  module _ {q : Posed} {pass : Pass} {call : Option Calling} {tries : ℕ} (is : IsAnswering b F given q pass call tries) where
     -- a call that begins, or is played on, is for the same request
-    pub plays_on : {pass : Pass} {call : Calling} → IsOf b pass → Counts b is.c F (part is.middle) call (part pass) → IsAsking b F given (record a { pass = pass; call = Some call })
-    plays_on {pass} {call} seated counts = record {
+    pub plays_on : {new : Pass} {k : Calling} → IsOf b new → Counts b is.c F (part is.middle) k (part new) → IsAnswering b F given q new (Some k) tries
+    plays_on {new} {k} seated counts = record {
       seated = seated;
       c = is.c;
       asked = is.asked;
@@ -49,46 +75,52 @@ module _ (b : BoardId) (F : Format) (given : List Part) where
       calm = is.calm;
     }
 
-  module _ {a : Asked} (is : IsAsking b F given a) {call : Calling} (begun : a.call ≡ Some call) where
     -- it counts the call that has begun
-    pub counted : Counts b is.c F (part is.middle) call (part a.pass)
-    counted = subst (λ (k : Option Calling). IsCounting b F is.c is.middle k a.pass) begun is.counts
+    pub counted : {k : Calling} → call ≡ Some k → Counts b is.c F (part is.middle) k (part pass)
+    counted {k} begun = subst (λ (o : Option Calling). IsCounting b F is.c is.middle o pass) begun is.counts
 
-    module _ (answer : Result Bool Fault) (new : Pass) where
+    module _ {k : Calling} (begun : call ≡ Some k) (answer : Result Bool Fault) (new : Pass) where
       -- what each call that this may count is answered, its own is
-      pub answered : ((c : Command) (format : Format) (before : Part) → before.sizes ≡ b.sizes → Counts b c format before call (part a.pass) → Answers format c (reply_of answer) before (part new))
-          → (b.sizes.passes ≡ 1 → (c : Command) (format : Format) (before : Part) → before.sizes ≡ b.sizes → Counts b c format before call (part a.pass)
+      pub answered : ((c : Command) (format : Format) (before : Part) → before.sizes ≡ b.sizes → Counts b c format before k (part pass) → Answers format c (reply_of answer) before (part new))
+          → (b.sizes.passes ≡ 1 → (c : Command) (format : Format) (before : Part) → before.sizes ≡ b.sizes → Counts b c format before k (part pass)
           → IsPlainAnswer format b.sizes.slots c (reply_of answer) (keys_in before.known) (keys_in (part new).known))
-          → AskedUpTo b F a.question.earlier is.c a.tries a.question.before answer new
+          → AskedUpTo b F q.earlier is.c tries q.before answer new
       answered answers plain = record {
         middle = is.middle;
         before = is.earlier;
         last = record {
           sized = is.sized;
-          call = answers is.c F (part is.middle) is.sized counted;
-          plain = λ one. plain one is.c F (part is.middle) is.sized counted;
+          call = answers is.c F (part is.middle) is.sized (counted begun);
+          plain = λ one. plain one is.c F (part is.middle) is.sized (counted begun);
         };
       }
 
       -- one more is to begin
-      pub asked_again : (beside : Bool) → (beside ≡ true → a.question.earlier ≡ true) → AskedUpTo b F a.question.earlier is.c a.tries a.question.before answer new → asks_again b a.tries beside answer ≡ true → MayCall b new
-          → IsAsking b F given (record a { pass = new; call = None; tries = a.tries + 1 })
-      asked_again beside so upto again may_call = record {
+      pub asked_again : (earlier : Bool) → (earlier ≡ true → q.earlier ≡ true) → AskedUpTo b F q.earlier is.c tries q.before answer new → asks_again b tries earlier answer ≡ true → MayCall b new
+          → IsAnswering b F given q new None (tries + 1)
+      asked_again earlier so upto again may_call = record {
         seated = may_call.0;
         c = is.c;
         asked = is.asked;
         middle = new;
-        earlier = one_more upto beside so again;
+        earlier = one_more upto earlier so again;
         sized = may_call.0.2.sized;
         counts = (refl, may_call);
         calm = is.calm;
       }
 
-  module _ {earlier : Bool} {old : Pass} {request : Request} {reply : Reply} {new : Pass} (seat : SeatAnswers b F earlier old request reply new) where
-    -- a pass that replies that the service halted has seen it
-    pub saw_halt : reply ≡ Halted → SawHalt new
-    saw_halt halted = saw_now b F earlier old new request reply seat (ap says_halted halted)
+  -- a call that is played on
+  pub still_played : (question : Option Posed) (pass new : Pass) (halted : Bool) (call : Option Calling) (k k' : Calling) (tries : ℕ) → call ≡ Some k → RestsOrAnswers b F given question pass halted call tries
+      → CountsOn b k (part pass) k' (part new) → IsOf b new → RestsOrAnswers b F given question new halted (Some k') tries
+  still_played None pass new halted call k k' tries begun so on seated = let none = so.none in absurd (cc)
+  still_played (Some q) pass new halted call k k' tries begun so on seated = plays_on so seated (on so.c F (part so.middle) (counted so begun))
 
-    -- and else stays calm
-    pub is_calm : MayCall b new → IsCalmAfter given old → reply ≢ Halted → IsCalmAfter given new
-    is_calm may_call calm other = λ all. stays_calm b F earlier old new request reply seat may_call.0.2.sized (quiet reply other) (calm all)
+  module _ {earlier : Bool} {old : Pass} {request : Request} {reply : Reply} {new : Pass} (seat : SeatAnswers b F earlier old request reply new) where
+    -- a pass that has replied rests
+    pub rests_now : MayCall b new → IsCalmAfter given old → IsResting b given new (says_halted reply) None
+    rests_now may_call calm = record {
+      may_call = may_call;
+      seen = λ halted. saw_now b F earlier old new request reply seat halted;
+      calm = λ quiet all. stays_calm b F earlier old new request reply seat may_call.0.2.sized quiet (calm all);
+      none = refl;
+    }

@@ -1,5 +1,5 @@
--- A request that a pass is answering.
-use Rattle.std.specs.Prelude.{◌≡◌, ℕ, List, Option, Some, None}
+-- A pass of a loop, and the request that it answers, if it answers one.
+use Rattle.std.specs.Prelude.{◌≡◌, ℕ, Bool, true, false, List, Option, Some, None, IfSome, IsSomeAnd}
 use Rattle.lz_slot.specs.declared.command.Command.{Command}
 use Rattle.lz_slot.specs.declared.format.Format.{Format}
 use Rattle.lz_machine.specs.Orders.{Calling}
@@ -7,34 +7,60 @@ use Rattle.lz_board.specs.declared.pass.Pass.{Pass}
 use Rattle.lz_board.specs.declared.view.Part.{Part}
 use Rattle.lz_board.specs.Seats.{BoardId, IsOf, part}
 use Rattle.lz_tie.specs.Counting.{Counts}
+use Rattle.lz_set.specs.declared.underway.Stage.{Stage}
 use Rattle.lz_set.specs.Names.{MayCall}
+use Rattle.lz_set.specs.Stages.{StandsAt}
 use Rattle.lz_serve.specs.Grants.{Posed}
-use Rattle.lz_serve.specs.Halts.{IsCalmAfter}
+use Rattle.lz_serve.specs.Halts.{IsCalmAfter, SawHalt}
 use Rattle.lz_serve.specs.Replies.{AreAskedAgain, command_of}
 
--- The question, the pass as it is now, the call under way, if it has begun, and how many were made before it.
+-- The question that it answers, if it answers one; the pass as it is now, and whether its last reply told that the service halted; the call
+-- under way, if it has begun, how many were made before it, and where it stands, if it was played on.
 pub record Asked : Type 0 where
-  pub question : Posed
+  pub question : Option Posed
   pub pass : Pass
+  pub halted : Bool
   pub call : Option Calling
   pub tries : ℕ
+  pub stage : Option Stage
 
 -- The call is counted since the pass was `middle`, or is yet to begin there.
 abbrev pub IsCounting : BoardId → Format → Command → Pass → Option Calling → Pass → Type 0
 IsCounting b F c middle (Some call) pass = Counts b c F (part middle) call (part pass)
 IsCounting b F c middle None pass = (pass ≡ middle) × MayCall b pass
 
+-- The pass answers nothing. It has seen the halt where a reply of it told so, and else no call of it was cut off, if none was of these
+-- parts.
+pub record IsResting (b : BoardId) (given : List Part) (pass : Pass) (halted : Bool) (call : Option Calling) : Type 0 where
+  pub may_call : MayCall b pass
+  pub seen : halted ≡ true → SawHalt pass
+  pub calm : halted ≡ false → IsCalmAfter given pass
+  pub none : call ≡ None
+
 -- The call is for what the request asks. Since the question was put the pass has made no other but so many after each of which one more
 -- is made. It was calm then, if all these parts were.
-pub record IsAsking (b : BoardId) (F : Format) (given : List Part) (a : Asked) : Type 0 where
-  pub seated : IsOf b a.pass
+pub record IsAnswering (b : BoardId) (F : Format) (given : List Part) (question : Posed) (pass : Pass) (call : Option Calling) (tries : ℕ) : Type 0 where
+  pub seated : IsOf b pass
   pub c : Command
-  pub asked : command_of a.question.request ≡ Some c
+  pub asked : command_of question.request ≡ Some c
   pub middle : Pass
-  pub earlier : AreAskedAgain b F a.question.earlier c a.tries a.question.before middle
+  pub earlier : AreAskedAgain b F question.earlier c tries question.before middle
   pub sized : (part middle).sizes ≡ b.sizes
-  pub counts : IsCounting b F c middle a.call a.pass
-  pub calm : IsCalmAfter given a.question.before
+  pub counts : IsCounting b F c middle call pass
+  pub calm : IsCalmAfter given question.before
+
+-- it rests, or answers this question
+abbrev pub RestsOrAnswers : BoardId → Format → List Part → Option Posed → Pass → Bool → Option Calling → ℕ → Type 0
+RestsOrAnswers b F given None pass halted call tries = IsResting b given pass halted call
+RestsOrAnswers b F given (Some question) pass halted call tries = IsAnswering b F given question pass call tries
+
+-- the call stands there, if that is known
+abbrev pub StandsWhere : Option Stage → Option Calling → Type 0
+StandsWhere stage call = IfSome stage (λ s. IsSomeAnd call (λ k. StandsAt s k))
+
+-- it rests, or answers its question, and its call stands where it was played to
+abbrev pub IsAsking : BoardId → Format → List Part → Asked → Type 0
+IsAsking b F given a = RestsOrAnswers b F given a.question a.pass a.halted a.call a.tries × StandsWhere a.stage a.call
 
 -- It is the same question, with as many calls answered.
 pub record IsSameQuestion (old new : Asked) : Type 0 where

@@ -5,7 +5,6 @@ pub mod Texts
 pub mod Verbs
 pub mod Grants
 pub mod Askings
-pub mod Answered
 pub mod Lines
 pub mod Conversations
 pub mod Streams

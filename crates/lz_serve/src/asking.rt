@@ -1,5 +1,5 @@
-//! A request that a pass is answering, as a value.
-ghost use Rattle.std.specs.Prelude.{◌≡◌, ◌≢◌, ◌+◌, ◌<◌, ◌&&◌, IsSomeAnd, None, Some, is_none, nat_lt, true};
+//! A pass of a loop at its place, and the request that it answers.
+ghost use Rattle.std.specs.Prelude.{◌≡◌, ◌≢◌, ◌+◌, ◌<◌, ◌&&◌, IfSome, IsSomeAnd, None, Some, false, is_none, nat_lt, true};
 ghost use Rattle.lz_slot.specs.declared.command.Command.{Command as Asks};
 ghost use Rattle.lz_board.specs.declared.pass.Pass.{Pass as Seen};
 ghost use Rattle.lz_board.specs.Seats.{IsOf, part};
@@ -9,12 +9,11 @@ ghost use Rattle.lz_set.specs.Stages.{HasPlayed, StandsAt, StepsWithout};
 ghost use Rattle.lz_machine.specs.declared.kind.Kind.TheVariants as kind;
 ghost use Rattle.lz_serve.specs.Askings.{IsCounting, IsSameQuestion};
 ghost use Rattle.lz_serve.specs.Grants.{IsGrant};
-ghost use Rattle.lz_serve.specs.Halts.{IsCalmAfter, SawHalt};
 ghost use Rattle.lz_serve.specs.Replies.{asks_again, client_reply, command_of, most_tries, says_halted};
 
 use crate::client::Question;
+use crate::free_pass::FreePass;
 use crate::given::Given;
-use crate::observer::Verb;
 use lz_disk::Disk;
 use lz_proto::Reply;
 use lz_set::{Fault, Kept, Named, Pass, Set, Stage, StepGate, Underway};
@@ -30,16 +29,22 @@ const MOST_TRIES: usize = 1_000;
 
 const PAUSE: u64 = 1;
 
-/// A request that a pass is answering. It has the pass until it is replied to, and its owner is to play it on until then, since
-/// others may wait for a node that it holds.
+/// A pass of a loop at its place: it rests, or answers a request for the client of a token. Then its owner is to play it on until it is
+/// replied to, since others may wait for a node that it holds.
 #[derive(Drop)]
 pub struct Asking<N: Named, B: Given> {
-    question: Question,
+    /// None where it rests.
+    question: Option<Question>,
+    token: usize,
     pass: Pass,
+    /// Its last reply told that the service halted.
+    halted: bool,
     /// None where it is yet to begin: the pass is outside, and holds up no slot.
     call: Option<Underway>,
     /// How many calls were answered that no slot is free, while slots waited.
     tries: usize,
+    /// Where the call stands, once it was played on.
+    stage: Option<Stage>,
     of: PhantomData<N>,
     among: PhantomData<B>,
 }
@@ -49,9 +54,9 @@ impl<N: Named, B: Given> Model for Asking<N, B> {
 
     ghost Value = { Asked };
 
-    ghost view = { λ a. record { question = a.question; pass = a.pass; call = a.call; tries = a.tries } };
+    ghost view = { λ a. record { question = a.question; pass = a.pass; halted = a.halted; call = a.call; tries = a.tries; stage = a.stage } };
 
-    ghost invariant = { λ a. IsAsking N.board N.format B.parts (record { question = a.question; pass = a.pass; call = a.call; tries = a.tries }) };
+    ghost invariant = { λ a. IsAsking N.board N.format B.parts (record { question = a.question; pass = a.pass; halted = a.halted; call = a.call; tries = a.tries; stage = a.stage }) };
 }
 
 /// The reply to a question that a call of a pass gave, of the set that N names. It is made where that call is answered, and nowhere
@@ -91,71 +96,124 @@ impl<N: Named> Granted<N> {
     }
 }
 
-/// What became of a call that was answered.
-#[derive(Drop)]
-pub enum Answered<N: Named, B: Given> {
-    /// The request has its reply.
-    Replied(Pass, Granted<N>),
-    /// No slot was free, and one more call is yet to begin.
-    Again(Asking<N, B>),
-}
-
 impl<N: Named, B: Given> Asking<N, B> {
-    ghost use Rattle.lz_serve.specs.Answered.{IfAgain, IfReplied};
-
-    /// Begins to answer a question by the pass to which it was put, which has made no call since.
-    pub fn begin<'a, D: Disk, G: StepGate, R: Wait>(
-        rt: &R,
-        set: &'a Set<D, G, N>,
-        kept: &mut Kept<'a, D, N>,
-        pass: Pass,
-        question: Question,
-    ) -> Asking<N, B>
-        requires may_call { MayCall N.board pass }
-        requires calm { IsCalmAfter B.parts pass }
-        requires before { question.before ≡ pass }
-        ensures question { result.question ≡ question }
-        ensures tries { result.tries ≡ 0 }
+    /// The place of a pass that is free.
+    pub fn new(free: FreePass<N, B>) -> Asking<N, B>
+        ensures rests { result.question ≡ None }
+        ensures pass { (result.pass ≡ free.pass) × (result.halted ≡ free.halted) }
     {
-        let mut pass = pass;
-        let call = set.begin(rt, kept, &mut pass, question.command());
+        let (pass, halted) = free.into_parts();
         Asking {
-            question,
+            question: None,
+            token: 0,
             pass,
-            call: Some(call),
+            halted,
+            call: None,
             tries: 0,
+            stage: None,
             of: PhantomData,
             among: PhantomData,
         }
     }
 
-    /// The number of its line on its connection.
-    pub(crate) fn line(&self) -> u64 {
-        self.question.line()
+    /// Its pass, which is free.
+    pub fn into_free(self) -> FreePass<N, B>
+        requires { self.question ≡ None }
+        ensures { (result.pass ≡ self.pass) × (result.halted ≡ self.halted) }
+    {
+        let Asking {
+            question: _,
+            token: _,
+            pass,
+            halted,
+            call: _,
+            tries: _,
+            stage: _,
+            of: _,
+            among: _,
+        } = self;
+        FreePass::new(pass, halted)
     }
 
-    /// What is asked for.
-    pub fn verb(&self) -> Verb {
-        Verb::of(&self.question.request())
+    /// Whether its pass answers nothing.
+    pub fn rests(&self) -> bool
+        ensures { result ≡ is_none self.now.question }
+    {
+        self.question.is_none()
     }
 
-    /// Plays the call on up to a stage, and no Sync. It begins where it hasn't yet, and one that was busy claims its node again.
+    /// Its pass.
+    pub fn pass(&self) -> &Pass
+        ensures { result.now ≡ self.now.pass }
+    {
+        &self.pass
+    }
+
+    /// Whether its last reply told that the service halted.
+    pub fn halted(&self) -> bool
+        ensures { result ≡ self.now.halted }
+    {
+        self.halted
+    }
+
+    /// The token of its client, where it answers one.
+    pub(crate) fn token(&self) -> usize {
+        self.token
+    }
+
+    /// The question that it answers.
+    pub(crate) fn question(&self) -> Option<&Question> {
+        self.question.as_ref()
+    }
+
+    /// Begins to answer a question of the client of this token, by the pass to which it was put, which has made no call since.
+    pub fn begin<'a, D: Disk, G: StepGate, R: Wait>(
+        &mut self,
+        rt: &R,
+        set: &'a Set<D, G, N>,
+        kept: &mut Kept<'a, D, N>,
+        token: usize,
+        question: Question,
+    )
+        requires rests { self.old.question ≡ None }
+        requires calm { self.old.halted ≡ false }
+        requires before { question.before ≡ self.old.pass }
+        ensures question { self.new.question ≡ Some question }
+        ensures tries { self.new.tries ≡ 0 }
+    {
+        let call = set.begin(rt, kept, &mut self.pass, question.command());
+        self.call = Some(call);
+        self.question = Some(question);
+        self.token = token;
+        self.tries = 0;
+        self.stage = None;
+    }
+
+    /// Plays the call on up to a stage, and no Sync. It begins where it hasn't yet, and one that was busy claims its node again. None
+    /// where it rests.
     pub fn go_on<'a, D: Disk, G: StepGate, R: Wait>(
         &mut self,
         rt: &R,
         set: &'a Set<D, G, N>,
         kept: &mut Kept<'a, D, N>,
-    ) -> Stage
-        ensures stands { IsSomeAnd self.new.call (λ call. StandsAt result call) }
-        ensures claimed { result ≡ Stage.Busy → HasPlayed kind.Claim (part self.old.pass) (part self.new.pass) }
+    ) -> Option<Stage>
+        ensures stands { IfSome result (λ stage. IsSomeAnd self.new.call (λ call. StandsAt stage call)) }
+        ensures stage { self.new.stage ≡ result }
+        ensures none { result ≡ None → self.old.question ≡ None }
+        ensures claimed { result ≡ Some Stage.Busy → HasPlayed kind.Claim (part self.old.pass) (part self.new.pass) }
         ensures steps { StepsWithout kind.Sync (part self.old.pass) (part self.new.pass) }
         ensures same { IsSameQuestion self.old self.new }
     {
-        let call = self.call.take();
-        let mut call = begun(rt, set, kept, &mut self.pass, call, &self.question);
-        let stage = set.go_on(rt, kept, &mut self.pass, &mut call);
-        self.call = Some(call);
-        stage
+        let Some(question) = &self.question else {
+            return None;
+        };
+        begin_once(rt, set, kept, &mut self.pass, &mut self.call, question);
+        let Some(call) = self.call.as_mut() else {
+            unreachable!();
+        };
+        let stage = set.go_on(rt, kept, &mut self.pass, call);
+        self.stage = Some(stage);
+        self.stage
     }
 
     /// Whether it waits for slots: its next call is yet to begin, and isn't the second one, which nothing is to wait for.
@@ -165,71 +223,65 @@ impl<N: Named, B: Given> Asking<N, B> {
         self.call.is_none() && self.tries > 1
     }
 
-    /// Plays the Sync before which the call stands.
+    /// Plays the Sync, if the call stands before one, and says whether it does.
     pub fn sync<'a, D: Disk, G: StepGate, R: Wait>(
         &mut self,
         rt: &R,
         set: &'a Set<D, G, N>,
         kept: &mut Kept<'a, D, N>,
-    )
-        requires { IsSomeAnd self.old.call (λ call. StandsAt Stage.Syncs call) }
-        ensures played { HasPlayed kind.Sync (part self.old.pass) (part self.new.pass) }
+    ) -> bool
+        ensures played { result ≡ true → HasPlayed kind.Sync (part self.old.pass) (part self.new.pass) }
+        ensures none { result ≡ false → (self.old.stage ≢ Some Stage.Syncs) × (self.new ≡ self.old) }
         ensures same { IsSameQuestion self.old self.new }
     {
+        let Some(Stage::Syncs) = self.stage else {
+            return false;
+        };
         let Some(call) = self.call.as_mut() else {
             unreachable!();
         };
         set.sync(rt, kept, &mut self.pass, call);
+        self.stage = None;
+        true
     }
 
-    /// Answers the call. Where no slot was free and slots wait for calls that end, it is answered to nobody, and one more is to
-    /// begin; up to a bound, in a set of several passes.
+    /// Answers the call. Where no slot was free and slots wait for calls that end, or an earlier line of its connection isn't answered,
+    /// as it wasn't when the question was put, it is answered to nobody, and one more is to begin; up to a bound, in a set of several passes.
     pub fn answer<'a, D: Disk, G: StepGate, R: Wait>(
-        self,
+        &mut self,
         rt: &R,
         set: &'a Set<D, G, N>,
         kept: &mut Kept<'a, D, N>,
         earlier: bool,
-    ) -> Answered<N, B>
-        requires { IsSomeAnd self.call (λ call. StandsAt Stage.Answers call) }
-        ensures may_call { IfReplied result (λ pass granted. MayCall N.board pass) }
-        ensures granted { IfReplied result (λ pass granted. (granted.question ≡ self.question) × (granted.after ≡ pass)) }
-        ensures halted { IfReplied result (λ pass granted. granted.reply ≡ Reply.Halted → SawHalt pass) }
-        ensures calm { IfReplied result (λ pass granted. granted.reply ≢ Reply.Halted → IsCalmAfter B.parts pass) }
-        ensures again { IfAgain result (λ next. (next.question ≡ self.question) × (next.call ≡ None) × (next.tries ≡ self.tries + 1)) }
+    ) -> Option<Granted<N>>
+        requires { self.old.stage ≡ Some Stage.Answers }
+        ensures granted { IfSome result (λ granted. (Some granted.question ≡ self.old.question) × (granted.after ≡ self.new.pass)) }
+        ensures rests { IfSome result (λ granted. self.new.question ≡ None) }
+        ensures halted { IfSome result (λ granted. self.new.halted ≡ says_halted granted.reply) }
+        ensures again { result ≡ None → (self.new.question ≡ self.old.question) × (self.new.call ≡ None) × (self.new.tries ≡ self.old.tries + 1) }
     {
-        let Asking {
-            question,
-            pass,
-            call,
-            tries,
-            of: _,
-            among: _,
-        } = self;
-        let Some(call) = call else {
+        let Some(question) = self.question.take() else {
             unreachable!();
         };
-        let mut pass = pass;
-        let earlier = earlier && question.earlier();
-        let answer = set.answer(rt, kept, &mut pass, call);
-        if asks_again(set, tries, earlier, answer) {
-            return Answered::Again(Asking {
-                question,
-                pass,
-                call: None,
-                tries: tries + 1,
-                of: PhantomData,
-                among: PhantomData,
-            });
-        }
-        let after = Snapshot::of(&pass);
-        let granted = Granted {
-            question,
-            reply: client_reply(answer),
-            after,
-            of: PhantomData,
+        let Some(call) = self.call.take() else {
+            unreachable!();
         };
-        Answered::Replied(pass, granted)
+        let earlier = earlier && question.earlier();
+        let answer = set.answer(rt, kept, &mut self.pass, call);
+        self.stage = None;
+        if asks_again(set, self.tries, earlier, answer) {
+            self.question = Some(question);
+            self.tries += 1;
+            return None;
+        }
+        let reply = client_reply(answer);
+        self.halted = says_halted(reply);
+        Some(Granted {
+            question,
+            reply,
+            after: Snapshot::of(&self.pass),
+            of: PhantomData,
+        })
     }
 }
 
@@ -305,23 +357,22 @@ pub(crate) fn says_halted(reply: Reply) -> bool
     matches!(reply, Reply::Halted)
 }
 
-// The call for what the question asks, which begins where it hasn't yet.
-fn begun<'a, D: Disk, G: StepGate, N: Named, R: Wait>(
+// The call for what the question asks begins, where it hasn't yet.
+fn begin_once<'a, D: Disk, G: StepGate, N: Named, R: Wait>(
     rt: &R,
     set: &'a Set<D, G, N>,
     kept: &mut Kept<'a, D, N>,
     pass: &mut Pass,
-    call: Option<Underway>,
+    call: &mut Option<Underway>,
     question: &Question,
-) -> Underway
+)
     requires pass { IsOf N.board pass.old }
-    requires rests { call ≡ None → MayCall N.board pass.old }
+    requires rests { call.old ≡ None → MayCall N.board pass.old }
     ensures pass { IsOf N.board pass.new }
-    ensures counts { (c : Asks) (middle : Seen) → command_of question.now.request ≡ Some c → IsCounting N.board N.format c middle call pass.old → Counts N.board c N.format (part middle) result (part pass.new) }
+    ensures counts { (c : Asks) (middle : Seen) → command_of question.now.request ≡ Some c → IsCounting N.board N.format c middle call.old pass.old → IsSomeAnd call.new (λ k. Counts N.board c N.format (part middle) k (part pass.new)) }
     ensures steps { StepsWithout kind.Sync (part pass.old) (part pass.new) }
 {
-    match call {
-        Some(call) => call,
-        None => set.begin(rt, kept, pass, question.command()),
+    if call.is_none() {
+        *call = Some(set.begin(rt, kept, pass, question.command()));
     }
 }

@@ -15,6 +15,11 @@ use std::alloc::Global;
 use std::marker::Model;
 use std::snapshot::Snapshot;
 
+/// For how many items and lines, and for how many bytes to be sent, a client with nothing to do keeps room.
+const FEW: usize = 16;
+
+const LITTLE: usize = 256;
+
 /// A request with the number of its connection and that of its line there. Contracts see the pass that is to answer it too, as it was
 /// when the question was put. It can't be copied, and a reply to it uses it up.
 #[derive(Drop)]
@@ -151,14 +156,15 @@ impl<S: Stream> Client<S> {
         }
     }
 
-    /// Reads a piece, if there is one, and says whether there may be more. The buffer has room for one.
-    pub(crate) fn read(&mut self, buffer: &mut [u8]) -> bool {
+    /// Reads a piece, if there is one, and says whether there may be more that nothing will tell of: no more, where it was less than the buffer
+    /// has room for, unless the client sends nothing after it (`ends`). The buffer has room for a piece.
+    pub(crate) fn read(&mut self, buffer: &mut [u8], ends: bool) -> bool {
         if self.lost || self.ended {
             return false;
         }
         match self.stream.receive(buffer) {
             Received::Count(count) => match self.talk.feed(&buffer[..count]) {
-                Ok(()) => true,
+                Ok(()) => ends || count == buffer.len(),
                 Err(_) => {
                     self.lost = true;
                     false
@@ -230,13 +236,8 @@ impl<S: Stream> Client<S> {
         match self.talk.next() {
             Ok(Some(request)) => {
                 let line = self.talk.lines();
-                Some(Question::new(
-                    self.connection,
-                    line,
-                    request,
-                    pass,
-                    earlier,
-                ))
+                let question = Question::new(self.connection, line, request, pass, earlier);
+                Some(question)
             }
             Ok(None) => {
                 self.held = self.talk.waits();
@@ -325,7 +326,8 @@ impl<S: Stream> Client<S> {
 
     /// Where it has nothing to do, it keeps no more room than a little.
     pub(crate) fn rest(&mut self) {
-        if !self.is_occupied() && !self.is_asked() {
+        let (items, bytes) = self.talk.room();
+        if (items > FEW || bytes > LITTLE) && !self.is_occupied() && !self.is_asked() {
             self.talk.rest();
         }
     }

@@ -6,6 +6,7 @@ ghost use Rattle.lz_serve.specs.Streams.{IsFresh};
 use crate::asking::Granted;
 use crate::client::{Client, Question};
 use crate::place::{Place, Wish};
+use crate::poller::Ready;
 use crate::stream::Stream;
 use lz_set::{Named, Pass};
 use std::alloc::{AllocError, Global};
@@ -26,7 +27,7 @@ pub struct Crowd<S: Stream> {
     vacant: Vec<usize>,
     queue: VecDeque<usize>,
     /// Those that were answered, or had no line in their turn, and weren't tended to since.
-    back: VecDeque<usize>,
+    back: Vec<usize>,
     /// How many were admitted, and how many of these have left.
     admitted: u64,
     parted: u64,
@@ -35,8 +36,8 @@ pub struct Crowd<S: Stream> {
     /// The time by its own clock, in milliseconds, and when it was looked last which clients were silent.
     now: u64,
     looked: u64,
-    /// The time by the system's clock, as it was noted last.
-    noted: Option<Duration>,
+    /// The time by the system's clock, as it was noted last, in milliseconds.
+    noted: Option<u64>,
 }
 
 impl<S: Stream> Crowd<S> {
@@ -45,7 +46,7 @@ impl<S: Stream> Crowd<S> {
         let mut places = Vec::with_capacity(alloc, most)?;
         let mut vacant = Vec::with_capacity(alloc, most)?;
         let queue = VecDeque::with_capacity(alloc, most)?;
-        let back = VecDeque::with_capacity(alloc, most)?;
+        let back = Vec::with_capacity(alloc, most)?;
         for token in 0..most {
             places.push(Place::empty())?;
             vacant.push(token)?;
@@ -116,11 +117,11 @@ impl<S: Stream> Crowd<S> {
         self.tend(token, buffer);
     }
 
-    /// The connection with this token can be read or written.
-    pub fn hear(&mut self, token: usize, buffer: &mut [u8]) {
-        let now = self.now;
+    /// A connection can be read or written.
+    pub fn hear(&mut self, ready: Ready, buffer: &mut [u8]) {
+        let Ready { token, ends } = ready;
         if let Some(place) = self.places.get_mut(token) {
-            place.hear(now);
+            place.hear(ends, self.now);
         }
         self.tend(token, buffer);
     }
@@ -129,14 +130,12 @@ impl<S: Stream> Crowd<S> {
     pub fn reply<N: Named>(&mut self, token: usize, granted: Granted<N>)
         requires { Promises N.board N.format S.promised }
     {
-        let now = self.now;
         let Some(place) = self.places.get_mut(token) else {
             return;
         };
-        if place.reply(granted, now) {
-            self.enqueue(token);
-        }
-        self.give_back(token);
+        let is_next = place.reply(granted, self.now);
+        let is_back = place.give_back();
+        self.put(token, is_next, is_back);
     }
 
     /// Whether an earlier line of the client of this token isn't answered.
@@ -148,12 +147,13 @@ impl<S: Stream> Crowd<S> {
 
     /// Does for those that were answered, or had no line, what needs no pass.
     pub fn tend_back(&mut self, buffer: &mut [u8]) {
-        'tokens: for _ in 0..self.back.len() {
-            let Some(token) = self.back.pop_front() else {
+        for at in 0..self.back.len() {
+            let Some(token) = self.back.get(at).copied() else {
                 return;
             };
             self.tend(token, buffer);
         }
+        self.back.clear();
     }
 
     /// The question to this pass whose turn it is, if there is one, with the token of its client.
@@ -164,12 +164,11 @@ impl<S: Stream> Crowd<S> {
             let token = self.queue.pop_front()?;
             let place = self.places.get_mut(token)?;
             let question = place.take_turn(pass);
-            if place.may_ask() {
-                self.enqueue(token);
-            }
-            match question {
-                Some(question) => return Some((token, question)),
-                None => self.give_back(token),
+            let is_next = place.may_ask() && place.queue();
+            let is_back = question.is_none() && place.give_back();
+            self.put(token, is_next, is_back);
+            if let Some(question) = question {
+                return Some((token, question));
             }
         }
         None
@@ -184,9 +183,9 @@ impl<S: Stream> Crowd<S> {
 
     /// Notes the time by the system's clock. Its own goes on as that does, but not by more than a second at once.
     pub fn note_time(&mut self, now: Duration) {
+        let now = millis(now);
         if let Some(passed) = self.noted.and_then(|noted| now.checked_sub(noted)) {
-            let counted = millis(passed).min(LONGEST_TURN);
-            self.now = self.now.saturating_add(counted);
+            self.now = self.now.saturating_add(passed.min(LONGEST_TURN));
         }
         self.noted = Some(now);
     }
@@ -239,27 +238,19 @@ impl<S: Stream> Crowd<S> {
         }
         match wish {
             Wish::Nothing => {}
-            Wish::Turn => self.enqueue(token),
+            Wish::Turn => {
+                let is_next = place.queue();
+                self.put(token, is_next, false);
+            }
             Wish::Close => self.close(token),
         }
     }
 
-    // Its client waits for its turn, if it doesn't already. There is room for each.
-    fn enqueue(&mut self, token: usize) {
-        let Some(place) = self.places.get_mut(token) else {
-            return;
-        };
-        if place.queue() && self.queue.push_back(token).is_err() {
-            self.close(token);
-        }
-    }
-
-    // Its client is to be tended to, if it isn't already. There is room for each.
-    fn give_back(&mut self, token: usize) {
-        let Some(place) = self.places.get_mut(token) else {
-            return;
-        };
-        if place.give_back() && self.back.push_back(token).is_err() {
+    // A client waits for its turn, if it didn't before, and is to be tended to, if it wasn't. There is room for each.
+    fn put(&mut self, token: usize, is_next: bool, is_back: bool) {
+        if is_next && self.queue.push_back(token).is_err()
+            || is_back && self.back.push(token).is_err()
+        {
             self.close(token);
         }
     }

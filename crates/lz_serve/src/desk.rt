@@ -1,16 +1,17 @@
 //! What a loop works at: its clients, its passes, and the calls under way.
-ghost use Rattle.std.specs.Prelude.{◌≡◌, ◌+◌, ◌≤◌, ◌<◌, IfOk, true, vec_capacity, vec_len};
+ghost use Rattle.std.specs.Prelude.{◌≡◌, ◌+◌, ◌≤◌, ◌<◌, IfOk, None, Some, false, true, vec_capacity, vec_len};
 ghost use Rattle.lz_serve.specs.Grants.{Promises};
 
+use crate::answering::{Next, answer_call, answer_one, begin_next};
+use crate::asking::Asking;
 use crate::crowd::Crowd;
 use crate::free_pass::FreePass;
 use crate::given::Given;
 use crate::moments::{MOMENT, Moments};
-use crate::observer::{Observer, Verb};
+use crate::observer::Observer;
 use crate::stream::Stream;
-use crate::working::{Played, Working};
 use lz_disk::Disk;
-use lz_set::{Kept, Named, Set, StepGate};
+use lz_set::{Named, Set, Stage, StepGate};
 use std::alloc::{AllocError, Global};
 use std::sync::Wait;
 use std::time::{Clock, Duration};
@@ -26,7 +27,7 @@ pub(crate) struct Desk<S: Stream, N: Named, B: Given> {
     pub(crate) crowd: Crowd<S>,
     free: Vec<FreePass<N, B>>,
     /// The calls under way.
-    calls: Vec<Working<N, B>>,
+    calls: Vec<Asking<N, B>>,
     /// For how many passes there is room, and how many were taken in.
     most: usize,
     given: usize,
@@ -102,20 +103,20 @@ impl<S: Stream, N: Named, B: Given> Desk<S, N, B> {
     {
         let mut kept = set.keep();
         'passes: for _ in 0..self.free.len() {
+            if self.crowd.is_quiet() {
+                return;
+            }
             let Some(free) = self.free.pop() else {
                 return;
             };
-            match begin_next(rt, set, &mut kept, &mut self.crowd, free, self.ends) {
-                Ok(working) => {
-                    let Ok(()) = self.calls.push(working) else {
-                        unreachable!()
-                    };
-                }
-                Err(free) => {
-                    put_free(&mut self.free, free);
-                    return;
-                }
+            let mut asking = Asking::new(free);
+            if !begin_next(rt, set, &mut kept, &mut self.crowd, &mut asking, self.ends) {
+                put_free(&mut self.free, asking.into_free());
+                return;
             }
+            let Ok(()) = self.calls.push(asking) else {
+                unreachable!()
+            };
         }
     }
 
@@ -143,27 +144,29 @@ impl<S: Stream, N: Named, B: Given> Desk<S, N, B> {
             if at >= self.calls.len() {
                 break;
             }
-            if !self.calls[at].play(rt, set, &mut kept, tries) {
+            let asking = &mut self.calls[at];
+            if asking.waits() && !tries
+                || asking.go_on(rt, set, &mut kept) != Some(Stage::Answers)
+            {
                 at += 1;
                 continue;
             }
-            let working = self.calls.swap_remove(at);
-            let (token, line) = working.line();
-            let earlier = self.crowd.has_earlier(token, line);
-            match working.answer(rt, set, &mut kept, observer, earlier) {
-                Played::Stands(working) => {
-                    put_back(&mut self.calls, at, working);
-                    at += 1;
-                }
-                Played::GoesOn(working) => put_back(&mut self.calls, at, working),
-                Played::Replied(token, granted, free) => {
+            match answer_call(
+                rt,
+                set,
+                &mut kept,
+                &mut self.crowd,
+                asking,
+                observer,
+                self.ends,
+            ) {
+                Next::GoesOn => {}
+                Next::Waits => at += 1,
+                Next::Rests => {
+                    let free = self.calls.swap_remove(at).into_free();
                     self.halted = self.halted || free.halted();
                     self.ends = self.ends || self.halted;
-                    self.crowd.reply(token, granted);
-                    match begin_next(rt, set, &mut kept, &mut self.crowd, free, self.ends) {
-                        Ok(working) => put_back(&mut self.calls, at, working),
-                        Err(free) => put_free(&mut self.free, free),
-                    }
+                    put_free(&mut self.free, free);
                 }
             }
         }
@@ -176,8 +179,8 @@ impl<S: Stream, N: Named, B: Given> Desk<S, N, B> {
         ensures { self.new.given ≡ self.old.given }
     {
         let mut kept = set.keep();
-        for working in self.calls.iter_mut() {
-            working.sync(rt, set, &mut kept);
+        for asking in self.calls.iter_mut() {
+            let _ = asking.sync(rt, set, &mut kept);
         }
     }
 
@@ -258,7 +261,7 @@ impl<S: Stream, N: Named, B: Given> Desk<S, N, B> {
 
     // Whether each call waits for slots, and no other can begin.
     fn only_waits(&self) -> bool {
-        self.calls.iter().all(Working::waits) && (self.free.is_empty() || self.crowd.is_quiet())
+        self.calls.iter().all(Asking::waits) && (self.free.is_empty() || self.crowd.is_quiet())
     }
 
     // Whether there is something to do, with nothing heard of the connections.
@@ -293,76 +296,4 @@ fn put_free<N: Named, B: Given>(passes: &mut Vec<FreePass<N, B>>, free: FreePass
     let Ok(()) = passes.push(free) else {
         unreachable!()
     };
-}
-
-// A call goes on at this place, from which it was taken.
-fn put_back<N: Named, B: Given>(calls: &mut Vec<Working<N, B>>, at: usize, working: Working<N, B>)
-    requires { vec_len calls.old < vec_capacity calls.old }
-    ensures count { vec_len calls.new ≡ vec_len calls.old + 1 }
-    ensures spare { vec_capacity calls.old ≤ vec_capacity calls.new }
-{
-    let last = calls.len();
-    let Ok(()) = calls.push(working) else {
-        unreachable!()
-    };
-    if at < last {
-        calls.swap(at, last);
-    }
-}
-
-// Begins to answer the line whose turn it is by this pass, if there is one and the service goes on.
-fn begin_next<'a, S, D, G, N, B, R>(
-    rt: &R,
-    set: &'a Set<D, G, N>,
-    kept: &mut Kept<'a, D, N>,
-    crowd: &mut Crowd<S>,
-    free: FreePass<N, B>,
-    ends: bool,
-) -> Result<Working<N, B>, FreePass<N, B>>
-where
-    S: Stream,
-    D: Disk,
-    G: StepGate,
-    N: Named,
-    B: Given,
-    R: Wait,
-{
-    if ends || free.halted() {
-        return Err(free);
-    }
-    let Some((token, question)) = crowd.take_turn(free.pass()) else {
-        return Err(free);
-    };
-    let (pass, _) = free.into_parts();
-    Ok(Working::begin(rt, set, kept, pass, token, question))
-}
-
-// Answers the request of the client of this token by this pass, if one waits.
-fn answer_one<S, D, G, N, B, R, O>(
-    rt: &R,
-    set: &Set<D, G, N>,
-    crowd: &mut Crowd<S>,
-    token: usize,
-    free: &mut FreePass<N, B>,
-    observer: &O,
-    buffer: &mut [u8],
-)
-where
-    S: Stream,
-    D: Disk,
-    G: StepGate,
-    N: Named,
-    B: Given,
-    R: Wait + Clock,
-    O: Observer,
-    requires { Promises N.board N.format S.promised }
-{
-    let Some(question) = crowd.take_last(token, free.pass(), buffer) else {
-        return;
-    };
-    let verb = Verb::of(&question.request());
-    let granted = free.answer(rt, set, question);
-    observer.answered(verb, granted.reply());
-    crowd.reply(token, granted);
-    crowd.tend_back(buffer);
 }

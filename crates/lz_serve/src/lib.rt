@@ -8,6 +8,7 @@
 //!   that a pass is answering is a value too (`Asking`): one thread plays many on up to a sync, and then one sync for all (`serve_loop`).
 #![tactic(auto)]
 
+mod answering;
 mod asking;
 mod client;
 mod conversation;
@@ -32,9 +33,8 @@ mod shares;
 mod sockets;
 mod stream;
 mod workers;
-mod working;
 
-pub use asking::{Answered, Asking, Granted};
+pub use asking::{Asking, Granted};
 pub use client::{Client, Question};
 pub use conversation::Conversation;
 pub use crowd::Crowd;
@@ -45,7 +45,7 @@ pub use loops::serve_loops;
 pub use observer::{Lack, Loops, Observer, Serving, Verb};
 pub use options::{MOST_CONNECTIONS, MOST_THREADS, ServeOptions};
 pub use pass_thread::{close_listener, serve_client};
-pub use poller::Poller;
+pub use poller::{Poller, Ready};
 pub use seated::Seated;
 pub use server::{Bounds, Served, none_served, serve};
 pub use serving::serve_loop;

@@ -177,7 +177,7 @@ where
             }
             None if client.is_over() => return,
             None => {
-                let _ = client.read(&mut buffer);
+                let _ = client.read(&mut buffer, false);
             }
         }
     }

@@ -30,6 +30,8 @@ pub(crate) struct Place<S: Stream> {
     client: Option<Client<S>>,
     /// There may be something to read.
     readable: bool,
+    /// Its client sends nothing more.
+    ends: bool,
     /// It waits for its turn.
     queued: bool,
     /// It was answered, and wasn't tended to since.
@@ -47,6 +49,7 @@ impl<S: Stream> Place<S> {
         Place {
             client: None,
             readable: false,
+            ends: false,
             queued: false,
             back: false,
             parts: false,
@@ -59,6 +62,7 @@ impl<S: Stream> Place<S> {
     pub(crate) fn admit(&mut self, client: Client<S>, now: u64) {
         self.client = Some(client);
         self.readable = true;
+        self.ends = false;
         self.queued = false;
         self.back = false;
         self.parts = false;
@@ -66,7 +70,8 @@ impl<S: Stream> Place<S> {
         self.moved = now;
     }
 
-    /// Hands a reply to its client, if that is still the one whose line was answered, and says whether this has one for a pass.
+    /// Hands a reply to its client, if that is still the one whose line was answered, and says whether this has one for a pass and
+    /// didn't wait for its turn.
     pub(crate) fn reply<N: Named>(&mut self, granted: Granted<N>, now: u64) -> bool
         requires { Promises N.board N.format S.promised }
     {
@@ -75,12 +80,13 @@ impl<S: Stream> Place<S> {
         };
         client.reply(granted);
         self.moved = now;
-        self.may_ask()
+        self.may_ask() && self.queue()
     }
 
     /// Its connection can be read or written. One whose session is over is waited for no longer because of that.
-    pub(crate) fn hear(&mut self, now: u64) {
+    pub(crate) fn hear(&mut self, ends: bool, now: u64) {
         self.readable = true;
+        self.ends = self.ends || ends;
         if !self.leaves {
             self.moved = now;
         }
@@ -122,7 +128,7 @@ impl<S: Stream> Place<S> {
     {
         let client = self.client.as_mut()?;
         if !client.waits() {
-            let _ = client.read(buffer);
+            let _ = client.read(buffer, self.ends);
         }
         client.ask(pass)
     }
@@ -141,7 +147,7 @@ impl<S: Stream> Place<S> {
             if self.parts || !self.readable || client.is_occupied() {
                 break;
             }
-            self.readable = client.read(buffer);
+            self.readable = client.read(buffer, self.ends);
         }
         if client.is_over() || self.parts && !client.has_unsent() {
             self.leaves = true;

@@ -3,6 +3,14 @@ use crate::stream::Stream;
 use std::io;
 use std::time::Duration;
 
+/// A connection that can be read or written.
+#[derive(Clone, Copy, Debug, PartialEq, Eq)]
+pub struct Ready {
+    pub token: usize,
+    /// Its client sends nothing more, so nothing will tell of what is left to be read.
+    pub ends: bool,
+}
+
 /// Connections that come, and those that can be read or written.
 pub trait Poller {
     ghost use Rattle.std.specs.Prelude.{IfOk, IfSome};
@@ -10,10 +18,10 @@ pub trait Poller {
 
     type Stream: Stream;
 
-    /// Waits until a connection has come, or one can be read or written, but not for longer than so. Puts the tokens of those that
-    /// can be read or written at the end of `ready`: each of which that is so since its last `Later`. Where the system or memory
-    /// fails it puts none, after a pause.
-    fn poll(&mut self, patience: Duration, ready: &mut Vec<usize>);
+    /// Waits until a connection has come, or one can be read or written, but not for longer than so. Puts those that can be read or
+    /// written at the end of `ready`: each of which that is so since its last `Later`, or since it gave less than there was room for.
+    /// Where the system or memory fails it puts none, after a pause.
+    fn poll(&mut self, patience: Duration, ready: &mut Vec<Ready>);
 
     /// A connection that has come, if there is one, which has this token from now on. Its stream is dropped before another one gets
     /// the token. Where the system fails the connection may wait.

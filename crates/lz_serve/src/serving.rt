@@ -11,7 +11,7 @@ use crate::desk::Desk;
 use crate::free_pass::{FreePass, hand_back};
 use crate::given::Given;
 use crate::observer::{Lack, Observer};
-use crate::poller::Poller;
+use crate::poller::{Poller, Ready};
 use crate::server::{Bounds, Served, none_served};
 use crate::shares::set_free;
 use crate::stream::Stream;
@@ -279,7 +279,7 @@ fn listen<R, P>(
     crowd: &mut Crowd<P::Stream>,
     patience: Duration,
     idle: Option<Duration>,
-    ready: &mut Vec<usize>,
+    ready: &mut Vec<Ready>,
     buffer: &mut [u8],
 )
 where
@@ -291,8 +291,8 @@ where
     if let Ok(now) = rt.monotonic() {
         crowd.note_time(now);
     }
-    for token in ready.iter() {
-        crowd.hear(*token, buffer);
+    for one in ready.iter() {
+        crowd.hear(*one, buffer);
     }
     crowd.close_idle(idle);
 }
@@ -302,7 +302,7 @@ fn take_leave<R, P>(
     rt: &R,
     poller: &mut P,
     crowd: &mut Crowd<P::Stream>,
-    ready: &mut Vec<usize>,
+    ready: &mut Vec<Ready>,
     buffer: &mut [u8],
 )
 where

@@ -1,6 +1,6 @@
 //! The connections of a loop, as the system's sockets.
 use crate::loads::Loads;
-use crate::poller::Poller;
+use crate::poller::{Poller, Ready};
 use crate::stream::{Received, Stream, Taken};
 use mio::net::{TcpListener as Listener, TcpStream};
 use mio::{Events, Interest, Poll, Token};
@@ -120,7 +120,7 @@ impl<'a, R: Clock> Sockets<'a, R> {
 impl<'a, R: Clock> Poller for Sockets<'a, R> {
     type Stream = Socket<'a>;
 
-    fn poll(&mut self, patience: Duration, ready: &mut Vec<usize>) {
+    fn poll(&mut self, patience: Duration, ready: &mut Vec<Ready>) {
         let patience = match self.left {
             Some(_) => patience.min(Duration::from_millis(COURTESY)),
             None => patience,
@@ -136,7 +136,10 @@ impl<'a, R: Clock> Poller for Sockets<'a, R> {
             if event.token() == LISTENER {
                 self.has_come = true;
             } else {
-                let _ = ready.push(event.token().0);
+                let _ = ready.push(Ready {
+                    token: event.token().0,
+                    ends: event.is_read_closed(),
+                });
             }
         }
     }

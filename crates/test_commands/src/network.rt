@@ -2,7 +2,7 @@
 ghost use Rattle.std.specs.Prelude.{◌≡◌, ◌≢◌, ◌≤◌, ◌<◌, length};
 ghost use Rattle.lz_serve.specs.Streams.{counted, sent};
 
-use lz_serve::{Poller, Received, Stream, Taken};
+use lz_serve::{Poller, Ready, Received, Stream, Taken};
 use std::alloc::Global;
 use std::cell::RefCell;
 use std::io;
@@ -130,13 +130,13 @@ pub struct Switch<'a> {
 impl<'a> Poller for Switch<'a> {
     type Stream = Wire<'a>;
 
-    fn poll(&mut self, _patience: Duration, ready: &mut Vec<usize>) {
+    fn poll(&mut self, _patience: Duration, ready: &mut Vec<Ready>) {
         let Ok(mut network) = self.network.try_borrow_mut() else {
             return;
         };
         for token in 0..self.places {
             if network.chance(2) == 0 {
-                let _ = ready.push(token);
+                let _ = ready.push(Ready { token, ends: false });
             }
         }
     }

@@ -1,45 +1,59 @@
-use Rattle.std.proofs.Common.{◌≡◌, true, sym, ◌∙◌, rules, subst}
+use Rattle.std.proofs.Common.{◌≡◌, ◌+◌, Bool, Option, true, sym, ◌∙◌, subst}
+use Rattle.lz_machine.specs.Orders.{Calling}
 use Rattle.lz_board.specs.declared.pass.Pass.{Pass}
-use Rattle.lz_serve.specs.Replies.{SeatAnswers}
+use Rattle.lz_serve.specs.Askings.{IsAnswering, IsResting}
+use Rattle.lz_serve.specs.Replies.{SeatAnswers, says_halted}
 use Rattle.lz_serve.proofs.Seats.{seat_told}
-use Rattle.lz_serve.proofs.Askings.{answered, asked_again, is_calm, saw_halt}
+use Rattle.lz_serve.proofs.Askings.{answered, answering, asked_again, has_rested, rests_now}
 use Rattle.lz_serve.proofs.asking.Asking.answer.Goals as goal
 use Rattle.lz_serve.proofs.asking.Asking.answer.Goals.{then-earlier, else-earlier}
+
+pub invariant_of-self : goal.invariant_of-self
+invariant_of-self g c =
+    let b = g.N.Named.board in
+    let F = g.N.Named.format in
+    let given = g.B.Given.parts in
+    let from = c.self.inside in
+    let q = c.in-Some.question in
+    let is = answering b F given from.question q from.pass from.halted from.call from.tries (sym c.in-Some.ensures.value) c.self.invariant.0 in
+    let begun = sym c.in-Some-take.ensures.value in
+    let told = c.answer-answer in
+    let so : c.if-earlier.earlier ≡ true → q.earlier ≡ true =
+    λ beside. elim c.if-earlier.branch [ then-earlier w ↦ sym w.earlier-earlier.ensures ∙ sym w.earlier-is ∙ beside | else-earlier w ↦ let other = w.earlier-is in let none = w.if-earlier.false in absurd (cc) ] in (
+      subst (λ (o : Option Calling). IsAnswering b F given q told.new.pass o (from.tries + 1)) (sym c.take-2.ensures.after)
+          (asked_again b F given is begun told.result told.new.pass c.if-earlier.earlier so (answered b F given is begun told.result told.new.pass told.ensures.answers told.ensures.plain)
+          (sym c.asks_again.ensures.again ∙ c.if-asks_again.true) told.ensures.pass),
+      tt,
+    )
 
 pub invariant_of-result : goal.invariant_of-result
 invariant_of-result g c =
     let b = g.N.Named.board in
     let F = g.N.Named.format in
     let given = g.B.Given.parts in
-    let is = c.self.invariant in
+    let from = c.self.inside in
+    let q = c.in-Some.question in
+    let is = answering b F given from.question q from.pass from.halted from.call from.tries (sym c.in-Some.ensures.value) c.self.invariant.0 in
     let told = c.answer-answer in
-    let so : c.if-earlier.earlier ≡ true → c.self.inside.question.earlier ≡ true =
-    λ is. elim c.if-earlier.branch [ then-earlier w ↦ sym w.earlier-earlier.ensures ∙ sym w.earlier-is ∙ is | else-earlier w ↦ let other = w.earlier-is in let none = w.if-earlier.false in absurd (cc) ] in
-    asked_again b F given is c.in-Some.is told.result told.new.pass c.if-earlier.earlier so (answered b F given is c.in-Some.is told.result told.new.pass told.ensures.answers told.ensures.plain)
-    (sym c.asks_again.ensures.again ∙ c.if-asks_again.true) told.ensures.pass
+    let seat = seat_told (answered b F given is (sym c.in-Some-take.ensures.value) told.result told.new.pass told.ensures.answers told.ensures.plain) c.if-earlier.earlier is.asked (sym c.asks_again.ensures.again ∙ c.if-asks_again.false) c.client_reply-reply.ensures in
+    subst (λ (p : Pass). SeatAnswers b F q.earlier q.before q.request c.client_reply-reply.result p) (sym c.of.ensures) seat
 
-pub invariant_of-granted : goal.invariant_of-granted
-invariant_of-granted g c =
+pub invariant_of-self-2 : goal.invariant_of-self-2
+invariant_of-self-2 g c =
     let b = g.N.Named.board in
     let F = g.N.Named.format in
     let given = g.B.Given.parts in
-    let is = c.self.invariant in
+    let from = c.self.inside in
+    let is = answering b F given from.question c.in-Some.question from.pass from.halted from.call from.tries (sym c.in-Some.ensures.value) c.self.invariant.0 in
     let told = c.answer-answer in
-    let seat = seat_told (answered b F given is c.in-Some.is told.result told.new.pass told.ensures.answers told.ensures.plain) c.if-earlier.earlier is.asked (sym c.asks_again.ensures.again ∙ c.if-asks_again.false) c.client_reply.ensures in
-    subst (λ (p : Pass). SeatAnswers b F c.self.inside.question.earlier c.self.inside.question.before c.self.inside.question.request c.client_reply.result p) (sym c.of-after.ensures) seat
-
-pub returns : goal.returns
-returns g c =
-    let b = g.N.Named.board in
-    let F = g.N.Named.format in
-    let given = g.B.Given.parts in
-    let is = c.self.invariant in
-    let told = c.answer-answer in
-    let seat = seat_told (answered b F given is c.in-Some.is told.result told.new.pass told.ensures.answers told.ensures.plain) c.if-earlier.earlier is.asked (sym c.asks_again.ensures.again ∙ c.if-asks_again.false) c.client_reply.ensures in
-    record {
-      may_call = told.ensures.pass;
-      granted = search rules;
-      halted = saw_halt b F given seat;
-      calm = is_calm b F given seat told.ensures.pass is.calm;
-      again = tt;
-    }
+    let new = told.new.pass in
+    let reply = c.client_reply-reply.result in
+    let seat = seat_told (answered b F given is (sym c.in-Some-take.ensures.value) told.result new told.ensures.answers told.ensures.plain) c.if-earlier.earlier is.asked (sym c.asks_again.ensures.again ∙ c.if-asks_again.false) c.client_reply-reply.ensures in
+    let rests = rests_now b F given seat told.ensures.pass is.calm in
+    let halted = c.says_halted-self-inside.result in
+    let call = c.take-2.new.self in (
+      has_rested b F given c.take.new.self new halted call from.tries c.take.ensures.after
+          (subst (λ (h : Bool). IsResting b given new h call) (sym c.says_halted-self-inside.ensures)
+          (subst (λ (o : Option Calling). IsResting b given new (says_halted reply) o) (sym c.take-2.ensures.after) rests)),
+      tt,
+    )

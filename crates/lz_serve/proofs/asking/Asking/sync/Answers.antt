@@ -1,12 +1,11 @@
 use Rattle.std.proofs.Common.{sym}
-use Rattle.lz_board.specs.Seats.{part}
-use Rattle.lz_serve.proofs.Askings.{counted, plays_on}
+use Rattle.lz_serve.proofs.Askings.{still_played}
 use Rattle.lz_serve.proofs.asking.Asking.sync.Goals as goal
 
 pub invariant_of-self : goal.invariant_of-self
 invariant_of-self g c =
-    let b = g.N.Named.board in
-    let F = g.N.Named.format in
-    let given = g.B.Given.parts in
-    let is = c.self.invariant in
-    plays_on b F given is c.sync.ensures.pass (c.sync.ensures.counts is.c F (part is.middle) (counted b F given is (sym c.in-Some.ensures.value)))
+    let from = c.self.inside in (
+      still_played g.N.Named.board g.N.Named.format g.B.Given.parts from.question from.pass c.sync.new.pass from.halted from.call c.in-Some.call.now c.sync.new.call from.tries (sym c.in-Some.ensures.value) c.self.invariant.0
+          c.sync.ensures.counts c.sync.ensures.pass,
+      tt,
+    )
