@@ -12,6 +12,8 @@ const FREE_AGAIN: usize = 5;
 pub struct Gauge {
     slots: AtomicUsize,
     members: AtomicUsize,
+    /// With how many members the next share is reached.
+    next: AtomicUsize,
     /// The greatest share that was reached.
     told: AtomicUsize,
     /// It was full, and hasn't had room since.
@@ -23,6 +25,7 @@ impl Gauge {
         Gauge {
             slots: AtomicUsize::new(0),
             members: AtomicUsize::new(0),
+            next: AtomicUsize::new(0),
             told: AtomicUsize::new(0),
             is_full: AtomicBool::new(false),
         }
@@ -32,6 +35,7 @@ impl Gauge {
     pub fn begin(&self, slots: usize, members: usize) {
         self.slots.store(slots, Ordering::SeqCst);
         self.members.store(members, Ordering::SeqCst);
+        self.next.store(self.count_after(0), Ordering::SeqCst);
     }
 
     pub fn members(&self) -> usize {
@@ -45,11 +49,15 @@ impl Gauge {
     /// A key has come in. The share of the slots that it has reached, where that is news.
     pub fn came(&self) -> Option<usize> {
         let members = self.members.fetch_add(1, Ordering::SeqCst).wrapping_add(1);
+        if members < self.next.load(Ordering::SeqCst) {
+            return None;
+        }
         let share = self.reached(members)?;
         if share <= self.told.load(Ordering::SeqCst) {
             return None;
         }
         self.told.store(share, Ordering::SeqCst);
+        self.next.store(self.count_after(share), Ordering::SeqCst);
         Some(share)
     }
 
@@ -65,6 +73,16 @@ impl Gauge {
     /// It is full now. Whether that is news.
     pub fn fills(&self) -> bool {
         !self.is_full.swap(true, Ordering::SeqCst)
+    }
+
+    // With how many members the first share after this one is reached.
+    fn count_after(&self, told: usize) -> usize {
+        for share in SHARES {
+            if share > told {
+                return self.slots().saturating_mul(share).div_ceil(100);
+            }
+        }
+        usize::MAX
     }
 
     // The greatest of the shares that so many members have reached.
