@@ -9,8 +9,8 @@ use Rattle.lz_slot.specs.Sets.{Keys, members}
 use Rattle.lz_allot.specs.declared.counts.Counts.{Counts}
 use Rattle.lz_list.specs.declared.publishing.Publishing.TheVariants.{Linked as linked, Marked as marked}
 use Rattle.lz_list.specs.Traces.{Trace, opening}
-use Rattle.lz_machine.specs.declared.event.Reply.TheVariants.{Yes, No, Full, OldFile, Halted}
-use Rattle.lz_tie.specs.KeyByKey.{AreFor, OnlyOwnOf, Untouched, KeyRow, IsKeyAnswer, ServedKey, about, PlainCalls}
+use Rattle.lz_machine.specs.declared.event.Reply.TheVariants.{Yes, No, Full, Worn, OldFile, Halted}
+use Rattle.lz_tie.specs.KeyByKey.{AreFor, OnlyOwnOf, Untouched, KeyRow, IsKeyAnswer, ServedKey, about, PlainCalls, answered_in}
 use Rattle.lz_tie.proofs.SessionRows.{before, after, answers}
 
 -- key 9 was found in slot 0; pass 2 has changed it since, while pass 1 has linked 12
@@ -117,3 +117,7 @@ not_another h = let kept = h.2 9 (λ same. absurd cc) in let end = h.3 9 in true
 
 not_lost : PlainCalls Two ((Add 12, Yes) ∷ []) (members []) (members []) → ⊥
 not_lost h = let added = h.1.row.1 in let end = h.3 12 in false≢true (end ∙ added)
+
+-- what was told worn wasn't done, and so is no reply of the plain set
+those_answered : answered_in ((Add 12, Yes) ∷ (Add 9, Worn) ∷ (Has 9, No) ∷ []) ≡ (Add 12, true) ∷ (Has 9, false) ∷ []
+those_answered = refl

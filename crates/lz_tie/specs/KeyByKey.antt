@@ -13,7 +13,7 @@ use Rattle.lz_machine.specs.Table.{is_old}
 use Rattle.lz_board.specs.declared.view.Part.{Part}
 use Rattle.lz_tie.specs.Answers.{Answers}
 use Rattle.lz_tie.specs.OneCaller.{tells_old}
-use Rattle.lz_tie.specs.Sessions.{AnsweredCalls}
+use Rattle.lz_tie.specs.Sessions.{AnsweredCalls, NoneCut}
 
 -- each linking and marking of key k in these was made for such a pass
 abbrev pub AreFor : (ℕ → Type 0) → ℕ → Trace → Type 0
@@ -89,14 +89,21 @@ OwnKeysArePlain =
     (F : Format) (calls : AnsweredCalls) (P Q : ℕ → Trace)
     → ((k : ℕ) → ServedKey F k (about k calls) (P k) (Q k)) → PlainCalls F calls (λ k. member k (P k)) (λ k. member k (Q k))
 
--- told yes or no
-abbrev pub plainly : Bool → Reply
-plainly true = Yes
-plainly false = No
+-- those of the calls that were told yes or no
+abbrev pub answered_by : Command → Reply → List (Command × Bool) → List (Command × Bool)
+answered_by c Yes asked = (c, true) ∷ asked
+answered_by c No asked = (c, false) ∷ asked
+answered_by c _ asked = asked
 
--- Where each call is told yes or no, these are the plain set's replies to the list of their commands, and it is the set after them.
+abbrev pub answered_in : AnsweredCalls → List (Command × Bool)
+answered_in [] = []
+answered_in (call ∷ calls) = answered_by call.0 call.1 (answered_in calls)
+
+-- Where none was cut off, these are the plain set's replies to the list of their commands, and it is the set after them: what was told
+-- full, worn or of an old file wasn't done.
 abbrev pub PlainCallsAreReplies : Type 0
 PlainCallsAreReplies =
-    (F : Format) (asked : List (Command × Bool)) (S T : Keys)
-    → PlainCalls F (map (λ call. (call.0, plainly call.1)) asked) S T
-    → (map (λ call. call.1) asked ≡ replies S (map (λ call. call.0) asked)) × Same T (set_after S (map (λ call. call.0) asked))
+    (F : Format) (calls : AnsweredCalls) (S T : Keys)
+    → PlainCalls F calls S T → NoneCut calls
+    → (map (λ call. call.1) (answered_in calls) ≡ replies S (map (λ call. call.0) (answered_in calls)))
+    × Same T (set_after S (map (λ call. call.0) (answered_in calls)))

@@ -25,7 +25,8 @@ pub fn own_keys_are_plain()
     ensures { OwnKeysArePlain }
 {}
 
-/// Where each of them is yes or no, they are the replies of that plain set to the list of the commands, and it is the set after them.
+/// Where none was cut off, those that are yes or no are the replies of that plain set to the list of their commands, and it is the set
+/// after them.
 pub fn plain_calls_are_replies()
     ensures { PlainCallsAreReplies }
 {}

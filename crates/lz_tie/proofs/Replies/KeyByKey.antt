@@ -1,16 +1,20 @@
 -- What is told of keys that nobody else changes is, key by key, what a plain set tells.
 use Rattle.std.proofs.Common.{◌≡◌, inl, inr, ℕ, ◌==◌, if◌then◌else◌, Bool, true, false, List, [], ◌∷◌, ◌++◌, map, refl, sym, ap, ◌∙◌, subst, eq-eqb}
+use mathlib.Core.Bool.{true≢false}
 use Rattle.std.proofs.lemmas.Bool.Decides.{eqb_tells}
 use Rattle.lz_slot.specs.declared.command.Command.{Command}
+use Rattle.lz_slot.specs.declared.command.Command.TheVariants.{Add, Remove, Has}
 use Rattle.lz_slot.specs.declared.format.Format.{Format}
 use Rattle.lz_slot.specs.Sets.{Keys, Same, after, key_of, moved, replies, reply, set_after}
 use Rattle.lz_slot.proofs.Sets.{after_at, after_same, moved_other}
 use Rattle.lz_list.specs.declared.publishing.Publishing.TheVariants.{Linked as linked, Marked as marked}
 use Rattle.lz_list.specs.Traces.{Trace, member}
 use Rattle.lz_machine.specs.declared.event.Reply.{Reply}
-use Rattle.lz_tie.specs.KeyByKey.{AreFor, Untouched, KeyRow, IsKeyAnswer, ServedKey, about, SameBut, PlainCalls, OwnKeysArePlain, plainly, PlainCallsAreReplies}
-use Rattle.lz_tie.specs.Sessions.{AnsweredCalls}
+use Rattle.lz_machine.specs.declared.event.Reply.TheVariants.{Yes, No, Full, Worn, OldFile, Halted, Device}
+use Rattle.lz_tie.specs.KeyByKey.{AreFor, Untouched, KeyRow, IsKeyAnswer, ServedKey, about, SameBut, PlainCalls, OwnKeysArePlain, answered_by, answered_in, PlainCallsAreReplies}
+use Rattle.lz_tie.specs.Sessions.{AnsweredCalls, cuts_off, NoneCut}
 use Rattle.lz_tie.proofs.Replies.OneKey.{one_key}
+use Rattle.lz_tie.proofs.Sessions.PlainRows.{after_told}
 
 leaves : (k : ℕ) (since P : Trace) → AreFor (λ q. ⊥) k since → member k (since ++ P) ≡ member k P
 leaves k [] P none = refl
@@ -65,30 +69,50 @@ own_keys F (call ∷ calls) P Q served =
       own_keys F calls (with_at k R P) Q rest,
     )
 
--- the set after an answer that is yes or no is the one after its command
-answered : (F : Format) (c : Command) (b : Bool) (S U : Keys) → IsKeyAnswer F c (plainly b) (S (key_of c)) (U (key_of c)) → SameBut (key_of c) S U → (b ≡ reply c (S (key_of c))) × Same U (after c S)
-answered F c b S U h others = (
-  (row b h.row).0,
-  λ j. elim (eqb_tells j (key_of c)) [
-    | inl t ↦ subst (λ (q : ℕ). U q ≡ after c S q) (sym t.1) ((row b h.row).1 ∙ sym (after_at c S (key_of c)))
-    | inr f ↦ others j f.1 ∙ sym (moved_other c j (S j) (λ same. f.1 (sym same))) ∙ sym (after_at c S j)
-  ],
-)
-  where
-    row : (b : Bool) → KeyRow c (plainly b) (S (key_of c)) (U (key_of c)) → (b ≡ reply c (S (key_of c))) × (U (key_of c) ≡ moved (key_of c) c (S (key_of c)))
-    row true r = (sym r.0, r.1)
-    row false r = (sym r.0, r.1)
+-- a key's row and all other keys are the set's
+whole : (c : Command) (S U : Keys) → U (key_of c) ≡ moved (key_of c) c (S (key_of c)) → SameBut (key_of c) S U → Same U (after c S)
+whole c S U it others j = elim (eqb_tells j (key_of c)) [
+  | inl t ↦ subst (λ (q : ℕ). U q ≡ after c S q) (sym t.1) (it ∙ sym (after_at c S (key_of c)))
+  | inr f ↦ others j f.1 ∙ sym (moved_other c j (S j) (λ same. f.1 (sym same))) ∙ sym (after_at c S j)
+]
 
-from_same : (F : Format) (asked : List (Command × Bool)) (S S' T : Keys) → Same S S' → PlainCalls F (map (λ call. (call.0, plainly call.1)) asked) S T
-    → (map (λ call. call.1) asked ≡ replies S' (map (λ call. call.0) asked)) × Same T (set_after S' (map (λ call. call.0) asked))
-from_same F [] S S' T same h = (refl, λ k. h k ∙ same k)
-from_same F (call ∷ asked) S S' T same h =
+unmoved : (k : ℕ) (S U : Keys) → U k ≡ S k → SameBut k S U → Same U S
+unmoved k S U it others j = elim (eqb_tells j k) [
+  | inl t ↦ subst (λ (q : ℕ). U q ≡ S q) (sym t.1) it
+  | inr f ↦ others j f.1
+]
+
+leaves_set : (c : Command) (told : Reply) (S U : Keys) → cuts_off told ≡ false → KeyRow c told (S (key_of c)) (U (key_of c)) → SameBut (key_of c) S U → Same U (after_told c told S)
+leaves_set c Yes S U kept row others = whole c S U row.1 others
+leaves_set c No S U kept row others = whole c S U row.1 others
+leaves_set (Add k) (Full counts) S U kept row others = unmoved k S U row.1 others
+leaves_set (Remove k) (Full counts) S U kept row others = absurd row
+leaves_set (Has k) (Full counts) S U kept row others = absurd row
+leaves_set c Worn S U kept row others = unmoved (key_of c) S U row others
+leaves_set c OldFile S U kept row others = unmoved (key_of c) S U row others
+leaves_set c Halted S U kept row others = absurd (true≢false kept)
+leaves_set c Device S U kept row others = absurd (true≢false kept)
+
+abbrev AreReplies : List (Command × Bool) → Keys → Keys → Type 0
+AreReplies asked S T = (map (λ call. call.1) asked ≡ replies S (map (λ call. call.0) asked)) × Same T (set_after S (map (λ call. call.0) asked))
+
+one_more : (c : Command) (told : Reply) (is was : Bool) (asked : List (Command × Bool)) (S T : Keys) → KeyRow c told was is → was ≡ S (key_of c) → AreReplies asked (after_told c told S) T → AreReplies (answered_by c told asked) S T
+one_more c Yes is was asked S T row same rest = (ap (λ (b : Bool). b ∷ map (λ call. call.1) asked) (sym row.0 ∙ ap (reply c) same) ∙ ap (λ (l : List Bool). reply c (S (key_of c)) ∷ l) rest.0, rest.1)
+one_more c No is was asked S T row same rest = (ap (λ (b : Bool). b ∷ map (λ call. call.1) asked) (sym row.0 ∙ ap (reply c) same) ∙ ap (λ (l : List Bool). reply c (S (key_of c)) ∷ l) rest.0, rest.1)
+one_more c told is was asked S T row same rest = rest
+
+same_told : (c : Command) (told : Reply) (S T : Keys) → Same S T → Same (after_told c told S) (after_told c told T)
+same_told c Yes S T same = after_same c S T same
+same_told c No S T same = after_same c S T same
+same_told c told S T same = same
+
+from_same : (F : Format) (calls : AnsweredCalls) (S S' T : Keys) → Same S S' → PlainCalls F calls S T → NoneCut calls → AreReplies (answered_in calls) S' T
+from_same F [] S S' T same h kept = (refl, λ k. h k ∙ same k)
+from_same F (call ∷ calls) S S' T same h kept =
     let c : Command = call.0 in
-    let here = answered F c call.1 S h.0 h.1 h.2 in
-    let next : Same h.0 (after c S') = λ j. here.1 j ∙ after_same c S S' same j in
-    let rest = from_same F asked h.0 (after c S') T next h.3 in
-    let told : call.1 ≡ reply c (S' (key_of c)) = here.0 ∙ ap (reply c) (same (key_of c)) in
-    (ap (λ (b : Bool). b ∷ map (λ call. call.1) asked) told ∙ ap (λ (l : List Bool). reply c (S' (key_of c)) ∷ l) rest.0, rest.1)
+    let next : Same h.0 (after_told c call.1 S') = λ j. leaves_set c call.1 S h.0 kept.0 h.1.row h.2 j ∙ same_told c call.1 S S' same j in
+    one_more c call.1 (h.0 (key_of c)) (S (key_of c)) (answered_in calls) S' T h.1.row (same (key_of c))
+    (from_same F calls h.0 (after_told c call.1 S') T next h.3 kept.1)
 
 pub plain_replies : PlainCallsAreReplies
-plain_replies F asked S T h = from_same F asked S S T (λ k. refl) h
+plain_replies F calls S T h kept = from_same F calls S S T (λ k. refl) h kept
