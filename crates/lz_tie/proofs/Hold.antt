@@ -12,3 +12,4 @@ pub mod PlayedCall
 pub mod JoinedStep
 pub mod PinSight
 pub mod OneHold
+pub mod FoundEvent

@@ -1,4 +1,4 @@
--- What a pass may ask of a hold of the lock, and what the hold promises it.
+-- What a hold of the lock promises the pass.
 use Rattle.std.specs.Prelude.{◌≡◌, suc, ◌<◌, ◌≤◌, List, [], ◌∷◌, None}
 use Rattle.lz_slot.specs.declared.command.Command.{Command}
 use Rattle.lz_slot.specs.declared.format.Format.{Format}
@@ -32,11 +32,6 @@ pub record IsNextOf (h : Part) (c : Calling) (e : Event) : Type 0 where
   pub event : e ≡ event_at (shape_of_sizes h.sizes) c.command c.progress
   pub load : hop_of e ≡ None
 
--- A pass without a call may ask for an Invoke, and one with a call for its next event.
-abbrev pub MayAsk : Sizes → Part → Event → Type 0
-MayAsk z h (Invoke c) = IsIdle z h × (key_of c ≤ largest_key)
-MayAsk z h e = (c : Calling) × IsNextOf h c e
-
 -- A call of command c was made: the pass's pin word was found, and the Invoke noted. The pass had seen what the life began with.
 pub record Began (b : BoardId) (F : Format) (was is : List Note) (c : Command) (t : Turn) (before after : Part) : Type 0 where
   pub outcome : t.outcome ≡ begins_with F c
@@ -65,13 +60,3 @@ pub record Advanced (b : BoardId) (was is : List Note) (k : Calling) (t : Turn) 
 pub record WentOn (b : BoardId) (was is : List Note) (k : Calling) (t : Turn) (before after : Part) : Type 0 where
   pub advanced : Advanced b was is k t before after
   pub shows : Shows (shape_of_sizes b.sizes) was is (mark_of_turn (last_call_number before.number was) (reply_at k.progress))
-
-abbrev pub Gave : BoardId → Format → List Note → List Note → Turn → Part → Part → Event → Type 0
-Gave b F was is t before after (Invoke c) = Began b F was is c t before after
-Gave b F was is t before after e = (k : Calling) → IsNextOf before k e → WentOn b was is k t before after
-
--- One hold, for a pass that asked for this event. A fault is told only where the device failed in it.
-pub record Held (b : BoardId) (F : Format) (was is : List Note) (old new : Device) (e : Event) (t : Turn) (before after : Part) : Type 0 where
-  pub moments : HoldExplains b was is old new
-  pub device : t.outcome ≡ Fault → old.faults < new.faults
-  pub gave : Gave b F was is t before after e

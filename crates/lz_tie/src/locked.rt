@@ -3,17 +3,14 @@ ghost use Rattle.std.specs.Prelude.{◌≡◌, ◌⊎◌, ◌≤◌, ◌<◌};
 ghost use Rattle.lz_vault.specs.Vaults.{last_sync};
 ghost use Rattle.lz_list.specs.Traces.{halt_word};
 ghost use Rattle.lz_board.specs.Notes.{trace_of};
-ghost use Rattle.lz_board.specs.Seats.{IsOf, IsPenOf, id_of, notes, part};
-ghost use Rattle.lz_tie.specs.Held.{Held, MayAsk};
+ghost use Rattle.lz_board.specs.Seats.{IsPenOf, notes};
 ghost use Rattle.lz_tie.specs.Holds.{IsLocked};
 ghost use Rattle.lz_tie.specs.Lives.{LivesOn};
 ghost use Rattle.lz_tie.specs.Moments.{ExplainedSince, LeftSince};
 
 use crate::named::Named;
-use crate::playing::{Turn, play_joined};
-use lz_board::{Board, Pass, Pen};
+use lz_board::Pen;
 use lz_disk::Disk;
-use lz_machine::Event;
 use lz_yard::Yard;
 use std::marker::{Model, PhantomData};
 
@@ -53,35 +50,6 @@ impl<N: Named, D: Disk> Locked<N, D> {
             pen,
             of: PhantomData,
         }
-    }
-
-    // One hold of the lock: the pass joins the pen, which finds the pin word that the event looks at, and for an Invoke the pass's
-    // own; the event is played and noted, and the pass is cut off again. A fault is told only where the device failed in this hold.
-    pub(crate) fn hold(&mut self, board: &Board, pass: &mut Pass, event: Event) -> Turn
-        requires board { id_of board.now ≡ N.board }
-        requires pass { IsOf N.board pass.old }
-        requires asks { MayAsk N.board.sizes (part pass.old) event }
-        ensures pass { IsOf N.board pass.new }
-        ensures held { Held N.board N.format self.old.notes self.new.notes (D.device self.old.disk) (D.device self.new.disk) event result (part pass.old) (part pass.new) }
-    {
-        let asked = event;
-        board.join(&mut self.pen, pass);
-        let turn = match event {
-            Event::Invoke(command) => {
-                let call = Event::Invoke(command);
-                let number = pass.number();
-                board.load_pin(&mut self.pen, number);
-                play_joined(board, &mut self.pen, &mut self.yard, pass, call)
-            }
-            Event::SeePin(seen, _) => {
-                let value = board.load_pin(&mut self.pen, seen);
-                let found = Event::SeePin(seen, value);
-                play_joined(board, &mut self.pen, &mut self.yard, pass, found)
-            }
-            _ => play_joined(board, &mut self.pen, &mut self.yard, pass, asked),
-        };
-        board.cut(&mut self.pen, pass);
-        turn
     }
 
     /// What a crash at any moment of the life might have left: each such text is one that may be left in the state to which

@@ -29,7 +29,7 @@ ghost use Rattle.lz_tie.specs.OneCaller.{IsPlainAnswer, keys_in};
 
 use crate::locked::Locked;
 use crate::named::Named;
-use crate::playing::Turn;
+use crate::playing::{Turn, play_joined};
 use lz_board::{Board, Pass};
 use lz_caller::Caller;
 use lz_disk::Disk;
@@ -78,11 +78,17 @@ impl<N: Named, D: Disk> Locked<N, D> {
         let asked = command;
         let made = command;
         let _key = made.key().rank();
-        let turn = self.hold(board, pass, Event::Invoke(command));
+        board.join(&mut self.pen, pass);
+        let number = pass.number();
+        board.load_pin(&mut self.pen, number);
+        let invoked = Event::Invoke(command);
+        let turn = play_joined(board, &mut self.pen, &mut self.yard, pass, invoked);
+        board.cut(&mut self.pen, pass);
         Caller::begun(asked, buckets, passes, turn.outcome)
     }
 
-    /// One more hold of a call that isn't about to answer: plays its next event, which is this one and no load, and its caller
+    /// One more hold of a call that isn't about to answer: the pass joins the pen, which finds the pin word that the call's next
+    /// event looks at; the event, which is this one and no load, is played and noted, the pass is cut off again, and its caller
     /// takes the outcome.
     #[inline(always)]
     pub fn turn_on(
@@ -106,7 +112,17 @@ impl<N: Named, D: Disk> Locked<N, D> {
         ensures caller { caller.new ≡ record caller.old { progress = progress_after (shape_with caller.old) caller.old.command caller.old.progress result.outcome } }
         ensures goes { CountsOn N.board caller.old (part pass.old) caller.new (part pass.new) }
     {
-        let turn = self.hold(board, pass, event);
+        let asked = event;
+        board.join(&mut self.pen, pass);
+        let found = match event {
+            Event::SeePin(seen, _) => {
+                let value = board.load_pin(&mut self.pen, seen);
+                Event::SeePin(seen, value)
+            }
+            _ => asked,
+        };
+        let turn = play_joined(board, &mut self.pen, &mut self.yard, pass, found);
+        board.cut(&mut self.pen, pass);
         caller.take(turn.outcome);
         turn
     }
@@ -126,6 +142,9 @@ impl<N: Named, D: Disk> Locked<N, D> {
         ensures answers { (c : Asked) (format : Format) (before : Part) → before.sizes ≡ N.board.sizes → Counts N.board c format before caller.now (part pass.old) → Answers format c _reply before (part pass.new) }
         ensures plain { N.board.sizes.passes ≡ 1 → (c : Asked) (format : Format) (before : Part) → before.sizes ≡ N.board.sizes → Counts N.board c format before caller.now (part pass.old) → IsPlainAnswer format N.board.sizes.slots c _reply (keys_in before.known) (keys_in (part pass.new).known) }
     {
-        self.hold(board, pass, Event::Answer)
+        board.join(&mut self.pen, pass);
+        let turn = play_joined(board, &mut self.pen, &mut self.yard, pass, Event::Answer);
+        board.cut(&mut self.pen, pass);
+        turn
     }
 }

@@ -1,5 +1,5 @@
 -- A call that a caller counts goes on by each of its moves.
-use Rattle.std.proofs.Common.{◌≡◌, ℕ, zero, suc, ◌==◌, ◌+◌, nat_lt, Bool, true, false, List, [], ◌∷◌, length, refl, sym, ap, ◌∙◌, subst}
+use Rattle.std.proofs.Common.{◌≡◌, ◌≢◌, ℕ, zero, suc, ◌==◌, ◌+◌, nat_lt, Bool, true, false, List, [], ◌∷◌, length, refl, sym, ap, ◌∙◌, subst}
 use mathlib.Core.Bool.{false≢true}
 use Rattle.std.specs.Prelude.{if◌then◌else◌, is_some, slice_index_or, Option, Some, None}
 use Rattle.lz_slot.specs.declared.command.Command.{Command}
@@ -52,7 +52,7 @@ use Rattle.lz_tie.specs.Answers.{Answers}
 use Rattle.lz_tie.specs.OneCaller.{keys_in, IsPlainAnswer}
 use Rattle.lz_tie.specs.NotedRuns.{seen_event}
 use Rattle.lz_tie.specs.Holds.{HoldNotes, Turned, IsIdle, begins_with}
-use Rattle.lz_tie.specs.Held.{IsNextOf, MayAsk, Advanced, WentOn, Gave}
+use Rattle.lz_tie.specs.Held.{IsNextOf, Advanced, WentOn}
 use Rattle.lz_tie.specs.Marks.{Shows, last_call_number}
 use Rattle.lz_tie.specs.UnderWay.{UnderWay}
 use Rattle.lz_tie.specs.Counting.{OnWalk, Counts}
@@ -103,15 +103,6 @@ no_invokes c (Halting reply) = (refl, tt)
 goes_on_with : (shape : Shape) (c : Command) (at : Progress) → is_invoke (event_at shape c at) ≡ false
 goes_on_with shape c (Playing sequence i) = no_invoke_in (events_of c sequence) i (no_invokes c sequence)
 goes_on_with shape c _ = refl
-
--- so a pass may ask for it, and a hold goes on with its call
-next_asks : (z : Sizes) (h : Part) (k : Calling) (e : Event) → IsNextOf h k e → is_invoke e ≡ false → MayAsk z h e
-next_asks z h k (Invoke c) next other = absurd (false≢true (sym other))
-next_asks z h k e next other = (k, next)
-
-next_gave : (b : BoardId) (F : Format) (was is : List Note) (t : Turn) (h h' : Part) (k : Calling) (e : Event) → IsNextOf h k e → is_invoke e ≡ false → Gave b F was is t h h' e → WentOn b was is k t h h'
-next_gave b F was is t h h' k (Invoke c) next other gave = absurd (false≢true (sym other))
-next_gave b F was is t h h' k e next other gave = gave k next
 
 -- what an event that is no load gave may be taken
 pub may_take : (shape : Shape) (c : Command) (at : Progress) (o : Outcome) → hop_of (event_at shape c at) ≡ None → MayTake at o
@@ -215,14 +206,8 @@ module _ (b : BoardId) (c : Command) (format : Format) (before : Part) (k : Call
   pub is_next : (e : Event) → e ≡ event_at (shape_with k) k.command k.progress → hop_of (event_at (shape_with k) k.command k.progress) ≡ None → IsNextOf h k e
   is_next e is no_load = record { call = has_call b c format before k on_board h C.under; event = is ∙ sym event_here; load = ap hop_of is ∙ no_load }
 
-  no_invoke : (e : Event) → e ≡ event_at (shape_with k) k.command k.progress → is_invoke e ≡ false
-  no_invoke e is = ap is_invoke is ∙ goes_on_with (shape_with k) k.command k.progress
-
-  pub asks_next : (e : Event) → e ≡ event_at (shape_with k) k.command k.progress → hop_of (event_at (shape_with k) k.command k.progress) ≡ None → MayAsk b.sizes h e
-  asks_next e is no_load = next_asks b.sizes h k e (is_next e is no_load) (no_invoke e is)
-
-  pub went_on : (F : Format) (was is : List Note) (t : Turn) (h' : Part) (e : Event) → e ≡ event_at (shape_with k) k.command k.progress → hop_of (event_at (shape_with k) k.command k.progress) ≡ None → Gave b F was is t h h' e → WentOn b was is k t h h'
-  went_on F was is t h' e at no_load = next_gave b F was is t h h' k e (is_next e at no_load) (no_invoke e at)
+  pub no_invoke : (e : Event) → e ≡ event_at (shape_with k) k.command k.progress → (d : Command) → e ≢ Invoke d
+  no_invoke e is d call = false≢true (sym (goes_on_with (shape_with k) k.command k.progress) ∙ ap is_invoke (sym is ∙ call))
 
   pub counted_on : IsWalkable b.sizes → (was is : List Note) (t : Turn) (h' : Part) → Advanced b was is k t h h' → hop_of (event_at (shape_with k) k.command k.progress) ≡ None → reply_at k.progress ≡ None
       → (k' : Calling) → k' ≡ record k { progress = progress_after (shape_with k) k.command k.progress t.outcome } → Counts b c format before k' h'

@@ -3,8 +3,6 @@ use Rattle.std.proofs.Common.{◌≡◌, ◌≢◌, ◌<◌, ◌≤◌, ℕ, suc
 use Rattle.std.specs.Prelude.{◌+◌, if◌then◌else◌, Option, None}
 use Rattle.lz_slot.specs.declared.command.Command.{Command}
 use Rattle.lz_slot.specs.declared.format.Format.{Format}
-use Rattle.lz_slot.specs.Limits.{largest_key}
-use Rattle.lz_slot.specs.Sets.{key_of}
 use Rattle.lz_slot.specs.declared.history.Mark.TheVariants.{Call}
 use Rattle.lz_disk.specs.Devices.{Device}
 use Rattle.lz_list.specs.declared.publishing.Publishing.{Publishing}
@@ -28,11 +26,11 @@ use Rattle.lz_board.specs.Notes.{Since, note_by, pin_after, shape_of_sizes, trac
 use Rattle.lz_board.specs.Plays.{found_note, knowing}
 use Rattle.lz_board.specs.Seats.{BoardId, IsPenOf, notes}
 use Rattle.lz_tie.specs.declared.playing.Turn.{Turn}
-use Rattle.lz_tie.specs.Held.{Began, Gave, Held, IsNextOf, MayAsk, WentOn, found_for}
+use Rattle.lz_tie.specs.Held.{Began, IsNextOf, WentOn, found_for}
 use Rattle.lz_tie.specs.Holds.{HoldNotes, InHold, IsIdle, IsLocked, IsTurn, MayTurn, Turned, begins_with, what_of}
 use Rattle.lz_tie.specs.Lives.{KeepsLife, LivesOn, faults_in, faults_with}
 use Rattle.lz_tie.specs.Marks.{last_call_number}
-use Rattle.lz_tie.specs.Moments.{MomentsGoOn, LeftSince}
+use Rattle.lz_tie.specs.Moments.{HoldExplains, MomentsGoOn, LeftSince}
 use Rattle.lz_tie.specs.NotedRuns.{seen_event}
 use Rattle.lz_tie.specs.OnePass.{OnlyOwn}
 use Rattle.lz_tie.proofs.Hold.Joining.{joined_turn, seen_turned}
@@ -43,8 +41,8 @@ use Rattle.lz_tie.proofs.Marks.GrownMarks.{call_shows, turn_shows}
 use Rattle.lz_tie.proofs.Moments.HeldMoments.{ComesTo, held_again, hold_explains}
 use Rattle.lz_tie.proofs.Reading.OnePass.{alone_trace, opened_known, own_trace}
 
--- The step that a hold has played, before the pass is cut off.
-pub record Stepped (b : BoardId) (F : Format) (ns is : List Note) (y y' : Yard) (dev dev' : Device) (e : Event) (t : Turn) (h h' : Part) : Type 0 where
+-- The step that a hold has played.
+pub record Stepped (b : BoardId) (ns is : List Note) (y y' : Yard) (dev dev' : Device) (t : Turn) : Type 0 where
   pub found : List Note
   pub comes : ComesTo b ns found
   pub on : MomentsGoOn b found is dev dev'
@@ -52,7 +50,6 @@ pub record Stepped (b : BoardId) (F : Format) (ns is : List Note) (y y' : Yard) 
   pub life : KeepsLife y dev y' dev'
   pub device : t.outcome ≡ Fault → dev.faults < dev'.faults
   pub faults : faults_in is + dev.faults ≤ faults_in ns + dev'.faults
-  pub gave : Gave b F ns is t h h' e
 
 -- of what a hold notes only one thing rests on what the pass has seen
 before_join : (opened : Trace) (found is : List Note) (n : Note) (h hj h' : Part) (seen : Trace) → hj ≡ knowing seen h → Since h.number (trace_of opened found) h.known → HoldNotes opened found is n hj h' → HoldNotes opened found is n h h'
@@ -68,17 +65,6 @@ no_fault F c = go (is_old F c)
     go true is = absurd cc
     go false is = absurd cc
 
--- what the pass asked for, by the kind of the event
-pub asks_call : (z : Sizes) (h : Part) (e : Event) (c : Command) → e ≡ Invoke c → MayAsk z h e → IsIdle z h × (key_of c ≤ largest_key)
-asks_call z h e c is = subst (MayAsk z h) is
-
-pub asks_look : (z : Sizes) (h : Part) (e : Event) (q o : ℕ) → e ≡ SeePin q o → MayAsk z h e → (c : Calling) × IsNextOf h c (SeePin q o)
-asks_look z h e q o is = subst (MayAsk z h) is
-
-pub asks_other : (z : Sizes) (h : Part) (e : Event) → ((c : Command) → e ≢ Invoke c) → MayAsk z h e → (c : Calling) × IsNextOf h c e
-asks_other z h (Invoke c) away asks = absurd (away c refl)
-asks_other z h e away asks = asks
-
 pub other_turn : (ns : List Note) (h : Part) (e : Event) → ((q o : ℕ) → e ≢ SeePin q o) → (c : Calling) → IsNextOf h c e → IsTurn ns h c e
 other_turn ns h (SeePin q o) away c next = absurd (away q o refl)
 other_turn ns h e away c next = record { call = next.call; event = ap (seen_event (λ q. pin_after q ns)) next.event; load = next.load; found = tt }
@@ -92,13 +78,9 @@ pub other_what : (F : Format) (e : Event) (o : Outcome) → ((c : Command) → e
 other_what F (Invoke c) o away = absurd (away c refl)
 other_what F e o away = refl
 
-found_other : (e : Event) → ((q o : ℕ) → e ≢ SeePin q o) → (found ns : List Note) → found ≡ ns → found ≡ found_for e ns
+pub found_other : (e : Event) → ((q o : ℕ) → e ≢ SeePin q o) → (found ns : List Note) → found ≡ ns → found ≡ found_for e ns
 found_other (SeePin q o) away found ns is = absurd (away q o refl)
 found_other e away found ns is = is
-
-other_gave : (b : BoardId) (F : Format) (ns is : List Note) (t : Turn) (h h' : Part) (e : Event) → ((c : Command) → e ≢ Invoke c) → ((k : Calling) → IsNextOf h k e → WentOn b ns is k t h h') → Gave b F ns is t h h' e
-other_gave b F ns is t h h' (Invoke c) away went = absurd (away c refl)
-other_gave b F ns is t h h' e away went = went
 
 module _ (b : BoardId) (F : Format) (ns found is : List Note) (y y' : Yard) (dev dev' : Device) (h hj h' : Part) (seen : Trace)
     (locked : IsLocked b ns y dev) (knows : Knows b.sizes b.opened ns h) (comes : ComesTo b ns found) (joint : InHold b found y dev hj) (part : hj ≡ knowing seen h)
@@ -110,10 +92,9 @@ module _ (b : BoardId) (F : Format) (ns found is : List Note) (y y' : Yard) (dev
   same_number = ap (λ (q : Part). q.number) part
 
   -- the next event of a call, on the notes in which its pin word was found
-  went : (e' e : Event) (t : Turn) → found ≡ found_for e ns → ((c : Calling) → IsNextOf h c e' → IsTurn found h c e) → HoldNotes b.opened found is (note_by hj.number (Played e t.outcome) t.published.value) hj h'
-      → ((c : Calling) → IsTurn found hj c e → Turned b.opened found hj c.command c.progress e t.outcome t.published.value) → (k : Calling) → IsNextOf h k e' → WentOn b ns is k t h h'
-  went e' e t on turns H gave k next =
-      let turn = turns k next in
+  went : (e : Event) (t : Turn) → found ≡ found_for e ns → HoldNotes b.opened found is (note_by hj.number (Played e t.outcome) t.published.value) hj h'
+      → ((c : Calling) → IsTurn found hj c e → Turned b.opened found hj c.command c.progress e t.outcome t.published.value) → (k : Calling) → IsTurn found h k e → WentOn b ns is k t h h'
+  went e t on H gave k turn =
       let turn_j = joined_turn found found h hj seen k e turn refl part in
       let H' = subst (λ (p : ℕ). HoldNotes b.opened found is (note_by p (Played e t.outcome) t.published.value) hj h') same_number H in
       record {
@@ -146,43 +127,37 @@ module _ (b : BoardId) (F : Format) (ns found is : List Note) (y y' : Yard) (dev
         opened = opened_known b ns h knows;
       }
 
-  stepped : (e : Event) (t : Turn) (n : Note) → (t.outcome ≡ Fault → dev.faults < dev'.faults) → faults_with n.what (faults_in found) + dev.faults ≤ faults_in found + dev'.faults → HoldNotes b.opened found is n hj h' → Gave b F ns is t h h' e → Stepped b F ns is y y' dev dev' e t h h'
-  stepped e t n device counted H gave =
+  stepped : (t : Turn) (n : Note) → (t.outcome ≡ Fault → dev.faults < dev'.faults) → faults_with n.what (faults_in found) + dev.faults ≤ faults_in found + dev'.faults → HoldNotes b.opened found is n hj h' → Stepped b ns is y y' dev dev' t
+  stepped t n device counted H =
       let held = faults_held b.opened found is n hj h' H in let same = comes.faults in
-      record { found = found; comes = comes; on = on; locked = hold.locked; life = life; device = device; faults = omega (arith, held, same, counted); gave = gave }
-
-  abbrev After : Event → Turn → Type 0
-  After e t = Stepped b F ns is y y' dev dev' e t h h'
+      record { found = found; comes = comes; on = on; locked = hold.locked; life = life; device = device; faults = omega (arith, held, same, counted) }
 
   -- a call's first hold
-  pub stepped_call : (e : Event) (c : Command) → e ≡ Invoke c → (t : Turn) → (t.outcome ≡ begins_with y.vault.format c) × (t.published.value ≡ None) → y.vault.format ≡ F → h.loads ≡ []
-      → (mid : List Note) (q v : ℕ) → mid ≡ ns → found ≡ found_note q v ∷ mid → h.number ≡ q → h.pin ≡ v → HoldNotes b.opened found is (note_by hj.number (Called c y.vault.format) t.published.value) hj h' → After e t
-  stepped_call e c event t gave format none mid q v same at number pin H = subst (λ (x : Event). After x t) (sym event)
-      (stepped (Invoke c) t (note_by hj.number (Called c y.vault.format) t.published.value) (λ fault. absurd (no_fault y.vault.format c (sym gave.0 ∙ fault))) (let more = life.faults in omega (arith, more)) H (began c t gave format none (at ∙ (λ i. found_note (sym number i) (sym pin i) ∷ same i)) H))
+  pub stepped_call : (c : Command) (t : Turn) → (t.outcome ≡ begins_with y.vault.format c) × (t.published.value ≡ None) → y.vault.format ≡ F → h.loads ≡ []
+      → (mid : List Note) (q v : ℕ) → mid ≡ ns → found ≡ found_note q v ∷ mid → h.number ≡ q → h.pin ≡ v → HoldNotes b.opened found is (note_by hj.number (Called c y.vault.format) t.published.value) hj h'
+      → Stepped b ns is y y' dev dev' t × Began b F ns is c t h h'
+  stepped_call c t gave format none mid q v same at number pin H = (
+    stepped t (note_by hj.number (Called c y.vault.format) t.published.value) (λ fault. absurd (no_fault y.vault.format c (sym gave.0 ∙ fault))) (let more = life.faults in omega (arith, more)) H,
+    began c t gave format none (at ∙ (λ i. found_note (sym number i) (sym pin i) ∷ same i)) H,
+  )
 
-  -- one of an event that looks at a pin word, and one of any other
-  pub stepped_look : (e : Event) (q o v : ℕ) → e ≡ SeePin q o → (t : Turn) → (t.outcome ≡ Fault → dev.faults < dev'.faults) → (mid : List Note) → mid ≡ ns → found ≡ found_note q v ∷ mid → HoldNotes b.opened found is (note_by hj.number (Played (SeePin q v) t.outcome) t.published.value) hj h'
-      → ((c : Calling) → IsTurn found hj c (SeePin q v) → Turned b.opened found hj c.command c.progress (SeePin q v) t.outcome t.published.value) → After e t
-  stepped_look e q o v event t device mid same at H gave = subst (λ (x : Event). After x t) (sym event)
-      (stepped (SeePin q o) t (note_by hj.number (Played (SeePin q v) t.outcome) t.published.value) device (fault_counted (SeePin q v) t.outcome (faults_in found) dev dev' life.faults device) H (went (SeePin q o) (SeePin q v) t (at ∙ ap (λ r. found_note q v ∷ r) same) (λ c next. found_turn mid found h c q o v next at) H gave))
-
-  pub stepped_other : (e : Event) → ((c : Command) → e ≢ Invoke c) → ((q o : ℕ) → e ≢ SeePin q o) → (t : Turn) → (t.outcome ≡ Fault → dev.faults < dev'.faults) → found ≡ ns → HoldNotes b.opened found is (note_by hj.number (what_of y.vault.format e t.outcome) t.published.value) hj h'
-      → ((c : Calling) → IsTurn found hj c e → Turned b.opened found hj c.command c.progress e t.outcome t.published.value) → After e t
-  stepped_other e no_call no_look t device same told gave =
-      let H = subst (λ (w : What). HoldNotes b.opened found is (note_by hj.number w t.published.value) hj h') (other_what y.vault.format e t.outcome no_call) told in
-      stepped e t (note_by hj.number (Played e t.outcome) t.published.value) device (fault_counted e t.outcome (faults_in found) dev dev' life.faults device) H (other_gave b F ns is t h h' e no_call (went e e t (found_other e no_look found ns same) (other_turn found h e no_look) H gave))
+  -- one of the next event of a call, as it was found
+  pub stepped_turn : (e : Event) → ((c : Command) → e ≢ Invoke c) → (t : Turn) → (t.outcome ≡ Fault → dev.faults < dev'.faults) → found ≡ found_for e ns → HoldNotes b.opened found is (note_by hj.number (what_of y.vault.format e t.outcome) t.published.value) hj h'
+      → ((c : Calling) → IsTurn found hj c e → Turned b.opened found hj c.command c.progress e t.outcome t.published.value) → (k : Calling) → IsTurn found h k e
+      → Stepped b ns is y y' dev dev' t × WentOn b ns is k t h h'
+  stepped_turn e no_call t device at told gave k turn =
+      let H = subst (λ (w : What). HoldNotes b.opened found is (note_by hj.number w t.published.value) hj h') (other_what y.vault.format e t.outcome no_call) told in (
+        stepped t (note_by hj.number (Played e t.outcome) t.published.value) device (fault_counted e t.outcome (faults_in found) dev dev' life.faults device) H,
+        went e t at H gave k turn,
+      )
 
 -- Cut off: what the lock keeps, and what the hold promises.
-module _ (b : BoardId) (F : Format) (first dev dev' : Device) (ns is : List Note) (y y' : Yard) (e : Event) (t : Turn) (h h' h'' : Part) (s : Stepped b F ns is y y' dev dev' e t h h')
+module _ (b : BoardId) (F : Format) (first dev dev' : Device) (ns is : List Note) (y y' : Yard) (t : Turn) (s : Stepped b ns is y y' dev dev' t)
     (locked : IsLocked b ns y dev) (pen : Pen) (of_board : IsPenOf b pen) (noted : notes pen ≡ is) where
   pub keeps : LeftSince b first ns dev → LivesOn F first ns y dev → IsPenOf b pen × IsLocked b (notes pen) y' dev' × LeftSince b first (notes pen) dev' × LivesOn F first (notes pen) y' dev'
   keeps left life =
       let kept = held_again b first dev dev' ns s.found is s.comes s.on y y' locked s.locked pen of_board noted left in
       (kept.0, kept.1, kept.2, subst (λ (r : List Note). LivesOn F first r y' dev') (sym noted) (life_on F first ns is y y' dev dev' s.life s.faults life))
 
-  pub held : h'' ≡ h' → Held b F ns (notes pen) dev dev' e t h h''
-  held part = record {
-    moments = hold_explains b first dev dev' ns s.found is s.comes s.on y y' locked s.locked pen of_board noted;
-    device = s.device;
-    gave = subst (λ (q : List Note × Part). Gave b F ns q.0 t h q.1 e) (λ i. (sym noted i, sym part i)) s.gave;
-  }
+  pub explains : HoldExplains b ns (notes pen) dev dev'
+  explains = hold_explains b first dev dev' ns s.found is s.comes s.on y y' locked s.locked pen of_board noted
