@@ -75,6 +75,7 @@ impl Caller {
     }
 
     /// The reply that the call is about to give: its next event is the Answer.
+    #[inline(always)]
     pub fn reply(&self) -> Option<Reply>
         ensures { result ≡ reply_at self.now.progress }
     {
@@ -148,6 +149,7 @@ impl Caller {
     /// Takes what the next event answered. An outcome that this event can't have leaves the call where it is, or is taken as
     /// the plain one. A call ends in one way, whichever of its events found the device failing or dead, the pass worn, or the
     /// file of an older format than its key.
+    #[inline(always)]
     pub fn take(&mut self, outcome: Outcome)
         requires { MayTake self.old.progress outcome }
         ensures { self.new ≡ record self.old { progress = progress_after (shape_with self.old) self.old.command self.old.progress outcome } }
@@ -162,6 +164,7 @@ impl Caller {
     }
 
     // After an outcome that doesn't end the call. The Answer ends it, so it stays there.
+    #[inline(always)]
     fn follow(&mut self, outcome: Outcome)
         requires { MayTake self.old.progress outcome }
         ensures { self.new ≡ record self.old { progress = follows (shape_with self.old) self.old.command self.old.progress outcome } }
@@ -195,6 +198,7 @@ impl Caller {
     }
 
     // After an event of a sequence. Where a settling came early, the sync before it is played again.
+    #[inline(always)]
     fn after_event(&mut self, outcome: Outcome)
         requires { IsPlaying self.old.progress }
         ensures { self.new ≡ record self.old { progress = follows (shape_with self.old) self.old.command self.old.progress outcome } }
@@ -213,6 +217,7 @@ impl Caller {
         }
     }
 
+    #[inline(always)]
     fn after_load(&mut self, outcome: Outcome)
         requires loading { IsLoading self.old.progress }
         requires takes { MayTake self.old.progress outcome }
@@ -223,6 +228,7 @@ impl Caller {
         }
     }
 
+    #[inline(always)]
     fn after_see_pin(&self, pass: usize) -> Progress
         requires { pass ≤ self.now.passes }
         ensures follows { result ≡ after_see_pin (shape_with self.now) pass }

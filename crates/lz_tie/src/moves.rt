@@ -55,6 +55,7 @@ pub fn load_next(board: &Board, pass: &mut Pass, caller: &mut Caller, word: Word
 impl<N: Named, D: Disk> Locked<N, D> {
     /// Makes a call: the first hold of a pass that has none. The buckets and passes are those of the board, and its format is
     /// that of the set's file.
+    #[inline(always)]
     pub fn begin(
         &mut self,
         board: &Board,
@@ -129,6 +130,7 @@ impl<N: Named, D: Disk> Locked<N, D> {
 
     /// The last hold of a call, whose reply is this one. The pass may make the next call. In a set of one pass the reply is
     /// that of the plain set, of the members that the pass had seen before the call, and it has seen those that are left.
+    #[inline(always)]
     pub fn answer(&mut self, board: &Board, pass: &mut Pass, caller: &Caller, _reply: Reply) -> Turn
         requires board { id_of board.now ≡ N.board }
         requires pass { IsOf N.board pass.old }

@@ -37,6 +37,7 @@ fn what_of(format: Format, event: Event, outcome: Outcome) -> What
 
 // Plays an Invoke or the next event of the pass's call, notes it, and stores the word that it changes: a pass's own pin word is counted up.
 // Where it changes none, the note goes with an exchange of the halt word that fails, since that is never 2.
+#[inline(always)]
 pub(crate) fn play_joined<D: Disk>(
     board: &Board,
     pen: &mut Pen,

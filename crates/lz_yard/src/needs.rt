@@ -16,6 +16,7 @@ use lz_machine::{Course, Event, Outcome};
 
 impl<D: Disk> Parts<D> {
     // Whether an event has what it needs.
+    #[inline(always)]
     fn needs(&self, actor: usize, event: Event) -> bool
         requires low { 1 ≤ actor }
         requires high { actor ≤ length self.now.yard.actors }
@@ -55,6 +56,7 @@ impl<D: Disk> Parts<D> {
 
     // What becomes of an event.
     #[tactic(auto, using(lz_machine::proofs::Runs::Course::course_rules))]
+    #[inline(always)]
     pub(crate) fn course(&self, actor: usize, event: Event) -> Course
         requires low { 1 ≤ actor }
         requires high { actor ≤ length self.now.yard.actors }

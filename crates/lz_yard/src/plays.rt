@@ -93,6 +93,7 @@ impl<D: Disk> Parts<D> {
     }
 
     // Plays an event whose course is to be played.
+    #[inline(always)]
     pub(crate) fn play(&mut self, actor: usize, event: Event) -> Result<Outcome, VaultFault>
         requires { MayBePlayed D.device self.old actor event }
         ensures { IsPlayed D.device self.old self.new actor event result }

@@ -47,6 +47,7 @@ impl<D: Disk> Parts<D> {
     }
 
     // The word that an event changes where it is played.
+    #[inline(always)]
     fn word_changed(&self, actor: usize, event: Event) -> Option<Word>
         requires low { 1 ≤ actor }
         requires high { actor ≤ length self.now.yard.actors }
@@ -102,6 +103,7 @@ impl<D: Disk> Parts<D> {
     }
 
     // What an event publishes where it is played.
+    #[inline(always)]
     fn publishing(&self, actor: usize, event: Event) -> Option<Publishing>
         requires low { 1 ≤ actor }
         requires high { actor ≤ length self.now.yard.actors }
@@ -137,6 +139,7 @@ impl<D: Disk> Parts<D> {
     }
 
     // What an event tells where it is played.
+    #[inline(always)]
     pub(crate) fn tell(&self, actor: usize, event: Event) -> Told
         requires low { 1 ≤ actor }
         requires high { actor ≤ length self.now.yard.actors }

@@ -79,6 +79,7 @@ impl<D: Disk> Yard<D> {
     /// Where what the event needs doesn't hold it answers NotNow, and on a dead vault most kinds answer Dead; either changes
     /// nothing. Fault where the event's device call failed; from then on the vault is dead.
     #[tactic(auto, using(crate::proofs::Events::PlayedLine::line_rules))]
+    #[inline(always)]
     pub fn step(&mut self, actor: usize, event: Event) -> Stepped
         requires actor { (1 ≤ actor) × (actor ≤ self.old.yard.shape.passes) }
         requires event { IsEventOf self.old.yard event }
