@@ -8,6 +8,7 @@ ghost use Rattle.lz_machine.specs.Laws.{hop_of};
 ghost use Rattle.lz_machine.specs.Orders.{HasPass, IsLoading, IsPlaying, IsProgress, MayTake, shape_with};
 ghost use Rattle.lz_machine.specs.Runs.{reply_at};
 ghost use Rattle.lz_caller.specs.Begun.{begun_after};
+ghost use Rattle.lz_caller.specs.Walking.{walk_of, with_look};
 
 use crate::order::{
     after_check, after_claim, after_reserve, count_of, event_of, follower_of, halt_loaded, halts,
@@ -113,6 +114,27 @@ impl Caller {
             Progress::LoadsHalt => Some(Word::Halt),
             Progress::Walking(_, look) => Some(self.walk(look).wants()),
             _ => None,
+        }
+    }
+
+    /// Its walk, if a load of one comes next: whoever walks on apart from the call says by `walk_to` how far it has come.
+    #[inline(always)]
+    pub fn walking(&self) -> Option<Walk>
+        ensures { result ≡ walk_of self.now }
+    {
+        match self.progress {
+            Progress::Walking(_, look) => Some(self.walk(look)),
+            _ => None,
+        }
+    }
+
+    /// Its walk has come so far.
+    #[inline(always)]
+    pub fn walk_to(&mut self, look: Look)
+        ensures { self.new ≡ with_look self.old look }
+    {
+        if let Progress::Walking(_, at) = &mut self.progress {
+            *at = look;
         }
     }
 

@@ -76,6 +76,7 @@ impl Walk {
     }
 
     /// The word to load.
+    #[inline(always)]
     pub fn wants(&self) -> Word
         requires { 1 ≤ self.now.buckets }
         ensures { result ≡ wants self.now.buckets self.now.key self.now.look }
@@ -89,6 +90,7 @@ impl Walk {
     }
 
     /// Takes the value of the word that was wanted. After the end the walk looks where it did.
+    #[inline(always)]
     pub fn hop(&mut self, value: u64) -> Hop
         requires buckets { 1 ≤ self.old.buckets }
         requires leads { LeadsOn self.old.look value }

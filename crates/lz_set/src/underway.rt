@@ -2,6 +2,7 @@
 ghost use Rattle.std.specs.Prelude.{◌≡◌, ◌≢◌, IsTrue, None, Some};
 ghost use Rattle.lz_slot.specs.declared.command.Command.{Command as Asked};
 ghost use Rattle.lz_slot.specs.declared.format.Format.{Format};
+ghost use Rattle.lz_machine.specs.declared.event.Event.TheVariants.{Hop};
 ghost use Rattle.lz_machine.specs.Calls.{event_at};
 ghost use Rattle.lz_machine.specs.Kinds.{kind_of};
 ghost use Rattle.lz_machine.specs.Laws.{hop_of};
@@ -24,9 +25,10 @@ use crate::set::Set;
 use lz_board::Pass;
 use lz_caller::Caller;
 use lz_disk::Disk;
+use lz_list::Word;
 use lz_machine::{Event, Kind, Reply};
 use lz_slot::Command;
-use lz_tie::{Named, load_next};
+use lz_tie::{Named, load_next, walk_on};
 use std::marker::Model;
 use std::sync::Wait;
 
@@ -220,11 +222,35 @@ impl<D: Disk, G: StepGate, N: Named> Set<D, G, N> {
         self.commits.wake(&mut call.stay);
         let mut word = first;
         for _ in rt.forever() {
-            load_next(&self.board, pass, &mut call.caller, word);
-            self.gate.after(rt, pass.number(), Kind::Hop);
+            self.load(rt, pass, &mut call.caller, word);
             match call.caller.wants() {
                 Some(next) => word = next,
                 None => return,
+            }
+        }
+        unreachable!()
+    }
+
+    // All loads of a walk, which is apart from its caller meanwhile; or the one of the halt word, before a call's first walk.
+    fn load<R: Wait>(&self, rt: &R, pass: &mut Pass, caller: &mut Caller, word: Word)
+        requires pass { IsOf N.board pass.old }
+        requires counted { IsCounted N.board caller.old (part pass.old) }
+        requires event { event_at (shape_with caller.old) caller.old.command caller.old.progress ≡ Hop word }
+        ensures pass { IsOf N.board pass.new }
+        ensures counts { CountsOn N.board caller.old (part pass.old) caller.new (part pass.new) }
+        ensures steps { (part pass.new).steps ≡ (part pass.old).steps }
+    {
+        let Some(start) = caller.walking() else {
+            load_next(&self.board, pass, caller, word);
+            self.gate.after(rt, pass.number(), Kind::Hop);
+            return;
+        };
+        let mut walk = start;
+        for _ in rt.forever() {
+            let goes_on = walk_on(&self.board, pass, caller, &mut walk);
+            self.gate.after(rt, pass.number(), Kind::Hop);
+            if !goes_on {
+                return;
             }
         }
         unreachable!()

@@ -8,3 +8,4 @@ pub mod CallLoad
 pub mod CallOpening
 pub mod CallerStep
 pub mod CountedMoves
+pub mod WalkedLoad

@@ -15,6 +15,6 @@ mod playing;
 
 pub use history::answers_are_told;
 pub use locked::Locked;
-pub use moves::load_next;
+pub use moves::{load_next, walk_on};
 pub use named::Named;
 pub use playing::Turn;

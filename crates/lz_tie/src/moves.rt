@@ -1,5 +1,5 @@
 //! The moves of a thread's call: its beginning, a load without the lock, and a hold of each other event.
-ghost use Rattle.std.specs.Prelude.{◌≡◌, ◌≤◌, ◌<◌, ◌∷◌, [], None, suc};
+ghost use Rattle.std.specs.Prelude.{◌≡◌, ◌≤◌, ◌<◌, ◌∷◌, [], None, Some, true, if◌then◌else◌, suc};
 ghost use Rattle.lz_slot.specs.declared.command.Command.{Command as Asked};
 ghost use Rattle.lz_slot.specs.declared.format.Format.{Format};
 ghost use Rattle.lz_slot.specs.declared.history.Mark.TheVariants.{Call};
@@ -13,6 +13,7 @@ ghost use Rattle.lz_machine.specs.Laws.{hop_of};
 ghost use Rattle.lz_machine.specs.Orders.{shape_with};
 ghost use Rattle.lz_machine.specs.Runs.{reply_at};
 ghost use Rattle.lz_caller.specs.Begun.{begun_after};
+ghost use Rattle.lz_caller.specs.Walking.{walk_of, with_look};
 ghost use Rattle.lz_board.specs.declared.view.Part.{Part};
 ghost use Rattle.lz_board.specs.declared.view.What.TheVariants.{Called};
 ghost use Rattle.lz_board.specs.Addresses.{index};
@@ -33,7 +34,7 @@ use crate::playing::{Turn, play_joined};
 use lz_board::{Board, Pass};
 use lz_caller::Caller;
 use lz_disk::Disk;
-use lz_list::Word;
+use lz_list::{Walk, Word};
 use lz_machine::{Event, Reply};
 use lz_slot::Command;
 
@@ -50,6 +51,30 @@ pub fn load_next(board: &Board, pass: &mut Pass, caller: &mut Caller, word: Word
     let value = board.load(pass, word);
     caller.load(value);
     value
+}
+
+/// A load of the call's walk, without the lock, and whether the walk goes on. Where it has ended the caller takes that. Until then
+/// the walk is apart from its caller, in registers.
+#[inline(always)]
+pub fn walk_on(board: &Board, pass: &mut Pass, caller: &mut Caller, walk: &mut Walk) -> bool
+    requires pass { IsOf (id_of board.now) pass.old }
+    requires walk { walk_of (with_look caller.old walk.old.look) ≡ Some walk.old }
+    requires counted { IsCounted (id_of board.now) (with_look caller.old walk.old.look) (part pass.old) }
+    ensures pass { IsOf (id_of board.now) pass.new }
+    ensures steps { (part pass.new).steps ≡ (part pass.old).steps }
+    ensures goes { CountsOn (id_of board.now) (with_look caller.old walk.old.look) (part pass.old) (if result then with_look caller.new walk.new.look else caller.new) (part pass.new) }
+    ensures walk { result ≡ true → walk_of (with_look caller.new walk.new.look) ≡ Some walk.new }
+{
+    let look = walk.look;
+    let found = board.load(pass, walk.wants());
+    match walk.hop(found) {
+        lz_list::Hop::More => true,
+        lz_list::Hop::End { .. } => {
+            caller.walk_to(look);
+            caller.load(found);
+            false
+        }
+    }
 }
 
 impl<N: Named, D: Disk> Locked<N, D> {

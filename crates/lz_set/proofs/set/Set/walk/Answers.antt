@@ -1,34 +1,27 @@
-use Rattle.std.proofs.Common.{◌≡◌, Some, sym, ap, ◌∙◌, subst}
+use Rattle.std.proofs.Common.{◌≡◌, Some, sym, ap, ◌∙◌}
 use Rattle.std.proofs.lemmas.Option.{none-some, same_Some}
 use Rattle.lz_list.specs.declared.word.Word.{Word}
 use Rattle.lz_machine.specs.declared.event.Event.{Event}
 use Rattle.lz_machine.specs.declared.event.Event.TheVariants.{Hop}
 use Rattle.lz_machine.specs.Laws.{hop_of}
-use Rattle.lz_board.specs.declared.view.Part.{Part}
-use Rattle.lz_board.specs.Seats.{BoardId, IsOf, part}
-use Rattle.lz_tie.specs.Counting.{CountsOn, IsCounted}
 use Rattle.lz_set.proofs.set.Set.walk.Goals as goal
 
 hop_is : (e : Event) (w : Word) → hop_of e ≡ Some w → e ≡ Hop w
 hop_is (Hop v) w is = ap Hop (same_Some v w is)
 hop_is e w is = absurd (none-some w is)
 
-pub load_next-requires-clause-counted : goal.load_next-requires-clause-counted
-load_next-requires-clause-counted g c =
+pub load-requires-clause-counted : goal.load-requires-clause-counted
+load-requires-clause-counted g c =
     let was = c.requires.counted in
-    subst (λ (b : BoardId). IsCounted b c.loop.call-inside.caller (part c.loop.pass)) (sym c.args.self.now.named) (was.0, was.1, was.2, c.loop.invariant.counts was.0 was.1 was.2 was.3)
+    (was.0, was.1, was.2, c.loop.invariant.counts was.0 was.1 was.2 was.3)
 
 pub returns-in-None-wants-clause-counts : goal.returns-in-None-wants-clause-counts
-returns-in-None-wants-clause-counts g c = λ asked format before counts.
-    subst (λ (b : BoardId). CountsOn b c.loop.call-inside.caller (part c.loop.pass) c.load_next.new.caller (part c.load_next.new.pass)) c.args.self.now.named c.load_next.ensures.goes
-    asked format before (c.loop.invariant.counts asked format before counts)
+returns-in-None-wants-clause-counts g c = λ asked format before counts. c.load.ensures.counts asked format before (c.loop.invariant.counts asked format before counts)
 
 pub loop-preserved : goal.loop-preserved
 loop-preserved g c = record {
-  pass = subst (λ (b : BoardId). IsOf b c.load_next.new.pass) c.args.self.now.named c.load_next.ensures.pass;
-  counts = λ asked format before counts.
-      subst (λ (b : BoardId). CountsOn b c.loop.call-inside.caller (part c.loop.pass) c.load_next.new.caller (part c.load_next.new.pass)) c.args.self.now.named c.load_next.ensures.goes
-      asked format before (c.loop.invariant.counts asked format before counts);
-  steps = ap (λ (h : Part). h.steps) c.load_next.ensures.part ∙ c.loop.invariant.steps;
+  pass = c.load.ensures.pass;
+  counts = λ asked format before counts. c.load.ensures.counts asked format before (c.loop.invariant.counts asked format before counts);
+  steps = c.load.ensures.steps ∙ c.loop.invariant.steps;
   wants = hop_is _ c.in-Some-wants.next (sym c.wants-in-loop.ensures ∙ c.in-Some-wants.is);
 }
