@@ -121,6 +121,7 @@ impl<D: Disk> Parts<D> {
         }
     }
 
+    #[inline(always)]
     fn play_invoke(&mut self, actor: usize, command: Command) -> Result<Outcome, VaultFault>
         requires { MayBePlayed D.device self.old actor (Event.Invoke command) }
         ensures { IsPlayed D.device self.old self.new actor (Event.Invoke command) result }
@@ -135,6 +136,7 @@ impl<D: Disk> Parts<D> {
         }
     }
 
+    #[inline(always)]
     fn play_pin(&mut self, actor: usize) -> Result<Outcome, VaultFault>
         requires { MayBePlayed D.device self.old actor Event.Pin }
         ensures { IsPlayed D.device self.old self.new actor Event.Pin result }
@@ -144,6 +146,7 @@ impl<D: Disk> Parts<D> {
         Ok(Outcome::Done)
     }
 
+    #[inline(always)]
     fn play_hop(&mut self, actor: usize, word: Word) -> Result<Outcome, VaultFault>
         requires { MayBePlayed D.device self.old actor (Event.Hop word) }
         ensures { IsPlayed D.device self.old self.new actor (Event.Hop word) result }
@@ -151,6 +154,7 @@ impl<D: Disk> Parts<D> {
         Ok(Outcome::Value(self.word(word)))
     }
 
+    #[inline(always)]
     fn play_reserve(&mut self, actor: usize) -> Result<Outcome, VaultFault>
         requires { MayBePlayed D.device self.old actor Event.Reserve }
         ensures { IsPlayed D.device self.old self.new actor Event.Reserve result }
@@ -164,6 +168,7 @@ impl<D: Disk> Parts<D> {
         Ok(Outcome::Slot(slot))
     }
 
+    #[inline(always)]
     fn play_write_key(&mut self, actor: usize, key: Key) -> Result<Outcome, VaultFault>
         requires { MayBePlayed D.device self.old actor (Event.WriteKey key) }
         ensures { IsPlayed D.device self.old self.new actor (Event.WriteKey key) result }
@@ -174,6 +179,7 @@ impl<D: Disk> Parts<D> {
         Ok(Outcome::Done)
     }
 
+    #[inline(always)]
     fn play_claim(
         &mut self,
         actor: usize,
@@ -198,6 +204,7 @@ impl<D: Disk> Parts<D> {
         Ok(Outcome::Taken)
     }
 
+    #[inline(always)]
     fn play_check(&mut self, actor: usize) -> Result<Outcome, VaultFault>
         requires { MayBePlayed D.device self.old actor Event.Check }
         ensures { IsPlayed D.device self.old self.new actor Event.Check result }
@@ -212,6 +219,7 @@ impl<D: Disk> Parts<D> {
         }
     }
 
+    #[inline(always)]
     fn play_write_open(&mut self, actor: usize) -> Result<Outcome, VaultFault>
         requires { MayBePlayed D.device self.old actor Event.WriteOpen }
         ensures { IsPlayed D.device self.old self.new actor Event.WriteOpen result }
@@ -224,6 +232,7 @@ impl<D: Disk> Parts<D> {
         Ok(Outcome::Done)
     }
 
+    #[inline(always)]
     fn play_link(&mut self, actor: usize) -> Result<Outcome, VaultFault>
         requires { MayBePlayed D.device self.old actor Event.Link }
         ensures { IsPlayed D.device self.old self.new actor Event.Link result }
@@ -239,6 +248,7 @@ impl<D: Disk> Parts<D> {
         Ok(Outcome::Done)
     }
 
+    #[inline(always)]
     fn play_write_close(&mut self, actor: usize) -> Result<Outcome, VaultFault>
         requires { MayBePlayed D.device self.old actor Event.WriteClose }
         ensures { IsPlayed D.device self.old self.new actor Event.WriteClose result }
@@ -249,6 +259,7 @@ impl<D: Disk> Parts<D> {
         Ok(Outcome::Done)
     }
 
+    #[inline(always)]
     fn play_mark(&mut self, actor: usize) -> Result<Outcome, VaultFault>
         requires { MayBePlayed D.device self.old actor Event.Mark }
         ensures { IsPlayed D.device self.old self.new actor Event.Mark result }
@@ -259,6 +270,7 @@ impl<D: Disk> Parts<D> {
         Ok(Outcome::Done)
     }
 
+    #[inline(always)]
     fn play_release(&mut self, actor: usize) -> Result<Outcome, VaultFault>
         requires { MayBePlayed D.device self.old actor Event.Release }
         ensures { IsPlayed D.device self.old self.new actor Event.Release result }
@@ -269,6 +281,7 @@ impl<D: Disk> Parts<D> {
         Ok(Outcome::Done)
     }
 
+    #[inline(always)]
     fn play_sync(&mut self, actor: usize, slot: Slot) -> Result<Outcome, VaultFault>
         requires { MayBePlayed D.device self.old actor (Event.Sync slot) }
         ensures { IsPlayed D.device self.old self.new actor (Event.Sync slot) result }
@@ -279,6 +292,7 @@ impl<D: Disk> Parts<D> {
         Ok(Outcome::Done)
     }
 
+    #[inline(always)]
     fn play_settle(&mut self, actor: usize, slot: Slot) -> Result<Outcome, VaultFault>
         requires { MayBePlayed D.device self.old actor (Event.Settle slot) }
         ensures { IsPlayed D.device self.old self.new actor (Event.Settle slot) result }
@@ -290,6 +304,7 @@ impl<D: Disk> Parts<D> {
         Ok(Outcome::Done)
     }
 
+    #[inline(always)]
     fn play_unlink(&mut self, actor: usize) -> Result<Outcome, VaultFault>
         requires { MayBePlayed D.device self.old actor Event.Unlink }
         ensures { IsPlayed D.device self.old self.new actor Event.Unlink result }
@@ -301,6 +316,7 @@ impl<D: Disk> Parts<D> {
         Ok(Outcome::Done)
     }
 
+    #[inline(always)]
     fn play_retire(&mut self, actor: usize) -> Result<Outcome, VaultFault>
         requires { MayBePlayed D.device self.old actor Event.Retire }
         ensures { IsPlayed D.device self.old self.new actor Event.Retire result }
@@ -311,6 +327,7 @@ impl<D: Disk> Parts<D> {
         Ok(Outcome::Done)
     }
 
+    #[inline(always)]
     fn play_see_pin(&mut self, actor: usize, pass: usize, value: u64) -> Result<Outcome, VaultFault>
         requires { MayBePlayed D.device self.old actor (Event.SeePin pass value) }
         ensures { IsPlayed D.device self.old self.new actor (Event.SeePin pass value) result }
@@ -319,6 +336,7 @@ impl<D: Disk> Parts<D> {
         Ok(Outcome::Done)
     }
 
+    #[inline(always)]
     fn play_answer(&mut self, actor: usize) -> Result<Outcome, VaultFault>
         requires { MayBePlayed D.device self.old actor Event.Answer }
         ensures { IsPlayed D.device self.old self.new actor Event.Answer result }
@@ -331,6 +349,7 @@ impl<D: Disk> Parts<D> {
         Ok(Outcome::Done)
     }
 
+    #[inline(always)]
     fn play_halt(&mut self, actor: usize) -> Result<Outcome, VaultFault>
         requires { MayBePlayed D.device self.old actor Event.Halt }
         ensures { IsPlayed D.device self.old self.new actor Event.Halt result }
