@@ -18,8 +18,8 @@ use crate::service::{Until, serve};
 use crate::words::words_of;
 use lazyset_command_line::{Request, read, too_many_buckets};
 use lazyset_commands::{
-    MOST_JUDGED, ServeOptions, Shown, Status, check_of_on, judge_on, make_keys_on, make_on, rehearse_on,
-    renew_on, run_on, survey_on,
+    MOST_JUDGED, ServeOptions, Shown, Status, check_of_on, judge_on, make_keys_on, make_on,
+    rehearse_on, renew_on, run_on, survey_on,
 };
 use lz_disk::{FileDisk, Lock};
 use lz_slot::{Format, Header};

@@ -117,10 +117,12 @@ fn roomy_format(disk: &mut FileDisk) -> Format
     ensures { last_room_of result ≡ last_room }
 {
     match header_on(disk) {
-        Some(Header {
-            format: Format::Three,
-            ..
-        }) => Format::Three,
+        Some(
+            Header {
+                format: Format::Three,
+                ..
+            },
+        ) => Format::Three,
         _ => Format::Two,
     }
 }
