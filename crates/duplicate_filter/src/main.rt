@@ -1,8 +1,8 @@
-//! A duplicate filter inside a program, to be copied: threads that share one set over a file, and handle each event once, over
-//! restarts too. `docs/IN_PROCESS.md` tells what it may rely on.
+//! A duplicate filter inside a program, to be copied: threads that share one set over a file, and handle each event at most once,
+//! over restarts too. `docs/IN_PROCESS.md` tells what that rests on.
 #![tactic(auto)]
 
-ghost use Rattle.std.specs.Prelude.{◌≡◌, All};
+ghost use Rattle.std.specs.Prelude.{◌≡◌, ◌↔◌, true, All, IsTrue, Ok};
 ghost use Rattle.lz_board.specs.Seats.{part};
 ghost use Rattle.lz_set.specs.Blanks.{MayBeNamed};
 ghost use Rattle.lz_set.specs.Names.{MayCall};
@@ -28,8 +28,9 @@ const THREADS: usize = 4;
 /// How many events each thread meets. The next thread meets half of them too.
 const EVENTS: u64 = 100;
 
-/// Whether the event is new. `Ok(true)` is answered to one call alone for each event, whatever other threads do and however often
-/// the program was stopped in between, and `Ok(false)` only where it was known for good. A glance takes no lock and writes nothing.
+/// Whether the event is new: by a glance and at most one adding after it, and no other call. `Ok(true)` is answered only where that
+/// adding made it a member, durably, and `Ok(false)` only where it was one, durably, at the glance or at the adding. `Err` is the
+/// adding's.
 fn is_new<D: Disk, N: Named, R: Wait>(
     rt: &R,
     set: &Set<D, NoGate, N>,
@@ -46,6 +47,13 @@ fn is_new<D: Disk, N: Named, R: Wait>(
     }
 }
 
+/// Whether what `is_new` answered lets the event be handled: only where it was new. After an `Err` it may be known or not.
+fn may_handle(answer: Result<bool, Fault>) -> bool
+    ensures { IsTrue result ↔ (answer ≡ Ok true) }
+{
+    matches!(answer, Ok(true))
+}
+
 // Meets so many events from the first one on, and says how many of them were new.
 fn handle<D: Disk, N: Named, R: Wait>(
     rt: &R,
@@ -59,7 +67,7 @@ fn handle<D: Disk, N: Named, R: Wait>(
     let mut new = 0u64;
     for number in first..first.saturating_add(EVENTS) {
         if let Some(event) = Key::new(number)
-            && is_new(rt, set, &mut pass, event) == Ok(true)
+            && may_handle(is_new(rt, set, &mut pass, event))
         {
             // Here the event is handled: at most once.
             new = new.wrapping_add(1);
