@@ -1,11 +1,12 @@
 -- Worked rows: the definitions computed on small cases.
-use Rattle.std.proofs.Common.{◌≡◌, true, false, inl, inr, List, [], ◌∷◌, ⊎_elim, Some, None, refl, arith}
-use Rattle.lz_slot.specs.declared.command.Command.TheVariants.{Has}
+use Rattle.std.proofs.Common.{◌≡◌, ◌==◌, ◌&&◌, ◌||◌, Bool, true, false, inl, inr, List, [], ◌∷◌, ⊎_elim, Some, None, refl, arith}
+use mathlib.Core.Bool.{false≢true}
+use Rattle.lz_slot.specs.declared.command.Command.TheVariants.{Add, Has}
 use Rattle.lz_slot.specs.declared.format.Format.TheVariants.{Two}
 use Rattle.lz_list.specs.declared.word.Word.TheVariants.{Head, Link, Key, Halt}
 use Rattle.lz_list.specs.declared.publishing.Change.TheVariants.{Added as as_added, Removed as as_removed}
 use Rattle.lz_list.specs.declared.publishing.Publishing.TheVariants.{Linked as linked, Marked as marked, Unlinked as unlinked, Settled as settled, KeyPrepared as key_prepared, LinkPrepared as link_prepared}
-use Rattle.lz_list.specs.Traces.{Trace, Begins, opening}
+use Rattle.lz_list.specs.Traces.{Trace, Begins, linking_in, opening}
 use Rattle.lz_machine.specs.declared.event.Event.TheVariants.{Pin, Reserve, Answer}
 use Rattle.lz_machine.specs.declared.event.Outcome.TheVariants.{Done}
 use Rattle.lz_machine.specs.declared.event.Reply.TheVariants.{Yes, Worn, Device}
@@ -20,7 +21,7 @@ use Rattle.lz_board.specs.Notes.{note_by, load_note, splice, pin_after}
 use Rattle.lz_board.specs.Addresses.{index, word_at}
 use Rattle.lz_board.specs.Glances.{Glanced, GlancedUnsettled}
 use Rattle.lz_board.specs.Plays.{fresh, knowing}
-use Rattle.lz_tie.specs.Answers.{Added, AreWithin, IsOneCall, Met, Removed}
+use Rattle.lz_tie.specs.Answers.{Added, AreWithin, IsOneCall, Met, Promises, Removed, WasFull}
 
 -- key 9 was found in slot 0
 abbrev P0 : Trace
@@ -56,6 +57,24 @@ P3 = unlinked 12 1 1 ∷ settled 1 as_removed ∷ marked 12 1 1 ∷ P2
 removed : Removed 1 12 P2 P3
 removed = record { slot = 1; changes = record { since = unlinked 12 1 1 ∷ settled 1 as_removed ∷ marked 12 1 1 ∷ []; goes_on = refl; own = refl }; earlier = P2; from = inl refl; upto = inr (inr (inl refl)); settled = refl }
 
+-- Neither is promised without what settles it. In a set that began empty pass 1 links 12; later, where that is settled, it marks
+-- and unlinks it.
+abbrev E1 : Trace
+E1 = linked 12 1 1 ∷ link_prepared 1 0 ∷ key_prepared 1 12 ∷ []
+
+not_added_yet : Added 1 12 [] E1 → ⊥
+not_added_yet h = false≢true h.settled
+
+abbrev E2 : Trace
+E2 = settled 1 as_added ∷ E1
+
+not_removed_yet : Removed 1 12 E2 (unlinked 12 1 1 ∷ marked 12 1 1 ∷ E2) → ⊥
+not_removed_yet h = go (linking_in 1 E1 == linking_in h.slot h.earlier) h.settled
+  where
+    go : (same : Bool) → (same && false) || false ≡ true → ⊥
+    go true is = false≢true is
+    go false is = false≢true is
+
 -- a `has` that answers yes: its steps are one call
 abbrev shape : Shape
 shape = record { slots = 2; buckets = 1; passes = 1 }
@@ -75,6 +94,13 @@ one_call = record {
   only = (tt, (tt, (tt, (tt, (tt, tt)))));
   answers = refl;
 }
+
+-- a set of two slots isn't full of one, and a pass isn't worn by its first turn
+not_full_of_one : (new : List Note) (P Q : Trace) → WasFull shape 1 12 (record { free = 0; taken = 1; limbo = 0 }) new P Q → ⊥
+not_full_of_one new P Q h = let sum = h.sum in absurd (omega (arith, sum))
+
+not_worn_yet : (new : List Note) (P Q : Trace) → Promises shape 1 Two (Add 12) Worn 3 new P Q → ⊥
+not_worn_yet new P Q h = let last = h.0 in absurd (omega (arith, last))
 
 -- the loads of that call go after its Pin, before what another pass has published since
 abbrev later : List Note

@@ -1,12 +1,12 @@
 -- Worked rows of what a late crash may leave: not a text that lacks what an answered call did.
-use Rattle.std.proofs.Common.{◌≡◌, ⊎_elim, ℕ, true, List, [], ◌∷◌, ◌++◌, Some, None, refl, sym, ap, ◌∙◌, subst, append_assoc, arith}
+use Rattle.std.proofs.Common.{◌≡◌, inl, ⊎_elim, ℕ, true, List, [], ◌∷◌, ◌++◌, Some, None, refl, sym, ap, ◌∙◌, subst, append_assoc, arith}
 use mathlib.Core.Bool.{false≢true}
 use Rattle.std.proofs.lemmas.List.{append_cancel_right}
-use Rattle.lz_slot.specs.declared.command.Command.TheVariants.{Add, Has}
+use Rattle.lz_slot.specs.declared.command.Command.TheVariants.{Add, Remove, Has}
 use Rattle.lz_slot.specs.declared.format.Format.TheVariants.{Two}
 use Rattle.lz_slot.specs.declared.history.Mark.TheVariants.{Call, Answer as answer}
 use Rattle.lz_slot.specs.Bytes.{Holds}
-use Rattle.lz_slot.specs.Histories.{History, Fits}
+use Rattle.lz_slot.specs.Histories.{History, Fits, IsUnderWay}
 use Rattle.lz_slot.specs.Sets.{Keys}
 use Rattle.lz_list.specs.declared.publishing.Change.TheVariants.{Added as as_added}
 use Rattle.lz_list.specs.declared.publishing.Publishing.TheVariants.{Linked as linked, Settled as settled, KeyPrepared as key_prepared, LinkPrepared as link_prepared}
@@ -26,7 +26,7 @@ use Rattle.lz_board.specs.Seats.{BoardId}
 use Rattle.lz_tie.specs.Holds.{no_board}
 use Rattle.lz_tie.specs.Marks.{marks_in}
 use Rattle.lz_tie.specs.Moments.{GrowsTo, ExplainsFrom}
-use Rattle.lz_tie.specs.RunningSets.{members_of}
+use Rattle.lz_tie.specs.RunningSets.{members_of, Explains}
 
 abbrev sizes : Sizes
 sizes = record { slots = 1; buckets = 1; passes = 1 }
@@ -35,11 +35,10 @@ sizes = record { slots = 1; buckets = 1; passes = 1 }
 abbrev board : BoardId
 board = record { table = no_board.table; sizes = sizes; opened = [] }
 
--- pass 1 has added 12, and was answered
-abbrev added : List Note
-added =
-    note_by 1 (Played Answer Done) None
-    ∷ note_by 1 (Played (Settle 0) Done) (Some (settled 0 as_added)) ∷ note_by 1 (Played (Sync 0) Done) None
+-- pass 1 has added 12, which is settled
+abbrev settled_adding : List Note
+settled_adding =
+    note_by 1 (Played (Settle 0) Done) (Some (settled 0 as_added)) ∷ note_by 1 (Played (Sync 0) Done) None
     ∷ note_by 1 (Played Release Done) None ∷ note_by 1 (Played Link Done) (Some (linked 12 0 1))
     ∷ note_by 1 (Played WriteOpen Done) (Some (link_prepared 0 0)) ∷ note_by 1 (Played Check True) None
     ∷ note_by 1 (Played (Claim (Bucket 0) None) Taken) None ∷ load_note 1 (record { word = Head 0; value = 0; at = 1 })
@@ -47,6 +46,10 @@ added =
     ∷ note_by 1 (Played Reserve (Slot 0)) None ∷ load_note 1 (record { word = Head 0; value = 0; at = 0 })
     ∷ load_note 1 (record { word = Halt; value = 0; at = 0 }) ∷ note_by 1 (Played Pin Done) None
     ∷ note_by 1 (Called (Add 12) Two) None ∷ []
+
+-- and was answered
+abbrev added : List Note
+added = note_by 1 (Played Answer Done) None ∷ settled_adding
 
 -- and has made another call since
 abbrev later : List Note
@@ -113,3 +116,10 @@ stays t e = go e.from.new e.upto.new e.from.shows (append_cancel_right (e.upto.n
 -- a text that holds the empty set, which the life's beginning explains, is none that it explains from then on
 not_lost : (t : List ℕ) → ExplainsFrom board added later t → Holds t 1 S0 → ⊥
 not_lost t e empty = false≢true (one_set t 1 S0 e.explains.found empty e.explains.holds 12 ∙ stays t e)
+
+-- nor does it explain what was seen before the answer: what is settled lasts, and no removal is under way
+not_left_out : (t : List ℕ) → Explains board settled_adding t → Holds t 1 S0 → ⊥
+not_left_out t e empty = false≢true (one_set t 1 S0 e.found empty e.holds 12 ∙ e.lasts.has 12 (record { begins = inl refl; member = refl; settled = refl }) none)
+  where
+    none : (i : ℕ) → IsUnderWay (Call 1 1 (Add 12) ∷ []) i (Remove 12) → ⊥
+    none i h = ⊎_elim (λ (is : Call 1 1 (Add 12) ≡ Call i h.called.0 (Remove 12)). absurd cc) (λ no. no) h.called.1
