@@ -33,6 +33,8 @@ pub struct Crowd<S: Stream> {
     parted: u64,
     /// Of how many that are here the session is over.
     leaving: usize,
+    /// How many replies were given since the last sync whose clients haven't asked again.
+    out: usize,
     /// The time by its own clock, in milliseconds, and when it was looked last which clients were silent.
     now: u64,
     looked: u64,
@@ -59,6 +61,7 @@ impl<S: Stream> Crowd<S> {
             admitted: 0,
             parted: 0,
             leaving: 0,
+            out: 0,
             now: 0,
             looked: 0,
             noted: None,
@@ -93,6 +96,16 @@ impl<S: Stream> Crowd<S> {
     /// Whether a client is waited for whose session is over.
     pub fn is_left(&self) -> bool {
         self.leaving > 0
+    }
+
+    /// Whether fewer asked since the last sync than were answered.
+    pub fn has_out(&self) -> bool {
+        self.out > 0
+    }
+
+    /// No client is waited for that was answered by now.
+    pub fn forget_out(&mut self) {
+        self.out = 0;
     }
 
     /// A token that no client has, if there is one.
@@ -133,6 +146,7 @@ impl<S: Stream> Crowd<S> {
         let Some(place) = self.places.get_mut(token) else {
             return;
         };
+        self.out = self.out.saturating_add(1);
         let is_next = place.reply(granted, self.now);
         let is_back = place.give_back();
         self.put(token, is_next, is_back);
@@ -168,6 +182,7 @@ impl<S: Stream> Crowd<S> {
             let is_back = question.is_none() && place.give_back();
             self.put(token, is_next, is_back);
             if let Some(question) = question {
+                self.out = self.out.saturating_sub(1);
                 return Some((token, question));
             }
         }

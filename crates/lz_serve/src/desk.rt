@@ -6,6 +6,7 @@ use crate::answering::{Next, answer_call, answer_one, begin_next};
 use crate::asking::Asking;
 use crate::crowd::Crowd;
 use crate::free_pass::FreePass;
+use crate::gathering::Gathering;
 use crate::given::Given;
 use crate::moments::{MOMENT, Moments};
 use crate::observer::Observer;
@@ -38,6 +39,8 @@ pub(crate) struct Desk<S: Stream, N: Named, B: Given> {
     parted: u64,
     /// When calls that wait for slots are made again.
     tries: Moments,
+    /// For how long a sync waits for clients that were just answered.
+    gathering: Gathering,
     ghost fit: { given ≤ most },
     ghost count: { vec_len free + vec_len calls ≡ given },
     ghost spare_free: { most ≤ vec_capacity free },
@@ -63,6 +66,7 @@ impl<S: Stream, N: Named, B: Given> Desk<S, N, B> {
             ends: false,
             parted: 0,
             tries: Moments::new(),
+            gathering: Gathering::new(),
         })
     }
 
@@ -93,6 +97,7 @@ impl<S: Stream, N: Named, B: Given> Desk<S, N, B> {
             ends: _,
             parted: _,
             tries: _,
+            gathering: _,
         } = self;
         free
     }
@@ -175,12 +180,37 @@ impl<S: Stream, N: Named, B: Given> Desk<S, N, B> {
     }
 
     /// Plays the Sync of each call that stands before one. The first calls the device, and the others find their slots covered.
-    pub(crate) fn sync_all<D: Disk, G: StepGate, R: Wait>(&mut self, rt: &R, set: &Set<D, G, N>)
+    pub(crate) fn sync_all<D: Disk, G: StepGate, R: Wait + Clock>(
+        &mut self,
+        rt: &R,
+        set: &Set<D, G, N>,
+    )
         ensures { self.new.given ≡ self.old.given }
     {
+        let began = rt.monotonic().ok();
         let mut kept = set.keep();
+        let mut has_synced = false;
         for asking in self.calls.iter_mut() {
-            let _ = asking.sync(rt, set, &mut kept);
+            let synced = asking.sync(rt, set, &mut kept);
+            has_synced = has_synced || synced;
+        }
+        if has_synced {
+            self.gathering.note_sync(time_since(rt, began));
+            self.crowd.forget_out();
+        }
+    }
+
+    /// Whether the next sync waits a little for clients that were just answered, by whose calls it would do as well: where a pass is
+    /// free for them.
+    pub(crate) fn gathers<R: Clock>(&mut self, rt: &R) -> bool
+        ensures { self.new.given ≡ self.old.given }
+    {
+        if self.calls.is_empty() || self.free.is_empty() || !self.crowd.has_out() {
+            return false;
+        }
+        match rt.monotonic() {
+            Ok(now) => self.gathering.holds(now),
+            Err(_) => false,
         }
     }
 
@@ -285,6 +315,13 @@ impl<S: Stream, N: Named, B: Given> Desk<S, N, B> {
     {
         self.calls.is_empty()
     }
+}
+
+// How long it is since then, where the clock can tell.
+fn time_since<R: Clock>(rt: &R, began: Option<Duration>) -> Option<Duration> {
+    let began = began?;
+    let now = rt.monotonic().ok()?;
+    Some(now.saturating_sub(began))
 }
 
 // A pass is free. There is room for it.

@@ -15,6 +15,7 @@ mod conversation;
 mod crowd;
 mod desk;
 mod free_pass;
+mod gathering;
 mod given;
 mod guest;
 mod line;

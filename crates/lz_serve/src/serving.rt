@@ -22,12 +22,16 @@ use std::alloc::{AllocError, Global};
 use std::marker::Brand;
 use std::sync::Wait;
 use std::sync::atomic::{AtomicBool, Ordering};
+use std::thread;
 use std::time::{Clock, Duration};
 
 /// For how many milliseconds, at its end, a loop goes on sending replies that are slowly taken, and how long each turn is then at most.
 const FAREWELL: u64 = 1_000;
 
 const FAREWELL_TURN: u64 = 100;
+
+/// For how many microseconds a loop sleeps where it holds a sync back, before it listens again.
+const GLIMPSE: u64 = 20;
 
 /// Serves connections, so many at once, by these passes in one thread, until a client was told that the service halted, here or by another loop, which
 /// sets `told`, the observer says that it is to end, or so many connections were served. Then the calls under way are played to their
@@ -220,7 +224,11 @@ where
         }
         desk.begin_all(rt, set);
         desk.play_all(rt, set, observer, &mut buffer);
-        desk.sync_all(rt, set);
+        if desk.gathers(rt) {
+            thread::sleep(rt, Duration::from_micros(GLIMPSE));
+        } else {
+            desk.sync_all(rt, set);
+        }
         desk.tell_parted(observer);
     }
     desk.finish(rt, set, observer, &mut buffer);
