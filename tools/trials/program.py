@@ -93,9 +93,10 @@ class Service:
         before: Sequence[str] = (),
         log: Union[int, IO[str]] = subprocess.DEVNULL,
         kept: Sequence[int] = (),
+        port: str = "0",
     ) -> None:
         self.process = subprocess.Popen(
-            [*before, program.path, "serve", file, "0", str(passes), *options],
+            [*before, program.path, "serve", file, port, str(passes), *options],
             stdout=subprocess.PIPE,
             stderr=log,
             text=True,
@@ -104,7 +105,8 @@ class Service:
         )
         assert self.process.stdout is not None
         self.told = self.process.stdout.readline()
-        self.port = int(self.told.split()[1]) if self.told.startswith("listening ") else 0
+        place = self.told.partition("listening ")[2].rstrip("\n")
+        self.port = int(place) if place.isdigit() else 0
 
     def __enter__(self) -> Service:
         return self

@@ -14,7 +14,7 @@ use crate::files::{
 use crate::growing::grow;
 use crate::handed::handed;
 use crate::heard::Heard;
-use crate::service::{Until, serve};
+use crate::service::{At, Until, serve};
 use crate::words::words_of;
 use lazyset_command_line::{Request, read, too_many_buckets};
 use lazyset_commands::{
@@ -109,12 +109,16 @@ where
             file,
             options,
             is_spread,
+            socket,
             control,
             until_eof,
         } => {
             let until = Until { control, until_eof };
             // Before anything else is opened, which might get its number.
-            let handed = handed(rt);
+            let at = match socket {
+                Some(path) => At::Path(path),
+                None => At::Port(handed(rt)),
+            };
             let mut disk = open_for(rt, file, options.buckets)?;
             let buckets = if is_spread {
                 buckets_for(&mut disk)
@@ -122,7 +126,7 @@ where
                 options.buckets
             };
             let options = ServeOptions { buckets, ..options };
-            serve(rt, writer, file, disk, options, until, handed)
+            serve(rt, writer, file, disk, options, until, at)
         }
         Request::Stop { path, within } => ask_to_stop(rt, path, within),
         Request::Info { file } => survey(rt, writer, file, Shown::Counts),

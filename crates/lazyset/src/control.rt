@@ -1,4 +1,5 @@
 //! The socket on which a service is asked to stop.
+use crate::at_path::listen_at;
 use crate::fault::Fault;
 use crate::files::no_file;
 use crate::log::Stoppable;
@@ -6,9 +7,8 @@ use lazyset_commands::Status;
 use std::fs::File;
 use std::io::{ErrorKind, Read, Write};
 use std::net::{Net, Shutdown};
-use std::os::fd::{AsFd, AsRawFd, OwnedFd};
-use std::os::unix::fs::FileTypeExt;
-use std::os::unix::net::{SocketAddr, UnixListener, UnixStream};
+use std::os::fd::OwnedFd;
+use std::os::unix::net::{UnixListener, UnixStream};
 use std::rt::Files;
 use std::sync::atomic::{AtomicBool, Ordering};
 use std::time::{Clock, Duration};
@@ -16,9 +16,6 @@ use std::{io, thread};
 
 // What is sent on it.
 const STOP: &[u8] = b"stop\n";
-
-// Its owner alone may send something.
-const MODE: u32 = 0o600;
 
 // How many may wait to be heard.
 const BACKLOG: i32 = 16;
@@ -36,14 +33,8 @@ pub struct Control {
 impl Control {
     /// Listens at this path, where nobody does. What a service that was killed has left there is taken away.
     pub fn listen<R: Files<File = File> + Net>(rt: &R, path: &str) -> io::Result<Control> {
-        take_away(rt, path)?;
-        let socket = rt.unix_socket()?;
-        // The file gets the mode that the socket has before it.
-        done(libc::fchmod(socket.as_raw_fd(), MODE))?;
-        rt.bind_unix(socket.as_fd(), &SocketAddr::from_pathname(path)?)?;
-        done(libc::net::listen(socket.as_raw_fd(), BACKLOG))?;
         Ok(Control {
-            listener: UnixListener::from(socket),
+            listener: listen_at(rt, path, BACKLOG)?,
             is_closed: AtomicBool::new(false),
         })
     }
@@ -81,31 +72,12 @@ impl Control {
     }
 }
 
-// What a call of the system has come to.
-fn done(status: i32) -> io::Result<()> {
-    if status == 0 {
-        return Ok(());
-    }
-    Err(io::Error::from(ErrorKind::Other))
-}
-
 // Whether a stop is asked for on this connection.
 fn asks(stream: &UnixStream) -> bool {
     let _ = stream.set_read_timeout(Some(Duration::from_millis(PATIENCE)));
     let mut word = [0; STOP.len()];
     let mut reader = stream;
     reader.read_exact(&mut word).is_ok() && word.as_slice() == STOP
-}
-
-// Takes away the socket at this path, where nobody listens there.
-fn take_away<R: Files<File = File> + Net>(rt: &R, path: &str) -> io::Result<()> {
-    let Ok(facts) = rt.symlink_metadata(path) else {
-        return Ok(());
-    };
-    if !facts.file_type().is_socket() || UnixStream::connect(rt, path).is_ok() {
-        return Err(io::Error::from(ErrorKind::AddrInUse));
-    }
-    rt.remove_file(path)
 }
 
 /// Asks the service that listens at this path to stop, and waits for its end, up to so many seconds.

@@ -1,4 +1,5 @@
 //! What the service says on standard error, and when it is to end.
+use crate::at_path::has_waiting;
 use crate::backlog::Backlog;
 use crate::gauge::Gauge;
 use crate::level::Level;
@@ -7,9 +8,8 @@ use crate::seldom::Seldom;
 use crate::watched::Watched;
 use lz_disk::Cause;
 use lz_proto::Reply;
-use lz_serve::{Lack, Observer, Serving, Verb, close_listener};
+use lz_serve::{Lack, Listener, Observer, Serving, Verb, close_listener};
 use lz_slot::Format;
-use std::net::TcpListener;
 use std::sync::atomic::{AtomicBool, AtomicUsize, Ordering};
 use std::sync::{OnceLock, Wait};
 use std::time::{Clock, Duration};
@@ -44,7 +44,7 @@ pub struct Log<'a, R: Eprint> {
     around: Surroundings,
     /// When the opening began, where the clock tells.
     began: Option<Duration>,
-    listener: OnceLock<TcpListener>,
+    listener: OnceLock<Listener>,
     gauge: Gauge,
     /// How many connections it serves at once, how many there are, and how many there were.
     places: AtomicUsize,
@@ -154,11 +154,8 @@ where
         let Some(listener) = self.listener.get() else {
             return;
         };
-        let Ok(address) = listener.local_addr() else {
-            return;
-        };
         let places = self.places.load(Ordering::SeqCst);
-        match self.around.backlog.at(self.rt.alloc(), address.port()) {
+        match self.waiting_at(listener) {
             Some(0) => self.crowded.again(second),
             Some(waiting) => self.say(
                 Level::Warning,
@@ -168,6 +165,14 @@ where
                 Level::Warning,
                 format_args!("all {places} places are taken, further connections wait"),
             ),
+        }
+    }
+
+    // How many connections wait there, where the system tells it: of a path no more than that none does.
+    fn waiting_at(&self, listener: &Listener) -> Option<u64> {
+        match listener {
+            Listener::Port(_) => self.around.backlog.at(self.rt.alloc(), listener.port()?),
+            Listener::Path(listener) => { if has_waiting(listener) { None } else { Some(0) } }
         }
     }
 
@@ -213,7 +218,7 @@ impl<'a, R> Observer for Log<'a, R>
 where
     R: Eprint + Clock + Wait + AllocGlobal,
 {
-    fn serving(&self, serving: Serving, listener: &TcpListener) {
+    fn serving(&self, serving: Serving, listener: &Listener) {
         if let Ok(same) = listener.try_clone() {
             let _ = self.listener.set(self.rt, same);
         }

@@ -1,6 +1,7 @@
 //! The command line of the set service: it reads the words, opens the files, and hands over to the library of commands.
 #![tactic(auto)]
 
+mod at_path;
 mod backlog;
 mod commands;
 mod control;

@@ -2,6 +2,7 @@
 ghost use Rattle.std.specs.Prelude.{◌≤◌};
 ghost use Rattle.lz_slot.specs.Limits.{most_buckets, most_passes};
 
+use crate::at_path::{SocketFile, listen_at};
 use crate::backlog::Backlog;
 use crate::control::Control;
 use crate::ending::has_ended;
@@ -11,7 +12,7 @@ use crate::level::is_journal;
 use crate::log::{Log, Stoppable, Surroundings};
 use crate::ready::Ready;
 use crate::watched::Watched;
-use lazyset_commands::{ServeOptions, Status, serve_on};
+use lazyset_commands::{Listener, Place, ServeOptions, Status, serve_on};
 use lz_disk::FileDisk;
 use std::fs::File;
 use std::io::Write;
@@ -24,6 +25,9 @@ use std::thread::Threads;
 use std::time::Clock;
 use std::{io, thread};
 
+// How many connections may wait at a path, where the system allows as many.
+const BACKLOG: i32 = 4_096;
+
 /// What a service is asked to stop by, besides signals.
 #[derive(Clone, Copy)]
 pub struct Until<'a> {
@@ -33,8 +37,51 @@ pub struct Until<'a> {
     pub until_eof: bool,
 }
 
-/// Serves the set of this file, at the listener that was handed over, where one was. Who asked for its end hears of it once the file is
-/// closed.
+/// Where a service listens.
+#[derive(Drop)]
+pub enum At<'a> {
+    /// On a port, or at the listener that was handed over in place of one.
+    Port(Option<io::Result<TcpListener>>),
+    /// At the socket of this path.
+    Path(&'a str),
+}
+
+impl<'a> At<'a> {
+    fn is_of_six(&self) -> bool {
+        match self {
+            At::Port(handed) => is_of_six(handed),
+            At::Path(_) => false,
+        }
+    }
+
+    // The same with its listener, where that isn't the command's to make.
+    fn place<R: Files<File = File> + Net>(self, rt: &R) -> Place<'a> {
+        match self {
+            At::Port(None) => Place {
+                listener: None,
+                path: None,
+            },
+            At::Port(Some(handed)) => Place {
+                listener: Some(handed.map(Listener::Port)),
+                path: None,
+            },
+            At::Path(path) => Place {
+                listener: Some(listen_at(rt, path, BACKLOG).map(Listener::Path)),
+                path: Some(path),
+            },
+        }
+    }
+}
+
+// The file of the socket that was made for a service.
+fn socket_of<'a, R: Files<File = File>>(rt: &R, place: &Place<'a>) -> Option<SocketFile<'a>> {
+    match (&place.listener, place.path) {
+        (Some(Ok(_)), Some(path)) => SocketFile::at(rt, path),
+        _ => None,
+    }
+}
+
+/// Serves the set of this file there. Who asked for its end hears of it once the file is closed.
 pub fn serve<R, W>(
     rt: &R,
     writer: &mut W,
@@ -42,7 +89,7 @@ pub fn serve<R, W>(
     disk: FileDisk,
     options: ServeOptions,
     until: Until<'_>,
-    handed: Option<io::Result<TcpListener>>,
+    at: At<'_>,
 ) -> Result<Status, Fault>
 where
     R: Env + Files<File = File> + Eprint + AllocGlobal,
@@ -65,8 +112,10 @@ where
     let around = Surroundings {
         has_levels: is_journal(rt),
         ready: Ready::new(rt),
-        backlog: Backlog::new(rt, is_of_six(&handed)),
+        backlog: Backlog::new(rt, at.is_of_six()),
     };
+    let place = at.place(rt);
+    let socket = socket_of(rt, &place);
     let log = Log::new(rt, file, watched, around);
     let (status, disk, waiting) = serve_until(
         rt,
@@ -74,13 +123,16 @@ where
         &log,
         disk,
         options,
-        handed,
+        place,
         control.as_ref(),
         until.until_eof,
     );
     log.say_cause(disk.cause());
     if let Some(path) = until.control {
         let _ = rt.remove_file(path);
+    }
+    if let Some(socket) = socket {
+        socket.remove(rt);
     }
     log.ended();
     drop(disk);
@@ -95,7 +147,7 @@ fn serve_until<R, W, O>(
     log: &O,
     disk: FileDisk,
     options: ServeOptions,
-    handed: Option<io::Result<TcpListener>>,
+    place: Place<'_>,
     control: Option<&Control>,
     until_eof: bool,
 ) -> (Status, FileDisk, Vec<UnixStream>)
@@ -129,7 +181,7 @@ where
             } else {
                 None
             };
-            let (status, disk) = serve_on(rt, writer, log, disk, options, handed);
+            let (status, disk) = serve_on(rt, writer, log, disk, options, place);
             is_over.store(true, Ordering::SeqCst);
             if let Some(control) = control {
                 control.close();

@@ -21,7 +21,7 @@ abbrev pub IsWithin : Request → Type 0
 IsWithin (Renew old new slots format) = last_room_of format ≡ last_room
 IsWithin (Grow file slots format) = IfSome format (λ f. last_room_of f ≡ last_room)
 IsWithin (Run file buckets) = (1 ≤ buckets) × (buckets ≤ most_buckets)
-IsWithin (Serve file options is_spread control until_eof) =
+IsWithin (Serve file options is_spread socket control until_eof) =
     ArePasses options × ((1 ≤ options.buckets) × (options.buckets ≤ most_buckets)) × IfSome options.loops (AreWithin options.passes)
 IsWithin (Rehearse slots buckets format) =
     ((1 ≤ slots) × (slots ≤ most_rehearsed)) × (1 ≤ buckets) × (buckets ≤ most_buckets_of format)

@@ -4,8 +4,9 @@ ghost use Rattle.lz_slot.specs.Limits.{last_room, most_buckets};
 ghost use Rattle.lz_slot.specs.Rooms.{last_room_of};
 ghost use Rattle.lazyset_command_line.specs.Requests.{ArePasses, AreWithin, IsWithin};
 
-use crate::command::command_line;
+use crate::command::{Listens, command_line};
 use crate::refusal::{Refusal, bad_passes, refusal_of, too_many_buckets, too_many_loops};
+use crate::words::SOCKET_ID;
 use clap::ArgMatches;
 use lz_serve::{Loops, MOST_CONNECTIONS, MOST_THREADS, ServeOptions};
 use lz_slot::{Format, LAST_ROOM, MOST_BUCKETS, MOST_PASSES, MOST_REHEARSED};
@@ -48,6 +49,8 @@ pub enum Request<'a> {
         options: ServeOptions,
         /// It has as many buckets as the file has slots, or as many as its format allows, in place of those of its options.
         is_spread: bool,
+        /// The path of the socket on which it listens, in place of a port.
+        socket: Option<&'a str>,
         /// The path of the socket on which it is asked to stop.
         control: Option<&'a str>,
         /// It stops when standard input ends.
@@ -101,7 +104,7 @@ impl fmt::Display for Request<'_> {
 pub fn read<'a>(alloc: Global, words: &'a [String]) -> Result<Request<'a>, Refusal>
     ensures { IfOk result IsWithin }
 {
-    let Ok(command) = command_line(alloc) else {
+    let Ok(command) = command_line(alloc, Listens::of(words)) else {
         return Err(Refusal::Memory(AllocError));
     };
     match command.try_get_matches_from(words) {
@@ -229,6 +232,7 @@ fn serve<'a>(words: &ArgMatches<'a>) -> Option<Request<'a>>
         file: text(words, "FILE")?,
         options,
         is_spread: options.loops.is_some() && words.get_str("buckets").is_none(),
+        socket: text(words, SOCKET_ID),
         control: text(words, "control"),
         until_eof: words.get_flag("until-eof"),
     })
@@ -249,7 +253,10 @@ fn serve_options(matches: &ArgMatches<'_>) -> Option<ServeOptions>
     ensures buckets { IfSome result (λ options. (1 ≤ options.buckets) × (options.buckets ≤ most_buckets)) }
     ensures loops { IfSome result (λ options. IfSome options.loops (AreWithin options.passes)) }
 {
-    let port = u16::try_from(number(matches, "PORT")?).ok()?;
+    let port = match matches.get_str(SOCKET_ID) {
+        Some(_) => 0,
+        None => u16::try_from(number(matches, "PORT")?).ok()?,
+    };
     let buckets = match matches.get_str("buckets") {
         Some(_) => number_within(matches, "buckets", MOST_BUCKETS)?,
         None => 1,

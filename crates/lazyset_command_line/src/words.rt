@@ -10,6 +10,8 @@ pub enum Form {
     Text,
     Number,
     Within(i64, i64),
+    /// Within these bounds, or `-` where `--socket` stands.
+    Port(i64, i64),
 }
 
 /// What else may stand with an option.
@@ -48,6 +50,12 @@ pub struct Sheet {
 pub const STATUSES: &str =
     "Exit statuses: 0 done; 1 the device, a read, a write or the port failed, or out of memory; 2 the command line; 3 the file or the input was refused; 4 damaged, not the same, or judged wrong. Standard error says in words why.";
 
+/// The option by which a service listens at a path.
+pub const SOCKET_ID: &str = "socket";
+
+/// What stands in the place of a port then.
+pub const NO_PORT: &[&str] = &["-"];
+
 /// The commands, as the help lists them.
 pub const SHEETS: [Sheet; 10] = [
     Sheet {
@@ -77,7 +85,7 @@ pub const SHEETS: [Sheet; 10] = [
     Sheet {
         name: "serve",
         about: "Answers the lines of many connections at once, as `run` does",
-        notes: "Prints `listening PORT` when clients can connect, `refused N` as `run` does, or `noport`. Standard error is its log.\n\nIt locks the file: where another process has it, it says `nofile`.\n\nExample: lazyset serve f 7000 8 --buckets 1024 --idle 600\n\nFor thousands of connections: lazyset serve f 7000 1024 --connections 5000",
+        notes: "Prints `listening PORT`, or `listening PATH`, when clients can connect, `refused N` as `run` does, or `noport`. Standard error is its log.\n\nIt locks the file: where another process has it, it says `nofile`.\n\nExample: lazyset serve f 7000 8 --buckets 1024 --idle 600\n\nFor thousands of connections: lazyset serve f 7000 1024 --connections 5000\n\nFor this user's programs alone: lazyset serve f - 8 --socket f.socket",
         words: &[
             FILE,
             PORT,
@@ -87,6 +95,7 @@ pub const SHEETS: [Sheet; 10] = [
             SESSIONS,
             IDLE,
             SERVED_BUCKETS,
+            SOCKET,
             CONTROL,
             UNTIL_EOF,
         ],
@@ -249,10 +258,10 @@ const SERVED_BUCKETS: Word = Word {
 const PORT: Word = Word {
     id: "PORT",
     value_name: None,
-    form: Form::Within(0, 65_535),
+    form: Form::Port(0, 65_535),
     default: None,
     beside: Beside::Anything,
-    help: "The port of 127.0.0.1; 0 takes a free one, which is printed",
+    help: "The port of 127.0.0.1; 0 takes a free one, which is printed; - with --socket",
 };
 
 const PASSES: Word = Word {
@@ -298,6 +307,15 @@ const IDLE: Word = Word {
     default: Some("0"),
     beside: Beside::Anything,
     help: "Closes a connection on which nothing was sent, or no reply taken, for so long; 0 for never",
+};
+
+const SOCKET: Word = Word {
+    id: SOCKET_ID,
+    value_name: Some("PATH"),
+    form: Form::Text,
+    default: None,
+    beside: Beside::Anything,
+    help: "Listens on a Unix socket at this path, for its owner alone, in place of a port; PORT is - then",
 };
 
 const CONTROL: Word = Word {

@@ -1,5 +1,5 @@
 -- What a service of a set does: its passes are served, each by a thread, or by loops.
-use Rattle.std.specs.Prelude.{◌≡◌, ◌⊎◌, ◌≤◌, ◌<◌, ℕ, All, List, [], ◌∷◌, ◌++◌, codes, decimal, length, Option, Result, Ok, Err}
+use Rattle.std.specs.Prelude.{◌≡◌, ◌⊎◌, ◌≤◌, ◌<◌, ℕ, All, List, [], ◌∷◌, ◌++◌, codes, decimal, length, Option, None, Some, Result, Ok, Err}
 use Rattle.std.specs.List.{Any}
 use Rattle.lz_disk.specs.Devices.{Device}
 use Rattle.lz_vault.specs.Opens.{IsRefusedFor}
@@ -53,29 +53,38 @@ port_text port = codes "listening " ++ decimal port ++ 10 ∷ []
 abbrev pub TellsPort : Option (List ℕ) → Option (List ℕ) → Result (Unit {0}) SessionFault → Type 0
 TellsPort before after sent = (port : ℕ) × (port < 65_536) × SendTells before after (port_text port) sent
 
--- the line of a port couldn't be written, and the command failed
-abbrev pub HidesPort : Option (List ℕ) → Option (List ℕ) → Status → Type 0
-HidesPort before after status = TellsPort before after (Err Write) × (status ≡ Failed)
+-- the line that names the path at which a service listens
+abbrev pub path_text : List ℕ → List ℕ
+path_text path = codes "listening " ++ path ++ 10 ∷ []
 
--- There was a port for the service, which was told, and its passes were served.
-pub record HadPort (b : BoardId) (first : Device) (status : Status) (before after : Option (List ℕ)) (disk : Device) : Type 0 where
-  pub told : TellsPort before after (Ok tt)
+-- the line of the place where a service listens was sent so: at this path, or else on a port
+abbrev pub TellsPlace : Option (List ℕ) → Option (List ℕ) → Option (List ℕ) → Result (Unit {0}) SessionFault → Type 0
+TellsPlace None before after sent = TellsPort before after sent
+TellsPlace (Some path) before after sent = SendTells before after (path_text path) sent
+
+-- the line of the place couldn't be written, and the command failed
+abbrev pub HidesPlace : Option (List ℕ) → Option (List ℕ) → Option (List ℕ) → Status → Type 0
+HidesPlace path before after status = TellsPlace path before after (Err Write) × (status ≡ Failed)
+
+-- There was a place for the service, which was told, and its passes were served.
+pub record HadPlace (b : BoardId) (first : Device) (path : Option (List ℕ)) (status : Status) (before after : Option (List ℕ)) (disk : Device) : Type 0 where
+  pub told : TellsPlace path before after (Ok tt)
   pub served : ServedPasses b first status disk
 
--- There was no port for the service, which was told, or its port couldn't be told; what is left of the disk tells a history.
-pub record HadNoPort (b : BoardId) (first : Device) (status : Status) (before after : Option (List ℕ)) (disk : Device) : Type 0 where
-  pub told : Tells before after (codes "noport" ++ 10 ∷ []) Failed status ⊎ HidesPort before after status
+-- There was no place for the service, which was told, or its place couldn't be told; what is left of the disk tells a history.
+pub record HadNoPlace (b : BoardId) (first : Device) (path : Option (List ℕ)) (status : Status) (before after : Option (List ℕ)) (disk : Device) : Type 0 where
+  pub told : Tells before after (codes "noport" ++ 10 ∷ []) Failed status ⊎ HidesPlace path before after status
   pub notes : List Note
   pub left : IsLeft b first notes disk
 
--- The disk was opened as a set of so many buckets and passes, and its passes were served, or there was no port.
-pub record RanService {D : Type 0} (device : D → Device) (buckets passes : ℕ) (status : Status) (before after : Option (List ℕ)) (old new : D) : Type 0 where
+-- The disk was opened as a set of so many buckets and passes, and its passes were served, or there was no place to listen.
+pub record RanService {D : Type 0} (device : D → Device) (buckets passes : ℕ) (path : Option (List ℕ)) (status : Status) (before after : Option (List ℕ)) (old new : D) : Type 0 where
   pub opened : BlankOver D
   pub opens : OpensYard (device old) (device opened.disk) buckets passes opened.yard
   pub sizes : opened.board.sizes ≡ sizes_of opened.yard.shape
   pub trace : opened.board.opened ≡ opened_by opened.yard.words
-  pub served : HadPort opened.board (device opened.disk) status before after (device new)
-      ⊎ HadNoPort opened.board (device opened.disk) status before after (device new)
+  pub served : HadPlace opened.board (device opened.disk) path status before after (device new)
+      ⊎ HadNoPlace opened.board (device opened.disk) path status before after (device new)
 
 -- The open was refused, and the refusal was told.
 pub record RefusedService {D : Type 0} (device : D → Device) (status : Status) (before after : Option (List ℕ)) (old new : D) : Type 0 where

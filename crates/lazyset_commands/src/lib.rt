@@ -9,6 +9,6 @@ pub use lazyset_offline::{
     MOST_JUDGED, Shelf, Shown, Standing, Status, check_of_on, grow_on, judge_on, make_keys_on,
     make_on, rehearse_on, renew_on, survey_on,
 };
-pub use lz_serve::ServeOptions;
+pub use lz_serve::{Listener, ServeOptions};
 pub use running::run_on;
-pub use serving::serve_on;
+pub use serving::{Place, serve_on};

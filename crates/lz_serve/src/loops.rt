@@ -8,6 +8,7 @@ ghost use Rattle.lz_serve.specs.Halts.{IsCalm, IsCalmAfter, SawHalt};
 use crate::desk::Desk;
 use crate::free_pass::FreePass;
 use crate::given::Given;
+use crate::listener::Listener;
 use crate::loads::Loads;
 use crate::observer::{Lack, Loops, Observer};
 use crate::server::{Bounds, Served, none_served};
@@ -18,7 +19,7 @@ use lz_disk::Disk;
 use lz_set::{Named, Pass, Set, StepGate};
 use std::alloc::AllocError;
 use std::marker::Brand;
-use std::net::{Net, TcpListener};
+use std::net::Net;
 use std::sync::Wait;
 use std::sync::atomic::AtomicBool;
 use std::thread::Threads;
@@ -29,7 +30,7 @@ use std::time::Clock;
 /// many connections as there may be, further ones wait in the listener's queue.
 pub fn serve_loops<D, G, N, R, O>(
     rt: &R,
-    listener: &TcpListener,
+    listener: &Listener,
     set: &Set<D, G, N>,
     passes: Vec<Pass>,
     loops: Loops,
@@ -89,7 +90,7 @@ where
 // What each of so many loops waits for.
 fn sockets_of<'a, R>(
     rt: &'a R,
-    listener: &TcpListener,
+    listener: &Listener,
     loads: &'a Loads,
     loops: usize,
 ) -> Result<Vec<Sockets<'a, R>>, Lack>

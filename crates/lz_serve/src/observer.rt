@@ -2,8 +2,8 @@
 ghost use Rattle.std.specs.Prelude.{◌≡◌};
 ghost use Rattle.lz_serve.specs.Verbs.{verb_of};
 
+use crate::listener::Listener;
 use lz_proto::{Reply, Request};
-use std::net::TcpListener;
 use std::{fmt, io};
 
 /// What a service stands on.
@@ -107,7 +107,7 @@ impl Verb {
 /// Is told what an operator wants to know of a service, by any of its threads, and says when it is to end.
 pub trait Observer: Drop {
     /// The service stands, and is about to take its first connection from this listener.
-    fn serving(&self, serving: Serving, listener: &TcpListener);
+    fn serving(&self, serving: Serving, listener: &Listener);
 
     /// The service can't listen on its port.
     fn no_port(&self, error: io::Error);

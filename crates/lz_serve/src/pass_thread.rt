@@ -6,6 +6,7 @@ use crate::client::Client;
 use crate::free_pass::FreePass;
 use crate::given::Given;
 use crate::guest::Guest;
+use crate::listener::{Listener, close_listener};
 use crate::observer::{Observer, Verb};
 use crate::server::Bounds;
 use crate::stream::Stream;
@@ -13,8 +14,7 @@ use lz_disk::Disk;
 use lz_proto::MOST_PIECE;
 use lz_set::{Named, Set, StepGate};
 use std::io::{ErrorKind, Read};
-use std::net::{Shutdown, TcpListener, TcpStream};
-use std::os::fd::OwnedFd;
+use std::net::{Shutdown, TcpStream};
 use std::sync::Wait;
 use std::sync::atomic::{AtomicBool, Ordering};
 use std::thread;
@@ -43,7 +43,7 @@ pub(crate) struct Host<
     O: Observer,
 > {
     pub(crate) rt: &'a R,
-    pub(crate) listener: &'a TcpListener,
+    pub(crate) listener: &'a Listener,
     pub(crate) set: &'a Set<D, G, N>,
     pub(crate) bounds: Bounds,
     pub(crate) observer: &'a O,
@@ -99,7 +99,8 @@ impl<'a, D: Disk, G: StepGate, N: Named, R: Wait + Clock + AllocGlobal, O: Obser
         if self.is_ended() {
             return;
         }
-        for stream in self.listener.incoming() {
+        for _ in self.rt.forever() {
+            let stream = self.listener.accept();
             if self.is_ended() {
                 return;
             }
@@ -179,18 +180,6 @@ where
             None => {
                 let _ = client.read(&mut buffer, false);
             }
-        }
-    }
-}
-
-/// Has each wait for a connection end with a fault, now and later. (A listener has no call for this, and a stream has.) When out of
-/// descriptors it does nothing: then each thread that waits ends with its next client. Nor does it where each wait has an end anyway, as
-/// at a socket that isn't the service's alone.
-pub fn close_listener(listener: &TcpListener) {
-    if let Ok(same) = listener.try_clone() {
-        let same = TcpStream::from(OwnedFd::from(same));
-        if let Ok(None) = same.read_timeout() {
-            let _ = same.shutdown(Shutdown::Both);
         }
     }
 }

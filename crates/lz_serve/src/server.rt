@@ -6,6 +6,7 @@ ghost use Rattle.lz_set.specs.Names.{MayCall};
 ghost use Rattle.lz_serve.specs.Halts.{IsCalm, IsCalmAfter, SawHalt};
 
 use crate::given::Given;
+use crate::listener::Listener;
 use crate::observer::{Lack, Observer};
 use crate::pass_thread::Host;
 use crate::workers::{Worker, serve_by};
@@ -13,7 +14,6 @@ use lz_disk::Disk;
 use lz_set::{Named, Pass, Set, StepGate};
 use std::alloc::{AllocError, Global};
 use std::marker::Brand;
-use std::net::TcpListener;
 use std::sync::Wait;
 use std::sync::atomic::AtomicBool;
 use std::thread::Threads;
@@ -59,7 +59,7 @@ pub fn none_served<O: Observer>(passes: Vec<Pass>, observer: &O, why: Lack) -> S
 /// thread can be made for a pass, this one serves by it before it tries the next. One pass serves in this thread.
 pub fn serve<D, G, N, R, O>(
     rt: &R,
-    listener: &TcpListener,
+    listener: &Listener,
     set: &Set<D, G, N>,
     passes: Vec<Pass>,
     bounds: Bounds,

@@ -1,11 +1,13 @@
 //! The connections of a loop, as the system's sockets.
+use crate::listener::Listener;
 use crate::loads::Loads;
 use crate::poller::{Poller, Ready};
 use crate::stream::{Received, Stream, Taken};
-use mio::net::{TcpListener as Listener, TcpStream};
+use mio::net::TcpStream;
+use mio::unix::SourceFd;
 use mio::{Events, Interest, Poll, Token};
 use std::io::{ErrorKind, Read, Write};
-use std::net::{Net, Shutdown, TcpListener};
+use std::net::{Net, Shutdown};
 use std::time::{Clock, Duration};
 use std::{io, thread};
 
@@ -74,15 +76,18 @@ impl<'a, R: Net + Clock + AllocGlobal> Sockets<'a, R> {
     /// Waits for the connections of the listener, at which accepting doesn't wait any more from now on, as the loop of this number.
     pub fn new(
         rt: &'a R,
-        listener: &TcpListener,
+        listener: &Listener,
         loads: &'a Loads,
         index: usize,
     ) -> io::Result<Sockets<'a, R>> {
         listener.set_nonblocking(true)?;
-        let mut listener = Listener::from_std(listener.try_clone()?);
+        let listener = listener.try_clone()?;
         let poll = Poll::new(rt)?;
-        poll.registry()
-            .register(&mut listener, LISTENER, Interest::READABLE)?;
+        poll.registry().register(
+            &mut SourceFd(&listener.raw_fd()),
+            LISTENER,
+            Interest::READABLE,
+        )?;
         let Ok(events) = Events::with_capacity(rt.alloc(), EVENTS) else {
             return Err(io::Error::from(ErrorKind::OutOfMemory));
         };
@@ -149,8 +154,8 @@ impl<'a, R: Clock> Poller for Sockets<'a, R> {
         if !self.has_come || self.leaves_it() {
             return Ok(None);
         }
-        let mut stream = match self.listener.accept() {
-            Ok((stream, _)) => stream,
+        let stream = match self.listener.accept() {
+            Ok(stream) => stream,
             Err(error) if error.kind() == ErrorKind::WouldBlock => {
                 self.has_come = false;
                 return Ok(None);
@@ -158,6 +163,8 @@ impl<'a, R: Clock> Poller for Sockets<'a, R> {
             // As where no descriptor is left: the loop's next turn tries again.
             Err(error) => return Err(error),
         };
+        stream.set_nonblocking(true)?;
+        let mut stream = TcpStream::from_std(stream);
         // A reply goes out at once; where that can't be asked for it may go out later.
         let _ = stream.set_nodelay(true);
         let both = Interest::READABLE | Interest::WRITABLE;

@@ -8,13 +8,12 @@ use crate::network::{Network, Switch, side_of};
 use crate::scripts::{Script, script_of};
 use lz_disk::MemoryDisk;
 use lz_proto::Reply;
-use lz_serve::{Bounds, Lack, Observer, Serving, Verb, serve_loop};
+use lz_serve::{Bounds, Lack, Listener, Observer, Serving, Verb, serve_loop};
 use lz_set::{Blank, Named, NoGate, Pass, Set};
 use std::alloc::Global;
 use std::cell::{Cell, RefCell};
 use std::io;
 use std::marker::Brand;
-use std::net::TcpListener;
 use std::process::Abort;
 use std::sync::Wait;
 use std::sync::atomic::AtomicBool;
@@ -40,7 +39,7 @@ struct Counts {
 }
 
 impl Observer for Counts {
-    fn serving(&self, _serving: Serving, _listener: &TcpListener) {}
+    fn serving(&self, _serving: Serving, _listener: &Listener) {}
 
     fn no_port(&self, error: io::Error) {
         drop(error);

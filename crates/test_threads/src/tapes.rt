@@ -9,7 +9,8 @@ ghost use Rattle.lz_set.specs.Names.{MayCall};
 use lz_disk::MemoryDisk;
 use lz_proto::Reply;
 use lz_serve::{
-    Client, FreePass, Given, Lack, Observer, Received, Serving, Stream, Taken, Verb, serve_client,
+    Client, FreePass, Given, Lack, Listener, Observer, Received, Serving, Stream, Taken, Verb,
+    serve_client,
 };
 use lz_set::{Blank, Fault, Named, NoGate, Pass, Set};
 use lz_slot::Key;
@@ -17,7 +18,6 @@ use std::alloc::Global;
 use std::cell::Cell;
 use std::io;
 use std::marker::{Brand, Model, PhantomData};
-use std::net::TcpListener;
 use std::sync::Wait;
 use std::test::Fail;
 use std::time::Clock;
@@ -124,7 +124,7 @@ impl<'a, N: Named> Stream for Tape<'a, N> {
 struct Deaf;
 
 impl Observer for Deaf {
-    fn serving(&self, _serving: Serving, _listener: &TcpListener) {}
+    fn serving(&self, _serving: Serving, _listener: &Listener) {}
 
     fn no_port(&self, error: io::Error) {
         drop(error);
