@@ -57,7 +57,8 @@ def try_served(program: Program, folder: str) -> None:
     """Its owner alone can connect, from the first moment on. Clients are answered, it stops as any service does, and no socket is left."""
     for number, kind in enumerate(KINDS):
         file = os.path.join(folder, f"f{number}")
-        path, modes, is_over = socket_of(file), [], threading.Event()
+        path, is_over = socket_of(file), threading.Event()
+        modes: List[int] = []
         program.make(file, 8)
         watching = threading.Thread(target=modes_of, args=(path, is_over, modes))
         watching.start()
