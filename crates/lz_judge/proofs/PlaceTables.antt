@@ -14,9 +14,6 @@ inside [] i k is = absurd (cc)
 inside (x ∷ ks) zero k is = omega arith
 inside (x ∷ ks) (suc i) k is = let ih = inside ks i k is in omega (arith, ih)
 
-pub table_none : (places : Places) → IsTable [] places
-table_none places i k is = absurd (cc)
-
 -- one item more
 longer : (ks : List (Option ℕ)) (o : Option ℕ) (i k : ℕ) → get_or ks i None ≡ Some k → get_or (ks ++ o ∷ []) i None ≡ Some k
 longer ks o i k is = get_or-append ks (o ∷ []) None i (inside ks i k is) ∙ is
@@ -110,15 +107,6 @@ module _ (ks : List (Option ℕ)) (places : Places) (key : ℕ) (table : IsTable
 
 before : (row i : ℕ) → row ≡ i + 1 → row - 1 ≡ i
 before row i is = omega (arith, is)
-
--- one row more was looked at
-pub not_in_more : (ks : List (Option ℕ)) (places : Places) (key steps row : ℕ) → IsNotIn ks places key steps → row_of places key steps ≡ row → (get_or ks (row - 1) None ≢ Some key) → IsNotIn ks places key (steps + 1)
-not_in_more ks places key steps row out here not r i lt at is = ⊎_elim
-    (λ low. out r i low at is)
-    (λ high.
-    let same : r ≡ steps = omega (arith, lt, high) in
-    not (ap (λ (j : ℕ). get_or ks j None) (before row i (sym here ∙ ap (row_of places key) (sym same) ∙ at)) ∙ is))
-    (cases_lt r steps)
 
 -- the last of some items
 module _ {T : Type 0} (key : T → Option ℕ) (items : List T) (ks : List (Option ℕ)) (k : Option ℕ) (is : map key items ≡ ks ++ k ∷ []) where

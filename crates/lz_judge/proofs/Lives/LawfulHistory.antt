@@ -7,7 +7,6 @@ use Rattle.lz_slot.specs.declared.command.Command.{Command}
 use Rattle.lz_slot.specs.declared.history.Mark.{Mark}
 use Rattle.lz_slot.specs.declared.history.Mark.TheVariants.{Call, Answer, Refused, Cut, Stop, Crash, Opened, OpenFailed}
 use Rattle.lz_judge.specs.Records.{IsLawful, IsMade, actor_of}
-use Rattle.lz_judge.specs.Flaws.{IsPast}
 
 pub made_more : (m : Mark) (M : List Mark) (i : ℕ) → IsMade M i → IsMade (m ∷ M) i
 made_more m M i (c, (actor, has)) = (c, (actor, inr has))
@@ -17,17 +16,6 @@ made_less m M i no_call (c, (actor, has)) = ⊎_elim (λ here. absurd (no_call i
 
 pub made_cases : (j a : ℕ) (c : Command) (M : List Mark) (i : ℕ) → IsMade (Call j a c ∷ M) i → (j ≡ i) ⊎ IsMade M i
 made_cases j a c M i (d, (actor, has)) = ⊎_elim (λ here. let same : j ≡ i = cc in inl same) (λ there. inr (d, (actor, there))) has
-
-pub past_made : (M : List Mark) (i : ℕ) → IsPast M i → IsMade M i
-past_made [] i past = absurd past
-past_made (Opened keys ∷ M) i past = made_more (Opened keys) M i past
-past_made (Call j a c ∷ M) i past = made_more (Call j a c) M i (past_made M i past)
-past_made (Answer j b ∷ M) i past = made_more (Answer j b) M i (past_made M i past)
-past_made (Refused j why ∷ M) i past = made_more (Refused j why) M i (past_made M i past)
-past_made (Cut j why ∷ M) i past = made_more (Cut j why) M i (past_made M i past)
-past_made (Stop ∷ M) i past = made_more Stop M i (past_made M i past)
-past_made (Crash ∷ M) i past = made_more Crash M i (past_made M i past)
-past_made (OpenFailed why ∷ M) i past = made_more (OpenFailed why) M i (past_made M i past)
 
 -- an open call was made
 pub open_made : (M : List Mark) (i actor : ℕ) → actor_of M i ≡ Some actor → IsMade M i

@@ -105,12 +105,6 @@ refused_unlisted M places least n why unlisted before = record {
       at;
 }
 
-pub refused_other : (M : List Mark) (places : BTreeMap ℕ ℕ) (least : Option ℕ) (m : Mark) → ((n : ℕ) (why : Refusal) → m ≢ Refused n why) → RefusedOnes M places least → RefusedOnes (m ∷ M) places least
-refused_other M places least m other before = record {
-  found = λ i at. let f = before.found i at in ((f.0.0, inr f.0.1), f.1);
-  none = λ none i (told, at). ⊎_elim (λ here. absurd (other i told here)) (λ there. before.none none i (told, there)) at;
-}
-
 pub not_new : (b is_new : Bool) → is_new ≡ not b → is_new ≡ false → b ≡ true
 not_new false is_new same is = absurd (let e : true ≡ false = sym same ∙ is in cc)
 not_new true is_new same is = refl

@@ -3,7 +3,7 @@ use Rattle.std.proofs.Common.{◌≡◌, ◌≢◌, ⊎_elim, ◌↔◌, ℕ, ze
 use Rattle.std.specs.Prelude.{All, map, ◌==◌, ◌||◌, Contains, OnOk}
 use Rattle.std.specs.List.{list_any}
 use Rattle.std.proofs.lemmas.List.{get_or-map, map-append}
-use Rattle.std.proofs.lemmas.List.Elements.{All-push, All-nil, All-contains, Contains-get_or}
+use Rattle.std.proofs.lemmas.List.Elements.{All-push, All-contains, Contains-get_or}
 use Rattle.std.proofs.lemmas.List.Folds.{list_any_at}
 use Rattle.std.proofs.lemmas.Option.{same_Some}
 use Rattle.std.proofs.lemmas.Bool.{cases_eq, cases_lt, eqb-true, eq-eqb, or_cases}
@@ -19,13 +19,6 @@ use Rattle.lz_judge.specs.Scans.{Scanned}
 
 pub same_member : (j k : ℕ) → read.Member j ≡ read.Member k → j ≡ k
 same_member j k is = cc
-
--- nothing was taken
-pub scanned_none : (says : ℕ → SlotRead) (scan : Scan) → scan.findings.items ≡ [] → IsTable [] scan.places → Scanned says 0 scan
-scanned_none says scan nothing table = record {
-  findings = rw nothing (record { each = All-nil (IsFinding says); slots = refl });
-  table = rw nothing table;
-}
 
 module _ (says : ℕ → SlotRead) (n : ℕ) where
   -- a closed slot has no finding
