@@ -131,13 +131,6 @@ pub record Going (a : ℕ) (awaited : Option Kind) (most : ℕ) (start : WorldOv
   pub still : played ≡ 0 → here ≡ start
   pub lawful : 1 ≤ played → IsLawful here.state (step.Turn a)
 
-pub going_first : (a : ℕ) (awaited : Option Kind) (most : ℕ) (start : WorldOver) → Going a awaited most start 0 start
-going_first a awaited most start = record {
-  going = λ marks text new h. subst (λ (n : ℕ). Turns a awaited n start marks text new) (omega arith) h;
-  still = λ none. refl;
-  lawful = λ some. absurd (omega (arith, some));
-}
-
 left_one : (most played : ℕ) → played < most → suc (most - (played + 1)) ≡ most - played
 left_one most played low = omega (arith, low)
 
@@ -190,14 +183,6 @@ pub going_enough : (a : ℕ) (awaited : Option Kind) (most played : ℕ) (start 
 going_enough a awaited most played start here text all h none =
     let left : 0 ≡ most - played = omega (arith, all) in
     ([], subst (λ (t : List ℕ). Turns a awaited most start [] t here) (sym none) (h.going [] [] here (subst (λ (n : ℕ). Turns a awaited n here [] [] here) left (enough here))))
-
--- only the first turn of a line may be unlawful
-pub going_unlawful : (a : ℕ) (awaited : Option Kind) (most played : ℕ) (start here : WorldOver) → Going a awaited most start played here
-    → ¬ IsLawful here.state (step.Turn a) → (here ≡ start) × ¬ IsLawful start.state (step.Turn a)
-going_unlawful a awaited most zero start here h unlawful =
-    let same = h.still refl in
-    (same, subst (λ (w : WorldOver). ¬ IsLawful w.state (step.Turn a)) same unlawful)
-going_unlawful a awaited most (suc played) start here h unlawful = absurd (unlawful (h.lawful (omega arith)))
 
 -- a play of one step that stops at it
 none_behind : (play other : PlayStep) (i : ℕ) → slice_get (play ∷ []) (suc i) ≡ Some other → ⊥

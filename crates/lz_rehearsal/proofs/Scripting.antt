@@ -1,6 +1,6 @@
 -- Scripts that are read a line at a time.
 use Rattle.std.proofs.Common.{◌≡◌, ◌≢◌, ℕ, ◌+◌, ◌-◌, ◌*◌, ◌<◌, ◌≤◌, ◌⊎◌, inl, inr, List, [], ◌∷◌, ◌++◌, length, take, drop, Bool, true, false, nat_lt, Option, Some, None, option_map, IfSome, refl, sym, ap, subst, ◌∙◌, arith, append_assoc, length-append}
-use Rattle.std.proofs.lemmas.List.{take-append-drop, drop_more, take_all, append-nil, length-take, take_rest}
+use Rattle.std.proofs.lemmas.List.{take-append-drop, drop_more, take_all, length-take, take_rest}
 use Rattle.std.proofs.lemmas.Bool.Decides.{nat_tests}
 use Rattle.memchr.specs.Find.{IsFirstByte, is_byte}
 use Rattle.lz_proto.specs.Lines.{has_line_feed, line_feed}
@@ -94,10 +94,6 @@ fails_last text rest number lines h none some is =
       some = λ empty. some (ap (λ (x : List ℕ). length x) empty);
       fault = inr (λ t others _ all. absurd (let both : true ≡ false = sym (stands 10 t others) ∙ ap has_line_feed (sym all) ∙ clear in cc));
     }
-
-pub whole_script : (text rest : List ℕ) (lines : List Line) → Leaves text rest lines → length rest ≡ 0 → IsScript text lines
-whole_script text [] lines h empty = record { reads = subst (λ (x : List ℕ). Reads x lines) (sym (h.whole ∙ append-nil h.front)) h.reads; few = h.few }
-whole_script text (b ∷ rest) lines h empty = absurd (omega arith)
 
 by_length : (t : List ℕ) (line : Line) (far : Bool) → nat_lt most_length (length t) ≡ far → line_read t ≡ Some line → length t ≤ most_length
 by_length t line true e is = absurd (let none : line_read t ≡ None = rw e refl in cc)
