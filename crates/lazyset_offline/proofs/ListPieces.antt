@@ -146,16 +146,6 @@ line_at_fault old part line fault kept clear is why text after h =
     (subst (λ (r : List ℕ). Leaves old.format text r old.keys.items) (joined old.line.items part after ∙ ap (λ (l : List ℕ). l ++ line_feed ∷ after) (sym is)) h)
     (ap has_line_feed is ∙ clear_both old.line.items part kept.clear clear) why
 
--- a part of a line was read
-pub part_read : (old : KeyList) (part : List ℕ) (new : KeyList) → new.format ≡ old.format → new.keys.items ≡ old.keys.items → new.line.items ≡ old.line.items ++ part → GoesOn old part new
-part_read old part new same keys is = record {
-  same = same;
-  read = λ text after h.
-      subst (λ (F : Format). Leaves F text (new.line.items ++ after) new.keys.items) (sym same)
-      (subst (λ (ks : List ℕ). Leaves old.format text (new.line.items ++ after) ks) (sym keys)
-      (subst (λ (r : List ℕ). Leaves old.format text r old.keys.items) (sym (append_assoc old.line.items part after) ∙ ap (λ (l : List ℕ). l ++ after) (sym is)) h));
-}
-
 pub part_too_long : (old : KeyList) (part line : List ℕ) (number : ℕ) → IsOpenList old → has_line_feed part ≡ false → line ≡ old.line.items ++ part → 22 < length line → number ≡ length old.keys.items + 1
     → FailsIn old part (Line number)
 part_too_long old part line number kept clear is long place text after h = record {
@@ -212,9 +202,6 @@ pub record Within (first : KeyList) (piece : List ℕ) (list : KeyList) (rest : 
   pub read : (text after : List ℕ) → HasRead text first (piece ++ after) → HasRead text list (rest ++ after)
 
 module _ (first : KeyList) (piece : List ℕ) where
-  pub within_none : IsOpenList first → Within first piece first piece
-  within_none kept = record { kept = kept; same = refl; read = λ text after h. h }
-
   module _ (list : KeyList) (rest : List ℕ) (e : ℕ) (at : IsFirstByte (is_byte 10) rest (Some e)) (h : Within first piece list rest) where
     next : (after : List ℕ) → rest ++ after ≡ (take e rest ++ line_feed ∷ []) ++ (drop (e + 1) rest ++ after)
     next after = ap (λ (x : List ℕ). x ++ after) (cut_at 10 rest e at) ∙ append_assoc (take e rest) (line_feed ∷ drop (e + 1) rest) after ∙ sym (append_assoc (take e rest) (line_feed ∷ []) (drop (e + 1) rest ++ after))
@@ -234,9 +221,6 @@ module _ (first : KeyList) (piece : List ℕ) where
         (fails text (drop (e + 1) rest ++ after) (subst (λ (r : List ℕ). HasRead text list r) (next after) (h.read text after begun)))
 
   module _ (list : KeyList) (rest : List ℕ) (h : Within first piece list rest) where
-    pub within_last : (new : KeyList) → GoesOn list rest new → GoesOn first piece new
-    within_last new goes = record { same = goes.same ∙ h.same; read = λ text after begun. goes.read text after (h.read text after begun) }
-
     pub last_fails : (r : Result (Unit {0}) ListFault) → IfErr r (FailsIn list rest) → IfErr r (FailsIn first piece)
     last_fails (Ok done) fails = tt
     last_fails (Err fault) fails = λ text after begun. subst (λ (F : Format). IsListFaultOf F text fault) h.same (fails text after (h.read text after begun))

@@ -1,8 +1,7 @@
 -- A text that is sent page by page.
-use Rattle.std.proofs.Common.{◌≡◌, inl, inr, ℕ, ◌+◌, ◌<◌, ◌≤◌, Bool, List, [], ◌∷◌, ◌++◌, length, take, drop, get_or, Option, Result, Ok, Err, refl, sym, ap, subst, ◌∙◌, arith, append_assoc, length-append, append-nil, Vec, Global}
-use Rattle.std.specs.Io.KnownBytes.{Appends}
+use Rattle.std.proofs.Common.{◌≡◌, inl, inr, ℕ, ◌+◌, ◌<◌, ◌≤◌, Bool, List, [], ◌∷◌, ◌++◌, length, take, drop, get_or, Option, Result, Ok, Err, refl, sym, ap, subst, ◌∙◌, append_assoc, append-nil, Vec, Global}
 use Rattle.std.specs.List.{flat_map}
-use Rattle.std.proofs.KnownBytes.{Appends-nil, Appends-trans}
+use Rattle.std.proofs.KnownBytes.{Appends-trans}
 use Rattle.std.proofs.lemmas.Grind.{flat_map-append}
 use Rattle.std.proofs.lemmas.List.{take-append-drop, take_all, take_more}
 use Rattle.lz_slot.specs.declared.header.Header.{Header}
@@ -14,18 +13,12 @@ use Rattle.lz_judge.specs.declared.finding.Survey.TheVariants.{Found}
 use Rattle.lz_proto.specs.Steps.{IsCutShort, SendTells}
 use Rattle.lz_proto.specs.declared.fault.SessionFault.{SessionFault}
 use Rattle.lz_proto.specs.declared.fault.SessionFault.TheVariants.{Read, Write, Memory}
-use Rattle.lazyset_offline.specs.Checks.{end_text, finding_text, found_status, found_text, head_text, line_of, shown_text, survey_status}
+use Rattle.lazyset_offline.specs.Checks.{end_text, found_status, found_text, head_text, line_of, shown_text, survey_status}
 use Rattle.lazyset_offline.specs.Tellings.{IsSentTo, SentOrCut, Tells, status_sent}
 use Rattle.lazyset_offline.specs.declared.shown.Shown.{Shown}
 use Rattle.lazyset_offline.specs.declared.shown.Shown.TheVariants.{Findings, Keys, Counts}
 use Rattle.lazyset_offline.specs.declared.status.Status.{Status}
 use Rattle.lazyset_offline.proofs.SentTexts.{sent_less, sent_more}
-
--- a finding's line isn't empty
-pub finding_some : (finding : Finding) → 0 < length (finding_text finding)
-finding_some (Key i k) = omega arith
-finding_some (BadKey i) = omega arith
-finding_some (Twice i first) = omega arith
 
 -- what was sent is cut short where the text goes on
 pub cut_within : (before after : Option (List ℕ)) (text more : List ℕ) → IsCutShort before after text → IsCutShort before after (text ++ more)
@@ -45,18 +38,6 @@ cut_tells before after text Memory sent = absurd sent
 pub or_cut_tells : (before after : Option (List ℕ)) (text : List ℕ) (told : Status) (r : Result (Unit {0}) SessionFault) → SentOrCut before after text r → Tells before after text told (status_sent r told)
 or_cut_tells before after text told (Ok done) sent = inl (sent, refl)
 or_cut_tells before after text told (Err fault) cut = inr (cut, refl)
-
--- a line that had no room on a page
-pub no_room : (before : Option (List ℕ)) (page line : List ℕ) → 0 < length line → IsCutShort before before (page ++ line)
-no_room before page line some = (0, omega (arith, some, length-append page line), Appends-nil before)
-
--- a page on which nothing was sent
-pub page_stays : (before : Option (List ℕ)) (text page : List ℕ) → page ≡ text → IsSentTo before before text page
-page_stays before text page is = ([], Appends-nil before, sym is)
-
--- a page that was sent
-pub page_sent : (before after : Option (List ℕ)) (text page left : List ℕ) → page ≡ text → left ≡ [] → Appends before after page → IsSentTo before after text left
-page_sent before after text page left is none sent = (page, sent, sym is ∙ sym (ap (λ (x : List ℕ). page ++ x) none ∙ append-nil page))
 
 module _ (before mid : Option (List ℕ)) (text page : List ℕ) (h : IsSentTo before mid text page) where
   -- the text goes on
