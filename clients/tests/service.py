@@ -23,10 +23,19 @@ class Service:
         self.start()
 
     def start(self, port: int = 0) -> None:
-        words = [self.program, "serve", self.file, str(port), str(self.passes)]
+        self.port = int(self.listening(str(port)))
+
+    def start_at(self, path: str) -> None:
+        """Listens on a Unix socket at this path."""
+        if self.listening("-", "--socket", path) != path:
+            raise AssertionError("it listens elsewhere")
+
+    def listening(self, port: str, *options: str) -> str:
+        """Starts it, and tells where it listens."""
+        words = [self.program, "serve", self.file, port, str(self.passes), *options]
         self.process = subprocess.Popen(words, stdout=subprocess.PIPE, stderr=subprocess.DEVNULL, text=True)
         assert self.process.stdout is not None
-        self.port = int(self.process.stdout.readline().split()[1])
+        return self.process.stdout.readline().split()[1]
 
     def kill(self) -> None:
         self.process.send_signal(signal.SIGKILL)

@@ -24,6 +24,22 @@ class Small(AgainstTheProgram):
             self.assertFalse(keys.remove(17))
             self.assertFalse(keys.has(17))
 
+    def test_a_path_in_place_of_a_port(self) -> None:
+        path = os.path.join(self.service.folder, "s")
+        self.service.kill()
+        self.service.start_at(path)
+        with Lazyset(path) as keys:
+            self.assertTrue(keys.add(17))
+            keys.reconnect()
+            self.assertFalse(keys.add(17))
+        with lazyset.Pool(path, 2) as pool:
+            self.assertTrue(pool.has(17))
+            self.assertTrue(pool.remove(17))
+        self.service.kill()
+        with self.assertRaises(lazyset.NoConnection):
+            Lazyset(path)
+        self.service.start()
+
     def test_rooms_are_apart(self) -> None:
         with Lazyset(self.service.port) as keys:
             self.assertTrue(keys.add(lazyset.MOST_NUMBER, room=15))

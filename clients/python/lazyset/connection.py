@@ -8,7 +8,7 @@ import socket
 import threading
 import time
 from types import TracebackType
-from typing import Iterable, List, Optional, Sequence, Type
+from typing import Iterable, List, Optional, Sequence, Type, Union
 
 from .claims import claim
 from .commands import Command, Reply
@@ -51,7 +51,7 @@ _REFUSED = {Reply.FULL: Full, Reply.OLD_FILE: OldFile, Reply.WORN: Worn}
 
 
 class Lazyset:
-    """A connection to the service on a port.
+    """A connection to the service on a port, or on the Unix socket at a path, which stands in place of the port then.
 
     Threads may share it: their calls go one after the other. (A `Pool` has several under way at once.)
 
@@ -65,12 +65,12 @@ class Lazyset:
 
     def __init__(
         self,
-        port: int,
+        port: Union[int, str],
         host: str = "127.0.0.1",
         timeout: Optional[float] = REPLY_TIMEOUT,
         connect_timeout: Optional[float] = CONNECT_TIMEOUT,
     ) -> None:
-        self._address = (host, port)
+        self._address = port if isinstance(port, str) else (host, port)
         self._timeout = _limit(timeout)
         self._connect_timeout = _limit(connect_timeout)
         self._lock = threading.RLock()
@@ -141,20 +141,28 @@ class Lazyset:
             self._lock.release()
 
     def reconnect(self) -> None:
-        """Connects again, to the same port; a connection that is still open is closed first."""
+        """Connects again, to the same port or path; a connection that is still open is closed first."""
         self._leave_parent()
         with self._lock:
             self._finish()
             try:
-                self._socket = socket.create_connection(self._address, self._connect_timeout)
-                self._socket.setsockopt(socket.IPPROTO_TCP, socket.TCP_NODELAY, 1)
-                self._socket.setblocking(False)
+                self._connect()
             except OSError as error:
                 self._drop()
                 raise NoConnection(f"no connection to {self._address}: {error}") from error
             self._received = b""
             self._has_a_pass = False
             self._is_in_step = True
+
+    def _connect(self) -> None:
+        if isinstance(self._address, str):
+            self._socket = socket.socket(socket.AF_UNIX, socket.SOCK_STREAM)
+            self._socket.settimeout(self._connect_timeout)
+            self._socket.connect(self._address)
+        else:
+            self._socket = socket.create_connection(self._address, self._connect_timeout)
+            self._socket.setsockopt(socket.IPPROTO_TCP, socket.TCP_NODELAY, 1)
+        self._socket.setblocking(False)
 
     def is_usable(self) -> bool:
         """Whether the connection is open, as far as this side knows without asking."""

@@ -5,7 +5,7 @@ from __future__ import annotations
 import queue
 from contextlib import contextmanager
 from types import TracebackType
-from typing import Iterable, Iterator, List, Optional, Type
+from typing import Iterable, Iterator, List, Optional, Type, Union
 
 from .claims import claim
 from .commands import Command, Reply
@@ -14,7 +14,7 @@ from .errors import Closed, NoConnection
 
 
 class Pool:
-    """Up to `size` connections to the service on a port, for any number of threads.
+    """Up to `size` connections to the service on a port, or at a path in its place, for any number of threads.
 
     A connection is made when it is first wanted, and made again when it was lost: the call that met the loss raises it, since
     what it asked for may have been done, and the next one finds a new connection. Nothing is asked twice by itself.
@@ -25,7 +25,7 @@ class Pool:
 
     def __init__(
         self,
-        port: int,
+        port: Union[int, str],
         size: int,
         host: str = "127.0.0.1",
         timeout: Optional[float] = REPLY_TIMEOUT,
