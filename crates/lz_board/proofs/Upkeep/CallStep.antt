@@ -1,5 +1,5 @@
 -- The moves, as the calls ask for them.
-use Rattle.std.proofs.Common.{◌≡◌, ℕ, suc, ◌≤◌, ◌==◌, false, List, [], ◌∷◌, refl, sym, ◌∙◌, subst, arith}
+use Rattle.std.proofs.Common.{◌≡◌, ℕ, suc, ◌≤◌, ◌==◌, false, List, [], ◌∷◌, sym, ◌∙◌, subst, arith}
 use Rattle.std.specs.Prelude.{slice_index}
 use mathlib.Core.Option.{none, some}
 use prog.Atomic.{either}
@@ -20,9 +20,6 @@ use Rattle.lz_board.specs.Plays.{Looked, Loaded, Entered, Saw, Noted, Moved, alo
 use Rattle.lz_board.proofs.Upkeep.Address.{shared_boards, decode}
 use Rattle.lz_board.proofs.Upkeep.LoadStep.{looks, loads, saws}
 use Rattle.lz_board.proofs.Upkeep.StoreStep.{notes_in, moves_in, enters_in}
-
-pub only : (h : Part) → IsPart (alone h).held h
-only h = (0, refl)
 
 module _ (z : Sizes) (opened : Trace) (slots id : ℕ) where
   pub looks_at : (i : ℕ) (w : Word) (me : Me Note View) → i ≡ index z w → IsShared z w → Allows (Keeps z opened) slots id me i (λ n. n) (Looked (step slots i 0 0 none) me)

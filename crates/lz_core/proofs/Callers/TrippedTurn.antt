@@ -5,7 +5,7 @@ use Rattle.lz_machine.specs.declared.event.Outcome.{Outcome}
 use Rattle.lz_machine.specs.declared.event.Outcome.TheVariants.{Fault}
 use Rattle.lz_machine.specs.Runs.{Turn, Fails}
 use Rattle.lz_core.specs.declared.play.Step.TheVariants.{Turn as TurnOf}
-use Rattle.lz_core.specs.Worlds.{WorldOver, LacksMemory, PlaysOn, TakesTurn}
+use Rattle.lz_core.specs.Worlds.{WorldOver, PlaysOn, TakesTurn}
 use Rattle.lz_core.proofs.Runs.PlayedStep.{leads}
 
 module _ (old mid : WorldOver) (a : ℕ) (outcome : Outcome) (marks : List Mark) (takes : TakesTurn old a outcome marks mid) where
@@ -22,9 +22,3 @@ module _ (old mid : WorldOver) (a : ℕ) (outcome : Outcome) (marks : List Mark)
       let goes = failed.1 in
       subst (PlaysOn old (TurnOf a ∷ []) marks) (sym is)
       (leads old (record mid { tripped = false }) (TurnOf a) (Fails a failed.0) marks (record { is = goes.is; may = goes.may; to = goes.to; counts = goes.counts; told = goes.told }) takes.of_run (sym takes.tripped ∙ tripped) refl)
-
-  -- one whose device call failed untripped
-  pub failed_lacks : outcome ≡ Fault → mid.tripped ≡ false → LacksMemory old (TurnOf a) mid
-  failed_lacks fault untripped =
-      let failed = takes.failed fault in
-      record { step = Fails a failed.0; failure = tt; marks = marks; goes = failed.1; untripped = (sym takes.tripped ∙ untripped, untripped) }

@@ -5,7 +5,7 @@ use Rattle.std.proofs.lemmas.Bool.{cases_eq, cases_Bool}
 use Rattle.std.proofs.lemmas.Bool.Decides.{nat_tests}
 use Rattle.lz_list.specs.declared.publishing.Publishing.TheVariants.{Linked as linked}
 use Rattle.lz_list.specs.Traces.{Trace, on, has_key, chain, chain_of, place_of, bucket_of, key_word, next_link, IsLoose, link_above, MayLink, Lawful, Adjacent}
-use Rattle.lz_list.proofs.Chains.PlaceRank.{before_on, adjacent_none, adjacent_next, has_on}
+use Rattle.lz_list.proofs.Chains.PlaceRank.{before_on, adjacent_none}
 use Rattle.lz_list.proofs.Chains.TraceChain.{words_show_chain, linked_off, apart_bucket}
 use Rattle.lz_list.proofs.Traces.Absence.{unlinked_is_settled}
 use Rattle.lz_list.proofs.Traces.Hindsight.{stands}
@@ -73,10 +73,3 @@ module _ (buckets slots : ℕ) (P : Trace) (law : Lawful buckets slots P) where
         elsewhere : (y : ℕ) → on 0 (chain_of buckets j P) y ≡ true → bucket_of buckets j ≢ bucket_of buckets k → next_link buckets (bucket_of buckets j) (linked k s p ∷ P) y ≡ next_link buckets (bucket_of buckets j) P y
         elsewhere zero there other = grind (arith, nat_tests, other)
         elsewhere (suc t) there other = linked_off buckets k s p P (bucket_of buckets j) (suc t) (apart_bucket buckets k s p P (words_show_chain buckets slots P law) (bucket_of buckets j) t other there)
-
-  -- a key after a place that leads to its node is on the chain
-  pub has_behind : (j y t : ℕ) → Faces buckets j y (suc t) P → key_word t P ≡ j → has_key j (chain_of buckets j P) ≡ true
-  has_behind j y t h key =
-      let shown = words_show_chain buckets slots P law (bucket_of buckets j) in
-      let adj = subst (Adjacent 0 (chain_of buckets j P) y) h.next (stands buckets slots P (bucket_of buckets j) y P law h.there) in
-      has_on (next_link buckets (bucket_of buckets j) P) (λ t. key_word t P) j t 0 (chain_of buckets j P) shown.shows (omega arith) key (adjacent_next 0 (chain_of buckets j P) y (suc t) adj (λ e. grind arith))

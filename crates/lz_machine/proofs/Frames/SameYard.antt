@@ -70,6 +70,3 @@ module _ (n calls : ℕ) (y : Yard) (callers : List (Option Caller)) (disk : Med
     ledger = ledger_turn callers a caller at next n calls y.shape.passes P M notes h.ledger;
     tails = tails_turn callers a caller at next y.shape.passes notes (in_passes n calls y callers disk M P notes a caller at h) keeps y.shape y.vault.cells y.actors y.actors P M (λ b. refl) h.tails;
   }
-
-yard_is : (y : Yard) → record { shape = y.shape; words = y.words; locks = y.locks; vault = record { format = y.vault.format; cells = y.vault.cells; syncs = y.vault.syncs; dead = y.vault.dead }; uses = y.uses; actors = y.actors } ≡ y
-yard_is y = refl

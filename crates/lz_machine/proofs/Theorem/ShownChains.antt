@@ -9,7 +9,7 @@ use Rattle.lz_list.specs.declared.place.Place.{Place}
 use Rattle.lz_list.specs.declared.place.Place.TheVariants.{Bucket, Node}
 use Rattle.lz_list.specs.declared.word.Word.TheVariants.{Head, Link, Key}
 use Rattle.lz_list.specs.Words.{Words, get, next_of, flags_of, next_at, is_marked_at, place_number, link_to}
-use Rattle.lz_list.specs.Lists.{next_in, home, AreSlots, ShowsChain, IsSorted, IsNodeOf, IsTable, IsOfBucket, IsPlace, IsCurr, IsPredecessor, MayLinkAt, MayUnlinkAt, KeepsList}
+use Rattle.lz_list.specs.Lists.{next_in, home, AreSlots, ShowsChain, IsNodeOf, IsOfBucket, IsPlace, IsCurr, IsPredecessor, MayLinkAt, MayUnlinkAt, KeepsList}
 use Rattle.lz_list.specs.Locks.{NodeLocks, owner}
 use Rattle.lz_list.specs.Traces.{Trace, Adjacent, IsLoose, KeysBelong, on, rank_at, chain, chain_of, bucket_of, key_word, node_next, head_word, next_link, is_marked, word_after}
 use Rattle.lz_list.specs.Laws.{IsLow, IsHigh}
@@ -47,9 +47,6 @@ module _ (shape : Shape) (words : Words) (P : Trace) (trace : TraceSound shape w
   pub keys_are : length w.keys ≡ shape.slots
   keys_are = ap (λ (l : List ℕ). length l) (keys ∙ trace.keys) ∙ length-table shape.slots (λ s. word_after shape.buckets P (Key s))
 
-  pub is_table : IsTable w
-  is_table = record { buckets = omega (arith, trace.some, heads_are); slots = omega (arith, few, links_are); keys = keys_are ∙ sym links_are }
-
   -- loads
   head_is : (b : ℕ) → b < shape.buckets → next_of (get w (Head b)) ≡ head_word shape.buckets b P
   head_is b lt = ap (λ (l : List ℕ). next_of (get_or l b 0)) heads ∙ head_next shape words P trace few b lt
@@ -83,9 +80,6 @@ module _ (shape : Shape) (words : Words) (P : Trace) (trace : TraceSound shape w
         within = subst (λ (n : ℕ). KeysBelong n b (chain shape.buckets b P)) (sym heads_are) shown.within;
         in_range = subst (λ (n : ℕ). AreSlots n (chain shape.buckets b P)) (sym links_are) (chain_slots shape.buckets shape.slots b P trace.lawful);
       }
-
-  pub sorted : IsSorted w
-  sorted b lt = (chain shape.buckets b P, shows b (omega (arith, lt, heads_are)))
 
   home_is : (k : ℕ) → home w k ≡ bucket_of shape.buckets k
   home_is k = ap (λ (n : ℕ). bucket_of n k) heads_are

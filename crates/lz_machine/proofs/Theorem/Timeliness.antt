@@ -1,10 +1,9 @@
 -- A caller's next event comes in time: it is an event of its yard, it has what it needs, and its caller may take what it gives.
-use Rattle.std.proofs.Common.{◌≡◌, ◌≢◌, ℕ, ◌%◌, false, List, length, Option, Some, None, refl, subst, arith}
+use Rattle.std.proofs.Common.{◌≡◌, ◌≢◌, ℕ, List, Option, Some, refl, subst}
 use Rattle.std.specs.List.{list_any}
 use Rattle.lz_slot.specs.Histories.{Life}
 use Rattle.lz_disk.specs.Images.{Medium}
 use Rattle.lz_list.specs.Traces.{Trace}
-use Rattle.lz_machine.specs.declared.event.Event.TheVariants.{Answer}
 use Rattle.lz_machine.specs.declared.event.Outcome.TheVariants.{NotNow}
 use Rattle.lz_machine.specs.declared.event.Reply.TheVariants.{Worn as SaysWorn}
 use Rattle.lz_machine.specs.declared.caller.Progress.TheVariants.{Answering}
@@ -16,18 +15,14 @@ use Rattle.lz_machine.specs.Notes.{Notes}
 use Rattle.lz_machine.specs.CallersSound.{view_of, CallerSound}
 use Rattle.lz_machine.specs.Sound.{UpSound, IsSound}
 use Rattle.lz_machine.specs.Ready.{IsEventOf}
-use Rattle.lz_machine.proofs.Frames.OneActor.{caller_range, mine}
+use Rattle.lz_machine.proofs.Frames.OneActor.{mine}
 use Rattle.lz_machine.proofs.Runs.EventRange.{asks}
 use Rattle.lz_machine.proofs.Theorem.Reached.{reached_sound}
 use Rattle.lz_machine.proofs.Theorem.EventNeeds.{IsWornAt, has_needs, takes, timely}
-use Rattle.lz_machine.proofs.Theorem.WornPass.{AllFit, Fits, IsUpAt, is_look, quiet_after, run_fits, up_at}
+use Rattle.lz_machine.proofs.Theorem.WornPass.{AllFit, Fits, IsUpAt, is_look, run_fits, up_at}
 
 -- In a sound open service: what a caller's next event is, has and gives.
 module _ (n calls : ℕ) (service : Service) (disk : Medium) (life : Life) (P : Trace) (notes : Notes) (up : UpSound n calls service disk life P notes) where
-  -- there is a pin word for each pass
-  pub pins_count : length service.yard.words.pins ≡ service.yard.shape.passes
-  pins_count = up.sound.trace.pins
-
   module _ (a : ℕ) (caller : Caller) (at : caller_at service.callers a ≡ Some caller) where
     own : CallerSound (view_of service.yard.shape service.yard.vault service.yard.actors a) (pin_of service.yard a) (Some caller) (notes.begun a) P (notes.changed a)
     own = mine service.yard.shape service.yard.vault service.yard.words.pins service.yard.actors service.callers P notes a caller at up.sound.callers
@@ -44,19 +39,10 @@ module _ (n calls : ℕ) (service : Service) (disk : Medium) (life : Life) (P : 
     pub may_take : MayTake caller.progress (line service.yard a (next_event service.yard caller)).1
     may_take = takes n calls service.yard service.callers disk life.history P notes up.sound a caller.command caller.progress own.stands.2
 
-    -- and its actor's pin word is even after its Answer
-    pub quiet_now : (line service.yard a Answer).1 ≢ NotNow → pin_of (line service.yard a Answer).0 a % 2 ≡ 0
-    quiet_now now =
-        let range = caller_range service.callers a caller at in
-        quiet_after service.yard a range.0 (omega (arith, range.1, up.sound.callers.count, pins_count)) now
-
 -- The same at a sound point.
 module _ (start : Start) (p : Point) (service : Service) (disk : Medium) (sound : IsSound start p) (is : p.state ≡ Up service disk) where
   here : IsUpAt p.calls service disk p.trace
   here = up_at start p service disk sound is
-
-  pub pins_count_there : length service.yard.words.pins ≡ service.yard.shape.passes
-  pins_count_there = pins_count here.n p.calls service disk here.life p.trace here.notes here.up
 
   module _ (a : ℕ) (caller : Caller) (at : caller_at service.callers a ≡ Some caller) where
     pub is_event_there : IsEventOf service.yard (next_event service.yard caller)
@@ -67,9 +53,6 @@ module _ (start : Start) (p : Point) (service : Service) (disk : Medium) (sound 
 
     pub may_take_there : MayTake caller.progress (line service.yard a (next_event service.yard caller)).1
     may_take_there = may_take here.n p.calls service disk here.life p.trace here.notes here.up a caller at
-
-    pub quiet_there : (line service.yard a Answer).1 ≢ NotNow → pin_of (line service.yard a Answer).0 a % 2 ≡ 0
-    quiet_there now = quiet_now here.n p.calls service disk here.life p.trace here.notes here.up a caller at now
 
 -- At a point that a run reaches.
 module _ (start : Start) (steps : List Transition) (is : IsStart start) (runs : IsRun (first_point start) steps) (service : Service) (disk : Medium) (state : (run (first_point start) steps).state ≡ Up service disk) (a : ℕ) where
@@ -82,10 +65,6 @@ module _ (start : Start) (steps : List Transition) (is : IsStart start) (runs : 
   -- a call whose pass is worn has the last pin
   pub worn_there : (caller : Caller) → caller_at service.callers a ≡ Some caller → caller.progress ≡ Answering SaysWorn → pin_of service.yard a ≡ last_pin
   worn_there caller at = subst (λ (q : Option Caller). Fits (list_any is_look steps) q (pin_of service.yard a)) at fits_here
-
-  -- Only a look leaves the pin word of an actor without a call odd.
-  pub no_half_look : list_any is_look steps ≡ false → caller_at service.callers a ≡ None → pin_of service.yard a % 2 ≡ 0
-  no_half_look none at = subst (λ (q : Option Caller). Fits (list_any is_look steps) q (pin_of service.yard a)) at fits_here none
 
   pub in_time_reached : (caller : Caller) → caller_at service.callers a ≡ Some caller → (line service.yard a (next_event service.yard caller)).1 ≢ NotNow
   in_time_reached caller at = in_time_there start (run (first_point start) steps) service disk (reached_sound start steps is runs) state a caller at (worn_there caller at)

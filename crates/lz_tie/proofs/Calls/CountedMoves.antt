@@ -104,11 +104,6 @@ goes_on_with : (shape : Shape) (c : Command) (at : Progress) → is_invoke (even
 goes_on_with shape c (Playing sequence i) = no_invoke_in (events_of c sequence) i (no_invokes c sequence)
 goes_on_with shape c _ = refl
 
--- what an event that is no load gave may be taken
-pub may_take : (shape : Shape) (c : Command) (at : Progress) (o : Outcome) → hop_of (event_at shape c at) ≡ None → MayTake at o
-may_take shape c (Walking aim look) o none = absurd (false≢true (sym (ap is_some none)))
-may_take shape c at o none = tt
-
 -- A walk begins with its first look.
 module _ (z : Sizes) (walkable : IsWalkable z) (shape : Shape) (c : Command) (P0 Q : Trace) where
   changes_walk : (d : Command) (aim curr : Option ℕ) → OnWalk z c (changes d aim curr) P0 Q

@@ -61,11 +61,6 @@ module _ (opened : Trace) (shape : Shape) (p : ℕ) where
       (λ i. with_insert x.by x.what h xs (λ same. away (sym same)) i ++ rest i))
       (λ _. shows_no_load h (x ∷ xs) next)
 
-  -- all loads of a call
-  pub calls_splice : (hs : List Load) (ns : List Note) → calls_in (splice opened p hs ns) ≡ calls_in ns
-  calls_splice [] ns = refl
-  calls_splice (h ∷ hs) ns = calls_insert h (splice opened p hs ns) ∙ calls_splice hs ns
-
   pub number_splice : (q : ℕ) (hs : List Load) (ns : List Note) → last_call_number q (splice opened p hs ns) ≡ last_call_number q ns
   number_splice q [] ns = refl
   number_splice q (h ∷ hs) ns = number_insert q h (splice opened p hs ns) ∙ number_splice q hs ns

@@ -1,12 +1,11 @@
 -- A text that holds the set which an open read explains what was seen before the first call.
-use Rattle.std.proofs.Common.{◌≡◌, ◌⊎◌, ⊎_elim, ℕ, List, [], refl, sym, ap, ◌∙◌, subst, le_refl}
+use Rattle.std.proofs.Common.{◌≡◌, ℕ, List, [], refl, sym, ap, ◌∙◌, subst, le_refl}
 use Rattle.std.proofs.lemmas.List.{append-nil}
 use Rattle.std.specs.Prelude.{IsTrue}
 use Rattle.lz_slot.specs.Sets.{Keys}
 use Rattle.lz_slot.specs.Bytes.{Holds}
 use Rattle.lz_slot.proofs.Files.HeldSets.{holds_same_set}
-use Rattle.lz_disk.specs.Devices.{Device, LeavesOnly}
-use Rattle.lz_disk.proofs.Moments.{leaves_more}
+use Rattle.lz_disk.specs.Devices.{Device}
 use Rattle.lz_disk.specs.Images.{IsImage, at_rest}
 use Rattle.lz_machine.specs.Yards.{Yard, first_trace}
 use Rattle.lz_machine.specs.Runs.{opened_service}
@@ -18,7 +17,7 @@ use Rattle.lz_board.specs.Seats.{BoardId}
 use Rattle.lz_board.proofs.Start.FirstWords.{opens_text}
 use Rattle.lz_tie.specs.Holds.{sizes_of}
 use Rattle.lz_tie.specs.RunningSets.{Explains}
-use Rattle.lz_tie.specs.Moments.{ExplainsBegun, ExplainedSince}
+use Rattle.lz_tie.specs.Moments.{ExplainsBegun}
 use Rattle.lz_tie.proofs.Marks.RunningSet.{explained}
 use Rattle.lz_tie.proofs.Start.OpenedYard.{opened_sizes}
 
@@ -49,9 +48,3 @@ module _ (b : BoardId) (before after : Device) (buckets passes : ℕ) (y : Yard)
       let e = first_explains in
       let was = subst (λ r. Holds r b.sizes.slots S) (sym (opens.first.1 honest)) seen in
       no_calls b ns t (record { found = e.found; holds = holds_same_set t b.sizes.slots S e.found (one_set read b.sizes.slots S e.found was e.holds) holds; calls = e.calls; fits = e.fits; lasts = e.lasts })
-
-  -- and with it each text that might have been left since the disk was handed to the open
-  pub life_explained : (ns : List Note) (dev : Device) → ExplainedSince b before ns dev → IsTrue dev.honest → IsTrue before.honest → (S : Keys) → Holds before.medium.seen b.sizes.slots S → ((t : List ℕ) → IsImage before.medium t → Holds t b.sizes.slots S)
-      → LeavesOnly before dev (ExplainsBegun b ns)
-  life_explained ns dev since honest was S seen each = leaves_more before dev (λ t. IsImage before.medium t ⊎ ExplainsBegun b ns t) (ExplainsBegun b ns)
-      (λ t. ⊎_elim (λ old. same_set_explains ns was S seen t (each t old)) (λ e. e)) (since honest)

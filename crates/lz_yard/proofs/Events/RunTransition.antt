@@ -1,5 +1,5 @@
 -- A call's next event, played on a yard over any device, as a step of a run.
-use Rattle.std.proofs.Common.{◌≡◌, ◌≢◌, inl, inr, ◌≤◌, length, IsTrue, ℕ, Bool, true, false, Option, Some, refl, sym, ap, ◌∙◌, subst}
+use Rattle.std.proofs.Common.{◌≡◌, ◌≢◌, inl, ◌≤◌, length, IsTrue, ℕ, Bool, true, false, Option, Some, refl, sym, ap, ◌∙◌, subst}
 use Rattle.std.proofs.lemmas.Bool.{false≢true}
 use Rattle.lz_slot.specs.Counted.{set_of_pass}
 use Rattle.lz_disk.specs.Images.{Medium}
@@ -16,9 +16,7 @@ use Rattle.lz_machine.proofs.Frames.OneActor.{caller_range}
 use Rattle.lz_machine.proofs.Runs.CallerEvent.{is_next}
 use Rattle.lz_machine.proofs.Runs.ReachedPoint.{as_reached}
 use Rattle.lz_machine.proofs.Theorem.Timing.{in_time}
-use Rattle.lz_machine.proofs.Theorem.WornPass.{is_look}
 use Rattle.lz_yard.specs.Steps.{Played}
-use Rattle.lz_yard.proofs.Events.KeptFit.{fault_or_not}
 
 -- the call after its next event had this outcome
 abbrev pub moved : Shape → Caller → Outcome → Option Caller
@@ -108,12 +106,3 @@ module _ (start : Start) (p : Point) (reached : IsReached start p) (service : Se
         failed_to before after new outcome changed medium fault (may_fail (line_call service.yard a (next_event service.yard caller)) medium h.asked)
             (λ honest. absurd (false≢true (sym is ∙ sym h.call.honest ∙ honest))) event,
       )
-
-  -- one step, which is no look
-  pub steps_on : (before after : Device) (new : Yard) (outcome : Outcome) (changed : _) → (IsTrue before.honest → before.medium ≡ medium)
-      → Played service.yard a (next_event service.yard caller) outcome new changed before after
-      → (step : Transition) × (is_look step ≡ false) × Steps (Up service medium) step (after_it service a caller new outcome) after
-  steps_on before after new outcome changed same event = elim (fault_or_not outcome) [
-    | inl fault ↦ let fails = failed before after new outcome changed same fault event before.honest refl in (Fails a fails.0, refl, fails.1)
-    | inr other ↦ (Turn a, refl, done before after new outcome changed same other event)
-  ]
