@@ -49,13 +49,6 @@ entry_member entries i entry low = ap member_in (get_or-map (cell_after 0) entri
 
 -- the list of no slots, and of one slot more
 module _ (cells : List Cell) where
-  pub none_listed : AreListed cells 0 []
-  none_listed = record {
-    each = λ i lt. absurd (omega (arith, lt));
-    all = λ k s low is. absurd (omega (arith, low));
-    apart = λ i j lt lt' same. absurd (omega (arith, lt));
-  }
-
   module _ (n : ℕ) (ms : Nodes) (are : AreListed cells n ms) where
     pub none_more : member_at cells n ≡ None → AreListed cells (n + 1) ms
     none_more none = record {

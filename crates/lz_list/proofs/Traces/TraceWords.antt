@@ -1,5 +1,5 @@
 -- After a lawful trace the table of words is sorted, and has the trace's members.
-use Rattle.std.proofs.Common.{◌≡◌, ◌⊎◌, ◌↔◌, inl, inr, ℕ, zero, suc, ◌<◌, ◌≤◌, ◌^◌, Bool, true, false, not, List, [], ◌∷◌, length, refl, sym, ap, ◌∙◌, subst, arith}
+use Rattle.std.proofs.Common.{◌≡◌, ◌↔◌, inl, inr, ℕ, zero, suc, ◌<◌, ◌≤◌, ◌^◌, Bool, true, false, not, List, [], ◌∷◌, length, refl, sym, ap, ◌∙◌, subst, arith}
 use mathlib.Core.Bool.{false≢true}
 use Rattle.std.proofs.lemmas.Bool.{cases_eq, cases_Bool}
 use Rattle.std.proofs.lemmas.Bool.Decides.{nat_tests, eqb_tells}
@@ -12,7 +12,7 @@ use Rattle.lz_list.specs.declared.word.Word.TheVariants.{Head, Link, Key}
 use Rattle.lz_list.specs.declared.publishing.Publishing.TheVariants.{Linked as linked, Marked as marked, Unlinked as unlinked, Settled as settled, KeyPrepared as key_prepared, LinkPrepared as link_prepared, Halted as halted}
 use Rattle.lz_list.specs.Words.{Words, get, is_marked_at, link_with, next_of, flags_of, next_at, place_number}
 use Rattle.lz_list.specs.Traces.{Trace, Chain, on, rank_at, WordsShow, has_key, KeysBelong, Lawful, chain, bucket_of, next_link, node_next, key_word, is_marked, member, flags_after, word_after, words_of_trace, table}
-use Rattle.lz_list.specs.Lists.{next_in, home, AreSlots, ShowsChain, IsSorted, IsMember, IsMemberIn, IsNodeIn, IsTable, IsOfBucket, IsPredecessor, MayLinkAt, MayUnlinkAt}
+use Rattle.lz_list.specs.Lists.{next_in, home, AreSlots, ShowsChain, IsSorted, IsMember, IsMemberIn, IsNodeIn, IsTable, IsOfBucket}
 use Rattle.lz_list.specs.Members.{key_changes}
 use Rattle.lz_list.proofs.Chains.PlaceRank.{adjacent, adjacent_next, shows_frame, shows_keys, on_start}
 use Rattle.lz_list.proofs.Chains.TraceChain.{words_show_chain}
@@ -153,44 +153,8 @@ module _ (slots buckets : ℕ) (P : Trace) (few : slots ≤ most_slots) (law : L
 
     -- a place of the key's bucket from there on to the key
     module _ (pred : Place) (bucket_is : IsOfBucket bucket pred) (there : on 0 (chain buckets bucket P) (place_number pred) ≡ true) (low : rank_at keys (place_number pred) ≤ k) where
-      pub before_after : IsPredecessor words pred k
-      before_after = record {
-        bucket = subst (λ (b : ℕ). IsOfBucket b pred) (sym at_home) bucket_is;
-        chain = chain buckets bucket P;
-        shown = subst (λ (b : ℕ). ShowsChain words b (chain buckets bucket P)) (sym at_home) (shown_after bucket in_table);
-        stands = there;
-        below = omega (arith, rank_is bucket (place_number pred) there);
-      }
-
       leads_to : next_at words pred ≡ next_link buckets bucket P (place_number pred)
       leads_to = next_of_place words bucket pred bucket_is ∙ next_is bucket in_table (place_number pred) there
-
-      module _ (n : ℕ) (next : next_link buckets bucket P (place_number pred) ≡ n) where
-        pub above_after : (m : ℕ) → m ≡ n → (n ≡ 0) ⊎ (suc k < rank_at keys n) → (next_at words pred ≡ 0) ⊎ (suc k < rank_at (λ t. get words (Key t)) (next_at words pred))
-        above_after m is (inl none) = inl (leads_to ∙ next ∙ none)
-        above_after zero is (inr high) = inl (leads_to ∙ next ∙ sym is)
-        above_after (suc t) is (inr high) =
-            let adj = adjacent (next_link buckets bucket P) keys 0 (chain buckets bucket P) (words_show_chain buckets slots P law bucket).shows (place_number pred) there in
-            let on_it : on 0 (chain buckets bucket P) n ≡ true = ap (on 0 (chain buckets bucket P)) (sym next) ∙ adjacent_next 0 (chain buckets bucket P) (place_number pred) (next_link buckets bucket P (place_number pred)) adj (λ e. omega arith) in
-            inr (subst (λ (q : ℕ). suc k < rank_at (λ r. get words (Key r)) q) (sym (leads_to ∙ next)) (omega (arith, rank_is bucket n on_it)))
-
-        -- what the conditions of linking and unlinking come to after a trace
-        pub may_link_after : (s : ℕ) → s < slots → key_word s P ≡ k → node_next buckets s P ≡ n → (n ≡ 0) ⊎ (suc k < rank_at keys n) → MayLinkAt words pred s
-        may_link_after s lt key link high =
-            let key_here : k ≡ get words (Key s) = sym key ∙ sym (key_is s lt) in
-            let small : node_next buckets s P < 2 ^ 32 = omega (arith, small_next bucket (place_number pred) there) in
-            record {
-              slot = omega (arith, links_are);
-              before = subst (IsPredecessor words pred) key_here before_after;
-              above = subst (λ (j : ℕ). (next_at words pred ≡ 0) ⊎ (suc j < rank_at (λ t. get words (Key t)) (next_at words pred))) key_here (above_after n refl high);
-              next = ap next_of (link_is s lt) ∙ next_of_link (node_next buckets s P) small (flags_after s P) ∙ link ∙ sym next ∙ sym leads_to;
-            }
-
-      pub may_unlink_after : (s : ℕ) → s < slots → key_word s P ≡ k → next_link buckets bucket P (place_number pred) ≡ suc s → MayUnlinkAt words pred s
-      may_unlink_after s lt key next = record {
-        before = subst (IsPredecessor words pred) (sym key ∙ sym (key_is s lt)) before_after;
-        next = leads_to ∙ next;
-      }
 
 -- the members hang on the keys linked and marked alone
 member_of : ℕ → List (ℕ × Bool) → Bool
