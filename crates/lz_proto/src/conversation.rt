@@ -2,9 +2,9 @@
 ghost use Rattle.std.specs.Prelude.{◌≡◌, ◌≢◌, [], ◌∷◌, ◌≤◌, ◌<◌, length, take, IfOk, OnOk, OnErr, Err};
 ghost use Rattle.std.specs.Io.KnownBytes.{Appends, Consumes, IsAtEnd, Keeps};
 ghost use Rattle.lz_proto.specs.Sessions.{SessionTells, Writes};
-ghost use Rattle.lz_proto.specs.Steps.{AnswersTell, PieceTells, SendTells, end_after};
+ghost use Rattle.lz_proto.specs.Steps.{AnswersTell, PieceTells, SendTells};
 
-use crate::end::End;
+use crate::end::{End, end_after};
 use crate::fault::SessionFault;
 use crate::item::Item;
 use crate::limits::MOST_PIECE;
@@ -95,16 +95,6 @@ pub fn receive<R: Read>(reader: &mut R, buffer: &mut [u8]) -> Result<usize, Sess
         }
     }
     Err(SessionFault::Read)
-}
-
-// How a session goes on after a reply.
-fn end_after(reply: Reply) -> End
-    ensures { result ≡ end_after reply }
-{
-    match reply {
-        Reply::Halted => End::Halted,
-        _ => End::Done,
-    }
 }
 
 // Answers one item.

@@ -18,7 +18,7 @@ mod request;
 mod service;
 
 pub use conversation::{receive, send, session};
-pub use end::End;
+pub use end::{End, end_after};
 pub use fault::{Bad, SessionFault};
 pub use item::Item;
 pub use limits::{MOST_KEPT, MOST_LINE, MOST_PIECE};

@@ -8,7 +8,7 @@ ghost use Rattle.lz_serve.specs.Conversations.{Fed, GoesOn, IsAt, IsOver, Noted,
 ghost use Rattle.lz_serve.specs.Lines.{IsFree, StandsAt, awaited, first_reply, key_asked, replied};
 
 use crate::line::{Line, key_asked};
-use lz_proto::{Bad, End, Item, Lines, Reply, Request, bad_text, reply_text};
+use lz_proto::{Bad, End, Item, Lines, Reply, Request, bad_text, end_after, reply_text};
 use lz_slot::Key;
 use std::alloc::{AllocError, Global};
 use std::collections::VecDeque;
@@ -341,15 +341,5 @@ fn put_reply(under: &mut VecDeque<Line>, at: usize, reply: Reply)
 {
     if let Some(line) = under.get_mut(at) {
         line.reply = Some(reply);
-    }
-}
-
-// How a conversation goes on after a reply.
-fn end_after(reply: Reply) -> End
-    ensures { result ≡ end_after reply }
-{
-    match reply {
-        Reply::Halted => End::Halted,
-        _ => End::Done,
     }
 }
