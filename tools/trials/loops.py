@@ -358,16 +358,22 @@ def try_more(program: Program, folder: str) -> None:
 
 
 def try_pipelines(program: Program, folder: str) -> None:
-    """Thirty-two clients send sixteen lines at once, again and again: each one's replies come in the order of its lines."""
-    count = 32
-    with served(program, folder, "pipelines", 256, PASSES, "--buckets", "64", *at_once(count)) as service, Crowd(service.port, count) as crowd:
-        for turn in range(20):
-            own = [1000 * turn + 10 * client for client in range(count)]
-            lines = "add {0}|has {0}|has {1}|dig|add {0}|remove {0}|has {0}|remove {0}|add {1}|has x|has {1}|has {0}|add {2}|remove {2}|remove {1}|"
-            texts = [(lines.replace("|", "\n") + "has {1}\n").format(key, key + 1, key + 2).encode() for key in own]
-            told = b"yes yes no bad_2 no yes no no yes bad_3 yes no yes yes yes no ".replace(b" ", b"\n").replace(b"_", b" ")
-            expect(crowd.exchange(texts), [told] * count, f"replies to sixteen lines, turn {turn}")
-    expect(program.members(os.path.join(folder, "pipelines")), [], "the keys of the file")
+    """Thirty-two clients send sixteen lines at once, again and again: each one's replies come in the order of its lines. And so many clients
+    that replies go out together."""
+    for count in (32, 160):
+        name = f"pipelines-{count}"
+        with served(program, folder, name, 8 * count, PASSES, "--buckets", "64", *at_once(count)) as service, Crowd(service.port, count) as crowd:
+            for turn in range(20):
+                expect_pipelined(crowd, count, turn)
+        expect(program.members(os.path.join(folder, name)), [], "the keys of the file")
+
+
+def expect_pipelined(crowd: Crowd, count: int, turn: int) -> None:
+    own = [10_000 * turn + 10 * client for client in range(count)]
+    lines = "add {0}|has {0}|has {1}|dig|add {0}|remove {0}|has {0}|remove {0}|add {1}|has x|has {1}|has {0}|add {2}|remove {2}|remove {1}|"
+    texts = [(lines.replace("|", "\n") + "has {1}\n").format(key, key + 1, key + 2).encode() for key in own]
+    told = b"yes yes no bad_2 no yes no no yes bad_3 yes no yes yes yes no ".replace(b" ", b"\n").replace(b"_", b" ")
+    expect(crowd.exchange(texts), [told] * count, f"replies to sixteen lines, turn {turn}")
 
 
 def try_batch(program: Program, folder: str) -> None:

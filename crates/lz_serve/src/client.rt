@@ -20,6 +20,9 @@ const FEW: usize = 16;
 
 const LITTLE: usize = 256;
 
+/// How many bytes are to be sent at most while lines of the client still wait: its replies go out together.
+const HELD: usize = 256;
+
 /// A request with the number of its connection and that of its line there. Contracts see the pass that is to answer it too, as it was
 /// when the question was put. It can't be copied, and a reply to it uses it up.
 #[derive(Drop)]
@@ -312,6 +315,11 @@ impl<S: Stream> Client<S> {
     /// Whether something has come that wasn't carried out yet.
     pub(crate) fn waits(&self) -> bool {
         !self.lost && self.talk.waits()
+    }
+
+    /// Whether what is unsent is held back: lines wait, whose replies are to go out with it.
+    pub(crate) fn holds_back(&self) -> bool {
+        self.waits() && !self.talk.is_over() && self.talk.unsent().len() < HELD
     }
 
     /// Whether nothing more is to be told.

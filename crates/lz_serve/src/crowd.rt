@@ -16,6 +16,9 @@ use std::time::Duration;
 /// For how many milliseconds a turn counts at most: in a longer one the loop didn't listen, and no client was silent.
 const LONGEST_TURN: u64 = 1_000;
 
+/// How many clients wait for their turn where it is worth more to send replies together than to send each at once.
+const MANY: usize = 64;
+
 /// After how many milliseconds it is looked again which clients were silent for too long.
 const TENTH: u64 = 100;
 
@@ -242,11 +245,12 @@ impl<S: Stream> Crowd<S> {
 
     // Does for a client what needs no pass, and queues it where it wants a turn.
     fn tend(&mut self, token: usize, buffer: &mut [u8]) {
+        let crowded = self.queue.len() >= MANY;
         let Some(place) = self.places.get_mut(token) else {
             return;
         };
         let was_leaving = place.leaves();
-        let wish = place.tend(buffer);
+        let wish = place.tend(buffer, crowded);
         if place.leaves() && !was_leaving {
             place.end(self.now);
             self.leaving = self.leaving.saturating_add(1);

@@ -133,8 +133,8 @@ impl<S: Stream> Place<S> {
         client.ask(pass)
     }
 
-    /// Does for its client what needs no pass.
-    pub(crate) fn tend(&mut self, buffer: &mut [u8]) -> Wish {
+    /// Does for its client what needs no pass. Among many that wait (`crowded`), replies of one whose lines wait go out together.
+    pub(crate) fn tend(&mut self, buffer: &mut [u8], crowded: bool) -> Wish {
         self.back = false;
         let Some(client) = &mut self.client else {
             return Wish::Nothing;
@@ -142,7 +142,10 @@ impl<S: Stream> Place<S> {
         if self.leaves {
             return see_off(client, buffer);
         }
-        client.write();
+        let holds_back = crowded && !self.parts && client.holds_back();
+        if !holds_back {
+            client.write();
+        }
         for _ in 0..MOST_READS {
             if self.parts || !self.readable || client.is_occupied() {
                 break;
@@ -154,7 +157,7 @@ impl<S: Stream> Place<S> {
             client.leave();
             return see_off(client, buffer);
         }
-        if client.has_unsent() || self.parts {
+        if self.parts || client.has_unsent() && !holds_back {
             return Wish::Nothing;
         }
         if self.readable && !client.waits() || client.may_ask() {
