@@ -26,6 +26,7 @@ synced_was old timely t image =
       no_shorter = timely.consistent.no_shorter;
       no_longer = omega arith;
       sure = timely.consistent.same;
+      each = timely.consistent.each;
     } in
     subst (IsImage old.medium) (sym is) seen
 

@@ -12,7 +12,7 @@ use Rattle.lz_slot.specs.declared.format.Format.TheVariants.{One, Two, Three}
 use Rattle.lz_slot.specs.declared.header.HeaderFault.{HeaderFault}
 use Rattle.lz_slot.proofs.Files.HeadBytes.{head_alone}
 use Rattle.lz_slot.proofs.Files.HeldSets.{holds_same_set}
-use Rattle.lz_disk.specs.Images.{Medium, IsConsistent, IsImage, at_rest, synced}
+use Rattle.lz_disk.specs.Images.{Medium, IsConsistent, IsImage, WasWritten, at_rest, synced}
 use Rattle.lz_disk.specs.Devices.{Device, IsTimely, LeavesOnly}
 use Rattle.lz_disk.proofs.Moments.{leaves_more, leaves_then}
 use Rattle.lz_disk.proofs.Writes.{synced_image}
@@ -145,7 +145,7 @@ at_rest_together old old_after new new_after ks js same_old same_new old_sure ne
     let held = old_held h in
     let other = new_held k in
     let Seen : ℕ → List ℕ → Medium → Type 0 = λ n keys m. Holds m.seen n (members keys) in
-    let Rests : Medium → Type 0 = λ m. m ≡ at_rest m.seen in (
+    let Rests : Medium → Type 0 = λ m. m ≡ at_rest m.bytewise m.seen in (
       subst Rests (sym (old_sure h)) refl,
       subst Rests (sym (new_sure k)) refl,
       (members ks, (held.0, subst (Seen held.0 ks) (sym (old_sure h)) held.1), (other.0, subst (Seen other.0 ks) (sym (new_sure k)) (subst (λ (keys : List ℕ). Holds new.medium.seen other.0 (members keys)) (sym one) other.1))),
@@ -189,6 +189,7 @@ synced_before m t consistent image =
       no_shorter = subst (λ (c : List ℕ). length m.sure ≤ length c) (sym is) consistent.no_shorter;
       no_longer = image.no_longer;
       sure = λ i lt tight. ap (λ (c : List ℕ). get_or c i 0) is ∙ consistent.same i lt tight;
+      each = λ on i lt. ⊎_elim (λ sure. inl (ap (λ (c : List ℕ). get_or c i 0) is ∙ sure)) (λ was. inr (subst (WasWritten m.loose i) (ap (λ (c : List ℕ). get_or c i 0) (sym is)) was)) (consistent.each on i lt);
     }
 
 -- a device that was read once more leaves nothing else

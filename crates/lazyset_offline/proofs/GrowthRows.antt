@@ -1,5 +1,6 @@
 -- Worked rows: what may be put, what is left under the name, and how a growth isn't refused.
 use Rattle.std.proofs.Common.{◌≡◌, ⊎_elim, ℕ, List, [], ◌∷◌, get_or, Ok, IsTrue, refl, sym, ◌∙◌, ap}
+use Rattle.lz_slot.specs.Bytes.{open_byte}
 use Rattle.lz_slot.specs.declared.format.Format.{Format}
 use Rattle.lz_disk.specs.Images.{Medium}
 use Rattle.lz_disk.specs.Devices.{Device}
@@ -12,10 +13,10 @@ use Rattle.lazyset_offline.specs.declared.growing.Standing.{Standing}
 use Rattle.lazyset_offline.specs.declared.growing.Standing.TheVariants as stands
 
 -- a new file whose gate isn't durable yet isn't put
-loose_gate : (old new : Device) → IsTrue old.honest → IsTrue new.honest → new.medium.loose ≡ (0, 1) ∷ [] → HoldOneSetAtRest old new → ⊥
+loose_gate : (old new : Device) → IsTrue old.honest → IsTrue new.honest → new.medium.loose ≡ (0, open_byte ∷ []) ∷ [] → HoldOneSetAtRest old new → ⊥
 loose_gate old new old_honest honest loose alike =
     let none : new.medium.loose ≡ [] = ap (λ (m : Medium). m.loose) (alike old_honest honest).1 in
-    let e : ◌≡◌ {A = List (ℕ × ℕ)} ((0, 1) ∷ []) [] = sym loose ∙ none in
+    let e : ◌≡◌ {A = List (ℕ × List ℕ)} ((0, open_byte ∷ []) ∷ []) [] = sym loose ∙ none in
     absurd cc
 
 -- where nothing was put, nothing of the new file is left under the name

@@ -22,7 +22,7 @@ use Rattle.lazyset_offline.specs.declared.growing.Standing.TheVariants as stands
 abbrev pub HoldOneSetAtRest : Device → Device → Type 0
 HoldOneSetAtRest old new =
     IsTrue old.honest → IsTrue new.honest
-    → (old.medium ≡ at_rest old.medium.seen) × (new.medium ≡ at_rest new.medium.seen) × HoldOneSet old.medium.seen new.medium.seen
+    → (old.medium ≡ at_rest old.medium.bytewise old.medium.seen) × (new.medium ≡ at_rest new.medium.bytewise new.medium.seen) × HoldOneSet old.medium.seen new.medium.seen
 
 -- What a crash at some moment of a growth may have left under the name: a text of the old file, or, where the new one may have
 -- the name, one of that.

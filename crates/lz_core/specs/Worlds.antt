@@ -53,9 +53,9 @@ call_shown (Some call) = Some (record { number = call.number; command = call.cal
 
 -- the state of a world that has a yard, or else a disk
 abbrev pub state_shown : Shape → Option (YardOver Past) → Option Past → List (Option OpenCall) → State
-state_shown shape (Some over) disk callers = Up (record { yard = over.yard; callers = map call_shown callers }) (after over.disk.start over.disk.records)
-state_shown shape None (Some disk) callers = Down shape (after disk.start disk.records)
-state_shown shape None None callers = Down shape (at_rest [])
+state_shown shape (Some over) disk callers = Up (record { yard = over.yard; callers = map call_shown callers }) (after over.disk.bytewise over.disk.start over.disk.records)
+state_shown shape None (Some disk) callers = Down shape (after disk.bytewise disk.start disk.records)
+state_shown shape None None callers = Down shape (at_rest false [])
 
 -- a world of these parts
 abbrev pub world_shown : Shape → Option (YardOver Past) → Option Past → List (Option OpenCall) → ℕ → Bool → WorldOver
@@ -68,9 +68,9 @@ IsUp (Down shape disk) = ⊥
 
 -- its disk
 abbrev pub disk_shown : Option (YardOver Past) → Option Past → Medium
-disk_shown (Some over) disk = after over.disk.start over.disk.records
-disk_shown None (Some disk) = after disk.start disk.records
-disk_shown None None = at_rest []
+disk_shown (Some over) disk = after over.disk.bytewise over.disk.start over.disk.records
+disk_shown None (Some disk) = after disk.bytewise disk.start disk.records
+disk_shown None None = at_rest false []
 
 -- it has one of the two
 abbrev pub HasOne : Option (YardOver Past) → Option Past → Type 0
@@ -266,7 +266,7 @@ call_after (Some call) outcome =
 pub record MayStepOn (over : YardOver Past) (a : ℕ) (e : Event) : Type 0 where
   pub actor : (1 ≤ a) × (a ≤ over.yard.shape.passes)
   pub event : IsEventOf over.yard e
-  pub plays : needs over.yard a e ≡ true → MayPlay over.yard true (after over.disk.start over.disk.records) a e
+  pub plays : needs over.yard a e ≡ true → MayPlay over.yard true (after over.disk.bytewise over.disk.start over.disk.records) a e
 
 -- the service is open, and the actor is one of the world's without a call
 abbrev pub MayCall : Option (YardOver Past) → List (Option OpenCall) → ℕ → Type 0

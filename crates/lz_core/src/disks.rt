@@ -47,6 +47,7 @@ pub(crate) fn stop_disk(yard: &mut Option<Yard<MemoryDisk>>, disk: &mut Option<M
 }
 
 // Ends the service, if there is one, with a crash of its disk.
+#[tactic(auto, using(lz_disk::proofs::GrownRecords::flag_after))]
 pub(crate) fn crash_disk(
     yard: &mut Option<Yard<MemoryDisk>>,
     disk: &mut Option<MemoryDisk>,
@@ -54,7 +55,7 @@ pub(crate) fn crash_disk(
 ) -> Result<(), AllocError>
     requires { HasOne yard.old disk.old }
     ensures one { HasOne yard.new disk.new }
-    ensures down { OnOk result ((shape : _) (callers : _) → state_shown shape yard.new disk.new callers ≡ Down shape (at_rest (left_by pick (disk_shown yard.old disk.old)))) }
+    ensures down { OnOk result ((shape : _) (callers : _) → state_shown shape yard.new disk.new callers ≡ Down shape (at_rest (disk_shown yard.old disk.old).bytewise (left_by pick (disk_shown yard.old disk.old)))) }
     ensures image { OnOk result (IsImage (disk_shown yard.old disk.old) (left_by pick (disk_shown yard.old disk.old))) }
     ensures err { OnErr result ((yard.new ≡ yard.old) × (disk.new ≡ disk.old)) }
 {

@@ -14,7 +14,7 @@ chosen_mark : (b : Bool) (z : ℕ) → z ≡ 0 → (if b then 1 else z) ≡ mark
 chosen_mark true z is = refl
 chosen_mark false z is = is
 
-pub mark_is : (ranges : List (ℕ × ℕ)) (n k : ℕ) → k < n → get_or (with_loose ranges 1 0 (replicate n 0)) k 0 ≡ mark (is_loose ranges k)
+pub mark_is : (ranges : List (ℕ × List ℕ)) (n k : ℕ) → k < n → get_or (with_loose ranges 1 0 (replicate n 0)) k 0 ≡ mark (is_loose ranges k)
 mark_is ranges n k lt =
     let zeros : List ℕ = replicate n 0 in
     let long : length zeros ≡ n = length-replicate n 0 in
@@ -125,7 +125,7 @@ module _ (disk : Medium) (count at : ℕ) (text text' : List ℕ) (lt : at < len
       }
 
 -- nothing more is taken
-none_taken : (ranges : List (ℕ × ℕ)) (i : ℕ) (sure seen : List ℕ) → with_first ranges 0 i sure seen ≡ sure
+none_taken : (ranges : List (ℕ × List ℕ)) (i : ℕ) (sure seen : List ℕ) → with_first ranges 0 i sure seen ≡ sure
 none_taken ranges i sure [] = refl
 none_taken ranges i sure (b ∷ seen) = refl
 

@@ -1,5 +1,5 @@
 // Bytes that a disk in memory keeps: writes over them, and the loose ones among them.
-ghost use Rattle.std.specs.Prelude.{◌≡◌, ◌≤◌, ℕ, List, ◌∷◌, OnOk, OnErr, vec_len};
+ghost use Rattle.std.specs.Prelude.{◌≡◌, ◌≤◌, Bool, length, ℕ, List, ◌∷◌, OnOk, OnErr, vec_len};
 ghost use Rattle.lz_disk.specs.Images.{AreBytes, overwritten};
 ghost use Rattle.lz_disk.specs.Picks.{with_loose};
 ghost use Rattle.lz_disk.specs.Records.{after};
@@ -27,21 +27,21 @@ pub(crate) fn overwrite(text: &mut Vec<u8>, at: usize, bytes: &[u8]) -> Result<(
 
 // Puts the byte at each loose position. The ranges since the last sync are loose.
 pub(crate) fn fill_loose(text: &mut [u8], changes: &[Record], byte: u8)
-    ensures { (start : List ℕ) → text.new ≡ with_loose (after start changes.now).loose byte 0 text.old }
+    ensures { (bytewise : Bool) (start : List ℕ) → text.new ≡ with_loose (after bytewise start changes.now).loose byte 0 text.old }
 {
     let mut left = changes.len();
     while left > 0 {
         left -= 1;
         match &changes[left] {
             Record::Wrote(at, bytes) => fill_range(text, *at, bytes.len() as u64, byte),
-            Record::Failed(at, count) => fill_range(text, *at, *count, byte),
+            Record::Failed(at, bytes) => fill_range(text, *at, bytes.len() as u64, byte),
             Record::Synced => return,
         }
     }
 }
 
 fn fill_range(text: &mut [u8], at: u64, count: u64, byte: u8)
-    ensures { (ranges : List (ℕ × ℕ)) → with_loose ranges byte 0 text.new ≡ with_loose ((at, count) ∷ ranges) byte 0 text.old }
+    ensures { (writes : List (ℕ × List ℕ)) (bytes : List ℕ) → length bytes ≡ count → with_loose writes byte 0 text.new ≡ with_loose ((at, bytes) ∷ writes) byte 0 text.old }
 {
     let len = text.len() as u64;
     let low = at.min(len) as usize;

@@ -138,9 +138,9 @@ state_after n (Up service disk) (Turn a) = after_turn service disk a (caller_at 
 state_after n (Up service disk) (Fails a new) = after_fault service new a (caller_at service.callers a)
 state_after n (Up service disk) (Looks a) = Up (record { yard = looked service.yard a; callers = service.callers }) disk
 state_after n (Up service disk) Stops = Down service.yard.shape disk
-state_after n (Up service disk) (Crashes t) = Down service.yard.shape (at_rest t)
-state_after n (Up service disk) (CrashesIn a t) = Down service.yard.shape (at_rest t)
-state_after n (Down shape disk) (Crashes t) = Down shape (at_rest t)
+state_after n (Up service disk) (Crashes t) = Down service.yard.shape (at_rest disk.bytewise t)
+state_after n (Up service disk) (CrashesIn a t) = Down service.yard.shape (at_rest disk.bytewise t)
+state_after n (Down shape disk) (Crashes t) = Down shape (at_rest disk.bytewise t)
 state_after n (Down shape disk) Opens = Up (opened_service shape disk.seen) (synced disk)
 state_after n (Down shape disk) (OpenFails why true) = Down shape (synced disk)
 state_after n w _ = w
@@ -266,8 +266,9 @@ abbrev pub IsRun : Point → List Transition → Type 0
 IsRun p [] = Unit {0}
 IsRun p (step ∷ steps) = MayStep (run p steps).state step × IsRun p steps
 
--- A life begins by an open of a text that holds a set; nothing of the disk is loose.
+-- A life begins by an open of a text that holds a set; nothing of the disk, bytewise or not, is loose.
 pub record Start : Type 0 where
+  pub bytewise : Bool
   pub shape : Shape
   pub text : List ℕ
 
@@ -283,7 +284,7 @@ pub record IsStart (s : Start) : Type 0 where
 abbrev pub first_point : Start → Point
 first_point s =
     record {
-      state = Up (opened_service s.shape s.text) (at_rest s.text);
+      state = Up (opened_service s.shape s.text) (at_rest s.bytewise s.text);
       marks = [];
       trace = first_trace s.shape s.text;
       calls = 0;

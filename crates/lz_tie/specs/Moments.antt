@@ -38,7 +38,7 @@ pub record IsLeftBy (z : Sizes) (opened : Trace) (ns : List Note) (t : List ℕ)
 
 -- a device that says nothing
 abbrev pub no_device : Device
-no_device = record { honest = false; medium = at_rest []; moment = 0; left_since = λ t c. ⊥; calls = 0; faults = 0; must_fail = ⊥ }
+no_device = record { honest = false; medium = at_rest false []; moment = 0; left_since = λ t c. ⊥; calls = 0; faults = 0; must_fail = ⊥ }
 
 -- Each text that a crash might have left since the disk was like this is one that might have been left then, or one that some
 -- beginning of the notes leaves. That is so of an honest device.

@@ -39,7 +39,7 @@ pub record AreTables (cells : List Cell) (buckets passes : ℕ) (list : Listed) 
 
 -- The yard is that of a text with which a life may begin: the text read, where the device is honest.
 abbrev pub IsFirst : Device → Yard → Type 0
-IsFirst before y = (t : List ℕ) × (IsTrue before.honest → t ≡ before.medium.seen) × IsStart (record { shape = y.shape; text = t }) × (y ≡ opened_yard y.shape t)
+IsFirst before y = (t : List ℕ) × (IsTrue before.honest → t ≡ before.medium.seen) × IsStart (record { bytewise = before.medium.bytewise; shape = y.shape; text = t }) × (y ≡ opened_yard y.shape t)
 
 -- An open of a yard succeeded: its vault was opened, and the yard is that of the text read.
 pub record OpensYard (before after : Device) (B S : ℕ) (y : Yard) : Type 0 where

@@ -44,7 +44,7 @@ module _ (shape : Shape) (over : YardOver Past) (disk : Option Past) (callers : 
   served = record { yard = over.yard; callers = map call_shown callers }
 
   abbrev disk_then : Medium
-  disk_then = after over.disk.start over.disk.records
+  disk_then = after over.disk.bytewise over.disk.start over.disk.records
 
   none : IsNone (caller_at (map call_shown callers) a)
   none = subst IsNone (sym (shown_caller callers a low)) (no_call (slice_index_or callers (a - 1) None) free)
@@ -82,7 +82,7 @@ module _ (shape : Shape) (over : YardOver Past) (disk : Option Past) (callers : 
 
   module _ (over' : YardOver Past) (outcome : Outcome) (news : Told) (event : Played over.yard a (Invoke c) outcome over'.yard news (device_of over.disk) (device_of over'.disk)) where
     abbrev disk_now : Medium
-    disk_now = after over'.disk.start over'.disk.records
+    disk_now = after over'.disk.bytewise over'.disk.start over'.disk.records
 
     -- it makes no device call
     no_fault : outcome ≢ Fault

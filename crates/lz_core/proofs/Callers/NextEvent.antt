@@ -37,7 +37,7 @@ module _ (shape : Shape) (over : YardOver Past) (disk : Option Past) (callers : 
   service = record { yard = over.yard; callers = map call_shown callers }
 
   abbrev pub medium : Medium
-  medium = after over.disk.start over.disk.records
+  medium = after over.disk.bytewise over.disk.start over.disk.records
 
   pub next : Next service a e
   next = next_is service medium a e is

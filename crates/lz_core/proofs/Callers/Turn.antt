@@ -80,10 +80,10 @@ module _ (shape : Shape) (over : YardOver Past) (disk : Option Past) (callers : 
   new = world_shown shape (Some over') disk (slice_set callers (a - 1) call') calls tripped
 
   abbrev disk_then : Medium
-  disk_then = after over.disk.start over.disk.records
+  disk_then = after over.disk.bytewise over.disk.start over.disk.records
 
   abbrev disk_now : Medium
-  disk_now = after over'.disk.start over'.disk.records
+  disk_now = after over'.disk.bytewise over'.disk.start over'.disk.records
 
   abbrev before : Device
   before = device_of (armed tripped over.disk)

@@ -92,7 +92,7 @@ pub world_members : (shape : Shape) (yard : Option (YardOver Past)) (disk : Opti
     → (keys : List ℕ) → ((k : ℕ) → (members keys k ≡ true) ↔ IsAmong over.yard.words (length over.yard.words.links) k) → Shows (state_shown shape yard disk callers) keys
 world_members shape yard disk callers calls over world is keys same =
     let ran = world.ran in
-    let among = members_reached ran.start ran.point (record { yard = over.yard; callers = map call_shown callers }) (after over.disk.start over.disk.records) ran.reached
+    let among = members_reached ran.start ran.point (record { yard = over.yard; callers = map call_shown callers }) (after over.disk.bytewise over.disk.start over.disk.records) ran.reached
     (ran.at.state ∙ ap (λ (q : Option (YardOver Past)). state_shown shape q disk callers) is) in
     subst (λ (q : Option (YardOver Past)). Shows (state_shown shape q disk callers) keys) (sym is)
     (λ k. ((λ there. (among k).0 ((same k).0 there)), (λ there. (same k).1 ((among k).1 there))))
@@ -189,15 +189,15 @@ module _ (shape : Shape) (t : List ℕ) (found : Keys) (some : 1 ≤ shape.bucke
   abbrev first_words : Words
   first_words = (opened_yard shape t).words
 
-  first_up : UpSound (length first) 0 (opened_service shape t) (at_rest t) (record { start = found; history = [] }) first (first_notes shape t)
-  first_up = opened_up shape t found some holds bytes 0
+  first_up : UpSound (length first) 0 (opened_service shape t) (at_rest false t) (record { start = found; history = [] }) first (first_notes shape t)
+  first_up = opened_up shape t found some holds bytes false 0
 
   found_here : (k : ℕ) → member k first ≡ members (keys_found t shape.slots) k
   found_here k = opening_members shape.buckets k (held t shape.slots) ∙ sym (key_by k (held t shape.slots)) ∙ sym (any_key k (by_key (held t shape.slots)))
 
   found_among : (k : ℕ) → IsAmong first_words (length first_words.links) k ↔ (members (keys_found t shape.slots) k ≡ true)
   found_among k =
-      let among = among_members (length first) 0 (opened_service shape t) (at_rest t) (record { start = found; history = [] }) first (first_notes shape t) first_up k in
+      let among = among_members (length first) 0 (opened_service shape t) (at_rest false t) (record { start = found; history = [] }) first (first_notes shape t) first_up k in
       let tells = members_after shape.slots shape.buckets first (few_slots first_up.sound.images) first_up.sound.trace.lawful first_words refl refl refl some k in
       ((λ is. sym (found_here k) ∙ tells.0 (among.0 is)), (λ is. among.1 (tells.1 (found_here k ∙ is))))
 

@@ -61,7 +61,7 @@ run_holds shape disk calls ran =
 
 module _ (shape : Shape) (before : Past) (over : YardOver Past) (opens : OpensYard (device_of before) (device_of over.disk) shape.buckets shape.passes over.yard) where
   abbrev disk : Medium
-  disk = after before.start before.records
+  disk = after before.bytewise before.start before.records
 
   slots_is : (S : Keys) → Holds disk.seen shape.slots S → over.yard.shape.slots ≡ shape.slots
   slots_is S holds =
@@ -84,7 +84,7 @@ module _ (shape : Shape) (before : Past) (over : YardOver Past) (opens : OpensYa
   state_opened S left callers holds none =
       let yard : over.yard ≡ opened_yard shape disk.seen = yard_read _ _ _ _ _ opens refl ∙ ap (λ (s : Shape). opened_yard s disk.seen) (shape_opened S holds) in
       let calls : map call_shown callers ≡ replicate shape.passes None = ap (λ (cs : List (Option OpenCall)). map call_shown cs) none ∙ none_shown shape.passes in
-      let medium : after over.disk.start over.disk.records ≡ synced disk = opens.vault.medium refl in
+      let medium : after over.disk.bytewise over.disk.start over.disk.records ≡ synced disk = opens.vault.medium refl in
       cc (yard, calls, medium)
 
   -- a world without a service opens
@@ -124,12 +124,12 @@ module _ (shape : Shape) (before : Past) (over : YardOver Past) (opens : OpensYa
   module _ (format : Format) (some : (1 ≤ shape.buckets) × (shape.buckets ≤ most_buckets)) (few : (1 ≤ shape.passes) × (shape.passes ≤ most_actors)) (made : IsFresh disk format shape.slots)
       (callers : List (Option OpenCall)) (none : callers ≡ replicate shape.passes None) where
     abbrev first : Start
-    first = record { shape = shape; text = disk.seen }
+    first = record { bytewise = disk.bytewise; shape = shape; text = disk.seen }
 
     starts : IsStart first
     starts = record { buckets = some; passes = (few.0, omega (arith, few.1)); bytes = bytes_read; text = listed disk.seen shape.slots (members []) made.empty }
 
-    first_state : state_shown shape (Some over) None callers ≡ Up (opened_service shape disk.seen) (at_rest disk.seen)
+    first_state : state_shown shape (Some over) None callers ≡ Up (opened_service shape disk.seen) (at_rest disk.bytewise disk.seen)
     first_state = state_opened (members []) None callers made.empty none
 
     pub new_is : IsNew shape format (world_shown shape (Some over) None callers 0 false)
@@ -155,7 +155,7 @@ module _ (shape : Shape) (before : Past) (over : YardOver Past) (opens : OpensYa
         point = first_point first;
         reached = record { steps = []; starts = starts; runs = tt; point = refl };
         at = record { state = sym first_state; calls = refl };
-        quiet = subst IsBetweenLooks (sym first_state) (quiet_at_first shape disk.seen (at_rest disk.seen));
+        quiet = subst IsBetweenLooks (sym first_state) (quiet_at_first shape disk.seen (at_rest disk.bytewise disk.seen));
       };
     }
 
@@ -173,15 +173,15 @@ module _ (shape : Shape) (yard : Option (YardOver Past)) (disk : Option Past) (c
   pub no_service : yard ≡ None
   no_service = no_yard yard disk taken world.one is
 
-  pub state_was : state_shown shape yard disk callers ≡ Down shape (after taken.start taken.records)
+  pub state_was : state_shown shape yard disk callers ≡ Down shape (after taken.bytewise taken.start taken.records)
   state_was = ap (λ (y : Option (YardOver Past)). state_shown shape y disk callers) no_service ∙ ap (λ (d : Option Past). state_shown shape None d callers) is
 
-  pub ran_down : HasRun shape (Down shape (after taken.start taken.records)) calls
+  pub ran_down : HasRun shape (Down shape (after taken.bytewise taken.start taken.records)) calls
   ran_down = subst (λ (s : State). HasRun shape s calls) state_was world.ran
 
   -- where the disk was tripped, none opens
   module _ (tripped : Bool) (over : YardOver Past) (opens : OpensYard (device_of (armed tripped taken)) (device_of over.disk) shape.buckets shape.passes over.yard) (left : Option Past) (gone : left ≡ None)
-      (fresh : List (Option OpenCall)) (none : fresh ≡ replicate shape.passes None) (keys : List ℕ) (found : keys ≡ keys_found (after taken.start taken.records).seen over.yard.shape.slots) (ascend : AscendFrom 0 keys) where
+      (fresh : List (Option OpenCall)) (none : fresh ≡ replicate shape.passes None) (keys : List ℕ) (found : keys ≡ keys_found (after taken.bytewise taken.start taken.records).seen over.yard.shape.slots) (ascend : AscendFrom 0 keys) where
     pub reopened_world : IsWorld shape (Some over) left fresh calls
     reopened_world = open_world shape (armed tripped taken) over opens calls tripped left fresh none keys found (subst (HasOne (Some over)) (sym gone) tt) ran_down
 

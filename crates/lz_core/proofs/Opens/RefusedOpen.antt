@@ -58,21 +58,21 @@ module _ (shape : Shape) (yard : Option (YardOver Past)) (disk : Option Past) (c
 
   cause : (fault ≡ Device) ⊎ (fault ≡ Memory)
   cause =
-      let held = run_holds shape (after taken.start taken.records) calls (ran_down shape yard disk callers calls taken is world) in
-      held_is_opened (after taken.start taken.records).seen shape.slots held.0 fault held.1 (for.why refl)
+      let held = run_holds shape (after taken.bytewise taken.start taken.records) calls (ran_down shape yard disk callers calls taken is world) in
+      held_is_opened (after taken.bytewise taken.start taken.records).seen shape.slots held.0 fault held.1 (for.why refl)
 
   failure : IsOpenFailure (open_fault_number fault)
   failure = ⊎_elim (λ device. inl (ap open_fault_number device)) (λ memory. inr (ap open_fault_number memory)) cause
 
-  state_left : state_shown shape yard (Some left) callers ≡ Down shape (after left.start left.records)
+  state_left : state_shown shape yard (Some left) callers ≡ Down shape (after left.bytewise left.start left.records)
   state_left = ap (λ (y : Option (YardOver Past)). state_shown shape y (Some left) callers) (no_service shape yard disk callers calls taken is world)
 
   goes : (why : ℕ) → IsOpenFailure why → (done : Bool) × Goes before_it Open (OpenFails why done) (refused why ∷ []) after_it
   goes why number =
-      let down = refused_goes shape (after taken.start taken.records) (after left.start left.records) (for.medium refl) calls why tripped false number in (
+      let down = refused_goes shape (after taken.bytewise taken.start taken.records) (after left.bytewise left.start left.records) (for.medium refl) calls why tripped false number in (
         down.0,
         subst (λ (s : State). Goes before_it Open (OpenFails why down.0) (refused why ∷ []) (record { state = s; calls = calls; tripped = false })) (sym state_left)
-            (subst (λ (s : State). Goes (record { state = s; calls = calls; tripped = tripped }) Open (OpenFails why down.0) (refused why ∷ []) (record { state = Down shape (after left.start left.records); calls = calls; tripped = false }))
+            (subst (λ (s : State). Goes (record { state = s; calls = calls; tripped = tripped }) Open (OpenFails why down.0) (refused why ∷ []) (record { state = Down shape (after left.bytewise left.start left.records); calls = calls; tripped = false }))
             (sym (state_was shape yard disk callers calls taken is world)) down.1),
       )
 
@@ -83,7 +83,7 @@ module _ (shape : Shape) (yard : Option (YardOver Past)) (disk : Option Past) (c
     on_it = world.on_it;
     ran = let step = goes (open_fault_number fault) failure in
         subst (λ (s : State). HasRun shape s calls) (sym state_left)
-        (runs_on shape before_it (record { state = Down shape (after left.start left.records); calls = calls; tripped = false }) Open (OpenFails (open_fault_number fault) step.0) (refused (open_fault_number fault) ∷ []) world.ran
+        (runs_on shape before_it (record { state = Down shape (after left.bytewise left.start left.records); calls = calls; tripped = false }) Open (OpenFails (open_fault_number fault) step.0) (refused (open_fault_number fault) ∷ []) world.ran
         (subst (λ (s : State). Goes before_it Open (OpenFails (open_fault_number fault) step.0) (refused (open_fault_number fault) ∷ []) (record { state = s; calls = calls; tripped = false })) state_left step.1) tt);
   }
 

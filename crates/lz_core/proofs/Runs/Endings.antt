@@ -51,7 +51,7 @@ module _ (n : ℕ) where
   crash_may (Up service disk) t image = image
   crash_may (Down shape disk) t image = image
 
-  crash_to : (w : State) (t : List ℕ) → state_after n w (Crashes t) ≡ Down (shape_of w) (at_rest t)
+  crash_to : (w : State) (t : List ℕ) → state_after n w (Crashes t) ≡ Down (shape_of w) (at_rest (disk_of w).bytewise t)
   crash_to (Up service disk) t = refl
   crash_to (Down shape disk) t = refl
 
@@ -77,12 +77,12 @@ stops shape old new ran down calls = record {
   told = stop_told (suc old.calls) old.state;
 }
 
-pub crashes : (shape : Shape) (old new : WorldOver) (pick : Pick) → HasRun shape old.state old.calls → IsImage (disk_of old.state) (left_by pick (disk_of old.state)) → new.state ≡ Down shape (at_rest (left_by pick (disk_of old.state))) → new.calls ≡ old.calls
+pub crashes : (shape : Shape) (old new : WorldOver) (pick : Pick) → HasRun shape old.state old.calls → IsImage (disk_of old.state) (left_by pick (disk_of old.state)) → new.state ≡ Down shape (at_rest (disk_of old.state).bytewise (left_by pick (disk_of old.state))) → new.calls ≡ old.calls
     → Goes old (Crash pick) (Crashes (left_by pick (disk_of old.state))) (crashed ∷ []) new
 crashes shape old new pick ran image down calls = record {
   is = refl;
   may = crash_may 0 old.state (left_by pick (disk_of old.state)) image;
-  to = crash_to (suc old.calls) old.state (left_by pick (disk_of old.state)) ∙ ap (λ (s : Shape). Down s (at_rest (left_by pick (disk_of old.state)))) (shape_is shape old.state old.calls ran) ∙ sym down;
+  to = crash_to (suc old.calls) old.state (left_by pick (disk_of old.state)) ∙ ap (λ (s : Shape). Down s (at_rest (disk_of old.state).bytewise (left_by pick (disk_of old.state)))) (shape_is shape old.state old.calls ran) ∙ sym down;
   counts = sym calls;
   told = crash_told (suc old.calls) old.state (left_by pick (disk_of old.state));
 }

@@ -1,5 +1,5 @@
 -- Where one actor is alone, each text that a crash may leave holds a set that its calls lead to.
-use Rattle.std.proofs.Common.{◌≡◌, ◌≢◌, inl, inr, ℕ, suc, ◌≤◌, true, false, List, [], ◌∷◌, ◌++◌, length, Option, Some, None, refl, sym, ap, ◌∙◌, subst, arith}
+use Rattle.std.proofs.Common.{◌≡◌, ◌≢◌, inl, inr, ℕ, suc, ◌≤◌, Bool, true, false, List, [], ◌∷◌, ◌++◌, length, Option, Some, None, refl, sym, ap, ◌∙◌, subst, arith}
 use mathlib.Core.Bool.{false≢true}
 use Rattle.std.proofs.lemmas.Bool.{cases_Bool}
 use Rattle.std.proofs.lemmas.Option.{none-some}
@@ -325,8 +325,8 @@ opened_alone a calls shape t = record {
 }
 
 -- what an open read is its only image
-opened_texts : (a : ℕ) (shape : Shape) (t u : List ℕ) → MayLeave (Up (opened_service shape t) (at_rest t)) u → u ≡ t
-opened_texts a shape t u leaves = rest_image t u (only_images a (opened_service shape t) (at_rest t) (λ b other. pass_of shape.passes b None) (subst (IsQuietCall (opened_service shape t) a) (sym (pass_of shape.passes a None)) tt) u leaves)
+opened_texts : (a : ℕ) (shape : Shape) (b : Bool) (t u : List ℕ) → MayLeave (Up (opened_service shape t) (at_rest b t)) u → u ≡ t
+opened_texts a shape b t u leaves = rest_image t u (only_images a (opened_service shape t) (at_rest b t) (λ b other. pass_of shape.passes b None) (subst (IsQuietCall (opened_service shape t) a) (sym (pass_of shape.passes a None)) tt) u leaves)
 
 module _ (start : Start) (a : ℕ) (shape : Shape) (disk : Medium) (M : History) (P : Trace) (calls : ℕ) (sound : IsSound start (point (Down shape disk) M P calls)) (alone : AloneAt start a (point (Down shape disk) M P calls)) where
   abbrev down : Point
@@ -350,7 +350,7 @@ module _ (start : Start) (a : ℕ) (shape : Shape) (disk : Medium) (M : History)
           let was = h.1 disk.seen read_image in
           let holds : Holds disk.seen start.shape.slots (members (keys_found disk.seen shape.slots)) = subst (λ (s : Shape). Holds disk.seen s.slots (members (keys_found disk.seen shape.slots))) sound.0 may in (
             opened_alone a calls shape disk.seen,
-            (λ t leaves. (members (keys_found disk.seen shape.slots), subst (λ (u : List ℕ). Holds u start.shape.slots (members (keys_found disk.seen shape.slots))) (sym (opened_texts a shape disk.seen t leaves)) holds, λ k. refl)),
+            (λ t leaves. (members (keys_found disk.seen shape.slots), subst (λ (u : List ℕ). Holds u start.shape.slots (members (keys_found disk.seen shape.slots))) (sym (opened_texts a shape disk.bytewise disk.seen t leaves)) holds, λ k. refl)),
             (served_same life.history life.start was.0 (members (keys_found disk.seen shape.slots)) (one_set disk.seen start.shape.slots was.0 (members (keys_found disk.seen shape.slots)) was.1 holds) was.2, h.2),
           )
 
@@ -375,7 +375,7 @@ step_alone start a (Down shape disk) M P calls step own may sound alone sound' =
 pub reached_alone : (start : Start) (steps : List Transition) (a : ℕ) → IsStart start → IsRun (first_point start) steps → IsAlone a steps → AloneAt start a (run (first_point start) steps)
 reached_alone start [] a is runs alone = (
   opened_alone a 0 start.shape start.text,
-  (λ t leaves. (start_keys start, subst (λ (u : List ℕ). Holds u start.shape.slots (start_keys start)) (sym (opened_texts a start.shape start.text t leaves)) is.text, λ k. refl)),
+  (λ t leaves. (start_keys start, subst (λ (u : List ℕ). Holds u start.shape.slots (start_keys start)) (sym (opened_texts a start.shape start.bytewise start.text t leaves)) is.text, λ k. refl)),
   tt,
 )
 reached_alone start (step ∷ steps) a is runs alone =

@@ -166,7 +166,7 @@ full_step start a (Down shape disk) M P calls (OpenFails why false) own may (lif
 
 -- at each point that is reached
 pub reached_full : (start : Start) (steps : List Transition) (a : ℕ) → IsStart start → IsRun (first_point start) steps → IsAlone a steps → FullAt a (run (first_point start) steps).state (run (first_point start) steps).trace
-reached_full start [] a is runs alone = opened_full a start.shape start.text (first_trace start.shape start.text) (at_rest start.text)
+reached_full start [] a is runs alone = opened_full a start.shape start.text (first_trace start.shape start.text) (at_rest start.bytewise start.text)
 reached_full start (step ∷ steps) a is runs alone =
     let p = run (first_point start) steps in
     full_step start a p.state p.marks p.trace p.calls step alone.0 runs.0 (lives (start_keys start) p.marks) (reached_sound start steps is runs.1) (reached_full start steps a is runs.1 alone.1)

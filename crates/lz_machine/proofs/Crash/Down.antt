@@ -1,5 +1,5 @@
 -- What is kept where no service is open: after a stop, after a crash and after an open that is refused, each image has a list.
-use Rattle.std.proofs.Common.{◌≡◌, ℕ, Bool, true, false, List, [], ◌∷◌, refl, sym, ◌∙◌, subst, arith}
+use Rattle.std.proofs.Common.{◌≡◌, inl, ℕ, Bool, true, false, List, [], ◌∷◌, refl, sym, ◌∙◌, subst, arith}
 use Rattle.std.proofs.lemmas.Grind.{same_number_lists}
 use Rattle.lz_slot.specs.Histories.{History, Life, lives}
 use Rattle.lz_disk.specs.Images.{Medium, AreBytes, IsImage, at_rest, synced}
@@ -12,16 +12,16 @@ use Rattle.lz_machine.proofs.Steps.Trip.{point}
 use Rattle.lz_machine.proofs.Crash.Image.{images_fit}
 
 -- a disk of which nothing is loose has one image
-pub rest_image : (t u : List ℕ) → IsImage (at_rest t) u → u ≡ t
+pub rest_image : {b : Bool} (t u : List ℕ) → IsImage (at_rest b t) u → u ≡ t
 rest_image t u image = same_number_lists u t (omega (arith, image.no_shorter, image.no_longer)) (λ i lt. image.sure i (omega (arith, lt, image.no_longer)) refl)
 
-rest_itself : (t : List ℕ) → AreBytes t → IsImage (at_rest t) t
-rest_itself t bytes = record { bytes = bytes; no_shorter = omega arith; no_longer = omega arith; sure = λ i lt off. refl }
+rest_itself : (b : Bool) (t : List ℕ) → AreBytes t → IsImage (at_rest b t) t
+rest_itself b t bytes = record { bytes = bytes; no_shorter = omega arith; no_longer = omega arith; sure = λ i lt off. refl; each = λ on i lt. inl refl }
 
 -- where no service is open, and the disk rests on a text that has a list
-pub at_rest_sound : (shape : Shape) (life : Life) (P : Trace) (t : List ℕ) → AreBytes t → HasList shape.slots life P t → DownSound shape (at_rest t) life P
-at_rest_sound shape life P t bytes has = record {
-  sound = record { sure = rest_itself t bytes; seen = rest_itself t bytes };
+pub at_rest_sound : (b : Bool) (shape : Shape) (life : Life) (P : Trace) (t : List ℕ) → AreBytes t → HasList shape.slots life P t → DownSound shape (at_rest b t) life P
+at_rest_sound b shape life P t bytes has = record {
+  sound = record { sure = rest_itself b t bytes; seen = rest_itself b t bytes };
   each = λ u image. subst (HasList shape.slots life P) (sym (rest_image t u image)) has;
 }
 
@@ -30,8 +30,8 @@ pub down_of_up : (n calls : ℕ) (service : Service) (disk : Medium) (life : Lif
 down_of_up n calls service disk life P notes up = record { sound = up.sound.images.keeps.sound; each = images_fit n calls service disk life P notes up }
 
 -- a crash leaves one of the images
-pub crashed : (shape : Shape) (disk : Medium) (life : Life) (P : Trace) (t : List ℕ) → IsImage disk t → DownSound shape disk life P → DownSound shape (at_rest t) life P
-crashed shape disk life P t image down = at_rest_sound shape life P t image.bytes (down.each t image)
+pub crashed : (shape : Shape) (disk : Medium) (life : Life) (P : Trace) (t : List ℕ) → IsImage disk t → DownSound shape disk life P → DownSound shape (at_rest disk.bytewise t) life P
+crashed shape disk life P t image down = at_rest_sound disk.bytewise shape life P t image.bytes (down.each t image)
 
 -- a sync makes the text as read the only image
 pub down_synced : (shape : Shape) (disk : Medium) (life : Life) (P : Trace) → DownSound shape disk life P → DownSound shape (synced disk) life P

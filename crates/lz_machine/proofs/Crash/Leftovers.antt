@@ -162,7 +162,7 @@ module _ (turn_keeps : (start : Start) (a : ℕ) (service : Service) (disk : Med
     where
       go : (L : List Life) → PointSound start (point (Up service disk) M P calls) L → IsLeft (point (Up service disk) M P calls) t L → PointSound start (point_after (point (Up service disk) M P calls) (CrashesIn a t)) L
       go [] h left = absurd h
-      go (life ∷ earlier) h left = (h.0, h.1, at_rest_sound service.yard.shape life P t (inside_bytes a service disk (caller_at service.callers a) t may) left.1)
+      go (life ∷ earlier) h left = (h.0, h.1, at_rest_sound disk.bytewise service.yard.shape life P t (inside_bytes a service disk (caller_at service.callers a) t may) left.1)
 
   -- a text that a crash may leave has a list
   pub may_leave_has : (start : Start) (w : State) (M : History) (P : Trace) (calls : ℕ) (t : List ℕ) → IsSound start (point w M P calls) → MayLeave w t → IsLeft (point w M P calls) t (lives (start_keys start) M)

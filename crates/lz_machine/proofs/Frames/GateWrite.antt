@@ -56,7 +56,7 @@ module _ (shape : Shape) (vault : Vaulted) (disk : Medium) (images : DiskSound s
     keeps = written_keeps vault.format vault.cells disk (16 + 16 * s) (gate ∷ []) s new (one_byte gate small) within (omega arith) (omega arith) body_then keeps (reads new.key _ (gate_reads vault.format vault.cells false disk keeps s within (16 + 16 * s) gate refl));
   }
 
-  pub gate_failed : (syncs : ℕ) (medium : Medium) → (medium ≡ disk) ⊎ WriteFailed disk (16 + 16 * s) 1 medium → DiskSound shape (record vault { cells = cells'; syncs = syncs; dead = true }) medium
+  pub gate_failed : (syncs : ℕ) (medium : Medium) → (medium ≡ disk) ⊎ WriteFailed disk (16 + 16 * s) (gate ∷ []) medium → DiskSound shape (record vault { cells = cells'; syncs = syncs; dead = true }) medium
   gate_failed syncs medium may = record {
     slots = images.slots;
     count = length-set vault.cells s new ∙ images.count;

@@ -69,7 +69,7 @@ module _ (shape : Shape) (vault : Vaulted) (disk : Medium) (images : DiskSound s
   }
 
   -- the write fails
-  pub key_failed : (syncs : ℕ) (medium : Medium) → (medium ≡ disk) ⊎ WriteFailed disk (17 + 16 * s) 15 medium → DiskSound shape (record vault { cells = slice_set vault.cells s key_cell; syncs = syncs; dead = true }) medium
+  pub key_failed : (syncs : ℕ) (medium : Medium) → (medium ≡ disk) ⊎ WriteFailed disk (17 + 16 * s) (slot_body k) medium → DiskSound shape (record vault { cells = slice_set vault.cells s key_cell; syncs = syncs; dead = true }) medium
   key_failed syncs medium may = record {
     slots = images.slots;
     count = length-set vault.cells s key_cell ∙ images.count;

@@ -1,5 +1,5 @@
 -- What holds of slots, locks and actors after a gate was opened.
-use Rattle.std.proofs.Common.{◌≡◌, ◌≢◌, ◌⊎◌, inl, inr, ℕ, suc, ◌<◌, ◌≤◌, ◌+◌, ◌*◌, ◌==◌, Bool, true, false, List, ◌∷◌, length, Option, Some, None, refl, sym, ap, ◌∙◌, subst, arith}
+use Rattle.std.proofs.Common.{◌≡◌, ◌≢◌, ◌⊎◌, inl, inr, ℕ, suc, ◌<◌, ◌≤◌, ◌+◌, ◌*◌, ◌==◌, Bool, true, false, List, [], ◌∷◌, length, Option, Some, None, refl, sym, ap, ◌∙◌, subst, arith}
 use mathlib.Core.Bool.{false≢true}
 use Rattle.std.specs.Prelude.{slice_set}
 use Rattle.std.proofs.lemmas.Bool.{cases_eq}
@@ -167,7 +167,7 @@ module _ (n calls : ℕ) (y : Yard) (callers : List (Option Caller)) (disk : Med
     }
 
   -- The turn in which the write fails: the vault dies, no word is changed, and the gate may be opened.
-  pub write_open_fails_keeps : y.vault.dead ≡ false → (medium : Medium) → (medium ≡ disk) ⊎ WriteFailed disk (16 + 16 * s) 1 medium
+  pub write_open_fails_keeps : y.vault.dead ≡ false → (medium : Medium) → (medium ≡ disk) ⊎ WriteFailed disk (16 + 16 * s) (open_byte ∷ []) medium
       → Sound n calls (with_vault y (record y.vault { cells = slice_set y.vault.cells s (record { stage = Opening; key = (cell_in y.vault.cells s).key }); dead = true })) (moving callers a (call_at i (Add k) (Playing (Adding s) 0)) (halts Device)) medium M P notes
   write_open_fails_keeps alive medium may =
       open_sound true alive (actor_in y.actors a) y.actors refl refl (λ b other. refl) refl (ap (opens true) h.0) (ap shuts h.0) (ap has_removed_node h.0) (halts Device) refl medium

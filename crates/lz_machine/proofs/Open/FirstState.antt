@@ -1,5 +1,5 @@
 -- An open begins a sound life: its yard, its disk and its trace show the keys that it found, and nothing is under way.
-use Rattle.std.proofs.Common.{◌≡◌, ◌≢◌, ◌⊎◌, inl, inr, ⊎_elim, ℕ, zero, suc, ◌+◌, ◌*◌, ◌<◌, ◌≤◌, true, false, List, [], ◌∷◌, length, get_or, take, map, replicate, Option, Some, None, refl, sym, ap, ◌∙◌, subst, arith}
+use Rattle.std.proofs.Common.{◌≡◌, ◌≢◌, ◌⊎◌, inl, inr, ⊎_elim, ℕ, zero, suc, ◌+◌, ◌*◌, ◌<◌, ◌≤◌, Bool, true, false, List, [], ◌∷◌, length, get_or, take, map, replicate, Option, Some, None, refl, sym, ap, ◌∙◌, subst, arith}
 use mathlib.Core.Bool.{false≢true}
 use Rattle.std.specs.Prelude.{slice_get}
 use Rattle.std.proofs.lemmas.Bool.{cases_Bool, cases_lt}
@@ -137,9 +137,9 @@ module _ (shape : Shape) (t : List ℕ) (found : Keys) (some : 1 ≤ shape.bucke
   cell_there : (i : ℕ) (cell : Cell) → slice_get cells i ≡ Some cell → cell_read (slot_at t i) ≡ cell
   cell_there i cell there = sym (cell_is i (within i cell there)) ∙ get_or_from_slice_get cells i cell no_cell there
 
-  keeps : Keeps (format_of t) cells false (at_rest t)
-  keeps = record {
-    sound = synced_sound (at_rest t) bytes;
+  keeps : (b : Bool) → Keeps (format_of t) cells false (at_rest b t)
+  keeps b = record {
+    sound = synced_sound (at_rest b t) bytes;
     vouches = record {
       size = λ c image. ap length (is c image) ∙ holds.size ∙ ap (λ (n : ℕ). 16 + 16 * n) (sym count);
       head = λ c image. ap (take 16) (is c image) ∙ holds.head ∙ ap (λ (n : ℕ). open_byte ∷ header_body (format_of t) n) (sym count);
@@ -148,20 +148,20 @@ module _ (shape : Shape) (t : List ℕ) (found : Keys) (some : 1 ≤ shape.bucke
     reads = λ live i cell there. subst (λ (q : Cell). Reads q.stage q.key (slot_bytes t i)) (cell_there i cell there) (read_reads (slot_at t i) (slot_bytes t i));
   }
     where
-      is : (c : List ℕ) → IsImage (at_rest t) c → c ≡ t
-      is c image = synced_image (at_rest t) c image
+      is : (c : List ℕ) → IsImage (at_rest b t) c → c ≡ t
+      is c image = synced_image (at_rest b t) c image
 
       says : (i : ℕ) (cell : Cell) → slice_get cells i ≡ Some cell → Says cell.stage cell.key (slot_bytes t i)
       says i cell there =
           let lt = within i cell there in
           subst (λ (q : Cell). Says q.stage q.key (slot_bytes t i)) (cell_there i cell there) (read_says (format_of t) (slot_at t i) (slot_bytes t i) refl (holds.no_bad_key i lt) (long i lt) (slot_fits t i bytes))
 
-  images : DiskSound shape (opened_yard shape t).vault (at_rest t)
-  images = record {
+  images : (b : Bool) → DiskSound shape (opened_yard shape t).vault (at_rest b t)
+  images b = record {
     slots = holds.count;
     count = count;
     keys = λ i cell there. subst (λ (q : Cell). q.key ≤ largest_of (format_of t)) (cell_there i cell there) (read_key (format_of t) (slot_at t i) (slot_bytes t i) refl);
-    keeps = keeps;
+    keeps = keeps b;
   }
 
   -- the slots
@@ -333,12 +333,12 @@ module _ (shape : Shape) (t : List ℕ) (found : Keys) (some : 1 ≤ shape.bucke
         );
   }
 
-  pub opened_up : (calls : ℕ) → UpSound (length P) calls (opened_service shape t) (at_rest t) (record { start = found; history = [] }) P notes
-  opened_up calls = record {
+  pub opened_up : (b : Bool) (calls : ℕ) → UpSound (length P) calls (opened_service shape t) (at_rest b t) (record { start = found; history = [] }) P notes
+  opened_up b calls = record {
     began = began;
     sound = record {
       trace = trace;
-      images = images;
+      images = images b;
       slots = slots;
       locks = locks;
       callers = all_wait;

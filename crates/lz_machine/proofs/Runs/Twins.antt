@@ -129,10 +129,10 @@ module _ (a : ℕ) where
       }
       follows_apart Trips others may = record { may = tt; next = apart y disk one other count rest; left_is = refl; right_is = refl; marks = refl; trace = refl; outcome = refl }
       follows_apart Stops others may = record { may = tt; next = same (Down y.shape disk); left_is = refl; right_is = refl; marks = refl; trace = refl; outcome = refl }
-      follows_apart (Crashes t) others may = record { may = may; next = same (Down y.shape (at_rest t)); left_is = refl; right_is = refl; marks = refl; trace = refl; outcome = refl }
+      follows_apart (Crashes t) others may = record { may = may; next = same (Down y.shape (at_rest disk.bytewise t)); left_is = refl; right_is = refl; marks = refl; trace = refl; outcome = refl }
       follows_apart (CrashesIn b t) others may = record {
         may = subst (λ (q : Option Caller). LeftInside (serving y other) disk b q t) (rest b (off b others)) (left_inside n P b t (caller_at one b) may);
-        next = same (Down y.shape (at_rest t));
+        next = same (Down y.shape (at_rest disk.bytewise t));
         left_is = refl;
         right_is = refl;
         marks = refl;

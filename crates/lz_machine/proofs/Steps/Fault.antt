@@ -1,10 +1,11 @@
 -- A turn whose device call fails keeps the invariant of an open service.
-use Rattle.std.proofs.Common.{◌≡◌, ◌⊎◌, inl, inr, ℕ, zero, suc, ◌+◌, ◌*◌, if◌then◌else◌, Bool, true, false, List, [], Option, Some, None, refl, sym, ap, subst}
+use Rattle.std.proofs.Common.{◌≡◌, ◌⊎◌, inl, inr, ℕ, zero, suc, ◌+◌, ◌*◌, if◌then◌else◌, Bool, true, false, List, [], ◌∷◌, Option, Some, None, refl, sym, ap, subst}
 use Rattle.std.specs.Prelude.{unwrap_or, slice_set}
 use Rattle.std.proofs.lemmas.Bool.{cases_Bool}
 use Rattle.lz_slot.specs.declared.command.Command.{Command}
 use Rattle.lz_slot.specs.declared.command.Command.TheVariants.{Add, Remove}
 use Rattle.lz_slot.specs.Sets.{Keys, key_of}
+use Rattle.lz_slot.specs.Bytes.{closed_byte, open_byte, slot_body}
 use Rattle.lz_slot.specs.Histories.{History}
 use Rattle.lz_disk.specs.Images.{Medium, WriteFailed}
 use Rattle.lz_vault.specs.declared.vault.Stage.TheVariants.{KeyLoose, Opening, Closing}
@@ -76,21 +77,21 @@ module _ (n calls : ℕ) (y : Yard) (callers : List (Option Caller)) (disk : Med
   key_fault c s is new may = faulted c (Playing (Writing s) 0) is refl (WriteKey (key_of c)) refl new may (λ alive fails.
       let mine : s ≡ slot_of (actor_at y a) = sym (ap (λ (q : Option ℕ). unwrap_or q 0) (known c (Playing (Writing s) 0) is).1) in
       subst (λ (q : ℕ). Sound n calls (with_vault y (record y.vault { cells = slice_set y.vault.cells q (record { stage = KeyLoose; key = key_of c }); dead = true })) (moving callers a (call_at i c (Playing (Writing s) 0)) (halts Device)) new M P notes) mine
-      (write_key_fails_keeps n calls y callers disk M P notes up.sound a i c s is alive new (subst (λ (q : ℕ). (new ≡ disk) ⊎ WriteFailed disk (17 + 16 * q) 15 new) (sym mine) fails)))
+      (write_key_fails_keeps n calls y callers disk M P notes up.sound a i c s is alive new (subst (λ (q : ℕ). (new ≡ disk) ⊎ WriteFailed disk (17 + 16 * q) (slot_body (key_of c)) new) (sym mine) fails)))
 
   -- the write that opens a gate fails
   open_fault : (k s : ℕ) → IsAt (Add k) (Playing (Adding s) 0) → Faults (Add k) (Playing (Adding s) 0)
   open_fault k s is new may = faulted (Add k) (Playing (Adding s) 0) is refl WriteOpen refl new may (λ alive fails.
       let mine : s ≡ slot_of (actor_at y a) = sym (ap (λ (q : Option ℕ). unwrap_or q 0) (known (Add k) (Playing (Adding s) 0) is).1.slot) in
       subst (λ (q : ℕ). Sound n calls (with_vault y (record y.vault { cells = slice_set y.vault.cells q (record { stage = Opening; key = (cell_in y.vault.cells q).key }); dead = true })) (moving callers a (call_at i (Add k) (Playing (Adding s) 0)) (halts Device)) new M P notes) mine
-      (write_open_fails_keeps n calls y callers disk M P notes up.sound a i k s is alive new (subst (λ (q : ℕ). (new ≡ disk) ⊎ WriteFailed disk (16 + 16 * q) 1 new) (sym mine) fails)))
+      (write_open_fails_keeps n calls y callers disk M P notes up.sound a i k s is alive new (subst (λ (q : ℕ). (new ≡ disk) ⊎ WriteFailed disk (16 + 16 * q) (open_byte ∷ []) new) (sym mine) fails)))
 
   -- the write that closes a gate fails
   close_fault : (k s : ℕ) → IsAt (Remove k) (Playing (Removing s) 0) → Faults (Remove k) (Playing (Removing s) 0)
   close_fault k s is new may = faulted (Remove k) (Playing (Removing s) 0) is refl WriteClose refl new may (λ alive fails.
       let mine : s ≡ node_of (actor_at y a) = sym (ap (λ (q : Option ℕ). unwrap_or q 0) (known (Remove k) (Playing (Removing s) 0) is).0) in
       subst (λ (q : ℕ). Sound n calls (with_vault y (record y.vault { cells = slice_set y.vault.cells q (record { stage = Closing; key = (cell_in y.vault.cells q).key }); dead = true })) (moving callers a (call_at i (Remove k) (Playing (Removing s) 0)) (halts Device)) new M P notes) mine
-      (write_close_fails_keeps n calls y callers disk M P notes up.sound a i k s is alive new (subst (λ (q : ℕ). (new ≡ disk) ⊎ WriteFailed disk (16 + 16 * q) 1 new) (sym mine) fails)))
+      (write_close_fails_keeps n calls y callers disk M P notes up.sound a i k s is alive new (subst (λ (q : ℕ). (new ≡ disk) ⊎ WriteFailed disk (16 + 16 * q) (closed_byte ∷ []) new) (sym mine) fails)))
 
   -- a sync fails, and leaves the disk
   sync_fault : (c : Command) (at : Progress) → IsAt c at → reply_at at ≡ None → is_before_pin at ≡ false → (s : ℕ) (new : Medium) → MayFail (line_call y a (Sync s)) disk new

@@ -227,7 +227,7 @@ module _ (n calls : ℕ) (y : Yard) (callers : List (Option Caller)) (disk : Med
       (record { quiet = me.quiet; begins = me.begins; stands = (me.stands.0, me.stands.1, (h.0, h.1, (refl, h.2.1, h.2.2))) }))
 
   -- where the write fails, the vault dies, and the gate may be closed
-  pub write_close_fails_keeps : (medium : Medium) → (medium ≡ disk) ⊎ WriteFailed disk (16 + 16 * s) 1 medium
+  pub write_close_fails_keeps : (medium : Medium) → (medium ≡ disk) ⊎ WriteFailed disk (16 + 16 * s) (closed_byte ∷ []) medium
       → Sound n calls (with_vault y (record y.vault { cells = cells'; dead = true })) (moving callers a (call_at i (Remove k) at) (halts Device)) medium M P notes
   write_close_fails_keeps medium may =
       closed_sound true (actor_at y a) y.actors refl refl (λ b other. refl) h.0 refl (ap (closes true) h.2.0) (ap unlocks h.2.0) (ap has_removed_node h.2.0) (halts Device) refl medium

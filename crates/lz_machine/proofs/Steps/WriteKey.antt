@@ -272,7 +272,7 @@ module _ (n calls : ℕ) (y : Yard) (callers : List (Option Caller)) (disk : Med
       (moving callers a (call_at i c (Playing (Writing s) 0)) (Playing (Writing s) 1)) (written disk (17 + 16 * q) (slot_body (key_of c))) M (key_prepared q (key_of c) ∷ P) notes) mine keyed_sound
 
   -- the turn in which the write fails: the vault dies, and no word is changed
-  pub write_key_fails_keeps : (medium : Medium) → (medium ≡ disk) ⊎ WriteFailed disk (17 + 16 * s) 15 medium
+  pub write_key_fails_keeps : (medium : Medium) → (medium ≡ disk) ⊎ WriteFailed disk (17 + 16 * s) (slot_body (key_of c)) medium
       → Sound n calls (with_vault y (vault_put true)) (moving callers a (call_at i c (Playing (Writing s) 0)) (halts Device)) medium M P notes
   write_key_fails_keeps medium may =
       goes_on_keeps n calls (with_vault y (vault_put true)) callers medium M P notes a i c (Playing (Writing s) 0) is

@@ -325,7 +325,7 @@ step_seen start (Down shape disk) M P calls (OpenFails why true) ms may (life �
 step_seen start (Down shape disk) M P calls (OpenFails why false) ms may (life ∷ earlier) sound h = tt
 
 reached_seen : (start : Start) (steps : List Transition) → IsStart start → IsRun (first_point start) steps → SeenAt (run (first_point start) steps).state (moments (first_point start) steps)
-reached_seen start [] is runs = opened_seen start.shape start.text (at_rest start.text) (moments (first_point start) [])
+reached_seen start [] is runs = opened_seen start.shape start.text (at_rest start.bytewise start.text) (moments (first_point start) [])
 reached_seen start (step ∷ steps) is runs =
     let p = run (first_point start) steps in
     step_seen start p.state p.marks p.trace p.calls step (moments (first_point start) steps) runs.0 (lives (start_keys start) p.marks) (reached_sound start steps is runs.1) (reached_seen start steps is runs.1)

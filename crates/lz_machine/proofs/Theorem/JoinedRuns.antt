@@ -20,7 +20,7 @@ left_bytes (Up service disk) t (inr (a, left)) = inside_bytes a service disk (ca
 left_bytes (Down shape disk) t image = image.bytes
 
 pub left_is_start : LeftIsStart
-left_is_start start w M P t buckets passes reached leaves some few =
+left_is_start start w M P t bytewise buckets passes reached leaves some few =
     let held = every_history start w M P t reached leaves in
     record {
       buckets = some;

@@ -258,7 +258,7 @@ down_halts i shape disk M P h (OpenFails why false) may = record { lasts = (tt, 
 down_halts i shape disk M P h _ may = absurd may
 
 run_halts : (start : Start) (steps : List Transition) → IsStart start → IsRun (first_point start) steps → Halts (run (first_point start) steps).state (run (first_point start) steps).marks (run (first_point start) steps).trace
-run_halts start [] starts runs = record { lasts = tt; cut = λ cut. absurd (false≢true cut); late = none_late start.shape start.text (at_rest start.text) [] (first_trace start.shape start.text) }
+run_halts start [] starts runs = record { lasts = tt; cut = λ cut. absurd (false≢true cut); late = none_late start.shape start.text (at_rest start.bytewise start.text) [] (first_trace start.shape start.text) }
 run_halts start (step ∷ steps) starts runs = go p.state refl runs.0 (run_halts start steps starts runs.1)
   where
     p : Point

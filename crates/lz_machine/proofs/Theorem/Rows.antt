@@ -91,7 +91,7 @@ unfolding bucket_of
 words_reopened = refl
 
 abbrev two_buckets : Start
-two_buckets = record { shape = record { slots = 3; buckets = 2; passes = 2 }; text = made_text One 3 }
+two_buckets = record { bytewise = false; shape = record { slots = 3; buckets = 2; passes = 2 }; text = made_text One 3 }
 
 -- three keys in two buckets, after an open: 4 and 8 in the first, 5 in the second
 words_two_buckets : words_of_state (play two_buckets

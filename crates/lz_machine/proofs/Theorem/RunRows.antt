@@ -172,10 +172,10 @@ follows start next steps more starts runs starts' runs' is =
 -- one may begin so
 may_begin : (start : Start) (steps : List Transition) (starts : IsStart start) (runs : IsRun (first_point start) steps) (t : List ℕ) (buckets passes : ℕ)
     → (disk_of (run (first_point start) steps).state).seen ≡ t → (1 ≤ buckets) × (buckets ≤ most_buckets) → (1 ≤ passes) × (passes ≤ most_passes)
-    → IsStart (record { shape = record { slots = start.shape.slots; buckets = buckets; passes = passes }; text = t })
+    → IsStart (record { bytewise = false; shape = record { slots = start.shape.slots; buckets = buckets; passes = passes }; text = t })
 may_begin start steps starts runs t buckets passes is some few =
     let p = run (first_point start) steps in
-    left_is_start start p.state p.marks p.trace t buckets passes (record { steps = steps; starts = starts; runs = runs; state = refl; marks = refl; trace = refl })
+    left_is_start start p.state p.marks p.trace t false buckets passes (record { steps = steps; starts = starts; runs = runs; state = refl; marks = refl; trace = refl })
     (image_left p.state t (subst (IsImage (disk_of p.state)) is (run_sound start steps starts runs).seen)) some few
 
 -- where nobody calls, what doesn't follow
@@ -187,7 +187,7 @@ follows_idle start next steps more starts runs starts' runs' n idle left = idle_
 
 -- what one_add leaves, in two buckets with three passes, and in 4,096 with one
 abbrev later : ℕ → ℕ → Start
-later buckets passes = record { shape = record { slots = 1; buckets = buckets; passes = passes }; text = with_slot open_byte 9 }
+later buckets passes = record { bytewise = false; shape = record { slots = 1; buckets = buckets; passes = passes }; text = with_slot open_byte 9 }
 
 later_starts : (buckets passes : ℕ) → (1 ≤ buckets) × (buckets ≤ most_buckets) → (1 ≤ passes) × (passes ≤ most_passes) → IsStart (later buckets passes)
 unfolding bucket_of

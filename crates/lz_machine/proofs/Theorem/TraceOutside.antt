@@ -217,7 +217,7 @@ out_now p (step ∷ steps) b out = ap (λ (q : Bool). if q then (run p (step ∷
 
 reached_tied : (start : Start) (steps : List Transition) → IsStart start → IsRun (first_point start) steps
     → TiedAt (run (first_point start) steps).calls (run (first_point start) steps).trace (run (first_point start) steps).state (trace_outside (first_point start) steps)
-reached_tied start [] is runs = opened_tied start (first_point start) start.shape start.text (at_rest start.text) (trace_outside (first_point start) []) (reached_sound start [] is runs) refl
+reached_tied start [] is runs = opened_tied start (first_point start) start.shape start.text (at_rest start.bytewise start.text) (trace_outside (first_point start) []) (reached_sound start [] is runs) refl
 reached_tied start (step ∷ steps) is runs =
     let p = run (first_point start) steps in
     step_tied start p.state p step (trace_outside (first_point start) steps) refl runs.0 (out_now (first_point start) steps) (reached_tied start steps is runs.1) (reached_sound start (step ∷ steps) is runs)

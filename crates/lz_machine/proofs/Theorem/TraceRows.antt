@@ -18,7 +18,7 @@ use Rattle.lz_list.specs.Traces.{is_removed, linking, Trace, SettledYes, Settled
 use Rattle.lz_machine.specs.Runs.{Start, State, Up, Down, Transition, Calls, Turn, Fails, Trips, Stops, Crashes, CrashesIn, Opens, Point, first_point, point_after, run, made_text, caller_at, next_event, disk_of}
 
 abbrev pub fresh : ℕ → ℕ → Start
-fresh slots passes = record { shape = record { slots = slots; buckets = 1; passes = passes }; text = made_text One slots }
+fresh slots passes = record { bytewise = false; shape = record { slots = slots; buckets = 1; passes = passes }; text = made_text One slots }
 
 abbrev pub turns : ℕ → ℕ → List Transition
 turns a n = replicate n (Turn a)
@@ -58,7 +58,7 @@ unfolding bucket_of
 fifteen_events = refl
 
 -- a key of another room, in a file of format 2
-row_of_room : seen_after (record { shape = record { slots = 1; buckets = 1; passes = 64 }; text = made_text Two 1 }) (Calls 1 (Add 3000000000000000017) ∷ turns 1 15)
+row_of_room : seen_after (record { bytewise = false; shape = record { slots = 1; buckets = 1; passes = 64 }; text = made_text Two 1 }) (Calls 1 (Add 3000000000000000017) ∷ turns 1 15)
     ≡ (open_byte ∷ header_body Two 1) ++ open_byte ∷ 3 ∷ replicate 13 0 ++ 17 ∷ []
 unfolding bucket_of
 row_of_room = refl

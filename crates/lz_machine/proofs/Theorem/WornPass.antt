@@ -344,7 +344,7 @@ step_fits looks start (Up service disk) M P calls i step sound may fits =
 step_fits looks start (Down shape disk) M P calls i step sound may fits = down_fits looks i shape disk step may
 
 pub run_fits : (start : Start) (steps : List Transition) → IsStart start → IsRun (first_point start) steps → AllFit (list_any is_look steps) (run (first_point start) steps).state
-run_fits start [] is runs = opened_fits false start.shape start.text (at_rest start.text)
+run_fits start [] is runs = opened_fits false start.shape start.text (at_rest start.bytewise start.text)
 run_fits start (step ∷ steps) is runs =
     let before = run (first_point start) steps in
     step_fits (list_any is_look steps) start before.state before.marks before.trace before.calls (suc before.calls) step (reached_sound start steps is runs.1) runs.0 (run_fits start steps is runs.1)

@@ -1,5 +1,5 @@
 -- A text that holds the set which an open read explains what was seen before the first call.
-use Rattle.std.proofs.Common.{◌≡◌, ℕ, List, [], refl, sym, ap, ◌∙◌, subst, le_refl}
+use Rattle.std.proofs.Common.{◌≡◌, inl, ℕ, List, [], refl, sym, ap, ◌∙◌, subst, le_refl}
 use Rattle.std.proofs.lemmas.List.{append-nil}
 use Rattle.std.specs.Prelude.{IsTrue}
 use Rattle.lz_slot.specs.Sets.{Keys}
@@ -36,11 +36,11 @@ module _ (b : BoardId) (before after : Device) (buckets passes : ℕ) (y : Yard)
   begins = trace ∙ (opens_text y.shape read y.words opens.first.2.text.no_key_twice (ap (λ (x : Yard). x.words) opens.first.3)).1
 
   -- the text that was read, which nothing may leave otherwise
-  itself : IsImage (at_rest read) read
-  itself = record { bytes = opens.first.2.bytes; no_shorter = le_refl _; no_longer = le_refl _; sure = λ i low sure. refl }
+  itself : IsImage (at_rest before.medium.bytewise read) read
+  itself = record { bytes = opens.first.2.bytes; no_shorter = le_refl _; no_longer = le_refl _; sure = λ i low sure. refl; each = λ on i low. inl refl }
 
   first_explains : Explains b [] read
-  first_explains = explained b [] (record { shape = y.shape; text = read }) [] sizes opens.first.2 tt refl begins (opened_service y.shape read) (at_rest read) refl read itself
+  first_explains = explained b [] (record { bytewise = before.medium.bytewise; shape = y.shape; text = read }) [] sizes opens.first.2 tt refl begins (opened_service y.shape read) (at_rest before.medium.bytewise read) refl read itself
 
   -- so each text that might have been left before the open explains no calls, where each holds the set that was read
   pub same_set_explains : (ns : List Note) → IsTrue before.honest → (S : Keys) → Holds before.medium.seen b.sizes.slots S → (t : List ℕ) → Holds t b.sizes.slots S → ExplainsBegun b ns t

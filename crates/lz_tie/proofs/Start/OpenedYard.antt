@@ -26,7 +26,7 @@ use Rattle.lz_tie.specs.Holds.{sizes_of, IsLocked}
 use Rattle.lz_tie.specs.Reuse.{UseTold, ReuseTold}
 use Rattle.lz_tie.proofs.Hold.NoteCondition.{sound, tied_loose}
 
-module _ (y : Yard) (t : List ℕ) (starts : IsStart (record { shape = y.shape; text = t })) (is : y ≡ opened_yard y.shape t) where
+module _ {bytewise : Bool} (y : Yard) (t : List ℕ) (starts : IsStart (record { bytewise = bytewise; shape = y.shape; text = t })) (is : y ≡ opened_yard y.shape t) where
   opens : AreOpened y.words × (opened_by y.words ≡ first_trace y.shape t)
   opens = opens_text y.shape t y.words starts.text.no_key_twice (ap (λ (x : Yard). x.words) is)
 
@@ -34,12 +34,12 @@ module _ (y : Yard) (t : List ℕ) (starts : IsStart (record { shape = y.shape; 
   pub words_opened : AreOpened y.words
   words_opened = opens.0
 
-  pub first_tied : (honest : Bool) (disk : Medium) → (IsTrue honest → disk ≡ at_rest t) → IsTied (opened_by y.words) [] y honest disk
+  pub first_tied : (honest : Bool) (disk : Medium) → (IsTrue honest → disk ≡ at_rest bytewise t) → IsTied (opened_by y.words) [] y honest disk
   first_tied honest disk device = record {
-    start = record { shape = y.shape; text = t };
+    start = record { bytewise = bytewise; shape = y.shape; text = t };
     steps = [];
     service = opened_service y.shape t;
-    medium = at_rest t;
+    medium = at_rest bytewise t;
     starts = starts;
     runs = tt;
     reads = refl;
@@ -59,8 +59,8 @@ module _ (y : Yard) (t : List ℕ) (starts : IsStart (record { shape = y.shape; 
     device = device;
   }
 
-  tied : IsTied (opened_by y.words) [] y false (at_rest t)
-  tied = first_tied false (at_rest t) (λ h. refl)
+  tied : IsTied (opened_by y.words) [] y false (at_rest bytewise t)
+  tied = first_tied false (at_rest bytewise t) (λ h. refl)
 
   -- a slot that the open found closed stood on no chain in this life
   first_reuse : ReuseTold (sizes_of y.shape) (opened_by y.words) [] y.uses y.actors
@@ -92,7 +92,7 @@ module _ (y : Yard) (t : List ℕ) (starts : IsStart (record { shape = y.shape; 
 
       by_use : (s : ℕ) (u : Use) → use_of y.uses s ≡ u → UseTold (sizes_of y.shape) (opened_by y.words) [] s u
       by_use s Taken same = tt
-      by_use s Free same = inl (away_new y.shape.buckets s (opened_by y.words) (tied_loose (opened_by y.words) [] y false (at_rest t) tied s (free s same)))
+      by_use s Free same = inl (away_new y.shape.buckets s (opened_by y.words) (tied_loose (opened_by y.words) [] y false (at_rest bytewise t) tied s (free s same)))
       by_use s (Limbo sights) same = absurd (no_limbo (slots_read t y.shape.slots) s sights (ap (λ (x : Yard). use_of x.uses s) (sym is) ∙ same))
 
   -- its tables are as large as its shape says
@@ -104,11 +104,11 @@ module _ (y : Yard) (t : List ℕ) (starts : IsStart (record { shape = y.shape; 
   }
 
   -- so the lock's invariant holds of a yard that was just opened, on a board that began with its words
-  pub first_locked : (b : BoardId) (dev : Device) → b.sizes ≡ sizes_of y.shape → b.opened ≡ opened_by y.words → (IsTrue dev.honest → dev.medium ≡ at_rest t) → IsLocked b [] y dev
+  pub first_locked : (b : BoardId) (dev : Device) → b.sizes ≡ sizes_of y.shape → b.opened ≡ opened_by y.words → (IsTrue dev.honest → dev.medium ≡ at_rest bytewise t) → IsLocked b [] y dev
   unfolding tied first_tied
   first_locked b dev sizes opened device = record {
     sizes = sizes;
-    pins = ap (λ (x : Yard). length x.words.pins) is ∙ (sound (opened_by y.words) [] y false (at_rest t) tied).pins;
+    pins = ap (λ (x : Yard). length x.words.pins) is ∙ (sound (opened_by y.words) [] y false (at_rest bytewise t) tied).pins;
     tied = subst (λ (o : Trace). IsTied o [] y dev.honest dev.medium) (sym opened) (first_tied dev.honest dev.medium device);
     reuse = subst (λ (x : Sizes × Trace). ReuseTold x.0 x.1 [] y.uses y.actors) (λ i. (sym sizes i, sym opened i)) first_reuse;
   }
@@ -121,4 +121,4 @@ opened_locked b ns before after buckets passes y opens sizes opened none =
     let words : sizes_in y.words ≡ sizes_of y.shape = opened_sizes y first.0 first.2 first.3 in
     subst (λ (l : List Note). IsLocked b l y after) (sym none)
     (first_locked y first.0 first.2 first.3 b after (sizes ∙ words) opened
-    (λ honest. let was = subst IsTrue opens.vault.honest honest in opens.vault.medium was ∙ ap (λ (t : List ℕ). at_rest t) (sym (first.1 was))))
+    (λ honest. let was = subst IsTrue opens.vault.honest honest in opens.vault.medium was ∙ ap (at_rest before.medium.bytewise) (sym (first.1 was))))

@@ -193,12 +193,12 @@ module _ (t : List ℕ) where
 module _ (vault : Vaulted) (B S : ℕ) (list : Listed) (allot : Allotted) (actors : List Actor) (are : AreTables vault.cells B S list allot actors)
     (fresh : (vault.syncs ≡ 0) × (vault.dead ≡ false)) (blank : AreBlank vault.cells) (some : (1 ≤ B) × (B ≤ most_buckets)) (passes : (1 ≤ S) × (S ≤ most_passes))
     (count : (1 ≤ length vault.cells) × (length vault.cells ≤ most_slots_of vault.format)) (slots : ℕ) (slots_is : slots ≡ length vault.cells) where
-  abbrev Begins : List ℕ → Type 0
-  Begins t = IsStart (record { shape = record { slots = slots; buckets = B; passes = S }; text = t }) × (opened vault B S slots list allot actors are slots_is ≡ opened_yard (record { slots = slots; buckets = B; passes = S }) t)
+  abbrev Begins : Bool → List ℕ → Type 0
+  Begins b t = IsStart (record { bytewise = b; shape = record { slots = slots; buckets = B; passes = S }; text = t }) × (opened vault B S slots list allot actors are slots_is ≡ opened_yard (record { slots = slots; buckets = B; passes = S }) t)
 
-  begins : (t : List ℕ) → AreBytes t → vault.format ≡ format_of t → length t ≡ 16 + 16 * length vault.cells → take 16 t ≡ open_byte ∷ header_body (format_of t) (length vault.cells)
-      → ((i : ℕ) (cell : Cell) → slice_get vault.cells i ≡ Some cell → IsCellOf (slot_at t i) cell) → Begins t
-  begins t bytes named size head each = (
+  begins : (b : Bool) (t : List ℕ) → AreBytes t → vault.format ≡ format_of t → length t ≡ 16 + 16 * length vault.cells → take 16 t ≡ open_byte ∷ header_body (format_of t) (length vault.cells)
+      → ((i : ℕ) (cell : Cell) → slice_get vault.cells i ≡ Some cell → IsCellOf (slot_at t i) cell) → Begins b t
+  begins b t bytes named size head each = (
     record {
       buckets = some;
       passes = passes;
@@ -221,16 +221,16 @@ module _ (vault : Vaulted) (B S : ℕ) (list : Listed) (allot : Allotted) (actor
 
   module _ (before : Device) (keys : (i : ℕ) (cell : Cell) → slice_get vault.cells i ≡ Some cell → cell.key ≤ largest_of vault.format) (steady : AreSteady vault.cells)
       (found : IsTrue before.honest → AreFound before.medium.seen vault.cells) (format : IsTrue before.honest → vault.format ≡ format_of before.medium.seen) (bytes : IsTrue before.honest → AreBytes before.medium.seen) where
-    pub first_yard : (t : List ℕ) × (IsTrue before.honest → t ≡ before.medium.seen) × IsStart (record { shape = record { slots = slots; buckets = B; passes = S }; text = t })
+    pub first_yard : (t : List ℕ) × (IsTrue before.honest → t ≡ before.medium.seen) × IsStart (record { bytewise = before.medium.bytewise; shape = record { slots = slots; buckets = B; passes = S }; text = t })
         × (opened vault B S slots list allot actors are slots_is ≡ opened_yard (record { slots = slots; buckets = B; passes = S }) t)
     first_yard = elim (cases_Bool before.honest) [
       | inl honest ↦
           let told = found honest in
-          let is = begins before.medium.seen (bytes honest) (format honest) told.held.size told.held.head told.each in
+          let is = begins before.medium.bytewise before.medium.seen (bytes honest) (format honest) told.held.size told.held.head told.each in
           (before.medium.seen, (λ yes. refl), is.0, is.1)
       | inr other ↦
           let names = text_format vault.format vault.cells in
-          let is = begins (text_of vault.format vault.cells) (text_bytes vault.format vault.cells keys) (sym names) (text_size vault.format vault.cells)
+          let is = begins before.medium.bytewise (text_of vault.format vault.cells) (text_bytes vault.format vault.cells keys) (sym names) (text_size vault.format vault.cells)
           (text_head vault.format vault.cells ∙ ap (λ (F : Format). open_byte ∷ header_body F (length vault.cells)) (sym names)) (text_says vault.format vault.cells keys steady)
           in
           (text_of vault.format vault.cells, (λ yes. absurd (false≢true (sym other ∙ yes))), is.0, is.1)

@@ -17,7 +17,7 @@ use Rattle.lz_core.proofs.world.World.crash.Goals as goal
 
 module _ (shape : Shape) (yard yard' : Option (YardOver Past)) (disk disk' : Option Past) (callers : List (Option OpenCall)) (calls : ℕ) (tripped now : Bool) (pick : Pick) where
   abbrev IsDown : Type 0
-  IsDown = (s : Shape) (cs : List (Option OpenCall)) → state_shown s yard' disk' cs ≡ Down s (at_rest (left_by pick (disk_shown yard disk)))
+  IsDown = (s : Shape) (cs : List (Option OpenCall)) → state_shown s yard' disk' cs ≡ Down s (at_rest (disk_shown yard disk).bytewise (left_by pick (disk_shown yard disk)))
 
   abbrev HasImage : Type 0
   HasImage = IsImage (disk_shown yard disk) (left_by pick (disk_shown yard disk))
@@ -33,7 +33,7 @@ module _ (shape : Shape) (yard yard' : Option (YardOver Past)) (disk disk' : Opt
       let same = sym (disk_is shape yard disk callers) in
       crashes shape old new pick world.ran
       (subst (λ (m : Medium). IsImage m (left_by pick m)) same image)
-      (down shape callers ∙ ap (λ (m : Medium). Down shape (at_rest (left_by pick m))) same)
+      (down shape callers ∙ ap (λ (m : Medium). Down shape (at_rest m.bytewise (left_by pick m))) same)
       refl
 
   pub crashed_world : IsWorld shape yard disk callers calls → HasOne yard' disk' → IsDown → HasImage → IsWorld shape yard' disk' callers calls
