@@ -1,0 +1,141 @@
+-- The slots of format 4: what is read of one is what was written, and no mixture of zeros with one is another.
+use Rattle.std.proofs.Common.{◌≡◌, ◌⊎◌, inl, inr, ⊎_elim, subst, ℕ, zero, suc, ◌+◌, ◌*◌, ◌/◌, ◌%◌, ◌<◌, ◌≤◌, ◌^◌, Bool, true, false, List, [], ◌∷◌, length, get_or, refl, sym, ap, ◌∙◌, arith}
+use Rattle.std.specs.Prelude.{◌&&◌, ◌==◌, nat_le, if◌then◌else◌}
+use Rattle.std.specs.List.{list_all, list_any}
+use Rattle.std.proofs.lemmas.Bool.Decides.{nat_tests, eqb_tells}
+use Rattle.byteorder.specs.Endian.{big_bytes, big_number}
+use Rattle.byteorder.specs.Numbers.{big_number-reads_back}
+use Rattle.std.proofs.lemmas.Nat.{be_bytes_8}
+use Rattle.std.specs.Int.{w64, from_be_bytes}
+use Rattle.lz_slot.specs.Limits.{largest_key}
+use Rattle.lz_slot.specs.declared.slot.SlotRead.{SlotRead}
+use Rattle.lz_slot.specs.declared.slot.SlotRead.TheVariants.{Closed, Member, BadKey}
+use Rattle.lz_slot.specs.Whole.{spelled, spells, whole_slot, is_paired, is_shut, whole_read, IsPartOf, WholeReadsBack, WholeIsOfItsKey, MixturesAreWhole, ShutStaysShut}
+
+-- a mixture of zeros with a list, one byte after the other
+part_tail : (x y : ℕ) (t whole : List ℕ) → IsPartOf (x ∷ t) (y ∷ whole) → IsPartOf t whole
+part_tail x y t whole part = (omega (arith, part.0), λ i lt. part.1 (suc i) (omega (arith, lt)))
+
+shut_here : (x : ℕ) (t : List ℕ) → x ≡ 0 → is_shut (x ∷ t) ≡ true
+shut_here x t is = rw is refl
+
+shut_after : (x : ℕ) (t : List ℕ) → is_shut t ≡ true → is_shut (x ∷ t) ≡ true
+shut_after x t shut = grind (arith, nat_tests)
+
+-- it is closed, or all of the list
+mixed : (t whole : List ℕ) → IsPartOf t whole → (is_shut t ≡ true) ⊎ (t ≡ whole)
+mixed [] [] part = inr refl
+mixed [] (y ∷ whole) part = absurd (omega (arith, part.0))
+mixed (x ∷ t) [] part = absurd (omega (arith, part.0))
+mixed (x ∷ t) (y ∷ whole) part =
+    ⊎_elim
+    (λ none. inl (shut_here x t none))
+    (λ same. ⊎_elim (λ shut. inl (shut_after x t shut)) (λ rest. inr (λ i. same i ∷ rest i)) (mixed t whole (part_tail x y t whole part)))
+    (part.1 0 (omega arith))
+
+pub mixtures_are_whole : MixturesAreWhole
+mixtures_are_whole k t part = mixed t (whole_slot k) part
+
+-- a zero stays one
+pub shut_stays_shut : ShutStaysShut
+shut_stays_shut [] [] part shut = shut
+shut_stays_shut [] (x ∷ t) part shut = absurd (omega (arith, part.0))
+shut_stays_shut (y ∷ bytes) [] part shut = absurd (omega (arith, part.0))
+shut_stays_shut (y ∷ bytes) (x ∷ t) part shut = elim (eqb_tells y 0) [
+  | inl here ↦ shut_here x t (⊎_elim (λ none. none) (λ same. same ∙ here.1) (part.1 0 (omega arith)))
+  | inr other ↦ shut_after x t (shut_stays_shut bytes t (part_tail x y t bytes part) (sym (rw other.0 refl) ∙ shut))
+]
+
+-- what is spelled of bytes spells them again, has no zero, and has each four bits with their complement
+low_byte : (b : ℕ) → b < 256 → 16 * ((15 * (b / 16 + 1)) / 16) + (15 * (b % 16 + 1)) / 16 ≡ b
+low_byte b lt = omega arith
+
+high_paired : (b : ℕ) → b < 256 → (15 * (b / 16 + 1)) / 16 + (15 * (b / 16 + 1)) % 16 ≡ 15
+high_paired b lt = omega arith
+
+low_paired : (b : ℕ) → (15 * (b % 16 + 1)) / 16 + (15 * (b % 16 + 1)) % 16 ≡ 15
+low_paired b = omega arith
+
+spells_again : (bytes : List ℕ) → ((i : ℕ) → get_or bytes i 0 < 256) → spells (spelled bytes) ≡ bytes
+spells_again [] fits = refl
+spells_again (b ∷ bytes) fits =
+    let here = low_byte b (fits 0) in
+    let rest = spells_again bytes (λ i. fits (suc i)) in
+    (λ i. here i ∷ rest i)
+
+never_shut : (bytes : List ℕ) → is_shut (spelled bytes) ≡ false
+never_shut [] = refl
+never_shut (b ∷ bytes) =
+    let rest = never_shut bytes in
+    grind (arith, nat_tests)
+
+all_paired : (bytes : List ℕ) → ((i : ℕ) → get_or bytes i 0 < 256) → list_all is_paired (spelled bytes) ≡ true
+all_paired [] fits = refl
+all_paired (b ∷ bytes) fits =
+    let high = high_paired b (fits 0) in
+    let low = low_paired b in
+    let rest = all_paired bytes (λ i. fits (suc i)) in
+    grind (arith, nat_tests)
+
+-- what a slot says, by whether it is shut, whether its bytes are paired, and its number
+abbrev whole_tests : Bool → Bool → ℕ → SlotRead
+whole_tests shut pairs x = if shut then Closed else if pairs && nat_le x largest_key then Member x else BadKey
+
+whole_says : (shut pairs : Bool) (x k : ℕ) → shut ≡ false → pairs ≡ true → x ≡ k → k ≤ largest_key → whole_tests shut pairs x ≡ Member k
+whole_says shut pairs x k opened paired same low = grind (arith, nat_tests)
+
+whole_passes : (shut pairs : Bool) (x k : ℕ) → whole_tests shut pairs x ≡ Member k → (shut ≡ false) × (pairs ≡ true) × (x ≡ k) × (k ≤ largest_key)
+whole_passes shut pairs x k is = grind (arith, nat_tests)
+
+pub whole_reads_back : WholeReadsBack
+whole_reads_back k low =
+    let fits : (i : ℕ) → get_or (big_bytes 8 k) i 0 < 256 = λ i. bytes_fit k i in
+    let number : big_number 8 (spells (spelled (big_bytes 8 k))) ≡ k = ap (big_number 8) (spells_again (big_bytes 8 k) fits) ∙ big_number-reads_back 8 k [] (omega arith) in
+    whole_says _ _ _ k (never_shut (big_bytes 8 k)) (all_paired (big_bytes 8 k) fits) number low
+  where
+    bytes_fit : (k i : ℕ) → get_or (big_bytes 8 k) i 0 < 256
+    bytes_fit k zero = omega arith
+    bytes_fit k (suc zero) = omega arith
+    bytes_fit k (suc (suc zero)) = omega arith
+    bytes_fit k (suc (suc (suc zero))) = omega arith
+    bytes_fit k (suc (suc (suc (suc zero)))) = omega arith
+    bytes_fit k (suc (suc (suc (suc (suc zero))))) = omega arith
+    bytes_fit k (suc (suc (suc (suc (suc (suc zero)))))) = omega arith
+    bytes_fit k (suc (suc (suc (suc (suc (suc (suc zero))))))) = omega arith
+    bytes_fit k (suc (suc (suc (suc (suc (suc (suc (suc i)))))))) = omega arith
+
+-- paired bytes are those that what they spell is spelled by
+paired_high : (x y : ℕ) → x / 16 + x % 16 ≡ 15 → y / 16 + y % 16 ≡ 15 → y < 256 → 15 * ((16 * (x / 16) + y / 16) / 16 + 1) ≡ x
+paired_high x y high low fits = omega arith
+
+paired_low : (x y : ℕ) → y / 16 + y % 16 ≡ 15 → y < 256 → 15 * ((16 * (x / 16) + y / 16) % 16 + 1) ≡ y
+paired_low x y low fits = omega arith
+
+two_paired : (x y : ℕ) (bytes : List ℕ) → list_all is_paired (x ∷ y ∷ bytes) ≡ true → (x / 16 + x % 16 ≡ 15) × (y / 16 + y % 16 ≡ 15) × (list_all is_paired bytes ≡ true)
+two_paired x y bytes all = grind (arith, nat_tests)
+
+spelled_again : (n : ℕ) (bytes : List ℕ) → length bytes ≡ 2 * n → ((i : ℕ) → get_or bytes i 0 < 256) → list_all is_paired bytes ≡ true → (spelled (spells bytes) ≡ bytes) × (length (spells bytes) ≡ n)
+spelled_again zero [] long fits all = (refl, refl)
+spelled_again (suc n) [] long fits all = absurd (omega arith)
+spelled_again n (x ∷ []) long fits all = absurd (omega arith)
+spelled_again zero (x ∷ y ∷ bytes) long fits all = absurd (omega arith)
+spelled_again (suc n) (x ∷ y ∷ bytes) long fits all =
+    let two = two_paired x y bytes all in
+    let rest = spelled_again n bytes (omega arith) (λ i. fits (suc (suc i))) two.2 in
+    let one = paired_high x y two.0 two.1 (fits 1) in
+    let next = paired_low x y two.1 (fits 1) in
+    ((λ i. one i ∷ next i ∷ rest.0 i), ap suc rest.1)
+
+spelled_fit : (bytes : List ℕ) → ((i : ℕ) → get_or bytes i 0 < 256) → (i : ℕ) → get_or (spells bytes) i 0 < 256
+spelled_fit [] fits i = omega arith
+spelled_fit (x ∷ []) fits i = omega arith
+spelled_fit (x ∷ y ∷ bytes) fits zero = let high = fits 0 in let low = fits 1 in omega arith
+spelled_fit (x ∷ y ∷ bytes) fits (suc i) = spelled_fit bytes (λ j. fits (suc (suc j))) i
+
+pub whole_is_of_its_key : WholeIsOfItsKey
+whole_is_of_its_key bytes k long fits is =
+    let passed = whole_passes (is_shut bytes) (list_all is_paired bytes) (big_number 8 (spells bytes)) k is in
+    let back = spelled_again 8 bytes (omega arith) fits passed.1 in
+    let same : big_number 8 (spells bytes) ≡ from_be_bytes w64 (spells bytes) = omega (arith, back.1) in
+    let rest : big_bytes 8 (big_number 8 (spells bytes)) ≡ spells bytes = be_bytes_8 (spells bytes) (big_number 8 (spells bytes)) back.1 (spelled_fit bytes fits) same in
+    (passed.3, sym back.0 ∙ ap spelled (sym rest ∙ ap (big_bytes 8) passed.2))

@@ -1,0 +1,57 @@
+-- The slots of format 4: each byte is four bits of the rank and, below them, their complement. None of them is zero.
+use Rattle.std.specs.Prelude.{◌≡◌, ◌⊎◌, ◌≢◌, ℕ, ◌+◌, ◌*◌, ◌/◌, ◌%◌, ◌≤◌, ◌<◌, Bool, true, ◌&&◌, ◌==◌, nat_le, List, [], ◌∷◌, length, slice_index, replicate, if◌then◌else◌}
+use Rattle.std.specs.List.{list_all, list_any}
+use Rattle.byteorder.specs.Endian.{big_number, big_bytes}
+use Rattle.lz_slot.specs.Limits.{largest_key}
+use Rattle.lz_slot.specs.declared.slot.SlotRead.{SlotRead}
+use Rattle.lz_slot.specs.declared.slot.SlotRead.TheVariants.{Closed, Member, BadKey}
+
+-- the bytes of which each spells half a byte of these: 15 * (h + 1) is 16 * h and, below it, 15 - h
+abbrev pub spelled : List ℕ → List ℕ
+spelled [] = []
+spelled (b ∷ bytes) = 15 * (b / 16 + 1) ∷ 15 * (b % 16 + 1) ∷ spelled bytes
+
+-- the bytes that these spell, two and two
+abbrev pub spells : List ℕ → List ℕ
+spells [] = []
+spells (x ∷ []) = []
+spells (x ∷ y ∷ bytes) = (16 * (x / 16) + y / 16) ∷ spells bytes
+
+-- the sixteen bytes of a slot that holds this key
+abbrev pub whole_slot : ℕ → List ℕ
+whole_slot k = spelled (big_bytes 8 k)
+
+-- four bits and their complement
+abbrev pub is_paired : ℕ → Bool
+is_paired b = b / 16 + b % 16 == 15
+
+-- a slot is closed where one of its bytes is zero
+abbrev pub is_shut : List ℕ → Bool
+is_shut bytes = list_any (λ b. b == 0) bytes
+
+-- what the sixteen bytes of a slot say
+abbrev pub whole_read : List ℕ → SlotRead
+whole_read bytes =
+    if is_shut bytes then Closed
+    else if list_all is_paired bytes && nat_le (big_number 8 (spells bytes)) largest_key then Member (big_number 8 (spells bytes))
+    else BadKey
+
+-- each byte of a text is zero or the other's
+abbrev pub IsPartOf : List ℕ → List ℕ → Type 0
+IsPartOf t whole = (length t ≡ length whole) × ((i : ℕ) → i < length whole → (slice_index t i ≡ 0) ⊎ (slice_index t i ≡ slice_index whole i))
+
+-- a key's slot is read as the key
+abbrev pub WholeReadsBack : Type 0
+WholeReadsBack = (k : ℕ) → k ≤ largest_key → whole_read (whole_slot k) ≡ Member k
+
+-- sixteen bytes that are read as a key are its slot
+abbrev pub WholeIsOfItsKey : Type 0
+WholeIsOfItsKey = (bytes : List ℕ) (k : ℕ) → length bytes ≡ 16 → ((i : ℕ) → slice_index bytes i < 256) → whole_read bytes ≡ Member k → (k ≤ largest_key) × (bytes ≡ whole_slot k)
+
+-- each mixture of zeros with a key's slot is closed, or is that slot
+abbrev pub MixturesAreWhole : Type 0
+MixturesAreWhole = (k : ℕ) (t : List ℕ) → IsPartOf t (whole_slot k) → (is_shut t ≡ true) ⊎ (t ≡ whole_slot k)
+
+-- and each mixture of zeros with a closed slot is closed, whatever its bytes are
+abbrev pub ShutStaysShut : Type 0
+ShutStaysShut = (bytes t : List ℕ) → IsPartOf t bytes → is_shut bytes ≡ true → is_shut t ≡ true
