@@ -1,11 +1,13 @@
 //! A writer that remembers the line which was written last.
+ghost use Rattle.std.specs.Prelude.{◌≡◌};
+
 use std::io;
 use std::io::Write;
 
 // Longer than any line that has words of its own.
 const MOST_HEARD: usize = 32;
 
-/// Writes on, and remembers the beginning of the line that was written last.
+/// Writes on, and remembers the beginning of the line that was written last. What it was given is what the writer under it was given.
 #[derive(Drop)]
 pub struct Heard<W: Write> {
     writer: W,
@@ -15,7 +17,9 @@ pub struct Heard<W: Write> {
 }
 
 impl<W: Write> Heard<W> {
-    pub fn new(writer: W) -> Heard<W> {
+    pub fn new(writer: W) -> Heard<W>
+        ensures { result.writer ≡ writer }
+    {
         Heard {
             writer,
             line: [0; MOST_HEARD],
@@ -29,7 +33,17 @@ impl<W: Write> Heard<W> {
         str::from_utf8(self.line.get(..self.length)?).ok()
     }
 
-    fn hear(&mut self, byte: u8) {
+    fn hear_all(&mut self, bytes: &[u8])
+        ensures { self.new.writer ≡ self.old.writer }
+    {
+        for byte in bytes {
+            self.hear(*byte);
+        }
+    }
+
+    fn hear(&mut self, byte: u8)
+        ensures { self.new.writer ≡ self.old.writer }
+    {
         if byte == b'\n' {
             self.is_whole = true;
             return;
@@ -46,11 +60,11 @@ impl<W: Write> Heard<W> {
 }
 
 impl<W: Write> Write for Heard<W> {
+    ghost contents = { λ heard. W.contents heard.writer };
+
     fn write(&mut self, bytes: &[u8]) -> io::Result<usize> {
         let count = self.writer.write(bytes)?;
-        for byte in &bytes[..count] {
-            self.hear(*byte);
-        }
+        self.hear_all(&bytes[..count]);
         Ok(count)
     }
 

@@ -1,4 +1,6 @@
 //! A disk of which it is said how much was read or written.
+ghost use Rattle.std.specs.Prelude.{◌≡◌};
+
 use crate::share::Share;
 use lz_disk::{DeviceFault, Disk};
 use std::time::Clock;
@@ -11,7 +13,9 @@ pub struct ShownDisk<'a, 'b, R: Eprint + Clock, D: Disk> {
 }
 
 impl<'a, 'b, R: Eprint + Clock, D: Disk> ShownDisk<'a, 'b, R, D> {
-    pub fn new(disk: D, share: Share<'a, 'b, R>) -> ShownDisk<'a, 'b, R, D> {
+    pub fn new(disk: D, share: Share<'a, 'b, R>) -> ShownDisk<'a, 'b, R, D>
+        ensures { result.disk ≡ disk }
+    {
         ShownDisk { disk, share }
     }
 

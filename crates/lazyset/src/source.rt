@@ -1,22 +1,25 @@
 //! A file that is read from its beginning to its end.
+ghost use Rattle.std.specs.Prelude.{◌≡◌};
+
 use crate::share::Share;
 use lz_disk::Cause;
-use std::fs::File;
 use std::io;
 use std::io::{ErrorKind, Read};
 use std::time::Clock;
 
-/// Reads a file, says how much of it was read, and remembers why a read failed.
+/// Reads a file, says how much of it was read, and remembers why a read failed. What it gives is what the file gives.
 #[derive(Drop)]
-pub struct Source<'a, 'b, R: Eprint + Clock> {
-    file: File,
+pub struct Source<'a, 'b, R: Eprint + Clock, F: Read> {
+    file: F,
     share: Share<'a, 'b, R>,
     /// The system's number for why.
     cause: Option<i32>,
 }
 
-impl<'a, 'b, R: Eprint + Clock> Source<'a, 'b, R> {
-    pub fn new(file: File, share: Share<'a, 'b, R>) -> Source<'a, 'b, R> {
+impl<'a, 'b, R: Eprint + Clock, F: Read> Source<'a, 'b, R, F> {
+    pub fn new(file: F, share: Share<'a, 'b, R>) -> Source<'a, 'b, R, F>
+        ensures { result.file ≡ file }
+    {
         Source {
             file,
             share,
@@ -31,7 +34,9 @@ impl<'a, 'b, R: Eprint + Clock> Source<'a, 'b, R> {
     }
 }
 
-impl<R: Eprint + Clock> Read for Source<'_, '_, R> {
+impl<R: Eprint + Clock, F: Read> Read for Source<'_, '_, R, F> {
+    ghost remaining = { λ source. F.remaining source.file };
+
     fn read(&mut self, buffer: &mut [u8]) -> io::Result<usize> {
         match self.file.read(buffer) {
             Ok(count) => {
