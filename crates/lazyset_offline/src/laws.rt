@@ -2,8 +2,9 @@
 
 ghost use Rattle.lazyset_offline.specs.ShownLists.{ShownKeysAreListed};
 
-/// The keys that are shown of a file are a list of keys just where the file holds a set, and then of all its keys: so a file that is made
-/// of the list holds what a renewal would.
+/// The keys that are shown of a file are a list of keys just where the file holds a set, and then of all its keys, in their order, for
+/// each format that has the file's rooms. So a file of such a format that is made of the list has in its slots what a renewal into
+/// that format would write there.
 pub fn shown_keys_are_listed()
     ensures { ShownKeysAreListed }
 {}
