@@ -93,13 +93,13 @@ module _ (t : List ℕ) where
 
   module _ (N : ℕ) (S : SetOf) (holds : Holds t N S) where
     -- they are the set that the file holds
+    pub same_set : Same S (members (keys N))
+    same_set k = both_ways (S k) (members (keys N) k)
+        (λ has. let (i, low, is) = (holds.set k).0 has in has_key N i k low is)
+        (λ has. (holds.set k).1 (held_by N k has))
+
     pub are_held : AreHeldBy t (keys N)
-    are_held = (N, holds_same_set t N S (members (keys N)) same holds, refl)
-      where
-        same : Same S (members (keys N))
-        same k = both_ways (S k) (members (keys N) k)
-            (λ has. let (i, low, is) = (holds.set k).0 has in has_key N i k low is)
-            (λ has. (holds.set k).1 (held_by N k has))
+    are_held = (N, holds_same_set t N S (members (keys N)) same_set holds, refl)
 
     -- each is one of the file's format
     pub fit : All (λ k. k ≤ largest_of (format_of t)) (keys N)

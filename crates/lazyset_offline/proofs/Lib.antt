@@ -14,4 +14,5 @@ pub mod OneList
 pub mod ListRows
 pub mod HeldKeys
 pub mod ShownLists
+pub mod ShownCounts
 pub mod SurveyEnds

@@ -15,7 +15,11 @@ format_number Three = 3
 abbrev pub count_text : List ℕ → ℕ → List ℕ
 count_text word count = word ++ codes " " ++ decimal count ++ 10 ∷ []
 
+-- the lines of these counts
+abbrev pub lines_of_counts : Format → ℕ → ℕ → ℕ → List ℕ
+lines_of_counts F slots members free =
+    count_text (codes "format") (format_number F) ++ count_text (codes "slots") slots ++ count_text (codes "members") members ++ count_text (codes "free") free
+
 -- The counts of a file: a member is a key that was found for the first time, and a slot is free where nothing was found.
 abbrev pub counts_text : Format → ℕ → List Finding → List ℕ
-counts_text F slots findings =
-    count_text (codes "format") (format_number F) ++ count_text (codes "slots") slots ++ count_text (codes "members") (count_by is_sound findings) ++ count_text (codes "free") (slots - length findings)
+counts_text F slots findings = lines_of_counts F slots (count_by is_sound findings) (slots - length findings)

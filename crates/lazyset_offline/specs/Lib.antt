@@ -13,3 +13,4 @@ pub mod Lists
 pub mod ListParts
 pub mod Listings
 pub mod ShownLists
+pub mod ShownCounts

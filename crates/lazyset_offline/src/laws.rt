@@ -1,5 +1,6 @@
 //! Laws of what the commands show. Each function is one law.
 
+ghost use Rattle.lazyset_offline.specs.ShownCounts.{CountsAreOfSet};
 ghost use Rattle.lazyset_offline.specs.ShownLists.{ShownKeysAreListed};
 
 /// The keys that are shown of a file are a list of keys just where the file holds a set, and then of all its keys, in their order, for
@@ -7,4 +8,9 @@ ghost use Rattle.lazyset_offline.specs.ShownLists.{ShownKeysAreListed};
 /// that format would write there.
 pub fn shown_keys_are_listed()
     ensures { ShownKeysAreListed }
+{}
+
+/// The counts that are shown of a file that holds a set are those of the set.
+pub fn counts_are_of_set()
+    ensures { CountsAreOfSet }
 {}
