@@ -2,7 +2,6 @@ pub mod SentTexts
 pub mod Pages
 pub mod TwoNumbers
 pub mod LineTexts
-pub mod MakeFaults
 pub mod Grown
 pub mod GrowthRows
 pub mod RehearsalEnds

@@ -1,12 +1,9 @@
 -- What a making tells.
-use Rattle.std.specs.Prelude.{◌≡◌, ℕ, ◌+◌, ◌*◌, ◌<◌, IsTrue, List, Option, codes, decimal, length, ◌++◌, ◌∷◌, []}
-use Rattle.lz_slot.specs.Bytes.{IsMade}
+use Rattle.std.specs.Prelude.{ℕ, IsTrue, List, Option, codes, decimal, ◌++◌, ◌∷◌, []}
 use Rattle.lz_slot.specs.declared.format.Format.{Format}
-use Rattle.lz_disk.specs.Images.{synced}
 use Rattle.lz_disk.specs.Devices.{Device as Disk}
-use Rattle.lz_vault.specs.Makes.{IsBadCount, IsFresh, MayBeMade, make_fault_number}
+use Rattle.lz_vault.specs.Makes.{IsMakeFaultOf, IsRenewed, MayBeMade, make_fault_number}
 use Rattle.lz_vault.specs.declared.making.MakeFault.{MakeFault}
-use Rattle.lz_vault.specs.declared.making.MakeFault.TheVariants.{AlreadyMade, BadCount, Device, TooLong}
 use Rattle.lazyset_offline.specs.Ends.{make_status}
 use Rattle.lazyset_offline.specs.Tellings.{Tells}
 use Rattle.lazyset_offline.specs.declared.status.Status.{Status}
@@ -24,20 +21,13 @@ refused_text number = codes "refused " ++ decimal number ++ 10 ∷ []
 abbrev pub room_text : ℕ → ℕ → List ℕ
 room_text members slots = codes "refused 9 " ++ decimal members ++ codes " " ++ decimal slots ++ 10 ∷ []
 
--- Why no file of this format with so many slots was made: each fault says what is there, or what was asked for, or that the device failed.
-abbrev pub IsMakeFault : MakeFault → Format → ℕ → Disk → Disk → Type 0
-IsMakeFault AlreadyMade format slots old new = IsTrue old.honest → IsMade old.medium.seen × (new.medium ≡ synced old.medium)
-IsMakeFault BadCount format slots old new = IsBadCount format slots × (new.medium ≡ old.medium) × (new.calls ≡ old.calls)
-IsMakeFault TooLong format slots old new = IsTrue old.honest → (IsMade old.medium.seen → ⊥) × (16 + 16 * slots < length old.medium.seen) × (new.medium ≡ synced old.medium)
-IsMakeFault Device format slots old new = old.faults < new.faults
-
--- A file of this format was made, and this was told.
+-- A file of this format without members was made, and this was told.
 pub record MadeFile (format : Format) (slots : ℕ) (status : Status) (before after : Option (List ℕ)) (old new : Disk) : Type 0 where
-  pub fresh : IsTrue old.honest → IsFresh new.medium format slots × MayBeMade old.medium.seen slots
+  pub fresh : IsTrue old.honest → IsRenewed new.medium format slots [] × MayBeMade old.medium.seen slots
   pub told : Tells before after (made_text slots) Done status
 
 -- No file was made for a fault, and this was told.
 pub record RefusedMaking (format : Format) (slots : ℕ) (status : Status) (before after : Option (List ℕ)) (old new : Disk) : Type 0 where
   pub fault : MakeFault
-  pub why : IsMakeFault fault format slots old new
+  pub why : IsMakeFaultOf old new format slots fault
   pub told : Tells before after (refused_text (make_fault_number fault)) (make_status fault) status

@@ -1,9 +1,9 @@
 //! The command that makes a file.
-ghost use Rattle.std.specs.Prelude.{◌≡◌, ◌⊎◌, ◌≤◌, ℕ, List, IsTrue};
-ghost use Rattle.lz_slot.specs.Bytes.{IsUnmadeOrEmpty};
+ghost use Rattle.std.specs.Prelude.{◌≡◌, ◌⊎◌, ◌≤◌, [], IsTrue};
+ghost use Rattle.lz_slot.specs.Sets.{members};
 ghost use Rattle.lz_disk.specs.Images.{IsImage};
 ghost use Rattle.lz_disk.specs.Devices.{LeavesOnly};
-ghost use Rattle.lz_vault.specs.Makes.{MayBeMade, WritesNothing, make_fault_number};
+ghost use Rattle.lz_vault.specs.Makes.{IsBadCount, IsUnmadeOrHolds, MayBeMade, WritesNothing, make_fault_number};
 ghost use Rattle.lazyset_offline.specs.Ends.{make_status};
 ghost use Rattle.lazyset_offline.specs.Makings.{MadeFile, RefusedMaking, made_text, refused_text};
 ghost use Rattle.lazyset_offline.specs.Tellings.{Tells};
@@ -13,7 +13,7 @@ use crate::status::Status;
 use crate::telling::status_sent;
 use lz_disk::Disk;
 use lz_slot::Format;
-use lz_vault::{MakeFault, make};
+use lz_vault::{MakeFault, make_with};
 use std::io::Write;
 
 /// Makes a file of this format with so many slots, and says so: `made N`, or `refused N` with the fault's number. Failed also where the
@@ -28,16 +28,18 @@ pub fn make_on<W: Write + Drop, D: Disk>(
     ensures made { MadeFile format slots result (W.contents writer.old) (W.contents writer.new) (D.device disk.old) (D.device disk.new)
         ⊎ RefusedMaking format slots result (W.contents writer.old) (W.contents writer.new) (D.device disk.old) (D.device disk.new) }
 
+    ensures uncalled { IsBadCount format slots → disk.new ≡ disk.old }
+
     // Where no file can be made, as over a made one, nothing is written at any moment.
     ensures safe { IsTrue (D.device disk.old).honest → (MayBeMade (D.device disk.old).medium.seen slots → ⊥) → WritesNothing (D.device disk.old) (D.device disk.new) }
     ensures faults { (D.device disk.old).faults ≤ (D.device disk.new).faults }
     ensures honest { (D.device disk.new).honest ≡ (D.device disk.old).honest }
 
-    // A crash at any moment leaves nothing that is made, or the empty set, where it would have left such a text before.
-    ensures any_moment { IsTrue (D.device disk.old).honest → ((t : List ℕ) → IsImage (D.device disk.old).medium t → IsUnmadeOrEmpty t)
-        → LeavesOnly (D.device disk.old) (D.device disk.new) IsUnmadeOrEmpty }
+    // A crash at any moment leaves what it might have left before, or nothing that is made, or the empty set.
+    ensures any_moment { IsTrue (D.device disk.old).honest
+        → LeavesOnly (D.device disk.old) (D.device disk.new) (λ t. IsImage (D.device disk.old).medium t ⊎ IsUnmadeOrHolds slots (members []) t) }
 {
-    match make(disk, format, slots) {
+    match make_with(disk, format, slots, &[]) {
         Ok(()) => tell_made(writer, slots),
         Err(fault) => tell_fault(writer, fault),
     }
