@@ -2,3 +2,4 @@ pub mod Start
 pub mod Upkeep
 pub mod Walk
 pub mod NoteRows
+pub mod GlanceRows

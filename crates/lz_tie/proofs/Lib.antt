@@ -7,6 +7,7 @@ pub mod Start
 pub mod Moments
 pub mod Lives
 pub mod AnswerRows
+pub mod RefusedAnswers
 pub mod OneCallerRows
 pub mod SessionRows
 pub mod KeyByKeyRows
