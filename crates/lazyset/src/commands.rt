@@ -8,18 +8,18 @@ use crate::control::ask_to_stop;
 use crate::counted::Counted;
 use crate::fault::Fault;
 use crate::files::{
-    StandIns, bytes_of, create, header_on, is_absent, is_same, open, open_source, read_front,
-    say_cause, shown, take_away_empty, take_lock,
+    StandIns, create, header_on, is_absent, is_same, open, open_source, read_front, say_cause,
+    take_away_empty, take_lock,
 };
 use crate::growing::grow;
 use crate::handed::handed;
 use crate::heard::Heard;
+use crate::over_disk::{make_keys_over, make_over, renew_over, run_over};
 use crate::service::{At, Until, serve};
 use crate::words::words_of;
 use lazyset_command_line::{Request, read, too_many_buckets};
 use lazyset_commands::{
-    MOST_JUDGED, ServeOptions, Shown, Status, check_of_on, judge_on, make_keys_on, make_on,
-    rehearse_on, renew_on, run_on, survey_on,
+    MOST_JUDGED, ServeOptions, Shown, Status, check_of_on, judge_on, rehearse_on, survey_on,
 };
 use lz_disk::{FileDisk, Lock};
 use lz_slot::{Format, Header};
@@ -166,9 +166,8 @@ where
     let was_absent = is_absent(rt, file);
     let disk = create(rt, file)?;
     take_lock(rt, file, &disk, Lock::Exclusive)?;
-    let mut disk = shown(rt, file, disk, bytes_of(slots));
-    let status = make_on(writer, &mut disk, slots, format);
-    say_cause(rt, file, disk.end().cause());
+    let (status, disk) = make_over(rt, writer, file, disk, slots, format);
+    say_cause(rt, file, disk.cause());
     Ok(after_making(rt, file, was_absent, status))
 }
 
@@ -186,14 +185,13 @@ where
     let was_absent = is_absent(rt, file);
     let disk = create(rt, file)?;
     take_lock(rt, file, &disk, Lock::Exclusive)?;
-    let mut disk = shown(rt, file, disk, bytes_of(slots));
     let mut reader = Counted::new(rt.reader());
-    let status = make_keys_on(rt.alloc(), &mut reader, writer, &mut disk, slots, format);
+    let (status, disk) = make_keys_over(rt, &mut reader, writer, file, disk, slots, format);
     if status == Status::Done {
         let keys = reader.lines();
         let _ = eprintln!(rt; "lazyset: make {file}: {keys} keys");
     }
-    say_cause(rt, file, disk.end().cause());
+    say_cause(rt, file, disk.cause());
     Ok(after_making(rt, file, was_absent, status))
 }
 
@@ -217,11 +215,9 @@ where
     if !is_same(&old_disk, &disk) {
         take_lock(rt, new, &disk, Lock::Exclusive)?;
     }
-    let mut old_disk = shown(rt, old, old_disk, None);
-    let mut disk = shown(rt, new, disk, bytes_of(slots));
-    let status = renew_on(rt.alloc(), writer, &mut old_disk, &mut disk, format, slots);
-    say_cause(rt, old, old_disk.end().cause());
-    say_cause(rt, new, disk.end().cause());
+    let (status, old_disk, disk) = renew_over(rt, writer, old, old_disk, new, disk, slots, format);
+    say_cause(rt, old, old_disk.cause());
+    say_cause(rt, new, disk.cause());
     Ok(after_making(rt, new, was_absent, status))
 }
 
@@ -266,10 +262,8 @@ where
     requires { (1 ≤ buckets) × (buckets ≤ most_buckets) }
 {
     let disk = open_for(rt, file, buckets)?;
-    let disk = shown(rt, file, disk, None);
-    let (status, disk) = run_on(rt, &mut rt.reader(), writer, disk, buckets);
-    let mut disk = disk;
-    say_cause(rt, file, disk.end().cause());
+    let (status, disk) = run_over(rt, &mut rt.reader(), writer, file, disk, buckets);
+    say_cause(rt, file, disk.cause());
     Ok(status)
 }
 

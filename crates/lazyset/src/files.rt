@@ -1,4 +1,6 @@
 //! The files that a command names, and the process's own.
+ghost use Rattle.std.specs.Prelude.{◌≡◌};
+
 use crate::fault::Fault;
 use crate::share::{Share, is_terminal};
 use crate::shown_disk::ShownDisk;
@@ -119,14 +121,16 @@ where
 }
 
 /// The disk, of which it is said how much of so many bytes was read or written; where none are named, of those that it has.
-pub fn shown<'a, 'b, R>(
+pub fn shown<'a, 'b, R, D>(
     rt: &'a R,
     path: &'b str,
-    disk: FileDisk,
+    disk: D,
     bytes: Option<u64>,
-) -> ShownDisk<'a, 'b, R, FileDisk>
+) -> ShownDisk<'a, 'b, R, D>
 where
     R: Files<File = File> + Eprint + Clock,
+    D: Disk,
+    ensures { result.disk ≡ disk }
 {
     let total = match (bytes, rt.metadata(path)) {
         (Some(bytes), _) => bytes,

@@ -4,8 +4,9 @@ ghost use Rattle.lz_slot.specs.Limits.{last_room};
 ghost use Rattle.lz_slot.specs.Rooms.{last_room_of};
 
 use crate::fault::Fault;
-use crate::files::{bytes_of, header_on, no_file, open, say_cause, shown, take_lock};
-use lazyset_commands::{Shelf, Standing, Status, grow_on};
+use crate::files::{header_on, no_file, open, say_cause, take_lock};
+use crate::over_disk::grow_over;
+use lazyset_commands::{Shelf, Standing, Status};
 use lz_disk::{DeviceFault, Disk, FileDisk, Lock};
 use lz_slot::{Format, Header};
 use std::fs::{File, Metadata, OpenOptions};
@@ -95,19 +96,19 @@ where
         stands: Standing::Old,
         cause: None,
     };
-    let mut old = shown(rt, file, old, None);
-    let mut new = shown(rt, beside.as_str(), new, bytes_of(slots));
-    let status = grow_on(
-        rt.alloc(),
+    let (status, old, new) = grow_over(
+        rt,
         writer,
-        &mut old,
-        &mut new,
+        file,
+        old,
+        beside.as_str(),
+        new,
         &mut name,
-        format,
         slots,
+        format,
     );
-    say_cause(rt, file, old.end().cause());
-    say_cause(rt, beside.as_str(), new.end().cause());
+    say_cause(rt, file, old.cause());
+    say_cause(rt, beside.as_str(), new.cause());
     after_growing(rt, &name);
     Ok(status)
 }

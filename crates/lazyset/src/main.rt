@@ -15,6 +15,7 @@ mod handed;
 mod heard;
 mod level;
 mod log;
+mod over_disk;
 mod ready;
 mod seldom;
 mod service;

@@ -19,10 +19,14 @@ impl<'a, 'b, R: Eprint + Clock, D: Disk> ShownDisk<'a, 'b, R, D> {
         ShownDisk { disk, share }
     }
 
-    /// The work is done.
-    pub fn end(&mut self) -> &D {
-        self.share.end();
-        &self.disk
+    /// The work is done: the disk as it is.
+    pub fn end(self) -> D
+        ensures { result ≡ self.entry.disk }
+    {
+        let ShownDisk { disk, share } = self;
+        let mut share = share;
+        share.end();
+        disk
     }
 }
 

@@ -63,13 +63,13 @@ unsettled_of_another_key : Glances 9 (Ok (Unsettled 0)) (seeing []) (seeing E1) 
 unsettled_of_another_key h = ⊎_elim (λ is. none (ap (linking 9) is)) (λ is. none (ap (linking 9) is)) h.0.between.upto
   where
     none : linking 9 h.0.then ≡ 0 → ⊥
-    none no = let some = h.0.some in absurd (omega (arith, no, some))
+    none zero_is = let some = h.0.some in absurd (omega (arith, zero_is, some))
 
 unsettled_in_another_slot : Glances 12 (Ok (Unsettled 1)) (seeing []) (seeing E1) → ⊥
 unsettled_in_another_slot h = ⊎_elim (λ is. none (ap (linking_in 1) is)) (λ is. none (ap (linking_in 1) is)) h.0.between.upto
   where
     none : linking_in 1 h.0.then ≡ 0 → ⊥
-    none no = let some = h.0.some in let same = h.0.in_slot in absurd (omega (arith, no, some, same))
+    none zero_is = let some = h.0.some in let same = h.0.in_slot in absurd (omega (arith, zero_is, some, same))
 
 unsettled_once_settled : Glances 12 (Ok (Unsettled 0)) (seeing E2) (seeing E2) → ⊥
 unsettled_once_settled h =
@@ -82,20 +82,20 @@ glance_links h =
 
 -- once its pass has seen the halt it tells nothing of a key, and of a halt only then
 glance_halted_before : (told : Glance) → Glances 9 (Ok told) (seeing (halted ∷ [])) (seeing (halted ∷ [])) → ⊥
-glance_halted_before Yes h = let no = h.2 in absurd (omega (arith, no))
-glance_halted_before No h = let no = h.2 in absurd (omega (arith, no))
-glance_halted_before (Unsettled s) h = let no = h.2 in absurd (omega (arith, no))
+glance_halted_before Yes h = let says = h.2 in absurd (omega (arith, says))
+glance_halted_before No h = let says = h.2 in absurd (omega (arith, says))
+glance_halted_before (Unsettled s) h = let says = h.2 in absurd (omega (arith, says))
 
 not_halted_yet : Glances 9 (Err Halted) (seeing E1) (seeing E1) → ⊥
-not_halted_yet h = let no = h.0 in absurd (omega (arith, no))
+not_halted_yet h = let says = h.0 in absurd (omega (arith, says))
 
 -- it is worn only at the last pin, and busy only inside
 not_worn_yet : Glances 9 (Err Worn) (seeing []) (seeing []) → ⊥
-not_worn_yet h = let no = h.0 in absurd (omega (arith, no))
+not_worn_yet h = let says = h.0 in absurd (omega (arith, says))
 
 not_busy_outside : Glances 9 (Err BusyPass) (seeing []) (seeing []) → ⊥
-not_busy_outside h = let no = h.0 in absurd (omega (arith, no))
+not_busy_outside h = let says = h.0 in absurd (omega (arith, says))
 
 -- a glance that told something went inside and out
 not_turned : Turns (Ok No) (seeing []) (seeing []) → ⊥
-not_turned no = absurd (omega (arith, no))
+not_turned says = absurd (omega (arith, says))

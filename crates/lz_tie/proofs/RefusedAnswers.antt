@@ -87,7 +87,7 @@ not_full_after_a_linking new h = let is = own_since 1 E1 h.changes.since h.chang
 
 -- a call is cut off only once the halt is seen, and may have changed what its command changes
 not_cut_before_the_halt : WasCut 1 (Add 12) [] E1 → ⊥
-not_cut_before_the_halt h = let no = h.halted in absurd (omega (arith, no))
+not_cut_before_the_halt h = let says = h.halted in absurd (omega (arith, says))
 
 cut_has_links : WasCut 1 (Has 12) [] (halted ∷ E1) → ⊥
 cut_has_links h =

@@ -1,0 +1,147 @@
+//! What the program does to a disk that it has opened, whichever disk that is: so of an honest one it is promised what a crash leaves.
+ghost use Rattle.std.specs.Prelude.{◌≡◌, ◌⊎◌, ◌≤◌, ℕ, List, [], IsTrue};
+ghost use Rattle.lz_slot.specs.Bytes.{Holds, format_of};
+ghost use Rattle.lz_slot.specs.Limits.{last_room, most_buckets};
+ghost use Rattle.lz_slot.specs.Rooms.{last_room_of};
+ghost use Rattle.lz_slot.specs.Sets.{Keys, members};
+ghost use Rattle.lz_disk.specs.Images.{IsImage};
+ghost use Rattle.lz_disk.specs.Devices.{LeavesOnly};
+ghost use Rattle.lz_vault.specs.Makes.{IsUnmadeOrHolds};
+ghost use Rattle.lazyset_offline.specs.Growths.{IsLeftOrHolds, MayBeLeft};
+ghost use Rattle.lazyset_offline.specs.Listings.{LeavesListed};
+ghost use Rattle.lazyset_offline.specs.Refusals.{FailedOpen};
+ghost use Rattle.lazyset_commands.specs.PlainReplies.{PassMayAnswer};
+ghost use Rattle.lazyset_commands.specs.Runs.{SessionOfSet};
+
+use crate::files::{bytes_of, shown};
+use lazyset_commands::{Shelf, Standing, Status, grow_on, make_keys_on, make_on, renew_on, run_on};
+use lz_disk::Disk;
+use lz_slot::Format;
+use std::fs::File;
+use std::io::{Read, Write};
+use std::rt::Files;
+use std::sync::Wait;
+use std::time::Clock;
+
+/// Makes a file on the disk of this path, and hands the disk back.
+pub fn make_over<R, W, D>(
+    rt: &R,
+    writer: &mut W,
+    path: &str,
+    disk: D,
+    slots: u64,
+    format: Format,
+) -> (Status, D)
+where
+    R: Files<File = File> + Eprint + Clock,
+    W: Write + Drop,
+    D: Disk,
+    ensures { IsTrue (D.device disk).honest
+        → LeavesOnly (D.device disk) (D.device result.1) (λ t. IsImage (D.device disk).medium t ⊎ IsUnmadeOrHolds slots (members []) t) }
+{
+    let mut disk = shown(rt, path, disk, bytes_of(slots));
+    let status = make_on(writer, &mut disk, slots, format);
+    (status, disk.end())
+}
+
+/// Makes a file of the keys that the reader lists on the disk of this path, and hands the disk back.
+pub fn make_keys_over<R, I, W, D>(
+    rt: &R,
+    reader: &mut I,
+    writer: &mut W,
+    path: &str,
+    disk: D,
+    slots: u64,
+    format: Format,
+) -> (Status, D)
+where
+    R: Files<File = File> + Eprint + Clock + AllocGlobal,
+    I: Read,
+    W: Write + Drop,
+    D: Disk,
+    ensures { IsTrue (D.device disk).honest → LeavesListed format slots (I.remaining reader.old) (D.device disk) (D.device result.1) }
+{
+    let mut disk = shown(rt, path, disk, bytes_of(slots));
+    let status = make_keys_on(rt.alloc(), reader, writer, &mut disk, slots, format);
+    (status, disk.end())
+}
+
+/// Renews the file on the disk of one path into that of another one, and hands both disks back.
+pub fn renew_over<R, W, O, N>(
+    rt: &R,
+    writer: &mut W,
+    old_path: &str,
+    old: O,
+    new_path: &str,
+    new: N,
+    slots: u64,
+    format: Format,
+) -> (Status, O, N)
+where
+    R: Files<File = File> + Eprint + Clock + AllocGlobal,
+    W: Write + Drop,
+    O: Disk,
+    N: Disk,
+    requires { last_room_of format ≡ last_room }
+    ensures { IsTrue (O.device old).honest → IsTrue (N.device new).honest → (n : ℕ) (S : Keys) → Holds (O.device old).medium.seen n S
+        → ((t : List ℕ) → IsImage (N.device new).medium t → IsUnmadeOrHolds slots S t)
+        → LeavesOnly (N.device new) (N.device result.2) (IsUnmadeOrHolds slots S) }
+{
+    let mut old = shown(rt, old_path, old, None);
+    let mut new = shown(rt, new_path, new, bytes_of(slots));
+    let status = renew_on(rt.alloc(), writer, &mut old, &mut new, format, slots);
+    (status, old.end(), new.end())
+}
+
+/// Grows the file on the disk of one path into that of another one, which takes the name that the shelf has, and hands both disks back.
+pub fn grow_over<R, W, O, N, P>(
+    rt: &R,
+    writer: &mut W,
+    old_path: &str,
+    old: O,
+    new_path: &str,
+    new: N,
+    shelf: &mut P,
+    slots: u64,
+    format: Format,
+) -> (Status, O, N)
+where
+    R: Files<File = File> + Eprint + Clock + AllocGlobal,
+    W: Write + Drop,
+    O: Disk,
+    N: Disk,
+    P: Shelf,
+    requires rooms { last_room_of format ≡ last_room }
+    requires stands { P.stands shelf.old ≡ Standing.Old }
+    ensures { IsTrue (O.device old).honest → IsTrue (N.device new).honest → (n : ℕ) (S : Keys) → Holds (O.device old).medium.seen n S
+        → (t : List ℕ) → MayBeLeft (O.device old) (O.device result.1) (N.device result.2) (P.stands shelf.new) t → IsLeftOrHolds (O.device old) S t }
+{
+    let mut old = shown(rt, old_path, old, None);
+    let mut new = shown(rt, new_path, new, bytes_of(slots));
+    let status = grow_on(rt.alloc(), writer, &mut old, &mut new, shelf, format, slots);
+    (status, old.end(), new.end())
+}
+
+/// Serves a session over the disk of this path, and hands the disk back.
+pub fn run_over<R, I, W, D>(
+    rt: &R,
+    reader: &mut I,
+    writer: &mut W,
+    path: &str,
+    disk: D,
+    buckets: usize,
+) -> (Status, D)
+where
+    R: Files<File = File> + Eprint + AllocGlobal + Wait + Clock,
+    I: Read + Drop,
+    W: Write + Drop,
+    D: Disk,
+    requires { (1 ≤ buckets) × (buckets ≤ most_buckets) }
+    ensures { (N : ℕ) (S : Keys) → IsTrue (D.device disk).honest → Holds (D.device disk).medium.seen N S
+        → SessionOfSet (PassMayAnswer (format_of (D.device disk).medium.seen) N) N S result.0 (I.remaining reader.old) (I.remaining reader.new) (W.contents writer.old) (W.contents writer.new) (D.device disk) (D.device result.1)
+        ⊎ FailedOpen result.0 (W.contents writer.old) (W.contents writer.new) (D.device disk) (D.device result.1) }
+{
+    let disk = shown(rt, path, disk, None);
+    let (status, disk) = run_on(rt, reader, writer, disk, buckets);
+    (status, disk.end())
+}
