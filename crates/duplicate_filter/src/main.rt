@@ -2,9 +2,11 @@
 //! over restarts too. `docs/IN_PROCESS.md` tells what that rests on.
 #![tactic(auto)]
 
-ghost use Rattle.std.specs.Prelude.{◌≡◌, ◌↔◌, true, All, IsTrue, Ok};
+ghost use Rattle.std.specs.Prelude.{◌≡◌, ◌↔◌, true, All, IsTrue, List, Ok};
 ghost use Rattle.lz_board.specs.Seats.{part};
+ghost use Rattle.lz_board.specs.declared.view.Note.{Note};
 ghost use Rattle.lz_set.specs.Blanks.{MayBeNamed};
+ghost use Rattle.lz_set.specs.Left.{IsLeft};
 ghost use Rattle.lz_set.specs.Names.{MayCall};
 ghost use Rattle.duplicate_filter.specs.Filters.{Filters};
 
@@ -119,6 +121,7 @@ where
     N: Named + Send + Sync,
     R: Threads + Wait + AllocGlobal + Sync,
     requires { MayBeNamed D.device N.board N.first N.format blank }
+    ensures { (ns : List Note) × IsLeft N.board N.first ns (D.device result.1) }
 {
     let (set, passes) = blank.start::<N>();
     let new = handle_all(rt, &set, passes);
