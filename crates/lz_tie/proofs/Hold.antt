@@ -12,4 +12,5 @@ pub mod PlayedCall
 pub mod JoinedStep
 pub mod PinSight
 pub mod OneHold
+pub mod CoveredSync
 pub mod FoundEvent

@@ -13,6 +13,7 @@ pub mod SessionRows
 pub mod KeyByKeyRows
 pub mod LoneClientRows
 pub mod MomentRows
+pub mod CoveredRows
 pub mod Calls
 pub mod Marks
 pub mod Sessions

@@ -1,14 +1,18 @@
 -- What a hold of the lock promises the pass.
-use Rattle.std.specs.Prelude.{◌≡◌, suc, ◌<◌, ◌≤◌, List, [], ◌∷◌, None}
+use Rattle.std.specs.Prelude.{◌≡◌, ◌≢◌, ℕ, suc, ◌<◌, ◌≤◌, true, List, [], ◌∷◌, None}
 use Rattle.lz_slot.specs.declared.command.Command.{Command}
 use Rattle.lz_slot.specs.declared.format.Format.{Format}
 use Rattle.lz_slot.specs.declared.history.Mark.TheVariants.{Call}
 use Rattle.lz_slot.specs.Limits.{largest_key}
 use Rattle.lz_slot.specs.Sets.{key_of}
 use Rattle.lz_disk.specs.Devices.{Device}
+use Rattle.lz_vault.specs.Vaults.{NoCall, Succeeds}
 use Rattle.lz_machine.specs.declared.event.Event.{Event}
-use Rattle.lz_machine.specs.declared.event.Event.TheVariants.{Invoke, SeePin}
+use Rattle.lz_machine.specs.declared.event.Event.TheVariants.{Invoke, SeePin, Sync}
+use Rattle.lz_machine.specs.declared.event.Outcome.{Outcome}
 use Rattle.lz_machine.specs.declared.event.Outcome.TheVariants.{Fault}
+use Rattle.lz_machine.specs.Yards.{Yard}
+use Rattle.lz_machine.specs.Table.{is_sure}
 use Rattle.lz_machine.specs.Calls.{event_at}
 use Rattle.lz_machine.specs.Laws.{hop_of}
 use Rattle.lz_machine.specs.Orders.{Calling}
@@ -43,6 +47,10 @@ pub record Began (b : BoardId) (F : Format) (was is : List Note) (c : Command) (
 abbrev pub found_for : Event → List Note → List Note
 found_for (SeePin q v) was = found_note q v ∷ was
 found_for e was = was
+
+-- Where the event is the Sync of a slot whose last write was durable in this yard, it called no device, and so it didn't fail.
+abbrev pub SparesDevice : Yard → Event → Outcome → Device → Device → Type 0
+SparesDevice y e o old new = (slot : ℕ) → e ≡ Sync slot → is_sure y slot ≡ true → (o ≢ Fault) × Succeeds NoCall old new
 
 -- The next event of the call that k counts was played on the notes `found`. In a set of one pass nothing was published that the
 -- pass hasn't seen, and nothing changed since the life began but by it.

@@ -2,6 +2,7 @@
 ghost use Rattle.std.specs.Prelude.{◌≡◌, ◌⊎◌, ◌≤◌, ◌<◌};
 ghost use Rattle.lz_vault.specs.Vaults.{last_sync};
 ghost use Rattle.lz_list.specs.Traces.{halt_word};
+ghost use Rattle.lz_machine.specs.Table.{is_sure};
 ghost use Rattle.lz_board.specs.Notes.{trace_of};
 ghost use Rattle.lz_board.specs.Seats.{IsPenOf, notes};
 ghost use Rattle.lz_tie.specs.Holds.{IsLocked};
@@ -11,6 +12,7 @@ ghost use Rattle.lz_tie.specs.Moments.{ExplainedSince, LeftSince};
 use crate::named::Named;
 use lz_board::Pen;
 use lz_disk::Disk;
+use lz_slot::Slot;
 use lz_yard::Yard;
 use std::marker::{Model, PhantomData};
 
@@ -50,6 +52,13 @@ impl<N: Named, D: Disk> Locked<N, D> {
             pen,
             of: PhantomData,
         }
+    }
+
+    /// Whether the last write of this slot is durable, so that its Sync calls no device.
+    pub fn is_covered(&self, slot: Slot) -> bool
+        ensures { result ≡ is_sure self.now.yard slot }
+    {
+        self.yard.is_covered(slot)
     }
 
     /// What a crash at any moment of the life might have left: each such text is one that may be left in the state to which

@@ -23,7 +23,7 @@ ghost use Rattle.lz_board.specs.Seats.{IsOf, id_of, part};
 ghost use Rattle.lz_tie.specs.Answers.{Answers};
 ghost use Rattle.lz_tie.specs.Marks.{Shows, calls_in, last_call_number};
 ghost use Rattle.lz_tie.specs.Counting.{Counts, CountsOn, IsCounted};
-ghost use Rattle.lz_tie.specs.Held.{Advanced};
+ghost use Rattle.lz_tie.specs.Held.{Advanced, SparesDevice};
 ghost use Rattle.lz_tie.specs.Moments.{HoldExplains};
 ghost use Rattle.lz_tie.specs.Holds.{HoldNotes, IsIdle, begins_with};
 ghost use Rattle.lz_tie.specs.OneCaller.{IsPlainAnswer, keys_in};
@@ -135,6 +135,7 @@ impl<N: Named, D: Disk> Locked<N, D> {
         ensures shows { Shows (shape_of_sizes N.board.sizes) self.old.notes self.new.notes [] }
         ensures advanced { Advanced N.board self.old.notes self.new.notes caller.old result (part pass.old) (part pass.new) }
         ensures device { result.outcome ≡ Fault → (D.device self.old.disk).faults < (D.device self.new.disk).faults }
+        ensures covered { SparesDevice self.old.yard event result.outcome (D.device self.old.disk) (D.device self.new.disk) }
         ensures caller { caller.new ≡ record caller.old { progress = progress_after (shape_with caller.old) caller.old.command caller.old.progress result.outcome } }
         ensures goes { CountsOn N.board caller.old (part pass.old) caller.new (part pass.new) }
     {

@@ -6,6 +6,7 @@ ghost use Rattle.lz_machine.specs.declared.event.Outcome.TheVariants.{Fault};
 ghost use Rattle.lz_machine.specs.Orders.{Calling};
 ghost use Rattle.lz_board.specs.Notes.{note_by};
 ghost use Rattle.lz_board.specs.Seats.{Carries, IsAtHand, carried, id_of, notes};
+ghost use Rattle.lz_tie.specs.Held.{SparesDevice};
 ghost use Rattle.lz_tie.specs.Holds.{HoldNotes, InHold, IsTurn, MayTurn, Turned, begins_with, what_of};
 ghost use Rattle.lz_tie.specs.Lives.{KeepsLife};
 ghost use Rattle.lz_tie.specs.Moments.{MomentsGoOn};
@@ -58,6 +59,7 @@ pub(crate) fn play_joined<D: Disk>(
     ensures moments { MomentsGoOn (id_of board.now) (notes pen.old) (notes pen.new) (D.device yard.old.disk) (D.device yard.new.disk) }
     ensures life { KeepsLife yard.old.yard (D.device yard.old.disk) yard.new.yard (D.device yard.new.disk) }
     ensures device { result.outcome ≡ Fault → (D.device yard.old.disk).faults < (D.device yard.new.disk).faults }
+    ensures covered { SparesDevice yard.old.yard event result.outcome (D.device yard.old.disk) (D.device yard.new.disk) }
 {
     let number = pass.number();
     yard.note_pin(number, pass.pin());

@@ -9,7 +9,7 @@ ghost use Rattle.lz_yard.specs.Filling.{OpensYard};
 ghost use Rattle.lz_machine.specs.Ready.{IsEventOf};
 ghost use Rattle.lz_machine.specs.Runs.{MayPlay, with_words};
 ghost use Rattle.lz_yard.specs.Steps.{Played};
-ghost use Rattle.lz_machine.specs.Table.{needs};
+ghost use Rattle.lz_machine.specs.Table.{is_sure, needs};
 
 use crate::filling::Tables;
 use crate::parts::Parts;
@@ -18,7 +18,7 @@ use lz_allot::Counts;
 use lz_disk::Disk;
 use lz_list::{Word, Words};
 use lz_machine::{Course, Event, Outcome};
-use lz_slot::Format;
+use lz_slot::{Format, Slot};
 use lz_vault::{OpenFault, Opened, Refused, Vault};
 use std::alloc::{AllocError, Global};
 use std::marker::Model;
@@ -119,6 +119,13 @@ impl<D: Disk> Yard<D> {
         ensures { result ≡ self.now.yard.shape.slots }
     {
         self.parts.slots
+    }
+
+    /// Whether the last write of this slot is durable, so that its Sync calls no device. Where there is no such slot none is called either.
+    pub fn is_covered(&self, slot: Slot) -> bool
+        ensures { result ≡ is_sure self.now.yard slot }
+    {
+        slot.index() as usize >= self.parts.slots || self.parts.is_sure(slot)
     }
 
     /// How many slots are free, taken and in limbo.

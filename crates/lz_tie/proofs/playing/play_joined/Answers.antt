@@ -6,6 +6,7 @@ use Rattle.lz_board.specs.Notes.{note_by}
 use Rattle.lz_board.specs.Seats.{IsAtHand, carried, id_of, notes}
 use Rattle.lz_list.specs.declared.word.Word.TheVariants.{Pin as pin_at}
 use Rattle.lz_tie.specs.Holds.{InHold, HoldNotes, what_of}
+use Rattle.lz_tie.proofs.Hold.CoveredSync.{spares}
 use Rattle.lz_tie.proofs.Hold.Exchanges.{of_none, of_pin, of_word}
 use Rattle.lz_tie.proofs.Hold.Joining.{hand_noted, hand_moved}
 use Rattle.lz_tie.proofs.Hold.JoinedStep as joined
@@ -126,3 +127,8 @@ returns-clause-life g c =
 pub returns-clause-device : goal.returns-clause-device
 returns-clause-device g c = λ fault.
     subst (λ (d : Device). d.faults < (g.D.Disk.device c.step.new.self.disk).faults) (ap (λ d. g.D.Disk.device d) c.note_pin.ensures.disk) (c.step.ensures.played.failed fault).call.faults
+
+pub returns-clause-covered : goal.returns-clause-covered
+returns-clause-covered g c =
+    spares c.args.yard.now.yard c.note_pin.new.self.yard c.number-number.result c.pin.result c.note_pin.ensures.yard c.number-number.result c.args.event c.step.result.outcome c.step.new.self.yard c.step.result.told
+    (g.D.Disk.device c.args.yard.now.disk) (g.D.Disk.device c.note_pin.new.self.disk) (g.D.Disk.device c.step.new.self.disk) (ap (λ d. g.D.Disk.device d) c.note_pin.ensures.disk) c.step.ensures.played

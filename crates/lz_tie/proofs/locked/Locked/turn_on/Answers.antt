@@ -1,12 +1,13 @@
-use Rattle.std.proofs.Common.{◌≡◌, List, refl, sym, ap, ◌∙◌, subst}
+use Rattle.std.proofs.Common.{◌≡◌, ℕ, List, refl, sym, ap, ◌∙◌, subst}
 use Rattle.lz_machine.specs.declared.event.Event.{Event}
+use Rattle.lz_machine.specs.declared.event.Event.TheVariants.{Sync}
 use Rattle.lz_machine.specs.Laws.{hop_of}
 use Rattle.lz_board.specs.declared.view.Note.{Note}
 use Rattle.lz_board.specs.declared.view.Part.{Part}
 use Rattle.lz_board.specs.Addresses.{IsWalkable}
 use Rattle.lz_board.specs.Seats.{BoardId, IsPenOf, carried, id_of, notes, part}
 use Rattle.lz_tie.specs.declared.locked.Locked.TheInside.{Inside}
-use Rattle.lz_tie.specs.Held.{WentOn}
+use Rattle.lz_tie.specs.Held.{SparesDevice, WentOn}
 use Rattle.lz_tie.specs.Holds.{IsLocked}
 use Rattle.lz_tie.proofs.Calls.CountedMoves.{counted_on, is_next, no_end_shows, no_invoke}
 use Rattle.lz_tie.proofs.Hold.FoundEvent.{Finds, looks, may, others, played}
@@ -122,3 +123,15 @@ pub returns-clause-goes : goal.returns-clause-goes
 returns-clause-goes g c = λ asked format before C.
     counted_on g.N.Named.board asked format before c.args.caller.now (part c.args.pass.now) C
     (subst (λ (b : BoardId). IsWalkable b.sizes) c.requires.board c.args.board.now.walkable) _ _ c.play_joined-turn.result (part c.cut.new.pass) (gone g c).advanced (ap hop_of (sym c.requires.event) ∙ c.requires.load) c.requires.going c.take.new.self c.take.ensures
+
+-- a Sync is played as it is
+sync_found : (g : Over) (c : After-take g) (slot : ℕ) → c.args.event ≡ Sync slot → c.match-event.found ≡ Sync slot
+sync_found g c slot is = elim c.match-event.branch [
+  | in-SeePin w ↦ let seen = w.in-SeePin.is in absurd cc
+  | in_default w ↦ w.found-is ∙ is
+]
+
+pub returns-clause-covered : goal.returns-clause-covered
+returns-clause-covered g c =
+    let x = c.play_joined-turn in
+    rw (← c.self.view_is) (subst (λ yard. SparesDevice yard.yard c.args.event x.result.outcome (g.D.Disk.device yard.disk) (g.D.Disk.device x.new.yard.disk)) (same_yard g c) (λ slot is. x.ensures.covered slot (sync_found g c slot is)))
