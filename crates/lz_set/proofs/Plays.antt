@@ -1,5 +1,5 @@
 -- What a hold has played.
-use Rattle.std.proofs.Common.{◌≡◌, ◌≢◌, ℕ, List, [], ◌∷◌, ◌++◌, map, Option, Some, refl, sym, ap, ◌∙◌, subst, append_assoc}
+use Rattle.std.proofs.Common.{◌≡◌, ◌≢◌, ℕ, false, IsSomeAnd, List, [], ◌∷◌, ◌++◌, map, Option, Some, refl, sym, ap, ◌∙◌, subst, append_assoc}
 use Rattle.std.proofs.lemmas.Option.{none-some, same_Some}
 use Rattle.lz_slot.specs.declared.command.Command.{Command}
 use Rattle.lz_slot.specs.declared.format.Format.{Format}
@@ -10,7 +10,7 @@ use Rattle.lz_machine.specs.declared.caller.Progress.TheVariants.{Playing, Loads
 use Rattle.lz_machine.specs.declared.event.Event.{Event}
 use Rattle.lz_machine.specs.declared.event.Event.TheVariants.{SeePin, Sync as SyncOf}
 use Rattle.lz_machine.specs.declared.event.Outcome.{Outcome}
-use Rattle.lz_machine.specs.declared.event.Outcome.TheVariants.{OldFile}
+use Rattle.lz_machine.specs.declared.event.Outcome.TheVariants.{OldFile, Fault}
 use Rattle.lz_machine.specs.declared.event.Reply.{Reply}
 use Rattle.lz_machine.specs.Calls.{event_at, loaded}
 use Rattle.lz_machine.specs.declared.kind.Kind.{Kind}
@@ -18,17 +18,21 @@ use Rattle.lz_machine.specs.declared.kind.Kind.TheVariants.{Hop, Invoke, Sync}
 use Rattle.lz_machine.specs.Kinds.{kind_of}
 use Rattle.lz_machine.specs.Orders.{Calling, shape_with}
 use Rattle.lz_machine.specs.Runs.{reply_at}
+use Rattle.lz_machine.specs.Table.{is_sure}
 use Rattle.lz_machine.specs.Yards.{Shape}
 use Rattle.lz_caller.specs.Begun.{begun_after}
 use Rattle.lz_board.specs.declared.view.Note.{Note}
 use Rattle.lz_board.specs.declared.view.Part.{Part}
 use Rattle.lz_board.specs.declared.view.Load.{Load}
-use Rattle.lz_board.specs.declared.view.What.TheVariants.{Called, Played}
+use Rattle.lz_board.specs.declared.view.What.{What}
+use Rattle.lz_board.specs.declared.view.What.TheVariants.{Called, Played, Found}
 use Rattle.lz_board.specs.Notes.{load_note, note_by}
 use Rattle.lz_board.specs.Seats.{BoardId}
 use Rattle.lz_tie.specs.declared.playing.Turn.{Turn}
 use Rattle.lz_tie.specs.Held.{Advanced}
-use Rattle.lz_set.specs.Stages.{HasPlayed, NoneOf, PlaysOne, StepsOn, StepsWithout}
+use Rattle.lz_tie.specs.Counting.{Counts, CountsOn}
+use Rattle.lz_tie.specs.Holds.{LockedOver}
+use Rattle.lz_set.specs.Stages.{HasPlayed, IsUncovered, NoneOf, PlaysOne, StandsUncovered, StepsBut, StepsOn, StepsUnfailed, StepsWithout, kind_of_failed, kind_of_step}
 
 -- neither a loaded pin word nor the yard's shape makes it another kind of event
 kind_loaded : (words : Words) (e : Event) → kind_of (loaded words e) ≡ kind_of e
@@ -70,13 +74,13 @@ played_then kind h mid h' one p =
     (p.0, p.1, p.2, p.3 ++ one.0, p.4 ∙ ap (λ (l : List Note). n ∷ (p.3 ++ l)) one.1 ∙ ap (λ (l : List Note). n ∷ l) (sym (append_assoc p.3 one.0 h.steps)), p.5)
 
 -- loads are no syncs
-loads_without : (p : ℕ) (loads : List Load) → NoneOf Sync (map (load_note p) loads)
+loads_without : (p : ℕ) (loads : List Load) → NoneOf kind_of_step Sync (map (load_note p) loads)
 loads_without p [] = tt
 loads_without p (h ∷ hs) = ((λ is. let same : Hop ≡ Sync = same_Some Hop Sync is in cc), loads_without p hs)
 
-none_both : (kind : Kind) (new old : List Note) → NoneOf kind new → NoneOf kind old → NoneOf kind (new ++ old)
-none_both kind [] old one two = two
-none_both kind (n ∷ ns) old one two = (one.0, none_both kind ns old one.1 two)
+none_both : (kind_in : What → Option Kind) (kind : Kind) (new old : List Note) → NoneOf kind_in kind new → NoneOf kind_in kind old → NoneOf kind_in kind (new ++ old)
+none_both kind_in kind [] old one two = two
+none_both kind_in kind (n ∷ ns) old one two = (one.0, none_both kind_in kind ns old one.1 two)
 
 -- nor is an event of another kind
 pub one_without : (kind : Kind) (h h' : Part) → kind ≢ Sync → PlaysOne kind h h' → StepsWithout Sync h h'
@@ -86,9 +90,39 @@ one_without kind h h' other p = (
   ((λ is. other (sym p.4 ∙ same_Some _ _ is)), loads_without h.number h.loads),
 )
 
-pub without_then : (kind : Kind) (h mid h' : Part) → StepsWithout kind h mid → StepsWithout kind mid h' → StepsWithout kind h h'
-without_then kind h mid h' one two =
-    (two.0 ++ one.0, two.1 ∙ ap (λ (l : List Note). two.0 ++ l) one.1 ∙ sym (append_assoc two.0 one.0 h.steps), none_both kind two.0 one.0 two.2 one.2)
+pub without_then : (kind_in : What → Option Kind) (kind : Kind) (h mid h' : Part) → StepsBut kind_in kind h mid → StepsBut kind_in kind mid h' → StepsBut kind_in kind h h'
+without_then kind_in kind h mid h' one two =
+    (two.0 ++ one.0, two.1 ∙ ap (λ (l : List Note). two.0 ++ l) one.1 ∙ sym (append_assoc two.0 one.0 h.steps), none_both kind_in kind two.0 one.0 two.2 one.2)
+
+-- where no event of a kind was played, none failed
+pub so_unfailed : (kind : Kind) (h h' : Part) → StepsWithout kind h h' → StepsUnfailed kind h h'
+so_unfailed kind h h' one = (one.0, one.1, go one.0 one.2)
+  where
+    what : (w : What) → kind_of_step w ≢ Some kind → kind_of_failed w ≢ Some kind
+    what (Played e Fault) other = other
+    what (Played e o) other = none-some kind
+    what (Called c F) other = none-some kind
+    what (Found q v) other = none-some kind
+
+    go : (ns : List Note) → NoneOf kind_of_step kind ns → NoneOf kind_of_failed kind ns
+    go [] none = tt
+    go (n ∷ ns) none = (what n.what none.0, go ns none.1)
+
+-- a hold whose event didn't fail
+pub turned_unfailed : (b : BoardId) (was is : List Note) (k : Calling) (t : Turn) (before after : Part) → Advanced b was is k t before after → t.outcome ≢ Fault → StepsUnfailed Sync before after
+turned_unfailed b was is k t before after a done = (
+  note_by before.number (Played a.event t.outcome) t.published.value ∷ map (load_note before.number) before.loads,
+  a.holds.steps,
+  (what t.outcome done, loads before.loads),
+)
+  where
+    what : (o : Outcome) → o ≢ Fault → kind_of_failed (Played a.event o) ≢ Some Sync
+    what Fault done = absurd (done refl)
+    what o done = none-some Sync
+
+    loads : (hs : List Load) → NoneOf kind_of_failed Sync (map (load_note before.number) hs)
+    loads [] = tt
+    loads (h ∷ hs) = (none-some Sync, loads hs)
 
 -- a call that was just made: its pass has the loads that it had made, and the step that made it
 pub call_without : (F : Format) (c : Command) (x : Option Publishing) (h h' : Part) → h'.steps ≡ note_by h.number (Called c F) x ∷ (map (load_note h.number) h.loads ++ h.steps) → StepsWithout Sync h h'
@@ -98,11 +132,7 @@ call_without F c x h h' steps = (
   ((λ is. let same : Invoke ≡ Sync = same_Some Invoke Sync is in cc), loads_without h.number h.loads),
 )
 
--- events that are no syncs: by their shape, the first of a call, and its last
-pub not_sync : (e : Event) → ((s : ℕ) → e ≢ SyncOf s) → kind_of e ≢ Sync
-not_sync (SyncOf s) other = absurd (other s refl)
-not_sync e other = λ is. cc
-
+-- events that are no syncs: the first of a call, and its last
 pub begins_otherwise : (k : Calling) (o : Outcome) → k.progress ≡ begun_after o → kind_of (event_at (shape_with k) k.command k.progress) ≢ Sync
 begins_otherwise k o at = subst (λ (p : Progress). kind_of (event_at (shape_with k) k.command p) ≢ Sync) (sym at) (go o)
   where
@@ -117,9 +147,23 @@ answers_otherwise k reply = go k.progress
     go (Answering other) is = λ is. cc
     go at is = absurd (none-some reply is)
 
--- loads of a walk make no step, and the hold after them is of an event that is no sync
-pub walked_without : (h mid h' : Part) → StepsWithout Sync h mid → h'.steps ≡ mid.steps → StepsWithout Sync h h'
-walked_without h mid h' one same = (one.0, same ∙ one.1, one.2)
+-- loads of a walk make no step
+pub walked_unfailed : (h mid h' : Part) → StepsUnfailed Sync h mid → h'.steps ≡ mid.steps → StepsUnfailed Sync h h'
+walked_unfailed h mid h' one same = (one.0, same ∙ one.1, one.2)
 
-pub turned_without : (e : Event) (h mid h' : Part) → ((s : ℕ) → e ≢ SyncOf s) → StepsWithout Sync h mid → PlaysOne (kind_of e) mid h' → StepsWithout Sync h h'
-turned_without e h mid h' other one p = without_then Sync h mid h' one (one_without (kind_of e) mid h' (not_sync e other) p)
+-- and the hold after them is of an event that is no sync, or of one that didn't fail
+pub held_unfailed : (e : Event) (h mid h' : Part) → StepsUnfailed Sync h mid → PlaysOne (kind_of e) mid h' → ((s : ℕ) → e ≡ SyncOf s → StepsUnfailed Sync mid h') → StepsUnfailed Sync h h'
+held_unfailed e h mid h' one p covered = without_then kind_of_failed Sync h mid h' one (go e p covered)
+  where
+    go : (e : Event) → PlaysOne (kind_of e) mid h' → ((s : ℕ) → e ≡ SyncOf s → StepsUnfailed Sync mid h') → StepsUnfailed Sync mid h'
+    go (SyncOf s) p covered = covered s refl
+    go e p covered = so_unfailed Sync mid h' (one_without (kind_of e) mid h' (λ is. cc) p)
+
+-- before a Sync whose slot isn't covered, as was seen under the lock that is kept
+pub stands_uncovered : {D : Type 0} (kept : Option (LockedOver D)) (seen held : LockedOver D) (k : Calling) (e : Event) → kept ≡ Some held → seen ≡ held → e ≡ event_at (shape_with k) k.command k.progress → IsUncovered seen.yard e
+    → IsSomeAnd kept (λ l. StandsUncovered l.yard k)
+stands_uncovered {D} kept seen held k e keeps same next sync =
+    subst (λ (o : Option (LockedOver D)). IsSomeAnd o (λ l. StandsUncovered l.yard k)) (sym keeps) (sync.0, sym next ∙ sync.1, subst (λ (l : LockedOver D). is_sure l.yard sync.0 ≡ false) same sync.2)
+
+pub same_counts : (b : BoardId) (k : Calling) (h : Part) (is k' : Calling) (h' : Part) → is ≡ k' → CountsOn b k h k' h' → CountsOn b k h is h'
+same_counts b k h is k' h' same on = λ c format before counts. subst (λ (q : Calling). Counts b c format before q h') (sym same) (on c format before counts)

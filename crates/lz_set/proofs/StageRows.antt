@@ -1,14 +1,15 @@
 -- Worked rows: where calls stand that stopped.
 use Rattle.std.proofs.Common.{◌≡◌, ◌≢◌, List, [], ◌∷◌, ◌++◌, length, Option, Some, None, is_some, refl, sym, ap, arith, length-append}
-use Rattle.std.proofs.lemmas.Option.{same_Some}
+use Rattle.std.proofs.lemmas.Option.{none-some, same_Some}
 use mathlib.Core.Bool.{false≢true}
 use Rattle.lz_slot.specs.declared.command.Command.TheVariants.{Add}
 use Rattle.lz_slot.specs.declared.format.Format.TheVariants.{One}
+use Rattle.lz_vault.specs.declared.vault.Stage.TheVariants as cell
 use Rattle.lz_list.specs.declared.place.Place.TheVariants.{Bucket}
 use Rattle.lz_machine.specs.declared.caller.Progress.{Progress}
 use Rattle.lz_machine.specs.declared.caller.Progress.TheVariants.{Playing, LoadsHalt, Claiming, Checking, Answering}
 use Rattle.lz_machine.specs.declared.caller.Sequence.TheVariants.{Adding}
-use Rattle.lz_machine.specs.declared.event.Event.TheVariants.{Claim, Sync}
+use Rattle.lz_machine.specs.declared.event.Event.TheVariants.{Claim, Sync, WriteOpen}
 use Rattle.lz_machine.specs.declared.event.Outcome.TheVariants as found
 use Rattle.lz_machine.specs.declared.event.Reply.TheVariants.{No}
 use Rattle.lz_machine.specs.declared.kind.Kind.{Kind}
@@ -19,8 +20,9 @@ use Rattle.lz_board.specs.declared.view.Part.{Part}
 use Rattle.lz_board.specs.declared.view.What.TheVariants.{Called, Played}
 use Rattle.lz_board.specs.Notes.{note_by}
 use Rattle.lz_board.specs.Plays.{no_sizes}
+use Rattle.lz_tie.proofs.CoveredRows.{yard_at}
 use Rattle.lz_set.specs.declared.underway.Stage.TheVariants.{Syncs, Busy, Answers}
-use Rattle.lz_set.specs.Stages.{HasPlayed, NoneOf, PlaysOne, StandsAt, StepsWithout, kind_of_step}
+use Rattle.lz_set.specs.Stages.{HasPlayed, IsUncovered, NoneOf, PlaysOne, StandsAt, StepsUnfailed, StepsWithout, kind_of_failed, kind_of_step}
 
 -- an adding of 9 in slot 1 that has come so far
 abbrev call_at : Progress → Calling
@@ -86,10 +88,48 @@ newest (n ∷ ns) = kind_of_step n.what
 synced_since : StepsWithout kind.Sync (pass_with []) (pass_with (sync ∷ [])) → ⊥
 synced_since h = go h.0 h.1 h.2
   where
-    go : (more : List Note) → sync ∷ [] ≡ more ++ [] → NoneOf kind.Sync more → ⊥
+    go : (more : List Note) → sync ∷ [] ≡ more ++ [] → NoneOf kind_of_step kind.Sync more → ⊥
     go [] is none = let same = ap length is in omega (arith, same)
     go (n ∷ ns) is none = none.0 (sym (ap newest is))
 
 -- a call that is made is an Invoke
-invoked : NoneOf kind.Invoke (note_by 1 (Called (Add 9) One) None ∷ []) → ⊥
+invoked : NoneOf kind_of_step kind.Invoke (note_by 1 (Called (Add 9) One) None ∷ []) → ⊥
 invoked h = h.0 refl
+
+-- a sync that was done may be one that called no device; one that failed called it
+done_since : StepsUnfailed kind.Sync (pass_with []) (pass_with (sync ∷ []))
+done_since = (sync ∷ [], refl, (none-some kind.Sync, tt))
+
+abbrev failed : Note
+failed = note_by 1 (Played (Sync 1) found.Fault) None
+
+failed_before : StepsUnfailed kind.Sync (pass_with (failed ∷ [])) (pass_with (claim ∷ failed ∷ []))
+failed_before = (claim ∷ [], refl, (none-some kind.Sync, tt))
+
+abbrev newest_failed : List Note → Option Kind
+newest_failed [] = None
+newest_failed (n ∷ ns) = kind_of_failed n.what
+
+failed_since : StepsUnfailed kind.Sync (pass_with []) (pass_with (failed ∷ [])) → ⊥
+failed_since h = go h.0 h.1 h.2
+  where
+    go : (more : List Note) → failed ∷ [] ≡ more ++ [] → NoneOf kind_of_failed kind.Sync more → ⊥
+    go [] is none = let same = ap length is in omega (arith, same)
+    go (n ∷ ns) is none = none.0 (sym (ap newest_failed is))
+
+-- a write that failed is no sync
+failed_write : StepsUnfailed kind.Sync (pass_with []) (pass_with (note_by 1 (Played WriteOpen found.Fault) None ∷ []))
+failed_write = (note_by 1 (Played WriteOpen found.Fault) None ∷ [], refl, ((λ is. let same : kind.WriteOpen ≡ kind.Sync = same_Some kind.WriteOpen kind.Sync is in cc), tt))
+
+-- a slot whose key was written, before its sync and after it
+key_not_synced : IsUncovered (yard_at cell.KeyLoose) (Sync 0)
+key_not_synced = (0, refl, refl)
+
+key_synced : IsUncovered (yard_at cell.Keyed) (Sync 0) → ⊥
+key_synced h = let slot = h.1 in let sure = h.2 in cc
+
+no_such_slot : IsUncovered (yard_at cell.KeyLoose) (Sync 1) → ⊥
+no_such_slot h = let slot = h.1 in let sure = h.2 in cc
+
+no_sync_at_all : IsUncovered (yard_at cell.KeyLoose) WriteOpen → ⊥
+no_sync_at_all h = let slot = h.1 in cc

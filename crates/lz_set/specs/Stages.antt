@@ -1,10 +1,11 @@
 -- How a call under way is played on.
-use Rattle.std.specs.Prelude.{◌≡◌, ◌≢◌, ℕ, List, [], ◌∷◌, ◌++◌, map, Option, Some, None}
+use Rattle.std.specs.Prelude.{◌≡◌, ◌≢◌, ℕ, false, List, [], ◌∷◌, ◌++◌, map, Option, Some, None}
 use Rattle.lz_list.specs.declared.place.Place.{Place}
 use Rattle.lz_list.specs.declared.publishing.Publishing.{Publishing}
 use Rattle.lz_machine.specs.declared.event.Event.{Event}
 use Rattle.lz_machine.specs.declared.event.Event.TheVariants.{Claim, Sync}
 use Rattle.lz_machine.specs.declared.event.Outcome.{Outcome}
+use Rattle.lz_machine.specs.declared.event.Outcome.TheVariants.{Fault}
 use Rattle.lz_machine.specs.declared.event.Reply.{Reply}
 use Rattle.lz_machine.specs.declared.kind.Kind.{Kind}
 use Rattle.lz_machine.specs.declared.kind.Kind.TheVariants.{Invoke}
@@ -12,6 +13,8 @@ use Rattle.lz_machine.specs.Calls.{event_at}
 use Rattle.lz_machine.specs.Kinds.{kind_of}
 use Rattle.lz_machine.specs.Orders.{Calling, shape_with}
 use Rattle.lz_machine.specs.Runs.{reply_at}
+use Rattle.lz_machine.specs.Table.{is_sure}
+use Rattle.lz_machine.specs.Yards.{Yard}
 use Rattle.lz_board.specs.declared.view.Note.{Note}
 use Rattle.lz_board.specs.declared.view.Part.{Part}
 use Rattle.lz_board.specs.declared.view.What.{What}
@@ -45,11 +48,31 @@ kind_of_step (Called c format) = Some Invoke
 kind_of_step (Played e o) = Some (kind_of e)
 kind_of_step (Found q v) = None
 
--- no step of these is an event of this kind
-abbrev pub NoneOf : Kind → List Note → Type 0
-NoneOf kind [] = Unit {0}
-NoneOf kind (n ∷ ns) = (kind_of_step n.what ≢ Some kind) × NoneOf kind ns
+-- the kind of a step whose device call failed
+abbrev pub kind_of_failed : What → Option Kind
+kind_of_failed (Played e Fault) = Some (kind_of e)
+kind_of_failed _ = None
+
+-- of no step of these is that the kind
+abbrev pub NoneOf : (What → Option Kind) → Kind → List Note → Type 0
+NoneOf kind_in kind [] = Unit {0}
+NoneOf kind_in kind (n ∷ ns) = (kind_in n.what ≢ Some kind) × NoneOf kind_in kind ns
+
+abbrev pub StepsBut : (What → Option Kind) → Kind → Part → Part → Type 0
+StepsBut kind_in kind h h' = (more : List Note) × (h'.steps ≡ more ++ h.steps) × NoneOf kind_in kind more
 
 -- the pass has made no steps since, or some, of which none is an event of this kind
 abbrev pub StepsWithout : Kind → Part → Part → Type 0
-StepsWithout kind h h' = (more : List Note) × (h'.steps ≡ more ++ h.steps) × NoneOf kind more
+StepsWithout kind h h' = StepsBut kind_of_step kind h h'
+
+-- or none is one whose device call failed: since a device may fail each call, what is so over any device calls it for none of this kind
+abbrev pub StepsUnfailed : Kind → Part → Part → Type 0
+StepsUnfailed kind h h' = StepsBut kind_of_failed kind h h'
+
+-- the event is the Sync of a slot whose last write isn't durable in this yard: it calls the device
+abbrev pub IsUncovered : Yard → Event → Type 0
+IsUncovered y e = (slot : ℕ) × (e ≡ Sync slot) × (is_sure y slot ≡ false)
+
+-- the call stands before such a Sync
+abbrev pub StandsUncovered : Yard → Calling → Type 0
+StandsUncovered y k = IsUncovered y (event_at (shape_with k) k.command k.progress)

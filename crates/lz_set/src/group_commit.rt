@@ -10,7 +10,7 @@ const LOOKS: u32 = 100;
 
 /// Has a sync wait until all calls that run have come to a sync of their own, and lets one of them cover what they all wrote:
 /// group commit (DeWitt and others, "Implementation Techniques for Main Memory Database Systems", 1984). It says who goes on
-/// when, and nothing else.
+/// when, and nothing else. A Sync whose slot is covered already calls no device, and doesn't come here: its call goes on.
 ///
 /// A call that may write runs from when it comes until it is answered, but not while it waits here, for a sync or for a node, and
 /// not while a gate may hold it. A lookup runs from a sync for which it waited until it is answered. A call that its owner
@@ -52,7 +52,7 @@ pub(crate) struct Stay {
     awaited: bool,
     // It is one of those that run.
     runs: bool,
-    // The group that was open when it wrote last.
+    // The group whose sync it waits for, or waited for last.
     group: usize,
     // How often a node had been freed when it claimed one last.
     frees: usize,
@@ -85,7 +85,7 @@ impl GroupCommit {
         let mut stay = Stay {
             awaited,
             runs: false,
-            group: self.group(),
+            group: 0,
             frees: 0,
             wakes: false,
         };
@@ -143,15 +143,13 @@ impl GroupCommit {
     /// The call has played an event of this kind. Its caller holds the lock.
     pub(crate) fn played(&self, kind: Kind, stay: &mut Stay) {
         match kind {
-            // What it waits for is the sync of the group that is open now.
-            Kind::WriteKey | Kind::WriteOpen | Kind::WriteClose => stay.group = self.group(),
             Kind::Claim => stay.frees = self.frees.load(Ordering::SeqCst),
             Kind::Release | Kind::Halt => self.free(),
             _ => {}
         }
     }
 
-    /// Waits until the group in which the call wrote last is closed, or it is the call's turn to close it.
+    /// Waits until the group that is open now is closed, or it is the call's turn to close it.
     pub(crate) fn await_sync<'a, T, R: Wait>(
         &self,
         rt: &R,
@@ -160,9 +158,7 @@ impl GroupCommit {
         most: usize,
     ) -> MutexGuard<'a, T> {
         let mut locked = locked;
-        if self.group() != stay.group {
-            return locked;
-        }
+        stay.group = self.group();
         self.rest_to_sync(stay);
         let mut has_looked = false;
         for _ in rt.forever() {
@@ -201,8 +197,8 @@ impl GroupCommit {
         }
     }
 
-    /// Closes the group in which the call wrote last, where it is open: all that waited for it run again, before they are
-    /// awake, so that the next sync waits for them. The caller holds the lock, and has synced.
+    /// Closes the group for which the call waited, where it is open: all that waited for it run again, before they are awake,
+    /// so that the next sync waits for them. The caller holds the lock, and has synced.
     pub(crate) fn close(&self, stay: &mut Stay) {
         if self.group() != stay.group {
             return;

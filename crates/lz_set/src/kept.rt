@@ -1,5 +1,6 @@
 //! The lock, from one hold to the next.
-ghost use Rattle.std.specs.Prelude.{◌≡◌, false};
+ghost use Rattle.std.specs.Prelude.{◌≡◌, None, Some};
+ghost use Rattle.std.specs.Sync.Mutex.{mutex_guard_value};
 
 use crate::gate::StepGate;
 use crate::group_commit::Stay;
@@ -13,8 +14,8 @@ use std::sync::{MutexGuard, Wait};
 pub(crate) type Held<'a, N, D> = MutexGuard<'a, Locked<N, D>>;
 
 /// The set's lock, as one thread keeps it from a hold of one call to a hold of the next. Calls that are handed the same one take
-/// the lock only where it isn't kept already. A load gives it back, and so does whoever drops this. Where a gate watches, nothing
-/// is kept.
+/// the lock only where it isn't kept already. A load gives it back, and so does whoever drops this; where a gate watches, so does
+/// each event.
 ///
 /// Whoever has one may have the set to themselves, so they wait for nothing but the device: before they send, read, log or sleep,
 /// make a second one, or make a call by `add`, `remove`, `has` or `call`, they give it back.
@@ -24,23 +25,27 @@ pub struct Kept<'a, D: Disk, N: Named> {
 }
 
 impl<'a, D: Disk, N: Named> Model for Kept<'a, D, N> {
-    ghost use Rattle.std.specs.Prelude.{Bool, is_some};
+    ghost use Rattle.std.specs.Prelude.{Option, option_map};
+    ghost use Rattle.std.specs.Sync.Mutex.{mutex_guard_value};
+    ghost use Rattle.lz_tie.specs.Holds.{LockedOver};
 
-    // Whether the lock is kept.
-    ghost Value = { Bool };
+    // What lies under the lock, where it is kept.
+    ghost Value = { Option (LockedOver D) };
 
-    ghost view = { λ k. is_some k.guard };
+    ghost view = { λ k. option_map (λ g. mutex_guard_value g) k.guard };
 }
 
 impl<'a, D: Disk, N: Named> Kept<'a, D, N> {
     /// Gives the lock back, where it is kept.
     pub fn give_back(&mut self)
-        ensures { self.new ≡ false }
+        ensures { self.new ≡ None }
     {
         self.guard = None;
     }
 
-    pub(crate) fn keep(&mut self, locked: Held<'a, N, D>) {
+    pub(crate) fn keep(&mut self, locked: Held<'a, N, D>)
+        ensures { self.new ≡ Some (mutex_guard_value locked.entry) }
+    {
         self.guard = Some(locked);
     }
 }
@@ -48,7 +53,7 @@ impl<'a, D: Disk, N: Named> Kept<'a, D, N> {
 impl<D: Disk, G: StepGate, N: Named> Set<D, G, N> {
     /// With nothing kept yet.
     pub fn keep(&self) -> Kept<'_, D, N>
-        ensures { result ≡ false }
+        ensures { result ≡ None }
     {
         Kept { guard: None }
     }

@@ -3,7 +3,8 @@
 //! A set is opened over a device, and hands out as many passes as were asked for. A thread with a pass of its own calls `add`,
 //! `remove` and `has`; the calls of several passes overlap. Each walks along the list by loads that take no lock, and every
 //! other event of it is one hold of the lock, which is kept from one to the next where no gate watches. A sync waits until all
-//! calls that run have come to one of theirs, and covers what they wrote.
+//! calls that run have come to one of theirs, and covers what they wrote; one whose slot is covered calls no device, and is played
+//! at once.
 //! A thread that is to have many calls under way plays each as a value, `Underway`: `begin`, `go_on` from one stage to the next,
 //! `sync` where the call stands before one, and `answer`. By one `Kept` (`keep`) it keeps the lock from one of these to the next.
 //! `glance` looks up without any lock. A program's work stands in a function

@@ -1,13 +1,15 @@
 //! A call as a value, and how it is played on.
-ghost use Rattle.std.specs.Prelude.{◌≡◌, ◌≢◌, IsTrue, None, Some};
+ghost use Rattle.std.specs.Prelude.{◌≡◌, ◌≢◌, ℕ, IsSomeAnd, IsTrue, None, Some, false, true};
+ghost use Rattle.std.specs.Sync.Mutex.{mutex_guard_value};
 ghost use Rattle.lz_slot.specs.declared.command.Command.{Command as Asked};
 ghost use Rattle.lz_slot.specs.declared.format.Format.{Format};
-ghost use Rattle.lz_machine.specs.declared.event.Event.TheVariants.{Hop};
+ghost use Rattle.lz_machine.specs.declared.event.Event.TheVariants.{Hop, Sync};
 ghost use Rattle.lz_machine.specs.Calls.{event_at};
 ghost use Rattle.lz_machine.specs.Kinds.{kind_of};
 ghost use Rattle.lz_machine.specs.Laws.{hop_of};
 ghost use Rattle.lz_machine.specs.Orders.{shape_with};
 ghost use Rattle.lz_machine.specs.Runs.{reply_at};
+ghost use Rattle.lz_machine.specs.Table.{is_sure};
 ghost use Rattle.lz_board.specs.declared.view.Part.{Part};
 ghost use Rattle.lz_board.specs.Seats.{IsOf, part};
 ghost use Rattle.lz_tie.specs.Answers.{Answers};
@@ -15,12 +17,12 @@ ghost use Rattle.lz_tie.specs.Counting.{Counts, CountsOn, IsCounted};
 ghost use Rattle.lz_tie.specs.OneCaller.{IsPlainAnswer, keys_in};
 ghost use Rattle.lz_set.specs.Answers.{reply_of};
 ghost use Rattle.lz_set.specs.Names.{MayCall};
-ghost use Rattle.lz_set.specs.Stages.{HasPlayed, PlaysOne, StandsAt, StepsWithout};
+ghost use Rattle.lz_set.specs.Stages.{HasPlayed, IsUncovered, PlaysOne, StandsAt, StandsUncovered, StepsUnfailed, StepsWithout};
 
 use crate::fault::Fault;
 use crate::gate::StepGate;
 use crate::group_commit::Stay;
-use crate::kept::Kept;
+use crate::kept::{Held, Kept};
 use crate::set::Set;
 use lz_board::Pass;
 use lz_caller::Caller;
@@ -28,7 +30,7 @@ use lz_disk::Disk;
 use lz_list::Word;
 use lz_machine::{Event, Kind, Reply};
 use lz_slot::Command;
-use lz_tie::{Named, load_next, walk_on};
+use lz_tie::{Locked, Named, load_next, walk_on};
 use std::marker::Model;
 use std::sync::Wait;
 
@@ -50,7 +52,7 @@ impl Model for Underway {
 /// Why a call stopped.
 #[derive(Clone, Copy, Debug, PartialEq, Eq)]
 pub enum Stage {
-    /// Its next event is a Sync.
+    /// Its next event is a Sync, which calls the device.
     Syncs,
     /// It claimed a node that another call holds. Its next event is that Claim again.
     Busy,
@@ -76,7 +78,9 @@ impl<D: Disk, G: StepGate, N: Named> Set<D, G, N> {
         self.invoke(rt, kept, pass, command, self.commits.come(false))
     }
 
-    /// Plays the call on up to a stage, and no Sync. One that was busy claims its node again.
+    /// Plays the call on up to a stage. One that was busy claims its node again. A Sync whose slot is covered calls no device, so it
+    /// is played at once; before another the call stops, and the lock is kept. No Sync that is played here failed, over whatever
+    /// device: it calls none.
     pub fn go_on<'a, R: Wait>(
         &'a self,
         rt: &R,
@@ -89,7 +93,8 @@ impl<D: Disk, G: StepGate, N: Named> Set<D, G, N> {
         ensures pass { IsOf N.board pass.new }
         ensures counts { CountsOn N.board call.old (part pass.old) call.new (part pass.new) }
         ensures stands { StandsAt result call.new }
-        ensures steps { StepsWithout Kind.Sync (part pass.old) (part pass.new) }
+        ensures uncovered { result ≡ Stage.Syncs → IsSomeAnd kept.new (λ l. StandsUncovered l.yard call.new) }
+        ensures steps { StepsUnfailed Kind.Sync (part pass.old) (part pass.new) }
         ensures claimed { result ≡ Stage.Busy → HasPlayed Kind.Claim (part pass.old) (part pass.new) }
     {
         for _ in rt.forever() {
@@ -98,11 +103,14 @@ impl<D: Disk, G: StepGate, N: Named> Set<D, G, N> {
                 return Stage::Answers;
             }
             let event = call.caller.next();
-            if let Event::Sync(_) = event {
+            let asked = event;
+            let played = event;
+            let locked = self.lock(rt, kept, &mut call.stay);
+            if is_uncovered(&*locked, event) {
+                kept.keep(locked);
                 return Stage::Syncs;
             }
-            let played = event;
-            self.turn(rt, kept, pass, call, event);
+            self.turn(rt, kept, pass, call, asked, locked);
             if is_taken(played, &call.caller) {
                 return Stage::Busy;
             }
@@ -126,7 +134,8 @@ impl<D: Disk, G: StepGate, N: Named> Set<D, G, N> {
         ensures played { HasPlayed Kind.Sync (part pass.old) (part pass.new) }
     {
         let sync = call.caller.next();
-        self.turn(rt, kept, pass, call, sync);
+        let locked = self.lock(rt, kept, &mut call.stay);
+        self.turn(rt, kept, pass, call, sync, locked);
     }
 
     /// Answers the call: its pass may make the next one.
@@ -265,6 +274,7 @@ impl<D: Disk, G: StepGate, N: Named> Set<D, G, N> {
         pass: &mut Pass,
         call: &mut Underway,
         event: Event,
+        locked: Held<'a, N, D>,
     )
         requires pass { IsOf N.board pass.old }
         requires counted { IsCounted N.board call.old (part pass.old) }
@@ -274,10 +284,11 @@ impl<D: Disk, G: StepGate, N: Named> Set<D, G, N> {
         ensures pass { IsOf N.board pass.new }
         ensures counts { CountsOn N.board call.old (part pass.old) call.new (part pass.new) }
         ensures played { PlaysOne (kind_of event) (part pass.old) (part pass.new) }
+        ensures covered { (slot : ℕ) → event ≡ Sync slot → is_sure (mutex_guard_value locked.entry).yard slot ≡ true → StepsUnfailed Kind.Sync (part pass.old) (part pass.new) }
     {
         let asked = event;
         let kind = event.kind();
-        let mut locked = self.lock(rt, kept, &mut call.stay);
+        let mut locked = locked;
         locked.turn_on(&self.board, pass, &mut call.caller, asked);
         self.commits.played(kind, &mut call.stay);
         self.leave(rt, kept, pass.number(), kind, locked, &mut call.stay);
@@ -339,6 +350,17 @@ impl<D: Disk, G: StepGate, N: Named> Set<D, G, N> {
             &mut call.stay,
         );
         answer_of(reply)
+    }
+}
+
+// Whether the event is a Sync whose slot isn't covered, so that it would call the device.
+fn is_uncovered<N: Named, D: Disk>(locked: &Locked<N, D>, event: Event) -> bool
+    ensures uncovered { result ≡ true → IsUncovered locked.now.yard event }
+    ensures covered { result ≡ false → (slot : ℕ) → event ≡ Sync slot → is_sure locked.now.yard slot ≡ true }
+{
+    match event {
+        Event::Sync(slot) => !locked.is_covered(slot),
+        _ => false,
     }
 }
 

@@ -7,9 +7,10 @@ use Rattle.lz_machine.specs.Calls.{event_at}
 use Rattle.lz_machine.specs.Laws.{hop_of}
 use Rattle.lz_machine.specs.Orders.{Calling, shape_with}
 use Rattle.lz_machine.specs.Runs.{reply_at}
+use Rattle.lz_machine.specs.Table.{is_sure}
 use Rattle.lz_board.specs.Seats.{part}
 use Rattle.lz_set.specs.Stages.{PlaysOne}
-use Rattle.lz_set.proofs.Plays.{has_played, played_then, turned_without, walked_without}
+use Rattle.lz_set.proofs.Plays.{has_played, held_unfailed, played_then, same_counts, stands_uncovered, walked_unfailed}
 use Rattle.lz_set.proofs.set.Set.go_on.Goals as goal
 
 some_is : (o : Option Reply) → is_some o ≡ true → (reply : Reply) × (o ≡ Some reply)
@@ -30,33 +31,49 @@ returns-then-is_some-clause-stands g c =
     (got.0, ap (λ (k : Calling). reply_at k.progress) (sym c.call.view_is) ∙ sym c.reply.ensures ∙ got.1)
 
 pub returns-then-is_some-clause-steps : goal.returns-then-is_some-clause-steps
-returns-then-is_some-clause-steps g c = walked_without (part c.args.pass.now) (part c.loop.pass) (part c.walk.new.pass) c.loop.invariant.steps c.walk.ensures.steps
+returns-then-is_some-clause-steps g c = walked_unfailed (part c.args.pass.now) (part c.loop.pass) (part c.walk.new.pass) c.loop.invariant.steps c.walk.ensures.steps
 
-pub returns-in-Sync-clause-counts : goal.returns-in-Sync-clause-counts
-returns-in-Sync-clause-counts g c = λ asked format before counts. c.walk.ensures.counts asked format before (c.loop.invariant.counts asked format before counts)
+pub returns-then-is_uncovered-clause-counts : goal.returns-then-is_uncovered-clause-counts
+returns-then-is_uncovered-clause-counts g c = λ asked format before counts.
+    same_counts g.N.Named.board c.loop.call (part c.loop.pass) c.call.inside.caller c.walk.new.call (part c.walk.new.pass) c.call.view_is c.walk.ensures.counts asked format before (c.loop.invariant.counts asked format before counts)
 
-pub returns-in-Sync-clause-steps : goal.returns-in-Sync-clause-steps
-returns-in-Sync-clause-steps g c = walked_without (part c.args.pass.now) (part c.loop.pass) (part c.walk.new.pass) c.loop.invariant.steps c.walk.ensures.steps
+pub returns-then-is_uncovered-clause-stands : goal.returns-then-is_uncovered-clause-stands
+returns-then-is_uncovered-clause-stands g c =
+    let sync = c.is_uncovered.ensures.uncovered c.if-is_uncovered.true in
+    (sync.0, sym c.next-event.ensures.event ∙ sync.1)
+
+pub returns-then-is_uncovered-clause-uncovered : goal.returns-then-is_uncovered-clause-uncovered
+returns-then-is_uncovered-clause-uncovered g c = λ _.
+    stands_uncovered _ _ _ c.call.inside.caller c.next-event.result c.keep.ensures c.deref.ensures c.next-event.ensures.event (c.is_uncovered.ensures.uncovered c.if-is_uncovered.true)
+
+pub returns-then-is_uncovered-clause-steps : goal.returns-then-is_uncovered-clause-steps
+returns-then-is_uncovered-clause-steps g c = walked_unfailed (part c.args.pass.now) (part c.loop.pass) (part c.walk.new.pass) c.loop.invariant.steps c.walk.ensures.steps
 
 pub turn-requires-clause-counted : goal.turn-requires-clause-counted
 turn-requires-clause-counted g c =
-    let was = c.requires.counted in
-    (was.0, was.1, was.2, c.walk.ensures.counts was.0 was.1 was.2 (c.loop.invariant.counts was.0 was.1 was.2 was.3))
+    let was = c.requires.counted in (
+      was.0,
+      was.1,
+      was.2,
+      same_counts g.N.Named.board c.loop.call (part c.loop.pass) c.call.inside.caller c.walk.new.call (part c.walk.new.pass) c.call.view_is c.walk.ensures.counts was.0 was.1 was.2 (c.loop.invariant.counts was.0 was.1 was.2 was.3),
+    )
 
 pub turn-requires-clause-event : goal.turn-requires-clause-event
-turn-requires-clause-event g c = c.next-event.ensures.event ∙ ap (λ (k : Calling). event_at (shape_with k) k.command k.progress) c.call.view_is
+turn-requires-clause-event g c = c.next-event.ensures.event
 
 pub turn-requires-clause-load : goal.turn-requires-clause-load
-turn-requires-clause-load g c = ap hop_of (turn-requires-clause-event g c) ∙ c.walk.ensures.loaded
+turn-requires-clause-load g c = ap hop_of c.next-event.ensures.event ∙ ap (λ (k : Calling). hop_of (event_at (shape_with k) k.command k.progress)) c.call.view_is ∙ c.walk.ensures.loaded
 
 pub returns-then-is_taken-clause-counts : goal.returns-then-is_taken-clause-counts
 returns-then-is_taken-clause-counts g c = λ asked format before counts.
-    c.turn.ensures.counts asked format before (c.walk.ensures.counts asked format before (c.loop.invariant.counts asked format before counts))
+    c.turn.ensures.counts asked format before
+    (same_counts g.N.Named.board c.loop.call (part c.loop.pass) c.call.inside.caller c.walk.new.call (part c.walk.new.pass) c.call.view_is c.walk.ensures.counts asked format before (c.loop.invariant.counts asked format before counts))
 
 pub returns-then-is_taken-clause-steps : goal.returns-then-is_taken-clause-steps
 returns-then-is_taken-clause-steps g c =
-    turned_without c.next-event.result (part c.args.pass.now) (part c.walk.new.pass) (part c.turn.new.pass) c.in_default.not-Sync
-    (walked_without (part c.args.pass.now) (part c.loop.pass) (part c.walk.new.pass) c.loop.invariant.steps c.walk.ensures.steps) c.turn.ensures.played
+    held_unfailed c.next-event.result (part c.args.pass.now) (part c.walk.new.pass) (part c.turn.new.pass)
+    (walked_unfailed (part c.args.pass.now) (part c.loop.pass) (part c.walk.new.pass) c.loop.invariant.steps c.walk.ensures.steps) c.turn.ensures.played
+    (λ slot is. c.turn.ensures.covered slot is (subst (λ l. is_sure l.yard slot ≡ true) c.deref.ensures (c.is_uncovered.ensures.covered c.if-is_uncovered.false slot is)))
 
 pub returns-then-is_taken-clause-claimed : goal.returns-then-is_taken-clause-claimed
 returns-then-is_taken-clause-claimed g c = λ busy.
@@ -67,7 +84,9 @@ returns-then-is_taken-clause-claimed g c = λ busy.
 pub loop-preserved : goal.loop-preserved
 loop-preserved g c = record {
   pass = c.turn.ensures.pass;
-  steps = turned_without c.next-event.result (part c.args.pass.now) (part c.walk.new.pass) (part c.turn.new.pass) c.in_default.not-Sync
-      (walked_without (part c.args.pass.now) (part c.loop.pass) (part c.walk.new.pass) c.loop.invariant.steps c.walk.ensures.steps) c.turn.ensures.played;
-  counts = λ asked format before counts. c.turn.ensures.counts asked format before (c.walk.ensures.counts asked format before (c.loop.invariant.counts asked format before counts));
+  steps = held_unfailed c.next-event.result (part c.args.pass.now) (part c.walk.new.pass) (part c.turn.new.pass)
+      (walked_unfailed (part c.args.pass.now) (part c.loop.pass) (part c.walk.new.pass) c.loop.invariant.steps c.walk.ensures.steps) c.turn.ensures.played
+      (λ slot is. c.turn.ensures.covered slot is (subst (λ l. is_sure l.yard slot ≡ true) c.deref.ensures (c.is_uncovered.ensures.covered c.if-is_uncovered.false slot is)));
+  counts = λ asked format before counts. c.turn.ensures.counts asked format before
+      (same_counts g.N.Named.board c.loop.call (part c.loop.pass) c.call.inside.caller c.walk.new.call (part c.walk.new.pass) c.call.view_is c.walk.ensures.counts asked format before (c.loop.invariant.counts asked format before counts));
 }

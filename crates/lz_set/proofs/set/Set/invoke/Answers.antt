@@ -3,6 +3,7 @@ use Rattle.lz_machine.specs.declared.kind.Kind.TheVariants.{Sync}
 use Rattle.lz_machine.specs.Orders.{Calling}
 use Rattle.lz_board.specs.Seats.{part}
 use Rattle.lz_tie.specs.Holds.{begins_with}
+use Rattle.lz_set.specs.Stages.{kind_of_step}
 use Rattle.lz_set.proofs.Plays.{begins_otherwise, call_without, one_without, plays_one, without_then}
 use Rattle.lz_set.proofs.set.Set.invoke.Goals as goal
 
@@ -16,7 +17,7 @@ pub returns-clause-steps : goal.returns-clause-steps
 returns-clause-steps g c =
     let begun = part c.begin-caller.new.pass in
     let first = begins_with g.N.Named.format c.args.command in
-    without_then Sync (part c.args.pass.now) begun (part c.turn_on.new.pass)
+    without_then kind_of_step Sync (part c.args.pass.now) begun (part c.turn_on.new.pass)
     (call_without g.N.Named.format c.args.command None (part c.args.pass.now) begun c.begin-caller.ensures.holds.steps)
     (one_without _ begun (part c.turn_on.new.pass) (begins_otherwise c.begin-caller.result first (ap (λ (k : Calling). k.progress) c.begin-caller.ensures.caller))
     (plays_one _ _ _ _ _ _ _ c.turn_on.ensures.advanced))
