@@ -2,8 +2,8 @@ use Rattle.std.proofs.Common.{◌≡◌, Some, subst}
 use Rattle.lz_machine.specs.declared.kind.Kind.TheVariants.{Claim, Sync}
 use Rattle.lz_board.specs.Seats.{part}
 use Rattle.lz_set.specs.declared.underway.Stage.TheVariants.{Busy}
-use Rattle.lz_set.specs.Stages.{HasPlayed, StepsWithout}
-use Rattle.lz_set.proofs.Plays.{played_then, without_then}
+use Rattle.lz_set.specs.Stages.{HasPlayed, StepsUnfailed, kind_of_failed}
+use Rattle.lz_set.proofs.Plays.{played_then, so_unfailed, without_then}
 use Rattle.lz_serve.specs.Askings.{Asked}
 use Rattle.lz_serve.proofs.asking.Asking.go_on.Goals as goal
 
@@ -18,5 +18,6 @@ returns-clause-claimed g c = λ stands.
 pub returns-clause-steps : goal.returns-clause-steps
 returns-clause-steps g c =
     let new = part c.go_on-stage.new.pass in
-    subst (λ (a : Asked). StepsWithout Sync (part a.pass) new) c.self.view_is
-    (without_then Sync (part c.self.inside.pass) (part c.begin_once.new.pass) new c.begin_once.ensures.steps c.go_on-stage.ensures.steps)
+    let begun = part c.begin_once.new.pass in
+    subst (λ (a : Asked). StepsUnfailed Sync (part a.pass) new) c.self.view_is
+    (without_then kind_of_failed Sync (part c.self.inside.pass) begun new (so_unfailed Sync (part c.self.inside.pass) begun c.begin_once.ensures.steps) c.go_on-stage.ensures.steps)
