@@ -118,29 +118,8 @@ fn all_come<'a, N: Named, R: Wait>(
     one && two && three
 }
 
-// Whether each of the three plays its Sync.
-fn all_sync<'a, N: Named, R: Wait>(
-    rt: &R,
-    set: &'a Shared<N>,
-    kept: &mut Lock<'a, N>,
-    one: &mut Play,
-    two: &mut Play,
-    three: &mut Play,
-) -> bool
-    requires one { IsPlay N.board one.old.pass one.old.call }
-    requires two { IsPlay N.board two.old.pass two.old.call }
-    requires three { IsPlay N.board three.old.pass three.old.call }
-    ensures one { IsPlay N.board one.new.pass one.new.call }
-    ensures two { IsPlay N.board two.new.pass two.new.call }
-    ensures three { IsPlay N.board three.new.pass three.new.call }
-{
-    let one = syncs(rt, set, kept, one);
-    let two = syncs(rt, set, kept, two);
-    let three = syncs(rt, set, kept, three);
-    one && two && three
-}
-
-// Three additions that overlap from their beginning to their end, and a lookup of the first one's key before that is durable.
+// Three additions that overlap from their beginning to their end, and a lookup of the first one's key before that is durable. One sync
+// of the keys covers all three, and the lookup's all gates: none of the other calls stops before its own.
 fn overlap<N: Named, R: Wait>(rt: &R, set: &Shared<N>, passes: Vec<Pass>) -> Option<[Answer; 4]>
     requires { All (MayCall N.board) passes.items }
 {
@@ -153,12 +132,11 @@ fn overlap<N: Named, R: Wait>(rt: &R, set: &Shared<N>, passes: Vec<Pass>) -> Opt
     let mut two = begin(rt, set, &mut kept, second, Command::Add(Key::new(10)?));
     let mut three = begin(rt, set, &mut kept, third, Command::Add(Key::new(30)?));
     let written = all_come(rt, set, &mut kept, &mut one, &mut two, &mut three);
-    let sure = all_sync(rt, set, &mut kept, &mut one, &mut two, &mut three);
+    let sure = syncs(rt, set, &mut kept, &mut one);
     let linked = all_come(rt, set, &mut kept, &mut one, &mut two, &mut three);
     let mut look = begin(rt, set, &mut kept, fourth, Command::Has(twenty));
     let looked = syncs(rt, set, &mut kept, &mut look);
-    let settled = all_sync(rt, set, &mut kept, &mut one, &mut two, &mut three);
-    if !(written && sure && linked && looked && settled) {
+    if !(written && sure && linked && looked) {
         return None;
     }
     let (_, three) = answer(rt, set, &mut kept, three)?;
@@ -168,7 +146,8 @@ fn overlap<N: Named, R: Wait>(rt: &R, set: &Shared<N>, passes: Vec<Pass>) -> Opt
     Some([one, two, three, look])
 }
 
-// A removal of 10 keeps its nodes up to its sync. An addition of 5, which comes to them, finds them taken until it has ended.
+// A removal of 10 keeps its nodes up to its sync. An addition of 5, which comes to them, finds them taken until it has ended. The
+// addition's sync of its key covers the removal's gate.
 fn meet_at_a_node<N: Named, R: Wait>(
     rt: &R,
     set: &Shared<N>,
@@ -187,8 +166,7 @@ fn meet_at_a_node<N: Named, R: Wait>(
     let written = syncs(rt, set, &mut kept, &mut addition);
     let busy = comes_to(rt, set, &mut kept, &mut addition, Stage::Busy);
     let still_busy = comes_to(rt, set, &mut kept, &mut addition, Stage::Busy);
-    let marked = syncs(rt, set, &mut kept, &mut removal);
-    if !(closed && written && busy && still_busy && marked) {
+    if !(closed && written && busy && still_busy) {
         return None;
     }
     let (mut first, removed) = answer(rt, set, &mut kept, removal)?;
