@@ -1,3 +1,5 @@
+pub mod JoinedLifeRows
+pub mod JoinedLives
 pub mod Members
 pub mod Opening
 pub mod Plays

@@ -3,3 +3,4 @@ pub mod Blanks
 pub mod Answers
 pub mod Left
 pub mod Stages
+pub mod JoinedLives

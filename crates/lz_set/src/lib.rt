@@ -25,7 +25,8 @@
 //! ```
 //!
 //! Proved: what threads do is a run of the machine, each time the lock is got (`lz_tie::Locked`), and each answer is what
-//! the table of answers promises its thread, in terms of what its pass had seen before the call and has seen after it.
+//! the table of answers promises its thread, in terms of what its pass had seen before the call and has seen after it. The lives of
+//! sets that are opened one after the other are a chain (`laws`).
 #![tactic(auto)]
 
 mod blank;
@@ -34,6 +35,7 @@ mod fault;
 mod gate;
 mod group_commit;
 mod kept;
+pub mod laws;
 mod set;
 mod underway;
 

@@ -1,6 +1,7 @@
 //! The set.
-ghost use Rattle.std.specs.Prelude.{◌≡◌, ◌≢◌, ◌≤◌, Err, IfErr, IfNone, IfOk, IfSome, None, Some};
+ghost use Rattle.std.specs.Prelude.{◌≡◌, ◌≢◌, ◌≤◌, Err, IfErr, IfNone, IfOk, IfSome, IsTrue, None, Some};
 ghost use Rattle.lz_slot.specs.declared.command.Command.TheVariants as command;
+ghost use Rattle.lz_slot.specs.Bytes.{Holds};
 ghost use Rattle.lz_slot.specs.Limits.{most_buckets, most_passes};
 ghost use Rattle.lz_vault.specs.Opens.{IsRefusedFor};
 ghost use Rattle.lz_board.specs.Glances.{Glances, Turns};
@@ -10,6 +11,7 @@ ghost use Rattle.lz_board.specs.Walkers.{KeepsCall};
 ghost use Rattle.lz_tie.specs.Answers.{Answers, Met};
 ghost use Rattle.lz_tie.specs.Holds.{sizes_of};
 ghost use Rattle.lz_tie.specs.OneCaller.{IsPlainAnswer, keys_in};
+ghost use Rattle.lz_tie.specs.RunningSets.{members_of};
 ghost use Rattle.lz_yard.specs.Filling.{OpensYard};
 ghost use Rattle.lz_set.specs.Answers.{reply_of};
 ghost use Rattle.lz_set.specs.Blanks.{IsSized, MayBeNamed};
@@ -56,6 +58,8 @@ impl<D: Disk, G: StepGate> Set<D, G, Brand> {
         requires passes { (1 ≤ passes) × (passes ≤ most_passes) }
         ensures ok { IfOk result (λ blank. OpensYard (D.device disk) (D.device blank.disk) buckets passes blank.yard) }
         ensures board { IfOk result (λ blank. (blank.board.sizes ≡ sizes_of blank.yard.shape) × (blank.board.opened ≡ opened_by blank.yard.words)) }
+        // It begins with the members that the text holds which is read.
+        ensures begins { IfOk result (λ blank. IsTrue (D.device disk).honest → Holds (D.device disk).medium.seen blank.board.sizes.slots (members_of blank.board.opened)) }
         ensures named { IfOk result (λ blank. MayBeNamed D.device blank.board (D.device blank.disk) blank.yard.vault.format blank) }
         ensures err { IfErr result (λ refused. IsRefusedFor (D.device disk) (D.device refused.disk) refused.fault) }
     {

@@ -1,8 +1,9 @@
--- A text that holds the set which an open read explains what was seen before the first call.
-use Rattle.std.proofs.Common.{◌≡◌, inl, ℕ, List, [], refl, sym, ap, ◌∙◌, subst, le_refl}
+-- A set begins with the members that the text holds which its open read, and such a text explains what was seen before the first call.
+use Rattle.std.proofs.Common.{◌≡◌, inl, ℕ, List, [], ◌∷◌, refl, sym, ap, ◌∙◌, subst, le_refl}
 use Rattle.std.proofs.lemmas.List.{append-nil}
 use Rattle.std.specs.Prelude.{IsTrue}
-use Rattle.lz_slot.specs.Sets.{Keys}
+use Rattle.lz_slot.specs.Sets.{Keys, Same}
+use Rattle.lz_slot.specs.Histories.{Runs}
 use Rattle.lz_slot.specs.Bytes.{Holds}
 use Rattle.lz_slot.proofs.Files.HeldSets.{holds_same_set}
 use Rattle.lz_disk.specs.Devices.{Device}
@@ -16,7 +17,7 @@ use Rattle.lz_board.specs.Opened.{sizes_in, opened_by}
 use Rattle.lz_board.specs.Seats.{BoardId}
 use Rattle.lz_board.proofs.Start.FirstWords.{opens_text}
 use Rattle.lz_tie.specs.Holds.{sizes_of}
-use Rattle.lz_tie.specs.RunningSets.{Explains}
+use Rattle.lz_tie.specs.RunningSets.{Explains, members_of}
 use Rattle.lz_tie.specs.Moments.{ExplainsBegun}
 use Rattle.lz_tie.proofs.Marks.RunningSet.{explained}
 use Rattle.lz_tie.proofs.Start.OpenedYard.{opened_sizes}
@@ -24,6 +25,11 @@ use Rattle.lz_tie.proofs.Start.OpenedYard.{opened_sizes}
 -- what explains no calls explains a beginning of any notes
 no_calls : (b : BoardId) (ns : List Note) (t : List ℕ) → Explains b [] t → ExplainsBegun b ns t
 no_calls b ns t e = record { later = ns; before = []; splits = sym (append-nil ns); explains = e }
+
+-- where no call was made the set stays
+no_runs : (S T : Keys) (L : List ℕ) → Runs [] S L T → Same S T
+no_runs S T [] runs = runs
+no_runs S T (i ∷ L) runs = absurd runs.1.1
 
 module _ (b : BoardId) (before after : Device) (buckets passes : ℕ) (y : Yard) (opens : OpensYard before after buckets passes y) (in_words : b.sizes ≡ sizes_in y.words) (trace : b.opened ≡ opened_by y.words) where
   abbrev read : List ℕ
@@ -41,6 +47,13 @@ module _ (b : BoardId) (before after : Device) (buckets passes : ℕ) (y : Yard)
 
   first_explains : Explains b [] read
   first_explains = explained b [] (record { bytewise = before.medium.bytewise; shape = y.shape; text = read }) [] sizes opens.first.2 tt refl begins (opened_service y.shape read) (at_rest before.medium.bytewise read) refl read itself
+
+  -- the set begins with the members that the text holds which was read
+  pub begins_with_read : IsTrue before.honest → Holds before.medium.seen b.sizes.slots (members_of b.opened)
+  begins_with_read honest =
+      let e = first_explains in
+      let same : Same e.found (members_of b.opened) = λ k. sym (no_runs (members_of b.opened) e.found e.calls e.fits.runs k) in
+      subst (λ r. Holds r b.sizes.slots (members_of b.opened)) (opens.first.1 honest) (holds_same_set read b.sizes.slots e.found (members_of b.opened) same e.holds)
 
   -- so each text that might have been left before the open explains no calls, where each holds the set that was read
   pub same_set_explains : (ns : List Note) → IsTrue before.honest → (S : Keys) → Holds before.medium.seen b.sizes.slots S → (t : List ℕ) → Holds t b.sizes.slots S → ExplainsBegun b ns t

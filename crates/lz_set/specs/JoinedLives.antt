@@ -1,0 +1,68 @@
+-- Lives of sets follow on one another: each set was opened on a text that the life before it left.
+use Rattle.std.specs.Prelude.{◌≡◌, ◌⊎◌, ℕ, IsTrue, List, [], ◌∷◌, ◌++◌}
+use mathlib.Core.Logic.{inl, inr}
+use Rattle.lz_slot.specs.Bytes.{Holds}
+use Rattle.lz_slot.specs.Histories.{Life, ChainTo}
+use Rattle.lz_slot.specs.Sets.{Keys}
+use Rattle.lz_disk.specs.Devices.{Device}
+use Rattle.lz_disk.specs.Images.{IsImage}
+use Rattle.lz_yard.specs.Filling.{OpensYard}
+use Rattle.lz_board.specs.declared.view.Note.{Note}
+use Rattle.lz_board.specs.Notes.{shape_of_sizes}
+use Rattle.lz_board.specs.Opened.{opened_by}
+use Rattle.lz_board.specs.Seats.{BoardId}
+use Rattle.lz_tie.specs.Holds.{sizes_of}
+use Rattle.lz_tie.specs.Marks.{marks_in}
+use Rattle.lz_tie.specs.RunningSets.{members_of}
+use Rattle.lz_set.specs.Blanks.{BlankOver}
+use Rattle.lz_set.specs.Left.{IsLeft}
+
+-- A closed set leaves a text: what is read then, or what a crash leaves of its disk.
+abbrev pub MayLeave : Device → List ℕ → Type 0
+MayLeave disk t = (t ≡ disk.medium.seen) ⊎ IsImage disk.medium t
+
+-- One life of a set over an honest device, as the clauses of `Set::open` and `Set::close` tell it, and the text that it left: once the
+-- set was closed, or by a crash at some moment after the open.
+pub record Lived {D : Type 0} (device : D → Device) : Type 0 where
+  pub old : D
+  pub opened : BlankOver D
+  pub buckets : ℕ
+  pub passes : ℕ
+  pub opens : OpensYard (device old) (device opened.disk) buckets passes opened.yard
+  pub sizes : opened.board.sizes ≡ sizes_of opened.yard.shape
+  pub trace : opened.board.opened ≡ opened_by opened.yard.words
+  pub honest : IsTrue (device old).honest
+  pub notes : List Note
+  pub closed : D
+  pub left : IsLeft opened.board (device opened.disk) notes (device closed)
+  pub text : List ℕ
+  pub ends : MayLeave (device closed) text ⊎ (device closed).left_since (device opened.disk).moment text
+
+-- Each of these lives, the newest first, but the oldest began with an open that read the text which the one before it left.
+abbrev pub Follow : {D : Type 0} (device : D → Device) → List (Lived device) → Type 0
+Follow device [] = Unit {0}
+Follow device (l ∷ []) = Unit {0}
+Follow device (l ∷ before ∷ earlier) = ((device l.old).medium.seen ≡ before.text) × Follow device (before ∷ earlier)
+
+-- what these notes of a board show, as a life
+abbrev pub life_of : BoardId → List Note → Life
+life_of b ns = record { start = members_of b.opened; history = marks_in (shape_of_sizes b.sizes) ns }
+
+-- what was seen by the end: all notes where the set was closed, and some beginning of them where a crash came
+abbrev pub SeenBy : {closed crashed : Type 0} → closed ⊎ crashed → List Note → List Note → Type 0
+SeenBy (inl closed) all seen = seen ≡ all
+SeenBy (inr crashed) all seen = (later : List Note) × (all ≡ later ++ seen)
+
+-- these are the lives, each as far as it was seen by its end
+abbrev pub AreSeen : {D : Type 0} (device : D → Device) → List (Lived device) → List Life → Type 0
+AreSeen device [] [] = Unit {0}
+AreSeen device [] (x ∷ xs) = ⊥
+AreSeen device (l ∷ ls) [] = ⊥
+AreSeen device (l ∷ ls) (x ∷ xs) = ((seen : List Note) × SeenBy l.ends l.notes seen × (x ≡ life_of l.opened.board seen)) × AreSeen device ls xs
+
+-- The lives of sets that follow on one another are a chain to the set that the newest left: it is what the calls of all of them made.
+abbrev pub LivesJoin : (D : Type 0) → (D → Device) → Type 0
+LivesJoin D device =
+    (l : Lived device) (earlier : List (Lived device))
+    → Follow device (l ∷ earlier)
+    → (lives : List Life) × AreSeen device (l ∷ earlier) lives × ((S : Keys) × Holds l.text l.opened.board.sizes.slots S × ChainTo lives S)
