@@ -16,15 +16,29 @@ use Rattle.lz_machine.specs.declared.caller.Progress.{Progress}
 use Rattle.lz_machine.specs.Yards.{Shape}
 use Rattle.lz_machine.specs.Calls.{begun, progress_after}
 use Rattle.lz_machine.specs.Runs.{reply_at}
+use Rattle.lz_board.specs.declared.moment.Moment.{Moment}
 use Rattle.lz_board.specs.declared.view.Sizes.{Sizes}
 use Rattle.lz_board.specs.declared.view.What.{What}
 use Rattle.lz_board.specs.declared.view.What.TheVariants.{Called, Played, Found}
 use Rattle.lz_board.specs.declared.view.Note.{Note}
 use Rattle.lz_board.specs.declared.view.Load.{Load}
 
+abbrev pub moment_at : ℕ → Moment
+moment_at m = record { marker = record {}; at = m }
+
 -- a note of pass p
 abbrev pub note_by : ℕ → What → Option Publishing → Note
-note_by p what published = record { by = p; what = what; published = published }
+note_by p what published = record { by = p; what = what; published = published; moment = moment_at 0 }
+
+-- An event that was played is noted with the device's moment after it.
+abbrev pub stamp_of : What → ℕ → ℕ
+stamp_of (Called c format) m = 0
+stamp_of (Played e o) m = m
+stamp_of (Found q v) m = 0
+
+-- the note, with the moment at which it is made
+abbrev pub stamped : ℕ → Note → Note
+stamped m n = record { by = n.by; what = n.what; published = n.published; moment = moment_at (stamp_of n.what m) }
 
 -- what was published, as a list
 abbrev pub as_list : Option Publishing → List Publishing

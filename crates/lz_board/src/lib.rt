@@ -18,12 +18,14 @@ mod holding;
 pub mod laws;
 mod layout;
 mod loading;
+mod moment;
 mod pass;
 mod rule;
 mod view;
 
 pub use answer::{Glance, GlanceFault};
 pub use board::{Board, Pen};
+pub use moment::Moment;
 pub use pass::Pass;
 pub use rule::{Enters, Hand, Loads, Looks, Notes, Published, Saws, Shifts};
 pub use view::{Load, Note, Opening, Part, Sizes, View, What};

@@ -1,4 +1,5 @@
 //! What a seat knows. Of these types only notes are made.
+use crate::moment::Moment;
 use lz_list::{Publishing, Word, Words};
 use lz_machine::{Event, Outcome};
 use lz_slot::{Command, Format};
@@ -24,12 +25,14 @@ pub enum What {
     Found(usize, u64),
 }
 
-/// A step that the pen has noted: the pass that took it, 0 for the pen itself, and what it published.
-#[derive(Clone, Copy)]
+/// A step that the pen has noted: the pass that took it, 0 for the pen itself, what it published, and of an event that was played the
+/// device's moment after it.
+#[derive(Drop)]
 pub struct Note {
     pub by: usize,
     pub what: What,
     pub published: Option<Publishing>,
+    pub moment: Moment,
 }
 
 /// A load of a call that isn't noted yet, made where the trace had the length `at`.

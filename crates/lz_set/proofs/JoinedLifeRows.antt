@@ -1,5 +1,5 @@
 -- Worked rows: what no lives of sets that follow on one another are.
-use Rattle.std.proofs.Common.{◌≡◌, inl, ℕ, true, List, [], ◌∷◌, None, refl, sym, arith}
+use Rattle.std.proofs.Common.{◌≡◌, ℕ, true, List, [], ◌∷◌, ◌++◌, None, refl, sym, arith}
 use mathlib.Core.Bool.{false≢true}
 use Rattle.lz_slot.specs.declared.command.Command.TheVariants.{Add}
 use Rattle.lz_slot.specs.declared.format.Format.TheVariants.{Two}
@@ -13,8 +13,9 @@ use Rattle.lz_machine.proofs.Alone.Service.{served}
 use Rattle.lz_machine.proofs.Open.FirstPoint.{one_set}
 use Rattle.lz_board.specs.declared.view.What.TheVariants.{Called}
 use Rattle.lz_board.specs.Notes.{note_by}
+use Rattle.lz_tie.specs.Holds.{no_board}
+use Rattle.lz_tie.specs.Moments.{GrowsTo}
 use Rattle.lz_tie.specs.RunningSets.{members_of}
-use Rattle.lz_set.specs.JoinedLives.{SeenBy}
 
 abbrev nothing : Keys
 nothing = members_of []
@@ -37,6 +38,10 @@ has_added L T fits = plain (served 2 added nothing L T (refl, omega arith, tt) r
 not_forgotten : (T : Keys) → ChainTo (record { start = nothing; history = [] } ∷ record { start = nothing; history = added } ∷ []) T → ⊥
 not_forgotten T chain = false≢true (has_added chain.2.0 nothing chain.2.1)
 
--- a set that was closed has shown all that its notes show
-not_cut_short : SeenBy {closed = Unit {0}} {crashed = Unit {0}} (inl tt) (note_by 1 (Called (Add 12) Two) None ∷ []) [] → ⊥
-not_cut_short h = absurd cc
+-- nor does it show less than what was seen by its end
+not_cut_short : GrowsTo no_board (note_by 1 (Called (Add 12) Two) None ∷ []) [] → ⊥
+not_cut_short h = go h.new h.shows
+  where
+    go : (new : History) → [] ≡ new ++ Call 1 1 (Add 12) ∷ [] → ⊥
+    go [] is = absurd cc
+    go (m ∷ new) is = absurd cc

@@ -1,5 +1,5 @@
 -- The lives of sets that follow on one another are a chain.
-use Rattle.std.proofs.Common.{◌≡◌, ◌⊎◌, inl, inr, ⊎_elim, List, [], ◌∷◌, refl, sym, ◌∙◌, subst, arith}
+use Rattle.std.proofs.Common.{◌≡◌, ◌⊎◌, inl, inr, ⊎_elim, ℕ, List, [], ◌∷◌, ◌++◌, refl, sym, ap, ◌∙◌, subst, arith}
 use Rattle.std.proofs.lemmas.List.{append-nil}
 use Rattle.std.specs.Prelude.{IsTrue}
 use Rattle.lz_slot.specs.Bytes.{Holds}
@@ -15,12 +15,18 @@ use Rattle.lz_board.specs.declared.view.Note.{Note}
 use Rattle.lz_board.specs.Opened.{sizes_in}
 use Rattle.lz_board.specs.Seats.{BoardId}
 use Rattle.lz_tie.specs.Holds.{IsLocked}
-use Rattle.lz_tie.specs.Moments.{ExplainsBegun}
-use Rattle.lz_tie.specs.RunningSets.{Explains, members_of}
+use Rattle.lz_tie.specs.Moments.{ExplainsBegun, ExplainsFrom, GrowsTo, IsReply, RepliesStay, Stays}
+use Rattle.lz_tie.specs.RunningSets.{members_of}
 use Rattle.lz_tie.proofs.Marks.RunningSet.{history_of}
+use Rattle.lz_tie.proofs.Moments.GrownNotes.{grows_on, same_grows}
 use Rattle.lz_tie.proofs.Start.FirstSets.{begins_with_read}
 use Rattle.lz_tie.proofs.Start.OpenedYard.{opened_locked, opened_sizes}
-use Rattle.lz_set.specs.JoinedLives.{Lived, MayLeave, SeenBy, LivesJoin, life_of}
+use Rattle.lz_set.specs.JoinedLives.{AfterReply, IsSeen, Lived, LivesJoin, MayLeave, life_of}
+
+-- each reply among the notes stays
+stays_at : (b : BoardId) (disk : Device) (all later : List Note) (n : Note) (before : List Note) → RepliesStay b disk all (later ++ n ∷ before) → IsReply n.what → Stays b disk all n before
+stays_at b disk all [] n before stay reply = stay.0 reply
+stays_at b disk all (x ∷ later) n before stay reply = stays_at b disk all later n before stay.1 reply
 
 -- what is read of an honest disk under the lock is one of its images
 read_is_left : (b : BoardId) (ns : List Note) (y : Yard) (dev : Device) → IsLocked b ns y dev → IsTrue dev.honest → IsImage dev.medium dev.medium.seen
@@ -46,17 +52,16 @@ module _ (D : Type 0) (device : D → Device) where
     honest_closed : IsTrue (device l.closed).honest
     honest_closed = subst IsTrue (sym l.left.honest) honest_first
 
-    -- the notes that were made by the end, which explain the text that was left
-    record Ended (ends : MayLeave (device l.closed) l.text ⊎ (device l.closed).left_since (device l.opened.disk).moment l.text) : Type 0 where
-      seen : List Note
-      by_end : SeenBy ends l.notes seen
-      explains : Explains board seen l.text
-
-    once_closed : MayLeave (device l.closed) l.text → Explains board l.notes l.text
-    once_closed leaves = l.left.now honest_closed l.text (⊎_elim
-        (λ read. subst (IsImage (device l.closed).medium) (sym read) (read_is_left board l.notes l.left.yard (device l.closed) l.left.locked honest_closed))
-        (λ image. image)
-        leaves)
+    once_closed : MayLeave (device l.closed) l.text → ExplainsFrom board l.notes l.notes l.text
+    once_closed leaves = record {
+      then = l.notes;
+      from = same_grows board l.notes;
+      upto = same_grows board l.notes;
+      explains = l.left.now honest_closed l.text (⊎_elim
+          (λ read. subst (IsImage (device l.closed).medium) (sym read) (read_is_left board l.notes l.left.yard (device l.closed) l.left.locked honest_closed))
+          (λ image. image)
+          leaves);
+    }
 
     -- before the first note the open's text was left
     at_first : IsImage (device l.opened.disk).medium l.text → ExplainsBegun board l.notes l.text
@@ -67,25 +72,40 @@ module _ (D : Type 0) (device : D → Device) where
       explains = history_of board [] l.opened.yard (device l.opened.disk) (opened_locked board [] (device l.old) (device l.opened.disk) l.buckets l.passes l.opened.yard l.opens in_words l.trace refl) honest_first l.text image;
     }
 
-    by_crash : (crashed : (device l.closed).left_since (device l.opened.disk).moment l.text) → Ended (inr crashed)
+    by_crash : (device l.closed).left_since (device l.opened.disk).moment l.text → ExplainsFrom board [] l.notes l.text
     by_crash crashed =
         let e = ⊎_elim at_first (λ begun. begun) ((l.left.ever honest_closed).each l.text crashed) in
-        record { seen = e.before; by_end = (e.later, e.splits); explains = e.explains }
+        record {
+          then = e.before;
+          from = subst (GrowsTo board []) (append-nil e.before) (grows_on board e.before []);
+          upto = subst (GrowsTo board e.before) (sym e.splits) (grows_on board e.later e.before);
+          explains = e.explains;
+        }
 
-    ended : (ends : MayLeave (device l.closed) l.text ⊎ (device l.closed).left_since (device l.opened.disk).moment l.text) → Ended ends
-    ended (inl leaves) = record { seen = l.notes; by_end = refl; explains = once_closed leaves }
-    ended (inr crashed) = by_crash crashed
+    after_reply : (r : AfterReply (device l.closed) l.notes l.seen l.text) → ExplainsFrom board (r.reply ∷ r.before) l.notes l.text
+    after_reply r =
+        (stays_at board (device l.closed) l.notes r.later r.reply r.before (subst (RepliesStay board (device l.closed) l.notes) r.splits l.left.stays) r.is_reply honest_closed).1 l.text r.left
+
+    ended : ExplainsFrom board l.seen l.notes l.text
+    ended = ⊎_elim
+        (λ closed. from closed.0 (once_closed closed.1))
+        (⊎_elim (λ crashed. from crashed.0 (by_crash crashed.1)) (λ r. from r.newest (after_reply r)))
+        l.ends
+      where
+        from : {seen : List Note} → l.seen ≡ seen → ExplainsFrom board seen l.notes l.text → ExplainsFrom board l.seen l.notes l.text
+        from same e = subst (λ (ns : List Note). ExplainsFrom board ns l.notes l.text) (sym same) e
+
+    seen_so : IsSeen board l.seen l.notes (life_of board ended.then)
+    seen_so = record { then = ended.then; from = ended.from; upto = ended.upto; is = refl }
 
   pub lives_join : LivesJoin D device
   lives_join l [] follow =
-      let x = ended l l.ends in
-      let e = x.explains in
-      (life_of l.opened.board x.seen ∷ [], ((x.seen, x.by_end, refl), tt), (e.found, e.holds, (e.calls, e.fits, tt)))
+      let e = (ended l).explains in
+      (life_of l.opened.board (ended l).then ∷ [], (seen_so l, tt), (e.found, e.holds, (e.calls, e.fits, tt)))
   lives_join l (q ∷ earlier) (read, follow) =
       let before = lives_join q earlier follow in
-      let x = ended l l.ends in
-      let e = x.explains in
-      (life_of l.opened.board x.seen ∷ before.0, ((x.seen, x.by_end, refl), before.1), (e.found, e.holds, (e.calls, e.fits, reach before.0 before.2.0 before.2.1 before.2.2)))
+      let e = (ended l).explains in
+      (life_of l.opened.board (ended l).then ∷ before.0, (seen_so l, before.1), (e.found, e.holds, (e.calls, e.fits, reach before.0 before.2.0 before.2.1 before.2.2)))
     where
       same : (S : Keys) → Holds q.text q.opened.board.sizes.slots S → Same S (members_of l.opened.board.opened)
       same S held =

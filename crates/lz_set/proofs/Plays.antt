@@ -26,7 +26,7 @@ use Rattle.lz_board.specs.declared.view.Part.{Part}
 use Rattle.lz_board.specs.declared.view.Load.{Load}
 use Rattle.lz_board.specs.declared.view.What.{What}
 use Rattle.lz_board.specs.declared.view.What.TheVariants.{Called, Played, Found}
-use Rattle.lz_board.specs.Notes.{load_note, note_by}
+use Rattle.lz_board.specs.Notes.{load_note, note_by, stamped}
 use Rattle.lz_board.specs.Seats.{BoardId}
 use Rattle.lz_tie.specs.declared.playing.Turn.{Turn}
 use Rattle.lz_tie.specs.Held.{Advanced}
@@ -58,7 +58,8 @@ plays_one b was is k t before after a =
       a.event,
       t.outcome,
       t.published.value,
-      a.holds.steps ∙ ap (λ (p : ℕ). note_by p (Played a.event t.outcome) t.published.value ∷ (loads ++ before.steps)) (sym a.holds.number),
+      a.holds.moment,
+      a.holds.steps ∙ ap (λ (p : ℕ). stamped a.holds.moment (note_by p (Played a.event t.outcome) t.published.value) ∷ (loads ++ before.steps)) (sym a.holds.number),
       sym (ap kind_of a.turned.next) ∙ kind_loaded yard.words (event_at yard.shape caller.command caller.progress)
           ∙ ap (λ (c : Command). kind_of (event_at yard.shape c caller.progress)) a.turned.command
           ∙ ap (λ (at : Progress). kind_of (event_at yard.shape k.command at)) a.turned.progress
@@ -66,12 +67,12 @@ plays_one b was is k t before after a =
     )
 
 pub has_played : (kind : Kind) (h h' : Part) → PlaysOne kind h h' → HasPlayed kind h h'
-has_played kind h h' p = (p.0, p.1, p.2, map (load_note h.number) h.loads, p.3, p.4)
+has_played kind h h' p = (p.0, p.1, p.2, p.3, map (load_note h.number) h.loads, p.4, p.5)
 
 pub played_then : (kind : Kind) (h mid h' : Part) → StepsOn h mid → HasPlayed kind mid h' → HasPlayed kind h h'
 played_then kind h mid h' one p =
-    let n = note_by h'.number (Played p.0 p.1) p.2 in
-    (p.0, p.1, p.2, p.3 ++ one.0, p.4 ∙ ap (λ (l : List Note). n ∷ (p.3 ++ l)) one.1 ∙ ap (λ (l : List Note). n ∷ l) (sym (append_assoc p.3 one.0 h.steps)), p.5)
+    let n = stamped p.3 (note_by h'.number (Played p.0 p.1) p.2) in
+    (p.0, p.1, p.2, p.3, p.4 ++ one.0, p.5 ∙ ap (λ (l : List Note). n ∷ (p.4 ++ l)) one.1 ∙ ap (λ (l : List Note). n ∷ l) (sym (append_assoc p.4 one.0 h.steps)), p.6)
 
 -- loads are no syncs
 loads_without : (p : ℕ) (loads : List Load) → NoneOf kind_of_step Sync (map (load_note p) loads)
@@ -85,9 +86,9 @@ none_both kind_in kind (n ∷ ns) old one two = (one.0, none_both kind_in kind n
 -- nor is an event of another kind
 pub one_without : (kind : Kind) (h h' : Part) → kind ≢ Sync → PlaysOne kind h h' → StepsWithout Sync h h'
 one_without kind h h' other p = (
-  note_by h'.number (Played p.0 p.1) p.2 ∷ map (load_note h.number) h.loads,
-  p.3,
-  ((λ is. other (sym p.4 ∙ same_Some _ _ is)), loads_without h.number h.loads),
+  stamped p.3 (note_by h'.number (Played p.0 p.1) p.2) ∷ map (load_note h.number) h.loads,
+  p.4,
+  ((λ is. other (sym p.5 ∙ same_Some _ _ is)), loads_without h.number h.loads),
 )
 
 pub without_then : (kind_in : What → Option Kind) (kind : Kind) (h mid h' : Part) → StepsBut kind_in kind h mid → StepsBut kind_in kind mid h' → StepsBut kind_in kind h h'
@@ -111,7 +112,7 @@ so_unfailed kind h h' one = (one.0, one.1, go one.0 one.2)
 -- a hold whose event didn't fail
 pub turned_unfailed : (b : BoardId) (was is : List Note) (k : Calling) (t : Turn) (before after : Part) → Advanced b was is k t before after → t.outcome ≢ Fault → StepsUnfailed Sync before after
 turned_unfailed b was is k t before after a done = (
-  note_by before.number (Played a.event t.outcome) t.published.value ∷ map (load_note before.number) before.loads,
+  stamped a.holds.moment (note_by before.number (Played a.event t.outcome) t.published.value) ∷ map (load_note before.number) before.loads,
   a.holds.steps,
   (what t.outcome done, loads before.loads),
 )

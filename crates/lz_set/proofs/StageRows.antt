@@ -55,18 +55,18 @@ abbrev pass_with : List Note → Part
 pass_with steps = record { sizes = no_sizes; number = 1; pin = 1; begun = []; known = []; steps = steps; base = 0; loads = [] }
 
 claimed_since : HasPlayed kind.Claim (pass_with []) (pass_with (claim ∷ []))
-claimed_since = (Claim (Bucket 0) None, found.Busy, None, [], refl, refl)
+claimed_since = (Claim (Bucket 0) None, found.Busy, None, 0, [], refl, refl)
 
 -- an older one doesn't count
 claimed_before : HasPlayed kind.Claim (pass_with (claim ∷ [])) (pass_with (claim ∷ [])) → ⊥
-claimed_before h = let more = length-append h.3 (claim ∷ []) in let is = ap length h.4 in absurd (omega (arith, more, is))
+claimed_before h = let more = length-append h.4 (claim ∷ []) in let is = ap length h.5 in absurd (omega (arith, more, is))
 
 -- and neither does a step besides
 claimed_once : PlaysOne kind.Claim (pass_with []) (pass_with (claim ∷ []))
-claimed_once = (Claim (Bucket 0) None, found.Busy, None, refl, refl)
+claimed_once = (Claim (Bucket 0) None, found.Busy, None, 0, refl, refl)
 
 claimed_twice : PlaysOne kind.Claim (pass_with []) (pass_with (claim ∷ claim ∷ [])) → ⊥
-claimed_twice h = let is = ap length h.3 in omega (arith, is)
+claimed_twice h = let is = ap length h.4 in omega (arith, is)
 
 -- a sync, and what a pass has made without one
 abbrev sync : Note

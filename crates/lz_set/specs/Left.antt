@@ -8,24 +8,26 @@ use Rattle.lz_machine.specs.Marks.{IsTold}
 use Rattle.lz_machine.specs.Yards.{Yard}
 use Rattle.lz_board.specs.declared.view.Note.{Note}
 use Rattle.lz_board.specs.declared.view.Part.{Part}
-use Rattle.lz_board.specs.Notes.{Extends, shape_of_sizes, trace_of}
+use Rattle.lz_board.specs.Notes.{Extends, shape_of_sizes, steps_of, trace_of}
 use Rattle.lz_board.specs.Plays.{knowing}
 use Rattle.lz_board.specs.Seats.{BoardId}
 use Rattle.lz_tie.specs.Holds.{IsLocked}
 use Rattle.lz_tie.specs.Marks.{AreOfPasses, marks_in}
-use Rattle.lz_tie.specs.Moments.{ExplainedSince}
+use Rattle.lz_tie.specs.Moments.{ExplainedSince, RepliesStay}
 use Rattle.lz_tie.specs.OwnCalls.{TellsOwn}
 use Rattle.lz_tie.specs.RunningSets.{HasHistory}
 use Rattle.lz_tie.specs.Sessions.{TellsAlone}
 
 -- Whatever a crash leaves of the disk now explains what these notes show of calls and answers, and each text that a crash might
--- have left since it was like `first` what a beginning of them shows. Each call that they show was made by a pass of the set that had
+-- have left since it was like `first` what a beginning of them shows; one that it might have left since a reply was noted explains that
+-- reply and all that was seen before. Each call that they show was made by a pass of the set that had
 -- none open, and has ended once at most; none that was made after another was cut off is answered. One call at most was told that the
 -- device failed in it, and only where it has failed since. They are a run of the machine, which led to this yard; where the set was
 -- halted in it, the disk's last sync was made, or the device has failed since.
 pub record IsLeft (b : BoardId) (first : Device) (ns : List Note) (disk : Device) : Type 0 where
   pub now : HasHistory b ns disk
   pub ever : ExplainedSince b first ns disk
+  pub stays : RepliesStay b disk ns ns
   pub honest : disk.honest ≡ first.honest
   pub told : IsTold (marks_in (shape_of_sizes b.sizes) ns)
   pub halts : HaltLasts (marks_in (shape_of_sizes b.sizes) ns)
@@ -36,9 +38,11 @@ pub record IsLeft (b : BoardId) (first : Device) (ns : List Note) (disk : Device
   pub locked : IsLocked b ns yard disk
   pub over : halt_word (trace_of b.opened ns) ≡ 1 → (last_sync ≤ yard.vault.syncs) ⊎ (first.faults < disk.faults)
 
--- A pass with this part has seen all that was published; the notes' calls of it are those that it made, with the replies that
--- it got; and in a set of one pass the notes show nothing else.
+-- A pass with this part has seen all that was published; its steps are those of the notes, so its replies stay from the moments that
+-- it knows; the notes' calls of it are those that it made, with the replies that it got; and in a set of one pass the notes show nothing
+-- else.
 pub record IsWelcome (b : BoardId) (ns : List Note) (h : Part) : Type 0 where
+  pub noted : steps_of h.number ns ≡ h.steps
   pub own : TellsOwn b ns h
   pub alone : b.sizes.passes ≡ 1 → TellsAlone b ns h
 

@@ -19,7 +19,7 @@ use Rattle.lz_board.specs.declared.view.Note.{Note}
 use Rattle.lz_board.specs.declared.view.Part.{Part}
 use Rattle.lz_board.specs.declared.view.What.{What}
 use Rattle.lz_board.specs.declared.view.What.TheVariants.{Called, Played, Found}
-use Rattle.lz_board.specs.Notes.{load_note, note_by}
+use Rattle.lz_board.specs.Notes.{load_note, note_by, stamped}
 use Rattle.lz_set.specs.declared.underway.Stage.{Stage}
 use Rattle.lz_set.specs.declared.underway.Stage.TheVariants.{Syncs, Busy, Answers}
 
@@ -35,12 +35,12 @@ StepsOn h h' = (more : List Note) × (h'.steps ≡ more ++ h.steps)
 
 -- its newest step since is an event of this kind
 abbrev pub HasPlayed : Kind → Part → Part → Type 0
-HasPlayed kind h h' = (e : Event) × (o : Outcome) × (x : Option Publishing) × (more : List Note) × (h'.steps ≡ note_by h'.number (Played e o) x ∷ (more ++ h.steps)) × (kind_of e ≡ kind)
+HasPlayed kind h h' = (e : Event) × (o : Outcome) × (x : Option Publishing) × (m : ℕ) × (more : List Note) × (h'.steps ≡ stamped m (note_by h'.number (Played e o) x) ∷ (more ++ h.steps)) × (kind_of e ≡ kind)
 
 -- its newest step since is an event of this kind, and the others are the loads that it had made
 abbrev pub PlaysOne : Kind → Part → Part → Type 0
 PlaysOne kind h h' =
-    (e : Event) × (o : Outcome) × (x : Option Publishing) × (h'.steps ≡ note_by h'.number (Played e o) x ∷ (map (load_note h.number) h.loads ++ h.steps)) × (kind_of e ≡ kind)
+    (e : Event) × (o : Outcome) × (x : Option Publishing) × (m : ℕ) × (h'.steps ≡ stamped m (note_by h'.number (Played e o) x) ∷ (map (load_note h.number) h.loads ++ h.steps)) × (kind_of e ≡ kind)
 
 -- the kind of a step; a pin word that was found is no event
 abbrev pub kind_of_step : What → Option Kind

@@ -89,6 +89,7 @@ pinned = note_by 1 (Played Pin Done) None ∷ note_by 1 (Called (Has 9) Two) Non
 
 one_call : IsOneCall shape 1 Two (Has 9) Yes (note_by 1 (Played Answer Done) None ∷ load_note 1 (record { word = Link 0; value = 8589934592; at = 4 }) ∷ load_note 1 (record { word = Key 0; value = 9; at = 4 }) ∷ load_note 1 (record { word = Head 0; value = 1; at = 4 }) ∷ load_note 1 (record { word = Halt; value = 0; at = 4 }) ∷ note_by 1 (Played Pin Done) None ∷ note_by 1 (Called (Has 9) Two) None ∷ [])
 one_call = record {
+  moment = 0;
   within = load_note 1 (record { word = Link 0; value = 8589934592; at = 4 }) ∷ load_note 1 (record { word = Key 0; value = 9; at = 4 }) ∷ load_note 1 (record { word = Head 0; value = 1; at = 4 }) ∷ load_note 1 (record { word = Halt; value = 0; at = 4 }) ∷ note_by 1 (Played Pin Done) None ∷ [];
   steps = refl;
   only = (tt, (tt, (tt, (tt, (tt, tt)))));

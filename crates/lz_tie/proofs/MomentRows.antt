@@ -2,12 +2,14 @@
 use Rattle.std.proofs.Common.{◌≡◌, inl, ⊎_elim, ℕ, true, List, [], ◌∷◌, ◌++◌, Some, None, refl, sym, ap, ◌∙◌, subst, append_assoc, arith}
 use mathlib.Core.Bool.{false≢true}
 use Rattle.std.proofs.lemmas.List.{append_cancel_right}
+use Rattle.std.specs.Prelude.{IsTrue}
 use Rattle.lz_slot.specs.declared.command.Command.TheVariants.{Add, Remove, Has}
 use Rattle.lz_slot.specs.declared.format.Format.TheVariants.{Two}
 use Rattle.lz_slot.specs.declared.history.Mark.TheVariants.{Call, Answer as answer}
 use Rattle.lz_slot.specs.Bytes.{Holds}
 use Rattle.lz_slot.specs.Histories.{History, Fits, IsUnderWay}
 use Rattle.lz_slot.specs.Sets.{Keys}
+use Rattle.lz_disk.specs.Devices.{Device}
 use Rattle.lz_list.specs.declared.publishing.Change.TheVariants.{Added as as_added}
 use Rattle.lz_list.specs.declared.publishing.Publishing.TheVariants.{Linked as linked, Settled as settled, KeyPrepared as key_prepared, LinkPrepared as link_prepared}
 use Rattle.lz_list.specs.declared.word.Word.TheVariants.{Head, Halt}
@@ -21,11 +23,11 @@ use Rattle.lz_machine.proofs.Open.FirstPoint.{one_set}
 use Rattle.lz_board.specs.declared.view.Note.{Note}
 use Rattle.lz_board.specs.declared.view.Sizes.{Sizes}
 use Rattle.lz_board.specs.declared.view.What.TheVariants.{Called, Played}
-use Rattle.lz_board.specs.Notes.{note_by, load_note, shape_of_sizes}
+use Rattle.lz_board.specs.Notes.{note_by, load_note, shape_of_sizes, stamped}
 use Rattle.lz_board.specs.Seats.{BoardId}
 use Rattle.lz_tie.specs.Holds.{no_board}
 use Rattle.lz_tie.specs.Marks.{marks_in}
-use Rattle.lz_tie.specs.Moments.{GrowsTo, ExplainsFrom}
+use Rattle.lz_tie.specs.Moments.{GrowsTo, ExplainsFrom, RepliesStay}
 use Rattle.lz_tie.specs.RunningSets.{members_of, Explains}
 
 abbrev sizes : Sizes
@@ -123,3 +125,14 @@ not_left_out t e empty = false≢true (one_set t 1 S0 e.found empty e.holds 12 �
   where
     none : (i : ℕ) → IsUnderWay (Call 1 1 (Add 12) ∷ []) i (Remove 12) → ⊥
     none i h = ⊎_elim (λ (is : Call 1 1 (Add 12) ≡ Call i h.called.0 (Remove 12)). absurd cc) (λ no. no) h.called.1
+
+-- A reply that was noted isn't lost later: no crash since then leaves a text that lacks what its call did.
+reply_lost : (disk : Device) → IsTrue disk.honest → (t : List ℕ) → disk.left_since 0 t → Holds t 1 S0 → RepliesStay board disk later later → ⊥
+reply_lost disk honest t left empty stay = not_lost t ((stay.1.0 tt honest).1 t left) empty
+
+-- and it isn't noted with a moment that is still to come
+abbrev answered_at_5 : List Note
+answered_at_5 = stamped 5 (note_by 1 (Played Answer Done) None) ∷ settled_adding
+
+noted_too_late : (disk : Device) → IsTrue disk.honest → disk.moment ≡ 4 → RepliesStay board disk answered_at_5 answered_at_5 → ⊥
+noted_too_late disk honest now stay = let come = (stay.0 tt honest).0 in absurd (omega (arith, come, now))

@@ -1,4 +1,5 @@
 pub mod GrownNotes
 pub mod LeftBeginnings
+pub mod StayingReplies
 pub mod HeldMoments
-pub mod LaterMoments
+pub mod OwnReplies

@@ -61,6 +61,7 @@ answers = record {
   new = steps;
   steps = refl;
   one_call = record {
+    moment = 0;
     within =
         load_note 1 (record { word = Link 0; value = 8589934592; at = 4 }) ∷ load_note 1 (record { word = Key 0; value = 9; at = 4 })
         ∷ load_note 1 (record { word = Head 0; value = 1; at = 4 }) ∷ load_note 1 (record { word = Halt; value = 0; at = 4 })

@@ -21,7 +21,7 @@ use Rattle.lz_board.specs.declared.view.What.{What}
 use Rattle.lz_board.specs.declared.view.What.TheVariants.{Called, Played, Found}
 use Rattle.lz_board.specs.declared.view.Note.{Note}
 use Rattle.lz_board.specs.declared.view.Part.{Part}
-use Rattle.lz_board.specs.Notes.{note_by, own, place, shape_of_sizes}
+use Rattle.lz_board.specs.Notes.{note_by, own, place, shape_of_sizes, stamped}
 use Rattle.lz_board.specs.Glances.{Changes, Between}
 use Rattle.lz_board.specs.Plays.{knowing}
 use Rattle.lz_board.specs.Ways.{Rests}
@@ -104,10 +104,12 @@ abbrev pub AreWithin : List Note → Type 0
 AreWithin [] = Unit {0}
 AreWithin (n ∷ ns) = IsWithin n.what × AreWithin ns
 
--- The steps are one call of this command, from its beginning to its Answer, and its reply is this one.
+-- The steps are one call of this command, from its beginning to its Answer, which was noted at that moment of the device, and its
+-- reply is this one.
 pub record IsOneCall (shape : Shape) (p : ℕ) (format : Format) (c : Command) (reply : Reply) (new : List Note) : Type 0 where
+  pub moment : ℕ
   pub within : List Note
-  pub steps : new ≡ note_by p (Played Answer Done) None ∷ (within ++ note_by p (Called c format) None ∷ [])
+  pub steps : new ≡ stamped moment (note_by p (Played Answer Done) None) ∷ (within ++ note_by p (Called c format) None ∷ [])
   pub only : AreWithin within
   pub answers : place shape (within ++ note_by p (Called c format) None ∷ []) ≡ Some (c, Answering reply)
 

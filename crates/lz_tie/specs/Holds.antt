@@ -1,5 +1,5 @@
 -- The value under the lock, and what one hold promises.
-use Rattle.std.specs.Prelude.{◌≡◌, ◌≢◌, ◌%◌, ◌==◌, ◌≤◌, false, if◌then◌else◌, List, [], ◌∷◌, ◌++◌, map, length, Option, Some, None}
+use Rattle.std.specs.Prelude.{◌≡◌, ◌≢◌, ◌%◌, ◌==◌, ◌≤◌, ℕ, false, if◌then◌else◌, List, [], ◌∷◌, ◌++◌, map, length, Option, Some, None}
 use Rattle.lz_slot.specs.declared.command.Command.{Command}
 use Rattle.lz_slot.specs.declared.format.Format.{Format}
 use Rattle.lz_slot.specs.Histories.{History}
@@ -29,7 +29,7 @@ use Rattle.lz_board.specs.declared.view.What.{What}
 use Rattle.lz_board.specs.declared.view.What.TheVariants.{Called, Played}
 use Rattle.lz_board.specs.declared.view.Note.{Note}
 use Rattle.lz_board.specs.declared.view.Part.{Part}
-use Rattle.lz_board.specs.Notes.{as_list, trace_of, Since, load_note, place, shape_of_sizes, pin_after, pin_after_what}
+use Rattle.lz_board.specs.Notes.{as_list, trace_of, Since, load_note, stamped, place, shape_of_sizes, pin_after, pin_after_what}
 use Rattle.lz_board.specs.Kept.{is_calling, Knows, PinTold}
 use Rattle.lz_machine.specs.Yards.{IsInside}
 use Rattle.lz_board.specs.Plays.{no_sizes, noted, found_note}
@@ -126,10 +126,11 @@ pub record Turned (opened : Trace) (ns : List Note) (h : Part) (c : Command) (at
 -- One hold of the lock, for a pass: the notes got its loads and then its event, the pass's own steps the same, and it has
 -- seen all that was published until then. What came since it last looked was not published for it.
 pub record HoldNotes (opened : Trace) (was is : List Note) (n : Note) (before after : Part) : Type 0 where
-  pub notes : is ≡ noted opened was before n
+  pub moment : ℕ
+  pub notes : is ≡ noted opened was before (stamped moment n)
   pub sizes : after.sizes ≡ before.sizes
   pub number : after.number ≡ before.number
-  pub steps : after.steps ≡ n ∷ (map (load_note before.number) before.loads ++ before.steps)
+  pub steps : after.steps ≡ stamped moment n ∷ (map (load_note before.number) before.loads ++ before.steps)
   pub no_loads : after.loads ≡ []
   pub known : after.known ≡ trace_of opened is
   pub since : Since before.number (trace_of opened was) before.known

@@ -1,19 +1,23 @@
 -- What a crash might have left at any moment of a life, by the notes of its calls. Notes and steps stand newest first.
-use Rattle.std.specs.Prelude.{◌≡◌, ◌⊎◌, ℕ, false, IsTrue, List, [], ◌∷◌, ◌++◌}
+use Rattle.std.specs.Prelude.{◌≡◌, ◌⊎◌, ℕ, ◌≤◌, false, IsTrue, List, [], ◌∷◌, ◌++◌, map}
 use Rattle.lz_slot.specs.Histories.{History}
 use Rattle.lz_disk.specs.Images.{Medium, IsImage, at_rest}
 use Rattle.lz_disk.specs.Devices.{Device, LeavesOnly}
 use Rattle.lz_vault.specs.Vaults.{LeavesEither}
 use Rattle.lz_list.specs.Traces.{Trace}
+use Rattle.lz_machine.specs.declared.event.Event.TheVariants.{Answer}
 use Rattle.lz_machine.specs.Runs.{Start, IsStart, Up, Service, Transition, run, IsRun, first_point}
 use Rattle.lz_board.specs.declared.view.Sizes.{Sizes}
+use Rattle.lz_board.specs.declared.view.What.{What}
+use Rattle.lz_board.specs.declared.view.What.TheVariants.{Played}
 use Rattle.lz_board.specs.declared.view.Note.{Note}
-use Rattle.lz_board.specs.Notes.{Extends, shape_of_sizes, trace_of}
+use Rattle.lz_board.specs.Notes.{Extends, shape_of_sizes, steps_of, trace_of}
 use Rattle.lz_board.specs.Seats.{BoardId}
 use Rattle.lz_tie.specs.NotedRuns.{ReadsAs}
-use Rattle.lz_tie.specs.Holds.{LockedOver, sizes_of}
-use Rattle.lz_tie.specs.Marks.{Shows}
-use Rattle.lz_tie.specs.RunningSets.{Explains, HasHistory}
+use Rattle.lz_tie.specs.Holds.{sizes_of}
+use Rattle.lz_tie.specs.Marks.{Shows, marks_in}
+use Rattle.lz_tie.specs.OwnCalls.{calls_of, shown, told, unnumbered}
+use Rattle.lz_tie.specs.RunningSets.{Explains}
 
 -- Some beginning of the notes is read as a run of the machine, on a board of these sizes whose life began with this trace.
 pub record Begun (z : Sizes) (opened : Trace) (ns : List Note) : Type 0 where
@@ -52,13 +56,36 @@ pub record GrowsTo (b : BoardId) (was is : List Note) : Type 0 where
   pub shows : Shows (shape_of_sizes b.sizes) was is new
   pub trace : Extends (trace_of b.opened is) (trace_of b.opened was)
 
+-- The text explains all that was seen by a moment between these two: it is no earlier than what the first notes show.
+pub record ExplainsFrom (b : BoardId) (was is : List Note) (t : List ℕ) : Type 0 where
+  pub then : List Note
+  pub from : GrowsTo b was then
+  pub upto : GrowsTo b then is
+  pub explains : Explains b then t
+
+-- the note of an Answer
+abbrev pub IsReply : What → Type 0
+IsReply (Played Answer o) = Unit {0}
+IsReply w = ⊥
+
+-- The moment of this note has come, and each text that a crash might have left since explains all that was seen by then, with what
+-- was seen later or some of it. That is so of an honest device.
+abbrev pub Stays : BoardId → Device → List Note → Note → List Note → Type 0
+Stays b disk all n before = IsTrue disk.honest → (n.moment.at ≤ disk.moment) × ((t : List ℕ) → disk.left_since n.moment.at t → ExplainsFrom b (n ∷ before) all t)
+
+-- So it is of each reply among these notes, which end all of them.
+abbrev pub RepliesStay : BoardId → Device → List Note → List Note → Type 0
+RepliesStay b disk all [] = Unit {0}
+RepliesStay b disk all (n ∷ before) = (IsReply n.what → Stays b disk all n before) × RepliesStay b disk all before
+
 -- One hold, of the notes and of the disk: the notes grow, at each moment each image is one of before it or of after it, and what a
--- beginning of the notes left is left by one of those after it too.
+-- beginning of the notes left is left by one of those after it too. Replies that stay over the hold are joined by one that is noted.
 pub record MomentsGoOn (b : BoardId) (was is : List Note) (old new : Device) : Type 0 where
   pub grows : GrowsTo b was is
   pub honest : new.honest ≡ old.honest
   pub time : IsTrue old.honest → LeavesEither old new
   pub kept : (t : List ℕ) → IsLeftBy b.sizes b.opened was t → IsLeftBy b.sizes b.opened is t
+  pub stays : RepliesStay b new is was → RepliesStay b new is is
 
 -- One hold: the notes grow, and each text that a crash in it might have left explains all that was seen before it, or all that was
 -- seen after it. That is so of an honest device, which stays honest.
@@ -67,28 +94,20 @@ pub record HoldExplains (b : BoardId) (was is : List Note) (old new : Device) : 
   pub honest : new.honest ≡ old.honest
   pub leaves : IsTrue old.honest → LeavesOnly old new (λ t. Explains b was t ⊎ Explains b is t)
 
--- What lies under the lock came from `first` to `last` by any number of holds. The states before each of them stand newest first.
-abbrev pub HoldByHold : (D : Type 0) → (D → Device) → BoardId → LockedOver D → List (LockedOver D) → LockedOver D → Type 0
-HoldByHold D device b first [] last = last ≡ first
-HoldByHold D device b first (mid ∷ holds) last =
-    HoldByHold D device b first holds mid × HoldExplains b mid.notes last.notes (device mid.disk) (device last.disk)
+-- A reply that a pass has among its own steps stays, once a set says so of the replies in its notes (`RepliesStay`): from the reply's
+-- moment on each text that a crash might have left explains notes in which the pass's calls are those that it had made by then, with
+-- the replies that it had got.
+pub record OwnStays (b : BoardId) (disk : Device) (ns : List Note) (p : ℕ) (reply : Note) (older : List Note) : Type 0 where
+  pub before : List Note
+  pub steps : steps_of p (reply ∷ before) ≡ reply ∷ older
+  pub calls : map unnumbered (calls_of p (marks_in (shape_of_sizes b.sizes) (reply ∷ before))) ≡ map shown (told (shape_of_sizes b.sizes) (reply ∷ older))
+  pub stays : Stays b disk ns reply before
 
--- The text explains all that was seen by a moment between these two: it is no earlier than what the first notes show.
-pub record ExplainsFrom (b : BoardId) (was is : List Note) (t : List ℕ) : Type 0 where
-  pub then : List Note
-  pub from : GrowsTo b was then
-  pub upto : GrowsTo b then is
-  pub explains : Explains b then t
-
--- Each text that a crash might have left at any moment since the lock was got explains all that was seen by then, with what was seen
--- since or some of it. So each call that was answered by then is in it.
-abbrev pub AnsweredCallsStay : (D : Type 0) → (D → Device) → Type 0
-AnsweredCallsStay D device =
-    (b : BoardId) (first : LockedOver D) (holds : List (LockedOver D)) (last : LockedOver D)
-    → HoldByHold D device b first holds last
-    → HasHistory b first.notes (device first.disk)
-    → IsTrue (device first.disk).honest
-    → (t : List ℕ) → (device last.disk).left_since (device first.disk).moment t → ExplainsFrom b first.notes last.notes t
+abbrev pub OwnRepliesStay : (D : Type 0) → (D → Device) → Type 0
+OwnRepliesStay D device =
+    (b : BoardId) (disk : D) (ns : List Note) (p : ℕ) (newer : List Note) (reply : Note) (older : List Note)
+    → RepliesStay b (device disk) ns ns → steps_of p ns ≡ newer ++ reply ∷ older → IsReply reply.what
+    → OwnStays b (device disk) ns p reply older
 
 -- The text explains the calls and answers of some beginning of the notes.
 pub record ExplainsBegun (b : BoardId) (ns : List Note) (t : List ℕ) : Type 0 where

@@ -6,7 +6,7 @@ ghost use Rattle.lz_machine.specs.declared.event.Reply.{Reply};
 ghost use Rattle.lz_machine.specs.Halts.{HaltLasts, told_device};
 ghost use Rattle.lz_machine.specs.Marks.{IsTold};
 ghost use Rattle.lz_board.specs.declared.view.Part.{Part};
-ghost use Rattle.lz_board.specs.Notes.{Extends, shape_of_sizes, trace_of};
+ghost use Rattle.lz_board.specs.Notes.{Extends, shape_of_sizes, steps_of, trace_of};
 ghost use Rattle.lz_board.specs.Plays.{knowing};
 ghost use Rattle.lz_board.specs.Seats.{IsOf, id_of, part};
 ghost use Rattle.lz_tie.specs.Answers.{Answers};
@@ -39,7 +39,7 @@ impl<N: Named, D: Disk> Locked<N, D> {
     }
 
     /// The pass joins the pen for a moment, and has then seen all that was published. In that history its calls are those that
-    /// it has made itself, with the replies that it got; in a set of one pass there are no others. What the pass had seen before is
+    /// it has made itself, with the replies that it got, and its steps are the pass's own; in a set of one pass there are no others. What the pass had seen before is
     /// a beginning of what was published.
     pub fn welcome(&mut self, board: &Board, pass: &mut Pass)
         requires board { id_of board.now ≡ N.board }
@@ -48,6 +48,7 @@ impl<N: Named, D: Disk> Locked<N, D> {
         ensures part { part pass.new ≡ knowing (trace_of N.board.opened self.old.notes) (part pass.old) }
         ensures since { Extends (trace_of N.board.opened self.old.notes) (part pass.old).known }
         ensures same { self.new ≡ self.old }
+        ensures noted { steps_of (part pass.new).number self.old.notes ≡ (part pass.new).steps }
         ensures own { TellsOwn N.board self.old.notes (part pass.new) }
         ensures alone { N.board.sizes.passes ≡ 1 → TellsAlone N.board self.old.notes (part pass.new) }
     {

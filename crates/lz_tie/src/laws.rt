@@ -2,7 +2,7 @@
 
 ghost use Rattle.lz_tie.specs.KeyByKey.{OneKeyIsPlain, OwnKeysArePlain, PlainCallsAreReplies};
 ghost use Rattle.lz_tie.specs.LoneClient.{InTurnServesKey, LoneClientIsPlain};
-ghost use Rattle.lz_tie.specs.Moments.{AnsweredCallsStay};
+ghost use Rattle.lz_tie.specs.Moments.{OwnRepliesStay};
 ghost use Rattle.lz_tie.specs.OneCaller.{OneCallerIsPlain};
 ghost use Rattle.lz_tie.specs.Sessions.{MomentsArePlain, SessionIsHeld, SessionIsPlain};
 
@@ -60,8 +60,8 @@ pub fn moments_are_plain()
     ensures { MomentsArePlain }
 {}
 
-/// A call that was answered stays: whenever the lock was got, each text that a crash might have left from then on, over any number
-/// of holds, explains all that had been seen of the calls by then, with what was seen later or some of it.
-pub fn answered_calls_stay<D: Disk>()
-    ensures { AnsweredCallsStay D D.device }
+/// A reply that a pass got stays: from the moment that its own steps tell of it, each text that a crash might have left explains its calls
+/// up to that reply, with what was seen later or some of it.
+pub fn own_replies_stay<D: Disk>()
+    ensures { OwnRepliesStay D D.device }
 {}

@@ -7,7 +7,7 @@ ghost use Rattle.lz_board.specs.Notes.{trace_of};
 ghost use Rattle.lz_board.specs.Seats.{IsPenOf, notes};
 ghost use Rattle.lz_tie.specs.Holds.{IsLocked};
 ghost use Rattle.lz_tie.specs.Lives.{LivesOn};
-ghost use Rattle.lz_tie.specs.Moments.{ExplainedSince, LeftSince};
+ghost use Rattle.lz_tie.specs.Moments.{ExplainedSince, LeftSince, RepliesStay};
 
 use crate::named::Named;
 use lz_board::Pen;
@@ -28,14 +28,15 @@ impl<N: Named, D: Disk> Model for Locked<N, D> {
     ghost use Rattle.lz_board.specs.Seats.{IsPenOf, notes};
     ghost use Rattle.lz_tie.specs.Holds.{IsLocked, LockedOver};
     ghost use Rattle.lz_tie.specs.Lives.{LivesOn};
-    ghost use Rattle.lz_tie.specs.Moments.{LeftSince};
+    ghost use Rattle.lz_tie.specs.Moments.{LeftSince, RepliesStay};
 
     ghost Value = { LockedOver D };
 
     ghost view = { λ l. record { notes = notes l.pen; yard = l.yard.yard; disk = l.yard.disk } };
 
     ghost invariant = { λ l. IsPenOf N.board l.pen × IsLocked N.board (notes l.pen) l.yard.yard (D.device l.yard.disk)
-        × LeftSince N.board N.first (notes l.pen) (D.device l.yard.disk) × LivesOn N.format N.first (notes l.pen) l.yard.yard (D.device l.yard.disk) };
+        × LeftSince N.board N.first (notes l.pen) (D.device l.yard.disk) × LivesOn N.format N.first (notes l.pen) l.yard.yard (D.device l.yard.disk)
+        × RepliesStay N.board (D.device l.yard.disk) (notes l.pen) (notes l.pen) };
 }
 
 impl<N: Named, D: Disk> Locked<N, D> {
@@ -44,6 +45,7 @@ impl<N: Named, D: Disk> Locked<N, D> {
         requires pen { IsPenOf N.board pen }
         requires yard { IsLocked N.board (notes pen) yard.yard (D.device yard.disk) }
         requires left { LeftSince N.board N.first (notes pen) (D.device yard.disk) }
+        requires stays { RepliesStay N.board (D.device yard.disk) (notes pen) (notes pen) }
         requires life { LivesOn N.format N.first (notes pen) yard.yard (D.device yard.disk) }
         ensures { result ≡ record { notes = notes pen; yard = yard.yard; disk = yard.disk } }
     {
@@ -62,11 +64,12 @@ impl<N: Named, D: Disk> Locked<N, D> {
     }
 
     /// What a crash at any moment of the life might have left: each such text is one that may be left in the state to which
-    /// some beginning of the notes leads, so it explains what was seen of the calls by then. And why the life is over, where it
-    /// is. Does nothing.
+    /// some beginning of the notes leads, so it explains what was seen of the calls by then. Each that might have been left since a
+    /// reply was noted explains that reply and all before it. And why the life is over, where it is. Does nothing.
     pub fn moments(&self)
         ensures left { LeftSince N.board N.first self.now.notes (D.device self.now.disk) }
         ensures explained { ExplainedSince N.board N.first self.now.notes (D.device self.now.disk) }
+        ensures stays { RepliesStay N.board (D.device self.now.disk) self.now.notes self.now.notes }
         ensures life { LivesOn N.format N.first self.now.notes self.now.yard (D.device self.now.disk) }
     {
         let _ = &self.yard;
@@ -77,6 +80,7 @@ impl<N: Named, D: Disk> Locked<N, D> {
         ensures disk { result ≡ self.disk }
         ensures left { LeftSince N.board N.first self.notes (D.device result) }
         ensures explained { ExplainedSince N.board N.first self.notes (D.device result) }
+        ensures stays { RepliesStay N.board (D.device result) self.notes self.notes }
         ensures life { LivesOn N.format N.first self.notes self.yard (D.device result) }
         ensures over { halt_word (trace_of N.board.opened self.notes) ≡ 1 → (last_sync ≤ self.yard.vault.syncs) ⊎ (N.first.faults < (D.device result).faults) }
     {

@@ -1,17 +1,17 @@
 //! One turn of a pass that has joined the pen.
-ghost use Rattle.std.specs.Prelude.{◌≡◌, ◌<◌, None};
+ghost use Rattle.std.specs.Prelude.{◌≡◌, ◌<◌, ℕ, None};
 ghost use Rattle.lz_slot.specs.declared.command.Command.{Command as Asked};
 ghost use Rattle.lz_machine.specs.declared.event.Event.TheVariants.{Invoke};
 ghost use Rattle.lz_machine.specs.declared.event.Outcome.TheVariants.{Fault};
 ghost use Rattle.lz_machine.specs.Orders.{Calling};
-ghost use Rattle.lz_board.specs.Notes.{note_by};
+ghost use Rattle.lz_board.specs.Notes.{moment_at, note_by};
 ghost use Rattle.lz_board.specs.Seats.{Carries, IsAtHand, carried, id_of, notes};
 ghost use Rattle.lz_tie.specs.Held.{SparesDevice};
 ghost use Rattle.lz_tie.specs.Holds.{HoldNotes, InHold, IsTurn, MayTurn, Turned, begins_with, what_of};
 ghost use Rattle.lz_tie.specs.Lives.{KeepsLife};
 ghost use Rattle.lz_tie.specs.Moments.{MomentsGoOn};
 
-use lz_board::{Board, Note, Pass, Pen, What};
+use lz_board::{Board, Moment, Note, Pass, Pen, What};
 use lz_disk::Disk;
 use lz_list::{Publishing, Word};
 use lz_machine::{Event, Outcome};
@@ -34,6 +34,16 @@ fn what_of(format: Format, event: Event, outcome: Outcome) -> What
         Event::Invoke(command) => What::Called(command, format),
         _ => What::Played(event, outcome),
     }
+}
+
+// The moment with which a note of this is made.
+fn stamp<D: Disk>(yard: &Yard<D>, what: &What) -> Moment
+    ghost moment: { ℕ }
+    ensures { result ≡ moment_at moment }
+{
+    let _ = yard;
+    let _ = what;
+    Moment::new()
 }
 
 // Plays an Invoke or the next event of the pass's call, notes it, and stores the word that it changes: a pass's own pin word is counted up.
@@ -72,10 +82,12 @@ pub(crate) fn play_joined<D: Disk>(
     } = told;
     let answered = outcome;
     let what = what_of(yard.format(), noted, answered);
+    let moment = stamp(yard, &what);
     let note = Note {
         by: number,
         what,
         published,
+        moment,
     };
     match changed {
         Some(Word::Pin(_)) => board.shift(pen, pass, &note),

@@ -8,7 +8,7 @@ ghost use Rattle.lz_board.specs.Noting.{Writes};
 ghost use Rattle.lz_board.specs.Seats.{id_of, notes, part, IsOf, IsPenOf};
 ghost use Rattle.test_threads.specs.NineFound.{at_open, link_stored, when_linked, when_settled, HasPublished, MayLook};
 
-use lz_board::{Board, Glance, GlanceFault, Note, Pass, Pen, What};
+use lz_board::{Board, Glance, GlanceFault, Moment, Note, Pass, Pen, What};
 use lz_list::{Change, Publishing, Word, Words};
 use lz_machine::{Event, Outcome};
 use lz_slot::{Key, Slot};
@@ -49,6 +49,7 @@ pub fn publish(board: &Board, pen: &mut Pen, pass: &mut Pass, store: Store)
         by: pass.number(),
         what: What::Played(store.event, Outcome::Done),
         published: Some(store.publishing),
+        moment: Moment::new(),
     };
     board.note(pen, store.word, store.old, store.new, &note);
     board.cut(pen, pass);

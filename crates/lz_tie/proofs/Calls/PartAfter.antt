@@ -26,7 +26,7 @@ use Rattle.lz_board.specs.declared.view.What.TheVariants.{Called, Played}
 use Rattle.lz_board.specs.declared.view.Note.{Note}
 use Rattle.lz_board.specs.declared.view.Load.{Load}
 use Rattle.lz_board.specs.declared.view.Part.{Part}
-use Rattle.lz_board.specs.Notes.{note_by, as_list, own, is_for, trace_of, load_note, place, placed, unless_replied, shape_of_sizes}
+use Rattle.lz_board.specs.Notes.{note_by, stamped, as_list, own, is_for, trace_of, load_note, place, placed, unless_replied, shape_of_sizes}
 use Rattle.lz_board.specs.Glances.{Changes}
 use Rattle.lz_board.specs.Seats.{BoardId}
 use Rattle.lz_board.proofs.Upkeep.Growth.{begins_of}
@@ -77,12 +77,12 @@ module _ (b : BoardId) (c : Command) (format : Format) (before : Part) (at : Pro
 
   -- its noted steps since the call was made
   abbrev pub steps_since : List Note
-  steps_since = note_by h.number (Played e o) x ∷ (map (load_note h.number) h.loads ++ U.within)
+  steps_since = stamped H.moment (note_by h.number (Played e o) x) ∷ (map (load_note h.number) h.loads ++ U.within)
 
   steps_are : h'.steps ≡ steps_since ++ (note_by h'.number (Called c format) None ∷ before.steps)
   steps_are =
-      H.steps ∙ ap (λ (l : List Note). note_by h.number (Played e o) x ∷ (map (load_note h.number) h.loads ++ l)) U.steps
-      ∙ sym (append_assoc (note_by h.number (Played e o) x ∷ map (load_note h.number) h.loads) U.within (note_by h.number (Called c format) None ∷ before.steps))
+      H.steps ∙ ap (λ (l : List Note). stamped H.moment (note_by h.number (Played e o) x) ∷ (map (load_note h.number) h.loads ++ l)) U.steps
+      ∙ sym (append_assoc (stamped H.moment (note_by h.number (Played e o) x) ∷ map (load_note h.number) h.loads) U.within (note_by h.number (Called c format) None ∷ before.steps))
       ∙ ap (λ (p : ℕ). steps_since ++ (note_by p (Called c format) None ∷ before.steps)) (sym H.number)
 
   call_is : reply_at at ≡ None → HasPass h.sizes.passes (event_at (shape_of_sizes h.sizes) c next) → HasCall h' record { command = c; buckets = b.sizes.buckets; passes = b.sizes.passes; progress = next }

@@ -19,7 +19,8 @@ use Rattle.lz_yard.specs.Steps.{Played as PlayedOver}
 use Rattle.lz_board.specs.declared.view.Note.{Note}
 use Rattle.lz_board.specs.declared.view.Part.{Part}
 use Rattle.lz_board.specs.declared.view.What.{What}
-use Rattle.lz_board.specs.Notes.{note_by}
+use Rattle.lz_board.specs.declared.moment.Moment.{Moment}
+use Rattle.lz_board.specs.Notes.{moment_at, note_by, stamp_of, stamped}
 use Rattle.lz_board.specs.Noting.{KeepsPin, MovesPin}
 use Rattle.lz_board.specs.Plays.{noted, noted_part, moved_part}
 use Rattle.lz_board.specs.Seats.{BoardId}
@@ -50,7 +51,8 @@ module _ (b : BoardId) (ns : List Note) (y : Yard) (dev : Device) (h : Part) (ho
   pub may_play : MayPlay y1 dev1.honest dev1.medium p e
   may_play = subst (λ (q : Yard × Device × ℕ). MayPlay q.0 q.1.honest q.1.medium q.2 e) (λ i. (sym there i, sym same i, sym number i)) plays
 
-  module _ (o : Outcome) (z' : Yard) (told : Told) (dev' : Device) (played : PlayedOver y1 p e o z' told dev1 dev') (shape : z'.shape ≡ y1.shape) (what : What) (tells : what ≡ what_of z'.vault.format e o) where
+  module _ (o : Outcome) (z' : Yard) (told : Told) (dev' : Device) (played : PlayedOver y1 p e o z' told dev1 dev') (shape : z'.shape ≡ y1.shape) (what : What) (tells : what ≡ what_of z'.vault.format e o)
+      (moment : Moment) (now : moment ≡ moment_at (stamp_of what dev'.moment)) where
     gave : PlayedOver z h.number e o z' told dev dev'
     gave = subst (λ (q : Yard × ℕ × Device). PlayedOver q.0 q.1 e o z' told q.2 dev') (λ i. (there i, number i, same i)) played
 
@@ -67,16 +69,22 @@ module _ (b : BoardId) (ns : List Note) (y : Yard) (dev : Device) (h : Part) (ho
         go (Invoke c) may done = ap (λ (f : Format). what_of f (Invoke c) o) (call.same_format b ns y dev h hold c may o z' told dev' done)
         go e may done = refl
 
-    noted_so : NotedStep b ns h z' told dev' (note_by h.number (what_of y.vault.format e o) told.published)
+    noted_so : NotedStep b ns h z' told dev' (stamped dev'.moment n)
     noted_so = go e may gave
       where
-        go : (e : Event) → MayTurn b.sizes ns h e → PlayedOver z h.number e o z' told dev dev' → NotedStep b ns h z' told dev' (note_by h.number (what_of y.vault.format e o) told.published)
+        go : (e : Event) → MayTurn b.sizes ns h e → PlayedOver z h.number e o z' told dev dev' → NotedStep b ns h z' told dev' (stamped dev'.moment (note_by h.number (what_of y.vault.format e o) told.published))
         go (Invoke c) may done = call.noted_call b ns y dev h hold c may o z' told dev' done
         go e may done = turn_of.noted_turn b ns y dev h hold may.0 e may.1 o z' told dev' done same_shape
 
     -- the note as the code has it
-    pub noting : NotedStep b ns h z' told dev' (note_by p what told.published)
-    noting = subst (NotedStep b ns h z' told dev') (λ i. note_by (sym number i) (sym same_what i) told.published) noted_so
+    abbrev made : Note
+    made = record { by = p; what = what; published = told.published; moment = moment }
+
+    same_note : made ≡ stamped dev'.moment n
+    same_note i = record { by = number i; what = same_what i; published = told.published; moment = (now ∙ ap (λ (w : What). moment_at (stamp_of w dev'.moment)) same_what) i }
+
+    pub noting : NotedStep b ns h z' told dev' made
+    noting = subst (NotedStep b ns h z' told dev') (sym same_note) noted_so
 
     pub turned : (c : Calling) → IsTurn ns h c e → Turned b.opened ns h c.command c.progress e o told.published
     turned c turn = turn_of.turned b ns y dev h hold c e turn o z' told dev' gave same_shape
@@ -88,17 +96,17 @@ module _ (b : BoardId) (ns : List Note) (y : Yard) (dev : Device) (h : Part) (ho
         go may done = (call.outcome_is b ns y dev h hold c may o z' told dev' done, call.nothing b ns y dev h hold c may o z' told dev' done)
 
     -- the notes and the part after it
-    module _ (ns' : List Note) (h' : Part) (notes : ns' ≡ noted b.opened ns h (note_by p what told.published)) where
+    module _ (ns' : List Note) (h' : Part) (notes : ns' ≡ noted b.opened ns h made) where
       abbrev After : List Note → Part → Type 0
-      After r q = InHold b r z' dev' q × HoldNotes b.opened ns r n h q
+      After r q = InHold b r z' dev' q × HoldNotes b.opened ns r n h q × (r ≡ noted b.opened ns h (stamped dev'.moment n))
 
-      as_told : (r : List Note) (q : Part) → HoldNotes b.opened ns r (note_by p what told.published) h q → HoldNotes b.opened ns r n h q
-      as_told r q H = subst (λ (m : Note). HoldNotes b.opened ns r m h q) (λ i. note_by (number i) (same_what i) told.published) H
+      noted_now : noted b.opened ns h made ≡ noted b.opened ns h (stamped dev'.moment n)
+      noted_now = ap (noted b.opened ns h) same_note
 
-      pub after_note : h' ≡ noted_part b.opened ns (note_by p what told.published) h → KeepsPin h (note_by p what told.published) → After ns' h'
+      pub after_note : h' ≡ noted_part b.opened ns made h → KeepsPin h made → After ns' h'
       after_note part keeps = subst (λ (q : List Note × Part). After q.0 q.1) (λ i. (sym notes i, sym part i))
-          (step.hold_noted b ns y dev h hold z' told dev' (note_by p what told.published) noting keeps, as_told _ _ (step.holds_noted b ns y dev h hold z' told dev' (note_by p what told.published) noting keeps))
+          (step.hold_noted b ns y dev h hold z' told dev' made noting keeps, step.holds_noted b ns y dev h hold z' told dev' made noting keeps dev'.moment n same_note, noted_now)
 
-      pub after_move : h' ≡ moved_part b.opened ns (note_by p what told.published) h → MovesPin h (note_by p what told.published) → After ns' h'
+      pub after_move : h' ≡ moved_part b.opened ns made h → MovesPin h made → After ns' h'
       after_move part moves = subst (λ (q : List Note × Part). After q.0 q.1) (λ i. (sym notes i, sym part i))
-          (step.hold_moved b ns y dev h hold z' told dev' (note_by p what told.published) noting moves, as_told _ _ (step.holds_moved b ns y dev h hold z' told dev' (note_by p what told.published) noting moves))
+          (step.hold_moved b ns y dev h hold z' told dev' made noting moves, step.holds_moved b ns y dev h hold z' told dev' made noting moves dev'.moment n same_note, noted_now)

@@ -1,5 +1,5 @@
 -- What a hold has once the step of its pass is noted, whichever event that plays.
-use Rattle.std.proofs.Common.{suc, List, refl, sym, ap, subst, arith, eq-eqb, ne_eqb}
+use Rattle.std.proofs.Common.{◌≡◌, ◌∷◌, ◌++◌, ℕ, suc, List, map, refl, sym, ap, ◌∙◌, subst, arith, eq-eqb, ne_eqb}
 use Rattle.std.specs.Prelude.{if◌then◌else◌, Some, None}
 use Rattle.lz_disk.specs.Devices.{Device}
 use Rattle.lz_list.specs.Traces.{Trace, Lawful}
@@ -9,7 +9,7 @@ use Rattle.lz_yard.specs.declared.told.Told.{Told}
 use Rattle.lz_board.specs.declared.view.Sizes.{Sizes}
 use Rattle.lz_board.specs.declared.view.Note.{Note}
 use Rattle.lz_board.specs.declared.view.Part.{Part}
-use Rattle.lz_board.specs.Notes.{trace_of}
+use Rattle.lz_board.specs.Notes.{load_note, pin_after_what, stamped, trace_of}
 use Rattle.lz_board.specs.Noting.{MayNote, KeepsPin, MovesPin, Writes}
 use Rattle.lz_board.specs.Plays.{noted, noted_part, moved_part}
 use Rattle.lz_board.specs.Seats.{BoardId}
@@ -38,16 +38,17 @@ module _ (b : BoardId) (ns : List Note) (y : Yard) (dev : Device) (h : Part) (ho
       told = told_own b.sizes b.opened ns h n hold.knows s.may h.pin keeps hold.told.worn;
     }
 
-    pub holds_noted : HoldNotes b.opened ns (noted b.opened ns h n) n h (noted_part b.opened ns n h)
-    holds_noted = record {
-      notes = refl;
+    pub holds_noted : (m : ℕ) (made : Note) → n ≡ stamped m made → HoldNotes b.opened ns (noted b.opened ns h n) made h (noted_part b.opened ns n h)
+    holds_noted m made is = record {
+      moment = m;
+      notes = ap (noted b.opened ns h) is;
       sizes = refl;
       number = refl;
-      steps = refl;
+      steps = ap (λ (k : Note). k ∷ (map (load_note h.number) h.loads ++ h.steps)) is;
       no_loads = refl;
       known = refl;
       since = hold.knows.since;
-      pin = sym keeps;
+      pin = sym keeps ∙ ap (λ (k : Note). pin_after_what h.number h.number k.what h.pin) is;
       begun = ap (λ t. if t then h.begun else trace_of b.opened (noted b.opened ns h n)) (sym (eq-eqb h.pin h.pin refl));
       lawful = lawful;
       kept = λ inside. subst (λ (q : Sizes). IsQuiet q.buckets h.begun (trace_of b.opened (noted b.opened ns h n))) (sym hold.knows.sized) (hold_noted.knows.kept inside);
@@ -62,16 +63,17 @@ module _ (b : BoardId) (ns : List Note) (y : Yard) (dev : Device) (h : Part) (ho
       told = told_own b.sizes b.opened ns h n hold.knows s.may (suc h.pin) moves.0 worn;
     }
 
-    pub holds_moved : HoldNotes b.opened ns (noted b.opened ns h n) n h (moved_part b.opened ns n h)
-    holds_moved = record {
-      notes = refl;
+    pub holds_moved : (m : ℕ) (made : Note) → n ≡ stamped m made → HoldNotes b.opened ns (noted b.opened ns h n) made h (moved_part b.opened ns n h)
+    holds_moved m made is = record {
+      moment = m;
+      notes = ap (noted b.opened ns h) is;
       sizes = refl;
       number = refl;
-      steps = refl;
+      steps = ap (λ (k : Note). k ∷ (map (load_note h.number) h.loads ++ h.steps)) is;
       no_loads = refl;
       known = refl;
       since = hold.knows.since;
-      pin = sym moves.0;
+      pin = sym moves.0 ∙ ap (λ (k : Note). pin_after_what h.number h.number k.what h.pin) is;
       begun = ap (λ t. if t then h.begun else trace_of b.opened (noted b.opened ns h n)) (sym (ne_eqb (suc h.pin) h.pin (λ same. absurd (omega (arith, same)))));
       lawful = lawful;
       kept = λ inside. subst (λ (q : Sizes). IsQuiet q.buckets (trace_of b.opened (noted b.opened ns h n)) (trace_of b.opened (noted b.opened ns h n))) (sym hold.knows.sized) (hold_moved.knows.kept inside);

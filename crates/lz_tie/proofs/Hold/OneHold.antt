@@ -1,10 +1,10 @@
 -- One hold, from the step of the pass that has joined the pen to what the lock keeps and the pass has.
 use Rattle.std.proofs.Common.{◌≡◌, ◌≢◌, ◌<◌, ◌≤◌, ℕ, suc, Bool, true, false, List, [], ◌∷◌, ◌++◌, refl, sym, ap, ◌∙◌, subst, arith}
-use Rattle.std.specs.Prelude.{◌+◌, if◌then◌else◌, Option, None}
+use Rattle.std.specs.Prelude.{◌+◌, if◌then◌else◌, IsTrue, Option, None}
 use Rattle.lz_slot.specs.declared.command.Command.{Command}
 use Rattle.lz_slot.specs.declared.format.Format.{Format}
 use Rattle.lz_slot.specs.declared.history.Mark.TheVariants.{Call}
-use Rattle.lz_disk.specs.Devices.{Device}
+use Rattle.lz_disk.specs.Devices.{Device, IsTimely}
 use Rattle.lz_list.specs.declared.publishing.Publishing.{Publishing}
 use Rattle.lz_list.specs.Traces.{Trace}
 use Rattle.lz_machine.specs.declared.event.Event.{Event}
@@ -30,7 +30,7 @@ use Rattle.lz_tie.specs.Held.{Began, IsNextOf, WentOn, found_for}
 use Rattle.lz_tie.specs.Holds.{HoldNotes, InHold, IsIdle, IsLocked, IsTurn, MayTurn, Turned, begins_with, what_of}
 use Rattle.lz_tie.specs.Lives.{KeepsLife, LivesOn, faults_in, faults_with}
 use Rattle.lz_tie.specs.Marks.{last_call_number}
-use Rattle.lz_tie.specs.Moments.{HoldExplains, MomentsGoOn, LeftSince}
+use Rattle.lz_tie.specs.Moments.{HoldExplains, MomentsGoOn, LeftSince, RepliesStay}
 use Rattle.lz_tie.specs.NotedRuns.{seen_event}
 use Rattle.lz_tie.specs.OnePass.{OnlyOwn}
 use Rattle.lz_tie.proofs.Hold.Joining.{joined_turn, seen_turned}
@@ -38,7 +38,7 @@ use Rattle.lz_tie.proofs.Hold.PinSight.{found_turn}
 use Rattle.lz_tie.proofs.Lives.HeldLives.{life_on}
 use Rattle.lz_tie.proofs.Lives.ToldFailures.{fault_counted, faults_held}
 use Rattle.lz_tie.proofs.Marks.GrownMarks.{call_shows, turn_shows}
-use Rattle.lz_tie.proofs.Moments.HeldMoments.{ComesTo, held_again, hold_explains}
+use Rattle.lz_tie.proofs.Moments.HeldMoments.{ComesTo, held_again, hold_explains, replies_stay}
 use Rattle.lz_tie.proofs.Reading.OnePass.{alone_trace, opened_known, own_trace}
 
 -- The step that a hold has played.
@@ -56,7 +56,7 @@ before_join : (opened : Trace) (found is : List Note) (n : Note) (h hj h' : Part
 before_join opened found is n h hj h' seen part since H = go (subst (λ (q : Part). HoldNotes opened found is n q h') part H)
   where
     go : HoldNotes opened found is n (knowing seen h) h' → HoldNotes opened found is n h h'
-    go k = record { notes = k.notes; sizes = k.sizes; number = k.number; steps = k.steps; no_loads = k.no_loads; known = k.known; since = since; pin = k.pin; begun = k.begun; lawful = k.lawful; kept = k.kept }
+    go k = record { moment = k.moment; notes = k.notes; sizes = k.sizes; number = k.number; steps = k.steps; no_loads = k.no_loads; known = k.known; since = since; pin = k.pin; begun = k.begun; lawful = k.lawful; kept = k.kept }
 
 no_fault : (F : Format) (c : Command) → begins_with F c ≡ Fault → ⊥
 no_fault F c = go (is_old F c)
@@ -154,10 +154,17 @@ module _ (b : BoardId) (F : Format) (ns found is : List Note) (y y' : Yard) (dev
 -- Cut off: what the lock keeps, and what the hold promises.
 module _ (b : BoardId) (F : Format) (first dev dev' : Device) (ns is : List Note) (y y' : Yard) (t : Turn) (s : Stepped b ns is y y' dev dev' t)
     (locked : IsLocked b ns y dev) (pen : Pen) (of_board : IsPenOf b pen) (noted : notes pen ≡ is) where
-  pub keeps : LeftSince b first ns dev → LivesOn F first ns y dev → IsPenOf b pen × IsLocked b (notes pen) y' dev' × LeftSince b first (notes pen) dev' × LivesOn F first (notes pen) y' dev'
-  keeps left life =
+  pub keeps : LeftSince b first ns dev → LivesOn F first ns y dev → (IsTrue dev.honest → IsTimely dev) → RepliesStay b dev ns ns
+      → IsPenOf b pen × IsLocked b (notes pen) y' dev' × LeftSince b first (notes pen) dev' × LivesOn F first (notes pen) y' dev' × RepliesStay b dev' (notes pen) (notes pen)
+  keeps left life timely stay =
       let kept = held_again b first dev dev' ns s.found is s.comes s.on y y' locked s.locked pen of_board noted left in
-      (kept.0, kept.1, kept.2, subst (λ (r : List Note). LivesOn F first r y' dev') (sym noted) (life_on F first ns is y y' dev dev' s.life s.faults life))
+      (
+        kept.0,
+        kept.1,
+        kept.2,
+        subst (λ (r : List Note). LivesOn F first r y' dev') (sym noted) (life_on F first ns is y y' dev dev' s.life s.faults life),
+        replies_stay b first dev dev' ns s.found is s.comes s.on y y' locked s.locked pen of_board noted timely stay,
+      )
 
   pub explains : HoldExplains b ns (notes pen) dev dev'
   explains = hold_explains b first dev dev' ns s.found is s.comes s.on y y' locked s.locked pen of_board noted

@@ -33,7 +33,7 @@ use Rattle.lz_board.specs.declared.view.Sizes.{Sizes}
 use Rattle.lz_board.specs.declared.view.What.TheVariants.{Played}
 use Rattle.lz_board.specs.declared.view.Note.{Note}
 use Rattle.lz_board.specs.declared.view.Part.{Part}
-use Rattle.lz_board.specs.Notes.{note_by, as_list, own, trace_of, steps_of, load_note, splice, AllShown, place, pin_after, pin_after_what, pin_after_played, shape_of_sizes}
+use Rattle.lz_board.specs.Notes.{note_by, stamped, as_list, own, trace_of, steps_of, load_note, splice, AllShown, place, pin_after, pin_after_what, pin_after_played, shape_of_sizes}
 use Rattle.lz_board.specs.Kept.{is_calling, shows_played}
 use Rattle.lz_board.specs.Noting.{Sighting, MayNote, MayPrepare, KeepsPin, MovesPin, Writes}
 use Rattle.lz_board.specs.Plays.{noted, found_note}
@@ -111,7 +111,7 @@ module _ (b : BoardId) (ns : List Note) (y : Yard) (dev : Device) (h : Part) (ho
   -- What it gave.
   module _ (o : Outcome) (z' : Yard) (told : Told) (dev' : Device) (played : PlayedOver z a e o z' told dev dev') (shape : z'.shape ≡ z.shape) where
     abbrev n : Note
-    n = note_by a (Played e o) told.published
+    n = stamped dev'.moment (note_by a (Played e o) told.published)
 
     done : o ≢ Fault → as_list told.published ≡ line_publishes z a e
     done ok = listed_is told.published ∙ (played.done ok).published

@@ -52,13 +52,16 @@ module _ (opened : Trace) (shape : Shape) (p : ℕ) where
   shows_no_load : (h : Load) (ns : List Note) → IsHopAt shape h (place shape (steps_of p ns)) → marks_in shape (load_note p h ∷ ns) ≡ marks_in shape ns
   shows_no_load h ns next = ap (λ r. mark_of_turn (last_call_number p ns) r ++ marks_in shape ns) (load_replies shape h (place shape (steps_of p ns)) next)
 
-  marks_insert : (h : Load) (ns : List Note) → Quiet opened p h.at ns → IsHopAt shape h (place shape (steps_of p ns)) → marks_in shape (insert_load opened p h ns) ≡ marks_in shape ns
+  -- a step of another pass that stands above the load shows the same
+  pub marks_above : (h : Load) (x : Note) (xs : List Note) → x.by ≢ p → marks_in shape (insert_load opened p h xs) ≡ marks_in shape xs → marks_in shape (x ∷ insert_load opened p h xs) ≡ marks_in shape (x ∷ xs)
+  marks_above h x xs away rest = λ i. with_insert x.by x.what h xs (λ same. away (sym same)) i ++ rest i
+
+  pub marks_insert : (h : Load) (ns : List Note) → Quiet opened p h.at ns → IsHopAt shape h (place shape (steps_of p ns)) → marks_in shape (insert_load opened p h ns) ≡ marks_in shape ns
   marks_insert h [] quiet next = absurd next
   marks_insert h (x ∷ xs) quiet next = at_place opened (λ r. marks_in shape r ≡ marks_in shape (x ∷ xs)) p h x xs
       (λ over.
       let away = quiet.0 over in
-      let rest = marks_insert h xs quiet.1 (subst (λ l. IsHopAt shape h (place shape l)) (other_step opened p x xs away) next) in
-      (λ i. with_insert x.by x.what h xs (λ same. away (sym same)) i ++ rest i))
+      marks_above h x xs away (marks_insert h xs quiet.1 (subst (λ l. IsHopAt shape h (place shape l)) (other_step opened p x xs away) next)))
       (λ _. shows_no_load h (x ∷ xs) next)
 
   pub number_splice : (q : ℕ) (hs : List Load) (ns : List Note) → last_call_number q (splice opened p hs ns) ≡ last_call_number q ns

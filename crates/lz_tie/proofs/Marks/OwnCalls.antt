@@ -13,6 +13,7 @@ use Rattle.lz_machine.specs.declared.event.Reply.{Reply}
 use Rattle.lz_machine.specs.declared.event.Reply.TheVariants.{Yes}
 use Rattle.lz_machine.specs.Runs.{mark_of, mark_of_turn}
 use Rattle.lz_machine.specs.Yards.{Shape}
+use Rattle.lz_board.specs.declared.moment.Moment.{Moment}
 use Rattle.lz_board.specs.declared.view.What.{What}
 use Rattle.lz_board.specs.declared.view.What.TheVariants.{Called, Played, Found}
 use Rattle.lz_board.specs.declared.view.Note.{Note}
@@ -116,9 +117,9 @@ module _ (shape : Shape) (p : ℕ) where
     head : HeadIs (last_call_number p ns) (calls_at ns)
     apart : AllNumbers (IsOwn ns) (calls_at ns)
 
-  module _ (by : ℕ) (published : Option Publishing) (ns : List Note) (h : Own ns) where
+  module _ (by : ℕ) (published : Option Publishing) (moment : Moment) (ns : List Note) (h : Own ns) where
     abbrev step_note : What → Note
-    step_note what = record { by = by; what = what; published = published }
+    step_note what = record { by = by; what = what; published = published; moment = moment }
 
     abbrev with_step : What → List Note
     with_step what = step_note what ∷ ns
@@ -234,7 +235,7 @@ module _ (shape : Shape) (p : ℕ) where
 
   own : (ns : List Note) → Own ns
   own [] = record { same = refl; head = tt; apart = tt }
-  own (n ∷ ns) = step_own n.by n.published ns (own ns) n.what
+  own (n ∷ ns) = step_own n.by n.published n.moment ns (own ns) n.what
 
   -- its calls in the history are those of its own steps
   pub calls_own : (ns : List Note) → map unnumbered (calls_of p (marks_in shape ns)) ≡ map shown (told shape (steps_of p ns))

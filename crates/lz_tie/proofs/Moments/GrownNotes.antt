@@ -1,10 +1,10 @@
 -- Notes grow by one hold after the other.
-use Rattle.std.proofs.Common.{List, [], ◌++◌, refl, sym, ap, ◌∙◌, append_assoc}
+use Rattle.std.proofs.Common.{ℕ, List, [], ◌∷◌, ◌++◌, refl, sym, ap, ◌∙◌, append_assoc}
 use Rattle.lz_board.specs.declared.view.Note.{Note}
-use Rattle.lz_board.specs.Notes.{shape_of_sizes, trace_of}
+use Rattle.lz_board.specs.Notes.{as_list, shape_of_sizes, trace_of}
 use Rattle.lz_board.specs.Seats.{BoardId}
-use Rattle.lz_tie.specs.Marks.{marks_in}
-use Rattle.lz_tie.specs.Moments.{GrowsTo}
+use Rattle.lz_tie.specs.Marks.{marks_in, marks_with}
+use Rattle.lz_tie.specs.Moments.{ExplainsFrom, GrowsTo}
 
 pub same_grows : (b : BoardId) (ns : List Note) → GrowsTo b ns ns
 same_grows b ns = record { new = []; shows = refl; trace = ([], refl) }
@@ -18,3 +18,14 @@ grows_then b was mid is first second = record {
     second.trace.1 ∙ ap (λ P. second.trace.0 ++ P) first.trace.1 ∙ sym (append_assoc second.trace.0 first.trace.0 (trace_of b.opened was)),
   );
 }
+
+-- notes grow from those with which they end
+pub grows_on : (b : BoardId) (later before : List Note) → GrowsTo b before (later ++ before)
+grows_on b [] before = same_grows b before
+grows_on b (n ∷ later) before =
+    grows_then b before (later ++ before) (n ∷ later ++ before) (grows_on b later before)
+    record { new = marks_with (shape_of_sizes b.sizes) n.by n.what (later ++ before); shows = refl; trace = (as_list n.published, refl) }
+
+-- what explains some of the notes explains more of them
+pub later_from : (b : BoardId) (was mid is : List Note) → GrowsTo b mid is → (t : List ℕ) → ExplainsFrom b was mid t → ExplainsFrom b was is t
+later_from b was mid is more t from = record { then = from.then; from = from.from; upto = grows_then b from.then mid is from.upto more; explains = from.explains }

@@ -1,8 +1,8 @@
 -- One hold: what a crash might have left in it is left by the notes before it or by those after it.
-use Rattle.std.proofs.Common.{◌≡◌, ◌⊎◌, inl, inr, ⊎_elim, ℕ, List, [], ◌∷◌, ◌++◌, length, refl, sym, ap, ◌∙◌, subst}
+use Rattle.std.proofs.Common.{◌≡◌, ◌⊎◌, ◌≤◌, inl, inr, ⊎_elim, ℕ, List, [], ◌∷◌, ◌++◌, length, refl, sym, ap, ◌∙◌, subst, le_refl}
 use Rattle.std.specs.Prelude.{IsTrue}
 use Rattle.lz_disk.specs.Images.{IsImage}
-use Rattle.lz_disk.specs.Devices.{Device}
+use Rattle.lz_disk.specs.Devices.{Device, IsTimely}
 use Rattle.lz_disk.proofs.Moments.{leaves_then, leaves_more}
 use Rattle.lz_vault.specs.Vaults.{LeavesEither}
 use Rattle.lz_machine.specs.declared.event.Event.{Event}
@@ -26,11 +26,12 @@ use Rattle.lz_tie.specs.Holds.{IsLocked, InHold, MayTurn}
 use Rattle.lz_tie.specs.Lives.{faults_in}
 use Rattle.lz_tie.specs.RunningSets.{Explains}
 use Rattle.lz_tie.specs.Marks.{calls_in, marks_in, marks_with, last_call_number}
-use Rattle.lz_tie.specs.Moments.{IsLeftBy, LeftSince, GrowsTo, MomentsGoOn, HoldExplains, ExplainsBegun, ExplainedSince}
+use Rattle.lz_tie.specs.Moments.{IsLeftBy, LeftSince, GrowsTo, MomentsGoOn, HoldExplains, ExplainsBegun, ExplainedSince, IsReply, RepliesStay, Stays}
 use Rattle.lz_tie.proofs.Marks.GrownMarks.{marks_splice}
 use Rattle.lz_tie.proofs.Marks.RunningSet.{explained, history_of, locked_sizes}
 use Rattle.lz_tie.proofs.Moments.GrownNotes.{grows_then, same_grows}
 use Rattle.lz_tie.proofs.Moments.LeftBeginnings.{more_left, splice_left}
+use Rattle.lz_tie.proofs.Moments.StayingReplies.{go_on_staying, stays_splice}
 
 -- what may be left of the lock's disk is left by all its notes
 pub now_left : (b : BoardId) (ns : List Note) (y : Yard) (dev : Device) → IsLocked b ns y dev → IsTrue dev.honest → (t : List ℕ) → IsImage dev.medium t → IsLeftBy b.sizes b.opened ns t
@@ -47,7 +48,11 @@ now_left b ns y dev l honest t image =
 -- A step of the yard for a pass in a hold, noted after its loads.
 module _ (b : BoardId) (ns : List Note) (y : Yard) (dev : Device) (h : Part) (hold : InHold b ns y dev h) (e : Event) (may : MayTurn b.sizes ns h e)
     (y1 z' : Yard) (p : ℕ) (o : Outcome) (told : Told) (dev1 dev' : Device) (same : dev1 ≡ dev) (played : PlayedOver y1 p e o z' told dev1 dev')
-    (n : Note) (ns' : List Note) (notes : ns' ≡ noted b.opened ns h n) (locked : IsLocked b ns' z' dev') where
+    (n : Note) (ns' : List Note) (notes : ns' ≡ noted b.opened ns h n) (locked : IsLocked b ns' z' dev')
+    (stamp : IsReply n.what → n.moment.at ≡ dev'.moment) (timely : IsTrue dev'.honest → IsTimely dev') where
+  abbrev spliced : List Note
+  spliced = splice b.opened h.number h.loads ns
+
   -- before an Invoke the pass has made no loads
   next : AreNext (shape_of_sizes b.sizes) h.number h.loads (steps_of h.number ns)
   next = go e may
@@ -69,7 +74,6 @@ module _ (b : BoardId) (ns : List Note) (y : Yard) (dev : Device) (h : Part) (ho
   grown : GrowsTo b ns ns'
   grown =
       let shape = shape_of_sizes b.sizes in
-      let spliced = splice b.opened h.number h.loads ns in
       let new = marks_with shape n.by n.what spliced in
       subst (GrowsTo b ns) (sym notes) record {
         new = new;
@@ -77,8 +81,24 @@ module _ (b : BoardId) (ns : List Note) (y : Yard) (dev : Device) (h : Part) (ho
         trace = (as_list n.published, ap (λ P. as_list n.published ++ P) (trace_splice b.opened h.number h.loads ns));
       }
 
+  -- a reply that is noted stays
+  newest : IsReply n.what → Stays b dev' ns' n spliced
+  newest reply honest = (
+    subst (λ m. m ≤ dev'.moment) (sym (stamp reply)) (le_refl dev'.moment),
+    λ t left. record {
+      then = ns';
+      from = subst (GrowsTo b (n ∷ spliced)) (sym notes) (same_grows b (n ∷ spliced));
+      upto = same_grows b ns';
+      explains = history_of b ns' z' dev' locked honest t ((timely honest).only_now t (subst (λ m. dev'.left_since m t) (stamp reply) left));
+    },
+  )
+
+  stay : RepliesStay b dev' ns' ns → RepliesStay b dev' ns' ns'
+  stay others = subst (RepliesStay b dev' ns') (sym notes)
+      (newest, stays_splice b dev' ns' h.number h.base (length h.known) h.loads ns hold.knows.quiet hold.knows.least hold.knows.order next others)
+
   pub step_left : MomentsGoOn b ns ns' dev dev'
-  step_left = record { grows = grown; honest = call.0; time = call.1; kept = more }
+  step_left = record { grows = grown; honest = call.0; time = call.1; kept = more; stays = stay }
 
 -- what a beginning of the notes leaves explains it
 left_explains : (b : BoardId) (ns : List Note) (t : List ℕ) → IsLeftBy b.sizes b.opened ns t → ExplainsBegun b ns t
@@ -95,6 +115,7 @@ since_explained b first ns dev left = λ honest. leaves_more first dev (λ t. Is
 
 -- The notes to which a hold's step comes: those of the lock, and maybe a look at a pin word.
 pub record ComesTo (b : BoardId) (ns was : List Note) : Type 0 where
+  pub is : (was ≡ ns) ⊎ ((q : ℕ) × (v : ℕ) × (was ≡ found_note q v ∷ ns))
   pub left : (t : List ℕ) → IsLeftBy b.sizes b.opened ns t → IsLeftBy b.sizes b.opened was t
   pub grows : GrowsTo b ns was
   pub trace : trace_of b.opened was ≡ trace_of b.opened ns
@@ -104,10 +125,11 @@ pub record ComesTo (b : BoardId) (ns was : List Note) : Type 0 where
   pub faults : faults_in was ≡ faults_in ns
 
 pub comes : (b : BoardId) (ns ns' : List Note) → ns' ≡ ns → ComesTo b ns ns'
-comes b ns ns' notes = subst (ComesTo b ns) (sym notes) (record { left = λ t l. l; grows = same_grows b ns; trace = refl; marks = λ shape. refl; number = λ p. refl; calls = refl; faults = refl })
+comes b ns ns' notes = subst (ComesTo b ns) (sym notes) (record { is = inl refl; left = λ t l. l; grows = same_grows b ns; trace = refl; marks = λ shape. refl; number = λ p. refl; calls = refl; faults = refl })
 
 pub finds : (b : BoardId) (q v : ℕ) (ns mid was : List Note) → mid ≡ ns → was ≡ found_note q v ∷ mid → ComesTo b ns was
 finds b q v ns mid was same found = subst (ComesTo b ns) (sym (found ∙ ap (λ r. found_note q v ∷ r) same)) record {
+  is = inr (q, v, refl);
   left = more_left b.sizes b.opened (found_note q v) ns;
   grows = record { new = []; shows = refl; trace = ([], refl) };
   trace = refl;
@@ -157,6 +179,15 @@ module _ (b : BoardId) (first dev dev' : Device) (ns was is : List Note) (found 
     subst (λ r. IsLocked b r y' dev') (sym noted) locked',
     subst (λ r. LeftSince b first r dev') (sym noted) (gone_on b first dev dev' ns was is y y' locked locked' found on left),
   )
+
+  pub replies_stay : (IsTrue dev.honest → IsTimely dev) → RepliesStay b dev ns ns → RepliesStay b dev' (notes pen) (notes pen)
+  replies_stay timely stay =
+      let moved = go_on_staying b dev dev' ns is (grows_then b ns was is found.grows on.grows) on.honest on.time timely (history_of b is y' dev' locked') stay in
+      let before = ⊎_elim
+          (λ same. subst (RepliesStay b dev' is) (sym same) moved)
+          (λ look. subst (RepliesStay b dev' is) (sym look.2) ((λ reply. absurd reply), moved))
+          found.is in
+      subst (λ r. RepliesStay b dev' r r) (sym noted) (on.stays before)
 
   pub hold_explains : HoldExplains b ns (notes pen) dev dev'
   hold_explains = subst (λ r. HoldExplains b ns r dev dev') (sym noted) (explains b first dev dev' ns was is y y' locked locked' found on)

@@ -25,7 +25,7 @@ use Rattle.lz_board.specs.declared.view.What.TheVariants.{Played}
 use Rattle.lz_board.specs.declared.view.Sizes.{Sizes}
 use Rattle.lz_board.specs.declared.view.Note.{Note}
 use Rattle.lz_board.specs.declared.view.Part.{Part}
-use Rattle.lz_board.specs.Notes.{as_list, trace_of, note_by, load_note, own, is_for, splice, place, placed, shape_of_sizes, pin_after_what}
+use Rattle.lz_board.specs.Notes.{as_list, trace_of, note_by, stamped, load_note, own, is_for, splice, place, placed, shape_of_sizes, pin_after_what}
 use Rattle.lz_board.specs.Glances.{Changes}
 use Rattle.lz_board.specs.Seats.{BoardId}
 use Rattle.lz_board.proofs.Upkeep.Splice.{trace_splice}
@@ -113,18 +113,18 @@ module _ (b : BoardId) (c : Command) (format : Format) (before : Part) (reply : 
   pin_now = holds.pin ∙ ap (λ o. pin_after_what h.number h.number (Played Answer o) h.pin) is_done ∙ answer_pin h.number h.pin
 
   abbrev new : List Note
-  new = call_steps h.number format c h.loads under.within
+  new = call_steps h.number format c holds.moment h.loads under.within
 
   steps_now : after.steps ≡ new ++ before.steps
   steps_now =
-      holds.steps ∙ ap (λ (q : Outcome × Option Publishing). note_by h.number (Played Answer q.0) q.1 ∷ (map (load_note h.number) h.loads ++ h.steps)) (λ i. (is_done i, is_silent i))
-      ∙ ap (λ l. note_by h.number (Played Answer Done) None ∷ (map (load_note h.number) h.loads ++ l)) under.steps ∙ steps_since h.number format c h.loads under.within before.steps
+      holds.steps ∙ ap (λ (q : Outcome × Option Publishing). stamped holds.moment (note_by h.number (Played Answer q.0) q.1) ∷ (map (load_note h.number) h.loads ++ h.steps)) (λ i. (is_done i, is_silent i))
+      ∙ ap (λ l. stamped holds.moment (note_by h.number (Played Answer Done) None) ∷ (map (load_note h.number) h.loads ++ l)) under.steps ∙ steps_since h.number format c holds.moment h.loads under.within before.steps
 
   at_answer : place (shape_of_sizes b.sizes) (map (load_note h.number) h.loads ++ h.steps) ≡ Some (c, Answering reply)
   at_answer = subst (λ (z : Sizes). place (shape_of_sizes z) (map (load_note h.number) h.loads ++ h.steps) ≡ Some (c, Answering reply)) under.sizes under.call.at
 
   is_call : IsOneCall (shape_of_sizes b.sizes) h.number format c reply new
-  is_call = one_call h.number format c (shape_of_sizes b.sizes) reply h.loads under.within before.steps under.only (subst (λ l. place (shape_of_sizes b.sizes) (map (load_note h.number) h.loads ++ l) ≡ Some (c, Answering reply)) under.steps at_answer)
+  is_call = one_call h.number format c (shape_of_sizes b.sizes) reply holds.moment h.loads under.within before.steps under.only (subst (λ l. place (shape_of_sizes b.sizes) (map (load_note h.number) h.loads ++ l) ≡ Some (c, Answering reply)) under.steps at_answer)
 
   made : Changes h.number before.known now under.own
   made =
@@ -152,7 +152,7 @@ module _ (b : BoardId) (c : Command) (format : Format) (before : Part) (reply : 
       let f = under.full counts (ap Answering full) in (
         full_adds (shape_of_sizes b.sizes) h.number format c counts is_call.within is_call.only (is_call.answers ∙ ap (λ r. Some (c, Answering r)) full),
         record {
-          reserve = same_reserve h.number format c h.loads under.within ∙ f.reserve;
+          reserve = same_reserve h.number format c holds.moment h.loads under.within ∙ f.reserve;
           free = f.free;
           sum = f.sum;
           alone = λ one. subst (λ R. HasMembers (λ j. member j R) b.sizes.slots) (sym (alone one)) (f.alone one);

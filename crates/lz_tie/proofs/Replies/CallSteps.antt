@@ -11,16 +11,16 @@ use Rattle.lz_machine.specs.Yards.{Shape}
 use Rattle.lz_board.specs.declared.view.What.TheVariants.{Called, Played}
 use Rattle.lz_board.specs.declared.view.Note.{Note}
 use Rattle.lz_board.specs.declared.view.Load.{Load}
-use Rattle.lz_board.specs.Notes.{note_by, load_note, place, placed}
+use Rattle.lz_board.specs.Notes.{note_by, load_note, place, placed, stamped}
 use Rattle.lz_tie.specs.Answers.{reserved_by, last_reserve, AreWithin, IsOneCall}
 
 module _ (p : ℕ) (format : Format) (c : Command) where
   abbrev call_note : Note
   call_note = note_by p (Called c format) None
 
-  -- the steps of a call that has answered, by its last loads and the steps before them
-  abbrev pub call_steps : List Load → List Note → List Note
-  call_steps loads within = note_by p (Played Answer Done) None ∷ ((map (load_note p) loads ++ within) ++ call_note ∷ [])
+  -- the steps of a call that has answered, by the moment of its Answer, its last loads and the steps before them
+  abbrev pub call_steps : ℕ → List Load → List Note → List Note
+  call_steps m loads within = stamped m (note_by p (Played Answer Done) None) ∷ ((map (load_note p) loads ++ within) ++ call_note ∷ [])
 
   -- the place of a call rests on no step before its beginning
   pub place_since : (shape : Shape) (within rest : List Note) → place shape (within ++ call_note ∷ rest) ≡ place shape (within ++ call_note ∷ [])
@@ -31,8 +31,9 @@ module _ (p : ℕ) (format : Format) (c : Command) where
   loads_within [] within only = only
   loads_within (h ∷ hs) within only = (tt, loads_within hs within only)
 
-  pub one_call : (shape : Shape) (reply : Reply) (loads : List Load) (within rest : List Note) → AreWithin within → place shape (map (load_note p) loads ++ (within ++ call_note ∷ rest)) ≡ Some (c, Answering reply) → IsOneCall shape p format c reply (call_steps loads within)
-  one_call shape reply loads within rest only at = record {
+  pub one_call : (shape : Shape) (reply : Reply) (m : ℕ) (loads : List Load) (within rest : List Note) → AreWithin within → place shape (map (load_note p) loads ++ (within ++ call_note ∷ rest)) ≡ Some (c, Answering reply) → IsOneCall shape p format c reply (call_steps m loads within)
+  one_call shape reply m loads within rest only at = record {
+    moment = m;
     within = map (load_note p) loads ++ within;
     steps = refl;
     only = loads_within loads within only;
@@ -40,9 +41,9 @@ module _ (p : ℕ) (format : Format) (c : Command) where
   }
 
   -- they stand before the steps that the pass had
-  pub steps_since : (loads : List Load) (within rest : List Note) → note_by p (Played Answer Done) None ∷ (map (load_note p) loads ++ (within ++ call_note ∷ rest)) ≡ call_steps loads within ++ rest
-  steps_since loads within rest =
-      ap (λ l. note_by p (Played Answer Done) None ∷ l)
+  pub steps_since : (m : ℕ) (loads : List Load) (within rest : List Note) → stamped m (note_by p (Played Answer Done) None) ∷ (map (load_note p) loads ++ (within ++ call_note ∷ rest)) ≡ call_steps m loads within ++ rest
+  steps_since m loads within rest =
+      ap (λ l. stamped m (note_by p (Played Answer Done) None) ∷ l)
       (sym (append_assoc (map (load_note p) loads) within (call_note ∷ rest)) ∙ sym (append_assoc (map (load_note p) loads ++ within) (call_note ∷ []) rest))
 
   -- the last slot that was asked for
@@ -54,5 +55,5 @@ module _ (p : ℕ) (format : Format) (c : Command) where
   reserve_loaded [] within = refl
   reserve_loaded (h ∷ hs) within = reserve_loaded hs within
 
-  pub same_reserve : (loads : List Load) (within : List Note) → last_reserve (call_steps loads within) ≡ last_reserve within
-  same_reserve loads within = reserve_called (map (load_note p) loads ++ within) ∙ reserve_loaded loads within
+  pub same_reserve : (m : ℕ) (loads : List Load) (within : List Note) → last_reserve (call_steps m loads within) ≡ last_reserve within
+  same_reserve m loads within = reserve_called (map (load_note p) loads ++ within) ∙ reserve_loaded loads within

@@ -14,6 +14,7 @@ use Rattle.lz_machine.specs.declared.event.Reply.{Reply}
 use Rattle.lz_machine.specs.Calls.{progress_after}
 use Rattle.lz_machine.specs.Runs.{mark_of_turn, reply_at}
 use Rattle.lz_machine.specs.Yards.{Shape}
+use Rattle.lz_board.specs.declared.moment.Moment.{Moment}
 use Rattle.lz_board.specs.declared.view.What.{What}
 use Rattle.lz_board.specs.declared.view.What.TheVariants.{Called, Played, Found}
 use Rattle.lz_board.specs.declared.view.Note.{Note}
@@ -59,9 +60,9 @@ module _ (shape : Shape) (p : ℕ) where
   same_length reply [] = refl
   same_length reply (call ∷ calls) = refl
 
-  module _ (published : Option Publishing) (ns : List Note) (h : Alone ns) where
+  module _ (published : Option Publishing) (moment : Moment) (ns : List Note) (h : Alone ns) where
     abbrev note_of : ℕ → What → Note
-    note_of by what = record { by = by; what = what; published = published }
+    note_of by what = record { by = by; what = what; published = published; moment = moment }
 
     own_steps : (what : What) → steps_of p (note_of p what ∷ ns) ≡ note_of p what ∷ steps_of p ns
     own_steps what = own_step [] p (note_of p what) ns refl
@@ -130,8 +131,8 @@ module _ (shape : Shape) (p : ℕ) where
         (cases_eq by p)
 
   step_alone : (n : Note) (ns : List Note) → IsSole p n → Alone ns → Alone (n ∷ ns)
-  step_alone n ns (inl own) h = subst (λ b. Alone (record { by = b; what = n.what; published = n.published } ∷ ns)) (sym own) (own_alone n.published ns h n.what)
-  step_alone n ns (inr (q, v, found)) h = subst (λ w. Alone (record { by = n.by; what = w; published = n.published } ∷ ns)) (sym found) (found_alone n.published ns h n.by q v)
+  step_alone n ns (inl own) h = subst (λ b. Alone (record { by = b; what = n.what; published = n.published; moment = n.moment } ∷ ns)) (sym own) (own_alone n.published n.moment ns h n.what)
+  step_alone n ns (inr (q, v, found)) h = subst (λ w. Alone (record { by = n.by; what = w; published = n.published; moment = n.moment } ∷ ns)) (sym found) (found_alone n.published n.moment ns h n.by q v)
 
   alone : (ns : List Note) → AreSole p ns → Alone ns
   alone [] are = record { marks = refl; count = refl; number = refl; opens = λ call at. absurd (none-some call at) }

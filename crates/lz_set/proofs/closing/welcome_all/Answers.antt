@@ -33,7 +33,7 @@ loop-i-preserved g c =
       so = subst (λ (n : ℕ). Welcomed b ns K n (map (λ p. part p) c.args.passes.now) (map (λ p. part p) (slice_set c.loop-i.passes c.loop-i.i c.welcome.new.pass))) (sym next)
           (one_more b ns K c.loop-i.passes (map (λ p. part p) c.args.passes.now) c.loop-i.i c.index-passes-i.result c.welcome.new.pass lt c.loop-i.invariant.so
           (subst (λ (l : List Note). part c.welcome.new.pass ≡ knowing (trace_of b.opened l) (part (slice_index_or c.loop-i.passes c.loop-i.i c.index-passes-i.result))) notes_are c.welcome.ensures.part)
-          (subst (λ (l : List Note). IsWelcome b l (part c.welcome.new.pass)) notes_are (record { own = c.welcome.ensures.own; alone = c.welcome.ensures.alone }))
+          (subst (λ (l : List Note). IsWelcome b l (part c.welcome.new.pass)) notes_are (record { noted = c.welcome.ensures.noted; own = c.welcome.ensures.own; alone = c.welcome.ensures.alone }))
           (subst (λ (l : List Note). Extends (trace_of b.opened l) (part (slice_index_or c.loop-i.passes c.loop-i.i c.index-passes-i.result)).known) notes_are c.welcome.ensures.since));
     }
 

@@ -16,6 +16,7 @@ returns g c =
         record {
           now = subst (λ disk. HasHistory g.N.Named.board ns (g.D.Disk.device disk)) (sym c.close.ensures.disk) c.holds.ensures.history;
           ever = c.close.ensures.explained;
+          stays = c.close.ensures.stays;
           honest = c.close.ensures.life.honest;
           told = c.holds.ensures.told;
           halts = c.holds.ensures.halts;

@@ -59,7 +59,7 @@ of_board g c = subst (λ (b : BoardId). IsPenOf b c.cut.new.pen) c.requires.boar
 
 pub invariant_of-self : goal.invariant_of-self
 invariant_of-self g c =
-    keeps g.N.Named.board g.N.Named.format g.N.Named.first _ _ _ _ _ _ _ (went g c).0 c.self.invariant.1 c.cut.new.pen (of_board g c) c.cut.ensures.notes c.self.invariant.2 c.self.invariant.3
+    keeps g.N.Named.board g.N.Named.format g.N.Named.first _ _ _ _ _ _ _ (went g c).0 c.self.invariant.1 c.cut.new.pen (of_board g c) c.cut.ensures.notes c.self.invariant.2 c.self.invariant.3 (g.met.D.Disk.timely c.self.inside.yard.disk) c.self.invariant.4
 
 pub returns-clause-moments : goal.returns-clause-moments
 returns-clause-moments g c =

@@ -1,5 +1,6 @@
-use Rattle.std.proofs.Common.{◌∙◌, sym, subst}
-use Rattle.lz_board.specs.Notes.{Extends, trace_of}
+use Rattle.std.proofs.Common.{◌≡◌, ◌∙◌, sym, subst}
+use Rattle.lz_board.specs.declared.view.Part.{Part}
+use Rattle.lz_board.specs.Notes.{Extends, steps_of, trace_of}
 use Rattle.lz_board.specs.Kept.{Knows}
 use Rattle.lz_board.specs.Seats.{BoardId, id_of, notes, part}
 use Rattle.lz_tie.specs.OwnCalls.{TellsOwn}
@@ -13,6 +14,12 @@ returns-clause-since g c =
     let b = g.N.Named.board in
     let knows = subst (λ (b : BoardId). Knows b.sizes b.opened (notes c.self.inside.pen) (part c.args.pass.now)) c.requires.board c.join.ensures.knows in
     subst (λ v. Extends (trace_of b.opened v.notes) (part c.args.pass.now).known) c.self.view_is (knows.since.0, knows.since.1)
+
+pub returns-clause-noted : goal.returns-clause-noted
+returns-clause-noted g c =
+    let ns = notes c.self.inside.pen in
+    subst (λ v. steps_of (part c.cut.new.pass).number v.notes ≡ (part c.cut.new.pass).steps) c.self.view_is
+    (subst (λ (h : Part). steps_of h.number ns ≡ h.steps) (sym (c.cut.ensures.part ∙ c.join.ensures.carried)) c.join.ensures.knows.noted)
 
 pub returns-clause-own : goal.returns-clause-own
 returns-clause-own g c =
