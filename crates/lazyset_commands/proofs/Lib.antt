@@ -2,3 +2,4 @@ pub mod Openings
 pub mod Runs
 pub mod Services
 pub mod RunRows
+pub mod LifeRows
