@@ -158,6 +158,7 @@ impl<D: Disk, G: StepGate, N: Named> Set<D, G, N> {
         ensures one { MayCall N.board one.new }
         ensures other { MayCall N.board other.new }
         ensures met { Met (part one.old) (part other.old) (part one.new) (part other.new) }
+        ensures alike { (part one.new).known ≡ (part other.new).known }
     {
         self.board.meet(one, other);
     }

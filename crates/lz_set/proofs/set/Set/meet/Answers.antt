@@ -24,3 +24,6 @@ returns-clause-met g c =
       one_kept = c.meet.ensures.part_one;
       other_kept = c.meet.ensures.part_other ∙ ap (λ (P : Trace). knowing P (part c.args.other.now)) (sym same);
     }
+
+pub returns-clause-alike : goal.returns-clause-alike
+returns-clause-alike g c = sym (ap (λ (h : Part). h.known) c.meet.ensures.part_other)
