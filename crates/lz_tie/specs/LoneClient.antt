@@ -1,9 +1,11 @@
 -- All calls of a set's passes: what is told of a key is what a plain set tells, where those that name it were made one after the
 -- other. Lists of calls stand oldest first, traces newest first.
-use Rattle.std.specs.Prelude.{ℕ, ◌==◌, List, [], ◌∷◌, filter, map}
+use Rattle.std.specs.Prelude.{◌≡◌, ◌⊎◌, ℕ, ◌==◌, List, [], ◌∷◌, filter, map}
 use Rattle.lz_slot.specs.declared.command.Command.{Command}
 use Rattle.lz_slot.specs.declared.format.Format.{Format}
 use Rattle.lz_slot.specs.Sets.{key_of}
+use Rattle.lz_list.specs.declared.publishing.Publishing.{Publishing}
+use Rattle.lz_list.specs.declared.publishing.Publishing.TheVariants.{Linked as linked, Marked as marked}
 use Rattle.lz_list.specs.Traces.{Trace, Begins}
 use Rattle.lz_machine.specs.declared.event.Reply.{Reply}
 use Rattle.lz_board.specs.declared.view.Part.{Part}
@@ -44,6 +46,33 @@ PublishedIn p (m ∷ calls) P Q = Since p m.before.known P × PublishedIn p call
 abbrev pub InTurn : List MadeCall → Trace → Trace → Type 0
 InTurn [] P Q = Begins P Q
 InTurn (m ∷ calls) P Q = Begins P m.before.known × InTurn calls m.after.known Q
+
+-- e links or marks key k for pass q
+abbrev pub IsChange : ℕ → ℕ → Publishing → Type 0
+IsChange k q (linked j s r) = (j ≡ k) × (r ≡ q)
+IsChange k q (marked j s r) = (j ≡ k) × (r ≡ q)
+IsChange k q _ = ⊥
+
+-- pass q made the change after R in this call
+pub record IsInCall (q : ℕ) (e : Publishing) (R : Trace) (m : MadeCall) : Type 0 where
+  pub by : m.before.number ≡ q
+  pub since : Begins m.before.known R
+  pub upto : Begins (e ∷ R) m.after.known
+
+-- one of these calls is so
+abbrev pub SomeCall : (MadeCall → Type 0) → List MadeCall → Type 0
+SomeCall A [] = ⊥
+SomeCall A (m ∷ calls) = A m ⊎ SomeCall A calls
+
+-- each change of key k from P to Q was made in one of these calls
+abbrev pub ChangedIn : ℕ → List MadeCall → Trace → Trace → Type 0
+ChangedIn k calls P Q = (q : ℕ) (e : Publishing) (R : Trace) → IsChange k q e → Begins P R → Begins (e ∷ R) Q → SomeCall (IsInCall q e R) calls
+
+-- Calls that were made one after the other serve a key that was changed in them alone.
+abbrev pub TurnsServeKey : Type 0
+TurnsServeKey =
+    (F : Format) (k : ℕ) (calls : List MadeCall) (P Q : Trace)
+    → AreMade F calls → InTurn calls P Q → ChangedIn k calls P Q → ServedKey F k (told_in calls) P Q
 
 -- All that was published for any pass from P to Q was in these calls.
 pub record AreAll (F : Format) (calls : List MadeCall) (P Q : Trace) : Type 0 where

@@ -1,7 +1,7 @@
 //! What follows from the answers that a pass was given. Each function is one law.
 
 ghost use Rattle.lz_tie.specs.KeyByKey.{OneKeyIsPlain, OwnKeysArePlain, PlainCallsAreReplies};
-ghost use Rattle.lz_tie.specs.LoneClient.{InTurnServesKey, LoneClientIsPlain};
+ghost use Rattle.lz_tie.specs.LoneClient.{InTurnServesKey, LoneClientIsPlain, TurnsServeKey};
 ghost use Rattle.lz_tie.specs.Moments.{OwnRepliesStay};
 ghost use Rattle.lz_tie.specs.OneCaller.{OneCallerIsPlain};
 ghost use Rattle.lz_tie.specs.Sessions.{MomentsArePlain, SessionIsHeld, SessionIsPlain};
@@ -29,6 +29,11 @@ pub fn own_keys_are_plain()
 /// after them.
 pub fn plain_calls_are_replies()
     ensures { PlainCallsAreReplies }
+{}
+
+/// A key that was changed in some calls alone, which were made one after the other, by whatever passes, is served by them.
+pub fn turns_serve_key()
+    ensures { TurnsServeKey }
 {}
 
 /// Where all of a set's calls that name a key were made one after the other, by whatever passes, nobody else changed it.

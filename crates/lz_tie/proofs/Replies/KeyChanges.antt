@@ -5,12 +5,7 @@ use Rattle.lz_list.specs.declared.publishing.Publishing.TheVariants.{Linked as l
 use Rattle.lz_list.specs.Traces.{Trace, Begins}
 use Rattle.lz_board.proofs.Upkeep.Growth.{begins_extends, extends_of, extends_length}
 use Rattle.lz_tie.specs.KeyByKey.{AreFor, ChangedFor}
-
--- e links or marks key k for pass q
-abbrev pub IsChange : ℕ → ℕ → Publishing → Type 0
-IsChange k q (linked j s r) = (j ≡ k) × (r ≡ q)
-IsChange k q (marked j s r) = (j ≡ k) × (r ≡ q)
-IsChange k q _ = ⊥
+use Rattle.lz_tie.specs.LoneClient.{IsChange}
 
 module _ (Such : ℕ → Type 0) (k : ℕ) where
   newest_for : (e : Publishing) (P : Trace) (q : ℕ) → AreFor Such k (e ∷ P) → IsChange k q e → Such q

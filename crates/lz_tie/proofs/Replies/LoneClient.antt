@@ -14,10 +14,10 @@ use Rattle.lz_board.specs.Notes.{Since, own}
 use Rattle.lz_board.proofs.Upkeep.Growth.{begins_of}
 use Rattle.lz_tie.specs.Answers.{Answers, MayHaveChanged}
 use Rattle.lz_tie.specs.KeyByKey.{AreFor, ChangedFor, ServedKey, about}
-use Rattle.lz_tie.specs.LoneClient.{MadeCall, AreMade, made_by, naming, told_in, PublishedIn, InTurn, InTurnServesKey, LoneClientIsPlain}
+use Rattle.lz_tie.specs.LoneClient.{MadeCall, AreMade, made_by, naming, told_in, PublishedIn, InTurn, IsChange, IsInCall, SomeCall, ChangedIn, TurnsServeKey, InTurnServesKey, LoneClientIsPlain}
 use Rattle.lz_tie.specs.Sessions.{AnsweredCalls}
 use Rattle.lz_tie.proofs.Replies.KeyByKey.{own_keys}
-use Rattle.lz_tie.proofs.Replies.KeyChanges.{IsChange, no_sooner, sooner, each_since, changed_for}
+use Rattle.lz_tie.proofs.Replies.KeyChanges.{no_sooner, sooner, each_since, changed_for}
 use Rattle.lz_tie.proofs.Replies.SeenMore.{own_of_call, seen_more}
 
 -- a pass that has published nothing of key k since has not changed it
@@ -59,11 +59,6 @@ leaves_others F m k answers other =
     let none = no_other_key m.before.number m.command h.own k other h.may in
     record { since = h.changes.since; goes_on = h.changes.goes_on; all = not_own m.before.number k h.changes.since (subst (AreFor (λ q. ⊥) k) (sym h.changes.own) none) }
 
--- one of these calls
-abbrev SomeIn : (MadeCall → Type 0) → List MadeCall → Type 0
-SomeIn A [] = ⊥
-SomeIn A (m ∷ calls) = A m ⊎ SomeIn A calls
-
 -- the change after R was made in this call
 abbrev IsIn : Publishing → Trace → MadeCall → Type 0
 IsIn e R m = Begins m.before.known R × Begins (e ∷ R) m.after.known
@@ -75,25 +70,25 @@ module _ (F : Format) (test : MadeCall → Bool) where
       let rest = made_filter calls made.1 in
       elim (test m) as (λ b. AreMade F (if b then m ∷ filter test calls else filter test calls)) [ true ↦ (made.0, rest) | false ↦ rest ]
 
-  some_filtered : (A : MadeCall → Type 0) (calls : List MadeCall) → SomeIn A (filter test calls) → SomeIn (λ m. A m × (test m ≡ true)) calls
+  some_filtered : (A : MadeCall → Type 0) (calls : List MadeCall) → SomeCall A (filter test calls) → SomeCall (λ m. A m × (test m ≡ true)) calls
   some_filtered A [] some = elim some [ ]
   some_filtered A (m ∷ calls) some = go (test m) refl (some_filtered A calls) some
     where
-      go : (b : Bool) → test m ≡ b → (SomeIn A (filter test calls) → SomeIn (λ m. A m × (test m ≡ true)) calls)
-          → SomeIn A (if b then m ∷ filter test calls else filter test calls) → SomeIn (λ m. A m × (test m ≡ true)) (m ∷ calls)
+      go : (b : Bool) → test m ≡ b → (SomeCall A (filter test calls) → SomeCall (λ m. A m × (test m ≡ true)) calls)
+          → SomeCall A (if b then m ∷ filter test calls else filter test calls) → SomeCall (λ m. A m × (test m ≡ true)) (m ∷ calls)
       go true is rest (inl here) = inl (here, is)
       go true is rest (inr later) = inr (rest later)
       go false is rest later = inr (rest later)
 
   -- what is so of one of them is so of one that passes the test, where it follows from its answer
-  some_kept : (A B : MadeCall → Type 0) → ((m : MadeCall) → WasAnswered F m → A m → B m × (test m ≡ true)) → (calls : List MadeCall) → AreMade F calls → SomeIn A calls → SomeIn B (filter test calls)
+  some_kept : (A B : MadeCall → Type 0) → ((m : MadeCall) → WasAnswered F m → A m → B m × (test m ≡ true)) → (calls : List MadeCall) → AreMade F calls → SomeCall A calls → SomeCall B (filter test calls)
   some_kept A B follows [] made some = elim some [ ]
   some_kept A B follows (m ∷ calls) made (inl here) =
       let so = follows m made.0 here in
-      subst (λ (b : Bool). SomeIn B (if b then m ∷ filter test calls else filter test calls)) (sym so.1) (inl so.0)
+      subst (λ (b : Bool). SomeCall B (if b then m ∷ filter test calls else filter test calls)) (sym so.1) (inl so.0)
   some_kept A B follows (m ∷ calls) made (inr later) =
       let rest = some_kept A B follows calls made.1 later in
-      elim (test m) as (λ b. SomeIn B (if b then m ∷ filter test calls else filter test calls)) [ true ↦ inr rest | false ↦ rest ]
+      elim (test m) as (λ b. SomeCall B (if b then m ∷ filter test calls else filter test calls)) [ true ↦ inr rest | false ↦ rest ]
 
 -- a call's part before it begins its part after it
 within : (F : Format) (m : MadeCall) → WasAnswered F m → Begins m.before.known m.after.known
@@ -106,7 +101,7 @@ chain_begins p F (m ∷ calls) P Q made all =
     (begins_before m.before.known m.after.known Q (within F m made.0) (chain_begins p F calls m.after.known Q made.1 all.1))
 
 -- what a pass changed it changed in one of its calls
-in_its_calls : (p k : ℕ) (F : Format) (calls : List MadeCall) (P Q : Trace) (e : Publishing) (R : Trace) → AreMade F calls → PublishedIn p calls P Q → IsChange k p e → Begins P R → Begins (e ∷ R) Q → SomeIn (IsIn e R) calls
+in_its_calls : (p k : ℕ) (F : Format) (calls : List MadeCall) (P Q : Trace) (e : Publishing) (R : Trace) → AreMade F calls → PublishedIn p calls P Q → IsChange k p e → Begins P R → Begins (e ∷ R) Q → SomeCall (IsIn e R) calls
 in_its_calls p k F [] P Q e R made all is from upto = absurd (each_since (λ q. ¬ (q ≡ p)) k P Q (none_since p k P Q all) p e R is from upto refl)
 in_its_calls p k F (m ∷ calls) P Q e R made all is from upto =
     let after = chain_begins p F calls m.after.known Q made.1 all.1 in
@@ -119,29 +114,21 @@ in_its_calls p k F (m ∷ calls) P Q e R made all is from upto =
       ]
     ]
 
--- the change after R was made in this call of pass q
-abbrev IsInOf : ℕ → Publishing → Trace → MadeCall → Type 0
-IsInOf q e R m = (m.before.number ≡ q) × IsIn e R m
-
--- each change of k since P was made in one of these calls
-abbrev AllIn : ℕ → List MadeCall → Trace → Trace → Type 0
-AllIn k calls P Q = (q : ℕ) (e : Publishing) (R : Trace) → IsChange k q e → Begins P R → Begins (e ∷ R) Q → SomeIn (IsInOf q e R) calls
-
 in_turn_begins : (F : Format) (calls : List MadeCall) (P Q : Trace) → AreMade F calls → InTurn calls P Q → Begins P Q
 in_turn_begins F [] P Q made turn = turn
 in_turn_begins F (m ∷ calls) P Q made turn =
     begins_before P m.before.known Q turn.0 (begins_before m.before.known m.after.known Q (within F m made.0) (in_turn_begins F calls m.after.known Q made.1 turn.1))
 
 -- none of the calls that came later had made a change by P
-not_later : (F : Format) (calls : List MadeCall) (P Q : Trace) (q : ℕ) (e : Publishing) (R : Trace) → AreMade F calls → InTurn calls P Q → Begins (e ∷ R) P → SomeIn (IsInOf q e R) calls → ⊥
+not_later : (F : Format) (calls : List MadeCall) (P Q : Trace) (q : ℕ) (e : Publishing) (R : Trace) → AreMade F calls → InTurn calls P Q → Begins (e ∷ R) P → SomeCall (IsInCall q e R) calls → ⊥
 not_later F [] P Q q e R made turn early some = elim some [ ]
-not_later F (m ∷ calls) P Q q e R made turn early (inl here) = no_sooner e R P early (begins_before P m.before.known R turn.0 here.1.0)
+not_later F (m ∷ calls) P Q q e R made turn early (inl here) = no_sooner e R P early (begins_before P m.before.known R turn.0 here.since)
 not_later F (m ∷ calls) P Q q e R made turn early (inr later) =
     not_later F calls m.after.known Q q e R made.1 turn.1
     (begins_before (e ∷ R) P m.after.known early (begins_before P m.before.known m.after.known turn.0 (within F m made.0)))
     later
 
-serve : (F : Format) (k : ℕ) (calls : List MadeCall) (P Q : Trace) → AreMade F calls → InTurn calls P Q → AllIn k calls P Q → ServedKey F k (told_in calls) P Q
+pub serve : TurnsServeKey
 serve F k [] P Q made turn all = changed_for (λ q. ⊥) k P Q turn all
 serve F k (m ∷ calls) P Q made turn all =
     let inside = within F m made.0 in
@@ -151,23 +138,23 @@ serve F k (m ∷ calls) P Q made turn all =
       m.before,
       m.after,
       changed_for (λ q. ⊥) k P m.before.known turn.0 (λ q e R is from upto. elim (all q e R is from (begins_before (e ∷ R) m.before.known Q upto before)) [
-        | inl here ↦ no_sooner e R m.before.known upto here.1.0
+        | inl here ↦ no_sooner e R m.before.known upto here.since
         | inr later ↦ not_later F calls m.after.known Q q e R made.1 turn.1 (begins_before (e ∷ R) m.before.known m.after.known upto inside) later
       ]),
       made.0,
       changed_for (λ q. q ≡ m.before.number) k m.before.known m.after.known inside
           (λ q e R is from upto. elim (all q e R is (begins_before P m.before.known R turn.0 from) (begins_before (e ∷ R) m.after.known Q upto after)) [
-            | inl here ↦ sym here.0
+            | inl here ↦ sym here.by
             | inr later ↦ absurd (not_later F calls m.after.known Q q e R made.1 turn.1 upto later)
           ]),
       serve F k calls m.after.known Q made.1 turn.1 (λ q e R is from upto. elim (all q e R is (begins_before P m.after.known R since from) upto) [
-        | inl here ↦ absurd (no_sooner e R m.after.known here.1.1 from)
+        | inl here ↦ absurd (no_sooner e R m.after.known here.upto from)
         | inr later ↦ later
       ]),
     )
 
 -- the calls that name a key, and what was told of them
-told_naming : (k : ℕ) (calls : List MadeCall) → about k (told_in calls) ≡ told_in (naming k calls)
+pub told_naming : (k : ℕ) (calls : List MadeCall) → about k (told_in calls) ≡ told_in (naming k calls)
 told_naming k [] = refl
 told_naming k (m ∷ calls) =
     let rest = told_naming k calls in
@@ -178,19 +165,19 @@ told_naming k (m ∷ calls) =
 
 pub in_turn_serves : InTurnServesKey
 in_turn_serves F k calls P Q h turn =
-    let all : AllIn k (naming k calls) P Q = λ q e R is from upto.
-    some_kept F (λ m. key_of m.command == k) (λ m. IsIn e R m × ((m.before.number == q) ≡ true)) (IsInOf q e R) (follows q e R is) calls h.made
+    let all : ChangedIn k (naming k calls) P Q = λ q e R is from upto.
+    some_kept F (λ m. key_of m.command == k) (λ m. IsIn e R m × ((m.before.number == q) ≡ true)) (IsInCall q e R) (follows q e R is) calls h.made
     (some_filtered F (λ m. m.before.number == q) (IsIn e R) calls
     (in_its_calls q k F (made_by q calls) P Q e R (made_filter F (λ m. m.before.number == q) calls h.made) (h.all q) is from upto)) in
     subst (λ (l : AnsweredCalls). ServedKey F k l P Q) (sym (told_naming k calls))
     (serve F k (naming k calls) P Q (made_filter F (λ m. key_of m.command == k) calls h.made) turn all)
   where
     -- the call that made it names its key
-    follows : (q : ℕ) (e : Publishing) (R : Trace) → IsChange k q e → (m : MadeCall) → WasAnswered F m → IsIn e R m × ((m.before.number == q) ≡ true) → IsInOf q e R m × ((key_of m.command == k) ≡ true)
+    follows : (q : ℕ) (e : Publishing) (R : Trace) → IsChange k q e → (m : MadeCall) → WasAnswered F m → IsIn e R m × ((m.before.number == q) ≡ true) → IsInCall q e R m × ((key_of m.command == k) ≡ true)
     follows q e R is m answers here =
         let by : m.before.number ≡ q = eqb-true m.before.number q here.1 in
         elim (eqb_tells (key_of m.command) k) [
-          | inl t ↦ ((by, here.0), t.0)
+          | inl t ↦ (record { by = by; since = here.0.0; upto = here.0.1 }, t.0)
           | inr f ↦ absurd (each_since (λ r. ¬ (r ≡ m.before.number)) k m.before.known m.after.known (leaves_others F m k answers f.1) q e R is here.0.0 here.0.1 (sym by))
         ]
 
