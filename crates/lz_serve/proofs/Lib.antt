@@ -9,6 +9,8 @@ pub mod FreePasses
 pub mod AskingRows
 pub mod ConversationRows
 pub mod LinesUnderWay
+pub mod OwnLines
+pub mod OwnLinesRows
 pub mod Standings
 pub mod StreamRows
 pub mod TalksOnStreams

@@ -1,10 +1,12 @@
 -- Questions that are put to passes, and the replies that these grant.
-use Rattle.std.specs.Prelude.{◌≡◌, ℕ, Bool, List, [], ◌∷◌, ◌++◌}
+use Rattle.std.specs.Prelude.{◌≡◌, ℕ, Bool, All, List, [], ◌∷◌, ◌++◌, Option, Some, None, ⊤}
 use Rattle.lz_slot.specs.declared.format.Format.{Format}
+use Rattle.lz_list.specs.Traces.{Begins}
 use Rattle.lz_proto.specs.declared.request.Request.{Request}
+use Rattle.lz_proto.specs.declared.request.Request.TheVariants.{Add, Remove, Has, Quit}
 use Rattle.lz_proto.specs.declared.reply.Reply.{Reply}
 use Rattle.lz_board.specs.declared.pass.Pass.{Pass}
-use Rattle.lz_board.specs.Seats.{BoardId}
+use Rattle.lz_board.specs.Seats.{BoardId, part}
 use Rattle.lz_serve.specs.Replies.{SeatAnswers}
 
 -- A request as it was put: the numbers of its connection and of the line there, the pass that is to answer as it was then, and whether an
@@ -32,6 +34,30 @@ pub record IsOfLine (connection number : ℕ) (request : Request) (reply : Reply
 -- The pass answered the question so, as a seat does, on this board over a file of this format.
 abbrev pub IsGrant : BoardId → Format → Grant → Type 0
 IsGrant b F g = SeatAnswers b F g.question.earlier g.question.before g.question.request g.reply g.after
+
+-- the key for which a request asks; `quit` asks for none
+abbrev pub key_asked : Request → Option ℕ
+key_asked (Add k) = Some k
+key_asked (Remove k) = Some k
+key_asked (Has k) = Some k
+key_asked Quit = None
+
+-- Where both are for one key, the question of the second was put to a pass that had seen all that the pass of the first had at its answer.
+abbrev pub IsAfter : Grant → Grant → Type 0
+IsAfter e g = key_asked e.question.request ≡ key_asked g.question.request → Begins (part e.after).known (part g.question.before).known
+
+-- it comes after each of these, as far as they are for its key
+abbrev pub IsLater : List Grant → Grant → Type 0
+IsLater grants g = All (λ e. IsAfter e g) grants
+
+-- each of these comes after those before it, as far as they are for its key
+abbrev pub AreInTurn : List Grant → Type 0
+AreInTurn [] = ⊤
+AreInTurn (e ∷ grants) = All (λ g. IsAfter e g) grants × AreInTurn grants
+
+-- a pass of this board gave each of these, those for one key in turn
+abbrev pub AreGranted : BoardId → Format → List Grant → Type 0
+AreGranted b F grants = All (IsGrant b F) grants × AreInTurn grants
 
 -- It holds of no grants, and of those of which it holds with one more that a pass of this board gives.
 abbrev pub Promises : BoardId → Format → (List Grant → Type 0) → Type 0

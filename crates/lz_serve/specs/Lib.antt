@@ -4,6 +4,7 @@ pub mod Options
 pub mod Texts
 pub mod Verbs
 pub mod Grants
+pub mod OwnLines
 pub mod Askings
 pub mod Lines
 pub mod Conversations

@@ -1,19 +1,11 @@
 -- The lines of a connection that are under way.
 use Rattle.std.specs.Prelude.{◌≡◌, ◌≢◌, ◌-◌, ◌<◌, ℕ, suc, All, List, [], ◌∷◌, ◌++◌, Option, Some, None, IfSome, slice_get, ⊤}
 use Rattle.lz_proto.specs.declared.request.Request.{Request}
-use Rattle.lz_proto.specs.declared.request.Request.TheVariants.{Add, Remove, Has, Quit}
 use Rattle.lz_proto.specs.declared.item.Item.{Item}
 use Rattle.lz_proto.specs.declared.item.Item.TheVariants.{Asks}
 use Rattle.lz_proto.specs.declared.reply.Reply.{Reply}
 use Rattle.lz_serve.specs.declared.line.Line.{Line}
-use Rattle.lz_serve.specs.Grants.{Grant, IsOfLine}
-
--- the key for which a request asks; `quit` asks for none
-abbrev pub key_asked : Request → Option ℕ
-key_asked (Add k) = Some k
-key_asked (Remove k) = Some k
-key_asked (Has k) = Some k
-key_asked Quit = None
+use Rattle.lz_serve.specs.Grants.{Grant, IsOfLine, key_asked}
 
 -- a line whose reply is awaited, and one whose reply was granted
 abbrev pub awaited : Request → Line

@@ -1,7 +1,7 @@
 //! One client, and the questions that its lines put.
 ghost use Rattle.std.specs.Prelude.{◌≡◌, ◌≢◌, ◌↔◌, ◌+◌, ◌≤◌, ◌<◌, ◌++◌, [], ◌∷◌, IfSome, IsTrue, List, None, Some, false, length, true};
-ghost use Rattle.lz_serve.specs.Grants.{Grant, IsGrant};
-ghost use Rattle.lz_serve.specs.Lines.{IsFree, awaited, key_asked};
+ghost use Rattle.lz_serve.specs.Grants.{Grant, IsGrant, key_asked};
+ghost use Rattle.lz_serve.specs.Lines.{IsFree, awaited};
 ghost use Rattle.lz_serve.specs.Replies.{command_of};
 ghost use Rattle.lz_serve.specs.Streams.{IsFresh};
 

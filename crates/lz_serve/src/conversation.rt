@@ -5,7 +5,8 @@ ghost use Rattle.lz_proto.specs.Sessions.{bad_text, reply_text};
 ghost use Rattle.lz_proto.specs.Steps.{end_after};
 ghost use Rattle.lz_serve.specs.declared.line.Line.{Line as ALine};
 ghost use Rattle.lz_serve.specs.Conversations.{Fed, GoesOn, IsAt, IsOver, Noted, Rests, Sent, Told, nothing_yet};
-ghost use Rattle.lz_serve.specs.Lines.{IsFree, StandsAt, awaited, first_reply, key_asked, replied};
+ghost use Rattle.lz_serve.specs.Grants.{key_asked};
+ghost use Rattle.lz_serve.specs.Lines.{IsFree, StandsAt, awaited, first_reply, replied};
 
 use crate::line::{Line, key_asked};
 use lz_proto::{Bad, End, Item, Lines, Reply, Request, bad_text, end_after, reply_text};

@@ -18,6 +18,7 @@ mod free_pass;
 mod gathering;
 mod given;
 mod guest;
+pub mod laws;
 mod line;
 mod listener;
 mod loads;

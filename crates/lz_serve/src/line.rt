@@ -1,6 +1,7 @@
 //! A line that is under way.
 ghost use Rattle.std.specs.Prelude.{◌≡◌, ◌≢◌, None, false};
-ghost use Rattle.lz_serve.specs.Lines.{awaited, key_asked};
+ghost use Rattle.lz_serve.specs.Grants.{key_asked};
+ghost use Rattle.lz_serve.specs.Lines.{awaited};
 
 use lz_proto::{Reply, Request};
 use lz_slot::Key;

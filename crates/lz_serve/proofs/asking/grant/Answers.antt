@@ -1,4 +1,4 @@
-use Rattle.std.proofs.Common.{◌≡◌, ◌+◌, ◌≤◌, Bool, false, Some, Result, refl, sym, ◌∙◌, subst, arith}
+use Rattle.std.proofs.Common.{◌≡◌, Bool, false, Some, Result, refl, sym, ◌∙◌, subst, arith}
 use Rattle.lz_slot.specs.declared.command.Command.{Command}
 use Rattle.lz_slot.specs.declared.format.Format.{Format}
 use Rattle.lz_proto.specs.declared.request.Request.{Request}

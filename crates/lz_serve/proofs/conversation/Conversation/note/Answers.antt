@@ -1,8 +1,8 @@
-use Rattle.std.proofs.Common.{◌≡◌, ◌≢◌, All, List, Some, length, slice_get, rules, ap, refl, sym, ◌∙◌, subst}
+use Rattle.std.proofs.Common.{◌≡◌, ◌≢◌, All, List, Some, slice_get, rules, ap, refl, sym, subst}
 use Rattle.std.proofs.lemmas.List.Elements.{All-set}
 use Rattle.lz_proto.specs.declared.request.Request.TheVariants.{Quit}
 use Rattle.lz_serve.specs.declared.line.Line.{Line}
-use Rattle.lz_serve.specs.Conversations.{Noted, Talk}
+use Rattle.lz_serve.specs.Conversations.{Talk}
 use Rattle.lz_serve.specs.Lines.{awaited, replied}
 use Rattle.lz_serve.proofs.LinesUnderWay.{all_there}
 use Rattle.lz_serve.proofs.Standings.{noted}

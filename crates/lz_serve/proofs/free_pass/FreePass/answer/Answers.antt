@@ -1,7 +1,7 @@
 use Rattle.std.proofs.Common.{◌≡◌, ap, sym, ◌∙◌}
 use Rattle.lz_serve.specs.Grants.{Posed}
 use Rattle.lz_serve.specs.Replies.{says_halted}
-use Rattle.lz_serve.proofs.FreePasses.{saw_so, still_calm, still_saw}
+use Rattle.lz_serve.proofs.FreePasses.{still_calm, still_saw}
 use Rattle.lz_serve.proofs.free_pass.FreePass.answer.Goals as goal
 
 pub invariant_of-self-else-says_halted : goal.invariant_of-self-else-says_halted
