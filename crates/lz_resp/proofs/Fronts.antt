@@ -1,0 +1,112 @@
+-- What readers of slices find.
+use Rattle.std.proofs.Common.{◌≡◌, ℕ, suc, ◌+◌, ◌-◌, ◌<◌, ◌≤◌, List, [], ◌∷◌, ◌++◌, length, take, drop, get_or, true, false, nat_lt, Some, None, Ok, Err, refl, sym, ap, ◌∙◌, arith, append_assoc}
+use Rattle.std.specs.List.{list_any}
+use Rattle.std.proofs.lemmas.List.{append-nil, drop_more}
+use Rattle.std.proofs.lemmas.Bool.{eqb-true}
+use Rattle.std.proofs.lemmas.Bool.Decides.{nat_tests}
+use Rattle.memchr.specs.Find.{IsFirstByte, is_byte}
+use Rattle.lz_slot.proofs.Texts.Cuts.{lacks_all, parted_at, parted_none}
+use Rattle.lz_resp.specs.Frames.{fits, is_quote, words_of}
+use Rattle.lz_resp.specs.Limits.{most_frame}
+use Rattle.lz_resp.specs.Reading.{Front, StopsBy, and_then, end_at, first_by, first_of, frame_at, inline_at, inline_of, line_at, line_of, word_at, words_at}
+use Rattle.lz_resp.specs.declared.fault.Fault.{Fault}
+use Rattle.lz_resp.specs.declared.fault.Stop.{Stop}
+use Rattle.lz_resp.specs.declared.fault.Stop.TheVariants.{Memory, Faulty}
+use Rattle.lz_resp.specs.declared.fault.Fault.TheVariants.{Quotes, TooLong}
+
+-- a text that has no CR has no line
+pub line_none : (fault : Fault) (text : List ℕ) → IsFirstByte (is_byte 13) text None → Ok None ≡ line_at fault text
+line_none fault text none = ap (line_of fault) (sym (parted_none 13 text (lacks_all 13 text none)))
+
+-- the line that ends at the first CR, if an end stands there
+pub line_found : (fault : Fault) (text line ended : List ℕ) (e : ℕ) (r : Front (Unit {0})) → IsFirstByte (is_byte 13) text (Some e) → line ≡ take e text → ended ≡ drop e text → r ≡ end_at fault ended
+    → and_then r (λ _ rest. Ok (Some (line, rest))) ≡ line_at fault text
+line_found fault text line ended e r first front back is =
+    let at : get_or text e 0 ≡ 13 = eqb-true _ _ first.1 in
+    let rest : drop e text ≡ 13 ∷ drop (e + 1) text = drop_more text e 0 first.0.high ∙ ap (λ (x : ℕ). x ∷ drop (e + 1) text) at in
+    let so : r ≡ end_at fault (13 ∷ drop (e + 1) text) = is ∙ ap (end_at fault) (back ∙ rest) in
+    ap (λ (x : List ℕ). and_then r (λ _ rest. Ok (Some (x, rest)))) front ∙ ap (λ (x : Front (Unit {0})). and_then x (λ _ rest. Ok (Some (take e text, rest)))) so
+    ∙ ap (line_of fault) (sym (parted_at 13 text e first))
+
+-- a text that has no LF has no line of words
+pub words_none : (text : List ℕ) → IsFirstByte (is_byte 10) text None → inline_at text ≡ Ok None
+words_none text none = ap inline_of (parted_none 10 text (lacks_all 10 text none))
+
+line_first : (text line : List ℕ) (e : ℕ) → IsFirstByte (is_byte 10) text (Some e) → line ≡ take e text → inline_at text ≡ inline_of (Some (line, drop (e + 1) text))
+line_first text line e first front = ap inline_of (parted_at 10 text e first) ∙ ap (λ (x : List ℕ). inline_of (Some (x, drop (e + 1) text))) (sym front)
+
+pub words_quoted : (text line : List ℕ) (e : ℕ) → IsFirstByte (is_byte 10) text (Some e) → line ≡ take e text → list_any is_quote line ≡ true → inline_at text ≡ Err Quotes
+words_quoted text line e first front quoted = line_first text line e first front ∙ rw quoted refl
+
+pub words_unfit : (text line : List ℕ) (e : ℕ) → IsFirstByte (is_byte 10) text (Some e) → line ≡ take e text → list_any is_quote line ≡ false → fits (words_of line) ≡ false
+    → inline_at text ≡ Err TooLong
+words_unfit text line e first front plain unfit = line_first text line e first front ∙ rw (plain, unfit) refl
+
+pub words_found : (text line rest : List ℕ) (words : List (List ℕ)) (e : ℕ) → IsFirstByte (is_byte 10) text (Some e) → line ≡ take e text → list_any is_quote line ≡ false → words ≡ words_of line
+    → fits words ≡ true → rest ≡ drop (e + 1) text → inline_at text ≡ Ok (Some (words, rest))
+words_found text line rest words e first front plain its fit back =
+    let fits_so : fits (words_of line) ≡ true = ap fits (sym its) ∙ fit in
+    line_first text line e first front ∙ rw (plain, fits_so) (cc (its, back))
+
+-- words before those that were read
+abbrev pub with_front : List (List ℕ) → Front (List (List ℕ)) → Front (List (List ℕ))
+with_front front r = and_then r (λ words after. Ok (Some (front ++ words, after)))
+
+front_more : (front : List (List ℕ)) (word : List ℕ) (r : Front (List (List ℕ)))
+    → with_front front (and_then r (λ words after. Ok (Some (word ∷ words, after)))) ≡ with_front (front ++ word ∷ []) r
+front_more front word (Ok None) = refl
+front_more front word (Ok (Some p)) = ap (λ (x : List (List ℕ)). Ok (Some (x, p.1))) (sym (append_assoc front (word ∷ []) p.0))
+front_more front word (Err f) = refl
+
+one_less : (n k : ℕ) → k < n → n - k ≡ suc (n - (k + 1))
+one_less n k h = omega (arith, h)
+
+pub words_next : (n k : ℕ) (front : List (List ℕ)) (word text rest : List ℕ) → k < n → word_at text ≡ Ok (Some (word, rest))
+    → with_front front (words_at (n - k) text) ≡ with_front (front ++ word ∷ []) (words_at (n - (k + 1)) rest)
+words_next n k front word text rest low is =
+    ap (λ (m : ℕ). with_front front (words_at m text)) (one_less n k low)
+    ∙ ap (λ (r : Front (List ℕ)). with_front front (and_then r (λ word rest. and_then (words_at (n - (k + 1)) rest) (λ words after. Ok (Some (word ∷ words, after)))))) is
+    ∙ front_more front word (words_at (n - (k + 1)) rest)
+
+pub words_wait : (n k : ℕ) (front : List (List ℕ)) (text : List ℕ) → k < n → word_at text ≡ Ok None → with_front front (words_at (n - k) text) ≡ Ok None
+words_wait n k front text low is =
+    ap (λ (m : ℕ). with_front front (words_at m text)) (one_less n k low)
+    ∙ ap (λ (r : Front (List ℕ)). with_front front (and_then r (λ word rest. and_then (words_at (n - (k + 1)) rest) (λ words after. Ok (Some (word ∷ words, after)))))) is
+
+pub words_fail : (n k : ℕ) (front : List (List ℕ)) (text : List ℕ) (f : Fault) → k < n → word_at text ≡ Err f → with_front front (words_at (n - k) text) ≡ Err f
+words_fail n k front text f low is =
+    ap (λ (m : ℕ). with_front front (words_at m text)) (one_less n k low)
+    ∙ ap (λ (r : Front (List ℕ)). with_front front (and_then r (λ word rest. and_then (words_at (n - (k + 1)) rest) (λ words after. Ok (Some (word ∷ words, after)))))) is
+
+pub words_all : (n k : ℕ) (front : List (List ℕ)) (text : List ℕ) → n ≤ k → with_front front (words_at (n - k) text) ≡ Ok (Some (front, text))
+words_all n k front text high =
+    let none : n - k ≡ 0 = omega (arith, high) in
+    ap (λ (m : ℕ). with_front front (words_at m text)) none ∙ ap (λ (x : List (List ℕ)). Ok (Some (x, text))) (append-nil front)
+
+pub words_begin : (r : Front (List (List ℕ))) → with_front [] r ≡ r
+words_begin (Ok None) = refl
+words_begin (Ok (Some p)) = refl
+words_begin (Err f) = refl
+
+-- what is found within the bytes that a frame may have
+pub first_found : (text window : List ℕ) (words : List (List ℕ)) (after : List ℕ) → window ≡ take most_frame text → frame_at window ≡ Ok (Some (words, after))
+    → first_of text ≡ Ok (Some (words, drop (length window - length after) text))
+unfolding first_of
+first_found text window words after is h =
+    ap (first_by text) (ap frame_at (sym is) ∙ h) ∙ ap (λ (w : List ℕ). Ok (Some (words, drop (length w - length after) text))) (sym is)
+
+pub first_long : (text window : List ℕ) → window ≡ take most_frame text → frame_at window ≡ Ok None → most_frame < length text → first_of text ≡ Err TooLong
+unfolding first_of
+first_long text window is h far = let test : nat_lt most_frame (length text) ≡ true = grind (arith, nat_tests, far) in ap (first_by text) (ap frame_at (sym is) ∙ h) ∙ rw test refl
+
+pub first_none : (text window : List ℕ) → window ≡ take most_frame text → frame_at window ≡ Ok None → length text ≤ most_frame → first_of text ≡ Ok None
+unfolding first_of
+first_none text window is h near = let test : nat_lt most_frame (length text) ≡ false = grind (arith, nat_tests, near) in ap (first_by text) (ap frame_at (sym is) ∙ h) ∙ rw test refl
+
+first_wrong : (text window : List ℕ) (f : Fault) → window ≡ take most_frame text → frame_at window ≡ Err f → first_of text ≡ Err f
+unfolding first_of
+first_wrong text window f is h = ap (first_by text) (ap frame_at (sym is) ∙ h)
+
+pub first_stops : (text window : List ℕ) (stop : Stop) → window ≡ take most_frame text → StopsBy stop (frame_at window) → StopsBy stop (first_of text)
+first_stops text window Memory is h = tt
+first_stops text window (Faulty f) is h = first_wrong text window f is h

@@ -1,0 +1,110 @@
+-- Worked frames.
+use Rattle.std.proofs.Common.{◌≡◌, [], ◌∷◌, Some, None, Ok, Err, refl, codes}
+use Rattle.std.specs.Fmt.{digits}
+use Rattle.lz_proto.specs.declared.request.Request.TheVariants.{Add, Remove, Has}
+use Rattle.lz_proto.specs.declared.reply.Reply.TheVariants.{Yes, No, Full, Halted, OldFile}
+use Rattle.lz_resp.specs.Reading.{first_of}
+use Rattle.lz_resp.specs.Commands.{item_of, room_after, ok_text, no_key, no_room}
+use Rattle.lz_resp.specs.Replies.{fault_text, text_of}
+use Rattle.lz_resp.specs.declared.fault.Fault.TheVariants.{Count, Length, NoBulk, NoEnd, Quotes}
+use Rattle.lz_resp.specs.declared.form.Form.TheVariants.{Added, Removed, Found, Each, Stored}
+use Rattle.lz_resp.specs.declared.item.Item.TheVariants.{Asks, Says, Ends}
+
+ping : first_of (codes "*1\r\n$4\r\nPING\r\n*1") ≡ Ok (Some (codes "PING" ∷ [], codes "*1"))
+unfolding first_of
+ping = refl
+
+empty_word : first_of (codes "*2\r\n$4\r\nECHO\r\n$0\r\n\r\n") ≡ Ok (Some (codes "ECHO" ∷ [] ∷ [], []))
+unfolding first_of
+empty_word = refl
+
+-- what begins as a line does is one, a line's end by itself and blanks between the words
+inline : first_of (codes "sadd 0\t17 \r\nPING\n") ≡ Ok (Some (codes "sadd" ∷ codes "0" ∷ codes "17" ∷ [], codes "PING\n"))
+unfolding first_of
+inline = refl
+
+empty_line : first_of (codes "\r\nPING\n") ≡ Ok (Some ([], codes "PING\n"))
+unfolding first_of
+empty_line = refl
+
+no_words : (first_of (codes "*0\r\nx") ≡ Ok (Some ([], codes "x"))) × (first_of (codes "*-1\r\nx") ≡ Ok (Some ([], codes "x")))
+unfolding first_of
+no_words = (refl, refl)
+
+-- a text that ends within a frame has none
+within_a_frame :
+    (first_of [] ≡ Ok None) × (first_of (codes "*1") ≡ Ok None) × (first_of (codes "*1\r") ≡ Ok None) × (first_of (codes "*1\r\n$4\r\nPING") ≡ Ok None)
+    × (first_of (codes "*1\r\n$4\r\nPING\r") ≡ Ok None) × (first_of (codes "PING") ≡ Ok None)
+unfolding first_of
+within_a_frame = (refl, refl, refl, refl, refl, refl)
+
+-- a length that is one too small or too large, and a word without its line's end
+wrong_length : (first_of (codes "*1\r\n$3\r\nPING\r\n") ≡ Err NoEnd) × (first_of (codes "*1\r\n$5\r\nPING\r\n*") ≡ Err NoEnd) × (first_of (codes "*1\r\n$4\r\nPING*1\r\n") ≡ Err NoEnd)
+unfolding first_of
+wrong_length = (refl, refl, refl)
+
+no_length :
+    (first_of (codes "*1\r\n$-1\r\n") ≡ Err Length) × (first_of (codes "*1\r\n$+4\r\nPING\r\n") ≡ Err Length) × (first_of (codes "*1\r\n$04\r\nPING\r\n") ≡ Err Length)
+    × (first_of (codes "*1\r\n$\r\n") ≡ Err Length) × (first_of (codes "*1\r\n$4\rPING\r\n") ≡ Err Length) × (first_of (codes "*1\r\n$513\r\n") ≡ Err Length)
+    × (first_of (codes "*1\r\n$99999999999999999999\r\n") ≡ Err Length)
+unfolding first_of
+no_length = (refl, refl, refl, refl, refl, refl, refl)
+
+no_count :
+    (first_of (codes "*\r\n") ≡ Err Count) × (first_of (codes "*+1\r\n") ≡ Err Count) × (first_of (codes "*01\r\n") ≡ Err Count) × (first_of (codes "*-0\r\n") ≡ Err Count)
+    × (first_of (codes "*1025\r\n") ≡ Err Count) × (first_of (codes "*1 \r\n") ≡ Err Count)
+unfolding first_of
+no_count = (refl, refl, refl, refl, refl, refl)
+
+no_dollar : (first_of (codes "*1\r\nPING\r\n") ≡ Err (NoBulk 80)) × (first_of (codes "*2\r\n$4\r\nECHO\r\n:1\r\n") ≡ Err (NoBulk 58))
+unfolding first_of
+no_dollar = (refl, refl)
+
+quotes : (first_of (codes "ECHO \"a b\"\r\n") ≡ Err Quotes) × (first_of (codes "ECHO it's\n") ≡ Err Quotes)
+unfolding first_of
+quotes = (refl, refl)
+
+-- a member by itself, and many
+members :
+    (item_of 0 (codes "SADD" ∷ codes "3" ∷ codes "17" ∷ []) ≡ Asks Added (Add 3000000000000000017 ∷ []))
+    × (item_of 9 (codes "sRem" ∷ codes "0" ∷ codes "1" ∷ codes "2" ∷ codes "1" ∷ []) ≡ Asks Removed (Remove 1 ∷ Remove 2 ∷ Remove 1 ∷ []))
+    × (item_of 9 (codes "SMISMEMBER" ∷ codes "15" ∷ codes "5" ∷ []) ≡ Asks Each (Has 15000000000000000005 ∷ []))
+members = (refl, refl, refl)
+
+-- keys of the room that is selected
+selected :
+    (room_after 0 (codes "SELECT" ∷ codes "3" ∷ []) ≡ 3) × (item_of 3 (codes "EXISTS" ∷ codes "5" ∷ []) ≡ Asks Found (Has 3000000000000000005 ∷ []))
+    × (item_of 3 (codes "SETNX" ∷ codes "5" ∷ codes "x" ∷ []) ≡ Asks Added (Add 3000000000000000005 ∷ []))
+    × (item_of 3 (codes "SET" ∷ codes "5" ∷ codes "1" ∷ codes "nx" ∷ []) ≡ Asks Stored (Add 3000000000000000005 ∷ []))
+    × (room_after 3 (codes "SELECT" ∷ codes "16" ∷ []) ≡ 3) × (room_after 3 (codes "PING" ∷ []) ≡ 3)
+selected = (refl, refl, refl, refl, refl, refl)
+
+not_asked :
+    (item_of 0 (codes "SADD" ∷ codes "16" ∷ codes "1" ∷ []) ≡ Says no_room) × (item_of 0 (codes "SADD" ∷ codes "0" ∷ codes "1" ∷ codes "x" ∷ []) ≡ Says no_key)
+    × (item_of 0 (codes "SADD" ∷ codes "0" ∷ codes "01" ∷ []) ≡ Says no_key) × (item_of 0 (codes "SADD" ∷ codes "0" ∷ codes "3:1" ∷ []) ≡ Says no_key)
+    × (item_of 0 (codes "EXISTS" ∷ codes "1000000000000000000" ∷ []) ≡ Says no_key) × (item_of 0 (codes "SELECT" ∷ codes "16" ∷ []) ≡ Says no_room)
+    × (item_of 0 (codes "SADD" ∷ codes "0" ∷ []) ≡ Says (codes "-ERR wrong number of arguments for 'sadd' command\r\n"))
+    × (item_of 0 (codes "SET" ∷ codes "5" ∷ codes "1" ∷ []) ≡ Says (codes "-ERR syntax error\r\n"))
+    × (item_of 0 (codes "FOO" ∷ codes "a" ∷ codes "b\n" ∷ []) ≡ Says (codes "-ERR unknown command 'FOO', with args beginning with: 'a' 'b ' \r\n"))
+not_asked = (refl, refl, refl, refl, refl, refl, refl, refl, refl)
+
+said :
+    (item_of 0 (codes "ping" ∷ []) ≡ Says (codes "+PONG\r\n")) × (item_of 0 (codes "PING" ∷ codes "hi" ∷ []) ≡ Says (codes "$2\r\nhi\r\n"))
+    × (item_of 0 (codes "ECHO" ∷ [] ∷ []) ≡ Says (codes "$0\r\n\r\n")) × (item_of 0 (codes "QUIT" ∷ []) ≡ Ends ok_text)
+unfolding digits
+said = (refl, refl, refl, refl)
+
+replied :
+    (text_of Added (Yes ∷ No ∷ Yes ∷ []) ≡ codes ":2\r\n") × (text_of Found (No ∷ []) ≡ codes ":0\r\n") × (text_of Each (Yes ∷ No ∷ []) ≡ codes "*2\r\n:1\r\n:0\r\n")
+    × (text_of Stored (Yes ∷ []) ≡ codes "+OK\r\n") × (text_of Stored (No ∷ []) ≡ codes "$-1\r\n")
+unfolding digits
+replied = (refl, refl, refl, refl, refl)
+
+refused :
+    (text_of Added (Yes ∷ Full ∷ Yes ∷ Yes ∷ Full ∷ []) ≡ codes "-FULL no slot is free; 3 of 5 were added\r\n") × (text_of Added (Yes ∷ Halted ∷ Full ∷ []) ≡ codes "-HALTED the device failed\r\n")
+    × (text_of Each (OldFile ∷ []) ≡ codes "-OLDFILE the file has room 0 alone; 0 of 1 were found\r\n")
+unfolding digits
+refused = (refl, refl, refl)
+
+malformed : (fault_text (NoBulk 10) ≡ codes "-ERR Protocol error: expected '$', got ' '\r\n") × (fault_text Count ≡ codes "-ERR Protocol error: invalid multibulk length\r\n")
+malformed = (refl, refl)

@@ -1,0 +1,330 @@
+-- What is read is a frame, and each frame is read.
+use Rattle.std.proofs.Common.{◌≡◌, ℕ, zero, suc, ◌-◌, ◌≤◌, inl, inr, List, [], ◌∷◌, ◌++◌, length, take, drop, true, false, nat_eq, nat_lt, nat_le, decimal, codes, Option, Some, None, Ok, Err, refl, sym, ap, subst, ◌∙◌, arith, append_assoc, length-append}
+use Rattle.std.specs.Prelude.{◌==◌, ◌&&◌, option_map, if◌then◌else◌}
+use Rattle.std.specs.List.{flat_map, list_all, list_any, starts_with}
+use Rattle.std.proofs.Math.Seq.{drop-append_seam, take-append_seam}
+use Rattle.std.proofs.lemmas.List.{length-take, take-append-drop}
+use Rattle.std.proofs.lemmas.Bool.{cond_both}
+use Rattle.std.proofs.lemmas.Bool.Decides.{nat_tests, Decides-eqb}
+use Rattle.std.proofs.lemmas.Slice.Eq.{starts_is}
+use Rattle.lz_slot.specs.Numerals.{is_number, largest_read, number_in}
+use Rattle.lz_slot.specs.Texts.{parted}
+use Rattle.lz_slot.proofs.Texts.Cuts.{AreParts, Lacks, parted_clear, parted_whole}
+use Rattle.lz_slot.proofs.Texts.Numerals.{decimal_number, decimal_read, number_told_of}
+use Rattle.lz_slot.proofs.Texts.Spellings.{decimal_lacks}
+use Rattle.lz_resp.specs.Limits.{most_frame, most_word, most_words}
+use Rattle.lz_resp.specs.Frames.{IsFrame, IsInline, array, bulk, carriage_return, dollar, fits, is_quote, less_than_none, line_end, line_feed, star, words_of}
+use Rattle.lz_resp.specs.Reading.{Front, and_then, array_at, array_of, bulk_at, count_of, end_at, first_by, first_of, frame_at, inline_at, inline_of, line_at, line_of, word_at, word_of, words_at}
+use Rattle.lz_resp.specs.Pieces.{FaultsHaveNoFrame, FramesAreRead, FramesAreSpelled}
+use Rattle.lz_resp.specs.declared.fault.Fault.{Fault}
+use Rattle.lz_resp.specs.declared.fault.Fault.TheVariants.{Count, Length, NoBulk, NoEnd, Quotes, TooLong}
+use Rattle.lz_resp.proofs.LongerTexts.{first_fault, first_told, given, same_read, take_more, then_value}
+
+-- a line that lacks CR is read up to its end
+line_read : (fault : Fault) (line tail : List ℕ) → Lacks 13 line → line_at fault (line ++ 13 ∷ 10 ∷ tail) ≡ given line tail
+line_read fault line tail lacks = ap (line_of fault) (parted_clear 13 line (10 ∷ tail) lacks)
+
+ended_line : (line tail more : List ℕ) → ((line ++ line_end) ++ tail) ++ more ≡ line ++ 13 ∷ 10 ∷ (tail ++ more)
+ended_line line tail more = append_assoc (line ++ line_end) tail more ∙ append_assoc line line_end (tail ++ more)
+
+-- a word's text is read as the word
+word_read : (word more : List ℕ) → length word ≤ most_word → word_at (bulk word ++ more) ≡ given word more
+word_read word more short =
+    let digits = decimal (length word) in
+    let lacks : Lacks 13 digits = decimal_lacks 13 (length word) refl (omega (arith, short)) in
+    let tail = word ++ 13 ∷ 10 ∷ more in
+    let regroup : (((digits ++ line_end) ++ word) ++ line_end) ++ more ≡ digits ++ 13 ∷ 10 ∷ tail =
+    append_assoc ((digits ++ line_end) ++ word) line_end more ∙ append_assoc (digits ++ line_end) word (13 ∷ 10 ∷ more) ∙ append_assoc digits line_end tail in
+    let long : nat_lt (length tail) (length word) ≡ false = grind (arith, nat_tests, length-append word (13 ∷ 10 ∷ more)) in
+    ap bulk_at regroup ∙ ap (λ (r : Front (List ℕ)). and_then r (λ digits rest. word_of (number_in 0 most_word digits) rest)) (line_read Length digits tail lacks)
+    ∙ ap (λ (n : Option ℕ). word_of n tail) (decimal_read 0 most_word (length word) (omega arith) (omega arith) short)
+    ∙ rw (long, drop-append_seam word (13 ∷ 10 ∷ more), take-append_seam word (13 ∷ 10 ∷ more)) refl
+
+short_first : (word : List ℕ) (words : List (List ℕ)) → list_all (λ word. nat_le (length word) most_word) (word ∷ words) ≡ true
+    → (length word ≤ most_word) × (list_all (λ word. nat_le (length word) most_word) words ≡ true)
+short_first word words h = (grind (arith, nat_tests), grind (arith, nat_tests))
+
+words_read : (words : List (List ℕ)) (more : List ℕ) → list_all (λ word. nat_le (length word) most_word) words ≡ true → words_at (length words) (flat_map bulk words ++ more) ≡ given words more
+words_read [] more short = refl
+words_read (word ∷ words) more short =
+    let both = short_first word words short in
+    let rest = flat_map bulk words ++ more in
+    ap (words_at (suc (length words))) (append_assoc (bulk word) (flat_map bulk words) more)
+    ∙ ap (λ (r : Front (List ℕ)). and_then r (λ word rest. and_then (words_at (length words) rest) (λ words after. Ok (Some (word ∷ words, after))))) (word_read word rest both.0)
+    ∙ ap (λ (r : Front (List (List ℕ))). and_then r (λ words after. Ok (Some (word ∷ words, after)))) (words_read words more both.1)
+
+no_minus : (t : List ℕ) → is_number t ≡ true → starts_with nat_eq t (codes "-") ≡ false
+no_minus [] h = absurd (cc)
+no_minus (b ∷ t) h = grind (arith, nat_tests)
+
+count_read : (n : ℕ) → n ≤ most_words → count_of (decimal n) ≡ Some n
+count_read n few =
+    let plain : starts_with nat_eq (decimal n) (codes "-") ≡ false = no_minus (decimal n) (decimal_number n (omega (arith, few))) in
+    rw plain (decimal_read 0 most_words n (omega arith) (omega arith) few)
+
+fits_told : (words : List (List ℕ)) → fits words ≡ true → (length words ≤ most_words) × (list_all (λ word. nat_le (length word) most_word) words ≡ true)
+fits_told words h = (grind (arith, nat_tests), grind (arith, nat_tests))
+
+array_read : (words : List (List ℕ)) (more : List ℕ) → fits words ≡ true → frame_at (array words ++ more) ≡ given words more
+array_read words more fit =
+    let both = fits_told words fit in
+    let digits = decimal (length words) in
+    let lacks : Lacks 13 digits = decimal_lacks 13 (length words) refl (omega (arith, both.0)) in
+    ap array_at (ended_line digits (flat_map bulk words) more)
+    ∙ ap (λ (r : Front (List ℕ)). and_then r (λ digits rest. array_of (count_of digits) rest)) (line_read Count digits (flat_map bulk words ++ more) lacks)
+    ∙ ap (λ (n : Option ℕ). array_of n (flat_map bulk words ++ more)) (count_read (length words) both.0) ∙ words_read words more both.1
+
+none_read : (n : ℕ) (more : List ℕ) → 1 ≤ n → n ≤ largest_read → frame_at (less_than_none n ++ more) ≡ given [] more
+none_read n more some small =
+    let digits = decimal n in
+    let lacks : Lacks 13 (45 ∷ digits) = decimal_lacks 13 n refl small in
+    ap (λ (t : List ℕ). array_at (45 ∷ t)) (append_assoc digits line_end more)
+    ∙ ap (λ (r : Front (List ℕ)). and_then r (λ digits rest. array_of (count_of digits) rest)) (line_read Count (45 ∷ digits) more lacks)
+    ∙ ap (λ (r : Option ℕ). array_of (option_map (λ _. 0) r) more) (decimal_read 1 largest_read n (omega arith) some small)
+
+other_first : (b : ℕ) (t : List ℕ) → starts_with nat_eq (b ∷ t) (codes "*") ≡ false → (b == star) ≡ false
+other_first b t h = grind (arith, nat_tests)
+
+line_frame : (line tail : List ℕ) → starts_with nat_eq line (codes "*") ≡ false → frame_at (line ++ 10 ∷ tail) ≡ inline_at (line ++ 10 ∷ tail)
+line_frame [] tail other = refl
+line_frame (b ∷ line) tail other = rw (other_first b line other) refl
+
+inline_read : (text more : List ℕ) (words : List (List ℕ)) → IsInline text words → fits words ≡ true → frame_at (text ++ more) ≡ given words more
+inline_read text more words i fit =
+    let regroup : text ++ more ≡ i.line ++ 10 ∷ more = ap (λ (t : List ℕ). t ++ more) i.whole ∙ append_assoc i.line (10 ∷ []) more in
+    let its_fit : fits (words_of i.line) ≡ true = ap fits (sym i.its) ∙ fit in
+    ap frame_at regroup ∙ line_frame i.line more i.other ∙ ap inline_of (parted_clear 10 i.line more i.one) ∙ rw (i.plain, its_fit) (ap (λ (x : List (List ℕ)). given x more) (sym i.its))
+
+frame_read : (text more : List ℕ) (words : List (List ℕ)) → IsFrame text words → fits words ≡ true → frame_at (text ++ more) ≡ given words more
+frame_read text more words (inl is) fit = ap (λ (t : List ℕ). frame_at (t ++ more)) is ∙ array_read words more fit
+frame_read text more words (inr (inl (none, (n, some, small, is)))) fit =
+    ap (λ (t : List ℕ). frame_at (t ++ more)) is ∙ none_read n more some small ∙ ap (λ (x : List (List ℕ)). given x more) (sym none)
+frame_read text more words (inr (inr i)) fit = inline_read text more words i fit
+
+pub frames_are_read : FramesAreRead
+unfolding first_of
+frames_are_read text rest words is within =
+    let some = take (most_frame - length text) rest in
+    let window : take most_frame (text ++ rest) ≡ text ++ some = take_more most_frame text rest within.1 in
+    let count : length (text ++ some) - length some ≡ length text = omega (arith, length-append text some) in
+    ap (λ (w : List ℕ). first_by (text ++ rest) (frame_at w)) window ∙ ap (first_by (text ++ rest)) (frame_read text some words is within.0)
+    ∙ ap (λ (t : List ℕ). given words t)
+    (ap (λ (w : List ℕ). drop (length w - length some) (text ++ rest)) window ∙ ap (λ (k : ℕ). drop k (text ++ rest)) count ∙ drop-append_seam text rest)
+
+-- where CR and LF are read they stand
+end_spelled : (fault : Fault) (text : List ℕ) (x : Unit {0}) (rest : List ℕ) → end_at fault text ≡ Ok (Some (x, rest)) → text ≡ 13 ∷ 10 ∷ rest
+end_spelled fault [] x rest h = absurd (cc)
+end_spelled fault (b ∷ []) x rest h =
+    cond_both (b == carriage_return) (Ok None) (Err fault) (λ r. r ≡ Ok (Some (x, rest)) → b ∷ [] ≡ 13 ∷ 10 ∷ rest) (λ _ h. absurd (cc)) (λ _ h. absurd (cc)) h
+end_spelled fault (b ∷ c ∷ t) x rest h =
+    cond_both ((b == carriage_return) && (c == line_feed)) (Ok (Some (tt, t))) (Err fault) (λ r. r ≡ Ok (Some (x, rest)) → b ∷ c ∷ t ≡ 13 ∷ 10 ∷ rest)
+    (λ yes h.
+    let first : b ≡ 13 = grind (arith, nat_tests) in
+    let second : c ≡ 10 = grind (arith, nat_tests) in
+    let same = same_read tt x t rest h in cc (first, second, same.1)) (λ _ h. absurd (cc)) h
+
+line_parts : (fault : Fault) (text line rest : List ℕ) (q : Option (List ℕ × List ℕ)) → AreParts 13 text q → line_of fault q ≡ Ok (Some (line, rest)) → text ≡ line ++ 13 ∷ 10 ∷ rest
+line_parts fault text line rest None is h = absurd (cc)
+line_parts fault text line rest (Some p) is h =
+    let t = then_value (end_at fault (carriage_return ∷ p.1)) (λ _ after. Ok (Some (p.0, after))) line rest h in
+    let ended = end_spelled fault (13 ∷ p.1) t.x t.rest t.first in
+    let same = same_read p.0 line t.rest rest t.second in
+    is ∙ ap (λ (t : List ℕ). p.0 ++ t) ended ∙ cc (same.0, same.1)
+
+line_spelled : (fault : Fault) (text line rest : List ℕ) → line_at fault text ≡ Ok (Some (line, rest)) → text ≡ line ++ 13 ∷ 10 ∷ rest
+line_spelled fault text line rest h = line_parts fault text line rest (parted 13 text) (parted_whole 13 text) h
+
+pub record CutOff (n : ℕ) (text word rest : List ℕ) : Type 0 where
+  pub whole : text ≡ word ++ 13 ∷ 10 ∷ rest
+  pub long : length word ≡ n
+
+cut_spelled : (n : ℕ) (text word rest : List ℕ) → word_of (Some n) text ≡ Ok (Some (word, rest)) → CutOff n text word rest
+cut_spelled n text word rest h =
+    cond_both (nat_lt (length text) n) (Ok None) (and_then (end_at NoEnd (drop n text)) (λ _ after. Ok (Some (take n text, after)))) (λ r. r ≡ Ok (Some (word, rest)) → CutOff n text word rest)
+    (λ _ h. absurd (cc))
+    (λ enough h.
+    let t = then_value (end_at NoEnd (drop n text)) (λ _ after. Ok (Some (take n text, after))) word rest h in
+    let ended = end_spelled NoEnd (drop n text) t.x t.rest t.first in
+    let same = same_read (take n text) word t.rest rest t.second in
+    let inside : n ≤ length text = grind (arith, nat_tests) in
+    record {
+      whole = sym (take-append-drop n text) ∙ ap (λ (t : List ℕ). take n text ++ t) ended ∙ cc (same.0, same.1);
+      long = ap length (sym same.0) ∙ omega (arith, length-take n text, inside);
+    }) h
+
+pub record IsBulk (text word rest : List ℕ) : Type 0 where
+  pub whole : text ≡ bulk word ++ rest
+  pub short : length word ≤ most_word
+
+bulk_by : (digits text mid word rest : List ℕ) (n : Option ℕ) → number_in 0 most_word digits ≡ n → text ≡ digits ++ 13 ∷ 10 ∷ mid → word_of n mid ≡ Ok (Some (word, rest)) → IsBulk (36 ∷ text) word rest
+bulk_by digits text mid word rest None is spelled h = absurd (cc)
+bulk_by digits text mid word rest (Some n) is spelled h =
+    let number = number_told_of 0 most_word n digits is in
+    let cut = cut_spelled n mid word rest h in
+    let length_is : digits ≡ decimal (length word) = number.2 ∙ ap decimal (sym cut.long) in
+    let regroup : (((decimal (length word) ++ line_end) ++ word) ++ line_end) ++ rest ≡ decimal (length word) ++ 13 ∷ 10 ∷ (word ++ 13 ∷ 10 ∷ rest) =
+    append_assoc ((decimal (length word) ++ line_end) ++ word) line_end rest ∙ append_assoc (decimal (length word) ++ line_end) word (13 ∷ 10 ∷ rest)
+    ∙ append_assoc (decimal (length word)) line_end (word ++ 13 ∷ 10 ∷ rest) in
+    record {
+      whole = ap (λ (t : List ℕ). 36 ∷ t) (spelled ∙ ap (λ (t : List ℕ). digits ++ 13 ∷ 10 ∷ t) cut.whole ∙ ap (λ (t : List ℕ). t ++ 13 ∷ 10 ∷ (word ++ 13 ∷ 10 ∷ rest)) length_is ∙ sym regroup);
+      short = omega (arith, number.1, cut.long);
+    }
+
+word_spelled : (text word rest : List ℕ) → word_at text ≡ Ok (Some (word, rest)) → IsBulk text word rest
+word_spelled [] word rest h = absurd (cc)
+word_spelled (b ∷ text) word rest h =
+    cond_both (b == dollar) (bulk_at text) (Err (NoBulk b)) (λ r. r ≡ Ok (Some (word, rest)) → IsBulk (b ∷ text) word rest)
+    (λ yes h.
+    let first : b ≡ 36 = grind (arith, nat_tests) in
+    let t = then_value (line_at Length text) (λ digits rest. word_of (number_in 0 most_word digits) rest) word rest h in
+    subst (λ (x : ℕ). IsBulk (x ∷ text) word rest) (sym first)
+    (bulk_by t.x text t.rest word rest (number_in 0 most_word t.x) refl (line_spelled Length text t.x t.rest t.first) t.second))
+    (λ _ h. absurd (cc)) h
+
+pub record AreBulks (n : ℕ) (text : List ℕ) (words : List (List ℕ)) (rest : List ℕ) : Type 0 where
+  pub whole : text ≡ flat_map bulk words ++ rest
+  pub count : length words ≡ n
+  pub short : list_all (λ word. nat_le (length word) most_word) words ≡ true
+
+words_spelled : (n : ℕ) (text : List ℕ) (words : List (List ℕ)) (rest : List ℕ) → words_at n text ≡ Ok (Some (words, rest)) → AreBulks n text words rest
+words_spelled zero text words rest h =
+    let same = same_read [] words text rest h in
+    subst (λ (x : List (List ℕ)). AreBulks zero text x rest) same.0 (record { whole = same.1; count = refl; short = refl })
+words_spelled (suc n) text words rest h =
+    let t = then_value (word_at text) (λ word rest. and_then (words_at n rest) (λ words after. Ok (Some (word ∷ words, after)))) words rest h in
+    let u = then_value (words_at n t.rest) (λ words after. Ok (Some (t.x ∷ words, after))) words rest t.second in
+    let first = word_spelled text t.x t.rest t.first in
+    let others = words_spelled n t.rest u.x u.rest u.first in
+    let same = same_read (t.x ∷ u.x) words u.rest rest u.second in
+    let small : nat_le (length t.x) most_word ≡ true = grind (arith, nat_tests, first.short) in
+    subst (λ (x : List (List ℕ)). AreBulks (suc n) text x rest) same.0
+    (record {
+      whole = first.whole ∙ ap (λ (x : List ℕ). bulk t.x ++ x) (others.whole ∙ ap (λ (x : List ℕ). flat_map bulk u.x ++ x) same.1) ∙ sym (append_assoc (bulk t.x) (flat_map bulk u.x) rest);
+      count = omega (arith, others.count);
+      short = rw small others.short;
+    })
+
+-- a frame within its limits stands at the front of a text
+pub record Stands (text : List ℕ) (words : List (List ℕ)) (rest : List ℕ) : Type 0 where
+  pub frame : List ℕ
+  pub whole : text ≡ frame ++ rest
+  pub its : IsFrame frame words
+  pub fit : fits words ≡ true
+
+fits_tells : (words : List (List ℕ)) → length words ≤ most_words → list_all (λ word. nat_le (length word) most_word) words ≡ true → fits words ≡ true
+fits_tells words few short = let count : nat_le (length words) most_words ≡ true = grind (arith, nat_tests, few) in rw count short
+
+array_stands : (digits text mid : List ℕ) (words : List (List ℕ)) (rest : List ℕ) (n : ℕ) → number_in 0 most_words digits ≡ Some n → text ≡ digits ++ 13 ∷ 10 ∷ mid
+    → words_at n mid ≡ Ok (Some (words, rest)) → Stands (42 ∷ text) words rest
+array_stands digits text mid words rest n is spelled h =
+    let number = number_told_of 0 most_words n digits is in
+    let bulks = words_spelled n mid words rest h in
+    let length_is : digits ≡ decimal (length words) = number.2 ∙ ap decimal (sym bulks.count) in
+    record {
+      frame = array words;
+      whole = ap (λ (t : List ℕ). 42 ∷ t) (spelled ∙ ap (λ (t : List ℕ). digits ++ 13 ∷ 10 ∷ t) bulks.whole
+          ∙ ap (λ (t : List ℕ). t ++ 13 ∷ 10 ∷ (flat_map bulk words ++ rest)) length_is ∙ sym (ended_line (decimal (length words)) (flat_map bulk words) rest));
+      its = inl refl;
+      fit = fits_tells words (omega (arith, number.1, bulks.count)) bulks.short;
+    }
+
+none_stands : (digits text mid : List ℕ) (words : List (List ℕ)) (rest : List ℕ) (m : ℕ) → number_in 1 largest_read (drop 1 digits) ≡ Some m → digits ≡ 45 ∷ drop 1 digits
+    → text ≡ digits ++ 13 ∷ 10 ∷ mid → words_at 0 mid ≡ Ok (Some (words, rest)) → Stands (42 ∷ text) words rest
+none_stands digits text mid words rest m is minus spelled h =
+    let number = number_told_of 1 largest_read m (drop 1 digits) is in
+    let same = same_read [] words mid rest h in
+    record {
+      frame = less_than_none m;
+      whole = ap (λ (t : List ℕ). 42 ∷ t) (spelled ∙ ap (λ (t : List ℕ). t ++ 13 ∷ 10 ∷ mid) (minus ∙ ap (λ (t : List ℕ). 45 ∷ t) number.2)
+          ∙ ap (λ (t : List ℕ). 45 ∷ (decimal m ++ 13 ∷ 10 ∷ t)) same.1 ∙ ap (λ (t : List ℕ). 45 ∷ t) (sym (append_assoc (decimal m) line_end rest)));
+      its = inr (inl (sym same.0, (m, number.0, number.1, refl)));
+      fit = ap fits (sym same.0);
+    }
+
+begins_with : (text word : List ℕ) → starts_with nat_eq text word ≡ true → text ≡ word ++ drop (length word) text
+begins_with text word h = (starts_is Decides-eqb text word (starts_with nat_eq text word) refl).0 h
+
+none_by : (digits text mid : List ℕ) (words : List (List ℕ)) (rest : List ℕ) (m : Option ℕ) → number_in 1 largest_read (drop 1 digits) ≡ m → digits ≡ 45 ∷ drop 1 digits
+    → text ≡ digits ++ 13 ∷ 10 ∷ mid → array_of (option_map (λ _. 0) m) mid ≡ Ok (Some (words, rest)) → Stands (42 ∷ text) words rest
+none_by digits text mid words rest None is minus spelled h = absurd (cc)
+none_by digits text mid words rest (Some m) is minus spelled h = none_stands digits text mid words rest m is minus spelled h
+
+array_by : (digits text mid : List ℕ) (words : List (List ℕ)) (rest : List ℕ) (n : Option ℕ) → number_in 0 most_words digits ≡ n → text ≡ digits ++ 13 ∷ 10 ∷ mid
+    → array_of n mid ≡ Ok (Some (words, rest)) → Stands (42 ∷ text) words rest
+array_by digits text mid words rest None is spelled h = absurd (cc)
+array_by digits text mid words rest (Some n) is spelled h = array_stands digits text mid words rest n is spelled h
+
+count_by : (digits text mid : List ℕ) (words : List (List ℕ)) (rest : List ℕ) → text ≡ digits ++ 13 ∷ 10 ∷ mid → array_of (count_of digits) mid ≡ Ok (Some (words, rest)) → Stands (42 ∷ text) words rest
+count_by digits text mid words rest spelled h =
+    cond_both (starts_with nat_eq digits (codes "-")) (option_map (λ _. 0) (number_in 1 largest_read (drop 1 digits))) (number_in 0 most_words digits)
+    (λ n. array_of n mid ≡ Ok (Some (words, rest)) → Stands (42 ∷ text) words rest)
+    (λ minus h. none_by digits text mid words rest (number_in 1 largest_read (drop 1 digits)) refl (begins_with digits (codes "-") minus) spelled h)
+    (λ _ h. array_by digits text mid words rest (number_in 0 most_words digits) refl spelled h) h
+
+array_spelled : (text : List ℕ) (words : List (List ℕ)) (rest : List ℕ) → array_at text ≡ Ok (Some (words, rest)) → Stands (42 ∷ text) words rest
+array_spelled text words rest h =
+    let t = then_value (line_at Count text) (λ digits rest. array_of (count_of digits) rest) words rest h in
+    count_by t.x text t.rest words rest (line_spelled Count text t.x t.rest t.first) t.second
+
+-- the part before the first of a byte lacks it
+parts_lack : (c : ℕ) (text : List ℕ) (p : List ℕ × List ℕ) → parted c text ≡ Some p → Lacks c p.0
+parts_lack c [] p h = absurd (cc)
+parts_lack c (b ∷ t) p h =
+    cond_both (nat_eq c b) (Some ([], t)) (option_map (λ p. (b ∷ p.0, p.1)) (parted c t)) (λ r. r ≡ Some p → Lacks c p.0)
+    (λ yes h. subst (λ (x : List ℕ × List ℕ). Lacks c x.0) (let same : ([], t) ≡ p = cc in same) refl)
+    (λ other h. lack_further c b (parted c t) (λ q e. parts_lack c t q e) other p h) h
+  where
+    lack_further : (c b : ℕ) (q : Option (List ℕ × List ℕ)) → ((p : List ℕ × List ℕ) → q ≡ Some p → Lacks c p.0) → nat_eq c b ≡ false → (p : List ℕ × List ℕ)
+        → option_map (λ p. (b ∷ p.0, p.1)) q ≡ Some p → Lacks c p.0
+    lack_further c b None from other p h = absurd (cc)
+    lack_further c b (Some q) from other p h = subst (λ (x : List ℕ × List ℕ). Lacks c x.0) (let same : (b ∷ q.0, q.1) ≡ p = cc in same) (rw other (from q refl))
+
+no_star : (b : ℕ) (t line after : List ℕ) → (b == star) ≡ false → b ∷ t ≡ line ++ 10 ∷ after → starts_with nat_eq line (codes "*") ≡ false
+no_star b t [] after other is = refl
+no_star b t (c ∷ line) after other is = let same : b ≡ c = cc in grind (arith, nat_tests)
+
+inline_told : (b : ℕ) (t : List ℕ) (words : List (List ℕ)) (rest : List ℕ) (p : List ℕ × List ℕ) → (b == star) ≡ false → b ∷ t ≡ p.0 ++ 10 ∷ p.1 → Lacks 10 p.0
+    → inline_of (Some p) ≡ Ok (Some (words, rest)) → Stands (b ∷ t) words rest
+inline_told b t words rest p other is lacks h =
+    cond_both (list_any is_quote p.0) (Err Quotes) (if fits (words_of p.0) then Ok (Some (words_of p.0, p.1)) else Err TooLong) (λ r. r ≡ Ok (Some (words, rest)) → Stands (b ∷ t) words rest)
+    (λ _ h. absurd (cc))
+    (λ plain h. cond_both (fits (words_of p.0)) (Ok (Some (words_of p.0, p.1))) (Err TooLong) (λ r. r ≡ Ok (Some (words, rest)) → Stands (b ∷ t) words rest)
+    (λ fit h.
+    let same = same_read (words_of p.0) words p.1 rest h in
+    record {
+      frame = p.0 ++ 10 ∷ [];
+      whole = is ∙ ap (λ (t : List ℕ). p.0 ++ 10 ∷ t) same.1 ∙ sym (append_assoc p.0 (10 ∷ []) rest);
+      its = inr (inr (record { line = p.0; whole = refl; one = lacks; other = no_star b t p.0 p.1 other is; plain = plain; its = sym same.0 }));
+      fit = ap fits (sym same.0) ∙ fit;
+    }) (λ _ h. absurd (cc)) h) h
+
+inline_by : (b : ℕ) (t : List ℕ) (words : List (List ℕ)) (rest : List ℕ) (q : Option (List ℕ × List ℕ)) → (b == star) ≡ false → parted 10 (b ∷ t) ≡ q → AreParts 10 (b ∷ t) q
+    → inline_of q ≡ Ok (Some (words, rest)) → Stands (b ∷ t) words rest
+inline_by b t words rest None other from is h = absurd (cc)
+inline_by b t words rest (Some p) other from is h = inline_told b t words rest p other is (parts_lack 10 (b ∷ t) p from) h
+
+frame_spelled : (text : List ℕ) (words : List (List ℕ)) (rest : List ℕ) → frame_at text ≡ Ok (Some (words, rest)) → Stands text words rest
+frame_spelled [] words rest h = absurd (cc)
+frame_spelled (b ∷ t) words rest h =
+    cond_both (b == star) (array_at t) (inline_at (b ∷ t)) (λ r. r ≡ Ok (Some (words, rest)) → Stands (b ∷ t) words rest)
+    (λ yes h. let first : b ≡ 42 = grind (arith, nat_tests) in subst (λ (x : ℕ). Stands (x ∷ t) words rest) (sym first) (array_spelled t words rest h))
+    (λ other h. inline_by b t words rest (parted 10 (b ∷ t)) other refl (parted_whole 10 (b ∷ t)) h) h
+
+pub frames_are_spelled : FramesAreSpelled
+unfolding first_of
+frames_are_spelled text rest words h =
+    let told = first_told text words rest (frame_at (take most_frame text)) h in
+    let s = frame_spelled (take most_frame text) words told.0 told.1 in
+    let count : length (take most_frame text) - length told.0 ≡ length s.frame = omega (arith, ap length s.whole, length-append s.frame told.0) in
+    let whole : text ≡ s.frame ++ (told.0 ++ drop most_frame text) =
+    sym (take-append-drop most_frame text) ∙ ap (λ (t : List ℕ). t ++ drop most_frame text) s.whole ∙ append_assoc s.frame told.0 (drop most_frame text) in
+    let after : rest ≡ told.0 ++ drop most_frame text =
+    told.2 ∙ ap (λ (k : ℕ). drop k text) count ∙ ap (λ (t : List ℕ). drop (length s.frame) t) whole ∙ drop-append_seam s.frame (told.0 ++ drop most_frame text) in
+    (s.frame, whole ∙ ap (λ (t : List ℕ). s.frame ++ t) (sym after), s.its, (s.fit, omega (arith, ap length s.whole, length-append s.frame told.0, length-take most_frame text)))
+
+pub faults_have_no_frame : FaultsHaveNoFrame
+faults_have_no_frame text rest frame others words fault h same is within =
+    let wrong : first_of (text ++ rest) ≡ Err fault = first_fault text rest fault h in
+    let right : first_of (text ++ rest) ≡ Ok (Some (words, others)) = ap first_of same ∙ frames_are_read frame others words is within in
+    let both : Ok (Some (words, others)) ≡ Err fault = sym right ∙ wrong in
+    absurd (cc)

@@ -1,0 +1,11 @@
+use Rattle.std.proofs.Common.{◌∙◌, ℕ, List, drop, sym, ap}
+use Rattle.lz_resp.specs.Pieces.{step}
+use Rattle.lz_resp.proofs.Texts.{step_short}
+use Rattle.lz_resp.proofs.frames.read_piece.Goals as goal
+
+pub returns-in-Ok-Some-clause-waits : goal.returns-in-Ok-Some-clause-waits
+returns-in-Ok-Some-clause-waits c =
+    let so = (rw c.in-Ok-Some.field-0-is at c.in-Ok-Some.ensures.ok).1.0 in
+    let left = c.drop_front.ensures ∙ ap (λ (t : List ℕ). drop c.in-Ok-Some.used t) (sym c.as_slice.ensures.value) in
+    let waits_so = ap (step c.in-Ok-Some.room) left ∙ so in
+    (waits_so, step_short c.in-Ok-Some.room c.drop_front.new.kept.items waits_so)

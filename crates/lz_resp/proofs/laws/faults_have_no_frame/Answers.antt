@@ -1,0 +1,5 @@
+use Rattle.lz_resp.proofs.Spellings.{faults_have_no_frame}
+use Rattle.lz_resp.proofs.laws.faults_have_no_frame.Goals as goal
+
+pub returns : goal.returns
+returns c = faults_have_no_frame

@@ -1,0 +1,5 @@
+use Rattle.lz_resp.proofs.Spellings.{frames_are_read}
+use Rattle.lz_resp.proofs.laws.frames_are_read.Goals as goal
+
+pub returns : goal.returns
+returns c = frames_are_read

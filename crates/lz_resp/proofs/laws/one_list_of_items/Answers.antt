@@ -1,0 +1,5 @@
+use Rattle.lz_resp.proofs.Texts.{one_list}
+use Rattle.lz_resp.proofs.laws.one_list_of_items.Goals as goal
+
+pub returns : goal.returns
+returns c = one_list

@@ -1,0 +1,7 @@
+use Rattle.std.proofs.Common.{◌≡◌, ◌++◌, take}
+use Rattle.std.specs.List.{flat_map}
+use Rattle.lz_resp.specs.Replies.{bit}
+use Rattle.lz_resp.proofs.reply.push_bits.Given as goal
+
+abbrev pub invariant-loop-reply : goal.invariant-loop-reply
+invariant-loop-reply l = l.text.items ≡ l.initial.text.items ++ flat_map bit (take l.reply-index l.replies)

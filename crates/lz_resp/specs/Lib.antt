@@ -1,0 +1,6 @@
+pub mod Commands
+pub mod Frames
+pub mod Limits
+pub mod Pieces
+pub mod Reading
+pub mod Replies

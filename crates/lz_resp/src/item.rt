@@ -1,0 +1,47 @@
+//! What a frame comes to.
+ghost use Rattle.std.specs.Prelude.{◌≡◌};
+
+use crate::form::Form;
+use crate::text::Text;
+use lz_proto::Request;
+use std::marker::Model;
+
+/// Requests in their order. Contracts see them as a list.
+#[derive(Drop, Debug)]
+pub struct Requests {
+    list: Vec<Request>,
+}
+
+impl Model for Requests {
+    ghost use Rattle.std.specs.Prelude.{List};
+    ghost use Rattle.lz_proto.specs.declared.request.Request.{Request as ARequest};
+
+    ghost Value = { List ARequest };
+
+    ghost view = { λ r. r.list.items };
+}
+
+impl Requests {
+    pub(crate) fn new(list: Vec<Request>) -> Requests
+        ensures { result ≡ list.items }
+    {
+        Requests { list }
+    }
+
+    pub fn as_slice(&self) -> &[Request]
+        ensures { result.now ≡ self.now }
+    {
+        self.list.as_slice()
+    }
+}
+
+/// What a frame comes to.
+#[derive(Drop, Debug)]
+pub enum Item {
+    /// These requests, whose replies are told in this form.
+    Asks(Form, Requests),
+    /// A reply, and nothing is asked.
+    Says(Text),
+    /// The last reply: nothing is read after it.
+    Ends(Text),
+}

@@ -1,0 +1,13 @@
+//! The limits of frames. Contracts and definitions take the same numbers from `specs/Limits.antt`.
+
+/// The most bytes of a word.
+pub const MOST_WORD: usize = 512;
+
+/// The most words of a frame.
+pub const MOST_WORDS: usize = 1_024;
+
+/// The most bytes of a frame.
+pub const MOST_FRAME: usize = 65_536;
+
+/// The most bytes of a value, which isn't kept.
+pub const MOST_VALUE: usize = 64;

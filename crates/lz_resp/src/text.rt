@@ -1,0 +1,85 @@
+//! Texts of replies.
+ghost use Rattle.std.specs.Prelude.{◌≡◌, ◌++◌, IfOk, OnOk, decimal};
+ghost use Rattle.lz_resp.specs.Commands.{error, on_line};
+ghost use Rattle.lz_resp.specs.Frames.{bulk};
+
+use itoa::Buffer;
+use std::alloc::{AllocError, Global};
+use std::marker::Model;
+
+/// A text that is a reply. Contracts see it as its bytes.
+#[derive(Drop, Debug)]
+pub struct Text {
+    bytes: Vec<u8>,
+}
+
+impl Model for Text {
+    ghost use Rattle.std.specs.Prelude.{ℕ, List};
+
+    ghost Value = { List ℕ };
+
+    ghost view = { λ t. t.bytes.items };
+}
+
+impl Text {
+    pub(crate) fn new(bytes: Vec<u8>) -> Text
+        ensures { result ≡ bytes.items }
+    {
+        Text { bytes }
+    }
+
+    /// A text of these bytes.
+    pub(crate) fn of(alloc: Global, bytes: &[u8]) -> Result<Text, AllocError>
+        ensures { IfOk result (λ text. text ≡ bytes.now) }
+    {
+        let bytes = Vec::from_slice(alloc, bytes)?;
+        Ok(Text { bytes })
+    }
+
+    pub fn as_bytes(&self) -> &[u8]
+        ensures { result.now ≡ self.now }
+    {
+        self.bytes.as_slice()
+    }
+}
+
+/// Puts a number's plain decimal behind a text.
+pub(crate) fn push_number(text: &mut Vec<u8>, number: usize) -> Result<(), AllocError>
+    ensures { OnOk result (text.new.items ≡ text.old.items ++ decimal number) }
+{
+    let mut digits = Buffer::new();
+    text.extend_from_slice(digits.format(number).as_bytes())
+}
+
+/// A word as a bulk string.
+pub(crate) fn bulk(alloc: Global, word: &[u8]) -> Result<Text, AllocError>
+    ensures { IfOk result (λ text. text ≡ bulk word.now) }
+{
+    let mut text = Vec::from_slice(alloc, b"$")?;
+    push_number(&mut text, word.len())?;
+    text.extend_from_slice(b"\r\n")?;
+    text.extend_from_slice(word)?;
+    text.extend_from_slice(b"\r\n")?;
+    Ok(Text::new(text))
+}
+
+/// A byte of a word that stands in an error: no line ends in it.
+pub(crate) fn on_line(byte: u8) -> u8
+    ensures { result ≡ on_line byte }
+{
+    if byte == b'\r' || byte == b'\n' {
+        b' '
+    } else {
+        byte
+    }
+}
+
+/// An error's text.
+pub(crate) fn error(alloc: Global, words: &[u8]) -> Result<Text, AllocError>
+    ensures { IfOk result (λ text. text ≡ error words.now) }
+{
+    let mut text = Vec::from_slice(alloc, b"-ERR ")?;
+    text.extend_from_slice(words)?;
+    text.extend_from_slice(b"\r\n")?;
+    Ok(Text::new(text))
+}
