@@ -1,0 +1,103 @@
+//! Frames that come byte by byte, at their limits, and out of memory.
+use lz_proto::{Reply, Request};
+use lz_resp::{Form, Frames, Item, reply_text};
+use lz_slot::Key;
+use std::collections::VecDeque;
+use std::test::Fail;
+
+/// A frame of each kind, and one after the last.
+const TEXT: &[u8] =
+    b"*4\r\n$4\r\nSADD\r\n$1\r\n3\r\n$2\r\n17\r\n$1\r\n5\r\nselect 9\r\n*2\r\n$6\r\nEXISTS\r\n$1\r\n4\r\n\r\n*0\r\n*1\r\n$4\r\nQUIT\r\nPING\r\n";
+
+#[test]
+fn frames_that_come_byte_by_byte_are_given(rt: HostRuntime) -> Result<(), Fail> {
+    let mut frames = Frames::new(rt.alloc());
+    let mut items = VecDeque::new(rt.alloc());
+    for byte in TEXT {
+        frames.feed_into(&[*byte], &mut items)?;
+        frames.rest();
+    }
+    assert_eq!(rt; items.len(), 4);
+    let first = Key::in_room(3, 17).ok_or("a key")?;
+    let second = Key::in_room(3, 5).ok_or("a key")?;
+    let third = Key::in_room(9, 4).ok_or("a key")?;
+    let added = items.pop_front().ok_or("an item")?;
+    let asked = [Request::Add(first), Request::Add(second)];
+    assert!(rt; is_asking(&added, Form::Added, asked.as_slice()));
+    let selected = items.pop_front().ok_or("an item")?;
+    assert!(rt; is_saying(&selected, b"+OK\r\n"));
+    let found = items.pop_front().ok_or("an item")?;
+    assert!(rt; is_asking(&found, Form::Found, [Request::Has(third)].as_slice()));
+    let last = items.pop_front().ok_or("an item")?;
+    assert!(rt; is_last(&last, b"+OK\r\n"));
+    Ok(())
+}
+
+#[test]
+fn a_frame_has_many_words_and_not_more(rt: HostRuntime) -> Result<(), Fail> {
+    let mut frames = Frames::new(rt.alloc());
+    let mut items = VecDeque::new(rt.alloc());
+    frames.feed_into(b"*1024\r\n$6\r\nEXISTS\r\n", &mut items)?;
+    for _ in 0..1_023 {
+        frames.feed_into(b"$1\r\n7\r\n", &mut items)?;
+    }
+    let item = items.pop_front().ok_or("an item")?;
+    let key = Key::new(7).ok_or("a key")?;
+    assert!(rt; is_asking(&item, Form::Found, [Request::Has(key); 1_023].as_slice()));
+    frames.feed_into(b"*1025\r\n", &mut items)?;
+    let item = items.pop_front().ok_or("an item")?;
+    assert!(rt; is_last(&item, b"-ERR Protocol error: invalid multibulk length\r\n"));
+    Ok(())
+}
+
+#[test]
+fn a_line_without_an_end_is_kept_up_to_a_limit(rt: HostRuntime) -> Result<(), Fail> {
+    let mut frames = Frames::new(rt.alloc());
+    let mut items = VecDeque::new(rt.alloc());
+    let piece = [b'x'; 4_096];
+    for _ in 0..16 {
+        frames.feed_into(piece.as_slice(), &mut items)?;
+    }
+    assert!(rt; items.is_empty());
+    frames.feed_into(b"x", &mut items)?;
+    assert!(rt; matches!(items.pop_front(), Some(Item::Ends(_))));
+    Ok(())
+}
+
+#[test]
+fn replies_are_told_in_their_forms(rt: HostRuntime) -> Result<(), Fail> {
+    let replies = [Reply::Yes, Reply::No, Reply::Yes];
+    let count = reply_text(rt.alloc(), Form::Removed, replies.as_slice())?;
+    assert!(rt; count.as_bytes() == b":2\r\n".as_slice());
+    let each = reply_text(rt.alloc(), Form::Each, replies.as_slice())?;
+    assert!(rt; each.as_bytes() == b"*3\r\n:1\r\n:0\r\n:1\r\n".as_slice());
+    let full = reply_text(
+        rt.alloc(),
+        Form::Added,
+        [Reply::Yes, Reply::Full].as_slice(),
+    )?;
+    let text = b"-FULL no slot is free; 1 of 2 were added\r\n";
+    assert!(rt; full.as_bytes() == text.as_slice());
+    Ok(())
+}
+
+fn is_asking(item: &Item, form: Form, requests: &[Request]) -> bool {
+    match item {
+        Item::Asks(told, asked) => *told == form && asked.as_slice() == requests,
+        _ => false,
+    }
+}
+
+fn is_saying(item: &Item, text: &[u8]) -> bool {
+    match item {
+        Item::Says(told) => told.as_bytes() == text,
+        _ => false,
+    }
+}
+
+fn is_last(item: &Item, text: &[u8]) -> bool {
+    match item {
+        Item::Ends(told) => told.as_bytes() == text,
+        _ => false,
+    }
+}

@@ -1,0 +1,5 @@
+//! Frames in pieces, and replies. It has nothing but tests.
+#![tactic(auto)]
+
+#[cfg(test)]
+mod frames;
