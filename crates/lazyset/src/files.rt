@@ -221,10 +221,7 @@ fn open_readable<R: Files<File = File> + Eprint>(rt: &R, path: &str) -> Result<F
 }
 
 /// The file, for reading from its beginning to its end. A directory is none, nor is a pipe, for which somebody would have to write.
-pub fn open_source<'a, 'b, R>(
-    rt: &'a R,
-    path: &'b str,
-) -> Result<Source<'a, 'b, R, File>, Fault>
+pub fn open_source<'a, 'b, R>(rt: &'a R, path: &'b str) -> Result<Source<'a, 'b, R, File>, Fault>
 where
     R: Files<File = File> + Eprint + Clock,
 {

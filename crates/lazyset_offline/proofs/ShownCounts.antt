@@ -45,6 +45,8 @@ counts_are_of_set t (survey.Found header found) surveyed N S holds =
     let findings : AreFindings (slot_at t) N found.items = subst (λ (n : ℕ). AreFindings (slot_at t) n found.items) (sym same) surveyed.told.2 in
     let all : length found.items ≡ length (keys t N) = found_all t N S holds found.items findings in
     let sound = sound_where (slot_at t) N found.items findings holds.no_bad_key holds.no_key_twice in
-    let members : count_by is_sound found.items ≡ length (keys t N) = count_all found.items sound ∙ all in
-    (length (keys t N), size t N S holds,
-    λ i. lines_of_counts (surveyed.told.1 i) (sym same i) (members i) (sym same i - all i) ++ end_text Counts (good i))
+    let members : count_by is_sound found.items ≡ length (keys t N) = count_all found.items sound ∙ all in (
+      length (keys t N),
+      size t N S holds,
+      λ i. lines_of_counts (surveyed.told.1 i) (sym same i) (members i) (sym same i - all i) ++ end_text Counts (good i),
+    )

@@ -120,7 +120,7 @@ module _ (t : List ℕ) (F : Format) (rooms : last_room_of (format_of t) ≤ las
         let text = shown_nodes found (held t N) findings.each sound says (findings.slots ∙ sym (slots t N holds.no_bad_key)) in
         record {
           spelled = subst (λ (text : List ℕ). Spelled F text (keys t N)) (sym text)
-          (written_lines F (keys t N) (All-weaker (λ k. k ≤ largest_of (format_of t)) (λ k. k ≤ largest_of F) fits (keys t N) (fit t N S holds)));
+              (written_lines F (keys t N) (All-weaker (λ k. k ≤ largest_of (format_of t)) (λ k. k ≤ largest_of F) fits (keys t N) (fit t N S holds)));
           once = once t N S holds;
         }
 

@@ -66,6 +66,11 @@ plays_one b was is k t before after a =
           ∙ kind_at yard.shape (shape_with k) k.command k.progress,
     )
 
+-- and of this event, which is the next one
+pub turned_one : (b : BoardId) (was is : List Note) (k : Calling) (t : Turn) (before after : Part) (e : Event) → e ≡ event_at (shape_with k) k.command k.progress → Advanced b was is k t before after
+    → PlaysOne (kind_of e) before after
+turned_one b was is k t before after e next a = subst (λ (f : Event). PlaysOne (kind_of f) before after) (sym next) (plays_one b was is k t before after a)
+
 pub has_played : (kind : Kind) (h h' : Part) → PlaysOne kind h h' → HasPlayed kind h h'
 has_played kind h h' p = (p.0, p.1, p.2, p.3, map (load_note h.number) h.loads, p.4, p.5)
 

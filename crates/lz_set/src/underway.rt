@@ -105,12 +105,16 @@ impl<D: Disk, G: StepGate, N: Named> Set<D, G, N> {
             let event = call.caller.next();
             let asked = event;
             let played = event;
-            let locked = self.lock(rt, kept, &mut call.stay);
+            let noted = event;
+            let kind = noted.kind();
+            let mut locked = self.lock(rt, kept, &mut call.stay);
             if is_uncovered(&*locked, event) {
                 kept.keep(locked);
                 return Stage::Syncs;
             }
-            self.turn(rt, kept, pass, call, asked, locked);
+            locked.turn_on(&self.board, pass, &mut call.caller, asked);
+            self.commits.played(kind, &mut call.stay);
+            self.leave(rt, kept, pass.number(), kind, locked, &mut call.stay);
             if is_taken(played, &call.caller) {
                 return Stage::Busy;
             }
@@ -134,8 +138,9 @@ impl<D: Disk, G: StepGate, N: Named> Set<D, G, N> {
         ensures played { HasPlayed Kind.Sync (part pass.old) (part pass.new) }
     {
         let sync = call.caller.next();
-        let locked = self.lock(rt, kept, &mut call.stay);
-        self.turn(rt, kept, pass, call, sync, locked);
+        let mut locked = self.lock(rt, kept, &mut call.stay);
+        locked.turn_on(&self.board, pass, &mut call.caller, sync);
+        self.leave(rt, kept, pass.number(), Kind::Sync, locked, &mut call.stay);
     }
 
     /// Answers the call: its pass may make the next one.
@@ -263,35 +268,6 @@ impl<D: Disk, G: StepGate, N: Named> Set<D, G, N> {
             }
         }
         unreachable!()
-    }
-
-    // A hold of the call's next event, which is this one and no load.
-    #[inline(always)]
-    fn turn<'a, R: Wait>(
-        &'a self,
-        rt: &R,
-        kept: &mut Kept<'a, D, N>,
-        pass: &mut Pass,
-        call: &mut Underway,
-        event: Event,
-        locked: Held<'a, N, D>,
-    )
-        requires pass { IsOf N.board pass.old }
-        requires counted { IsCounted N.board call.old (part pass.old) }
-        requires event { event ≡ event_at (shape_with call.old) call.old.command call.old.progress }
-        requires load { hop_of event ≡ None }
-        requires going { reply_at call.old.progress ≡ None }
-        ensures pass { IsOf N.board pass.new }
-        ensures counts { CountsOn N.board call.old (part pass.old) call.new (part pass.new) }
-        ensures played { PlaysOne (kind_of event) (part pass.old) (part pass.new) }
-        ensures covered { (slot : ℕ) → event ≡ Sync slot → is_sure (mutex_guard_value locked.entry).yard slot ≡ true → StepsUnfailed Kind.Sync (part pass.old) (part pass.new) }
-    {
-        let asked = event;
-        let kind = event.kind();
-        let mut locked = locked;
-        locked.turn_on(&self.board, pass, &mut call.caller, asked);
-        self.commits.played(kind, &mut call.stay);
-        self.leave(rt, kept, pass.number(), kind, locked, &mut call.stay);
     }
 
     // The call's Sync, for all that wait for one, once it has to wait for others no more.

@@ -157,8 +157,7 @@ module _ (b : BoardId) (F : Format) (first dev dev' : Device) (ns is : List Note
   pub keeps : LeftSince b first ns dev → LivesOn F first ns y dev → (IsTrue dev.honest → IsTimely dev) → RepliesStay b dev ns ns
       → IsPenOf b pen × IsLocked b (notes pen) y' dev' × LeftSince b first (notes pen) dev' × LivesOn F first (notes pen) y' dev' × RepliesStay b dev' (notes pen) (notes pen)
   keeps left life timely stay =
-      let kept = held_again b first dev dev' ns s.found is s.comes s.on y y' locked s.locked pen of_board noted left in
-      (
+      let kept = held_again b first dev dev' ns s.found is s.comes s.on y y' locked s.locked pen of_board noted left in (
         kept.0,
         kept.1,
         kept.2,

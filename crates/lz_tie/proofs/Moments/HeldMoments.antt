@@ -184,9 +184,9 @@ module _ (b : BoardId) (first dev dev' : Device) (ns was is : List Note) (found 
   replies_stay timely stay =
       let moved = go_on_staying b dev dev' ns is (grows_then b ns was is found.grows on.grows) on.honest on.time timely (history_of b is y' dev' locked') stay in
       let before = ⊎_elim
-          (λ same. subst (RepliesStay b dev' is) (sym same) moved)
-          (λ look. subst (RepliesStay b dev' is) (sym look.2) ((λ reply. absurd reply), moved))
-          found.is in
+      (λ same. subst (RepliesStay b dev' is) (sym same) moved)
+      (λ look. subst (RepliesStay b dev' is) (sym look.2) ((λ reply. absurd reply), moved))
+      found.is in
       subst (λ r. RepliesStay b dev' r r) (sym noted) (on.stays before)
 
   pub hold_explains : HoldExplains b ns (notes pen) dev dev'

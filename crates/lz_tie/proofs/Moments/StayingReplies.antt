@@ -48,8 +48,7 @@ module _ (b : BoardId) (d : Device) (all : List Note) (p : ℕ) where
       (λ over.
       let away = quiet.0 over in
       let then = subst (λ l. IsHopAt shape h (place shape l)) (other_step b.opened p x xs away) next in
-      let marks = marks_above b.opened shape p h x xs away (marks_insert b.opened shape p h xs quiet.1 then) in
-      (
+      let marks = marks_above b.opened shape p h x xs away (marks_insert b.opened shape p h xs quiet.1 then) in (
         (λ reply honest. let s = stay.0 reply honest in (s.0, (λ t left. from_same (x ∷ xs) (x ∷ insert_load b.opened p h xs) t marks (ap (λ P. as_list x.published ++ P) (trace_insert b.opened p h xs)) (s.1 t left)))),
         stays_insert h xs quiet.1 then stay.1,
       ))

@@ -10,7 +10,7 @@ use Rattle.lz_machine.specs.Runs.{reply_at}
 use Rattle.lz_machine.specs.Table.{is_sure}
 use Rattle.lz_board.specs.Seats.{part}
 use Rattle.lz_set.specs.Stages.{PlaysOne}
-use Rattle.lz_set.proofs.Plays.{has_played, held_unfailed, played_then, same_counts, stands_uncovered, walked_unfailed}
+use Rattle.lz_set.proofs.Plays.{has_played, held_unfailed, played_then, same_counts, stands_uncovered, turned_one, turned_unfailed, walked_unfailed}
 use Rattle.lz_set.proofs.set.Set.go_on.Goals as goal
 
 some_is : (o : Option Reply) → is_some o ≡ true → (reply : Reply) × (o ≡ Some reply)
@@ -49,8 +49,8 @@ returns-then-is_uncovered-clause-uncovered g c = λ _.
 pub returns-then-is_uncovered-clause-steps : goal.returns-then-is_uncovered-clause-steps
 returns-then-is_uncovered-clause-steps g c = walked_unfailed (part c.args.pass.now) (part c.loop.pass) (part c.walk.new.pass) c.loop.invariant.steps c.walk.ensures.steps
 
-pub turn-requires-clause-counted : goal.turn-requires-clause-counted
-turn-requires-clause-counted g c =
+pub turn_on-requires-clause-counted : goal.turn_on-requires-clause-counted
+turn_on-requires-clause-counted g c =
     let was = c.requires.counted in (
       was.0,
       was.1,
@@ -58,35 +58,41 @@ turn-requires-clause-counted g c =
       same_counts g.N.Named.board c.loop.call (part c.loop.pass) c.call.inside.caller c.walk.new.call (part c.walk.new.pass) c.call.view_is c.walk.ensures.counts was.0 was.1 was.2 (c.loop.invariant.counts was.0 was.1 was.2 was.3),
     )
 
-pub turn-requires-clause-event : goal.turn-requires-clause-event
-turn-requires-clause-event g c = c.next-event.ensures.event
+pub turn_on-requires-clause-event : goal.turn_on-requires-clause-event
+turn_on-requires-clause-event g c = c.next-event.ensures.event
 
-pub turn-requires-clause-load : goal.turn-requires-clause-load
-turn-requires-clause-load g c = ap hop_of c.next-event.ensures.event ∙ ap (λ (k : Calling). hop_of (event_at (shape_with k) k.command k.progress)) c.call.view_is ∙ c.walk.ensures.loaded
+pub turn_on-requires-clause-load : goal.turn_on-requires-clause-load
+turn_on-requires-clause-load g c = ap hop_of c.next-event.ensures.event ∙ ap (λ (k : Calling). hop_of (event_at (shape_with k) k.command k.progress)) c.call.view_is ∙ c.walk.ensures.loaded
 
 pub returns-then-is_taken-clause-counts : goal.returns-then-is_taken-clause-counts
 returns-then-is_taken-clause-counts g c = λ asked format before counts.
-    c.turn.ensures.counts asked format before
+    c.turn_on.ensures.goes asked format before
     (same_counts g.N.Named.board c.loop.call (part c.loop.pass) c.call.inside.caller c.walk.new.call (part c.walk.new.pass) c.call.view_is c.walk.ensures.counts asked format before (c.loop.invariant.counts asked format before counts))
 
 pub returns-then-is_taken-clause-steps : goal.returns-then-is_taken-clause-steps
 returns-then-is_taken-clause-steps g c =
-    held_unfailed c.next-event.result (part c.args.pass.now) (part c.walk.new.pass) (part c.turn.new.pass)
-    (walked_unfailed (part c.args.pass.now) (part c.loop.pass) (part c.walk.new.pass) c.loop.invariant.steps c.walk.ensures.steps) c.turn.ensures.played
-    (λ slot is. c.turn.ensures.covered slot is (subst (λ l. is_sure l.yard slot ≡ true) c.deref.ensures (c.is_uncovered.ensures.covered c.if-is_uncovered.false slot is)))
+    let one = walked_unfailed (part c.args.pass.now) (part c.loop.pass) (part c.walk.new.pass) c.loop.invariant.steps c.walk.ensures.steps in
+    held_unfailed c.next-event.result (part c.args.pass.now) (part c.walk.new.pass) (part c.turn_on.new.pass) one
+    (turned_one _ _ _ _ _ _ _ _ c.next-event.ensures.event c.turn_on.ensures.advanced)
+    (λ slot is. turned_unfailed _ _ _ _ _ _ _ c.turn_on.ensures.advanced (c.turn_on.ensures.covered slot is
+    (subst (λ l. is_sure l.yard slot ≡ true) (c.deref.ensures ∙ sym c.deref_mut.ensures.value) (c.is_uncovered.ensures.covered c.if-is_uncovered.false slot is))).0)
 
 pub returns-then-is_taken-clause-claimed : goal.returns-then-is_taken-clause-claimed
 returns-then-is_taken-clause-claimed g c = λ busy.
-    played_then Claim (part c.args.pass.now) (part c.walk.new.pass) (part c.turn.new.pass) (c.loop.invariant.steps.0, c.walk.ensures.steps ∙ c.loop.invariant.steps.1)
-    (has_played Claim (part c.walk.new.pass) (part c.turn.new.pass)
-    (subst (λ (kind : Kind). PlaysOne kind (part c.walk.new.pass) (part c.turn.new.pass)) (c.is_taken.ensures.claimed c.if-is_taken.true) c.turn.ensures.played))
+    played_then Claim (part c.args.pass.now) (part c.walk.new.pass) (part c.turn_on.new.pass) (c.loop.invariant.steps.0, c.walk.ensures.steps ∙ c.loop.invariant.steps.1)
+    (has_played Claim (part c.walk.new.pass) (part c.turn_on.new.pass)
+    (subst (λ (kind : Kind). PlaysOne kind (part c.walk.new.pass) (part c.turn_on.new.pass)) (c.is_taken.ensures.claimed c.if-is_taken.true)
+    (turned_one _ _ _ _ _ _ _ _ c.next-event.ensures.event c.turn_on.ensures.advanced)))
 
 pub loop-preserved : goal.loop-preserved
-loop-preserved g c = record {
-  pass = c.turn.ensures.pass;
-  steps = held_unfailed c.next-event.result (part c.args.pass.now) (part c.walk.new.pass) (part c.turn.new.pass)
-      (walked_unfailed (part c.args.pass.now) (part c.loop.pass) (part c.walk.new.pass) c.loop.invariant.steps c.walk.ensures.steps) c.turn.ensures.played
-      (λ slot is. c.turn.ensures.covered slot is (subst (λ l. is_sure l.yard slot ≡ true) c.deref.ensures (c.is_uncovered.ensures.covered c.if-is_uncovered.false slot is)));
-  counts = λ asked format before counts. c.turn.ensures.counts asked format before
-      (same_counts g.N.Named.board c.loop.call (part c.loop.pass) c.call.inside.caller c.walk.new.call (part c.walk.new.pass) c.call.view_is c.walk.ensures.counts asked format before (c.loop.invariant.counts asked format before counts));
-}
+loop-preserved g c =
+    let one = walked_unfailed (part c.args.pass.now) (part c.loop.pass) (part c.walk.new.pass) c.loop.invariant.steps c.walk.ensures.steps in
+    record {
+      pass = c.turn_on.ensures.pass;
+      steps = held_unfailed c.next-event.result (part c.args.pass.now) (part c.walk.new.pass) (part c.turn_on.new.pass) one
+          (turned_one _ _ _ _ _ _ _ _ c.next-event.ensures.event c.turn_on.ensures.advanced)
+          (λ slot is. turned_unfailed _ _ _ _ _ _ _ c.turn_on.ensures.advanced (c.turn_on.ensures.covered slot is
+          (subst (λ l. is_sure l.yard slot ≡ true) (c.deref.ensures ∙ sym c.deref_mut.ensures.value) (c.is_uncovered.ensures.covered c.if-is_uncovered.false slot is))).0);
+      counts = λ asked format before counts. c.turn_on.ensures.goes asked format before
+          (same_counts g.N.Named.board c.loop.call (part c.loop.pass) c.call.inside.caller c.walk.new.call (part c.walk.new.pass) c.call.view_is c.walk.ensures.counts asked format before (c.loop.invariant.counts asked format before counts));
+    }

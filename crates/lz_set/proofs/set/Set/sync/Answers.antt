@@ -5,4 +5,5 @@ use Rattle.lz_tie.specs.Counting.{CountsOn}
 use Rattle.lz_set.proofs.set.Set.sync.Goals as goal
 
 pub returns-clause-counts : goal.returns-clause-counts
-returns-clause-counts g c = subst (λ (k : Calling). CountsOn g.N.Named.board k (part c.args.pass.now) c.turn.new.call (part c.turn.new.pass)) c.call.view_is c.turn.ensures.counts
+returns-clause-counts g c =
+    subst (λ (k : Calling). CountsOn g.N.Named.board k (part c.args.pass.now) c.turn_on.new.caller (part c.turn_on.new.pass)) c.call.view_is c.turn_on.ensures.goes
