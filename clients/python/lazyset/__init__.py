@@ -38,7 +38,7 @@ from .errors import (
 from .pool import Pool
 from .texts import key_of
 
-__version__ = "1.5"
+__version__ = "1.6"
 
 __all__ = [
     "CONNECT_TIMEOUT",

@@ -199,7 +199,7 @@ fn unknown(alloc: Global, words: &[&[u8]]) -> Result<Text, AllocError>
     error(alloc, text.as_slice())
 }
 
-// Puts words in quotes behind a text, as far as there is room for them.
+// Puts words in quotes after a text, as far as there is room for them.
 fn push_all(text: &mut Vec<u8>, words: &[&[u8]]) -> Result<(), AllocError>
     ensures { OnOk result (text.new.items ≡ text.old.items ++ shown_all 128 (map (λ word. word.now) words.now)) }
 {
@@ -216,7 +216,7 @@ fn push_all(text: &mut Vec<u8>, words: &[&[u8]]) -> Result<(), AllocError>
     Ok(())
 }
 
-// Puts so many bytes of a word behind a text.
+// Puts so many bytes of a word after a text.
 fn push_shown(text: &mut Vec<u8>, most: usize, word: &[u8]) -> Result<(), AllocError>
     ensures { OnOk result (text.new.items ≡ text.old.items ++ shown most word.now) }
 {

@@ -60,7 +60,7 @@ impl Frames {
         }
     }
 
-    /// Takes the next piece of the text, and puts the items of the frames that end in it behind those in the queue.
+    /// Takes the next piece of the text, and puts the items of the frames that end in it after those in the queue.
     pub fn feed_into(&mut self, piece: &[u8], items: &mut VecDeque<Item>) -> Result<(), AllocError>
         ensures ok { OnOk result ((more : List Item) × Feeds self.old piece.now more self.new × (items.new.items ≡ items.old.items ++ more)) }
         ensures short { IsShort self.new }
