@@ -9,7 +9,8 @@ use Rattle.std.proofs.lemmas.Bool.Decides.{nat_tests}
 use Rattle.lz_slot.specs.Numerals.{number_in}
 use Rattle.lz_slot.specs.Texts.{parted}
 use Rattle.lz_resp.specs.Limits.{most_frame, most_word}
-use Rattle.lz_resp.specs.Frames.{carriage_return, line_feed, star, dollar, fits, is_quote, words_of}
+use Rattle.lz_proto.specs.Lines.{carriage_return, line_feed}
+use Rattle.lz_resp.specs.Frames.{star, dollar, fits, is_quote, words_of}
 use Rattle.lz_resp.specs.Reading.{Front, and_then, array_at, array_of, bulk_at, count_of, end_at, first_by, first_of, frame_at, inline_at, inline_of, line_at, line_of, word_at, word_of, words_at}
 use Rattle.lz_resp.specs.declared.fault.Fault.{Fault}
 use Rattle.lz_resp.specs.declared.fault.Fault.TheVariants.{Count, Length, NoBulk, NoEnd, Quotes, TooLong}

@@ -13,7 +13,8 @@ use Rattle.lz_slot.proofs.Texts.Cuts.{AreParts, Lacks, parted_clear, parted_whol
 use Rattle.lz_slot.proofs.Texts.Numerals.{decimal_number, decimal_read, number_told_of}
 use Rattle.lz_slot.proofs.Texts.Spellings.{decimal_lacks}
 use Rattle.lz_resp.specs.Limits.{most_frame, most_word, most_words}
-use Rattle.lz_resp.specs.Frames.{IsFrame, IsInline, array, bulk, carriage_return, dollar, fits, is_quote, less_than_none, line_end, line_feed, star, words_of}
+use Rattle.lz_proto.specs.Lines.{carriage_return, line_feed}
+use Rattle.lz_resp.specs.Frames.{IsFrame, IsInline, array, bulk, dollar, fits, is_quote, less_than_none, line_end, star, words_of}
 use Rattle.lz_resp.specs.Reading.{Front, and_then, array_at, array_of, bulk_at, count_of, end_at, first_by, first_of, frame_at, inline_at, inline_of, line_at, line_of, word_at, word_of, words_at}
 use Rattle.lz_resp.specs.Pieces.{FaultsHaveNoFrame, FramesAreRead, FramesAreSpelled}
 use Rattle.lz_resp.specs.declared.fault.Fault.{Fault}

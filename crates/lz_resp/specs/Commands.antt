@@ -8,7 +8,8 @@ use Rattle.lz_slot.specs.Numerals.{number_in}
 use Rattle.lz_proto.specs.declared.request.Request.{Request}
 use Rattle.lz_proto.specs.declared.request.Request.TheVariants.{Add, Remove, Has}
 use Rattle.lz_resp.specs.Limits.{most_value}
-use Rattle.lz_resp.specs.Frames.{bulk, carriage_return, line_end, line_feed}
+use Rattle.lz_proto.specs.Lines.{carriage_return, line_feed}
+use Rattle.lz_resp.specs.Frames.{bulk, line_end}
 use Rattle.lz_resp.specs.declared.command.Command.{Command}
 use Rattle.lz_resp.specs.declared.command.Command.TheVariants.{Sadd, Srem, Sismember, Smismember, Exists, Del, Unlink, Setnx, Set, Select, Ping, Echo, Quit}
 use Rattle.lz_resp.specs.declared.form.Form.{Form}

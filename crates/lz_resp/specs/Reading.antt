@@ -4,7 +4,8 @@ use Rattle.std.specs.List.{list_any, starts_with}
 use Rattle.lz_slot.specs.Numerals.{largest_read, number_in}
 use Rattle.lz_slot.specs.Texts.{parted}
 use Rattle.lz_resp.specs.Limits.{most_frame, most_word, most_words}
-use Rattle.lz_resp.specs.Frames.{line_feed, carriage_return, star, dollar, is_quote, words_of, fits}
+use Rattle.lz_proto.specs.Lines.{line_feed, carriage_return}
+use Rattle.lz_resp.specs.Frames.{star, dollar, is_quote, words_of, fits}
 use Rattle.lz_resp.specs.declared.fault.Fault.{Fault}
 use Rattle.lz_resp.specs.declared.fault.Fault.TheVariants.{Count, Length, NoBulk, NoEnd, Quotes, TooLong}
 use Rattle.lz_resp.specs.declared.fault.Stop.{Stop}
