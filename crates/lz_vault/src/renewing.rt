@@ -1,5 +1,5 @@
 //! Renewal: the members of a file in a new one, with room for more or for fewer.
-ghost use Rattle.std.specs.Prelude.{◌≡◌, ◌↔◌, ◌≤◌, ◌+◌, ℕ, List, length, IsErrOf, IsTrue, OnOk, IfErr, IfOk};
+ghost use Rattle.std.specs.Prelude.{◌≡◌, ◌⊎◌, ◌↔◌, ◌≤◌, ◌+◌, ℕ, length, IsErrOf, IsTrue, OnOk, IfErr, IfOk};
 ghost use Rattle.lz_slot.specs.Limits.{last_room};
 ghost use Rattle.lz_slot.specs.Rooms.{last_room_of};
 ghost use Rattle.lz_slot.specs.Sets.{Keys};
@@ -70,11 +70,10 @@ pub fn renew<O: Disk, N: Disk>(
     // Where no file can be made, as over a made one, nothing is written at any moment.
     ensures safe { IsTrue (N.device new.old).honest → (MayBeMade (N.device new.old).medium.seen n → ⊥) → WritesNothing (N.device new.old) (N.device new.new) }
 
-    // A crash at any moment leaves of the new file nothing that is made, or exactly the old one's members in n slots, where it
-    // would have left such a text before.
+    // A crash at any moment leaves of the new file what it might have left before, or nothing that is made, or exactly the old one's
+    // members in n slots of this format.
     ensures any_moment { IsTrue (O.device old.old).honest → IsTrue (N.device new.old).honest → (slots : ℕ) (S : Keys) → Holds (O.device old.old).medium.seen slots S
-        → ((t : List ℕ) → IsImage (N.device new.old).medium t → IsUnmadeOrHolds n S t)
-        → LeavesOnly (N.device new.old) (N.device new.new) (IsUnmadeOrHolds n S) }
+        → LeavesOnly (N.device new.old) (N.device new.new) (λ t. IsImage (N.device new.old).medium t ⊎ IsUnmadeOrHolds format n S t) }
     ensures faults { (N.device new.old).faults ≤ (N.device new.new).faults }
     ensures honest { (N.device new.new).honest ≡ (N.device new.old).honest }
 {

@@ -1,6 +1,7 @@
 use Rattle.std.proofs.Common.{◌≡◌, ◌⊎◌, inl, inr, ⊎_elim, ℕ, List, IsTrue, sym, subst, arith}
 use Rattle.std.specs.Cmp.{both_ways}
 use Rattle.lz_slot.specs.Sets.{Keys, Same, members}
+use Rattle.lz_slot.specs.declared.format.Format.{Format}
 use Rattle.lz_slot.specs.Bytes.{Holds}
 use Rattle.lz_slot.proofs.Files.HeldSets.{holds_same_set}
 use Rattle.lz_disk.specs.Images.{IsImage}
@@ -19,33 +20,33 @@ one_set t N M S T one other k =
     (λ has. let at = (other.set k).0 has in (one.set k).1 (at.0, omega (arith, at.1, same), at.2))
 
 -- where no call is made, each moment leaves what might have been left before
-uncalled : (old : Device) (n : ℕ) (S : Keys) → (IsTrue old.honest → IsTimely old) → IsTrue old.honest → ((t : List ℕ) → IsImage old.medium t → IsUnmadeOrHolds n S t) → LeavesOnly old old (IsUnmadeOrHolds n S)
-uncalled old n S timely honest here = quiet old (IsUnmadeOrHolds n S) (timely honest) here
+uncalled : (old : Device) (P : List ℕ → Type 0) → (IsTrue old.honest → IsTimely old) → IsTrue old.honest → LeavesOnly old old (λ t. IsImage old.medium t ⊎ P t)
+uncalled old P timely honest = quiet old _ (timely honest) (λ t image. inl image)
 
 -- a making of a file of these keys leaves a file of the set of which they are the members
-called : (old new : Device) (n N : ℕ) (t ks : List ℕ) (S : Keys) → AreHeldBy t ks → Holds t N S → ((c : List ℕ) → IsImage old.medium c → IsUnmadeOrHolds n S c)
-    → LeavesOnly old new (λ c. IsImage old.medium c ⊎ IsUnmadeOrHolds n (members ks) c) → LeavesOnly old new (IsUnmadeOrHolds n S)
-called old new n N t ks S held holds here leaves =
+called : (old new : Device) (format : Format) (n N : ℕ) (t ks : List ℕ) (S : Keys) → AreHeldBy t ks → Holds t N S
+    → LeavesOnly old new (λ c. IsImage old.medium c ⊎ IsUnmadeOrHolds format n (members ks) c) → LeavesOnly old new (λ c. IsImage old.medium c ⊎ IsUnmadeOrHolds format n S c)
+called old new format n N t ks S held holds leaves =
     let same = one_set t held.0 N (members ks) S held.1 holds in
-    leaves_more old new _ (IsUnmadeOrHolds n S) (λ c. ⊎_elim (here c) (⊎_elim inl (λ is. inr (holds_same_set c n (members ks) S same is)))) leaves
+    leaves_more old new _ _ (λ c. ⊎_elim inl (λ made. inr (⊎_elim inl (λ is. inr (holds_same_set c n (members ks) S same is.0, is.1)) made))) leaves
 
 pub returns-then-n-eq0-clause-any_moment : goal.returns-then-n-eq0-clause-any_moment
-returns-then-n-eq0-clause-any_moment g c = λ old_honest honest slots S holds here. uncalled (g.N.Disk.device c.args.new.now) c.args.n S (g.met.N.Disk.timely c.args.new.now) honest here
+returns-then-n-eq0-clause-any_moment g c = λ old_honest honest slots S holds. uncalled (g.N.Disk.device c.args.new.now) _ (g.met.N.Disk.timely c.args.new.now) honest
 
 pub returns-in-Err-clause-any_moment : goal.returns-in-Err-clause-any_moment
-returns-in-Err-clause-any_moment g c = λ old_honest honest slots S holds here. uncalled (g.N.Disk.device c.args.new.now) c.args.n S (g.met.N.Disk.timely c.args.new.now) honest here
+returns-in-Err-clause-any_moment g c = λ old_honest honest slots S holds. uncalled (g.N.Disk.device c.args.new.now) _ (g.met.N.Disk.timely c.args.new.now) honest
 
 pub returns-then-n-members-clause-any_moment : goal.returns-then-n-members-clause-any_moment
-returns-then-n-members-clause-any_moment g c = λ old_honest honest slots S holds here. uncalled (g.N.Disk.device c.args.new.now) c.args.n S (g.met.N.Disk.timely c.args.new.now) honest here
+returns-then-n-members-clause-any_moment g c = λ old_honest honest slots S holds. uncalled (g.N.Disk.device c.args.new.now) _ (g.met.N.Disk.timely c.args.new.now) honest
 
 pub returns-in-Ok-make_with-clause-any_moment : goal.returns-in-Ok-make_with-clause-any_moment
-returns-in-Ok-make_with-clause-any_moment g c = λ old_honest honest slots S holds here.
+returns-in-Ok-make_with-clause-any_moment g c = λ old_honest honest slots S holds.
     let t = (g.O.Disk.device c.args.old.now).medium.seen in
-    called (g.N.Disk.device c.args.new.now) (g.N.Disk.device c.make_with.new.disk) c.args.n slots t c.deref.result.now S
-    (subst (AreHeldBy t) (sym c.deref.ensures.value) (c.in-Ok.ensures.held old_honest)) holds here (c.make_with.ensures.any_moment honest)
+    called (g.N.Disk.device c.args.new.now) (g.N.Disk.device c.make_with.new.disk) c.args.format c.args.n slots t c.deref.result.now S
+    (subst (AreHeldBy t) (sym c.deref.ensures.value) (c.in-Ok.ensures.held old_honest)) holds (c.make_with.ensures.any_moment honest)
 
 pub returns-clause-any_moment : goal.returns-clause-any_moment
-returns-clause-any_moment g c = λ old_honest honest slots S holds here.
+returns-clause-any_moment g c = λ old_honest honest slots S holds.
     let t = (g.O.Disk.device c.args.old.now).medium.seen in
-    called (g.N.Disk.device c.args.new.now) (g.N.Disk.device c.make_with.new.disk) c.args.n slots t c.deref.result.now S
-    (subst (AreHeldBy t) (sym c.deref.ensures.value) (c.in-Ok.ensures.held old_honest)) holds here (c.make_with.ensures.any_moment honest)
+    called (g.N.Disk.device c.args.new.now) (g.N.Disk.device c.make_with.new.disk) c.args.format c.args.n slots t c.deref.result.now S
+    (subst (AreHeldBy t) (sym c.deref.ensures.value) (c.in-Ok.ensures.held old_honest)) holds (c.make_with.ensures.any_moment honest)
