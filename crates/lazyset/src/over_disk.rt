@@ -37,7 +37,7 @@ where
     W: Write + Drop,
     D: Disk,
     ensures { IsTrue (D.device disk).honest
-        → LeavesOnly (D.device disk) (D.device result.1) (λ t. IsImage (D.device disk).medium t ⊎ IsUnmadeOrHolds slots (members []) t) }
+        → LeavesOnly (D.device disk) (D.device result.1) (λ t. IsImage (D.device disk).medium t ⊎ IsUnmadeOrHolds format slots (members []) t) }
 {
     let mut disk = shown(rt, path, disk, bytes_of(slots));
     let status = make_on(writer, &mut disk, slots, format);
@@ -84,8 +84,7 @@ where
     N: Disk,
     requires { last_room_of format ≡ last_room }
     ensures { IsTrue (O.device old).honest → IsTrue (N.device new).honest → (n : ℕ) (S : Keys) → Holds (O.device old).medium.seen n S
-        → ((t : List ℕ) → IsImage (N.device new).medium t → IsUnmadeOrHolds slots S t)
-        → LeavesOnly (N.device new) (N.device result.2) (IsUnmadeOrHolds slots S) }
+        → LeavesOnly (N.device new) (N.device result.2) (λ t. IsImage (N.device new).medium t ⊎ IsUnmadeOrHolds format slots S t) }
 {
     let mut old = shown(rt, old_path, old, None);
     let mut new = shown(rt, new_path, new, bytes_of(slots));
@@ -114,7 +113,7 @@ where
     requires rooms { last_room_of format ≡ last_room }
     requires stands { P.stands shelf.old ≡ Standing.Old }
     ensures { IsTrue (O.device old).honest → IsTrue (N.device new).honest → (n : ℕ) (S : Keys) → Holds (O.device old).medium.seen n S
-        → (t : List ℕ) → MayBeLeft (O.device old) (O.device result.1) (N.device result.2) (P.stands shelf.new) t → IsLeftOrHolds (O.device old) S t }
+        → (t : List ℕ) → MayBeLeft (O.device old) (O.device result.1) (N.device result.2) (P.stands shelf.new) t → IsLeftOrHolds (O.device old) format slots S t }
 {
     let mut old = shown(rt, old_path, old, None);
     let mut new = shown(rt, new_path, new, bytes_of(slots));

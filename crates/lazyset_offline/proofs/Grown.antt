@@ -155,31 +155,6 @@ at_rest_together old old_after new new_after ks js same_old same_new old_sure ne
 seen_still : (old new : Device) → OnlySyncs old new → IsTrue old.honest → new.medium.seen ≡ old.medium.seen
 seen_still old new syncs honest = ⊎_elim (ap (λ (m : Medium). m.seen)) (ap (λ (m : Medium). m.seen)) (syncs.medium honest)
 
--- what a crash leaves under the name of a file that holds a set
-module _ (old after new_after : Device) (syncs : OnlySyncs old after) (honest : IsTrue old.honest) (n : ℕ) (S : Keys) (holds : Holds old.medium.seen n S) where
-  of_old : (t : List ℕ) → after.left_since old.moment t → IsLeftOrHolds old S t
-  of_old t left = ⊎_elim
-      inl
-      (λ image. ⊎_elim
-      (λ same. inl (subst (λ (m : Medium). IsImage m t) same image))
-      (λ is. inr (n, subst (λ (seen : List ℕ). Holds seen n S) (sym (synced_image old.medium t (subst (λ (m : Medium). IsImage m t) is image))) holds))
-      (syncs.medium honest))
-      ((syncs.time honest).each t left)
-
-  pub named_old : (stood : Standing) → stood ≡ stands.Old → (t : List ℕ) → MayBeLeft old after new_after stood t → IsLeftOrHolds old S t
-  named_old stood is t left = ⊎_elim (of_old t) (λ put. absurd (put.0 is)) left
-
-  of_new : HoldOneSetAtRest after new_after → IsTrue new_after.honest → (t : List ℕ) → IsImage new_after.medium t → IsLeftOrHolds old S t
-  of_new alike new_honest t image =
-      let (rest, new_rest, (T, (N, before), (M, put))) = alike (subst IsTrue (sym syncs.honest) honest) new_honest in
-      let here : t ≡ new_after.medium.seen = synced_image new_after.medium t (subst (λ (m : Medium). IsImage m t) new_rest image) in
-      let was : Holds old.medium.seen N T = subst (λ (seen : List ℕ). Holds seen N T) (seen_still old after syncs honest) before in
-      let same : Same T S = λ k. both_ways (T k) (S k) (held_alike old.medium.seen N n T S was holds k) (held_alike old.medium.seen n N S T holds was k) in
-      inr (M, subst (λ (seen : List ℕ). Holds seen M S) (sym here) (holds_same_set new_after.medium.seen M T S same put))
-
-  pub named_put : HoldOneSetAtRest after new_after → IsTrue new_after.honest → (stood : Standing) (t : List ℕ) → MayBeLeft old after new_after stood t → IsLeftOrHolds old S t
-  named_put alike new_honest stood t left = ⊎_elim (of_old t) (λ put. of_new alike new_honest t put.1) left
-
 -- what a crash leaves after a sync it might have left before
 synced_before : (m : Medium) (t : List ℕ) → IsConsistent m → IsImage (synced m) t → IsImage m t
 synced_before m t consistent image =
@@ -191,6 +166,50 @@ synced_before m t consistent image =
       sure = λ i lt tight. ap (λ (c : List ℕ). get_or c i 0) is ∙ consistent.same i lt tight;
       each = λ on i lt. ⊎_elim (λ sure. inl (ap (λ (c : List ℕ). get_or c i 0) is ∙ sure)) (λ was. inr (subst (WasWritten m.loose i) (ap (λ (c : List ℕ). get_or c i 0) (sym is)) was)) (consistent.each on i lt);
     }
+
+-- a new file is still there after it was read again
+module _ (old new new_mid new_after : Device) (format : Format) (n m : ℕ) (second : OnlySyncs new_mid new_after) (same : new_mid.honest ≡ new.honest) (renews : Renews old new new_mid format n m) where
+  rested : IsTrue new.honest → new_after.medium ≡ new_mid.medium
+  rested honest =
+      let rest : new_mid.medium ≡ synced new_mid.medium = (renews.4 honest).0.sure in
+      ⊎_elim (λ is. is) (λ is. is ∙ sym rest) (second.medium (subst IsTrue (sym same) honest))
+
+  pub renewed_still : Renews old new new_after format n m
+  renewed_still = (
+    renews.0,
+    renews.1,
+    renews.2,
+    renews.3,
+    λ honest. (subst (λ (disk : Medium). IsRenewed disk format n renews.0) (sym (rested honest)) (renews.4 honest).0, (renews.4 honest).1),
+  )
+
+-- what a crash leaves under the name of a file
+module _ (old after new_after : Device) (syncs : OnlySyncs old after) (timely : IsTimely old) (honest : IsTrue old.honest) (format : Format) (n : ℕ) (S : Keys) where
+  image_of_old : (t : List ℕ) → IsImage after.medium t → IsImage old.medium t
+  image_of_old t image = ⊎_elim
+      (λ same. subst (λ (m : Medium). IsImage m t) same image)
+      (λ is. synced_before old.medium t timely.consistent (subst (λ (m : Medium). IsImage m t) is image))
+      (syncs.medium honest)
+
+  of_old : (t : List ℕ) → after.left_since old.moment t → IsLeftOrHolds old format n S t
+  of_old t left = inl (⊎_elim (λ image. image) (image_of_old t) ((syncs.time honest).each t left))
+
+  pub named_old : (stood : Standing) → stood ≡ stands.Old → (t : List ℕ) → MayBeLeft old after new_after stood t → IsLeftOrHolds old format n S t
+  named_old stood is t left = ⊎_elim (of_old t) (λ put. absurd (put.0 is)) left
+
+  -- where the file that may have the name was made of the old one's keys
+  module _ (N : ℕ) (holds : Holds old.medium.seen N S) (new : Device) (new_honest : IsTrue new.honest) (m : ℕ) (renews : Renews old new new_after format n m) where
+    of_new : (t : List ℕ) → IsImage new_after.medium t → IsLeftOrHolds old format n S t
+    of_new t image =
+        let T = members renews.0 in
+        let (M, held, order) = renews.3 honest in
+        let made = (renews.4 new_honest).0 in
+        let here : t ≡ new_after.medium.seen = synced_image new_after.medium t (subst (λ (disk : Medium). IsImage disk t) made.sure image) in
+        let same : Same T S = λ k. both_ways (T k) (S k) (held_alike old.medium.seen M N T S held holds k) (held_alike old.medium.seen N M S T holds held k) in
+        inr (subst (λ (seen : List ℕ). Holds seen n S × (format_of seen ≡ format)) (sym here) (holds_same_set new_after.medium.seen n T S same made.held, made.named))
+
+    pub named_put : (stood : Standing) (t : List ℕ) → MayBeLeft old after new_after stood t → IsLeftOrHolds old format n S t
+    named_put stood t left = ⊎_elim (of_old t) (λ put. of_new t put.1) left
 
 -- a device that was read once more leaves nothing else
 pub reads_on : (old mid new : Device) (P : List ℕ → Type 0) → IsTimely mid → IsTrue mid.honest → LeavesOnly old mid P → OnlySyncs mid new → LeavesOnly old new P
@@ -242,20 +261,6 @@ module _ (old old_mid old_after new new_mid new_after : Device) (format : Format
   new_held old_honest honest =
       are_its_keys new_mid.medium format n renews.0 (renews.4 (subst IsTrue same honest)).0 (omega (arith, renews.1, renews.2)) (fit (old_back old_honest))
 
-  rested : IsTrue new.honest → new_after.medium ≡ new_mid.medium
-  rested honest =
-      let rest : new_mid.medium ≡ synced new_mid.medium = (renews.4 honest).0.sure in
-      ⊎_elim (λ is. is) (λ is. is ∙ sym rest) (second.medium (new_still honest))
-
-  renewed_still : Renews old new new_after format n m
-  renewed_still = (
-    renews.0,
-    renews.1,
-    renews.2,
-    renews.3,
-    λ honest. (subst (λ (disk : Medium). IsRenewed disk format n renews.0) (sym (rested honest)) (renews.4 honest).0, (renews.4 honest).1),
-  )
-
   from_first : (fault : RenewFault) → IsUnread old_mid old_after new_mid new_after fault → IsUnread old old_after new new_after fault
   from_first (Old DeviceFailed) unread = omega (arith, first.faults, unread)
   from_first (Old Memory) unread = tt
@@ -281,7 +286,7 @@ module _ (old old_mid old_after new new_mid new_after : Device) (format : Format
       let unread = unread_of renews.0 old_held new_held in
       record {
         grown = tt;
-        refused = inr (record { made = (m, renewed_still); why = inl (is, from_first fault unread) });
+        refused = inr (record { made = (m, renewed_still old new new_mid new_after format n m second same renews); why = inl (is, from_first fault unread) });
         count = (λ e. absurd (not_count fault unread (let same_fault : ◌≡◌ {A = Result ℕ RenewFault} (Err fault) (Err (New making.BadCount)) = e in cc)), λ bad. absurd (let never : ◌≡◌ {A = Result ℕ RenewFault} (Ok m) (Err (New making.BadCount)) = counts.1 bad in cc));
         read = λ honest. tt;
         checked = λ honest. tt;

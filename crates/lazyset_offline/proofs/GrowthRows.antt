@@ -1,13 +1,15 @@
 -- Worked rows: what may be put, what is left under the name, and how a growth isn't refused.
-use Rattle.std.proofs.Common.{◌≡◌, ⊎_elim, ℕ, List, [], ◌∷◌, get_or, Ok, IsTrue, refl, sym, ◌∙◌, ap}
-use Rattle.lz_slot.specs.Bytes.{open_byte}
+use Rattle.std.proofs.Common.{◌≡◌, ⊎_elim, ℕ, ◌+◌, ◌*◌, List, [], ◌∷◌, length, get_or, Ok, IsTrue, refl, sym, ◌∙◌, ap, arith}
+use Rattle.lz_slot.specs.Bytes.{format_of, open_byte}
+use Rattle.lz_slot.specs.Sets.{Keys}
 use Rattle.lz_slot.specs.declared.format.Format.{Format}
-use Rattle.lz_disk.specs.Images.{Medium}
+use Rattle.lz_slot.specs.declared.format.Format.TheVariants.{Two, Three}
+use Rattle.lz_disk.specs.Images.{IsImage, Medium}
 use Rattle.lz_disk.specs.Devices.{Device}
 use Rattle.lz_vault.specs.declared.making.MakeFault.TheVariants as making
 use Rattle.lz_vault.specs.declared.renewing.RenewFault.{RenewFault}
 use Rattle.lz_vault.specs.declared.renewing.RenewFault.TheVariants.{New}
-use Rattle.lazyset_offline.specs.Growths.{HoldOneSetAtRest, IsRefusedLate, IsUnread, MayBeLeft, growth_text}
+use Rattle.lazyset_offline.specs.Growths.{HoldOneSetAtRest, IsLeftOrHolds, IsRefusedLate, IsUnread, MayBeLeft, growth_text}
 use Rattle.lazyset_offline.specs.Renewals.{renewal_text}
 use Rattle.lazyset_offline.specs.declared.growing.Standing.{Standing}
 use Rattle.lazyset_offline.specs.declared.growing.Standing.TheVariants as stands
@@ -36,3 +38,10 @@ made_before old after new new_after unread = unread
 -- what was grown isn't told as renewed: its line begins with another letter
 own_line : (m : ℕ) → (get_or (growth_text (Ok m)) 0 0 ≡ 103) × (get_or (renewal_text (Ok m)) 0 0 ≡ 114)
 own_line m = (refl, refl)
+
+-- a file of another format, or with other slots, isn't left under the name, unless it might have been before
+other_format : (old : Device) (n : ℕ) (S : Keys) (t : List ℕ) → ¬ IsImage old.medium t → format_of t ≡ Two → IsLeftOrHolds old Three n S t → ⊥
+other_format old n S t never is = ⊎_elim never (λ file. let other : ◌≡◌ {A = Format} Two Three = sym is ∙ file.1 in absurd cc)
+
+other_slots : (old : Device) (format : Format) (n : ℕ) (S : Keys) (t : List ℕ) → ¬ IsImage old.medium t → length t ≡ 32 + 16 * n → IsLeftOrHolds old format n S t → ⊥
+other_slots old format n S t never long = ⊎_elim never (λ file. omega (arith, long, file.0.size))

@@ -1,6 +1,6 @@
 -- What a growth of a file leaves and tells.
 use Rattle.std.specs.Prelude.{◌≡◌, ◌≢◌, ◌⊎◌, ◌↔◌, ◌+◌, ◌*◌, ◌<◌, ◌++◌, ◌∷◌, [], ℕ, IfErr, IfOk, IsErrOf, IsTrue, OnOk, List, Result, Ok, Err, codes, decimal}
-use Rattle.lz_slot.specs.Bytes.{Holds}
+use Rattle.lz_slot.specs.Bytes.{Holds, format_of}
 use Rattle.lz_slot.specs.Sets.{Keys}
 use Rattle.lz_slot.specs.declared.format.Format.{Format}
 use Rattle.lz_disk.specs.Images.{IsImage, at_rest}
@@ -29,9 +29,9 @@ HoldOneSetAtRest old new =
 abbrev pub MayBeLeft : Device → Device → Device → Standing → List ℕ → Type 0
 MayBeLeft old old_after new_after stood t = old_after.left_since old.moment t ⊎ ((stood ≢ stands.Old) × IsImage new_after.medium t)
 
--- that is what a crash might have left of the old file before, or a file of its set
-abbrev pub IsLeftOrHolds : Device → Keys → List ℕ → Type 0
-IsLeftOrHolds old S t = IsImage old.medium t ⊎ ((N : ℕ) × Holds t N S)
+-- that is what a crash might have left of the old file before, or a file of its set, of this format with n slots
+abbrev pub IsLeftOrHolds : Device → Format → ℕ → Keys → List ℕ → Type 0
+IsLeftOrHolds old format n S t = IsImage old.medium t ⊎ (Holds t n S × (format_of t ≡ format))
 
 -- A growth was refused as the renewal was, and no file was put in the old one's place.
 pub record IsRefusedFirst (old old_after new new_after : Device) (untouched : Type 0) (stood : Standing) (format : Format) (n : ℕ) (fault : RenewFault) : Type 0 where

@@ -46,12 +46,13 @@ pub record IsListing (format : Format) (slots : ℕ) (input : Option (List ℕ))
   pub refused : IfErr answer (IsListingFaultOf format slots input before after)
   pub count : IsErrOf answer (OfMaking BadCount) ↔ IsBadCount format slots
 
--- At each moment a crash leaves what it might have left before, or else nothing that is made, or all the keys that the input lists.
+-- At each moment a crash leaves what it might have left before, or else nothing that is made, or a file of this format with so many
+-- slots and all the keys that the input lists.
 abbrev pub LeavesListed : Format → ℕ → Option (List ℕ) → Device → Device → Type 0
 LeavesListed format slots input before after =
     LeavesOnly before after (IsImage before.medium)
     ⊎ ((keys : List ℕ) × IfSome input (λ text. Lists format text keys)
-    × LeavesOnly before after (λ t. IsImage before.medium t ⊎ IsUnmadeOrHolds slots (members keys) t))
+    × LeavesOnly before after (λ t. IsImage before.medium t ⊎ IsUnmadeOrHolds format slots (members keys) t))
 
 -- the line of an input that is no list of keys, and how the command ends then, where that could be told
 abbrev pub list_text : ListFault → List ℕ

@@ -1,5 +1,5 @@
 //! The command that puts a file with room for more, or fewer, in the place of another.
-ghost use Rattle.std.specs.Prelude.{◌≡◌, ◌↔◌, ◌+◌, ◌≤◌, ℕ, List, Result as Answer, Err, IfErr, IfOk, IsErrOf, IsTrue, OnErr, OnOk};
+ghost use Rattle.std.specs.Prelude.{◌≡◌, ◌⊎◌, ◌↔◌, ◌+◌, ◌≤◌, ℕ, List, Result as Answer, Err, IfErr, IfOk, IsErrOf, IsTrue, OnErr, OnOk};
 ghost use Rattle.lz_proto.specs.Steps.{SendTells};
 ghost use Rattle.lz_slot.specs.Bytes.{Holds};
 ghost use Rattle.lz_slot.specs.Limits.{last_room};
@@ -70,14 +70,14 @@ pub fn grow_on<W: Write + Drop, O: Disk, N: Disk, P: Shelf>(
     ensures reads { OnlySyncs (O.device old.old) (O.device old.new) }
     ensures safe { IsTrue (N.device new.old).honest → (MayBeMade (N.device new.old).medium.seen slots → ⊥) → WritesNothing (N.device new.old) (N.device new.new) }
 
-    // A crash at any moment leaves under the name what it might have left of the old file before, or a file of its set.
+    // A crash at any moment leaves under the name what it might have left of the old file before, or a file of its set, of this format
+    // with so many slots.
     ensures named { IsTrue (O.device old.old).honest → IsTrue (N.device new.old).honest → (n : ℕ) (S : Keys) → Holds (O.device old.old).medium.seen n S
-        → (t : List ℕ) → MayBeLeft (O.device old.old) (O.device old.new) (N.device new.new) (P.stands shelf.new) t → IsLeftOrHolds (O.device old.old) S t }
+        → (t : List ℕ) → MayBeLeft (O.device old.old) (O.device old.new) (N.device new.new) (P.stands shelf.new) t → IsLeftOrHolds (O.device old.old) format slots S t }
 
-    // And of the new file nothing that is made, or exactly the old one's members, where it would have left such a text before.
+    // And of the new file what it might have left before, or nothing that is made, or exactly the old one's members.
     ensures any_moment { IsTrue (O.device old.old).honest → IsTrue (N.device new.old).honest → (n : ℕ) (S : Keys) → Holds (O.device old.old).medium.seen n S
-        → ((t : List ℕ) → IsImage (N.device new.old).medium t → IsUnmadeOrHolds slots S t)
-        → LeavesOnly (N.device new.old) (N.device new.new) (IsUnmadeOrHolds slots S) }
+        → LeavesOnly (N.device new.old) (N.device new.new) (λ t. IsImage (N.device new.old).medium t ⊎ IsUnmadeOrHolds format slots S t) }
     ensures faults { (N.device new.old).faults ≤ (N.device new.new).faults }
     ensures honest { (N.device new.new).honest ≡ (N.device new.old).honest }
 {
@@ -101,10 +101,9 @@ fn grow<O: Disk, N: Disk, P: Shelf>(
     ensures reads { OnlySyncs (O.device old.old) (O.device old.new) }
     ensures safe { IsTrue (N.device new.old).honest → (MayBeMade (N.device new.old).medium.seen n → ⊥) → WritesNothing (N.device new.old) (N.device new.new) }
     ensures named { IsTrue (O.device old.old).honest → IsTrue (N.device new.old).honest → (slots : ℕ) (S : Keys) → Holds (O.device old.old).medium.seen slots S
-        → (t : List ℕ) → MayBeLeft (O.device old.old) (O.device old.new) (N.device new.new) (P.stands shelf.new) t → IsLeftOrHolds (O.device old.old) S t }
+        → (t : List ℕ) → MayBeLeft (O.device old.old) (O.device old.new) (N.device new.new) (P.stands shelf.new) t → IsLeftOrHolds (O.device old.old) format n S t }
     ensures any_moment { IsTrue (O.device old.old).honest → IsTrue (N.device new.old).honest → (slots : ℕ) (S : Keys) → Holds (O.device old.old).medium.seen slots S
-        → ((t : List ℕ) → IsImage (N.device new.old).medium t → IsUnmadeOrHolds n S t)
-        → LeavesOnly (N.device new.old) (N.device new.new) (IsUnmadeOrHolds n S) }
+        → LeavesOnly (N.device new.old) (N.device new.new) (λ t. IsImage (N.device new.old).medium t ⊎ IsUnmadeOrHolds format n S t) }
     ensures faults { (N.device new.old).faults ≤ (N.device new.new).faults }
     ensures honest { (N.device new.new).honest ≡ (N.device new.old).honest }
 {

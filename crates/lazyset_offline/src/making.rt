@@ -35,9 +35,9 @@ pub fn make_on<W: Write + Drop, D: Disk>(
     ensures faults { (D.device disk.old).faults ≤ (D.device disk.new).faults }
     ensures honest { (D.device disk.new).honest ≡ (D.device disk.old).honest }
 
-    // A crash at any moment leaves what it might have left before, or nothing that is made, or the empty set.
+    // A crash at any moment leaves what it might have left before, or nothing that is made, or all of this file.
     ensures any_moment { IsTrue (D.device disk.old).honest
-        → LeavesOnly (D.device disk.old) (D.device disk.new) (λ t. IsImage (D.device disk.old).medium t ⊎ IsUnmadeOrHolds slots (members []) t) }
+        → LeavesOnly (D.device disk.old) (D.device disk.new) (λ t. IsImage (D.device disk.old).medium t ⊎ IsUnmadeOrHolds format slots (members []) t) }
 {
     match make_with(disk, format, slots, &[]) {
         Ok(()) => tell_made(writer, slots),

@@ -1,5 +1,5 @@
 //! The command that renews a file into another capacity.
-ghost use Rattle.std.specs.Prelude.{◌≡◌, ◌≤◌, ℕ, List, Result as Answer, Ok, Err, IfErr, IsTrue};
+ghost use Rattle.std.specs.Prelude.{◌≡◌, ◌⊎◌, ◌≤◌, ℕ, Result as Answer, Ok, Err, IfErr, IsTrue};
 ghost use Rattle.lz_proto.specs.Steps.{SendTells};
 ghost use Rattle.lz_slot.specs.Bytes.{Holds};
 ghost use Rattle.lz_slot.specs.Limits.{last_room};
@@ -43,11 +43,10 @@ pub fn renew_on<W: Write + Drop, O: Disk, N: Disk>(
     ensures reads { OnlySyncs (O.device old.old) (O.device old.new) }
     ensures safe { IsTrue (N.device new.old).honest → (MayBeMade (N.device new.old).medium.seen slots → ⊥) → WritesNothing (N.device new.old) (N.device new.new) }
 
-    // A crash at any moment leaves of the new file nothing that is made, or exactly the old one's members, where it would have
-    // left such a text before.
+    // A crash at any moment leaves of the new file what it might have left before, or nothing that is made, or exactly the old one's
+    // members in so many slots of this format.
     ensures any_moment { IsTrue (O.device old.old).honest → IsTrue (N.device new.old).honest → (n : ℕ) (S : Keys) → Holds (O.device old.old).medium.seen n S
-        → ((t : List ℕ) → IsImage (N.device new.old).medium t → IsUnmadeOrHolds slots S t)
-        → LeavesOnly (N.device new.old) (N.device new.new) (IsUnmadeOrHolds slots S) }
+        → LeavesOnly (N.device new.old) (N.device new.new) (λ t. IsImage (N.device new.old).medium t ⊎ IsUnmadeOrHolds format slots S t) }
     ensures faults { (N.device new.old).faults ≤ (N.device new.new).faults }
     ensures honest { (N.device new.new).honest ≡ (N.device new.old).honest }
 {
