@@ -39,8 +39,8 @@ impl<N: Named, D: Disk> Locked<N, D> {
     }
 
     /// The pass joins the pen for a moment, and has then seen all that was published. In that history its calls are those that
-    /// it has made itself, with the replies that it got, and its steps are the pass's own; in a set of one pass there are no others. What the pass had seen before is
-    /// a beginning of what was published.
+    /// it has made itself, with the replies that it got, and its steps are the pass's own; in a set of one pass there are no others. What
+    /// the pass had seen before is a beginning of what was published.
     pub fn welcome(&mut self, board: &Board, pass: &mut Pass)
         requires board { id_of board.now ≡ N.board }
         requires pass { IsOf N.board pass.old }
