@@ -1,5 +1,6 @@
 pub mod JoinedLifeRows
 pub mod JoinedLives
+mod LeftRows
 pub mod Members
 pub mod Opening
 pub mod Plays

@@ -34,7 +34,7 @@ abbrev sizes : Sizes
 sizes = record { slots = 1; buckets = 1; passes = 1 }
 
 -- the life began with no member
-abbrev board : BoardId
+abbrev pub board : BoardId
 board = record { table = no_board.table; sizes = sizes; opened = [] }
 
 -- pass 1 has added 12, which is settled
@@ -54,7 +54,7 @@ abbrev added : List Note
 added = note_by 1 (Played Answer Done) None ∷ settled_adding
 
 -- and has made another call since
-abbrev later : List Note
+abbrev pub later : List Note
 later = note_by 1 (Called (Has 12) Two) None ∷ added
 
 abbrev answered : History
@@ -79,7 +79,7 @@ not_unlinked h = go h.trace.0 h.trace.1
     go [] is = absurd cc
     go (e ∷ more) is = absurd cc
 
-abbrev S0 : Keys
+abbrev pub S0 : Keys
 S0 = members_of board.opened
 
 -- a list of calls that fits the history has the answered one in it
@@ -90,7 +90,7 @@ has_answered L T fits = plain (served 2 answered S0 L T (refl, omega arith, tt) 
     plain h = sym (h.2.3 12)
 
 -- so does one of the later history, in which another call is under way
-has_still : (L : List ℕ) (T : Keys) → Fits S0 (Call 2 1 (Has 12) ∷ answered) L T → T 12 ≡ true
+pub has_still : (L : List ℕ) (T : Keys) → Fits S0 (Call 2 1 (Has 12) ∷ answered) L T → T 12 ≡ true
 has_still L T fits = ⊎_elim (λ h. sym (h.2.3 12)) (λ h. sym (h.1.2 12) ∙ sym (h.1.1.2.3 12)) (served_open 2 1 (Has 12) answered S0 L T (refl, omega arith, tt) refl fits)
 
 -- what a crash leaves once the call was answered has 12
@@ -127,7 +127,7 @@ not_left_out t e empty = false≢true (one_set t 1 S0 e.found empty e.holds 12 �
     none i h = ⊎_elim (λ (is : Call 1 1 (Add 12) ≡ Call i h.called.0 (Remove 12)). absurd cc) (λ no. no) h.called.1
 
 -- A reply that was noted isn't lost later: no crash since then leaves a text that lacks what its call did.
-reply_lost : (disk : Device) → IsTrue disk.honest → (t : List ℕ) → disk.left_since 0 t → Holds t 1 S0 → RepliesStay board disk later later → ⊥
+pub reply_lost : (disk : Device) → IsTrue disk.honest → (t : List ℕ) → disk.left_since 0 t → Holds t 1 S0 → RepliesStay board disk later later → ⊥
 reply_lost disk honest t left empty stay = not_lost t ((stay.1.0 tt honest).1 t left) empty
 
 -- and it isn't noted with a moment that is still to come
