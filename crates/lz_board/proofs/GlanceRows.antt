@@ -15,18 +15,18 @@ use Rattle.lz_board.specs.Glances.{Glances, Turns}
 use Rattle.lz_board.specs.Notes.{own}
 use Rattle.lz_board.specs.Plays.{fresh}
 
-abbrev sizes : Sizes
+abbrev pub sizes : Sizes
 sizes = record { slots = 2; buckets = 1; passes = 2 }
 
 -- pass 1, outside and with no step, that has seen this
-abbrev seeing : Trace → Part
+abbrev pub seeing : Trace → Part
 seeing P = fresh sizes P 1
 
 -- pass 2 linked 12 in slot 0; then that was settled
-abbrev E1 : Trace
+abbrev pub E1 : Trace
 E1 = linked 12 0 2 ∷ []
 
-abbrev E2 : Trace
+abbrev pub E2 : Trace
 E2 = settled 0 as_added ∷ E1
 
 -- E2 is no beginning of what is shorter
@@ -37,7 +37,7 @@ not_empty : Begins E2 [] → ⊥
 not_empty is = absurd cc
 
 -- so what is seen from E2 to E2 is E2
-only_E2 : (P : Trace) → Begins E2 P → Begins P E2 → P ≡ E2
+pub only_E2 : (P : Trace) → Begins E2 P → Begins P E2 → P ≡ E2
 only_E2 P from upto =
     ⊎_elim (λ is. is)
     (⊎_elim (λ is. absurd (not_shorter (subst (Begins E2) is from))) (λ is. absurd (not_empty (subst (Begins E2) is from))))

@@ -3,3 +3,4 @@ pub mod Upkeep
 pub mod Walk
 pub mod NoteRows
 pub mod GlanceRows
+pub mod ListRows

@@ -71,7 +71,7 @@ module _ (buckets slots : ℕ) (P0 P : Trace) (law : Lawful buckets slots P) (qu
   told pred curr (Unmarked s flags) (is, between, h) = unmarked_told s flags h
   told pred curr (Marked s flags) (is, between, h) = marked_told s flags h
 
-between_longer : (A P R Q B : Trace) → Begins A P → Begins Q B → Between P R Q → Between A R B
+pub between_longer : (A P R Q B : Trace) → Begins A P → Begins Q B → Between P R Q → Between A R B
 between_longer A P R Q B before after h = record { from = begins_before A P R before h.from; upto = begins_before R Q B h.upto after }
 
 -- it stays so for one who had seen less before and has seen more after
@@ -97,7 +97,7 @@ halt_is (e ∷ P) = halt_is P
 pub unhalted_before : (p : ℕ) (P Q : Trace) → Since p Q P → halt_word Q ≢ 1 → IsUnhalted P
 unhalted_before p P Q since un = ⊎_elim (λ (none : IsUnhalted P). none) (λ (is : halt_word P ≡ 1). absurd (un (halt_since P Q (since.0, since.1) is))) (halt_is P)
 
-no_changes : (p : ℕ) (P Q : Trace) → Since p Q P → Changes p P Q []
+pub no_changes : (p : ℕ) (P Q : Trace) → Since p Q P → Changes p P Q []
 no_changes p P Q since = record { since = since.0; goes_on = since.1; own = since.2 }
 
 -- the rows of a glance that was inside from P to Q

@@ -1,0 +1,19 @@
+use Rattle.std.proofs.Common.{◌≡◌, ◌≤◌, ◌+◌, vec_capacity, vec_len}
+use Rattle.lz_machine.specs.Yards.{IsInside}
+use Rattle.lz_board.specs.Notes.{Since}
+use Rattle.lz_board.specs.Plays.{knowing}
+use Rattle.lz_board.specs.Seats.{id_of, part, IsOf}
+use Rattle.lz_board.specs.Listings.{Listed}
+use Rattle.lz_board.proofs.board.Board.list_slots.Given as goal
+
+abbrev pub invariant-loop-index : goal.invariant-loop-index
+invariant-loop-index l = record {
+  here : IsOf (id_of l.self) l.pass;
+  same : part l.pass ≡ knowing (part l.pass).known (part l.fn.pass);
+  since : Since (part l.fn.pass).number (part l.pass).known (part l.fn.pass).known;
+  inside : IsInside l.pass.pin;
+  listed : Listed l.fn.from l.index l.keys.items (part l.fn.pass).begun (part l.pass).known;
+  few : vec_len l.keys ≤ l.fn.most;
+  slots : vec_len l.keys + l.fn.from ≤ l.index;
+  room : vec_capacity l.keys ≡ vec_capacity l.fn.room;
+}
