@@ -42,7 +42,7 @@ were zero d low = record { then = E2; between = now; settled = durable.settled }
 were (suc n) d low = absurd (omega (arith, low))
 
 -- the last page of both slots
-both_slots : IsPage 2 0 9 (12 ∷ []) None E2 E2
+pub both_slots : IsPage 2 0 9 (12 ∷ []) None E2 E2
 both_slots = record {
   listed = record {
     were = were;
@@ -52,6 +52,7 @@ both_slots = record {
     ];
   };
   few = omega arith;
+  each = omega arith;
   near = omega arith;
   stops = tt;
 }
@@ -93,9 +94,12 @@ past_the_end page = let low = page.stops.within in absurd (omega (arith, low))
 not_full : IsPage 2 0 9 [] (Some 1) [] [] → ⊥
 not_full page = ⊎_elim (λ is. absurd (omega (arith, is))) (λ is. absurd (omega (arith, is))) page.stops.full
 
--- it has no more keys than were asked for, and goes over no more than 4,096 slots
+-- it has no more keys than were asked for or than it has slots, and goes over no more than 4,096 of them
 too_many : IsPage 2 0 1 (12 ∷ 12 ∷ []) None E2 E2 → ⊥
 too_many page = let low = page.few in absurd (omega (arith, low))
+
+told_twice : IsPage 1 0 9 (12 ∷ 12 ∷ []) None E2 E2 → ⊥
+told_twice page = let low = page.each in absurd (omega (arith, low))
 
 too_far : IsPage 5_000 0 9 [] None [] [] → ⊥
 too_far page = let low = page.near in absurd (omega (arith, low))

@@ -1,5 +1,5 @@
 -- What a list promises of slots: P is what the pass had seen before, Q what it has seen after.
-use Rattle.std.specs.Prelude.{◌≡◌, ◌⊎◌, ℕ, suc, ◌+◌, ◌<◌, ◌≤◌, true, Option, Some, None, IfSome, Result, Ok, Err, List, [], All, Contains, length}
+use Rattle.std.specs.Prelude.{◌≡◌, ◌⊎◌, ℕ, suc, ◌+◌, ◌-◌, ◌<◌, ◌≤◌, true, Option, Some, None, IfSome, Result, Ok, Err, List, [], All, Contains, length}
 use Rattle.lz_slot.specs.Limits.{largest_key}
 use Rattle.lz_list.specs.Traces.{Trace, halt_word, linking, linking_in, SettledYes}
 use Rattle.lz_machine.specs.Table.{last_pin}
@@ -22,8 +22,8 @@ pub record WasAway (s k : ℕ) (P Q : Trace) : Type 0 where
   pub between : Between P then Q
   pub away : IsDurableIn s k then → ⊥
 
--- The keys that were told of the slots from `from` on below `upto`: each was settled as a member at some trace from P to Q, and each
--- other key at some such trace wasn't one in any given of these slots.
+-- The keys that were told of the slots from `from` on below `upto`: each was settled as a member at some trace from P to Q. And of each
+-- of these slots and each key: it was told, or at some such trace it wasn't settled as a member in that slot.
 pub record Listed (from upto : ℕ) (told : List ℕ) (P Q : Trace) : Type 0 where
   pub were : All (λ k. Glanced k P Q true) told
   pub others : (s k : ℕ) → from ≤ s → s < upto → k ≤ largest_key → Contains told k ⊎ WasAway s k P Q
@@ -43,10 +43,11 @@ pub record StopsAt (slots from most : ℕ) (told : List ℕ) (next : ℕ) : Type
   pub within : next < slots
   pub full : (length told ≡ most) ⊎ (next ≡ from + page_slots)
 
--- A page of the slots from `from` on: its keys, and the slot to go on from, or None at the end of the slots.
+-- A page of the slots from `from` on: its keys, no more than slots, and the slot to go on from, or None at the end of the slots.
 pub record IsPage (slots from most : ℕ) (told : List ℕ) (next : Option ℕ) (P Q : Trace) : Type 0 where
   pub listed : Listed from (reached slots next) told P Q
   pub few : length told ≤ most
+  pub each : length told ≤ reached slots next - from
   pub near : reached slots next ≤ from + page_slots
   pub stops : IfSome next (StopsAt slots from most told)
 

@@ -19,6 +19,7 @@ page_longer : (slots from most : ℕ) (told : List ℕ) (next : Option ℕ) (A P
 page_longer slots from most told next A P Q B before after page = record {
   listed = listed_longer A P Q B before after from (reached slots next) told page.listed;
   few = page.few;
+  each = page.each;
   near = page.near;
   stops = page.stops;
 }

@@ -49,6 +49,7 @@ loop-index-preserved c =
         | in-Some w ↦ omega (arith, inv.slots, ap (λ v. vec_len v) w.keys-is, w.push_reserved.ensures.len)
         | in_default w ↦ omega (arith, inv.slots, ap (λ v. vec_len v) w.keys-is)
       ];
+      upto = inr (omega (arith, c.loop-index-test.true));
       room = elim c.match-list_slot.branch [
         | in-Some w ↦ ap (λ v. vec_capacity v) w.keys-is ∙ w.push_reserved.ensures.capacity ∙ inv.room
         | in_default w ↦ ap (λ v. vec_capacity v) w.keys-is ∙ inv.room

@@ -1,4 +1,4 @@
-use Rattle.std.proofs.Common.{◌≡◌, ◌≤◌, ◌+◌, vec_capacity, vec_len}
+use Rattle.std.proofs.Common.{◌≡◌, ◌⊎◌, ◌≤◌, ◌+◌, vec_capacity, vec_len}
 use Rattle.lz_machine.specs.Yards.{IsInside}
 use Rattle.lz_board.specs.Notes.{Since}
 use Rattle.lz_board.specs.Plays.{knowing}
@@ -15,5 +15,6 @@ invariant-loop-index l = record {
   listed : Listed l.fn.from l.index l.keys.items (part l.fn.pass).begun (part l.pass).known;
   few : vec_len l.keys ≤ l.fn.most;
   slots : vec_len l.keys + l.fn.from ≤ l.index;
+  upto : (l.index ≡ l.fn.from) ⊎ (l.index ≤ l.upto);
   room : vec_capacity l.keys ≡ vec_capacity l.fn.room;
 }
