@@ -4,5 +4,7 @@ mod LeftRows
 pub mod Members
 pub mod Opening
 pub mod Plays
+pub mod ScanRows
+pub mod Scans
 pub mod StageRows
 pub mod Welcome

@@ -3,4 +3,5 @@ pub mod Blanks
 pub mod Answers
 pub mod Left
 pub mod Stages
+pub mod Scans
 pub mod JoinedLives

@@ -7,7 +7,7 @@
 //! at once.
 //! A thread that is to have many calls under way plays each as a value, `Underway`: `begin`, `go_on` from one stage to the next,
 //! `sync` where the call stands before one, and `answer`. By one `Kept` (`keep`) it keeps the lock from one of these to the next.
-//! `glance` looks up without any lock. A program's work stands in a function
+//! `glance` looks up without any lock, and `list` tells the members page by page. A program's work stands in a function
 //! generic in the set's name, which is called with std's `Brand`:
 //!
 //! ```text
@@ -43,7 +43,7 @@ pub use blank::Blank;
 pub use fault::Fault;
 pub use gate::{NoGate, StepGate};
 pub use kept::Kept;
-pub use lz_board::{Glance, GlanceFault, Pass};
+pub use lz_board::{Glance, GlanceFault, ListFault, Page, Pass};
 pub use lz_tie::Named;
 pub use set::Set;
 pub use underway::{Stage, Underway};

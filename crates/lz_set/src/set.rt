@@ -5,6 +5,7 @@ ghost use Rattle.lz_slot.specs.Bytes.{Holds};
 ghost use Rattle.lz_slot.specs.Limits.{most_buckets, most_passes};
 ghost use Rattle.lz_vault.specs.Opens.{IsRefusedFor};
 ghost use Rattle.lz_board.specs.Glances.{Glances, Turns};
+ghost use Rattle.lz_board.specs.Listings.{Lists};
 ghost use Rattle.lz_board.specs.Opened.{opened_by};
 ghost use Rattle.lz_board.specs.Seats.{id_of, part, IsOf};
 ghost use Rattle.lz_board.specs.Walkers.{KeepsCall};
@@ -21,9 +22,9 @@ use crate::blank::Blank;
 use crate::fault::Fault;
 use crate::gate::StepGate;
 use crate::group_commit::GroupCommit;
-use lz_board::{Board, Glance, GlanceFault, Pass};
+use lz_board::{Board, Glance, GlanceFault, ListFault, Page, Pass};
 use lz_disk::Disk;
-use lz_slot::{Command, Key};
+use lz_slot::{Command, Key, Slot};
 use lz_tie::{Locked, Named};
 use lz_vault::{OpenFault, Refused};
 use lz_yard::Yard;
@@ -149,6 +150,25 @@ impl<D: Disk, G: StepGate, N: Named> Set<D, G, N> {
         ensures call { KeepsCall (part pass.old) (part pass.new) }
     {
         self.board.glance(pass, key)
+    }
+
+    /// Members by their slots, from this one on: up to `most` keys, of up to 4,096 slots, and the slot to go on from. It waits
+    /// for nobody. Slots that are given up meanwhile are free again only afterwards.
+    pub fn list(
+        &self,
+        alloc: Global,
+        pass: &mut Pass,
+        from: Slot,
+        most: usize,
+    ) -> Result<Page, ListFault>
+        requires pass { MayCall N.board pass.old }
+        requires most { 1 ≤ most }
+        ensures pass { MayCall N.board pass.new }
+        ensures outside { result ≢ Err (ListFault.Glance GlanceFault.BusyPass) }
+        ensures lists { Lists N.board.sizes.slots from most result (part pass.old) (part pass.new) }
+        ensures call { KeepsCall (part pass.old) (part pass.new) }
+    {
+        self.board.list(alloc, pass, from, most)
     }
 
     /// Lets two passes see what either has seen. It waits for nobody.

@@ -1,0 +1,39 @@
+-- Scans of a set: pages of its slots, one after the other, by one pass. P is what it had seen before, Q what it has seen after.
+use Rattle.std.specs.Prelude.{ℕ, ◌≤◌, true, Option, Some, None, List, [], ◌∷◌, ◌++◌, All, Contains}
+use Rattle.lz_slot.specs.Limits.{largest_key}
+use Rattle.lz_list.specs.Traces.{Trace, Begins, Lawful, SettledYes}
+use Rattle.lz_board.specs.Glances.{Between, Glanced}
+use Rattle.lz_board.specs.Listings.{IsPage}
+
+-- A page as it was told: how many keys were asked for, the keys, the slot to go on from, and what the pass had seen before it and after it.
+pub record Told : Type 0 where
+  pub most : ℕ
+  pub keys : List ℕ
+  pub next : Option ℕ
+  pub before : Trace
+  pub after : Trace
+
+-- the keys of all these pages
+abbrev pub keys_of : List Told → List ℕ
+keys_of [] = []
+keys_of (t ∷ ts) = t.keys ++ keys_of ts
+
+-- Pages of so many slots: the first is from this slot on, each other goes on where the one before it ended, and the last comes to the
+-- end. The pass forgets nothing.
+abbrev pub Scans : ℕ → Option ℕ → Trace → List Told → Trace → Type 0
+Scans slots None P [] Q = Begins P Q
+Scans slots (Some from) P (t ∷ ts) Q = Begins P t.before × Begins t.before t.after × IsPage slots from t.most t.keys t.next t.before t.after × Scans slots t.next t.after ts Q
+Scans slots _ P _ Q = ⊥
+
+-- Each key that was settled as a member at each trace from P to Q is told, and each that is told was at some such trace.
+pub record TellsMembers (told : List ℕ) (P Q : Trace) : Type 0 where
+  pub all : (k : ℕ) → k ≤ largest_key → ((R : Trace) → Between P R Q → SettledYes R R k) → Contains told k
+  pub only : All (λ k. Glanced k P Q true) told
+
+-- a scan from the first slot on tells the members, whatever others do meanwhile
+abbrev pub ScansTellMembers : Type 0
+ScansTellMembers =
+    (buckets slots : ℕ) (P Q : Trace) (pages : List Told)
+    → Lawful buckets slots Q
+    → Scans slots (Some 0) P pages Q
+    → TellsMembers (keys_of pages) P Q
