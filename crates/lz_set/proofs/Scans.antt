@@ -16,53 +16,42 @@ use Rattle.lz_board.proofs.Walk.ListedSlot.{its_node}
 use Rattle.lz_board.proofs.Walk.OneSlot.{one_slot, some_slot}
 use Rattle.lz_set.specs.Scans.{Told, keys_of, Scans, ScansTellMembers}
 
--- who makes a scan forgets nothing
-goes_on : (slots : ℕ) (from : Option ℕ) (A Q : Trace) (ts : List Told) → Scans slots from A ts Q → Begins A Q
-goes_on slots None A Q [] scans = scans
-goes_on slots None A Q (t ∷ ts) scans = absurd scans
-goes_on slots (Some from) A Q [] scans = absurd scans
-goes_on slots (Some from) A Q (t ∷ ts) scans = begins_before A t.before Q scans.0 (begins_before t.before t.after Q scans.1 (goes_on slots t.next t.after Q ts scans.3))
-
 module _ (slots : ℕ) (P Q : Trace) where
   -- each key that is told was a member at some time
-  only : (from : Option ℕ) (A : Trace) (ts : List Told) → Begins P A → Scans slots from A ts Q → All (λ k. Glanced k P Q true) (keys_of ts)
-  only None A [] before scans = λ n d low. absurd (omega (arith, low))
-  only None A (t ∷ ts) before scans = absurd scans
-  only (Some from) A [] before scans = absurd scans
-  only (Some from) A (t ∷ ts) before scans =
-      let begun = begins_before P A t.before before scans.0 in
-      let upto = goes_on slots t.next t.after Q ts scans.3 in
+  only : (from : Option ℕ) (ts : List Told) → Scans slots from P ts Q → All (λ k. Glanced k P Q true) (keys_of ts)
+  only None [] scans = λ n d low. absurd (omega (arith, low))
+  only None (t ∷ ts) scans = absurd scans
+  only (Some from) [] scans = absurd scans
+  only (Some from) (t ∷ ts) (told, scans) =
       All-append (λ k. Glanced k P Q true) t.keys (keys_of ts)
-      (λ n d low. glanced_longer P t.before t.after Q begun upto _ (scans.2.listed.were n d low))
-      (only t.next t.after ts (begins_before P t.before t.after begun scans.1) scans.3)
+      (λ n d low. glanced_longer P t.before t.after Q told.from_P told.upto_Q _ (told.page.listed.were n d low))
+      (only t.next ts scans)
 
   -- a key that has one slot all the while is told by the page that goes over that slot
   module _ (s k : ℕ) (low : s < slots) (small : k ≤ largest_key) (stays : (R : Trace) → Between P R Q → IsDurableIn s k R) where
-    found : (from : Option ℕ) (A : Trace) (ts : List Told) → Begins P A → Scans slots from A ts Q → reached slots from ≤ s → Contains (keys_of ts) k
-    found None A [] before scans high = absurd (omega (arith, low, high))
-    found None A (t ∷ ts) before scans high = absurd scans
-    found (Some from) A [] before scans high = absurd scans
-    found (Some from) A (t ∷ ts) before scans high =
-        let begun = begins_before P A t.before before scans.0 in
-        let upto = goes_on slots t.next t.after Q ts scans.3 in
-        elim (cases_lt s (reached slots t.next)) [
-          | inl under ↦ elim (scans.2.listed.others s k high under small) [
-            | inl there ↦ Contains-append_left t.keys (keys_of ts) k there
-            | inr w ↦ absurd (w.away (stays w.then (between_longer P t.before w.then t.after Q begun upto w.between)))
-          ]
-          | inr over ↦ Contains-append_right t.keys (keys_of ts) k (found t.next t.after ts (begins_before P t.before t.after begun scans.1) scans.3 over)
-        ]
+    found : (from : Option ℕ) (ts : List Told) → Scans slots from P ts Q → reached slots from ≤ s → Contains (keys_of ts) k
+    found None [] scans high = absurd (omega (arith, low, high))
+    found None (t ∷ ts) scans high = absurd scans
+    found (Some from) [] scans high = absurd scans
+    found (Some from) (t ∷ ts) (told, scans) high = elim (cases_lt s (reached slots t.next)) [
+      | inl under ↦ elim (told.page.listed.others s k high under small) [
+        | inl there ↦ Contains-append_left t.keys (keys_of ts) k there
+        | inr w ↦ absurd (w.away (stays w.then (between_longer P t.before w.then t.after Q told.from_P told.upto_Q w.between)))
+      ]
+      | inr over ↦ Contains-append_right t.keys (keys_of ts) k (found t.next ts scans over)
+    ]
 
 pub scans_tell_members : ScansTellMembers
-scans_tell_members buckets slots P Q pages law scans = record {
+scans_tell_members buckets slots P Q [] law scans = absurd scans
+scans_tell_members buckets slots P Q (t ∷ ts) law (told, scans) = record {
   all = λ k small always.
-      let begun = goes_on slots (Some 0) P Q pages scans in
+      let begun = begins_before P t.before Q told.from_P (begins_before t.before t.after Q told.goes_on told.upto_Q) in
       let first = lawful_begins buckets slots P Q begun law in
       let at = some_slot buckets slots k P first (always P (record { from = begins_itself P; upto = begun })) in
       let s = at.0 in
       let stays : (R : Trace) → Between P R Q → IsDurableIn s k R = λ R b.
       one_slot buckets slots k s P R (lawful_begins buckets slots R Q b.upto law) b.from at.1
       (λ S c. always S (record { from = c.from; upto = begins_before S R Q c.upto b.upto })) in
-      found slots P Q s k (on_range buckets slots P (bucket_of buckets k) s first (its_node buckets slots s k P first at.1).0) small stays (Some 0) P pages (begins_itself P) scans (omega arith);
-  only = only slots P Q (Some 0) P pages (begins_itself P) scans;
+      found slots P Q s k (on_range buckets slots P (bucket_of buckets k) s first (its_node buckets slots s k P first at.1).0) small stays (Some 0) (t ∷ ts) (told, scans) (omega arith);
+  only = only slots P Q (Some 0) (t ∷ ts) (told, scans);
 }

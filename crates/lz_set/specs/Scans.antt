@@ -1,4 +1,4 @@
--- Scans of a set: pages of its slots, one after the other, by one pass. P is what it had seen before, Q what it has seen after.
+-- Scans of a set: pages of its slots, one after the other. P is what the passes that make them had seen before, Q what they have seen after.
 use Rattle.std.specs.Prelude.{ℕ, ◌≤◌, true, Option, Some, None, List, [], ◌∷◌, ◌++◌, All, Contains}
 use Rattle.lz_slot.specs.Limits.{largest_key}
 use Rattle.lz_list.specs.Traces.{Trace, Begins, Lawful, SettledYes}
@@ -18,11 +18,17 @@ abbrev pub keys_of : List Told → List ℕ
 keys_of [] = []
 keys_of (t ∷ ts) = t.keys ++ keys_of ts
 
--- Pages of so many slots: the first is from this slot on, each other goes on where the one before it ended, and the last comes to the
--- end. The pass forgets nothing.
+-- This page of so many slots is from this one on, and the pass that made it had seen P before, and no more than Q after it.
+pub record IsTold (slots from : ℕ) (P : Trace) (t : Told) (Q : Trace) : Type 0 where
+  pub from_P : Begins P t.before
+  pub goes_on : Begins t.before t.after
+  pub upto_Q : Begins t.after Q
+  pub page : IsPage slots from t.most t.keys t.next t.before t.after
+
+-- The first page is from this slot on, each other goes on where the one before it ended, and the last comes to the end.
 abbrev pub Scans : ℕ → Option ℕ → Trace → List Told → Trace → Type 0
-Scans slots None P [] Q = Begins P Q
-Scans slots (Some from) P (t ∷ ts) Q = Begins P t.before × Begins t.before t.after × IsPage slots from t.most t.keys t.next t.before t.after × Scans slots t.next t.after ts Q
+Scans slots None P [] Q = Unit {0}
+Scans slots (Some from) P (t ∷ ts) Q = IsTold slots from P t Q × Scans slots t.next P ts Q
 Scans slots _ P _ Q = ⊥
 
 -- Each key that was settled as a member at each trace from P to Q is told, and each that is told was at some such trace.

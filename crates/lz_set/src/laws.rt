@@ -10,8 +10,8 @@ pub fn lives_join<D: Disk>()
     ensures { LivesJoin D D.device }
 {}
 
-/// A scan by one pass, page by page from the first slot to the end, tells each key that was a member all the while, and none that
-/// never was. (A settled key keeps its slot as long as it is a member.)
+/// A scan, page by page from the first slot to the end, tells each key that was a member all the while, and none that never was,
+/// whatever passes make its pages. (A settled key keeps its slot as long as it is a member.)
 pub fn scans_tell_members()
     ensures { ScansTellMembers }
 {}
