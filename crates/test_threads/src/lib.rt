@@ -12,6 +12,8 @@ mod gates;
 #[cfg(test)]
 mod glancing;
 #[cfg(test)]
+mod listing;
+#[cfg(test)]
 mod meeting;
 #[cfg(test)]
 mod partners;

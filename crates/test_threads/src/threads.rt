@@ -19,7 +19,7 @@ use test_support::{ENDS, FAILINGS, Failing, end_life, keys_in, made, set_failing
 
 /// What a thread was answered.
 #[derive(Drop)]
-struct Tally {
+pub struct Tally {
     // How often each key was added, less how often it was removed.
     gains: [i64; 5],
     // The first call that a fault cut off.
@@ -109,8 +109,8 @@ pub fn ask<G: StepGate, N: Named, R: Wait>(
     }
 }
 
-// Adds and removes the same few keys as every other thread does, over and over.
-fn churn<N: Named, R: Wait>(
+/// Adds and removes the same few keys as every other thread does, over and over.
+pub fn churn<N: Named, R: Wait>(
     rt: &R,
     set: &Set<MemoryDisk, NoGate, N>,
     pass: Pass,
