@@ -1,5 +1,5 @@
 -- What a walker knows that holds no lock: P0 is the trace at its pin, P what it has seen, k its key.
-use Rattle.std.specs.Prelude.{◌≡◌, ℕ, suc, ◌+◌, ◌-◌, ◌*◌, ◌<◌, Bool, true, false, Option, Some}
+use Rattle.std.specs.Prelude.{◌≡◌, ℕ, suc, ◌+◌, ◌-◌, ◌*◌, ◌<◌, Bool, true, false, Option, Some, None}
 use Rattle.lz_list.specs.declared.flags.Flags.{Flags}
 use Rattle.lz_list.specs.declared.place.Place.{Place}
 use Rattle.lz_list.specs.declared.place.Place.TheVariants.{Node}
@@ -92,6 +92,11 @@ abbrev pub glance_of : Met → Glance
 glance_of Absent = No
 glance_of (Unmarked s flags) = sure_or (may_answer flags) Yes s
 glance_of (Marked s flags) = sure_or (may_answer flags) No s
+
+-- the key, where a glance at it says yes
+abbrev pub key_if : Glance → ℕ → Option ℕ
+key_if Yes k = Some k
+key_if _ k = None
 
 -- the answer was so at a trace from P to Q
 abbrev pub IsGlance : ℕ → Trace → Trace → Glance → Type 0

@@ -1,13 +1,14 @@
 //! Lists of slots by passes that hold no lock.
 ghost use Rattle.std.specs.Prelude.{◌≡◌, ◌≤◌, ◌<◌, ◌+◌, ◌⊎◌, ℕ, [], Some, IfSome, true, vec_capacity, vec_len};
 ghost use Rattle.lz_slot.specs.Limits.{largest_key};
+ghost use Rattle.lz_board.specs.Walkers.{glance_of, key_if};
 
 use crate::answer::{Glance, GlanceFault};
 use crate::board::Board;
 use crate::glancing::told;
 use crate::page::{ListFault, Page};
 use crate::pass::Pass;
-use lz_list::{Word, link_of};
+use lz_list::{Met, Word, link_of};
 use lz_slot::{Key, Slot};
 use std::alloc::Global;
 
@@ -42,10 +43,7 @@ impl Board {
             return None;
         }
         let key = Key::of_rank(self.look(pass, Word::Key(slot)))?;
-        match told(self.walk(pass, key)) {
-            Glance::Yes => Some(key),
-            _ => None,
-        }
+        sure_key(self.walk(pass, key), key)
     }
 
     // The keys of the slots from one on, by a pass that is inside.
@@ -132,5 +130,15 @@ impl Board {
         let answer = self.list_inside(pass, room, from.index() as usize, most);
         self.unpin(pass);
         answer
+    }
+}
+
+// The key, where a glance whose walk met this says yes.
+fn sure_key(met: Met, key: Key) -> Option<Key>
+    ensures { result ≡ key_if (glance_of met) key }
+{
+    match told(met) {
+        Glance::Yes => Some(key),
+        _ => None,
     }
 }

@@ -1,6 +1,7 @@
 -- A key that is settled as a member by its node in a slot: what that slot's words say, and what a glance says.
-use Rattle.std.proofs.Common.{◌≡◌, ◌≢◌, ◌⊎◌, inl, inr, ℕ, zero, suc, ◌<◌, ◌≤◌, ◌^◌, Bool, true, false, not, refl, sym, ap, ◌∙◌, subst, arith}
+use Rattle.std.proofs.Common.{◌≡◌, ◌≢◌, ◌⊎◌, inl, inr, ℕ, zero, suc, ◌<◌, ◌≤◌, ◌^◌, Bool, true, false, not, Some, IfSome, refl, sym, ap, ◌∙◌, subst, arith}
 use mathlib.Core.Bool.{false≢true}
+use Rattle.std.proofs.lemmas.Bool.{cases_eq}
 use Rattle.lz_slot.specs.Limits.{most_slots}
 use Rattle.lz_list.specs.declared.word.Word.TheVariants.{Link}
 use Rattle.lz_list.specs.Words.{flags_of}
@@ -15,7 +16,7 @@ use Rattle.lz_board.specs.declared.answer.Glance.{Glance}
 use Rattle.lz_board.specs.declared.answer.Glance.TheVariants.{Yes, No, Unsettled}
 use Rattle.lz_board.specs.Plays.{IsShownTo, knowing}
 use Rattle.lz_board.proofs.Walk.WalkerLemma.{shown_on}
-use Rattle.lz_board.specs.Walkers.{IsGlance}
+use Rattle.lz_board.specs.Walkers.{key_if, IsGlance}
 use Rattle.lz_board.proofs.Upkeep.Growth.{begins_of}
 use Rattle.lz_list.proofs.Traces.Absence.{unlinked_is_settled}
 use Rattle.lz_list.proofs.Traces.Hindsight.{lawful_begins}
@@ -123,10 +124,23 @@ module _ (z : Sizes) (h : Part) (sized : h.sizes ≡ z) (s k : ℕ) where
   by_key seen last value shown later upto is other =
       other_key z.buckets z.slots s k h.begun last (law last later) seen (record { from = begins_of h.begun seen shown.from; upto = upto }) (λ same. other (is ∙ same))
 
-  pub by_glance : (last : Trace) → IsShownTo last h → (g : Glance) → IsGlance k h.begun last g → g ≢ Yes → WasAway s k h.begun last
-  by_glance last shown Yes glanced other = absurd (other refl)
-  by_glance last shown No glanced other = glanced_no z.buckets z.slots s k h.begun last (law last shown) glanced
-  by_glance last shown (Unsettled t) glanced other = glanced_unsettled z.buckets z.slots s k h.begun last (law last shown) t glanced
+-- what such a glance at the slot's key tells of all keys
+pub told_if : (key : ℕ) (P Q : Trace) (g : Glance) → IsGlance key P Q g → IfSome (key_if g key) (λ k. Glanced k P Q true)
+told_if key P Q Yes glanced = glanced
+told_if key P Q No glanced = tt
+told_if key P Q (Unsettled t) glanced = tt
+
+pub others_if : (z : Sizes) (h : Part) (sized : h.sizes ≡ z) (s k key : ℕ) (last : Trace) → IsShownTo last h → (g : Glance) → IsGlance key h.begun last g
+    → (key ≢ k → WasAway s k h.begun last) → (key_if g key ≡ Some k) ⊎ WasAway s k h.begun last
+others_if z h sized s k key last shown g glanced other = elim (cases_eq key k) [
+  | inl same ↦ go g (subst (λ (j : ℕ). IsGlance j h.begun last g) same glanced) same
+  | inr apart ↦ inr (other apart)
+]
+  where
+    go : (g : Glance) → IsGlance k h.begun last g → key ≡ k → (key_if g key ≡ Some k) ⊎ WasAway s k h.begun last
+    go Yes glanced same = inl (ap Some same)
+    go No glanced same = inr (glanced_no z.buckets z.slots s k h.begun last (law z h sized s k last shown) glanced)
+    go (Unsettled t) glanced same = inr (glanced_unsettled z.buckets z.slots s k h.begun last (law z h sized s k last shown) t glanced)
 
 pub not_true : (b : Bool) → not b ≡ true → b ≡ false
 not_true false is = refl
