@@ -2,7 +2,7 @@
 use crate::answer::GlanceFault;
 use lz_slot::{Key, Slot};
 
-/// Keys of members, in the order of their slots. A key that was moved to a later slot meanwhile may be told twice.
+/// Keys of members, in the order of their slots. One that was removed and added again meanwhile may be told twice.
 #[derive(Drop)]
 pub struct Page {
     pub keys: Vec<Key>,
