@@ -1,5 +1,5 @@
 // Writes that wait to be made as one.
-ghost use Rattle.std.specs.Prelude.{◌≡◌, ◌+◌, [], IfOk, false, length, true};
+ghost use Rattle.std.specs.Prelude.{◌≡◌, ◌+◌, [], IfOk, IfSome, None, false, length, true};
 ghost use Rattle.lz_disk.specs.Gathers.{Joined};
 
 use std::alloc::{AllocError, Global};
@@ -25,7 +25,7 @@ impl Model for Gathered {
 
 impl Gathered {
     pub(crate) fn new(alloc: Global) -> Result<Gathered, AllocError>
-        ensures { IfOk result (λ gathered. gathered.bytes ≡ []) }
+        ensures { IfOk result (λ gathered. gathered ≡ record { at = 0; bytes = [] }) }
     {
         Ok(Gathered {
             at: 0,
@@ -34,7 +34,6 @@ impl Gathered {
     }
 
     // Adds a write that begins where the others end, and says whether it did: there may be no room for it.
-    #[tactic(auto, using(crate::proofs::GatheredWrites::joined))]
     pub(crate) fn add(&mut self, at: u64, bytes: &[u8]) -> bool
         ensures joined { result ≡ true → Joined at bytes.now self.old self.new }
         ensures none { result ≡ false → self.new ≡ self.old }
@@ -66,16 +65,19 @@ impl Gathered {
     }
 
     // From which offset on which bytes are to be written, if any are.
-    pub(crate) fn next(&self) -> Option<(u64, &[u8])> {
+    pub(crate) fn next(&self) -> Option<(u64, &[u8])>
+        ensures all { IfSome result (λ write. (write.0 ≡ self.now.at) × (write.1.now ≡ self.now.bytes)) }
+        ensures none { result ≡ None → self.now.bytes ≡ [] }
+    {
         if self.bytes.is_empty() {
             return None;
         }
         Some((self.at, self.bytes.as_slice()))
     }
 
-    // They were made, or failed.
+    // They were made.
     pub(crate) fn clear(&mut self)
-        ensures { self.new.bytes ≡ [] }
+        ensures { self.new ≡ record self.old { bytes = [] } }
     {
         self.bytes.clear();
     }
