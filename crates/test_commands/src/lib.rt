@@ -11,6 +11,8 @@ mod conversations;
 #[cfg(test)]
 mod crashes;
 #[cfg(test)]
+mod files;
+#[cfg(test)]
 mod growths;
 #[cfg(test)]
 mod lists;
