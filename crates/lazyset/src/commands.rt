@@ -1,7 +1,8 @@
 //! One function for each command: it opens what the command works on.
-ghost use Rattle.std.specs.Prelude.{◌≡◌, ◌≤◌};
+ghost use Rattle.std.specs.Prelude.{◌≡◌, ◌≤◌, IsTrue};
 ghost use Rattle.lz_slot.specs.Limits.{last_room, most_buckets, most_buckets_of, most_passes, most_rehearsed};
 ghost use Rattle.lz_slot.specs.Rooms.{last_room_of};
+ghost use Rattle.lz_vault.specs.Makes.{WritesNothing};
 ghost use Rattle.lazyset_command_line.specs.Requests.{IsWithin};
 
 use crate::control::ask_to_stop;
@@ -21,7 +22,7 @@ use lazyset_command_line::{Request, read, too_many_buckets};
 use lazyset_commands::{
     MOST_JUDGED, ServeOptions, Shown, Status, check_of_on, judge_on, rehearse_on, survey_on,
 };
-use lz_disk::{FileDisk, Lock};
+use lz_disk::{Disk, FileDisk, Lock};
 use lz_slot::{Format, Header};
 use std::fs::File;
 use std::io::Write;
@@ -244,8 +245,9 @@ where
 
 // As many buckets as the file has slots, or as its format allows. One where its head can't be read: its open refuses it.
 #[tactic(auto, using(crate::proofs::Buckets::buckets_of_format))]
-fn buckets_for(disk: &mut FileDisk) -> usize
-    ensures { (1 ≤ result) × (result ≤ most_buckets) }
+fn buckets_for<D: Disk>(disk: &mut D) -> usize
+    ensures range { (1 ≤ result) × (result ≤ most_buckets) }
+    ensures nothing { IsTrue (D.device disk.old).honest → WritesNothing (D.device disk.old) (D.device disk.new) }
 {
     let Some(header) = header_on(disk) else {
         return 1;

@@ -1,5 +1,6 @@
 //! The files that a command names, and the process's own.
-ghost use Rattle.std.specs.Prelude.{◌≡◌};
+ghost use Rattle.std.specs.Prelude.{◌≡◌, IsTrue};
+ghost use Rattle.lz_vault.specs.Makes.{WritesNothing};
 
 use crate::fault::Fault;
 use crate::share::{Share, is_terminal};
@@ -151,7 +152,9 @@ pub fn is_same(one: &FileDisk, other: &FileDisk) -> bool {
 }
 
 /// The format and the slots of the file on this disk, where its head tells them. What is wrong with another file is told by its open.
-pub fn header_on(disk: &mut FileDisk) -> Option<Header> {
+pub fn header_on<D: Disk>(disk: &mut D) -> Option<Header>
+    ensures { IsTrue (D.device disk.old).honest → WritesNothing (D.device disk.old) (D.device disk.new) }
+{
     let mut head = [0; 16];
     let size = disk.size().ok()?;
     if size < 16 {

@@ -1,7 +1,8 @@
 //! The command that grows a file: a new one is made beside it, and takes its name.
-ghost use Rattle.std.specs.Prelude.{◌≡◌, IfSome};
+ghost use Rattle.std.specs.Prelude.{◌≡◌, IfSome, IsTrue};
 ghost use Rattle.lz_slot.specs.Limits.{last_room};
 ghost use Rattle.lz_slot.specs.Rooms.{last_room_of};
+ghost use Rattle.lz_vault.specs.Makes.{WritesNothing};
 
 use crate::fault::Fault;
 use crate::files::{header_on, no_file, open, say_cause, take_lock};
@@ -114,8 +115,9 @@ where
 }
 
 // The format of a file, or the next one that has all rooms.
-fn roomy_format(disk: &mut FileDisk) -> Format
-    ensures { last_room_of result ≡ last_room }
+fn roomy_format<D: Disk>(disk: &mut D) -> Format
+    ensures rooms { last_room_of result ≡ last_room }
+    ensures nothing { IsTrue (D.device disk.old).honest → WritesNothing (D.device disk.old) (D.device disk.new) }
 {
     match header_on(disk) {
         Some(

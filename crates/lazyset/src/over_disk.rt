@@ -1,4 +1,5 @@
 //! What the program does to a disk that it has opened, whichever disk that is: so of an honest one it is promised what a crash leaves.
+//! Its own (`FileDisk`) is honest where the file beneath it is.
 ghost use Rattle.std.specs.Prelude.{◌≡◌, ◌⊎◌, ◌≤◌, ℕ, List, [], IsTrue};
 ghost use Rattle.lz_slot.specs.Bytes.{Holds, format_of};
 ghost use Rattle.lz_slot.specs.Limits.{last_room, most_buckets};
