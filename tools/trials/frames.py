@@ -1,0 +1,223 @@
+"""A service that speaks Redis's protocol (`--resp`): its replies are those of an independent model, however the frames come."""
+
+from __future__ import annotations
+
+import os
+import re
+import socket
+import threading
+from collections import Counter
+from contextlib import suppress
+from typing import Counter as Count
+from typing import Iterable, Iterator, List
+
+from trials.faults import failing, needs_strace
+from trials.files import bytes_in, put
+from trials.guests import PATIENCE, connect, received
+from trials.hostile import SLOTS, Drawn, expect_all, tell
+from trials.noise_frames import FrameNoise
+from trials.plain import Plain
+from trials.plain_frames import PlainTalk, array, integer
+from trials.program import Key, Program, Service
+from trials.report import expect
+
+CLIENTS = 8
+PASSES = 16
+
+# Further bytes that are sent together with those after which the service ends the connection.
+MOST_AFTER = 1000
+
+# Commands that are sent at once.
+AT_ONCE = 500
+
+HALTED = b"-HALTED the device failed\r\n"
+
+# How errors begin, and by what they are counted.
+KINDS = {
+    **{"FULL": "full", "OLDFILE": "oldfile", "ERR unknown": "unknown", "ERR wrong": "wrong_count", "ERR value is": "no_key", "ERR DB": "no_room"},
+    **{"ERR syntax": "syntax", "ERR values": "long_value"},
+    **{"ERR Protocol error: invalid m": "count", "ERR Protocol error: invalid b": "length", "ERR Protocol error: exp": "no_bulk"},
+    **{"ERR Protocol error: no": "no_end", "ERR Protocol error: quo": "quotes", "ERR Protocol error: too": "too_big"},
+}
+
+
+def by_frames(connections: int) -> List[str]:
+    return ["--connections", str(connections), "--resp"]
+
+
+def sent(connection: socket.socket, pieces: Iterable[bytes]) -> bytes:
+    """Sends the pieces, each by itself, and gives all that comes until the service ends the connection."""
+    with connection:
+        with suppress(OSError):
+            connection.setsockopt(socket.IPPROTO_TCP, socket.TCP_NODELAY, 1)
+        for piece in pieces:
+            connection.sendall(piece)
+        connection.shutdown(socket.SHUT_WR)
+        return received(connection)
+
+
+def replies(port: int, *frames: bytes) -> bytes:
+    """The replies to frames that are sent at once."""
+    return sent(connect(port), [b"".join(frames)])
+
+
+def kinds_in(told: bytes) -> Iterator[str]:
+    """What kinds of errors stand in replies."""
+    for line in re.findall(r"^-([A-Z]+ .*)", told.decode("latin-1"), re.M):
+        yield next((name for start, name in KINDS.items() if line.startswith(start)), line)
+
+
+class Talks:
+    """What many clients send, one after the other, and what comes back: as from a plain set."""
+
+    def __init__(self, noise: FrameNoise, plain: Plain) -> None:
+        self.noise = noise
+        self.plain = plain
+        self.count = 0
+        self.came: Count[str] = Counter()
+
+    def next(self, port: int) -> None:
+        """The next client."""
+        text = self.noise.talk()
+        told = PlainTalk(self.plain).tell(text)
+        end = len(text) if told.ended_at is None else told.ended_at
+        *pieces, last = [b"", *self.noise.pieces(text[:end])]
+        found = sent(connect(port), [*pieces, last + text[end : end + MOST_AFTER]])
+        expect(found, told.replies, f"{text!r:.2000}, in {len(pieces)} pieces")
+        self.count += told.count
+        self.came.update(kinds_in(told.replies))
+
+
+def try_noise(program: Program, folder: str, drawn: Drawn) -> None:
+    """Clients one after the other on one file: the replies are those of a plain set, and so are the file's bytes."""
+    for form in (1, 2):
+        talks = Talks(FrameNoise(drawn.seed * 8 + form), Plain(form, SLOTS))
+        file = os.path.join(folder, f"f{form}")
+        put(file, talks.plain.file())
+        with Service(program, file, 1, "--buckets", "7", *by_frames(1)) as service:
+            for _ in range(drawn.count // 4):
+                talks.next(service.port)
+        expect(bytes_in(file), talks.plain.file(), "the file after all of them")
+        expect_all(talks.came, " ".join(it for it in KINDS.values() if it != "oldfile" or form == 1), drawn.count // 4)
+        tell(f"{drawn.count // 4} clients had {talks.count} replies from a file of format {form}", talks.came)
+
+
+class Own(FrameNoise):
+    """Draws frames that ask for keys of one room alone."""
+
+    def __init__(self, seed: int, room: int) -> None:
+        super().__init__(seed)
+        self.rooms = [b"%d" % room]
+
+    def room(self) -> bytes:
+        return self.rooms[0]
+
+    def talk(self) -> bytes:
+        """Room 0 is selected where a connection begins, so the own one is selected first. Nothing is spoiled: it might ask for other rooms."""
+        return array(b"SELECT", self.room()) + b"".join(self.frames())
+
+
+def try_crowd_noise(program: Program, folder: str, drawn: Drawn) -> None:
+    """Eight clients at once, each in a room of its own, which has room for all: each one's replies are those of a set of its own."""
+    file = os.path.join(folder, "f")
+    program.make(file, 2000)
+    all_talks = [Talks(Own(drawn.seed * 32 + room, room), Plain(2, 200)) for room in range(CLIENTS)]
+    failures: List[BaseException] = []
+
+    def talk(talks: Talks, port: int) -> None:
+        try:
+            for _ in range(drawn.count // 2 // CLIENTS):
+                talks.next(port)
+        except BaseException as failure:
+            failures.append(failure)
+
+    with Service(program, file, PASSES, "--loops", "2", *by_frames(2 * CLIENTS)) as service:
+        threads = [threading.Thread(target=talk, args=(talks, service.port)) for talks in all_talks]
+        for thread in threads:
+            thread.start()
+        for thread in threads:
+            thread.join()
+    for failure in failures:
+        raise failure
+    expect(program.members(file), sorted(key for talks in all_talks for key in talks.plain.places), "the keys of the file")
+    print(f"         {CLIENTS} clients at once had {sum(talks.count for talks in all_talks)} replies", flush=True)
+
+
+def try_one_by_one(program: Program, folder: str) -> None:
+    """Replies come as soon as their frame is whole, and not later: each frame waits here for the reply to the one before."""
+    file = os.path.join(folder, "f")
+    program.make(file, 4)
+    rows = (
+        (array(b"SADD", b"0", b"1", b"2", b"1"), b":2\r\n"),
+        (b"sismember 0 2\r\n", b":1\r\n"),
+        (array(b"SMISMEMBER", b"0", b"1", b"2", b"3"), b"*3\r\n:1\r\n:1\r\n:0\r\n"),
+        (b"*0\r\n*-1\r\n\r\n" + array(b"SELECT", b"15"), b"+OK\r\n"),
+        (array(b"SET", b"1", b"", b"NX"), b"+OK\r\n"),
+        (array(b"SET", b"1", b"", b"nx"), b"$-1\r\n"),
+        (array(b"EXISTS", b"1", b"1", b"2"), b":2\r\n"),
+        (array(b"SADD", b"0", b"3", b"4", b"5"), b"-FULL no slot is free; 1 of 3 were added\r\n"),
+        (array(b"UNLINK", b"1", b"1", b"2"), b":1\r\n"),
+        (array(b"SREM", b"0", b"1", b"2", b"3", b"4"), b":3\r\n"),
+        (array(b"QUIT"), b"+OK\r\n"),
+    )
+    with Service(program, file, 1, *by_frames(2)) as service, connect(service.port) as client:
+        for frame, reply in rows:
+            for number in range(len(frame)):
+                client.sendall(frame[number : number + 1])
+            expect(client.recv(4096), reply, f"the reply to {frame!r}")
+        expect(client.recv(4096), b"", "what comes after QUIT")
+    expect(program.members(file), [], "the keys of the file")
+
+
+def try_at_once(program: Program, folder: str) -> None:
+    """Frames that are sent at once are answered in their order, as many passes as there are, also where one asks for the keys of another."""
+    file = os.path.join(folder, "f")
+    program.make(file, 3 * AT_ONCE)
+    for passes in (1, PASSES):
+        with Service(program, file, passes, *by_frames(4)) as service:
+            keys = [b"%d" % number for number in range(1, AT_ONCE + 1)]
+            frames = [array(b"SADD", b"7", key) + array(b"SISMEMBER", b"7", key) + array(b"SREM", b"7", key, b"0") for key in keys]
+            expect(replies(service.port, *frames), integer(1) * 3 * AT_ONCE, "single members")
+            frames = [array(b"SADD", b"7", *keys), array(b"SADD", b"7", *keys[:3], b"0"), array(b"SREM", b"7", *keys)]
+            expect(replies(service.port, *frames), integer(AT_ONCE) + integer(1) + integer(AT_ONCE), "many members in a frame")
+            expect(replies(service.port, array(b"SREM", b"7", b"0"), array(b"SREM", b"7", b"0")), b":1\r\n:0\r\n", "the last member")
+    expect(program.members(file), [], "the keys of the file")
+
+
+def try_halted(program: Program, folder: str) -> None:
+    """Once the device failed a client is told so, and its connection ends; the service ends too. What was answered is in the file."""
+    needs_strace()
+    for call, number in (("fdatasync", 4), ("pwrite64", 3)):
+        file = os.path.join(folder, call)
+        program.make(file, 8)
+        with Service(program, file, 4, *by_frames(4), before=failing(file, call, number)) as service:
+            with connect(service.port) as client:
+                client.sendall(array(b"SADD", b"0", b"1"))
+                expect(client.recv(4096), b":1\r\n", "the reply to an addition before the device failed")
+                client.sendall(array(b"SADD", b"0", b"2", b"3") + array(b"PING") + array(b"SISMEMBER", b"0", b"1"))
+                expect(received(client), HALTED, f"what is told once {call} failed")
+            expect(service.wait(), 1, "the service's status")
+        expect(Key(0, 1) in program.members(file), True, "that the answered key is there")
+
+
+def try_at_path(program: Program, folder: str) -> None:
+    """The same at a path in place of a port."""
+    file, path = os.path.join(folder, "f"), os.path.join(folder, "s")
+    program.make(file, 8)
+    with Service(program, file, 2, "--socket", path, *by_frames(2), port="-") as service:
+        expect(service.told, f"listening {path}\n", "what it says")
+        client = socket.socket(socket.AF_UNIX)
+        client.settimeout(PATIENCE)
+        client.connect(path)
+        frames = [array(b"SADD", b"3", b"5", b"6"), array(b"SISMEMBER", b"3", b"6"), array(b"SISMEMBER", b"0", b"6")]
+        expect(sent(client, frames), b":2\r\n:1\r\n:0\r\n", "the replies")
+    expect(program.members(file), [Key(3, 5), Key(3, 6)], "the keys of the file")
+    expect(program.run("run", file, lines="has 3:6\nhas 6\n").text, "yes\nno\n", "what its lines say of them")
+
+
+TRIALS = (
+    ("frames that come byte by byte", try_one_by_one),
+    ("frames that are sent at once", try_at_once),
+    ("frames once a device failed", try_halted),
+    ("frames at a path", try_at_path),
+)
