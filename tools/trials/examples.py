@@ -52,6 +52,10 @@ NOT_RUN: Dict[str, Dict[str, str]] = {
         "lazyset grow /var/lib/lazyset/tickets/set 2000": ROOT,
         "systemctl start lazyset@tickets": SYSTEMD,
     },
+    "SCALE.md": {
+        "lazyset serve f - 64 --connections 1000 --resp --socket /run/lazyset/socket": ROOT,
+        "redis-cli -h keys.example --tls --cacert ca.pem -p 7443 SADD 0 17": "another machine",
+    },
 }
 
 # What `make install` lays down elsewhere, and what it is a copy of.
@@ -59,6 +63,12 @@ INSTALLED = ("/usr/local/lib/lazyset/ask", "clients/shell/ask")
 
 # What the examples call beside the program and the shell's own words.
 TOOLS = ("nc", "bash", "strace", "python3", "xxd", "od", "flock")
+
+# What redis-cli prints on a terminal.
+ON_TERMINAL = ("redis-cli ", "redis-cli --no-raw ")
+
+# Where these are missing the examples that call them are left out, and the others of their page are run: they need nothing of them.
+OPTIONAL = ("redis-cli",)
 
 # The clients, which the examples call as in the repository's folder. The one for the shell connects by `nc`, or by `bash`.
 CLIENTS = os.path.join(os.path.dirname(os.path.abspath(__file__)), "..", "..", "clients")
@@ -184,6 +194,10 @@ def missing(examples: Sequence[Example]) -> List[str]:
     return [tool for tool in TOOLS if tool in called and shutil.which(tool) is None]
 
 
+def is_left_out(example: Example) -> bool:
+    return any(tool in example.command and shutil.which(tool) is None for tool in OPTIONAL)
+
+
 def taken_ports(examples: Sequence[Example]) -> List[str]:
     """The ports that the examples serve on and that another program has, and doesn't leave."""
     asked = {port for example in examples for port in re.findall(r"serve \S+ (\d+)", example.command)}
@@ -217,7 +231,9 @@ def try_page(program: str, folder: str, page: str) -> None:
     shell = Shell(folder, program)
     try:
         for example in examples:
-            printed = shell.run(example.command.replace(*INSTALLED), len(example.printed))
+            if is_left_out(example):
+                continue
+            printed = shell.run(example.command.replace(*INSTALLED).replace(*ON_TERMINAL), len(example.printed))
             if printed != example.printed:
                 raise Wrong(f"line {example.line}: {example.command!r} printed {printed}, not {example.printed}")
     finally:
