@@ -7,6 +7,7 @@
         keys.has(17, room=3)                      # False: room 3 is another set
         keys.batch([Command.add(18), Command.has(17)])
         keys.add(key_of("evt_1"))                 # a text, by a number that stands for it
+        keys.add(key_of("events", "evt_1"))       # a member of the set of that name
         keys.claim(20, worker=3)                  # True for one worker alone, also where replies are lost
 
     with Pool(7000, size=8) as keys:              # for many threads at once
