@@ -2,9 +2,10 @@
 //
 //     load WHAT PORT CONNECTIONS DEPTH VERB FIRST COUNT SECONDS [once]
 //
-// WHAT is lazyset or redis. On each connection DEPTH commands are sent at once, and the next ones when all of them are answered. There
-// are up to 16 threads, each with a share of the connections: with fewer of them a service of many threads leaves too little processor to
-// the load, with more the load leaves too little to a service of one.
+// WHAT is lazyset, whose lines it speaks, or redis, for Redis and for a service that speaks its protocol; the set's name is 0. On each
+// connection DEPTH commands are sent at once, and the next ones when all of them are answered. There are up to 16 threads, each with a share
+// of the connections: with fewer of them a service of many threads leaves too little processor to the load, with more the load leaves too
+// little to a service of one.
 // VERB is add, remove or has; the COUNT keys from FIRST on (a power of two), in a scattered order, are dealt to the connections in turn.
 // An add or a remove takes each key once, has goes round, but for `once`. It ends after SECONDS, or when the keys are used up, and prints how many
 // commands were answered, how many of them changed or found something, the seconds that it took, and for how many milliseconds a connection waited until
@@ -94,7 +95,7 @@ static int write_command(char *at, unsigned long key) {
     char number[24];
     const char *word = redis[options.verb];
     int length = sprintf(number, "%lu", key);
-    return sprintf(at, "*3\r\n$%zu\r\n%s\r\n$1\r\ns\r\n$%d\r\n%s\r\n", strlen(word), word, length, number);
+    return sprintf(at, "*3\r\n$%zu\r\n%s\r\n$1\r\n0\r\n$%d\r\n%s\r\n", strlen(word), word, length, number);
 }
 
 // Whether a reply begins as one that changed or found something does.

@@ -25,6 +25,9 @@ MOST_PASSES = 1024
 # A loop over a file of format 2, and over how many connections it is measured.
 FEW, FEW_CONNECTIONS = "loop of format 2", 64
 
+# A loop that speaks Redis's protocol.
+FRAMES = "frames"
+
 # How much longer a sync takes on the slow device, in microseconds, and by what: each call waits before it begins.
 DELAY = 1000
 SLOWED = ("-e", "trace=fdatasync", "-e", f"inject=fdatasync:delay_enter={DELAY}")
@@ -84,7 +87,7 @@ class Bench:
     def start_load(
         self, target: str, port: int, verb: str, connections: int, depth: int, first: int, count: int, seconds: float, once: bool = False
     ) -> "subprocess.Popen[str]":
-        what = "redis" if target == "redis" else "lazyset"
+        what = "redis" if target in ("redis", FRAMES) else "lazyset"
         words = [what, str(port), str(connections), str(depth), verb, str(first), str(count), str(seconds), *["once"] * once]
         return subprocess.Popen([self.path("load"), *words], stdout=subprocess.PIPE, text=True)
 
