@@ -27,6 +27,7 @@ MOST_WAIT = 5.0
 ROOT = "root alone may"
 SYSTEMD = "systemd as process 1"
 DOCKER = "docker"
+REDIS = "a redis-server with members"
 NOT_RUN: Dict[str, Dict[str, str]] = {
     "README.md": {
         "./first-run": "it has trials of its own",
@@ -38,6 +39,8 @@ NOT_RUN: Dict[str, Dict[str, str]] = {
         "docker run --rm -v keys:/set lazyset make keys 1000": DOCKER,
         "docker run --init -d --name keys -v keys:/set lazyset serve keys 7000 8 --buckets 1000 --control /run/lazyset/control": DOCKER,
         "docker run --rm --network container:keys CLIENT": DOCKER,
+        "redis-cli SMEMBERS seen | lazyset make set 100000 --keys": REDIS,
+        "redis-cli SMEMBERS texts | python3 keys_of_lines.py | lazyset make set 100000 --keys": REDIS,
     },
     "OPERATIONS.md": {
         "make install": ROOT,
@@ -93,6 +96,11 @@ def displays_of(text: str) -> str:
     return "\n".join(lines)
 
 
+def unfenced(text: str) -> str:
+    """The text without what stands between two fences, which isn't for a shell, in the same lines."""
+    return re.sub(r"^```\n.*?^```$", lambda found: "\n" * found[0].count("\n"), text, flags=re.M | re.S)
+
+
 def examples_of(text: str) -> Tuple[List[Example], List[Example]]:
     """The commands of a page's indented blocks that begin with a prompt, with the lines below each, and the lines of such blocks that stand
     below no prompt, without a comment. A command with a here-document (`<< 'END'`) goes on to the line with its word."""
@@ -100,7 +108,7 @@ def examples_of(text: str) -> Tuple[List[Example], List[Example]]:
     others: List[Example] = []
     is_below = False
     end_of_command = ""
-    for number, line in enumerate(text.splitlines(), 1):
+    for number, line in enumerate(unfenced(text).splitlines(), 1):
         if end_of_command:
             examples[-1].command += "\n" + line[len(INDENT) :]
             if line == INDENT + end_of_command:
