@@ -67,6 +67,15 @@ def kinds_in(told: bytes) -> Iterator[str]:
         yield next((name for start, name in KINDS.items() if line.startswith(start)), line)
 
 
+def sent_in_pieces(port: int, noise: FrameNoise, text: bytes) -> bytes:
+    """What comes back where a client sends a text in pieces. All that follows the bytes after which the service ends the connection goes with them:
+    a piece that comes later might reset the connection before the last reply is read."""
+    ended_at = PlainTalk(Plain(2, SLOTS)).tell(text).ended_at
+    end = len(text) if ended_at is None else ended_at
+    *pieces, last = [b"", *noise.pieces(text[:end])]
+    return sent(connect(port), [*pieces, last + text[end : end + MOST_AFTER]])
+
+
 class Talks:
     """What many clients send, one after the other, and what comes back: as from a plain set."""
 
@@ -80,10 +89,7 @@ class Talks:
         """The next client."""
         text = self.noise.talk()
         told = PlainTalk(self.plain).tell(text)
-        end = len(text) if told.ended_at is None else told.ended_at
-        *pieces, last = [b"", *self.noise.pieces(text[:end])]
-        found = sent(connect(port), [*pieces, last + text[end : end + MOST_AFTER]])
-        expect(found, told.replies, f"{text!r:.2000}, in {len(pieces)} pieces")
+        expect(sent_in_pieces(port, self.noise, text), told.replies, f"{text!r:.2000}")
         self.count += told.count
         self.came.update(kinds_in(told.replies))
 
