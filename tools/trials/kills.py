@@ -6,7 +6,7 @@ import os
 import random
 import tempfile
 import time
-from typing import List, NamedTuple, Sequence, Tuple
+from typing import Callable, ContextManager, List, NamedTuple, Sequence, Tuple
 
 import lazyset
 from trials import load
@@ -21,14 +21,15 @@ SLOTS = 20
 
 
 class Loaded(NamedTuple):
-    """How a service is started, and who loads it: so many clients for each group of keys, who ask for no others. What they saw is a
-    history of its own, since calls on different keys don't touch each other; it may have 64 clients."""
+    """How a service is started, and who loads it: so many clients for each group of keys, who ask for no others, and how they speak. What they
+    saw is a history of its own, since calls on different keys don't touch each other; it may have 64 clients."""
 
     slots: int
     passes: int
     options: Tuple[str, ...]
     clients: int
     groups: Sequence[Sequence[Key]]
+    speak: Callable[[int], ContextManager[load.Ask]] = load.by_lines
 
 
 EIGHT = Loaded(SLOTS, CLIENTS, (), CLIENTS, (load.KEYS,))
@@ -47,7 +48,7 @@ def life_until_kill(program: Program, file: str, loaded: Loaded, buckets: int, s
     with Service(program, file, loaded.passes, "--buckets", str(buckets), *loaded.options) as service:
         if not service.port:
             raise Wrong(f"the file isn't served again: {service.told!r}")
-        clients = load.start(loaded.clients, service.port, seed, loaded.groups)
+        clients = load.start(loaded.clients, service.port, seed, loaded.groups, loaded.speak)
         clients_in_all = loaded.clients * len(loaded.groups)
         time.sleep(random.Random(seed).uniform(SOONEST, LATEST) + LATER * clients_in_all)
         service.kill()

@@ -2,9 +2,10 @@
 
 from __future__ import annotations
 
+import contextlib
 import random
 import threading
-from typing import List, Sequence, Tuple
+from typing import Callable, ContextManager, Iterator, List, Sequence, Tuple
 
 import lazyset
 from lazyset import Lazyset, Reply, Verb
@@ -18,12 +19,26 @@ VERBS = (Verb.ADD, Verb.ADD, Verb.REMOVE, Verb.REMOVE, Verb.HAS)
 KEYS = [Key(room, number) for room in (0, 7) for number in range(12)]
 
 
+# What asks for one command after the other on a connection, and gives their replies.
+Ask = Callable[[Verb, Key], Reply]
+
+
+@contextlib.contextmanager
+def by_lines(port: int) -> Iterator[Ask]:
+    """A connection of lines."""
+    with Lazyset(port, timeout=30) as keys:
+        yield lambda verb, key: _reply(keys, verb, key)
+
+
 class Client(threading.Thread):
     """One client, which asks on a connection of its own until that is lost, the service halts, or it is told to stop. It begins
     once it may, and is ready for that once it is served."""
 
-    def __init__(self, actor: int, port: int, keys: Sequence[Key], seed: int, may_begin: threading.Event) -> None:
+    def __init__(
+        self, actor: int, port: int, keys: Sequence[Key], seed: int, may_begin: threading.Event, speak: Callable[[int], ContextManager[Ask]]
+    ) -> None:
         super().__init__(daemon=True)
+        self.speak = speak
         self.actor = actor
         self.keys = keys
         self.port = port
@@ -35,22 +50,22 @@ class Client(threading.Thread):
 
     def run(self) -> None:
         try:
-            with Lazyset(self.port, timeout=30) as keys:
-                keys.has(lazyset.MOST_NUMBER)
+            with self.speak(self.port) as ask:
+                ask(Verb.HAS, Key(0, lazyset.MOST_NUMBER))
                 self.is_ready.set()
                 self.may_begin.wait(30)
                 while not self.enough.is_set():
-                    self._ask(keys)
+                    self._ask(ask)
         except (lazyset.LostConnection, lazyset.Halted):
             pass
         finally:
             self.is_ready.set()
 
-    def _ask(self, keys: Lazyset) -> None:
+    def _ask(self, ask: Ask) -> None:
         verb, key = self.random.choice(VERBS), self.random.choice(self.keys)
         call = Call(self.actor, verb, key, stamp())
         self.calls.append(call)
-        reply = _reply(keys, verb, key)
+        reply = ask(verb, key)
         call.ended, call.reply = stamp(), reply
         if reply is Reply.HALTED:
             raise lazyset.Halted("noted")
@@ -66,11 +81,13 @@ def _reply(keys: Lazyset, verb: Verb, key: Key) -> Reply:
         return Reply.HALTED
 
 
-def start(count: int, port: int, seed: int, groups: Sequence[Sequence[Key]] = (KEYS,)) -> List[Client]:
+def start(
+    count: int, port: int, seed: int, groups: Sequence[Sequence[Key]] = (KEYS,), speak: Callable[[int], ContextManager[Ask]] = by_lines
+) -> List[Client]:
     """Starts so many clients for each group of keys, each of which is served before any begins."""
     may_begin = threading.Event()
     clients = [
-        Client(actor, port, keys, (seed * len(groups) + group) * 64 + actor, may_begin)
+        Client(actor, port, keys, (seed * len(groups) + group) * 64 + actor, may_begin, speak)
         for group, keys in enumerate(groups)
         for actor in range(1, count + 1)
     ]
