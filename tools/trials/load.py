@@ -18,7 +18,6 @@ VERBS = (Verb.ADD, Verb.ADD, Verb.REMOVE, Verb.REMOVE, Verb.HAS)
 # Few keys, so that clients meet on them, in two rooms.
 KEYS = [Key(room, number) for room in (0, 7) for number in range(12)]
 
-
 # What asks for one command after the other on a connection, and gives their replies.
 Ask = Callable[[Verb, Key], Reply]
 
