@@ -158,10 +158,10 @@ def write_file(path: str, slots: int, members: int, form: int = 2) -> None:
 
 @contextlib.contextmanager
 def lazyset(
-    bench: Bench, slots: int, members: int, passes: int, buckets: int, options: Sequence[str] = (), before: Sequence[str] = ()
+    bench: Bench, slots: int, members: int, passes: int, buckets: int, options: Sequence[str] = (), before: Sequence[str] = (), name: str = "f"
 ) -> Iterator[Served]:
-    """A service over a file with so many members, of format 3 where format 2 has no room for its slots or buckets."""
-    file = bench.path("f")
+    """A service over a file of this name with so many members, of format 3 where format 2 has no room for its slots or buckets."""
+    file = bench.path(name)
     write_file(file, slots, members, 3 if slots > SLOTS or buckets > BUCKETS else 2)
     words = [*before, bench.program, "serve", file, "0", str(passes), "--buckets", str(buckets), *options]
     started = subprocess.Popen(words, stdout=subprocess.PIPE, stderr=subprocess.DEVNULL, text=True, start_new_session=True)
