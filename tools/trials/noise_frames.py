@@ -59,7 +59,7 @@ class FrameNoise(Noise):
             yield self.spelled(self.command())
         if self.one_in(4):
             yield self.spelled([b"quit"])
-        if self.one_in(16):
+        if self.one_in(8):
             yield self.at_limits()
 
     def command(self) -> List[bytes]:
