@@ -9,7 +9,7 @@ import threading
 from collections import Counter
 from contextlib import suppress
 from typing import Counter as Count
-from typing import Iterable, Iterator, List
+from typing import Iterable, Iterator, List, Optional
 
 from trials.faults import failing, needs_strace
 from trials.files import bytes_in, put
@@ -18,8 +18,9 @@ from trials.hostile import SLOTS, Drawn, expect_all, tell
 from trials.noise_frames import FrameNoise
 from trials.plain import Plain
 from trials.plain_frames import PlainTalk, array, integer
-from trials.program import Key, Program, Service
-from trials.report import expect
+from trials.program import Ended, Key, Program, Service
+from trials.report import Wrong, expect
+from trials.stops import control_of
 
 CLIENTS = 8
 PASSES = 16
@@ -29,6 +30,9 @@ MOST_AFTER = 1000
 
 # Commands that are sent at once.
 AT_ONCE = 500
+
+# Keys that are added while a service is stopped, and how often that is tried.
+MANY, TRIES = 60_000, 20
 
 HALTED = b"-HALTED the device failed\r\n"
 
@@ -221,7 +225,49 @@ def try_at_path(program: Program, folder: str) -> None:
     expect(program.run("run", file, lines="has 3:6\nhas 6\n").text, "yes\nno\n", "what its lines say of them")
 
 
+def stopped_within(program: Program, file: str, members: int) -> Optional[int]:
+    """Stops a service while a client adds so many members by each of its frames, and gives how many additions it was told of: none at all
+    where the connection was reset, since the service had not read all that was sent."""
+    keys = [b"%d" % number for number in range(MANY)]
+    frames = b"".join(array(b"SADD", b"0", *keys[start : start + members]) for start in range(0, MANY, members))
+    with Service(program, file, PASSES, "--control", control_of(file), *by_frames(2)) as service, connect(service.port) as client:
+        sender = threading.Thread(target=send_all, args=(client, frames))
+        sender.start()
+        first = client.recv(4096)
+        expect(program.run("stop", control_of(file)), Ended("", 0), "the stop")
+        sender.join(PATIENCE)
+        expect(service.wait(), 0, "the service's status")
+        try:
+            told = first + received(client)
+        except ConnectionResetError:
+            return None
+    expect(re.sub(rb":%d\r\n" % members, b"", told), b"", "other replies than that all of a frame's members were added")
+    return members * told.count(b"\n")
+
+
+def send_all(client: socket.socket, text: bytes) -> None:
+    with suppress(OSError):
+        client.sendall(text)
+
+
+def try_stop(program: Program, folder: str) -> None:
+    """A service that is asked to stop carries out nothing that it doesn't tell of, but for members of one frame, some of which were added."""
+    for members in (1, 10):
+        for number in range(TRIES):
+            file = os.path.join(folder, f"f{members}-{number}")
+            program.make(file, MANY)
+            told = stopped_within(program, file, members)
+            if told is not None:
+                break
+        else:
+            raise Wrong(f"a connection was reset at each of {TRIES} stops")
+        added = len(program.members(file))
+        if not told <= added < told + members or added == MANY:
+            raise Wrong(f"{added} members were added, and the client was told of {told}")
+
+
 TRIALS = (
+    ("frames while a service stops", try_stop),
     ("frames that come byte by byte", try_one_by_one),
     ("frames that are sent at once", try_at_once),
     ("frames once a device failed", try_halted),
