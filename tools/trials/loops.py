@@ -8,7 +8,7 @@ import socket
 import threading
 import time
 from contextlib import suppress
-from typing import List
+from typing import Callable, ContextManager, List
 
 from lazyset import Lazyset, Reply
 from trials import guests, kills, load
@@ -428,7 +428,7 @@ def try_idle(program: Program, folder: str) -> None:
                 expect(others.exchange([b"has 1\n"] * len(others)), [b"no\n"] * len(others), "lookups of others, beside those who ask")
 
 
-def try_device(program: Program, folder: str, seed: int) -> None:
+def try_device(program: Program, folder: str, seed: int, speak: Callable[[int], ContextManager[load.Ask]] = load.by_lines, *options: str) -> None:
     """A device that fails under forty-eight clients: each one's last command is answered `halted`, or is cut off, and some are told. The
     service ends with status 1 and says why once. Then it is served again, and the whole is judged."""
     needs_strace()
@@ -436,8 +436,8 @@ def try_device(program: Program, folder: str, seed: int) -> None:
     program.make(file, kills.SLOTS)
     history, told = History(), 0
     for call, number in (("fdatasync", 5), ("pwrite64", 3), ("fdatasync", 12), ("pwrite64", 40)):
-        with logged(program, file, PASSES, *at_once(HALTS), before=failing(file, call, number)) as service:
-            calls = load.finish(load.start(HALTS, service.port, seed + number))
+        with logged(program, file, PASSES, *at_once(HALTS), *options, before=failing(file, call, number)) as service:
+            calls = load.finish(load.start(HALTS, service.port, seed + number, speak=speak))
             expect(service.service.wait(), 1, "the status of a service whose device failed")
             said = news_of(service.lines())
         expect(said, [DEVICE_FAILED, f"lazyset: {CAUSES[call]}"], "the log")
