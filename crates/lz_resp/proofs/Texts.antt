@@ -141,7 +141,7 @@ pub one_list : OneListOfItems
 one_list room text = let some = some_within (suc (length text)) room text (omega arith) in (some.0, some.1, λ others is. only room text some.0 some.1 others is)
 
 -- a piece more
-reads_more : (room : ℕ) (taken piece : List ℕ) (items more : List Item) (kept new : Option Place) → Reads (record { room = room; text = taken }) items kept → Feeds kept piece more new
+pub reads_more : (room : ℕ) (taken piece : List ℕ) (items more : List Item) (kept new : Option Place) → Reads (record { room = room; text = taken }) items kept → Feeds kept piece more new
     → Reads (record { room = room; text = taken ++ piece }) (items ++ more) new
 reads_more room taken piece items more None new h f =
     subst (Reads (record { room = room; text = taken ++ piece }) (items ++ more)) (sym f.1) (λ rest. rw (f.0, append-nil, append_assoc) (h (piece ++ rest)))
@@ -157,7 +157,7 @@ fed_all taken items kept (piece ∷ pieces) more new r (first, mid, others, feed
     rw (all, ← append_assoc taken piece (concat pieces), ← append_assoc items first others) so
 
 -- the items of the input, where it ends after what was taken
-items_end : (taken : List ℕ) (items : List Item) (new : Option Place) → Reads (record { room = 0; text = taken }) items new → Items 0 taken items
+pub items_end : (taken : List ℕ) (items : List Item) (new : Option Place) → Reads (record { room = 0; text = taken }) items new → Items 0 taken items
 items_end taken items None r = rw (append-nil taken) at (r [])
 items_end taken items (Some left) r =
     rw (append-nil taken, append-nil items) at (r.1 [] [] (rw (append-nil left.text) (unfinished left.room left.text r.0)))

@@ -1,5 +1,5 @@
 //! The forms of a reply to requests.
-ghost use Rattle.std.specs.Prelude.{◌≡◌};
+ghost use Rattle.std.specs.Prelude.{◌≡◌, ◌≢◌};
 ghost use Rattle.lz_resp.specs.Commands.{request_of};
 ghost use Rattle.lz_resp.specs.Replies.{done};
 
@@ -24,7 +24,8 @@ pub enum Form {
 impl Form {
     /// What is asked of a key.
     pub(crate) fn request(self, key: Key) -> Request
-        ensures { result ≡ request_of self key }
+        ensures request { result ≡ request_of self key }
+        ensures asks { result ≢ Request.Quit }
     {
         match self {
             Form::Added | Form::Stored => Request::Add(key),

@@ -1,6 +1,6 @@
 //! The frames and replies of Redis's protocol, RESP2.
 //!
-//! `Frames` cuts a text that comes in pieces into frames, and gives what each asks for; `reply_text` is the reply to it, by
+//! `Frames` cuts a text that comes in pieces into frames, and gives what each asks for; `push_reply` tells the reply to it, by
 //! the replies to its requests. Each is exact: it gives what the definitions under `specs/` say.
 #![tactic(auto)]
 
@@ -21,5 +21,5 @@ pub use form::Form;
 pub use frames::Frames;
 pub use item::{Item, Requests};
 pub use limits::{MOST_FRAME, MOST_VALUE, MOST_WORD, MOST_WORDS};
-pub use reply::{has_halted, reply_text};
+pub use reply::{has_halted, push_reply};
 pub use text::Text;

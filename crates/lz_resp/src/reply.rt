@@ -9,15 +9,6 @@ use crate::text::{Text, on_line, push_number};
 use lz_proto::Reply;
 use std::alloc::{AllocError, Global};
 
-/// The reply of this form to requests that were replied to so.
-pub fn reply_text(alloc: Global, form: Form, replies: &[Reply]) -> Result<Text, AllocError>
-    ensures { IfOk result (λ text. text ≡ text_of form replies.now) }
-{
-    let mut text = Vec::new(alloc);
-    push_reply(&mut text, form, replies)?;
-    Ok(Text::new(text))
-}
-
 /// Whether the service halted at one of the requests.
 pub fn has_halted(replies: &[Reply]) -> bool
     ensures { result ≡ list_any is_halted replies.now }
@@ -43,7 +34,8 @@ fn has_full(replies: &[Reply]) -> bool
     replies.iter().any(|reply| matches!(reply, Reply::Full))
 }
 
-fn push_reply(text: &mut Vec<u8>, form: Form, replies: &[Reply]) -> Result<(), AllocError>
+/// Puts the reply of this form after a text, to requests that were replied to so.
+pub fn push_reply(text: &mut Vec<u8>, form: Form, replies: &[Reply]) -> Result<(), AllocError>
     ensures { OnOk result (text.new.items ≡ text.old.items ++ text_of form replies.now) }
 {
     if has_halted(replies) {

@@ -29,7 +29,7 @@ impl Text {
     }
 
     /// A text of these bytes.
-    pub(crate) fn of(alloc: Global, bytes: &[u8]) -> Result<Text, AllocError>
+    pub fn of(alloc: Global, bytes: &[u8]) -> Result<Text, AllocError>
         ensures { IfOk result (λ text. text ≡ bytes.now) }
     {
         let bytes = Vec::from_slice(alloc, bytes)?;

@@ -7,11 +7,11 @@ pub mod ReplyRows
 pub mod Askings
 pub mod FreePasses
 pub mod AskingRows
-pub mod ConversationRows
 pub mod LinesUnderWay
 pub mod OwnLines
 pub mod OwnLinesRows
+pub mod ExchangesMore
 pub mod Standings
-pub mod StreamRows
+pub mod LineSessions
 pub mod TalksOnStreams
 pub mod RunningLoops

@@ -1,117 +1,260 @@
 -- Where a conversation stands after each step.
-use Rattle.std.proofs.Common.{◌≡◌, ◌≢◌, ◌-◌, ℕ, suc, Bool, true, false, List, [], ◌∷◌, ◌++◌, ◌+◌, take, drop, length, slice_set, Option, Some, None, refl, sym, ap, subst, ◌∙◌, append_assoc, length-append, arith}
+use Rattle.std.proofs.Common.{◌≡◌, ◌≢◌, ◌-◌, ℕ, zero, suc, Bool, true, false, List, [], ◌∷◌, ◌++◌, ◌+◌, ◌≤◌, take, drop, length, map, slice_set, Option, Some, None, refl, sym, ap, subst, ◌∙◌, append_assoc, length-append, arith}
 use Rattle.std.proofs.lemmas.List.{append-nil, take-append-drop}
 use Rattle.lz_proto.specs.declared.request.Request.{Request}
-use Rattle.lz_proto.specs.declared.request.Request.TheVariants.{Quit}
-use Rattle.lz_proto.specs.declared.fault.Bad.{Bad}
-use Rattle.lz_proto.specs.declared.item.Item.{Item}
-use Rattle.lz_proto.specs.declared.item.Item.TheVariants.{Asks, Faulty}
+use Rattle.lz_proto.specs.declared.item.Item.{Item as LineItem}
 use Rattle.lz_proto.specs.declared.reply.Reply.{Reply}
 use Rattle.lz_proto.specs.declared.end.End.{End}
-use Rattle.lz_proto.specs.declared.end.End.TheVariants as ends
-use Rattle.lz_proto.specs.Lines.{Items}
-use Rattle.lz_proto.specs.Pieces.{Ends, Feeds, Reads, faults_of}
-use Rattle.lz_proto.specs.Sessions.{Answered, bad_text, reply_text}
-use Rattle.lz_proto.specs.Steps.{end_after}
-use Rattle.lz_proto.proofs.Serving.{answered_more, fault_answered, request_answered}
-use Rattle.lz_proto.proofs.Texts.{items_end, reads_more}
+use Rattle.lz_proto.specs.declared.end.End.TheVariants.{Done, Quit}
+use Rattle.lz_proto.specs.Pieces.{faults_of}
+use Rattle.lz_proto.specs.Lines.{Items as LineItems}
+use Rattle.lz_proto.proofs.Texts as lines
+use Rattle.lz_resp.specs.declared.item.Item.{Item as FrameItem}
+use Rattle.lz_resp.specs.Pieces.{start}
+use Rattle.lz_resp.proofs.Texts as frames
+use Rattle.lz_serve.specs.declared.language.Language.{Language}
+use Rattle.lz_serve.specs.declared.language.Language.TheVariants as language
 use Rattle.lz_serve.specs.declared.line.Line.{Line}
-use Rattle.lz_serve.specs.Grants.{Grant, IsOfLine}
-use Rattle.lz_serve.specs.Lines.{StandsAt, awaited, items_of, replied}
-use Rattle.lz_serve.specs.Conversations.{CameFrom, IsAt, IsGranted, Noted, Talk}
-use Rattle.lz_serve.proofs.LinesUnderWay.{items_more, items_noted}
+use Rattle.lz_serve.specs.declared.reader.Reader.{Reader}
+use Rattle.lz_serve.specs.declared.reader.Reader.TheVariants as reader
+use Rattle.lz_serve.specs.declared.turn.Turn.{Turn}
+use Rattle.lz_serve.specs.declared.turn.Turn.TheVariants as turn
+use Rattle.lz_serve.specs.declared.turn.Wording.{Wording}
+use Rattle.lz_serve.specs.Exchanges.{CameFrom, EndsWith, Exchange, ReadsMore, asks, end_by, ends, of_frame, of_line, requests_in, says, turn_of, worded}
+use Rattle.lz_serve.specs.Grants.{Grant}
+use Rattle.lz_serve.specs.Lines.{asked_by, awaited, replied, replies_of}
+use Rattle.lz_serve.specs.Conversations.{AreFor, AreTold, Fed, Finished, IsAt, IsTold, Noted, Talk, Told, more, nothing_yet, replies_in, nothing as none_told}
+use Rattle.lz_serve.proofs.ExchangesMore.{map_more, requests_more}
+use Rattle.lz_serve.proofs.LinesUnderWay.{asked_more, asked_noted}
 
-module _ (connection : ℕ) (grants : List Grant) where
-  -- one item is carried out
+-- a piece more has come
+came_more : (spoken : Language) (text piece : List ℕ) (xs ys : List Exchange) (before after : Reader) → CameFrom spoken text xs (Some before) → ReadsMore before piece ys after → CameFrom spoken (text ++ piece) (xs ++ ys) (Some after)
+came_more spoken text piece xs ys (reader.Lines kept) (reader.Lines left) (is, (items, reads, are)) (others, feeds, gives) = (
+  is,
+  (
+    items ++ others,
+    lines.reads_more text piece items others kept left reads feeds,
+    ap (λ (l : List Exchange). l ++ ys) are ∙ ap (λ (l : List Exchange). map of_line items ++ l) gives ∙ sym (map_more of_line items others),
+  ),
+)
+came_more spoken text piece xs ys (reader.Frames kept) (reader.Frames left) (is, (items, reads, are)) (others, feeds, gives) = (
+  is,
+  (
+    items ++ others,
+    frames.reads_more 0 text piece items others kept left reads feeds,
+    ap (λ (l : List Exchange). l ++ ys) are ∙ ap (λ (l : List Exchange). map of_frame items ++ l) gives ∙ sym (map_more of_frame items others),
+  ),
+)
+came_more spoken text piece xs ys (reader.Lines kept) (reader.Frames left) came reads = absurd reads
+came_more spoken text piece xs ys (reader.Frames kept) (reader.Lines left) came reads = absurd reads
 
-  told : (bad : Bad) → Answered (IsGranted connection) grants (Faulty bad ∷ []) grants (bad_text bad) ends.Done
-  told bad = fault_answered (IsGranted connection) grants bad (bad_text bad) refl
+-- the text has ended
+came_whole : (spoken : Language) (text : List ℕ) (xs ys : List Exchange) (before : Reader) → CameFrom spoken text xs (Some before) → EndsWith before ys → CameFrom spoken text (xs ++ ys) None
+came_whole spoken text xs ys (reader.Lines kept) (is, (items, reads, are)) (fault, at_end, gives) =
+    let its : LineItems text (items ++ faults_of fault) = subst (λ (t : List ℕ). LineItems t (items ++ faults_of fault)) (append-nil text) (lines.items_end text items kept fault reads at_end) in
+    subst (λ (l : Language). CameFrom l text (xs ++ ys) None) (sym is)
+    (items ++ faults_of fault, its, ap (λ (l : List Exchange). l ++ ys) are ∙ ap (λ (l : List Exchange). map of_line items ++ l) gives ∙ sym (map_more of_line items (faults_of fault)))
+came_whole spoken text xs ys (reader.Frames kept) (is, (items, reads, are)) none =
+    subst (λ (l : Language). CameFrom l text (xs ++ ys) None) (sym is)
+    (items, frames.items_end text items kept reads, ap (λ (l : List Exchange). xs ++ l) none ∙ append-nil xs ∙ are)
 
-  left : Answered (IsGranted connection) grants (Asks Quit ∷ []) grants [] ends.Quit
-  left = record { replies = []; served = refl; text = refl; ends = refl }
+-- what two lists have in common at the front
+pub record Split (xs ys us ws : List Request) : Type 0 where
+  pub front : xs ≡ take (length xs) us
+  pub rest : ys ≡ drop (length xs) us ++ ws
 
-  answered : (g : Grant) (request : Request) (reply : Reply) → request ≢ Quit → IsOfLine connection (suc (length grants)) request reply g
-      → Answered (IsGranted connection) grants (Asks request ∷ []) (grants ++ g ∷ []) (reply_text reply) (end_after reply)
-  answered g request reply other of = request_answered (IsGranted connection) grants (grants ++ g ∷ []) request reply (reply_text reply) other (g, refl, of) refl
+split : (xs ys us ws : List Request) → xs ++ ys ≡ us ++ ws → length xs ≤ length us → Split xs ys us ws
+split [] ys us ws same few = record { front = refl; rest = same }
+split (x ∷ xs) ys [] ws same few = absurd (omega (arith, few))
+split (x ∷ xs) ys (u ∷ us) ws same few =
+    let first : x ≡ u = cc in
+    let others : xs ++ ys ≡ us ++ ws = cc in
+    let s = split xs ys us ws others (omega (arith, few)) in
+    record { front = ap (λ (r : Request). r ∷ xs) first ∙ ap (λ (l : List Request). u ∷ l) s.front; rest = s.rest }
 
-  module _ (text sent : List ℕ) (t : Talk) where
-    carried : (more : List Grant) (item : Item) (under : List Line) (rest : List Item) (count : ℕ) (said : List ℕ) (ended : End) → items_of t.under ++ t.waiting ≡ item ∷ (items_of under ++ rest) → t.ended ≡ ends.Done
-        → length more ≡ count → Answered (IsGranted connection) grants (item ∷ []) more said ended → IsAt connection grants text sent t
-        → IsAt connection more text sent (record t { waiting = rest; told = count; under = under; unsent = t.unsent ++ said; ended = ended })
-    carried more item under rest count said ended first goes counted one at =
-        record {
-          done = at.done ++ item ∷ [];
-          came = subst (λ (items : List Item). CameFrom t.whole text items t.kept) (ap (λ (x : List Item). at.done ++ x) first ∙ sym (append_assoc at.done (item ∷ []) (items_of under ++ rest))) at.came;
-          answered = subst (λ (w : List ℕ). Answered (IsGranted connection) [] (at.done ++ item ∷ []) more w ended) (append_assoc sent t.unsent said)
-              (answered_more (IsGranted connection) [] grants more at.done (item ∷ []) (sent ++ t.unsent) said ended (subst (Answered (IsGranted connection) [] at.done grants (sent ++ t.unsent)) goes at.answered) one);
-          counted = counted;
-        }
+asked_first : (count : ℕ) (under : List Line) → take count (asked_by under) ≡ asked_by (take count under)
+asked_first zero under = refl
+asked_first (suc count) [] = refl
+asked_first (suc count) (line ∷ under) = ap (λ (l : List Request). line.request ∷ l) (asked_first count under)
 
-    pub fault_carried : (bad : Bad) (new : Talk) → t.waiting ≡ Faulty bad ∷ drop 1 t.waiting → t.ended ≡ ends.Done → t.under ≡ []
-        → new ≡ record t { waiting = drop 1 t.waiting; unsent = t.unsent ++ bad_text bad } → IsAt connection grants text sent t → IsAt connection grants text sent new
-    fault_carried bad new next goes none is at =
-        let first : items_of t.under ++ t.waiting ≡ Faulty bad ∷ (items_of t.under ++ drop 1 t.waiting) = ap (λ (u : List Line). items_of u ++ t.waiting) none ∙ next ∙ ap (λ (u : List Line). Faulty bad ∷ (items_of u ++ drop 1 t.waiting)) (sym none) in
-        subst (IsAt connection grants text sent) (cc) (carried grants (Faulty bad) t.under (drop 1 t.waiting) t.told (bad_text bad) ends.Done first goes at.counted (told bad) at)
+asked_rest : (count : ℕ) (under : List Line) → drop count (asked_by under) ≡ asked_by (drop count under)
+asked_rest zero under = refl
+asked_rest (suc count) [] = refl
+asked_rest (suc count) (line ∷ under) = asked_rest count under
 
-    pub quit_carried : (new : Talk) → t.waiting ≡ Asks Quit ∷ drop 1 t.waiting → t.ended ≡ ends.Done → t.under ≡ []
-        → new ≡ record t { waiting = drop 1 t.waiting; ended = ends.Quit } → IsAt connection grants text sent t → IsAt connection grants text sent new
-    quit_carried new next goes none is at =
-        let first : items_of t.under ++ t.waiting ≡ Asks Quit ∷ (items_of t.under ++ drop 1 t.waiting) = ap (λ (u : List Line). items_of u ++ t.waiting) none ∙ next ∙ ap (λ (u : List Line). Asks Quit ∷ (items_of u ++ drop 1 t.waiting)) (sym none) in
-        subst (IsAt connection grants text sent) (cc (append-nil t.unsent)) (carried grants (Asks Quit) t.under (drop 1 t.waiting) t.told [] ends.Quit first goes at.counted left at)
+for_many : (connection told : ℕ) (requests : List Request) (grants : List Grant) → AreFor connection told requests grants → length grants ≡ length requests
+for_many connection told [] [] are = refl
+for_many connection told (request ∷ requests) (g ∷ grants) are = ap (λ (n : ℕ). suc n) (for_many connection (suc told) requests grants are.1)
+for_many connection told [] (g ∷ grants) are = absurd are
+for_many connection told (request ∷ requests) [] are = absurd are
 
-    -- the first line's reply is told
-    pub reply_told : (line : Line) (reply : Reply) (g : Grant) (new : Talk) → t.under ≡ line ∷ drop 1 t.under → line.request ≢ Quit → t.ended ≡ ends.Done → IsOfLine connection (suc t.told) line.request reply g
-        → new ≡ record t { told = suc t.told; under = drop 1 t.under; unsent = t.unsent ++ reply_text reply; ended = end_after reply } → IsAt connection grants text sent t → IsAt connection (grants ++ g ∷ []) text sent new
-    reply_told line reply g new under other goes of is at =
-        let first : items_of t.under ++ t.waiting ≡ Asks line.request ∷ (items_of (drop 1 t.under) ++ t.waiting) = ap (λ (u : List Line). items_of u ++ t.waiting) under in
-        let more : length (grants ++ g ∷ []) ≡ suc t.told = let n = length-append grants (g ∷ []) in let c = at.counted in omega (arith, n, c) in
-        let here : IsOfLine connection (suc (length grants)) line.request reply g = subst (λ (n : ℕ). IsOfLine connection (suc n) line.request reply g) (sym at.counted) of in
-        subst (IsAt connection (grants ++ g ∷ []) text sent) (sym is) (carried (grants ++ g ∷ []) (Asks line.request) (drop 1 t.under) t.waiting (suc t.told) (reply_text reply) (end_after reply) first goes more (answered g line.request reply other here) at)
+pub begins : (connection : ℕ) (spoken : Language) → IsAt connection [] [] [] (nothing_yet spoken)
+begins connection language.Lines = record { done = []; left = []; came = (refl, ([], (refl, λ rest items its. its), refl)); turns = refl; asked = refl; told = none_told connection; counted = refl }
+begins connection language.Frames = record { done = []; left = []; came = (refl, ([], (frames.step_empty 0 [] refl, λ rest items its. its), refl)); turns = refl; asked = refl; told = none_told connection; counted = refl }
 
-    -- the next line is handed out
-    pub handed_out : (request : Request) (new : Talk) → t.waiting ≡ Asks request ∷ drop 1 t.waiting
-        → new ≡ record t { waiting = drop 1 t.waiting; under = t.under ++ awaited request ∷ [] } → IsAt connection grants text sent t → IsAt connection grants text sent new
-    handed_out request new next is at =
-        let same : items_of t.under ++ t.waiting ≡ items_of (t.under ++ awaited request ∷ []) ++ drop 1 t.waiting =
-        ap (λ (x : List Item). items_of t.under ++ x) next ∙ sym (append_assoc (items_of t.under) (Asks request ∷ []) (drop 1 t.waiting)) ∙ ap (λ (x : List Item). x ++ drop 1 t.waiting) (sym (items_more t.under (awaited request ∷ []))) in
-        subst (IsAt connection grants text sent) (sym is)
-        (record { done = at.done; came = subst (λ (items : List Item). CameFrom t.whole text (at.done ++ items) t.kept) same at.came; answered = at.answered; counted = at.counted })
+module _ (connection : ℕ) (grants : List Grant) (text sent : List ℕ) (t : Talk) (at : IsAt connection grants text sent t) where
+  pub fed : (piece : List ℕ) (new : Talk) → Fed piece t new → IsAt connection grants (text ++ piece) sent new
+  fed piece new (before, after, exchanges, reads, gives, is) =
+      let came : CameFrom t.spoken (text ++ piece) ((at.done ++ at.left) ++ exchanges) (Some after) =
+      came_more t.spoken text piece (at.done ++ at.left) exchanges before after (subst (CameFrom t.spoken text (at.done ++ at.left)) reads at.came) gives in
+      subst (IsAt connection grants (text ++ piece) sent) (sym is)
+      (record {
+        done = at.done;
+        left = at.left ++ exchanges;
+        came = subst (λ (l : List Exchange). CameFrom t.spoken (text ++ piece) l (Some after)) (append_assoc at.done at.left exchanges) came;
+        turns = map_more turn_of at.left exchanges ∙ ap (λ (l : List Turn). l ++ map turn_of exchanges) at.turns;
+        asked = requests_more at.left exchanges ∙ ap (λ (l : List Request). l ++ requests_in exchanges) at.asked ∙ append_assoc (asked_by t.under) t.waiting (requests_in exchanges);
+        told = at.told;
+        counted = at.counted;
+      })
 
-    -- a reply is noted
-    pub noted : (number : ℕ) (request : Request) (reply : Reply) (new : Talk) → Noted number request reply t new → IsAt connection grants text sent t → IsAt connection grants text sent new
-    noted number request reply new is at =
-        let same : items_of t.under ++ t.waiting ≡ items_of (slice_set t.under (number - suc t.told) (replied request reply)) ++ t.waiting =
-        ap (λ (x : List Item). x ++ t.waiting) (sym (items_noted t.under (number - suc t.told) request reply is.0.1)) in
-        subst (IsAt connection grants text sent) (sym is.1)
-        (record { done = at.done; came = subst (λ (items : List Item). CameFrom t.whole text (at.done ++ items) t.kept) same at.came; answered = at.answered; counted = at.counted })
+  pub finished : (new : Talk) → Finished t new → IsAt connection grants text sent new
+  finished new (before, exchanges, reads, at_end, is) =
+      let came : CameFrom t.spoken text ((at.done ++ at.left) ++ exchanges) None =
+      came_whole t.spoken text (at.done ++ at.left) exchanges before (subst (CameFrom t.spoken text (at.done ++ at.left)) reads at.came) at_end in
+      subst (IsAt connection grants text sent) (sym is)
+      (record {
+        done = at.done;
+        left = at.left ++ exchanges;
+        came = subst (λ (l : List Exchange). CameFrom t.spoken text l None) (append_assoc at.done at.left exchanges) came;
+        turns = map_more turn_of at.left exchanges ∙ ap (λ (l : List Turn). l ++ map turn_of exchanges) at.turns;
+        asked = requests_more at.left exchanges ∙ ap (λ (l : List Request). l ++ requests_in exchanges) at.asked ∙ append_assoc (asked_by t.under) t.waiting (requests_in exchanges);
+        told = at.told;
+        counted = at.counted;
+      })
 
-    -- items more that wait
-    longer : (at : IsAt connection grants text sent t) (items : List Item) → (at.done ++ (items_of t.under ++ t.waiting)) ++ items ≡ at.done ++ (items_of t.under ++ (t.waiting ++ items))
-    longer at items =
-        append_assoc at.done (items_of t.under ++ t.waiting) items ∙ ap (λ (x : List Item). at.done ++ x) (append_assoc (items_of t.under) t.waiting items)
+  -- the next request is handed out
+  pub handed_out : (request : Request) (new : Talk) → t.waiting ≡ request ∷ drop 1 t.waiting → new ≡ record t { waiting = drop 1 t.waiting; under = t.under ++ awaited request ∷ [] } → IsAt connection grants text sent new
+  handed_out request new next is =
+      let same : asked_by t.under ++ t.waiting ≡ asked_by (t.under ++ awaited request ∷ []) ++ drop 1 t.waiting =
+      ap (λ (x : List Request). asked_by t.under ++ x) next ∙ sym (append_assoc (asked_by t.under) (request ∷ []) (drop 1 t.waiting)) ∙ ap (λ (x : List Request). x ++ drop 1 t.waiting) (sym (asked_more t.under (awaited request ∷ []))) in
+      subst (IsAt connection grants text sent) (sym is)
+      (record { done = at.done; left = at.left; came = at.came; turns = at.turns; asked = at.asked ∙ same; told = at.told; counted = at.counted })
 
-    read : t.whole ≡ false → (at : IsAt connection grants text sent t) → Reads text (at.done ++ (items_of t.under ++ t.waiting)) t.kept
-    read goes at = subst (λ (w : Bool). CameFrom w text (at.done ++ (items_of t.under ++ t.waiting)) t.kept) goes at.came
+  -- a reply is noted
+  pub noted : (number : ℕ) (request : Request) (reply : Reply) (new : Talk) → Noted number request reply t new → IsAt connection grants text sent new
+  noted number request reply new is =
+      let same : asked_by t.under ++ t.waiting ≡ asked_by (slice_set t.under (number - suc t.told) (replied request reply)) ++ t.waiting =
+      ap (λ (x : List Request). x ++ t.waiting) (sym (asked_noted t.under (number - suc t.told) request reply is.0.1)) in
+      subst (IsAt connection grants text sent) (sym is.1)
+      (record { done = at.done; left = at.left; came = at.came; turns = at.turns; asked = at.asked ∙ same; told = at.told; counted = at.counted })
 
-    pub fed : (piece : List ℕ) (items : List Item) (kept : Option (List ℕ)) (new : Talk) → t.whole ≡ false → Feeds t.kept piece items kept
-        → new ≡ record t { kept = kept; waiting = t.waiting ++ items } → IsAt connection grants text sent t → IsAt connection grants (text ++ piece) sent new
-    fed piece items kept new goes feeds is at =
-        let more = reads_more text piece (at.done ++ (items_of t.under ++ t.waiting)) items t.kept kept (read goes at) feeds in
-        let its : Reads (text ++ piece) (at.done ++ (items_of t.under ++ (t.waiting ++ items))) kept = subst (λ (x : List Item). Reads (text ++ piece) x kept) (longer at items) more in
-        subst (IsAt connection grants (text ++ piece) sent) (sym is)
-        (record { done = at.done; came = subst (λ (w : Bool). CameFrom w (text ++ piece) (at.done ++ (items_of t.under ++ (t.waiting ++ items))) kept) (sym goes) its; answered = at.answered; counted = at.counted })
+  pub sent_more : (count : ℕ) (new : Talk) → new ≡ record t { unsent = drop count t.unsent } → IsAt connection grants text (sent ++ take count t.unsent) new
+  sent_more count new is =
+      let same : sent ++ t.unsent ≡ (sent ++ take count t.unsent) ++ drop count t.unsent =
+      ap (λ (x : List ℕ). sent ++ x) (sym (take-append-drop count t.unsent)) ∙ sym (append_assoc sent (take count t.unsent) (drop count t.unsent)) in
+      subst (IsAt connection grants text (sent ++ take count t.unsent)) (sym is)
+      (record { done = at.done; left = at.left; came = at.came; turns = at.turns; asked = at.asked; told = subst (λ (w : List ℕ). AreTold connection at.done grants w t.ended) same at.told; counted = at.counted })
 
-    pub finished : (fault : Option Bad) (new : Talk) → t.whole ≡ false → Ends t.kept fault → new ≡ record t { kept = None; whole = true; waiting = t.waiting ++ faults_of fault }
-        → IsAt connection grants text sent t → IsAt connection grants text sent new
-    finished fault new goes ends is at =
-        let its : Items text ((at.done ++ (items_of t.under ++ t.waiting)) ++ faults_of fault) =
-        subst (λ (x : List ℕ). Items x ((at.done ++ (items_of t.under ++ t.waiting)) ++ faults_of fault)) (append-nil text)
-        (items_end text (at.done ++ (items_of t.under ++ t.waiting)) t.kept fault (read goes at) ends) in
-        subst (IsAt connection grants text sent) (sym is) (record { done = at.done; came = subst (Items text) (longer at (faults_of fault)) its; answered = at.answered; counted = at.counted })
+  -- an exchange more is told
+  module _ (goes : t.ended ≡ Done) (e : Exchange) (left : List Exchange) (first : at.left ≡ e ∷ left) where
+    told_more : (its : List Grant) (said : List ℕ) (ended : End) → IsTold connection t.told e its said ended → AreTold connection (at.done ++ e ∷ []) (grants ++ its) (sent ++ (t.unsent ++ said)) ended
+    told_more its said ended is =
+        let before : AreTold connection at.done grants (sent ++ t.unsent) Done = subst (AreTold connection at.done grants (sent ++ t.unsent)) goes at.told in
+        let now : IsTold connection (length grants) e its said ended = subst (λ (n : ℕ). IsTold connection n e its said ended) (sym at.counted) is in
+        subst (λ (w : List ℕ). AreTold connection (at.done ++ e ∷ []) (grants ++ its) w ended) (append_assoc sent t.unsent said) (more connection at.done grants (sent ++ t.unsent) e its said ended before now)
 
-    pub sent_more : (count : ℕ) (new : Talk) → new ≡ record t { unsent = drop count t.unsent } → IsAt connection grants text sent t → IsAt connection grants text (sent ++ take count t.unsent) new
-    sent_more count new is at =
-        let same : sent ++ t.unsent ≡ (sent ++ take count t.unsent) ++ drop count t.unsent =
-        ap (λ (x : List ℕ). sent ++ x) (sym (take-append-drop count t.unsent)) ∙ sym (append_assoc sent (take count t.unsent) (drop count t.unsent)) in
-        subst (IsAt connection grants text (sent ++ take count t.unsent)) (sym is)
-        (record { done = at.done; came = at.came; answered = subst (λ (w : List ℕ). Answered (IsGranted connection) [] at.done grants w t.ended) same at.answered; counted = at.counted })
+    came_so : CameFrom t.spoken text ((at.done ++ e ∷ []) ++ left) t.reader
+    came_so = subst (λ (l : List Exchange). CameFrom t.spoken text l t.reader) (ap (λ (l : List Exchange). at.done ++ l) first ∙ sym (append_assoc at.done (e ∷ []) left)) at.came
+
+    turns_are : turn_of e ∷ map turn_of left ≡ t.turns
+    turns_are = ap (λ (l : List Exchange). map turn_of l) (sym first) ∙ at.turns
+
+    left_turns : map turn_of left ≡ drop 1 t.turns
+    left_turns = ap (λ (l : List Turn). drop 1 l) turns_are
+
+    requests_are : requests_in (e ∷ left) ≡ asked_by t.under ++ t.waiting
+    requests_are = ap (λ (l : List Exchange). requests_in l) (sym first) ∙ at.asked
+
+  -- one that asks nothing
+  text_told : (goes : t.ended ≡ Done) (e : Exchange) (left : List Exchange) (first : at.left ≡ e ∷ left) (said : List ℕ) (ended : End) → IsTold connection t.told e [] said ended → requests_in (e ∷ left) ≡ requests_in left
+      → IsAt connection grants text sent (record t { turns = drop 1 t.turns; unsent = t.unsent ++ said; ended = ended })
+  text_told goes e left first said ended is asks_none =
+      record {
+        done = at.done ++ e ∷ [];
+        left = left;
+        came = came_so goes e left first;
+        turns = left_turns goes e left first;
+        asked = sym asks_none ∙ requests_are goes e left first;
+        told = subst (λ (gs : List Grant). AreTold connection (at.done ++ e ∷ []) gs (sent ++ (t.unsent ++ said)) ended) (append-nil grants) (told_more goes e left first [] said ended is);
+        counted = at.counted;
+      }
+
+  -- one whose requests have their replies
+  replies_told : (goes : t.ended ≡ Done) (wording : Wording) (requests : List Request) (left : List Exchange) (first : at.left ≡ asks wording requests ∷ left) (count : ℕ) (its : List Grant) (replies : List Reply)
+      → length requests ≡ count → count ≤ length t.under → AreFor connection t.told (asked_by (take count t.under)) its → replies_in its ≡ replies
+      → IsAt connection (grants ++ its) text sent (record t { turns = drop 1 t.turns; told = t.told + count; under = drop count t.under; unsent = t.unsent ++ worded wording replies; ended = end_by replies })
+  replies_told goes wording requests left first count its replies long few for are =
+      let e = asks wording requests in
+      let many : length requests ≤ length (asked_by t.under) = let n = length_asked t.under in omega (arith, long, few, n) in
+      let s = split requests (requests_in left) (asked_by t.under) t.waiting (requests_are goes e left first) many in
+      let its_are : requests ≡ asked_by (take count t.under) = s.front ∙ ap (λ (n : ℕ). take n (asked_by t.under)) long ∙ asked_first count t.under in
+      let so : AreFor connection t.told requests its = subst (λ (rs : List Request). AreFor connection t.told rs its) (sym its_are) for in
+      let n : length its ≡ count = for_many connection t.told requests its so ∙ long in
+      let is : IsTold connection t.told e its (worded wording replies) (end_by replies) = (so, ap (λ (r : List Reply). worded wording r) (sym are), ap (λ (r : List Reply). end_by r) (sym are)) in
+      record {
+        done = at.done ++ e ∷ [];
+        left = left;
+        came = came_so goes e left first;
+        turns = left_turns goes e left first;
+        asked = s.rest ∙ ap (λ (k : ℕ). drop k (asked_by t.under) ++ t.waiting) long ∙ ap (λ (l : List Request). l ++ t.waiting) (asked_rest count t.under);
+        told = told_more goes e left first its (worded wording replies) (end_by replies) is;
+        counted = let l = length-append grants its in let c = at.counted in omega (arith, l, c, n);
+      }
+    where
+      length_asked : (under : List Line) → length (asked_by under) ≡ length under
+      length_asked [] = refl
+      length_asked (line ∷ under) = ap (λ (n : ℕ). suc n) (length_asked under)
+
+-- the grants of the requests whose replies a turn tells
+abbrev pub HasGrants : ℕ → Talk → Turn → List Grant → Type 0
+HasGrants connection t (turn.Asks wording count) its = AreFor connection t.told (asked_by (take count t.under)) its × (replies_of (take count t.under) ≡ Some (replies_in its))
+HasGrants connection t other its = its ≡ []
+
+some_same : {A : Type 0} (x y : A) → Some x ≡ Some y → x ≡ y
+some_same x y is = cc
+
+abbrev first_of : Turn → List Turn → Turn
+first_of other [] = other
+first_of other (turn ∷ turns) = turn
+
+-- the first exchange is told
+module _ (connection : ℕ) (grants : List Grant) (text sent : List ℕ) (t new : Talk) (at : IsAt connection grants text sent t) (its : List Grant) (goes : t.ended ≡ Done) where
+  first_is : (e : Exchange) (left : List Exchange) (first : Turn) → at.left ≡ e ∷ left → t.turns ≡ first ∷ drop 1 t.turns → turn_of e ≡ first
+  first_is e left first is next = ap (λ (l : List Turn). first_of first l) (ap (λ (l : List Exchange). map turn_of l) (sym is) ∙ at.turns ∙ next)
+
+  no_grants : its ≡ [] → IsAt connection grants text sent new → IsAt connection (grants ++ its) text sent new
+  no_grants none so = subst (λ (gs : List Grant). IsAt connection gs text sent new) (sym (append-nil grants) ∙ ap (λ (gs : List Grant). grants ++ gs) (sym none)) so
+
+  by_left : (left : List Exchange) → at.left ≡ left → (first : Turn) → t.turns ≡ first ∷ drop 1 t.turns → HasGrants connection t first its → Told first t new → IsAt connection (grants ++ its) text sent new
+  by_left [] is first next has tells = absurd (let none : [] ≡ first ∷ drop 1 t.turns = ap (λ (l : List Exchange). map turn_of l) (sym is) ∙ at.turns ∙ next in cc)
+  by_left (asks wording requests ∷ left) is (turn.Asks w n) next (for, replies_are) (replies, few, of, new_is) =
+      let same : turn.Asks wording (length requests) ≡ turn.Asks w n = first_is (asks wording requests) left (turn.Asks w n) is next in
+      let wording_is : wording ≡ w = cc in
+      let long : length requests ≡ n = cc in
+      let are : replies_in its ≡ replies = some_same (replies_in its) replies (sym replies_are ∙ of) in
+      subst (IsAt connection (grants ++ its) text sent)
+      (ap (λ (x : Wording). record t { turns = drop 1 t.turns; told = t.told + n; under = drop n t.under; unsent = t.unsent ++ worded x replies; ended = end_by replies }) wording_is ∙ sym new_is)
+      (replies_told connection grants text sent t at goes wording requests left is n its replies long few for are)
+  by_left (says said ∷ left) is (turn.Says x) next has tells =
+      let same : turn.Says said ≡ turn.Says x = first_is (says said) left (turn.Says x) is next in
+      let said_is : said ≡ x = cc in
+      no_grants has
+      (subst (IsAt connection grants text sent) (ap (λ (y : List ℕ). record t { turns = drop 1 t.turns; unsent = t.unsent ++ y }) said_is ∙ sym tells)
+      (subst (λ (e : End). IsAt connection grants text sent (record t { turns = drop 1 t.turns; unsent = t.unsent ++ said; ended = e })) (sym goes)
+      (text_told connection grants text sent t at goes (says said) left is said Done (refl, refl, refl) refl)))
+  by_left (ends said ∷ left) is (turn.Ends x) next has tells =
+      let same : turn.Ends said ≡ turn.Ends x = first_is (ends said) left (turn.Ends x) is next in
+      let said_is : said ≡ x = cc in
+      no_grants has
+      (subst (IsAt connection grants text sent) (ap (λ (y : List ℕ). record t { turns = drop 1 t.turns; unsent = t.unsent ++ y; ended = Quit }) said_is ∙ sym tells)
+      (text_told connection grants text sent t at goes (ends said) left is said Quit (refl, refl, refl) refl))
+  by_left (asks wording requests ∷ left) is (turn.Says x) next has tells = absurd (let same = first_is (asks wording requests) left (turn.Says x) is next in cc)
+  by_left (asks wording requests ∷ left) is (turn.Ends x) next has tells = absurd (let same = first_is (asks wording requests) left (turn.Ends x) is next in cc)
+  by_left (says said ∷ left) is (turn.Asks w n) next has tells = absurd (let same = first_is (says said) left (turn.Asks w n) is next in cc)
+  by_left (says said ∷ left) is (turn.Ends x) next has tells = absurd (let same = first_is (says said) left (turn.Ends x) is next in cc)
+  by_left (ends said ∷ left) is (turn.Asks w n) next has tells = absurd (let same = first_is (ends said) left (turn.Asks w n) is next in cc)
+  by_left (ends said ∷ left) is (turn.Says x) next has tells = absurd (let same = first_is (ends said) left (turn.Says x) is next in cc)
+
+  pub told : (first : Turn) → t.turns ≡ first ∷ drop 1 t.turns → HasGrants connection t first its → Told first t new → IsAt connection (grants ++ its) text sent new
+  told first next has tells = by_left at.left refl first next has tells

@@ -1,84 +1,107 @@
 -- Where a conversation stands.
-use Rattle.std.specs.Prelude.{◌≡◌, ◌≢◌, ◌⊎◌, ℕ, Bool, true, false, List, [], ◌∷◌, ◌++◌, drop, length, slice_set, suc, ◌+◌, ◌-◌, take, Option, None, Some}
+use Rattle.std.specs.Prelude.{◌≡◌, ◌≢◌, ◌⊎◌, ◌≤◌, ⊤, ℕ, List, [], ◌∷◌, ◌++◌, drop, length, map, slice_set, suc, ◌+◌, ◌-◌, take, Option, None, Some}
 use Rattle.lz_proto.specs.declared.request.Request.{Request}
-use Rattle.lz_proto.specs.declared.item.Item.{Item}
 use Rattle.lz_proto.specs.declared.reply.Reply.{Reply}
 use Rattle.lz_proto.specs.declared.end.End.{End}
-use Rattle.lz_proto.specs.declared.end.End.TheVariants.{Done}
-use Rattle.lz_proto.specs.Lines.{Items}
-use Rattle.lz_proto.specs.Pieces.{Reads}
-use Rattle.lz_proto.specs.Sessions.{Answered}
+use Rattle.lz_proto.specs.declared.end.End.TheVariants.{Done, Quit}
+use Rattle.lz_serve.specs.declared.language.Language.{Language}
 use Rattle.lz_serve.specs.declared.line.Line.{Line}
+use Rattle.lz_serve.specs.declared.reader.Reader.{Reader}
+use Rattle.lz_serve.specs.declared.turn.Turn.{Turn}
+use Rattle.lz_serve.specs.declared.turn.Turn.TheVariants as turn
+use Rattle.lz_serve.specs.Exchanges.{CameFrom, EndsWith, Exchange, Pending, ReadsMore, adding, asks, says, ends, end_by, requests_in, turn_of, unread, worded}
 use Rattle.lz_serve.specs.Grants.{Grant, IsOfLine}
-use Rattle.lz_serve.specs.Lines.{StandsAt, first_reply, items_of, replied}
+use Rattle.lz_serve.specs.Lines.{StandsAt, asked_by, replied, replies_of}
 
--- What a conversation holds: the text of the unfinished line, none once `quit` has come; whether the client's text has ended; the
--- items that came and were not carried out yet; how many lines were told their replies, and those after them that were handed out; the
--- text that is to be sent; and how it has ended, `Done` while it goes on.
+-- What a conversation holds: its language; what reads the client's text, none once that has ended; the turns of the exchanges that came and
+-- weren't told; of what they ask the requests that wait, and those before them that were handed out; how many requests were told their
+-- replies; the text that is to be sent; and how it has ended, `Done` while it goes on.
 pub record Talk : Type 0 where
-  pub kept : Option (List ℕ)
-  pub whole : Bool
-  pub waiting : List Item
+  pub spoken : Language
+  pub reader : Option Reader
+  pub turns : List Turn
+  pub waiting : List Request
   pub told : ℕ
   pub under : List Line
   pub unsent : List ℕ
   pub ended : End
 
 -- nothing has come yet
-abbrev pub nothing_yet : Talk
-nothing_yet = record { kept = Some []; whole = false; waiting = []; told = 0; under = []; unsent = []; ended = Done }
+abbrev pub nothing_yet : Language → Talk
+nothing_yet spoken = record { spoken = spoken; reader = Some (unread spoken); turns = []; waiting = []; told = 0; under = []; unsent = []; ended = Done }
 
--- what is kept of a text that has ended, nothing, or of one that hasn't
-abbrev pub kept_of : Option (Option (List ℕ)) → Option (List ℕ)
-kept_of None = None
-kept_of (Some kept) = kept
+-- what has come of it and wasn't told
+abbrev pub pending : Talk → Pending
+pending t = record { turns = t.turns; waiting = t.waiting }
 
--- the items are those of the text, up to what is kept of it where it hasn't ended
-abbrev pub CameFrom : Bool → List ℕ → List Item → Option (List ℕ) → Type 0
-CameFrom false text items kept = Reads text items kept
-CameFrom true text items kept = Items text items
+-- each of these requests, after so many on this connection, has a grant of its own
+abbrev pub AreFor : ℕ → ℕ → List Request → List Grant → Type 0
+AreFor connection told [] [] = ⊤
+AreFor connection told (request ∷ requests) (g ∷ grants) = IsOfLine connection (suc told) request g.reply g × AreFor connection (suc told) requests grants
+AreFor connection told requests grants = ⊥
 
--- One reply more was granted: this one, to this request, which is the line after as many as were granted replies before, on this connection.
-abbrev pub IsGranted : ℕ → List Grant → Request → Reply → List Grant → Type 0
-IsGranted connection old request reply new = (g : Grant) × (new ≡ old ++ g ∷ []) × IsOfLine connection (suc (length old)) request reply g
+abbrev pub replies_in : List Grant → List Reply
+replies_in grants = map (λ g. g.reply) grants
 
--- All that came is this text, and this is what was sent. The items that were carried out are the text's first ones, each request with the
--- reply that was granted next, to the line of its number on this connection, and no reply was told beside; the texts of their faults and
--- replies, in their order, are what was sent and what is to be sent; and the lines under way are the next ones.
+-- After so many requests of the connection an exchange was told by these grants: this is its text, and so it goes on.
+abbrev pub IsTold : ℕ → ℕ → Exchange → List Grant → List ℕ → End → Type 0
+IsTold connection told (asks wording requests) grants text ended = AreFor connection told requests grants × (text ≡ worded wording (replies_in grants)) × (ended ≡ end_by (replies_in grants))
+IsTold connection told (says said) grants text ended = (grants ≡ []) × (text ≡ said) × (ended ≡ Done)
+IsTold connection told (ends said) grants text ended = (grants ≡ []) × (text ≡ said) × (ended ≡ Quit)
+
+-- The exchanges were told in their order, one text after the other, each by the grants that come next. After one that has ended the
+-- conversation none is told.
+pub data AreTold : ℕ → List Exchange → List Grant → List ℕ → End → Type 0 where
+  nothing : (connection : ℕ) → AreTold connection [] [] [] Done
+  more : (connection : ℕ) (exchanges : List Exchange) (grants : List Grant) (text : List ℕ) (exchange : Exchange) (its : List Grant) (said : List ℕ) (ended : End)
+      → AreTold connection exchanges grants text Done → IsTold connection (length grants) exchange its said ended
+      → AreTold connection (exchanges ++ exchange ∷ []) (grants ++ its) (text ++ said) ended
+
+-- All that came is this text, and this is what was sent. Of the text's exchanges the first ones were told, by these grants: their texts, in
+-- their order, are what was sent and what is to be sent. The turns and the requests are those of the others.
 pub record IsAt (connection : ℕ) (grants : List Grant) (text sent : List ℕ) (t : Talk) : Type 0 where
-  pub done : List Item
-  pub came : CameFrom t.whole text (done ++ (items_of t.under ++ t.waiting)) t.kept
-  pub answered : Answered (IsGranted connection) [] done grants (sent ++ t.unsent) t.ended
+  pub done : List Exchange
+  pub left : List Exchange
+  pub came : CameFrom t.spoken text (done ++ left) t.reader
+  pub turns : map turn_of left ≡ t.turns
+  pub asked : requests_in left ≡ asked_by t.under ++ t.waiting
+  pub told : AreTold connection done grants (sent ++ t.unsent) t.ended
   pub counted : length grants ≡ t.told
 
--- no further item will be carried out
+-- no further exchange will be told
 abbrev pub IsOver : Talk → Type 0
-IsOver t = (t.ended ≢ Done) ⊎ ((t.whole ≡ true) × (t.waiting ≡ []) × (t.under ≡ []))
+IsOver t = (t.ended ≢ Done) ⊎ ((t.reader ≡ None) × (t.turns ≡ []))
 
--- it hands no line out: it has ended, nothing waits, lines are under way, or their numbers are used up
+-- it hands no request out: it has ended, none waits, some are under way, or their numbers are used up
 abbrev pub Rests : Talk → Type 0
 Rests t = (t.ended ≢ Done) ⊎ (t.waiting ≡ []) ⊎ (t.under ≢ []) ⊎ (t.told + length t.under ≡ 18446744073709551615)
 
--- wherever the first stands, the second stands too
-abbrev pub GoesOn : Talk → Talk → Type 0
-GoesOn old new = (connection : ℕ) (grants : List Grant) (text sent : List ℕ) → IsAt connection grants text sent old → IsAt connection grants text sent new
+-- each request of the turn has its reply, where it is the first
+abbrev pub IsReady : Turn → Talk → Type 0
+IsReady (turn.Asks wording count) t = (replies : List Reply) × (count ≤ length t.under) × (replies_of (take count t.under) ≡ Some replies)
+IsReady other t = ⊤
 
--- where the first stands, the second does with this piece more of the client's text
+-- a piece more of the client's text has come
 abbrev pub Fed : List ℕ → Talk → Talk → Type 0
-Fed piece old new = (connection : ℕ) (grants : List Grant) (text sent : List ℕ) → IsAt connection grants text sent old → IsAt connection grants (text ++ piece) sent new
+Fed piece old new =
+    (before after : Reader) × (exchanges : List Exchange) × (old.reader ≡ Some before) × ReadsMore before piece exchanges after
+    × (new ≡ record old { reader = Some after; turns = (adding exchanges (pending old)).turns; waiting = (adding exchanges (pending old)).waiting })
 
--- the reply to the line of this number was noted, which asked this and awaited it
+-- the client's text has ended
+abbrev pub Finished : Talk → Talk → Type 0
+Finished old new =
+    (before : Reader) × (exchanges : List Exchange) × (old.reader ≡ Some before) × EndsWith before exchanges
+    × (new ≡ record old { reader = None; turns = (adding exchanges (pending old)).turns; waiting = (adding exchanges (pending old)).waiting })
+
+-- the reply to the request of this number was noted, which asked this and awaited it
 abbrev pub Noted : ℕ → Request → Reply → Talk → Talk → Type 0
 Noted number request reply old new =
     StandsAt old.told number request old.under × (new ≡ record old { under = slice_set old.under (number - suc old.told) (replied request reply) })
 
--- where the first stands and its first line was granted this reply, the second stands with that grant more
-abbrev pub Told : Reply → Talk → Talk → Type 0
-Told reply old new =
-    (connection : ℕ) (grants : List Grant) (text sent : List ℕ) (line : Line) (g : Grant) → old.under ≡ line ∷ drop 1 old.under → IsOfLine connection (suc old.told) line.request reply g
-    → IsAt connection grants text sent old → IsAt connection (grants ++ g ∷ []) text sent new
-
--- where the first stands, the second does with so many bytes more sent
-abbrev pub Sent : ℕ → Talk → Talk → Type 0
-Sent count old new =
-    (connection : ℕ) (grants : List Grant) (text sent : List ℕ) → IsAt connection grants text sent old → IsAt connection grants text (sent ++ take count old.unsent) new
+-- the first exchange was told, whose turn this is
+abbrev pub Told : Turn → Talk → Talk → Type 0
+Told (turn.Asks wording count) old new =
+    (replies : List Reply) × (count ≤ length old.under) × (replies_of (take count old.under) ≡ Some replies)
+    × (new ≡ record old { turns = drop 1 old.turns; told = old.told + count; under = drop count old.under; unsent = old.unsent ++ worded wording replies; ended = end_by replies })
+Told (turn.Says text) old new = new ≡ record old { turns = drop 1 old.turns; unsent = old.unsent ++ text }
+Told (turn.Ends text) old new = new ≡ record old { turns = drop 1 old.turns; unsent = old.unsent ++ text; ended = Quit }

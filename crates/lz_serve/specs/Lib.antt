@@ -7,7 +7,9 @@ pub mod Grants
 pub mod OwnLines
 pub mod Askings
 pub mod Lines
+pub mod Exchanges
 pub mod Conversations
+pub mod LineSessions
 pub mod Streams
 pub mod Clients
 pub mod Promised

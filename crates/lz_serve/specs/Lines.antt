@@ -1,8 +1,6 @@
 -- The lines of a connection that are under way.
-use Rattle.std.specs.Prelude.{◌≡◌, ◌≢◌, ◌-◌, ◌<◌, ℕ, suc, All, List, [], ◌∷◌, ◌++◌, Option, Some, None, IfSome, slice_get, ⊤}
+use Rattle.std.specs.Prelude.{◌≡◌, ◌≢◌, ◌-◌, ◌<◌, ℕ, suc, All, List, [], ◌∷◌, ◌++◌, Option, Some, None, IfSome, map, option_and_then, option_map, slice_get, ⊤}
 use Rattle.lz_proto.specs.declared.request.Request.{Request}
-use Rattle.lz_proto.specs.declared.item.Item.{Item}
-use Rattle.lz_proto.specs.declared.item.Item.TheVariants.{Asks}
 use Rattle.lz_proto.specs.declared.reply.Reply.{Reply}
 use Rattle.lz_serve.specs.declared.line.Line.{Line}
 use Rattle.lz_serve.specs.Grants.{Grant, IsOfLine, key_asked}
@@ -18,15 +16,14 @@ replied request reply = record { request = request; reply = Some reply }
 abbrev pub IsFree : List Line → Option ℕ → Type 0
 IsFree under key = All (λ line. line.reply ≡ None → key_asked line.request ≢ key) under
 
--- the items of these lines
-abbrev pub items_of : List Line → List Item
-items_of [] = []
-items_of (line ∷ under) = Asks line.request ∷ items_of under
+-- what these lines ask
+abbrev pub asked_by : List Line → List Request
+asked_by under = map (λ line. line.request) under
 
--- the reply of the first line, if that was granted
-abbrev pub first_reply : List Line → Option Reply
-first_reply [] = None
-first_reply (line ∷ under) = line.reply
+-- the replies of these lines, if each was granted
+abbrev pub replies_of : List Line → Option (List Reply)
+replies_of [] = Some []
+replies_of (line ∷ under) = option_and_then (λ reply. option_map (λ replies. reply ∷ replies) (replies_of under)) line.reply
 
 -- after so many lines that were told the line of this number stands here, asked this and awaits its reply
 abbrev pub StandsAt : ℕ → ℕ → Request → List Line → Type 0

@@ -1,5 +1,6 @@
 -- What a stream has given and taken, and what it may be given to take.
-use Rattle.std.specs.Prelude.{◌≡◌, ℕ, Bool, true, false, List, [], ◌++◌, take, ⊤, Option, None, Some}
+use Rattle.std.specs.Prelude.{◌≡◌, ℕ, Bool, true, false, List, [], ◌++◌, take, ⊤, Option, None, Some, is_none}
+use Rattle.lz_serve.specs.declared.language.Language.{Language}
 use Rattle.lz_serve.specs.Grants.{Grant}
 use Rattle.lz_serve.specs.Conversations.{IsAt, Talk}
 use Rattle.lz_serve.specs.declared.stream.Received.{Received}
@@ -7,8 +8,9 @@ use Rattle.lz_serve.specs.declared.stream.Received.TheVariants as received
 use Rattle.lz_serve.specs.declared.stream.Taken.{Taken}
 use Rattle.lz_serve.specs.declared.stream.Taken.TheVariants as taken
 
--- All that a client has sent of its text and whether that has ended, and all that was sent to it.
+-- The language of a client, all that it has sent of its text and whether that has ended, and all that was sent to it.
 pub record Traffic : Type 0 where
+  pub spoken : Language
   pub received : List ℕ
   pub ended : Bool
   pub taken : List ℕ
@@ -26,23 +28,24 @@ sent r = 0
 -- the receiving gave the first bytes of the buffer, and nothing more once the text has ended
 abbrev pub Receives : Option Traffic → Option Traffic → Received → List ℕ → Type 0
 Receives None after r buffer = after ≡ None
-Receives (Some t) after (received.Count n) buffer = (t.ended ≡ false) × (after ≡ Some (record { received = t.received ++ take n buffer; ended = false; taken = t.taken }))
-Receives (Some t) after received.Over buffer = after ≡ Some (record { received = t.received; ended = true; taken = t.taken })
+Receives (Some t) after (received.Count n) buffer = (t.ended ≡ false) × (after ≡ Some (record t { received = t.received ++ take n buffer }))
+Receives (Some t) after received.Over buffer = after ≡ Some (record t { ended = true })
 Receives (Some t) after received.Later buffer = after ≡ Some t
 Receives (Some t) after received.Failed buffer = after ≡ Some t
 
 -- the first bytes of the text were taken
 abbrev pub Takes : Option Traffic → Option Traffic → Taken → List ℕ → Type 0
 Takes None after r text = after ≡ None
-Takes (Some t) after (taken.Count n) text = after ≡ Some (record { received = t.received; ended = t.ended; taken = t.taken ++ take n text })
+Takes (Some t) after (taken.Count n) text = after ≡ Some (record t { taken = t.taken ++ take n text })
 Takes (Some t) after taken.Later text = after ≡ Some t
 Takes (Some t) after taken.Failed text = after ≡ Some t
 
--- The conversation is that of the stream: it came of all that was received, all that it told was taken or is still to be sent, and each
--- of its replies was granted to its line on this connection, in an order that is promised.
+-- The conversation is that of the stream, in its language: it came of all that was received, all that it told was taken or is still to be
+-- sent, and each of its replies was granted to its request on this connection, in an order that is promised.
 abbrev pub IsTalkOf : (List Grant → Type 0) → ℕ → Option Traffic → Talk → Type 0
 IsTalkOf P connection None t = ⊤
-IsTalkOf P connection (Some traffic) t = (grants : List Grant) × P grants × IsAt connection grants traffic.received traffic.taken t × (t.whole ≡ traffic.ended)
+IsTalkOf P connection (Some traffic) t =
+    (grants : List Grant) × P grants × IsAt connection grants traffic.received traffic.taken t × (t.spoken ≡ traffic.spoken) × (is_none t.reader ≡ traffic.ended)
 
 -- the text is the next to be sent in a conversation of the stream, on one connection
 abbrev pub MayTake : (List Grant → Type 0) → Option Traffic → List ℕ → Type 0

@@ -128,16 +128,16 @@ pub struct Client<S: Stream> {
 }
 
 impl<S: Stream> Model for Client<S> {
-    ghost use Rattle.std.specs.Prelude.{◌≡◌, ◌+◌, false, length};
+    ghost use Rattle.std.specs.Prelude.{◌≡◌, ◌+◌, IsSome, false, length};
     ghost use Rattle.lz_serve.specs.Clients.{Asker};
     ghost use Rattle.lz_serve.specs.Lines.{AreEarned};
     ghost use Rattle.lz_serve.specs.Streams.{IsTalkOf};
 
     ghost Value = { Asker };
 
-    ghost view = { λ c. record { connection = c.connection; lines = c.talk.told + length c.talk.under; under = c.talk.under } };
+    ghost view = { λ c. record { connection = c.connection; lines = c.talk.told + length c.talk.under; under = c.talk.under; turns = length c.talk.turns } };
 
-    ghost invariant = { λ c. (c.ended ≡ false → c.talk.whole ≡ false)
+    ghost invariant = { λ c. (c.ended ≡ false → IsSome c.talk.reader)
         × AreEarned S.promised c.connection c.talk.told c.talk.under
         × (c.lost ≡ false → IsTalkOf S.promised c.connection (S.traffic c.stream) c.talk) };
 }
@@ -147,11 +147,12 @@ impl<S: Stream> Client<S> {
     pub fn new(alloc: Global, number: u64, stream: S) -> Client<S>
         requires fresh { IsFresh (S.traffic stream) }
         requires promised { S.promised [] }
-        ensures { result ≡ record { connection = number; lines = 0; under = [] } }
+        ensures { result ≡ record { connection = number; lines = 0; under = []; turns = 0 } }
     {
+        let language = stream.language();
         Client {
             stream,
-            talk: Conversation::new(alloc),
+            talk: Conversation::new(alloc, language),
             connection: number,
             held: false,
             ended: false,
@@ -159,9 +160,16 @@ impl<S: Stream> Client<S> {
         }
     }
 
-    /// Reads a piece, if there is one, and says whether there may be more that nothing will tell of: no more, where it was less than the buffer
-    /// has room for, unless the client sends nothing after it (`ends`). The buffer has room for a piece.
+    /// Reads a piece, if there is one, tells what needs no pass, and says whether there may be more that nothing will tell of: no more, where it was
+    /// less than the buffer has room for, unless the client sends nothing after it (`ends`). The buffer has room for a piece.
     pub(crate) fn read(&mut self, buffer: &mut [u8], ends: bool) -> bool {
+        let is_more = self.receive(buffer, ends);
+        self.tell_all();
+        is_more
+    }
+
+    // Reads a piece, if there is one.
+    fn receive(&mut self, buffer: &mut [u8], ends: bool) -> bool {
         if self.lost || self.ended {
             return false;
         }
@@ -221,7 +229,7 @@ impl<S: Stream> Client<S> {
     }
 
     /// The next line, if one has come, as a question to this pass. It is under way then, beside those before it; one waits until those
-    /// that asked for the same key were answered. The faults before it are told.
+    /// that asked for the same key were answered.
     pub fn ask(&mut self, pass: &Pass) -> Option<Question>
         ensures asked { IfSome result (λ question. self.new.under ≡ self.old.under ++ awaited question.request ∷ []) }
         ensures free { IfSome result (λ question. IsFree self.old.under (key_asked question.request)) }
@@ -267,24 +275,29 @@ impl<S: Stream> Client<S> {
         let reply = granted.reply();
         if self.talk.note(question.line(), question.request(), reply) {
             self.held = false;
-            while self.tell() {}
+            self.tell_all();
         }
     }
 
-    // Tells the reply that is ready, if there is one, and says whether there was.
+    // Tells each exchange that can be told.
+    fn tell_all(&mut self)
+        ensures connection { self.new.connection ≡ self.old.connection }
+        ensures lines { self.new.lines ≡ self.old.lines }
+    {
+        while self.tell() {}
+    }
+
+    // Tells the first exchange, if its requests have their replies, and says whether it did.
     fn tell(&mut self) -> bool
         ensures connection { self.new.connection ≡ self.old.connection }
         ensures lines { self.new.lines ≡ self.old.lines }
-        ensures fewer { result ≡ true → length self.new.under < length self.old.under }
+        ensures fewer { result ≡ true → self.new.turns < self.old.turns }
     {
         if self.lost {
             return false;
         }
-        let Some(reply) = self.talk.ready() else {
-            return false;
-        };
-        match self.talk.tell(reply) {
-            Ok(()) => true,
+        match self.talk.tell() {
+            Ok(told) => told,
             Err(_) => {
                 self.lost = true;
                 false
@@ -312,7 +325,7 @@ impl<S: Stream> Client<S> {
         !self.held && self.waits()
     }
 
-    /// Whether something has come that wasn't carried out yet.
+    /// Whether lines have come that weren't handed out.
     pub(crate) fn waits(&self) -> bool {
         !self.lost && self.talk.waits()
     }

@@ -1,134 +1,124 @@
 //! The conversation of one connection, as a value.
-ghost use Rattle.std.specs.Prelude.{◌≡◌, ◌≢◌, ◌↔◌, ◌⊎◌, ◌≤◌, ◌+◌, ◌-◌, [], ◌∷◌, ◌++◌, ℕ, length, drop, slice_get, slice_set, suc, Some, None, true, false, IfOk, OnOk, OnErr, IfSome, IsTrue};
-ghost use Rattle.lz_proto.specs.Lines.{item_of};
-ghost use Rattle.lz_proto.specs.Sessions.{bad_text, reply_text};
-ghost use Rattle.lz_proto.specs.Steps.{end_after};
+ghost use Rattle.std.specs.Prelude.{◌≡◌, ◌≢◌, ◌↔◌, ◌⊎◌, ◌≤◌, ◌+◌, ◌-◌, [], ◌∷◌, ◌++◌, drop, length, slice_get, slice_set, suc, take, Some, None, true, false, IfOk, IfSome, IsSome, IsTrue, OnErr, OnOk};
 ghost use Rattle.lz_serve.specs.declared.line.Line.{Line as ALine};
-ghost use Rattle.lz_serve.specs.Conversations.{Fed, GoesOn, IsAt, IsOver, Noted, Rests, Sent, Told, nothing_yet};
+ghost use Rattle.lz_serve.specs.declared.turn.Turn.{Turn as ATurn};
+ghost use Rattle.lz_serve.specs.Conversations.{Fed, Finished, IsOver, IsReady, Noted, Rests, Told, nothing_yet};
+ghost use Rattle.lz_serve.specs.Exchanges.{end_by, worded};
 ghost use Rattle.lz_serve.specs.Grants.{key_asked};
-ghost use Rattle.lz_serve.specs.Lines.{IsFree, StandsAt, awaited, first_reply, replied};
+ghost use Rattle.lz_serve.specs.Lines.{IsFree, StandsAt, awaited, replied, replies_of};
 
+use crate::exchanges::Exchanges;
+use crate::language::Language;
 use crate::line::{Line, key_asked};
-use lz_proto::{Bad, End, Item, Lines, Reply, Request, bad_text, end_after, reply_text};
+use crate::reader::Reader;
+use crate::turn::{Turn, Wording};
+use lz_proto::{End, Reply, Request, reply_text};
+use lz_resp::{has_halted, push_reply};
 use lz_slot::Key;
 use std::alloc::{AllocError, Global};
 use std::collections::VecDeque;
 use std::marker::Model;
 
-/// For how many items, and for how many bytes to be sent, a conversation keeps room that has nothing to do.
-const FEW: usize = 4;
-
+/// For how many bytes to be sent a conversation keeps room that has nothing to do.
 const LITTLE: usize = 64;
 
-/// What one client has sent and is to be sent. Contracts see it as what it holds; `IsAt` says where it stands in the session that its
-/// client has: what came of it was carried out in order, and each text of a fault or a reply was put after the one before it. Lines that
-/// were handed out are under way, and are told their replies in their order, whichever is granted first.
+/// What one client has sent and is to be sent. Contracts see it as what it holds; `IsAt` says where it stands. Requests that were handed
+/// out are under way, and an exchange is told once each of its requests has its reply and those before it were told, whichever is granted
+/// first.
 #[derive(Drop)]
 pub struct Conversation {
+    language: Language,
     // none once the client's text has ended
-    text_lines: Option<Lines>,
-    // those that wait
-    items: VecDeque<Item>,
-    // how many lines were handed out, how many of them were told their replies, and the others
+    reader: Option<Reader>,
+    exchanges: Exchanges,
+    // how many requests were handed out, how many of them were told their replies, and the others
     lines: u64,
     told: u64,
     under: VecDeque<Line>,
+    // room for the replies of an exchange
+    replies: Vec<Reply>,
     text: Vec<u8>,
     ended: End,
 }
 
 impl Model for Conversation {
-    ghost use Rattle.std.specs.Prelude.{◌≡◌, ◌≢◌, ◌++◌, ◌+◌, All, is_none, length};
+    ghost use Rattle.std.specs.Prelude.{◌≡◌, ◌≢◌, ◌+◌, All, length};
     ghost use Rattle.lz_proto.specs.declared.request.Request.TheVariants.{Quit};
-    ghost use Rattle.lz_serve.specs.Conversations.{Talk, kept_of};
+    ghost use Rattle.lz_serve.specs.Conversations.{Talk};
 
     ghost Value = { Talk };
 
-    ghost view = { λ c. record { kept = kept_of c.text_lines; whole = is_none c.text_lines; waiting = c.items.items; told = c.told; under = c.under.items; unsent = c.text.items; ended = c.ended } };
+    ghost view = { λ c. record { spoken = c.language; reader = c.reader; turns = c.exchanges.turns; waiting = c.exchanges.waiting; told = c.told; under = c.under.items; unsent = c.text.items; ended = c.ended } };
 
-    ghost invariant = { λ c. All (λ line. line.request ≢ Quit) c.under.items × (c.lines ≡ c.told + length c.under.items) };
+    ghost invariant = { λ c. c.lines ≡ c.told + length c.under.items };
 }
 
 impl Conversation {
-    pub fn new(alloc: Global) -> Conversation
-        ensures nothing { result ≡ nothing_yet }
-        ensures begins { (connection : ℕ) → IsAt connection [] [] [] result }
+    pub fn new(alloc: Global, language: Language) -> Conversation
+        ensures { result ≡ nothing_yet language }
     {
         Conversation {
-            text_lines: Some(Lines::new(alloc)),
-            items: VecDeque::new(alloc),
+            language,
+            reader: Some(Reader::new(alloc, language)),
+            exchanges: Exchanges::new(alloc),
             lines: 0,
             told: 0,
             under: VecDeque::new(alloc),
+            replies: Vec::new(alloc),
             text: Vec::new(alloc),
             ended: End::Done,
         }
     }
 
-    /// Takes the next piece of the client's text.
+    /// Takes the next piece of the client's text. Where memory runs out a part of what it comes to may be lost.
     pub fn feed(&mut self, piece: &[u8]) -> Result<(), AllocError>
-        requires { self.old.whole ≡ false }
+        requires { IsSome self.old.reader }
         ensures ok { OnOk result (Fed piece.now self.old self.new) }
-        ensures others { OnOk result (self.new ≡ record self.old { kept = self.new.kept; waiting = self.new.waiting }) }
-        ensures err { OnErr result (self.new ≡ self.old) }
+        ensures goes { IsSome self.new.reader }
+        ensures others { self.new ≡ record self.old { reader = self.new.reader; turns = self.new.turns; waiting = self.new.waiting } }
     {
-        if let Some(lines) = &mut self.text_lines {
-            lines.feed_into(piece, &mut self.items)?;
+        match &mut self.reader {
+            Some(reader) => reader.feed(piece, &mut self.exchanges),
+            None => Ok(()),
         }
-        Ok(())
     }
 
     /// The client's text has ended.
     pub fn finish(&mut self) -> Result<(), AllocError>
-        requires { self.old.whole ≡ false }
-        ensures ok { OnOk result (GoesOn self.old self.new) }
-        ensures others { OnOk result (self.new ≡ record self.old { kept = None; whole = true; waiting = self.new.waiting }) }
+        requires { IsSome self.old.reader }
+        ensures ok { OnOk result (Finished self.old self.new) }
+        ensures others { self.new ≡ record self.old { reader = None; turns = self.new.turns; waiting = self.new.waiting } }
+    {
+        match self.reader.take() {
+            Some(reader) => reader.end(&mut self.exchanges),
+            None => Ok(()),
+        }
+    }
+
+    /// The next request, which is under way then, unless one that asked for the same key awaits its reply.
+    pub fn next(&mut self) -> Result<Option<Request>, AllocError>
+        ensures asked { IfOk result (λ request. IfSome request (λ asked. (self.old.waiting ≡ asked ∷ drop 1 self.old.waiting) × (self.new ≡ record self.old { waiting = drop 1 self.old.waiting; under = self.old.under ++ awaited asked ∷ [] }))) }
+        ensures free { IfOk result (λ request. IfSome request (λ asked. IsFree self.old.under (key_asked asked))) }
+        ensures asks { IfOk result (λ request. IfSome request (λ asked. (asked ≢ Request.Quit) × (self.old.ended ≡ End.Done))) }
+        ensures none { IfOk result (λ request. request ≡ None → self.new ≡ self.old) }
+        ensures rests { IfOk result (λ request. request ≡ None → Rests self.new) }
         ensures err { OnErr result (self.new ≡ self.old) }
     {
-        self.items.reserve(1)?;
-        if let Some(lines) = self.text_lines.take() {
-            if let Some(bad) = lines.end() {
-                self.items.push_back_reserved(item_of(Err(bad)));
-            }
+        let Some(request) = self.waiting() else {
+            return Ok(None);
+        };
+        if self.lines == u64::MAX || is_awaited(&self.under, key_asked(&request)) {
+            return Ok(None);
         }
-        Ok(())
+        self.under.reserve(1)?;
+        self.under.push_back_reserved(Line::new(&request));
+        self.lines += 1;
+        self.exchanges.take();
+        Ok(Some(request))
     }
 
-    /// The next line, which is under way then, unless one that asked for the same key awaits its reply. Before it faults are told. They
-    /// and `quit` are carried out once no line is under way. What was carried out before memory ran out stands.
-    pub fn next(&mut self) -> Result<Option<Request>, AllocError>
-        ensures goes { GoesOn self.old self.new }
-        ensures others { self.new ≡ record self.old { waiting = self.new.waiting; under = self.new.under; unsent = self.new.unsent; ended = self.new.ended } }
-        ensures asked { IfOk result (λ request. IfSome request (λ asked. self.new.under ≡ self.old.under ++ awaited asked ∷ [])) }
-        ensures free { IfOk result (λ request. IfSome request (λ asked. IsFree self.old.under (key_asked asked))) }
-        ensures asks { IfOk result (λ request. IfSome request (λ asked. (asked ≢ Request.Quit) × (self.new.ended ≡ End.Done))) }
-        ensures none { IfOk result (λ request. request ≡ None → self.new.under ≡ self.old.under) }
-        ensures rests { IfOk result (λ request. request ≡ None → Rests self.new) }
-        ensures err { OnErr result (self.new.under ≡ self.old.under) }
-    {
-        while let Some(item) = self.first() {
-            match item {
-                Item::Asks(Request::Quit) => {
-                    if !self.under.is_empty() {
-                        return Ok(None);
-                    }
-                    self.quit();
-                }
-                Item::Asks(request) => return self.hand_out(request),
-                Item::Faulty(bad) => {
-                    if !self.under.is_empty() {
-                        return Ok(None);
-                    }
-                    self.tell_fault(bad)?;
-                }
-            }
-        }
-        Ok(None)
-    }
-
-    /// Notes the reply to the line of this number, if that asked this and awaits its reply, and says whether it does.
+    /// Notes the reply to the request of this number, if that asked this and awaits its reply, and says whether it does.
     pub fn note(&mut self, number: u64, request: Request, reply: Reply) -> bool
-        ensures goes { GoesOn self.old self.new }
         ensures noted { result ≡ true → Noted number request reply self.old self.new }
         ensures none { result ≡ false → self.new ≡ self.old }
     {
@@ -139,30 +129,35 @@ impl Conversation {
         true
     }
 
-    /// The reply that can be told, if there is one: that of the first line under way.
-    pub fn ready(&self) -> Option<Reply>
-        ensures some { IfSome result (λ reply. (first_reply self.now.under ≡ Some reply) × (self.now.ended ≡ End.Done)) }
-        ensures none { result ≡ None → self.now.ended ≡ End.Done → first_reply self.now.under ≡ None }
+    /// Tells the first exchange that wasn't told, if its requests have their replies, and says whether they do. `Halted` ends the
+    /// conversation, and so does `quit`.
+    pub fn tell(&mut self) -> Result<bool, AllocError>
+        ensures told { IfOk result (λ told. told ≡ true → (turn : ATurn) × (self.old.turns ≡ turn ∷ drop 1 self.old.turns) × (self.old.ended ≡ End.Done) × Told turn self.old self.new) }
+        ensures none { IfOk result (λ told. told ≡ false → self.new ≡ self.old) }
+        ensures rests { IfOk result (λ told. told ≡ false → self.old.ended ≡ End.Done → (turn : ATurn) → self.old.turns ≡ turn ∷ drop 1 self.old.turns → IsReady turn self.old → ⊥) }
+        ensures err { OnErr result (self.new ≡ record self.old { unsent = self.new.unsent }) }
     {
-        match self.under.front() {
-            Some(line) if self.ended == End::Done => line.reply,
-            _ => None,
+        let turn = match (self.ended, self.exchanges.first()) {
+            (End::Done, Some(turn)) => turn,
+            _ => return Ok(false),
+        };
+        match turn {
+            Turn::Asks(wording, count) => {
+                let (wording, count) = (*wording, *count);
+                self.tell_replies(wording, count)
+            }
+            Turn::Says(text) => {
+                self.text.extend_from_slice(text.as_bytes())?;
+                self.exchanges.pass();
+                Ok(true)
+            }
+            Turn::Ends(text) => {
+                self.text.extend_from_slice(text.as_bytes())?;
+                self.exchanges.pass();
+                self.ended = End::Quit;
+                Ok(true)
+            }
         }
-    }
-
-    /// Tells the reply that is ready. `Halted` ends the conversation.
-    pub fn tell(&mut self, reply: Reply) -> Result<(), AllocError>
-        requires ready { first_reply self.old.under ≡ Some reply }
-        requires goes_on { self.old.ended ≡ End.Done }
-        ensures ok { OnOk result (Told reply self.old self.new) }
-        ensures others { OnOk result (self.new ≡ record self.old { told = suc self.old.told; under = drop 1 self.old.under; unsent = self.old.unsent ++ reply_text reply; ended = end_after reply }) }
-        ensures err { OnErr result (self.new ≡ self.old) }
-    {
-        self.text.extend_from_slice(reply_text(reply).as_bytes())?;
-        self.under.pop_front();
-        self.told += 1;
-        self.ended = end_after(reply);
-        Ok(())
     }
 
     /// The text that is to be sent.
@@ -175,84 +170,89 @@ impl Conversation {
     /// So many bytes of it were sent.
     pub fn sent(&mut self, count: usize)
         requires { count ≤ length self.old.unsent }
-        ensures goes { Sent count self.old self.new }
-        ensures others { self.new ≡ record self.old { unsent = drop count self.old.unsent } }
+        ensures { self.new ≡ record self.old { unsent = drop count self.old.unsent } }
     {
         let left = self.text.len() - count;
         self.text.rotate_left(count);
         self.text.truncate(left);
     }
 
-    /// How many lines were handed out.
+    /// How many requests were handed out.
     pub fn lines(&self) -> u64
         ensures { result ≡ self.now.told + length self.now.under }
     {
         self.lines
     }
 
-    /// How many lines were told their replies.
+    /// How many were told their replies.
     pub fn told(&self) -> u64
         ensures { result ≡ self.now.told }
     {
         self.told
     }
 
-    /// Whether lines are under way.
+    /// Whether requests are under way.
     pub fn is_asked(&self) -> bool
         ensures { result ≡ false → self.now.under ≡ [] }
     {
         !self.under.is_empty()
     }
 
-    /// Whether items wait.
+    /// Whether requests wait.
     pub fn waits(&self) -> bool
         ensures some { IsTrue result ↔ (self.now.waiting ≢ []) }
         ensures none { result ≡ false → self.now.waiting ≡ [] }
     {
-        !self.items.is_empty()
+        self.exchanges.waits()
     }
 
-    /// Whether no further item will be carried out.
+    /// Whether no further exchange will be told.
     pub fn is_over(&self) -> bool
         ensures { IsTrue result ↔ IsOver self.now }
     {
         if self.ended != End::Done {
             return true;
         }
-        self.text_lines.is_none() && self.under.is_empty() && self.items.is_empty()
+        self.reader.is_none() && self.exchanges.are_told()
     }
 
-    /// Gives the room back of what was carried out and sent, but for a little.
+    /// Gives the room back of what was read, told and sent, but for a little.
     pub fn rest(&mut self)
         ensures { self.new ≡ self.old }
     {
-        self.items.shrink_to(FEW);
+        if let Some(reader) = &mut self.reader {
+            reader.rest();
+        }
+        self.exchanges.rest();
         self.under.shrink_to(1);
+        self.replies.shrink_to(1);
         self.text.shrink_to(LITTLE);
     }
 
-    /// For how many items and lines, and for how many bytes to be sent, it has room.
+    /// For how many turns, requests and replies, and for how many bytes to be sent, it has room.
     pub fn room(&self) -> (usize, usize)
         ensures unsent { length self.now.unsent ≤ result.1 }
     {
+        let lines = self.under.capacity().max(self.replies.capacity());
         (
-            self.items.capacity().saturating_add(self.under.capacity()),
+            self.exchanges.room().saturating_add(lines),
             self.text.capacity(),
         )
     }
 
-    // The item to be carried out next.
-    fn first(&self) -> Option<Item>
-        ensures some { IfSome result (λ item. (self.now.ended ≡ End.Done) × (self.now.waiting ≡ item ∷ drop 1 self.now.waiting)) }
+    // The request that waits, while the conversation goes on.
+    fn waiting(&self) -> Option<Request>
+        ensures some { IfSome result (λ request. (self.now.ended ≡ End.Done) × (self.now.waiting ≡ request ∷ drop 1 self.now.waiting)) }
+        ensures asks { IfSome result (λ request. request ≢ Request.Quit) }
         ensures none { result ≡ None → (self.now.ended ≢ End.Done) ⊎ (self.now.waiting ≡ []) }
     {
         match self.ended {
-            End::Done => self.items.front().copied(),
+            End::Done => self.exchanges.request(),
             _ => None,
         }
     }
 
-    // Where among the lines under way the one of this number stands, if it asked this and awaits its reply.
+    // Where among the requests under way the one of this number stands, if it asked this and awaits its reply.
     fn find(&self, number: u64, request: &Request) -> Option<usize>
         ensures { IfSome result (λ at. (at ≡ number - suc self.now.told) × StandsAt self.now.told number request.now self.now.under) }
     {
@@ -271,50 +271,94 @@ impl Conversation {
         }
     }
 
-    // The first item was a fault.
-    fn tell_fault(&mut self, bad: Bad) -> Result<(), AllocError>
-        requires next { self.old.waiting ≡ Item.Faulty bad ∷ drop 1 self.old.waiting }
+    // Tells the replies to the first requests under way, if each has come.
+    fn tell_replies(&mut self, wording: Wording, count: usize) -> Result<bool, AllocError>
+        requires turn { self.old.turns ≡ Turn.Asks wording count ∷ drop 1 self.old.turns }
         requires goes_on { self.old.ended ≡ End.Done }
-        requires none { self.old.under ≡ [] }
-        ensures goes { GoesOn self.old self.new }
-        ensures ok { OnOk result (self.new ≡ record self.old { waiting = drop 1 self.old.waiting; unsent = self.old.unsent ++ bad_text bad }) }
-        ensures err { OnErr result (self.new ≡ self.old) }
+        ensures told { IfOk result (λ told. told ≡ true → Told (Turn.Asks wording count) self.old self.new) }
+        ensures none { IfOk result (λ told. told ≡ false → self.new ≡ self.old) }
+        ensures rests { IfOk result (λ told. told ≡ false → IsReady (Turn.Asks wording count) self.old → ⊥) }
+        ensures err { OnErr result (self.new ≡ record self.old { unsent = self.new.unsent }) }
     {
-        self.text.extend_from_slice(bad_text(bad).as_bytes())?;
-        self.items.pop_front();
-        Ok(())
-    }
-
-    // The first item was `quit`.
-    fn quit(&mut self)
-        requires next { self.old.waiting ≡ Item.Asks Request.Quit ∷ drop 1 self.old.waiting }
-        requires goes_on { self.old.ended ≡ End.Done }
-        requires none { self.old.under ≡ [] }
-        ensures goes { GoesOn self.old self.new }
-        ensures quits { self.new ≡ record self.old { waiting = drop 1 self.old.waiting; ended = End.Quit } }
-    {
-        self.items.pop_front();
-        self.ended = End::Quit;
-    }
-
-    // The first item is handed out, unless its key is awaited.
-    fn hand_out(&mut self, request: Request) -> Result<Option<Request>, AllocError>
-        requires next { self.old.waiting ≡ Item.Asks request ∷ drop 1 self.old.waiting }
-        requires other { request ≢ Request.Quit }
-        ensures goes { GoesOn self.old self.new }
-        ensures asked { IfOk result (λ asked. IfSome asked (λ it. (it ≡ request) × IsFree self.old.under (key_asked request) × (self.new ≡ record self.old { waiting = drop 1 self.old.waiting; under = self.old.under ++ awaited request ∷ [] }))) }
-        ensures none { IfOk result (λ asked. asked ≡ None → self.new ≡ self.old) }
-        ensures rests { IfOk result (λ asked. asked ≡ None → (self.new.under ≢ []) ⊎ (self.new.told + length self.new.under ≡ 18446744073709551615)) }
-        ensures err { OnErr result (self.new ≡ self.old) }
-    {
-        if self.lines == u64::MAX || is_awaited(&self.under, key_asked(&request)) {
-            return Ok(None);
+        if !gather(&self.under, count, &mut self.replies)? {
+            return Ok(false);
         }
-        self.under.reserve(1)?;
-        self.under.push_back_reserved(Line::new(&request));
-        self.lines += 1;
-        self.items.pop_front();
-        Ok(Some(request))
+        push_replies(&mut self.text, wording, self.replies.as_slice())?;
+        self.ended = end_by(self.replies.as_slice());
+        pass_over(&mut self.under, count);
+        self.told += count as u64;
+        self.exchanges.pass();
+        Ok(true)
+    }
+}
+
+// The replies to the first of these lines, if each has come.
+fn gather(
+    under: &VecDeque<Line>,
+    count: usize,
+    replies: &mut Vec<Reply>,
+) -> Result<bool, AllocError>
+    ensures some { IfOk result (λ are. are ≡ true → (count ≤ length under.now.items) × (replies_of (take count under.now.items) ≡ Some replies.new.items)) }
+    ensures none { IfOk result (λ are. are ≡ false → count ≤ length under.now.items → replies_of (take count under.now.items) ≡ None) }
+{
+    replies.clear();
+    if under.len() < count {
+        return Ok(false);
+    }
+    for index in 0..count {
+        let Some(reply) = reply_at(under, index) else {
+            return Ok(false);
+        };
+        replies.push(reply)?;
+    }
+    Ok(true)
+}
+
+// The reply to the line at this place, if it has come.
+fn reply_at(under: &VecDeque<Line>, index: usize) -> Option<Reply>
+    ensures { (line : ALine) → slice_get under.now.items index ≡ Some line → result ≡ line.reply }
+{
+    under.get(index)?.reply
+}
+
+// Takes so many lines off the front.
+fn pass_over(under: &mut VecDeque<Line>, count: usize)
+    requires { count ≤ length under.old.items }
+    ensures { under.new.items ≡ drop count under.old.items }
+{
+    for _ in 0..count {
+        under.pop_front();
+    }
+}
+
+// Puts replies after a text.
+fn push_replies(text: &mut Vec<u8>, wording: Wording, replies: &[Reply]) -> Result<(), AllocError>
+    ensures { OnOk result (text.new.items ≡ text.old.items ++ worded wording replies.now) }
+{
+    match wording {
+        Wording::Line => push_lines(text, replies),
+        Wording::Frame(form) => push_reply(text, form, replies),
+    }
+}
+
+// Puts a line for each reply after a text.
+fn push_lines(text: &mut Vec<u8>, replies: &[Reply]) -> Result<(), AllocError>
+    ensures { OnOk result (text.new.items ≡ text.old.items ++ worded Wording.Line replies.now) }
+{
+    for reply in replies {
+        text.extend_from_slice(reply_text(*reply).as_bytes())?;
+    }
+    Ok(())
+}
+
+// How a conversation goes on after replies.
+fn end_by(replies: &[Reply]) -> End
+    ensures { result ≡ end_by replies.now }
+{
+    if has_halted(replies) {
+        End::Halted
+    } else {
+        End::Done
     }
 }
 
@@ -324,16 +368,6 @@ fn is_awaited(under: &VecDeque<Line>, key: Option<Key>) -> bool
     ensures some { result ≡ true → under.now.items ≢ [] }
 {
     under.iter().any(|line| line.awaits(key))
-}
-
-// What a line comes to that was parsed so.
-fn item_of(parsed: Result<Request, Bad>) -> Item
-    ensures { result ≡ item_of parsed }
-{
-    match parsed {
-        Ok(request) => Item::Asks(request),
-        Err(bad) => Item::Faulty(bad),
-    }
 }
 
 // The line at this place has its reply.

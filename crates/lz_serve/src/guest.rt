@@ -1,6 +1,7 @@
 //! A connection that a thread has to itself: its calls wait.
 ghost use Rattle.std.specs.Prelude.{◌≡◌};
 
+use crate::language::Language;
 use crate::observer::Observer;
 use crate::stream::{Received, Stream, Taken};
 use std::io;
@@ -59,6 +60,10 @@ impl<O: Observer> Stream for Guest<'_, O> {
     ghost traffic = { λ _. None };
 
     ghost promised = { λ _. ⊤ };
+
+    fn language(&self) -> Language {
+        Language::Lines
+    }
 
     fn receive(&mut self, buffer: &mut [u8]) -> Received {
         let mut stream = self.stream;

@@ -1,8 +1,14 @@
 //! What follows from what a stream is promised. Each function is one law.
+ghost use Rattle.lz_serve.specs.LineSessions.{LinesAreSessions};
 ghost use Rattle.lz_serve.specs.OwnLines.{OwnLinesArePlain};
 
 /// What a connection is told of keys that nobody else changes is what a plain set tells, in the order of its lines, whatever it pipelines and
 /// by whatever passes.
 pub fn own_lines_are_plain()
     ensures { OwnLinesArePlain }
+{}
+
+/// What is sent in a conversation of lines is the text of its session, by the replies that were granted.
+pub fn lines_are_sessions()
+    ensures { LinesAreSessions }
 {}

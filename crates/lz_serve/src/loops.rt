@@ -8,6 +8,7 @@ ghost use Rattle.lz_serve.specs.Halts.{IsCalm, IsCalmAfter, SawHalt};
 use crate::desk::Desk;
 use crate::free_pass::FreePass;
 use crate::given::Given;
+use crate::language::Language;
 use crate::listener::Listener;
 use crate::loads::Loads;
 use crate::observer::{Lack, Loops, Observer};
@@ -55,7 +56,7 @@ where
     let Ok(loads) = Loads::new(rt.alloc(), count) else {
         return none_served(passes, observer, Lack::Memory);
     };
-    let mut sockets = match sockets_of(rt, listener, &loads, count) {
+    let mut sockets = match sockets_of(rt, listener, loops.language, &loads, count) {
         Ok(sockets) => sockets,
         Err(why) => return none_served(passes, observer, why),
     };
@@ -91,6 +92,7 @@ where
 fn sockets_of<'a, R>(
     rt: &'a R,
     listener: &Listener,
+    language: Language,
     loads: &'a Loads,
     loops: usize,
 ) -> Result<Vec<Sockets<'a, R>>, Lack>
@@ -99,7 +101,7 @@ where
 {
     let mut all = Vec::new(rt.alloc());
     for index in 0..loops {
-        let sockets = Sockets::new(rt, listener, loads, index).map_err(Lack::System)?;
+        let sockets = Sockets::new(rt, listener, language, loads, index).map_err(Lack::System)?;
         if all.push(sockets).is_err() {
             return Err(Lack::Memory);
         }

@@ -2,6 +2,7 @@
 ghost use Rattle.std.specs.Prelude.{◌≡◌};
 ghost use Rattle.lz_serve.specs.Verbs.{verb_of};
 
+use crate::language::Language;
 use crate::listener::Listener;
 use lz_proto::{Reply, Request};
 use std::{fmt, io};
@@ -24,6 +25,8 @@ pub struct Loops {
     pub count: usize,
     /// How many connections they serve at once, all together.
     pub connections: usize,
+    /// What their clients speak.
+    pub language: Language,
 }
 
 impl Loops {
@@ -57,7 +60,13 @@ impl fmt::Display for Serving {
                 f,
                 "slots {slots}, members {members}, buckets {buckets}, passes {passes}"
             ),
-            Some(Loops { count, connections }) => write!(
+            Some(
+                Loops {
+                    count,
+                    connections,
+                    language: _,
+                },
+            ) => write!(
                 f,
                 "slots {slots}, members {members}, buckets {buckets}, passes {passes}, connections {connections}, loops {count}"
             ),

@@ -152,6 +152,10 @@ impl<S: Stream> Place<S> {
             }
             self.readable = client.read(buffer, self.ends);
         }
+        // What was told of the pieces that were read.
+        if !holds_back {
+            client.write();
+        }
         if client.is_over() || self.parts && !client.has_unsent() {
             self.leaves = true;
             client.leave();

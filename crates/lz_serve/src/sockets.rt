@@ -1,4 +1,5 @@
 //! The connections of a loop, as the system's sockets.
+use crate::language::Language;
 use crate::listener::Listener;
 use crate::loads::Loads;
 use crate::poller::{Poller, Ready};
@@ -29,6 +30,7 @@ pub struct Sockets<'a, R: Clock> {
     poll: Poll,
     events: Events,
     listener: Listener,
+    language: Language,
     /// A connection may wait at the listener.
     has_come: bool,
     /// How many connections each loop has, and which of these this one is.
@@ -41,6 +43,7 @@ pub struct Sockets<'a, R: Clock> {
 /// A connection whose calls don't wait.
 pub struct Socket<'a> {
     stream: TcpStream,
+    language: Language,
     loads: &'a Loads,
     index: usize,
 }
@@ -53,6 +56,7 @@ impl<'a, R: Clock> Drop for Sockets<'a, R> {
             poll: _,
             events: _,
             listener: _,
+            language: _,
             has_come: _,
             loads: _,
             index: _,
@@ -66,6 +70,7 @@ impl<'a> Drop for Socket<'a> {
         self.loads.take_off(self.index);
         let Socket {
             stream: _,
+            language: _,
             loads: _,
             index: _,
         } = self;
@@ -73,10 +78,12 @@ impl<'a> Drop for Socket<'a> {
 }
 
 impl<'a, R: Net + Clock + AllocGlobal> Sockets<'a, R> {
-    /// Waits for the connections of the listener, at which accepting doesn't wait any more from now on, as the loop of this number.
+    /// Waits for the connections of the listener, whose clients speak this language, as the loop of this number. Accepting at the listener doesn't wait
+    /// any more from now on.
     pub fn new(
         rt: &'a R,
         listener: &Listener,
+        language: Language,
         loads: &'a Loads,
         index: usize,
     ) -> io::Result<Sockets<'a, R>> {
@@ -97,6 +104,7 @@ impl<'a, R: Net + Clock + AllocGlobal> Sockets<'a, R> {
             poll,
             events,
             listener,
+            language,
             has_come: true,
             loads,
             index,
@@ -174,6 +182,7 @@ impl<'a, R: Clock> Poller for Sockets<'a, R> {
         self.loads.add(self.index);
         Ok(Some(Socket {
             stream,
+            language: self.language,
             loads: self.loads,
             index: self.index,
         }))
@@ -186,6 +195,10 @@ impl<'a> Stream for Socket<'a> {
     ghost traffic = { λ _. None };
 
     ghost promised = { λ _. ⊤ };
+
+    fn language(&self) -> Language {
+        self.language
+    }
 
     fn receive(&mut self, buffer: &mut [u8]) -> Received {
         'tries: for _ in 0..u64::MAX {

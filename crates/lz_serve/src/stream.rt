@@ -1,6 +1,8 @@
 //! A connection as the loop sees it.
-ghost use Rattle.std.specs.Prelude.{◌≡◌, ◌≢◌, ◌≤◌, length};
+ghost use Rattle.std.specs.Prelude.{◌≡◌, ◌≢◌, ◌≤◌, IfSome, length};
 ghost use Rattle.lz_serve.specs.Streams.{MayTake, Receives, Takes, counted, sent};
+
+use crate::language::Language;
 
 /// What a receiving gave.
 #[derive(Clone, Copy, Debug, PartialEq, Eq)]
@@ -37,6 +39,10 @@ pub trait Stream: Drop {
 
     /// What is so of the replies that are told on it, in their order.
     ghost promised: { List Grant → Type 0 };
+
+    /// The language of its client.
+    fn language(&self) -> Language
+        ensures { IfSome (traffic self.now) (λ t. result ≡ t.spoken) };
 
     /// Puts what the client has sent next at the front of the buffer.
     fn receive(&mut self, buffer: &mut [u8]) -> Received

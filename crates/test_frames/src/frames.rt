@@ -1,6 +1,6 @@
 //! Frames that come byte by byte, at their limits, and out of memory.
 use lz_proto::{Reply, Request};
-use lz_resp::{Form, Frames, Item, reply_text};
+use lz_resp::{Form, Frames, Item, push_reply};
 use lz_slot::Key;
 use std::collections::VecDeque;
 use std::test::Fail;
@@ -67,17 +67,13 @@ fn a_line_without_an_end_is_kept_up_to_a_limit(rt: HostRuntime) -> Result<(), Fa
 #[test]
 fn replies_are_told_in_their_forms(rt: HostRuntime) -> Result<(), Fail> {
     let replies = [Reply::Yes, Reply::No, Reply::Yes];
-    let count = reply_text(rt.alloc(), Form::Removed, replies.as_slice())?;
-    assert!(rt; count.as_bytes() == b":2\r\n".as_slice());
-    let each = reply_text(rt.alloc(), Form::Each, replies.as_slice())?;
-    assert!(rt; each.as_bytes() == b"*3\r\n:1\r\n:0\r\n:1\r\n".as_slice());
-    let full = reply_text(
-        rt.alloc(),
-        Form::Added,
-        [Reply::Yes, Reply::Full].as_slice(),
-    )?;
-    let text = b"-FULL no slot is free; 1 of 2 were added\r\n";
-    assert!(rt; full.as_bytes() == text.as_slice());
+    let mut text = Vec::new(rt.alloc());
+    push_reply(&mut text, Form::Removed, replies.as_slice())?;
+    push_reply(&mut text, Form::Each, replies.as_slice())?;
+    let full = [Reply::Yes, Reply::Full];
+    push_reply(&mut text, Form::Added, full.as_slice())?;
+    let told = b":2\r\n*3\r\n:1\r\n:0\r\n:1\r\n-FULL no slot is free; 1 of 2 were added\r\n";
+    assert!(rt; text.as_slice() == told.as_slice());
     Ok(())
 }
 

@@ -1,0 +1,99 @@
+-- What a client's text comes to: exchanges, each of which is some requests and the one text that replies to them.
+use Rattle.std.specs.Prelude.{◌≡◌, ℕ, List, [], ◌∷◌, ◌++◌, length, map, Option, Some, None, if◌then◌else◌}
+use Rattle.std.specs.List.{flat_map, list_any}
+use Rattle.lz_proto.specs.declared.request.Request.{Request}
+use Rattle.lz_proto.specs.declared.request.Request.TheVariants.{Quit}
+use Rattle.lz_proto.specs.declared.reply.Reply.{Reply}
+use Rattle.lz_proto.specs.declared.item.Item.{Item as LineItem}
+use Rattle.lz_proto.specs.declared.item.Item.TheVariants as line
+use Rattle.lz_proto.specs.declared.end.End.{End}
+use Rattle.lz_proto.specs.declared.end.End.TheVariants.{Done, Halted}
+use Rattle.lz_proto.specs.Lines.{Items as LineItems}
+use Rattle.lz_proto.specs.Pieces.{Ends, Feeds as FeedsLines, Reads as ReadsLines, faults_of}
+use Rattle.lz_proto.specs.Sessions.{bad_text, reply_text}
+use Rattle.lz_proto.specs.declared.fault.Bad.{Bad}
+use Rattle.lz_resp.specs.declared.item.Item.{Item as FrameItem}
+use Rattle.lz_resp.specs.declared.item.Item.TheVariants as frame
+use Rattle.lz_resp.specs.Pieces.{Feeds as FeedsFrames, Items as FrameItems, Reads as ReadsFrames, start}
+use Rattle.lz_resp.specs.Replies.{is_halted, text_of}
+use Rattle.lz_serve.specs.declared.language.Language.{Language}
+use Rattle.lz_serve.specs.declared.language.Language.TheVariants as language
+use Rattle.lz_serve.specs.declared.turn.Wording.{Wording}
+use Rattle.lz_serve.specs.declared.turn.Wording.TheVariants.{Line, Frame}
+use Rattle.lz_serve.specs.declared.turn.Turn.{Turn}
+use Rattle.lz_serve.specs.declared.turn.Turn.TheVariants as turn
+use Rattle.lz_serve.specs.declared.reader.Reader.{Reader}
+use Rattle.lz_serve.specs.declared.reader.Reader.TheVariants as reader
+
+-- Requests whose replies are worded so; a text, and nothing is asked; or a text after which nothing comes.
+pub data Exchange : Type 0 where
+  asks : Wording → List Request → Exchange
+  says : List ℕ → Exchange
+  ends : List ℕ → Exchange
+
+-- what a line comes to
+abbrev pub of_line : LineItem → Exchange
+of_line (line.Asks Quit) = ends []
+of_line (line.Asks request) = asks Line (request ∷ [])
+of_line (line.Faulty bad) = says (bad_text bad)
+
+-- what a frame comes to
+abbrev pub of_frame : FrameItem → Exchange
+of_frame (frame.Asks form requests) = asks (Frame form) requests
+of_frame (frame.Says text) = says text
+of_frame (frame.Ends text) = ends text
+
+-- an exchange without its requests
+abbrev pub turn_of : Exchange → Turn
+turn_of (asks wording requests) = turn.Asks wording (length requests)
+turn_of (says text) = turn.Says text
+turn_of (ends text) = turn.Ends text
+
+-- what these exchanges ask, one after the other
+abbrev pub requests_in : List Exchange → List Request
+requests_in [] = []
+requests_in (asks wording requests ∷ exchanges) = requests ++ requests_in exchanges
+requests_in (says text ∷ exchanges) = requests_in exchanges
+requests_in (ends text ∷ exchanges) = requests_in exchanges
+
+-- What has come and wasn't told: the turns of exchanges, and the requests that wait.
+pub record Pending : Type 0 where
+  pub turns : List Turn
+  pub waiting : List Request
+
+-- exchanges more have come
+abbrev pub adding : List Exchange → Pending → Pending
+adding exchanges p = record { turns = p.turns ++ map turn_of exchanges; waiting = p.waiting ++ requests_in exchanges }
+
+-- no text has come yet
+abbrev pub unread : Language → Reader
+unread language.Lines = reader.Lines (Some [])
+unread language.Frames = reader.Frames (Some start)
+
+-- a piece of the text gives these exchanges
+abbrev pub ReadsMore : Reader → List ℕ → List Exchange → Reader → Type 0
+ReadsMore (reader.Lines old) piece exchanges (reader.Lines new) = (items : List LineItem) × FeedsLines old piece items new × (exchanges ≡ map of_line items)
+ReadsMore (reader.Frames old) piece exchanges (reader.Frames new) = (items : List FrameItem) × FeedsFrames old piece items new × (exchanges ≡ map of_frame items)
+ReadsMore old piece exchanges new = ⊥
+
+-- the text's end gives these: a line that has none is a fault, and of a frame nothing comes
+abbrev pub EndsWith : Reader → List Exchange → Type 0
+EndsWith (reader.Lines kept) exchanges = (fault : Option Bad) × Ends kept fault × (exchanges ≡ map of_line (faults_of fault))
+EndsWith (reader.Frames place) exchanges = exchanges ≡ []
+
+-- The exchanges are those of the text in its language, up to what the reader keeps of it; none is left where the text has ended.
+abbrev pub CameFrom : Language → List ℕ → List Exchange → Option Reader → Type 0
+CameFrom spoken text exchanges (Some (reader.Lines kept)) = (spoken ≡ language.Lines) × ((items : List LineItem) × ReadsLines text items kept × (exchanges ≡ map of_line items))
+CameFrom spoken text exchanges (Some (reader.Frames place)) =
+    (spoken ≡ language.Frames) × ((items : List FrameItem) × ReadsFrames (record { room = start.room; text = text }) items place × (exchanges ≡ map of_frame items))
+CameFrom language.Lines text exchanges None = (items : List LineItem) × LineItems text items × (exchanges ≡ map of_line items)
+CameFrom language.Frames text exchanges None = (items : List FrameItem) × FrameItems start.room text items × (exchanges ≡ map of_frame items)
+
+-- the text of replies that are worded so
+abbrev pub worded : Wording → List Reply → List ℕ
+worded Line replies = flat_map reply_text replies
+worded (Frame form) replies = text_of form replies
+
+-- how a conversation goes on after replies
+abbrev pub end_by : List Reply → End
+end_by replies = if list_any is_halted replies then Halted else Done

@@ -1,0 +1,164 @@
+//! What has come of a client's text and wasn't told.
+ghost use Rattle.std.specs.Prelude.{◌≡◌, ◌≢◌, ◌++◌, ◌∷◌, [], All, IfSome, IsTrue, None, OnOk, drop, false, ◌↔◌};
+ghost use Rattle.lz_serve.specs.Exchanges.{adding, asks, of_frame, of_line};
+
+use crate::turn::{Turn, Wording};
+use lz_proto::{Item as LineItem, Request, bad_text};
+use lz_resp::{Item as FrameItem, Text};
+use std::alloc::{AllocError, Global};
+use std::collections::VecDeque;
+use std::marker::Model;
+
+/// For how many turns and requests room is kept where there are none.
+const FEW: usize = 4;
+
+/// The turns of exchanges, and the requests of theirs that wait.
+#[derive(Drop)]
+pub struct Exchanges {
+    alloc: Global,
+    turns: VecDeque<Turn>,
+    requests: VecDeque<Request>,
+}
+
+impl Model for Exchanges {
+    ghost use Rattle.std.specs.Prelude.{◌≢◌, All};
+    ghost use Rattle.lz_proto.specs.declared.request.Request.TheVariants.{Quit};
+    ghost use Rattle.lz_serve.specs.Exchanges.{Pending};
+
+    ghost Value = { Pending };
+
+    ghost view = { λ e. record { turns = e.turns.items; waiting = e.requests.items } };
+
+    ghost invariant = { λ e. All (λ request. request ≢ Quit) e.requests.items };
+}
+
+impl Exchanges {
+    pub(crate) fn new(alloc: Global) -> Exchanges
+        ensures { result ≡ record { turns = []; waiting = [] } }
+    {
+        Exchanges {
+            alloc,
+            turns: VecDeque::new(alloc),
+            requests: VecDeque::new(alloc),
+        }
+    }
+
+    /// What a line comes to has come.
+    pub(crate) fn put_line(&mut self, item: LineItem) -> Result<(), AllocError>
+        ensures { OnOk result (self.new ≡ adding (of_line item ∷ []) self.old) }
+    {
+        match item {
+            LineItem::Asks(Request::Quit) => self.put_turn(Turn::Ends(Text::of(self.alloc, b"")?)),
+            LineItem::Asks(request) => self.put_request(request),
+            LineItem::Faulty(bad) => {
+                let text = Text::of(self.alloc, bad_text(bad).as_bytes())?;
+                self.put_turn(Turn::Says(text))
+            }
+        }
+    }
+
+    /// What a frame comes to has come.
+    pub(crate) fn put_frame(&mut self, item: FrameItem) -> Result<(), AllocError>
+        ensures { OnOk result (self.new ≡ adding (of_frame item ∷ []) self.old) }
+    {
+        match item {
+            FrameItem::Asks(form, requests) => {
+                self.put_requests(Wording::Frame(form), requests.as_slice())
+            }
+            FrameItem::Says(text) => self.put_turn(Turn::Says(text)),
+            FrameItem::Ends(text) => self.put_turn(Turn::Ends(text)),
+        }
+    }
+
+    /// The first turn.
+    pub(crate) fn first(&self) -> Option<&Turn>
+        ensures some { IfSome result (λ turn. self.now.turns ≡ turn.now ∷ drop 1 self.now.turns) }
+        ensures none { result ≡ None → self.now.turns ≡ [] }
+    {
+        self.turns.front()
+    }
+
+    /// The first turn is over.
+    pub(crate) fn pass(&mut self)
+        ensures { self.new ≡ record self.old { turns = drop 1 self.old.turns } }
+    {
+        self.turns.pop_front();
+    }
+
+    /// The first request that waits.
+    pub(crate) fn request(&self) -> Option<Request>
+        ensures some { IfSome result (λ request. self.now.waiting ≡ request ∷ drop 1 self.now.waiting) }
+        ensures asks { IfSome result (λ request. request ≢ Request.Quit) }
+        ensures none { result ≡ None → self.now.waiting ≡ [] }
+    {
+        self.requests.front().copied()
+    }
+
+    /// The first request waits no more.
+    pub(crate) fn take(&mut self)
+        ensures { self.new ≡ record self.old { waiting = drop 1 self.old.waiting } }
+    {
+        self.requests.pop_front();
+    }
+
+    /// Whether requests wait.
+    pub(crate) fn waits(&self) -> bool
+        ensures some { IsTrue result ↔ (self.now.waiting ≢ []) }
+        ensures none { result ≡ false → self.now.waiting ≡ [] }
+    {
+        !self.requests.is_empty()
+    }
+
+    /// Whether each exchange was told.
+    pub(crate) fn are_told(&self) -> bool
+        ensures { IsTrue result ↔ (self.now.turns ≡ []) }
+    {
+        self.turns.is_empty()
+    }
+
+    /// Gives the room back, but for a little.
+    pub(crate) fn rest(&mut self)
+        ensures { self.new ≡ self.old }
+    {
+        self.turns.shrink_to(FEW);
+        self.requests.shrink_to(FEW);
+    }
+
+    /// For how many turns and requests it has room.
+    pub(crate) fn room(&self) -> usize {
+        self.turns
+            .capacity()
+            .saturating_add(self.requests.capacity())
+    }
+
+    // A turn that asks nothing.
+    fn put_turn(&mut self, turn: Turn) -> Result<(), AllocError>
+        ensures { OnOk result (self.new ≡ record self.old { turns = self.old.turns ++ turn ∷ [] }) }
+    {
+        self.turns.push_back(turn)?;
+        Ok(())
+    }
+
+    // A line's request.
+    fn put_request(&mut self, request: Request) -> Result<(), AllocError>
+        requires { request ≢ Request.Quit }
+        ensures { OnOk result (self.new ≡ adding (asks Wording.Line (request ∷ []) ∷ []) self.old) }
+    {
+        self.requests.reserve(1)?;
+        self.turns.push_back(Turn::Asks(Wording::Line, 1))?;
+        self.requests.push_back_reserved(request);
+        Ok(())
+    }
+
+    // Requests, and the turn of their replies.
+    fn put_requests(&mut self, wording: Wording, requests: &[Request]) -> Result<(), AllocError>
+        requires { All (λ request. request ≢ Request.Quit) requests.now }
+        ensures { OnOk result (self.new ≡ adding (asks wording requests.now ∷ []) self.old) }
+    {
+        self.turns.push_back(Turn::Asks(wording, requests.len()))?;
+        for request in requests {
+            self.requests.push_back(*request)?;
+        }
+        Ok(())
+    }
+}
