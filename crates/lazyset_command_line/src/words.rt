@@ -85,13 +85,14 @@ pub const SHEETS: [Sheet; 10] = [
     Sheet {
         name: "serve",
         about: "Answers the lines of many connections at once, as `run` does",
-        notes: "Prints `listening PORT`, or `listening PATH`, when clients can connect, `refused N` as `run` does, or `noport`. Standard error is its log.\n\nIt locks the file: where another process has it, it says `nofile`.\n\nExample: lazyset serve f 7000 8 --buckets 1024 --idle 600\n\nFor thousands of connections: lazyset serve f 7000 1024 --connections 5000\n\nFor this user's programs alone: lazyset serve f - 8 --socket f.socket",
+        notes: "Prints `listening PORT`, or `listening PATH`, when clients can connect, `refused N` as `run` does, or `noport`. Standard error is its log.\n\nIt locks the file: where another process has it, it says `nofile`.\n\nExample: lazyset serve f 7000 8 --buckets 1024 --idle 600\n\nFor thousands of connections: lazyset serve f 7000 1024 --connections 5000\n\nFor this user's programs alone: lazyset serve f - 8 --socket f.socket\n\nFor Redis's clients: lazyset serve f 7000 1024 --connections 5000 --resp",
         words: &[
             FILE,
             PORT,
             PASSES,
             CONNECTIONS,
             LOOPS,
+            RESP,
             SESSIONS,
             IDLE,
             SERVED_BUCKETS,
@@ -289,6 +290,15 @@ const LOOPS: Word = Word {
     default: None,
     beside: Beside::Needs("connections"),
     help: "How many threads serve the connections, 1 to 64 and at most PASSES; 1 unless given",
+};
+
+const RESP: Word = Word {
+    id: "resp",
+    value_name: None,
+    form: Form::Flag,
+    default: None,
+    beside: Beside::Needs("connections"),
+    help: "Speaks the protocol of Redis (RESP2) in place of lines, so that its clients can be used",
 };
 
 const SESSIONS: Word = Word {

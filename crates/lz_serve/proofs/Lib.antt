@@ -8,6 +8,8 @@ pub mod Askings
 pub mod FreePasses
 pub mod AskingRows
 pub mod LinesUnderWay
+pub mod ConversationRows
+pub mod StreamRows
 pub mod OwnLines
 pub mod OwnLinesRows
 pub mod ExchangesMore

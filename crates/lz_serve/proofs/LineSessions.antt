@@ -9,7 +9,7 @@ use Rattle.lz_proto.specs.declared.reply.Reply.{Reply}
 use Rattle.lz_proto.specs.declared.reply.Reply.TheVariants as reply
 use Rattle.lz_proto.specs.declared.end.End.{End}
 use Rattle.lz_proto.specs.declared.end.End.TheVariants as ends
-use Rattle.lz_proto.specs.Sessions.{Answered, bad_text, reply_text}
+use Rattle.lz_proto.specs.Sessions.{Answered, reply_text}
 use Rattle.lz_proto.specs.Steps.{end_after}
 use Rattle.lz_proto.proofs.Serving.{answered_more, fault_answered, request_answered}
 use Rattle.lz_serve.specs.declared.language.Language.{Language}
@@ -17,7 +17,8 @@ use Rattle.lz_serve.specs.declared.language.Language.TheVariants as language
 use Rattle.lz_serve.specs.declared.reader.Reader.{Reader}
 use Rattle.lz_serve.specs.declared.reader.Reader.TheVariants as reader
 use Rattle.lz_serve.specs.declared.turn.Wording.TheVariants.{Line}
-use Rattle.lz_serve.specs.Exchanges.{CameFrom, Exchange, asks, end_by, of_line, worded}
+use Rattle.lz_serve.specs.declared.turn.Turn.{Turn}
+use Rattle.lz_serve.specs.Exchanges.{CameFrom, Exchange, asks, end_by, of_line, turn_of}
 use Rattle.lz_serve.specs.Conversations.{AreFor, AreTold, IsAt, IsTold, Talk, more, nothing}
 use Rattle.lz_serve.specs.Grants.{Grant, IsOfLine}
 use Rattle.lz_serve.specs.LineSessions.{IsGranted, IsSession, LinesAreSessions, LinesCame}
@@ -88,6 +89,10 @@ answered _ _ _ _ _ (more connection exchanges grants text exchange its said ende
     subst (λ (l : List Item). Answered (IsGranted connection) [] l (grants ++ its) (text ++ said) ended) (sym (f.whole ∙ ap (λ (l : List Item). f.front ++ l) one.1))
     (answered_more (IsGranted connection) [] grants (grants ++ its) f.front (one.0 ∷ []) text said ended first last)
 
+length_map : {A B : Type 0} (f : A → B) (l : List A) → length l ≡ length (map f l)
+length_map f [] = refl
+length_map f (x ∷ l) = ap (λ (n : ℕ). suc n) (length_map f l)
+
 lines_came : (text : List ℕ) (exchanges : List Exchange) (r : Option Reader) → CameFrom language.Lines text exchanges r → (items : List Item) × LinesCame text items r × (exchanges ≡ map of_line items)
 lines_came text exchanges (Some (reader.Lines kept)) came = came.1
 lines_came text exchanges (Some (reader.Frames place)) came = absurd (let apart = came.0 in cc)
@@ -101,5 +106,6 @@ lines_are_sessions connection grants text sent t spoken at =
       done = f.front;
       left = f.rest;
       came = subst (λ (l : List Item). LinesCame text l t.reader) f.whole came.1;
+      many = length_map of_line f.rest ∙ ap (λ (l : List Exchange). length l) f.others ∙ length_map turn_of at.left ∙ ap (λ (l : List Turn). length l) at.turns;
       answered = answered connection at.done grants (sent ++ t.unsent) t.ended at.told f.front f.first;
     }

@@ -23,11 +23,12 @@ LinesCame text items (Some (reader.Frames place)) = ⊥
 LinesCame text items None = Items text items
 
 -- Of the items of the text the first ones were answered, each request by the reply that was granted next, and what was sent and is to be
--- sent is the text of that session.
+-- sent is the text of that session. As many are left as there are turns.
 pub record IsSession (connection : ℕ) (grants : List Grant) (text sent : List ℕ) (t : Talk) : Type 0 where
   pub done : List Item
   pub left : List Item
   pub came : LinesCame text (done ++ left) t.reader
+  pub many : length left ≡ length t.turns
   pub answered : Answered (IsGranted connection) [] done grants (sent ++ t.unsent) t.ended
 
 -- A conversation of lines stands within a session.
