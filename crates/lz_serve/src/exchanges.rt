@@ -10,7 +10,7 @@ use std::collections::VecDeque;
 use std::marker::Model;
 
 /// For how many turns and requests room is kept where there are none.
-const FEW: usize = 4;
+const FEW: usize = 1;
 
 /// The turns of exchanges, and the requests of theirs that wait.
 #[derive(Drop)]

@@ -1,13 +1,13 @@
 //! The lines of a conversation, and the room that it keeps.
 use lz_proto::{Reply, Request};
-use lz_serve::Conversation;
+use lz_serve::{Conversation, Language};
 use std::test::Fail;
 
 /// How many lines the longest piece has.
 const LINES: usize = 4_095;
 
-/// How many bytes an item takes, and the room of an unfinished line.
-const ITEM: usize = 24;
+/// How many bytes a turn takes, with a request and its reply, and the room of an unfinished line.
+const EXCHANGE: usize = 96;
 
 const LINE: usize = 66;
 
@@ -18,7 +18,7 @@ const LITTLE: usize = 256;
 fn lines_of_other_keys_are_handed_out_together_and_told_in_order(
     rt: HostRuntime,
 ) -> Result<(), Fail> {
-    let mut talk = Conversation::new(rt.alloc());
+    let mut talk = Conversation::new(rt.alloc(), Language::Lines);
     talk.feed(b"add 1\nadd 2\nhas 1\n".as_slice())?;
     let first = talk.next()?;
     let second = talk.next()?;
@@ -26,27 +26,44 @@ fn lines_of_other_keys_are_handed_out_together_and_told_in_order(
     if let Some(request) = second {
         assert!(rt; talk.note(2, request, Reply::No));
     }
-    assert!(rt; talk.ready().is_none());
+    assert!(rt; !talk.tell()?);
     if let Some(request) = first {
         assert!(rt; talk.note(1, request, Reply::Yes));
     }
-    if let Some(reply) = talk.ready() {
-        talk.tell(reply)?;
-    }
-    if let Some(reply) = talk.ready() {
-        talk.tell(reply)?;
-    }
+    assert!(rt; talk.tell()? && talk.tell()? && !talk.tell()?);
     assert!(rt; talk.unsent() == b"yes\nno\n".as_slice());
     assert!(rt; matches!(talk.next()?, Some(Request::Has(_))));
     Ok(())
 }
 
 #[test]
+fn the_members_of_a_frame_are_told_together(rt: HostRuntime) -> Result<(), Fail> {
+    let mut talk = Conversation::new(rt.alloc(), Language::Frames);
+    talk.feed(b"sadd 0 1 2\r\nping\r\n*3\r\n$9\r\nSISMEMBER\r\n$1\r\n0\r\n".as_slice())?;
+    talk.feed(b"$1\r\n1\r\nquit\r\nping\r\n".as_slice())?;
+    let first = talk.next()?.ok_or("a request")?;
+    let second = talk.next()?.ok_or("a request")?;
+    assert!(rt; talk.next()?.is_none());
+    assert!(rt; talk.note(2, second, Reply::Yes) && !talk.tell()?);
+    assert!(rt; talk.note(1, first, Reply::Yes));
+    assert!(rt; talk.tell()? && talk.tell()? && !talk.tell()?);
+    assert!(rt; talk.unsent() == b":2\r\n+PONG\r\n".as_slice());
+    let third = talk.next()?.ok_or("a request")?;
+    assert!(rt; matches!(third, Request::Has(_)) && talk.note(3, third, Reply::No));
+    assert!(rt; talk.tell()? && talk.tell()? && !talk.tell()?);
+    assert!(rt; talk.unsent() == b":2\r\n+PONG\r\n:0\r\n+OK\r\n".as_slice());
+    assert!(rt; talk.is_over());
+    Ok(())
+}
+
+#[test]
 fn a_conversation_with_nothing_to_do_keeps_little_room(rt: HostRuntime) -> Result<(), Fail> {
-    let mut talk = Conversation::new(rt.alloc());
+    let mut talk = Conversation::new(rt.alloc(), Language::Lines);
     let piece = [b'\n'; LINES];
     talk.feed(piece.as_slice())?;
-    talk.next()?;
+    for _ in 0..LINES {
+        assert!(rt; talk.tell()?);
+    }
     let (items, text) = talk.room();
     assert!(rt; items >= LINES && text >= 6 * LINES);
     let unsent = talk.unsent().len();
@@ -54,7 +71,7 @@ fn a_conversation_with_nothing_to_do_keeps_little_room(rt: HostRuntime) -> Resul
     talk.sent(unsent);
     talk.rest();
     let (items, text) = talk.room();
-    assert!(rt; items <= 4 && text <= 64);
-    assert!(rt; 4 * ITEM + 64 + LINE <= LITTLE);
+    assert!(rt; items <= 3 && text <= 64);
+    assert!(rt; EXCHANGE + 64 + LINE <= LITTLE);
     Ok(())
 }

@@ -14,7 +14,7 @@ use Rattle.lz_proto.specs.Sessions.{Serves, session_text}
 use Rattle.lz_proto.proofs.LineReads.{item_read}
 use Rattle.lz_proto.proofs.Texts.{only}
 use Rattle.lz_board.specs.Seats.{BoardId}
-use Rattle.lz_serve.specs.Conversations.{IsGranted}
+use Rattle.lz_serve.specs.LineSessions.{IsGranted}
 use Rattle.lz_serve.specs.Grants.{Grant, IsGrant, IsOfLine}
 use Rattle.test_threads.specs.Tapes.{IsTold}
 

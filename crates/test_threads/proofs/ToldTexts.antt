@@ -1,5 +1,5 @@
 -- A tape goes on: what has come of its text, and what was sent.
-use Rattle.std.proofs.Common.{◌≡◌, ◌+◌, ℕ, All, Bool, true, false, List, [], ◌++◌, length, take, drop, Option, Some, None, refl, sym, ap, subst, ◌∙◌, arith, append_assoc}
+use Rattle.std.proofs.Common.{◌≡◌, ◌+◌, ℕ, All, Bool, true, false, List, [], ◌++◌, length, take, drop, Option, Some, None, is_none, refl, sym, ap, subst, ◌∙◌, arith, append_assoc}
 use Rattle.std.proofs.Math.Seq.{take-add}
 use Rattle.std.proofs.lemmas.List.{drop_all, take-append-drop, take_all, take_at}
 use Rattle.std.proofs.lemmas.List.Elements.{All-nil, All-push}
@@ -10,8 +10,11 @@ use Rattle.lz_proto.specs.Lines.{Items}
 use Rattle.lz_proto.specs.Sessions.{Answered}
 use Rattle.lz_proto.proofs.Texts.{some_items}
 use Rattle.lz_board.specs.Seats.{BoardId}
-use Rattle.lz_serve.specs.Conversations.{CameFrom, IsGranted}
-use Rattle.lz_serve.specs.Lines.{items_of}
+use Rattle.lz_serve.specs.declared.language.Language.TheVariants.{Lines}
+use Rattle.lz_serve.specs.declared.reader.Reader.{Reader}
+use Rattle.lz_serve.specs.declared.reader.Reader.TheVariants as reader
+use Rattle.lz_serve.specs.LineSessions.{IsGranted, LinesCame}
+use Rattle.lz_serve.proofs.LineSessions.{lines_are_sessions}
 use Rattle.lz_serve.specs.Grants.{IsGrant, Promises}
 use Rattle.lz_serve.specs.Streams.{MayTake, Traffic}
 use Rattle.test_threads.specs.Tapes.{IsTape}
@@ -46,12 +49,12 @@ going false text read whole some = refl
 going true text read whole some = absurd (some (drop_all read text (omega (arith, whole refl))))
 
 abbrev traffic : List ℕ → Bool → List ℕ → Traffic
-traffic received ended taken = record { received = received; ended = ended; taken = taken }
+traffic received ended taken = record { spoken = Lines; received = received; ended = ended; taken = taken }
 
 -- a piece of what is left has come into a buffer
 pub read_on : (old : Traffic) (text sent piece after : List ℕ) (read count : ℕ) (ended : Bool) → traffic (take read text) ended sent ≡ old → (ended ≡ true → read ≡ length text) → (drop read text ≡ [] → ⊥)
     → piece ≡ take count (drop read text) → length piece ≡ count
-    → (old.ended ≡ false) × (Some (traffic (take (read + count) text) ended sent) ≡ Some (traffic (old.received ++ take count (piece ++ after)) false old.taken))
+    → (old.ended ≡ false) × (Some (traffic (take (read + count) text) ended sent) ≡ Some (record old { received = old.received ++ take count (piece ++ after) }))
 read_on old text sent piece after read count ended is whole some cut long =
     let goes = going ended text read whole some in
     let came : take (read + count) text ≡ take read text ++ take count (piece ++ after) =
@@ -60,15 +63,16 @@ read_on old text sent piece after read count ended is whole some cut long =
     (goes, ap (λ (x : List ℕ). Some (traffic x ended sent)) came ∙ ap (λ (x : Bool). Some (traffic (take read text ++ take count (piece ++ after)) x sent)) goes)
 
 -- the items of what has come are the text's first ones
-first_items : (ended : Bool) (text : List ℕ) (read : ℕ) (done later : List Item) (kept : Option (List ℕ)) → (ended ≡ true → read ≡ length text) → CameFrom ended (take read text) (done ++ later) kept → (more : List Item) × Items text (done ++ more)
-first_items true text read done later kept whole came = (later, subst (λ (x : List ℕ). Items x (done ++ later)) (take_all read text (omega (arith, whole refl))) came)
-first_items false text read done later None whole came = (later, subst (λ (x : List ℕ). Items x (done ++ later)) (take-append-drop read text) (came (drop read text)))
-first_items false text read done later (Some left) whole came =
+first_items : (ended : Bool) (text : List ℕ) (read : ℕ) (done later : List Item) (r : Option Reader) → (ended ≡ true → read ≡ length text) → is_none r ≡ ended → LinesCame (take read text) (done ++ later) r → (more : List Item) × Items text (done ++ more)
+first_items ended text read done later None whole is came = (later, subst (λ (x : List ℕ). Items x (done ++ later)) (take_all read text (omega (arith, whole (sym is)))) came)
+first_items ended text read done later (Some (reader.Lines None)) whole is came = (later, subst (λ (x : List ℕ). Items x (done ++ later)) (take-append-drop read text) (came (drop read text)))
+first_items ended text read done later (Some (reader.Lines (Some left))) whole is came =
     let some = some_items (left ++ drop read text) in (
       later ++ some.0,
       subst (λ (x : List Item). Items text x) (append_assoc done later some.0)
           (subst (λ (x : List ℕ). Items x ((done ++ later) ++ some.0)) (take-append-drop read text) (came.1 (drop read text) some.0 some.1)),
     )
+first_items ended text read done later (Some (reader.Frames place)) whole is came = absurd came
 
 sent_on : (sent text rest : List ℕ) (count : ℕ) → sent ++ (text ++ rest) ≡ (sent ++ take count text) ++ (drop count text ++ rest)
 sent_on sent text rest count =
@@ -80,24 +84,26 @@ pub told_on : (b : BoardId) (F : Format) (old : Traffic) (text sent piece new : 
     → MayTake (All (IsGrant b F)) (Some old) piece → new ≡ sent ++ take count piece → IsTape b F text read ended new
 told_on b F old text sent piece new read count ended is tape may longer =
     let may : MayTake (All (IsGrant b F)) (Some (traffic (take read text) ended sent)) piece = subst (λ (o : Traffic). MayTake (All (IsGrant b F)) (Some o) piece) (sym is) may in
-    let t = may.1 in
-    let at = may.2.2 in
-    let later = items_of t.under ++ t.waiting in
-    let first = first_items ended text read at.done later t.kept tape.whole (subst (λ (whole : Bool). CameFrom whole (take read text) (at.done ++ later) t.kept) may.2.3 at.came) in
-    let split : sent ++ t.unsent ≡ new ++ (drop count piece ++ may.3) =
-    ap (λ (x : List ℕ). sent ++ x) may.4 ∙ sent_on sent piece may.3 count ∙ ap (λ (x : List ℕ). x ++ (drop count piece ++ may.3)) (sym longer) in
-    record {
-      within = tape.within;
-      whole = tape.whole;
-      told = record {
-        items = at.done;
-        more = first.0;
-        its = first.1;
-        grants = may.2.0;
-        granted = may.2.1;
-        rest = drop count piece ++ may.3;
-        ended = t.ended;
-        connection = may.0;
-        answered = subst (λ (x : List ℕ). Answered (IsGranted may.0) [] at.done may.2.0 x t.ended) split at.answered;
-      };
-    }
+    by_talk may
+  where
+    by_talk : MayTake (All (IsGrant b F)) (Some (traffic (take read text) ended sent)) piece → IsTape b F text read ended new
+    by_talk (connection, t, (grants, granted, at, spoken, goes), rest, is_rest) =
+        let s = lines_are_sessions connection grants (take read text) sent t spoken at in
+        let first = first_items ended text read s.done s.left t.reader tape.whole goes s.came in
+        let split : sent ++ t.unsent ≡ new ++ (drop count piece ++ rest) =
+        ap (λ (x : List ℕ). sent ++ x) is_rest ∙ sent_on sent piece rest count ∙ ap (λ (x : List ℕ). x ++ (drop count piece ++ rest)) (sym longer) in
+        record {
+          within = tape.within;
+          whole = tape.whole;
+          told = record {
+            items = s.done;
+            more = first.0;
+            its = first.1;
+            grants = grants;
+            granted = granted;
+            rest = drop count piece ++ rest;
+            ended = t.ended;
+            connection = connection;
+            answered = subst (λ (x : List ℕ). Answered (IsGranted connection) [] s.done grants x t.ended) split s.answered;
+          };
+        }

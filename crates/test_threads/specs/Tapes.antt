@@ -6,7 +6,7 @@ use Rattle.lz_proto.specs.declared.end.End.{End}
 use Rattle.lz_proto.specs.Lines.{Items}
 use Rattle.lz_proto.specs.Sessions.{Answered}
 use Rattle.lz_board.specs.Seats.{BoardId}
-use Rattle.lz_serve.specs.Conversations.{IsGranted}
+use Rattle.lz_serve.specs.LineSessions.{IsGranted}
 use Rattle.lz_serve.specs.Grants.{Grant, IsGrant}
 
 -- It is a beginning of what the client is told of the first items of its text: each request was

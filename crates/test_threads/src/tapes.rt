@@ -9,7 +9,7 @@ ghost use Rattle.lz_set.specs.Names.{MayCall};
 use lz_disk::MemoryDisk;
 use lz_proto::Reply;
 use lz_serve::{
-    Client, FreePass, Given, Lack, Listener, Observer, Received, Serving, Stream, Taken, Verb,
+    Client, FreePass, Given, Lack, Language, Listener, Observer, Received, Serving, Stream, Taken, Verb,
     serve_client,
 };
 use lz_set::{Blank, Fault, Named, NoGate, Pass, Set};
@@ -41,12 +41,13 @@ struct Tape<'a, N: Named> {
 
 impl<'a, N: Named> Model for Tape<'a, N> {
     ghost use Rattle.std.specs.Prelude.{take};
+    ghost use Rattle.lz_serve.specs.declared.language.Language.TheVariants.{Lines};
     ghost use Rattle.lz_serve.specs.Streams.{Traffic};
     ghost use Rattle.test_threads.specs.Tapes.{IsTape};
 
     ghost Value = { Traffic };
 
-    ghost view = { λ t. record { received = take t.read t.text.now; ended = t.ended; taken = t.sent.items } };
+    ghost view = { λ t. record { spoken = Lines; received = take t.read t.text.now; ended = t.ended; taken = t.sent.items } };
 
     ghost invariant = { λ t. IsTape N.board N.format t.text.now t.read t.ended t.sent.items };
 }
@@ -69,7 +70,7 @@ impl<'a, N: Named> Tape<'a, N> {
     ghost use Rattle.std.specs.Prelude.{false};
 
     fn new(alloc: Global, text: &'a [u8], out: &'a Cell<Option<Vec<u8>>>) -> Tape<'a, N>
-        ensures { result ≡ record { received = []; ended = false; taken = [] } }
+        ensures { result ≡ record { spoken = Language.Lines; received = []; ended = false; taken = [] } }
     {
         Tape {
             text,
@@ -89,6 +90,10 @@ impl<'a, N: Named> Stream for Tape<'a, N> {
     ghost traffic = { λ t. Some t };
 
     ghost promised = { All (IsGrant N.board N.format) };
+
+    fn language(&self) -> Language {
+        Language::Lines
+    }
 
     fn receive(&mut self, buffer: &mut [u8]) -> Received {
         let rest = &self.text[self.read..];
