@@ -1,12 +1,16 @@
 -- Worked frames.
-use Rattle.std.proofs.Common.{◌≡◌, [], ◌∷◌, Some, None, Ok, Err, refl, codes}
+use Rattle.std.proofs.Common.{◌≡◌, [], ◌∷◌, ◌++◌, length, Some, None, Ok, Err, refl, codes}
 use Rattle.std.specs.Fmt.{digits}
+use Rattle.std.specs.List.{flat_map}
 use Rattle.lz_proto.specs.declared.request.Request.TheVariants.{Add, Remove, Has}
 use Rattle.lz_proto.specs.declared.reply.Reply.TheVariants.{Yes, No, Full, Halted, OldFile}
 use Rattle.lz_resp.specs.Reading.{first_of}
-use Rattle.lz_resp.specs.Commands.{item_of, room_after, ok_text, no_key, no_room}
-use Rattle.lz_resp.specs.Replies.{fault_text, text_of}
+use Rattle.lz_resp.specs.Commands.{item_of, room_after, ok_text, no_key, no_room, no_words_text, nil_text, hello_text, no_version, other_version, subtext_of}
+use Rattle.lz_resp.specs.Frames.{bulk}
+use Rattle.lz_resp.specs.Names.{all_commands}
+use Rattle.lz_resp.specs.Replies.{fault_text, integer, text_of}
 use Rattle.lz_resp.specs.declared.fault.Fault.TheVariants.{Count, Length, NoBulk, NoEnd, Quotes}
+use Rattle.lz_resp.specs.declared.subcommand.Subcommand.TheVariants as subcommand
 use Rattle.lz_resp.specs.declared.form.Form.TheVariants.{Added, Removed, Found, Each, Stored}
 use Rattle.lz_resp.specs.declared.item.Item.TheVariants.{Asks, Says, Ends}
 
@@ -93,6 +97,46 @@ said :
     × (item_of 0 (codes "ECHO" ∷ [] ∷ []) ≡ Says (codes "$0\r\n\r\n")) × (item_of 0 (codes "QUIT" ∷ []) ≡ Ends ok_text)
 unfolding digits
 said = (refl, refl, refl, refl)
+
+-- the array that Redis sends: seven names and their values
+hello :
+    hello_text ≡ codes "*14\r\n" ++ flat_map bulk (codes "server" ∷ codes "lazyset" ∷ codes "version" ∷ codes "7.0.0" ∷ codes "proto" ∷ []) ++ integer 2
+    ++ bulk (codes "id") ++ integer 0 ++ flat_map bulk (codes "mode" ∷ codes "standalone" ∷ codes "role" ∷ codes "master" ∷ codes "modules" ∷ []) ++ no_words_text
+unfolding digits
+hello = refl
+
+greeted :
+    (item_of 0 (codes "HELLO" ∷ []) ≡ Says hello_text) × (item_of 0 (codes "hello" ∷ codes "2" ∷ []) ≡ Says hello_text)
+    × (item_of 0 (codes "HELLO" ∷ codes "3" ∷ codes "SETNAME" ∷ codes "me" ∷ []) ≡ Says other_version) × (item_of 0 (codes "HELLO" ∷ codes "1" ∷ []) ≡ Says other_version)
+    × (item_of 0 (codes "HELLO" ∷ codes "x" ∷ []) ≡ Says no_version)
+    × (item_of 0 (codes "HELLO" ∷ codes "2" ∷ codes "AUTH" ∷ codes "a" ∷ codes "b" ∷ []) ≡ Says (codes "-ERR Syntax error in HELLO option 'AUTH'\r\n"))
+greeted = (refl, refl, refl, refl, refl, refl)
+
+reset :
+    (item_of 9 (codes "Reset" ∷ []) ≡ Says (codes "+RESET\r\n")) × (room_after 9 (codes "Reset" ∷ []) ≡ 0) × (room_after 9 (codes "RESET" ∷ codes "x" ∷ []) ≡ 9)
+    × (item_of 9 (codes "RESET" ∷ codes "x" ∷ []) ≡ Says (codes "-ERR wrong number of arguments for 'reset' command\r\n"))
+reset = (refl, refl, refl, refl)
+
+client :
+    (item_of 0 (codes "CLIENT" ∷ codes "SETNAME" ∷ codes "me" ∷ []) ≡ Says ok_text) × (item_of 0 (codes "client" ∷ codes "setinfo" ∷ codes "LIB-NAME" ∷ codes "redis-py" ∷ []) ≡ Says ok_text)
+    × (item_of 0 (codes "CLIENT" ∷ codes "GETNAME" ∷ []) ≡ Says nil_text) × (item_of 0 (codes "CLIENT" ∷ codes "no-evict" ∷ codes "on" ∷ []) ≡ Says ok_text)
+    × (item_of 0 (codes "CLIENT" ∷ []) ≡ Says (codes "-ERR wrong number of arguments for 'client' command\r\n"))
+    × (item_of 0 (codes "CLIENT" ∷ codes "SETNAME" ∷ []) ≡ Says (codes "-ERR wrong number of arguments for 'client|setname' command\r\n"))
+    × (item_of 0 (codes "CLIENT" ∷ codes "ID" ∷ []) ≡ Says (codes "-ERR unknown subcommand 'ID'. Try CLIENT HELP.\r\n"))
+    × (item_of 0 (codes "CLIENT" ∷ codes "GET" ∷ codes "x" ∷ []) ≡ Says (codes "-ERR unknown subcommand 'GET'. Try CLIENT HELP.\r\n"))
+client = (refl, refl, refl, refl, refl, refl, refl, refl)
+
+described :
+    (item_of 0 (codes "COMMAND" ∷ []) ≡ Says no_words_text) × (item_of 0 (codes "COMMAND" ∷ codes "DOCS" ∷ codes "sadd" ∷ []) ≡ Says no_words_text)
+    × (item_of 0 (codes "CONFIG" ∷ codes "GET" ∷ codes "save" ∷ []) ≡ Says no_words_text)
+    × (item_of 0 (codes "CONFIG" ∷ codes "GET" ∷ []) ≡ Says (codes "-ERR wrong number of arguments for 'config|get' command\r\n"))
+    × (item_of 0 (codes "CONFIG" ∷ codes "SET" ∷ codes "save" ∷ [] ∷ []) ≡ Says (codes "-ERR unknown subcommand 'SET'. Try CONFIG HELP.\r\n"))
+described = (refl, refl, refl, refl, refl)
+
+-- as many as there are
+counted : subtext_of subcommand.Count ≡ integer (length all_commands)
+unfolding digits
+counted = refl
 
 replied :
     (text_of Added (Yes ∷ No ∷ Yes ∷ []) ≡ codes ":2\r\n") × (text_of Found (No ∷ []) ≡ codes ":0\r\n") × (text_of Each (Yes ∷ No ∷ []) ≡ codes "*2\r\n:1\r\n:0\r\n")

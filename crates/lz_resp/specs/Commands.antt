@@ -1,67 +1,23 @@
 -- What frames ask for.
-use Rattle.std.specs.Prelude.{ℕ, ◌-◌, ◌+◌, ◌==◌, ◌&&◌, Bool, true, nat_eq, nat_le, nat_lt, if◌then◌else◌, List, [], ◌∷◌, ◌++◌, length, take, drop, codes, map, is_some, Option, None, Some, option_map, option_and_then, slice_index_or, unwrap_or}
-use Rattle.std.specs.Char.{to_ascii_lowercase}
-use Rattle.std.specs.Cmp.Lexicographic.{pointwise}
+use Rattle.std.specs.Prelude.{ℕ, ◌-◌, ◌+◌, ◌==◌, ◌&&◌, nat_lt, if◌then◌else◌, List, [], ◌∷◌, ◌++◌, length, take, drop, codes, map, is_some, Option, None, Some, option_map, option_and_then, slice_index_or, unwrap_or}
+use Rattle.std.specs.Char.{to_ascii_uppercase}
 use Rattle.lz_slot.specs.Limits.{largest_number, last_room}
 use Rattle.lz_slot.specs.Rooms.{rank}
-use Rattle.lz_slot.specs.Numerals.{number_in}
+use Rattle.lz_slot.specs.Numerals.{largest_read, number_in}
 use Rattle.lz_proto.specs.declared.request.Request.{Request}
 use Rattle.lz_proto.specs.declared.request.Request.TheVariants.{Add, Remove, Has}
 use Rattle.lz_resp.specs.Limits.{most_value}
 use Rattle.lz_proto.specs.Lines.{carriage_return, line_feed}
 use Rattle.lz_resp.specs.Frames.{bulk, line_end}
+use Rattle.lz_resp.specs.Names.{command_of, is_word, name_of, subcommand_of, subname_of, subtakes, takes}
 use Rattle.lz_resp.specs.declared.command.Command.{Command}
-use Rattle.lz_resp.specs.declared.command.Command.TheVariants.{Sadd, Srem, Sismember, Smismember, Exists, Del, Unlink, Setnx, Set, Select, Ping, Echo, Quit}
+use Rattle.lz_resp.specs.declared.command.Command.TheVariants.{Sadd, Srem, Sismember, Smismember, Exists, Del, Unlink, Setnx, Set, Select, Ping, Echo, Quit, Reset, Hello, Client, Catalog, Config}
+use Rattle.lz_resp.specs.declared.subcommand.Subcommand.{Subcommand}
+use Rattle.lz_resp.specs.declared.subcommand.Subcommand.TheVariants.{Getname, Setname, Setinfo, NoEvict, NoTouch, Count, Docs, Info, Get}
 use Rattle.lz_resp.specs.declared.form.Form.{Form}
 use Rattle.lz_resp.specs.declared.form.Form.TheVariants.{Added, Removed, Found, Each, Stored}
 use Rattle.lz_resp.specs.declared.item.Item.{Item}
 use Rattle.lz_resp.specs.declared.item.Item.TheVariants.{Asks, Says, Ends}
-
-abbrev pub name_of : Command → List ℕ
-name_of Sadd = codes "sadd"
-name_of Srem = codes "srem"
-name_of Sismember = codes "sismember"
-name_of Smismember = codes "smismember"
-name_of Exists = codes "exists"
-name_of Del = codes "del"
-name_of Unlink = codes "unlink"
-name_of Setnx = codes "setnx"
-name_of Set = codes "set"
-name_of Select = codes "select"
-name_of Ping = codes "ping"
-name_of Echo = codes "echo"
-name_of Quit = codes "quit"
-
--- the word is this name, in capitals or not
-abbrev pub is_word : List ℕ → List ℕ → Bool
-is_word name word = pointwise nat_eq (map to_ascii_lowercase word) (map to_ascii_lowercase name)
-
--- the first of these commands that the word names
-abbrev pub named : List Command → List ℕ → Option Command
-named [] word = None
-named (command ∷ commands) word = if is_word (name_of command) word then Some command else named commands word
-
-abbrev pub all_commands : List Command
-all_commands = Sadd ∷ Srem ∷ Sismember ∷ Smismember ∷ Exists ∷ Del ∷ Unlink ∷ Setnx ∷ Set ∷ Select ∷ Ping ∷ Echo ∷ Quit ∷ []
-
-abbrev pub command_of : List ℕ → Option Command
-command_of word = named all_commands word
-
--- the command takes a frame of so many words
-abbrev pub takes : Command → ℕ → Bool
-takes Sadd n = nat_le 3 n
-takes Srem n = nat_le 3 n
-takes Sismember n = n == 3
-takes Smismember n = nat_le 3 n
-takes Exists n = nat_le 2 n
-takes Del n = nat_le 2 n
-takes Unlink n = nat_le 2 n
-takes Setnx n = n == 3
-takes Set n = nat_le 3 n
-takes Select n = n == 2
-takes Ping n = nat_le n 2
-takes Echo n = n == 2
-takes Quit n = true
 
 abbrev pub word : List (List ℕ) → ℕ → List ℕ
 word words index = slice_index_or words index []
@@ -104,8 +60,8 @@ bad_syntax = error (codes "syntax error")
 abbrev pub long_value : List ℕ
 long_value = error (codes "values are not kept, and may have 64 bytes")
 
-abbrev pub wrong_count : Command → List ℕ
-wrong_count command = error (codes "wrong number of arguments for '" ++ name_of command ++ codes "' command")
+abbrev pub wrong_count : List ℕ → List ℕ
+wrong_count name = error (codes "wrong number of arguments for '" ++ name ++ codes "' command")
 
 -- a byte of a word that stands in an error: no line ends in it
 abbrev pub on_line : ℕ → ℕ
@@ -125,8 +81,33 @@ shown_all room (word ∷ words) =
 abbrev pub unknown : List (List ℕ) → List ℕ
 unknown words = error (codes "unknown command '" ++ shown 128 (word words 0) ++ codes "', with args beginning with: " ++ shown_all 128 (drop 1 words))
 
+abbrev pub unknown_subcommand : Command → List ℕ → List ℕ
+unknown_subcommand command word =
+    error (codes "unknown subcommand '" ++ shown 128 word ++ codes "'. Try " ++ map to_ascii_uppercase (name_of command) ++ codes " HELP.")
+
+abbrev pub no_version : List ℕ
+no_version = error (codes "Protocol version is not an integer or out of range")
+
+abbrev pub other_version : List ℕ
+other_version = codes "-NOPROTO unsupported protocol version\r\n"
+
+-- an option of HELLO: there are no passwords, and no name is kept
+abbrev pub hello_option : List ℕ → List ℕ
+hello_option word = error (codes "Syntax error in HELLO option '" ++ shown 128 word ++ codes "'")
+
 abbrev pub ok_text : List ℕ
 ok_text = codes "+OK\r\n"
+
+abbrev pub nil_text : List ℕ
+nil_text = codes "$-1\r\n"
+
+abbrev pub no_words_text : List ℕ
+no_words_text = codes "*0\r\n"
+
+-- the service's name, the version of Redis whose words these are, the protocol's number, and no client's number
+abbrev pub hello_text : List ℕ
+hello_text =
+    codes "*14\r\n$6\r\nserver\r\n$7\r\nlazyset\r\n$7\r\nversion\r\n$5\r\n7.0.0\r\n$5\r\nproto\r\n:2\r\n$2\r\nid\r\n:0\r\n$4\r\nmode\r\n$10\r\nstandalone\r\n$4\r\nrole\r\n$6\r\nmaster\r\n$7\r\nmodules\r\n*0\r\n"
 
 abbrev pub asked : Form → Option (List Request) → Item
 asked form None = Says no_key
@@ -146,6 +127,36 @@ abbrev pub with_value : Form → ℕ → List (List ℕ) → Item
 with_value form room words =
     if nat_lt most_value (length (word words 2)) then Says long_value else in_room form (Some room) (word words 1 ∷ [])
 
+-- a greeting by the version of the protocol that a client asks for
+abbrev pub hello_by : Option ℕ → List (List ℕ) → List ℕ
+hello_by None words = no_version
+hello_by (Some n) words =
+    if n == 2 then (if nat_lt 2 (length words) then hello_option (word words 2) else hello_text) else other_version
+
+abbrev pub hello : List (List ℕ) → List ℕ
+hello words = if nat_lt 1 (length words) then hello_by (number_in 0 largest_read (word words 1)) words else hello_text
+
+-- no name and no setting is kept, and no command is described
+abbrev pub subtext_of : Subcommand → List ℕ
+subtext_of Getname = nil_text
+subtext_of Setname = ok_text
+subtext_of Setinfo = ok_text
+subtext_of NoEvict = ok_text
+subtext_of NoTouch = ok_text
+subtext_of Count = codes ":18\r\n"
+subtext_of Docs = no_words_text
+subtext_of Info = no_words_text
+subtext_of Get = no_words_text
+
+abbrev pub subtext_by : Command → Option Subcommand → List (List ℕ) → List ℕ
+subtext_by command None words = unknown_subcommand command (word words 1)
+subtext_by command (Some subcommand) words =
+    if subtakes subcommand (length words) then subtext_of subcommand else wrong_count (name_of command ++ codes "|" ++ subname_of subcommand)
+
+-- what a command's subcommand is answered
+abbrev pub subtext : Command → List (List ℕ) → List ℕ
+subtext command words = subtext_by command (subcommand_of command (word words 1)) words
+
 -- what a frame that the command takes comes to, where this room is selected
 abbrev pub item_by : Command → ℕ → List (List ℕ) → Item
 item_by Sadd room words = in_set Added words
@@ -162,10 +173,15 @@ item_by Select room words = if is_some (room_of (word words 1)) then Says ok_tex
 item_by Ping room words = if length words == 2 then Says (bulk (word words 1)) else Says (codes "+PONG\r\n")
 item_by Echo room words = Says (bulk (word words 1))
 item_by Quit room words = Ends ok_text
+item_by Reset room words = Says (codes "+RESET\r\n")
+item_by Hello room words = Says (hello words)
+item_by Client room words = Says (subtext Client words)
+item_by Catalog room words = if length words == 1 then Says no_words_text else Says (subtext Catalog words)
+item_by Config room words = Says (subtext Config words)
 
 abbrev pub item_with : Option Command → ℕ → List (List ℕ) → Item
 item_with None room words = Says (unknown words)
-item_with (Some command) room words = if takes command (length words) then item_by command room words else Says (wrong_count command)
+item_with (Some command) room words = if takes command (length words) then item_by command room words else Says (wrong_count (name_of command))
 
 -- what a frame of some words comes to
 abbrev pub item_of : ℕ → List (List ℕ) → Item
@@ -174,6 +190,7 @@ item_of room words = item_with (command_of (word words 0)) room words
 -- the room that a command selects
 abbrev pub room_by : Option Command → ℕ → List (List ℕ) → ℕ
 room_by (Some Select) room words = if length words == 2 then unwrap_or (room_of (word words 1)) room else room
+room_by (Some Reset) room words = if length words == 1 then 0 else room
 room_by command room words = room
 
 -- the room that is selected after a frame

@@ -1,6 +1,7 @@
 pub mod Commands
 pub mod Frames
 pub mod Limits
+pub mod Names
 pub mod Pieces
 pub mod Reading
 pub mod Replies

@@ -1,18 +1,19 @@
 //! What a frame asks for.
-ghost use Rattle.std.specs.Prelude.{◌≡◌, ◌++◌, ◌≤◌, ◌<◌, IfOk, IfSome, OnOk, Some, map, drop, length, true};
+ghost use Rattle.std.specs.Prelude.{◌≡◌, ◌≤◌, ◌<◌, IfOk, IfSome, Some, map, length, true};
 ghost use Rattle.lz_slot.specs.Limits.{last_room};
-ghost use Rattle.lz_resp.specs.Commands.{in_room, in_set, item_by, item_of, key_of, no_room, requests_of, room_after, room_by, room_of, shown, shown_all, takes, unknown, with_value, word, wrong_count};
+ghost use Rattle.lz_resp.specs.Commands.{in_room, in_set, item_by, item_of, key_of, requests_of, room_after, room_by, room_of, with_value};
+ghost use Rattle.lz_resp.specs.Names.{takes};
 
 use crate::command::{Command, command_of, is_word};
+use crate::errors::{no_room, unknown, wrong_count};
 use crate::form::Form;
+use crate::greeting::{hello, subtext};
 use crate::item::{Item, Requests};
 use crate::limits::MOST_VALUE;
-use crate::text::{Text, bulk, error, on_line};
+use crate::text::{Text, bulk, error};
+use crate::words::{after, word};
 use lz_slot::{Key, LAST_ROOM, MAX_NUMBER, read_number};
 use std::alloc::{AllocError, Global};
-
-// How many bytes of an unknown command are told, and of the words after it.
-const MOST_SHOWN: usize = 128;
 
 /// What a frame of some words comes to, where this room is selected, and the room that is selected after it.
 pub(crate) fn item_of(alloc: Global, room: u8, words: &[&[u8]]) -> Result<(Item, u8), AllocError>
@@ -26,7 +27,10 @@ pub(crate) fn item_of(alloc: Global, room: u8, words: &[&[u8]]) -> Result<(Item,
         return Ok((Item::Says(unknown(alloc, words)?), room));
     };
     if !command.takes(words.len()) {
-        return Ok((Item::Says(wrong_count(alloc, command)?), room));
+        return Ok((
+            Item::Says(wrong_count(alloc, command.name().as_bytes())?),
+            room,
+        ));
     }
     let item = item_by(alloc, command, room, words)?;
     Ok((item, room_by(command, room, words)))
@@ -34,6 +38,7 @@ pub(crate) fn item_of(alloc: Global, room: u8, words: &[&[u8]]) -> Result<(Item,
 
 // What a frame that the command takes comes to.
 fn item_by(alloc: Global, command: Command, room: u8, words: &[&[u8]]) -> Result<Item, AllocError>
+    requires some { 0 < length words.now }
     requires takes { takes command (length words.now) ≡ true }
     requires range { room ≤ last_room }
     ensures { IfOk result (λ item. item ≡ item_by command room (map (λ word. word.now) words.now)) }
@@ -51,6 +56,10 @@ fn item_by(alloc: Global, command: Command, room: u8, words: &[&[u8]]) -> Result
         Command::Ping => ping(alloc, words),
         Command::Echo => Ok(Item::Says(bulk(alloc, word(words, 1))?)),
         Command::Quit => Ok(Item::Ends(Text::of(alloc, b"+OK\r\n")?)),
+        Command::Reset => Ok(Item::Says(Text::of(alloc, b"+RESET\r\n")?)),
+        Command::Hello => Ok(Item::Says(hello(alloc, words)?)),
+        Command::Catalog => Ok(Item::Says(catalog(alloc, words)?)),
+        Command::Client | Command::Config => Ok(Item::Says(subtext(alloc, command, words)?)),
     }
 }
 
@@ -152,6 +161,18 @@ fn ping(alloc: Global, words: &[&[u8]]) -> Result<Item, AllocError>
     }
 }
 
+// What is told of the commands: none is described.
+fn catalog(alloc: Global, words: &[&[u8]]) -> Result<Text, AllocError>
+    requires { 0 < length words.now }
+    ensures { IfOk result (λ text. Item.Says text ≡ item_by Command.Catalog 0 (map (λ word. word.now) words.now)) }
+{
+    if words.len() == 1 {
+        Text::of(alloc, b"*0\r\n")
+    } else {
+        subtext(alloc, Command::Catalog, words)
+    }
+}
+
 // The room that a command selects.
 fn room_by(command: Command, room: u8, words: &[&[u8]]) -> u8
     requires { room ≤ last_room }
@@ -160,6 +181,7 @@ fn room_by(command: Command, room: u8, words: &[&[u8]]) -> u8
 {
     match command {
         Command::Select if words.len() == 2 => room_of(word(words, 1)).unwrap_or(room),
+        Command::Reset if words.len() == 1 => 0,
         _ => room,
     }
 }
@@ -171,73 +193,4 @@ fn room_of(name: &[u8]) -> Option<u8>
 {
     let room = read_number(name, 0, u64::from(LAST_ROOM))?;
     Some(room as u8)
-}
-
-fn no_room(alloc: Global) -> Result<Text, AllocError>
-    ensures { IfOk result (λ text. text ≡ no_room) }
-{
-    error(alloc, b"DB index is out of range")
-}
-
-fn wrong_count(alloc: Global, command: Command) -> Result<Text, AllocError>
-    ensures { IfOk result (λ text. text ≡ wrong_count command) }
-{
-    let mut words = Vec::from_slice(alloc, b"wrong number of arguments for '")?;
-    words.extend_from_slice(command.name().as_bytes())?;
-    words.extend_from_slice(b"' command")?;
-    error(alloc, words.as_slice())
-}
-
-fn unknown(alloc: Global, words: &[&[u8]]) -> Result<Text, AllocError>
-    requires { 0 < length words.now }
-    ensures { IfOk result (λ text. text ≡ unknown (map (λ word. word.now) words.now)) }
-{
-    let mut text = Vec::from_slice(alloc, b"unknown command '")?;
-    push_shown(&mut text, MOST_SHOWN, word(words, 0))?;
-    text.extend_from_slice(b"', with args beginning with: ")?;
-    push_all(&mut text, after(words, 1))?;
-    error(alloc, text.as_slice())
-}
-
-// Puts words in quotes after a text, as far as there is room for them.
-fn push_all(text: &mut Vec<u8>, words: &[&[u8]]) -> Result<(), AllocError>
-    ensures { OnOk result (text.new.items ≡ text.old.items ++ shown_all 128 (map (λ word. word.now) words.now)) }
-{
-    let mut room = MOST_SHOWN;
-    for word in words {
-        if room == 0 {
-            return Ok(());
-        }
-        text.extend_from_slice(b"'")?;
-        push_shown(text, room, word)?;
-        text.extend_from_slice(b"' ")?;
-        room = room.saturating_sub(word.len().min(room) + 3);
-    }
-    Ok(())
-}
-
-// Puts so many bytes of a word after a text.
-fn push_shown(text: &mut Vec<u8>, most: usize, word: &[u8]) -> Result<(), AllocError>
-    ensures { OnOk result (text.new.items ≡ text.old.items ++ shown most word.now) }
-{
-    let (part, _) = word.split_at(most.min(word.len()));
-    for byte in part {
-        text.push(on_line(*byte))?;
-    }
-    Ok(())
-}
-
-fn word<'t>(words: &[&'t [u8]], index: usize) -> &'t [u8]
-    requires { index < length words.now }
-    ensures { result.now ≡ word (map (λ word. word.now) words.now) index }
-{
-    words[index]
-}
-
-// The words after so many.
-fn after<'w, 't>(words: &'w [&'t [u8]], count: usize) -> &'w [&'t [u8]]
-    requires { count ≤ length words.now }
-    ensures { map (λ word. word.now) result.now ≡ drop count (map (λ word. word.now) words.now) }
-{
-    words.split_at(count).1
 }

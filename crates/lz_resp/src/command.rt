@@ -1,6 +1,6 @@
 //! Commands and their names.
 ghost use Rattle.std.specs.Prelude.{◌≡◌};
-ghost use Rattle.lz_resp.specs.Commands.{command_of, is_word, name_of, takes};
+ghost use Rattle.lz_resp.specs.Names.{command_of, is_word, name_of, takes};
 
 /// What the first word of a frame can name.
 #[derive(Clone, Copy, Debug, PartialEq, Eq)]
@@ -18,6 +18,11 @@ pub(crate) enum Command {
     Ping,
     Echo,
     Quit,
+    Reset,
+    Hello,
+    Client,
+    Catalog,
+    Config,
 }
 
 impl Command {
@@ -38,6 +43,11 @@ impl Command {
             Command::Ping => "ping",
             Command::Echo => "echo",
             Command::Quit => "quit",
+            Command::Reset => "reset",
+            Command::Hello => "hello",
+            Command::Client => "client",
+            Command::Catalog => "command",
+            Command::Config => "config",
         }
     }
 
@@ -48,10 +58,12 @@ impl Command {
         match self {
             Command::Sadd | Command::Srem | Command::Smismember | Command::Set => 3 <= count,
             Command::Exists | Command::Del | Command::Unlink => 2 <= count,
+            Command::Client | Command::Config => 2 <= count,
             Command::Sismember | Command::Setnx => count == 3,
             Command::Select | Command::Echo => count == 2,
             Command::Ping => count <= 2,
-            Command::Quit => true,
+            Command::Reset => count == 1,
+            Command::Quit | Command::Hello | Command::Catalog => true,
         }
     }
 }
@@ -98,6 +110,21 @@ pub(crate) fn command_of(word: &[u8]) -> Option<Command>
     }
     if is_word(b"quit", word) {
         return Some(Command::Quit);
+    }
+    if is_word(b"reset", word) {
+        return Some(Command::Reset);
+    }
+    if is_word(b"hello", word) {
+        return Some(Command::Hello);
+    }
+    if is_word(b"client", word) {
+        return Some(Command::Client);
+    }
+    if is_word(b"command", word) {
+        return Some(Command::Catalog);
+    }
+    if is_word(b"config", word) {
+        return Some(Command::Config);
     }
     None
 }

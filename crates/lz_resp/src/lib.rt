@@ -6,15 +6,19 @@
 
 mod asking;
 mod command;
+mod errors;
 mod fault;
 mod form;
 mod frames;
+mod greeting;
 mod item;
 pub mod laws;
 mod limits;
 mod reading;
 mod reply;
+mod subcommand;
 mod text;
+mod words;
 
 pub use fault::Fault;
 pub use form::Form;

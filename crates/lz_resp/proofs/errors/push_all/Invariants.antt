@@ -1,7 +1,7 @@
 use Rattle.std.proofs.Common.{◌≡◌, ◌++◌, drop}
 use Rattle.std.specs.Prelude.{map}
 use Rattle.lz_resp.specs.Commands.{shown_all}
-use Rattle.lz_resp.proofs.asking.push_all.Given as goal
+use Rattle.lz_resp.proofs.errors.push_all.Given as goal
 
 abbrev pub invariant-loop-word : goal.invariant-loop-word
 invariant-loop-word l =
