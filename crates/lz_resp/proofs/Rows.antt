@@ -5,13 +5,14 @@ use Rattle.std.specs.List.{flat_map}
 use Rattle.lz_proto.specs.declared.request.Request.TheVariants.{Add, Remove, Has}
 use Rattle.lz_proto.specs.declared.reply.Reply.TheVariants.{Yes, No, Full, Halted, OldFile}
 use Rattle.lz_resp.specs.Reading.{first_of}
-use Rattle.lz_resp.specs.Commands.{item_of, room_after, ok_text, no_key, no_room, no_words_text, nil_text, hello_text, no_version, other_version, subtext_of}
+use Rattle.lz_resp.specs.Commands.{item_of, selected_after, ok_text, no_key, no_room, no_words_text, nil_text, hello_text, no_version, other_version, subtext_of}
 use Rattle.lz_resp.specs.Frames.{bulk}
 use Rattle.lz_resp.specs.Names.{all_commands}
 use Rattle.lz_resp.specs.Replies.{fault_text, integer, text_of}
 use Rattle.lz_resp.specs.declared.fault.Fault.TheVariants.{Count, Length, NoBulk, NoEnd, Quotes}
 use Rattle.lz_resp.specs.declared.subcommand.Subcommand.TheVariants as subcommand
 use Rattle.lz_resp.specs.declared.form.Form.TheVariants.{Added, Removed, Found, Each, Stored}
+use Rattle.lz_resp.specs.declared.naming.Selected.TheVariants.{Room}
 use Rattle.lz_resp.specs.declared.item.Item.TheVariants.{Asks, Says, Ends}
 
 ping : first_of (codes "*1\r\n$4\r\nPING\r\n*1") ≡ Ok (Some (codes "PING" ∷ [], codes "*1"))
@@ -70,31 +71,31 @@ quotes = (refl, refl)
 
 -- a member by itself, and many
 members :
-    (item_of 0 (codes "SADD" ∷ codes "3" ∷ codes "17" ∷ []) ≡ Asks Added (Add 3000000000000000017 ∷ []))
-    × (item_of 9 (codes "sRem" ∷ codes "0" ∷ codes "1" ∷ codes "2" ∷ codes "1" ∷ []) ≡ Asks Removed (Remove 1 ∷ Remove 2 ∷ Remove 1 ∷ []))
-    × (item_of 9 (codes "SMISMEMBER" ∷ codes "15" ∷ codes "5" ∷ []) ≡ Asks Each (Has 15000000000000000005 ∷ []))
+    (item_of (Room 0) (codes "SADD" ∷ codes "3" ∷ codes "17" ∷ []) ≡ Asks Added (Add 3000000000000000017 ∷ []))
+    × (item_of (Room 9) (codes "sRem" ∷ codes "0" ∷ codes "1" ∷ codes "2" ∷ codes "1" ∷ []) ≡ Asks Removed (Remove 1 ∷ Remove 2 ∷ Remove 1 ∷ []))
+    × (item_of (Room 9) (codes "SMISMEMBER" ∷ codes "15" ∷ codes "5" ∷ []) ≡ Asks Each (Has 15000000000000000005 ∷ []))
 members = (refl, refl, refl)
 
 -- keys of the room that is selected
 selected :
-    (room_after 0 (codes "SELECT" ∷ codes "3" ∷ []) ≡ 3) × (item_of 3 (codes "EXISTS" ∷ codes "5" ∷ []) ≡ Asks Found (Has 3000000000000000005 ∷ []))
-    × (item_of 3 (codes "SETNX" ∷ codes "5" ∷ codes "x" ∷ []) ≡ Asks Added (Add 3000000000000000005 ∷ []))
-    × (item_of 3 (codes "SET" ∷ codes "5" ∷ codes "1" ∷ codes "nx" ∷ []) ≡ Asks Stored (Add 3000000000000000005 ∷ []))
-    × (room_after 3 (codes "SELECT" ∷ codes "16" ∷ []) ≡ 3) × (room_after 3 (codes "PING" ∷ []) ≡ 3)
+    (selected_after (Room 0) (codes "SELECT" ∷ codes "3" ∷ []) ≡ Room 3) × (item_of (Room 3) (codes "EXISTS" ∷ codes "5" ∷ []) ≡ Asks Found (Has 3000000000000000005 ∷ []))
+    × (item_of (Room 3) (codes "SETNX" ∷ codes "5" ∷ codes "x" ∷ []) ≡ Asks Added (Add 3000000000000000005 ∷ []))
+    × (item_of (Room 3) (codes "SET" ∷ codes "5" ∷ codes "1" ∷ codes "nx" ∷ []) ≡ Asks Stored (Add 3000000000000000005 ∷ []))
+    × (selected_after (Room 3) (codes "SELECT" ∷ codes "16" ∷ []) ≡ Room 3) × (selected_after (Room 3) (codes "PING" ∷ []) ≡ Room 3)
 selected = (refl, refl, refl, refl, refl, refl)
 
 not_asked :
-    (item_of 0 (codes "SADD" ∷ codes "16" ∷ codes "1" ∷ []) ≡ Says no_room) × (item_of 0 (codes "SADD" ∷ codes "0" ∷ codes "1" ∷ codes "x" ∷ []) ≡ Says no_key)
-    × (item_of 0 (codes "SADD" ∷ codes "0" ∷ codes "01" ∷ []) ≡ Says no_key) × (item_of 0 (codes "SADD" ∷ codes "0" ∷ codes "3:1" ∷ []) ≡ Says no_key)
-    × (item_of 0 (codes "EXISTS" ∷ codes "1000000000000000000" ∷ []) ≡ Says no_key) × (item_of 0 (codes "SELECT" ∷ codes "16" ∷ []) ≡ Says no_room)
-    × (item_of 0 (codes "SADD" ∷ codes "0" ∷ []) ≡ Says (codes "-ERR wrong number of arguments for 'sadd' command\r\n"))
-    × (item_of 0 (codes "SET" ∷ codes "5" ∷ codes "1" ∷ []) ≡ Says (codes "-ERR syntax error\r\n"))
-    × (item_of 0 (codes "FOO" ∷ codes "a" ∷ codes "b\n" ∷ []) ≡ Says (codes "-ERR unknown command 'FOO', with args beginning with: 'a' 'b ' \r\n"))
+    (item_of (Room 0) (codes "SADD" ∷ codes "16" ∷ codes "1" ∷ []) ≡ Says no_room) × (item_of (Room 0) (codes "SADD" ∷ codes "0" ∷ codes "1" ∷ codes "x" ∷ []) ≡ Says no_key)
+    × (item_of (Room 0) (codes "SADD" ∷ codes "0" ∷ codes "01" ∷ []) ≡ Says no_key) × (item_of (Room 0) (codes "SADD" ∷ codes "0" ∷ codes "3:1" ∷ []) ≡ Says no_key)
+    × (item_of (Room 0) (codes "EXISTS" ∷ codes "1000000000000000000" ∷ []) ≡ Says no_key) × (item_of (Room 0) (codes "SELECT" ∷ codes "16" ∷ []) ≡ Says no_room)
+    × (item_of (Room 0) (codes "SADD" ∷ codes "0" ∷ []) ≡ Says (codes "-ERR wrong number of arguments for 'sadd' command\r\n"))
+    × (item_of (Room 0) (codes "SET" ∷ codes "5" ∷ codes "1" ∷ []) ≡ Says (codes "-ERR syntax error\r\n"))
+    × (item_of (Room 0) (codes "FOO" ∷ codes "a" ∷ codes "b\n" ∷ []) ≡ Says (codes "-ERR unknown command 'FOO', with args beginning with: 'a' 'b ' \r\n"))
 not_asked = (refl, refl, refl, refl, refl, refl, refl, refl, refl)
 
 said :
-    (item_of 0 (codes "ping" ∷ []) ≡ Says (codes "+PONG\r\n")) × (item_of 0 (codes "PING" ∷ codes "hi" ∷ []) ≡ Says (codes "$2\r\nhi\r\n"))
-    × (item_of 0 (codes "ECHO" ∷ [] ∷ []) ≡ Says (codes "$0\r\n\r\n")) × (item_of 0 (codes "QUIT" ∷ []) ≡ Ends ok_text)
+    (item_of (Room 0) (codes "ping" ∷ []) ≡ Says (codes "+PONG\r\n")) × (item_of (Room 0) (codes "PING" ∷ codes "hi" ∷ []) ≡ Says (codes "$2\r\nhi\r\n"))
+    × (item_of (Room 0) (codes "ECHO" ∷ [] ∷ []) ≡ Says (codes "$0\r\n\r\n")) × (item_of (Room 0) (codes "QUIT" ∷ []) ≡ Ends ok_text)
 unfolding digits
 said = (refl, refl, refl, refl)
 
@@ -106,31 +107,31 @@ unfolding digits
 hello = refl
 
 greeted :
-    (item_of 0 (codes "HELLO" ∷ []) ≡ Says hello_text) × (item_of 0 (codes "hello" ∷ codes "2" ∷ []) ≡ Says hello_text)
-    × (item_of 0 (codes "HELLO" ∷ codes "3" ∷ codes "SETNAME" ∷ codes "me" ∷ []) ≡ Says other_version) × (item_of 0 (codes "HELLO" ∷ codes "1" ∷ []) ≡ Says other_version)
-    × (item_of 0 (codes "HELLO" ∷ codes "x" ∷ []) ≡ Says no_version)
-    × (item_of 0 (codes "HELLO" ∷ codes "2" ∷ codes "AUTH" ∷ codes "a" ∷ codes "b" ∷ []) ≡ Says (codes "-ERR Syntax error in HELLO option 'AUTH'\r\n"))
+    (item_of (Room 0) (codes "HELLO" ∷ []) ≡ Says hello_text) × (item_of (Room 0) (codes "hello" ∷ codes "2" ∷ []) ≡ Says hello_text)
+    × (item_of (Room 0) (codes "HELLO" ∷ codes "3" ∷ codes "SETNAME" ∷ codes "me" ∷ []) ≡ Says other_version) × (item_of (Room 0) (codes "HELLO" ∷ codes "1" ∷ []) ≡ Says other_version)
+    × (item_of (Room 0) (codes "HELLO" ∷ codes "x" ∷ []) ≡ Says no_version)
+    × (item_of (Room 0) (codes "HELLO" ∷ codes "2" ∷ codes "AUTH" ∷ codes "a" ∷ codes "b" ∷ []) ≡ Says (codes "-ERR Syntax error in HELLO option 'AUTH'\r\n"))
 greeted = (refl, refl, refl, refl, refl, refl)
 
 reset :
-    (item_of 9 (codes "Reset" ∷ []) ≡ Says (codes "+RESET\r\n")) × (room_after 9 (codes "Reset" ∷ []) ≡ 0) × (room_after 9 (codes "RESET" ∷ codes "x" ∷ []) ≡ 9)
-    × (item_of 9 (codes "RESET" ∷ codes "x" ∷ []) ≡ Says (codes "-ERR wrong number of arguments for 'reset' command\r\n"))
+    (item_of (Room 9) (codes "Reset" ∷ []) ≡ Says (codes "+RESET\r\n")) × (selected_after (Room 9) (codes "Reset" ∷ []) ≡ Room 0) × (selected_after (Room 9) (codes "RESET" ∷ codes "x" ∷ []) ≡ Room 9)
+    × (item_of (Room 9) (codes "RESET" ∷ codes "x" ∷ []) ≡ Says (codes "-ERR wrong number of arguments for 'reset' command\r\n"))
 reset = (refl, refl, refl, refl)
 
 client :
-    (item_of 0 (codes "CLIENT" ∷ codes "SETNAME" ∷ codes "me" ∷ []) ≡ Says ok_text) × (item_of 0 (codes "client" ∷ codes "setinfo" ∷ codes "LIB-NAME" ∷ codes "redis-py" ∷ []) ≡ Says ok_text)
-    × (item_of 0 (codes "CLIENT" ∷ codes "GETNAME" ∷ []) ≡ Says nil_text) × (item_of 0 (codes "CLIENT" ∷ codes "no-evict" ∷ codes "on" ∷ []) ≡ Says ok_text)
-    × (item_of 0 (codes "CLIENT" ∷ []) ≡ Says (codes "-ERR wrong number of arguments for 'client' command\r\n"))
-    × (item_of 0 (codes "CLIENT" ∷ codes "SETNAME" ∷ []) ≡ Says (codes "-ERR wrong number of arguments for 'client|setname' command\r\n"))
-    × (item_of 0 (codes "CLIENT" ∷ codes "ID" ∷ []) ≡ Says (codes "-ERR unknown subcommand 'ID'. Try CLIENT HELP.\r\n"))
-    × (item_of 0 (codes "CLIENT" ∷ codes "GET" ∷ codes "x" ∷ []) ≡ Says (codes "-ERR unknown subcommand 'GET'. Try CLIENT HELP.\r\n"))
+    (item_of (Room 0) (codes "CLIENT" ∷ codes "SETNAME" ∷ codes "me" ∷ []) ≡ Says ok_text) × (item_of (Room 0) (codes "client" ∷ codes "setinfo" ∷ codes "LIB-NAME" ∷ codes "redis-py" ∷ []) ≡ Says ok_text)
+    × (item_of (Room 0) (codes "CLIENT" ∷ codes "GETNAME" ∷ []) ≡ Says nil_text) × (item_of (Room 0) (codes "CLIENT" ∷ codes "no-evict" ∷ codes "on" ∷ []) ≡ Says ok_text)
+    × (item_of (Room 0) (codes "CLIENT" ∷ []) ≡ Says (codes "-ERR wrong number of arguments for 'client' command\r\n"))
+    × (item_of (Room 0) (codes "CLIENT" ∷ codes "SETNAME" ∷ []) ≡ Says (codes "-ERR wrong number of arguments for 'client|setname' command\r\n"))
+    × (item_of (Room 0) (codes "CLIENT" ∷ codes "ID" ∷ []) ≡ Says (codes "-ERR unknown subcommand 'ID'. Try CLIENT HELP.\r\n"))
+    × (item_of (Room 0) (codes "CLIENT" ∷ codes "GET" ∷ codes "x" ∷ []) ≡ Says (codes "-ERR unknown subcommand 'GET'. Try CLIENT HELP.\r\n"))
 client = (refl, refl, refl, refl, refl, refl, refl, refl)
 
 described :
-    (item_of 0 (codes "COMMAND" ∷ []) ≡ Says no_words_text) × (item_of 0 (codes "COMMAND" ∷ codes "DOCS" ∷ codes "sadd" ∷ []) ≡ Says no_words_text)
-    × (item_of 0 (codes "CONFIG" ∷ codes "GET" ∷ codes "save" ∷ []) ≡ Says no_words_text)
-    × (item_of 0 (codes "CONFIG" ∷ codes "GET" ∷ []) ≡ Says (codes "-ERR wrong number of arguments for 'config|get' command\r\n"))
-    × (item_of 0 (codes "CONFIG" ∷ codes "SET" ∷ codes "save" ∷ [] ∷ []) ≡ Says (codes "-ERR unknown subcommand 'SET'. Try CONFIG HELP.\r\n"))
+    (item_of (Room 0) (codes "COMMAND" ∷ []) ≡ Says no_words_text) × (item_of (Room 0) (codes "COMMAND" ∷ codes "DOCS" ∷ codes "sadd" ∷ []) ≡ Says no_words_text)
+    × (item_of (Room 0) (codes "CONFIG" ∷ codes "GET" ∷ codes "save" ∷ []) ≡ Says no_words_text)
+    × (item_of (Room 0) (codes "CONFIG" ∷ codes "GET" ∷ []) ≡ Says (codes "-ERR wrong number of arguments for 'config|get' command\r\n"))
+    × (item_of (Room 0) (codes "CONFIG" ∷ codes "SET" ∷ codes "save" ∷ [] ∷ []) ≡ Says (codes "-ERR unknown subcommand 'SET'. Try CONFIG HELP.\r\n"))
 described = (refl, refl, refl, refl, refl)
 
 -- as many as there are

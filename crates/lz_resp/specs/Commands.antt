@@ -1,14 +1,13 @@
 -- What frames ask for.
 use Rattle.std.specs.Prelude.{ℕ, ◌-◌, ◌+◌, ◌==◌, ◌&&◌, nat_lt, if◌then◌else◌, List, [], ◌∷◌, ◌++◌, length, take, drop, codes, map, is_some, Option, None, Some, option_map, option_and_then, slice_index_or, unwrap_or}
 use Rattle.std.specs.Char.{to_ascii_uppercase}
-use Rattle.lz_slot.specs.Limits.{largest_number, last_room}
-use Rattle.lz_slot.specs.Rooms.{rank}
 use Rattle.lz_slot.specs.Numerals.{largest_read, number_in}
 use Rattle.lz_proto.specs.declared.request.Request.{Request}
 use Rattle.lz_proto.specs.declared.request.Request.TheVariants.{Add, Remove, Has}
 use Rattle.lz_resp.specs.Limits.{most_value}
 use Rattle.lz_proto.specs.Lines.{carriage_return, line_feed}
 use Rattle.lz_resp.specs.Frames.{bulk, line_end}
+use Rattle.lz_resp.specs.Keys.{Subset, key_of, of_name, room_of, unnamed}
 use Rattle.lz_resp.specs.Names.{command_of, is_word, name_of, subcommand_of, subname_of, subtakes, takes}
 use Rattle.lz_resp.specs.declared.command.Command.{Command}
 use Rattle.lz_resp.specs.declared.command.Command.TheVariants.{Sadd, Srem, Sismember, Smismember, Exists, Del, Unlink, Setnx, Set, Select, Ping, Echo, Quit, Reset, Hello, Client, Catalog, Config}
@@ -16,6 +15,8 @@ use Rattle.lz_resp.specs.declared.subcommand.Subcommand.{Subcommand}
 use Rattle.lz_resp.specs.declared.subcommand.Subcommand.TheVariants.{Getname, Setname, Setinfo, NoEvict, NoTouch, Count, Docs, Info, Get}
 use Rattle.lz_resp.specs.declared.form.Form.{Form}
 use Rattle.lz_resp.specs.declared.form.Form.TheVariants.{Added, Removed, Found, Each, Stored}
+use Rattle.lz_resp.specs.declared.naming.Selected.{Selected}
+use Rattle.lz_resp.specs.declared.naming.Selected.TheVariants.{Room, Nameless}
 use Rattle.lz_resp.specs.declared.item.Item.{Item}
 use Rattle.lz_resp.specs.declared.item.Item.TheVariants.{Asks, Says, Ends}
 
@@ -30,19 +31,11 @@ request_of Removed key = Remove key
 request_of Found key = Has key
 request_of Each key = Has key
 
--- the key of this room whose number the member is
-abbrev pub key_of : ℕ → List ℕ → Option ℕ
-key_of room member = option_map (rank room) (number_in 0 largest_number member)
-
 -- a request for each member, unless one is no key
-abbrev pub requests_of : Form → ℕ → List (List ℕ) → Option (List Request)
-requests_of form room [] = Some []
-requests_of form room (member ∷ members) =
-    option_and_then (λ key. option_map (λ requests. request_of form key ∷ requests) (requests_of form room members)) (key_of room member)
-
--- the room that a word names
-abbrev pub room_of : List ℕ → Option ℕ
-room_of name = number_in 0 last_room name
+abbrev pub requests_of : Form → Subset → List (List ℕ) → Option (List Request)
+requests_of form subset [] = Some []
+requests_of form subset (member ∷ members) =
+    option_and_then (λ key. option_map (λ requests. request_of form key ∷ requests) (requests_of form subset members)) (key_of subset member)
 
 -- an error's text
 abbrev pub error : List ℕ → List ℕ
@@ -113,19 +106,23 @@ abbrev pub asked : Form → Option (List Request) → Item
 asked form None = Says no_key
 asked form (Some requests) = Asks form requests
 
--- members of the set of this room
-abbrev pub in_room : Form → Option ℕ → List (List ℕ) → Item
-in_room form None members = Says no_room
-in_room form (Some room) members = asked form (requests_of form room members)
+-- members of this subset
+abbrev pub in_subset : Form → Option Subset → List (List ℕ) → Item
+in_subset form None members = Says no_room
+in_subset form (Some subset) members = asked form (requests_of form subset members)
 
--- members of the set that the frame names
-abbrev pub in_set : Form → List (List ℕ) → Item
-in_set form words = in_room form (room_of (word words 1)) (drop 2 words)
+-- members of the subset that the frame names
+abbrev pub in_named : Form → Selected → List (List ℕ) → Item
+in_named form selected words = in_subset form (of_name selected (word words 1)) (drop 2 words)
 
--- a key of the room that is selected, with a value
-abbrev pub with_value : Form → ℕ → List (List ℕ) → Item
-with_value form room words =
-    if nat_lt most_value (length (word words 2)) then Says long_value else in_room form (Some room) (word words 1 ∷ [])
+-- members of the subset of a command that names none
+abbrev pub in_unnamed : Form → Selected → List (List ℕ) → Item
+in_unnamed form selected members = in_subset form (Some (unnamed selected)) members
+
+-- a member with a value
+abbrev pub with_value : Form → Selected → List (List ℕ) → Item
+with_value form selected words =
+    if nat_lt most_value (length (word words 2)) then Says long_value else in_unnamed form selected (word words 1 ∷ [])
 
 -- a greeting by the version of the protocol that a client asks for
 abbrev pub hello_by : Option ℕ → List (List ℕ) → List ℕ
@@ -157,35 +154,35 @@ subtext_by command (Some subcommand) words =
 abbrev pub subtext : Command → List (List ℕ) → List ℕ
 subtext command words = subtext_by command (subcommand_of command (word words 1)) words
 
--- what a frame that the command takes comes to, where this room is selected
-abbrev pub item_by : Command → ℕ → List (List ℕ) → Item
-item_by Sadd room words = in_set Added words
-item_by Srem room words = in_set Removed words
-item_by Sismember room words = in_set Found words
-item_by Smismember room words = in_set Each words
-item_by Exists room words = in_room Found (Some room) (drop 1 words)
-item_by Del room words = in_room Removed (Some room) (drop 1 words)
-item_by Unlink room words = in_room Removed (Some room) (drop 1 words)
-item_by Setnx room words = with_value Added room words
-item_by Set room words =
-    if (length words == 4) && is_word (codes "nx") (word words 3) then with_value Stored room words else Says bad_syntax
-item_by Select room words = if is_some (room_of (word words 1)) then Says ok_text else Says no_room
-item_by Ping room words = if length words == 2 then Says (bulk (word words 1)) else Says (codes "+PONG\r\n")
-item_by Echo room words = Says (bulk (word words 1))
-item_by Quit room words = Ends ok_text
-item_by Reset room words = Says (codes "+RESET\r\n")
-item_by Hello room words = Says (hello words)
-item_by Client room words = Says (subtext Client words)
-item_by Catalog room words = if length words == 1 then Says no_words_text else Says (subtext Catalog words)
-item_by Config room words = Says (subtext Config words)
+-- what a frame that the command takes comes to, where this is selected
+abbrev pub item_by : Command → Selected → List (List ℕ) → Item
+item_by Sadd selected words = in_named Added selected words
+item_by Srem selected words = in_named Removed selected words
+item_by Sismember selected words = in_named Found selected words
+item_by Smismember selected words = in_named Each selected words
+item_by Exists selected words = in_unnamed Found selected (drop 1 words)
+item_by Del selected words = in_unnamed Removed selected (drop 1 words)
+item_by Unlink selected words = in_unnamed Removed selected (drop 1 words)
+item_by Setnx selected words = with_value Added selected words
+item_by Set selected words =
+    if (length words == 4) && is_word (codes "nx") (word words 3) then with_value Stored selected words else Says bad_syntax
+item_by Select selected words = if is_some (room_of (word words 1)) then Says ok_text else Says no_room
+item_by Ping selected words = if length words == 2 then Says (bulk (word words 1)) else Says (codes "+PONG\r\n")
+item_by Echo selected words = Says (bulk (word words 1))
+item_by Quit selected words = Ends ok_text
+item_by Reset selected words = Says (codes "+RESET\r\n")
+item_by Hello selected words = Says (hello words)
+item_by Client selected words = Says (subtext Client words)
+item_by Catalog selected words = if length words == 1 then Says no_words_text else Says (subtext Catalog words)
+item_by Config selected words = Says (subtext Config words)
 
-abbrev pub item_with : Option Command → ℕ → List (List ℕ) → Item
-item_with None room words = Says (unknown words)
-item_with (Some command) room words = if takes command (length words) then item_by command room words else Says (wrong_count (name_of command))
+abbrev pub item_with : Option Command → Selected → List (List ℕ) → Item
+item_with None selected words = Says (unknown words)
+item_with (Some command) selected words = if takes command (length words) then item_by command selected words else Says (wrong_count (name_of command))
 
 -- what a frame of some words comes to
-abbrev pub item_of : ℕ → List (List ℕ) → Item
-item_of room words = item_with (command_of (word words 0)) room words
+abbrev pub item_of : Selected → List (List ℕ) → Item
+item_of selected words = item_with (command_of (word words 0)) selected words
 
 -- the room that a command selects
 abbrev pub room_by : Option Command → ℕ → List (List ℕ) → ℕ
@@ -193,6 +190,11 @@ room_by (Some Select) room words = if length words == 2 then unwrap_or (room_of 
 room_by (Some Reset) room words = if length words == 1 then 0 else room
 room_by command room words = room
 
--- the room that is selected after a frame
-abbrev pub room_after : ℕ → List (List ℕ) → ℕ
-room_after room words = room_by (command_of (word words 0)) room words
+-- what a command selects: texts have no rooms
+abbrev pub selected_by : Option Command → Selected → List (List ℕ) → Selected
+selected_by command (Room room) words = Room (room_by command room words)
+selected_by command Nameless words = Nameless
+
+-- what is selected after a frame
+abbrev pub selected_after : Selected → List (List ℕ) → Selected
+selected_after selected words = selected_by (command_of (word words 0)) selected words

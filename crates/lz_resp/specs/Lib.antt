@@ -1,5 +1,6 @@
 pub mod Commands
 pub mod Frames
+pub mod Keys
 pub mod Limits
 pub mod Names
 pub mod Pieces

@@ -1,69 +1,71 @@
 -- What a text comes to, also when it comes in pieces.
 use Rattle.std.specs.Prelude.{◌≡◌, ℕ, ◌≤◌, ◌<◌, List, [], ◌∷◌, ◌++◌, length, drop, Option, None, Some, IfSome, Ok, Err}
 use Rattle.std.specs.List.{concat}
-use Rattle.lz_slot.specs.Limits.{last_room}
 use Rattle.lz_resp.specs.Limits.{most_frame}
 use Rattle.lz_resp.specs.Frames.{IsFrame, IsWithin}
 use Rattle.lz_resp.specs.Reading.{Front, first_of}
-use Rattle.lz_resp.specs.Commands.{item_of, room_after}
+use Rattle.lz_resp.specs.Keys.{IsRoom, at_first}
+use Rattle.lz_resp.specs.Commands.{item_of, selected_after}
 use Rattle.lz_resp.specs.Replies.{fault_text}
+use Rattle.lz_resp.specs.declared.naming.Naming.{Naming}
+use Rattle.lz_resp.specs.declared.naming.Selected.{Selected}
 use Rattle.lz_resp.specs.declared.item.Item.{Item}
 use Rattle.lz_resp.specs.declared.item.Item.TheVariants.{Asks, Says, Ends}
 use Rattle.lz_resp.specs.declared.fault.Fault.{Fault}
 use Rattle.lz_resp.specs.declared.frames.Next.{Next}
 use Rattle.lz_resp.specs.declared.frames.Next.TheVariants.{Waits, Goes, Stops}
 
--- What comes first of a text: nothing yet; items after which nothing is read; or items, and the room and the text after them.
+-- What comes first of a text: nothing yet; items after which nothing is read; or items, and what is selected and the text after them.
 pub data Step : Type 0 where
   waits : Step
   stops : List Item → Step
-  goes : List Item → ℕ → List ℕ → Step
+  goes : List Item → Selected → List ℕ → Step
 
 -- a frame's item, and what comes after it
-abbrev pub step_by : Item → ℕ → List ℕ → Step
-step_by (Asks form requests) room rest = goes (Asks form requests ∷ []) room rest
-step_by (Says text) room rest = goes (Says text ∷ []) room rest
-step_by (Ends text) room rest = stops (Ends text ∷ [])
+abbrev pub step_by : Item → Selected → List ℕ → Step
+step_by (Asks form requests) selected rest = goes (Asks form requests ∷ []) selected rest
+step_by (Says text) selected rest = goes (Says text ∷ []) selected rest
+step_by (Ends text) selected rest = stops (Ends text ∷ [])
 
 -- a frame of no words asks for nothing
-abbrev pub step_with : ℕ → List (List ℕ) → List ℕ → Step
-step_with room [] rest = goes [] room rest
-step_with room (word ∷ words) rest = step_by (item_of room (word ∷ words)) (room_after room (word ∷ words)) rest
+abbrev pub step_with : Selected → List (List ℕ) → List ℕ → Step
+step_with selected [] rest = goes [] selected rest
+step_with selected (word ∷ words) rest = step_by (item_of selected (word ∷ words)) (selected_after selected (word ∷ words)) rest
 
-abbrev pub step_of : ℕ → Front (List (List ℕ)) → Step
-step_of room (Ok None) = waits
-step_of room (Ok (Some p)) = step_with room p.0 p.1
-step_of room (Err fault) = stops (Ends (fault_text fault) ∷ [])
+abbrev pub step_of : Selected → Front (List (List ℕ)) → Step
+step_of selected (Ok None) = waits
+step_of selected (Ok (Some p)) = step_with selected p.0 p.1
+step_of selected (Err fault) = stops (Ends (fault_text fault) ∷ [])
 
-unfoldable pub step : ℕ → List ℕ → Step
-step room text = step_of room (first_of text)
+unfoldable pub step : Selected → List ℕ → Step
+step selected text = step_of selected (first_of text)
 
--- the items of a whole text, where this room is selected
-pub data Items : ℕ → List ℕ → List Item → Type 0 where
-  unfinished : (room : ℕ) (text : List ℕ) → step room text ≡ waits → Items room text []
-  stopped : (room : ℕ) (text : List ℕ) (items : List Item) → step room text ≡ stops items → Items room text items
-  followed : (room : ℕ) (text : List ℕ) (items : List Item) (next : ℕ) (rest : List ℕ) (others : List Item)
-      → step room text ≡ goes items next rest → Items next rest others → Items room text (items ++ others)
+-- the items of a whole text, where this is selected
+pub data Items : Selected → List ℕ → List Item → Type 0 where
+  unfinished : (selected : Selected) (text : List ℕ) → step selected text ≡ waits → Items selected text []
+  stopped : (selected : Selected) (text : List ℕ) (items : List Item) → step selected text ≡ stops items → Items selected text items
+  followed : (selected : Selected) (text : List ℕ) (items : List Item) (next : Selected) (rest : List ℕ) (others : List Item)
+      → step selected text ≡ goes items next rest → Items next rest others → Items selected text (items ++ others)
 
--- where a stream stands: the room that is selected, and the text of the unfinished frame
+-- where a stream stands: what is selected, and the text of the unfinished frame
 pub record Place : Type 0 where
-  pub room : ℕ
+  pub selected : Selected
   pub text : List ℕ
 
--- room 0 is selected, and no text has come
-abbrev pub start : Place
-start = record { room = 0; text = [] }
+-- no text has come
+abbrev pub start : Naming → Place
+start naming = record { selected = at_first naming; text = [] }
 
 -- The items are the text's first ones: all where nothing is read after them, else all but those of what is left.
 abbrev pub Reads : Place → List Item → Option Place → Type 0
-Reads old items None = (rest : List ℕ) → Items old.room (old.text ++ rest) items
+Reads old items None = (rest : List ℕ) → Items old.selected (old.text ++ rest) items
 Reads old items (Some left) =
-    (step left.room left.text ≡ waits) × ((rest : List ℕ) (others : List Item) → Items left.room (left.text ++ rest) others → Items old.room (old.text ++ rest) (items ++ others))
+    (step left.selected left.text ≡ waits) × ((rest : List ℕ) (others : List Item) → Items left.selected (left.text ++ rest) others → Items old.selected (old.text ++ rest) (items ++ others))
 
 -- What a piece adds to the text that was kept.
 abbrev pub Feeds : Option Place → List ℕ → List Item → Option Place → Type 0
 Feeds None piece items new = (items ≡ []) × (new ≡ None)
-Feeds (Some old) piece items new = Reads (record { room = old.room; text = old.text ++ piece }) items new
+Feeds (Some old) piece items new = Reads (record { selected = old.selected; text = old.text ++ piece }) items new
 
 abbrev pub IsShort : Option Place → Type 0
 IsShort place = IfSome place (λ kept. length kept.text ≤ most_frame)
@@ -71,13 +73,13 @@ IsShort place = IfSome place (λ kept. length kept.text ≤ most_frame)
 -- what came first of a text was added, as it tells how the text goes on
 abbrev pub Adds : Step → Next → List ℕ → List Item → Type 0
 Adds first Waits text items = (first ≡ waits) × (items ≡ [])
-Adds first (Goes room count) text items = first ≡ goes items room (drop count text)
+Adds first (Goes selected count) text items = first ≡ goes items selected (drop count text)
 Adds first Stops text items = first ≡ stops items
 
 -- a frame has some bytes and at most so many
 abbrev pub IsInside : Next → ℕ → Type 0
 IsInside Waits most = Unit {0}
-IsInside (Goes room count) most = (room ≤ last_room) × (0 < count) × (count ≤ most)
+IsInside (Goes selected count) most = IsRoom selected × (0 < count) × (count ≤ most)
 IsInside Stops most = Unit {0}
 
 -- The pieces were taken one after the other.
@@ -88,12 +90,14 @@ FeedsAll old (piece ∷ pieces) items new =
 
 -- However a text is cut into pieces, what they give are the text's items.
 abbrev pub AnyPieces : Type 0
-AnyPieces = (pieces : List (List ℕ)) (items : List Item) (new : Option Place) → FeedsAll (Some start) pieces items new → Items 0 (concat pieces) items
+AnyPieces =
+    (naming : Naming) (pieces : List (List ℕ)) (items : List Item) (new : Option Place) → FeedsAll (Some (start naming)) pieces items new
+    → Items (at_first naming) (concat pieces) items
 
 -- Each text has items, and no others.
 abbrev pub OneListOfItems : Type 0
 OneListOfItems =
-    (room : ℕ) (text : List ℕ) → (items : List Item) × Items room text items × ((others : List Item) → Items room text others → others ≡ items)
+    (selected : Selected) (text : List ℕ) → (items : List Item) × Items selected text items × ((others : List Item) → Items selected text others → others ≡ items)
 
 -- A frame is read wherever one stands, whatever follows it.
 abbrev pub FramesAreRead : Type 0

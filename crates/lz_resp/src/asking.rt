@@ -1,7 +1,8 @@
 //! What a frame asks for.
-ghost use Rattle.std.specs.Prelude.{◌≡◌, ◌≤◌, ◌<◌, IfOk, IfSome, Some, map, length, true};
+ghost use Rattle.std.specs.Prelude.{◌≡◌, ◌≤◌, ◌<◌, IfOk, Some, map, length, true};
 ghost use Rattle.lz_slot.specs.Limits.{last_room};
-ghost use Rattle.lz_resp.specs.Commands.{in_room, in_set, item_by, item_of, key_of, requests_of, room_after, room_by, room_of, with_value};
+ghost use Rattle.lz_resp.specs.Commands.{in_subset, in_named, in_unnamed, item_by, item_of, requests_of, room_by, selected_after, selected_by, with_value};
+ghost use Rattle.lz_resp.specs.Keys.{IsThere, IsRoom, subset_of};
 ghost use Rattle.lz_resp.specs.Names.{takes};
 
 use crate::command::{Command, command_of, is_word};
@@ -10,48 +11,63 @@ use crate::form::Form;
 use crate::greeting::{hello, subtext};
 use crate::item::{Item, Requests};
 use crate::limits::MOST_VALUE;
+use crate::naming::{Selected, room_of};
+use crate::subset::Subset;
 use crate::text::{Text, bulk, error};
 use crate::words::{after, word};
-use lz_slot::{Key, LAST_ROOM, MAX_NUMBER, read_number};
 use std::alloc::{AllocError, Global};
 
-/// What a frame of some words comes to, where this room is selected, and the room that is selected after it.
-pub(crate) fn item_of(alloc: Global, room: u8, words: &[&[u8]]) -> Result<(Item, u8), AllocError>
+/// What a frame of some words comes to, where this is selected, and what is selected after it.
+pub(crate) fn item_of(
+    alloc: Global,
+    selected: Selected,
+    words: &[&[u8]],
+) -> Result<(Item, Selected), AllocError>
     requires some { 0 < length words.now }
-    requires range { room ≤ last_room }
-    ensures item { IfOk result (λ p. p.0 ≡ item_of room (map (λ word. word.now) words.now)) }
-    ensures room { IfOk result (λ p. p.1 ≡ room_after room (map (λ word. word.now) words.now)) }
-    ensures range { IfOk result (λ p. p.1 ≤ last_room) }
+    requires range { IsRoom selected }
+    ensures item { IfOk result (λ p. p.0 ≡ item_of selected (map (λ word. word.now) words.now)) }
+    ensures selected { IfOk result (λ p. p.1 ≡ selected_after selected (map (λ word. word.now) words.now)) }
+    ensures range { IfOk result (λ p. IsRoom p.1) }
 {
     let Some(command) = command_of(word(words, 0)) else {
-        return Ok((Item::Says(unknown(alloc, words)?), room));
+        return Ok((Item::Says(unknown(alloc, words)?), selected));
     };
     if !command.takes(words.len()) {
         return Ok((
             Item::Says(wrong_count(alloc, command.name().as_bytes())?),
-            room,
+            selected,
         ));
     }
-    let item = item_by(alloc, command, room, words)?;
-    Ok((item, room_by(command, room, words)))
+    let item = item_by(alloc, command, selected, words)?;
+    Ok((item, selected_by(command, selected, words)))
 }
 
 // What a frame that the command takes comes to.
-fn item_by(alloc: Global, command: Command, room: u8, words: &[&[u8]]) -> Result<Item, AllocError>
+fn item_by(
+    alloc: Global,
+    command: Command,
+    selected: Selected,
+    words: &[&[u8]],
+) -> Result<Item, AllocError>
     requires some { 0 < length words.now }
     requires takes { takes command (length words.now) ≡ true }
-    requires range { room ≤ last_room }
-    ensures { IfOk result (λ item. item ≡ item_by command room (map (λ word. word.now) words.now)) }
+    requires range { IsRoom selected }
+    ensures { IfOk result (λ item. item ≡ item_by command selected (map (λ word. word.now) words.now)) }
 {
     match command {
-        Command::Sadd => in_set(alloc, Form::Added, words),
-        Command::Srem => in_set(alloc, Form::Removed, words),
-        Command::Sismember => in_set(alloc, Form::Found, words),
-        Command::Smismember => in_set(alloc, Form::Each, words),
-        Command::Exists => in_room(alloc, Form::Found, room, after(words, 1)),
-        Command::Del | Command::Unlink => in_room(alloc, Form::Removed, room, after(words, 1)),
-        Command::Setnx => with_value(alloc, Form::Added, room, words),
-        Command::Set => set(alloc, room, words),
+        Command::Sadd => in_named(alloc, Form::Added, selected, words),
+        Command::Srem => in_named(alloc, Form::Removed, selected, words),
+        Command::Sismember => in_named(alloc, Form::Found, selected, words),
+        Command::Smismember => in_named(alloc, Form::Each, selected, words),
+        Command::Exists => in_unnamed(alloc, Form::Found, selected, after(words, 1)),
+        Command::Del | Command::Unlink => in_unnamed(
+            alloc,
+            Form::Removed,
+            selected,
+            after(words, 1),
+        ),
+        Command::Setnx => with_value(alloc, Form::Added, selected, words),
+        Command::Set => set(alloc, selected, words),
         Command::Select => select(alloc, words),
         Command::Ping => ping(alloc, words),
         Command::Echo => Ok(Item::Says(bulk(alloc, word(words, 1))?)),
@@ -63,23 +79,46 @@ fn item_by(alloc: Global, command: Command, room: u8, words: &[&[u8]]) -> Result
     }
 }
 
-// Members of the set that a frame names.
-fn in_set(alloc: Global, form: Form, words: &[&[u8]]) -> Result<Item, AllocError>
+// Members of the subset that a frame names.
+fn in_named(
+    alloc: Global,
+    form: Form,
+    selected: Selected,
+    words: &[&[u8]],
+) -> Result<Item, AllocError>
     requires { 3 ≤ length words.now }
-    ensures { IfOk result (λ item. item ≡ in_set form (map (λ word. word.now) words.now)) }
+    ensures { IfOk result (λ item. item ≡ in_named form selected (map (λ word. word.now) words.now)) }
 {
-    match room_of(word(words, 1)) {
-        Some(room) => in_room(alloc, form, room, after(words, 2)),
+    match selected.of_name(word(words, 1)) {
+        Some(subset) => in_subset(alloc, form, subset, after(words, 2)),
         None => Ok(Item::Says(no_room(alloc)?)),
     }
 }
 
-// Members of the set of this room.
-fn in_room(alloc: Global, form: Form, room: u8, members: &[&[u8]]) -> Result<Item, AllocError>
-    requires { room ≤ last_room }
-    ensures { IfOk result (λ item. item ≡ in_room form (Some room) (map (λ word. word.now) members.now)) }
+// Members of the subset of a command that names none.
+fn in_unnamed(
+    alloc: Global,
+    form: Form,
+    selected: Selected,
+    members: &[&[u8]],
+) -> Result<Item, AllocError>
+    requires { IsRoom selected }
+    ensures { IfOk result (λ item. item ≡ in_unnamed form selected (map (λ word. word.now) members.now)) }
 {
-    match requests_of(alloc, form, room, members)? {
+    in_subset(alloc, form, selected.unnamed(), members)
+}
+
+// Members of a subset.
+fn in_subset(
+    alloc: Global,
+    form: Form,
+    subset: Subset,
+    members: &[&[u8]],
+) -> Result<Item, AllocError>
+    requires { IsThere (subset_of subset) }
+    ensures { IfOk result (λ item. item ≡ in_subset form (Some (subset_of subset.entry)) (map (λ word. word.now) members.now)) }
+{
+    match requests_of(alloc, form, subset, members)? {
         Some(requests) => Ok(Item::Asks(form, requests)),
         None => {
             let text = error(alloc, b"value is not an integer or out of range")?;
@@ -92,15 +131,15 @@ fn in_room(alloc: Global, form: Form, room: u8, members: &[&[u8]]) -> Result<Ite
 fn requests_of(
     alloc: Global,
     form: Form,
-    room: u8,
+    subset: Subset,
     members: &[&[u8]],
 ) -> Result<Option<Requests>, AllocError>
-    requires { room ≤ last_room }
-    ensures { IfOk result (λ requests. requests ≡ requests_of form room (map (λ word. word.now) members.now)) }
+    requires { IsThere (subset_of subset) }
+    ensures { IfOk result (λ requests. requests ≡ requests_of form (subset_of subset.entry) (map (λ word. word.now) members.now)) }
 {
     let mut list = Vec::with_capacity(alloc, members.len())?;
     for member in members {
-        let Some(key) = key_of(room, member) else {
+        let Some(key) = subset.key_of(member) else {
             return Ok(None);
         };
         list.push(form.request(key))?;
@@ -108,42 +147,38 @@ fn requests_of(
     Ok(Some(Requests::new(list)))
 }
 
-// The key of this room whose number the member is.
-fn key_of(room: u8, member: &[u8]) -> Option<Key>
-    requires { room ≤ last_room }
-    ensures { result ≡ key_of room member.now }
-{
-    let number = read_number(member, 0, MAX_NUMBER)?;
-    Key::in_room(room, number)
-}
-
-// A key of the room that is selected, with a value.
-fn with_value(alloc: Global, form: Form, room: u8, words: &[&[u8]]) -> Result<Item, AllocError>
+// A member with a value.
+fn with_value(
+    alloc: Global,
+    form: Form,
+    selected: Selected,
+    words: &[&[u8]],
+) -> Result<Item, AllocError>
     requires words { 3 ≤ length words.now }
-    requires range { room ≤ last_room }
-    ensures { IfOk result (λ item. item ≡ with_value form room (map (λ word. word.now) words.now)) }
+    requires range { IsRoom selected }
+    ensures { IfOk result (λ item. item ≡ with_value form selected (map (λ word. word.now) words.now)) }
 {
     if MOST_VALUE < word(words, 2).len() {
         let text = error(alloc, b"values are not kept, and may have 64 bytes")?;
         return Ok(Item::Says(text));
     }
-    in_room(alloc, form, room, &[word(words, 1)])
+    in_unnamed(alloc, form, selected, &[word(words, 1)])
 }
 
-fn set(alloc: Global, room: u8, words: &[&[u8]]) -> Result<Item, AllocError>
+fn set(alloc: Global, selected: Selected, words: &[&[u8]]) -> Result<Item, AllocError>
     requires words { 3 ≤ length words.now }
-    requires range { room ≤ last_room }
-    ensures { IfOk result (λ item. item ≡ item_by Command.Set room (map (λ word. word.now) words.now)) }
+    requires range { IsRoom selected }
+    ensures { IfOk result (λ item. item ≡ item_by Command.Set selected (map (λ word. word.now) words.now)) }
 {
     if words.len() == 4 && is_word(b"nx", word(words, 3)) {
-        return with_value(alloc, Form::Stored, room, words);
+        return with_value(alloc, Form::Stored, selected, words);
     }
     Ok(Item::Says(error(alloc, b"syntax error")?))
 }
 
 fn select(alloc: Global, words: &[&[u8]]) -> Result<Item, AllocError>
     requires { length words.now ≡ 2 }
-    ensures { IfOk result (λ item. item ≡ item_by Command.Select 0 (map (λ word. word.now) words.now)) }
+    ensures { IfOk result (λ item. item ≡ item_by Command.Select Selected.Nameless (map (λ word. word.now) words.now)) }
 {
     match room_of(word(words, 1)) {
         Some(_) => Ok(Item::Says(Text::of(alloc, b"+OK\r\n")?)),
@@ -152,7 +187,7 @@ fn select(alloc: Global, words: &[&[u8]]) -> Result<Item, AllocError>
 }
 
 fn ping(alloc: Global, words: &[&[u8]]) -> Result<Item, AllocError>
-    ensures { IfOk result (λ item. item ≡ item_by Command.Ping 0 (map (λ word. word.now) words.now)) }
+    ensures { IfOk result (λ item. item ≡ item_by Command.Ping Selected.Nameless (map (λ word. word.now) words.now)) }
 {
     if words.len() == 2 {
         Ok(Item::Says(bulk(alloc, word(words, 1))?))
@@ -164,12 +199,24 @@ fn ping(alloc: Global, words: &[&[u8]]) -> Result<Item, AllocError>
 // What is told of the commands: none is described.
 fn catalog(alloc: Global, words: &[&[u8]]) -> Result<Text, AllocError>
     requires { 0 < length words.now }
-    ensures { IfOk result (λ text. Item.Says text ≡ item_by Command.Catalog 0 (map (λ word. word.now) words.now)) }
+    ensures { IfOk result (λ text. Item.Says text ≡ item_by Command.Catalog Selected.Nameless (map (λ word. word.now) words.now)) }
 {
     if words.len() == 1 {
         Text::of(alloc, b"*0\r\n")
     } else {
         subtext(alloc, Command::Catalog, words)
+    }
+}
+
+// What a command selects.
+fn selected_by(command: Command, selected: Selected, words: &[&[u8]]) -> Selected
+    requires { IsRoom selected }
+    ensures selected { result ≡ selected_by (Some command) selected (map (λ word. word.now) words.now) }
+    ensures range { IsRoom result }
+{
+    match selected {
+        Selected::Room(room) => Selected::Room(room_by(command, room, words)),
+        Selected::Nameless => Selected::Nameless,
     }
 }
 
@@ -184,13 +231,4 @@ fn room_by(command: Command, room: u8, words: &[&[u8]]) -> u8
         Command::Reset if words.len() == 1 => 0,
         _ => room,
     }
-}
-
-// The room that a word names.
-fn room_of(name: &[u8]) -> Option<u8>
-    ensures room { result ≡ room_of name.now }
-    ensures range { IfSome result (λ room. room ≤ last_room) }
-{
-    let room = read_number(name, 0, u64::from(LAST_ROOM))?;
-    Some(room as u8)
 }

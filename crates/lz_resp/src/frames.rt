@@ -1,25 +1,26 @@
 //! Frames out of a text that comes in pieces.
 ghost use Rattle.std.specs.Prelude.{◌≡◌, ◌≤◌, ◌<◌, ◌++◌, ◌∷◌, [], ℕ, List, length, map, if◌then◌else◌, drop, IfOk, IfSome, OnOk, OnErr, Some, None, option_map};
-ghost use Rattle.lz_slot.specs.Limits.{last_room};
 ghost use Rattle.lz_resp.specs.Limits.{most_frame};
+ghost use Rattle.lz_resp.specs.Keys.{IsRoom};
 ghost use Rattle.lz_resp.specs.declared.item.Item.{Item};
 ghost use Rattle.lz_resp.specs.Pieces.{Adds, Feeds, IsInside, IsShort, Reads, goes, start, step, step_by, step_with, stops, waits};
 
 use crate::asking::item_of;
 use crate::fault::Stop;
 use crate::item::Item;
+use crate::naming::{Naming, Selected};
 use crate::reading::read_first;
 use crate::reply::fault_text;
 use std::alloc::{AllocError, Global};
 use std::collections::VecDeque;
 use std::marker::Model;
 
-/// Cuts a text that comes in pieces into frames. Contracts see it as the room that is selected and the text of the unfinished
-/// frame, or none once nothing more is read.
+/// Cuts a text that comes in pieces into frames. Contracts see it as what is selected and the text of the unfinished frame,
+/// or none once nothing more is read.
 #[derive(Drop)]
 pub struct Frames {
     alloc: Global,
-    room: u8,
+    selected: Selected,
     kept: Vec<u8>,
     over: bool,
 }
@@ -27,34 +28,34 @@ pub struct Frames {
 impl Model for Frames {
     ghost use Rattle.std.specs.Prelude.{◌≡◌, ◌≤◌, Option, Some, None, if◌then◌else◌, length};
     ghost use Rattle.lz_resp.specs.Limits.{most_frame};
-    ghost use Rattle.lz_slot.specs.Limits.{last_room};
+    ghost use Rattle.lz_resp.specs.Keys.{IsRoom};
     ghost use Rattle.lz_resp.specs.Pieces.{Place, step, waits};
 
     ghost Value = { Option Place };
 
-    ghost view = { λ f. if f.over then None else Some (record { room = f.room; text = f.kept.items }) };
+    ghost view = { λ f. if f.over then None else Some (record { selected = f.selected; text = f.kept.items }) };
 
-    ghost invariant = { λ f. (f.room ≤ last_room) × (step f.room f.kept.items ≡ waits) × (length f.kept.items ≤ most_frame) };
+    ghost invariant = { λ f. IsRoom f.selected × (step f.selected f.kept.items ≡ waits) × (length f.kept.items ≤ most_frame) };
 }
 
 // How a text goes on after what came first.
 enum Next {
     // no whole frame has come
     Waits,
-    // the room that is selected then, and how many bytes the frame has
-    Goes(u8, usize),
+    // what is selected then, and how many bytes the frame has
+    Goes(Selected, usize),
     // nothing more is read
     Stops,
 }
 
 impl Frames {
     /// No text has come yet.
-    pub fn new(alloc: Global) -> Frames
-        ensures { result ≡ Some start }
+    pub fn new(alloc: Global, naming: Naming) -> Frames
+        ensures { result ≡ Some (start naming) }
     {
         Frames {
             alloc,
-            room: 0,
+            selected: Selected::at_first(naming),
             kept: Vec::new(alloc),
             over: false,
         }
@@ -70,9 +71,9 @@ impl Frames {
             return Ok(());
         }
         let before = items.len();
-        match read_piece(self.alloc, self.room, &mut self.kept, piece, items) {
-            Ok(Some(room)) => {
-                self.room = room;
+        match read_piece(self.alloc, self.selected, &mut self.kept, piece, items) {
+            Ok(Some(selected)) => {
+                self.selected = selected;
                 Ok(())
             }
             Ok(None) => {
@@ -95,28 +96,28 @@ impl Frames {
     }
 }
 
-// Adds the items of the frames that end in a piece after the text that was kept, and keeps what is left. It gives the room that
-// is selected then, or none where nothing more is read.
+// Adds the items of the frames that end in a piece after the text that was kept, and keeps what is left. It gives what is
+// selected then, or none where nothing more is read.
 fn read_piece(
     alloc: Global,
-    room: u8,
+    selected: Selected,
     kept: &mut Vec<u8>,
     piece: &[u8],
     items: &mut VecDeque<Item>,
-) -> Result<Option<u8>, AllocError>
-    requires range { room ≤ last_room }
-    ensures ok { IfOk result (λ next. (more : List Item) × Reads (record { room = room; text = kept.old.items ++ piece.now }) more (option_map (λ room. record { room = room; text = kept.new.items }) next) × (items.new.items ≡ items.old.items ++ more)) }
-    ensures range { IfOk result (λ next. IfSome next (λ room. room ≤ last_room)) }
-    ensures waits { IfOk result (λ next. IfSome next (λ room. (step room kept.new.items ≡ waits) × (length kept.new.items ≤ most_frame))) }
+) -> Result<Option<Selected>, AllocError>
+    requires range { IsRoom selected }
+    ensures ok { IfOk result (λ next. (more : List Item) × Reads (record { selected = selected; text = kept.old.items ++ piece.now }) more (option_map (λ left. record { selected = left; text = kept.new.items }) next) × (items.new.items ≡ items.old.items ++ more)) }
+    ensures range { IfOk result (λ next. IfSome next (λ left. IsRoom left)) }
+    ensures waits { IfOk result (λ next. IfSome next (λ left. (step left kept.new.items ≡ waits) × (length kept.new.items ≤ most_frame))) }
     ensures kept { OnErr result (kept.new.items ≡ kept.old.items) }
     ensures items { OnErr result ((more : List Item) × (items.new.items ≡ items.old.items ++ more)) }
 {
     let before = kept.len();
     kept.extend_from_slice(piece)?;
-    match add_items(alloc, room, kept.as_slice(), items) {
-        Ok(Some((room, used))) => {
+    match add_items(alloc, selected, kept.as_slice(), items) {
+        Ok(Some((selected, used))) => {
             drop_front(kept, used);
-            Ok(Some(room))
+            Ok(Some(selected))
         }
         Ok(None) => Ok(None),
         Err(error) => {
@@ -136,49 +137,49 @@ fn drop_front(kept: &mut Vec<u8>, count: usize)
     kept.truncate(left);
 }
 
-// Adds the items of the frames of a text. It gives the room that is selected then, and how many bytes the frames have, or none
-// where nothing more is read.
+// Adds the items of the frames of a text. It gives what is selected then, and how many bytes the frames have, or none where
+// nothing more is read.
 fn add_items(
     alloc: Global,
-    room: u8,
+    selected: Selected,
     text: &[u8],
     items: &mut VecDeque<Item>,
-) -> Result<Option<(u8, usize)>, AllocError>
-    requires { room ≤ last_room }
-    ensures ok { IfOk result (λ next. (more : List Item) × Reads (record { room = room; text = text.now }) more (option_map (λ p. record { room = p.0; text = drop p.1 text.now }) next) × (items.new.items ≡ items.old.items ++ more)) }
-    ensures range { IfOk result (λ next. IfSome next (λ p. (p.0 ≤ last_room) × (p.1 ≤ length text.now))) }
+) -> Result<Option<(Selected, usize)>, AllocError>
+    requires { IsRoom selected }
+    ensures ok { IfOk result (λ next. (more : List Item) × Reads (record { selected = selected; text = text.now }) more (option_map (λ p. record { selected = p.0; text = drop p.1 text.now }) next) × (items.new.items ≡ items.old.items ++ more)) }
+    ensures range { IfOk result (λ next. IfSome next (λ p. IsRoom p.0 × (p.1 ≤ length text.now))) }
     ensures err { OnErr result ((more : List Item) × (items.new.items ≡ items.old.items ++ more)) }
 {
-    let mut room = room;
+    let mut selected = selected;
     let mut used = 0;
     'frames: while used < text.len() {
         let (_, rest) = text.split_at(used);
-        match add_first(alloc, room, rest, items)? {
-            Next::Waits => return Ok(Some((room, used))),
+        match add_first(alloc, selected, rest, items)? {
+            Next::Waits => return Ok(Some((selected, used))),
             Next::Goes(next, count) => {
-                room = next;
+                selected = next;
                 used += count;
             }
             Next::Stops => return Ok(None),
         }
     }
-    Ok(Some((room, used)))
+    Ok(Some((selected, used)))
 }
 
 // Adds what comes first of a text.
 fn add_first(
     alloc: Global,
-    room: u8,
+    selected: Selected,
     text: &[u8],
     items: &mut VecDeque<Item>,
 ) -> Result<Next, AllocError>
-    requires { room ≤ last_room }
-    ensures ok { IfOk result (λ next. (more : List Item) × Adds (step room text.now) next text.now more × (items.new.items ≡ items.old.items ++ more)) }
+    requires { IsRoom selected }
+    ensures ok { IfOk result (λ next. (more : List Item) × Adds (step selected text.now) next text.now more × (items.new.items ≡ items.old.items ++ more)) }
     ensures range { IfOk result (λ next. IsInside next (length text.now)) }
     ensures err { OnErr result (items.new.items ≡ items.old.items) }
 {
     match read_first(alloc, text) {
-        Ok(Some((words, count))) => add_frame(alloc, room, words.as_slice(), count, items),
+        Ok(Some((words, count))) => add_frame(alloc, selected, words.as_slice(), count, items),
         Ok(None) => Ok(Next::Waits),
         Err(Stop::Faulty(fault)) => {
             items.push_back(Item::Ends(fault_text(alloc, fault)?))?;
@@ -191,21 +192,21 @@ fn add_first(
 // Adds what a frame of this many bytes comes to.
 fn add_frame(
     alloc: Global,
-    room: u8,
+    selected: Selected,
     words: &[&[u8]],
     count: usize,
     items: &mut VecDeque<Item>,
 ) -> Result<Next, AllocError>
-    requires range { room ≤ last_room }
+    requires range { IsRoom selected }
     requires some { 0 < count }
-    ensures ok { IfOk result (λ next. (more : List Item) × ((text : List ℕ) → Adds (step_with room (map (λ word. word.now) words.now) (drop count text)) next text more) × (items.new.items ≡ items.old.items ++ more)) }
+    ensures ok { IfOk result (λ next. (more : List Item) × ((text : List ℕ) → Adds (step_with selected (map (λ word. word.now) words.now) (drop count text)) next text more) × (items.new.items ≡ items.old.items ++ more)) }
     ensures range { IfOk result (λ next. IsInside next count) }
     ensures err { OnErr result (items.new.items ≡ items.old.items) }
 {
     if words.is_empty() {
-        return Ok(Next::Goes(room, count));
+        return Ok(Next::Goes(selected, count));
     }
-    let (item, next) = item_of(alloc, room, words)?;
+    let (item, next) = item_of(alloc, selected, words)?;
     let goes = goes_on(&item);
     items.push_back(item)?;
     if goes {
@@ -217,7 +218,7 @@ fn add_frame(
 
 // Whether a text is read on after an item.
 fn goes_on(item: &Item) -> bool
-    ensures { (room : ℕ) (rest : List ℕ) → step_by item.now room rest ≡ (if result then goes (item.now ∷ []) room rest else stops (item.now ∷ [])) }
+    ensures { (selected : Selected) (rest : List ℕ) → step_by item.now selected rest ≡ (if result then goes (item.now ∷ []) selected rest else stops (item.now ∷ [])) }
 {
     !matches!(item, Item::Ends(_))
 }

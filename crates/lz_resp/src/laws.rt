@@ -1,4 +1,5 @@
 //! Laws of frames. Each function is one law.
+ghost use Rattle.lz_resp.specs.Keys.{HashedOnce};
 ghost use Rattle.lz_resp.specs.Pieces.{AnyPieces, FaultsHaveNoFrame, FramesAreRead, FramesAreSpelled, OneListOfItems};
 
 /// Each text has exactly one list of items.
@@ -24,4 +25,9 @@ pub fn frames_are_spelled()
 /// Where a fault is told no frame stands, however the text goes on.
 pub fn faults_have_no_frame()
     ensures { FaultsHaveNoFrame }
+{}
+
+/// What is hashed for a key of texts is of one name and one member.
+pub fn hashed_once()
+    ensures { HashedOnce }
 {}

@@ -14,9 +14,11 @@ mod greeting;
 mod item;
 pub mod laws;
 mod limits;
+mod naming;
 mod reading;
 mod reply;
 mod subcommand;
+mod subset;
 mod text;
 mod words;
 
@@ -25,5 +27,6 @@ pub use form::Form;
 pub use frames::Frames;
 pub use item::{Item, Requests};
 pub use limits::{MOST_FRAME, MOST_VALUE, MOST_WORD, MOST_WORDS};
+pub use naming::Naming;
 pub use reply::{has_halted, push_reply};
 pub use text::Text;

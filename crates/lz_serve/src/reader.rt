@@ -9,7 +9,7 @@ ghost use Rattle.lz_serve.specs.Exchanges.{EndsWith, Exchange, ReadsMore, adding
 use crate::exchanges::Exchanges;
 use crate::language::Language;
 use lz_proto::{Item as LineItem, Lines};
-use lz_resp::{Frames, Item as FrameItem};
+use lz_resp::{Frames, Item as FrameItem, Naming};
 use std::alloc::{AllocError, Global};
 use std::collections::VecDeque;
 use std::marker::Model;
@@ -69,7 +69,7 @@ impl Reader {
                 items: VecDeque::new(alloc),
             }),
             Language::Frames => Reader::Frames(FrameReader {
-                frames: Frames::new(alloc),
+                frames: Frames::new(alloc, Naming::Rooms),
                 items: VecDeque::new(alloc),
             }),
         }

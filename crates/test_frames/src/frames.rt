@@ -1,6 +1,6 @@
 //! Frames that come byte by byte, at their limits, and out of memory.
 use lz_proto::{Reply, Request};
-use lz_resp::{Form, Frames, Item, push_reply};
+use lz_resp::{Form, Frames, Item, Naming, push_reply};
 use lz_slot::Key;
 use std::collections::VecDeque;
 use std::test::Fail;
@@ -11,7 +11,7 @@ const TEXT: &[u8] =
 
 #[test]
 fn frames_that_come_byte_by_byte_are_given(rt: HostRuntime) -> Result<(), Fail> {
-    let mut frames = Frames::new(rt.alloc());
+    let mut frames = Frames::new(rt.alloc(), Naming::Rooms);
     let mut items = VecDeque::new(rt.alloc());
     for byte in TEXT {
         frames.feed_into(&[*byte], &mut items)?;
@@ -35,7 +35,7 @@ fn frames_that_come_byte_by_byte_are_given(rt: HostRuntime) -> Result<(), Fail> 
 
 #[test]
 fn a_frame_has_many_words_and_not_more(rt: HostRuntime) -> Result<(), Fail> {
-    let mut frames = Frames::new(rt.alloc());
+    let mut frames = Frames::new(rt.alloc(), Naming::Rooms);
     let mut items = VecDeque::new(rt.alloc());
     frames.feed_into(b"*1024\r\n$6\r\nEXISTS\r\n", &mut items)?;
     for _ in 0..1_023 {
@@ -52,7 +52,7 @@ fn a_frame_has_many_words_and_not_more(rt: HostRuntime) -> Result<(), Fail> {
 
 #[test]
 fn a_line_without_an_end_is_kept_up_to_a_limit(rt: HostRuntime) -> Result<(), Fail> {
-    let mut frames = Frames::new(rt.alloc());
+    let mut frames = Frames::new(rt.alloc(), Naming::Rooms);
     let mut items = VecDeque::new(rt.alloc());
     let piece = [b'x'; 4_096];
     for _ in 0..16 {
@@ -77,14 +77,14 @@ fn replies_are_told_in_their_forms(rt: HostRuntime) -> Result<(), Fail> {
     Ok(())
 }
 
-fn is_asking(item: &Item, form: Form, requests: &[Request]) -> bool {
+pub(crate) fn is_asking(item: &Item, form: Form, requests: &[Request]) -> bool {
     match item {
         Item::Asks(told, asked) => *told == form && asked.as_slice() == requests,
         _ => false,
     }
 }
 
-fn is_saying(item: &Item, text: &[u8]) -> bool {
+pub(crate) fn is_saying(item: &Item, text: &[u8]) -> bool {
     match item {
         Item::Says(told) => told.as_bytes() == text,
         _ => false,

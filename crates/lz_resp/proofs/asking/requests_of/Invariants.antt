@@ -2,12 +2,13 @@ use Rattle.std.proofs.Common.{◌≡◌, ◌≢◌, ◌++◌, All, drop}
 use Rattle.std.specs.Prelude.{map, option_map}
 use Rattle.lz_proto.specs.declared.request.Request.TheVariants.{Quit}
 use Rattle.lz_resp.specs.Commands.{requests_of}
+use Rattle.lz_resp.specs.Keys.{subset_of}
 use Rattle.lz_resp.proofs.asking.requests_of.Given as goal
 
 abbrev pub invariant-loop-member : goal.invariant-loop-member
 invariant-loop-member l =
     record {
-      asked : option_map (λ more. l.list.items ++ more) (requests_of l.form l.room (map (λ word. word.now) (drop l.member-index l.members)))
-          ≡ requests_of l.form l.room (map (λ word. word.now) l.members);
+      asked : option_map (λ more. l.list.items ++ more) (requests_of l.form (subset_of l.subset) (map (λ word. word.now) (drop l.member-index l.members)))
+          ≡ requests_of l.form (subset_of l.subset) (map (λ word. word.now) l.members);
       asks : All (λ request. request ≢ Quit) l.list.items;
     }

@@ -1,12 +1,12 @@
 use Rattle.std.proofs.Common.{◌≡◌, ◌-◌, ◌≤◌, List, ◌++◌, length, drop}
-use Rattle.lz_slot.specs.Limits.{last_room}
+use Rattle.lz_resp.specs.Keys.{IsRoom}
 use Rattle.lz_resp.specs.declared.item.Item.{Item}
 use Rattle.lz_resp.proofs.Texts.{GoesOn}
 use Rattle.lz_resp.proofs.frames.add_items.Given as goal
 
 abbrev pub invariant-frames : goal.invariant-frames
 invariant-frames l =
-    (told : List Item) × (l.items.items ≡ l.initial.items.items ++ told) × GoesOn l.fn.room l.text told l.room (drop l.used l.text) × (l.room ≤ last_room) × (l.used ≤ length l.text)
+    (told : List Item) × (l.items.items ≡ l.initial.items.items ++ told) × GoesOn l.fn.selected l.text told l.selected (drop l.used l.text) × IsRoom l.selected × (l.used ≤ length l.text)
 
 abbrev pub decreases-frames : goal.decreases-frames
 decreases-frames l = length l.text - l.used

@@ -1,0 +1,54 @@
+-- Worked keys of texts, by Python's hashlib.
+use Rattle.std.proofs.Common.{◌≡◌, ◌∙◌, [], ◌∷◌, refl, sym, codes, arith}
+use Rattle.sha2.specs.Sha256.{compress, digest_bytes, first_words, hash_after, rounds, schedule, sha256}
+use Rattle.lz_proto.specs.declared.request.Request.TheVariants.{Add, Remove, Has}
+use Rattle.lz_resp.specs.Keys.{at_first, text_number}
+use Rattle.lz_resp.specs.Commands.{item_of, selected_after, ok_text, no_room}
+use Rattle.lz_resp.specs.declared.naming.Naming.TheVariants.{Rooms, Texts}
+use Rattle.lz_resp.specs.declared.naming.Selected.TheVariants.{Room, Nameless}
+use Rattle.lz_resp.specs.declared.form.Form.TheVariants.{Added, Removed, Found, Each, Stored}
+use Rattle.lz_resp.specs.declared.item.Item.TheVariants.{Asks, Says}
+
+plain : text_number (codes "s") (codes "m") ≡ 750852491603012123
+unfolding first_words schedule rounds compress hash_after digest_bytes sha256
+plain = refl
+
+no_bytes : text_number [] [] ≡ 634128529936681850
+unfolding first_words schedule rounds compress hash_after digest_bytes sha256
+no_bytes = refl
+
+high_bytes : text_number (0xc3 ∷ 0xa9 ∷ 0x74 ∷ 0xc3 ∷ 0xa9 ∷ []) (0xff ∷ 0x80 ∷ []) ≡ 270598408865508056
+unfolding first_words schedule rounds compress hash_after digest_bytes sha256
+high_bytes = refl
+
+ends_late : text_number (codes "ab") (codes "c") ≡ 957243908281160298
+unfolding first_words schedule rounds compress hash_after digest_bytes sha256
+ends_late = refl
+
+ends_early : text_number (codes "a") (codes "bc") ≡ 828760502949312972
+unfolding first_words schedule rounds compress hash_after digest_bytes sha256
+ends_early = refl
+
+-- a key tells where the name ends
+ends_matter : text_number (codes "ab") (codes "c") ≡ text_number (codes "a") (codes "bc") → ⊥
+ends_matter h = let so : 957243908281160298 ≡ 828760502949312972 = sym ends_late ∙ h ∙ ends_early in omega (arith, so)
+
+named :
+    (item_of Nameless (codes "SADD" ∷ codes "ab" ∷ codes "c" ∷ codes "17" ∷ []) ≡ Asks Added (Add (text_number (codes "ab") (codes "c")) ∷ Add (text_number (codes "ab") (codes "17")) ∷ []))
+    × (item_of Nameless (codes "SREM" ∷ codes "3" ∷ codes "17" ∷ []) ≡ Asks Removed (Remove (text_number (codes "3") (codes "17")) ∷ []))
+    × (item_of Nameless (codes "SMISMEMBER" ∷ codes "16" ∷ [] ∷ []) ≡ Asks Each (Has (text_number (codes "16") []) ∷ []))
+named = (refl, refl, refl)
+
+unnamed :
+    (item_of Nameless (codes "EXISTS" ∷ codes "x" ∷ []) ≡ Asks Found (Has (text_number [] (codes "x")) ∷ []))
+    × (item_of Nameless (codes "DEL" ∷ codes "5" ∷ []) ≡ Asks Removed (Remove (text_number [] (codes "5")) ∷ []))
+    × (item_of Nameless (codes "SETNX" ∷ codes "x" ∷ codes "1" ∷ []) ≡ Asks Added (Add (text_number [] (codes "x")) ∷ []))
+    × (item_of Nameless (codes "SET" ∷ codes "x" ∷ codes "1" ∷ codes "NX" ∷ []) ≡ Asks Stored (Add (text_number [] (codes "x")) ∷ []))
+unnamed = (refl, refl, refl, refl)
+
+-- rooms are told apart no more
+no_rooms :
+    (item_of Nameless (codes "SELECT" ∷ codes "3" ∷ []) ≡ Says ok_text) × (selected_after Nameless (codes "SELECT" ∷ codes "3" ∷ []) ≡ Nameless)
+    × (item_of Nameless (codes "SELECT" ∷ codes "16" ∷ []) ≡ Says no_room) × (selected_after Nameless (codes "RESET" ∷ []) ≡ Nameless)
+    × (at_first Texts ≡ Nameless) × (at_first Rooms ≡ Room 0)
+no_rooms = (refl, refl, refl, refl, refl, refl)

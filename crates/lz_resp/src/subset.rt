@@ -1,0 +1,42 @@
+//! Subsets and the keys of their members.
+ghost use Rattle.std.specs.Prelude.{◌≡◌, ◌≤◌};
+ghost use Rattle.lz_slot.specs.Limits.{largest_number};
+ghost use Rattle.lz_resp.specs.Keys.{IsThere, subset_of, key_of, text_number};
+
+use byteorder::{BigEndian, ByteOrder};
+use lz_slot::{Key, MAX_NUMBER, read_number};
+use sha2::{Digest, Sha256};
+
+/// A part of the set, by what names it.
+#[derive(Clone, Copy)]
+pub(crate) enum Subset<'t> {
+    Room(u8),
+    // of room 0
+    Text(&'t [u8]),
+}
+
+impl<'t> Subset<'t> {
+    /// The key of a member, if it is one.
+    pub(crate) fn key_of(self, member: &[u8]) -> Option<Key>
+        requires { IsThere (subset_of self) }
+        ensures { result ≡ key_of (subset_of self.entry) member.now }
+    {
+        match self {
+            Subset::Room(room) => Key::in_room(room, read_number(member, 0, MAX_NUMBER)?),
+            Subset::Text(name) => Key::new(text_number(name, member)),
+        }
+    }
+}
+
+// The number in room 0 of a name's member.
+fn text_number(name: &[u8], member: &[u8]) -> u64
+    ensures number { result ≡ text_number name.now member.now }
+    ensures range { result ≤ largest_number }
+{
+    let mut hasher = Sha256::new();
+    hasher.update((name.len() as u64).to_be_bytes());
+    hasher.update(name);
+    hasher.update(member);
+    let digest = hasher.finalize();
+    BigEndian::read_u64(digest.as_slice()) % (MAX_NUMBER + 1)
+}
