@@ -3,3 +3,7 @@
 
 #[cfg(test)]
 mod frames;
+#[cfg(test)]
+mod greetings;
+#[cfg(test)]
+mod texts;
