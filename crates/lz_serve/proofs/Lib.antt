@@ -1,5 +1,6 @@
 pub mod Mapped
 pub mod Halting
+pub mod HandedOut
 pub mod Seats
 pub mod HaltRows
 pub mod JoinedPasses

@@ -11,5 +11,6 @@ pub mod Exchanges
 pub mod Conversations
 pub mod LineSessions
 pub mod Streams
+pub mod Pollers
 pub mod Clients
 pub mod Promised

@@ -21,6 +21,7 @@ mod given;
 mod guest;
 mod language;
 pub mod laws;
+mod limited;
 mod line;
 mod listener;
 mod loads;

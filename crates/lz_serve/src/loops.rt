@@ -60,13 +60,13 @@ where
         Ok(sockets) => sockets,
         Err(why) => return none_served(passes, observer, why),
     };
-    let Some(mut own) = sockets.pop() else {
+    let Some(own) = sockets.pop() else {
         return none_served(passes, observer, Lack::Memory);
     };
     if sockets.is_empty() {
-        return serve_loop(
+        let (served, _sockets) = serve_loop(
             rt,
-            &mut own,
+            own,
             set,
             passes,
             loops.connections,
@@ -74,6 +74,7 @@ where
             observer,
             &told,
         );
+        return served;
     }
     serve_several::<D, G, N, Brand, R, O>(
         rt,
@@ -222,8 +223,10 @@ impl<'a, D: Disk, G: StepGate, N: Named, R: Wait + Clock + AllocGlobal, O: Obser
             observer,
             told,
         } = self;
-        let mut sockets = sockets;
         let desk = take_in_all(desk, share);
-        serve_in(rt, &mut sockets, set, desk, bounds, observer, told)
+        let (free, _sockets) = serve_in::<D, G, N, B, Brand, R, O, Sockets<'a, R>>(
+            rt, sockets, set, desk, bounds, observer, told,
+        );
+        free
     }
 }

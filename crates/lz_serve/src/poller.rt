@@ -13,18 +13,24 @@ pub struct Ready {
 
 /// Connections that come, and those that can be read or written.
 pub trait Poller {
-    ghost use Rattle.std.specs.Prelude.{IfOk, IfSome};
+    ghost use Rattle.std.specs.Prelude.{◌≤◌, ◌+◌, IfOk, IfSome, ℕ};
+    ghost use Rattle.lz_serve.specs.Pollers.{handed_out};
     ghost use Rattle.lz_serve.specs.Streams.{IsFresh};
+
+    /// How many connections have come, where that is told, and else 0.
+    ghost came: { Self → ℕ };
 
     type Stream: Stream;
 
     /// Waits until a connection has come, or one can be read or written, but not for longer than so. Puts those that can be read or
     /// written at the end of `ready`: each of which that is so since its last `Later`, or since it gave less than there was room for.
     /// Where the system or memory fails it puts none, after a pause.
-    fn poll(&mut self, patience: Duration, ready: &mut Vec<Ready>);
+    fn poll(&mut self, patience: Duration, ready: &mut Vec<Ready>)
+        ensures { came self.new ≤ came self.old };
 
     /// A connection that has come, if there is one, which has this token from now on. Its stream is dropped before another one gets
     /// the token. Where the system fails the connection may wait.
     fn accept(&mut self, token: usize) -> io::Result<Option<Self::Stream>>
-        ensures { IfOk result (λ came. IfSome came (λ stream. IsFresh (Self.Stream.traffic stream))) };
+        ensures fresh { IfOk result (λ given. IfSome given (λ stream. IsFresh (Self.Stream.traffic stream))) }
+        ensures came { came self.new ≤ came self.old + handed_out result };
 }

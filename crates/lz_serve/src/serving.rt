@@ -1,5 +1,5 @@
 //! The loop.
-ghost use Rattle.std.specs.Prelude.{◌≡◌, ◌≤◌, [], IfOk, true, false, All, vec_capacity, vec_len};
+ghost use Rattle.std.specs.Prelude.{◌≡◌, ◌≤◌, ◌+◌, [], IfOk, true, false, All, vec_capacity, vec_len};
 ghost use Rattle.std.specs.List.{Any};
 ghost use Rattle.lz_board.specs.Seats.{part};
 ghost use Rattle.lz_set.specs.Names.{MayCall};
@@ -10,6 +10,7 @@ use crate::crowd::Crowd;
 use crate::desk::Desk;
 use crate::free_pass::{FreePass, hand_back};
 use crate::given::Given;
+use crate::limited::{Limit, Limited};
 use crate::observer::{Lack, Observer};
 use crate::poller::{Poller, Ready};
 use crate::server::{Bounds, Served, none_served};
@@ -36,17 +37,18 @@ const GLIMPSE: u64 = 20;
 /// Serves connections, so many at once, by these passes in one thread, until a client was told that the service halted, here or by another loop, which
 /// sets `told`, the observer says that it is to end, or so many connections were served. Then the calls under way are played to their
 /// answers, and what is unsent is sent. Where the service halted each request that waits is answered too. The loop whose client was told
-/// so first tells the observer. Where no memory is left for its clients it serves none.
+/// so first tells the observer. Where no memory is left for its clients it serves none. It hands the poller back, from which no more
+/// connections have come than so.
 pub fn serve_loop<D, G, N, R, O, P>(
     rt: &R,
-    poller: &mut P,
+    poller: P,
     set: &Set<D, G, N>,
     passes: Vec<Pass>,
     connections: usize,
     bounds: Bounds,
     observer: &O,
     told: &AtomicBool,
-) -> Served
+) -> (Served, P)
 where
     D: Disk,
     G: StepGate,
@@ -56,11 +58,12 @@ where
     P: Poller,
     requires may_call { All (MayCall N.board) passes.items }
     requires promised { Promises N.board N.format P.Stream.promised }
-    ensures may_call { All (MayCall N.board) result.passes.items }
-    ensures count { vec_len result.passes ≡ vec_len passes }
-    ensures unserved { result.unserved ≡ true → result.passes.items ≡ passes.items }
-    ensures halted { result.halted ≡ true → Any SawHalt result.passes.items }
-    ensures calm { All (λ pass. IsCalm (part pass)) passes.items → result.halted ≡ false → All (λ pass. IsCalm (part pass)) result.passes.items }
+    ensures may_call { All (MayCall N.board) result.0.passes.items }
+    ensures count { vec_len result.0.passes ≡ vec_len passes }
+    ensures unserved { result.0.unserved ≡ true → result.0.passes.items ≡ passes.items }
+    ensures halted { result.0.halted ≡ true → Any SawHalt result.0.passes.items }
+    ensures calm { All (λ pass. IsCalm (part pass)) passes.items → result.0.halted ≡ false → All (λ pass. IsCalm (part pass)) result.0.passes.items }
+    ensures sessions { 1 ≤ bounds.sessions → P.came result.1 ≤ P.came poller + bounds.sessions }
 {
     serve_among::<D, G, N, Brand, R, O, P>(
         rt,
@@ -77,14 +80,14 @@ where
 // The same. B names the passes.
 fn serve_among<D, G, N, B, R, O, P>(
     rt: &R,
-    poller: &mut P,
+    poller: P,
     set: &Set<D, G, N>,
     passes: Vec<Pass>,
     connections: usize,
     bounds: Bounds,
     observer: &O,
     told: &AtomicBool,
-) -> Served
+) -> (Served, P)
 where
     D: Disk,
     G: StepGate,
@@ -96,21 +99,22 @@ where
     requires may_call { All (MayCall N.board) passes.items }
     requires calm { All (IsCalmAfter B.parts) passes.items }
     requires promised { Promises N.board N.format P.Stream.promised }
-    ensures may_call { All (MayCall N.board) result.passes.items }
-    ensures count { vec_len result.passes ≡ vec_len passes }
-    ensures unserved { result.unserved ≡ true → result.passes.items ≡ passes.items }
-    ensures halted { result.halted ≡ true → Any SawHalt result.passes.items }
-    ensures calm { result.halted ≡ false → All (IsCalmAfter B.parts) result.passes.items }
+    ensures may_call { All (MayCall N.board) result.0.passes.items }
+    ensures count { vec_len result.0.passes ≡ vec_len passes }
+    ensures unserved { result.0.unserved ≡ true → result.0.passes.items ≡ passes.items }
+    ensures halted { result.0.halted ≡ true → Any SawHalt result.0.passes.items }
+    ensures calm { result.0.halted ≡ false → All (IsCalmAfter B.parts) result.0.passes.items }
+    ensures sessions { 1 ≤ bounds.sessions → P.came result.1 ≤ P.came poller + bounds.sessions }
 {
     let Ok((desk, free, done)) = make_desk::<P::Stream, N, B>(rt.alloc(), passes.len(), connections)
     else {
-        return none_served(passes, observer, Lack::Memory);
+        return (none_served(passes, observer, Lack::Memory), poller);
     };
     let desk = take_in_all(desk, set_free(passes, free));
-    hand_back(
-        serve_in(rt, poller, set, desk, bounds, observer, told),
-        done,
-    )
+    let (free, poller) = serve_in::<D, G, N, B, Brand, R, O, P>(
+        rt, poller, set, desk, bounds, observer, told,
+    );
+    (hand_back(free, done), poller)
 }
 
 type Rooms<S, N, B> = (Desk<S, N, B>, Vec<FreePass<N, B>>, Vec<Pass>);
@@ -147,36 +151,40 @@ pub(crate) fn take_in_all<S: Stream, N: Named, B: Given>(
     desk
 }
 
-/// Serves by the passes of this desk, and hands them back.
-pub(crate) fn serve_in<D, G, N, B, R, O, P>(
+/// Serves by the passes of this desk, and hands them back, with the poller. L names how many connections may come.
+pub(crate) fn serve_in<D, G, N, B, L, R, O, P>(
     rt: &R,
-    poller: &mut P,
+    poller: P,
     set: &Set<D, G, N>,
     desk: Desk<P::Stream, N, B>,
     bounds: Bounds,
     observer: &O,
     told: &AtomicBool,
-) -> Vec<FreePass<N, B>>
+) -> (Vec<FreePass<N, B>>, P)
 where
     D: Disk,
     G: StepGate,
     N: Named,
     B: Given,
+    L: Limit,
     R: Wait + Clock + AllocGlobal,
     O: Observer,
     P: Poller,
     requires promised { Promises N.board N.format P.Stream.promised }
-    ensures { vec_len result ≡ desk.given }
+    requires limit { (L.before ≡ P.came poller) × (L.sessions ≡ bounds.sessions) }
+    ensures count { vec_len result.0 ≡ desk.given }
+    ensures sessions { 1 ≤ bounds.sessions → P.came result.1 ≤ P.came poller + bounds.sessions }
 {
     let mut desk = desk;
-    run(rt, poller, set, &mut desk, bounds, observer, told);
-    desk.into_free()
+    let mut poller = Limited::<P, L>::new(poller, bounds.sessions);
+    run(rt, &mut poller, set, &mut desk, bounds, observer, told);
+    (desk.into_free(), poller.into_poller())
 }
 
 // Turn after turn, until the loop ends. Then all calls under way are answered.
-fn run<D, G, N, B, R, O, P>(
+fn run<D, G, N, B, L, R, O, P>(
     rt: &R,
-    poller: &mut P,
+    poller: &mut Limited<P, L>,
     set: &Set<D, G, N>,
     desk: &mut Desk<P::Stream, N, B>,
     bounds: Bounds,
@@ -188,6 +196,7 @@ where
     G: StepGate,
     N: Named,
     B: Given,
+    L: Limit,
     R: Wait + Clock + AllocGlobal,
     O: Observer,
     P: Poller,
@@ -201,14 +210,7 @@ where
         if desk.is_done(bounds.sessions) || is_ended(observer, told) {
             break;
         }
-        admit(
-            rt,
-            poller,
-            &mut desk.crowd,
-            bounds.sessions,
-            observer,
-            &mut buffer,
-        );
+        admit(rt, poller, &mut desk.crowd, observer, &mut buffer);
         let patience = desk.patience();
         listen(
             rt,
@@ -247,23 +249,23 @@ fn is_ended<O: Observer>(observer: &O, told: &AtomicBool) -> bool {
     told.load(Ordering::SeqCst) || observer.stops()
 }
 
-// Admits those that have come, up to so many over the loop's life; 0 for no end.
-fn admit<R, O, P>(
+// Admits those that have come, as long as more may come.
+fn admit<L, R, O, P>(
     rt: &R,
-    poller: &mut P,
+    poller: &mut Limited<P, L>,
     crowd: &mut Crowd<P::Stream>,
-    sessions: u64,
     observer: &O,
     buffer: &mut [u8],
 )
 where
+    L: Limit,
     R: AllocGlobal,
     O: Observer,
     P: Poller,
     requires { P.Stream.promised [] }
 {
     for _ in 0..crowd.most() {
-        if sessions != 0 && crowd.admitted() >= sessions {
+        if poller.is_over() {
             return;
         }
         let Some(token) = crowd.vacancy() else {

@@ -131,6 +131,8 @@ impl<'a, R: Clock> Sockets<'a, R> {
 }
 
 impl<'a, R: Clock> Poller for Sockets<'a, R> {
+    ghost came = { λ _. 0 };
+
     type Stream = Socket<'a>;
 
     fn poll(&mut self, patience: Duration, ready: &mut Vec<Ready>) {

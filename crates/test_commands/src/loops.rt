@@ -100,7 +100,7 @@ fn serve_all<N: Named, R: Wait + Clock + AllocGlobal>(
 ) -> (usize, bool)
     requires { All (MayCall N.board) passes.items }
 {
-    let mut switch = Switch {
+    let switch = Switch {
         network,
         next: 0,
         clients: CLIENTS,
@@ -111,7 +111,7 @@ fn serve_all<N: Named, R: Wait + Clock + AllocGlobal>(
         idle: None,
     };
     let told = AtomicBool::new(false);
-    let served = serve_loop(rt, &mut switch, set, passes, PLACES, bounds, counts, &told);
+    let (served, _switch) = serve_loop(rt, switch, set, passes, PLACES, bounds, counts, &told);
     (served.passes.len(), served.halted)
 }
 

@@ -128,6 +128,8 @@ pub struct Switch<'a> {
 }
 
 impl<'a> Poller for Switch<'a> {
+    ghost came = { λ switch. switch.next };
+
     type Stream = Wire<'a>;
 
     fn poll(&mut self, _patience: Duration, ready: &mut Vec<Ready>) {
