@@ -34,6 +34,11 @@ class Texts(unittest.TestCase):
         for text, number in rows:
             self.assertEqual(str(key_of(text)), number, text)
 
+    def test_the_members_of_the_page(self) -> None:
+        with open(PROTOCOL, encoding="utf-8") as page:
+            rows = re.findall(r"^\| (?:`(\S*)`|\(empty\)) \| (?:`(\S*)`|\(empty\)) \| (\d+) \|$", page.read(), re.M)
+        self.assertEqual([(name, member, int(number)) for name, member, number in rows], [(*texts, digest % 10**18) for *texts, digest in OF_MEMBERS])
+
     def test_the_definition(self) -> None:
         self.assertEqual(key_of("abc"), OF_ABC % 10**18)
         self.assertEqual(key_of(b"abc"), key_of("abc"))
