@@ -15,7 +15,7 @@ _lazyset_words() {
     make) options="--format --keys --help" ;;
     renew | grow) options="--format --help" formats="2 3" ;;
     run) options="--buckets --help" ;;
-    serve) options="--connections --loops --resp --sessions --idle --buckets --socket --control --until-eof --help" ;;
+    serve) options="--connections --loops --resp --text --sessions --idle --buckets --socket --control --until-eof --help" ;;
     stop) options="--within --help" ;;
     check) options="--of --keys --help" ;;
     rehearse) options="--buckets --format --help" ;;

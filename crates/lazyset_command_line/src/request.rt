@@ -8,6 +8,7 @@ use crate::command::{Listens, command_line};
 use crate::refusal::{Refusal, bad_passes, refusal_of, too_many_buckets, too_many_loops};
 use crate::words::SOCKET_ID;
 use clap::ArgMatches;
+use lz_resp::Naming;
 use lz_serve::{Language, Loops, MOST_CONNECTIONS, MOST_THREADS, ServeOptions};
 use lz_slot::{Format, LAST_ROOM, MOST_BUCKETS, MOST_PASSES, MOST_REHEARSED};
 use std::alloc::{AllocError, Global};
@@ -288,10 +289,10 @@ fn loops_of(matches: &ArgMatches<'_>, passes: usize) -> Option<Loops>
         Some(_) => number_within(matches, "loops", passes.min(MOST_THREADS))?,
         None => 1,
     };
-    let language = if matches.get_flag("resp") {
-        Language::Frames
-    } else {
-        Language::Lines
+    let language = match (matches.get_flag("resp"), matches.get_flag("text")) {
+        (true, true) => Language::Frames(Naming::Texts),
+        (true, false) => Language::Frames(Naming::Rooms),
+        (false, _) => Language::Lines,
     };
     Some(Loops {
         count: count.min(connections),

@@ -93,6 +93,7 @@ pub const SHEETS: [Sheet; 10] = [
             CONNECTIONS,
             LOOPS,
             RESP,
+            TEXT,
             SESSIONS,
             IDLE,
             SERVED_BUCKETS,
@@ -299,6 +300,15 @@ const RESP: Word = Word {
     default: None,
     beside: Beside::Needs("connections"),
     help: "Speaks the protocol of Redis (RESP2) in place of lines, so that its clients can be used",
+};
+
+const TEXT: Word = Word {
+    id: "text",
+    value_name: None,
+    form: Form::Flag,
+    default: None,
+    beside: Beside::Needs("resp"),
+    help: "Takes any bytes as names and members, whose SHA-256 is the key (docs/PROTOCOL.md); else a name is a room, and a member a number",
 };
 
 const SESSIONS: Word = Word {

@@ -1,6 +1,7 @@
 -- Worked conversations.
 use Rattle.std.proofs.Common.{◌≡◌, ℕ, List, [], ◌∷◌, ◌++◌, ◌+◌, suc, length, Option, Some, None, false, refl, sym, ap, subst, ◌∙◌, arith, codes, length-append}
 use Rattle.std.proofs.lemmas.List.{append-nil, nil_from_length}
+use Rattle.std.specs.Fmt.{digits}
 use Rattle.lz_proto.specs.declared.request.Request.{Request}
 use Rattle.lz_proto.specs.declared.request.Request.TheVariants.{Add, Has, Quit}
 use Rattle.lz_proto.specs.declared.fault.Bad.TheVariants.{NoNumber}
@@ -19,6 +20,7 @@ use Rattle.lz_board.specs.declared.pass.Pass.{Pass}
 use Rattle.lz_serve.specs.Grants.{Grant, IsOfLine}
 use Rattle.lz_serve.specs.Lines.{awaited}
 use Rattle.lz_resp.specs.declared.form.Form.TheVariants.{Added}
+use Rattle.lz_resp.specs.declared.naming.Naming.{Naming}
 use Rattle.lz_serve.specs.declared.language.Language.TheVariants.{Lines, Frames}
 use Rattle.lz_serve.specs.declared.reader.Reader.{Reader}
 use Rattle.lz_serve.specs.declared.reader.Reader.TheVariants as reader
@@ -101,6 +103,7 @@ is_half_sent p = record { done = first ∷ second ∷ []; left = []; came = came
 
 -- a frame with two members is told by two grants, and one text
 two_members : (p : Pass) → IsTold 1 0 (exchange.asks (wording.Frame Added) (Add 1 ∷ Add 1 ∷ [])) (get p Yes ∷ late p No ∷ []) (codes ":1\r\n") ends.Done
+unfolding digits
 two_members p = ((of_first p, (record { of_connection = refl; of_number = refl; of_request = refl; of_reply = refl }, tt)), refl, refl)
 
 -- What must not hold.
@@ -110,8 +113,8 @@ not_two_members : (p : Pass) (said : List ℕ) (ended : End) → IsTold 1 0 (exc
 not_two_members p said ended told = told.0.1
 
 -- lines that are read as frames
-not_as_frames : (text : List ℕ) (exchanges : List Exchange) (left : Reader) → CameFrom Frames text exchanges (Some (reader.Lines (Some []))) → ⊥
-not_as_frames text exchanges left came = let apart = came.0 in cc
+not_as_frames : (naming : Naming) (text : List ℕ) (exchanges : List Exchange) → CameFrom (Frames naming) text exchanges (Some (reader.Lines (Some []))) → ⊥
+not_as_frames naming text exchanges came = let apart = came.0 in cc
 
 session : (grants : List Grant) (text : List ℕ) (t : Talk) → t.spoken ≡ Lines → IsAt 1 grants text [] t → IsSession 1 grants text [] t
 session grants text t spoken at = lines_are_sessions 1 grants text [] t spoken at
@@ -133,7 +136,7 @@ fault_begins : (replies : List Reply) → codes "yes\nbad 3\n" ≡ session_text 
 fault_begins replies e = cc
 
 -- a reply's text before that of an earlier fault
-not_before_a_fault : (grants : List Grant) → ¬ IsAt 1 grants (codes "has x\nadd 1\n") [] (stands [] [] 1 codes "yes\nbad 3\n" ends.Done)
+not_before_a_fault : (grants : List Grant) → ¬ IsAt 1 grants (codes "has x\nadd 1\n") [] (stands [] [] 1 (codes "yes\nbad 3\n") ends.Done)
 not_before_a_fault grants stood =
     let at = session grants (codes "has x\nadd 1\n") (stands [] [] 1 (codes "yes\nbad 3\n") ends.Done) refl stood in
     let done = only_items (codes "has x\nadd 1\n") (Faulty NoNumber ∷ Asks (Add 1) ∷ []) at.done at.left turned_read at.came at.many in
@@ -149,7 +152,7 @@ ends_there (Worn ∷ replies) e = cc
 ends_there (OldFile ∷ replies) e = cc
 
 -- a text after `halted`
-not_after_halted : (grants : List Grant) → ¬ IsAt 1 grants lines [] (stands [] [] 1 codes "halted\nbad 3\n" ends.Halted)
+not_after_halted : (grants : List Grant) → ¬ IsAt 1 grants lines [] (stands [] [] 1 (codes "halted\nbad 3\n") ends.Halted)
 not_after_halted grants stood =
     let at = session grants lines (stands [] [] 1 (codes "halted\nbad 3\n") ends.Halted) refl stood in
     let done = only_items lines items at.done at.left lines_read at.came at.many in
@@ -183,7 +186,7 @@ unserved p (Worn ∷ r ∷ replies) s = s.2
 unserved p (OldFile ∷ r ∷ replies) s = s.2
 
 -- a reply that was granted to another request
-not_of_another : (p : Pass) → ¬ IsAt 1 (gets p Yes) (codes "has 1\n") [] (stands [] [] 1 codes "yes\n" ends.Done)
+not_of_another : (p : Pass) → ¬ IsAt 1 (gets p Yes) (codes "has 1\n") [] (stands [] [] 1 (codes "yes\n") ends.Done)
 not_of_another p stood =
     let at = session (gets p Yes) (codes "has 1\n") (stands [] [] 1 (codes "yes\n") ends.Done) refl stood in
     let done = only_items (codes "has 1\n") (Asks (Has 1) ∷ []) at.done at.left has_read at.came at.many in
@@ -231,7 +234,7 @@ one_for_two p (OldFile ∷ []) s e = s.2
 one_for_two p (first ∷ second ∷ replies) s e = not_two p first second replies s
 
 -- two lines that ask the same, of which one was granted a reply
-not_both_by_one : (p : Pass) → ¬ IsAt 1 (gets p Yes) (codes "add 1\nadd 1\n") [] (stands [] [] 1 codes "yes\nyes\n" ends.Done)
+not_both_by_one : (p : Pass) → ¬ IsAt 1 (gets p Yes) (codes "add 1\nadd 1\n") [] (stands [] [] 1 (codes "yes\nyes\n") ends.Done)
 not_both_by_one p stood =
     let at = session (gets p Yes) (codes "add 1\nadd 1\n") (stands [] [] 1 (codes "yes\nyes\n") ends.Done) refl stood in
     let done = only_items (codes "add 1\nadd 1\n") both at.done at.left both_read at.came at.many in
@@ -266,7 +269,7 @@ add_read : Reads (codes "add 1\n") (Asks (Add 1) ∷ []) (Some [])
 add_read = (refl, λ rest more its. line (codes "add 1") (Asks (Add 1)) rest more refl (item_read (codes "add 1")) (λ e. cc) its)
 
 -- a reply that was granted to a later line, which asks the same
-not_of_a_later_line : (p : Pass) → ¬ IsAt 1 (late p Yes ∷ []) (codes "add 1\n") [] (stands [] [] 1 codes "yes\n" ends.Done)
+not_of_a_later_line : (p : Pass) → ¬ IsAt 1 (late p Yes ∷ []) (codes "add 1\n") [] (stands [] [] 1 (codes "yes\n") ends.Done)
 not_of_a_later_line p stood =
     let at = session (late p Yes ∷ []) (codes "add 1\n") (stands [] [] 1 (codes "yes\n") ends.Done) refl stood in
     let done = only_items (codes "add 1\n") (Asks (Add 1) ∷ []) at.done at.left add_read at.came at.many in

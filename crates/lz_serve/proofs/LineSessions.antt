@@ -95,7 +95,7 @@ length_map f (x ∷ l) = ap (λ (n : ℕ). suc n) (length_map f l)
 
 lines_came : (text : List ℕ) (exchanges : List Exchange) (r : Option Reader) → CameFrom language.Lines text exchanges r → (items : List Item) × LinesCame text items r × (exchanges ≡ map of_line items)
 lines_came text exchanges (Some (reader.Lines kept)) came = came.1
-lines_came text exchanges (Some (reader.Frames place)) came = absurd (let apart = came.0 in cc)
+lines_came text exchanges (Some (reader.Frames place)) came = absurd (let apart = came.1 in cc)
 lines_came text exchanges None came = came
 
 pub lines_are_sessions : LinesAreSessions

@@ -10,7 +10,6 @@ use Rattle.lz_proto.specs.Pieces.{faults_of}
 use Rattle.lz_proto.specs.Lines.{Items as LineItems}
 use Rattle.lz_proto.proofs.Texts as lines
 use Rattle.lz_resp.specs.declared.item.Item.{Item as FrameItem}
-use Rattle.lz_resp.specs.declared.naming.Naming.TheVariants.{Rooms}
 use Rattle.lz_resp.specs.Keys.{at_first}
 use Rattle.lz_resp.proofs.Texts as frames
 use Rattle.lz_serve.specs.declared.language.Language.{Language}
@@ -38,11 +37,12 @@ came_more spoken text piece xs ys (reader.Lines kept) (reader.Lines left) (is, (
     ap (λ (l : List Exchange). l ++ ys) are ∙ ap (λ (l : List Exchange). map of_line items ++ l) gives ∙ sym (map_more of_line items others),
   ),
 )
-came_more spoken text piece xs ys (reader.Frames kept) (reader.Frames left) (is, (items, reads, are)) (others, feeds, gives) = (
+came_more spoken text piece xs ys (reader.Frames kept) (reader.Frames left) (naming, is, (items, reads, are)) (others, feeds, gives) = (
+  naming,
   is,
   (
     items ++ others,
-    frames.reads_more (at_first Rooms) text piece items others kept left reads feeds,
+    frames.reads_more (at_first naming) text piece items others kept left reads feeds,
     ap (λ (l : List Exchange). l ++ ys) are ∙ ap (λ (l : List Exchange). map of_frame items ++ l) gives ∙ sym (map_more of_frame items others),
   ),
 )
@@ -55,9 +55,9 @@ came_whole spoken text xs ys (reader.Lines kept) (is, (items, reads, are)) (faul
     let its : LineItems text (items ++ faults_of fault) = subst (λ (t : List ℕ). LineItems t (items ++ faults_of fault)) (append-nil text) (lines.items_end text items kept fault reads at_end) in
     subst (λ (l : Language). CameFrom l text (xs ++ ys) None) (sym is)
     (items ++ faults_of fault, its, ap (λ (l : List Exchange). l ++ ys) are ∙ ap (λ (l : List Exchange). map of_line items ++ l) gives ∙ sym (map_more of_line items (faults_of fault)))
-came_whole spoken text xs ys (reader.Frames kept) (is, (items, reads, are)) none =
+came_whole spoken text xs ys (reader.Frames kept) (naming, is, (items, reads, are)) none =
     subst (λ (l : Language). CameFrom l text (xs ++ ys) None) (sym is)
-    (items, frames.items_end (at_first Rooms) text items kept reads, ap (λ (l : List Exchange). xs ++ l) none ∙ append-nil xs ∙ are)
+    (items, frames.items_end (at_first naming) text items kept reads, ap (λ (l : List Exchange). xs ++ l) none ∙ append-nil xs ∙ are)
 
 -- what two lists have in common at the front
 pub record Split (xs ys us ws : List Request) : Type 0 where
@@ -91,7 +91,7 @@ for_many connection told (request ∷ requests) [] are = absurd are
 
 pub begins : (connection : ℕ) (spoken : Language) → IsAt connection [] [] [] (nothing_yet spoken)
 begins connection language.Lines = record { done = []; left = []; came = (refl, ([], (refl, λ rest items its. its), refl)); turns = refl; asked = refl; told = none_told connection; counted = refl }
-begins connection language.Frames = record { done = []; left = []; came = (refl, ([], (frames.step_empty (at_first Rooms) [] refl, λ rest items its. its), refl)); turns = refl; asked = refl; told = none_told connection; counted = refl }
+begins connection (language.Frames naming) = record { done = []; left = []; came = (naming, refl, ([], (frames.step_empty (at_first naming) [] refl, λ rest items its. its), refl)); turns = refl; asked = refl; told = none_told connection; counted = refl }
 
 module _ (connection : ℕ) (grants : List Grant) (text sent : List ℕ) (t : Talk) (at : IsAt connection grants text sent t) where
   pub fed : (piece : List ℕ) (new : Talk) → Fed piece t new → IsAt connection grants (text ++ piece) sent new

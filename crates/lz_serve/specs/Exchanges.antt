@@ -14,7 +14,7 @@ use Rattle.lz_proto.specs.Sessions.{bad_text, reply_text}
 use Rattle.lz_proto.specs.declared.fault.Bad.{Bad}
 use Rattle.lz_resp.specs.declared.item.Item.{Item as FrameItem}
 use Rattle.lz_resp.specs.declared.item.Item.TheVariants as frame
-use Rattle.lz_resp.specs.declared.naming.Naming.TheVariants.{Rooms}
+use Rattle.lz_resp.specs.declared.naming.Naming.{Naming}
 use Rattle.lz_resp.specs.Keys.{at_first}
 use Rattle.lz_resp.specs.Pieces.{Feeds as FeedsFrames, Items as FrameItems, Reads as ReadsFrames, start}
 use Rattle.lz_resp.specs.Replies.{is_halted, text_of}
@@ -70,7 +70,7 @@ adding exchanges p = record { turns = p.turns ++ map turn_of exchanges; waiting 
 -- no text has come yet
 abbrev pub unread : Language → Reader
 unread language.Lines = reader.Lines (Some [])
-unread language.Frames = reader.Frames (Some (start Rooms))
+unread (language.Frames naming) = reader.Frames (Some (start naming))
 
 -- a piece of the text gives these exchanges
 abbrev pub ReadsMore : Reader → List ℕ → List Exchange → Reader → Type 0
@@ -87,9 +87,9 @@ EndsWith (reader.Frames place) exchanges = exchanges ≡ []
 abbrev pub CameFrom : Language → List ℕ → List Exchange → Option Reader → Type 0
 CameFrom spoken text exchanges (Some (reader.Lines kept)) = (spoken ≡ language.Lines) × ((items : List LineItem) × ReadsLines text items kept × (exchanges ≡ map of_line items))
 CameFrom spoken text exchanges (Some (reader.Frames place)) =
-    (spoken ≡ language.Frames) × ((items : List FrameItem) × ReadsFrames (record { selected = at_first Rooms; text = text }) items place × (exchanges ≡ map of_frame items))
+    (naming : Naming) × (spoken ≡ language.Frames naming) × ((items : List FrameItem) × ReadsFrames (record { selected = at_first naming; text = text }) items place × (exchanges ≡ map of_frame items))
 CameFrom language.Lines text exchanges None = (items : List LineItem) × LineItems text items × (exchanges ≡ map of_line items)
-CameFrom language.Frames text exchanges None = (items : List FrameItem) × FrameItems (at_first Rooms) text items × (exchanges ≡ map of_frame items)
+CameFrom (language.Frames naming) text exchanges None = (items : List FrameItem) × FrameItems (at_first naming) text items × (exchanges ≡ map of_frame items)
 
 -- the text of replies that are worded so
 abbrev pub worded : Wording → List Reply → List ℕ

@@ -9,7 +9,7 @@ ghost use Rattle.lz_serve.specs.Exchanges.{EndsWith, Exchange, ReadsMore, adding
 use crate::exchanges::Exchanges;
 use crate::language::Language;
 use lz_proto::{Item as LineItem, Lines};
-use lz_resp::{Frames, Item as FrameItem, Naming};
+use lz_resp::{Frames, Item as FrameItem};
 use std::alloc::{AllocError, Global};
 use std::collections::VecDeque;
 use std::marker::Model;
@@ -68,8 +68,8 @@ impl Reader {
                 lines: Lines::new(alloc),
                 items: VecDeque::new(alloc),
             }),
-            Language::Frames => Reader::Frames(FrameReader {
-                frames: Frames::new(alloc, Naming::Rooms),
+            Language::Frames(naming) => Reader::Frames(FrameReader {
+                frames: Frames::new(alloc, naming),
                 items: VecDeque::new(alloc),
             }),
         }

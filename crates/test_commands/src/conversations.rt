@@ -1,5 +1,6 @@
 //! The lines of a conversation, and the room that it keeps.
 use lz_proto::{Reply, Request};
+use lz_resp::Naming;
 use lz_serve::{Conversation, Language};
 use std::test::Fail;
 
@@ -38,7 +39,7 @@ fn lines_of_other_keys_are_handed_out_together_and_told_in_order(
 
 #[test]
 fn the_members_of_a_frame_are_told_together(rt: HostRuntime) -> Result<(), Fail> {
-    let mut talk = Conversation::new(rt.alloc(), Language::Frames);
+    let mut talk = Conversation::new(rt.alloc(), Language::Frames(Naming::Rooms));
     talk.feed(b"sadd 0 1 2\r\nping\r\n*3\r\n$9\r\nSISMEMBER\r\n$1\r\n0\r\n".as_slice())?;
     talk.feed(b"$1\r\n1\r\nquit\r\nping\r\n".as_slice())?;
     let first = talk.next()?.ok_or("a request")?;
