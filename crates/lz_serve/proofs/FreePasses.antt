@@ -1,6 +1,7 @@
 -- A pass after one more answer.
 use Rattle.std.proofs.Common.{◌≡◌, true, false, List, sym, subst}
 use Rattle.lz_slot.specs.declared.format.Format.{Format}
+use Rattle.lz_list.specs.Traces.{Begins}
 use Rattle.lz_board.specs.declared.pass.Pass.{Pass}
 use Rattle.lz_board.specs.declared.view.Part.{Part}
 use Rattle.lz_board.specs.Seats.{BoardId, part}
@@ -8,10 +9,16 @@ use Rattle.lz_set.specs.Names.{MayCall}
 use Rattle.lz_serve.specs.Grants.{Grant, IsGrant}
 use Rattle.lz_serve.specs.Halts.{IsCalm, IsCalmAfter, SawHalt}
 use Rattle.lz_serve.specs.Replies.{says_halted}
-use Rattle.lz_serve.proofs.Seats.{saw_before, saw_now, stays_calm}
+use Rattle.lz_serve.proofs.Seats.{grows, saw_before, saw_now, stays_calm}
 
 -- This pass was given, has answered, and is handed back.
 module _ (b : BoardId) (F : Format) (given back : Pass) (g : Grant) (is : IsGrant b F g) (from : g.question.before ≡ given) (to : g.after ≡ back) where
+  -- it has seen all that it had
+  pub grows_there : Begins (part given).known (part back).known
+  grows_there =
+      subst (λ (p : Pass). Begins (part p).known (part back).known) from
+      (subst (λ (p : Pass). Begins (part g.question.before).known (part p).known) to (grows b F g.question.earlier g.question.before g.after g.question.request g.reply is))
+
   -- it has seen the halt, if it had
   pub still_saw : SawHalt given → SawHalt back
   still_saw seen = subst SawHalt to (saw_before b F g.question.earlier g.question.before g.after g.question.request g.reply is (subst SawHalt (sym from) seen))

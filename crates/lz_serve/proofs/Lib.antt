@@ -8,9 +8,15 @@ pub mod ReplyRows
 pub mod Askings
 pub mod FreePasses
 pub mod AskingRows
+pub mod LineReplies
 pub mod LinesUnderWay
 pub mod ConversationRows
 pub mod StreamRows
+pub mod Crowds
+pub mod Desks
+pub mod Meetings
+pub mod InTurn
+pub mod ClientRows
 pub mod OwnLines
 pub mod OwnLinesRows
 pub mod ExchangesMore

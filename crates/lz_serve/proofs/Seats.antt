@@ -4,7 +4,9 @@ use mathlib.Core.Bool.{true≢false}
 use Rattle.std.proofs.lemmas.List.Elements.{All-cons, All-same}
 use Rattle.lz_slot.specs.declared.command.Command.{Command}
 use Rattle.lz_slot.specs.declared.format.Format.{Format}
-use Rattle.lz_list.specs.Traces.{halt_word}
+use Rattle.lz_list.specs.Traces.{Begins, halt_word}
+use Rattle.lz_list.proofs.Traces.Absence.{begins_itself}
+use Rattle.lz_list.proofs.Traces.WalkEnd.{begins_before}
 use Rattle.lz_machine.specs.declared.event.Reply.{Reply as Given}
 use Rattle.lz_proto.specs.declared.request.Request.{Request}
 use Rattle.lz_proto.specs.declared.reply.Reply.{Reply}
@@ -16,6 +18,7 @@ use Rattle.lz_board.specs.declared.pass.Pass.{Pass}
 use Rattle.lz_board.specs.declared.view.Sizes.{Sizes}
 use Rattle.lz_board.specs.Notes.{shape_of_sizes}
 use Rattle.lz_board.specs.Seats.{BoardId, part}
+use Rattle.lz_board.proofs.Upkeep.Growth.{begins_of}
 use Rattle.lz_board.proofs.Walk.GlanceAnswer.{halt_since}
 use Rattle.lz_set.specs.declared.fault.Fault.{Fault}
 use Rattle.lz_set.specs.declared.fault.Fault.TheVariants as fault
@@ -144,6 +147,15 @@ module _ (b : BoardId) (F : Format) (beside : Bool) (old new : Pass) (request : 
   -- in a set of one pass there was no other call
   pub only_call : b.sizes.passes ≡ 1 → IsCallAnswered b F answers.c answers.answer old new
   only_call one = subst (λ (p : Pass). IsCallAnswered b F answers.c answers.answer p new) (none_alone b F beside answers.c answers.tries old answers.middle one answers.before) answers.last
+
+  -- it has seen all that it had
+  pub grows : Begins (part old).known (part new).known
+  grows =
+      more answers.answer answers.middle new answers.last
+      (all_keep b F beside answers.c (λ p. Begins (part old).known (part p).known) (λ tries answer p q is again from. more answer p q is from) answers.tries old answers.middle answers.before (begins_itself (part old).known))
+    where
+      more : (answer : Result Bool Fault) (p q : Pass) → IsCallAnswered b F answers.c answer p q → Begins (part old).known (part p).known → Begins (part old).known (part q).known
+      more answer p q is from = begins_before (part old).known (part p).known (part q).known from (begins_of (part p).known (part q).known (seen_more F answers.c (reply_of answer) (part p) (part q) is.call))
 
   -- a pass that has seen the halt still has after its answer
   pub saw_before : halt_word (part old).known ≡ 1 → halt_word (part new).known ≡ 1

@@ -25,7 +25,7 @@ use Rattle.lz_serve.specs.Grants.{Grant}
 use Rattle.lz_serve.specs.Lines.{asked_by, awaited, replied, replies_of}
 use Rattle.lz_serve.specs.Conversations.{AreFor, AreTold, Fed, Finished, IsAt, IsTold, Noted, Talk, Told, more, nothing_yet, replies_in, nothing as none_told}
 use Rattle.lz_serve.proofs.ExchangesMore.{map_more, requests_more}
-use Rattle.lz_serve.proofs.LinesUnderWay.{asked_more, asked_noted}
+use Rattle.lz_serve.proofs.LineReplies.{asked_more, asked_noted}
 
 -- a piece more has come
 came_more : (spoken : Language) (text piece : List ℕ) (xs ys : List Exchange) (before after : Reader) → CameFrom spoken text xs (Some before) → ReadsMore before piece ys after → CameFrom spoken (text ++ piece) (xs ++ ys) (Some after)

@@ -1,5 +1,5 @@
 -- A conversation on its stream: it stays the stream's, whatever comes and goes.
-use Rattle.std.proofs.Common.{◌≡◌, ℕ, Bool, suc, true, false, List, [], ◌∷◌, ◌++◌, ◌+◌, take, drop, map, Option, Some, None, IfSome, is_none, refl, sym, ap, ◌∙◌, subst}
+use Rattle.std.proofs.Common.{◌≡◌, ℕ, Bool, suc, true, false, List, [], ◌∷◌, ◌++◌, ◌+◌, ◌-◌, ◌≤◌, take, drop, length, length-drop, Option, Some, None, IfSome, is_none, refl, sym, ap, ◌∙◌, subst, arith}
 use Rattle.std.proofs.lemmas.List.{append-nil}
 use Rattle.lz_proto.specs.declared.request.Request.{Request}
 use Rattle.lz_proto.specs.declared.reply.Reply.{Reply}
@@ -10,12 +10,14 @@ use Rattle.lz_serve.specs.declared.reader.Reader.{Reader}
 use Rattle.lz_serve.specs.declared.turn.Turn.{Turn}
 use Rattle.lz_serve.specs.declared.turn.Turn.TheVariants as turn
 use Rattle.lz_serve.specs.Grants.{Grant}
-use Rattle.lz_serve.specs.Lines.{AreEarned, awaited, replies_of}
+use Rattle.lz_list.specs.Traces.{Trace}
+use Rattle.lz_board.specs.declared.pass.Pass.{Pass}
+use Rattle.lz_serve.specs.Lines.{AreBefore, AreEarned, awaited}
 use Rattle.lz_serve.specs.declared.stream.Received.TheVariants as received
 use Rattle.lz_serve.specs.declared.stream.Taken.TheVariants as taken
 use Rattle.lz_serve.specs.Conversations.{Fed, Finished, IsAt, Noted, Talk, Told, nothing_yet}
 use Rattle.lz_serve.specs.Streams.{IsFresh, IsTalkOf, MayTake, Receives, Takes, Traffic}
-use Rattle.lz_serve.proofs.LinesUnderWay as lines
+use Rattle.lz_serve.proofs.LinesUnderWay.{before_same, earned_after, earned_same, granted_of}
 use Rattle.lz_serve.proofs.Standings as stands
 
 abbrev pub IfSpoken : Option Traffic → Language → Type 0
@@ -97,51 +99,103 @@ module _ (P : List Grant → Type 0) (connection : ℕ) where
   noted (Some s) number request reply old new step was =
       moved s old new was.0 was was.1 (stands.noted connection was.0 s.received s.taken old was.2 number request reply new step) (ap (λ (t : Talk). t.spoken) step.1) (ap (λ (t : Talk). t.reader) step.1)
 
-  -- where the first exchange is told, whose replies were granted and may be told
-  pub told_there : (s : Option Traffic) (first : Turn) (old new : Talk) → old.turns ≡ first ∷ drop 1 old.turns → old.ended ≡ Done → Told first old new → AreEarned P connection old.told old.under
-      → IsTalkOf P connection s old → IsTalkOf P connection s new
-  told_there None first old new next goes step earned was = tt
-  told_there (Some s) (turn.Asks wording count) old new next goes (replies, few, of, is) earned was =
-      let g = lines.granted_of P connection old.told (take count old.under) replies of (lines.earned_first P connection count old.told old.under earned) in
-      moved s old new (was.0 ++ g.grants) was (g.may was.0 was.1)
-      (stands.told connection was.0 s.received s.taken old new was.2 g.grants goes (turn.Asks wording count) next (g.for, of ∙ ap Some (sym g.are)) (replies, few, of, is)) (ap (λ (t : Talk). t.spoken) is) (ap (λ (t : Talk). t.reader) is)
-  told_there (Some s) (turn.Says said) old new next goes step earned was =
-      moved s old new (was.0 ++ []) was (subst P (sym (append-nil was.0)) was.1) (stands.told connection was.0 s.received s.taken old new was.2 [] goes (turn.Says said) next refl step) (ap (λ (t : Talk). t.spoken) step) (ap (λ (t : Talk). t.reader) step)
-  told_there (Some s) (turn.Ends said) old new next goes step earned was =
-      moved s old new (was.0 ++ []) was (subst P (sym (append-nil was.0)) was.1) (stands.told connection was.0 s.received s.taken old new was.2 [] goes (turn.Ends said) next refl step) (ap (λ (t : Talk). t.spoken) step) (ap (λ (t : Talk). t.reader) step)
+  -- where what is promised of the replies is known otherwise
+  pub known_so : (Q : List Grant → Type 0) (s : Option Traffic) (t : Talk) → ((grants : List Grant) → P grants → Q grants) → IsTalkOf P connection s t → IsTalkOf Q connection s t
+  known_so Q None t so was = tt
+  known_so Q (Some s) t so was = (was.0, so was.0 was.1, was.2, was.3, was.4)
 
   -- what it has unsent may be taken
   pub may_take : (s : Option Traffic) (t : Talk) → IsTalkOf P connection s t → MayTake P s t.unsent
   may_take s t at = (connection, t, at, [], sym (append-nil t.unsent))
 
--- the requests that are under way after an exchange was told
-pub told_under : (P : List Grant → Type 0) (connection : ℕ) (first : Turn) (old new : Talk) → Told first old new → AreEarned P connection old.told old.under → AreEarned P connection new.told new.under
-told_under P connection (turn.Asks wording count) old new (replies, few, of, is) earned =
-    lines.earned_same P connection (old.told + count) new.told (drop count old.under) new.under (ap (λ (t : Talk). t.told) is) (ap (λ (t : Talk). t.under) is) (lines.earned_after P connection count old.told old.under earned)
-told_under P connection (turn.Says said) old new is earned = lines.earned_same P connection old.told new.told old.under new.under (ap (λ (t : Talk). t.told) is) (ap (λ (t : Talk). t.under) is) earned
-told_under P connection (turn.Ends said) old new is earned = lines.earned_same P connection old.told new.told old.under new.under (ap (λ (t : Talk). t.told) is) (ap (λ (t : Talk). t.under) is) earned
+-- how many requests of its a turn tells
+abbrev count_of : Turn → ℕ
+count_of (turn.Asks wording count) = count
+count_of other = 0
 
-told_reader : (first : Turn) (old new : Talk) → Told first old new → new.reader ≡ old.reader
-told_reader (turn.Asks wording count) old new (replies, few, of, is) = ap (λ (t : Talk). t.reader) is
-told_reader (turn.Says said) old new is = ap (λ (t : Talk). t.reader) is
-told_reader (turn.Ends said) old new is = ap (λ (t : Talk). t.reader) is
+-- What an exchange leaves that was told.
+record Left (first : Turn) (old new : Talk) : Type 0 where
+  told : new.told ≡ old.told + count_of first
+  under : new.under ≡ drop (count_of first) old.under
+  few : count_of first ≤ length old.under
+  reader : new.reader ≡ old.reader
+  spoken : new.spoken ≡ old.spoken
 
--- What stays where the first exchange was told, or none was.
-pub record Stays (P : List Grant → Type 0) (connection : ℕ) (s : Option Traffic) (old new : Talk) : Type 0 where
-  pub reader : new.reader ≡ old.reader
-  pub earned : AreEarned P connection new.told new.under
-  pub talk : IsTalkOf P connection s old → IsTalkOf P connection s new
+left : (first : Turn) (old new : Talk) → Told first old new → Left first old new
+left (turn.Asks wording count) old new (replies, few, of, is) =
+    record { told = ap (λ (t : Talk). t.told) is; under = ap (λ (t : Talk). t.under) is; few = few; reader = ap (λ (t : Talk). t.reader) is; spoken = ap (λ (t : Talk). t.spoken) is }
+left (turn.Says said) old new is =
+    record { told = ap (λ (t : Talk). t.told) is ∙ omega arith; under = ap (λ (t : Talk). t.under) is; few = omega arith; reader = ap (λ (t : Talk). t.reader) is; spoken = ap (λ (t : Talk). t.spoken) is }
+left (turn.Ends said) old new is =
+    record { told = ap (λ (t : Talk). t.told) is ∙ omega arith; under = ap (λ (t : Talk). t.under) is; few = omega arith; reader = ap (λ (t : Talk). t.reader) is; spoken = ap (λ (t : Talk). t.spoken) is }
 
-pub told_or_not : (P : List Grant → Type 0) (connection : ℕ) (s : Option Traffic) (was_told : Bool) (old new : Talk)
-    → (was_told ≡ true → (first : Turn) × (old.turns ≡ first ∷ drop 1 old.turns) × (old.ended ≡ Done) × Told first old new) → (was_told ≡ false → new ≡ old) → AreEarned P connection old.told old.under
-    → Stays P connection s old new
-told_or_not P connection s true old new told none earned =
-    let (first, next, goes, step) = told refl in
-    record { reader = told_reader first old new step; earned = told_under P connection first old new step earned; talk = told_there P connection s first old new next goes step earned }
-told_or_not P connection s false old new told none earned =
-    let same = none refl in
-    record {
-      reader = ap (λ (t : Talk). t.reader) same;
-      earned = subst (λ (t : Talk). AreEarned P connection t.told t.under) (sym same) earned;
-      talk = λ was. subst (IsTalkOf P connection s) (sym same) was;
-    }
+module _ (P : List Grant → Type 0) (seen : Trace) (connection : ℕ) where
+  -- where an exchange is told that asks nothing
+  nothing_told : (s : Traffic) (first : Turn) (old new : Talk) (puts : List Pass) → old.turns ≡ first ∷ drop 1 old.turns → old.ended ≡ Done → stands.HasGrants connection old first [] → Told first old new
+      → IsTalkOf (AreBefore P seen old.under puts) connection (Some s) old → IsTalkOf (AreBefore P seen old.under puts) connection (Some s) new
+  nothing_told s first old new puts next goes none step was =
+      let l = left first old new step in
+      moved (AreBefore P seen old.under puts) connection s old new (was.0 ++ []) was (subst (AreBefore P seen old.under puts) (sym (append-nil was.0)) was.1)
+      (stands.told connection was.0 s.received s.taken old new was.2 [] goes first next none step) l.spoken l.reader
+
+  told_so : (s : Traffic) (first : Turn) (old new : Talk) (puts : List Pass) → old.turns ≡ first ∷ drop 1 old.turns → old.ended ≡ Done → Told first old new → AreEarned P seen connection old.told old.under puts
+      → IsTalkOf (AreBefore P seen old.under puts) connection (Some s) old → IsTalkOf (AreBefore P seen (drop (count_of first) old.under) (drop (count_of first) puts)) connection (Some s) new
+  told_so s (turn.Asks wording count) old new puts next goes (replies, few, of, is) earned was =
+      let g = granted_of P seen connection count old.told old.under puts replies was.0 few of earned was.1 in (
+        was.0 ++ g.grants,
+        g.come,
+        stands.told connection was.0 s.received s.taken old new was.2 g.grants goes (turn.Asks wording count) next (g.for, of ∙ ap Some (sym g.are)) (replies, few, of, is),
+        ap (λ (t : Talk). t.spoken) is ∙ was.3,
+        ap (λ (t : Talk). is_none t.reader) is ∙ was.4,
+      )
+  told_so s (turn.Says said) old new puts next goes step earned was = nothing_told s (turn.Says said) old new puts next goes refl step was
+  told_so s (turn.Ends said) old new puts next goes step earned was = nothing_told s (turn.Ends said) old new puts next goes refl step was
+
+  -- where the first exchange is told, whose replies were granted and may be told
+  pub told_there : (s : Option Traffic) (first : Turn) (old new : Talk) (puts its : List Pass) → old.turns ≡ first ∷ drop 1 old.turns → old.ended ≡ Done → Told first old new → AreEarned P seen connection old.told old.under puts
+      → its ≡ drop (count_of first) puts → IsTalkOf (AreBefore P seen old.under puts) connection s old → IsTalkOf (AreBefore P seen new.under its) connection s new
+  told_there None first old new puts its next goes step earned to was = tt
+  told_there (Some s) first old new puts its next goes step earned to was =
+      let l = left first old new step in
+      known_so (AreBefore P seen (drop (count_of first) old.under) (drop (count_of first) puts)) connection (AreBefore P seen new.under its) (Some s) new
+      (λ grants so. before_same P seen (drop (count_of first) old.under) new.under (drop (count_of first) puts) its grants l.under to so) (told_so s first old new puts next goes step earned was)
+
+  -- the lines under way are the same
+  pub same_lines : (s : Option Traffic) (t : Talk) (under those : List Line) (puts : List Pass) → those ≡ under → IsTalkOf (AreBefore P seen under puts) connection s t → IsTalkOf (AreBefore P seen those puts) connection s t
+  same_lines s t under those puts is was = known_so (AreBefore P seen under puts) connection (AreBefore P seen those puts) s t (λ grants so. before_same P seen under those puts puts grants is refl so) was
+
+  -- What stays where the first exchange was told, or none was.
+  pub record Stays (s : Option Traffic) (old new : Talk) (puts its : List Pass) : Type 0 where
+    pub reader : new.reader ≡ old.reader
+    pub earned : AreEarned P seen connection new.told new.under its
+    pub more : old.told ≤ new.told
+    pub lines : new.told + length new.under ≡ old.told + length old.under
+    pub talk : IsTalkOf (AreBefore P seen old.under puts) connection s old → IsTalkOf (AreBefore P seen new.under its) connection s new
+
+  pub told_or_not : (s : Option Traffic) (was_told : Bool) (old new : Talk) (puts its : List Pass) → its ≡ drop (new.told - old.told) puts
+      → (was_told ≡ true → (first : Turn) × (old.turns ≡ first ∷ drop 1 old.turns) × (old.ended ≡ Done) × Told first old new) → (was_told ≡ false → new ≡ old) → AreEarned P seen connection old.told old.under puts
+      → Stays s old new puts its
+  told_or_not s true old new puts its to told none earned =
+      let (first, next, goes, step) = told refl in
+      let l = left first old new step in
+      let many : new.told - old.told ≡ count_of first = let t = l.told in omega (arith, t) in
+      let to_so : its ≡ drop (count_of first) puts = to ∙ ap (λ (n : ℕ). drop n puts) many in
+      record {
+        reader = l.reader;
+        more = let t = l.told in omega (arith, t);
+        lines = let t = l.told in let u = ap (λ (x : List Line). length x) l.under ∙ length-drop (count_of first) old.under in let few = l.few in omega (arith, t, u, few);
+        earned = earned_same P connection seen (old.told + count_of first) new.told (drop (count_of first) old.under) new.under (drop (count_of first) puts) its l.told l.under to_so (earned_after P connection seen (count_of first) old.told old.under puts earned);
+        talk = told_there s first old new puts its next goes step earned to_so;
+      }
+  told_or_not s false old new puts its to told none earned =
+      let same = none refl in
+      let no_more : new.told - old.told ≡ 0 = let t = ap (λ (t : Talk). t.told) same in omega (arith, t) in
+      let to_so : its ≡ puts = to ∙ ap (λ (n : ℕ). drop n puts) no_more in
+      record {
+        reader = ap (λ (t : Talk). t.reader) same;
+        more = let t = ap (λ (t : Talk). t.told) same in omega (arith, t);
+        lines = ap (λ (t : Talk). t.told + length t.under) same;
+        earned = earned_same P connection seen old.told new.told old.under new.under puts its (ap (λ (t : Talk). t.told) same) (ap (λ (t : Talk). t.under) same) to_so earned;
+        talk = λ was. known_so (AreBefore P seen old.under puts) connection (AreBefore P seen new.under its) s new (λ grants so. before_same P seen old.under new.under puts its grants (ap (λ (t : Talk). t.under) same) to_so so)
+            (subst (IsTalkOf (AreBefore P seen old.under puts) connection s) (sym same) was);
+      }

@@ -14,10 +14,11 @@ use Rattle.lz_serve.specs.Grants.{Posed}
 use Rattle.lz_serve.specs.Halts.{IsCalmAfter, SawHalt}
 use Rattle.lz_serve.specs.Replies.{AreAskedAgain, command_of}
 
--- The question that it answers, if it answers one; the pass as it is now, and whether its last reply told that the service halted; the call
+-- The question that it answers, if it answers one, and the token of its client; the pass as it is now, and whether its last reply told that the service halted; the call
 -- under way, if it has begun, how many were made before it, and where it stands, if it was played on.
 pub record Asked : Type 0 where
   pub question : Option Posed
+  pub token : ℕ
   pub pass : Pass
   pub halted : Bool
   pub call : Option Calling
@@ -65,4 +66,5 @@ IsAsking b F given a = RestsOrAnswers b F given a.question a.pass a.halted a.cal
 -- It is the same question, with as many calls answered.
 pub record IsSameQuestion (old new : Asked) : Type 0 where
   pub question : new.question ≡ old.question
+  pub token : new.token ≡ old.token
   pub tries : new.tries ≡ old.tries

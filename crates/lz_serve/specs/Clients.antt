@@ -1,11 +1,74 @@
--- A client as its owner sees it.
-use Rattle.std.specs.Prelude.{ℕ, List}
+-- Clients as their owner sees them, and which questions are those of their lines.
+use Rattle.std.specs.Prelude.{◌≡◌, ◌-◌, ◌<◌, ◌≤◌, ℕ, suc, All, List, [], map, Option, Some, None, IfSome, IsSomeAnd, slice_get}
+use Rattle.std.specs.declared.snapshot.Snapshot.{Snapshot}
+use Rattle.lz_list.specs.Traces.{Trace, Begins}
+use Rattle.lz_board.specs.declared.pass.Pass.{Pass}
+use Rattle.lz_board.specs.Seats.{part}
 use Rattle.lz_serve.specs.declared.line.Line.{Line}
+use Rattle.lz_serve.specs.Grants.{Posed}
 
--- The number of its connection, how many lines were handed out, those of them that weren't told their replies, and how many exchanges
--- weren't told.
+-- The number of its connection; how many lines were handed out, and how many of them were told their replies; the others; the pass to which
+-- each of these was put, as it was then; and what the passes had seen that answered it.
 pub record Asker : Type 0 where
   pub connection : ℕ
   pub lines : ℕ
+  pub told : ℕ
   pub under : List Line
-  pub turns : ℕ
+  pub puts : List Pass
+  pub seen : Trace
+
+-- the passes as they were
+abbrev pub passes_of : List (Snapshot Pass) → List Pass
+passes_of snapshots = map (λ (s : Snapshot Pass). s.value) snapshots
+
+-- what the pass had seen, if there was one
+abbrev pub seen_by : Option (Snapshot Pass) → Trace
+seen_by None = []
+seen_by (Some s) = (part s.value).known
+
+-- A question of this connection is for a line that was handed out. Where that wasn't told its reply, it was put to this pass.
+abbrev pub IsOwn : Asker → Posed → Type 0
+IsOwn a q = q.connection ≡ a.connection → (q.line ≤ a.lines) × (a.told < q.line → slice_get a.puts (q.line - suc a.told) ≡ Some q.before)
+
+-- it is so of the client, if there is one
+abbrev pub IsOwnOf : Option Asker → Posed → Type 0
+IsOwnOf client q = IfSome client (λ a. IsOwn a q)
+
+-- what was so of the client that was there is so of the one that is there now
+abbrev pub KeepsOwn : Option Asker → Option Asker → Type 0
+KeepsOwn old new = (q : Posed) → IsOwnOf old q → IsOwnOf new q
+
+-- the client, if there is one, is of one of so many connections, and all that it has seen was seen here
+abbrev pub HasSeenIn : ℕ → Trace → Option Asker → Type 0
+HasSeenIn admitted known client = IfSome client (λ a. (a.connection ≤ admitted) × Begins a.seen known)
+
+-- the client that is there now has seen no more than the one that was there
+abbrev pub KeepsSeen : Option Asker → Option Asker → Type 0
+KeepsSeen old new = (admitted : ℕ) (known : Trace) → HasSeenIn admitted known old → HasSeenIn admitted known new
+
+-- the question is one of the client that is there
+abbrev pub IsAskedBy : Option Asker → Posed → Type 0
+IsAskedBy client q = IsSomeAnd client (λ a. (q.connection ≡ a.connection) × IsOwn a q)
+
+-- How many clients were admitted, and the client at each place, if it has one.
+pub record Askers : Type 0 where
+  pub admitted : ℕ
+  pub clients : List (Option Asker)
+
+-- each is of a connection that was admitted, and all that it has seen was seen here
+abbrev pub HaveSeenIn : Askers → Trace → Type 0
+HaveSeenIn a known = All (HasSeenIn a.admitted known) a.clients
+
+-- A question for the client at this place is of a connection that was admitted, and where that is still there, it is one of its own.
+pub record IsAwaited (a : Askers) (token : ℕ) (q : Posed) : Type 0 where
+  pub admitted : q.connection ≤ a.admitted
+  pub own : IfSome (slice_get a.clients token) (λ client. IsOwnOf client q)
+
+-- each question that was awaited is
+abbrev pub KeepsAwaited : Askers → Askers → Type 0
+KeepsAwaited old new = (token : ℕ) (q : Posed) → IsAwaited old token q → IsAwaited new token q
+
+-- Each question that was awaited is, and no client has seen more.
+pub record Keeps (old new : Askers) : Type 0 where
+  pub awaited : KeepsAwaited old new
+  pub seen : (known : Trace) → HaveSeenIn old known → HaveSeenIn new known

@@ -59,6 +59,6 @@ AreInTurn (e ∷ grants) = All (λ g. IsAfter e g) grants × AreInTurn grants
 abbrev pub AreGranted : BoardId → Format → List Grant → Type 0
 AreGranted b F grants = All (IsGrant b F) grants × AreInTurn grants
 
--- It holds of no grants, and of those of which it holds with one more that a pass of this board gives.
+-- It holds of no grants, and of those of which it holds with one more that a pass of this board gives and that comes after them.
 abbrev pub Promises : BoardId → Format → (List Grant → Type 0) → Type 0
-Promises b F P = P [] × ((grants : List Grant) (g : Grant) → P grants → IsGrant b F g → P (grants ++ g ∷ []))
+Promises b F P = P [] × ((grants : List Grant) (g : Grant) → P grants → IsGrant b F g → IsLater grants g → P (grants ++ g ∷ []))

@@ -1,10 +1,11 @@
 -- What a pass has seen of its set's end, and what its calls were told of it.
 use Rattle.std.specs.Prelude.{◌≡◌, Bool, false, All, List, Option, Some, None}
-use Rattle.lz_list.specs.Traces.{halt_word}
+use Rattle.lz_list.specs.Traces.{Begins, halt_word}
 use Rattle.lz_machine.specs.declared.event.Reply.{Reply}
 use Rattle.lz_board.specs.declared.pass.Pass.{Pass}
 use Rattle.lz_board.specs.declared.view.Part.{Part}
 use Rattle.lz_board.specs.Notes.{shape_of_sizes}
+use Rattle.lz_board.specs.Plays.{knowing}
 use Rattle.lz_board.specs.Seats.{part}
 use Rattle.lz_tie.specs.OwnCalls.{told}
 use Rattle.lz_tie.specs.Sessions.{cuts_off}
@@ -25,3 +26,8 @@ IsCalm h = All (λ call. was_cut call.1 ≡ false) (told (shape_of_sizes h.sizes
 -- the pass is calm where all of these were
 abbrev pub IsCalmAfter : List Part → Pass → Type 0
 IsCalmAfter given pass = All IsCalm given → IsCalm (part pass)
+
+-- The pass has seen all that it had, and all else that belongs to it is as it was.
+pub record SeesMore (old new : Pass) : Type 0 where
+  pub grows : Begins (part old).known (part new).known
+  pub kept : part new ≡ knowing (part new).known (part old)

@@ -13,4 +13,5 @@ pub mod LineSessions
 pub mod Streams
 pub mod Pollers
 pub mod Clients
+pub mod Desks
 pub mod Promised

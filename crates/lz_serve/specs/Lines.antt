@@ -2,8 +2,11 @@
 use Rattle.std.specs.Prelude.{◌≡◌, ◌≢◌, ◌-◌, ◌<◌, ℕ, suc, All, List, [], ◌∷◌, ◌++◌, Option, Some, None, IfSome, map, option_and_then, option_map, slice_get, ⊤}
 use Rattle.lz_proto.specs.declared.request.Request.{Request}
 use Rattle.lz_proto.specs.declared.reply.Reply.{Reply}
+use Rattle.lz_list.specs.Traces.{Trace, Begins}
+use Rattle.lz_board.specs.declared.pass.Pass.{Pass}
+use Rattle.lz_board.specs.Seats.{part}
 use Rattle.lz_serve.specs.declared.line.Line.{Line}
-use Rattle.lz_serve.specs.Grants.{Grant, IsOfLine, key_asked}
+use Rattle.lz_serve.specs.Grants.{Grant, IsLater, IsOfLine, key_asked}
 
 -- a line whose reply is awaited, and one whose reply was granted
 abbrev pub awaited : Request → Line
@@ -29,12 +32,41 @@ replies_of (line ∷ under) = option_and_then (λ reply. option_map (λ replies.
 abbrev pub StandsAt : ℕ → ℕ → Request → List Line → Type 0
 StandsAt told number request under = (told < number) × (slice_get under (number - suc told) ≡ Some (awaited request))
 
--- Where the reply of this line was granted, it was granted to the line of this number, and may be told after any that may be told.
-abbrev pub IsEarned : (List Grant → Type 0) → ℕ → ℕ → Line → Type 0
-IsEarned P connection number line =
-    IfSome line.reply (λ reply. (g : Grant) × IsOfLine connection number line.request reply g × ((grants : List Grant) → P grants → P (grants ++ g ∷ [])))
+-- each of these lines that asks for its key was put to a pass that had seen all that this one's had at its answer
+abbrev pub IsPast : List Line → List Pass → Grant → Type 0
+IsPast [] [] e = ⊤
+IsPast [] (put ∷ puts) e = ⊥
+IsPast (line ∷ under) [] e = ⊥
+IsPast (line ∷ under) (put ∷ puts) e = (key_asked e.question.request ≡ key_asked line.request → Begins (part e.after).known (part put).known) × IsPast under puts e
 
--- so it is of each of these lines, which come after so many
-abbrev pub AreEarned : (List Grant → Type 0) → ℕ → ℕ → List Line → Type 0
-AreEarned P connection told [] = ⊤
-AreEarned P connection told (line ∷ under) = IsEarned P connection (suc told) line × AreEarned P connection (suc told) under
+-- A reply was granted to this request, the line of this number on this connection, by the pass to which it was put. The client has seen what
+-- that had at its answer, as have the passes to which later lines with its key were put. It may be told after any that may be told before.
+pub record IsEarned (P : List Grant → Type 0) (seen : Trace) (connection number : ℕ) (request : Request) (reply : Reply) (put : Pass) (under : List Line) (puts : List Pass) : Type 0 where
+  pub grant : Grant
+  pub of_line : IsOfLine connection number request reply grant
+  pub put_so : grant.question.before ≡ put
+  pub seen_so : Begins (part grant.after).known seen
+  pub past : IsPast under puts grant
+  pub promised : (grants : List Grant) → P grants → IsLater grants grant → P (grants ++ grant ∷ [])
+
+-- None of these lines asks for the key of this request.
+abbrev pub IsOther : Request → List Line → Type 0
+IsOther request under = All (λ line. key_asked line.request ≢ key_asked request) under
+
+-- Each of these lines, which come after so many and were put to these passes, has earned its reply, or none after it asks for its key.
+abbrev pub AreEarned : (List Grant → Type 0) → Trace → ℕ → ℕ → List Line → List Pass → Type 0
+AreEarned P seen connection told [] [] = ⊤
+AreEarned P seen connection told [] (put ∷ puts) = ⊥
+AreEarned P seen connection told (line ∷ under) [] = ⊥
+AreEarned P seen connection told (line ∷ under) (put ∷ puts) =
+    IfSome line.reply (λ reply. IsEarned P seen connection (suc told) line.request reply put under puts) × (line.reply ≡ None → IsOther line.request under)
+    × AreEarned P seen connection (suc told) under puts
+
+-- The client has seen what the pass of this grant had at its answer, as have those to which lines under way with its key were put.
+pub record IsBefore (seen : Trace) (under : List Line) (puts : List Pass) (e : Grant) : Type 0 where
+  pub seen_so : Begins (part e.after).known seen
+  pub past : IsPast under puts e
+
+-- these may have been told, and each comes before what is under way
+abbrev pub AreBefore : (List Grant → Type 0) → Trace → List Line → List Pass → List Grant → Type 0
+AreBefore P seen under puts grants = P grants × All (IsBefore seen under puts) grants

@@ -1,7 +1,11 @@
 //! What a pass of a loop answers next, and how its reply is told.
-ghost use Rattle.std.specs.Prelude.{◌≡◌, None, Some, false};
+ghost use Rattle.std.specs.Prelude.{◌≡◌, ◌≢◌, ◌↔◌, IfSome, None, Some, false, option_map, true};
+ghost use Rattle.lz_list.specs.Traces.{Begins};
+ghost use Rattle.lz_board.specs.Seats.{part};
 ghost use Rattle.lz_set.specs.declared.underway.Stage.TheVariants as stage;
-ghost use Rattle.lz_serve.specs.Grants.{Promises};
+ghost use Rattle.lz_serve.specs.Clients.{HaveSeenIn, IsAwaited, Keeps, KeepsAwaited};
+ghost use Rattle.lz_serve.specs.Desks.{IsCalled, Knows};
+ghost use Rattle.lz_serve.specs.Grants.{Posed, Promises};
 
 use crate::asking::Asking;
 use crate::crowd::Crowd;
@@ -10,7 +14,7 @@ use crate::given::Given;
 use crate::observer::{Observer, Verb};
 use crate::stream::Stream;
 use lz_disk::Disk;
-use lz_set::{Kept, Named, Set, StepGate};
+use lz_set::{Kept, Named, Set, Stage, StepGate};
 use std::sync::Wait;
 use std::time::Clock;
 
@@ -19,18 +23,56 @@ use std::time::Clock;
 pub(crate) enum Next {
     /// A call that is to be played on at once.
     GoesOn,
-    /// One more call, which waits for slots.
+    /// A call that waits: for a sync, for a node that another has taken, or for slots.
     Waits,
     /// Nothing: the pass rests.
     Rests,
 }
 
-/// Answers the call and tells its reply. Its pass begins the line whose turn it is, or one more call where no slot was free.
-pub(crate) fn answer_call<'a, S, D, G, N, B, R, O>(
+/// Plays a call on. One that is answered is told, and its pass begins the line whose turn it is. One that waits for slots is made again
+/// only where it may be (`tries`).
+pub(crate) fn play_call<'a, S, D, G, N, B, R, O>(
     rt: &R,
     set: &'a Set<D, G, N>,
     kept: &mut Kept<'a, D, N>,
     crowd: &mut Crowd<S>,
+    meeting: &mut Option<FreePass<N, B>>,
+    asking: &mut Asking<N, B>,
+    observer: &O,
+    ends: bool,
+    tries: bool,
+) -> Next
+where
+    S: Stream,
+    D: Disk,
+    G: StepGate,
+    N: Named,
+    B: Given,
+    R: Wait,
+    O: Observer,
+    requires promised { Promises N.board N.format S.promised }
+    requires called { IsCalled crowd.old (option_map (λ free. (part free.pass).known) meeting.old) asking.old }
+    requires met { IfSome meeting.old (λ free. HaveSeenIn crowd.old (part free.pass).known) }
+    ensures kept { KeepsAwaited crowd.old crowd.new }
+    ensures met { IfSome meeting.new (λ free. HaveSeenIn crowd.new (part free.pass).known) }
+    ensures none { (meeting.new ≡ None) ↔ (meeting.old ≡ None) }
+    ensures goes { result ≢ Next.Rests → IsCalled crowd.new (option_map (λ free. (part free.pass).known) meeting.new) asking.new }
+    ensures rests { result ≡ Next.Rests → (asking.new.question ≡ None) × HaveSeenIn crowd.new (part asking.new.pass).known }
+{
+    if asking.waits() && !tries || asking.go_on(rt, set, kept) != Some(Stage::Answers) {
+        return Next::Waits;
+    }
+    answer_call(rt, set, kept, crowd, meeting, asking, observer, ends)
+}
+
+// Answers the call and tells its reply. Its pass begins the line whose turn it is, or one more call where no slot was free. What it has
+// seen at its answer the pass that meets the others has then, and the other way round.
+fn answer_call<'a, S, D, G, N, B, R, O>(
+    rt: &R,
+    set: &'a Set<D, G, N>,
+    kept: &mut Kept<'a, D, N>,
+    crowd: &mut Crowd<S>,
+    meeting: &mut Option<FreePass<N, B>>,
     asking: &mut Asking<N, B>,
     observer: &O,
     ends: bool,
@@ -45,7 +87,13 @@ where
     O: Observer,
     requires promised { Promises N.board N.format S.promised }
     requires stands { asking.old.stage ≡ Some stage.Answers }
-    ensures { result ≡ Next.Rests → asking.new.question ≡ None }
+    requires called { IsCalled crowd.old (option_map (λ free. (part free.pass).known) meeting.old) asking.old }
+    requires met { IfSome meeting.old (λ free. HaveSeenIn crowd.old (part free.pass).known) }
+    ensures kept { KeepsAwaited crowd.old crowd.new }
+    ensures met { IfSome meeting.new (λ free. HaveSeenIn crowd.new (part free.pass).known) }
+    ensures none { (meeting.new ≡ None) ↔ (meeting.old ≡ None) }
+    ensures goes { result ≢ Next.Rests → IsCalled crowd.new (option_map (λ free. (part free.pass).known) meeting.new) asking.new }
+    ensures rests { result ≡ Next.Rests → (asking.new.question ≡ None) × HaveSeenIn crowd.new (part asking.new.pass).known }
 {
     let token = asking.token();
     let earlier = match asking.question() {
@@ -61,7 +109,8 @@ where
     };
     let verb = Verb::of(&granted.question().request());
     observer.answered(verb, granted.reply());
-    crowd.reply(token, granted);
+    meet(set, asking, meeting);
+    crowd.reply(token, granted, asking.pass());
     if begin_next(rt, set, kept, crowd, asking, ends) {
         Next::GoesOn
     } else {
@@ -69,7 +118,26 @@ where
     }
 }
 
-/// Begins to answer the line whose turn it is by this pass, if there is one and the service goes on, and says whether it did.
+/// Lets the pass, which is free, see what the pass has seen that meets the others, if there is one, and the other way round.
+pub(crate) fn meet<D: Disk, G: StepGate, N: Named, B: Given>(
+    set: &Set<D, G, N>,
+    asking: &mut Asking<N, B>,
+    meeting: &mut Option<FreePass<N, B>>,
+)
+    requires { asking.old.question ≡ None }
+    ensures same { asking.new ≡ record asking.old { pass = asking.new.pass } }
+    ensures grows { Begins (part asking.old.pass).known (part asking.new.pass).known }
+    ensures others { IfSome meeting.old (λ free. Begins (part free.pass).known (part asking.new.pass).known) }
+    ensures alike { IfSome meeting.new (λ free. (part free.pass).known ≡ (part asking.new.pass).known) }
+    ensures none { (meeting.new ≡ None) ↔ (meeting.old ≡ None) }
+{
+    if let Some(other) = meeting {
+        asking.meet(set, other);
+    }
+}
+
+/// Begins to answer the line whose turn it is by this pass, if there is one and the service goes on, and says whether it did. The pass has
+/// seen what those had that answered any of the clients.
 pub(crate) fn begin_next<'a, S, D, G, N, B, R>(
     rt: &R,
     set: &'a Set<D, G, N>,
@@ -85,8 +153,11 @@ where
     N: Named,
     B: Given,
     R: Wait,
-    requires { asking.old.question ≡ None }
-    ensures { result ≡ false → asking.new.question ≡ None }
+    requires rests { asking.old.question ≡ None }
+    requires seen { HaveSeenIn crowd.old (part asking.old.pass).known }
+    ensures kept { Keeps crowd.old crowd.new }
+    ensures begun { result ≡ true → (question : Posed) × (asking.new.question ≡ Some question) × (question.before ≡ asking.old.pass) × IsAwaited crowd.new asking.new.token question }
+    ensures rests { result ≡ false → asking.new ≡ asking.old }
 {
     if ends || asking.halted() {
         return false;
@@ -98,7 +169,8 @@ where
     true
 }
 
-/// Answers the request of the client of this token by this pass, if one waits.
+/// Answers the request of the client of this token by this pass, if one waits. The pass has seen what those had that answered any of the
+/// clients.
 pub(crate) fn answer_one<S, D, G, N, B, R, O>(
     rt: &R,
     set: &Set<D, G, N>,
@@ -116,7 +188,10 @@ where
     B: Given,
     R: Wait + Clock,
     O: Observer,
-    requires { Promises N.board N.format S.promised }
+    requires promised { Promises N.board N.format S.promised }
+    requires seen { HaveSeenIn crowd.old (part free.old.pass).known }
+    ensures kept { KeepsAwaited crowd.old crowd.new }
+    ensures seen { HaveSeenIn crowd.new (part free.new.pass).known }
 {
     let Some(question) = crowd.take_last(token, free.pass(), buffer) else {
         return;
@@ -124,6 +199,6 @@ where
     let verb = Verb::of(&question.request());
     let granted = free.answer(rt, set, question);
     observer.answered(verb, granted.reply());
-    crowd.reply(token, granted);
+    crowd.reply(token, granted, free.pass());
     crowd.tend_back(buffer);
 }

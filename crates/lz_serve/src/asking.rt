@@ -1,6 +1,7 @@
 //! A pass of a loop at its place, and the request that it answers.
 ghost use Rattle.std.specs.Prelude.{◌≡◌, ◌≢◌, ◌+◌, ◌<◌, ◌&&◌, IfSome, IsSomeAnd, None, Some, false, is_none, nat_lt, true};
 ghost use Rattle.lz_slot.specs.declared.command.Command.{Command as Asks};
+ghost use Rattle.lz_list.specs.Traces.{Begins};
 ghost use Rattle.lz_board.specs.declared.pass.Pass.{Pass as Seen};
 ghost use Rattle.lz_board.specs.Seats.{IsOf, part};
 ghost use Rattle.lz_tie.specs.Counting.{Counts};
@@ -54,9 +55,9 @@ impl<N: Named, B: Given> Model for Asking<N, B> {
 
     ghost Value = { Asked };
 
-    ghost view = { λ a. record { question = a.question; pass = a.pass; halted = a.halted; call = a.call; tries = a.tries; stage = a.stage } };
+    ghost view = { λ a. record { question = a.question; token = a.token; pass = a.pass; halted = a.halted; call = a.call; tries = a.tries; stage = a.stage } };
 
-    ghost invariant = { λ a. IsAsking N.board N.format B.parts (record { question = a.question; pass = a.pass; halted = a.halted; call = a.call; tries = a.tries; stage = a.stage }) };
+    ghost invariant = { λ a. IsAsking N.board N.format B.parts (record { question = a.question; token = a.token; pass = a.pass; halted = a.halted; call = a.call; tries = a.tries; stage = a.stage }) };
 }
 
 /// The reply to a question that a call of a pass gave, of the set that N names. It is made where that call is answered, and nowhere
@@ -157,13 +158,30 @@ impl<N: Named, B: Given> Asking<N, B> {
     }
 
     /// The token of its client, where it answers one.
-    pub(crate) fn token(&self) -> usize {
+    pub(crate) fn token(&self) -> usize
+        ensures { result ≡ self.now.token }
+    {
         self.token
     }
 
     /// The question that it answers.
     pub(crate) fn question(&self) -> Option<&Question> {
         self.question.as_ref()
+    }
+
+    /// Lets its pass and another, both of which are free, see what either has seen.
+    pub(crate) fn meet<D: Disk, G: StepGate>(
+        &mut self,
+        set: &Set<D, G, N>,
+        other: &mut FreePass<N, B>,
+    )
+        requires rests { self.old.question ≡ None }
+        ensures same { self.new ≡ record self.old { pass = self.new.pass } }
+        ensures grows { Begins (part self.old.pass).known (part self.new.pass).known }
+        ensures other { Begins (part other.old.pass).known (part self.new.pass).known }
+        ensures alike { (part other.new.pass).known ≡ (part self.new.pass).known }
+    {
+        other.meet(set, &mut self.pass);
     }
 
     /// Begins to answer a question of the client of this token, by the pass to which it was put, which has made no call since.
@@ -179,6 +197,7 @@ impl<N: Named, B: Given> Asking<N, B> {
         requires calm { self.old.halted ≡ false }
         requires before { question.before ≡ self.old.pass }
         ensures question { self.new.question ≡ Some question }
+        ensures token { self.new.token ≡ token }
         ensures tries { self.new.tries ≡ 0 }
     {
         let call = set.begin(rt, kept, &mut self.pass, question.command());
@@ -257,6 +276,7 @@ impl<N: Named, B: Given> Asking<N, B> {
     ) -> Option<Granted<N>>
         requires { self.old.stage ≡ Some Stage.Answers }
         ensures granted { IfSome result (λ granted. (Some granted.question ≡ self.old.question) × (granted.after ≡ self.new.pass)) }
+        ensures token { self.new.token ≡ self.old.token }
         ensures rests { IfSome result (λ granted. self.new.question ≡ None) }
         ensures halted { IfSome result (λ granted. self.new.halted ≡ says_halted granted.reply) }
         ensures again { result ≡ None → (self.new.question ≡ self.old.question) × (self.new.call ≡ None) × (self.new.tries ≡ self.old.tries + 1) }

@@ -1,17 +1,21 @@
 //! One client, and the questions that its lines put.
 ghost use Rattle.std.specs.Prelude.{◌≡◌, ◌≢◌, ◌↔◌, ◌+◌, ◌≤◌, ◌<◌, ◌++◌, [], ◌∷◌, IfSome, IsTrue, List, None, Some, false, length, true};
-ghost use Rattle.lz_serve.specs.Grants.{Grant, IsGrant, key_asked};
+ghost use Rattle.lz_list.specs.Traces.{Begins};
+ghost use Rattle.lz_board.specs.Seats.{part};
+ghost use Rattle.lz_serve.specs.Clients.{IsOwn, KeepsOwn};
+ghost use Rattle.lz_serve.specs.Grants.{Grant, IsGrant, IsLater, key_asked};
 ghost use Rattle.lz_serve.specs.Lines.{IsFree, awaited};
 ghost use Rattle.lz_serve.specs.Replies.{command_of};
 ghost use Rattle.lz_serve.specs.Streams.{IsFresh};
 
 use crate::asking::Granted;
-use crate::conversation::Conversation;
+use crate::conversation::{Conversation, pass_over};
 use crate::stream::{Received, Stream, Taken};
 use lz_proto::Request;
 use lz_set::{Named, Pass};
 use lz_slot::Command;
 use std::alloc::Global;
+use std::collections::VecDeque;
 use std::marker::Model;
 use std::snapshot::Snapshot;
 
@@ -119,6 +123,9 @@ pub struct Client<S: Stream> {
     stream: S,
     talk: Conversation,
     connection: u64,
+    /// The pass to which each line under way was put, and the one whose reply came last, as contracts see them.
+    puts: VecDeque<Snapshot<Pass>>,
+    seen: Option<Snapshot<Pass>>,
     /// The next line waits for a reply to one that is under way.
     held: bool,
     /// The client's text has ended.
@@ -129,17 +136,17 @@ pub struct Client<S: Stream> {
 
 impl<S: Stream> Model for Client<S> {
     ghost use Rattle.std.specs.Prelude.{◌≡◌, ◌+◌, IsSome, false, length};
-    ghost use Rattle.lz_serve.specs.Clients.{Asker};
-    ghost use Rattle.lz_serve.specs.Lines.{AreEarned};
+    ghost use Rattle.lz_serve.specs.Clients.{Asker, passes_of, seen_by};
+    ghost use Rattle.lz_serve.specs.Lines.{AreBefore, AreEarned};
     ghost use Rattle.lz_serve.specs.Streams.{IsTalkOf};
 
     ghost Value = { Asker };
 
-    ghost view = { λ c. record { connection = c.connection; lines = c.talk.told + length c.talk.under; under = c.talk.under; turns = length c.talk.turns } };
+    ghost view = { λ c. record { connection = c.connection; lines = c.talk.told + length c.talk.under; told = c.talk.told; under = c.talk.under; puts = passes_of c.puts.items; seen = seen_by c.seen } };
 
     ghost invariant = { λ c. (c.ended ≡ false → IsSome c.talk.reader)
-        × AreEarned S.promised c.connection c.talk.told c.talk.under
-        × (c.lost ≡ false → IsTalkOf S.promised c.connection (S.traffic c.stream) c.talk) };
+        × AreEarned S.promised (seen_by c.seen) c.connection c.talk.told c.talk.under (passes_of c.puts.items)
+        × (c.lost ≡ false → IsTalkOf (AreBefore S.promised (seen_by c.seen) c.talk.under (passes_of c.puts.items)) c.connection (S.traffic c.stream) c.talk) };
 }
 
 impl<S: Stream> Client<S> {
@@ -147,29 +154,26 @@ impl<S: Stream> Client<S> {
     pub fn new(alloc: Global, number: u64, stream: S) -> Client<S>
         requires fresh { IsFresh (S.traffic stream) }
         requires promised { S.promised [] }
-        ensures { result ≡ record { connection = number; lines = 0; under = []; turns = 0 } }
+        ensures { result ≡ record { connection = number; lines = 0; told = 0; under = []; puts = []; seen = [] } }
     {
         let language = stream.language();
         Client {
             stream,
             talk: Conversation::new(alloc, language),
             connection: number,
+            puts: VecDeque::new(alloc),
+            seen: None,
             held: false,
             ended: false,
             lost: false,
         }
     }
 
-    /// Reads a piece, if there is one, tells what needs no pass, and says whether there may be more that nothing will tell of: no more, where it was
-    /// less than the buffer has room for, unless the client sends nothing after it (`ends`). The buffer has room for a piece.
-    pub(crate) fn read(&mut self, buffer: &mut [u8], ends: bool) -> bool {
-        let is_more = self.receive(buffer, ends);
-        self.tell_all();
-        is_more
-    }
-
-    // Reads a piece, if there is one.
-    fn receive(&mut self, buffer: &mut [u8], ends: bool) -> bool {
+    /// Reads a piece, if there is one, and says whether there may be more that nothing will tell of: no more, where it was less than the buffer
+    /// has room for, unless the client sends nothing after it (`ends`). The buffer has room for a piece.
+    pub(crate) fn read(&mut self, buffer: &mut [u8], ends: bool) -> bool
+        ensures { self.new ≡ self.old }
+    {
         if self.lost || self.ended {
             return false;
         }
@@ -229,8 +233,9 @@ impl<S: Stream> Client<S> {
     }
 
     /// The next line, if one has come, as a question to this pass. It is under way then, beside those before it; one waits until those
-    /// that asked for the same key were answered.
+    /// that asked for the same key were answered. The pass has seen what those had that answered the client.
     pub fn ask(&mut self, pass: &Pass) -> Option<Question>
+        requires { Begins self.old.seen (part pass.now).known }
         ensures asked { IfSome result (λ question. self.new.under ≡ self.old.under ++ awaited question.request ∷ []) }
         ensures free { IfSome result (λ question. IsFree self.old.under (key_asked question.request)) }
         ensures before { IfSome result (λ question. question.before ≡ pass.now) }
@@ -238,17 +243,24 @@ impl<S: Stream> Client<S> {
         ensures number { IfSome result (λ question. (question.connection ≡ self.new.connection) × (question.line ≡ self.new.lines)) }
         ensures lines { IfSome result (λ question. self.new.lines ≡ self.old.lines + 1) }
         ensures connection { self.new.connection ≡ self.old.connection }
+        ensures own { IfSome result (λ question. IsOwn self.new question) }
+        ensures kept { KeepsOwn (Some self.old) (Some self.new) }
+        ensures seen { self.new.seen ≡ self.old.seen }
         ensures none { result ≡ None → self.new ≡ self.old }
     {
         if self.lost {
             return None;
         }
+        let Ok(()) = self.puts.reserve(1) else {
+            self.lost = true;
+            return None;
+        };
         let earlier = self.talk.told() < self.talk.lines();
         match self.talk.next() {
             Ok(Some(request)) => {
                 let line = self.talk.lines();
-                let question = Question::new(self.connection, line, request, pass, earlier);
-                Some(question)
+                self.puts.push_back_reserved(Snapshot::of(pass));
+                Some(Question::new(self.connection, line, request, pass, earlier))
             }
             Ok(None) => {
                 self.held = self.talk.waits();
@@ -262,12 +274,18 @@ impl<S: Stream> Client<S> {
     }
 
     /// Takes the reply that was granted to a line of its own that awaits one, and no other, and tells those that no earlier line
-    /// holds up.
-    pub fn reply<N: Named>(&mut self, granted: Granted<N>)
-        requires promised { (grants : List Grant) → S.promised grants → IsGrant N.board N.format granted → S.promised (grants ++ granted ∷ []) }
+    /// holds up. This pass has seen what those had that answered the client, this reply included.
+    pub fn reply<N: Named>(&mut self, granted: Granted<N>, pass: &Pass)
+        requires promised { (grants : List Grant) → S.promised grants → IsGrant N.board N.format granted → IsLater grants granted → S.promised (grants ++ granted ∷ []) }
+        requires own { IsOwn self.old granted.question }
+        requires seen { Begins self.old.seen (part pass.now).known }
+        requires after { Begins (part granted.after).known (part pass.now).known }
         ensures connection { self.new.connection ≡ self.old.connection }
         ensures lines { self.new.lines ≡ self.old.lines }
+        ensures kept { KeepsOwn (Some self.old) (Some self.new) }
+        ensures seen { self.new.seen ≡ (part pass.now).known }
     {
+        self.seen = Some(Snapshot::of(pass));
         let question = granted.question();
         if question.connection() != self.connection {
             return;
@@ -279,25 +297,63 @@ impl<S: Stream> Client<S> {
         }
     }
 
+    /// Tells the exchanges at the front that ask nothing.
+    pub(crate) fn tell_texts(&mut self)
+        ensures { self.new ≡ self.old }
+    {
+        'turns: for _ in 0..u64::MAX {
+            if !self.tell_text() {
+                return;
+            }
+        }
+    }
+
+    // Tells the first exchange, if it asks nothing, and says whether it did.
+    fn tell_text(&mut self) -> bool
+        ensures { self.new ≡ self.old }
+    {
+        if self.lost {
+            return false;
+        }
+        match self.talk.tell_text() {
+            Ok(told) => told,
+            Err(_) => {
+                self.lost = true;
+                false
+            }
+        }
+    }
+
     // Tells each exchange that can be told.
     fn tell_all(&mut self)
         ensures connection { self.new.connection ≡ self.old.connection }
         ensures lines { self.new.lines ≡ self.old.lines }
+        ensures kept { KeepsOwn (Some self.old) (Some self.new) }
+        ensures seen { self.new.seen ≡ self.old.seen }
     {
-        while self.tell() {}
+        'turns: for _ in 0..u64::MAX {
+            if !self.tell() {
+                return;
+            }
+        }
     }
 
     // Tells the first exchange, if its requests have their replies, and says whether it did.
     fn tell(&mut self) -> bool
         ensures connection { self.new.connection ≡ self.old.connection }
         ensures lines { self.new.lines ≡ self.old.lines }
-        ensures fewer { result ≡ true → self.new.turns < self.old.turns }
+        ensures kept { KeepsOwn (Some self.old) (Some self.new) }
+        ensures seen { self.new.seen ≡ self.old.seen }
     {
         if self.lost {
             return false;
         }
+        let before = self.talk.told();
         match self.talk.tell() {
-            Ok(told) => told,
+            Ok(told) => {
+                pass_over(&mut self.puts, (self.talk.told() - before) as usize);
+                told
+            }
             Err(_) => {
                 self.lost = true;
                 false
@@ -317,7 +373,7 @@ impl<S: Stream> Client<S> {
 
     /// Whether a line before the one of this number isn't answered.
     pub(crate) fn has_earlier(&self, line: u64) -> bool {
-        self.talk.is_asked() && self.talk.told().saturating_add(1) < line
+        self.talk.awaits_before(line)
     }
 
     /// Whether it has a line for which a pass may be had.
@@ -346,21 +402,28 @@ impl<S: Stream> Client<S> {
     }
 
     /// Where it has nothing to do, it keeps no more room than a little.
-    pub(crate) fn rest(&mut self) {
+    pub(crate) fn rest(&mut self)
+        ensures { self.new ≡ self.old }
+    {
         let (items, bytes) = self.talk.room();
         if (items > FEW || bytes > LITTLE) && !self.is_occupied() && !self.is_asked() {
             self.talk.rest();
+            self.puts.shrink_to(1);
         }
     }
 
     /// Tells nothing more.
-    pub(crate) fn leave(&mut self) {
+    pub(crate) fn leave(&mut self)
+        ensures { self.new ≡ self.old }
+    {
         self.lost = true;
         self.stream.leave();
     }
 
     /// Throws a piece away that came after the end, and says whether there may be more at once; none where nothing more will come.
-    pub(crate) fn pass_over(&mut self, buffer: &mut [u8]) -> Option<bool> {
+    pub(crate) fn pass_over(&mut self, buffer: &mut [u8]) -> Option<bool>
+        ensures { self.new ≡ self.old }
+    {
         self.lost = true;
         match self.stream.receive(buffer) {
             Received::Count(_) => Some(true),

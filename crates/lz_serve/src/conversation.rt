@@ -160,6 +160,18 @@ impl Conversation {
         }
     }
 
+    /// Tells the first exchange that wasn't told, if it asks nothing, and says whether it does.
+    pub fn tell_text(&mut self) -> Result<bool, AllocError>
+        ensures told { IfOk result (λ told. told ≡ true → (turn : ATurn) × (self.old.turns ≡ turn ∷ drop 1 self.old.turns) × (self.old.ended ≡ End.Done) × Told turn self.old self.new) }
+        ensures none { IfOk result (λ told. told ≡ false → self.new ≡ self.old) }
+        ensures others { self.new ≡ record self.old { turns = self.new.turns; unsent = self.new.unsent; ended = self.new.ended } }
+    {
+        match self.exchanges.first() {
+            Some(Turn::Says(_) | Turn::Ends(_)) => self.tell(),
+            _ => Ok(false),
+        }
+    }
+
     /// The text that is to be sent.
     pub fn unsent(&self) -> &[u8]
         ensures { result.now ≡ self.now.unsent }
@@ -196,6 +208,15 @@ impl Conversation {
         ensures { result ≡ false → self.now.under ≡ [] }
     {
         !self.under.is_empty()
+    }
+
+    /// Whether a request before the one of this number awaits its reply. (One that doesn't may be told with those after it.)
+    pub fn awaits_before(&self, number: u64) -> bool {
+        let count = number.saturating_sub(self.told).saturating_sub(1);
+        self.under
+            .iter()
+            .take(count as usize)
+            .any(|line| line.reply.is_none())
     }
 
     /// Whether requests wait.
@@ -321,13 +342,12 @@ fn reply_at(under: &VecDeque<Line>, index: usize) -> Option<Reply>
     under.get(index)?.reply
 }
 
-// Takes so many lines off the front.
-fn pass_over(under: &mut VecDeque<Line>, count: usize)
-    requires { count ≤ length under.old.items }
-    ensures { under.new.items ≡ drop count under.old.items }
+/// Takes so many off the front of a queue.
+pub(crate) fn pass_over<T: Drop>(queue: &mut VecDeque<T>, count: usize)
+    ensures { queue.new.items ≡ drop count queue.old.items }
 {
     for _ in 0..count {
-        under.pop_front();
+        queue.pop_front();
     }
 }
 

@@ -1,16 +1,20 @@
 //! The clients of the loop.
-ghost use Rattle.std.specs.Prelude.{◌≡◌, [], IfSome};
+ghost use Rattle.std.specs.Prelude.{◌≡◌, ◌≤◌, [], IfOk, IfSome, None};
+ghost use Rattle.lz_list.specs.Traces.{Begins};
+ghost use Rattle.lz_board.specs.Seats.{part};
+ghost use Rattle.lz_serve.specs.Clients.{HaveSeenIn, IsAwaited, Keeps, KeepsAwaited};
 ghost use Rattle.lz_serve.specs.Grants.{Promises};
 ghost use Rattle.lz_serve.specs.Streams.{IsFresh};
 
 use crate::asking::Granted;
 use crate::client::{Client, Question};
-use crate::place::{Place, Wish};
+use crate::place::{Place, Turn, Wish};
 use crate::poller::Ready;
 use crate::stream::Stream;
 use lz_set::{Named, Pass};
 use std::alloc::{AllocError, Global};
 use std::collections::VecDeque;
+use std::marker::Model;
 use std::time::Duration;
 
 /// For how many milliseconds a turn counts at most: in a longer one the loop didn't listen, and no client was silent.
@@ -45,9 +49,20 @@ pub struct Crowd<S: Stream> {
     noted: Option<u64>,
 }
 
+impl<S: Stream> Model for Crowd<S> {
+    ghost use Rattle.std.specs.Prelude.{map};
+    ghost use Rattle.lz_serve.specs.Clients.{Askers};
+
+    ghost Value = { Askers };
+
+    ghost view = { λ c. record { admitted = c.admitted; clients = map (λ place. place.client) c.places.items } };
+}
+
 impl<S: Stream> Crowd<S> {
     /// Room for so many clients at once.
-    pub fn new(alloc: Global, most: usize) -> Result<Crowd<S>, AllocError> {
+    pub fn new(alloc: Global, most: usize) -> Result<Crowd<S>, AllocError>
+        ensures { IfOk result (λ crowd. HaveSeenIn crowd []) }
+    {
         let mut places = Vec::with_capacity(alloc, most)?;
         let mut vacant = Vec::with_capacity(alloc, most)?;
         let queue = VecDeque::with_capacity(alloc, most)?;
@@ -107,7 +122,9 @@ impl<S: Stream> Crowd<S> {
     }
 
     /// No client is waited for that was answered by now.
-    pub fn forget_out(&mut self) {
+    pub fn forget_out(&mut self)
+        ensures { self.new ≡ self.old }
+    {
         self.out = 0;
     }
 
@@ -120,37 +137,50 @@ impl<S: Stream> Crowd<S> {
     pub fn admit(&mut self, alloc: Global, stream: S, buffer: &mut [u8])
         requires fresh { IsFresh (S.traffic stream) }
         requires promised { S.promised [] }
+        ensures { Keeps self.old self.new }
     {
+        if self.admitted == u64::MAX {
+            return;
+        }
         let Some(token) = self.vacant.pop() else {
             return;
         };
-        self.admitted = self.admitted.saturating_add(1);
-        let now = self.now;
+        let Some(place) = self.places.get_mut(token) else {
+            return;
+        };
+        self.admitted += 1;
         let client = Client::new(alloc, self.admitted, stream);
-        if let Some(place) = self.places.get_mut(token) {
-            place.admit(client, now);
-        }
+        place.admit(client, self.now);
         self.tend(token, buffer);
     }
 
     /// A connection can be read or written.
-    pub fn hear(&mut self, ready: Ready, buffer: &mut [u8]) {
+    pub fn hear(&mut self, ready: Ready, buffer: &mut [u8])
+        ensures { Keeps self.old self.new }
+    {
         let Ready { token, ends } = ready;
-        if let Some(place) = self.places.get_mut(token) {
-            place.hear(ends, self.now);
-        }
+        let Some(place) = self.places.get_mut(token) else {
+            return;
+        };
+        place.hear(ends, self.now);
         self.tend(token, buffer);
     }
 
-    /// Hands a reply to the client of this token, if that is still the one whose line was answered.
-    pub fn reply<N: Named>(&mut self, token: usize, granted: Granted<N>)
-        requires { Promises N.board N.format S.promised }
+    /// Hands a reply to the client of this token, if that is still the one whose line was answered. This pass has seen what those had that
+    /// answered any of the clients, this reply included.
+    pub fn reply<N: Named>(&mut self, token: usize, granted: Granted<N>, pass: &Pass)
+        requires promised { Promises N.board N.format S.promised }
+        requires awaited { IsAwaited self.old token granted.question }
+        requires seen { HaveSeenIn self.old (part pass.now).known }
+        requires after { Begins (part granted.after).known (part pass.now).known }
+        ensures kept { KeepsAwaited self.old self.new }
+        ensures seen { HaveSeenIn self.new (part pass.now).known }
     {
         let Some(place) = self.places.get_mut(token) else {
             return;
         };
         self.out = self.out.saturating_add(1);
-        let is_next = place.reply(granted, self.now);
+        let is_next = place.reply(granted, pass, self.now);
         let is_back = place.give_back();
         self.put(token, is_next, is_back);
     }
@@ -163,7 +193,9 @@ impl<S: Stream> Crowd<S> {
     }
 
     /// Does for those that were answered, or had no line, what needs no pass.
-    pub fn tend_back(&mut self, buffer: &mut [u8]) {
+    pub fn tend_back(&mut self, buffer: &mut [u8])
+        ensures { Keeps self.old self.new }
+    {
         for at in 0..self.back.len() {
             let Some(token) = self.back.get(at).copied() else {
                 return;
@@ -175,14 +207,21 @@ impl<S: Stream> Crowd<S> {
 
     /// The question to this pass whose turn it is, if there is one, with the token of its client.
     pub fn take_turn(&mut self, pass: &Pass) -> Option<(usize, Question)>
-        ensures { IfSome result (λ turn. turn.1.before ≡ pass.now) }
+        requires { HaveSeenIn self.old (part pass.now).known }
+        ensures before { IfSome result (λ turn. turn.1.before ≡ pass.now) }
+        ensures awaited { IfSome result (λ turn. IsAwaited self.new turn.0 turn.1) }
+        ensures kept { Keeps self.old self.new }
     {
         'tokens: for _ in 0..self.queue.len() {
             let token = self.queue.pop_front()?;
-            let place = self.places.get_mut(token)?;
-            let question = place.take_turn(pass);
-            let is_next = place.may_ask() && place.queue();
-            let is_back = question.is_none() && place.give_back();
+            let Some(place) = self.places.get_mut(token) else {
+                return None;
+            };
+            let Turn {
+                question,
+                is_next,
+                is_back,
+            } = place.take_turn(pass);
             self.put(token, is_next, is_back);
             if let Some(question) = question {
                 self.out = self.out.saturating_sub(1);
@@ -194,13 +233,21 @@ impl<S: Stream> Crowd<S> {
 
     /// The question to this pass that the client of this token has, if it has one. Where none waits it is read once more.
     pub fn take_last(&mut self, token: usize, pass: &Pass, buffer: &mut [u8]) -> Option<Question>
-        ensures { IfSome result (λ question. question.before ≡ pass.now) }
+        requires { HaveSeenIn self.old (part pass.now).known }
+        ensures before { IfSome result (λ question. question.before ≡ pass.now) }
+        ensures awaited { IfSome result (λ question. IsAwaited self.new token question) }
+        ensures kept { Keeps self.old self.new }
     {
-        self.places.get_mut(token)?.take_last(pass, buffer)
+        let Some(place) = self.places.get_mut(token) else {
+            return None;
+        };
+        place.take_last(pass, buffer)
     }
 
     /// Notes the time by the system's clock. Its own goes on as that does, but not by more than a second at once.
-    pub fn note_time(&mut self, now: Duration) {
+    pub fn note_time(&mut self, now: Duration)
+        ensures { self.new ≡ self.old }
+    {
         let now = millis(now);
         if let Some(passed) = self.noted.and_then(|noted| now.checked_sub(noted)) {
             self.now = self.now.saturating_add(passed.min(LONGEST_TURN));
@@ -210,49 +257,69 @@ impl<S: Stream> Crowd<S> {
 
     /// Closes the connections on which nothing came or went for longer than so, and those of clients that don't leave, ten times in a
     /// second.
-    pub fn close_idle(&mut self, idle: Option<Duration>) {
+    pub fn close_idle(&mut self, idle: Option<Duration>)
+        ensures { Keeps self.old self.new }
+    {
         if self.now.saturating_sub(self.looked) < TENTH {
             return;
         }
         self.looked = self.now;
         let idle = idle.map(millis);
         for token in 0..self.places.len() {
-            let Some(place) = self.places.get_mut(token) else {
-                return;
-            };
-            if place.is_idle(self.now, idle) {
+            if self.is_idle(token, idle) {
                 self.close(token);
             }
         }
     }
 
+    // Whether the client of this token is to be closed, since it was idle for more milliseconds than so.
+    fn is_idle(&self, token: usize, idle: Option<u64>) -> bool {
+        let now = self.now;
+        self.places
+            .get(token)
+            .is_some_and(|place| place.is_idle(now, idle))
+    }
+
     /// Ends each session, once what is unsent is sent.
-    pub fn part_all(&mut self, buffer: &mut [u8]) {
+    pub fn part_all(&mut self, buffer: &mut [u8])
+        ensures { Keeps self.old self.new }
+    {
         for token in 0..self.places.len() {
-            if let Some(place) = self.places.get_mut(token) {
-                place.part();
-            }
-            self.tend(token, buffer);
+            self.part(token, buffer);
         }
     }
 
+    // Ends a session, once what is unsent is sent.
+    fn part(&mut self, token: usize, buffer: &mut [u8])
+        ensures { Keeps self.old self.new }
+    {
+        let Some(place) = self.places.get_mut(token) else {
+            return;
+        };
+        place.part();
+        self.tend(token, buffer);
+    }
+
     /// Closes each connection.
-    pub fn close_all(&mut self) {
+    pub fn close_all(&mut self)
+        ensures { Keeps self.old self.new }
+    {
         for token in 0..self.places.len() {
             self.close(token);
         }
     }
 
     // Does for a client what needs no pass, and queues it where it wants a turn.
-    fn tend(&mut self, token: usize, buffer: &mut [u8]) {
+    fn tend(&mut self, token: usize, buffer: &mut [u8])
+        ensures { Keeps self.old self.new }
+    {
         let crowded = self.queue.len() >= MANY;
         let Some(place) = self.places.get_mut(token) else {
             return;
         };
         let was_leaving = place.leaves();
-        let wish = place.tend(buffer, crowded);
+        let wish = place.tend(buffer, crowded, self.now);
         if place.leaves() && !was_leaving {
-            place.end(self.now);
             self.leaving = self.leaving.saturating_add(1);
         }
         match wish {
@@ -266,7 +333,9 @@ impl<S: Stream> Crowd<S> {
     }
 
     // A client waits for its turn, if it didn't before, and is to be tended to, if it wasn't. There is room for each.
-    fn put(&mut self, token: usize, is_next: bool, is_back: bool) {
+    fn put(&mut self, token: usize, is_next: bool, is_back: bool)
+        ensures { Keeps self.old self.new }
+    {
         if is_next && self.queue.push_back(token).is_err()
             || is_back && self.back.push(token).is_err()
         {
@@ -275,7 +344,9 @@ impl<S: Stream> Crowd<S> {
     }
 
     // Closes a connection, where there is one. Its token may be had again.
-    fn close(&mut self, token: usize) {
+    fn close(&mut self, token: usize)
+        ensures { Keeps self.old self.new }
+    {
         let Some(place) = self.places.get_mut(token) else {
             return;
         };

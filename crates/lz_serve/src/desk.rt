@@ -1,19 +1,22 @@
 //! What a loop works at: its clients, its passes, and the calls under way.
-ghost use Rattle.std.specs.Prelude.{◌≡◌, ◌+◌, ◌≤◌, ◌<◌, IfOk, None, Some, false, true, vec_capacity, vec_len};
+ghost use Rattle.std.specs.Prelude.{◌≡◌, ◌+◌, ◌<◌, IfOk, None, Some, false, true, vec_len};
+ghost use Rattle.lz_board.specs.Seats.{part};
+ghost use Rattle.lz_serve.specs.Clients.{HaveSeenIn, KeepsAwaited};
 ghost use Rattle.lz_serve.specs.Grants.{Promises};
 
-use crate::answering::{Next, answer_call, answer_one, begin_next};
+use crate::answering::{Next, answer_one, begin_next, meet, play_call};
 use crate::asking::Asking;
 use crate::crowd::Crowd;
-use crate::free_pass::FreePass;
+use crate::free_pass::{FreePass, first_of, put_free, with_one};
 use crate::gathering::Gathering;
 use crate::given::Given;
 use crate::moments::{MOMENT, Moments};
 use crate::observer::Observer;
 use crate::stream::Stream;
 use lz_disk::Disk;
-use lz_set::{Named, Set, Stage, StepGate};
+use lz_set::{Named, Set, StepGate};
 use std::alloc::{AllocError, Global};
+use std::marker::Model;
 use std::sync::Wait;
 use std::time::{Clock, Duration};
 
@@ -22,13 +25,16 @@ const PATIENCE: u64 = 1_000;
 
 const SHORT_PATIENCE: u64 = 100;
 
-/// The clients of a loop, and its passes: those that are free, and those that answer a request. No pass is lost.
+/// The clients of a loop, and its passes: those that are free, those that answer a request, and where there are several one that makes no call
+/// and meets the others, each after its answer and before its next call. No pass is lost.
 #[derive(Drop)]
 pub(crate) struct Desk<S: Stream, N: Named, B: Given> {
     pub(crate) crowd: Crowd<S>,
     free: Vec<FreePass<N, B>>,
     /// The calls under way.
     calls: Vec<Asking<N, B>>,
+    /// What it has seen is all that the clients have, by the replies that they got. None while there is one pass.
+    meeting: Option<FreePass<N, B>>,
     /// For how many passes there is room, and how many were taken in.
     most: usize,
     given: usize,
@@ -41,10 +47,18 @@ pub(crate) struct Desk<S: Stream, N: Named, B: Given> {
     tries: Moments,
     /// For how long a sync waits for clients that were just answered.
     gathering: Gathering,
-    ghost fit: { given ≤ most },
-    ghost count: { vec_len free + vec_len calls ≡ given },
-    ghost spare_free: { most ≤ vec_capacity free },
-    ghost spare_calls: { most ≤ vec_capacity calls },
+}
+
+impl<S: Stream, N: Named, B: Given> Model for Desk<S, N, B> {
+    ghost use Rattle.std.specs.Prelude.{◌+◌, map, option_map, vec_capacity, vec_len};
+    ghost use Rattle.lz_board.specs.Seats.{part};
+    ghost use Rattle.lz_serve.specs.Desks.{IsDesk, Passes, count_of};
+
+    ghost Value = { Passes };
+
+    ghost view = { λ d. record { given = d.given; most = d.most; free = vec_len d.free + count_of d.meeting } };
+
+    ghost invariant = { λ d. IsDesk d.given d.most (vec_len d.free + count_of d.meeting) (vec_capacity d.free) (vec_capacity d.calls) d.crowd (option_map (λ free. (part free.pass).known) d.meeting) d.calls.items (map (λ free. (part free.pass).known) d.free.items) };
 }
 
 impl<S: Stream, N: Named, B: Given> Desk<S, N, B> {
@@ -54,12 +68,13 @@ impl<S: Stream, N: Named, B: Given> Desk<S, N, B> {
         passes: usize,
         clients: usize,
     ) -> Result<Desk<S, N, B>, AllocError>
-        ensures { IfOk result (λ desk. (desk.given ≡ 0) × (desk.most ≡ passes)) }
+        ensures { IfOk result (λ desk. (desk.given ≡ 0) × (desk.free ≡ 0) × (desk.most ≡ passes)) }
     {
         Ok(Desk {
             crowd: Crowd::new(alloc, clients)?,
             free: Vec::with_capacity(alloc, passes)?,
             calls: Vec::with_capacity(alloc, passes)?,
+            meeting: None,
             most: passes,
             given: 0,
             halted: false,
@@ -70,27 +85,30 @@ impl<S: Stream, N: Named, B: Given> Desk<S, N, B> {
         })
     }
 
-    /// Takes a free pass in.
+    /// Takes a free pass in, while all are free. Where it is the second, the first one meets the others from now on.
     pub(crate) fn take_in(&mut self, free: FreePass<N, B>)
-        requires { self.old.given < self.old.most }
+        requires room { self.old.given < self.old.most }
+        requires rests { self.old.free ≡ self.old.given }
         ensures given { self.new.given ≡ self.old.given + 1 }
         ensures most { self.new.most ≡ self.old.most }
+        ensures rests { self.new.free ≡ self.new.given }
     {
-        let Ok(()) = self.free.push(free) else {
-            unreachable!()
-        };
+        let meeting = self.meeting.take();
+        self.meeting = first_of(meeting, &mut self.free);
+        put_free(&mut self.free, free);
         self.given += 1;
     }
 
     /// The passes, once each is free.
     pub(crate) fn into_free(self) -> Vec<FreePass<N, B>>
-        requires { vec_len self.free ≡ self.given }
+        requires { self.free ≡ self.given }
         ensures { vec_len result ≡ self.given }
     {
         let Desk {
             crowd: _,
             free,
             calls: _,
+            meeting,
             most: _,
             given: _,
             halted: _,
@@ -99,7 +117,7 @@ impl<S: Stream, N: Named, B: Given> Desk<S, N, B> {
             tries: _,
             gathering: _,
         } = self;
-        free
+        with_one(free, meeting)
     }
 
     /// Begins to answer lines that wait, by the passes that are free: one of each client before a second of any.
@@ -115,13 +133,15 @@ impl<S: Stream, N: Named, B: Given> Desk<S, N, B> {
                 return;
             };
             let mut asking = Asking::new(free);
-            if !begin_next(rt, set, &mut kept, &mut self.crowd, &mut asking, self.ends) {
+            meet(set, &mut asking, &mut self.meeting);
+            if begin_next(rt, set, &mut kept, &mut self.crowd, &mut asking, self.ends) {
+                let Ok(()) = self.calls.push(asking) else {
+                    unreachable!()
+                };
+            } else {
                 put_free(&mut self.free, asking.into_free());
                 return;
             }
-            let Ok(()) = self.calls.push(asking) else {
-                unreachable!()
-            };
         }
     }
 
@@ -150,20 +170,16 @@ impl<S: Stream, N: Named, B: Given> Desk<S, N, B> {
                 break;
             }
             let asking = &mut self.calls[at];
-            if asking.waits() && !tries
-                || asking.go_on(rt, set, &mut kept) != Some(Stage::Answers)
-            {
-                at += 1;
-                continue;
-            }
-            match answer_call(
+            match play_call(
                 rt,
                 set,
                 &mut kept,
                 &mut self.crowd,
+                &mut self.meeting,
                 asking,
                 observer,
                 self.ends,
+                tries,
             ) {
                 Next::GoesOn => {}
                 Next::Waits => at += 1,
@@ -190,7 +206,8 @@ impl<S: Stream, N: Named, B: Given> Desk<S, N, B> {
         let began = rt.monotonic().ok();
         let mut kept = set.keep();
         let mut has_synced = false;
-        for asking in self.calls.iter_mut() {
+        for at in 0..self.calls.len() {
+            let asking = &mut self.calls[at];
             let synced = asking.sync(rt, set, &mut kept);
             has_synced = has_synced || synced;
         }
@@ -229,7 +246,7 @@ impl<S: Stream, N: Named, B: Given> Desk<S, N, B> {
         O: Observer,
         requires { Promises N.board N.format S.promised }
         ensures given { self.new.given ≡ self.old.given }
-        ensures rests { vec_len self.new.free ≡ self.new.given }
+        ensures rests { self.new.free ≡ self.new.given }
     {
         self.ends = true;
         'plays: for _ in rt.forever() {
@@ -241,7 +258,8 @@ impl<S: Stream, N: Named, B: Given> Desk<S, N, B> {
         }
     }
 
-    /// Answers each client whose request waits, by a pass that is free. The set has halted, which is what it tells then.
+    /// Answers each client whose request waits, by a pass that is free and has seen what the clients have. The set has halted, which is what it
+    /// tells then. Nothing is begun after it.
     pub(crate) fn answer_last<D, G, R, O>(
         &mut self,
         rt: &R,
@@ -254,23 +272,23 @@ impl<S: Stream, N: Named, B: Given> Desk<S, N, B> {
         G: StepGate,
         R: Wait + Clock,
         O: Observer,
-        requires rests { vec_len self.old.free ≡ self.old.given }
+        requires rests { self.old.free ≡ self.old.given }
         requires promised { Promises N.board N.format S.promised }
         ensures given { self.new.given ≡ self.old.given }
-        ensures rests { vec_len self.new.free ≡ self.new.given }
+        ensures rests { self.new.free ≡ self.new.given }
     {
-        'places: for token in 0..self.crowd.most() {
-            let Some(free) = self.free.last_mut() else {
-                return;
-            };
-            answer_one(rt, set, &mut self.crowd, token, free, observer, buffer);
-        }
+        let meeting = self.meeting.take();
+        let Some(mut free) = first_of(meeting, &mut self.free) else {
+            return;
+        };
+        answer_each(rt, set, &mut self.crowd, &mut free, observer, buffer);
+        self.meeting = Some(free);
     }
 
     /// Tells the observer of each client that has left since it was told last.
     pub(crate) fn tell_parted<O: Observer>(&mut self, observer: &O)
         ensures given { self.new.given ≡ self.old.given }
-        ensures free { vec_len self.new.free ≡ vec_len self.old.free }
+        ensures free { self.new.free ≡ self.old.free }
     {
         for _ in self.parted..self.crowd.parted() {
             observer.parted();
@@ -311,7 +329,7 @@ impl<S: Stream, N: Named, B: Given> Desk<S, N, B> {
 
     /// Whether no pass answers a request.
     pub(crate) fn rests(&self) -> bool
-        ensures { result ≡ true → vec_len self.now.free ≡ self.now.given }
+        ensures { result ≡ true → self.now.free ≡ self.now.given }
     {
         self.calls.is_empty()
     }
@@ -324,13 +342,29 @@ fn time_since<R: Clock>(rt: &R, began: Option<Duration>) -> Option<Duration> {
     Some(now.saturating_sub(began))
 }
 
-// A pass is free. There is room for it.
-fn put_free<N: Named, B: Given>(passes: &mut Vec<FreePass<N, B>>, free: FreePass<N, B>)
-    requires { vec_len passes.old < vec_capacity passes.old }
-    ensures count { vec_len passes.new ≡ vec_len passes.old + 1 }
-    ensures spare { vec_capacity passes.old ≤ vec_capacity passes.new }
+// Answers each client whose request waits by this pass, which has seen what the clients have.
+fn answer_each<S, D, G, N, B, R, O>(
+    rt: &R,
+    set: &Set<D, G, N>,
+    crowd: &mut Crowd<S>,
+    free: &mut FreePass<N, B>,
+    observer: &O,
+    buffer: &mut [u8],
+)
+where
+    S: Stream,
+    D: Disk,
+    G: StepGate,
+    N: Named,
+    B: Given,
+    R: Wait + Clock,
+    O: Observer,
+    requires promised { Promises N.board N.format S.promised }
+    requires seen { HaveSeenIn crowd.old (part free.old.pass).known }
+    ensures kept { KeepsAwaited crowd.old crowd.new }
+    ensures seen { HaveSeenIn crowd.new (part free.new.pass).known }
 {
-    let Ok(()) = passes.push(free) else {
-        unreachable!()
-    };
+    'places: for token in 0..crowd.most() {
+        answer_one(rt, set, crowd, token, free, observer, buffer);
+    }
 }

@@ -1,8 +1,11 @@
 //! A pass that answers nothing.
-ghost use Rattle.std.specs.Prelude.{◌≡◌, ◌≤◌, [], true, false, All, vec_capacity, vec_len};
+ghost use Rattle.std.specs.Prelude.{◌≡◌, ◌+◌, ◌≤◌, ◌<◌, ◌++◌, [], ◌∷◌, true, false, All, IfSome, None, Some, option_to_list, vec_capacity, vec_len};
 ghost use Rattle.std.specs.List.{Any};
+ghost use Rattle.lz_list.specs.Traces.{Begins};
+ghost use Rattle.lz_board.specs.Seats.{part};
 ghost use Rattle.lz_set.specs.Names.{MayCall};
-ghost use Rattle.lz_serve.specs.Halts.{IsCalmAfter, SawHalt};
+ghost use Rattle.lz_serve.specs.Desks.{count_of};
+ghost use Rattle.lz_serve.specs.Halts.{IsCalmAfter, SawHalt, SeesMore};
 
 use crate::asking::{Granted, grant, says_halted};
 use crate::client::Question;
@@ -56,6 +59,18 @@ impl<N: Named, B: Given> FreePass<N, B> {
         &self.pass
     }
 
+    /// Lets it and another pass, which is outside, see what either has seen.
+    pub(crate) fn meet<D: Disk, G: StepGate>(&mut self, set: &Set<D, G, N>, other: &mut Pass)
+        requires { MayCall N.board other.old }
+        ensures other { MayCall N.board other.new }
+        ensures halted { self.new.halted ≡ self.old.halted }
+        ensures met { SeesMore other.old other.new }
+        ensures grows { Begins (part self.old.pass).known (part other.new).known }
+        ensures alike { (part self.new.pass).known ≡ (part other.new).known }
+    {
+        set.meet(&mut self.pass, other);
+    }
+
     /// Answers a question to its end. It may wait for other passes.
     pub fn answer<D: Disk, G: StepGate, R: Wait + Clock>(
         &mut self,
@@ -64,7 +79,8 @@ impl<N: Named, B: Given> FreePass<N, B> {
         question: Question,
     ) -> Granted<N>
         requires { question.before ≡ self.old.pass }
-        ensures { (result.question ≡ question) × (result.after ≡ self.new.pass) }
+        ensures granted { (result.question ≡ question) × (result.after ≡ self.new.pass) }
+        ensures grows { Begins (part self.old.pass).known (part self.new.pass).known }
     {
         let granted = grant(rt, set, &mut self.pass, question);
         let reply = granted.reply();
@@ -115,4 +131,48 @@ pub fn hand_back<N: Named, B: Given>(free: Vec<FreePass<N, B>>, room: Vec<Pass>)
         halted,
         unserved: false,
     }
+}
+
+/// The pass that meets the others, or else a free one, if there is one.
+pub(crate) fn first_of<N: Named, B: Given>(
+    meeting: Option<FreePass<N, B>>,
+    free: &mut Vec<FreePass<N, B>>,
+) -> Option<FreePass<N, B>>
+    ensures same { IfSome meeting (λ pass. result ≡ Some pass) }
+    ensures first { meeting ≡ None → free.old.items ≡ free.new.items ++ option_to_list result }
+    ensures none { result ≡ None → (meeting ≡ None) × (vec_len free.old ≡ 0) }
+    ensures count { vec_len free.new + count_of result ≡ vec_len free.old + count_of meeting }
+    ensures spare { vec_capacity free.new ≡ vec_capacity free.old }
+{
+    match meeting {
+        Some(pass) => Some(pass),
+        None => free.pop(),
+    }
+}
+
+/// These passes with one more, if there is one. There is room for it.
+pub(crate) fn with_one<N: Named, B: Given>(
+    free: Vec<FreePass<N, B>>,
+    one: Option<FreePass<N, B>>,
+) -> Vec<FreePass<N, B>>
+    requires { vec_len free + count_of one ≤ vec_capacity free }
+    ensures { vec_len result ≡ vec_len free + count_of one }
+{
+    let mut free = free;
+    if let Some(pass) = one {
+        put_free(&mut free, pass);
+    }
+    free
+}
+
+/// A pass is free. There is room for it.
+pub(crate) fn put_free<N: Named, B: Given>(passes: &mut Vec<FreePass<N, B>>, free: FreePass<N, B>)
+    requires { vec_len passes.old < vec_capacity passes.old }
+    ensures items { passes.new.items ≡ passes.old.items ++ free ∷ [] }
+    ensures count { vec_len passes.new ≡ vec_len passes.old + 1 }
+    ensures spare { vec_capacity passes.old ≤ vec_capacity passes.new }
+{
+    let Ok(()) = passes.push(free) else {
+        unreachable!()
+    };
 }

@@ -3,7 +3,7 @@ ghost use Rattle.lz_serve.specs.LineSessions.{LinesAreSessions};
 ghost use Rattle.lz_serve.specs.OwnLines.{OwnLinesArePlain};
 
 /// What a connection is told of keys that nobody else changes is what a plain set tells, in the order of its lines, whatever it pipelines and
-/// by whatever passes.
+/// by whatever passes. A loop and a thread's pass grant each connection its replies so, those for one key in turn.
 pub fn own_lines_are_plain()
     ensures { OwnLinesArePlain }
 {}

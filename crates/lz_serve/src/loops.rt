@@ -211,7 +211,7 @@ impl<'a, D: Disk, G: StepGate, N: Named, R: Wait + Clock + AllocGlobal, O: Obser
         desk: Desk<Socket<'a>, N, B>,
         share: Vec<FreePass<N, B>>,
     ) -> Vec<FreePass<N, B>>
-        requires { (desk.given ≡ 0) × (vec_len share ≤ desk.most) }
+        requires { (desk.given ≡ 0) × (desk.free ≡ 0) × (vec_len share ≤ desk.most) }
         ensures { vec_len result ≡ vec_len share }
     {
         let Loop {

@@ -1,5 +1,7 @@
 //! The thread of a pass, which serves one connection after the other.
 ghost use Rattle.std.specs.Prelude.{◌≡◌, vec_len};
+ghost use Rattle.lz_list.specs.Traces.{Begins};
+ghost use Rattle.lz_board.specs.Seats.{part};
 ghost use Rattle.lz_serve.specs.Grants.{Promises};
 
 use crate::client::Client;
@@ -142,7 +144,7 @@ impl<'a, D: Disk, G: StepGate, N: Named, R: Wait + Clock + AllocGlobal, O: Obser
 }
 
 /// Answers a client's requests by this pass, each before the next begins, and sends each reply before that: up to the end of the client's
-/// text, `quit`, a reply that the service halted, or the end of the service.
+/// text, `quit`, a reply that the service halted, or the end of the service. The pass has seen what those had that answered the client.
 pub fn serve_client<S, D, G, N, B, R, O>(
     rt: &R,
     set: &Set<D, G, N>,
@@ -158,7 +160,8 @@ where
     B: Given,
     R: Wait + Clock,
     O: Observer,
-    requires { Promises N.board N.format S.promised }
+    requires promised { Promises N.board N.format S.promised }
+    requires seen { Begins client.old.seen (part free.old.pass).known }
 {
     let mut buffer = [0; MOST_PIECE];
     'turns: for _ in rt.forever() {
@@ -173,12 +176,13 @@ where
                 let verb = Verb::of(&question.request());
                 let granted = free.answer(rt, set, question);
                 observer.answered(verb, granted.reply());
-                client.reply(granted);
+                client.reply(granted, free.pass());
                 client.write();
             }
             None if client.is_over() => return,
             None => {
                 let _ = client.read(&mut buffer, false);
+                client.tell_texts();
             }
         }
     }

@@ -1,5 +1,8 @@
 //! The place of one connection.
-ghost use Rattle.std.specs.Prelude.{◌≡◌, IfSome};
+ghost use Rattle.std.specs.Prelude.{◌≡◌, ℕ, IfSome, None, Some};
+ghost use Rattle.lz_list.specs.Traces.{Begins};
+ghost use Rattle.lz_board.specs.Seats.{part};
+ghost use Rattle.lz_serve.specs.Clients.{HasSeenIn, IsAskedBy, IsOwnOf, KeepsOwn, KeepsSeen};
 ghost use Rattle.lz_serve.specs.Grants.{Promises};
 
 use crate::asking::Granted;
@@ -24,6 +27,16 @@ pub(crate) enum Wish {
     Close,
 }
 
+/// What a turn gave.
+#[derive(Drop)]
+pub(crate) struct Turn {
+    pub(crate) question: Option<Question>,
+    /// It has one more line for a pass, and waits for its turn again.
+    pub(crate) is_next: bool,
+    /// It is to be tended to, and wasn't noted for that yet.
+    pub(crate) is_back: bool,
+}
+
 /// The place of one connection.
 #[derive(Drop)]
 pub(crate) struct Place<S: Stream> {
@@ -45,7 +58,9 @@ pub(crate) struct Place<S: Stream> {
 }
 
 impl<S: Stream> Place<S> {
-    pub(crate) fn empty() -> Place<S> {
+    pub(crate) fn empty() -> Place<S>
+        ensures { result.client ≡ None }
+    {
         Place {
             client: None,
             readable: false,
@@ -59,7 +74,9 @@ impl<S: Stream> Place<S> {
     }
 
     /// Takes a client in that is new, in this millisecond.
-    pub(crate) fn admit(&mut self, client: Client<S>, now: u64) {
+    pub(crate) fn admit(&mut self, client: Client<S>, now: u64)
+        ensures { self.new.client ≡ Some client }
+    {
         self.client = Some(client);
         self.readable = true;
         self.ends = false;
@@ -71,20 +88,27 @@ impl<S: Stream> Place<S> {
     }
 
     /// Hands a reply to its client, if that is still the one whose line was answered, and says whether this has one for a pass and
-    /// didn't wait for its turn.
-    pub(crate) fn reply<N: Named>(&mut self, granted: Granted<N>, now: u64) -> bool
-        requires { Promises N.board N.format S.promised }
+    /// didn't wait for its turn. This pass has seen what those had that answered the client, this reply included.
+    pub(crate) fn reply<N: Named>(&mut self, granted: Granted<N>, pass: &Pass, now: u64) -> bool
+        requires promised { Promises N.board N.format S.promised }
+        requires own { IsOwnOf self.old.client granted.question }
+        requires seen { IfSome self.old.client (λ client. Begins client.seen (part pass.now).known) }
+        requires after { Begins (part granted.after).known (part pass.now).known }
+        ensures kept { KeepsOwn self.old.client self.new.client }
+        ensures seen { (admitted : ℕ) → HasSeenIn admitted (part pass.now).known self.old.client → HasSeenIn admitted (part pass.now).known self.new.client }
     {
         let Some(client) = &mut self.client else {
             return false;
         };
-        client.reply(granted);
+        client.reply(granted, pass);
         self.moved = now;
         self.may_ask() && self.queue()
     }
 
     /// Its connection can be read or written. One whose session is over is waited for no longer because of that.
-    pub(crate) fn hear(&mut self, ends: bool, now: u64) {
+    pub(crate) fn hear(&mut self, ends: bool, now: u64)
+        ensures { self.new.client ≡ self.old.client }
+    {
         self.readable = true;
         self.ends = self.ends || ends;
         if !self.leaves {
@@ -93,24 +117,50 @@ impl<S: Stream> Place<S> {
     }
 
     /// Notes that it waits for its turn, and says whether it didn't.
-    pub(crate) fn queue(&mut self) -> bool {
+    pub(crate) fn queue(&mut self) -> bool
+        ensures { self.new.client ≡ self.old.client }
+    {
         let was_queued = self.queued;
         self.queued = true;
         !was_queued
     }
 
     /// Notes that it is to be tended to, and says whether it wasn't.
-    pub(crate) fn give_back(&mut self) -> bool {
+    pub(crate) fn give_back(&mut self) -> bool
+        ensures { self.new.client ≡ self.old.client }
+    {
         let was_back = self.back;
         self.back = true;
         !was_back
     }
 
-    /// Its client's question to this pass, whose turn it is, if it has one.
-    pub(crate) fn take_turn(&mut self, pass: &Pass) -> Option<Question>
-        ensures { IfSome result (λ question. question.before ≡ pass.now) }
+    /// Its client's turn: its question to this pass, if it has one. The pass has seen what those had that answered the client.
+    pub(crate) fn take_turn(&mut self, pass: &Pass) -> Turn
+        requires { IfSome self.old.client (λ client. Begins client.seen (part pass.now).known) }
+        ensures before { IfSome result.question (λ question. question.before ≡ pass.now) }
+        ensures asked { IfSome result.question (λ question. IsAskedBy self.new.client question) }
+        ensures kept { KeepsOwn self.old.client self.new.client }
+        ensures seen { KeepsSeen self.old.client self.new.client }
     {
         self.queued = false;
+        let question = self.ask(pass);
+        let is_next = self.may_ask() && self.queue();
+        let is_back = question.is_none() && self.give_back();
+        Turn {
+            question,
+            is_next,
+            is_back,
+        }
+    }
+
+    // Its client's next question, if it has one.
+    fn ask(&mut self, pass: &Pass) -> Option<Question>
+        requires { IfSome self.old.client (λ client. Begins client.seen (part pass.now).known) }
+        ensures before { IfSome result (λ question. question.before ≡ pass.now) }
+        ensures asked { IfSome result (λ question. IsAskedBy self.new.client question) }
+        ensures kept { KeepsOwn self.old.client self.new.client }
+        ensures seen { KeepsSeen self.old.client self.new.client }
+    {
         self.client.as_mut()?.ask(pass)
     }
 
@@ -124,17 +174,25 @@ impl<S: Stream> Place<S> {
 
     /// Its client's question to this pass that waits, if one does. Where none does it is read once more.
     pub(crate) fn take_last(&mut self, pass: &Pass, buffer: &mut [u8]) -> Option<Question>
-        ensures { IfSome result (λ question. question.before ≡ pass.now) }
+        requires { IfSome self.old.client (λ client. Begins client.seen (part pass.now).known) }
+        ensures before { IfSome result (λ question. question.before ≡ pass.now) }
+        ensures asked { IfSome result (λ question. IsAskedBy self.new.client question) }
+        ensures kept { KeepsOwn self.old.client self.new.client }
+        ensures seen { KeepsSeen self.old.client self.new.client }
     {
         let client = self.client.as_mut()?;
         if !client.waits() {
             let _ = client.read(buffer, self.ends);
+            client.tell_texts();
         }
         client.ask(pass)
     }
 
-    /// Does for its client what needs no pass. Among many that wait (`crowded`), replies of one whose lines wait go out together.
-    pub(crate) fn tend(&mut self, buffer: &mut [u8], crowded: bool) -> Wish {
+    /// Does for its client what needs no pass, in this millisecond. Among many that wait (`crowded`), replies of one whose lines wait go out
+    /// together.
+    pub(crate) fn tend(&mut self, buffer: &mut [u8], crowded: bool, now: u64) -> Wish
+        ensures { self.new.client ≡ self.old.client }
+    {
         self.back = false;
         let Some(client) = &mut self.client else {
             return Wish::Nothing;
@@ -151,6 +209,7 @@ impl<S: Stream> Place<S> {
                 break;
             }
             self.readable = client.read(buffer, self.ends);
+            client.tell_texts();
         }
         // What was told of the pieces that were read.
         if !holds_back {
@@ -158,6 +217,7 @@ impl<S: Stream> Place<S> {
         }
         if client.is_over() || self.parts && !client.has_unsent() {
             self.leaves = true;
+            self.moved = now;
             client.leave();
             return see_off(client, buffer);
         }
@@ -172,14 +232,11 @@ impl<S: Stream> Place<S> {
     }
 
     /// Its session is to end once all is sent, whatever waits.
-    pub(crate) fn part(&mut self) {
+    pub(crate) fn part(&mut self)
+        ensures { self.new.client ≡ self.old.client }
+    {
         self.parts = true;
         self.queued = false;
-    }
-
-    /// Its session has ended in this millisecond.
-    pub(crate) fn end(&mut self, now: u64) {
-        self.moved = now;
     }
 
     /// Whether an earlier line of its client isn't answered.
@@ -210,7 +267,9 @@ impl<S: Stream> Place<S> {
     }
 
     /// Closes its connection, and says whether there was one.
-    pub(crate) fn close(&mut self) -> bool {
+    pub(crate) fn close(&mut self) -> bool
+        ensures { self.new.client ≡ None }
+    {
         let was_taken = self.client.is_some();
         self.client = None;
         self.queued = false;
@@ -221,7 +280,9 @@ impl<S: Stream> Place<S> {
 
 // Throws away what a client sends after its session's end: a connection that is closed over unread bytes is reset, and the client
 // may lose its last replies.
-fn see_off<S: Stream>(client: &mut Client<S>, buffer: &mut [u8]) -> Wish {
+fn see_off<S: Stream>(client: &mut Client<S>, buffer: &mut [u8]) -> Wish
+    ensures { client.new ≡ client.old }
+{
     for _ in 0..MOST_READS {
         match client.pass_over(buffer) {
             Some(true) => {}

@@ -3,6 +3,7 @@ ghost use Rattle.std.specs.Prelude.{◌≡◌, ◌≤◌, ◌+◌, [], IfOk, tru
 ghost use Rattle.std.specs.List.{Any};
 ghost use Rattle.lz_board.specs.Seats.{part};
 ghost use Rattle.lz_set.specs.Names.{MayCall};
+ghost use Rattle.lz_serve.specs.Clients.{Keeps};
 ghost use Rattle.lz_serve.specs.Grants.{Promises};
 ghost use Rattle.lz_serve.specs.Halts.{IsCalm, IsCalmAfter, SawHalt};
 
@@ -125,7 +126,7 @@ fn make_desk<S: Stream, N: Named, B: Given>(
     passes: usize,
     clients: usize,
 ) -> Result<Rooms<S, N, B>, AllocError>
-    ensures desk { IfOk result (λ made. (made.0.given ≡ 0) × (made.0.most ≡ passes)) }
+    ensures desk { IfOk result (λ made. (made.0.given ≡ 0) × (made.0.free ≡ 0) × (made.0.most ≡ passes)) }
     ensures free { IfOk result (λ made. (vec_len made.1 ≡ 0) × (passes ≤ vec_capacity made.1)) }
     ensures done { IfOk result (λ made. (vec_len made.2 ≡ 0) × (passes ≤ vec_capacity made.2)) }
 {
@@ -140,9 +141,9 @@ pub(crate) fn take_in_all<S: Stream, N: Named, B: Given>(
     desk: Desk<S, N, B>,
     passes: Vec<FreePass<N, B>>,
 ) -> Desk<S, N, B>
-    requires empty { desk.given ≡ 0 }
+    requires empty { (desk.given ≡ 0) × (desk.free ≡ 0) }
     requires desk { vec_len passes ≤ desk.most }
-    ensures { result.given ≡ vec_len passes }
+    ensures { (result.given ≡ vec_len passes) × (result.free ≡ vec_len passes) }
 {
     let mut desk = desk;
     for free in passes {
@@ -202,7 +203,7 @@ where
     P: Poller,
     requires promised { Promises N.board N.format P.Stream.promised }
     ensures given { desk.new.given ≡ desk.old.given }
-    ensures rests { vec_len desk.new.free ≡ desk.new.given }
+    ensures rests { desk.new.free ≡ desk.new.given }
 {
     let mut buffer = [0; MOST_PIECE];
     let mut ready = Vec::new(rt.alloc());
@@ -263,6 +264,7 @@ where
     O: Observer,
     P: Poller,
     requires { P.Stream.promised [] }
+    ensures { Keeps crowd.old crowd.new }
 {
     for _ in 0..crowd.most() {
         if poller.is_over() {
@@ -295,6 +297,7 @@ fn listen<R, P>(
 where
     R: Clock,
     P: Poller,
+    ensures { Keeps crowd.old crowd.new }
 {
     ready.clear();
     poller.poll(patience, ready);
@@ -318,6 +321,7 @@ fn take_leave<R, P>(
 where
     R: Clock,
     P: Poller,
+    ensures { Keeps crowd.old crowd.new }
 {
     crowd.part_all(buffer);
     let patience = Duration::from_millis(FAREWELL_TURN);

@@ -61,7 +61,7 @@ impl<'a, D: Disk, G: StepGate, N: Named, R: Wait + Clock + AllocGlobal, O: Obser
         desk: Option<Desk<Socket<'a>, N, B>>,
         share: Vec<FreePass<N, B>>,
     ) -> Vec<FreePass<N, B>>
-        requires { IfSome desk (λ d. (d.given ≡ 0) × (vec_len share ≤ d.most)) }
+        requires { IfSome desk (λ d. (d.given ≡ 0) × (d.free ≡ 0) × (vec_len share ≤ d.most)) }
         ensures { vec_len result ≡ vec_len share }
     {
         match (self, desk) {
@@ -90,7 +90,7 @@ where
     O: Observer + Sync,
     requires may_call { All (MayCall N.board) passes.items }
     requires calm { All (IsCalmAfter B.parts) passes.items }
-    requires desk { IfSome desk (λ d. (d.given ≡ 0) × (vec_len passes ≤ d.most)) }
+    requires desk { IfSome desk (λ d. (d.given ≡ 0) × (d.free ≡ 0) × (vec_len passes ≤ d.most)) }
     ensures may_call { All (MayCall N.board) result.passes.items }
     ensures count { vec_len result.passes ≡ vec_len passes }
     ensures unserved { result.unserved ≡ true → result.passes.items ≡ passes.items }
@@ -111,7 +111,7 @@ where
         thread::scope_env(),
         rt,
         move |scope| -> Vec<FreePass<N, B>>
-            requires desk { IfSome desk (λ d. (d.given ≡ 0) × (vec_len free ≤ d.most)) }
+            requires desk { IfSome desk (λ d. (d.given ≡ 0) × (d.free ≡ 0) × (vec_len free ≤ d.most)) }
             requires back { (vec_len back ≡ 0) × (vec_len free ≤ vec_capacity back) }
             requires threads { (threads.items ≡ []) × (vec_len others ≤ vec_capacity threads) }
             ensures { vec_len result ≡ vec_len free }

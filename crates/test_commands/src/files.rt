@@ -17,7 +17,7 @@ use test_support::{ENDS, FAILINGS, Failing, set_failing};
 // Makes a file of two slots on the device over this one, and hands the file back.
 fn make_over<F: Disk>(alloc: Global, printed: &mut Vec<u8>, file: F) -> (Status, F)
     ensures { IsTrue (F.device file).honest
-        → (t : List ℕ) → (F.device result.1).left_since (F.device file).moment t → IsImage (F.device file).medium t ⊎ IsUnmadeOrHolds 2 (members []) t }
+        → (t : List ℕ) → (F.device result.1).left_since (F.device file).moment t → IsImage (F.device file).medium t ⊎ IsUnmadeOrHolds Format.One 2 (members []) t }
 {
     let mut disk = FileDisk::over(file);
     disk.gather(alloc);

@@ -2,7 +2,7 @@
 ghost use Rattle.std.specs.Prelude.{◌≡◌, ◌≢◌, ◌≤◌, ◌<◌, length};
 ghost use Rattle.lz_serve.specs.Streams.{counted, sent};
 
-use lz_serve::{Poller, Ready, Received, Stream, Taken};
+use lz_serve::{Language, Poller, Ready, Received, Stream, Taken};
 use std::alloc::Global;
 use std::cell::RefCell;
 use std::io;
@@ -96,6 +96,10 @@ impl<'a> Stream for Wire<'a> {
     ghost traffic = { λ _. None };
 
     ghost promised = { λ _. ⊤ };
+
+    fn language(&self) -> Language {
+        Language::Lines
+    }
 
     fn receive(&mut self, buffer: &mut [u8]) -> Received {
         match self.network.try_borrow_mut() {

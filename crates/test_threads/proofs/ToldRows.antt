@@ -15,7 +15,7 @@ use Rattle.lz_proto.proofs.LineReads.{item_read}
 use Rattle.lz_proto.proofs.Texts.{only}
 use Rattle.lz_board.specs.Seats.{BoardId}
 use Rattle.lz_serve.specs.LineSessions.{IsGranted}
-use Rattle.lz_serve.specs.Grants.{Grant, IsGrant, IsOfLine}
+use Rattle.lz_serve.specs.Grants.{Grant, IsAfter, IsGrant, IsOfLine}
 use Rattle.test_threads.specs.Tapes.{IsTold}
 
 abbrev text : List ℕ
@@ -32,7 +32,7 @@ half_is_sent b F g granted of =
       more = [];
       its = its;
       grants = g ∷ [];
-      granted = All-cons (IsGrant b F) g [] granted (All-nil (IsGrant b F));
+      granted = (All-cons (IsGrant b F) g [] granted (All-nil (IsGrant b F)), (All-nil (IsAfter g), tt));
       rest = codes "s\n";
       ended = Done;
       connection = 3;

@@ -1,8 +1,8 @@
 -- A tape goes on: what has come of its text, and what was sent.
-use Rattle.std.proofs.Common.{◌≡◌, ◌+◌, ℕ, All, Bool, true, false, List, [], ◌++◌, length, take, drop, Option, Some, None, is_none, refl, sym, ap, subst, ◌∙◌, arith, append_assoc}
+use Rattle.std.proofs.Common.{◌≡◌, ◌+◌, ℕ, Bool, true, false, List, [], ◌++◌, length, take, drop, Option, Some, None, is_none, refl, sym, ap, subst, ◌∙◌, arith, append_assoc}
 use Rattle.std.proofs.Math.Seq.{take-add}
 use Rattle.std.proofs.lemmas.List.{drop_all, take-append-drop, take_all, take_at}
-use Rattle.std.proofs.lemmas.List.Elements.{All-nil, All-push}
+use Rattle.std.proofs.lemmas.List.Elements.{All-nil}
 use Rattle.lz_slot.specs.declared.format.Format.{Format}
 use Rattle.lz_proto.specs.declared.item.Item.{Item}
 use Rattle.lz_proto.specs.declared.end.End.TheVariants.{Done}
@@ -15,13 +15,9 @@ use Rattle.lz_serve.specs.declared.reader.Reader.{Reader}
 use Rattle.lz_serve.specs.declared.reader.Reader.TheVariants as reader
 use Rattle.lz_serve.specs.LineSessions.{IsGranted, LinesCame}
 use Rattle.lz_serve.proofs.LineSessions.{lines_are_sessions}
-use Rattle.lz_serve.specs.Grants.{IsGrant, Promises}
+use Rattle.lz_serve.specs.Grants.{AreGranted, IsGrant}
 use Rattle.lz_serve.specs.Streams.{MayTake, Traffic}
 use Rattle.test_threads.specs.Tapes.{IsTape}
-
--- each of some grants is one, and of these with one more
-pub promises : (b : BoardId) (F : Format) → Promises b F (All (IsGrant b F))
-promises b F = (All-nil (IsGrant b F), λ grants g all granted. All-push (IsGrant b F) grants g all granted)
 
 -- nothing has come and nothing was sent
 pub begun : (b : BoardId) (F : Format) (text : List ℕ) → IsTape b F text 0 false []
@@ -35,7 +31,7 @@ begun b F text =
         more = some.0;
         its = some.1;
         grants = [];
-        granted = All-nil (IsGrant b F);
+        granted = (All-nil (IsGrant b F), tt);
         rest = [];
         ended = Done;
         connection = 0;
@@ -59,8 +55,8 @@ read_on old text sent piece after read count ended is whole some cut long =
     let goes = going ended text read whole some in
     let came : take (read + count) text ≡ take read text ++ take count (piece ++ after) =
     take-add read count text ∙ ap (λ (x : List ℕ). take read text ++ x) (sym cut ∙ sym (take_at piece after count long)) in
-    subst (λ (o : Traffic). (o.ended ≡ false) × (Some (traffic (take (read + count) text) ended sent) ≡ Some (traffic (o.received ++ take count (piece ++ after)) false o.taken))) is
-    (goes, ap (λ (x : List ℕ). Some (traffic x ended sent)) came ∙ ap (λ (x : Bool). Some (traffic (take read text ++ take count (piece ++ after)) x sent)) goes)
+    subst (λ (o : Traffic). (o.ended ≡ false) × (Some (traffic (take (read + count) text) ended sent) ≡ Some (record o { received = o.received ++ take count (piece ++ after) }))) is
+    (goes, ap (λ (x : List ℕ). Some (traffic x ended sent)) came)
 
 -- the items of what has come are the text's first ones
 first_items : (ended : Bool) (text : List ℕ) (read : ℕ) (done later : List Item) (r : Option Reader) → (ended ≡ true → read ≡ length text) → is_none r ≡ ended → LinesCame (take read text) (done ++ later) r → (more : List Item) × Items text (done ++ more)
@@ -81,12 +77,12 @@ sent_on sent text rest count =
 
 -- a beginning was sent of what might be
 pub told_on : (b : BoardId) (F : Format) (old : Traffic) (text sent piece new : List ℕ) (read count : ℕ) (ended : Bool) → traffic (take read text) ended sent ≡ old → IsTape b F text read ended sent
-    → MayTake (All (IsGrant b F)) (Some old) piece → new ≡ sent ++ take count piece → IsTape b F text read ended new
+    → MayTake (AreGranted b F) (Some old) piece → new ≡ sent ++ take count piece → IsTape b F text read ended new
 told_on b F old text sent piece new read count ended is tape may longer =
-    let may : MayTake (All (IsGrant b F)) (Some (traffic (take read text) ended sent)) piece = subst (λ (o : Traffic). MayTake (All (IsGrant b F)) (Some o) piece) (sym is) may in
+    let may : MayTake (AreGranted b F) (Some (traffic (take read text) ended sent)) piece = subst (λ (o : Traffic). MayTake (AreGranted b F) (Some o) piece) (sym is) may in
     by_talk may
   where
-    by_talk : MayTake (All (IsGrant b F)) (Some (traffic (take read text) ended sent)) piece → IsTape b F text read ended new
+    by_talk : MayTake (AreGranted b F) (Some (traffic (take read text) ended sent)) piece → IsTape b F text read ended new
     by_talk (connection, t, (grants, granted, at, spoken, goes), rest, is_rest) =
         let s = lines_are_sessions connection grants (take read text) sent t spoken at in
         let first = first_items ended text read s.done s.left t.reader tape.whole goes s.came in

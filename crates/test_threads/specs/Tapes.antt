@@ -1,5 +1,5 @@
 -- What may have been sent to a client whose text is known.
-use Rattle.std.specs.Prelude.{◌≡◌, ◌≤◌, ℕ, All, Bool, true, List, [], ◌++◌, length}
+use Rattle.std.specs.Prelude.{◌≡◌, ◌≤◌, ℕ, Bool, true, List, [], ◌++◌, length}
 use Rattle.lz_slot.specs.declared.format.Format.{Format}
 use Rattle.lz_proto.specs.declared.item.Item.{Item}
 use Rattle.lz_proto.specs.declared.end.End.{End}
@@ -7,16 +7,16 @@ use Rattle.lz_proto.specs.Lines.{Items}
 use Rattle.lz_proto.specs.Sessions.{Answered}
 use Rattle.lz_board.specs.Seats.{BoardId}
 use Rattle.lz_serve.specs.LineSessions.{IsGranted}
-use Rattle.lz_serve.specs.Grants.{Grant, IsGrant}
+use Rattle.lz_serve.specs.Grants.{AreGranted, Grant}
 
 -- It is a beginning of what the client is told of the first items of its text: each request was
--- granted its reply, as the line of its number on one connection, by a pass of this board.
+-- granted its reply, as the line of its number on one connection, by a pass of this board, those for one key in turn.
 pub record IsTold (b : BoardId) (F : Format) (text sent : List ℕ) : Type 0 where
   pub items : List Item
   pub more : List Item
   pub its : Items text (items ++ more)
   pub grants : List Grant
-  pub granted : All (IsGrant b F) grants
+  pub granted : AreGranted b F grants
   pub rest : List ℕ
   pub ended : End
   pub connection : ℕ

@@ -9,8 +9,8 @@ ghost use Rattle.lz_set.specs.Names.{MayCall};
 use lz_disk::MemoryDisk;
 use lz_proto::Reply;
 use lz_serve::{
-    Client, FreePass, Given, Lack, Language, Listener, Observer, Received, Serving, Stream, Taken, Verb,
-    serve_client,
+    Client, FreePass, Given, Lack, Language, Listener, Observer, Received, Serving, Stream, Taken,
+    Verb, serve_client,
 };
 use lz_set::{Blank, Fault, Named, NoGate, Pass, Set};
 use lz_slot::Key;
@@ -84,14 +84,16 @@ impl<'a, N: Named> Tape<'a, N> {
 }
 
 impl<'a, N: Named> Stream for Tape<'a, N> {
-    ghost use Rattle.std.specs.Prelude.{All, Some};
-    ghost use Rattle.lz_serve.specs.Grants.{IsGrant};
+    ghost use Rattle.std.specs.Prelude.{Some};
+    ghost use Rattle.lz_serve.specs.Grants.{AreGranted};
 
     ghost traffic = { λ t. Some t };
 
-    ghost promised = { All (IsGrant N.board N.format) };
+    ghost promised = { AreGranted N.board N.format };
 
     fn language(&self) -> Language {
+        // What its contract sees is known where a field is read.
+        let _ended = self.ended;
         Language::Lines
     }
 

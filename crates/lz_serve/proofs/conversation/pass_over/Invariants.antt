@@ -2,4 +2,4 @@ use Rattle.std.specs.Prelude.{◌≡◌, drop}
 use Rattle.lz_serve.proofs.conversation.pass_over.Given as goal
 
 abbrev pub invariant-loop : goal.invariant-loop
-invariant-loop l = l.under.items ≡ drop l.counter l.fn.under.items
+invariant-loop g l = l.queue.items ≡ drop l.counter l.fn.queue.items

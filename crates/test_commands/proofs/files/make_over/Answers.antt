@@ -1,4 +1,5 @@
 use Rattle.std.proofs.Common.{◌⊎◌, ◌∙◌, IsTrue, List, ℕ, [], subst, sym}
+use Rattle.lz_slot.specs.declared.format.Format.TheVariants.{One}
 use Rattle.lz_slot.specs.Sets.{members}
 use Rattle.lz_disk.specs.Images.{Medium, IsImage}
 use Rattle.lz_disk.specs.FileDisks.{device_over, waiting_of}
@@ -11,4 +12,4 @@ returns g c = λ honest t left.
     let begun = c.make_on-status.ensures.any_moment (subst IsTrue (sym (c.gather.ensures.honest ∙ c.over-disk.ensures.honest)) honest) in
     let then = subst (λ (n : ℕ). (device_over (g.F.Disk.device disk.file) (waiting_of disk.gathered) disk.unsynced.writes disk.calls.count).left_since n t)
     (sym (c.gather.ensures.moment ∙ c.over-disk.ensures.moment)) (c.into_file.ensures.left _ t left) in
-    subst (λ (m : Medium). IsImage m t ⊎ IsUnmadeOrHolds 2 (members []) t) (c.gather.ensures.medium ∙ c.over-disk.ensures.medium) (begun.each t then)
+    subst (λ (m : Medium). IsImage m t ⊎ IsUnmadeOrHolds One 2 (members []) t) (c.gather.ensures.medium ∙ c.over-disk.ensures.medium) (begun.each t then)

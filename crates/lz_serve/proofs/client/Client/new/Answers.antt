@@ -1,7 +1,10 @@
-use Rattle.std.proofs.Common.{◌≡◌, IsSome, refl, sym, subst}
+use Rattle.std.proofs.Common.{◌≡◌, List, [], IsSome, refl, ap, sym, subst}
+use Rattle.lz_board.specs.declared.pass.Pass.{Pass}
 use Rattle.lz_serve.specs.declared.language.Language.{Language}
+use Rattle.lz_serve.specs.Clients.{passes_of}
 use Rattle.lz_serve.specs.Conversations.{Talk, nothing_yet}
-use Rattle.lz_serve.specs.Lines.{AreEarned}
+use Rattle.lz_serve.specs.Lines.{AreBefore}
+use Rattle.lz_serve.proofs.LinesUnderWay.{none_before, none_earned}
 use Rattle.lz_serve.proofs.TalksOnStreams.{begins}
 use Rattle.lz_serve.proofs.client.Client.new.Goals as goal
 
@@ -10,8 +13,12 @@ some spoken = refl
 
 pub invariant_of-result : goal.invariant_of-result
 invariant_of-result g c =
-    let nothing = c.new.ensures in (
+    let nothing = c.new.ensures in
+    let new = c.new.result in
+    let P = g.S.Stream.promised in
+    let puts : List Pass = passes_of c.new-2.result.items in
+    let none : puts ≡ [] = ap passes_of c.new-2.ensures.items in (
       λ going. subst (λ (t : Talk). IsSome t.reader) (sym nothing) (some c.language-language.result),
-      subst (λ (t : Talk). AreEarned g.S.Stream.promised c.args.number t.told t.under) (sym nothing) tt,
-      λ kept. begins g.S.Stream.promised c.args.number (g.S.Stream.traffic c.args.stream) c.language-language.result c.new.result c.requires.fresh c.requires.promised nothing c.language-language.ensures,
+      none_earned P c.args.number [] new.told new.under puts (ap (λ (t : Talk). t.under) nothing) none,
+      λ kept. begins (AreBefore P [] new.under puts) c.args.number (g.S.Stream.traffic c.args.stream) c.language-language.result new c.requires.fresh (none_before P [] new.under puts c.requires.promised) nothing c.language-language.ensures,
     )

@@ -1,34 +1,90 @@
-use Rattle.std.proofs.Common.{◌≡◌, ◌-◌, suc, slice_set, rules, ap, sym, subst, ◌∙◌}
-use Rattle.std.specs.Prelude.{IsSome, Option}
+use Rattle.std.proofs.Common.{◌≡◌, ◌-◌, Bool, false, ℕ, ◌<◌, IsSome, Option, Some, suc, slice_get, slice_set, refl, rules, ap, sym, subst, ◌∙◌}
+use Rattle.lz_list.specs.Traces.{Begins}
+use Rattle.lz_board.specs.declared.pass.Pass.{Pass}
+use Rattle.lz_board.specs.Seats.{part}
 use Rattle.lz_serve.specs.declared.reader.Reader.{Reader}
-use Rattle.lz_serve.specs.Grants.{IsOfLine, Posed}
+use Rattle.lz_serve.specs.Clients.{Asker, IsOwn, passes_of, seen_by}
 use Rattle.lz_serve.specs.Conversations.{Talk}
-use Rattle.lz_serve.specs.Lines.{IsEarned, replied}
-use Rattle.lz_serve.proofs.LinesUnderWay.{earned_same, earned_there}
-use Rattle.lz_serve.proofs.TalksOnStreams.{noted}
+use Rattle.lz_serve.specs.Grants.{IsOfLine, Posed}
+use Rattle.lz_serve.specs.Lines.{AreBefore, AreEarned, replied}
+use Rattle.lz_serve.specs.Streams.{IsTalkOf}
+use Rattle.lz_serve.proofs.LinesUnderWay.{before_noted, before_same, before_seen, earned_same, earned_seen, earned_there}
+use Rattle.lz_serve.proofs.TalksOnStreams.{known_so, noted as noted_there}
 use Rattle.lz_serve.proofs.client.Client.reply.Goals as goal
 
 pub invariant_of-self : goal.invariant_of-self
 invariant_of-self g c =
     let was = c.self.invariant in
-    let old = c.self.inside.talk in
+    let from = c.self.inside in
+    let t = from.talk in
+    let P = g.S.Stream.promised in
+    let seen = seen_by from.seen in
+    let now = (part c.of.result.value).known in
+    let puts = passes_of from.puts.items in
+    let more : Begins seen now = subst (λ (p : Pass). Begins seen (part p).known) (sym c.of.ensures) (subst (λ (a : Asker). Begins a.seen (part c.args.pass.now).known) (sym c.self.view_is) c.requires.seen) in (
+      was.0,
+      earned_seen P from.connection seen now t.told t.under puts more was.1,
+      λ kept.
+          known_so (AreBefore P seen t.under puts) from.connection (AreBefore P now t.under puts) (g.S.Stream.traffic from.stream) t (λ grants so. before_seen P seen now t.under puts grants more so) (was.2 kept),
+    )
+
+pub invariant_of-self-else-note : goal.invariant_of-self-else-note
+invariant_of-self-else-note g c =
+    let was = c.self.invariant in
+    let from = c.self.inside in
+    let old = from.talk in
+    let P = g.S.Stream.promised in
+    let seen = seen_by from.seen in
+    let now = (part c.of.result.value).known in
+    let puts = passes_of from.puts.items in
+    let traffic = g.S.Stream.traffic from.stream in
+    let more : Begins seen now = subst (λ (p : Pass). Begins seen (part p).known) (sym c.of.ensures) (subst (λ (a : Asker). Begins a.seen (part c.args.pass.now).known) (sym c.self.view_is) c.requires.seen) in
+    let Holds : Talk → Type 0 = λ t. (from.ended ≡ false → IsSome t.reader) × AreEarned P now from.connection t.told t.under puts × (from.lost ≡ false → IsTalkOf (AreBefore P now t.under puts) from.connection traffic t) in
+    subst Holds (sym (c.note.ensures.none c.if-note.false)) (
+      was.0,
+      earned_seen P from.connection seen now old.told old.under puts more was.1,
+      λ kept. known_so (AreBefore P seen old.under puts) from.connection (AreBefore P now old.under puts) traffic old (λ grants so. before_seen P seen now old.under puts grants more so) (was.2 kept),
+    )
+
+pub invariant_of-self-then-note : goal.invariant_of-self-then-note
+invariant_of-self-then-note g c =
+    let was = c.self.invariant in
+    let from = c.self.inside in
+    let old = from.talk in
     let new = c.note.new.self in
     let P = g.S.Stream.promised in
-    let connection = c.self.inside.connection in
+    let connection = from.connection in
+    let traffic = g.S.Stream.traffic from.stream in
+    let seen = seen_by from.seen in
+    let now = (part c.of.result.value).known in
+    let puts = passes_of from.puts.items in
     let granted = c.args.granted in
-    let line = replied c.request.result c.reply-reply.result in
-    let so = c.note.ensures.noted c.if-note.true in
+    let number = c.line.result in
+    let request = c.request.result in
+    let reply = c.reply-reply.result in
+    let noted = c.note.ensures.noted c.if-note.true in
     let asked = c.question-question.ensures in
-    let of : IsOfLine connection c.line.result c.request.result c.reply-reply.result granted =
+    let more : Begins seen now = subst (λ (p : Pass). Begins seen (part p).known) (sym c.of.ensures) (subst (λ (a : Asker). Begins a.seen (part c.args.pass.now).known) (sym c.self.view_is) c.requires.seen) in
+    let after : Begins (part granted.after).known now = subst (λ (p : Pass). Begins (part granted.after).known (part p).known) (sym c.of.ensures) c.requires.after in
+    let of : IsOfLine connection number request reply granted =
     record {
       of_connection = search (rules, asked, c.connection.ensures, c.if-connection-self.false);
       of_number = ap (λ (q : Posed). q.line) (sym asked) ∙ sym c.line.ensures;
       of_request = ap (λ (q : Posed). q.request) (sym asked) ∙ sym c.request.ensures.request;
       of_reply = sym c.reply-reply.ensures.reply;
     } in
-    let earned : IsEarned P connection c.line.result line = (granted, of, λ grants so. c.requires.promised grants so c.reply-reply.ensures.granted) in (
-      λ going. subst (λ (r : Option Reader). IsSome r) (sym (ap (λ (t : Talk). t.reader) so.1)) (was.0 going),
-      earned_same P connection old.told new.told (slice_set old.under (c.line.result - suc old.told) line) new.under (ap (λ (t : Talk). t.told) so.1) (ap (λ (t : Talk). t.under) so.1)
-          (earned_there P connection old.told c.line.result old.under line so.0.0 earned was.1),
-      λ kept. noted P connection (g.S.Stream.traffic c.self.inside.stream) c.line.result c.request.result c.reply-reply.result old new so (was.2 kept),
+    let own = subst (λ (a : Asker). IsOwn a granted.question) (sym c.self.view_is) c.requires.own of.of_connection in
+    let to : slice_get puts (number - suc old.told) ≡ Some granted.question.before =
+    subst (λ (n : ℕ). slice_get puts (n - suc old.told) ≡ Some granted.question.before) of.of_number (own.1 (subst (λ (n : ℕ). old.told < n) (sym of.of_number) noted.0.0)) in
+    let under : new.under ≡ slice_set old.under (number - suc old.told) (replied request reply) = ap (λ (t : Talk). t.under) noted.1 in (
+      λ going. subst (λ (r : Option Reader). IsSome r) (sym (ap (λ (t : Talk). t.reader) noted.1)) (was.0 going),
+      earned_same P connection now old.told new.told (slice_set old.under (number - suc old.told) (replied request reply)) new.under puts puts (ap (λ (t : Talk). t.told) noted.1) under refl
+          (earned_there P connection now request reply granted after (λ grants so later. c.requires.promised grants so c.reply-reply.ensures.granted later) old.told number old.under puts noted.0.0 of noted.0.1 to
+          (earned_seen P connection seen now old.told old.under puts more was.1)),
+      λ kept.
+          noted_there (AreBefore P now new.under puts) connection traffic number request reply old new noted
+          (known_so (AreBefore P seen old.under puts) connection (AreBefore P now new.under puts) traffic old
+          (λ grants so.
+          before_same P now (slice_set old.under (number - suc old.told) (replied request reply)) new.under puts puts grants under refl
+          (before_noted P seen now old.under puts (number - suc old.told) request reply grants more noted.0.1 so)) (was.2 kept)),
     )

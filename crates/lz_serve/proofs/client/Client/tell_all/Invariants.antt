@@ -1,8 +1,11 @@
-use Rattle.std.specs.Prelude.{◌≡◌}
+use Rattle.std.specs.Prelude.{◌≡◌, Some}
+use Rattle.lz_serve.specs.Clients.{KeepsOwn}
 use Rattle.lz_serve.proofs.client.Client.tell_all.Given as goal
 
-abbrev pub invariant-loop : goal.invariant-loop
-invariant-loop g l = (l.self.connection ≡ l.fn.self.connection) × (l.self.lines ≡ l.fn.self.lines)
-
-abbrev pub decreases-loop : goal.decreases-loop
-decreases-loop g l = l.self.turns
+abbrev pub invariant-turns : goal.invariant-turns
+invariant-turns g l = record {
+  connection : l.self.connection ≡ l.fn.self.connection;
+  lines : l.self.lines ≡ l.fn.self.lines;
+  kept : KeepsOwn (Some l.fn.self) (Some l.self);
+  seen : l.self.seen ≡ l.fn.self.seen;
+}

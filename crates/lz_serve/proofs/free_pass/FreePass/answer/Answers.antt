@@ -1,7 +1,7 @@
 use Rattle.std.proofs.Common.{◌≡◌, ap, sym, ◌∙◌}
 use Rattle.lz_serve.specs.Grants.{Posed}
 use Rattle.lz_serve.specs.Replies.{says_halted}
-use Rattle.lz_serve.proofs.FreePasses.{still_calm, still_saw}
+use Rattle.lz_serve.proofs.FreePasses.{grows_there, still_calm, still_saw}
 use Rattle.lz_serve.proofs.free_pass.FreePass.answer.Goals as goal
 
 pub invariant_of-self-else-says_halted : goal.invariant_of-self-else-says_halted
@@ -20,3 +20,17 @@ invariant_of-self-else-says_halted g c =
       seen = λ told. still_saw b F given back granted is from done.1 (c.args.self.now.seen told);
       calm = λ told. still_calm b F given back granted is from done.1 g.B.Given.parts c.grant-granted.ensures.may_call (c.args.self.now.calm told) quiet;
     }
+
+pub returns-then-says_halted-clause-grows : goal.returns-then-says_halted-clause-grows
+returns-then-says_halted-clause-grows g c =
+    let granted = c.grant-granted.result in
+    let done = c.grant-granted.ensures.granted in
+    let from : granted.question.before ≡ c.args.self.now.pass = ap (λ (q : Posed). q.before) done.0 ∙ c.requires in
+    grows_there g.N.Named.board g.N.Named.format c.args.self.now.pass c.grant-granted.new.pass granted c.reply-reply.ensures.granted from done.1
+
+pub returns-else-says_halted-clause-grows : goal.returns-else-says_halted-clause-grows
+returns-else-says_halted-clause-grows g c =
+    let granted = c.grant-granted.result in
+    let done = c.grant-granted.ensures.granted in
+    let from : granted.question.before ≡ c.args.self.now.pass = ap (λ (q : Posed). q.before) done.0 ∙ c.requires in
+    grows_there g.N.Named.board g.N.Named.format c.args.self.now.pass c.grant-granted.new.pass granted c.reply-reply.ensures.granted from done.1

@@ -1,0 +1,147 @@
+-- Clients at their places: what each operation on a place keeps.
+use Rattle.std.proofs.Common.{◌≡◌, ◌≤◌, ◌<◌, ◌+◌, inr, ℕ, zero, suc, All, List, [], ◌∷◌, Option, Some, None, IfSome, length, map, get_or, set, slice_get, refl, sym, ap, ◌∙◌, subst, arith}
+use Rattle.std.proofs.lemmas.List.Elements.{All-cons, All-head, All-nil, All-tail, All-weaker}
+use Rattle.std.proofs.lemmas.Option.{slice_get_read}
+use Rattle.lz_list.specs.Traces.{Trace, Begins}
+use Rattle.lz_serve.specs.Clients.{Asker, Askers, HasSeenIn, HaveSeenIn, IsAskedBy, IsAwaited, IsOwn, IsOwnOf, Keeps, KeepsAwaited, KeepsOwn, KeepsSeen}
+use Rattle.lz_serve.specs.Grants.{Posed}
+
+pub from_nothing : (known : Trace) → Begins [] known
+from_nothing [] = refl
+from_nothing (e ∷ known) = inr (from_nothing known)
+
+pub keeps_itself : (a : Askers) → Keeps a a
+keeps_itself a = record { awaited = λ token q is. is; seen = λ known are. are }
+
+pub keeps_same : (a b : Askers) → b ≡ a → Keeps a b
+keeps_same a b is = subst (Keeps a) (sym is) (keeps_itself a)
+
+pub keeps_then : (a b c : Askers) → Keeps a b → Keeps b c → Keeps a c
+keeps_then a b c one two = record { awaited = λ token q is. two.awaited token q (one.awaited token q is); seen = λ known are. two.seen known (one.seen known are) }
+
+-- a place whose client is the same, or has gone
+
+pub same_own : (old new : Option Asker) → new ≡ old → KeepsOwn old new
+same_own old new is q own = subst (λ (c : Option Asker). IsOwnOf c q) (sym is) own
+
+pub same_seen : (old new : Option Asker) → new ≡ old → KeepsSeen old new
+same_seen old new is admitted known seen = subst (HasSeenIn admitted known) (sym is) seen
+
+pub gone_own : (old new : Option Asker) → new ≡ None → KeepsOwn old new
+gone_own old new is q own = subst (λ (c : Option Asker). IsOwnOf c q) (sym is) tt
+
+pub gone_seen : (old new : Option Asker) → new ≡ None → KeepsSeen old new
+gone_seen old new is admitted known seen = subst (HasSeenIn admitted known) (sym is) tt
+
+-- what a client has seen, whatever its number
+pub only_seen : (admitted : ℕ) (known : Trace) (client : Option Asker) → HasSeenIn admitted known client → IfSome client (λ a. Begins a.seen known)
+only_seen admitted known None seen = tt
+only_seen admitted known (Some a) seen = seen.1
+
+module _ {X : Type 0} (f : X → Option Asker) where
+  client_there : (places : List X) (at : ℕ) (p : X) → slice_get places at ≡ Some p → slice_get (map f places) at ≡ Some (f p)
+  client_there [] at p is = absurd (cc)
+  client_there (x ∷ places) zero p is = let same : x ≡ p = cc in ap (λ (y : X). Some (f y)) same
+  client_there (x ∷ places) (suc at) p is = client_there places at p is
+
+  own_there : (places : List X) (at : ℕ) (old new : X) (token : ℕ) (q : Posed) → slice_get places at ≡ Some old → (token ≡ at → IsOwnOf (f old) q → IsOwnOf (f new) q) → IfSome (slice_get (map f places) token) (λ c. IsOwnOf c q)
+      → IfSome (slice_get (map f (set places at new)) token) (λ c. IsOwnOf c q)
+  own_there [] at old new token q is keeps own = absurd (cc)
+  own_there (p ∷ places) zero old new zero q is keeps own = let same : p ≡ old = cc in keeps refl (subst (λ (x : X). IsOwnOf (f x) q) same own)
+  own_there (p ∷ places) zero old new (suc token) q is keeps own = own
+  own_there (p ∷ places) (suc at) old new zero q is keeps own = own
+  own_there (p ∷ places) (suc at) old new (suc token) q is keeps own = own_there places at old new token q is (λ same. keeps (ap suc same)) own
+
+  all_there : (P Q : Option Asker → Type 0) → ((c : Option Asker) → P c → Q c) → (places : List X) (at : ℕ) (old new : X) → slice_get places at ≡ Some old → (P (f old) → Q (f new)) → All P (map f places) → All Q (map f (set places at new))
+  all_there P Q weaker [] at old new is keeps all = absurd (cc)
+  all_there P Q weaker (p ∷ places) zero old new is keeps all =
+      let same : p ≡ old = cc in
+      All-cons Q (f new) (map f places) (keeps (subst (λ (x : X). P (f x)) same (All-head P (f p) (map f places) all))) (All-weaker P Q weaker (map f places) (All-tail P (f p) (map f places) all))
+  all_there P Q weaker (p ∷ places) (suc at) old new is keeps all =
+      All-cons Q (f p) (map f (set places at new)) (weaker (f p) (All-head P (f p) (map f places) all)) (all_there P Q weaker places at old new is keeps (All-tail P (f p) (map f places) all))
+
+  one_there : (P : Option Asker → Type 0) (places : List X) (at : ℕ) (p : X) → slice_get places at ≡ Some p → All P (map f places) → P (f p)
+  one_there P [] at p is all = absurd (cc)
+  one_there P (x ∷ places) zero p is all = let same : x ≡ p = cc in subst (λ (y : X). P (f y)) same (All-head P (f x) (map f places) all)
+  one_there P (x ∷ places) (suc at) p is all = one_there P places at p is (All-tail P (f x) (map f places) all)
+
+  abbrev pub at_places : ℕ → List X → Askers
+  at_places n places = record { admitted = n; clients = map f places }
+
+  module _ (a : Askers) (n : ℕ) (places : List X) (at : ℕ) (old : X) (view_is : at_places n places ≡ a) (within : at < length places) (here : old ≡ get_or places at old) where
+    there : slice_get places at ≡ Some old
+    there = slice_get_read places (length places) at old refl within here
+
+    -- a question that is awaited by the client of this place is one of its own
+    pub own_here : (q : Posed) → IsAwaited a at q → IsOwnOf (f old) q
+    own_here q is = let mine = subst (λ (b : Askers). IsAwaited b at q) (sym view_is) is in subst (λ (o : Option (Option Asker)). IfSome o (λ c. IsOwnOf c q)) (client_there places at old there) mine.own
+
+    -- what all clients have seen this one has
+    pub seen_here : (known : Trace) → HaveSeenIn a known → HasSeenIn a.admitted known (f old)
+    seen_here known are =
+        subst (λ (b : Askers). HasSeenIn b.admitted known (f old)) view_is (one_there (HasSeenIn n known) places at old there (subst (λ (b : Askers). HaveSeenIn b known) (sym view_is) are))
+
+    module _ (new : X) where
+      pub keeps_awaited : KeepsOwn (f old) (f new) → KeepsAwaited a (at_places n (set places at new))
+      keeps_awaited own token q is =
+          let mine = subst (λ (b : Askers). IsAwaited b token q) (sym view_is) is in record { admitted = mine.admitted; own = own_there places at old new token q there (λ _. own q) mine.own }
+
+      pub keeps_at : KeepsOwn (f old) (f new) → KeepsSeen (f old) (f new) → Keeps a (at_places n (set places at new))
+      keeps_at own seen = record {
+        awaited = keeps_awaited own;
+        seen = λ known are. all_there (HasSeenIn n known) (HasSeenIn n known) (λ c is. is) places at old new there (seen n known) (subst (λ (b : Askers). HaveSeenIn b known) (sym view_is) are);
+      }
+
+      -- the client of this place has seen what was seen there
+      pub seen_at : (known : Trace) → ((admitted : ℕ) → HasSeenIn admitted known (f old) → HasSeenIn admitted known (f new)) → HaveSeenIn a known → HaveSeenIn (at_places n (set places at new)) known
+      seen_at known seen are = all_there (HasSeenIn n known) (HasSeenIn n known) (λ c is. is) places at old new there (seen n) (subst (λ (b : Askers). HaveSeenIn b known) (sym view_is) are)
+
+      -- a question that the client of this place puts is awaited here
+      pub asked_at : (q : Posed) (known : Trace) → KeepsSeen (f old) (f new) → HaveSeenIn a known → IsAskedBy (f new) q → IsAwaited (at_places n (set places at new)) at q
+      asked_at q known seen are asked = record { admitted = numbered (f new) asked (seen n known mine); own = own_new places at old there }
+        where
+          mine : HasSeenIn n known (f old)
+          mine = one_there (HasSeenIn n known) places at old there (subst (λ (b : Askers). HaveSeenIn b known) (sym view_is) are)
+
+          numbered : (c : Option Asker) → IsAskedBy c q → HasSeenIn n known c → q.connection ≤ n
+          numbered None is so = absurd is
+          numbered (Some x) is so = subst (λ (m : ℕ). m ≤ n) (sym is.0) so.0
+
+          of_asked : (c : Option Asker) → IsAskedBy c q → IsOwnOf c q
+          of_asked None is = tt
+          of_asked (Some x) is = is.1
+
+          own_new : (xs : List X) (i : ℕ) (o : X) → slice_get xs i ≡ Some o → IfSome (slice_get (map f (set xs i new)) i) (λ c. IsOwnOf c q)
+          own_new [] i o is = tt
+          own_new (x ∷ xs) zero o is = of_asked (f new) asked
+          own_new (x ∷ xs) (suc i) o is = own_new xs i o is
+
+      pub some_asked : (r : Option Posed) (known : Trace) → KeepsSeen (f old) (f new) → HaveSeenIn a known → IfSome r (λ q. IsAskedBy (f new) q) → IfSome r (λ q. IsAwaited (at_places n (set places at new)) at q)
+      some_asked None known seen are asked = tt
+      some_asked (Some q) known seen are asked = asked_at q known seen are asked
+
+  module _ (a : Askers) (n : ℕ) (places : List X) (at : ℕ) (old new : X) (client : Asker) (view_is : at_places n places ≡ a) (within : at < length places) (here : old ≡ get_or places at old) where
+    -- a client is admitted, with a number of its own
+    pub admits_at : f new ≡ Some client → client.connection ≡ n + 1 → client.seen ≡ [] → Keeps a (at_places (n + 1) (set places at new))
+    admits_at is numbered unseen = record {
+      awaited = λ token q awaited.
+          let mine = subst (λ (b : Askers). IsAwaited b token q) (sym view_is) awaited in
+          let low = mine.admitted in
+          record { admitted = omega (arith, low); own = own_there places at old new token q there (λ _ _. subst (λ (c : Option Asker). IsOwnOf c q) (sym is) (λ same. absurd (omega (arith, low, same, numbered)))) mine.own };
+      seen = λ known are.
+          all_there (HasSeenIn n known) (HasSeenIn (n + 1) known) (more known) places at old new there
+          (λ _. subst (HasSeenIn (n + 1) known) (sym is) (omega (arith, numbered), subst (λ (t : Trace). Begins t known) (sym unseen) (from_nothing known))) (subst (λ (b : Askers). HaveSeenIn b known) (sym view_is) are);
+    }
+      where
+        there : slice_get places at ≡ Some old
+        there = slice_get_read places (length places) at old refl within here
+
+        more : (known : Trace) (c : Option Asker) → HasSeenIn n known c → HasSeenIn (n + 1) known c
+        more known None so = tt
+        more known (Some x) so = let low = so.0 in (omega (arith, low), so.1)
+
+-- no client is there
+pub none_seen : {X : Type 0} (f : X → Option Asker) (n : ℕ) (places : List X) (known : Trace) → All (λ p. f p ≡ None) places → HaveSeenIn (record { admitted = n; clients = map f places }) known
+none_seen {X} f n [] known none = All-nil (HasSeenIn n known)
+none_seen {X} f n (p ∷ places) known none =
+    All-cons (HasSeenIn n known) (f p) (map f places) (subst (HasSeenIn n known) (sym (All-head (λ (x : X). f x ≡ None) p places none)) tt) (none_seen f n places known (All-tail (λ (x : X). f x ≡ None) p places none))

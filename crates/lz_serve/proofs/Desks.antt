@@ -1,0 +1,455 @@
+-- The calls and the passes of a loop, joined to its clients, after each step.
+use Rattle.std.proofs.Common.{◌≡◌, ◌≤◌, ◌<◌, ◌+◌, ◌-◌, ◌≢◌, ◌↔◌, ◌⊎◌, inl, inr, ℕ, zero, suc, All, List, [], ◌∷◌, ◌++◌, Option, Some, None, IfSome, length, eqb, true, false, map, option_map, option_to_list, set, slice_index_or, refl, sym, ap, ◌∙◌, subst, arith, get_or-set_other, length-append, length-set}
+use Rattle.std.proofs.lemmas.Bool.Decides.{eqb_tells}
+use Rattle.std.proofs.lemmas.List.{append-nil, length-map}
+use Rattle.std.proofs.lemmas.List.Elements.{All-cons, All-head, All-nil, All-push, All-set, All-tail, All-weaker}
+use Rattle.lz_list.specs.Traces.{Trace, Begins}
+use Rattle.lz_list.proofs.Traces.WalkEnd.{begins_before}
+use Rattle.lz_board.specs.Seats.{part}
+use Rattle.lz_serve.specs.Askings.{Asked}
+use Rattle.lz_serve.specs.Clients.{Asker, Askers, HasSeenIn, HaveSeenIn, IsAwaited, Keeps, KeepsAwaited}
+use Rattle.lz_serve.specs.Desks.{AreJoined, IsCalled, IsDesk, Knows, count_of}
+use Rattle.lz_serve.proofs.Crowds.{from_nothing}
+
+-- what the clients have seen was seen here too
+pub seen_later : (a : Askers) (old new : Trace) → Begins old new → HaveSeenIn a old → HaveSeenIn a new
+seen_later a old new more = All-weaker (HasSeenIn a.admitted old) (HasSeenIn a.admitted new) each a.clients
+  where
+    each : (client : Option Asker) → HasSeenIn a.admitted old client → HasSeenIn a.admitted new client
+    each None so = tt
+    each (Some x) so = (so.0, begins_before x.seen old new so.1 more)
+
+-- so it is of what the pass has seen that meets the others, after another one has met it
+pub met_seen : (a : Askers) (meeting : Option Trace) (known : Trace) → IfSome meeting (λ met. Begins met known) → Knows a meeting known → HaveSeenIn a known
+met_seen a None known more knows = knows
+met_seen a (Some met) known more knows = seen_later a met known more knows
+
+pub knows_seen : (a : Askers) (meeting : Option Trace) (known : Trace) → IfSome meeting (λ met. met ≡ known) → HaveSeenIn a known → Knows a meeting known
+knows_seen a None known alike seen = seen
+knows_seen a (Some met) known alike seen = subst (HaveSeenIn a) (sym alike) seen
+
+pub knows_met : (a : Askers) (meeting : Option Trace) (known : Trace) → IfSome meeting (HaveSeenIn a) → (meeting ≡ None → HaveSeenIn a known) → Knows a meeting known
+knows_met a None known met seen = seen refl
+knows_met a (Some met) known is seen = is
+
+pub knows_kept : (a b : Askers) (meeting : Option Trace) (known : Trace) → Keeps a b → Knows a meeting known → Knows b meeting known
+knows_kept a b None known keeps knows = keeps.seen known knows
+knows_kept a b (Some met) known keeps knows = keeps.seen met knows
+
+pub met_kept : (a b : Askers) (meeting : Option Trace) → Keeps a b → IfSome meeting (HaveSeenIn a) → IfSome meeting (HaveSeenIn b)
+met_kept a b None keeps met = tt
+met_kept a b (Some known) keeps met = keeps.seen known met
+
+pub called_kept : (a b : Askers) (meeting : Option Trace) (asked : Asked) → Keeps a b → IsCalled a meeting asked → IsCalled b meeting asked
+called_kept a b meeting asked keeps is = record { question = is.question; asks = is.asks; awaited = keeps.awaited asked.token is.question is.awaited; knows = knows_kept a b meeting (part is.question.before).known keeps is.knows }
+
+-- whatever comes and goes, and while clients are tended to
+pub joined_kept : (a b : Askers) (given : ℕ) (meeting : Option Trace) (calls : List Asked) (free : List Trace) → Keeps a b → AreJoined a given meeting calls free → AreJoined b given meeting calls free
+joined_kept a b given meeting calls free keeps is = record {
+  called = All-weaker (IsCalled a meeting) (IsCalled b meeting) (λ asked so. called_kept a b meeting asked keeps so) calls is.called;
+  know = All-weaker (Knows a meeting) (Knows b meeting) (λ known so. knows_kept a b meeting known keeps so) free is.know;
+  met = met_kept a b meeting keeps is.met;
+  alone = is.alone;
+  unseen = λ none. keeps.seen [] (is.unseen none);
+}
+
+-- the same question is answered
+pub called_same : (a : Askers) (meeting : Option Trace) (old new : Asked) → new.question ≡ old.question → new.token ≡ old.token → IsCalled a meeting old → IsCalled a meeting new
+called_same a meeting old new question token is =
+    record { question = is.question; asks = question ∙ is.asks; awaited = subst (λ (n : ℕ). IsAwaited a n is.question) (sym token) is.awaited; knows = is.knows }
+
+all_none : {X : Type 0} (P : X → Type 0) (xs : List X) → length xs ≡ 0 → All P xs
+all_none P [] none = All-nil P
+all_none P (x ∷ xs) none = absurd (omega (arith, none))
+
+all_one : {X : Type 0} (P : X → Type 0) (xs : List X) (at : ℕ) (x : X) → at < length xs → length xs ≤ 1 → P x → All P (set xs at x)
+all_one P [] at x within one is = All-nil P
+all_one P (y ∷ []) zero x within one is = All-cons P x [] is (All-nil P)
+all_one P (y ∷ []) (suc at) x within one is = absurd (omega (arith, within))
+all_one P (y ∷ z ∷ xs) at x within one is = absurd (omega (arith, one))
+
+module _ (a b : Askers) (old new : Option Trace) (keeps : KeepsAwaited a b) (met : IfSome new (HaveSeenIn b)) where
+  -- the pass that meets the others has seen what the clients have now, if there is one
+  knows_now : (known : Trace) (now : Option Trace) → now ≡ new → (now ≡ None → ⊥) → Knows b now known
+  knows_now known None is some = absurd (some refl)
+  knows_now known (Some t) is some = subst (λ (o : Option Trace). IfSome o (HaveSeenIn b)) (sym is) met
+
+  called_now : (asked : Asked) → (new ≡ None → ⊥) → IsCalled a old asked → IsCalled b new asked
+  called_now asked some is = record { question = is.question; asks = is.asks; awaited = keeps asked.token is.question is.awaited; knows = knows_now (part is.question.before).known new refl some }
+
+  -- the other calls
+  pub calls_now : (calls : List Asked) → (new ≡ None → length calls ≡ 0) → All (IsCalled a old) calls → All (IsCalled b new) calls
+  calls_now calls none are = by_case new refl
+    where
+      by_case : (now : Option Trace) → now ≡ new → All (IsCalled b new) calls
+      by_case None is = all_none (IsCalled b new) calls (none (sym is))
+      by_case (Some t) is = All-weaker (IsCalled a old) (IsCalled b new) (λ asked so. called_now asked (λ no. absurd (cc)) so) calls are
+
+  pub frees_now : (free : List Trace) → (new ≡ None → length free ≡ 0) → All (Knows b new) free
+  frees_now free none = by_case new refl
+    where
+      by_case : (now : Option Trace) → now ≡ new → All (Knows b new) free
+      by_case None is = all_none (Knows b new) free (none (sym is))
+      by_case (Some t) is = each free
+        where
+          each : (xs : List Trace) → All (Knows b new) xs
+          each [] = All-nil (Knows b new)
+          each (x ∷ xs) = All-cons (Knows b new) x xs (knows_now x new refl (λ no. absurd (cc))) (each xs)
+
+  module _ (given : ℕ) (calls : List Asked) (free : List Trace) (some : given ≡ 0 → ⊥) (none : new ≡ None → old ≡ None) (was : AreJoined a given old calls free) where
+    -- one of the calls is another now
+    pub joined_answered : (at : ℕ) (asked : Asked) → at < length calls → IsCalled b new asked → AreJoined b given new (set calls at asked) free
+    joined_answered at asked within is = record {
+      called = by_case new refl;
+      know = frees_now free (λ no. let one = was.alone (none no) in omega (arith, one, within));
+      met = met;
+      alone = λ no. let one = was.alone (none no) in let same = length-set calls at asked in omega (arith, one, same);
+      unseen = λ no. absurd (some no);
+    }
+      where
+        by_case : (now : Option Trace) → now ≡ new → All (IsCalled b new) (set calls at asked)
+        by_case None same = let one = was.alone (none (sym same)) in all_one (IsCalled b new) calls at asked within (omega (arith, one)) is
+        by_case (Some t) same = All-set (IsCalled b new) calls at asked is (calls_now calls (λ no. absurd (cc)) was.called)
+
+    -- one more call
+    pub joined_begun : (rest : List Trace) (last : Trace) (asked : Asked) → free ≡ rest ++ last ∷ [] → IsCalled b new asked → AreJoined b given new (calls ++ asked ∷ []) rest
+    joined_begun rest last asked split is =
+        let many = ap (λ (l : List Trace). length l) split ∙ length-append rest (last ∷ []) in
+        record {
+          called = All-push (IsCalled b new) calls asked (calls_now calls (λ no. let one = was.alone (none no) in omega (arith, one, many)) was.called) is;
+          know = frees_now rest (λ no. let one = was.alone (none no) in omega (arith, one, many));
+          met = met;
+          alone = λ no. let one = was.alone (none no) in let more = length-append calls (asked ∷ []) in omega (arith, one, many, more);
+          unseen = λ no. absurd (some no);
+        }
+
+    -- none began
+    pub joined_back : (rest : List Trace) (last now : Trace) → free ≡ rest ++ last ∷ [] → Knows b new now → AreJoined b given new calls (rest ++ now ∷ [])
+    joined_back rest last now split knows =
+        let many = ap (λ (l : List Trace). length l) split ∙ length-append rest (last ∷ []) in
+        record {
+          called = calls_now calls (λ no. let one = was.alone (none no) in omega (arith, one, many)) was.called;
+          know = All-push (Knows b new) rest now (frees_now rest (λ no. let one = was.alone (none no) in omega (arith, one, many))) knows;
+          met = met;
+          alone = λ no. let one = was.alone (none no) in let more = length-append rest (now ∷ []) in omega (arith, one, many, more);
+          unseen = λ no. absurd (some no);
+        }
+
+    -- a call was answered, and its pass rests: the last call stands in its place
+    pub joined_rested : (left : List Asked) (at n : ℕ) (asked : Asked) (now : Trace) → at < n → n ≡ length calls → length left + 1 ≡ n
+        → ((d : Asked) → at + 1 < n → slice_index_or left at d ≡ slice_index_or (set calls at asked) (n - 1) d) × ((k : ℕ) (d : Asked) → k ≢ at → k + 1 < n → slice_index_or left k d ≡ slice_index_or (set calls at asked) k d) → Knows b new now
+        → AreJoined b given new left (free ++ now ∷ [])
+    joined_rested left at n asked now within same count stands knows = record {
+      called = by_case new refl;
+      know = All-push (Knows b new) free now (frees_now free (λ no. let one = was.alone (none no) in omega (arith, one, within, same))) knows;
+      met = met;
+      alone = λ no. let one = was.alone (none no) in let more = length-append free (now ∷ []) in omega (arith, one, count, more, same);
+      unseen = λ no. absurd (some no);
+    }
+      where
+        there : All (IsCalled b new) calls → (k : ℕ) (d : Asked) → k < length left → IsCalled b new (slice_index_or left k d)
+        there all k d low = choose (eqb_tells k at)
+          where
+            choose : ((eqb k at ≡ true) × (k ≡ at)) ⊎ ((eqb k at ≡ false) × (k ≢ at)) → IsCalled b new (slice_index_or left k d)
+            choose (inl is) =
+                let at_is = is.1 in
+                let far : n - 1 ≢ at = λ is. omega (arith, is, at_is, low, count) in
+                let e = stands.0 d (omega (arith, at_is, low, count)) ∙ get_or-set_other calls at (n - 1) asked d far in
+                subst (λ (x : Asked). IsCalled b new x) (sym (ap (λ (m : ℕ). slice_index_or left m d) at_is ∙ e)) (all (n - 1) d (omega (arith, low, count, same)))
+            choose (inr is) =
+                let e = stands.1 k d is.1 (omega (arith, low, count)) ∙ get_or-set_other calls at k asked d is.1 in
+                subst (λ (x : Asked). IsCalled b new x) (sym e) (all k d (omega (arith, low, count, same)))
+
+        by_case : (x : Option Trace) → x ≡ new → All (IsCalled b new) left
+        by_case None is = let one = was.alone (none (sym is)) in all_none (IsCalled b new) left (omega (arith, one, count, same))
+        by_case (Some t) is = there (calls_now calls (λ no. absurd (cc)) was.called)
+
+-- none was given yet
+pub joined_none : (a : Askers) (calls : List Asked) (free : List Trace) → calls ≡ [] → free ≡ [] → HaveSeenIn a [] → AreJoined a 0 None calls free
+joined_none a calls free no_call no_pass unseen = record {
+  called = subst (All (IsCalled a None)) (sym no_call) (All-nil (IsCalled a None));
+  know = subst (All (Knows a None)) (sym no_pass) (All-nil (Knows a None));
+  met = tt;
+  alone = λ _. let one = ap (λ (l : List Asked). length l) no_call in let two = ap (λ (l : List Trace). length l) no_pass in omega (arith, one, two);
+  unseen = λ _. unseen;
+}
+
+-- the pass that meets the others, or else the last of the free ones, has seen what the clients have
+module _ (a : Askers) (given : ℕ) (old new : Option Trace) (calls : List Asked) (free rest : List Trace) (was : AreJoined a given old calls free) (same : IfSome old (λ met. new ≡ Some met))
+    (first : old ≡ None → free ≡ rest ++ option_to_list new) where
+  last_of : (xs : List Trace) (x : Trace) → All (Knows a old) (xs ++ x ∷ []) → Knows a old x
+  last_of [] x every = All-head (Knows a old) x [] every
+  last_of (y ∷ xs) x every = last_of xs x (All-tail (Knows a old) y (xs ++ x ∷ []) every)
+
+  found : old ≡ None → (n : Option Trace) → free ≡ rest ++ option_to_list n → IfSome n (HaveSeenIn a)
+  found empty None split = tt
+  found empty (Some t) split = subst (λ (o : Option Trace). Knows a o t) empty (last_of rest t (subst (All (Knows a old)) split was.know))
+
+  met_then : (o : Option Trace) → o ≡ old → IfSome new (HaveSeenIn a)
+  met_then None is = found (sym is) new (first (sym is))
+  met_then (Some t) is =
+      let it = subst (λ (x : Option Trace). IfSome x (λ met. new ≡ Some met)) (sym is) same in
+      subst (λ (x : Option Trace). IfSome x (HaveSeenIn a)) (sym it) (subst (λ (x : Option Trace). IfSome x (HaveSeenIn a)) (sym is) was.met)
+
+  pub first_met : IfSome new (HaveSeenIn a)
+  first_met = met_then old refl
+
+  -- one more pass is given, where all are free
+  module _ (last : Trace) (no_call : length calls ≡ 0) (all : length free + count_of old ≡ given) (none : new ≡ None → (old ≡ None) × (length free ≡ 0)) where
+    few : new ≡ None → (length rest ≡ 0) × (given ≡ 0)
+    few empty =
+        let it = none empty in
+        let split = ap (λ (l : List Trace). length l) (first it.0) ∙ length-append rest (option_to_list new) in
+        let here = ap (λ (x : Option Trace). count_of x) it.0 in
+        let zero_free = it.1 in
+        (omega (arith, split, zero_free), omega (arith, all, here, zero_free))
+
+    pub joined_taken : AreJoined a (given + 1) new calls (rest ++ last ∷ [])
+    joined_taken = record {
+      called = all_none (IsCalled a new) calls no_call;
+      know = All-push (Knows a new) rest last (frees_now a a old new (λ token q is. is) first_met rest (λ empty. (few empty).0)) (knows_met a new last first_met (λ empty. seen_later a [] last (from_nothing last) (was.unseen (few empty).1)));
+      met = first_met;
+      alone = λ empty. let rest_none = (few empty).0 in let more = length-append rest (last ∷ []) in omega (arith, no_call, rest_none, more);
+      unseen = λ nothing. absurd (omega (arith, nothing));
+    }
+
+-- a desk, whose passes are known by what they have seen
+module _ {X : Type 0} (f : X → Trace) where
+  count_mapped : (o : Option X) → count_of (option_map f o) ≡ count_of o
+  count_mapped None = refl
+  count_mapped (Some x) = refl
+
+  none_mapped : (o : Option X) → option_map f o ≡ None → o ≡ None
+  none_mapped None is = refl
+  none_mapped (Some x) is = absurd (cc)
+
+  none_there : (o : Option X) → o ≡ None → option_map f o ≡ None
+  none_there o is = ap (λ (x : Option X). option_map f x) is
+
+  mapped_push : (xs : List X) (x : X) → map f (xs ++ x ∷ []) ≡ map f xs ++ f x ∷ []
+  mapped_push [] x = refl
+  mapped_push (y ∷ xs) x = ap (λ (l : List Trace). f y ∷ l) (mapped_push xs x)
+
+  mapped_items : (ys xs : List X) (x : X) → ys ≡ xs ++ x ∷ [] → map f ys ≡ map f xs ++ f x ∷ []
+  mapped_items ys xs x is = ap (λ (l : List X). map f l) is ∙ mapped_push xs x
+
+  mapped_nil : (xs : List X) → map f (xs ++ []) ≡ map f xs ++ []
+  mapped_nil [] = refl
+  mapped_nil (x ∷ xs) = ap (λ (l : List Trace). f x ∷ l) (mapped_nil xs)
+
+  mapped_split : (o : Option X) (xs ys : List X) → xs ≡ ys ++ option_to_list o → map f xs ≡ map f ys ++ option_to_list (option_map f o)
+  mapped_split None xs ys is = ap (λ (l : List X). map f l) is ∙ mapped_nil ys
+  mapped_split (Some x) xs ys is = mapped_items xs ys x is
+
+  same_mapped : (o new : Option X) → IfSome o (λ m. new ≡ Some m) → IfSome (option_map f o) (λ met. option_map f new ≡ Some met)
+  same_mapped None new same = tt
+  same_mapped (Some x) new same = ap (λ (y : Option X). option_map f y) same
+
+  -- the last of the free passes knows what the clients have seen
+  pub know_last : (a : Askers) (meeting : Option Trace) (free rest : List X) (last : X) → free ≡ rest ++ last ∷ [] → All (Knows a meeting) (map f free) → Knows a meeting (f last)
+  know_last a meeting free rest last split know = last_one rest (subst (λ (l : List X). All (Knows a meeting) (map f l)) split know)
+    where
+      last_one : (xs : List X) → All (Knows a meeting) (map f (xs ++ last ∷ [])) → Knows a meeting (f last)
+      last_one [] every = All-head (Knows a meeting) (f last) [] every
+      last_one (x ∷ xs) every = last_one xs (All-tail (Knows a meeting) (f x) (map f (xs ++ last ∷ [])) every)
+
+  -- a pass that has met the other has seen the same
+  pub alike_seen : (b : Askers) (o : Option X) (known : Trace) → IfSome o (λ x. f x ≡ known) → HaveSeenIn b known → IfSome o (λ x. HaveSeenIn b (f x))
+  alike_seen b None known alike seen = tt
+  alike_seen b (Some x) known alike seen = subst (HaveSeenIn b) (sym alike) seen
+
+  count_same : (old new : Option X) → (new ≡ None → old ≡ None) → (old ≡ None → new ≡ None) → count_of new ≡ count_of old
+  count_same None None one two = refl
+  count_same None (Some x) one two = let is = two refl in absurd (cc)
+  count_same (Some y) None one two = let is = one refl in absurd (cc)
+  count_same (Some y) (Some x) one two = refl
+
+  -- the pass that was found has seen what the clients have
+  pub found_seen : (a : Askers) (given : ℕ) (old new : Option X) (x : X) (calls : List Asked) (free rest : List X) → AreJoined a given (option_map f old) calls (map f free) → IfSome old (λ m. new ≡ Some m)
+      → (old ≡ None → free ≡ rest ++ option_to_list new) → new ≡ Some x → HaveSeenIn a (f x)
+  found_seen a given old new x calls free rest was same first is =
+      subst (λ (o : Option X). IfSome (option_map f o) (HaveSeenIn a)) is
+      (first_met a given (option_map f old) (option_map f new) calls (map f free) (map f rest) was (same_mapped old new same) (λ empty. mapped_split new free rest (first (none_mapped old empty))))
+
+  -- the pass that meets the others was taken out, and is found again or another one in its place
+  same_taken : (mid old new : Option X) → mid ≡ old → IfSome mid (λ m. new ≡ Some m) → IfSome old (λ m. new ≡ Some m)
+  same_taken mid old new taken same = subst (λ (o : Option X). IfSome o (λ m. new ≡ Some m)) taken same
+
+  pub taken_seen : (a : Askers) (given : ℕ) (mid old new : Option X) (x : X) (calls : List Asked) (free rest : List X) → mid ≡ old → AreJoined a given (option_map f old) calls (map f free) → IfSome mid (λ m. new ≡ Some m)
+      → (mid ≡ None → free ≡ rest ++ option_to_list new) → new ≡ Some x → HaveSeenIn a (f x)
+  taken_seen a given mid old new x calls free rest taken was same first is = found_seen a given old new x calls free rest was (same_taken mid old new taken same) (λ empty. first (taken ∙ empty)) is
+
+  pub count_taken : (mid old new : Option X) (n_free n_rest : ℕ) → mid ≡ old → n_rest + count_of new ≡ n_free + count_of mid → n_rest + count_of new ≡ n_free + count_of old
+  count_taken mid old new n_free n_rest taken count = count ∙ ap (λ (o : Option X). n_free + count_of o) taken
+
+  desk_taken : (given most room room_calls more : ℕ) (a : Askers) (old new : Option X) (calls : List Asked) (free rest pushed : List X) (n_free n_rest n_pushed : ℕ) (last : X)
+      → IsDesk given most (n_free + count_of old) room room_calls a (option_map f old) calls (map f free) → given < most → n_free + count_of old ≡ given → n_free ≡ length free
+      → IfSome old (λ m. new ≡ Some m) → (old ≡ None → free ≡ rest ++ option_to_list new) → (new ≡ None → (old ≡ None) × (n_free ≡ 0)) → n_rest + count_of new ≡ n_free + count_of old
+      → pushed ≡ rest ++ last ∷ [] → n_pushed ≡ n_rest + 1 → room ≤ more → IsDesk (given + 1) most (n_pushed + count_of new) more room_calls a (option_map f new) calls (map f pushed)
+  desk_taken given most room room_calls more a old new calls free rest pushed n_free n_rest n_pushed last was low rests long same first none count items pushes grows =
+      let counted = was.count in
+      let spare = was.spare_free in
+      let no_call : length calls ≡ 0 = omega (arith, counted, rests) in
+      let mapped = count_mapped old in
+      let long_map = length-map free f in
+      let joined = joined_taken a given (option_map f old) (option_map f new) calls (map f free) (map f rest) was.joined (same_mapped old new same) (λ empty. mapped_split new free rest (first (none_mapped old empty))) (f last) no_call
+      (omega (arith, mapped, long_map, rests, long)) (λ empty. let it = none (none_mapped new empty) in let zero_free = it.1 in (none_there old it.0, omega (arith, zero_free, long, long_map))) in
+      record {
+        fit = omega (arith, low);
+        count = omega (arith, pushes, count, rests, no_call);
+        spare_free = omega (arith, spare, grows);
+        spare_calls = was.spare_calls;
+        joined = subst (AreJoined a (given + 1) (option_map f new) calls) (sym (mapped_items pushed rest last items)) joined;
+      }
+
+  pub desk_given : (given most room room_calls more : ℕ) (a : Askers) (mid old new : Option X) (calls : List Asked) (free rest pushed : List X) (n_free n_rest n_pushed : ℕ) (last : X) → mid ≡ old
+      → IsDesk given most (n_free + count_of old) room room_calls a (option_map f old) calls (map f free) → given < most → n_free + count_of old ≡ given → n_free ≡ length free
+      → IfSome mid (λ m. new ≡ Some m) → (mid ≡ None → free ≡ rest ++ option_to_list new) → (new ≡ None → (mid ≡ None) × (n_free ≡ 0)) → n_rest + count_of new ≡ n_free + count_of mid
+      → pushed ≡ rest ++ last ∷ [] → n_pushed ≡ n_rest + 1 → room ≤ more → IsDesk (given + 1) most (n_pushed + count_of new) more room_calls a (option_map f new) calls (map f pushed)
+  desk_given given most room room_calls more a mid old new calls free rest pushed n_free n_rest n_pushed last taken was low rests long same first none count items pushes grows =
+      desk_taken given most room room_calls more a old new calls free rest pushed n_free n_rest n_pushed last was low rests long (same_taken mid old new taken same) (λ empty. first (taken ∙ empty))
+      (λ empty. let it = none empty in (sym taken ∙ it.0, it.1)) (count_taken mid old new n_free n_rest taken count) items pushes grows
+
+  module _ (given most room room_calls : ℕ) (a b : Askers) (old new : Option X) (calls : List Asked) (free : List X) (n_free : ℕ) (was : IsDesk given most (n_free + count_of old) room room_calls a (option_map f old) calls (map f free))
+      (keeps : KeepsAwaited a b) (met : IfSome new (λ x. HaveSeenIn b (f x))) (none : (new ≡ None) ↔ (old ≡ None)) where
+    met_there : (o : Option X) → IfSome o (λ x. HaveSeenIn b (f x)) → IfSome (option_map f o) (HaveSeenIn b)
+    met_there None is = tt
+    met_there (Some x) is = is
+
+    none_before : option_map f new ≡ None → option_map f old ≡ None
+    none_before empty = none_there old (none.0 (none_mapped new empty))
+
+    -- one of the calls is another now
+    pub desk_answered : (at : ℕ) (asked : Asked) → at < length calls → IsCalled b (option_map f new) asked → IsDesk given most (n_free + count_of new) room room_calls b (option_map f new) (set calls at asked) (map f free)
+    desk_answered at asked within is =
+        let counted = was.count in
+        let same = length-set calls at asked in
+        let many = count_same old new none.0 none.1 in
+        record {
+          fit = was.fit;
+          count = omega (arith, counted, same, many);
+          spare_free = was.spare_free;
+          spare_calls = was.spare_calls;
+          joined = joined_answered a b (option_map f old) (option_map f new) keeps (met_there new met) given calls (map f free) (λ nothing. omega (arith, nothing, counted, within)) none_before was.joined at asked within is;
+        }
+
+    -- one more call, by a pass that was free
+    pub desk_begun : (more : ℕ) (rest : List X) (last : X) (n_rest : ℕ) (asked : Asked) (now : List Asked) → free ≡ rest ++ last ∷ [] → n_rest + 1 ≡ n_free → now ≡ calls ++ asked ∷ [] → most ≤ more → IsCalled b (option_map f new) asked
+        → (left : ℕ) → most ≤ left → IsDesk given most (n_rest + count_of new) left more b (option_map f new) now (map f rest)
+    desk_begun more rest last n_rest asked now split fewer items spare is left spare_left =
+        let counted = was.count in
+        let same = ap (λ (l : List Asked). length l) items ∙ length-append calls (asked ∷ []) in
+        let many = count_same old new none.0 none.1 in
+        record {
+          fit = was.fit;
+          count = omega (arith, counted, same, many, fewer);
+          spare_free = spare_left;
+          spare_calls = spare;
+          joined = subst (λ (l : List Asked). AreJoined b given (option_map f new) l (map f rest)) (sym items)
+              (joined_begun a b (option_map f old) (option_map f new) keeps (met_there new met) given calls (map f free) (λ nothing. omega (arith, nothing, counted, fewer)) none_before was.joined (map f rest) (f last) asked (mapped_items free rest last split) is);
+        }
+
+    -- none began, and the pass is free as before
+    pub desk_back : (more : ℕ) (rest pushed : List X) (last back : X) (n_rest n_pushed : ℕ) → free ≡ rest ++ last ∷ [] → n_rest + 1 ≡ n_free → pushed ≡ rest ++ back ∷ [] → n_pushed ≡ n_rest + 1 → most ≤ more → Knows b (option_map f new) (f back)
+        → IsDesk given most (n_pushed + count_of new) more room_calls b (option_map f new) calls (map f pushed)
+    desk_back more rest pushed last back n_rest n_pushed split fewer items pushes spare knows =
+        let counted = was.count in
+        let many = count_same old new none.0 none.1 in
+        record {
+          fit = was.fit;
+          count = omega (arith, counted, many, fewer, pushes);
+          spare_free = spare;
+          spare_calls = was.spare_calls;
+          joined = subst (AreJoined b given (option_map f new) calls) (sym (mapped_items pushed rest back items))
+              (joined_back a b (option_map f old) (option_map f new) keeps (met_there new met) given calls (map f free) (λ nothing. omega (arith, nothing, counted, fewer)) none_before was.joined (map f rest) (f last) (f back) (mapped_items free rest last split) knows);
+        }
+
+    -- a call was answered, and its pass is free
+    pub desk_rested : (more left_room at n : ℕ) (asked : Asked) (left : List Asked) (pushed : List X) (back : X) (n_pushed : ℕ) → at < n → n ≡ length calls → length left + 1 ≡ n
+        → ((d : Asked) → at + 1 < n → slice_index_or left at d ≡ slice_index_or (set calls at asked) (n - 1) d) × ((k : ℕ) (d : Asked) → k ≢ at → k + 1 < n → slice_index_or left k d ≡ slice_index_or (set calls at asked) k d)
+        → pushed ≡ free ++ back ∷ [] → n_pushed ≡ n_free + 1 → most ≤ more → most ≤ left_room → Knows b (option_map f new) (f back) → IsDesk given most (n_pushed + count_of new) more left_room b (option_map f new) left (map f pushed)
+    desk_rested more left_room at n asked left pushed back n_pushed within same fewer stands items pushes spare spare_left knows =
+        let counted = was.count in
+        let many = count_same old new none.0 none.1 in
+        record {
+          fit = was.fit;
+          count = omega (arith, counted, many, fewer, pushes, same);
+          spare_free = spare;
+          spare_calls = spare_left;
+          joined = subst (AreJoined b given (option_map f new) left) (sym (mapped_items pushed free back items))
+              (joined_rested a b (option_map f old) (option_map f new) keeps (met_there new met) given calls (map f free) (λ nothing. omega (arith, nothing, counted, within, same)) none_before was.joined left at n asked (f back) within same fewer stands knows);
+        }
+
+  -- the last answers were told by this pass, which meets the others from now on
+  pub desk_last : (given most room here room_calls : ℕ) (a b : Askers) (old new : Option X) (calls : List Asked) (free rest : List X) (n_free n_rest : ℕ) (it last : X)
+      → IsDesk given most (n_free + count_of old) room room_calls a (option_map f old) calls (map f free) → n_free + count_of old ≡ given → new ≡ Some it → n_rest + count_of new ≡ n_free + count_of old → here ≡ room → HaveSeenIn b (f last)
+      → IsDesk given most (n_rest + 1) here room_calls b (Some (f last)) calls (map f rest)
+  desk_last given most room here room_calls a b old new calls free rest n_free n_rest it last was rests is count same seen =
+      let one = ap (λ (o : Option X). count_of o) is in
+      let counted = was.count in
+      let spare = was.spare_free in
+      let no_call : length calls ≡ 0 = omega (arith, counted, rests) in
+      record {
+        fit = was.fit;
+        count = omega (arith, counted, count, one);
+        spare_free = omega (arith, spare, same);
+        spare_calls = was.spare_calls;
+        joined = record {
+          called = all_none (IsCalled b (Some (f last))) calls no_call;
+          know = each rest;
+          met = seen;
+          alone = λ empty. absurd (cc);
+          unseen = λ nothing. absurd (omega (arith, nothing, rests, count, one));
+        };
+      }
+    where
+      each : (xs : List X) → All (Knows b (Some (f last))) (map f xs)
+      each [] = All-nil (Knows b (Some (f last)))
+      each (x ∷ xs) = All-cons (Knows b (Some (f last))) (f x) (map f xs) seen (each xs)
+
+  -- there was no pass that was free
+  pub desk_left : (given most room here room_calls : ℕ) (a : Askers) (mid old it gone : Option X) (calls : List Asked) (free rest : List X) (n_free n_rest : ℕ) → IsDesk given most (n_free + count_of old) room room_calls a (option_map f old) calls (map f free)
+      → mid ≡ old → it ≡ None → (it ≡ None → (mid ≡ None) × (n_free ≡ 0)) → gone ≡ None → (mid ≡ None → free ≡ rest ++ option_to_list it) → n_rest + count_of it ≡ n_free + count_of mid → here ≡ room → IsDesk given most (n_rest + count_of gone) here room_calls a (option_map f gone) calls (map f rest)
+  desk_left given most room here room_calls a mid old it gone calls free rest n_free n_rest was taken nothing none away split count same =
+      let empty = (none nothing).0 in
+      let left = ap (λ (o : Option X). count_of o) nothing in
+      let counted = was.count in
+      let spare = was.spare_free in
+      let from : old ≡ None = sym taken ∙ empty in
+      let both : old ≡ gone = from ∙ sym away in
+      let one = ap (λ (o : Option X). count_of o) taken in
+      let two = ap (λ (o : Option X). count_of o) both in
+      let three = ap (λ (o : Option X). count_of o) away in
+      let items : free ≡ rest = split empty ∙ ap (λ (o : Option X). rest ++ option_to_list o) nothing ∙ append-nil rest in
+      record {
+        fit = was.fit;
+        count = omega (arith, counted, count, one, two, three, left);
+        spare_free = omega (arith, spare, same);
+        spare_calls = was.spare_calls;
+        joined = subst (λ (o : Option X). AreJoined a given (option_map f o) calls (map f rest)) both (subst (λ (l : List X). AreJoined a given (option_map f old) calls (map f l)) items was.joined);
+      }
+
+-- a call is played on, and answers the same question
+pub desk_played : (given most idle room room_calls : ℕ) (a : Askers) (meeting : Option Trace) (calls : List Asked) (free : List Trace) (at : ℕ) (old new : Asked) → IsDesk given most idle room room_calls a meeting calls free → at < length calls
+    → old ≡ slice_index_or calls at old → new.question ≡ old.question → new.token ≡ old.token → IsDesk given most idle room room_calls a meeting (set calls at new) free
+desk_played given most idle room room_calls a meeting calls free at old new was within here question token =
+    let counted = was.count in
+    let same = length-set calls at new in
+    let mine : IsCalled a meeting old = subst (IsCalled a meeting) (sym here) (was.joined.called at old within) in
+    record {
+      fit = was.fit;
+      count = omega (arith, counted, same);
+      spare_free = was.spare_free;
+      spare_calls = was.spare_calls;
+      joined = record {
+        called = All-set (IsCalled a meeting) calls at new (called_same a meeting old new question token mine) was.joined.called;
+        know = was.joined.know;
+        met = was.joined.met;
+        alone = λ empty. let few = was.joined.alone empty in omega (arith, few, same);
+        unseen = was.joined.unseen;
+      };
+    }
+
+pub desk_kept : (given most idle room_free room_calls : ℕ) (a b : Askers) (meeting : Option Trace) (calls : List Asked) (free : List Trace) → Keeps a b → IsDesk given most idle room_free room_calls a meeting calls free → IsDesk given most idle room_free room_calls b meeting calls free
+desk_kept given most idle room_free room_calls a b meeting calls free keeps is =
+    record { fit = is.fit; count = is.count; spare_free = is.spare_free; spare_calls = is.spare_calls; joined = joined_kept a b given meeting calls free keeps is.joined }

@@ -1,0 +1,25 @@
+use Rattle.std.proofs.Common.{◌≡◌, IfSome, option_map, sym, subst}
+use Rattle.lz_list.specs.Traces.{Trace, Begins}
+use Rattle.lz_list.proofs.Traces.WalkEnd.{begins_before}
+use Rattle.lz_board.specs.declared.pass.Pass.{Pass}
+use Rattle.lz_board.specs.Seats.{part}
+use Rattle.lz_serve.specs.Grants.{Posed}
+use Rattle.lz_serve.proofs.Meetings.{reply_seen, some_mapped}
+use Rattle.lz_serve.proofs.Seats.{grows}
+use Rattle.lz_serve.proofs.answering.answer_call.Goals as goal
+
+pub reply-requires-2-clause-seen : goal.reply-requires-2-clause-seen
+reply-requires-2-clause-seen g c =
+    let q = c.requires.called.question in
+    let gr = c.in-Some-answer.granted in
+    let told = c.in-Some-answer.ensures.granted in
+    let asks = c.requires.called.asks in
+    let known = (part c.pass.result.now).known in
+    let same : gr.question ≡ q = cc in
+    let after : Begins (part gr.after).known known =
+    subst (λ (p : Pass). Begins (part gr.after).known (part p).known) (sym c.pass.ensures) (subst (λ (p : Pass). Begins (part p).known (part c.meet.new.asking.pass).known) (sym told.1) c.meet.ensures.grows) in
+    let from : Begins (part q.before).known (part gr.after).known =
+    subst (λ (x : Posed). Begins (part x.before).known (part gr.after).known) same (grows g.N.Named.board g.N.Named.format gr.question.earlier gr.question.before gr.after gr.question.request gr.reply c.reply.ensures.granted) in
+    reply_seen c.args.crowd.now (option_map (λ free. (part free.pass).known) c.args.meeting.now) (part q.before).known known (begins_before (part q.before).known (part gr.after).known known from after)
+    (some_mapped (λ (t : Trace). Begins t known) (λ free. (part free.pass).known) c.args.meeting.now
+    (subst (λ (p : Pass). IfSome c.args.meeting.now (λ free. Begins (part free.pass).known (part p).known)) (sym c.pass.ensures) c.meet.ensures.others)) c.requires.called.knows

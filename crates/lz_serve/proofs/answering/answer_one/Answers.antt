@@ -1,0 +1,18 @@
+use Rattle.std.proofs.Common.{sym, subst, ◌∙◌}
+use Rattle.lz_list.specs.Traces.{Begins}
+use Rattle.lz_list.proofs.Traces.Absence.{begins_itself}
+use Rattle.lz_board.specs.declared.pass.Pass.{Pass}
+use Rattle.lz_board.specs.Seats.{part}
+use Rattle.lz_serve.specs.Clients.{HaveSeenIn}
+use Rattle.lz_serve.proofs.Desks.{seen_later}
+use Rattle.lz_serve.proofs.answering.answer_one.Goals as goal
+
+pub reply-requires-2-clause-seen : goal.reply-requires-2-clause-seen
+reply-requires-2-clause-seen g c =
+    let before = (part c.args.free.now.pass).known in
+    let after = (part c.answer-granted.new.self.pass).known in
+    subst (λ (p : Pass). HaveSeenIn c.take_last.new.self (part p).known) (sym c.pass-2.ensures) (seen_later c.take_last.new.self before after c.answer-granted.ensures.grows (c.take_last.ensures.kept.seen before c.requires.seen))
+
+pub reply-requires-2-clause-after : goal.reply-requires-2-clause-after
+reply-requires-2-clause-after g c =
+    subst (λ (p : Pass). Begins (part c.answer-granted.result.after).known (part p).known) (c.answer-granted.ensures.granted.1 ∙ sym c.pass-2.ensures) (begins_itself (part c.answer-granted.result.after).known)

@@ -1,0 +1,46 @@
+use Rattle.std.proofs.Common.{◌≡◌, false, refl, ap}
+use mathlib.Core.Bool.{true≢false}
+use Rattle.lz_serve.specs.Clients.{passes_of, seen_by}
+use Rattle.lz_serve.specs.Conversations.{Talk}
+use Rattle.lz_serve.specs.Lines.{AreBefore}
+use Rattle.lz_serve.proofs.LinesUnderWay.{earned_same}
+use Rattle.lz_serve.proofs.TalksOnStreams.{fed, finished, same_lines}
+use Rattle.lz_serve.proofs.client.Client.read.Goals as goal
+
+pub invariant_of-self : goal.invariant_of-self
+invariant_of-self g c =
+    let was = c.self.invariant in
+    let old = c.self.inside.talk in
+    let new = c.feed.new.self in
+    let others = c.feed.ensures.others in
+    let P = g.S.Stream.promised in
+    let connection = c.self.inside.connection in
+    let seen = seen_by c.self.inside.seen in
+    let puts = passes_of c.self.inside.puts.items in
+    let after = g.S.Stream.traffic c.receive.new.self in
+    let under = ap (λ (t : Talk). t.under) others in (
+      λ going. c.feed.ensures.goes,
+      earned_same P connection seen old.told new.told old.under new.under puts puts (ap (λ (t : Talk). t.told) others) under refl was.1,
+      λ kept.
+          same_lines P seen connection after new old.under new.under puts under
+          (fed (AreBefore P seen old.under puts) connection (g.S.Stream.traffic c.self.inside.stream) after c.in-Count.count c.receive.new.buffer old new c.in-Count.ensures.received c.in-Ok.ensures.ok (was.2 kept)),
+    )
+
+pub invariant_of-self-in-Ok-finish : goal.invariant_of-self-in-Ok-finish
+invariant_of-self-in-Ok-finish g c =
+    let was = c.self.invariant in
+    let old = c.self.inside.talk in
+    let new = c.finish.new.self in
+    let others = c.finish.ensures.others in
+    let P = g.S.Stream.promised in
+    let connection = c.self.inside.connection in
+    let seen = seen_by c.self.inside.seen in
+    let puts = passes_of c.self.inside.puts.items in
+    let after = g.S.Stream.traffic c.receive.new.self in
+    let under = ap (λ (t : Talk). t.under) others in (
+      λ never. absurd (true≢false never),
+      earned_same P connection seen old.told new.told old.under new.under puts puts (ap (λ (t : Talk). t.told) others) under refl was.1,
+      λ kept.
+          same_lines P seen connection after new old.under new.under puts under
+          (finished (AreBefore P seen old.under puts) connection (g.S.Stream.traffic c.self.inside.stream) after c.receive.new.buffer old new c.in-Over.ensures.received c.in-Ok-finish.ensures.ok (was.2 kept)),
+    )

@@ -1,0 +1,40 @@
+use Rattle.std.proofs.Common.{◌≡◌, IsSome, Option, refl, sym, ap, subst}
+use Rattle.lz_serve.specs.declared.reader.Reader.{Reader}
+use Rattle.lz_serve.specs.Clients.{passes_of, seen_by}
+use Rattle.lz_serve.specs.Conversations.{Talk}
+use Rattle.lz_serve.specs.Lines.{AreBefore}
+use Rattle.lz_serve.specs.Streams.{MayTake, Takes}
+use Rattle.lz_serve.specs.declared.stream.Taken.TheVariants as taken
+use Rattle.lz_serve.proofs.LinesUnderWay.{earned_same}
+use Rattle.lz_serve.proofs.TalksOnStreams.{known_so, may_take, same_lines, sent}
+use Rattle.lz_serve.proofs.client.Client.send.Goals as goal
+
+pub take-requires : goal.take-requires
+take-requires g c =
+    let P = g.S.Stream.promised in
+    let from = c.self.inside in
+    let seen = seen_by from.seen in
+    let puts = passes_of from.puts.items in
+    let traffic = g.S.Stream.traffic from.stream in
+    subst (MayTake P traffic) (sym c.unsent-2.ensures)
+    (may_take P from.connection traffic from.talk (known_so (AreBefore P seen from.talk.under puts) from.connection P traffic from.talk (λ grants so. so.0) (c.self.invariant.2 c.if-self.false)))
+
+pub invariant_of-self : goal.invariant_of-self
+invariant_of-self g c =
+    let was = c.self.invariant in
+    let from = c.self.inside in
+    let old = from.talk in
+    let new = c.sent.new.self in
+    let others = c.sent.ensures in
+    let P = g.S.Stream.promised in
+    let seen = seen_by from.seen in
+    let puts = passes_of from.puts.items in
+    let after = g.S.Stream.traffic c.take.new.self in
+    let under = ap (λ (t : Talk). t.under) others in (
+      λ going. subst (λ (r : Option Reader). IsSome r) (sym (ap (λ (t : Talk). t.reader) others)) (was.0 going),
+      earned_same P from.connection seen old.told new.told old.under new.under puts puts (ap (λ (t : Talk). t.told) others) under refl was.1,
+      λ kept.
+          same_lines P seen from.connection after new old.under new.under puts under
+          (sent (AreBefore P seen old.under puts) from.connection (g.S.Stream.traffic from.stream) after c.in-Count.count old new (subst (Takes (g.S.Stream.traffic from.stream) after (taken.Count c.in-Count.count)) c.unsent-2.ensures c.in-Count.ensures.taken) others
+          (was.2 c.if-self.false)),
+    )

@@ -1,0 +1,21 @@
+use Rattle.lz_board.specs.Seats.{part}
+use Rattle.lz_serve.proofs.Crowds.{keeps_at, only_seen, seen_here, some_asked}
+use Rattle.lz_serve.proofs.crowd.Crowd.take_last.Goals as goal
+
+pub take_last-requires : goal.take_last-requires
+take_last-requires g c =
+    let old = c.in-Some.place.now in
+    let K = (part c.args.pass.now).known in
+    only_seen c.args.self.now.admitted K old.client (seen_here (λ place. place.client) c.args.self.now c.self.inside.admitted c.self.inside.places.items c.args.token old c.self.view_is c.in-Some.ensures.item.3.0 c.in-Some.ensures.value K c.requires)
+
+pub returns-clause-awaited : goal.returns-clause-awaited
+returns-clause-awaited g c =
+    let old = c.in-Some.place.now in
+    let new = c.take_last.new.self in
+    some_asked (λ place. place.client) c.args.self.now c.self.inside.admitted c.self.inside.places.items c.args.token old c.self.view_is c.in-Some.ensures.item.3.0 c.in-Some.ensures.value new c.take_last.result (part c.args.pass.now).known c.take_last.ensures.seen c.requires c.take_last.ensures.asked
+
+pub returns-clause-kept : goal.returns-clause-kept
+returns-clause-kept g c =
+    let old = c.in-Some.place.now in
+    let new = c.take_last.new.self in
+    keeps_at (λ place. place.client) c.args.self.now c.self.inside.admitted c.self.inside.places.items c.args.token old c.self.view_is c.in-Some.ensures.item.3.0 c.in-Some.ensures.value new c.take_last.ensures.kept c.take_last.ensures.seen

@@ -1,0 +1,62 @@
+use Rattle.std.proofs.Common.{◌≡◌, ◌+◌, ◌≤◌, ◌<◌, ◌++◌, [], ◌∷◌, ℕ, IfSome, Some, option_map, vec_capacity, vec_len, length, get_or-set_same, ap, refl, sym, ◌∙◌, subst, arith}
+use Rattle.lz_list.specs.Traces.{Trace, Begins}
+use Rattle.lz_board.specs.declared.pass.Pass.{Pass}
+use Rattle.lz_board.specs.Seats.{part}
+use Rattle.lz_serve.specs.Clients.{HaveSeenIn}
+use Rattle.lz_serve.specs.Desks.{IsCalled, Knows, Passes, count_of}
+use Rattle.lz_serve.specs.Askings.{Asked}
+use Rattle.lz_serve.proofs.Desks.{desk_answered, desk_rested, knows_met}
+use Rattle.lz_serve.proofs.Meetings.{some_mapped}
+use Rattle.lz_serve.proofs.desk.Desk.play_all.Goals as goal
+
+pub calls-preserved-in-GoesOn : goal.calls-preserved-in-GoesOn
+calls-preserved-in-GoesOn g c =
+    let s = c.calls.self-inside in
+    let long = s.calls.ok.0 in
+    let is = c.in-GoesOn.is in
+    record {
+      given = c.calls.invariant.given;
+      desk = desk_answered (λ free. (part free.pass).known) s.given s.most (vec_capacity s.free) (vec_capacity s.calls) s.crowd c.play_call.new.crowd s.meeting c.play_call.new.meeting s.calls.items s.free.items (vec_len s.free) c.calls.invariant.desk c.play_call.ensures.kept
+          c.play_call.ensures.met c.play_call.ensures.none c.calls.at c.play_call.new.asking (omega (arith, long, c.if-at-len.false, c.len.ensures)) (c.play_call.ensures.goes (λ other. absurd (cc)));
+    }
+
+pub calls-preserved-in-Waits : goal.calls-preserved-in-Waits
+calls-preserved-in-Waits g c =
+    let s = c.calls.self-inside in
+    let long = s.calls.ok.0 in
+    let is = c.in-Waits.is in
+    record {
+      given = c.calls.invariant.given;
+      desk = desk_answered (λ free. (part free.pass).known) s.given s.most (vec_capacity s.free) (vec_capacity s.calls) s.crowd c.play_call.new.crowd s.meeting c.play_call.new.meeting s.calls.items s.free.items (vec_len s.free) c.calls.invariant.desk c.play_call.ensures.kept
+          c.play_call.ensures.met c.play_call.ensures.none c.calls.at c.play_call.new.asking (omega (arith, long, c.if-at-len.false, c.len.ensures)) (c.play_call.ensures.goes (λ other. absurd (cc)));
+    }
+
+pub calls-preserved : goal.calls-preserved
+calls-preserved g c =
+    let s = c.calls.self-inside in
+    let inv = c.calls.invariant.desk in
+    let b = c.play_call.new.crowd in
+    let asked = c.play_call.new.asking in
+    let after = option_map (λ free. (part free.pass).known) c.play_call.new.meeting in
+    let long = s.calls.ok.0 in
+    let within : c.calls.at < vec_len s.calls = omega (arith, c.if-at-len.false, c.len.ensures) in
+    let near : c.calls.at < length s.calls.items = omega (arith, within, long) in
+    let rests = c.play_call.ensures.rests c.in-Rests.is in
+    let left = c.swap_remove.new.self in
+    let left_long = left.ok.0 in
+    let fewer = c.swap_remove.ensures.len in
+    let back = c.into_free-free.result in
+    let out = c.swap_remove.result in
+    let same : out ≡ asked = c.swap_remove.ensures.value ∙ get_or-set_same s.calls.items c.calls.at asked out near in
+    let is : back.pass ≡ asked.pass = c.into_free-free.ensures.0 ∙ ap (λ (a : Asked). a.pass) same in
+    let seen : HaveSeenIn b (part back.pass).known = subst (λ (p : Pass). HaveSeenIn b (part p).known) (sym is) rests.1 in
+    let spare = inv.spare_free in
+    let grown = c.put_free.ensures.spare in
+    let spare_calls = inv.spare_calls in
+    let kept_room = c.swap_remove.ensures.capacity in
+    record {
+      given = c.calls.invariant.given;
+      desk = desk_rested (λ free. (part free.pass).known) s.given s.most (vec_capacity s.free) (vec_capacity s.calls) s.crowd b s.meeting c.play_call.new.meeting s.calls.items s.free.items (vec_len s.free) inv c.play_call.ensures.kept c.play_call.ensures.met c.play_call.ensures.none
+          (vec_capacity c.put_free.new.passes) (vec_capacity left) c.calls.at (vec_len s.calls) asked left.items c.put_free.new.passes.items back (vec_len c.put_free.new.passes) within long (omega (arith, left_long, fewer)) c.swap_remove.ensures.by_index c.put_free.ensures.items
+          c.put_free.ensures.count (omega (arith, spare, grown)) (omega (arith, spare_calls, kept_room)) (knows_met b after (part back.pass).known (some_mapped (HaveSeenIn b) (λ free. (part free.pass).known) c.play_call.new.meeting c.play_call.ensures.met) (λ _. seen));
+    }

@@ -1,0 +1,47 @@
+-- What a loop works at: its clients, its passes, and the calls under way. One of several passes makes no call, and meets the others.
+use Rattle.std.specs.Prelude.{◌≡◌, ◌+◌, ◌≤◌, ℕ, All, List, [], Option, Some, None, IfSome, length}
+use Rattle.lz_list.specs.Traces.{Trace, Begins}
+use Rattle.lz_board.specs.Seats.{part}
+use Rattle.lz_serve.specs.Askings.{Asked}
+use Rattle.lz_serve.specs.Clients.{Askers, HaveSeenIn, IsAwaited}
+use Rattle.lz_serve.specs.Grants.{Posed}
+
+-- How many passes were taken in, for how many there is room, and how many answer nothing.
+pub record Passes : Type 0 where
+  pub given : ℕ
+  pub most : ℕ
+  pub free : ℕ
+
+-- what any client has seen the pass has that meets the others, or where there is none, was seen here
+abbrev pub Knows : Askers → Option Trace → Trace → Type 0
+Knows a None known = HaveSeenIn a known
+Knows a (Some met) known = HaveSeenIn a met
+
+-- It answers a question that is awaited by the client of its token, which was put when its pass had seen what any client had, if no pass meets it.
+pub record IsCalled (a : Askers) (meeting : Option Trace) (asked : Asked) : Type 0 where
+  pub question : Posed
+  pub asks : asked.question ≡ Some question
+  pub awaited : IsAwaited a asked.token question
+  pub knows : Knows a meeting (part question.before).known
+
+-- how many these are
+abbrev pub count_of : {X : Type 0} → Option X → ℕ
+count_of None = 0
+count_of (Some x) = 1
+
+-- The calls and the free passes, by what these have seen, are joined to the clients so. With no pass that meets the others there is one at
+-- most; while no pass was given no client has seen anything.
+pub record AreJoined (a : Askers) (given : ℕ) (meeting : Option Trace) (calls : List Asked) (free : List Trace) : Type 0 where
+  pub called : All (IsCalled a meeting) calls
+  pub know : All (Knows a meeting) free
+  pub met : IfSome meeting (HaveSeenIn a)
+  pub alone : meeting ≡ None → length calls + length free ≤ 1
+  pub unseen : given ≡ 0 → HaveSeenIn a []
+
+-- No pass is lost: so many are free, the others answer something, and there is room for each.
+pub record IsDesk (given most idle room_free room_calls : ℕ) (a : Askers) (meeting : Option Trace) (calls : List Asked) (free : List Trace) : Type 0 where
+  pub fit : given ≤ most
+  pub count : idle + length calls ≡ given
+  pub spare_free : most ≤ room_free
+  pub spare_calls : most ≤ room_calls
+  pub joined : AreJoined a given meeting calls free
