@@ -139,7 +139,9 @@ def service(
     these words."""
     if target == "redis":
         return redis(bench, members, before)
-    passes = connections if target == "threads" else min(max(connections, passes), MOST_PASSES)
+    calls = max(connections, passes)
+    # One of a loop's passes carries out no command, where it has several.
+    passes = connections if target == "threads" else min(calls + int(calls > 1), MOST_PASSES)
     loop = [] if target == "threads" else ["--connections", str(connections), "--loops", str(bench.loops)]
     return lazyset(bench, SLOTS, members, passes, BUCKETS if target == FEW else SLOTS, loop, before)
 

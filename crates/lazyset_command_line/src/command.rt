@@ -4,7 +4,7 @@ use clap::{Arg, ArgAction, Command, value_parser};
 use std::alloc::{AllocError, Global};
 
 // The program's version, and the kit that proved and built it, as `rt version` names it.
-const VERSION: &str = "1.6, logic dac8208d650f15bf";
+const VERSION: &str = "1.7, logic dac8208d650f15bf";
 
 /// Where a service listens.
 #[derive(Clone, Copy)]
