@@ -11,9 +11,9 @@ from typing import List
 from trials.crowd import Crowd
 from trials.frames import by_frames
 from trials.guests import connect
-from trials.loops import FLOODS, MOST_GROWTH, MOST_SENT, PASSES
+from trials.loops import FLOODS, MOST_GROWTH, MOST_SENT, PASSES, come_to_rest
 from trials.plain_frames import MOST_WORD, MOST_WORDS, array
-from trials.process import memory, processor_seconds
+from trials.process import memory
 from trials.program import Program, Service
 from trials.report import Wrong, expect
 
@@ -55,20 +55,6 @@ def push_all(floods: List[Flood], seconds: float) -> int:
     return taken
 
 
-def push_to_rest(floods: List[Flood], service: Service) -> None:
-    """Sends until nothing more is taken, and the service has nothing more to do."""
-    sent, latest = 0, time.monotonic() + 20
-    while time.monotonic() < latest:
-        before = processor_seconds(service)
-        taken = push_all(floods, 0.5)
-        sent += taken
-        if sent > MOST_SENT * len(floods):
-            raise Wrong("clients that never read may send without an end")
-        if taken == 0 and processor_seconds(service) - before < 0.1:
-            return
-    raise Wrong("the service doesn't come to rest, though no client reads its replies")
-
-
 def expect_prompt(port: int, turns: int) -> None:
     """Another client's commands are answered, each within a second."""
     with contextlib.closing(connect(port)) as client:
@@ -89,7 +75,8 @@ def try_floods(program: Program, folder: str) -> None:
             with Crowd(service.port, FLOODS) as crowd:
                 crowd.exchange([b"ping\n"] * FLOODS)
                 before = memory(service)
-                push_to_rest([Flood(it, text) for it in crowd.connections], service)
+                floods = [Flood(it, text) for it in crowd.connections]
+                come_to_rest(service, lambda: push_all(floods, 0.5), MOST_SENT * len(floods))
                 grown = memory(service) - before
                 expect_prompt(service.port, 10)
             with Crowd(service.port, FLOODS + 1) as crowd:

@@ -232,14 +232,14 @@ def flood(crowd: Crowd, seconds: float) -> int:
     return taken
 
 
-def flood_to_rest(crowd: Crowd, service: Service) -> None:
-    """Sends on each connection until nothing more is taken, and the service has nothing more to do."""
+def come_to_rest(service: Service, push: Callable[[], int], most: int) -> None:
+    """Sends by this until nothing more is taken, and the service has nothing more to do. No more than so many bytes are."""
     sent, latest = 0, time.monotonic() + 20
     while time.monotonic() < latest:
         before = processor_seconds(service)
-        taken = flood(crowd, 0.5)
+        taken = push()
         sent += taken
-        if sent > MOST_SENT * len(crowd):
+        if sent > most:
             raise Wrong("clients that never read may send without an end")
         if taken == 0 and processor_seconds(service) - before < 0.1:
             return
@@ -253,7 +253,7 @@ def try_floods(program: Program, folder: str) -> None:
         with Crowd(service.port, FLOODS) as crowd:
             crowd.exchange([b"has 1\n"] * FLOODS)
             before = memory(service)
-            flood_to_rest(crowd, service)
+            come_to_rest(service, lambda: flood(crowd, 0.5), MOST_SENT * len(crowd))
             grown = memory(service) - before
             expect_prompt(service.port, 0.2)
         if grown > MOST_GROWTH:

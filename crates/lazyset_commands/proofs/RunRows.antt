@@ -1,5 +1,5 @@
 -- Worked rows of what a crash in a run leaves: the first ones of the replies, computed on small cases.
-use Rattle.std.proofs.Common.{◌≡◌, [], ◌∷◌, refl}
+use Rattle.std.proofs.Common.{[], ◌∷◌, refl}
 use Rattle.lz_proto.specs.declared.request.Request.TheVariants.{Has}
 use Rattle.lz_proto.specs.declared.reply.Reply.TheVariants.{Yes, No, Worn, Halted}
 use Rattle.lazyset_commands.specs.Runs.{AreFirst, Collects}

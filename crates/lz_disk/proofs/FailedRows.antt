@@ -1,5 +1,5 @@
 -- Worked rows: what a write that failed may leave.
-use Rattle.std.proofs.Common.{◌≡◌, ◌⊎◌, ⊎_elim, ℕ, zero, suc, ◌≤◌, max, true, false, List, [], ◌∷◌, slice_index, refl, ap, arith}
+use Rattle.std.proofs.Common.{◌≡◌, ◌⊎◌, ⊎_elim, ℕ, zero, suc, ◌≤◌, true, false, List, [], ◌∷◌, slice_index, refl, ap, arith}
 use Rattle.std.proofs.lemmas.Bool.{false≢true}
 use Rattle.lz_disk.specs.Images.{Medium, AreBytes, WriteFailed, at_rest}
 

@@ -173,11 +173,6 @@ module _ (file new : Medium) (waiting : Waiting) (unsynced : List (ℕ × List �
   pub synced_keeps : IsOver file waiting unsynced → new ≡ synced file → IsOver new waiting []
   synced_keeps over is = subst (λ (m : Medium). IsOver m waiting []) (sym is) (over.0, λ i b. sym (nothing_written waiting.at waiting.bytes [] i b none))
 
-  pub synced_medium : new ≡ synced file → medium_over new waiting [] ≡ synced (medium_over file waiting unsynced)
-  synced_medium is =
-      ap (λ (m : Medium). medium_over m waiting []) is
-      ∙ ap (λ (t : List ℕ). read_as file t [] (overwritten file.seen waiting.at waiting.bytes)) (sym (nothing_waits file.seen waiting.at waiting.bytes none))
-
 -- a call of the file, as a part of one of the disk
 module _ (file new : Device) (waiting waiting' : Waiting) (unsynced unsynced' : List (ℕ × List ℕ)) (calls : ℕ) {fault : Type 0}
     (timely : IsTrue file.honest → IsTimely file) (call : IsCall file new fault) (keeps : KeepsFile new waiting' unsynced')
@@ -347,26 +342,11 @@ module _ (file new : Device) (waiting : Waiting) (unsynced : List (ℕ × List �
           inr (subst (λ (l : List (ℕ × List ℕ)). WriteFailed (medium_over file.medium waiting unsynced) at bytes (medium_over new.medium waiting l)) (sym (one_more file.medium new.medium waiting unsynced none at bytes partly.loose)) faulted))
           not
 
--- a call of the file that leaves its medium
-module _ (file new : Device) (waiting : Waiting) (unsynced : List (ℕ × List ℕ)) (calls : ℕ) {fault : Type 0} (timely : IsTrue file.honest → IsTimely file)
-    (keeps : KeepsFile file waiting unsynced) (call : IsCall file new fault) (same : IsTrue file.honest → new.medium ≡ file.medium) where
-  pub asked_keeps : KeepsFile new waiting unsynced
-  asked_keeps honest' = let honest : IsTrue file.honest = subst IsTrue call.honest honest' in subst (λ (m : Medium). IsOver m waiting unsynced) (sym (same honest)) (keeps honest)
-
-  pub asked_medium : IsTrue file.honest → medium_over new.medium waiting unsynced ≡ medium_over file.medium waiting unsynced
-  asked_medium honest = ap (λ (m : Medium). medium_over m waiting unsynced) (same honest)
-
-  pub asked_part : IsPart (device_over file waiting unsynced calls) (device_over new waiting unsynced calls) fault
-  asked_part = part file new waiting waiting unsynced unsynced calls timely call asked_keeps (λ honest c image. inl (subst (λ (m : Medium). IsImage m c) (sym (asked_medium honest)) image))
-
 -- the file is synced where no write waits
 module _ (file new : Device) (waiting : Waiting) (unsynced : List (ℕ × List ℕ)) (calls : ℕ) {fault : Type 0} (timely : IsTrue file.honest → IsTimely file)
     (keeps : KeepsFile file waiting unsynced) (none : waiting.bytes ≡ []) (call : IsCall file new fault) (is : IsTrue file.honest → new.medium ≡ synced file.medium) where
   pub durable_keeps : KeepsFile new waiting []
   durable_keeps honest' = let honest : IsTrue file.honest = subst IsTrue call.honest honest' in synced_keeps file.medium new.medium waiting unsynced none (keeps honest) (is honest)
-
-  pub durable_medium : IsTrue file.honest → medium_over new.medium waiting [] ≡ synced (medium_over file.medium waiting unsynced)
-  durable_medium honest = synced_medium file.medium new.medium waiting unsynced none (is honest)
 
   pub durable_part : IsPart (device_over file waiting unsynced calls) (device_over new waiting [] calls) fault
   durable_part = part file new waiting waiting unsynced [] calls timely call durable_keeps (λ honest c image. inr (disk_image file.medium waiting unsynced (keeps honest) none c image))

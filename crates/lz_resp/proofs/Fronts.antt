@@ -1,7 +1,7 @@
 -- What readers of slices find.
 use Rattle.std.proofs.Common.{◌≡◌, ℕ, suc, ◌+◌, ◌-◌, ◌<◌, ◌≤◌, List, [], ◌∷◌, ◌++◌, length, take, drop, get_or, true, false, nat_lt, Some, None, Ok, Err, refl, sym, ap, ◌∙◌, arith, append_assoc}
 use Rattle.std.specs.List.{list_any}
-use Rattle.std.proofs.lemmas.List.{append-nil, drop_more}
+use Rattle.std.proofs.lemmas.List.{drop_more}
 use Rattle.std.proofs.lemmas.Bool.{eqb-true}
 use Rattle.std.proofs.lemmas.Bool.Decides.{nat_tests}
 use Rattle.memchr.specs.Find.{IsFirstByte, is_byte}
@@ -77,16 +77,6 @@ pub words_fail : (n k : ℕ) (front : List (List ℕ)) (text : List ℕ) (f : Fa
 words_fail n k front text f low is =
     ap (λ (m : ℕ). with_front front (words_at m text)) (one_less n k low)
     ∙ ap (λ (r : Front (List ℕ)). with_front front (and_then r (λ word rest. and_then (words_at (n - (k + 1)) rest) (λ words after. Ok (Some (word ∷ words, after)))))) is
-
-pub words_all : (n k : ℕ) (front : List (List ℕ)) (text : List ℕ) → n ≤ k → with_front front (words_at (n - k) text) ≡ Ok (Some (front, text))
-words_all n k front text high =
-    let none : n - k ≡ 0 = omega (arith, high) in
-    ap (λ (m : ℕ). with_front front (words_at m text)) none ∙ ap (λ (x : List (List ℕ)). Ok (Some (x, text))) (append-nil front)
-
-pub words_begin : (r : Front (List (List ℕ))) → with_front [] r ≡ r
-words_begin (Ok None) = refl
-words_begin (Ok (Some p)) = refl
-words_begin (Err f) = refl
 
 -- what is found within the bytes that a frame may have
 pub first_found : (text window : List ℕ) (words : List (List ℕ)) (after : List ℕ) → window ≡ take most_frame text → frame_at window ≡ Ok (Some (words, after))

@@ -105,9 +105,6 @@ end_fault fault (b ∷ c ∷ t) more f h =
     cond_both ((b == carriage_return) && (c == line_feed)) (Ok (Some (tt, t))) (Err fault) (λ r. r ≡ Err f → end_at fault (b ∷ c ∷ (t ++ more)) ≡ Err f)
     (λ _ h. absurd (cc)) (λ other h. rw other h) h
 
-pub stays_end : (fault : Fault) → Stays (end_at fault)
-stays_end fault = record { value = λ text more x rest h. let e = end_value fault text more x rest h in (e.0, omega (arith, e.1)); fault = end_fault fault }
-
 -- a part before a byte stays
 pub record Parts (c : ℕ) (text more : List ℕ) (p : List ℕ × List ℕ) : Type 0 where
   pub still : parted c (text ++ more) ≡ Some (p.0, p.1 ++ more)

@@ -1,5 +1,5 @@
 -- Worked rows of what a pass of a loop is about, most of which must not hold.
-use Rattle.std.proofs.Common.{◌≡◌, ◌≢◌, ℕ, Bool, true, List, Option, Some, None, sym, ap, ◌∙◌, subst}
+use Rattle.std.proofs.Common.{◌≡◌, ℕ, true, List, Option, Some, None, sym, ap, ◌∙◌, subst}
 use Rattle.lz_slot.specs.declared.command.Command.TheVariants as command
 use Rattle.lz_slot.specs.declared.format.Format.{Format}
 use Rattle.lz_machine.specs.Orders.{Calling}
@@ -7,7 +7,6 @@ use Rattle.lz_proto.specs.declared.request.Request.TheVariants.{Add, Has, Quit}
 use Rattle.lz_board.specs.declared.pass.Pass.{Pass}
 use Rattle.lz_board.specs.declared.view.Part.{Part}
 use Rattle.lz_board.specs.Seats.{BoardId}
-use Rattle.lz_set.specs.declared.underway.Stage.TheVariants.{Answers}
 use Rattle.lz_serve.specs.Grants.{Posed}
 use Rattle.lz_serve.specs.Halts.{SawHalt}
 use Rattle.lz_serve.specs.Replies.{AreAskedAgain, command_of}

@@ -1,5 +1,5 @@
 -- A pass of a loop that answers a request: how its call is played on, and its reply.
-use Rattle.std.proofs.Common.{◌≡◌, ◌≢◌, ◌+◌, ℕ, true, false, List, [], ◌∷◌, ◌++◌, Result, Bool, Option, Some, None, IsSomeAnd, refl, sym, ap, ◌∙◌, subst, append_assoc}
+use Rattle.std.proofs.Common.{◌≡◌, ◌+◌, ℕ, true, List, [], Result, Bool, Option, Some, None, refl, sym, subst}
 use Rattle.lz_slot.specs.declared.command.Command.{Command}
 use Rattle.lz_slot.specs.declared.format.Format.{Format}
 use Rattle.lz_machine.specs.Orders.{Calling}
@@ -7,8 +7,6 @@ use Rattle.lz_proto.specs.declared.request.Request.{Request}
 use Rattle.lz_proto.specs.declared.reply.Reply.{Reply}
 use Rattle.lz_board.specs.declared.pass.Pass.{Pass}
 use Rattle.lz_board.specs.declared.view.Part.{Part}
-use Rattle.lz_board.specs.declared.view.What.TheVariants.{Called}
-use Rattle.lz_board.specs.Notes.{note_by}
 use Rattle.lz_board.specs.Seats.{BoardId, IsOf, part}
 use Rattle.lz_tie.specs.Answers.{Answers}
 use Rattle.lz_tie.specs.Counting.{Counts, CountsOn}
@@ -16,27 +14,11 @@ use Rattle.lz_tie.specs.OneCaller.{IsPlainAnswer, keys_in}
 use Rattle.lz_set.specs.declared.fault.Fault.{Fault}
 use Rattle.lz_set.specs.Answers.{reply_of}
 use Rattle.lz_set.specs.Names.{MayCall}
-use Rattle.lz_set.specs.declared.underway.Stage.{Stage}
-use Rattle.lz_set.specs.Stages.{StandsAt, StepsOn}
 use Rattle.lz_serve.specs.Halts.{IsCalmAfter}
 use Rattle.lz_serve.specs.Replies.{SeatAnswers, asks_again, says_halted}
 use Rattle.lz_serve.proofs.Seats.{AskedUpTo, one_more, saw_now, stays_calm}
 use Rattle.lz_serve.specs.Grants.{Posed}
-use Rattle.lz_serve.specs.Askings.{IsAnswering, IsCounting, IsResting, RestsOrAnswers, StandsWhere}
-
--- the steps of a call that has begun
-pub steps_begun : {b : BoardId} {c : Command} {F : Format} {before h : Part} {call : Calling} → Counts b c F before call h → StepsOn before h
-steps_begun {b} {c} {F} {before} {h} {call} counts =
-    let first = note_by h.number (Called c F) None in
-    let under = counts.under in
-    (under.within ++ first ∷ [], under.steps ∙ sym (append_assoc under.within (first ∷ []) before.steps))
-
--- where a call stands
-pub stands_there : (stage : Option Stage) (s : Stage) (call : Option Calling) → stage ≡ Some s → StandsWhere stage call → IsSomeAnd call (λ k. StandsAt s k)
-stands_there stage s call there stands = subst (λ (o : Option Stage). StandsWhere o call) there stands
-
-pub stands_at : (s : Stage) (call : Option Calling) (k : Calling) → call ≡ Some k → IsSomeAnd call (λ k. StandsAt s k) → StandsAt s k
-stands_at s call k is stands = subst (λ (o : Option Calling). IsSomeAnd o (λ k. StandsAt s k)) is stands
+use Rattle.lz_serve.specs.Askings.{IsAnswering, IsCounting, IsResting, RestsOrAnswers}
 
 module _ (b : BoardId) (F : Format) (given : List Part) where
   -- what answers a question doesn't rest
@@ -44,22 +26,12 @@ module _ (b : BoardId) (F : Format) (given : List Part) where
       → IsAnswering b F given q pass call tries
   answering question q pass halted call tries is so = subst (λ (o : Option Posed). RestsOrAnswers b F given o pass halted call tries) is so
 
-  pub still_answers : (question : Option Posed) (q : Posed) (pass : Pass) (halted : Bool) (call : Option Calling) (tries : ℕ) → question ≡ Some q → IsAnswering b F given q pass call tries
-      → RestsOrAnswers b F given question pass halted call tries
-  still_answers question q pass halted call tries is so = subst (λ (o : Option Posed). RestsOrAnswers b F given o pass halted call tries) (sym is) so
-
   -- what rests answers none
   pub resting : (question : Option Posed) (pass : Pass) (halted : Bool) (call : Option Calling) (tries : ℕ) → question ≡ None → RestsOrAnswers b F given question pass halted call tries → IsResting b given pass halted call
   resting question pass halted call tries is so = subst (λ (o : Option Posed). RestsOrAnswers b F given o pass halted call tries) is so
 
   pub has_rested : (question : Option Posed) (pass : Pass) (halted : Bool) (call : Option Calling) (tries : ℕ) → question ≡ None → IsResting b given pass halted call → RestsOrAnswers b F given question pass halted call tries
   has_rested question pass halted call tries is so = subst (λ (o : Option Posed). RestsOrAnswers b F given o pass halted call tries) (sym is) so
-
-  -- nor does what has a call that stands somewhere
-  pub not_resting : (question : Option Posed) (pass : Pass) (halted : Bool) (call : Option Calling) (tries : ℕ) (stage : Option Stage) (s : Stage) → stage ≡ Some s → StandsWhere stage call
-      → RestsOrAnswers b F given question pass halted call tries → question ≡ None → ⊥
-  not_resting question pass halted call tries stage s there stands so none =
-      subst (λ (o : Option Calling). IsSomeAnd o (λ k. StandsAt s k)) (resting question pass halted call tries none so).none (stands_there stage s call there stands)
 
   module _ {q : Posed} {pass : Pass} {call : Option Calling} {tries : ℕ} (is : IsAnswering b F given q pass call tries) where
     -- a call that begins, or is played on, is for the same request

@@ -22,12 +22,11 @@ use Rattle.lz_serve.specs.Lines.{awaited}
 use Rattle.lz_resp.specs.declared.form.Form.TheVariants.{Added}
 use Rattle.lz_resp.specs.declared.naming.Naming.{Naming}
 use Rattle.lz_serve.specs.declared.language.Language.TheVariants.{Lines, Frames}
-use Rattle.lz_serve.specs.declared.reader.Reader.{Reader}
 use Rattle.lz_serve.specs.declared.reader.Reader.TheVariants as reader
 use Rattle.lz_serve.specs.declared.turn.Turn.{Turn}
 use Rattle.lz_serve.specs.declared.turn.Turn.TheVariants.{Asks as asks, Says as says}
 use Rattle.lz_serve.specs.declared.turn.Wording.TheVariants as wording
-use Rattle.lz_serve.specs.Exchanges.{CameFrom, Exchange, of_line}
+use Rattle.lz_serve.specs.Exchanges.{CameFrom, Exchange}
 use Rattle.lz_serve.specs.Exchanges as exchange
 use Rattle.lz_serve.specs.Conversations.{AreTold, IsAt, IsTold, Talk, more, nothing as none_told}
 use Rattle.lz_serve.specs.LineSessions.{IsGranted, IsSession}

@@ -1,9 +1,9 @@
 -- Clients at their places: what each operation on a place keeps.
-use Rattle.std.proofs.Common.{◌≡◌, ◌≤◌, ◌<◌, ◌+◌, inr, ℕ, zero, suc, All, List, [], ◌∷◌, Option, Some, None, IfSome, length, map, get_or, set, slice_get, refl, sym, ap, ◌∙◌, subst, arith}
+use Rattle.std.proofs.Common.{◌≡◌, ◌≤◌, ◌<◌, ◌+◌, inr, ℕ, zero, suc, All, List, [], ◌∷◌, Option, Some, None, IfSome, length, map, get_or, set, slice_get, refl, sym, ap, subst, arith}
 use Rattle.std.proofs.lemmas.List.Elements.{All-cons, All-head, All-nil, All-tail, All-weaker}
 use Rattle.std.proofs.lemmas.Option.{slice_get_read}
 use Rattle.lz_list.specs.Traces.{Trace, Begins}
-use Rattle.lz_serve.specs.Clients.{Asker, Askers, HasSeenIn, HaveSeenIn, IsAskedBy, IsAwaited, IsOwn, IsOwnOf, Keeps, KeepsAwaited, KeepsOwn, KeepsSeen}
+use Rattle.lz_serve.specs.Clients.{Asker, Askers, HasSeenIn, HaveSeenIn, IsAskedBy, IsAwaited, IsOwnOf, Keeps, KeepsAwaited, KeepsOwn, KeepsSeen}
 use Rattle.lz_serve.specs.Grants.{Posed}
 
 pub from_nothing : (known : Trace) → Begins [] known

@@ -7,7 +7,7 @@ use Rattle.lz_list.specs.Traces.{Trace, Begins}
 use Rattle.lz_list.proofs.Traces.WalkEnd.{begins_before}
 use Rattle.lz_board.specs.Seats.{part}
 use Rattle.lz_serve.specs.Askings.{Asked}
-use Rattle.lz_serve.specs.Clients.{Asker, Askers, HasSeenIn, HaveSeenIn, IsAwaited, Keeps, KeepsAwaited}
+use Rattle.lz_serve.specs.Clients.{Asker, Askers, HasSeenIn, HaveSeenIn, IsAwaited, KeepsAwaited}
 use Rattle.lz_serve.specs.Desks.{AreJoined, IsCalled, IsDesk, Knows, count_of}
 use Rattle.lz_serve.proofs.Crowds.{from_nothing}
 
@@ -19,11 +19,6 @@ seen_later a old new more = All-weaker (HasSeenIn a.admitted old) (HasSeenIn a.a
     each None so = tt
     each (Some x) so = (so.0, begins_before x.seen old new so.1 more)
 
--- so it is of what the pass has seen that meets the others, after another one has met it
-pub met_seen : (a : Askers) (meeting : Option Trace) (known : Trace) → IfSome meeting (λ met. Begins met known) → Knows a meeting known → HaveSeenIn a known
-met_seen a None known more knows = knows
-met_seen a (Some met) known more knows = seen_later a met known more knows
-
 pub knows_seen : (a : Askers) (meeting : Option Trace) (known : Trace) → IfSome meeting (λ met. met ≡ known) → HaveSeenIn a known → Knows a meeting known
 knows_seen a None known alike seen = seen
 knows_seen a (Some met) known alike seen = subst (HaveSeenIn a) (sym alike) seen
@@ -31,27 +26,6 @@ knows_seen a (Some met) known alike seen = subst (HaveSeenIn a) (sym alike) seen
 pub knows_met : (a : Askers) (meeting : Option Trace) (known : Trace) → IfSome meeting (HaveSeenIn a) → (meeting ≡ None → HaveSeenIn a known) → Knows a meeting known
 knows_met a None known met seen = seen refl
 knows_met a (Some met) known is seen = is
-
-pub knows_kept : (a b : Askers) (meeting : Option Trace) (known : Trace) → Keeps a b → Knows a meeting known → Knows b meeting known
-knows_kept a b None known keeps knows = keeps.seen known knows
-knows_kept a b (Some met) known keeps knows = keeps.seen met knows
-
-pub met_kept : (a b : Askers) (meeting : Option Trace) → Keeps a b → IfSome meeting (HaveSeenIn a) → IfSome meeting (HaveSeenIn b)
-met_kept a b None keeps met = tt
-met_kept a b (Some known) keeps met = keeps.seen known met
-
-pub called_kept : (a b : Askers) (meeting : Option Trace) (asked : Asked) → Keeps a b → IsCalled a meeting asked → IsCalled b meeting asked
-called_kept a b meeting asked keeps is = record { question = is.question; asks = is.asks; awaited = keeps.awaited asked.token is.question is.awaited; knows = knows_kept a b meeting (part is.question.before).known keeps is.knows }
-
--- whatever comes and goes, and while clients are tended to
-pub joined_kept : (a b : Askers) (given : ℕ) (meeting : Option Trace) (calls : List Asked) (free : List Trace) → Keeps a b → AreJoined a given meeting calls free → AreJoined b given meeting calls free
-joined_kept a b given meeting calls free keeps is = record {
-  called = All-weaker (IsCalled a meeting) (IsCalled b meeting) (λ asked so. called_kept a b meeting asked keeps so) calls is.called;
-  know = All-weaker (Knows a meeting) (Knows b meeting) (λ known so. knows_kept a b meeting known keeps so) free is.know;
-  met = met_kept a b meeting keeps is.met;
-  alone = is.alone;
-  unseen = λ none. keeps.seen [] (is.unseen none);
-}
 
 -- the same question is answered
 pub called_same : (a : Askers) (meeting : Option Trace) (old new : Asked) → new.question ≡ old.question → new.token ≡ old.token → IsCalled a meeting old → IsCalled a meeting new
@@ -163,16 +137,6 @@ module _ (a b : Askers) (old new : Option Trace) (keeps : KeepsAwaited a b) (met
         by_case : (x : Option Trace) → x ≡ new → All (IsCalled b new) left
         by_case None is = let one = was.alone (none (sym is)) in all_none (IsCalled b new) left (omega (arith, one, count, same))
         by_case (Some t) is = there (calls_now calls (λ no. absurd (cc)) was.called)
-
--- none was given yet
-pub joined_none : (a : Askers) (calls : List Asked) (free : List Trace) → calls ≡ [] → free ≡ [] → HaveSeenIn a [] → AreJoined a 0 None calls free
-joined_none a calls free no_call no_pass unseen = record {
-  called = subst (All (IsCalled a None)) (sym no_call) (All-nil (IsCalled a None));
-  know = subst (All (Knows a None)) (sym no_pass) (All-nil (Knows a None));
-  met = tt;
-  alone = λ _. let one = ap (λ (l : List Asked). length l) no_call in let two = ap (λ (l : List Trace). length l) no_pass in omega (arith, one, two);
-  unseen = λ _. unseen;
-}
 
 -- the pass that meets the others, or else the last of the free ones, has seen what the clients have
 module _ (a : Askers) (given : ℕ) (old new : Option Trace) (calls : List Asked) (free rest : List Trace) (was : AreJoined a given old calls free) (same : IfSome old (λ met. new ≡ Some met))
@@ -449,7 +413,3 @@ desk_played given most idle room room_calls a meeting calls free at old new was 
         unseen = was.joined.unseen;
       };
     }
-
-pub desk_kept : (given most idle room_free room_calls : ℕ) (a b : Askers) (meeting : Option Trace) (calls : List Asked) (free : List Trace) → Keeps a b → IsDesk given most idle room_free room_calls a meeting calls free → IsDesk given most idle room_free room_calls b meeting calls free
-desk_kept given most idle room_free room_calls a b meeting calls free keeps is =
-    record { fit = is.fit; count = is.count; spare_free = is.spare_free; spare_calls = is.spare_calls; joined = joined_kept a b given meeting calls free keeps is.joined }

@@ -1,5 +1,5 @@
 -- A pass after one more answer.
-use Rattle.std.proofs.Common.{◌≡◌, true, false, List, sym, subst}
+use Rattle.std.proofs.Common.{◌≡◌, false, List, sym, subst}
 use Rattle.lz_slot.specs.declared.format.Format.{Format}
 use Rattle.lz_list.specs.Traces.{Begins}
 use Rattle.lz_board.specs.declared.pass.Pass.{Pass}
@@ -9,7 +9,7 @@ use Rattle.lz_set.specs.Names.{MayCall}
 use Rattle.lz_serve.specs.Grants.{Grant, IsGrant}
 use Rattle.lz_serve.specs.Halts.{IsCalm, IsCalmAfter, SawHalt}
 use Rattle.lz_serve.specs.Replies.{says_halted}
-use Rattle.lz_serve.proofs.Seats.{grows, saw_before, saw_now, stays_calm}
+use Rattle.lz_serve.proofs.Seats.{grows, saw_before, stays_calm}
 
 -- This pass was given, has answered, and is handed back.
 module _ (b : BoardId) (F : Format) (given back : Pass) (g : Grant) (is : IsGrant b F g) (from : g.question.before ≡ given) (to : g.after ≡ back) where
@@ -22,10 +22,6 @@ module _ (b : BoardId) (F : Format) (given back : Pass) (g : Grant) (is : IsGran
   -- it has seen the halt, if it had
   pub still_saw : SawHalt given → SawHalt back
   still_saw seen = subst SawHalt to (saw_before b F g.question.earlier g.question.before g.after g.question.request g.reply is (subst SawHalt (sym from) seen))
-
-  -- or if it was told so
-  pub saw_so : says_halted g.reply ≡ true → SawHalt back
-  saw_so says = subst SawHalt to (saw_now b F g.question.earlier g.question.before g.after g.question.request g.reply is says)
 
   -- and else it is as calm as it was
   pub still_calm : (parts : List Part) → MayCall b back → IsCalmAfter parts given → says_halted g.reply ≡ false → IsCalmAfter parts back

@@ -19,9 +19,9 @@ use Rattle.lz_serve.specs.declared.reader.Reader.TheVariants as reader
 use Rattle.lz_serve.specs.declared.turn.Wording.TheVariants.{Line}
 use Rattle.lz_serve.specs.declared.turn.Turn.{Turn}
 use Rattle.lz_serve.specs.Exchanges.{CameFrom, Exchange, asks, end_by, of_line, turn_of}
-use Rattle.lz_serve.specs.Conversations.{AreFor, AreTold, IsAt, IsTold, Talk, more, nothing}
-use Rattle.lz_serve.specs.Grants.{Grant, IsOfLine}
-use Rattle.lz_serve.specs.LineSessions.{IsGranted, IsSession, LinesAreSessions, LinesCame}
+use Rattle.lz_serve.specs.Conversations.{AreTold, IsTold, more, nothing}
+use Rattle.lz_serve.specs.Grants.{Grant}
+use Rattle.lz_serve.specs.LineSessions.{IsGranted, LinesAreSessions, LinesCame}
 
 -- the items of a front of exchanges
 record Fronts (items : List Item) (xs ys : List Exchange) : Type 0 where

@@ -66,13 +66,6 @@ past_noted (line ∷ under) (put ∷ puts) zero request reply e is past =
     let same : line ≡ awaited request = cc in (subst (λ (l : Line). key_asked e.question.request ≡ key_asked l.request → Begins (part e.after).known (part put).known) same past.0, past.1)
 past_noted (line ∷ under) (put ∷ puts) (suc at) request reply e is past = (past.0, past_noted under puts at request reply e is past.1)
 
--- the first is told its reply
-past_after : (under : List Line) (puts : List Pass) (e : Grant) → IsPast under puts e → IsPast (drop 1 under) (drop 1 puts) e
-past_after [] [] e past = tt
-past_after [] (put ∷ puts) e past = absurd past
-past_after (line ∷ under) [] e past = absurd past
-past_after (line ∷ under) (put ∷ puts) e past = past.1
-
 module _ (P : List Grant → Type 0) (connection : ℕ) where
   module _ (seen : Trace) where
     pub as_many : (told : ℕ) (under : List Line) (puts : List Pass) → AreEarned P seen connection told under puts → length puts ≡ length under

@@ -1,9 +1,7 @@
 -- Passes that have met: what they have seen.
-use Rattle.std.proofs.Common.{◌≡◌, Option, Some, None, IfSome, option_map, sym, subst}
+use Rattle.std.proofs.Common.{Option, Some, None, IfSome, option_map, sym, subst}
 use Rattle.lz_list.specs.Traces.{Trace, Begins}
-use Rattle.lz_list.proofs.Traces.WalkEnd.{begins_before}
 use Rattle.lz_board.specs.declared.pass.Pass.{Pass}
-use Rattle.lz_board.specs.declared.view.Part.{Part}
 use Rattle.lz_board.specs.Seats.{part}
 use Rattle.lz_board.proofs.Upkeep.Growth.{extends_of}
 use Rattle.lz_board.proofs.Walk.GlanceAnswer.{halt_since}

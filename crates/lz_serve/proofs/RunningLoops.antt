@@ -1,5 +1,5 @@
 -- How many passes the loops that run are to hand back.
-use Rattle.std.proofs.Common.{◌≡◌, ℕ, ◌+◌, List, [], ◌∷◌, ◌++◌, refl, ap, ◌∙◌, arith}
+use Rattle.std.proofs.Common.{◌≡◌, ◌+◌, List, [], ◌∷◌, ◌++◌, arith}
 use Rattle.std.specs.declared.thread.PromisedHandle.{PromisedHandle}
 use Rattle.lz_serve.specs.declared.shares.HandsBack.{HandsBack}
 use Rattle.lz_serve.specs.Promised.{promised}

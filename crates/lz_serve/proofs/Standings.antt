@@ -1,15 +1,13 @@
 -- Where a conversation stands after each step.
-use Rattle.std.proofs.Common.{◌≡◌, ◌≢◌, ◌-◌, ℕ, zero, suc, Bool, true, false, List, [], ◌∷◌, ◌++◌, ◌+◌, ◌≤◌, take, drop, length, map, slice_set, Option, Some, None, refl, sym, ap, subst, ◌∙◌, append_assoc, length-append, arith}
+use Rattle.std.proofs.Common.{◌≡◌, ◌-◌, ℕ, zero, suc, List, [], ◌∷◌, ◌++◌, ◌+◌, ◌≤◌, take, drop, length, map, slice_set, Some, None, refl, sym, ap, subst, ◌∙◌, append_assoc, length-append, arith}
 use Rattle.std.proofs.lemmas.List.{append-nil, take-append-drop}
 use Rattle.lz_proto.specs.declared.request.Request.{Request}
-use Rattle.lz_proto.specs.declared.item.Item.{Item as LineItem}
 use Rattle.lz_proto.specs.declared.reply.Reply.{Reply}
 use Rattle.lz_proto.specs.declared.end.End.{End}
 use Rattle.lz_proto.specs.declared.end.End.TheVariants.{Done, Quit}
 use Rattle.lz_proto.specs.Pieces.{faults_of}
 use Rattle.lz_proto.specs.Lines.{Items as LineItems}
 use Rattle.lz_proto.proofs.Texts as lines
-use Rattle.lz_resp.specs.declared.item.Item.{Item as FrameItem}
 use Rattle.lz_resp.specs.Keys.{at_first}
 use Rattle.lz_resp.proofs.Texts as frames
 use Rattle.lz_serve.specs.declared.language.Language.{Language}

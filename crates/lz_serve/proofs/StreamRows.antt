@@ -1,5 +1,5 @@
 -- Worked rows of what a stream gives and takes, most of which must not hold.
-use Rattle.std.proofs.Common.{◌≡◌, ℕ, Bool, true, false, List, [], ◌∷◌, ◌++◌, Option, Some, None, is_none, refl, sym, ◌∙◌}
+use Rattle.std.proofs.Common.{◌≡◌, ℕ, true, false, List, [], ◌∷◌, ◌++◌, Option, Some, None, is_none, refl, sym, ◌∙◌}
 use mathlib.Core.Bool.{true≢false}
 use Rattle.lz_proto.specs.declared.item.Item.{Item}
 use Rattle.lz_proto.specs.declared.end.End.{End}

@@ -1,5 +1,5 @@
 -- A conversation on its stream: it stays the stream's, whatever comes and goes.
-use Rattle.std.proofs.Common.{◌≡◌, ℕ, Bool, suc, true, false, List, [], ◌∷◌, ◌++◌, ◌+◌, ◌-◌, ◌≤◌, take, drop, length, length-drop, Option, Some, None, IfSome, is_none, refl, sym, ap, ◌∙◌, subst, arith}
+use Rattle.std.proofs.Common.{◌≡◌, ℕ, Bool, true, false, List, [], ◌∷◌, ◌++◌, ◌+◌, ◌-◌, ◌≤◌, take, drop, length, length-drop, Option, Some, None, IfSome, is_none, refl, sym, ap, ◌∙◌, subst, arith}
 use Rattle.std.proofs.lemmas.List.{append-nil}
 use Rattle.lz_proto.specs.declared.request.Request.{Request}
 use Rattle.lz_proto.specs.declared.reply.Reply.{Reply}
@@ -64,11 +64,6 @@ module _ (P : List Grant → Type 0) (connection : ℕ) where
         ap (λ (t : Talk). is_none t.reader) step.4,
       )
 
-  -- where nothing came
-  pub unheard : (before after : Option Traffic) (buffer : List ℕ) (t : Talk) → Receives before after received.Later buffer → IsTalkOf P connection before t → IsTalkOf P connection after t
-  unheard None after buffer t is at = subst (λ (s : Option Traffic). IsTalkOf P connection s t) (sym is) tt
-  unheard (Some s) after buffer t is at = subst (λ (x : Option Traffic). IsTalkOf P connection x t) (sym is) at
-
   -- where so many bytes were taken of what was to be sent
   pub sent : (before after : Option Traffic) (n : ℕ) (old new : Talk) → Takes before after (taken.Count n) old.unsent → new ≡ record old { unsent = drop n old.unsent } → IsTalkOf P connection before old → IsTalkOf P connection after new
   sent None after n old new is step was = subst (λ (s : Option Traffic). IsTalkOf P connection s new) (sym is) tt
@@ -80,11 +75,6 @@ module _ (P : List Grant → Type 0) (connection : ℕ) where
         ap (λ (t : Talk). t.spoken) step ∙ was.3,
         ap (λ (t : Talk). is_none t.reader) step ∙ was.4,
       )
-
-  -- where none was
-  pub untaken : (before after : Option Traffic) (text : List ℕ) (t : Talk) → Takes before after taken.Later text → IsTalkOf P connection before t → IsTalkOf P connection after t
-  untaken None after text t is at = subst (λ (s : Option Traffic). IsTalkOf P connection s t) (sym is) tt
-  untaken (Some s) after text t is at = subst (λ (x : Option Traffic). IsTalkOf P connection x t) (sym is) at
 
   -- where a request was handed out
   pub handed_out : (s : Option Traffic) (request : Request) (old new : Talk) → old.waiting ≡ request ∷ drop 1 old.waiting → new ≡ record old { waiting = drop 1 old.waiting; under = old.under ++ awaited request ∷ [] }

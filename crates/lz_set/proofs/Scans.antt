@@ -3,7 +3,7 @@ use Rattle.std.proofs.Common.{inl, inr, ℕ, ◌<◌, ◌≤◌, true, Option, S
 use Rattle.std.proofs.lemmas.Bool.{cases_lt}
 use Rattle.std.proofs.lemmas.List.Elements.{All-append, Contains-append_left, Contains-append_right}
 use Rattle.lz_slot.specs.Limits.{largest_key}
-use Rattle.lz_list.specs.Traces.{Trace, Begins, bucket_of}
+use Rattle.lz_list.specs.Traces.{Trace, bucket_of}
 use Rattle.lz_list.proofs.Traces.Absence.{begins_itself}
 use Rattle.lz_list.proofs.Traces.Hindsight.{lawful_begins}
 use Rattle.lz_list.proofs.Traces.WalkEnd.{begins_before}

@@ -1,7 +1,7 @@
 -- The slots of format 4: what is read of one is what was written, and no mixture of zeros with one is another.
-use Rattle.std.proofs.Common.{◌≡◌, ◌⊎◌, inl, inr, ⊎_elim, subst, ℕ, zero, suc, ◌+◌, ◌*◌, ◌/◌, ◌%◌, ◌<◌, ◌≤◌, ◌^◌, Bool, true, false, List, [], ◌∷◌, length, get_or, refl, sym, ap, ◌∙◌, arith}
-use Rattle.std.specs.Prelude.{◌&&◌, ◌==◌, nat_le, if◌then◌else◌}
-use Rattle.std.specs.List.{list_all, list_any}
+use Rattle.std.proofs.Common.{◌≡◌, ◌⊎◌, inl, inr, ⊎_elim, ℕ, zero, suc, ◌+◌, ◌*◌, ◌/◌, ◌%◌, ◌<◌, ◌≤◌, Bool, true, false, List, [], ◌∷◌, length, get_or, refl, sym, ap, ◌∙◌, arith}
+use Rattle.std.specs.Prelude.{◌&&◌, nat_le, if◌then◌else◌}
+use Rattle.std.specs.List.{list_all}
 use Rattle.std.proofs.lemmas.Bool.Decides.{nat_tests, eqb_tells}
 use Rattle.byteorder.specs.Endian.{big_bytes, big_number}
 use Rattle.byteorder.specs.Numbers.{big_number-reads_back}
@@ -10,7 +10,7 @@ use Rattle.std.specs.Int.{w64, from_be_bytes}
 use Rattle.lz_slot.specs.Limits.{largest_key}
 use Rattle.lz_slot.specs.declared.slot.SlotRead.{SlotRead}
 use Rattle.lz_slot.specs.declared.slot.SlotRead.TheVariants.{Closed, Member, BadKey}
-use Rattle.lz_slot.specs.Whole.{spelled, spells, whole_slot, is_paired, is_shut, whole_read, IsPartOf, WholeReadsBack, WholeIsOfItsKey, MixturesAreWhole, ShutStaysShut}
+use Rattle.lz_slot.specs.Whole.{spelled, spells, whole_slot, is_paired, is_shut, IsPartOf, WholeReadsBack, WholeIsOfItsKey, MixturesAreWhole, ShutStaysShut}
 
 -- a mixture of zeros with a list, one byte after the other
 part_tail : (x y : ℕ) (t whole : List ℕ) → IsPartOf (x ∷ t) (y ∷ whole) → IsPartOf t whole

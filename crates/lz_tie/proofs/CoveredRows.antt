@@ -1,5 +1,5 @@
 -- Worked rows: when a Sync spares the device.
-use Rattle.std.proofs.Common.{◌≡◌, suc, false, true, [], ◌∷◌, refl, arith}
+use Rattle.std.proofs.Common.{false, [], ◌∷◌, refl, arith}
 use Rattle.lz_slot.specs.declared.format.Format.TheVariants.{One}
 use Rattle.lz_disk.specs.Devices.{Device}
 use Rattle.lz_vault.specs.declared.vault.Stage.{Stage}

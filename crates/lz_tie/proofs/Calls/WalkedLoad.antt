@@ -1,8 +1,7 @@
 -- A call that walks, apart from its caller: the word that it loads, and where the value leads.
-use Rattle.std.proofs.Common.{◌≡◌, ◌≤◌, ℕ, sym, ap, ◌∙◌, subst}
-use Rattle.std.specs.Prelude.{Option, Some}
+use Rattle.std.proofs.Common.{◌≡◌, ℕ, sym, ap, ◌∙◌, subst}
+use Rattle.std.specs.Prelude.{Some}
 use Rattle.std.proofs.lemmas.Option.{none-some, same_Some}
-use Rattle.lz_slot.specs.Sets.{key_of}
 use Rattle.lz_list.specs.declared.walk.Look.{Look}
 use Rattle.lz_list.specs.declared.walk.Walk.{Walk}
 use Rattle.lz_list.specs.Hops.{LeadsOn}

@@ -1,5 +1,5 @@
 -- A Sync whose slot is covered calls no device.
-use Rattle.std.proofs.Common.{◌≡◌, ◌≢◌, ℕ, Bool, true, if◌then◌else◌, refl, sym, ap, ◌∙◌, subst}
+use Rattle.std.proofs.Common.{◌≡◌, ◌≢◌, ℕ, Bool, true, if◌then◌else◌, refl, sym, ap, subst}
 use Rattle.lz_disk.specs.Devices.{Device}
 use Rattle.lz_vault.specs.Vaults.{DeviceCall, NoCall, SyncAll, Succeeds}
 use Rattle.lz_list.specs.declared.word.Word.TheVariants.{Pin as pin_at}

@@ -27,14 +27,13 @@ use Rattle.lz_board.specs.Plays.{found_note, knowing}
 use Rattle.lz_board.specs.Seats.{BoardId, IsPenOf, notes}
 use Rattle.lz_tie.specs.declared.playing.Turn.{Turn}
 use Rattle.lz_tie.specs.Held.{Began, IsNextOf, WentOn, found_for}
-use Rattle.lz_tie.specs.Holds.{HoldNotes, InHold, IsIdle, IsLocked, IsTurn, MayTurn, Turned, begins_with, what_of}
+use Rattle.lz_tie.specs.Holds.{HoldNotes, InHold, IsLocked, IsTurn, MayTurn, Turned, begins_with, what_of}
 use Rattle.lz_tie.specs.Lives.{KeepsLife, LivesOn, faults_in, faults_with}
 use Rattle.lz_tie.specs.Marks.{last_call_number}
 use Rattle.lz_tie.specs.Moments.{HoldExplains, MomentsGoOn, LeftSince, RepliesStay}
 use Rattle.lz_tie.specs.NotedRuns.{seen_event}
 use Rattle.lz_tie.specs.OnePass.{OnlyOwn}
 use Rattle.lz_tie.proofs.Hold.Joining.{joined_turn, seen_turned}
-use Rattle.lz_tie.proofs.Hold.PinSight.{found_turn}
 use Rattle.lz_tie.proofs.Lives.HeldLives.{life_on}
 use Rattle.lz_tie.proofs.Lives.ToldFailures.{fault_counted, faults_held}
 use Rattle.lz_tie.proofs.Marks.GrownMarks.{call_shows, turn_shows}

@@ -1,4 +1,4 @@
-use Rattle.std.proofs.Common.{◌≡◌, ◌<◌, length, sym, subst, arith}
+use Rattle.std.proofs.Common.{◌<◌, length, sym, subst, arith}
 use Rattle.lz_board.specs.Seats.{IsNew}
 use Rattle.lz_set.specs.Names.{MayCall}
 use Rattle.lazyset_commands.proofs.Services.{all_new}

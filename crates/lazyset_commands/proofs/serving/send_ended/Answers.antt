@@ -1,4 +1,4 @@
-use Rattle.std.proofs.Common.{List, ℕ, [], ◌∷◌, ◌++◌, Err, subst}
+use Rattle.std.proofs.Common.{List, ℕ, [], ◌∷◌, Err, subst}
 use Rattle.std.specs.Io.KnownBytes.{Appends}
 use Rattle.lz_proto.specs.Steps.{SendTells}
 use Rattle.lazyset_offline.proofs.SentTexts.{sent_less, sent_more}

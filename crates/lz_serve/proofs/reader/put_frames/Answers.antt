@@ -1,4 +1,4 @@
-use Rattle.std.proofs.Common.{◌≡◌, ◌++◌, ◌∷◌, [], List, map, option_to_list, sym, ap, ◌∙◌, append_assoc}
+use Rattle.std.proofs.Common.{◌++◌, ◌∷◌, [], option_to_list, sym, ap, ◌∙◌, append_assoc}
 use Rattle.lz_serve.specs.Exchanges.{Pending, adding, of_frame}
 use Rattle.lz_serve.proofs.ExchangesMore.{adding_one}
 use Rattle.lz_serve.proofs.reader.put_frames.Goals as goal

@@ -1,4 +1,4 @@
-use Rattle.std.proofs.Common.{◌⊎◌, ◌∙◌, IsTrue, List, ℕ, [], subst, sym}
+use Rattle.std.proofs.Common.{◌⊎◌, ◌∙◌, IsTrue, ℕ, [], subst, sym}
 use Rattle.lz_slot.specs.declared.format.Format.TheVariants.{One}
 use Rattle.lz_slot.specs.Sets.{members}
 use Rattle.lz_disk.specs.Images.{Medium, IsImage}

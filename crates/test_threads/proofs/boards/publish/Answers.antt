@@ -1,4 +1,4 @@
-use Rattle.std.proofs.Common.{◌∷◌, ◌%◌, sym, ap, ◌∙◌, arith, rules}
+use Rattle.std.proofs.Common.{◌∷◌, ◌%◌, ap, ◌∙◌, arith, rules}
 use Rattle.lz_board.specs.declared.view.Part.{Part}
 use Rattle.lz_board.specs.Notes.{trace_of}
 use Rattle.lz_board.specs.Seats.{id_of, notes, carried}

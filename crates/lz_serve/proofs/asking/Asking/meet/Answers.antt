@@ -1,4 +1,4 @@
-use Rattle.std.proofs.Common.{◌≡◌, None, ap, ◌∙◌}
+use Rattle.std.proofs.Common.{ap, ◌∙◌}
 use Rattle.lz_serve.specs.Askings.{Asked}
 use Rattle.lz_serve.proofs.Askings.{has_rested, resting}
 use Rattle.lz_serve.proofs.Meetings.{sees_calm, sees_halt}

@@ -1,10 +1,9 @@
-use Rattle.std.proofs.Common.{◌≡◌, ◌≤◌, ◌<◌, ◌-◌, ◌+◌, ◌++◌, [], ◌∷◌, List, IsSome, Option, Some, IfSome, ℕ, suc, slice_get, length, refl, sym, ap, ◌∙◌, subst, arith, length-append}
+use Rattle.std.proofs.Common.{◌≡◌, ◌<◌, ◌-◌, ◌+◌, ◌++◌, [], ◌∷◌, List, IsSome, Option, Some, IfSome, ℕ, suc, slice_get, length, sym, ap, ◌∙◌, subst, arith, length-append}
 use Rattle.std.specs.declared.snapshot.Snapshot.{Snapshot}
 use Rattle.lz_list.specs.Traces.{Begins}
 use Rattle.lz_proto.specs.declared.request.Request.{Request}
 use Rattle.lz_board.specs.declared.pass.Pass.{Pass}
 use Rattle.lz_board.specs.Seats.{part}
-use Rattle.lz_serve.specs.declared.line.Line.{Line}
 use Rattle.lz_serve.specs.declared.reader.Reader.{Reader}
 use Rattle.lz_serve.specs.Clients.{Asker, IsOwn, passes_of, seen_by}
 use Rattle.lz_serve.specs.Conversations.{Talk}

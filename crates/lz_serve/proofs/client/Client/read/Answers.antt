@@ -1,4 +1,4 @@
-use Rattle.std.proofs.Common.{◌≡◌, false, refl, ap}
+use Rattle.std.proofs.Common.{false, refl, ap}
 use mathlib.Core.Bool.{true≢false}
 use Rattle.lz_serve.specs.Clients.{passes_of, seen_by}
 use Rattle.lz_serve.specs.Conversations.{Talk}

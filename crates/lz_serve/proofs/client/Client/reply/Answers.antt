@@ -1,4 +1,4 @@
-use Rattle.std.proofs.Common.{◌≡◌, ◌-◌, Bool, false, ℕ, ◌<◌, IsSome, Option, Some, suc, slice_get, slice_set, refl, rules, ap, sym, subst, ◌∙◌}
+use Rattle.std.proofs.Common.{◌≡◌, ◌-◌, false, ℕ, ◌<◌, IsSome, Option, Some, suc, slice_get, slice_set, refl, rules, ap, sym, subst, ◌∙◌}
 use Rattle.lz_list.specs.Traces.{Begins}
 use Rattle.lz_board.specs.declared.pass.Pass.{Pass}
 use Rattle.lz_board.specs.Seats.{part}

@@ -1,4 +1,4 @@
-use Rattle.std.proofs.Common.{◌≡◌, IsSome, Option, refl, sym, ap, subst}
+use Rattle.std.proofs.Common.{IsSome, Option, refl, sym, ap, subst}
 use Rattle.lz_serve.specs.declared.reader.Reader.{Reader}
 use Rattle.lz_serve.specs.Clients.{passes_of, seen_by}
 use Rattle.lz_serve.specs.Conversations.{Talk}

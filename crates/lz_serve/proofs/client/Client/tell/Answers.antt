@@ -1,10 +1,10 @@
-use Rattle.std.proofs.Common.{◌≡◌, ◌+◌, ◌-◌, ◌<◌, ◌≤◌, ℕ, zero, suc, List, [], ◌∷◌, IsSome, Option, Some, slice_get, drop, refl, sym, ap, ◌∙◌, subst, arith}
+use Rattle.std.proofs.Common.{◌≡◌, ◌+◌, ◌-◌, ◌<◌, ℕ, zero, suc, List, [], ◌∷◌, IsSome, Option, slice_get, drop, refl, sym, ap, ◌∙◌, subst, arith}
 use Rattle.std.specs.declared.snapshot.Snapshot.{Snapshot}
 use Rattle.lz_board.specs.declared.pass.Pass.{Pass}
 use Rattle.lz_serve.specs.declared.reader.Reader.{Reader}
 use Rattle.lz_serve.specs.Clients.{Asker, IsOwn, passes_of, seen_by}
 use Rattle.lz_serve.proofs.LinesUnderWay.{puts_after}
-use Rattle.lz_serve.proofs.TalksOnStreams.{Stays, told_or_not}
+use Rattle.lz_serve.proofs.TalksOnStreams.{told_or_not}
 use Rattle.lz_serve.proofs.client.Client.tell.Goals as goal
 
 rest : (now before a b : ℕ) (old new : List (Snapshot Pass)) → a ≡ now → b ≡ before → new ≡ drop (a - b) old → passes_of new ≡ drop (now - before) (passes_of old)

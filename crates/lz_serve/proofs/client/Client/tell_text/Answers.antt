@@ -1,4 +1,4 @@
-use Rattle.std.proofs.Common.{◌≡◌, ◌-◌, ℕ, zero, IsSome, Option, drop, refl, sym, ap, subst, arith}
+use Rattle.std.proofs.Common.{◌≡◌, ◌-◌, ℕ, zero, IsSome, Option, drop, sym, ap, subst, arith}
 use Rattle.lz_serve.specs.declared.reader.Reader.{Reader}
 use Rattle.lz_serve.specs.Clients.{passes_of, seen_by}
 use Rattle.lz_serve.specs.Conversations.{Talk}

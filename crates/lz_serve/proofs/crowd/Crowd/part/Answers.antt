@@ -1,4 +1,4 @@
-use Rattle.lz_serve.proofs.Crowds.{at_places, keeps_at, keeps_then, same_own, same_seen}
+use Rattle.lz_serve.proofs.Crowds.{keeps_at, keeps_then, same_own, same_seen}
 use Rattle.lz_serve.proofs.crowd.Crowd.part.Goals as goal
 
 pub returns : goal.returns

@@ -1,9 +1,6 @@
-use Rattle.std.proofs.Common.{◌≡◌, ◌+◌, ◌≤◌, ◌<◌, ◌++◌, [], ◌∷◌, ℕ, IfSome, Some, option_map, vec_capacity, vec_len, length, ap, refl, sym, ◌∙◌, subst, arith}
-use Rattle.lz_list.specs.Traces.{Trace, Begins}
-use Rattle.lz_board.specs.declared.pass.Pass.{Pass}
+use Rattle.std.proofs.Common.{◌≡◌, ◌+◌, [], vec_capacity, vec_len, sym, subst}
 use Rattle.lz_board.specs.Seats.{part}
-use Rattle.lz_serve.specs.Clients.{HaveSeenIn}
-use Rattle.lz_serve.specs.Desks.{IsCalled, Knows, Passes, count_of}
+use Rattle.lz_serve.specs.Desks.{Passes, count_of}
 use Rattle.lz_serve.proofs.Desks.{count_taken, desk_last, desk_left, taken_seen}
 use Rattle.lz_serve.proofs.desk.Desk.answer_last.Goals as goal
 

@@ -1,9 +1,6 @@
-use Rattle.std.proofs.Common.{◌≡◌, ◌+◌, ◌≤◌, ◌<◌, ◌++◌, [], ◌∷◌, ℕ, IfSome, Some, map, option_map, vec_capacity, vec_len, length, ap, refl, sym, ◌∙◌, subst, arith}
-use Rattle.lz_list.specs.Traces.{Trace, Begins}
-use Rattle.lz_board.specs.declared.pass.Pass.{Pass}
+use Rattle.std.proofs.Common.{◌+◌, ◌<◌, [], map, option_map, vec_capacity, vec_len, length, arith}
 use Rattle.lz_board.specs.Seats.{part}
-use Rattle.lz_serve.specs.Clients.{HaveSeenIn}
-use Rattle.lz_serve.specs.Desks.{IsCalled, Knows, Passes, count_of}
+use Rattle.lz_serve.specs.Desks.{count_of}
 use Rattle.lz_serve.proofs.Desks.{desk_played}
 use Rattle.lz_serve.proofs.desk.Desk.sync_all.Goals as goal
 

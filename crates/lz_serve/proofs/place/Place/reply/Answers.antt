@@ -1,8 +1,8 @@
-use Rattle.std.proofs.Common.{◌≡◌, ◌≤◌, ℕ, Option, Some, sym, subst}
+use Rattle.std.proofs.Common.{◌≤◌, ℕ, sym, subst}
 use Rattle.lz_list.specs.Traces.{Trace, Begins}
 use Rattle.lz_list.proofs.Traces.Absence.{begins_itself}
 use Rattle.lz_board.specs.Seats.{part}
-use Rattle.lz_serve.specs.Clients.{Asker, HasSeenIn}
+use Rattle.lz_serve.specs.Clients.{HasSeenIn}
 use Rattle.lz_serve.proofs.place.Place.reply.Goals as goal
 
 pub returns-then-may_ask-clause-seen : goal.returns-then-may_ask-clause-seen

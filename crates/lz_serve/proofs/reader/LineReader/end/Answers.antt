@@ -1,4 +1,4 @@
-use Rattle.std.proofs.Common.{◌≡◌, ℕ, List, [], ◌∷◌, Option, Result, Ok, Err, OnOk, Some, refl, subst}
+use Rattle.std.proofs.Common.{ℕ, List, [], ◌∷◌, Option, Result, Ok, Err, OnOk, Some, refl, subst}
 use Rattle.lz_proto.specs.declared.item.Item.TheVariants.{Faulty}
 use Rattle.lz_proto.specs.Pieces.{Ends}
 use Rattle.lz_serve.specs.Exchanges.{of_line}

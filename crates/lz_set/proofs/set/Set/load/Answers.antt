@@ -1,4 +1,4 @@
-use Rattle.std.proofs.Common.{◌≡◌, refl, sym, ◌∙◌, subst}
+use Rattle.std.proofs.Common.{refl, sym, ◌∙◌, subst}
 use Rattle.lz_board.specs.Seats.{BoardId, IsOf, part}
 use Rattle.lz_caller.specs.Walking.{with_look}
 use Rattle.lz_tie.specs.Counting.{CountsOn, IsCounted}

@@ -1,4 +1,4 @@
-use Rattle.std.proofs.Common.{◌≡◌, ◌≢◌, ℕ, List, sym, ap, subst}
+use Rattle.std.proofs.Common.{◌≢◌, ℕ, List, sym, ap, subst}
 use mathlib.Core.Bool.{false≢true}
 use Rattle.lz_machine.specs.declared.event.Event.TheVariants.{Answer, SeePin}
 use Rattle.lz_machine.proofs.Theorem.Readiness.{is_invoke}

@@ -8,7 +8,7 @@ use Rattle.lz_board.specs.Notes.{trace_of}
 use Rattle.lz_board.specs.Plays.{found_note}
 use Rattle.lz_board.specs.Seats.{BoardId, IsPenOf, carried, id_of, notes, part}
 use Rattle.lz_tie.specs.Held.{Began}
-use Rattle.lz_tie.specs.Holds.{InHold, IsIdle, IsLocked}
+use Rattle.lz_tie.specs.Holds.{IsIdle, IsLocked}
 use Rattle.lz_tie.proofs.Calls.CountedMoves.{counted_new}
 use Rattle.lz_tie.proofs.Hold.Joining.{joined}
 use Rattle.lz_tie.proofs.Hold.OneHold.{Stepped, explains, keeps, stepped_call}
