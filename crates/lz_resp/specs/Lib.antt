@@ -6,3 +6,4 @@ pub mod Names
 pub mod Pieces
 pub mod Reading
 pub mod Replies
+pub mod Requests

@@ -137,6 +137,12 @@ fn requests_of(
     requires { IsThere (subset_of subset) }
     ensures { IfOk result (λ requests. requests ≡ requests_of form (subset_of subset.entry) (map (λ word. word.now) members.now)) }
 {
+    if let [member] = members {
+        return match subset.key_of(member) {
+            Some(key) => Ok(Some(Requests::one(form.request(key)))),
+            None => Ok(None),
+        };
+    }
     let mut list = Vec::with_capacity(alloc, members.len())?;
     for member in members {
         let Some(key) = subset.key_of(member) else {

@@ -88,6 +88,13 @@ impl Frames {
         }
     }
 
+    /// For how many bytes of what is read it has room.
+    pub fn room(&self) -> usize
+        ensures { IfSome self.now (λ place. length place.text ≤ result) }
+    {
+        self.kept.capacity()
+    }
+
     /// Gives the room back of what was read.
     pub fn rest(&mut self)
         ensures { self.new ≡ self.old }

@@ -1,27 +1,36 @@
 //! What a frame comes to.
-ghost use Rattle.std.specs.Prelude.{◌≡◌, ◌≢◌, All};
+ghost use Rattle.std.specs.Prelude.{◌≡◌, ◌≢◌, [], ◌∷◌, All};
 
 use crate::form::Form;
 use crate::text::Text;
 use lz_proto::Request;
 use std::marker::Model;
+use std::slice::from_ref;
 
 /// Requests in their order, none of which is `quit`. Contracts see them as a list.
 #[derive(Drop, Debug)]
 pub struct Requests {
-    list: Vec<Request>,
+    held: Held,
+}
+
+// One, as most frames have, takes no memory of its own.
+#[derive(Drop, Debug)]
+enum Held {
+    One(Request),
+    Many(Vec<Request>),
 }
 
 impl Model for Requests {
     ghost use Rattle.std.specs.Prelude.{List, ◌≢◌, All};
     ghost use Rattle.lz_proto.specs.declared.request.Request.{Request as ARequest};
     ghost use Rattle.lz_proto.specs.declared.request.Request.TheVariants.{Quit};
+    ghost use Rattle.lz_resp.specs.Requests.{requests_held};
 
     ghost Value = { List ARequest };
 
-    ghost view = { λ r. r.list.items };
+    ghost view = { λ r. requests_held r.held };
 
-    ghost invariant = { λ r. All (λ request. request ≢ Quit) r.list.items };
+    ghost invariant = { λ r. All (λ request. request ≢ Quit) (requests_held r.held) };
 }
 
 impl Requests {
@@ -29,14 +38,28 @@ impl Requests {
         requires { All (λ request. request ≢ Request.Quit) list.items }
         ensures { result ≡ list.items }
     {
-        Requests { list }
+        Requests {
+            held: Held::Many(list),
+        }
+    }
+
+    pub(crate) fn one(request: Request) -> Requests
+        requires { request ≢ Request.Quit }
+        ensures { result ≡ request ∷ [] }
+    {
+        Requests {
+            held: Held::One(request),
+        }
     }
 
     pub fn as_slice(&self) -> &[Request]
         ensures same { result.now ≡ self.now }
         ensures asks { All (λ request. request ≢ Request.Quit) result.now }
     {
-        self.list.as_slice()
+        match &self.held {
+            Held::One(request) => from_ref(request),
+            Held::Many(list) => list.as_slice(),
+        }
     }
 }
 
