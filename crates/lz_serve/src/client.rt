@@ -19,10 +19,10 @@ use std::collections::VecDeque;
 use std::marker::Model;
 use std::snapshot::Snapshot;
 
-/// For how many items and lines, and for how many bytes to be sent, a client with nothing to do keeps room.
-const FEW: usize = 16;
+/// For how many items and lines, and for how many bytes, a client with nothing to do keeps room: as much as 16 commands at once take.
+const FEW: usize = 64;
 
-const LITTLE: usize = 256;
+const LITTLE: usize = 1_024;
 
 /// How many bytes are to be sent at most while lines of the client still wait: its replies go out together.
 const HELD: usize = 256;

@@ -250,14 +250,15 @@ impl Conversation {
         self.text.shrink_to(LITTLE);
     }
 
-    /// For how many turns, requests and replies, and for how many bytes to be sent, it has room.
+    /// For how many turns, requests and replies, and for how many bytes, read or to be sent, it has room.
     pub fn room(&self) -> (usize, usize)
         ensures unsent { length self.now.unsent ≤ result.1 }
     {
         let lines = self.under.capacity().max(self.replies.capacity());
+        let read = self.reader.as_ref().map_or(0, Reader::room);
         (
             self.exchanges.room().saturating_add(lines),
-            self.text.capacity(),
+            self.text.capacity().max(read),
         )
     }
 

@@ -95,6 +95,14 @@ impl Reader {
         }
     }
 
+    /// For how many bytes of what is read it has room.
+    pub(crate) fn room(&self) -> usize {
+        match self {
+            Reader::Lines(_) => 0,
+            Reader::Frames(reader) => reader.frames.room(),
+        }
+    }
+
     /// Gives the room back of what was read.
     pub(crate) fn rest(&mut self)
         ensures { self.new ≡ self.old }

@@ -54,9 +54,10 @@ pub fn none_served<O: Observer>(passes: Vec<Pass>, observer: &O, why: Lack) -> S
 }
 
 /// Serves connections with a thread for each pass, which serves one connection after the other: so many of them, or
-/// without an end where `bounds.sessions` is 0. A session that ended with a fault, or because its client was idle, counts too. A thread ends as well after a session that
-/// found the set halted; the first one tells the observer. A connection for which no thread is free waits in the listener's queue. Where no
-/// thread can be made for a pass, this one serves by it before it tries the next. One pass serves in this thread.
+/// without an end where `bounds.sessions` is 0. A session that ended with a fault, or because its client was idle, counts too. A thread
+/// ends as well after a session that found the set halted; the first one tells the observer. A connection for which no thread is free waits
+/// in the listener's queue. Where no thread can be made for a pass, this one serves by it before it tries the next. One pass serves in this
+/// thread.
 pub fn serve<D, G, N, R, O>(
     rt: &R,
     listener: &Listener,

@@ -71,8 +71,8 @@ impl<'a, D: Disk, G: StepGate, N: Named, R: Wait + Clock + AllocGlobal, O: Obser
     }
 }
 
-/// Serves by these workers, one of them in this thread, where a loop has a desk, and each other one in a thread of its own. Where no thread can be made for one, it
-/// serves in this thread too, before the next is begun.
+/// Serves by these workers, one of them in this thread, where a loop has a desk, and each other one in a thread of its own. Where no thread
+/// can be made for one, it serves in this thread too, before the next is begun.
 pub(crate) fn serve_by<'a, D, G, N, B, R, O>(
     rt: &R,
     own: Worker<'a, D, G, N, R, O>,
