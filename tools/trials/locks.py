@@ -13,9 +13,19 @@ from trials.report import expect
 
 NO_FILE = Ended("nofile\n", 3)
 
+# What the commands that read a file tell of one with four slots and the key 1.
+READINGS = (("info", "format 2\nslots 4\nmembers 1\nfree 3\ngood\n"), ("check", "slot 0 key 1\ngood\n"))
+
 
 def taken(path: str) -> Tuple[Ended, str]:
     return NO_FILE, f"lazyset: {path}: another process has it open\n"
+
+
+def beside(path: str) -> str:
+    """What is said of a file that was read while another process had it to itself, where the system tells of locks."""
+    with open("/proc/locks", encoding="ascii") as table:
+        is_told = f":{os.stat(path).st_ino} " in table.read()
+    return f"lazyset: {path}: another process has it open: what is told is of no one moment\n" if is_told else ""
 
 
 def ask(port: int, *lines: str) -> str:
@@ -37,11 +47,13 @@ def try_locks(program: Program, folder: str) -> None:
         expect(program.run_loud("renew", other, file, "8"), taken(file), "a renewal into a file that is served")
         expect(program.run_loud("renew", file, new, "8"), taken(file), "a renewal of a file that is served")
         expect(os.path.exists(new), False, "whether that made a file")
-        expect(program.run("info", file), Ended("format 2\nslots 4\nmembers 1\nfree 3\ngood\n", 0), "info")
-        expect(program.run("check", file), Ended("slot 0 key 1\ngood\n", 0), "check")
+        for words, told in READINGS:
+            expect(program.run_loud(words, file), (Ended(told, 0), beside(file)), words)
+        expect(program.run_loud("check", other, "--of", file), (Ended("lost 1\n", 2), beside(file)), "a check of another file")
         expect(bytes_in(file), before, "the file's bytes")
         expect(ask(service.port, "has 1", "add 2"), "yes\nyes\n", "replies")
     expect(program.run("run", file, lines="has 1\nhas 2\n"), Ended("yes\nyes\n", 0), "a run after the service")
+    expect(program.run_loud("info", file), (Ended("format 2\nslots 4\nmembers 2\nfree 2\ngood\n", 0), ""), "info after the service")
     try_shared(program, file, os.path.join(folder, "renewed"))
     try_itself(program, file)
 

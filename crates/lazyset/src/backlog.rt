@@ -43,8 +43,8 @@ impl Backlog {
     }
 }
 
-// All that the file holds now.
-fn bytes_of(alloc: Global, file: &File) -> Option<Vec<u8>> {
+/// All that the file holds now.
+pub fn bytes_of(alloc: Global, file: &File) -> Option<Vec<u8>> {
     let mut bytes: Vec<u8> = Vec::new(alloc);
     let mut piece = [0; MOST_PIECE];
     for _ in 0..u64::MAX {

@@ -15,6 +15,7 @@ use crate::files::{
 use crate::growing::grow;
 use crate::handed::handed;
 use crate::heard::Heard;
+use crate::held::is_held;
 use crate::over_disk::{make_keys_over, make_over, renew_over, run_over};
 use crate::service::{At, Until, serve};
 use crate::words::words_of;
@@ -275,9 +276,20 @@ where
     W: Write + Drop,
 {
     let mut source = open_source(rt, file)?;
+    let was_held = is_held(rt, file);
     let status = survey_on(rt.alloc(), &mut source, writer, shown);
+    say_held(rt, file, was_held);
     say_cause(rt, file, source.end());
     Ok(status)
+}
+
+// Says that a file was read while another process had it to itself, where one had or has.
+fn say_held<R: Files<File = File> + Eprint + AllocGlobal>(rt: &R, file: &str, was_held: bool) {
+    if was_held || is_held(rt, file) {
+        let _ = eprintln!(rt;
+            "lazyset: {file}: another process has it open: what is told is of no one moment"
+        );
+    }
 }
 
 fn check<R, W>(rt: &R, writer: &mut W, file: &str, of: Option<&str>) -> Result<Status, Fault>
@@ -290,7 +302,10 @@ where
     };
     let mut source = open_source(rt, file)?;
     let mut older = open_source(rt, old)?;
+    let (was_held, was_older_held) = (is_held(rt, file), is_held(rt, old));
     let status = check_of_on(rt.alloc(), &mut source, &mut older, writer);
+    say_held(rt, file, was_held);
+    say_held(rt, old, was_older_held);
     say_cause(rt, file, source.end());
     say_cause(rt, old, older.end());
     Ok(status)

@@ -13,6 +13,7 @@ mod gauge;
 mod growing;
 mod handed;
 mod heard;
+mod held;
 mod level;
 mod log;
 mod over_disk;
