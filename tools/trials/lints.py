@@ -49,3 +49,7 @@ def try_scripts(top: str) -> None:
     for path in found:
         shell = ["--shell=bash"] if path.endswith(".bash") else []
         expect(told(["shellcheck", *shell, path]), "", f"shellcheck {os.path.relpath(path, top)}")
+
+
+def try_flow_chart(top: str) -> None:
+    expect(told([os.path.join(top, "tools", "flow-chart"), "--check"]), "", "tools/flow-chart --check")
