@@ -4,5 +4,6 @@ pub mod Keys
 pub mod Limits
 pub mod Names
 pub mod Pieces
+pub mod Queries
 pub mod Reading
 pub mod Replies
