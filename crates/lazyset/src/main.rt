@@ -13,6 +13,7 @@ mod gauge;
 mod growing;
 mod handed;
 mod heard;
+mod identity;
 mod level;
 mod log;
 mod over_disk;
@@ -22,6 +23,7 @@ mod service;
 mod share;
 mod shown_disk;
 mod source;
+mod tally;
 mod watched;
 mod words;
 
