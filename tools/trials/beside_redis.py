@@ -17,7 +17,7 @@ from trials.program import PATIENCE, Program, Service
 from trials.report import Skip, Wrong
 
 # Debian's packages that the trials beside Redis need.
-PACKAGES = ("redis-server", "redis-tools", "libhiredis-dev", "python3-redis", "ruby-redis", "nutcracker", "stunnel4", "gcc", "openssl")
+PACKAGES = ("redis-server", "redis-tools", "libhiredis-dev", "python3-redis", "ruby-redis", "prometheus-redis-exporter", "nutcracker", "stunnel4", "gcc", "openssl")
 
 HERE = os.path.join(os.path.dirname(os.path.abspath(__file__)), "redis_clients")
 

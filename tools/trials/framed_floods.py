@@ -23,6 +23,7 @@ REPEATED = {
     "lines of many words": (b"SMISMEMBER 0" + b" 1" * (MOST_WORDS - 2) + b"\n") * 30,
     "echoes": array(b"ECHO", b"e" * MOST_WORD) * 120,
     "pings": array(b"PING") * 4_000,
+    "what it tells of itself": b"INFO\n" * 12_000,
 }
 
 # Frames without a word, to which there is no reply: they are read without an end, and others are served.

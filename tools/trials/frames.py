@@ -15,7 +15,7 @@ from trials.faults import failing, needs_strace
 from trials.files import bytes_in, put
 from trials.guests import PATIENCE, connect, received
 from trials.hostile import SLOTS, Drawn, expect_all, tell
-from trials.noise_frames import FrameNoise
+from trials.noise_frames import OTHERS, FrameNoise
 from trials.plain import Plain
 from trials.plain_frames import PlainTalk, array, integer
 from trials.program import Ended, Key, Program, Service
@@ -39,7 +39,7 @@ HALTED = b"-HALTED the device failed\r\n"
 # How errors begin, and by what they are counted.
 KINDS = {
     **{"FULL": "full", "OLDFILE": "oldfile", "ERR unknown": "unknown", "ERR wrong": "wrong_count", "ERR value is": "no_key", "ERR DB": "no_room"},
-    **{"ERR syntax": "syntax", "ERR values": "long_value"},
+    **{"ERR syntax": "syntax", "ERR values": "long_value", "ERR SHUTDOWN": "shutdown"},
     **{"ERR Protocol error: invalid m": "count", "ERR Protocol error: invalid b": "length", "ERR Protocol error: exp": "no_bulk"},
     **{"ERR Protocol error: no": "no_end", "ERR Protocol error: quo": "quotes", "ERR Protocol error: too": "too_big"},
 }
@@ -114,6 +114,8 @@ def try_noise(program: Program, folder: str, drawn: Drawn) -> None:
 
 class Own(FrameNoise):
     """Draws frames that ask for keys of one room alone."""
+
+    others = OTHERS
 
     def __init__(self, seed: int, room: int) -> None:
         super().__init__(seed)

@@ -31,6 +31,7 @@ OTHERS = (
     *((b"GET", b"1"), (b"SADD",), (b"SADD", b"0"), (b"SISMEMBER", b"0", b"1", b"2"), (b"EXISTS",), (b"SETNX", b"1"), (b"SET", b"1", b"1")),
     *((b"SET", b"1", b"1", b"XX"), (b"SET", b"1", b"1", b"NX", b"GET"), (b"SELECT",), (b"SELECT", b"0", b"0"), (b"PING", b"1", b"2"), (b"ECHO",)),
     *((b"",), (b"sad",), (b"SADDS", b"0", b"1"), (b"\xc5ADD", b"0", b"1"), (b"NO\r\nSUCH", b"a\r\nb"), (b"MULTI",), (b"SMEMBERS", b"0")),
+    *((b"DBSIZE", b"0"), (b"SHUTDOWN",), (b"SHUTDOWN", b"Save"), (b"SHUTDOWN", b"abort"), (b"SHUTDOWN", b"nosave", b"now")),
 )
 
 # How far beyond a limit its frames go.
@@ -48,6 +49,9 @@ class FrameNoise(Noise):
     """Draws frames."""
 
     rooms: Sequence[bytes] = ROOMS
+
+    # What asks for no key.
+    others: Sequence[Sequence[bytes]] = (*OTHERS, (b"DBSIZE",), (b"DBSIZE",))
 
     def talk(self) -> bytes:
         """What a client sends on one connection."""
@@ -78,7 +82,7 @@ class FrameNoise(Noise):
             return [b"SELECT", self.room()]
         if kind == 14:
             return [b"PING", *self.some_word()] if self.one_in(2) else [b"ECHO", self.word()]
-        return list(draw.choice(OTHERS))
+        return list(draw.choice(self.others))
 
     def few(self) -> int:
         return 1 + self.draw.randrange(1 + self.draw.randrange(6))

@@ -221,6 +221,13 @@ class PlainTalk:
         return OK
 
 
+def shutdown(words: Sequence[bytes]) -> bytes:
+    """What is told over a port."""
+    if len(words) > 1 and (len(words) > 2 or words[1].lower() not in (b"nosave", b"save")):
+        return error("syntax error")
+    return error("SHUTDOWN is taken over a Unix socket alone")
+
+
 def room_of(word: bytes) -> Optional[int]:
     return read_range(word, 0, MOST_ROOM)
 
@@ -248,4 +255,6 @@ COMMANDS: Dict[str, Tuple[int, int, Callable[[PlainTalk, Sequence[bytes]], bytes
     "ping": (1, 2, lambda talk, words: bulk(words[1]) if len(words) == 2 else PONG),
     "echo": (2, 2, lambda talk, words: bulk(words[1])),
     "quit": (1, MOST_WORDS, lambda talk, words: OK),
+    "dbsize": (1, 1, lambda talk, words: integer(len(talk.plain.places))),
+    "shutdown": (1, MOST_WORDS, lambda talk, words: shutdown(words)),
 }

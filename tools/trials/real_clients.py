@@ -90,6 +90,8 @@ def fault(words: str) -> str:
 
 # Where a service differs from Redis: docs/PROTOCOL.md lists it.
 DIFFERENCES = (
+    # Members are counted, and not sets and keys.
+    asked("DBSIZE", ":2", ":3"),
     # Members are keys, and sets are rooms.
     asked("SADD 0 element", ":1", NO_KEY),
     asked("SADD 0 017", ":1", NO_KEY),
@@ -111,6 +113,7 @@ DIFFERENCES = (
     # Commands that aren't there.
     asked("SCARD 4", ":2", unknown("SCARD 4")),
     asked("MULTI", "+OK", unknown("MULTI")),
+    Difference(array(b"INFO", b"nosuch", b"none"), b"$0\r\n\r\n", b"-ERR wrong number of arguments for 'info' command\r\n"),
     # Frames are stricter, and shorter.
     Difference(b'PING "hello"\r\nPING\r\n', b"$5\r\nhello\r\n+PONG\r\n", fault("quotes in an inline request\r\n").encode()),
     Difference(b"*1\r\n$4\r\nPINGxy*1\r\n$4\r\nPING\r\n", b"+PONG\r\n+PONG\r\n", fault("no line end after a bulk\r\n").encode()),

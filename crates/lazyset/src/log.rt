@@ -2,12 +2,16 @@
 use crate::at_path::has_waiting;
 use crate::backlog::Backlog;
 use crate::gauge::Gauge;
+use crate::identity::{process, run_of};
 use crate::level::Level;
 use crate::ready::Ready;
 use crate::seldom::Seldom;
+use crate::tally::Tally;
 use crate::watched::Watched;
+use lazyset_command_line::{MAJOR, MINOR};
 use lz_disk::Cause;
 use lz_proto::Reply;
+use lz_resp::Figures;
 use lz_serve::{Lack, Listener, Observer, Serving, Verb, close_listener};
 use lz_slot::Format;
 use std::sync::atomic::{AtomicBool, AtomicUsize, Ordering};
@@ -41,11 +45,17 @@ pub struct Log<'a, R: Eprint> {
     file: &'a str,
     /// The file that is served, where it can be watched.
     watched: Option<Watched>,
+    /// Its format; where that can't be read, one whose limits each format allows.
+    format: Format,
     around: Surroundings,
     /// When the opening began, where the clock tells.
     began: Option<Duration>,
+    /// The number of this service among all.
+    run: usize,
     listener: OnceLock<Listener>,
+    serving: OnceLock<Serving>,
     gauge: Gauge,
+    tally: Tally,
     /// How many connections it serves at once, how many there are, and how many there were.
     places: AtomicUsize,
     guests: AtomicUsize,
@@ -67,14 +77,22 @@ where
         watched: Option<Watched>,
         around: Surroundings,
     ) -> Log<'a, R> {
+        let format = watched
+            .as_ref()
+            .and_then(Watched::format)
+            .unwrap_or(Format::Two);
         let log = Log {
             rt,
             file,
             watched,
+            format,
             around,
             began: rt.monotonic().ok(),
+            run: run_of(rt),
             listener: OnceLock::new(),
+            serving: OnceLock::new(),
             gauge: Gauge::new(),
+            tally: Tally::new(),
             places: AtomicUsize::new(0),
             guests: AtomicUsize::new(0),
             sessions: AtomicUsize::new(0),
@@ -131,12 +149,24 @@ where
         }
     }
 
+    // How long it is since the opening began, where the clock tells.
+    fn age(&self) -> Option<Duration> {
+        let began = self.began?;
+        let now = self.rt.monotonic().ok()?;
+        Some(now.saturating_sub(began))
+    }
+
+    // The same in whole seconds.
+    fn seconds(&self) -> usize {
+        match self.age() {
+            Some(age) => age.as_secs() as usize,
+            None => 0,
+        }
+    }
+
     // Says how long the opening took.
     fn tell_opened(&self) {
-        if let Some(began) = self.began
-            && let Ok(now) = self.rt.monotonic()
-        {
-            let took = now.saturating_sub(began);
+        if let Some(took) = self.age() {
             let (seconds, tenths) = (took.as_secs(), took.subsec_millis() / 100);
             self.say(Level::Info, format_args!("opened in {seconds}.{tenths} s"));
         }
@@ -176,19 +206,22 @@ where
         }
     }
 
-    // The most buckets that the file may be given. Where its format can't be read, as many as each format allows.
-    fn most_buckets(&self) -> usize {
-        self.watched
-            .as_ref()
-            .and_then(Watched::format)
-            .unwrap_or(Format::Two)
-            .most_buckets()
+    // How many buckets, passes and loops it has.
+    fn shape(&self) -> (usize, usize, usize) {
+        let Some(serving) = self.serving.get() else {
+            return (0, 0, 0);
+        };
+        let loops = match &serving.loops {
+            Some(loops) => loops.count_for(serving.passes),
+            None => 0,
+        };
+        (serving.buckets, serving.passes, loops)
     }
 
     // Says that lists are long, where they are.
     fn tell_lists(&self, members: usize, buckets: usize) {
         if members.checked_div(buckets).unwrap_or(0) > LONG_LIST {
-            let more = members.min(self.most_buckets());
+            let more = members.min(self.format.most_buckets());
             self.say(
                 Level::Warning,
                 format_args!(
@@ -227,6 +260,7 @@ where
             None => serving.passes,
         };
         self.places.store(places, Ordering::SeqCst);
+        let _ = self.serving.set(self.rt, serving);
         self.gauge.begin(serving.slots, serving.members);
         self.tell_opened();
         self.say(Level::Info, format_args!("serving: {serving}"));
@@ -291,6 +325,7 @@ where
     }
 
     fn answered(&self, verb: Verb, reply: Reply) {
+        self.tally.count(verb, reply);
         match (verb, reply) {
             (Verb::Add, Reply::Yes) => {
                 if let Some(share) = self.gauge.came() {
@@ -311,6 +346,36 @@ where
         }
     }
 
+    fn figures(&self) -> Figures {
+        let (buckets, passes, loops) = self.shape();
+        Figures {
+            major: MAJOR,
+            minor: MINOR,
+            process: process(),
+            run: self.run,
+            seconds: self.seconds(),
+            stoppable: matches!(self.listener.get(), Some(Listener::Path(_))),
+            clients: self.guests.load(Ordering::SeqCst),
+            most_clients: self.places.load(Ordering::SeqCst),
+            sessions: self.sessions.load(Ordering::SeqCst),
+            answered: self.tally.all(),
+            adds: self.tally.adds(),
+            removes: self.tally.removes(),
+            lookups: self.tally.lookups(),
+            full: self.tally.full(),
+            format: number_of(self.format),
+            slots: self.gauge.slots(),
+            members: self.gauge.members(),
+            buckets,
+            passes,
+            loops,
+        }
+    }
+
+    fn shut_down(&self) {
+        self.stop();
+    }
+
     fn halted(&self) {
         self.say(
             Level::Error,
@@ -320,5 +385,14 @@ where
 
     fn stops(&self) -> bool {
         self.stops.load(Ordering::SeqCst)
+    }
+}
+
+// The number that a format is asked for by.
+fn number_of(format: Format) -> usize {
+    match format {
+        Format::One => 1,
+        Format::Two => 2,
+        Format::Three => 3,
     }
 }

@@ -14,6 +14,7 @@ mod growing;
 mod handed;
 mod heard;
 mod held;
+mod identity;
 mod level;
 mod log;
 mod over_disk;
@@ -23,6 +24,7 @@ mod service;
 mod share;
 mod shown_disk;
 mod source;
+mod tally;
 mod watched;
 mod words;
 

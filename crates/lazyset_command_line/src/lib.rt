@@ -6,5 +6,6 @@ mod refusal;
 mod request;
 mod words;
 
+pub use command::{MAJOR, MINOR};
 pub use refusal::{Refusal, too_many_buckets};
 pub use request::{Request, read};

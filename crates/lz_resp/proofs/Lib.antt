@@ -1,7 +1,9 @@
 pub mod Fronts
 pub mod Hashed
+pub mod Joined
 pub mod KeyRows
 pub mod LongerTexts
+pub mod QueryRows
 pub mod Rows
 pub mod Spellings
 pub mod Texts

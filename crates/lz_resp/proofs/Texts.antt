@@ -11,13 +11,14 @@ use Rattle.lz_resp.specs.Pieces.{AnyPieces, Feeds, FeedsAll, Items, OneListOfIte
 use Rattle.lz_resp.specs.declared.fault.Fault.{Fault}
 use Rattle.lz_resp.specs.declared.naming.Selected.{Selected}
 use Rattle.lz_resp.specs.declared.item.Item.{Item}
-use Rattle.lz_resp.specs.declared.item.Item.TheVariants.{Asks, Says, Ends}
+use Rattle.lz_resp.specs.declared.item.Item.TheVariants.{Asks, Says, Tells, Ends}
 use Rattle.lz_resp.proofs.LongerTexts.{first_fault, first_value, short_waits}
 
 by_goes : (item : Item) (selected : Selected) (after more : List ℕ) (items : List Item) (next : Selected) (rest : List ℕ) → step_by item selected after ≡ goes items next rest
     → (step_by item selected (after ++ more) ≡ goes items next (rest ++ more)) × (after ≡ rest)
 by_goes (Asks form requests) selected after more items next rest h = let same : after ≡ rest = cc in (cc (ap (λ (t : List ℕ). t ++ more) same), same)
 by_goes (Says text) selected after more items next rest h = let same : after ≡ rest = cc in (cc (ap (λ (t : List ℕ). t ++ more) same), same)
+by_goes (Tells query) selected after more items next rest h = let same : after ≡ rest = cc in (cc (ap (λ (t : List ℕ). t ++ more) same), same)
 by_goes (Ends text) selected after more items next rest h = absurd (cc)
 
 with_goes : (selected : Selected) (words : List (List ℕ)) (after more : List ℕ) (items : List Item) (next : Selected) (rest : List ℕ) → step_with selected words after ≡ goes items next rest
@@ -28,6 +29,7 @@ with_goes selected (word ∷ words) after more items next rest h = by_goes (item
 by_stops : (item : Item) (selected : Selected) (after more : List ℕ) (items : List Item) → step_by item selected after ≡ stops items → step_by item selected (after ++ more) ≡ stops items
 by_stops (Asks form requests) selected after more items h = absurd (cc)
 by_stops (Says text) selected after more items h = absurd (cc)
+by_stops (Tells query) selected after more items h = absurd (cc)
 by_stops (Ends text) selected after more items h = h
 
 with_stops : (selected : Selected) (words : List (List ℕ)) (after more : List ℕ) (items : List Item) → step_with selected words after ≡ stops items → step_with selected words (after ++ more) ≡ stops items
@@ -177,6 +179,7 @@ any_pieces naming pieces items new fed =
 by_waits : (item : Item) (selected : Selected) (rest : List ℕ) → step_by item selected rest ≡ waits → ⊥
 by_waits (Asks form requests) selected rest h = absurd (cc)
 by_waits (Says text) selected rest h = absurd (cc)
+by_waits (Tells query) selected rest h = absurd (cc)
 by_waits (Ends text) selected rest h = absurd (cc)
 
 of_waits : (selected : Selected) (r : Front (List (List ℕ))) → step_of selected r ≡ waits → r ≡ Ok None

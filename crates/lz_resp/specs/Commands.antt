@@ -1,5 +1,5 @@
 -- What frames ask for.
-use Rattle.std.specs.Prelude.{ℕ, ◌-◌, ◌+◌, ◌==◌, ◌&&◌, nat_lt, if◌then◌else◌, List, [], ◌∷◌, ◌++◌, length, take, drop, codes, map, is_some, Option, None, Some, option_map, option_and_then, slice_index_or, unwrap_or}
+use Rattle.std.specs.Prelude.{ℕ, ◌-◌, ◌+◌, ◌==◌, ◌&&◌, ◌||◌, nat_lt, Bool, if◌then◌else◌, List, [], ◌∷◌, ◌++◌, length, take, drop, codes, map, is_some, Option, None, Some, option_map, option_and_then, slice_index_or, unwrap_or}
 use Rattle.std.specs.Char.{to_ascii_uppercase}
 use Rattle.lz_slot.specs.Numerals.{largest_read, number_in}
 use Rattle.lz_proto.specs.declared.request.Request.{Request}
@@ -8,17 +8,20 @@ use Rattle.lz_resp.specs.Limits.{most_value}
 use Rattle.lz_proto.specs.Lines.{carriage_return, line_feed}
 use Rattle.lz_resp.specs.Frames.{bulk, line_end}
 use Rattle.lz_resp.specs.Keys.{Subset, key_of, of_name, room_of, unnamed}
-use Rattle.lz_resp.specs.Names.{command_of, is_word, name_of, subcommand_of, subname_of, subtakes, takes}
+use Rattle.lz_resp.specs.Names.{command_of, is_word, name_of, sections_of, subcommand_of, subname_of, subtakes, takes}
 use Rattle.lz_resp.specs.declared.command.Command.{Command}
-use Rattle.lz_resp.specs.declared.command.Command.TheVariants.{Sadd, Srem, Sismember, Smismember, Exists, Del, Unlink, Setnx, Set, Select, Ping, Echo, Quit, Reset, Hello, Client, Catalog, Config}
+use Rattle.lz_resp.specs.declared.command.Command.TheVariants.{Sadd, Srem, Sismember, Smismember, Exists, Del, Unlink, Setnx, Set, Select, Ping, Echo, Quit, Reset, Hello, Client, Catalog, Config, Dbsize, Info as AskInfo, Shutdown}
 use Rattle.lz_resp.specs.declared.subcommand.Subcommand.{Subcommand}
 use Rattle.lz_resp.specs.declared.subcommand.Subcommand.TheVariants.{Getname, Setname, Setinfo, NoEvict, NoTouch, Count, Docs, Info, Get}
 use Rattle.lz_resp.specs.declared.form.Form.{Form}
 use Rattle.lz_resp.specs.declared.form.Form.TheVariants.{Added, Removed, Found, Each, Stored}
 use Rattle.lz_resp.specs.declared.naming.Selected.{Selected}
 use Rattle.lz_resp.specs.declared.naming.Selected.TheVariants.{Room, Nameless}
+use Rattle.lz_resp.specs.declared.query.Query.TheVariants as query
+use Rattle.lz_resp.specs.declared.query.Sections.{Sections}
+use Rattle.lz_resp.specs.declared.query.Sections.TheVariants.{All}
 use Rattle.lz_resp.specs.declared.item.Item.{Item}
-use Rattle.lz_resp.specs.declared.item.Item.TheVariants.{Asks, Says, Ends}
+use Rattle.lz_resp.specs.declared.item.Item.TheVariants.{Asks, Says, Tells, Ends}
 
 abbrev pub word : List (List ℕ) → ℕ → List ℕ
 word words index = slice_index_or words index []
@@ -140,7 +143,7 @@ subtext_of Setname = ok_text
 subtext_of Setinfo = ok_text
 subtext_of NoEvict = ok_text
 subtext_of NoTouch = ok_text
-subtext_of Count = codes ":18\r\n"
+subtext_of Count = codes ":21\r\n"
 subtext_of Docs = no_words_text
 subtext_of Info = no_words_text
 subtext_of Get = no_words_text
@@ -153,6 +156,17 @@ subtext_by command (Some subcommand) words =
 -- what a command's subcommand is answered
 abbrev pub subtext : Command → List (List ℕ) → List ℕ
 subtext command words = subtext_by command (subcommand_of command (word words 1)) words
+
+-- the sections that are asked for: all, unless some are named
+abbrev pub sections_in : List (List ℕ) → Sections
+sections_in words = if length words == 2 then sections_of (word words 1) else All
+
+-- what SHUTDOWN is told of the members, which are kept in any case
+abbrev pub is_saving : List ℕ → Bool
+is_saving word = is_word (codes "nosave") word || is_word (codes "save") word
+
+abbrev pub may_shut_down : List (List ℕ) → Bool
+may_shut_down words = (length words == 1) || ((length words == 2) && is_saving (word words 1))
 
 -- what a frame that the command takes comes to, where this is selected
 abbrev pub item_by : Command → Selected → List (List ℕ) → Item
@@ -175,6 +189,9 @@ item_by Hello selected words = Says (hello words)
 item_by Client selected words = Says (subtext Client words)
 item_by Catalog selected words = if length words == 1 then Says no_words_text else Says (subtext Catalog words)
 item_by Config selected words = Says (subtext Config words)
+item_by Dbsize selected words = Tells query.Size
+item_by AskInfo selected words = Tells (query.Info (sections_in words))
+item_by Shutdown selected words = if may_shut_down words then Tells query.Shutdown else Says bad_syntax
 
 abbrev pub item_with : Option Command → Selected → List (List ℕ) → Item
 item_with None selected words = Says (unknown words)

@@ -4,6 +4,7 @@ pub mod Keys
 pub mod Limits
 pub mod Names
 pub mod Pieces
+pub mod Queries
 pub mod Reading
 pub mod Replies
 pub mod Requests

@@ -1,9 +1,11 @@
--- The commands and subcommands: their names, and of how many words a frame is.
-use Rattle.std.specs.Prelude.{ℕ, ◌==◌, Bool, true, nat_eq, nat_le, if◌then◌else◌, List, [], ◌∷◌, codes, map, Option, None, Some}
+-- The commands, subcommands and sections: their names, and of how many words a frame is.
+use Rattle.std.specs.Prelude.{ℕ, ◌==◌, ◌||◌, Bool, true, nat_eq, nat_le, if◌then◌else◌, List, [], ◌∷◌, codes, map, Option, None, Some}
 use Rattle.std.specs.Char.{to_ascii_lowercase}
 use Rattle.std.specs.Cmp.Lexicographic.{pointwise}
 use Rattle.lz_resp.specs.declared.command.Command.{Command}
-use Rattle.lz_resp.specs.declared.command.Command.TheVariants.{Sadd, Srem, Sismember, Smismember, Exists, Del, Unlink, Setnx, Set, Select, Ping, Echo, Quit, Reset, Hello, Client, Catalog, Config}
+use Rattle.lz_resp.specs.declared.command.Command.TheVariants.{Sadd, Srem, Sismember, Smismember, Exists, Del, Unlink, Setnx, Set, Select, Ping, Echo, Quit, Reset, Hello, Client, Catalog, Config, Dbsize, Info as AskInfo, Shutdown}
+use Rattle.lz_resp.specs.declared.query.Sections.{Sections}
+use Rattle.lz_resp.specs.declared.query.Sections.TheVariants as sections
 use Rattle.lz_resp.specs.declared.subcommand.Subcommand.{Subcommand}
 use Rattle.lz_resp.specs.declared.subcommand.Subcommand.TheVariants.{Getname, Setname, Setinfo, NoEvict, NoTouch, Count, Docs, Info, Get}
 
@@ -26,10 +28,13 @@ name_of Hello = codes "hello"
 name_of Client = codes "client"
 name_of Catalog = codes "command"
 name_of Config = codes "config"
+name_of Dbsize = codes "dbsize"
+name_of AskInfo = codes "info"
+name_of Shutdown = codes "shutdown"
 
 abbrev pub all_commands : List Command
 all_commands =
-    Sadd ∷ Srem ∷ Sismember ∷ Smismember ∷ Exists ∷ Del ∷ Unlink ∷ Setnx ∷ Set ∷ Select ∷ Ping ∷ Echo ∷ Quit ∷ Reset ∷ Hello ∷ Client ∷ Catalog ∷ Config ∷ []
+    Sadd ∷ Srem ∷ Sismember ∷ Smismember ∷ Exists ∷ Del ∷ Unlink ∷ Setnx ∷ Set ∷ Select ∷ Ping ∷ Echo ∷ Quit ∷ Reset ∷ Hello ∷ Client ∷ Catalog ∷ Config ∷ Dbsize ∷ AskInfo ∷ Shutdown ∷ []
 
 -- the command takes a frame of so many words
 abbrev pub takes : Command → ℕ → Bool
@@ -51,6 +56,9 @@ takes Hello n = true
 takes Client n = nat_le 2 n
 takes Catalog n = true
 takes Config n = nat_le 2 n
+takes Dbsize n = n == 1
+takes AskInfo n = nat_le n 2
+takes Shutdown n = true
 
 abbrev pub subname_of : Subcommand → List ℕ
 subname_of Getname = codes "getname"
@@ -95,3 +103,14 @@ command_of word = named name_of all_commands word
 
 abbrev pub subcommand_of : Command → List ℕ → Option Subcommand
 subcommand_of command word = named subname_of (subcommands command) word
+
+-- the sections that a word names
+abbrev pub sections_of : List ℕ → Sections
+sections_of word =
+    if is_word (codes "default") word || is_word (codes "all") word || is_word (codes "everything") word then sections.All
+    else (if is_word (codes "server") word then sections.Server
+    else (if is_word (codes "clients") word then sections.Clients
+    else (if is_word (codes "stats") word then sections.Stats
+    else (if is_word (codes "keyspace") word then sections.Keyspace
+    else (if is_word (codes "lazyset") word then sections.Lazyset
+    else sections.Missing)))))

@@ -1,7 +1,7 @@
 //! What a frame asks for.
 ghost use Rattle.std.specs.Prelude.{◌≡◌, ◌≤◌, ◌<◌, IfOk, Some, map, length, true};
 ghost use Rattle.lz_slot.specs.Limits.{last_room};
-ghost use Rattle.lz_resp.specs.Commands.{in_subset, in_named, in_unnamed, item_by, item_of, requests_of, room_by, selected_after, selected_by, with_value};
+ghost use Rattle.lz_resp.specs.Commands.{in_subset, in_named, in_unnamed, is_saving, item_by, item_of, may_shut_down, requests_of, room_by, sections_in, selected_after, selected_by, with_value};
 ghost use Rattle.lz_resp.specs.Keys.{IsThere, IsRoom, subset_of};
 ghost use Rattle.lz_resp.specs.Names.{takes};
 
@@ -12,6 +12,7 @@ use crate::greeting::{hello, subtext};
 use crate::item::{Item, Requests};
 use crate::limits::MOST_VALUE;
 use crate::naming::{Selected, room_of};
+use crate::query::{Query, Sections};
 use crate::subset::Subset;
 use crate::text::{Text, bulk, error};
 use crate::words::{after, word};
@@ -76,6 +77,9 @@ fn item_by(
         Command::Hello => Ok(Item::Says(hello(alloc, words)?)),
         Command::Catalog => Ok(Item::Says(catalog(alloc, words)?)),
         Command::Client | Command::Config => Ok(Item::Says(subtext(alloc, command, words)?)),
+        Command::Dbsize => Ok(Item::Tells(Query::Size)),
+        Command::Info => Ok(Item::Tells(Query::Info(sections_in(words)))),
+        Command::Shutdown => shut_down(alloc, words),
     }
 }
 
@@ -212,6 +216,38 @@ fn catalog(alloc: Global, words: &[&[u8]]) -> Result<Text, AllocError>
     } else {
         subtext(alloc, Command::Catalog, words)
     }
+}
+
+// The sections that are asked for.
+fn sections_in(words: &[&[u8]]) -> Sections
+    ensures { result ≡ sections_in (map (λ word. word.now) words.now) }
+{
+    if words.len() == 2 {
+        Sections::of(word(words, 1))
+    } else {
+        Sections::All
+    }
+}
+
+fn shut_down(alloc: Global, words: &[&[u8]]) -> Result<Item, AllocError>
+    ensures { IfOk result (λ item. item ≡ item_by Command.Shutdown Selected.Nameless (map (λ word. word.now) words.now)) }
+{
+    if may_shut_down(words) {
+        return Ok(Item::Tells(Query::Shutdown));
+    }
+    Ok(Item::Says(error(alloc, b"syntax error")?))
+}
+
+fn may_shut_down(words: &[&[u8]]) -> bool
+    ensures { result ≡ may_shut_down (map (λ word. word.now) words.now) }
+{
+    words.len() == 1 || words.len() == 2 && is_saving(word(words, 1))
+}
+
+fn is_saving(word: &[u8]) -> bool
+    ensures { result ≡ is_saving word.now }
+{
+    is_word(b"nosave", word) || is_word(b"save", word)
 }
 
 // What a command selects.

@@ -23,6 +23,9 @@ pub(crate) enum Command {
     Client,
     Catalog,
     Config,
+    Dbsize,
+    Info,
+    Shutdown,
 }
 
 impl Command {
@@ -48,6 +51,9 @@ impl Command {
             Command::Client => "client",
             Command::Catalog => "command",
             Command::Config => "config",
+            Command::Dbsize => "dbsize",
+            Command::Info => "info",
+            Command::Shutdown => "shutdown",
         }
     }
 
@@ -61,9 +67,9 @@ impl Command {
             Command::Client | Command::Config => 2 <= count,
             Command::Sismember | Command::Setnx => count == 3,
             Command::Select | Command::Echo => count == 2,
-            Command::Ping => count <= 2,
-            Command::Reset => count == 1,
-            Command::Quit | Command::Hello | Command::Catalog => true,
+            Command::Ping | Command::Info => count <= 2,
+            Command::Reset | Command::Dbsize => count == 1,
+            Command::Quit | Command::Hello | Command::Catalog | Command::Shutdown => true,
         }
     }
 }
@@ -125,6 +131,15 @@ pub(crate) fn command_of(word: &[u8]) -> Option<Command>
     }
     if is_word(b"config", word) {
         return Some(Command::Config);
+    }
+    if is_word(b"dbsize", word) {
+        return Some(Command::Dbsize);
+    }
+    if is_word(b"info", word) {
+        return Some(Command::Info);
+    }
+    if is_word(b"shutdown", word) {
+        return Some(Command::Shutdown);
     }
     None
 }

@@ -2,6 +2,7 @@
 ghost use Rattle.std.specs.Prelude.{◌≡◌, ◌≢◌, [], ◌∷◌, All};
 
 use crate::form::Form;
+use crate::query::Query;
 use crate::text::Text;
 use lz_proto::Request;
 use std::marker::Model;
@@ -70,6 +71,8 @@ pub enum Item {
     Asks(Form, Requests),
     /// A reply, and nothing is asked.
     Says(Text),
+    /// What the service is asked of itself.
+    Tells(Query),
     /// The last reply: nothing is read after it.
     Ends(Text),
 }

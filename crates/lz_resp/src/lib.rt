@@ -1,20 +1,23 @@
 //! The frames and replies of Redis's protocol, RESP2.
 //!
 //! `Frames` cuts a text that comes in pieces into frames, and gives what each asks for; `push_reply` tells the reply to it, by
-//! the replies to its requests. Each is exact: it gives what the definitions under `specs/` say.
+//! the replies to its requests, and `Query::text` that to what is asked of the service itself. Each is exact: it gives what the definitions under `specs/` say.
 #![tactic(auto)]
 
 mod asking;
 mod command;
 mod errors;
 mod fault;
+mod figures;
 mod form;
 mod frames;
 mod greeting;
+mod info;
 mod item;
 pub mod laws;
 mod limits;
 mod naming;
+mod query;
 mod reading;
 mod reply;
 mod subcommand;
@@ -23,10 +26,12 @@ mod text;
 mod words;
 
 pub use fault::Fault;
+pub use figures::Figures;
 pub use form::Form;
 pub use frames::Frames;
 pub use item::{Item, Requests};
 pub use limits::{MOST_FRAME, MOST_VALUE, MOST_WORD, MOST_WORDS};
 pub use naming::Naming;
+pub use query::{Query, Sections};
 pub use reply::{has_halted, push_reply};
 pub use text::Text;

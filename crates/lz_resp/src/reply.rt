@@ -90,7 +90,8 @@ fn push_answer(text: &mut Vec<u8>, form: Form, replies: &[Reply]) -> Result<(), 
     }
 }
 
-fn push_integer(text: &mut Vec<u8>, number: usize) -> Result<(), AllocError>
+/// Puts an integer after a text.
+pub(crate) fn push_integer(text: &mut Vec<u8>, number: usize) -> Result<(), AllocError>
     ensures { OnOk result (text.new.items ≡ text.old.items ++ integer number) }
 {
     text.extend_from_slice(b":")?;

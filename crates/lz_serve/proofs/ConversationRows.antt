@@ -47,7 +47,7 @@ get pass reply = record { question = record { connection = 1; line = 1; request 
 abbrev late : Pass → Reply → Grant
 late pass reply = record { question = record { connection = 1; line = 2; request = Add 1; before = pass; earlier = false }; reply = reply; after = pass }
 
-abbrev gets : Pass → Reply → List Grant
+abbrev pub gets : Pass → Reply → List Grant
 gets pass reply = get pass reply ∷ []
 
 of_first : (p : Pass) → IsOfLine 1 1 (Add 1) Yes (get p Yes)

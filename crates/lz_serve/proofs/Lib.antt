@@ -24,3 +24,4 @@ pub mod Standings
 pub mod LineSessions
 pub mod TalksOnStreams
 pub mod RunningLoops
+pub mod QueryRows

@@ -8,7 +8,9 @@ use Rattle.lz_proto.specs.declared.end.End.TheVariants.{Done, Quit}
 use Rattle.lz_proto.specs.Pieces.{faults_of}
 use Rattle.lz_proto.specs.Lines.{Items as LineItems}
 use Rattle.lz_proto.proofs.Texts as lines
+use Rattle.lz_resp.specs.declared.query.Query.{Query}
 use Rattle.lz_resp.specs.Keys.{at_first}
+use Rattle.lz_resp.specs.Queries.{query_text}
 use Rattle.lz_resp.proofs.Texts as frames
 use Rattle.lz_serve.specs.declared.language.Language.{Language}
 use Rattle.lz_serve.specs.declared.language.Language.TheVariants as language
@@ -18,10 +20,10 @@ use Rattle.lz_serve.specs.declared.reader.Reader.TheVariants as reader
 use Rattle.lz_serve.specs.declared.turn.Turn.{Turn}
 use Rattle.lz_serve.specs.declared.turn.Turn.TheVariants as turn
 use Rattle.lz_serve.specs.declared.turn.Wording.{Wording}
-use Rattle.lz_serve.specs.Exchanges.{CameFrom, EndsWith, Exchange, ReadsMore, asks, end_by, ends, of_frame, of_line, requests_in, says, turn_of, worded}
+use Rattle.lz_serve.specs.Exchanges.{CameFrom, EndsWith, Exchange, ReadsMore, asks, end_by, ends, of_frame, of_line, requests_in, says, tells, turn_of, worded}
 use Rattle.lz_serve.specs.Grants.{Grant}
 use Rattle.lz_serve.specs.Lines.{asked_by, awaited, replied, replies_of}
-use Rattle.lz_serve.specs.Conversations.{AreFor, AreTold, Fed, Finished, IsAt, IsTold, Noted, Talk, Told, more, nothing_yet, replies_in, nothing as none_told}
+use Rattle.lz_serve.specs.Conversations.{AreFor, AreTold, Fed, Finished, IsAt, IsTold, Noted, Talk, Told, more, nothing_yet, query_end, replies_in, nothing as none_told}
 use Rattle.lz_serve.proofs.ExchangesMore.{map_more, requests_more}
 use Rattle.lz_serve.proofs.LineReplies.{asked_more, asked_noted}
 
@@ -226,7 +228,7 @@ module _ (connection : ℕ) (grants : List Grant) (text sent : List ℕ) (t new 
   no_grants none so = subst (λ (gs : List Grant). IsAt connection gs text sent new) (sym (append-nil grants) ∙ ap (λ (gs : List Grant). grants ++ gs) (sym none)) so
 
   by_left : (left : List Exchange) → at.left ≡ left → (first : Turn) → t.turns ≡ first ∷ drop 1 t.turns → HasGrants connection t first its → Told first t new → IsAt connection (grants ++ its) text sent new
-  by_left [] is first next has tells = absurd (let none : [] ≡ first ∷ drop 1 t.turns = ap (λ (l : List Exchange). map turn_of l) (sym is) ∙ at.turns ∙ next in cc)
+  by_left [] is first next has step = absurd (let none : [] ≡ first ∷ drop 1 t.turns = ap (λ (l : List Exchange). map turn_of l) (sym is) ∙ at.turns ∙ next in cc)
   by_left (asks wording requests ∷ left) is (turn.Asks w n) next (for, replies_are) (replies, few, of, new_is) =
       let same : turn.Asks wording (length requests) ≡ turn.Asks w n = first_is (asks wording requests) left (turn.Asks w n) is next in
       let wording_is : wording ≡ w = cc in
@@ -235,25 +237,37 @@ module _ (connection : ℕ) (grants : List Grant) (text sent : List ℕ) (t new 
       subst (IsAt connection (grants ++ its) text sent)
       (ap (λ (x : Wording). record t { turns = drop 1 t.turns; told = t.told + n; under = drop n t.under; unsent = t.unsent ++ worded x replies; ended = end_by replies }) wording_is ∙ sym new_is)
       (replies_told connection grants text sent t at goes wording requests left is n its replies long few for are)
-  by_left (says said ∷ left) is (turn.Says x) next has tells =
+  by_left (says said ∷ left) is (turn.Says x) next has step =
       let same : turn.Says said ≡ turn.Says x = first_is (says said) left (turn.Says x) is next in
       let said_is : said ≡ x = cc in
       no_grants has
-      (subst (IsAt connection grants text sent) (ap (λ (y : List ℕ). record t { turns = drop 1 t.turns; unsent = t.unsent ++ y }) said_is ∙ sym tells)
+      (subst (IsAt connection grants text sent) (ap (λ (y : List ℕ). record t { turns = drop 1 t.turns; unsent = t.unsent ++ y }) said_is ∙ sym step)
       (subst (λ (e : End). IsAt connection grants text sent (record t { turns = drop 1 t.turns; unsent = t.unsent ++ said; ended = e })) (sym goes)
       (text_told connection grants text sent t at goes (says said) left is said Done (refl, refl, refl) refl)))
-  by_left (ends said ∷ left) is (turn.Ends x) next has tells =
+  by_left (tells query ∷ left) is (turn.Tells q) next has (f, told_so) =
+      let same : turn.Tells query ≡ turn.Tells q = first_is (tells query) left (turn.Tells q) is next in
+      let query_is : query ≡ q = cc in
+      no_grants has
+      (subst (IsAt connection grants text sent) (ap (λ (y : Query). record t { turns = drop 1 t.turns; unsent = t.unsent ++ query_text y f; ended = query_end y f }) query_is ∙ sym told_so)
+      (text_told connection grants text sent t at goes (tells query) left is (query_text query f) (query_end query f) (refl, (f, refl, refl)) refl))
+  by_left (ends said ∷ left) is (turn.Ends x) next has step =
       let same : turn.Ends said ≡ turn.Ends x = first_is (ends said) left (turn.Ends x) is next in
       let said_is : said ≡ x = cc in
       no_grants has
-      (subst (IsAt connection grants text sent) (ap (λ (y : List ℕ). record t { turns = drop 1 t.turns; unsent = t.unsent ++ y; ended = Quit }) said_is ∙ sym tells)
+      (subst (IsAt connection grants text sent) (ap (λ (y : List ℕ). record t { turns = drop 1 t.turns; unsent = t.unsent ++ y; ended = Quit }) said_is ∙ sym step)
       (text_told connection grants text sent t at goes (ends said) left is said Quit (refl, refl, refl) refl))
-  by_left (asks wording requests ∷ left) is (turn.Says x) next has tells = absurd (let same = first_is (asks wording requests) left (turn.Says x) is next in cc)
-  by_left (asks wording requests ∷ left) is (turn.Ends x) next has tells = absurd (let same = first_is (asks wording requests) left (turn.Ends x) is next in cc)
-  by_left (says said ∷ left) is (turn.Asks w n) next has tells = absurd (let same = first_is (says said) left (turn.Asks w n) is next in cc)
-  by_left (says said ∷ left) is (turn.Ends x) next has tells = absurd (let same = first_is (says said) left (turn.Ends x) is next in cc)
-  by_left (ends said ∷ left) is (turn.Asks w n) next has tells = absurd (let same = first_is (ends said) left (turn.Asks w n) is next in cc)
-  by_left (ends said ∷ left) is (turn.Says x) next has tells = absurd (let same = first_is (ends said) left (turn.Says x) is next in cc)
+  by_left (asks wording requests ∷ left) is (turn.Says x) next has step = absurd (let same = first_is (asks wording requests) left (turn.Says x) is next in cc)
+  by_left (asks wording requests ∷ left) is (turn.Ends x) next has step = absurd (let same = first_is (asks wording requests) left (turn.Ends x) is next in cc)
+  by_left (says said ∷ left) is (turn.Asks w n) next has step = absurd (let same = first_is (says said) left (turn.Asks w n) is next in cc)
+  by_left (says said ∷ left) is (turn.Ends x) next has step = absurd (let same = first_is (says said) left (turn.Ends x) is next in cc)
+  by_left (asks wording requests ∷ left) is (turn.Tells q) next has step = absurd (let same = first_is (asks wording requests) left (turn.Tells q) is next in cc)
+  by_left (says said ∷ left) is (turn.Tells q) next has step = absurd (let same = first_is (says said) left (turn.Tells q) is next in cc)
+  by_left (tells query ∷ left) is (turn.Asks w n) next has step = absurd (let same = first_is (tells query) left (turn.Asks w n) is next in cc)
+  by_left (tells query ∷ left) is (turn.Says x) next has step = absurd (let same = first_is (tells query) left (turn.Says x) is next in cc)
+  by_left (tells query ∷ left) is (turn.Ends x) next has step = absurd (let same = first_is (tells query) left (turn.Ends x) is next in cc)
+  by_left (ends said ∷ left) is (turn.Tells q) next has step = absurd (let same = first_is (ends said) left (turn.Tells q) is next in cc)
+  by_left (ends said ∷ left) is (turn.Asks w n) next has step = absurd (let same = first_is (ends said) left (turn.Asks w n) is next in cc)
+  by_left (ends said ∷ left) is (turn.Says x) next has step = absurd (let same = first_is (ends said) left (turn.Says x) is next in cc)
 
   pub told : (first : Turn) → t.turns ≡ first ∷ drop 1 t.turns → HasGrants connection t first its → Told first t new → IsAt connection (grants ++ its) text sent new
-  told first next has tells = by_left at.left refl first next has tells
+  told first next has step = by_left at.left refl first next has step

@@ -116,6 +116,8 @@ left (turn.Asks wording count) old new (replies, few, of, is) =
     record { told = ap (λ (t : Talk). t.told) is; under = ap (λ (t : Talk). t.under) is; few = few; reader = ap (λ (t : Talk). t.reader) is; spoken = ap (λ (t : Talk). t.spoken) is }
 left (turn.Says said) old new is =
     record { told = ap (λ (t : Talk). t.told) is ∙ omega arith; under = ap (λ (t : Talk). t.under) is; few = omega arith; reader = ap (λ (t : Talk). t.reader) is; spoken = ap (λ (t : Talk). t.spoken) is }
+left (turn.Tells query) old new (f, is) =
+    record { told = ap (λ (t : Talk). t.told) is ∙ omega arith; under = ap (λ (t : Talk). t.under) is; few = omega arith; reader = ap (λ (t : Talk). t.reader) is; spoken = ap (λ (t : Talk). t.spoken) is }
 left (turn.Ends said) old new is =
     record { told = ap (λ (t : Talk). t.told) is ∙ omega arith; under = ap (λ (t : Talk). t.under) is; few = omega arith; reader = ap (λ (t : Talk). t.reader) is; spoken = ap (λ (t : Talk). t.spoken) is }
 
@@ -139,6 +141,7 @@ module _ (P : List Grant → Type 0) (seen : Trace) (connection : ℕ) where
         ap (λ (t : Talk). is_none t.reader) is ∙ was.4,
       )
   told_so s (turn.Says said) old new puts next goes step earned was = nothing_told s (turn.Says said) old new puts next goes refl step was
+  told_so s (turn.Tells query) old new puts next goes step earned was = nothing_told s (turn.Tells query) old new puts next goes refl step was
   told_so s (turn.Ends said) old new puts next goes step earned was = nothing_told s (turn.Ends said) old new puts next goes refl step was
 
   -- where the first exchange is told, whose replies were granted and may be told

@@ -1,15 +1,18 @@
 -- Where a conversation stands.
-use Rattle.std.specs.Prelude.{◌≡◌, ◌≢◌, ◌⊎◌, ◌≤◌, ⊤, ℕ, List, [], ◌∷◌, ◌++◌, drop, length, map, slice_set, suc, ◌+◌, ◌-◌, take, Option, None, Some}
+use Rattle.std.specs.Prelude.{◌≡◌, ◌≢◌, ◌⊎◌, ◌≤◌, ⊤, ℕ, if◌then◌else◌, List, [], ◌∷◌, ◌++◌, drop, length, map, slice_set, suc, ◌+◌, ◌-◌, take, Option, None, Some}
 use Rattle.lz_proto.specs.declared.request.Request.{Request}
 use Rattle.lz_proto.specs.declared.reply.Reply.{Reply}
 use Rattle.lz_proto.specs.declared.end.End.{End}
 use Rattle.lz_proto.specs.declared.end.End.TheVariants.{Done, Quit}
+use Rattle.lz_resp.specs.declared.figures.Figures.{Figures}
+use Rattle.lz_resp.specs.declared.query.Query.{Query}
+use Rattle.lz_resp.specs.Queries.{ends_service, query_text}
 use Rattle.lz_serve.specs.declared.language.Language.{Language}
 use Rattle.lz_serve.specs.declared.line.Line.{Line}
 use Rattle.lz_serve.specs.declared.reader.Reader.{Reader}
 use Rattle.lz_serve.specs.declared.turn.Turn.{Turn}
 use Rattle.lz_serve.specs.declared.turn.Turn.TheVariants as turn
-use Rattle.lz_serve.specs.Exchanges.{CameFrom, EndsWith, Exchange, Pending, ReadsMore, adding, asks, says, ends, end_by, requests_in, turn_of, unread, worded}
+use Rattle.lz_serve.specs.Exchanges.{CameFrom, EndsWith, Exchange, Pending, ReadsMore, adding, asks, says, tells, ends, end_by, requests_in, turn_of, unread, worded}
 use Rattle.lz_serve.specs.Grants.{Grant, IsOfLine}
 use Rattle.lz_serve.specs.Lines.{StandsAt, asked_by, replied, replies_of}
 
@@ -43,10 +46,16 @@ AreFor connection told requests grants = ⊥
 abbrev pub replies_in : List Grant → List Reply
 replies_in grants = map (λ g. g.reply) grants
 
--- After so many requests of the connection an exchange was told by these grants: this is its text, and so it goes on.
+-- how a conversation goes on after what was asked of a service of which this is known: it ends with the service
+abbrev pub query_end : Query → Figures → End
+query_end query f = if ends_service query f then Quit else Done
+
+-- After so many requests of the connection an exchange was told by these grants, or by what was known of the service: this is its text, and so it
+-- goes on.
 abbrev pub IsTold : ℕ → ℕ → Exchange → List Grant → List ℕ → End → Type 0
 IsTold connection told (asks wording requests) grants text ended = AreFor connection told requests grants × (text ≡ worded wording (replies_in grants)) × (ended ≡ end_by (replies_in grants))
 IsTold connection told (says said) grants text ended = (grants ≡ []) × (text ≡ said) × (ended ≡ Done)
+IsTold connection told (tells query) grants text ended = (grants ≡ []) × ((f : Figures) × (text ≡ query_text query f) × (ended ≡ query_end query f))
 IsTold connection told (ends said) grants text ended = (grants ≡ []) × (text ≡ said) × (ended ≡ Quit)
 
 -- The exchanges were told in their order, one text after the other, each by the grants that come next. After one that has ended the
@@ -76,9 +85,10 @@ IsOver t = (t.ended ≢ Done) ⊎ ((t.reader ≡ None) × (t.turns ≡ []))
 abbrev pub Rests : Talk → Type 0
 Rests t = (t.ended ≢ Done) ⊎ (t.waiting ≡ []) ⊎ (t.under ≢ []) ⊎ (t.told + length t.under ≡ 18446744073709551615)
 
--- each request of the turn has its reply, where it is the first
+-- where the turn is the first, each of its requests has its reply, and the service itself isn't asked
 abbrev pub IsReady : Turn → Talk → Type 0
 IsReady (turn.Asks wording count) t = (replies : List Reply) × (count ≤ length t.under) × (replies_of (take count t.under) ≡ Some replies)
+IsReady (turn.Tells query) t = ⊥
 IsReady other t = ⊤
 
 -- a piece more of the client's text has come
@@ -98,10 +108,15 @@ abbrev pub Noted : ℕ → Request → Reply → Talk → Talk → Type 0
 Noted number request reply old new =
     StandsAt old.told number request old.under × (new ≡ record old { under = slice_set old.under (number - suc old.told) (replied request reply) })
 
+-- the first exchange was told, which asks this of the service itself, by what is known of it
+abbrev pub Queried : Query → Figures → Talk → Talk → Type 0
+Queried query f old new = new ≡ record old { turns = drop 1 old.turns; unsent = old.unsent ++ query_text query f; ended = query_end query f }
+
 -- the first exchange was told, whose turn this is
 abbrev pub Told : Turn → Talk → Talk → Type 0
 Told (turn.Asks wording count) old new =
     (replies : List Reply) × (count ≤ length old.under) × (replies_of (take count old.under) ≡ Some replies)
     × (new ≡ record old { turns = drop 1 old.turns; told = old.told + count; under = drop count old.under; unsent = old.unsent ++ worded wording replies; ended = end_by replies })
 Told (turn.Says text) old new = new ≡ record old { turns = drop 1 old.turns; unsent = old.unsent ++ text }
+Told (turn.Tells query) old new = (f : Figures) × Queried query f old new
 Told (turn.Ends text) old new = new ≡ record old { turns = drop 1 old.turns; unsent = old.unsent ++ text; ended = Quit }

@@ -15,6 +15,7 @@ use Rattle.lz_proto.specs.declared.fault.Bad.{Bad}
 use Rattle.lz_resp.specs.declared.item.Item.{Item as FrameItem}
 use Rattle.lz_resp.specs.declared.item.Item.TheVariants as frame
 use Rattle.lz_resp.specs.declared.naming.Naming.{Naming}
+use Rattle.lz_resp.specs.declared.query.Query.{Query}
 use Rattle.lz_resp.specs.Keys.{at_first}
 use Rattle.lz_resp.specs.Pieces.{Feeds as FeedsFrames, Items as FrameItems, Reads as ReadsFrames, start}
 use Rattle.lz_resp.specs.Replies.{is_halted, text_of}
@@ -27,10 +28,11 @@ use Rattle.lz_serve.specs.declared.turn.Turn.TheVariants as turn
 use Rattle.lz_serve.specs.declared.reader.Reader.{Reader}
 use Rattle.lz_serve.specs.declared.reader.Reader.TheVariants as reader
 
--- Requests whose replies are worded so; a text, and nothing is asked; or a text after which nothing comes.
+-- Requests whose replies are worded so; a text, and nothing is asked; what is asked of the service itself; or a text after which nothing comes.
 pub data Exchange : Type 0 where
   asks : Wording → List Request → Exchange
   says : List ℕ → Exchange
+  tells : Query → Exchange
   ends : List ℕ → Exchange
 
 -- what a line comes to
@@ -43,12 +45,14 @@ of_line (line.Faulty bad) = says (bad_text bad)
 abbrev pub of_frame : FrameItem → Exchange
 of_frame (frame.Asks form requests) = asks (Frame form) requests
 of_frame (frame.Says text) = says text
+of_frame (frame.Tells query) = tells query
 of_frame (frame.Ends text) = ends text
 
 -- an exchange without its requests
 abbrev pub turn_of : Exchange → Turn
 turn_of (asks wording requests) = turn.Asks wording (length requests)
 turn_of (says text) = turn.Says text
+turn_of (tells query) = turn.Tells query
 turn_of (ends text) = turn.Ends text
 
 -- what these exchanges ask, one after the other
@@ -56,6 +60,7 @@ abbrev pub requests_in : List Exchange → List Request
 requests_in [] = []
 requests_in (asks wording requests ∷ exchanges) = requests ++ requests_in exchanges
 requests_in (says text ∷ exchanges) = requests_in exchanges
+requests_in (tells query ∷ exchanges) = requests_in exchanges
 requests_in (ends text ∷ exchanges) = requests_in exchanges
 
 -- What has come and wasn't told: the turns of exchanges, and the requests that wait.

@@ -110,7 +110,7 @@ where
     let verb = Verb::of(&granted.question().request());
     observer.answered(verb, granted.reply());
     meet(set, asking, meeting);
-    crowd.reply(token, granted, asking.pass());
+    crowd.reply(token, granted, asking.pass(), observer);
     if begin_next(rt, set, kept, crowd, asking, ends) {
         Next::GoesOn
     } else {
@@ -193,12 +193,12 @@ where
     ensures kept { KeepsAwaited crowd.old crowd.new }
     ensures seen { HaveSeenIn crowd.new (part free.new.pass).known }
 {
-    let Some(question) = crowd.take_last(token, free.pass(), buffer) else {
+    let Some(question) = crowd.take_last(token, free.pass(), observer, buffer) else {
         return;
     };
     let verb = Verb::of(&question.request());
     let granted = free.answer(rt, set, question);
     observer.answered(verb, granted.reply());
-    crowd.reply(token, granted, free.pass());
-    crowd.tend_back(buffer);
+    crowd.reply(token, granted, free.pass(), observer);
+    crowd.tend_back(observer, buffer);
 }

@@ -10,6 +10,7 @@ ghost use Rattle.lz_serve.specs.Streams.{IsFresh};
 
 use crate::asking::Granted;
 use crate::conversation::{Conversation, pass_over};
+use crate::observer::Observer;
 use crate::stream::{Received, Stream, Taken};
 use lz_proto::Request;
 use lz_set::{Named, Pass};
@@ -275,7 +276,7 @@ impl<S: Stream> Client<S> {
 
     /// Takes the reply that was granted to a line of its own that awaits one, and no other, and tells those that no earlier line
     /// holds up. This pass has seen what those had that answered the client, this reply included.
-    pub fn reply<N: Named>(&mut self, granted: Granted<N>, pass: &Pass)
+    pub fn reply<N: Named, O: Observer>(&mut self, granted: Granted<N>, pass: &Pass, observer: &O)
         requires promised { (grants : List Grant) → S.promised grants → IsGrant N.board N.format granted → IsLater grants granted → S.promised (grants ++ granted ∷ []) }
         requires own { IsOwn self.old granted.question }
         requires seen { Begins self.old.seen (part pass.now).known }
@@ -293,16 +294,16 @@ impl<S: Stream> Client<S> {
         let reply = granted.reply();
         if self.talk.note(question.line(), question.request(), reply) {
             self.held = false;
-            self.tell_all();
+            self.tell_all(observer);
         }
     }
 
-    /// Tells the exchanges at the front that ask nothing.
-    pub(crate) fn tell_texts(&mut self)
+    /// Tells the exchanges at the front that ask for no key.
+    pub(crate) fn tell_texts<O: Observer>(&mut self, observer: &O)
         ensures { self.new ≡ self.old }
     {
         'turns: for _ in 0..u64::MAX {
-            if !self.tell_text() {
+            if !self.tell_text() && !self.tell_query(observer) {
                 return;
             }
         }
@@ -324,15 +325,38 @@ impl<S: Stream> Client<S> {
         }
     }
 
+    // Tells the first exchange, if it asks the service itself, and says whether it did.
+    fn tell_query<O: Observer>(&mut self, observer: &O) -> bool
+        ensures { self.new ≡ self.old }
+    {
+        if self.lost {
+            return false;
+        }
+        let Some(query) = self.talk.query() else {
+            return false;
+        };
+        let figures = observer.figures();
+        if query.ends_service(&figures) {
+            observer.shut_down();
+        }
+        match self.talk.tell_query(&figures) {
+            Ok(told) => told,
+            Err(_) => {
+                self.lost = true;
+                false
+            }
+        }
+    }
+
     // Tells each exchange that can be told.
-    fn tell_all(&mut self)
+    fn tell_all<O: Observer>(&mut self, observer: &O)
         ensures connection { self.new.connection ≡ self.old.connection }
         ensures lines { self.new.lines ≡ self.old.lines }
         ensures kept { KeepsOwn (Some self.old) (Some self.new) }
         ensures seen { self.new.seen ≡ self.old.seen }
     {
         'turns: for _ in 0..u64::MAX {
-            if !self.tell() {
+            if !self.tell() && !self.tell_query(observer) {
                 return;
             }
         }

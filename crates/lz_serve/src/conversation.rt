@@ -1,19 +1,20 @@
 //! The conversation of one connection, as a value.
 ghost use Rattle.std.specs.Prelude.{◌≡◌, ◌≢◌, ◌↔◌, ◌⊎◌, ◌≤◌, ◌+◌, ◌-◌, [], ◌∷◌, ◌++◌, drop, length, slice_get, slice_set, suc, take, Some, None, true, false, IfOk, IfSome, IsSome, IsTrue, OnErr, OnOk};
+ghost use Rattle.lz_resp.specs.declared.query.Query.{Query as AQuery};
 ghost use Rattle.lz_serve.specs.declared.line.Line.{Line as ALine};
 ghost use Rattle.lz_serve.specs.declared.turn.Turn.{Turn as ATurn};
-ghost use Rattle.lz_serve.specs.Conversations.{Fed, Finished, IsOver, IsReady, Noted, Rests, Told, nothing_yet};
-ghost use Rattle.lz_serve.specs.Exchanges.{end_by, worded};
+ghost use Rattle.lz_serve.specs.Conversations.{Fed, Finished, IsOver, IsReady, Noted, Queried, Rests, Told, nothing_yet};
 ghost use Rattle.lz_serve.specs.Grants.{key_asked};
-ghost use Rattle.lz_serve.specs.Lines.{IsFree, StandsAt, awaited, replied, replies_of};
+ghost use Rattle.lz_serve.specs.Lines.{IsFree, StandsAt, awaited, replied};
 
 use crate::exchanges::Exchanges;
 use crate::language::Language;
 use crate::line::{Line, key_asked};
 use crate::reader::Reader;
+use crate::telling::{end_by, gather, push_replies, query_end};
 use crate::turn::{Turn, Wording};
-use lz_proto::{End, Reply, Request, reply_text};
-use lz_resp::{has_halted, push_reply};
+use lz_proto::{End, Reply, Request};
+use lz_resp::{Figures, Query};
 use lz_slot::Key;
 use std::alloc::{AllocError, Global};
 use std::collections::VecDeque;
@@ -130,7 +131,7 @@ impl Conversation {
     }
 
     /// Tells the first exchange that wasn't told, if its requests have their replies, and says whether they do. `Halted` ends the
-    /// conversation, and so does `quit`.
+    /// conversation, and so does `quit`. What is asked of the service itself is told by `tell_query`.
     pub fn tell(&mut self) -> Result<bool, AllocError>
         ensures told { IfOk result (λ told. told ≡ true → (turn : ATurn) × (self.old.turns ≡ turn ∷ drop 1 self.old.turns) × (self.old.ended ≡ End.Done) × Told turn self.old self.new) }
         ensures none { IfOk result (λ told. told ≡ false → self.new ≡ self.old) }
@@ -151,6 +152,7 @@ impl Conversation {
                 self.exchanges.pass();
                 Ok(true)
             }
+            Turn::Tells(_) => Ok(false),
             Turn::Ends(text) => {
                 self.text.extend_from_slice(text.as_bytes())?;
                 self.exchanges.pass();
@@ -170,6 +172,35 @@ impl Conversation {
             Some(Turn::Says(_) | Turn::Ends(_)) => self.tell(),
             _ => Ok(false),
         }
+    }
+
+    /// What the first exchange that wasn't told asks of the service itself, if it does.
+    pub fn query(&self) -> Option<Query>
+        ensures some { IfSome result (λ query. (self.now.ended ≡ End.Done) × (self.now.turns ≡ ATurn.Tells query ∷ drop 1 self.now.turns)) }
+        ensures none { result ≡ None → self.now.ended ≡ End.Done → (query : AQuery) → self.now.turns ≡ ATurn.Tells query ∷ drop 1 self.now.turns → ⊥ }
+    {
+        match (self.ended, self.exchanges.first()) {
+            (End::Done, Some(Turn::Tells(query))) => Some(*query),
+            _ => None,
+        }
+    }
+
+    /// Tells that exchange, by what is known of the service then, and says whether there is one. The end of the service ends the conversation.
+    pub fn tell_query(&mut self, figures: &Figures) -> Result<bool, AllocError>
+        ensures told { IfOk result (λ told. told ≡ true → (query : AQuery) × (self.old.turns ≡ ATurn.Tells query ∷ drop 1 self.old.turns) × (self.old.ended ≡ End.Done) × Queried query figures.now self.old self.new) }
+        ensures none { IfOk result (λ told. told ≡ false → self.new ≡ self.old) }
+        ensures rests { IfOk result (λ told. told ≡ false → self.old.ended ≡ End.Done → (query : AQuery) → self.old.turns ≡ ATurn.Tells query ∷ drop 1 self.old.turns → ⊥) }
+        ensures err { OnErr result (self.new ≡ self.old) }
+        ensures others { self.new ≡ record self.old { turns = self.new.turns; unsent = self.new.unsent; ended = self.new.ended } }
+    {
+        let Some(query) = self.query() else {
+            return Ok(false);
+        };
+        let text = query.text(*self.text.allocator(), figures)?;
+        self.text.extend_from_slice(text.as_bytes())?;
+        self.exchanges.pass();
+        self.ended = query_end(query, figures);
+        Ok(true)
     }
 
     /// The text that is to be sent.
@@ -314,72 +345,12 @@ impl Conversation {
     }
 }
 
-// The replies to the first of these lines, if each has come.
-fn gather(
-    under: &VecDeque<Line>,
-    count: usize,
-    replies: &mut Vec<Reply>,
-) -> Result<bool, AllocError>
-    ensures some { IfOk result (λ are. are ≡ true → (count ≤ length under.now.items) × (replies_of (take count under.now.items) ≡ Some replies.new.items)) }
-    ensures none { IfOk result (λ are. are ≡ false → count ≤ length under.now.items → replies_of (take count under.now.items) ≡ None) }
-{
-    replies.clear();
-    if under.len() < count {
-        return Ok(false);
-    }
-    for index in 0..count {
-        let Some(reply) = reply_at(under, index) else {
-            return Ok(false);
-        };
-        replies.push(reply)?;
-    }
-    Ok(true)
-}
-
-// The reply to the line at this place, if it has come.
-fn reply_at(under: &VecDeque<Line>, index: usize) -> Option<Reply>
-    ensures { (line : ALine) → slice_get under.now.items index ≡ Some line → result ≡ line.reply }
-{
-    under.get(index)?.reply
-}
-
 /// Takes so many off the front of a queue.
 pub(crate) fn pass_over<T: Drop>(queue: &mut VecDeque<T>, count: usize)
     ensures { queue.new.items ≡ drop count queue.old.items }
 {
     for _ in 0..count {
         queue.pop_front();
-    }
-}
-
-// Puts replies after a text.
-fn push_replies(text: &mut Vec<u8>, wording: Wording, replies: &[Reply]) -> Result<(), AllocError>
-    ensures { OnOk result (text.new.items ≡ text.old.items ++ worded wording replies.now) }
-{
-    match wording {
-        Wording::Line => push_lines(text, replies),
-        Wording::Frame(form) => push_reply(text, form, replies),
-    }
-}
-
-// Puts a line for each reply after a text.
-fn push_lines(text: &mut Vec<u8>, replies: &[Reply]) -> Result<(), AllocError>
-    ensures { OnOk result (text.new.items ≡ text.old.items ++ worded Wording.Line replies.now) }
-{
-    for reply in replies {
-        text.extend_from_slice(reply_text(*reply).as_bytes())?;
-    }
-    Ok(())
-}
-
-// How a conversation goes on after replies.
-fn end_by(replies: &[Reply]) -> End
-    ensures { result ≡ end_by replies.now }
-{
-    if has_halted(replies) {
-        End::Halted
-    } else {
-        End::Done
     }
 }
 

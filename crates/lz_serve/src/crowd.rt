@@ -8,6 +8,7 @@ ghost use Rattle.lz_serve.specs.Streams.{IsFresh};
 
 use crate::asking::Granted;
 use crate::client::{Client, Question};
+use crate::observer::Observer;
 use crate::place::{Place, Turn, Wish};
 use crate::poller::Ready;
 use crate::stream::Stream;
@@ -134,7 +135,7 @@ impl<S: Stream> Crowd<S> {
     }
 
     /// Admits the client of this connection under the token that `vacancy` gave. Its number is how many were admitted.
-    pub fn admit(&mut self, alloc: Global, stream: S, buffer: &mut [u8])
+    pub fn admit<O: Observer>(&mut self, alloc: Global, stream: S, observer: &O, buffer: &mut [u8])
         requires fresh { IsFresh (S.traffic stream) }
         requires promised { S.promised [] }
         ensures { Keeps self.old self.new }
@@ -151,11 +152,11 @@ impl<S: Stream> Crowd<S> {
         self.admitted += 1;
         let client = Client::new(alloc, self.admitted, stream);
         place.admit(client, self.now);
-        self.tend(token, buffer);
+        self.tend(token, observer, buffer);
     }
 
     /// A connection can be read or written.
-    pub fn hear(&mut self, ready: Ready, buffer: &mut [u8])
+    pub fn hear<O: Observer>(&mut self, ready: Ready, observer: &O, buffer: &mut [u8])
         ensures { Keeps self.old self.new }
     {
         let Ready { token, ends } = ready;
@@ -163,12 +164,18 @@ impl<S: Stream> Crowd<S> {
             return;
         };
         place.hear(ends, self.now);
-        self.tend(token, buffer);
+        self.tend(token, observer, buffer);
     }
 
     /// Hands a reply to the client of this token, if that is still the one whose line was answered. This pass has seen what those had that
     /// answered any of the clients, this reply included.
-    pub fn reply<N: Named>(&mut self, token: usize, granted: Granted<N>, pass: &Pass)
+    pub fn reply<N: Named, O: Observer>(
+        &mut self,
+        token: usize,
+        granted: Granted<N>,
+        pass: &Pass,
+        observer: &O,
+    )
         requires promised { Promises N.board N.format S.promised }
         requires awaited { IsAwaited self.old token granted.question }
         requires seen { HaveSeenIn self.old (part pass.now).known }
@@ -180,7 +187,7 @@ impl<S: Stream> Crowd<S> {
             return;
         };
         self.out = self.out.saturating_add(1);
-        let is_next = place.reply(granted, pass, self.now);
+        let is_next = place.reply(granted, pass, observer, self.now);
         let is_back = place.give_back();
         self.put(token, is_next, is_back);
     }
@@ -193,14 +200,14 @@ impl<S: Stream> Crowd<S> {
     }
 
     /// Does for those that were answered, or had no line, what needs no pass.
-    pub fn tend_back(&mut self, buffer: &mut [u8])
+    pub fn tend_back<O: Observer>(&mut self, observer: &O, buffer: &mut [u8])
         ensures { Keeps self.old self.new }
     {
         for at in 0..self.back.len() {
             let Some(token) = self.back.get(at).copied() else {
                 return;
             };
-            self.tend(token, buffer);
+            self.tend(token, observer, buffer);
         }
         self.back.clear();
     }
@@ -232,7 +239,13 @@ impl<S: Stream> Crowd<S> {
     }
 
     /// The question to this pass that the client of this token has, if it has one. Where none waits it is read once more.
-    pub fn take_last(&mut self, token: usize, pass: &Pass, buffer: &mut [u8]) -> Option<Question>
+    pub fn take_last<O: Observer>(
+        &mut self,
+        token: usize,
+        pass: &Pass,
+        observer: &O,
+        buffer: &mut [u8],
+    ) -> Option<Question>
         requires { HaveSeenIn self.old (part pass.now).known }
         ensures before { IfSome result (λ question. question.before ≡ pass.now) }
         ensures awaited { IfSome result (λ question. IsAwaited self.new token question) }
@@ -241,7 +254,7 @@ impl<S: Stream> Crowd<S> {
         let Some(place) = self.places.get_mut(token) else {
             return None;
         };
-        place.take_last(pass, buffer)
+        place.take_last(pass, observer, buffer)
     }
 
     /// Notes the time by the system's clock. Its own goes on as that does, but not by more than a second at once.
@@ -281,23 +294,23 @@ impl<S: Stream> Crowd<S> {
     }
 
     /// Ends each session, once what is unsent is sent.
-    pub fn part_all(&mut self, buffer: &mut [u8])
+    pub fn part_all<O: Observer>(&mut self, observer: &O, buffer: &mut [u8])
         ensures { Keeps self.old self.new }
     {
         for token in 0..self.places.len() {
-            self.part(token, buffer);
+            self.part(token, observer, buffer);
         }
     }
 
     // Ends a session, once what is unsent is sent.
-    fn part(&mut self, token: usize, buffer: &mut [u8])
+    fn part<O: Observer>(&mut self, token: usize, observer: &O, buffer: &mut [u8])
         ensures { Keeps self.old self.new }
     {
         let Some(place) = self.places.get_mut(token) else {
             return;
         };
         place.part();
-        self.tend(token, buffer);
+        self.tend(token, observer, buffer);
     }
 
     /// Closes each connection.
@@ -310,7 +323,7 @@ impl<S: Stream> Crowd<S> {
     }
 
     // Does for a client what needs no pass, and queues it where it wants a turn.
-    fn tend(&mut self, token: usize, buffer: &mut [u8])
+    fn tend<O: Observer>(&mut self, token: usize, observer: &O, buffer: &mut [u8])
         ensures { Keeps self.old self.new }
     {
         let crowded = self.queue.len() >= MANY;
@@ -318,7 +331,7 @@ impl<S: Stream> Crowd<S> {
             return;
         };
         let was_leaving = place.leaves();
-        let wish = place.tend(buffer, crowded, self.now);
+        let wish = place.tend(observer, buffer, crowded, self.now);
         if place.leaves() && !was_leaving {
             self.leaving = self.leaving.saturating_add(1);
         }

@@ -192,7 +192,7 @@ impl<S: Stream, N: Named, B: Given> Desk<S, N, B> {
             }
         }
         drop(kept);
-        self.crowd.tend_back(buffer);
+        self.crowd.tend_back(observer, buffer);
     }
 
     /// Plays the Sync of each call that stands before one. The first calls the device, and the others find their slots covered.

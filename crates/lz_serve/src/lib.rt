@@ -39,6 +39,7 @@ mod serving;
 mod shares;
 mod sockets;
 mod stream;
+mod telling;
 mod turn;
 mod workers;
 

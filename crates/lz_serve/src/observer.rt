@@ -5,6 +5,7 @@ ghost use Rattle.lz_serve.specs.Verbs.{verb_of};
 use crate::language::Language;
 use crate::listener::Listener;
 use lz_proto::{Reply, Request};
+use lz_resp::Figures;
 use std::{fmt, io};
 
 /// What a service stands on.
@@ -141,6 +142,12 @@ pub trait Observer: Drop {
 
     /// A command was replied to so.
     fn answered(&self, verb: Verb, reply: Reply);
+
+    /// What is known of the service now. A client has asked.
+    fn figures(&self) -> Figures;
+
+    /// A client has asked for the end of the service, which by its figures may be had.
+    fn shut_down(&self);
 
     /// A session has found that the device failed, or that no sync is left: nothing more is answered until the file is opened
     /// again. Told once.

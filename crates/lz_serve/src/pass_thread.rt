@@ -176,13 +176,13 @@ where
                 let verb = Verb::of(&question.request());
                 let granted = free.answer(rt, set, question);
                 observer.answered(verb, granted.reply());
-                client.reply(granted, free.pass());
+                client.reply(granted, free.pass(), observer);
                 client.write();
             }
             None if client.is_over() => return,
             None => {
                 let _ = client.read(&mut buffer, false);
-                client.tell_texts();
+                client.tell_texts(observer);
             }
         }
     }

@@ -7,6 +7,7 @@ ghost use Rattle.lz_serve.specs.Grants.{Promises};
 
 use crate::asking::Granted;
 use crate::client::{Client, Question};
+use crate::observer::Observer;
 use crate::stream::Stream;
 use lz_set::{Named, Pass};
 
@@ -89,7 +90,13 @@ impl<S: Stream> Place<S> {
 
     /// Hands a reply to its client, if that is still the one whose line was answered, and says whether this has one for a pass and
     /// didn't wait for its turn. This pass has seen what those had that answered the client, this reply included.
-    pub(crate) fn reply<N: Named>(&mut self, granted: Granted<N>, pass: &Pass, now: u64) -> bool
+    pub(crate) fn reply<N: Named, O: Observer>(
+        &mut self,
+        granted: Granted<N>,
+        pass: &Pass,
+        observer: &O,
+        now: u64,
+    ) -> bool
         requires promised { Promises N.board N.format S.promised }
         requires own { IsOwnOf self.old.client granted.question }
         requires seen { IfSome self.old.client (λ client. Begins client.seen (part pass.now).known) }
@@ -100,7 +107,7 @@ impl<S: Stream> Place<S> {
         let Some(client) = &mut self.client else {
             return false;
         };
-        client.reply(granted, pass);
+        client.reply(granted, pass, observer);
         self.moved = now;
         self.may_ask() && self.queue()
     }
@@ -173,7 +180,12 @@ impl<S: Stream> Place<S> {
     }
 
     /// Its client's question to this pass that waits, if one does. Where none does it is read once more.
-    pub(crate) fn take_last(&mut self, pass: &Pass, buffer: &mut [u8]) -> Option<Question>
+    pub(crate) fn take_last<O: Observer>(
+        &mut self,
+        pass: &Pass,
+        observer: &O,
+        buffer: &mut [u8],
+    ) -> Option<Question>
         requires { IfSome self.old.client (λ client. Begins client.seen (part pass.now).known) }
         ensures before { IfSome result (λ question. question.before ≡ pass.now) }
         ensures asked { IfSome result (λ question. IsAskedBy self.new.client question) }
@@ -183,14 +195,20 @@ impl<S: Stream> Place<S> {
         let client = self.client.as_mut()?;
         if !client.waits() {
             let _ = client.read(buffer, self.ends);
-            client.tell_texts();
+            client.tell_texts(observer);
         }
         client.ask(pass)
     }
 
     /// Does for its client what needs no pass, in this millisecond. Among many that wait (`crowded`), replies of one whose lines wait go out
     /// together.
-    pub(crate) fn tend(&mut self, buffer: &mut [u8], crowded: bool, now: u64) -> Wish
+    pub(crate) fn tend<O: Observer>(
+        &mut self,
+        observer: &O,
+        buffer: &mut [u8],
+        crowded: bool,
+        now: u64,
+    ) -> Wish
         ensures { self.new.client ≡ self.old.client }
     {
         self.back = false;
@@ -209,7 +227,7 @@ impl<S: Stream> Place<S> {
                 break;
             }
             self.readable = client.read(buffer, self.ends);
-            client.tell_texts();
+            client.tell_texts(observer);
         }
         // What was told of the pieces that were read.
         if !holds_back {

@@ -220,6 +220,7 @@ where
             patience,
             bounds.idle,
             &mut ready,
+            observer,
             &mut buffer,
         );
         if is_ended(observer, told) {
@@ -241,7 +242,14 @@ where
     if told.load(Ordering::SeqCst) {
         desk.answer_last(rt, set, observer, &mut buffer);
     }
-    take_leave(rt, poller, &mut desk.crowd, &mut ready, &mut buffer);
+    take_leave(
+        rt,
+        poller,
+        &mut desk.crowd,
+        &mut ready,
+        observer,
+        &mut buffer,
+    );
     desk.tell_parted(observer);
 }
 
@@ -276,7 +284,7 @@ where
         match poller.accept(token) {
             Ok(Some(stream)) => {
                 observer.accepted();
-                crowd.admit(rt.alloc(), stream, buffer);
+                crowd.admit(rt.alloc(), stream, observer, buffer);
             }
             Ok(None) => return,
             Err(error) => return observer.unaccepted(error),
@@ -285,17 +293,19 @@ where
 }
 
 // Hears which connections can be read or written, for which it waits for so long, and then closes those that were idle.
-fn listen<R, P>(
+fn listen<R, O, P>(
     rt: &R,
     poller: &mut P,
     crowd: &mut Crowd<P::Stream>,
     patience: Duration,
     idle: Option<Duration>,
     ready: &mut Vec<Ready>,
+    observer: &O,
     buffer: &mut [u8],
 )
 where
     R: Clock,
+    O: Observer,
     P: Poller,
     ensures { Keeps crowd.old crowd.new }
 {
@@ -305,32 +315,34 @@ where
         crowd.note_time(now);
     }
     for one in ready.iter() {
-        crowd.hear(*one, buffer);
+        crowd.hear(*one, observer, buffer);
     }
     crowd.close_idle(idle);
 }
 
 // Sends what is unsent and ends each session. Clients that take no more of their replies, or don't leave, are waited for only a while.
-fn take_leave<R, P>(
+fn take_leave<R, O, P>(
     rt: &R,
     poller: &mut P,
     crowd: &mut Crowd<P::Stream>,
     ready: &mut Vec<Ready>,
+    observer: &O,
     buffer: &mut [u8],
 )
 where
     R: Clock,
+    O: Observer,
     P: Poller,
     ensures { Keeps crowd.old crowd.new }
 {
-    crowd.part_all(buffer);
+    crowd.part_all(observer, buffer);
     let patience = Duration::from_millis(FAREWELL_TURN);
     if let Ok(began) = rt.monotonic() {
         'turns: for _ in 0..u64::MAX {
             if crowd.is_empty() || !is_within(rt, began) {
                 break;
             }
-            listen(rt, poller, crowd, patience, None, ready, buffer);
+            listen(rt, poller, crowd, patience, None, ready, observer, buffer);
         }
     }
     crowd.close_all();

@@ -1,6 +1,6 @@
 //! The lines of a conversation, and the room that it keeps.
 use lz_proto::{Reply, Request};
-use lz_resp::Naming;
+use lz_resp::{Figures, Naming, Query};
 use lz_serve::{Conversation, Language};
 use std::test::Fail;
 
@@ -54,6 +54,28 @@ fn the_members_of_a_frame_are_told_together(rt: HostRuntime) -> Result<(), Fail>
     assert!(rt; talk.tell()? && talk.tell()? && !talk.tell()?);
     assert!(rt; talk.unsent() == b":2\r\n+PONG\r\n:0\r\n+OK\r\n".as_slice());
     assert!(rt; talk.is_over());
+    Ok(())
+}
+
+#[test]
+fn the_service_itself_is_asked_in_turn(rt: HostRuntime) -> Result<(), Fail> {
+    let mut talk = Conversation::new(rt.alloc(), Language::Frames(Naming::Rooms));
+    talk.feed(b"sadd 0 1\r\ndbsize\r\nsadd 0 2\r\nshutdown\r\nping\r\n".as_slice())?;
+    let first = talk.next()?.ok_or("a request")?;
+    let second = talk.next()?.ok_or("a request")?;
+    assert!(rt; talk.note(2, second, Reply::Yes) && !talk.tell()? && talk.query().is_none());
+    assert!(rt; talk.note(1, first, Reply::Yes) && talk.tell()? && !talk.tell()?);
+    let figures = Figures {
+        stoppable: true,
+        members: 7,
+        ..Figures::default()
+    };
+    assert!(rt; talk.query() == Some(Query::Size) && !talk.tell_text()?);
+    assert!(rt; talk.tell_query(&figures)? && !talk.tell_query(&figures)?);
+    assert!(rt; talk.tell()? && talk.query() == Some(Query::Shutdown));
+    assert!(rt; talk.tell_query(&figures)? && talk.is_over());
+    assert!(rt; talk.query().is_none() && !talk.tell()? && !talk.tell_text()?);
+    assert!(rt; talk.unsent() == b":1\r\n:7\r\n:1\r\n".as_slice());
     Ok(())
 }
 

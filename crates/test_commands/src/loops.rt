@@ -8,6 +8,7 @@ use crate::network::{Network, Switch, side_of};
 use crate::scripts::{Script, script_of};
 use lz_disk::MemoryDisk;
 use lz_proto::Reply;
+use lz_resp::Figures;
 use lz_serve::{Bounds, Lack, Listener, Observer, Serving, Verb, serve_loop};
 use lz_set::{Blank, Named, NoGate, Pass, Set};
 use std::alloc::Global;
@@ -68,6 +69,12 @@ impl Observer for Counts {
     fn answered(&self, _verb: Verb, _reply: Reply) {
         self.answered.set(self.answered.get().wrapping_add(1));
     }
+
+    fn figures(&self) -> Figures {
+        Figures::default()
+    }
+
+    fn shut_down(&self) {}
 
     fn halted(&self) {
         self.halted.set(self.halted.get().wrapping_add(1));

@@ -6,4 +6,6 @@ mod frames;
 #[cfg(test)]
 mod greetings;
 #[cfg(test)]
+mod queries;
+#[cfg(test)]
 mod texts;

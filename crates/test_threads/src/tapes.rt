@@ -8,6 +8,7 @@ ghost use Rattle.lz_set.specs.Names.{MayCall};
 
 use lz_disk::MemoryDisk;
 use lz_proto::Reply;
+use lz_resp::Figures;
 use lz_serve::{
     Client, FreePass, Given, Lack, Language, Listener, Observer, Received, Serving, Stream, Taken,
     Verb, serve_client,
@@ -154,6 +155,12 @@ impl Observer for Deaf {
     fn crowded(&self) {}
 
     fn answered(&self, _verb: Verb, _reply: Reply) {}
+
+    fn figures(&self) -> Figures {
+        Figures::default()
+    }
+
+    fn shut_down(&self) {}
 
     fn halted(&self) {}
 

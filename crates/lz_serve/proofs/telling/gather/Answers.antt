@@ -3,7 +3,7 @@ use Rattle.lz_proto.specs.declared.reply.Reply.{Reply}
 use Rattle.lz_serve.specs.declared.line.Line.{Line}
 use Rattle.lz_serve.specs.Lines.{replies_of}
 use Rattle.lz_serve.proofs.LineReplies.{replies_more, replies_none, taken, there}
-use Rattle.lz_serve.proofs.conversation.gather.Goals as goal
+use Rattle.lz_serve.proofs.telling.gather.Goals as goal
 
 pub returns-in_default-clause-none : goal.returns-in_default-clause-none
 returns-in_default-clause-none c so few =

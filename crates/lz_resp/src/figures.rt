@@ -1,0 +1,35 @@
+//! What a service knows of itself.
+
+/// What a service knows of itself at one moment.
+#[derive(Clone, Copy, Debug, Default, PartialEq, Eq)]
+pub struct Figures {
+    /// Its version.
+    pub major: usize,
+    pub minor: usize,
+    /// The number of its process.
+    pub process: usize,
+    /// A number that is another one at each start.
+    pub run: usize,
+    /// For how many seconds it has run.
+    pub seconds: usize,
+    /// Whether a client may end it.
+    pub stoppable: bool,
+    /// How many clients are connected, how many may be at once, and how many have been.
+    pub clients: usize,
+    pub most_clients: usize,
+    pub sessions: usize,
+    /// How many requests were answered.
+    pub answered: usize,
+    /// How many of these added a key, removed one, looked one up, and found no slot free.
+    pub adds: usize,
+    pub removes: usize,
+    pub lookups: usize,
+    pub full: usize,
+    /// The number of its file's format.
+    pub format: usize,
+    pub slots: usize,
+    pub members: usize,
+    pub buckets: usize,
+    pub passes: usize,
+    pub loops: usize,
+}

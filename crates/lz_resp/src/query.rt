@@ -1,0 +1,97 @@
+//! What is asked of the service itself.
+ghost use Rattle.std.specs.Prelude.{◌≡◌, IfOk};
+ghost use Rattle.lz_resp.specs.Names.{sections_of};
+ghost use Rattle.lz_resp.specs.Queries.{ends_service, query_text};
+
+use crate::command::is_word;
+use crate::figures::Figures;
+use crate::info::info;
+use crate::reply::push_integer;
+use crate::text::{Text, bulk, error};
+use std::alloc::{AllocError, Global};
+
+/// Which sections are asked for of what a service tells of itself.
+#[derive(Clone, Copy, Debug, PartialEq, Eq)]
+pub enum Sections {
+    All,
+    Server,
+    Clients,
+    Stats,
+    Keyspace,
+    Lazyset,
+    /// One that isn't there.
+    Missing,
+}
+
+impl Sections {
+    /// The ones that a word names.
+    pub(crate) fn of(word: &[u8]) -> Sections
+        ensures { result ≡ sections_of word.now }
+    {
+        if is_word(b"default", word) || is_word(b"all", word) || is_word(b"everything", word) {
+            return Sections::All;
+        }
+        if is_word(b"server", word) {
+            return Sections::Server;
+        }
+        if is_word(b"clients", word) {
+            return Sections::Clients;
+        }
+        if is_word(b"stats", word) {
+            return Sections::Stats;
+        }
+        if is_word(b"keyspace", word) {
+            return Sections::Keyspace;
+        }
+        if is_word(b"lazyset", word) {
+            return Sections::Lazyset;
+        }
+        Sections::Missing
+    }
+}
+
+/// What a frame asks of the service itself.
+#[derive(Clone, Copy, Debug, PartialEq, Eq)]
+pub enum Query {
+    /// How many members there are.
+    Size,
+    /// What the service tells of itself.
+    Info(Sections),
+    /// That the service ends.
+    Shutdown,
+}
+
+impl Query {
+    /// The reply of a service of which this is known.
+    pub fn text(self, alloc: Global, figures: &Figures) -> Result<Text, AllocError>
+        ensures { IfOk result (λ text. text ≡ query_text self figures.now) }
+    {
+        match self {
+            Query::Size => {
+                let mut text = Vec::new(alloc);
+                push_integer(&mut text, figures.members)?;
+                Ok(Text::new(text))
+            }
+            Query::Info(sections) => {
+                let text = info(alloc, sections, figures)?;
+                bulk(alloc, text.as_slice())
+            }
+            Query::Shutdown => {
+                if figures.stoppable {
+                    return Text::of(alloc, b"");
+                }
+                error(alloc, b"SHUTDOWN is taken over a Unix socket alone")
+            }
+        }
+    }
+
+    /// Whether a service of which this is known is to end.
+    pub fn ends_service(self, figures: &Figures) -> bool
+        ensures { result ≡ ends_service self figures.now }
+    {
+        match self {
+            Query::Shutdown => figures.stoppable,
+            Query::Size | Query::Info(_) => false,
+        }
+    }
+}

@@ -1,0 +1,75 @@
+//! What a service is asked of itself.
+use lz_resp::{Figures, Frames, Item, Naming, Query, Sections};
+use std::collections::VecDeque;
+use std::test::Fail;
+
+#[test]
+fn queries_are_told_by_the_service(rt: HostRuntime) -> Result<(), Fail> {
+    let mut frames = Frames::new(rt.alloc(), Naming::Texts);
+    let mut items = VecDeque::new(rt.alloc());
+    frames.feed_into(
+        b"dbsize\r\nINFO\r\nINFO keyspace\r\nSHUTDOWN NOSAVE\r\n",
+        &mut items,
+    )?;
+    let texts: [&[u8]; 4] = [
+        b":3\r\n",
+        b"$450\r\n# Server\r\nredis_version:7.0.0\r\nredis_mode:standalone\r\nprocess_id:4711\r\nrun_id:0000000000000000000018446744073709551615\r\n\
+uptime_in_seconds:60\r\n\r\n# Clients\r\nconnected_clients:2\r\nmaxclients:100\r\n\r\n# Stats\r\ntotal_connections_received:9\r\n\
+total_commands_processed:14\r\n\r\n# Keyspace\r\ndb0:keys=3,expires=0,avg_ttl=0\r\n\r\n# Lazyset\r\nlazyset_version:1.8\r\nformat:2\r\n\
+slots:10\r\nmembers:3\r\nfree:7\r\nbuckets:16\r\npasses:4\r\nloops:1\r\nadds:5\r\nremoves:2\r\nlookups:4\r\nfull:1\r\n\r\n",
+        b"$44\r\n# Keyspace\r\ndb0:keys=3,expires=0,avg_ttl=0\r\n\r\n",
+        b"-ERR SHUTDOWN is taken over a Unix socket alone\r\n",
+    ];
+    for text in texts.as_slice() {
+        let Some(Item::Tells(query)) = items.pop_front() else {
+            return Err("a query".into());
+        };
+        assert!(rt; query.text(rt.alloc(), &figures())?.as_bytes() == *text);
+        assert!(rt; !query.ends_service(&figures()));
+    }
+    Ok(())
+}
+
+#[test]
+fn a_service_ends_where_it_may(rt: HostRuntime) -> Result<(), Fail> {
+    let figures = Figures {
+        stoppable: true,
+        members: 0,
+        ..figures()
+    };
+    assert!(rt; Query::Shutdown.ends_service(&figures));
+    assert!(rt;
+        Query::Shutdown
+            .text(rt.alloc(), &figures)?
+            .as_bytes()
+            .is_empty()
+    );
+    let keys = Query::Info(Sections::Keyspace).text(rt.alloc(), &figures)?;
+    assert!(rt; keys.as_bytes() == b"$12\r\n# Keyspace\r\n\r\n".as_slice());
+    Ok(())
+}
+
+fn figures() -> Figures {
+    Figures {
+        major: 1,
+        minor: 8,
+        process: 4_711,
+        run: usize::MAX,
+        seconds: 60,
+        stoppable: false,
+        clients: 2,
+        most_clients: 100,
+        sessions: 9,
+        answered: 14,
+        adds: 5,
+        removes: 2,
+        lookups: 4,
+        full: 1,
+        format: 2,
+        slots: 10,
+        members: 3,
+        buckets: 16,
+        passes: 4,
+        loops: 1,
+    }
+}
