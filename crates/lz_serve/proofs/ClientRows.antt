@@ -3,10 +3,12 @@ use Rattle.std.proofs.Common.{◌≢◌, ℕ, false, [], ◌∷◌, Some, None, 
 use Rattle.lz_list.specs.Traces.{Begins, Trace}
 use Rattle.lz_list.specs.declared.publishing.Publishing.{Publishing}
 use Rattle.lz_proto.specs.declared.request.Request.TheVariants.{Add}
+use Rattle.lz_proto.specs.declared.reply.Reply.TheVariants.{Yes}
 use Rattle.lz_board.specs.declared.pass.Pass.{Pass}
-use Rattle.lz_serve.specs.Clients.{Asker, HasSeenIn, IsAwaited, IsOwn}
+use Rattle.lz_serve.specs.Clients.{Asker, HasSeenIn, IsAwaited, IsHeard, IsOwn}
 use Rattle.lz_serve.specs.Grants.{Posed}
-use Rattle.lz_serve.specs.Lines.{awaited}
+use Rattle.lz_serve.specs.Lines.{awaited, replied}
+use Rattle.lz_serve.proofs.LinesUnderWay.{noted_heard}
 
 -- a client of connection 1 whose first line, for key 5, was put to this pass, and the question of such a line
 abbrev asks : Pass → Trace → Asker
@@ -22,7 +24,15 @@ its_own p same = (lit≤ tt, λ under. refl)
 not_its : (p q : Pass) → IsOwn (asks p []) (posed 2 q)
 not_its p q same = absurd (cc)
 
+-- once its line has its reply, none awaits one
+heard : (p : Pass) → IsHeard (record (asks p []) { under = replied (Add 5) Yes ∷ [] }) (posed 1 p)
+heard p same stands = noted_heard (awaited (Add 5) ∷ []) 0 (Add 5) (Add 5) Yes stands.1
+
 -- What must not hold.
+
+-- its line awaits the reply, and none awaits it
+unheard : (p : Pass) → IsHeard (asks p []) (posed 1 p) → ⊥
+unheard p heard = heard refl (lit< tt, refl)
 
 -- it is its own where it was put to another pass
 put_elsewhere : (p q : Pass) → p ≢ q → IsOwn (asks p []) (posed 1 q) → ⊥

@@ -3,7 +3,7 @@ use Rattle.std.proofs.Common.{◌≡◌, ◌≤◌, ◌<◌, ◌+◌, inr, ℕ, 
 use Rattle.std.proofs.lemmas.List.Elements.{All-cons, All-head, All-nil, All-tail, All-weaker}
 use Rattle.std.proofs.lemmas.Option.{slice_get_read}
 use Rattle.lz_list.specs.Traces.{Trace, Begins}
-use Rattle.lz_serve.specs.Clients.{Asker, Askers, HasSeenIn, HaveSeenIn, IsAskedBy, IsAwaited, IsOwnOf, Keeps, KeepsAwaited, KeepsOwn, KeepsSeen}
+use Rattle.lz_serve.specs.Clients.{Asker, Askers, HasSeenIn, HaveSeenIn, IsAskedBy, IsAwaited, IsHeardAt, IsHeardOf, IsOwn, IsOwnOf, Keeps, KeepsAwaited, KeepsOwn, KeepsSeen, OnlyLeave}
 use Rattle.lz_serve.specs.Grants.{Posed}
 
 pub from_nothing : (known : Trace) → Begins [] known
@@ -18,6 +18,34 @@ keeps_same a b is = subst (Keeps a) (sym is) (keeps_itself a)
 
 pub keeps_then : (a b c : Askers) → Keeps a b → Keeps b c → Keeps a c
 keeps_then a b c one two = record { awaited = λ token q is. two.awaited token q (one.awaited token q is); seen = λ known are. two.seen known (one.seen known are) }
+
+-- where no client has come or changed
+
+pub leave_same : (a b : Askers) → b ≡ a → OnlyLeave a b
+leave_same a b is = subst (OnlyLeave a) (sym is) (record { admitted = refl; stay = λ token x there. there })
+
+left_so : (P : Asker → Type 0) (old new : Option (Option Asker)) → ((a : Asker) → new ≡ Some (Some a) → old ≡ Some (Some a)) → IfSome old (λ c. IfSome c P) → IfSome new (λ c. IfSome c P)
+left_so P old None stay so = tt
+left_so P old (Some None) stay so = tt
+left_so P old (Some (Some a)) stay so = subst (λ (o : Option (Option Asker)). IfSome o (λ c. IfSome c P)) (stay a refl) so
+
+-- what was so of the client of a place is so of the one that is still there
+pub leave_so : (P : Asker → Type 0) (a b : Askers) (token : ℕ) → OnlyLeave a b → IfSome (slice_get a.clients token) (λ c. IfSome c P) → IfSome (slice_get b.clients token) (λ c. IfSome c P)
+leave_so P a b token leave so = left_so P (slice_get a.clients token) (slice_get b.clients token) (leave.stay token) so
+
+seen_left : (n : ℕ) (known : Trace) (old new : List (Option Asker)) → ((token : ℕ) (a : Asker) → slice_get new token ≡ Some (Some a) → slice_get old token ≡ Some (Some a)) → All (HasSeenIn n known) old → All (HasSeenIn n known) new
+seen_left n known old [] stay all = All-nil (HasSeenIn n known)
+seen_left n known [] (c ∷ new) stay all =
+    All-cons (HasSeenIn n known) c new (left_so (λ (a : Asker). (a.connection ≤ n) × Begins a.seen known) None (Some c) (stay zero) tt) (seen_left n known [] new (λ token. stay (suc token)) all)
+seen_left n known (o ∷ old) (c ∷ new) stay all =
+    All-cons (HasSeenIn n known) c new (left_so (λ (a : Asker). (a.connection ≤ n) × Begins a.seen known) (Some o) (Some c) (stay zero) (All-head (HasSeenIn n known) o old all))
+    (seen_left n known old new (λ token. stay (suc token)) (All-tail (HasSeenIn n known) o old all))
+
+pub leave_keeps : (a b : Askers) → OnlyLeave a b → Keeps a b
+leave_keeps a b leave = record {
+  awaited = λ token q is. record { admitted = subst (λ (n : ℕ). q.connection ≤ n) (sym leave.admitted) is.admitted; own = leave_so (λ (x : Asker). IsOwn x q) a b token leave is.own };
+  seen = λ known are. subst (λ (n : ℕ). All (HasSeenIn n known) b.clients) (sym leave.admitted) (seen_left a.admitted known a.clients b.clients leave.stay are);
+}
 
 -- a place whose client is the same, or has gone
 
@@ -65,8 +93,30 @@ module _ {X : Type 0} (f : X → Option Asker) where
   one_there P (x ∷ places) zero p is all = let same : x ≡ p = cc in subst (λ (y : X). P (f y)) same (All-head P (f x) (map f places) all)
   one_there P (x ∷ places) (suc at) p is all = one_there P places at p is (All-tail P (f x) (map f places) all)
 
+  -- what is so of the client that is now at a place
+  one_so : (P : Option Asker → Type 0) (places : List X) (at : ℕ) (new : X) → P (f new) → IfSome (slice_get (map f (set places at new)) at) P
+  one_so P [] at new so = tt
+  one_so P (p ∷ places) zero new so = so
+  one_so P (p ∷ places) (suc at) new so = one_so P places at new so
+
+  left_there : (places : List X) (at : ℕ) (new : X) (token : ℕ) (a : Asker) → f new ≡ None → slice_get (map f (set places at new)) token ≡ Some (Some a) → slice_get (map f places) token ≡ Some (Some a)
+  left_there [] at new token a gone is = is
+  left_there (p ∷ places) zero new zero a gone is = absurd (cc)
+  left_there (p ∷ places) zero new (suc token) a gone is = is
+  left_there (p ∷ places) (suc at) new zero a gone is = is
+  left_there (p ∷ places) (suc at) new (suc token) a gone is = left_there places at new token a gone is
+
   abbrev pub at_places : ℕ → List X → Askers
   at_places n places = record { admitted = n; clients = map f places }
+
+  -- the client of a place leaves
+  pub leaves_at : (a : Askers) (n : ℕ) (places : List X) (at : ℕ) (new : X) → at_places n places ≡ a → f new ≡ None → OnlyLeave a (at_places n (set places at new))
+  leaves_at a n places at new view_is gone =
+      subst (λ (b : Askers). OnlyLeave b (at_places n (set places at new))) view_is (record { admitted = refl; stay = λ token x is. left_there places at new token x gone is })
+
+  -- no line of the client of a place awaits a reply any more
+  pub heard_at : (n : ℕ) (places : List X) (at : ℕ) (new : X) (q : Posed) → IsHeardOf (f new) q → IsHeardAt (at_places n (set places at new)) at q
+  heard_at n places at new q heard = one_so (λ (c : Option Asker). IsHeardOf c q) places at new heard
 
   module _ (a : Askers) (n : ℕ) (places : List X) (at : ℕ) (old : X) (view_is : at_places n places ≡ a) (within : at < length places) (here : old ≡ get_or places at old) where
     there : slice_get places at ≡ Some old
@@ -98,7 +148,7 @@ module _ {X : Type 0} (f : X → Option Asker) where
 
       -- a question that the client of this place puts is awaited here
       pub asked_at : (q : Posed) (known : Trace) → KeepsSeen (f old) (f new) → HaveSeenIn a known → IsAskedBy (f new) q → IsAwaited (at_places n (set places at new)) at q
-      asked_at q known seen are asked = record { admitted = numbered (f new) asked (seen n known mine); own = own_new places at old there }
+      asked_at q known seen are asked = record { admitted = numbered (f new) asked (seen n known mine); own = one_so (λ (c : Option Asker). IsOwnOf c q) places at new (of_asked (f new) asked) }
         where
           mine : HasSeenIn n known (f old)
           mine = one_there (HasSeenIn n known) places at old there (subst (λ (b : Askers). HaveSeenIn b known) (sym view_is) are)
@@ -110,11 +160,6 @@ module _ {X : Type 0} (f : X → Option Asker) where
           of_asked : (c : Option Asker) → IsAskedBy c q → IsOwnOf c q
           of_asked None is = tt
           of_asked (Some x) is = is.1
-
-          own_new : (xs : List X) (i : ℕ) (o : X) → slice_get xs i ≡ Some o → IfSome (slice_get (map f (set xs i new)) i) (λ c. IsOwnOf c q)
-          own_new [] i o is = tt
-          own_new (x ∷ xs) zero o is = of_asked (f new) asked
-          own_new (x ∷ xs) (suc i) o is = own_new xs i o is
 
       pub some_asked : (r : Option Posed) (known : Trace) → KeepsSeen (f old) (f new) → HaveSeenIn a known → IfSome r (λ q. IsAskedBy (f new) q) → IfSome r (λ q. IsAwaited (at_places n (set places at new)) at q)
       some_asked None known seen are asked = tt

@@ -6,6 +6,7 @@ use Rattle.lz_board.specs.declared.pass.Pass.{Pass}
 use Rattle.lz_board.specs.Seats.{part}
 use Rattle.lz_serve.specs.declared.line.Line.{Line}
 use Rattle.lz_serve.specs.Grants.{Posed}
+use Rattle.lz_serve.specs.Lines.{StandsAt}
 
 -- The number of its connection; how many lines were handed out, and how many of them were told their replies; the others; the pass to which
 -- each of these was put, as it was then; and what the passes had seen that answered it.
@@ -38,6 +39,14 @@ IsOwnOf client q = IfSome client (λ a. IsOwn a q)
 abbrev pub KeepsOwn : Option Asker → Option Asker → Type 0
 KeepsOwn old new = (q : Posed) → IsOwnOf old q → IsOwnOf new q
 
+-- no line of it awaits this question's reply
+abbrev pub IsHeard : Asker → Posed → Type 0
+IsHeard a q = q.connection ≡ a.connection → StandsAt a.told q.line q.request a.under → ⊥
+
+-- it is so of the client, if there is one
+abbrev pub IsHeardOf : Option Asker → Posed → Type 0
+IsHeardOf client q = IfSome client (λ a. IsHeard a q)
+
 -- the client, if there is one, is of one of so many connections, and all that it has seen was seen here
 abbrev pub HasSeenIn : ℕ → Trace → Option Asker → Type 0
 HasSeenIn admitted known client = IfSome client (λ a. (a.connection ≤ admitted) × Begins a.seen known)
@@ -63,6 +72,15 @@ HaveSeenIn a known = All (HasSeenIn a.admitted known) a.clients
 pub record IsAwaited (a : Askers) (token : ℕ) (q : Posed) : Type 0 where
   pub admitted : q.connection ≤ a.admitted
   pub own : IfSome (slice_get a.clients token) (λ client. IsOwnOf client q)
+
+-- no line of the client at this place, if there is one, awaits the question's reply
+abbrev pub IsHeardAt : Askers → ℕ → Posed → Type 0
+IsHeardAt a token q = IfSome (slice_get a.clients token) (λ client. IsHeardOf client q)
+
+-- No client has come or changed; some may have left.
+pub record OnlyLeave (old new : Askers) : Type 0 where
+  pub admitted : new.admitted ≡ old.admitted
+  pub stay : (token : ℕ) (a : Asker) → slice_get new.clients token ≡ Some (Some a) → slice_get old.clients token ≡ Some (Some a)
 
 -- each question that was awaited is
 abbrev pub KeepsAwaited : Askers → Askers → Type 0

@@ -2,8 +2,8 @@
 ghost use Rattle.std.specs.Prelude.{◌≡◌, ◌≢◌, ◌↔◌, ◌+◌, ◌≤◌, ◌<◌, ◌++◌, [], ◌∷◌, IfSome, IsTrue, List, None, Some, false, length, true};
 ghost use Rattle.lz_list.specs.Traces.{Begins};
 ghost use Rattle.lz_board.specs.Seats.{part};
-ghost use Rattle.lz_serve.specs.Clients.{IsOwn, KeepsOwn};
-ghost use Rattle.lz_serve.specs.Grants.{Grant, IsGrant, IsLater, key_asked};
+ghost use Rattle.lz_serve.specs.Clients.{IsHeard, IsOwn, KeepsOwn};
+ghost use Rattle.lz_serve.specs.Grants.{Grant, IsGrant, IsLater, Posed, key_asked};
 ghost use Rattle.lz_serve.specs.Lines.{IsFree, awaited};
 ghost use Rattle.lz_serve.specs.Replies.{command_of};
 ghost use Rattle.lz_serve.specs.Streams.{IsFresh};
@@ -283,6 +283,7 @@ impl<S: Stream> Client<S> {
         ensures connection { self.new.connection ≡ self.old.connection }
         ensures lines { self.new.lines ≡ self.old.lines }
         ensures kept { KeepsOwn (Some self.old) (Some self.new) }
+        ensures heard { IsHeard self.new granted.question }
         ensures seen { self.new.seen ≡ (part pass.now).known }
     {
         self.seen = Some(Snapshot::of(pass));
@@ -329,6 +330,7 @@ impl<S: Stream> Client<S> {
         ensures connection { self.new.connection ≡ self.old.connection }
         ensures lines { self.new.lines ≡ self.old.lines }
         ensures kept { KeepsOwn (Some self.old) (Some self.new) }
+        ensures heard { (q : Posed) → IsHeard self.old q → IsHeard self.new q }
         ensures seen { self.new.seen ≡ self.old.seen }
     {
         'turns: for _ in 0..u64::MAX {
@@ -343,6 +345,7 @@ impl<S: Stream> Client<S> {
         ensures connection { self.new.connection ≡ self.old.connection }
         ensures lines { self.new.lines ≡ self.old.lines }
         ensures kept { KeepsOwn (Some self.old) (Some self.new) }
+        ensures heard { (q : Posed) → IsHeard self.old q → IsHeard self.new q }
         ensures seen { self.new.seen ≡ self.old.seen }
     {
         if self.lost {

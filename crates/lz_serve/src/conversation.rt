@@ -121,6 +121,7 @@ impl Conversation {
     pub fn note(&mut self, number: u64, request: Request, reply: Reply) -> bool
         ensures noted { result ≡ true → Noted number request reply self.old self.new }
         ensures none { result ≡ false → self.new ≡ self.old }
+        ensures heard { result ≡ false → StandsAt self.old.told number request self.old.under → ⊥ }
     {
         let Some(at) = self.find(number, &request) else {
             return false;
@@ -275,7 +276,8 @@ impl Conversation {
 
     // Where among the requests under way the one of this number stands, if it asked this and awaits its reply.
     fn find(&self, number: u64, request: &Request) -> Option<usize>
-        ensures { IfSome result (λ at. (at ≡ number - suc self.now.told) × StandsAt self.now.told number request.now self.now.under) }
+        ensures some { IfSome result (λ at. (at ≡ number - suc self.now.told) × StandsAt self.now.told number request.now self.now.under) }
+        ensures none { result ≡ None → StandsAt self.now.told number request.now self.now.under → ⊥ }
     {
         if number <= self.told {
             return None;

@@ -2,7 +2,7 @@
 ghost use Rattle.std.specs.Prelude.{◌≡◌, ◌≤◌, [], IfOk, IfSome, None};
 ghost use Rattle.lz_list.specs.Traces.{Begins};
 ghost use Rattle.lz_board.specs.Seats.{part};
-ghost use Rattle.lz_serve.specs.Clients.{HaveSeenIn, IsAwaited, Keeps, KeepsAwaited};
+ghost use Rattle.lz_serve.specs.Clients.{HaveSeenIn, IsAwaited, IsHeardAt, Keeps, KeepsAwaited, OnlyLeave};
 ghost use Rattle.lz_serve.specs.Grants.{Promises};
 ghost use Rattle.lz_serve.specs.Streams.{IsFresh};
 
@@ -174,6 +174,7 @@ impl<S: Stream> Crowd<S> {
         requires seen { HaveSeenIn self.old (part pass.now).known }
         requires after { Begins (part granted.after).known (part pass.now).known }
         ensures kept { KeepsAwaited self.old self.new }
+        ensures heard { IsHeardAt self.new token granted.question }
         ensures seen { HaveSeenIn self.new (part pass.now).known }
     {
         let Some(place) = self.places.get_mut(token) else {
@@ -334,7 +335,7 @@ impl<S: Stream> Crowd<S> {
 
     // A client waits for its turn, if it didn't before, and is to be tended to, if it wasn't. There is room for each.
     fn put(&mut self, token: usize, is_next: bool, is_back: bool)
-        ensures { Keeps self.old self.new }
+        ensures { OnlyLeave self.old self.new }
     {
         if is_next && self.queue.push_back(token).is_err()
             || is_back && self.back.push(token).is_err()
@@ -345,7 +346,7 @@ impl<S: Stream> Crowd<S> {
 
     // Closes a connection, where there is one. Its token may be had again.
     fn close(&mut self, token: usize)
-        ensures { Keeps self.old self.new }
+        ensures { OnlyLeave self.old self.new }
     {
         let Some(place) = self.places.get_mut(token) else {
             return;

@@ -2,7 +2,7 @@
 ghost use Rattle.std.specs.Prelude.{◌≡◌, ℕ, IfSome, None, Some};
 ghost use Rattle.lz_list.specs.Traces.{Begins};
 ghost use Rattle.lz_board.specs.Seats.{part};
-ghost use Rattle.lz_serve.specs.Clients.{HasSeenIn, IsAskedBy, IsOwnOf, KeepsOwn, KeepsSeen};
+ghost use Rattle.lz_serve.specs.Clients.{HasSeenIn, IsAskedBy, IsHeardOf, IsOwnOf, KeepsOwn, KeepsSeen};
 ghost use Rattle.lz_serve.specs.Grants.{Promises};
 
 use crate::asking::Granted;
@@ -95,6 +95,7 @@ impl<S: Stream> Place<S> {
         requires seen { IfSome self.old.client (λ client. Begins client.seen (part pass.now).known) }
         requires after { Begins (part granted.after).known (part pass.now).known }
         ensures kept { KeepsOwn self.old.client self.new.client }
+        ensures heard { IsHeardOf self.new.client granted.question }
         ensures seen { (admitted : ℕ) → HasSeenIn admitted (part pass.now).known self.old.client → HasSeenIn admitted (part pass.now).known self.new.client }
     {
         let Some(client) = &mut self.client else {
