@@ -9,12 +9,11 @@ ghost use Rattle.lz_serve.specs.Lines.{IsFree, StandsAt, awaited, replied, repli
 
 use crate::exchanges::Exchanges;
 use crate::language::Language;
-use crate::line::{Line, key_asked};
+use crate::line::{Line, is_awaited, key_asked};
 use crate::reader::Reader;
 use crate::turn::{Turn, Wording};
 use lz_proto::{End, Reply, Request, reply_text};
 use lz_resp::{has_halted, push_reply};
-use lz_slot::Key;
 use std::alloc::{AllocError, Global};
 use std::collections::VecDeque;
 use std::marker::Model;
@@ -382,14 +381,6 @@ fn end_by(replies: &[Reply]) -> End
     } else {
         End::Done
     }
-}
-
-// Whether one of these lines asked for this key and awaits its reply.
-fn is_awaited(under: &VecDeque<Line>, key: Option<Key>) -> bool
-    ensures free { result ≡ false → IsFree under.now.items key }
-    ensures some { result ≡ true → under.now.items ≢ [] }
-{
-    under.iter().any(|line| line.awaits(key))
 }
 
 // The line at this place has its reply.
