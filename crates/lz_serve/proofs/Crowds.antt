@@ -1,9 +1,9 @@
 -- Clients at their places: what each operation on a place keeps.
-use Rattle.std.proofs.Common.{◌≡◌, ◌≤◌, ◌<◌, ◌+◌, inr, ℕ, zero, suc, All, List, [], ◌∷◌, Option, Some, None, IfSome, length, map, get_or, set, slice_get, refl, sym, ap, subst, arith}
+use Rattle.std.proofs.Common.{◌≡◌, ◌≢◌, ◌≤◌, ◌<◌, ◌+◌, inr, ℕ, zero, suc, All, List, [], ◌∷◌, Option, Some, None, IfSome, length, map, get_or, set, slice_get, refl, sym, ap, subst, arith}
 use Rattle.std.proofs.lemmas.List.Elements.{All-cons, All-head, All-nil, All-tail, All-weaker}
 use Rattle.std.proofs.lemmas.Option.{slice_get_read}
 use Rattle.lz_list.specs.Traces.{Trace, Begins}
-use Rattle.lz_serve.specs.Clients.{Asker, Askers, HasSeenIn, HaveSeenIn, IsAskedBy, IsAwaited, IsHeardAt, IsHeardOf, IsOwn, IsOwnOf, Keeps, KeepsAwaited, KeepsOwn, KeepsSeen, OnlyLeave}
+use Rattle.lz_serve.specs.Clients.{Asker, Askers, HasSeenIn, HaveSeenIn, IsAskedBy, IsAwaited, IsOwn, IsOwnOf, Keeps, KeepsAwaited, KeepsOwn, KeepsSeen, OnlyLeave}
 use Rattle.lz_serve.specs.Grants.{Posed}
 
 pub from_nothing : (known : Trace) → Begins [] known
@@ -18,6 +18,11 @@ keeps_same a b is = subst (Keeps a) (sym is) (keeps_itself a)
 
 pub keeps_then : (a b c : Askers) → Keeps a b → Keeps b c → Keeps a c
 keeps_then a b c one two = record { awaited = λ token q is. two.awaited token q (one.awaited token q is); seen = λ known are. two.seen known (one.seen known are) }
+
+-- a question that is awaited, if there is one
+pub some_kept : (a b : Askers) (token : ℕ) (r : Option Posed) → Keeps a b → IfSome r (λ q. IsAwaited a token q) → IfSome r (λ q. IsAwaited b token q)
+some_kept a b token None keeps is = tt
+some_kept a b token (Some q) keeps is = keeps.awaited token q is
 
 -- where no client has come or changed
 
@@ -47,19 +52,13 @@ leave_keeps a b leave = record {
   seen = λ known are. subst (λ (n : ℕ). All (HasSeenIn n known) b.clients) (sym leave.admitted) (seen_left a.admitted known a.clients b.clients leave.stay are);
 }
 
--- a place whose client is the same, or has gone
+-- a place whose client is the same
 
 pub same_own : (old new : Option Asker) → new ≡ old → KeepsOwn old new
 same_own old new is q own = subst (λ (c : Option Asker). IsOwnOf c q) (sym is) own
 
 pub same_seen : (old new : Option Asker) → new ≡ old → KeepsSeen old new
 same_seen old new is admitted known seen = subst (HasSeenIn admitted known) (sym is) seen
-
-pub gone_own : (old new : Option Asker) → new ≡ None → KeepsOwn old new
-gone_own old new is q own = subst (λ (c : Option Asker). IsOwnOf c q) (sym is) tt
-
-pub gone_seen : (old new : Option Asker) → new ≡ None → KeepsSeen old new
-gone_seen old new is admitted known seen = subst (HasSeenIn admitted known) (sym is) tt
 
 -- what a client has seen, whatever its number
 pub only_seen : (admitted : ℕ) (known : Trace) (client : Option Asker) → HasSeenIn admitted known client → IfSome client (λ a. Begins a.seen known)
@@ -94,7 +93,7 @@ module _ {X : Type 0} (f : X → Option Asker) where
   one_there P (x ∷ places) (suc at) p is all = one_there P places at p is (All-tail P (f x) (map f places) all)
 
   -- what is so of the client that is now at a place
-  one_so : (P : Option Asker → Type 0) (places : List X) (at : ℕ) (new : X) → P (f new) → IfSome (slice_get (map f (set places at new)) at) P
+  pub one_so : (P : Option Asker → Type 0) (places : List X) (at : ℕ) (new : X) → P (f new) → IfSome (slice_get (map f (set places at new)) at) P
   one_so P [] at new so = tt
   one_so P (p ∷ places) zero new so = so
   one_so P (p ∷ places) (suc at) new so = one_so P places at new so
@@ -106,19 +105,28 @@ module _ {X : Type 0} (f : X → Option Asker) where
   left_there (p ∷ places) (suc at) new zero a gone is = is
   left_there (p ∷ places) (suc at) new (suc token) a gone is = left_there places at new token a gone is
 
-  abbrev pub at_places : ℕ → List X → Askers
-  at_places n places = record { admitted = n; clients = map f places }
+  -- no other client has changed
+  pub other_at : (places : List X) (at : ℕ) (new : X) (token : ℕ) → token ≢ at → slice_get (map f (set places at new)) token ≡ slice_get (map f places) token
+  other_at [] at new token other = refl
+  other_at (p ∷ places) zero new zero other = absurd (other refl)
+  other_at (p ∷ places) zero new (suc token) other = refl
+  other_at (p ∷ places) (suc at) new zero other = refl
+  other_at (p ∷ places) (suc at) new (suc token) other = other_at places at new token (λ same. other (ap suc same))
+
+  abbrev pub at_places : ℕ → List ℕ → List X → Askers
+  at_places n queue places = record { admitted = n; clients = map f places; queue = queue }
+
+  -- where others wait for their turn
+  pub keeps_here : (a : Askers) (n : ℕ) {queue later : List ℕ} (places : List X) → at_places n queue places ≡ a → Keeps a (at_places n later places)
+  keeps_here a n {queue} {later} places view_is =
+      subst (λ (b : Askers). Keeps b (at_places n later places)) view_is (record { awaited = λ token q is. record { admitted = is.admitted; own = is.own }; seen = λ known are. are })
 
   -- the client of a place leaves
-  pub leaves_at : (a : Askers) (n : ℕ) (places : List X) (at : ℕ) (new : X) → at_places n places ≡ a → f new ≡ None → OnlyLeave a (at_places n (set places at new))
-  leaves_at a n places at new view_is gone =
-      subst (λ (b : Askers). OnlyLeave b (at_places n (set places at new))) view_is (record { admitted = refl; stay = λ token x is. left_there places at new token x gone is })
+  pub leaves_at : (a : Askers) (n : ℕ) {queue later : List ℕ} (places : List X) (at : ℕ) (new : X) → at_places n queue places ≡ a → f new ≡ None → OnlyLeave a (at_places n later (set places at new))
+  leaves_at a n {queue} {later} places at new view_is gone =
+      subst (λ (b : Askers). OnlyLeave b (at_places n later (set places at new))) view_is (record { admitted = refl; stay = λ token x is. left_there places at new token x gone is })
 
-  -- no line of the client of a place awaits a reply any more
-  pub heard_at : (n : ℕ) (places : List X) (at : ℕ) (new : X) (q : Posed) → IsHeardOf (f new) q → IsHeardAt (at_places n (set places at new)) at q
-  heard_at n places at new q heard = one_so (λ (c : Option Asker). IsHeardOf c q) places at new heard
-
-  module _ (a : Askers) (n : ℕ) (places : List X) (at : ℕ) (old : X) (view_is : at_places n places ≡ a) (within : at < length places) (here : old ≡ get_or places at old) where
+  module _ (a : Askers) (n : ℕ) {queue : List ℕ} (places : List X) (at : ℕ) (old : X) (view_is : at_places n queue places ≡ a) (within : at < length places) (here : old ≡ get_or places at old) where
     there : slice_get places at ≡ Some old
     there = slice_get_read places (length places) at old refl within here
 
@@ -132,23 +140,23 @@ module _ {X : Type 0} (f : X → Option Asker) where
         subst (λ (b : Askers). HasSeenIn b.admitted known (f old)) view_is (one_there (HasSeenIn n known) places at old there (subst (λ (b : Askers). HaveSeenIn b known) (sym view_is) are))
 
     module _ (new : X) where
-      pub keeps_awaited : KeepsOwn (f old) (f new) → KeepsAwaited a (at_places n (set places at new))
-      keeps_awaited own token q is =
+      pub keeps_awaited : {later : List ℕ} → KeepsOwn (f old) (f new) → KeepsAwaited a (at_places n later (set places at new))
+      keeps_awaited {later} own token q is =
           let mine = subst (λ (b : Askers). IsAwaited b token q) (sym view_is) is in record { admitted = mine.admitted; own = own_there places at old new token q there (λ _. own q) mine.own }
 
-      pub keeps_at : KeepsOwn (f old) (f new) → KeepsSeen (f old) (f new) → Keeps a (at_places n (set places at new))
-      keeps_at own seen = record {
+      pub keeps_at : {later : List ℕ} → KeepsOwn (f old) (f new) → KeepsSeen (f old) (f new) → Keeps a (at_places n later (set places at new))
+      keeps_at {later} own seen = record {
         awaited = keeps_awaited own;
         seen = λ known are. all_there (HasSeenIn n known) (HasSeenIn n known) (λ c is. is) places at old new there (seen n known) (subst (λ (b : Askers). HaveSeenIn b known) (sym view_is) are);
       }
 
       -- the client of this place has seen what was seen there
-      pub seen_at : (known : Trace) → ((admitted : ℕ) → HasSeenIn admitted known (f old) → HasSeenIn admitted known (f new)) → HaveSeenIn a known → HaveSeenIn (at_places n (set places at new)) known
+      pub seen_at : (known : Trace) → ((admitted : ℕ) → HasSeenIn admitted known (f old) → HasSeenIn admitted known (f new)) → HaveSeenIn a known → All (HasSeenIn n known) (map f (set places at new))
       seen_at known seen are = all_there (HasSeenIn n known) (HasSeenIn n known) (λ c is. is) places at old new there (seen n) (subst (λ (b : Askers). HaveSeenIn b known) (sym view_is) are)
 
       -- a question that the client of this place puts is awaited here
-      pub asked_at : (q : Posed) (known : Trace) → KeepsSeen (f old) (f new) → HaveSeenIn a known → IsAskedBy (f new) q → IsAwaited (at_places n (set places at new)) at q
-      asked_at q known seen are asked = record { admitted = numbered (f new) asked (seen n known mine); own = one_so (λ (c : Option Asker). IsOwnOf c q) places at new (of_asked (f new) asked) }
+      pub asked_at : {later : List ℕ} → (q : Posed) (known : Trace) → KeepsSeen (f old) (f new) → HaveSeenIn a known → IsAskedBy (f new) q → IsAwaited (at_places n later (set places at new)) at q
+      asked_at {later} q known seen are asked = record { admitted = numbered (f new) asked (seen n known mine); own = one_so (λ (c : Option Asker). IsOwnOf c q) places at new (of_asked (f new) asked) }
         where
           mine : HasSeenIn n known (f old)
           mine = one_there (HasSeenIn n known) places at old there (subst (λ (b : Askers). HaveSeenIn b known) (sym view_is) are)
@@ -161,13 +169,13 @@ module _ {X : Type 0} (f : X → Option Asker) where
           of_asked None is = tt
           of_asked (Some x) is = is.1
 
-      pub some_asked : (r : Option Posed) (known : Trace) → KeepsSeen (f old) (f new) → HaveSeenIn a known → IfSome r (λ q. IsAskedBy (f new) q) → IfSome r (λ q. IsAwaited (at_places n (set places at new)) at q)
-      some_asked None known seen are asked = tt
-      some_asked (Some q) known seen are asked = asked_at q known seen are asked
+      pub some_asked : (later : List ℕ) (r : Option Posed) (known : Trace) → KeepsSeen (f old) (f new) → HaveSeenIn a known → IfSome r (λ q. IsAskedBy (f new) q) → IfSome r (λ q. IsAwaited (at_places n later (set places at new)) at q)
+      some_asked later None known seen are asked = tt
+      some_asked later (Some q) known seen are asked = asked_at q known seen are asked
 
-  module _ (a : Askers) (n : ℕ) (places : List X) (at : ℕ) (old new : X) (client : Asker) (view_is : at_places n places ≡ a) (within : at < length places) (here : old ≡ get_or places at old) where
+  module _ (a : Askers) (n : ℕ) {queue later : List ℕ} (places : List X) (at : ℕ) (old new : X) (client : Asker) (view_is : at_places n queue places ≡ a) (within : at < length places) (here : old ≡ get_or places at old) where
     -- a client is admitted, with a number of its own
-    pub admits_at : f new ≡ Some client → client.connection ≡ n + 1 → client.seen ≡ [] → Keeps a (at_places (n + 1) (set places at new))
+    pub admits_at : f new ≡ Some client → client.connection ≡ n + 1 → client.seen ≡ [] → Keeps a (at_places (n + 1) later (set places at new))
     admits_at is numbered unseen = record {
       awaited = λ token q awaited.
           let mine = subst (λ (b : Askers). IsAwaited b token q) (sym view_is) awaited in
@@ -186,7 +194,7 @@ module _ {X : Type 0} (f : X → Option Asker) where
         more known (Some x) so = let low = so.0 in (omega (arith, low), so.1)
 
 -- no client is there
-pub none_seen : {X : Type 0} (f : X → Option Asker) (n : ℕ) (places : List X) (known : Trace) → All (λ p. f p ≡ None) places → HaveSeenIn (record { admitted = n; clients = map f places }) known
+pub none_seen : {X : Type 0} (f : X → Option Asker) (n : ℕ) (places : List X) (known : Trace) → All (λ p. f p ≡ None) places → All (HasSeenIn n known) (map f places)
 none_seen {X} f n [] known none = All-nil (HasSeenIn n known)
 none_seen {X} f n (p ∷ places) known none =
     All-cons (HasSeenIn n known) (f p) (map f places) (subst (HasSeenIn n known) (sym (All-head (λ (x : X). f x ≡ None) p places none)) tt) (none_seen f n places known (All-tail (λ (x : X). f x ≡ None) p places none))

@@ -80,6 +80,10 @@ IsHeld t request = (t.waiting ≡ request ∷ drop 1 t.waiting) × (IsFree t.und
 abbrev pub Rests : Talk → Type 0
 Rests t = (t.ended ≢ Done) ⊎ (t.waiting ≡ []) ⊎ ((request : Request) × IsHeld t request) ⊎ (t.told + length t.under ≡ 18446744073709551615)
 
+-- a request waits, and it hands none out whatever comes behind it
+abbrev pub IsHeldUp : Talk → Type 0
+IsHeldUp t = (t.waiting ≢ []) × Rests t
+
 -- each request of the turn has its reply, where it is the first
 abbrev pub IsReady : Turn → Talk → Type 0
 IsReady (turn.Asks wording count) t = (replies : List Reply) × (count ≤ length t.under) × (replies_of (take count t.under) ≡ Some replies)

@@ -22,6 +22,7 @@ invariant_of-self g c =
       λ going. subst (λ (r : Option Reader). IsSome r) (sym s.reader) (c.self.invariant.0 going),
       s.earned,
       λ kept. s.talk (c.self.invariant.2 kept),
+      λ held. absurd (cc),
     )
 
 pub returns-in-Ok-clause-kept : goal.returns-in-Ok-clause-kept
