@@ -1,17 +1,19 @@
 -- Worked rows of what a pass of a loop is about, most of which must not hold.
-use Rattle.std.proofs.Common.{◌≡◌, ℕ, true, List, Option, Some, None, sym, ap, ◌∙◌, subst}
+use Rattle.std.proofs.Common.{◌≡◌, ◌++◌, inl, inr, ℕ, suc, true, List, Option, Some, None, length, length-append, sym, ap, ◌∙◌, subst, arith}
+use mathlib.Core.Bool.{true≢false}
 use Rattle.lz_slot.specs.declared.command.Command.TheVariants as command
 use Rattle.lz_slot.specs.declared.format.Format.{Format}
 use Rattle.lz_machine.specs.Orders.{Calling}
 use Rattle.lz_proto.specs.declared.request.Request.TheVariants.{Add, Has, Quit}
 use Rattle.lz_board.specs.declared.pass.Pass.{Pass}
 use Rattle.lz_board.specs.declared.view.Part.{Part}
-use Rattle.lz_board.specs.Seats.{BoardId}
+use Rattle.lz_board.specs.declared.view.Note.{Note}
+use Rattle.lz_board.specs.Seats.{BoardId, part}
 use Rattle.lz_serve.specs.Grants.{Posed}
 use Rattle.lz_serve.specs.Halts.{SawHalt}
 use Rattle.lz_serve.specs.Replies.{AreAskedAgain, command_of}
 use Rattle.lz_serve.proofs.Seats.{alone_once}
-use Rattle.lz_serve.specs.Askings.{Asked, IsAnswering, IsAsking, IsCounting, IsSameQuestion}
+use Rattle.lz_serve.specs.Askings.{Asked, IsAnswering, IsAsking, IsBusy, IsCounting, IsSameQuestion, WaitsForSlots}
 use Rattle.lz_serve.proofs.Askings.{counted, resting}
 
 module _ (b : BoardId) (F : Format) (given : List Part) (q : Posed) (pass : Pass) (call : Option Calling) (tries : ℕ) (is : IsAnswering b F given q pass call tries) where
@@ -52,3 +54,13 @@ module _ (b : BoardId) (F : Format) (given : List Part) (a : Asked) (is : IsAski
 -- a question is no other
 other_request : (old new : Asked) (p q : Posed) → IsSameQuestion old new → old.question ≡ Some p → new.question ≡ Some q → p.request ≡ Has 7 → q.request ≡ Has 8 → ⊥
 other_request old new p q same first second seven eight = let kept = same.question in absurd (cc)
+
+-- one waits for slots that may be made again, and wasn't answered since
+waits_on : (a : Asked) → WaitsForSlots true a a → ⊥
+waits_on a (waits, inl never) = true≢false never
+waits_on a (waits, inr answered) = absurd (omega (arith, answered))
+
+-- one waits at a node without having claimed it since
+busy_on : (a : Asked) → IsBusy a a → ⊥
+busy_on a (stage, (e, o, x, m, more, steps, kind)) =
+    let longer : length (part a.pass).steps ≡ suc (length (more ++ (part a.pass).steps)) = ap (λ (l : List Note). length l) steps in absurd (omega (arith, longer, length-append more (part a.pass).steps))

@@ -1,16 +1,23 @@
 -- Worked rows of clients and their questions, most of which must not hold.
-use Rattle.std.proofs.Common.{◌≢◌, ℕ, false, [], ◌∷◌, Some, None, refl, arith, lit<, lit≤}
+use Rattle.std.proofs.Common.{◌≡◌, ◌≢◌, ◌++◌, ℕ, false, All, List, [], ◌∷◌, Some, None, refl, ap, subst, arith, lit<, lit≤}
+use Rattle.std.proofs.lemmas.List.Elements.{All-cons, All-head, All-nil}
 use Rattle.lz_list.specs.Traces.{Begins, Trace}
 use Rattle.lz_list.specs.declared.publishing.Publishing.{Publishing}
-use Rattle.lz_proto.specs.declared.request.Request.TheVariants.{Add}
+use Rattle.lz_proto.specs.declared.request.Request.{Request}
+use Rattle.lz_proto.specs.declared.request.Request.TheVariants.{Add, Has}
+use Rattle.lz_proto.specs.declared.end.End.TheVariants.{Done}
+use Rattle.lz_proto.specs.declared.reply.Reply.TheVariants.{Yes}
 use Rattle.lz_board.specs.declared.pass.Pass.{Pass}
-use Rattle.lz_serve.specs.Clients.{Asker, HasSeenIn, IsAwaited, IsOwn}
-use Rattle.lz_serve.specs.Grants.{Posed}
-use Rattle.lz_serve.specs.Lines.{awaited}
+use Rattle.lz_serve.specs.Clients.{Asker, Askers, HasLine, HasNoneAt, HasSeenIn, IsAwaited, IsHeard, IsOwn, TakesTurn}
+use Rattle.lz_serve.specs.declared.line.Line.{Line}
+use Rattle.lz_serve.specs.Grants.{Posed, key_asked}
+use Rattle.lz_serve.specs.Lines.{awaited, replied}
+use Rattle.lz_serve.specs.Queues.{queued}
+use Rattle.lz_serve.proofs.LinesUnderWay.{noted_heard}
 
 -- a client of connection 1 whose first line, for key 5, was put to this pass, and the question of such a line
 abbrev asks : Pass → Trace → Asker
-asks put seen = record { connection = 1; lines = 1; told = 0; under = awaited (Add 5) ∷ []; puts = put ∷ []; seen = seen }
+asks put seen = record { connection = 1; lines = 1; told = 0; under = awaited (Add 5) ∷ []; puts = put ∷ []; seen = seen; waiting = []; ended = Done; lost = false }
 
 abbrev posed : ℕ → Pass → Posed
 posed connection put = record { connection = connection; line = 1; request = Add 5; before = put; earlier = false }
@@ -22,14 +29,62 @@ its_own p same = (lit≤ tt, λ under. refl)
 not_its : (p q : Pass) → IsOwn (asks p []) (posed 2 q)
 not_its p q same = absurd (cc)
 
+-- once its line has its reply, none awaits one
+heard : (p : Pass) → IsHeard (record (asks p []) { under = replied (Add 5) Yes ∷ [] }) (posed 1 p)
+heard p same stands = noted_heard (awaited (Add 5) ∷ []) 0 (Add 5) (Add 5) Yes stands.1
+
+-- where its next line is for another key, it has a line for a pass
+abbrev asks_on : Pass → Request → Asker
+asks_on p request = record (asks p []) { waiting = request ∷ [] }
+
+has_line : (p : Pass) → HasLine (asks_on p (Has 6))
+has_line p = record {
+  there = refl;
+  goes = refl;
+  request = Has 6;
+  waits = refl;
+  numbered = λ all. absurd (omega (arith, all));
+  free = All-cons (λ (line : Line). line.reply ≡ None → key_asked line.request ≢ Some 6) (awaited (Add 5)) [] (λ none same. let five : ◌≡◌ {A = ℕ} 5 6 = cc in absurd (omega (arith, five)))
+      (All-nil (λ (line : Line). line.reply ≡ None → key_asked line.request ≢ Some 6));
+}
+
+-- it is put behind the others once
+behind : queued 3 (4 ∷ []) ≡ 4 ∷ 3 ∷ []
+behind = refl
+
+once : queued 3 (3 ∷ 4 ∷ []) ≡ 3 ∷ 4 ∷ []
+once = refl
+
 -- What must not hold.
+
+-- a line for the same key is one
+same_key : (p : Pass) → HasLine (asks_on p (Has 5)) → ⊥
+same_key p line =
+    let waits = line.waits in
+    let next : Has 5 ≡ line.request = cc in
+    All-head (λ (l : Line). l.reply ≡ None → key_asked l.request ≢ key_asked line.request) (awaited (Add 5)) [] line.free refl (ap key_asked next)
+
+-- the second has its turn, though the first has a line
+abbrev two : Pass → List ℕ → Askers
+two p queue = record { admitted = 2; clients = Some (asks_on p (Has 6)) ∷ None ∷ []; queue = queue }
+
+before_the_first : (p : Pass) (passed rest : List ℕ) → 0 ∷ 1 ∷ [] ≡ passed ++ 1 ∷ rest → All (HasNoneAt (two p [])) passed → ⊥
+before_the_first p [] rest is none = let one : ◌≡◌ {A = ℕ} 0 1 = cc in absurd (omega (arith, one))
+before_the_first p (token ∷ passed) rest is none = let first : token ≡ 0 = cc in subst (HasNoneAt (two p [])) first (All-head (HasNoneAt (two p [])) token passed none) (has_line p)
+
+overtakes : (p : Pass) → TakesTurn (two p (0 ∷ 1 ∷ [])) (two p []) 1 → ⊥
+overtakes p turn = before_the_first p turn.passed turn.rest turn.stood turn.none
+
+-- its line awaits the reply, and none awaits it
+unheard : (p : Pass) → IsHeard (asks p []) (posed 1 p) → ⊥
+unheard p heard = heard refl (lit< tt, refl)
 
 -- it is its own where it was put to another pass
 put_elsewhere : (p q : Pass) → p ≢ q → IsOwn (asks p []) (posed 1 q) → ⊥
 put_elsewhere p q other own = let put = (own refl).1 (lit< tt) in other (cc)
 
 -- a question is awaited of a connection that wasn't admitted
-of_nobody : (p : Pass) → IsAwaited (record { admitted = 0; clients = None ∷ [] }) 0 (posed 1 p) → ⊥
+of_nobody : (p : Pass) → IsAwaited (record { admitted = 0; clients = None ∷ []; queue = [] }) 0 (posed 1 p) → ⊥
 of_nobody p is = let low = is.admitted in absurd (omega (arith, low))
 
 nothing_begun : (e : Publishing) → Begins (e ∷ []) [] → ⊥

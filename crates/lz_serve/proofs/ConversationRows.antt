@@ -1,6 +1,7 @@
 -- Worked conversations.
-use Rattle.std.proofs.Common.{◌≡◌, ℕ, List, [], ◌∷◌, ◌++◌, ◌+◌, suc, length, Option, Some, None, false, refl, sym, ap, subst, ◌∙◌, arith, codes, length-append}
+use Rattle.std.proofs.Common.{◌≡◌, ◌≢◌, inl, inr, ℕ, List, [], ◌∷◌, ◌++◌, ◌+◌, suc, length, Option, Some, None, false, refl, sym, ap, subst, ◌∙◌, arith, codes, length-append}
 use Rattle.std.proofs.lemmas.List.{append-nil, nil_from_length}
+use Rattle.std.proofs.lemmas.List.Elements.{All-cons, All-nil}
 use Rattle.std.specs.Fmt.{digits}
 use Rattle.lz_proto.specs.declared.request.Request.{Request}
 use Rattle.lz_proto.specs.declared.request.Request.TheVariants.{Add, Has, Quit}
@@ -17,8 +18,9 @@ use Rattle.lz_proto.specs.Sessions.{Serves, session_text}
 use Rattle.lz_proto.proofs.LineReads.{item_read}
 use Rattle.lz_proto.proofs.Texts.{only}
 use Rattle.lz_board.specs.declared.pass.Pass.{Pass}
-use Rattle.lz_serve.specs.Grants.{Grant, IsOfLine}
-use Rattle.lz_serve.specs.Lines.{awaited}
+use Rattle.lz_serve.specs.declared.line.Line.{Line}
+use Rattle.lz_serve.specs.Grants.{Grant, IsOfLine, key_asked}
+use Rattle.lz_serve.specs.Lines.{IsFree, awaited}
 use Rattle.lz_resp.specs.declared.form.Form.TheVariants.{Added}
 use Rattle.lz_resp.specs.declared.naming.Naming.{Naming}
 use Rattle.lz_serve.specs.declared.language.Language.TheVariants.{Lines, Frames}
@@ -28,7 +30,7 @@ use Rattle.lz_serve.specs.declared.turn.Turn.TheVariants.{Asks as asks, Says as 
 use Rattle.lz_serve.specs.declared.turn.Wording.TheVariants as wording
 use Rattle.lz_serve.specs.Exchanges.{CameFrom, Exchange}
 use Rattle.lz_serve.specs.Exchanges as exchange
-use Rattle.lz_serve.specs.Conversations.{AreTold, IsAt, IsTold, Talk, more, nothing as none_told}
+use Rattle.lz_serve.specs.Conversations.{AreTold, IsAt, IsTold, Rests, Talk, more, nothing as none_told}
 use Rattle.lz_serve.specs.LineSessions.{IsGranted, IsSession}
 use Rattle.lz_serve.proofs.LineSessions.{lines_are_sessions}
 
@@ -91,6 +93,21 @@ first_told p = more 1 [] [] [] first (gets p Yes) (codes "yes\n") ends.Done (non
 
 both_told : (p : Pass) → AreTold 1 (first ∷ second ∷ []) (gets p Yes) (codes "yes\nbad 3\n") ends.Done
 both_told p = more 1 (first ∷ []) (gets p Yes) (codes "yes\n") second [] (codes "bad 3\n") ends.Done (first_told p) (refl, refl, refl)
+
+abbrev awaits_one : List Line
+awaits_one = awaited (Add 1) ∷ []
+
+two_is_free : IsFree awaits_one (Some 2)
+two_is_free =
+    All-cons (λ (line : Line). line.reply ≡ None → key_asked line.request ≢ Some 2) (awaited (Add 1)) [] (λ none same. let one : ◌≡◌ {A = ℕ} 1 2 = cc in absurd (omega (arith, one)))
+    (All-nil (λ (line : Line). line.reply ≡ None → key_asked line.request ≢ Some 2))
+
+-- a request with another key isn't held up by one that is under way
+rests_not : Rests (record (stands [] (Has 2 ∷ []) 0 [] ends.Done) { under = awaits_one }) → ⊥
+rests_not (inl ended) = ended refl
+rests_not (inr (inl none)) = absurd (cc)
+rests_not (inr (inr (inl (request, held)))) = let same : Has 2 ≡ request = cc (held.0) in held.1 (subst (λ (r : Request). IsFree awaits_one (key_asked r)) same two_is_free)
+rests_not (inr (inr (inr all))) = absurd (omega (arith, all))
 
 -- its reply is to be sent
 is_replied : (p : Pass) → IsAt 1 (gets p Yes) lines [] (stands (says (codes "bad 3\n") ∷ []) [] 1 (codes "yes\n") ends.Done)

@@ -1,9 +1,9 @@
 -- Clients at their places: what each operation on a place keeps.
-use Rattle.std.proofs.Common.{◌≡◌, ◌≤◌, ◌<◌, ◌+◌, inr, ℕ, zero, suc, All, List, [], ◌∷◌, Option, Some, None, IfSome, length, map, get_or, set, slice_get, refl, sym, ap, subst, arith}
+use Rattle.std.proofs.Common.{◌≡◌, ◌≢◌, ◌≤◌, ◌<◌, ◌+◌, inr, ℕ, zero, suc, All, List, [], ◌∷◌, Option, Some, None, IfSome, length, map, get_or, set, slice_get, refl, sym, ap, subst, arith}
 use Rattle.std.proofs.lemmas.List.Elements.{All-cons, All-head, All-nil, All-tail, All-weaker}
 use Rattle.std.proofs.lemmas.Option.{slice_get_read}
 use Rattle.lz_list.specs.Traces.{Trace, Begins}
-use Rattle.lz_serve.specs.Clients.{Asker, Askers, HasSeenIn, HaveSeenIn, IsAskedBy, IsAwaited, IsOwnOf, Keeps, KeepsAwaited, KeepsOwn, KeepsSeen}
+use Rattle.lz_serve.specs.Clients.{Asker, Askers, HasSeenIn, HaveSeenIn, IsAskedBy, IsAwaited, IsOwn, IsOwnOf, Keeps, KeepsAwaited, KeepsOwn, KeepsSeen, OnlyLeave}
 use Rattle.lz_serve.specs.Grants.{Posed}
 
 pub from_nothing : (known : Trace) → Begins [] known
@@ -19,19 +19,46 @@ keeps_same a b is = subst (Keeps a) (sym is) (keeps_itself a)
 pub keeps_then : (a b c : Askers) → Keeps a b → Keeps b c → Keeps a c
 keeps_then a b c one two = record { awaited = λ token q is. two.awaited token q (one.awaited token q is); seen = λ known are. two.seen known (one.seen known are) }
 
--- a place whose client is the same, or has gone
+-- a question that is awaited, if there is one
+pub some_kept : (a b : Askers) (token : ℕ) (r : Option Posed) → Keeps a b → IfSome r (λ q. IsAwaited a token q) → IfSome r (λ q. IsAwaited b token q)
+some_kept a b token None keeps is = tt
+some_kept a b token (Some q) keeps is = keeps.awaited token q is
+
+-- where no client has come or changed
+
+pub leave_same : (a b : Askers) → b ≡ a → OnlyLeave a b
+leave_same a b is = subst (OnlyLeave a) (sym is) (record { admitted = refl; stay = λ token x there. there })
+
+left_so : (P : Asker → Type 0) (old new : Option (Option Asker)) → ((a : Asker) → new ≡ Some (Some a) → old ≡ Some (Some a)) → IfSome old (λ c. IfSome c P) → IfSome new (λ c. IfSome c P)
+left_so P old None stay so = tt
+left_so P old (Some None) stay so = tt
+left_so P old (Some (Some a)) stay so = subst (λ (o : Option (Option Asker)). IfSome o (λ c. IfSome c P)) (stay a refl) so
+
+-- what was so of the client of a place is so of the one that is still there
+pub leave_so : (P : Asker → Type 0) (a b : Askers) (token : ℕ) → OnlyLeave a b → IfSome (slice_get a.clients token) (λ c. IfSome c P) → IfSome (slice_get b.clients token) (λ c. IfSome c P)
+leave_so P a b token leave so = left_so P (slice_get a.clients token) (slice_get b.clients token) (leave.stay token) so
+
+seen_left : (n : ℕ) (known : Trace) (old new : List (Option Asker)) → ((token : ℕ) (a : Asker) → slice_get new token ≡ Some (Some a) → slice_get old token ≡ Some (Some a)) → All (HasSeenIn n known) old → All (HasSeenIn n known) new
+seen_left n known old [] stay all = All-nil (HasSeenIn n known)
+seen_left n known [] (c ∷ new) stay all =
+    All-cons (HasSeenIn n known) c new (left_so (λ (a : Asker). (a.connection ≤ n) × Begins a.seen known) None (Some c) (stay zero) tt) (seen_left n known [] new (λ token. stay (suc token)) all)
+seen_left n known (o ∷ old) (c ∷ new) stay all =
+    All-cons (HasSeenIn n known) c new (left_so (λ (a : Asker). (a.connection ≤ n) × Begins a.seen known) (Some o) (Some c) (stay zero) (All-head (HasSeenIn n known) o old all))
+    (seen_left n known old new (λ token. stay (suc token)) (All-tail (HasSeenIn n known) o old all))
+
+pub leave_keeps : (a b : Askers) → OnlyLeave a b → Keeps a b
+leave_keeps a b leave = record {
+  awaited = λ token q is. record { admitted = subst (λ (n : ℕ). q.connection ≤ n) (sym leave.admitted) is.admitted; own = leave_so (λ (x : Asker). IsOwn x q) a b token leave is.own };
+  seen = λ known are. subst (λ (n : ℕ). All (HasSeenIn n known) b.clients) (sym leave.admitted) (seen_left a.admitted known a.clients b.clients leave.stay are);
+}
+
+-- a place whose client is the same
 
 pub same_own : (old new : Option Asker) → new ≡ old → KeepsOwn old new
 same_own old new is q own = subst (λ (c : Option Asker). IsOwnOf c q) (sym is) own
 
 pub same_seen : (old new : Option Asker) → new ≡ old → KeepsSeen old new
 same_seen old new is admitted known seen = subst (HasSeenIn admitted known) (sym is) seen
-
-pub gone_own : (old new : Option Asker) → new ≡ None → KeepsOwn old new
-gone_own old new is q own = subst (λ (c : Option Asker). IsOwnOf c q) (sym is) tt
-
-pub gone_seen : (old new : Option Asker) → new ≡ None → KeepsSeen old new
-gone_seen old new is admitted known seen = subst (HasSeenIn admitted known) (sym is) tt
 
 -- what a client has seen, whatever its number
 pub only_seen : (admitted : ℕ) (known : Trace) (client : Option Asker) → HasSeenIn admitted known client → IfSome client (λ a. Begins a.seen known)
@@ -65,10 +92,41 @@ module _ {X : Type 0} (f : X → Option Asker) where
   one_there P (x ∷ places) zero p is all = let same : x ≡ p = cc in subst (λ (y : X). P (f y)) same (All-head P (f x) (map f places) all)
   one_there P (x ∷ places) (suc at) p is all = one_there P places at p is (All-tail P (f x) (map f places) all)
 
-  abbrev pub at_places : ℕ → List X → Askers
-  at_places n places = record { admitted = n; clients = map f places }
+  -- what is so of the client that is now at a place
+  pub one_so : (P : Option Asker → Type 0) (places : List X) (at : ℕ) (new : X) → P (f new) → IfSome (slice_get (map f (set places at new)) at) P
+  one_so P [] at new so = tt
+  one_so P (p ∷ places) zero new so = so
+  one_so P (p ∷ places) (suc at) new so = one_so P places at new so
 
-  module _ (a : Askers) (n : ℕ) (places : List X) (at : ℕ) (old : X) (view_is : at_places n places ≡ a) (within : at < length places) (here : old ≡ get_or places at old) where
+  left_there : (places : List X) (at : ℕ) (new : X) (token : ℕ) (a : Asker) → f new ≡ None → slice_get (map f (set places at new)) token ≡ Some (Some a) → slice_get (map f places) token ≡ Some (Some a)
+  left_there [] at new token a gone is = is
+  left_there (p ∷ places) zero new zero a gone is = absurd (cc)
+  left_there (p ∷ places) zero new (suc token) a gone is = is
+  left_there (p ∷ places) (suc at) new zero a gone is = is
+  left_there (p ∷ places) (suc at) new (suc token) a gone is = left_there places at new token a gone is
+
+  -- no other client has changed
+  pub other_at : (places : List X) (at : ℕ) (new : X) (token : ℕ) → token ≢ at → slice_get (map f (set places at new)) token ≡ slice_get (map f places) token
+  other_at [] at new token other = refl
+  other_at (p ∷ places) zero new zero other = absurd (other refl)
+  other_at (p ∷ places) zero new (suc token) other = refl
+  other_at (p ∷ places) (suc at) new zero other = refl
+  other_at (p ∷ places) (suc at) new (suc token) other = other_at places at new token (λ same. other (ap suc same))
+
+  abbrev pub at_places : ℕ → List ℕ → List X → Askers
+  at_places n queue places = record { admitted = n; clients = map f places; queue = queue }
+
+  -- where others wait for their turn
+  pub keeps_here : (a : Askers) (n : ℕ) {queue later : List ℕ} (places : List X) → at_places n queue places ≡ a → Keeps a (at_places n later places)
+  keeps_here a n {queue} {later} places view_is =
+      subst (λ (b : Askers). Keeps b (at_places n later places)) view_is (record { awaited = λ token q is. record { admitted = is.admitted; own = is.own }; seen = λ known are. are })
+
+  -- the client of a place leaves
+  pub leaves_at : (a : Askers) (n : ℕ) {queue later : List ℕ} (places : List X) (at : ℕ) (new : X) → at_places n queue places ≡ a → f new ≡ None → OnlyLeave a (at_places n later (set places at new))
+  leaves_at a n {queue} {later} places at new view_is gone =
+      subst (λ (b : Askers). OnlyLeave b (at_places n later (set places at new))) view_is (record { admitted = refl; stay = λ token x is. left_there places at new token x gone is })
+
+  module _ (a : Askers) (n : ℕ) {queue : List ℕ} (places : List X) (at : ℕ) (old : X) (view_is : at_places n queue places ≡ a) (within : at < length places) (here : old ≡ get_or places at old) where
     there : slice_get places at ≡ Some old
     there = slice_get_read places (length places) at old refl within here
 
@@ -82,23 +140,23 @@ module _ {X : Type 0} (f : X → Option Asker) where
         subst (λ (b : Askers). HasSeenIn b.admitted known (f old)) view_is (one_there (HasSeenIn n known) places at old there (subst (λ (b : Askers). HaveSeenIn b known) (sym view_is) are))
 
     module _ (new : X) where
-      pub keeps_awaited : KeepsOwn (f old) (f new) → KeepsAwaited a (at_places n (set places at new))
-      keeps_awaited own token q is =
+      pub keeps_awaited : {later : List ℕ} → KeepsOwn (f old) (f new) → KeepsAwaited a (at_places n later (set places at new))
+      keeps_awaited {later} own token q is =
           let mine = subst (λ (b : Askers). IsAwaited b token q) (sym view_is) is in record { admitted = mine.admitted; own = own_there places at old new token q there (λ _. own q) mine.own }
 
-      pub keeps_at : KeepsOwn (f old) (f new) → KeepsSeen (f old) (f new) → Keeps a (at_places n (set places at new))
-      keeps_at own seen = record {
+      pub keeps_at : {later : List ℕ} → KeepsOwn (f old) (f new) → KeepsSeen (f old) (f new) → Keeps a (at_places n later (set places at new))
+      keeps_at {later} own seen = record {
         awaited = keeps_awaited own;
         seen = λ known are. all_there (HasSeenIn n known) (HasSeenIn n known) (λ c is. is) places at old new there (seen n known) (subst (λ (b : Askers). HaveSeenIn b known) (sym view_is) are);
       }
 
       -- the client of this place has seen what was seen there
-      pub seen_at : (known : Trace) → ((admitted : ℕ) → HasSeenIn admitted known (f old) → HasSeenIn admitted known (f new)) → HaveSeenIn a known → HaveSeenIn (at_places n (set places at new)) known
+      pub seen_at : (known : Trace) → ((admitted : ℕ) → HasSeenIn admitted known (f old) → HasSeenIn admitted known (f new)) → HaveSeenIn a known → All (HasSeenIn n known) (map f (set places at new))
       seen_at known seen are = all_there (HasSeenIn n known) (HasSeenIn n known) (λ c is. is) places at old new there (seen n) (subst (λ (b : Askers). HaveSeenIn b known) (sym view_is) are)
 
       -- a question that the client of this place puts is awaited here
-      pub asked_at : (q : Posed) (known : Trace) → KeepsSeen (f old) (f new) → HaveSeenIn a known → IsAskedBy (f new) q → IsAwaited (at_places n (set places at new)) at q
-      asked_at q known seen are asked = record { admitted = numbered (f new) asked (seen n known mine); own = own_new places at old there }
+      pub asked_at : {later : List ℕ} → (q : Posed) (known : Trace) → KeepsSeen (f old) (f new) → HaveSeenIn a known → IsAskedBy (f new) q → IsAwaited (at_places n later (set places at new)) at q
+      asked_at {later} q known seen are asked = record { admitted = numbered (f new) asked (seen n known mine); own = one_so (λ (c : Option Asker). IsOwnOf c q) places at new (of_asked (f new) asked) }
         where
           mine : HasSeenIn n known (f old)
           mine = one_there (HasSeenIn n known) places at old there (subst (λ (b : Askers). HaveSeenIn b known) (sym view_is) are)
@@ -111,18 +169,13 @@ module _ {X : Type 0} (f : X → Option Asker) where
           of_asked None is = tt
           of_asked (Some x) is = is.1
 
-          own_new : (xs : List X) (i : ℕ) (o : X) → slice_get xs i ≡ Some o → IfSome (slice_get (map f (set xs i new)) i) (λ c. IsOwnOf c q)
-          own_new [] i o is = tt
-          own_new (x ∷ xs) zero o is = of_asked (f new) asked
-          own_new (x ∷ xs) (suc i) o is = own_new xs i o is
+      pub some_asked : (later : List ℕ) (r : Option Posed) (known : Trace) → KeepsSeen (f old) (f new) → HaveSeenIn a known → IfSome r (λ q. IsAskedBy (f new) q) → IfSome r (λ q. IsAwaited (at_places n later (set places at new)) at q)
+      some_asked later None known seen are asked = tt
+      some_asked later (Some q) known seen are asked = asked_at q known seen are asked
 
-      pub some_asked : (r : Option Posed) (known : Trace) → KeepsSeen (f old) (f new) → HaveSeenIn a known → IfSome r (λ q. IsAskedBy (f new) q) → IfSome r (λ q. IsAwaited (at_places n (set places at new)) at q)
-      some_asked None known seen are asked = tt
-      some_asked (Some q) known seen are asked = asked_at q known seen are asked
-
-  module _ (a : Askers) (n : ℕ) (places : List X) (at : ℕ) (old new : X) (client : Asker) (view_is : at_places n places ≡ a) (within : at < length places) (here : old ≡ get_or places at old) where
+  module _ (a : Askers) (n : ℕ) {queue later : List ℕ} (places : List X) (at : ℕ) (old new : X) (client : Asker) (view_is : at_places n queue places ≡ a) (within : at < length places) (here : old ≡ get_or places at old) where
     -- a client is admitted, with a number of its own
-    pub admits_at : f new ≡ Some client → client.connection ≡ n + 1 → client.seen ≡ [] → Keeps a (at_places (n + 1) (set places at new))
+    pub admits_at : f new ≡ Some client → client.connection ≡ n + 1 → client.seen ≡ [] → Keeps a (at_places (n + 1) later (set places at new))
     admits_at is numbered unseen = record {
       awaited = λ token q awaited.
           let mine = subst (λ (b : Askers). IsAwaited b token q) (sym view_is) awaited in
@@ -141,7 +194,7 @@ module _ {X : Type 0} (f : X → Option Asker) where
         more known (Some x) so = let low = so.0 in (omega (arith, low), so.1)
 
 -- no client is there
-pub none_seen : {X : Type 0} (f : X → Option Asker) (n : ℕ) (places : List X) (known : Trace) → All (λ p. f p ≡ None) places → HaveSeenIn (record { admitted = n; clients = map f places }) known
+pub none_seen : {X : Type 0} (f : X → Option Asker) (n : ℕ) (places : List X) (known : Trace) → All (λ p. f p ≡ None) places → All (HasSeenIn n known) (map f places)
 none_seen {X} f n [] known none = All-nil (HasSeenIn n known)
 none_seen {X} f n (p ∷ places) known none =
     All-cons (HasSeenIn n known) (f p) (map f places) (subst (HasSeenIn n known) (sym (All-head (λ (x : X). f x ≡ None) p places none)) tt) (none_seen f n places known (All-tail (λ (x : X). f x ≡ None) p places none))

@@ -12,7 +12,10 @@ pub mod LineReplies
 pub mod LinesUnderWay
 pub mod ConversationRows
 pub mod StreamRows
+pub mod Queues
+pub mod HeldUp
 pub mod Crowds
+pub mod Turns
 pub mod Desks
 pub mod Meetings
 pub mod InTurn

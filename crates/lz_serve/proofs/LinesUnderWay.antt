@@ -48,6 +48,18 @@ get_last [] at x is = subst (λ (n : ℕ). slice_get (x ∷ []) n ≡ Some x) (s
 get_last (y ∷ xs) zero x is = absurd (omega (arith, is))
 get_last (y ∷ xs) (suc at) x is = get_last xs at x (omega (arith, is))
 
+-- a line that has its reply awaits none
+pub noted_heard : (under : List Line) (at : ℕ) (request other : Request) (reply : Reply) → slice_get (slice_set under at (replied request reply)) at ≡ Some (awaited other) → ⊥
+noted_heard [] at request other reply is = absurd (cc)
+noted_heard (line ∷ under) zero request other reply is = let same : replied request reply ≡ awaited other = cc in let none : Some reply ≡ None = ap (λ (l : Line). l.reply) same in absurd (cc)
+noted_heard (line ∷ under) (suc at) request other reply is = noted_heard under at request other reply is
+
+-- the first ones are gone
+pub get_rest : {X : Type 0} (count at : ℕ) (xs : List X) → slice_get (drop count xs) at ≡ slice_get xs (count + at)
+get_rest zero at xs = let same : at ≡ zero + at = omega arith in ap (λ (n : ℕ). slice_get xs n) same
+get_rest (suc count) at [] = refl
+get_rest (suc count) at (x ∷ xs) = let same : suc (count + at) ≡ suc count + at = omega arith in get_rest count at xs ∙ ap (λ (n : ℕ). slice_get (x ∷ xs) n) same
+
 -- grants that lines under way come after
 
 -- one more line is put

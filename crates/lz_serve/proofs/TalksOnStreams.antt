@@ -163,6 +163,7 @@ module _ (P : List Grant → Type 0) (seen : Trace) (connection : ℕ) where
     pub earned : AreEarned P seen connection new.told new.under its
     pub more : old.told ≤ new.told
     pub lines : new.told + length new.under ≡ old.told + length old.under
+    pub under : new.under ≡ drop (new.told - old.told) old.under
     pub talk : IsTalkOf (AreBefore P seen old.under puts) connection s old → IsTalkOf (AreBefore P seen new.under its) connection s new
 
   pub told_or_not : (s : Option Traffic) (was_told : Bool) (old new : Talk) (puts its : List Pass) → its ≡ drop (new.told - old.told) puts
@@ -176,6 +177,7 @@ module _ (P : List Grant → Type 0) (seen : Trace) (connection : ℕ) where
       record {
         reader = l.reader;
         more = let t = l.told in omega (arith, t);
+        under = l.under ∙ ap (λ (n : ℕ). drop n old.under) (sym many);
         lines = let t = l.told in let u = ap (λ (x : List Line). length x) l.under ∙ length-drop (count_of first) old.under in let few = l.few in omega (arith, t, u, few);
         earned = earned_same P connection seen (old.told + count_of first) new.told (drop (count_of first) old.under) new.under (drop (count_of first) puts) its l.told l.under to_so (earned_after P connection seen (count_of first) old.told old.under puts earned);
         talk = told_there s first old new puts its next goes step earned to_so;
@@ -188,6 +190,7 @@ module _ (P : List Grant → Type 0) (seen : Trace) (connection : ℕ) where
         reader = ap (λ (t : Talk). t.reader) same;
         more = let t = ap (λ (t : Talk). t.told) same in omega (arith, t);
         lines = ap (λ (t : Talk). t.told + length t.under) same;
+        under = ap (λ (t : Talk). t.under) same ∙ ap (λ (n : ℕ). drop n old.under) (sym no_more);
         earned = earned_same P connection seen old.told new.told old.under new.under puts its (ap (λ (t : Talk). t.told) same) (ap (λ (t : Talk). t.under) same) to_so earned;
         talk = λ was. known_so (AreBefore P seen old.under puts) connection (AreBefore P seen new.under its) s new (λ grants so. before_same P seen old.under new.under puts its grants (ap (λ (t : Talk). t.under) same) to_so so)
             (subst (IsTalkOf (AreBefore P seen old.under puts) connection s) (sym same) was);

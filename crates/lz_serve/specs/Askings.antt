@@ -1,15 +1,18 @@
 -- A pass of a loop, and the request that it answers, if it answers one.
-use Rattle.std.specs.Prelude.{◌≡◌, ℕ, Bool, true, false, List, Option, Some, None, IfSome, IsSomeAnd}
+use Rattle.std.specs.Prelude.{◌≡◌, ◌⊎◌, ◌+◌, ◌&&◌, ℕ, Bool, true, false, List, Option, Some, None, IfSome, IsSomeAnd, is_none, nat_lt}
 use Rattle.lz_slot.specs.declared.command.Command.{Command}
 use Rattle.lz_slot.specs.declared.format.Format.{Format}
 use Rattle.lz_machine.specs.Orders.{Calling}
+use Rattle.lz_machine.specs.Yards.{Yard}
+use Rattle.lz_machine.specs.declared.kind.Kind.TheVariants.{Claim}
 use Rattle.lz_board.specs.declared.pass.Pass.{Pass}
 use Rattle.lz_board.specs.declared.view.Part.{Part}
 use Rattle.lz_board.specs.Seats.{BoardId, IsOf, part}
 use Rattle.lz_tie.specs.Counting.{Counts}
 use Rattle.lz_set.specs.declared.underway.Stage.{Stage}
+use Rattle.lz_set.specs.declared.underway.Stage.TheVariants.{Busy, Syncs}
 use Rattle.lz_set.specs.Names.{MayCall}
-use Rattle.lz_set.specs.Stages.{StandsAt}
+use Rattle.lz_set.specs.Stages.{HasPlayed, StandsAt, StandsUncovered}
 use Rattle.lz_serve.specs.Grants.{Posed}
 use Rattle.lz_serve.specs.Halts.{IsCalmAfter, SawHalt}
 use Rattle.lz_serve.specs.Replies.{AreAskedAgain, command_of}
@@ -68,3 +71,21 @@ pub record IsSameQuestion (old new : Asked) : Type 0 where
   pub question : new.question ≡ old.question
   pub token : new.token ≡ old.token
   pub tries : new.tries ≡ old.tries
+
+-- it waits for slots: its next call is yet to begin, and isn't the second one, which nothing is to wait for
+abbrev pub waits_for_slots : Asked → Bool
+waits_for_slots a = is_none a.call && nat_lt 1 a.tries
+
+-- Why a call isn't played on now; none of it asks whose call it is, or whether its client is still there.
+
+-- it stands before a Sync that would call the device
+abbrev pub IsBeforeSync : Yard → Asked → Type 0
+IsBeforeSync yard a = (a.stage ≡ Some Syncs) × IsSomeAnd a.call (λ k. StandsUncovered yard k)
+
+-- it has claimed a node since, which another call holds
+abbrev pub IsBusy : Asked → Asked → Type 0
+IsBusy old new = (new.stage ≡ Some Busy) × HasPlayed Claim (part old.pass) (part new.pass)
+
+-- it waits for slots: it was answered since, or none may be made again (`tries`)
+abbrev pub WaitsForSlots : Bool → Asked → Asked → Type 0
+WaitsForSlots tries old new = (waits_for_slots new ≡ true) × ((tries ≡ false) ⊎ (new.tries ≡ old.tries + 1))

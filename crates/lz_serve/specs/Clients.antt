@@ -1,14 +1,20 @@
 -- Clients as their owner sees them, and which questions are those of their lines.
-use Rattle.std.specs.Prelude.{◌≡◌, ◌-◌, ◌<◌, ◌≤◌, ℕ, suc, All, List, [], map, Option, Some, None, IfSome, IsSomeAnd, slice_get}
+use Rattle.std.specs.Prelude.{◌≡◌, ◌≢◌, ◌⊎◌, ◌-◌, ◌<◌, ◌≤◌, ◌++◌, ℕ, suc, All, Bool, true, false, List, [], ◌∷◌, drop, map, Option, Some, None, IfSome, IsSomeAnd, slice_get}
 use Rattle.std.specs.declared.snapshot.Snapshot.{Snapshot}
 use Rattle.lz_list.specs.Traces.{Trace, Begins}
 use Rattle.lz_board.specs.declared.pass.Pass.{Pass}
 use Rattle.lz_board.specs.Seats.{part}
 use Rattle.lz_serve.specs.declared.line.Line.{Line}
-use Rattle.lz_serve.specs.Grants.{Posed}
+use Rattle.lz_proto.specs.declared.request.Request.{Request}
+use Rattle.lz_proto.specs.declared.end.End.{End}
+use Rattle.lz_proto.specs.declared.end.End.TheVariants.{Done}
+use Rattle.lz_serve.specs.Grants.{Posed, key_asked}
+use Rattle.lz_serve.specs.Lines.{IsFree, StandsAt}
+use Rattle.lz_serve.specs.Queues.{is_in}
 
 -- The number of its connection; how many lines were handed out, and how many of them were told their replies; the others; the pass to which
--- each of these was put, as it was then; and what the passes had seen that answered it.
+-- each of these was put, as it was then; what the passes had seen that answered it; the requests that wait; and how its conversation has
+-- ended, `Done` while it goes on, and whether the connection is lost.
 pub record Asker : Type 0 where
   pub connection : ℕ
   pub lines : ℕ
@@ -16,6 +22,9 @@ pub record Asker : Type 0 where
   pub under : List Line
   pub puts : List Pass
   pub seen : Trace
+  pub waiting : List Request
+  pub ended : End
+  pub lost : Bool
 
 -- the passes as they were
 abbrev pub passes_of : List (Snapshot Pass) → List Pass
@@ -38,6 +47,31 @@ IsOwnOf client q = IfSome client (λ a. IsOwn a q)
 abbrev pub KeepsOwn : Option Asker → Option Asker → Type 0
 KeepsOwn old new = (q : Posed) → IsOwnOf old q → IsOwnOf new q
 
+-- its lines are the same
+abbrev pub KeepsLines : Asker → Asker → Type 0
+KeepsLines old new = new ≡ record old { waiting = new.waiting; ended = new.ended; lost = new.lost }
+
+-- It has a line for a pass: it goes on, this request waits first and may have a number, and no line under way awaits the reply for its key.
+pub record HasLine (a : Asker) : Type 0 where
+  pub there : a.lost ≡ false
+  pub goes : a.ended ≡ Done
+  pub request : Request
+  pub waits : a.waiting ≡ request ∷ drop 1 a.waiting
+  pub numbered : a.lines ≢ 18446744073709551615
+  pub free : IsFree a.under (key_asked request)
+
+-- the client, if there is one, has none
+abbrev pub HasNone : Option Asker → Type 0
+HasNone client = IfSome client (λ a. HasLine a → ⊥)
+
+-- no line of it awaits this question's reply
+abbrev pub IsHeard : Asker → Posed → Type 0
+IsHeard a q = q.connection ≡ a.connection → StandsAt a.told q.line q.request a.under → ⊥
+
+-- it is so of the client, if there is one
+abbrev pub IsHeardOf : Option Asker → Posed → Type 0
+IsHeardOf client q = IfSome client (λ a. IsHeard a q)
+
 -- the client, if there is one, is of one of so many connections, and all that it has seen was seen here
 abbrev pub HasSeenIn : ℕ → Trace → Option Asker → Type 0
 HasSeenIn admitted known client = IfSome client (λ a. (a.connection ≤ admitted) × Begins a.seen known)
@@ -50,10 +84,11 @@ KeepsSeen old new = (admitted : ℕ) (known : Trace) → HasSeenIn admitted know
 abbrev pub IsAskedBy : Option Asker → Posed → Type 0
 IsAskedBy client q = IsSomeAnd client (λ a. (q.connection ≡ a.connection) × IsOwn a q)
 
--- How many clients were admitted, and the client at each place, if it has one.
+-- How many clients were admitted; the client at each place, if it has one; and the places, by their tokens, that wait for their turn.
 pub record Askers : Type 0 where
   pub admitted : ℕ
   pub clients : List (Option Asker)
+  pub queue : List ℕ
 
 -- each is of a connection that was admitted, and all that it has seen was seen here
 abbrev pub HaveSeenIn : Askers → Trace → Type 0
@@ -63,6 +98,42 @@ HaveSeenIn a known = All (HasSeenIn a.admitted known) a.clients
 pub record IsAwaited (a : Askers) (token : ℕ) (q : Posed) : Type 0 where
   pub admitted : q.connection ≤ a.admitted
   pub own : IfSome (slice_get a.clients token) (λ client. IsOwnOf client q)
+
+-- no line of the client at this place, if there is one, awaits the question's reply
+abbrev pub IsHeardAt : Askers → ℕ → Posed → Type 0
+IsHeardAt a token q = IfSome (slice_get a.clients token) (λ client. IsHeardOf client q)
+
+-- the client at this place, if there is one, has no line for a pass
+abbrev pub HasNoneAt : Askers → ℕ → Type 0
+HasNoneAt a token = IfSome (slice_get a.clients token) HasNone
+
+-- where it has one, it waits for its turn
+abbrev pub IsInTurn : Askers → ℕ → Type 0
+IsInTurn a token = IfSome (slice_get a.clients token) (λ client. IfSome client (λ c. HasLine c → is_in token a.queue ≡ true))
+
+-- One that waited first has had its turn, with this question, if it had one. Of the others those have none that had none.
+pub record Turned (old new : Askers) (token : ℕ) (question : Option Posed) : Type 0 where
+  pub rest : List ℕ
+  pub stood : old.queue ≡ token ∷ rest
+  pub once : is_in token rest ≡ false
+  pub others : (t : ℕ) → t ≢ token → HasNoneAt old t → HasNoneAt new t
+  pub behind : (new.queue ≡ rest) ⊎ (new.queue ≡ rest ++ token ∷ [])
+  pub waits : IsInTurn new token
+  pub none : question ≡ None → (new.queue ≡ rest) × HasNoneAt new token
+
+-- Whose turn it is has waited longest of those that have a line. Where it has one more, it waits behind all others.
+pub record TakesTurn (old new : Askers) (token : ℕ) : Type 0 where
+  pub passed : List ℕ
+  pub rest : List ℕ
+  pub stood : old.queue ≡ passed ++ token ∷ rest
+  pub none : All (HasNoneAt new) passed
+  pub behind : (new.queue ≡ rest) ⊎ (new.queue ≡ rest ++ token ∷ [])
+  pub waits : IsInTurn new token
+
+-- No client has come or changed; some may have left.
+pub record OnlyLeave (old new : Askers) : Type 0 where
+  pub admitted : new.admitted ≡ old.admitted
+  pub stay : (token : ℕ) (a : Asker) → slice_get new.clients token ≡ Some (Some a) → slice_get old.clients token ≡ Some (Some a)
 
 -- each question that was awaited is
 abbrev pub KeepsAwaited : Askers → Askers → Type 0

@@ -13,8 +13,8 @@ use Rattle.lz_serve.specs.declared.reader.Reader.{Reader}
 use Rattle.lz_serve.specs.declared.turn.Turn.{Turn}
 use Rattle.lz_serve.specs.declared.turn.Turn.TheVariants as turn
 use Rattle.lz_serve.specs.Exchanges.{CameFrom, EndsWith, Exchange, Pending, ReadsMore, adding, asks, says, tells, ends, end_by, requests_in, turn_of, unread, worded}
-use Rattle.lz_serve.specs.Grants.{Grant, IsOfLine}
-use Rattle.lz_serve.specs.Lines.{StandsAt, asked_by, replied, replies_of}
+use Rattle.lz_serve.specs.Grants.{Grant, IsOfLine, key_asked}
+use Rattle.lz_serve.specs.Lines.{IsFree, StandsAt, asked_by, replied, replies_of}
 
 -- What a conversation holds: its language; what reads the client's text, none once that has ended; the turns of the exchanges that came and
 -- weren't told; of what they ask the requests that wait, and those before them that were handed out; how many requests were told their
@@ -81,9 +81,17 @@ pub record IsAt (connection : ℕ) (grants : List Grant) (text sent : List ℕ) 
 abbrev pub IsOver : Talk → Type 0
 IsOver t = (t.ended ≢ Done) ⊎ ((t.reader ≡ None) × (t.turns ≡ []))
 
--- it hands no request out: it has ended, none waits, some are under way, or their numbers are used up
+-- the request waits first, and a line under way awaits the reply for its key
+abbrev pub IsHeld : Talk → Request → Type 0
+IsHeld t request = (t.waiting ≡ request ∷ drop 1 t.waiting) × (IsFree t.under (key_asked request) → ⊥)
+
+-- it hands no request out: it has ended, none waits, the first is held up, or their numbers are used up
 abbrev pub Rests : Talk → Type 0
-Rests t = (t.ended ≢ Done) ⊎ (t.waiting ≡ []) ⊎ (t.under ≢ []) ⊎ (t.told + length t.under ≡ 18446744073709551615)
+Rests t = (t.ended ≢ Done) ⊎ (t.waiting ≡ []) ⊎ ((request : Request) × IsHeld t request) ⊎ (t.told + length t.under ≡ 18446744073709551615)
+
+-- a request waits, and it hands none out whatever comes behind it
+abbrev pub IsHeldUp : Talk → Type 0
+IsHeldUp t = (t.waiting ≢ []) × Rests t
 
 -- where the turn is the first, each of its requests has its reply, and the service itself isn't asked
 abbrev pub IsReady : Turn → Talk → Type 0

@@ -1,16 +1,18 @@
 -- What a loop works at: its clients, its passes, and the calls under way. One of several passes makes no call, and meets the others.
 use Rattle.std.specs.Prelude.{◌≡◌, ◌+◌, ◌≤◌, ℕ, All, List, [], Option, Some, None, IfSome, length}
-use Rattle.lz_list.specs.Traces.{Trace, Begins}
+use Rattle.lz_list.specs.Traces.{Trace}
 use Rattle.lz_board.specs.Seats.{part}
+use Rattle.lz_set.specs.declared.underway.Stage.{Stage}
 use Rattle.lz_serve.specs.Askings.{Asked}
 use Rattle.lz_serve.specs.Clients.{Askers, HaveSeenIn, IsAwaited}
 use Rattle.lz_serve.specs.Grants.{Posed}
 
--- How many passes were taken in, for how many there is room, and how many answer nothing.
+-- How many passes were taken in, for how many there is room, and how many answer nothing; and where each call under way stands.
 pub record Passes : Type 0 where
   pub given : ℕ
   pub most : ℕ
   pub free : ℕ
+  pub stages : List (Option Stage)
 
 -- what any client has seen the pass has that meets the others, or where there is none, was seen here
 abbrev pub Knows : Askers → Option Trace → Trace → Type 0

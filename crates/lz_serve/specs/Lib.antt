@@ -12,6 +12,7 @@ pub mod Conversations
 pub mod LineSessions
 pub mod Streams
 pub mod Pollers
+pub mod Queues
 pub mod Clients
 pub mod Desks
 pub mod Promised

@@ -1,8 +1,9 @@
 //! What a pass of a loop answers next, and how its reply is told.
-ghost use Rattle.std.specs.Prelude.{◌≡◌, ◌≢◌, ◌↔◌, IfSome, None, Some, false, option_map, true};
+ghost use Rattle.std.specs.Prelude.{◌≡◌, ◌≢◌, ◌⊎◌, ◌↔◌, ◌+◌, IfSome, IsSomeAnd, None, Some, false, option_map, true};
 ghost use Rattle.lz_list.specs.Traces.{Begins};
 ghost use Rattle.lz_board.specs.Seats.{part};
 ghost use Rattle.lz_set.specs.declared.underway.Stage.TheVariants as stage;
+ghost use Rattle.lz_serve.specs.Askings.{IsBeforeSync, IsBusy, WaitsForSlots, waits_for_slots};
 ghost use Rattle.lz_serve.specs.Clients.{HaveSeenIn, IsAwaited, Keeps, KeepsAwaited};
 ghost use Rattle.lz_serve.specs.Desks.{IsCalled, Knows};
 ghost use Rattle.lz_serve.specs.Grants.{Posed, Promises};
@@ -56,13 +57,19 @@ where
     ensures kept { KeepsAwaited crowd.old crowd.new }
     ensures met { IfSome meeting.new (λ free. HaveSeenIn crowd.new (part free.pass).known) }
     ensures none { (meeting.new ≡ None) ↔ (meeting.old ≡ None) }
+    ensures waits { result ≡ Next.Waits → WaitsForSlots tries asking.old asking.new ⊎ IsBusy asking.old asking.new ⊎ IsSomeAnd kept.new (λ l. IsBeforeSync l.yard asking.new) }
     ensures goes { result ≢ Next.Rests → IsCalled crowd.new (option_map (λ free. (part free.pass).known) meeting.new) asking.new }
     ensures rests { result ≡ Next.Rests → (asking.new.question ≡ None) × HaveSeenIn crowd.new (part asking.new.pass).known }
 {
-    if asking.waits() && !tries || asking.go_on(rt, set, kept) != Some(Stage::Answers) {
+    if asking.waits() && !tries {
         return Next::Waits;
     }
-    answer_call(rt, set, kept, crowd, meeting, asking, observer, ends)
+    match asking.go_on(rt, set, kept) {
+        Some(Stage::Answers) => {
+            answer_call(rt, set, kept, crowd, meeting, asking, observer, ends)
+        }
+        _ => Next::Waits,
+    }
 }
 
 // Answers the call and tells its reply. Its pass begins the line whose turn it is, or one more call where no slot was free. What it has
@@ -92,6 +99,7 @@ where
     ensures kept { KeepsAwaited crowd.old crowd.new }
     ensures met { IfSome meeting.new (λ free. HaveSeenIn crowd.new (part free.pass).known) }
     ensures none { (meeting.new ≡ None) ↔ (meeting.old ≡ None) }
+    ensures waits { result ≡ Next.Waits → (waits_for_slots asking.new ≡ true) × (asking.new.tries ≡ asking.old.tries + 1) }
     ensures goes { result ≢ Next.Rests → IsCalled crowd.new (option_map (λ free. (part free.pass).known) meeting.new) asking.new }
     ensures rests { result ≡ Next.Rests → (asking.new.question ≡ None) × HaveSeenIn crowd.new (part asking.new.pass).known }
 {

@@ -1,5 +1,5 @@
 //! A pass of a loop at its place, and the request that it answers.
-ghost use Rattle.std.specs.Prelude.{◌≡◌, ◌≢◌, ◌+◌, ◌<◌, ◌&&◌, IfSome, IsSomeAnd, None, Some, false, is_none, nat_lt, true};
+ghost use Rattle.std.specs.Prelude.{◌≡◌, ◌≢◌, ◌+◌, ◌<◌, IfSome, IsSomeAnd, None, Some, false, is_none, true};
 ghost use Rattle.lz_slot.specs.declared.command.Command.{Command as Asks};
 ghost use Rattle.lz_list.specs.Traces.{Begins};
 ghost use Rattle.lz_board.specs.declared.pass.Pass.{Pass as Seen};
@@ -8,7 +8,7 @@ ghost use Rattle.lz_tie.specs.Counting.{Counts};
 ghost use Rattle.lz_set.specs.Names.{MayCall};
 ghost use Rattle.lz_set.specs.Stages.{HasPlayed, StandsAt, StandsUncovered, StepsUnfailed, StepsWithout};
 ghost use Rattle.lz_machine.specs.declared.kind.Kind.TheVariants as kind;
-ghost use Rattle.lz_serve.specs.Askings.{IsCounting, IsSameQuestion};
+ghost use Rattle.lz_serve.specs.Askings.{IsCounting, IsSameQuestion, waits_for_slots};
 ghost use Rattle.lz_serve.specs.Grants.{IsGrant};
 ghost use Rattle.lz_serve.specs.Replies.{asks_again, client_reply, command_of, most_tries, says_halted};
 
@@ -238,7 +238,7 @@ impl<N: Named, B: Given> Asking<N, B> {
 
     /// Whether it waits for slots: its next call is yet to begin, and isn't the second one, which nothing is to wait for.
     pub fn waits(&self) -> bool
-        ensures { result ≡ (is_none self.now.call && nat_lt 1 self.now.tries) }
+        ensures { result ≡ waits_for_slots self.now }
     {
         self.call.is_none() && self.tries > 1
     }
@@ -251,7 +251,8 @@ impl<N: Named, B: Given> Asking<N, B> {
         kept: &mut Kept<'a, D, N>,
     ) -> bool
         ensures played { result ≡ true → HasPlayed kind.Sync (part self.old.pass) (part self.new.pass) }
-        ensures none { result ≡ false → (self.old.stage ≢ Some Stage.Syncs) × (self.new ≡ self.old) }
+        ensures none { result ≡ false → self.new ≡ self.old }
+        ensures stage { self.new.stage ≢ Some Stage.Syncs }
         ensures same { IsSameQuestion self.old self.new }
     {
         let Some(Stage::Syncs) = self.stage else {

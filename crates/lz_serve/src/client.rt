@@ -2,8 +2,9 @@
 ghost use Rattle.std.specs.Prelude.{◌≡◌, ◌≢◌, ◌↔◌, ◌+◌, ◌≤◌, ◌<◌, ◌++◌, [], ◌∷◌, IfSome, IsTrue, List, None, Some, false, length, true};
 ghost use Rattle.lz_list.specs.Traces.{Begins};
 ghost use Rattle.lz_board.specs.Seats.{part};
-ghost use Rattle.lz_serve.specs.Clients.{IsOwn, KeepsOwn};
-ghost use Rattle.lz_serve.specs.Grants.{Grant, IsGrant, IsLater, key_asked};
+ghost use Rattle.lz_proto.specs.declared.end.End.TheVariants.{Done};
+ghost use Rattle.lz_serve.specs.Clients.{HasLine, IsHeard, IsOwn, KeepsLines, KeepsOwn};
+ghost use Rattle.lz_serve.specs.Grants.{Grant, IsGrant, IsLater, Posed, key_asked};
 ghost use Rattle.lz_serve.specs.Lines.{IsFree, awaited};
 ghost use Rattle.lz_serve.specs.Replies.{command_of};
 ghost use Rattle.lz_serve.specs.Streams.{IsFresh};
@@ -136,18 +137,20 @@ pub struct Client<S: Stream> {
 }
 
 impl<S: Stream> Model for Client<S> {
-    ghost use Rattle.std.specs.Prelude.{◌≡◌, ◌+◌, IsSome, false, length};
+    ghost use Rattle.std.specs.Prelude.{◌≡◌, ◌+◌, IsSome, false, length, true};
     ghost use Rattle.lz_serve.specs.Clients.{Asker, passes_of, seen_by};
+    ghost use Rattle.lz_serve.specs.Conversations.{IsHeldUp};
     ghost use Rattle.lz_serve.specs.Lines.{AreBefore, AreEarned};
     ghost use Rattle.lz_serve.specs.Streams.{IsTalkOf};
 
     ghost Value = { Asker };
 
-    ghost view = { λ c. record { connection = c.connection; lines = c.talk.told + length c.talk.under; told = c.talk.told; under = c.talk.under; puts = passes_of c.puts.items; seen = seen_by c.seen } };
+    ghost view = { λ c. record { connection = c.connection; lines = c.talk.told + length c.talk.under; told = c.talk.told; under = c.talk.under; puts = passes_of c.puts.items; seen = seen_by c.seen; waiting = c.talk.waiting; ended = c.talk.ended; lost = c.lost } };
 
     ghost invariant = { λ c. (c.ended ≡ false → IsSome c.talk.reader)
         × AreEarned S.promised (seen_by c.seen) c.connection c.talk.told c.talk.under (passes_of c.puts.items)
-        × (c.lost ≡ false → IsTalkOf (AreBefore S.promised (seen_by c.seen) c.talk.under (passes_of c.puts.items)) c.connection (S.traffic c.stream) c.talk) };
+        × (c.lost ≡ false → IsTalkOf (AreBefore S.promised (seen_by c.seen) c.talk.under (passes_of c.puts.items)) c.connection (S.traffic c.stream) c.talk)
+        × (c.held ≡ true → c.lost ≡ false → IsHeldUp c.talk) };
 }
 
 impl<S: Stream> Client<S> {
@@ -155,7 +158,7 @@ impl<S: Stream> Client<S> {
     pub fn new(alloc: Global, number: u64, stream: S) -> Client<S>
         requires fresh { IsFresh (S.traffic stream) }
         requires promised { S.promised [] }
-        ensures { result ≡ record { connection = number; lines = 0; told = 0; under = []; puts = []; seen = [] } }
+        ensures { result ≡ record { connection = number; lines = 0; told = 0; under = []; puts = []; seen = []; waiting = []; ended = Done; lost = false } }
     {
         let language = stream.language();
         Client {
@@ -173,7 +176,7 @@ impl<S: Stream> Client<S> {
     /// Reads a piece, if there is one, and says whether there may be more that nothing will tell of: no more, where it was less than the buffer
     /// has room for, unless the client sends nothing after it (`ends`). The buffer has room for a piece.
     pub(crate) fn read(&mut self, buffer: &mut [u8], ends: bool) -> bool
-        ensures { self.new ≡ self.old }
+        ensures { KeepsLines self.old self.new }
     {
         if self.lost || self.ended {
             return false;
@@ -204,7 +207,7 @@ impl<S: Stream> Client<S> {
 
     /// Sends what is unsent, until the connection takes no more.
     pub fn write(&mut self)
-        ensures { self.new ≡ self.old }
+        ensures { KeepsLines self.old self.new }
     {
         'tries: for _ in 0..u64::MAX {
             if !self.send() {
@@ -215,7 +218,7 @@ impl<S: Stream> Client<S> {
 
     // Sends a beginning of what is unsent, if something is, and says whether some was taken.
     fn send(&mut self) -> bool
-        ensures { self.new ≡ self.old }
+        ensures { KeepsLines self.old self.new }
     {
         if self.lost || self.talk.unsent().is_empty() {
             return false;
@@ -247,7 +250,8 @@ impl<S: Stream> Client<S> {
         ensures own { IfSome result (λ question. IsOwn self.new question) }
         ensures kept { KeepsOwn (Some self.old) (Some self.new) }
         ensures seen { self.new.seen ≡ self.old.seen }
-        ensures none { result ≡ None → self.new ≡ self.old }
+        ensures lines_kept { result ≡ None → KeepsLines self.old self.new }
+        ensures none { result ≡ None → HasLine self.new → ⊥ }
     {
         if self.lost {
             return None;
@@ -259,6 +263,7 @@ impl<S: Stream> Client<S> {
         let earlier = self.talk.told() < self.talk.lines();
         match self.talk.next() {
             Ok(Some(request)) => {
+                self.held = false;
                 let line = self.talk.lines();
                 self.puts.push_back_reserved(Snapshot::of(pass));
                 Some(Question::new(self.connection, line, request, pass, earlier))
@@ -284,6 +289,7 @@ impl<S: Stream> Client<S> {
         ensures connection { self.new.connection ≡ self.old.connection }
         ensures lines { self.new.lines ≡ self.old.lines }
         ensures kept { KeepsOwn (Some self.old) (Some self.new) }
+        ensures heard { IsHeard self.new granted.question }
         ensures seen { self.new.seen ≡ (part pass.now).known }
     {
         self.seen = Some(Snapshot::of(pass));
@@ -300,7 +306,7 @@ impl<S: Stream> Client<S> {
 
     /// Tells the exchanges at the front that ask for no key.
     pub(crate) fn tell_texts<O: Observer>(&mut self, observer: &O)
-        ensures { self.new ≡ self.old }
+        ensures { KeepsLines self.old self.new }
     {
         'turns: for _ in 0..u64::MAX {
             if !self.tell_text() && !self.tell_query(observer) {
@@ -311,7 +317,7 @@ impl<S: Stream> Client<S> {
 
     // Tells the first exchange, if it asks nothing, and says whether it did.
     fn tell_text(&mut self) -> bool
-        ensures { self.new ≡ self.old }
+        ensures { KeepsLines self.old self.new }
     {
         if self.lost {
             return false;
@@ -327,7 +333,7 @@ impl<S: Stream> Client<S> {
 
     // Tells the first exchange, if it asks the service itself, and says whether it did.
     fn tell_query<O: Observer>(&mut self, observer: &O) -> bool
-        ensures { self.new ≡ self.old }
+        ensures { KeepsLines self.old self.new }
     {
         if self.lost {
             return false;
@@ -353,6 +359,7 @@ impl<S: Stream> Client<S> {
         ensures connection { self.new.connection ≡ self.old.connection }
         ensures lines { self.new.lines ≡ self.old.lines }
         ensures kept { KeepsOwn (Some self.old) (Some self.new) }
+        ensures heard { (q : Posed) → IsHeard self.old q → IsHeard self.new q }
         ensures seen { self.new.seen ≡ self.old.seen }
     {
         'turns: for _ in 0..u64::MAX {
@@ -367,6 +374,7 @@ impl<S: Stream> Client<S> {
         ensures connection { self.new.connection ≡ self.old.connection }
         ensures lines { self.new.lines ≡ self.old.lines }
         ensures kept { KeepsOwn (Some self.old) (Some self.new) }
+        ensures heard { (q : Posed) → IsHeard self.old q → IsHeard self.new q }
         ensures seen { self.new.seen ≡ self.old.seen }
     {
         if self.lost {
@@ -375,6 +383,7 @@ impl<S: Stream> Client<S> {
         let before = self.talk.told();
         match self.talk.tell() {
             Ok(told) => {
+                self.held = false;
                 pass_over(&mut self.puts, (self.talk.told() - before) as usize);
                 told
             }
@@ -401,12 +410,16 @@ impl<S: Stream> Client<S> {
     }
 
     /// Whether it has a line for which a pass may be had.
-    pub(crate) fn may_ask(&self) -> bool {
+    pub(crate) fn may_ask(&self) -> bool
+        ensures { result ≡ false → HasLine self.now → ⊥ }
+    {
         !self.held && self.waits()
     }
 
     /// Whether lines have come that weren't handed out.
-    pub(crate) fn waits(&self) -> bool {
+    pub(crate) fn waits(&self) -> bool
+        ensures { result ≡ false → self.now.lost ≡ false → self.now.waiting ≡ [] }
+    {
         !self.lost && self.talk.waits()
     }
 
@@ -438,7 +451,7 @@ impl<S: Stream> Client<S> {
 
     /// Tells nothing more.
     pub(crate) fn leave(&mut self)
-        ensures { self.new ≡ self.old }
+        ensures { KeepsLines self.old self.new }
     {
         self.lost = true;
         self.stream.leave();
@@ -446,7 +459,7 @@ impl<S: Stream> Client<S> {
 
     /// Throws a piece away that came after the end, and says whether there may be more at once; none where nothing more will come.
     pub(crate) fn pass_over(&mut self, buffer: &mut [u8]) -> Option<bool>
-        ensures { self.new ≡ self.old }
+        ensures { KeepsLines self.old self.new }
     {
         self.lost = true;
         match self.stream.receive(buffer) {

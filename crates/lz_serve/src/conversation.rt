@@ -9,13 +9,12 @@ ghost use Rattle.lz_serve.specs.Lines.{IsFree, StandsAt, awaited, replied};
 
 use crate::exchanges::Exchanges;
 use crate::language::Language;
-use crate::line::{Line, key_asked};
+use crate::line::{Line, is_awaited, key_asked};
 use crate::reader::Reader;
 use crate::telling::{end_by, gather, push_replies, query_end};
 use crate::turn::{Turn, Wording};
 use lz_proto::{End, Reply, Request};
 use lz_resp::{Figures, Query};
-use lz_slot::Key;
 use std::alloc::{AllocError, Global};
 use std::collections::VecDeque;
 use std::marker::Model;
@@ -122,6 +121,7 @@ impl Conversation {
     pub fn note(&mut self, number: u64, request: Request, reply: Reply) -> bool
         ensures noted { result ≡ true → Noted number request reply self.old self.new }
         ensures none { result ≡ false → self.new ≡ self.old }
+        ensures heard { result ≡ false → StandsAt self.old.told number request self.old.under → ⊥ }
     {
         let Some(at) = self.find(number, &request) else {
             return false;
@@ -307,7 +307,8 @@ impl Conversation {
 
     // Where among the requests under way the one of this number stands, if it asked this and awaits its reply.
     fn find(&self, number: u64, request: &Request) -> Option<usize>
-        ensures { IfSome result (λ at. (at ≡ number - suc self.now.told) × StandsAt self.now.told number request.now self.now.under) }
+        ensures some { IfSome result (λ at. (at ≡ number - suc self.now.told) × StandsAt self.now.told number request.now self.now.under) }
+        ensures none { result ≡ None → StandsAt self.now.told number request.now self.now.under → ⊥ }
     {
         if number <= self.told {
             return None;
@@ -352,14 +353,6 @@ pub(crate) fn pass_over<T: Drop>(queue: &mut VecDeque<T>, count: usize)
     for _ in 0..count {
         queue.pop_front();
     }
-}
-
-// Whether one of these lines asked for this key and awaits its reply.
-fn is_awaited(under: &VecDeque<Line>, key: Option<Key>) -> bool
-    ensures free { result ≡ false → IsFree under.now.items key }
-    ensures some { result ≡ true → under.now.items ≢ [] }
-{
-    under.iter().any(|line| line.awaits(key))
 }
 
 // The line at this place has its reply.

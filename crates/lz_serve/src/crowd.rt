@@ -1,20 +1,22 @@
 //! The clients of the loop.
-ghost use Rattle.std.specs.Prelude.{◌≡◌, ◌≤◌, [], IfOk, IfSome, None};
+ghost use Rattle.std.specs.Prelude.{◌≡◌, ◌≤◌, ◌⊎◌, [], All, IfOk, IfSome, None, false, slice_get, true};
 ghost use Rattle.lz_list.specs.Traces.{Begins};
 ghost use Rattle.lz_board.specs.Seats.{part};
-ghost use Rattle.lz_serve.specs.Clients.{HaveSeenIn, IsAwaited, Keeps, KeepsAwaited};
+ghost use Rattle.lz_serve.specs.Clients.{HasNoneAt, HaveSeenIn, IsAwaited, IsHeardAt, IsInTurn, Keeps, KeepsAwaited, OnlyLeave, TakesTurn, Turned};
 ghost use Rattle.lz_serve.specs.Grants.{Promises};
+ghost use Rattle.lz_serve.specs.Queues.{queued};
 ghost use Rattle.lz_serve.specs.Streams.{IsFresh};
 
 use crate::asking::Granted;
 use crate::client::{Client, Question};
+use crate::moments::millis;
 use crate::observer::Observer;
 use crate::place::{Place, Turn, Wish};
 use crate::poller::Ready;
+use crate::queue::Queue;
 use crate::stream::Stream;
 use lz_set::{Named, Pass};
 use std::alloc::{AllocError, Global};
-use std::collections::VecDeque;
 use std::marker::Model;
 use std::time::Duration;
 
@@ -33,7 +35,7 @@ const TENTH: u64 = 100;
 pub struct Crowd<S: Stream> {
     places: Vec<Place<S>>,
     vacant: Vec<usize>,
-    queue: VecDeque<usize>,
+    queue: Queue,
     /// Those that were answered, or had no line in their turn, and weren't tended to since.
     back: Vec<usize>,
     /// How many were admitted, and how many of these have left.
@@ -56,7 +58,7 @@ impl<S: Stream> Model for Crowd<S> {
 
     ghost Value = { Askers };
 
-    ghost view = { λ c. record { admitted = c.admitted; clients = map (λ place. place.client) c.places.items } };
+    ghost view = { λ c. record { admitted = c.admitted; clients = map (λ place. place.client) c.places.items; queue = c.queue } };
 }
 
 impl<S: Stream> Crowd<S> {
@@ -66,7 +68,7 @@ impl<S: Stream> Crowd<S> {
     {
         let mut places = Vec::with_capacity(alloc, most)?;
         let mut vacant = Vec::with_capacity(alloc, most)?;
-        let queue = VecDeque::with_capacity(alloc, most)?;
+        let queue = Queue::new(alloc, most)?;
         let back = Vec::with_capacity(alloc, most)?;
         for token in 0..most {
             places.push(Place::empty())?;
@@ -181,6 +183,8 @@ impl<S: Stream> Crowd<S> {
         requires seen { HaveSeenIn self.old (part pass.now).known }
         requires after { Begins (part granted.after).known (part pass.now).known }
         ensures kept { KeepsAwaited self.old self.new }
+        ensures heard { IsHeardAt self.new token granted.question }
+        ensures waits { IsInTurn self.new token }
         ensures seen { HaveSeenIn self.new (part pass.now).known }
     {
         let Some(place) = self.places.get_mut(token) else {
@@ -189,7 +193,8 @@ impl<S: Stream> Crowd<S> {
         self.out = self.out.saturating_add(1);
         let is_next = place.reply(granted, pass, observer, self.now);
         let is_back = place.give_back();
-        self.put(token, is_next, is_back);
+        self.put(token, is_next);
+        self.put_back(token, is_back);
     }
 
     /// Whether an earlier line of the client of this token isn't answered.
@@ -212,30 +217,46 @@ impl<S: Stream> Crowd<S> {
         self.back.clear();
     }
 
-    /// The question to this pass whose turn it is, if there is one, with the token of its client.
+    /// The question to this pass whose turn it is, if there is one, with the token of its client. Where there is none, none that waited has a
+    /// line.
     pub fn take_turn(&mut self, pass: &Pass) -> Option<(usize, Question)>
         requires { HaveSeenIn self.old (part pass.now).known }
         ensures before { IfSome result (λ turn. turn.1.before ≡ pass.now) }
         ensures awaited { IfSome result (λ turn. IsAwaited self.new turn.0 turn.1) }
+        ensures turn { IfSome result (λ turn. TakesTurn self.old self.new turn.0) }
+        ensures none { result ≡ None → All (HasNoneAt self.new) self.old.queue × (self.new.queue ≡ []) }
         ensures kept { Keeps self.old self.new }
     {
-        'tokens: for _ in 0..self.queue.len() {
-            let token = self.queue.pop_front()?;
-            let Some(place) = self.places.get_mut(token) else {
-                return None;
-            };
-            let Turn {
-                question,
-                is_next,
-                is_back,
-            } = place.take_turn(pass);
-            self.put(token, is_next, is_back);
+        'turns: while let Some((token, question)) = self.turn(pass) {
             if let Some(question) = question {
                 self.out = self.out.saturating_sub(1);
                 return Some((token, question));
             }
         }
         None
+    }
+
+    // The turn of the one that waits first: the question to this pass that it has, if it has one.
+    fn turn(&mut self, pass: &Pass) -> Option<(usize, Option<Question>)>
+        requires { HaveSeenIn self.old (part pass.now).known }
+        ensures before { IfSome result (λ turn. IfSome turn.1 (λ question. question.before ≡ pass.now)) }
+        ensures awaited { IfSome result (λ turn. IfSome turn.1 (λ question. IsAwaited self.new turn.0 question)) }
+        ensures turned { IfSome result (λ turn. Turned self.old self.new turn.0 turn.1) }
+        ensures none { result ≡ None → (self.old.queue ≡ []) × (self.new ≡ self.old) }
+        ensures kept { Keeps self.old self.new }
+    {
+        let token = self.queue.pop()?;
+        let Some(place) = self.places.get_mut(token) else {
+            return Some((token, None));
+        };
+        let Turn {
+            question,
+            is_next,
+            is_back,
+        } = place.take_turn(pass);
+        self.put(token, is_next);
+        self.put_back(token, is_back);
+        Some((token, question))
     }
 
     /// The question to this pass that the client of this token has, if it has one. Where none waits it is read once more.
@@ -288,9 +309,10 @@ impl<S: Stream> Crowd<S> {
     // Whether the client of this token is to be closed, since it was idle for more milliseconds than so.
     fn is_idle(&self, token: usize, idle: Option<u64>) -> bool {
         let now = self.now;
+        let queued = self.queue.has(token);
         self.places
             .get(token)
-            .is_some_and(|place| place.is_idle(now, idle))
+            .is_some_and(|place| place.is_idle(now, idle, queued))
     }
 
     /// Ends each session, once what is unsent is sent.
@@ -332,33 +354,45 @@ impl<S: Stream> Crowd<S> {
         };
         let was_leaving = place.leaves();
         let wish = place.tend(observer, buffer, crowded, self.now);
-        if place.leaves() && !was_leaving {
-            self.leaving = self.leaving.saturating_add(1);
-        }
+        let left = place.leaves() && !was_leaving;
+        self.leaving = self.leaving.saturating_add(usize::from(left));
         match wish {
             Wish::Nothing => {}
-            Wish::Turn => {
-                let is_next = place.queue();
-                self.put(token, is_next, false);
-            }
+            Wish::Turn => self.put(token, true),
             Wish::Close => self.close(token),
         }
     }
 
-    // A client waits for its turn, if it didn't before, and is to be tended to, if it wasn't. There is room for each.
-    fn put(&mut self, token: usize, is_next: bool, is_back: bool)
-        ensures { Keeps self.old self.new }
+    // A client that has a line waits for its turn. There is room for it.
+    fn put(&mut self, token: usize, is_next: bool)
+        ensures leave { OnlyLeave self.old self.new }
+        ensures queue { (self.new.queue ≡ self.old.queue) ⊎ (self.new.queue ≡ queued token self.old.queue) }
+        ensures last { is_next ≡ false → self.new.queue ≡ self.old.queue }
+        ensures next { is_next ≡ true → IsInTurn self.new token }
     {
-        if is_next && self.queue.push_back(token).is_err()
-            || is_back && self.back.push(token).is_err()
-        {
+        if !is_next {
+            return;
+        }
+        if !self.queue.put(token) {
+            self.close(token);
+        }
+    }
+
+    // A client is to be tended to, if it wasn't. There is room for it.
+    fn put_back(&mut self, token: usize, is_back: bool)
+        ensures leave { OnlyLeave self.old self.new }
+        ensures queue { self.new.queue ≡ self.old.queue }
+    {
+        if is_back && self.back.push(token).is_err() {
             self.close(token);
         }
     }
 
     // Closes a connection, where there is one. Its token may be had again.
     fn close(&mut self, token: usize)
-        ensures { Keeps self.old self.new }
+        ensures leave { OnlyLeave self.old self.new }
+        ensures queue { self.new.queue ≡ self.old.queue }
+        ensures gone { IfSome (slice_get self.new.clients token) (λ client. client ≡ None) }
     {
         let Some(place) = self.places.get_mut(token) else {
             return;
@@ -372,11 +406,4 @@ impl<S: Stream> Crowd<S> {
             let _ = self.vacant.push(token);
         }
     }
-}
-
-// A time in whole milliseconds.
-fn millis(time: Duration) -> u64 {
-    time.as_secs()
-        .saturating_mul(1_000)
-        .saturating_add(u64::from(time.subsec_millis()))
 }

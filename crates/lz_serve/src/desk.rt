@@ -1,6 +1,7 @@
 //! What a loop works at: its clients, its passes, and the calls under way.
-ghost use Rattle.std.specs.Prelude.{◌≡◌, ◌+◌, ◌<◌, IfOk, None, Some, false, true, vec_len};
+ghost use Rattle.std.specs.Prelude.{◌≡◌, ◌≢◌, ◌+◌, ◌<◌, All, IfOk, None, Some, false, true, vec_len};
 ghost use Rattle.lz_board.specs.Seats.{part};
+ghost use Rattle.lz_set.specs.declared.underway.Stage.TheVariants as stage;
 ghost use Rattle.lz_serve.specs.Clients.{HaveSeenIn, KeepsAwaited};
 ghost use Rattle.lz_serve.specs.Grants.{Promises};
 
@@ -56,7 +57,7 @@ impl<S: Stream, N: Named, B: Given> Model for Desk<S, N, B> {
 
     ghost Value = { Passes };
 
-    ghost view = { λ d. record { given = d.given; most = d.most; free = vec_len d.free + count_of d.meeting } };
+    ghost view = { λ d. record { given = d.given; most = d.most; free = vec_len d.free + count_of d.meeting; stages = map (λ asking. asking.stage) d.calls.items } };
 
     ghost invariant = { λ d. IsDesk d.given d.most (vec_len d.free + count_of d.meeting) (vec_capacity d.free) (vec_capacity d.calls) d.crowd (option_map (λ free. (part free.pass).known) d.meeting) d.calls.items (map (λ free. (part free.pass).known) d.free.items) };
 }
@@ -201,7 +202,8 @@ impl<S: Stream, N: Named, B: Given> Desk<S, N, B> {
         rt: &R,
         set: &Set<D, G, N>,
     )
-        ensures { self.new.given ≡ self.old.given }
+        ensures given { self.new.given ≡ self.old.given }
+        ensures synced { All (λ s. s ≢ Some stage.Syncs) self.new.stages }
     {
         let began = rt.monotonic().ok();
         let mut kept = set.keep();

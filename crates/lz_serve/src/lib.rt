@@ -32,6 +32,7 @@ mod options;
 mod pass_thread;
 mod place;
 mod poller;
+mod queue;
 mod reader;
 mod seated;
 mod server;

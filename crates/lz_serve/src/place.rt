@@ -1,8 +1,8 @@
 //! The place of one connection.
-ghost use Rattle.std.specs.Prelude.{◌≡◌, ℕ, IfSome, None, Some};
+ghost use Rattle.std.specs.Prelude.{◌≡◌, ℕ, IfSome, None, Some, false};
 ghost use Rattle.lz_list.specs.Traces.{Begins};
 ghost use Rattle.lz_board.specs.Seats.{part};
-ghost use Rattle.lz_serve.specs.Clients.{HasSeenIn, IsAskedBy, IsOwnOf, KeepsOwn, KeepsSeen};
+ghost use Rattle.lz_serve.specs.Clients.{HasNone, HasSeenIn, IsAskedBy, IsHeardOf, IsOwnOf, KeepsLines, KeepsOwn, KeepsSeen};
 ghost use Rattle.lz_serve.specs.Grants.{Promises};
 
 use crate::asking::Granted;
@@ -32,7 +32,7 @@ pub(crate) enum Wish {
 #[derive(Drop)]
 pub(crate) struct Turn {
     pub(crate) question: Option<Question>,
-    /// It has one more line for a pass, and waits for its turn again.
+    /// It has one more line for a pass.
     pub(crate) is_next: bool,
     /// It is to be tended to, and wasn't noted for that yet.
     pub(crate) is_back: bool,
@@ -46,8 +46,6 @@ pub(crate) struct Place<S: Stream> {
     readable: bool,
     /// Its client sends nothing more.
     ends: bool,
-    /// It waits for its turn.
-    queued: bool,
     /// It was answered, and wasn't tended to since.
     back: bool,
     /// Its session is to end once all is sent, whatever waits.
@@ -66,7 +64,6 @@ impl<S: Stream> Place<S> {
             client: None,
             readable: false,
             ends: false,
-            queued: false,
             back: false,
             parts: false,
             leaves: false,
@@ -81,15 +78,14 @@ impl<S: Stream> Place<S> {
         self.client = Some(client);
         self.readable = true;
         self.ends = false;
-        self.queued = false;
         self.back = false;
         self.parts = false;
         self.leaves = false;
         self.moved = now;
     }
 
-    /// Hands a reply to its client, if that is still the one whose line was answered, and says whether this has one for a pass and
-    /// didn't wait for its turn. This pass has seen what those had that answered the client, this reply included.
+    /// Hands a reply to its client, if that is still the one whose line was answered, and says whether this has one for a
+    /// pass. This pass has seen what those had that answered the client, this reply included.
     pub(crate) fn reply<N: Named, O: Observer>(
         &mut self,
         granted: Granted<N>,
@@ -102,6 +98,8 @@ impl<S: Stream> Place<S> {
         requires seen { IfSome self.old.client (λ client. Begins client.seen (part pass.now).known) }
         requires after { Begins (part granted.after).known (part pass.now).known }
         ensures kept { KeepsOwn self.old.client self.new.client }
+        ensures heard { IsHeardOf self.new.client granted.question }
+        ensures next { result ≡ false → HasNone self.new.client }
         ensures seen { (admitted : ℕ) → HasSeenIn admitted (part pass.now).known self.old.client → HasSeenIn admitted (part pass.now).known self.new.client }
     {
         let Some(client) = &mut self.client else {
@@ -109,7 +107,7 @@ impl<S: Stream> Place<S> {
         };
         client.reply(granted, pass, observer);
         self.moved = now;
-        self.may_ask() && self.queue()
+        self.may_ask()
     }
 
     /// Its connection can be read or written. One whose session is over is waited for no longer because of that.
@@ -121,15 +119,6 @@ impl<S: Stream> Place<S> {
         if !self.leaves {
             self.moved = now;
         }
-    }
-
-    /// Notes that it waits for its turn, and says whether it didn't.
-    pub(crate) fn queue(&mut self) -> bool
-        ensures { self.new.client ≡ self.old.client }
-    {
-        let was_queued = self.queued;
-        self.queued = true;
-        !was_queued
     }
 
     /// Notes that it is to be tended to, and says whether it wasn't.
@@ -148,10 +137,11 @@ impl<S: Stream> Place<S> {
         ensures asked { IfSome result.question (λ question. IsAskedBy self.new.client question) }
         ensures kept { KeepsOwn self.old.client self.new.client }
         ensures seen { KeepsSeen self.old.client self.new.client }
+        ensures last { result.question ≡ None → result.is_next ≡ false }
+        ensures none { result.is_next ≡ false → HasNone self.new.client }
     {
-        self.queued = false;
         let question = self.ask(pass);
-        let is_next = self.may_ask() && self.queue();
+        let is_next = question.is_some() && self.may_ask();
         let is_back = question.is_none() && self.give_back();
         Turn {
             question,
@@ -167,14 +157,17 @@ impl<S: Stream> Place<S> {
         ensures asked { IfSome result (λ question. IsAskedBy self.new.client question) }
         ensures kept { KeepsOwn self.old.client self.new.client }
         ensures seen { KeepsSeen self.old.client self.new.client }
+        ensures none { result ≡ None → HasNone self.new.client }
     {
         self.client.as_mut()?.ask(pass)
     }
 
-    /// Whether its client has a line for a pass.
-    pub(crate) fn may_ask(&self) -> bool {
+    // Whether its client has a line for a pass.
+    fn may_ask(&self) -> bool
+        ensures { result ≡ false → HasNone self.now.client }
+    {
         match &self.client {
-            Some(client) => !self.parts && client.may_ask(),
+            Some(client) => client.may_ask(),
             None => false,
         }
     }
@@ -209,7 +202,8 @@ impl<S: Stream> Place<S> {
         crowded: bool,
         now: u64,
     ) -> Wish
-        ensures { self.new.client ≡ self.old.client }
+        ensures kept { KeepsOwn self.old.client self.new.client }
+        ensures seen { KeepsSeen self.old.client self.new.client }
     {
         self.back = false;
         let Some(client) = &mut self.client else {
@@ -254,7 +248,6 @@ impl<S: Stream> Place<S> {
         ensures { self.new.client ≡ self.old.client }
     {
         self.parts = true;
-        self.queued = false;
     }
 
     /// Whether an earlier line of its client isn't answered.
@@ -271,10 +264,10 @@ impl<S: Stream> Place<S> {
     }
 
     /// Whether its client is to be closed since nothing came or went for more milliseconds than so. One whose session is over isn't
-    /// waited for so long.
-    pub(crate) fn is_idle(&self, now: u64, idle: Option<u64>) -> bool {
+    /// waited for so long. One that waits for its turn (`queued`) isn't closed before that, unless its session is to end.
+    pub(crate) fn is_idle(&self, now: u64, idle: Option<u64>, queued: bool) -> bool {
         match &self.client {
-            Some(client) if !self.queued && !client.is_asked() => {}
+            Some(client) if (self.parts || !queued) && !client.is_asked() => {}
             _ => return false,
         }
         let still = now.saturating_sub(self.moved);
@@ -290,7 +283,6 @@ impl<S: Stream> Place<S> {
     {
         let was_taken = self.client.is_some();
         self.client = None;
-        self.queued = false;
         self.leaves = false;
         was_taken
     }
@@ -299,7 +291,7 @@ impl<S: Stream> Place<S> {
 // Throws away what a client sends after its session's end: a connection that is closed over unread bytes is reset, and the client
 // may lose its last replies.
 fn see_off<S: Stream>(client: &mut Client<S>, buffer: &mut [u8]) -> Wish
-    ensures { client.new ≡ client.old }
+    ensures { KeepsLines client.old client.new }
 {
     for _ in 0..MOST_READS {
         match client.pass_over(buffer) {

@@ -41,6 +41,7 @@ invariant_of-self-in-Ok-Some g c =
           handed_out (AreBefore P seen new.under its) connection traffic request old new asked.0 asked.1
           (known_so (AreBefore P seen old.under puts) connection (AreBefore P seen new.under its) traffic old
           (λ grants so. before_same P seen (old.under ++ awaited request ∷ []) new.under (puts ++ put ∷ []) its grants under is (before_more P seen old.under puts (awaited request) put grants more so)) (was.2 kept)),
+      λ held. absurd (cc),
     )
 
 pub returns-in-Ok-Some-clause-own : goal.returns-in-Ok-Some-clause-own

@@ -21,4 +21,5 @@ invariant_of-result g c =
       λ going. subst (λ (t : Talk). IsSome t.reader) (sym nothing) (some c.language-language.result),
       none_earned P c.args.number [] new.told new.under puts (ap (λ (t : Talk). t.under) nothing) none,
       λ kept. begins (AreBefore P [] new.under puts) c.args.number (g.S.Stream.traffic c.args.stream) c.language-language.result new c.requires.fresh (none_before P [] new.under puts c.requires.promised) nothing c.language-language.ensures,
+      λ held. absurd (cc),
     )

@@ -1,8 +1,10 @@
-use Rattle.std.proofs.Common.{false, refl, ap}
+use Rattle.std.proofs.Common.{refl, ap}
 use mathlib.Core.Bool.{true≢false}
 use Rattle.lz_serve.specs.Clients.{passes_of, seen_by}
 use Rattle.lz_serve.specs.Conversations.{Talk}
+use Rattle.lz_serve.specs.Exchanges.{requests_in}
 use Rattle.lz_serve.specs.Lines.{AreBefore}
+use Rattle.lz_serve.proofs.HeldUp.{held_more}
 use Rattle.lz_serve.proofs.LinesUnderWay.{earned_same}
 use Rattle.lz_serve.proofs.TalksOnStreams.{fed, finished, same_lines}
 use Rattle.lz_serve.proofs.client.Client.read.Goals as goal
@@ -24,6 +26,9 @@ invariant_of-self g c =
       λ kept.
           same_lines P seen connection after new old.under new.under puts under
           (fed (AreBefore P seen old.under puts) connection (g.S.Stream.traffic c.self.inside.stream) after c.in-Count.count c.receive.new.buffer old new c.in-Count.ensures.received c.in-Ok.ensures.ok (was.2 kept)),
+      λ held kept.
+          let step = c.in-Ok.ensures.ok in
+          held_more old new (requests_in step.2) (ap (λ (t : Talk). t.waiting) step.5) (ap (λ (t : Talk). t.told) step.5) under (ap (λ (t : Talk). t.ended) step.5) (was.3 held kept),
     )
 
 pub invariant_of-self-in-Ok-finish : goal.invariant_of-self-in-Ok-finish
@@ -43,4 +48,7 @@ invariant_of-self-in-Ok-finish g c =
       λ kept.
           same_lines P seen connection after new old.under new.under puts under
           (finished (AreBefore P seen old.under puts) connection (g.S.Stream.traffic c.self.inside.stream) after c.receive.new.buffer old new c.in-Over.ensures.received c.in-Ok-finish.ensures.ok (was.2 kept)),
+      λ held kept.
+          let step = c.in-Ok-finish.ensures.ok in
+          held_more old new (requests_in step.1) (ap (λ (t : Talk). t.waiting) step.4) (ap (λ (t : Talk). t.told) step.4) under (ap (λ (t : Talk). t.ended) step.4) (was.3 held kept),
     )

@@ -1,14 +1,15 @@
-use Rattle.std.proofs.Common.{◌≡◌, ◌-◌, false, ℕ, ◌<◌, IsSome, Option, Some, suc, slice_get, slice_set, refl, rules, ap, sym, subst, ◌∙◌}
+use Rattle.std.proofs.Common.{◌≡◌, ◌-◌, false, true, ℕ, ◌<◌, IsSome, Option, Some, suc, List, slice_get, slice_set, refl, rules, ap, sym, subst, ◌∙◌, arith}
 use Rattle.lz_list.specs.Traces.{Begins}
 use Rattle.lz_board.specs.declared.pass.Pass.{Pass}
 use Rattle.lz_board.specs.Seats.{part}
+use Rattle.lz_serve.specs.declared.line.Line.{Line}
 use Rattle.lz_serve.specs.declared.reader.Reader.{Reader}
 use Rattle.lz_serve.specs.Clients.{Asker, IsOwn, passes_of, seen_by}
-use Rattle.lz_serve.specs.Conversations.{Talk}
+use Rattle.lz_serve.specs.Conversations.{IsHeldUp, Talk}
 use Rattle.lz_serve.specs.Grants.{IsOfLine, Posed}
 use Rattle.lz_serve.specs.Lines.{AreBefore, AreEarned, replied}
 use Rattle.lz_serve.specs.Streams.{IsTalkOf}
-use Rattle.lz_serve.proofs.LinesUnderWay.{before_noted, before_same, before_seen, earned_same, earned_seen, earned_there}
+use Rattle.lz_serve.proofs.LinesUnderWay.{before_noted, before_same, before_seen, earned_same, earned_seen, earned_there, noted_heard}
 use Rattle.lz_serve.proofs.TalksOnStreams.{known_so, noted as noted_there}
 use Rattle.lz_serve.proofs.client.Client.reply.Goals as goal
 
@@ -26,6 +27,7 @@ invariant_of-self g c =
       earned_seen P from.connection seen now t.told t.under puts more was.1,
       λ kept.
           known_so (AreBefore P seen t.under puts) from.connection (AreBefore P now t.under puts) (g.S.Stream.traffic from.stream) t (λ grants so. before_seen P seen now t.under puts grants more so) (was.2 kept),
+      was.3,
     )
 
 pub invariant_of-self-else-note : goal.invariant_of-self-else-note
@@ -39,11 +41,12 @@ invariant_of-self-else-note g c =
     let puts = passes_of from.puts.items in
     let traffic = g.S.Stream.traffic from.stream in
     let more : Begins seen now = subst (λ (p : Pass). Begins seen (part p).known) (sym c.of.ensures) (subst (λ (a : Asker). Begins a.seen (part c.args.pass.now).known) (sym c.self.view_is) c.requires.seen) in
-    let Holds : Talk → Type 0 = λ t. (from.ended ≡ false → IsSome t.reader) × AreEarned P now from.connection t.told t.under puts × (from.lost ≡ false → IsTalkOf (AreBefore P now t.under puts) from.connection traffic t) in
+    let Holds : Talk → Type 0 = λ t. (from.ended ≡ false → IsSome t.reader) × AreEarned P now from.connection t.told t.under puts × (from.lost ≡ false → IsTalkOf (AreBefore P now t.under puts) from.connection traffic t) × (from.held ≡ true → from.lost ≡ false → IsHeldUp t) in
     subst Holds (sym (c.note.ensures.none c.if-note.false)) (
       was.0,
       earned_seen P from.connection seen now old.told old.under puts more was.1,
       λ kept. known_so (AreBefore P seen old.under puts) from.connection (AreBefore P now old.under puts) traffic old (λ grants so. before_seen P seen now old.under puts grants more so) (was.2 kept),
+      was.3,
     )
 
 pub invariant_of-self-then-note : goal.invariant_of-self-then-note
@@ -87,4 +90,21 @@ invariant_of-self-then-note g c =
           (λ grants so.
           before_same P now (slice_set old.under (number - suc old.told) (replied request reply)) new.under puts puts grants under refl
           (before_noted P seen now old.under puts (number - suc old.told) request reply grants more noted.0.1 so)) (was.2 kept)),
+      λ held. absurd (cc),
     )
+
+pub returns-then-note-clause-heard : goal.returns-then-note-clause-heard
+returns-then-note-clause-heard g c =
+    let from = c.self.inside in
+    let old = from.talk in
+    let new = c.note.new.self in
+    let granted = c.args.granted in
+    let number = c.line.result in
+    let noted = c.note.ensures.noted c.if-note.true in
+    let line : granted.question.line ≡ number = ap (λ (q : Posed). q.line) (sym c.question-question.ensures) ∙ sym c.line.ensures in
+    let told : new.told ≡ old.told = ap (λ (t : Talk). t.told) noted.1 in
+    let under : new.under ≡ slice_set old.under (number - suc old.told) (replied c.request.result c.reply-reply.result) = ap (λ (t : Talk). t.under) noted.1 in
+    let at : granted.question.line - suc new.told ≡ number - suc old.told = omega (arith, line, told) in
+    c.tell_all.ensures.heard granted.question (λ same stands.
+    noted_heard old.under (number - suc old.told) c.request.result granted.question.request c.reply-reply.result
+    (ap (λ (l : List Line). slice_get l (number - suc old.told)) (sym under) ∙ ap (λ (n : ℕ). slice_get new.under n) (sym at) ∙ stands.1))

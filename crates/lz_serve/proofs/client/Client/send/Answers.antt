@@ -1,10 +1,11 @@
-use Rattle.std.proofs.Common.{IsSome, Option, refl, sym, ap, subst}
+use Rattle.std.proofs.Common.{IsSome, Option, refl, sym, ap, ◌∙◌, subst}
 use Rattle.lz_serve.specs.declared.reader.Reader.{Reader}
 use Rattle.lz_serve.specs.Clients.{passes_of, seen_by}
 use Rattle.lz_serve.specs.Conversations.{Talk}
 use Rattle.lz_serve.specs.Lines.{AreBefore}
 use Rattle.lz_serve.specs.Streams.{MayTake, Takes}
 use Rattle.lz_serve.specs.declared.stream.Taken.TheVariants as taken
+use Rattle.lz_serve.proofs.HeldUp.{held_same}
 use Rattle.lz_serve.proofs.LinesUnderWay.{earned_same}
 use Rattle.lz_serve.proofs.TalksOnStreams.{known_so, may_take, same_lines, sent}
 use Rattle.lz_serve.proofs.client.Client.send.Goals as goal
@@ -37,4 +38,5 @@ invariant_of-self g c =
           same_lines P seen from.connection after new old.under new.under puts under
           (sent (AreBefore P seen old.under puts) from.connection (g.S.Stream.traffic from.stream) after c.in-Count.count old new (subst (Takes (g.S.Stream.traffic from.stream) after (taken.Count c.in-Count.count)) c.unsent-2.ensures c.in-Count.ensures.taken) others
           (was.2 c.if-self.false)),
+      λ held kept. held_same old new (ap (λ (t : Talk). t.waiting) others) (ap (λ (t : Talk). t.told) others) under (λ goes. sym (ap (λ (t : Talk). t.ended) others) ∙ goes) (was.3 held kept),
     )

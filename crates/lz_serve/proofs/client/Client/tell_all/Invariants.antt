@@ -1,5 +1,6 @@
 use Rattle.std.specs.Prelude.{◌≡◌, Some}
-use Rattle.lz_serve.specs.Clients.{KeepsOwn}
+use Rattle.lz_serve.specs.Clients.{IsHeard, KeepsOwn}
+use Rattle.lz_serve.specs.Grants.{Posed}
 use Rattle.lz_serve.proofs.client.Client.tell_all.Given as goal
 
 abbrev pub invariant-turns : goal.invariant-turns
@@ -7,5 +8,6 @@ invariant-turns g l = record {
   connection : l.self.connection ≡ l.fn.self.connection;
   lines : l.self.lines ≡ l.fn.self.lines;
   kept : KeepsOwn (Some l.fn.self) (Some l.self);
+  heard : (q : Posed) → IsHeard l.fn.self q → IsHeard l.self q;
   seen : l.self.seen ≡ l.fn.self.seen;
 }

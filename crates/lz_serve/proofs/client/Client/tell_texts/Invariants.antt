@@ -1,5 +1,5 @@
-use Rattle.std.specs.Prelude.{◌≡◌}
+use Rattle.lz_serve.specs.Clients.{KeepsLines}
 use Rattle.lz_serve.proofs.client.Client.tell_texts.Given as goal
 
 abbrev pub invariant-turns : goal.invariant-turns
-invariant-turns g l = l.self ≡ l.fn.self
+invariant-turns g l = KeepsLines l.fn.self l.self

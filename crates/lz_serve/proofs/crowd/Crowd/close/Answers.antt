@@ -1,14 +1,19 @@
-use Rattle.lz_serve.proofs.Crowds.{gone_own, gone_seen, keeps_at}
+use Rattle.std.proofs.Common.{◌≡◌, Option, None}
+use Rattle.lz_serve.specs.Clients.{Asker}
+use Rattle.lz_serve.proofs.Crowds.{leave_same, leaves_at, one_so}
 use Rattle.lz_serve.proofs.crowd.Crowd.close.Goals as goal
 
-pub returns-then-close : goal.returns-then-close
-returns-then-close g c =
-    let old = c.in-Some.place.now in
-    let new = c.close.new.self in
-    keeps_at (λ place. place.client) c.args.self.now c.self.inside.admitted c.self.inside.places.items c.args.token old c.self.view_is c.in-Some.ensures.item.3.0 c.in-Some.ensures.value new (gone_own old.client new.client c.close.ensures) (gone_seen old.client new.client c.close.ensures)
+pub returns-in_default-clause-leave : goal.returns-in_default-clause-leave
+returns-in_default-clause-leave g c = leave_same c.args.self.now _ c.self.view_is
 
-pub returns-else-close : goal.returns-else-close
-returns-else-close g c =
-    let old = c.in-Some.place.now in
-    let new = c.close.new.self in
-    keeps_at (λ place. place.client) c.args.self.now c.self.inside.admitted c.self.inside.places.items c.args.token old c.self.view_is c.in-Some.ensures.item.3.0 c.in-Some.ensures.value new (gone_own old.client new.client c.close.ensures) (gone_seen old.client new.client c.close.ensures)
+pub returns-then-close-clause-leave : goal.returns-then-close-clause-leave
+returns-then-close-clause-leave g c = leaves_at (λ place. place.client) c.args.self.now c.self.inside.admitted c.self.inside.places.items c.args.token c.close.new.self c.self.view_is c.close.ensures
+
+pub returns-then-close-clause-gone : goal.returns-then-close-clause-gone
+returns-then-close-clause-gone g c = one_so (λ place. place.client) (λ (client : Option Asker). client ≡ None) c.self.inside.places.items c.args.token c.close.new.self c.close.ensures
+
+pub returns-else-close-clause-leave : goal.returns-else-close-clause-leave
+returns-else-close-clause-leave g c = leaves_at (λ place. place.client) c.args.self.now c.self.inside.admitted c.self.inside.places.items c.args.token c.close.new.self c.self.view_is c.close.ensures
+
+pub returns-else-close-clause-gone : goal.returns-else-close-clause-gone
+returns-else-close-clause-gone g c = one_so (λ place. place.client) (λ (client : Option Asker). client ≡ None) c.self.inside.places.items c.args.token c.close.new.self c.close.ensures

@@ -12,7 +12,7 @@ pub returns-clause-awaited : goal.returns-clause-awaited
 returns-clause-awaited g c =
     let old = c.in-Some.place.now in
     let new = c.take_last.new.self in
-    some_asked (λ place. place.client) c.args.self.now c.self.inside.admitted c.self.inside.places.items c.args.token old c.self.view_is c.in-Some.ensures.item.3.0 c.in-Some.ensures.value new c.take_last.result (part c.args.pass.now).known c.take_last.ensures.seen c.requires c.take_last.ensures.asked
+    some_asked (λ place. place.client) c.args.self.now c.self.inside.admitted c.self.inside.places.items c.args.token old c.self.view_is c.in-Some.ensures.item.3.0 c.in-Some.ensures.value new c.self.inside.queue c.take_last.result (part c.args.pass.now).known c.take_last.ensures.seen c.requires c.take_last.ensures.asked
 
 pub returns-clause-kept : goal.returns-clause-kept
 returns-clause-kept g c =

@@ -1,5 +1,10 @@
+use Rattle.std.specs.Prelude.{length}
 use Rattle.lz_serve.specs.Clients.{Keeps}
+use Rattle.lz_serve.proofs.Turns.{Passed}
 use Rattle.lz_serve.proofs.crowd.Crowd.take_turn.Given as goal
 
-abbrev pub invariant-tokens : goal.invariant-tokens
-invariant-tokens g l = Keeps l.fn.self l.self
+abbrev pub invariant-turns : goal.invariant-turns
+invariant-turns g l = record { kept : Keeps l.fn.self l.self; passed : Passed l.fn.self l.self }
+
+abbrev pub decreases-turns : goal.decreases-turns
+decreases-turns g l = length l.self.queue

@@ -5,14 +5,8 @@ use Rattle.lz_board.specs.Seats.{part}
 use Rattle.lz_serve.specs.Clients.{HasSeenIn}
 use Rattle.lz_serve.proofs.place.Place.reply.Goals as goal
 
-pub returns-then-may_ask-clause-seen : goal.returns-then-may_ask-clause-seen
-returns-then-may_ask-clause-seen g c = λ admitted was.
-    let K = (part c.args.pass.now).known in
-    let there = subst (HasSeenIn admitted K) c.in-Some.is was in
-    subst (HasSeenIn admitted K) (sym c.queue.ensures) (subst (λ (n : ℕ). n ≤ admitted) (sym c.reply.ensures.connection) there.0, subst (λ (t : Trace). Begins t K) (sym c.reply.ensures.seen) (begins_itself K))
-
-pub returns-else-may_ask-clause-seen : goal.returns-else-may_ask-clause-seen
-returns-else-may_ask-clause-seen g c = λ admitted was.
+pub returns-clause-seen : goal.returns-clause-seen
+returns-clause-seen g c = λ admitted was.
     let K = (part c.args.pass.now).known in
     let there = subst (HasSeenIn admitted K) c.in-Some.is was in
     (subst (λ (n : ℕ). n ≤ admitted) (sym c.reply.ensures.connection) there.0, subst (λ (t : Trace). Begins t K) (sym c.reply.ensures.seen) (begins_itself K))
