@@ -1,45 +1,35 @@
 -- A vault is dead after the first device call that fails, and makes no other: so in each life one call at most is told of it.
-use Rattle.std.proofs.Common.{◌≡◌, ◌≢◌, inl, inr, ℕ, zero, suc, ◌+◌, ◌-◌, ◌<◌, ◌≤◌, ◌==◌, nat_lt, not, ◌&&◌, Bool, true, false, List, [], ◌∷◌, ◌++◌, length, slice_set, Option, Some, None, refl, sym, ap, ◌∙◌, subst, arith}
+use Rattle.std.proofs.Common.{◌≡◌, ◌≢◌, inl, inr, ℕ, zero, suc, ◌+◌, ◌-◌, ◌<◌, ◌≤◌, ◌==◌, not, ◌&&◌, Bool, true, false, List, [], ◌∷◌, ◌++◌, length, slice_set, Option, Some, None, refl, sym, ap, ◌∙◌, subst, arith}
 use Rattle.std.specs.Prelude.{if◌then◌else◌, replicate, slice_index_or}
 use mathlib.Core.Bool.{false≢true}
 use Rattle.std.proofs.lemmas.Bool.{cases_Bool}
 use Rattle.lz_slot.specs.declared.command.Command.{Command}
-use Rattle.lz_slot.specs.declared.command.Command.TheVariants.{Add, Remove, Has}
-use Rattle.lz_slot.specs.Sets.{key_of}
 use Rattle.lz_slot.specs.Counted.{set_of_pass}
 use Rattle.lz_slot.specs.Histories.{History}
 use Rattle.lz_disk.specs.Images.{Medium}
 use Rattle.lz_vault.specs.Vaults.{DeviceCall, MayFail, NoCall}
-use Rattle.lz_list.specs.declared.place.Place.{Place}
-use Rattle.lz_list.specs.declared.walk.Look.{Look}
-use Rattle.lz_list.specs.declared.walk.Look.TheVariants.{AtHead}
-use Rattle.lz_list.specs.declared.walk.Met.{Met}
-use Rattle.lz_list.specs.declared.walk.Met.TheVariants.{Absent, Unmarked, Marked}
-use Rattle.lz_list.specs.Walks.{Hopped, More, End, hopped}
-use Rattle.lz_flush.specs.declared.need.Need.{Need}
-use Rattle.lz_flush.specs.declared.need.Need.TheVariants.{Now, Sync as needs_sync}
-use Rattle.lz_flush.specs.Settling.{may_answer}
 use Rattle.lz_machine.specs.declared.actor.Actor.{Actor}
 use Rattle.lz_machine.specs.declared.course.Course.{Course}
 use Rattle.lz_machine.specs.declared.course.Course.TheVariants.{Refused, Dies, Plays}
 use Rattle.lz_machine.specs.declared.event.Event.{Event}
 use Rattle.lz_machine.specs.declared.event.Event.TheVariants.{Invoke, Pin, Hop, Sync, Answer, Halt}
 use Rattle.lz_machine.specs.declared.event.Outcome.{Outcome}
-use Rattle.lz_machine.specs.declared.event.Outcome.TheVariants.{Value, Slot, NoSlot, Taken, True, False, Early, Worn, OldFile, Fault, Dead, NotNow}
+use Rattle.lz_machine.specs.declared.event.Outcome.TheVariants.{Worn, Fault, Dead, NotNow}
 use Rattle.lz_machine.specs.declared.event.Reply.{Reply}
 use Rattle.lz_machine.specs.declared.event.Reply.TheVariants.{Yes, No, Full, Worn as SaysWorn, OldFile as SaysOldFile, Halted, Device}
 use Rattle.lz_machine.specs.declared.caller.Sequence.{Sequence}
-use Rattle.lz_machine.specs.declared.caller.Sequence.TheVariants.{Pinning, Resting, Writing, Adding, Removing, Releasing, Halting}
+use Rattle.lz_machine.specs.declared.caller.Sequence.TheVariants.{Resting, Halting}
 use Rattle.lz_machine.specs.declared.caller.Progress.{Progress}
-use Rattle.lz_machine.specs.declared.caller.Progress.TheVariants.{Playing, LoadsHalt, Walking, Reserving, SeeingPins, Claiming, Checking, Answering}
+use Rattle.lz_machine.specs.declared.caller.Progress.TheVariants.{Playing, Answering}
 use Rattle.lz_machine.specs.Yards.{Shape, Yard, actor_at}
 use Rattle.lz_machine.specs.Table.{call_on, course, course_alive, is_old, is_played_dead, is_spent, is_sure, last_pin, line, line_call, line_failed, line_on, needs, pin_of}
-use Rattle.lz_machine.specs.Calls.{events_of, goes_on, first_progress, begun, progress_after, follows, walked, rests, hops_on, changes, after_playing, after_halt, after_hop, after_reserve, after_claim, after_check}
+use Rattle.lz_machine.specs.Calls.{goes_on, first_progress, begun, progress_after, changes}
 use Rattle.lz_machine.specs.Runs.{Caller, Service, State, Up, Down, Start, Point, Transition, Calls, Turn, Fails, Looks, Trips, Stops, Crashes, CrashesIn, Opens, OpenFails, caller_at, next_event, reply_at, moved_on, state_after, HasTurn, HasFault, MayStep, mark_of, mark_of_turn, marks_of_turn, marks_of, after_turn, after_fault, run, IsRun, first_point}
 use Rattle.lz_machine.specs.Halts.{FailsOnce, calls_due, device_due, device_reply, due_in, failed_in, reply_due, told_device}
 use Rattle.lz_machine.proofs.Alone.Halt.{replies}
 use Rattle.lz_machine.proofs.Frames.OneActor.{caller_range}
 use Rattle.lz_machine.proofs.Runs.CallerTable.{fault_no_reply}
+use Rattle.lz_machine.proofs.Runs.FlowChart.{Edge, fails, again, back, on, past, next_edge}
 use Rattle.lz_machine.proofs.Runs.Course.{course_dead}
 use Rattle.lz_machine.proofs.Runs.Outcomes.{no_fault}
 use Rattle.lz_machine.proofs.Theorem.Marks.{Tells, run_tells}
@@ -100,32 +90,6 @@ no_turn_fault y a e = go (y.vault.dead && not (is_played_dead e)) (needs y a e)
 abbrev NotDue : Progress → Type 0
 NotDue at = device_reply (reply_due at) ≡ 0
 
-rests_due : (s : ℕ) (need : Need) (reply : Reply) → NotDue (Answering reply) → NotDue (rests s need reply)
-rests_due s Now reply is = is
-rests_due s needs_sync reply is = is
-
-walked_due : (c : Command) (aim : Option ℕ) (pred : Place) (curr : Option ℕ) (met : Met) → NotDue (walked c aim pred curr met)
-walked_due (Has k) aim pred curr Absent = refl
-walked_due (Has k) aim pred curr (Unmarked s flags) = rests_due s (may_answer flags) Yes refl
-walked_due (Has k) aim pred curr (Marked s flags) = rests_due s (may_answer flags) No refl
-walked_due (Add k) aim pred curr (Unmarked s flags) = rests_due s (may_answer flags) No refl
-walked_due (Add k) None pred curr Absent = refl
-walked_due (Add k) None pred curr (Marked s flags) = refl
-walked_due (Add k) (Some slot) pred curr Absent = refl
-walked_due (Add k) (Some slot) pred curr (Marked s flags) = refl
-walked_due (Remove k) aim pred curr Absent = refl
-walked_due (Remove k) aim pred curr (Marked s flags) = rests_due s (may_answer flags) No refl
-walked_due (Remove k) aim pred curr (Unmarked s flags) = refl
-
-hops_due : (c : Command) (aim : Option ℕ) (h : Hopped) → NotDue (hops_on c aim h)
-hops_due c aim (More look) = refl
-hops_due c aim (End pred curr met) = walked_due c aim pred curr met
-
-changes_due : (c : Command) (aim curr : Option ℕ) → NotDue (changes c aim curr)
-changes_due (Add k) (Some s) curr = refl
-changes_due (Remove k) aim (Some s) = refl
-changes_due _ _ _ = refl
-
 same_due : (sequence : Sequence) (i j : ℕ) → reply_due (Playing sequence i) ≡ reply_due (Playing sequence j)
 same_due (Resting s reply) i j = refl
 same_due (Halting reply) i j = refl
@@ -135,59 +99,18 @@ if_due : (b : Bool) (one other : Progress) → NotDue one → NotDue other → N
 if_due true one other is also = is
 if_due false one other is also = also
 
-module _ (shape : Shape) (c : Command) where
-  goes_due : (sequence : Sequence) (i : ℕ) → NotDue (Playing sequence i) → NotDue (goes_on sequence)
-  goes_due (Resting s reply) i is = is
-  goes_due (Halting reply) i is = is
-  goes_due Pinning i is = refl
-  goes_due (Writing s) i is = refl
-  goes_due (Adding s) i is = refl
-  goes_due (Removing s) i is = refl
-  goes_due (Releasing aim) i is = refl
+past_due : (sequence : Sequence) (i : ℕ) → NotDue (Playing sequence i) → NotDue (goes_on sequence)
+past_due (Resting s reply) i is = is
+past_due (Halting reply) i is = is
+past_due _ i is = refl
 
-  playing_due : (sequence : Sequence) (i : ℕ) (outcome : Outcome) → NotDue (Playing sequence i) → NotDue (after_playing c sequence i outcome)
-  playing_due sequence i Early is = ap device_reply (same_due sequence (i - 1) i) ∙ is
-  playing_due sequence i outcome is = if_due (nat_lt (i + 1) (length (events_of c sequence))) (Playing sequence (i + 1)) (goes_on sequence) (ap device_reply (same_due sequence (i + 1) i) ∙ is) (goes_due sequence i is)
-
-  halt_due : (outcome : Outcome) → NotDue (after_halt outcome)
-  halt_due (Value value) = if_due (value == 1) (Answering Halted) (Walking None AtHead) refl refl
-  halt_due outcome = refl
-
-  hop_due : (aim : Option ℕ) (look : Look) (outcome : Outcome) → NotDue (after_hop shape c aim look outcome)
-  hop_due aim look (Value value) = hops_due c aim (hopped shape.buckets (key_of c) look value)
-  hop_due aim look outcome = refl
-
-  reserve_due : (again : Bool) (outcome : Outcome) → NotDue (after_reserve again outcome)
-  reserve_due again (Slot s) = refl
-  reserve_due false (NoSlot counts) = refl
-  reserve_due true (NoSlot counts) = refl
-  reserve_due again outcome = refl
-
-  claim_due : (aim : Option ℕ) (pred : Place) (curr : Option ℕ) (outcome : Outcome) → NotDue (after_claim aim pred curr outcome)
-  claim_due aim pred curr Taken = refl
-  claim_due aim pred curr outcome = refl
-
-  check_due : (aim curr : Option ℕ) (outcome : Outcome) → NotDue (after_check c aim curr outcome)
-  check_due aim curr True = changes_due c aim curr
-  check_due aim curr False = refl
-  check_due aim curr outcome = refl
-
-  follows_due : (at : Progress) (outcome : Outcome) → NotDue at → NotDue (follows shape c at outcome)
-  follows_due (Playing sequence i) outcome is = playing_due sequence i outcome is
-  follows_due LoadsHalt outcome is = halt_due outcome
-  follows_due (Walking aim look) outcome is = hop_due aim look outcome
-  follows_due (Reserving again) outcome is = reserve_due again outcome
-  follows_due (SeeingPins p) outcome is = if_due (nat_lt p shape.passes) (SeeingPins (p + 1)) (Reserving true) refl refl
-  follows_due (Claiming aim pred curr) outcome is = claim_due aim pred curr outcome
-  follows_due (Checking aim curr) outcome is = check_due aim curr outcome
-  follows_due (Answering reply) outcome is = is
-
-  onward_due : (at : Progress) (outcome : Outcome) → outcome ≢ Fault → NotDue at → NotDue (progress_after shape c at outcome)
-  onward_due at Fault other is = absurd (other refl)
-  onward_due at Dead other is = refl
-  onward_due at Worn other is = refl
-  onward_due at OldFile other is = refl
-  onward_due at outcome other is = follows_due at outcome is
+onward_due : {shape : Shape} {c : Command} {at : Progress} {outcome : Outcome} {next : Progress} → Edge shape c at outcome next → outcome ≢ Fault → NotDue at → NotDue next
+onward_due (fails c at) other is = absurd (other refl)
+onward_due (again c at outcome) other is = is
+onward_due (back c sequence i) other is = ap device_reply (same_due sequence (i - 1) i) ∙ is
+onward_due (on c sequence i outcome) other is = ap device_reply (same_due sequence (i + 1) i) ∙ is
+onward_due (past c sequence i outcome) other is = past_due sequence i is
+onward_due _ other is = refl
 
 -- a call counts once at most
 reply_once : (r : Option Reply) → device_reply r ≤ 1
@@ -259,7 +182,7 @@ module _ (n : ℕ) (y : Yard) (callers : List (Option Caller)) (disk : Medium) (
       let e = next_event y caller in
       let next = progress_after (line y a e).0.shape caller.command caller.progress (line y a e).1 in
       turn_failures a caller at (line y a e).0 _ next (reply_at caller.progress) refl (was_alive y a e (course y a e))
-      (λ going. no_more (device_reply (reply_due caller.progress)) (device_reply (reply_due next)) (reply_once (reply_due next)) (onward_due (line y a e).0.shape caller.command caller.progress (line y a e).1 (no_turn_fault y a e)))
+      (λ going. no_more (device_reply (reply_due caller.progress)) (device_reply (reply_due next)) (reply_once (reply_due next)) (onward_due (next_edge (line y a e).0.shape caller.command caller.progress (line y a e).1) (no_turn_fault y a e)))
 
   fault_failures : (new : Medium) (a : ℕ) (q : Option Caller) → caller_at callers a ≡ q → HasFault serving disk a q new → Failures (suc n) (after_fault serving new a q) M
   fault_failures new a None at may = absurd may
