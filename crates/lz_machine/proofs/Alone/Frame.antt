@@ -1,5 +1,5 @@
 -- What an event leaves of the other actors, where one actor is alone, and of the slots whose gate isn't durable to be open.
-use Rattle.std.proofs.Common.{◌≡◌, ◌≢◌, ◌⊎◌, ⊎_elim, inl, inr, ℕ, zero, suc, ◌%◌, ◌&&◌, not, Bool, true, false, List, [], ◌∷◌, length, map, Option, Some, None, refl, sym, ap, ◌∙◌, subst, arith, length-set, get_or-set_same, get_or-set_other}
+use Rattle.std.proofs.Common.{◌≡◌, ◌≢◌, ◌⊎◌, ⊎_elim, inl, inr, ℕ, zero, suc, ◌%◌, Bool, true, false, List, [], ◌∷◌, length, map, Option, Some, None, refl, sym, ap, ◌∙◌, subst, arith, length-set, get_or-set_same, get_or-set_other}
 use Rattle.std.specs.Prelude.{if◌then◌else◌, slice_set}
 use mathlib.Core.Bool.{false≢true}
 use Rattle.std.proofs.lemmas.Bool.{cases_eq, cases_lt}
@@ -21,38 +21,20 @@ use Rattle.lz_machine.specs.declared.event.Event.TheVariants.{Invoke, Pin, Hop, 
 use Rattle.lz_machine.specs.declared.event.Outcome.TheVariants.{NotNow, Dead}
 use Rattle.lz_vault.specs.Members.{no_cell}
 use Rattle.lz_machine.specs.Yards.{Yard, idle_actor, actor_at, cell_at, cell_in, stage_in}
-use Rattle.lz_machine.specs.Table.{course, course_alive, line, line_on, needs, pin_of, is_played_dead, actors_after, words_after, cells_after, uses_after, reserved, is_sure, set_actor}
+use Rattle.lz_machine.specs.Table.{course, course_alive, line, line_on, pin_of, is_played_dead, actors_after, words_after, cells_after, uses_after, reserved, is_sure, set_actor}
 use Rattle.lz_allot.specs.Uses.{Use, Taken, collect, lowest_free}
 use Rattle.lz_machine.proofs.Alone.Sights.{HasLeft, left_set, left_collect, left_seen}
 use Rattle.lz_machine.proofs.Steps.Unlink.{redirect_pins}
 use Rattle.lz_machine.proofs.Steps.Sync.{not_opening}
 use Rattle.lz_machine.proofs.Frames.Outside.{answered_other}
+use Rattle.lz_machine.proofs.Runs.Course.{course_by}
 
 -- the course of an event that was played at all
-abbrev of_parts : Bool → Bool → Bool → Course → Course
-of_parts dead too may alive = if dead && not too then Refused Dead else if may then alive else Refused NotNow
-
 abbrev pub IsCourse : Yard → ℕ → Event → Type 0
 IsCourse y a e = ((y.vault.dead ≡ true) × (is_played_dead e ≡ false) × (course y a e ≡ Refused Dead)) ⊎ (course y a e ≡ course_alive y a (pin_of y a) e)
 
 pub course_is : (y : Yard) (a : ℕ) (e : Event) → (line y a e).1 ≢ NotNow → IsCourse y a e
-course_is y a e now = go y.vault.dead (is_played_dead e) (needs y a e) refl refl refl
-  where
-    parts : (dead too may : Bool) → y.vault.dead ≡ dead → is_played_dead e ≡ too → needs y a e ≡ may → course y a e ≡ of_parts dead too may (course_alive y a (pin_of y a) e)
-    parts dead too may d t m =
-        ap (λ (b : Bool). of_parts b (is_played_dead e) (needs y a e) (course_alive y a (pin_of y a) e)) d
-        ∙ ap (λ (b : Bool). of_parts dead b (needs y a e) (course_alive y a (pin_of y a) e)) t
-        ∙ ap (λ (b : Bool). of_parts dead too b (course_alive y a (pin_of y a) e)) m
-
-    not_now : course y a e ≡ Refused NotNow → ⊥
-    not_now is = now (ap (λ (k : Course). (line_on k y (actor_at y a) a e).1) is)
-
-    go : (dead too may : Bool) → y.vault.dead ≡ dead → is_played_dead e ≡ too → needs y a e ≡ may → IsCourse y a e
-    go true false may d t m = inl (d, t, parts true false may d t m)
-    go true true true d t m = inr (parts true true true d t m)
-    go false too true d t m = inr (parts false too true d t m)
-    go true true false d t m = absurd (not_now (parts true true false d t m))
-    go false too false d t m = absurd (not_now (parts false too false d t m))
+course_is y a e now = course_by (λ k. course y a e ≡ k → IsCourse y a e) y a e (λ dead stops is. inl (dead, stops, is)) (λ lacks is. absurd (now (ap (λ (k : Course). (line_on k y (actor_at y a) a e).1) is))) (λ has lives is. inr is) refl
 
 -- the hands and pins of others
 actors_other : (y : Yard) (actor : Actor) (a b : ℕ) (e : Event) → b ≢ a → of_pass (actors_after y actor a e) b idle_actor ≡ of_pass y.actors b idle_actor

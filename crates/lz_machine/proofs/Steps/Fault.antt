@@ -35,7 +35,8 @@ use Rattle.lz_machine.proofs.Steps.Death.{sync_fails_keeps}
 use Rattle.lz_machine.proofs.Steps.WriteClose.{write_close_fails_keeps}
 use Rattle.lz_machine.proofs.Steps.WriteKey.{write_key_fails_keeps}
 use Rattle.lz_machine.proofs.Frames.OpenedGate.{write_open_fails_keeps}
-use Rattle.lz_machine.proofs.Runs.NextEvent.{plays_alive, turned_same}
+use Rattle.lz_machine.proofs.Runs.Course.{plays_alive}
+use Rattle.lz_machine.proofs.Runs.NextEvent.{turned_same}
 
 -- an event whose device call may fail is played, and makes that call
 played_call : (y : Yard) (a : ℕ) (e : Event) (disk new : Medium) → MayFail (line_call y a e) disk new → (course y a e ≡ Plays) × MayFail (call_of y (actor_at y a) e) disk new

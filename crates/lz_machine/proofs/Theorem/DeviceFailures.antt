@@ -1,5 +1,5 @@
 -- A vault is dead after the first device call that fails, and makes no other: so in each life one call at most is told of it.
-use Rattle.std.proofs.Common.{◌≡◌, ◌≢◌, inl, inr, ℕ, zero, suc, ◌+◌, ◌-◌, ◌<◌, ◌≤◌, ◌==◌, not, ◌&&◌, Bool, true, false, List, [], ◌∷◌, ◌++◌, length, slice_set, Option, Some, None, refl, sym, ap, ◌∙◌, subst, arith}
+use Rattle.std.proofs.Common.{◌≡◌, ◌≢◌, inl, inr, ℕ, zero, suc, ◌+◌, ◌-◌, ◌<◌, ◌≤◌, Bool, true, false, List, [], ◌∷◌, ◌++◌, length, slice_set, Option, Some, None, refl, sym, ap, ◌∙◌, subst, arith}
 use Rattle.std.specs.Prelude.{if◌then◌else◌, replicate, slice_index_or}
 use mathlib.Core.Bool.{false≢true}
 use Rattle.std.proofs.lemmas.Bool.{cases_Bool}
@@ -12,9 +12,9 @@ use Rattle.lz_machine.specs.declared.actor.Actor.{Actor}
 use Rattle.lz_machine.specs.declared.course.Course.{Course}
 use Rattle.lz_machine.specs.declared.course.Course.TheVariants.{Refused, Dies, Plays}
 use Rattle.lz_machine.specs.declared.event.Event.{Event}
-use Rattle.lz_machine.specs.declared.event.Event.TheVariants.{Invoke, Pin, Hop, Sync, Answer, Halt}
+use Rattle.lz_machine.specs.declared.event.Event.TheVariants.{Invoke, Pin, Hop, Answer, Halt}
 use Rattle.lz_machine.specs.declared.event.Outcome.{Outcome}
-use Rattle.lz_machine.specs.declared.event.Outcome.TheVariants.{Worn, Fault, Dead, NotNow}
+use Rattle.lz_machine.specs.declared.event.Outcome.TheVariants.{Fault}
 use Rattle.lz_machine.specs.declared.event.Reply.{Reply}
 use Rattle.lz_machine.specs.declared.event.Reply.TheVariants.{Yes, No, Full, Worn as SaysWorn, OldFile as SaysOldFile, Halted, Device}
 use Rattle.lz_machine.specs.declared.caller.Sequence.{Sequence}
@@ -22,7 +22,7 @@ use Rattle.lz_machine.specs.declared.caller.Sequence.TheVariants.{Resting, Halti
 use Rattle.lz_machine.specs.declared.caller.Progress.{Progress}
 use Rattle.lz_machine.specs.declared.caller.Progress.TheVariants.{Playing, Answering}
 use Rattle.lz_machine.specs.Yards.{Shape, Yard, actor_at}
-use Rattle.lz_machine.specs.Table.{call_on, course, course_alive, is_old, is_played_dead, is_spent, is_sure, last_pin, line, line_call, line_failed, line_on, needs, pin_of}
+use Rattle.lz_machine.specs.Table.{call_on, course, is_old, is_played_dead, line, line_call, line_failed, line_on}
 use Rattle.lz_machine.specs.Calls.{goes_on, first_progress, begun, progress_after, changes}
 use Rattle.lz_machine.specs.Runs.{Caller, Service, State, Up, Down, Start, Point, Transition, Calls, Turn, Fails, Looks, Trips, Stops, Crashes, CrashesIn, Opens, OpenFails, caller_at, next_event, reply_at, moved_on, state_after, HasTurn, HasFault, MayStep, mark_of, mark_of_turn, marks_of_turn, marks_of, after_turn, after_fault, run, IsRun, first_point}
 use Rattle.lz_machine.specs.Halts.{FailsOnce, calls_due, device_due, device_reply, due_in, failed_in, reply_due, told_device}
@@ -30,7 +30,7 @@ use Rattle.lz_machine.proofs.Alone.Halt.{replies}
 use Rattle.lz_machine.proofs.Frames.OneActor.{caller_range}
 use Rattle.lz_machine.proofs.Runs.CallerTable.{fault_no_reply}
 use Rattle.lz_machine.proofs.Runs.FlowChart.{Edge, fails, again, back, on, past, next_edge}
-use Rattle.lz_machine.proofs.Runs.Course.{course_dead}
+use Rattle.lz_machine.proofs.Runs.Course.{course_dead, each_course}
 use Rattle.lz_machine.proofs.Runs.Outcomes.{no_fault}
 use Rattle.lz_machine.proofs.Theorem.Marks.{Tells, run_tells}
 
@@ -65,26 +65,8 @@ was_alive y a e Dies alive = absurd (false≢true (sym alive))
 was_alive y a e Plays alive = alive
 
 -- a turn is no fault
-alive_turn : (y : Yard) (a pin : ℕ) (e : Event) → (line_on (course_alive y a pin e) y (actor_at y a) a e).1 ≢ Fault
-alive_turn y a pin Pin = go (pin == last_pin)
-  where
-    go : (worn : Bool) → (line_on (if worn then Refused Worn else Plays) y (actor_at y a) a Pin).1 ≢ Fault
-    go true = λ is. cc
-    go false = λ is. cc
-alive_turn y a pin (Sync s) = go (not (is_sure y s) && is_spent y)
-  where
-    go : (spent : Bool) → (line_on (if spent then Dies else Plays) y (actor_at y a) a (Sync s)).1 ≢ Fault
-    go true = λ is. cc
-    go false = λ is. cc
-alive_turn y a pin e = no_fault y (actor_at y a) e
-
 no_turn_fault : (y : Yard) (a : ℕ) (e : Event) → (line y a e).1 ≢ Fault
-no_turn_fault y a e = go (y.vault.dead && not (is_played_dead e)) (needs y a e)
-  where
-    go : (refused ready : Bool) → (line_on (if refused then Refused Dead else if ready then course_alive y a (pin_of y a) e else Refused NotNow) y (actor_at y a) a e).1 ≢ Fault
-    go true ready = λ is. cc
-    go false true = alive_turn y a (pin_of y a) e
-    go false false = λ is. cc
+no_turn_fault y a e = each_course (λ k. (line_on k y (actor_at y a) a e).1 ≢ Fault) y a e (λ dead stops is. cc) (λ lacks is. cc) (λ pin last is. cc) (λ s sync is. cc) (λ has fresh. no_fault y (actor_at y a) e)
 
 -- Where a call isn't to be told of a failure, it isn't after an event that is no fault.
 abbrev NotDue : Progress → Type 0

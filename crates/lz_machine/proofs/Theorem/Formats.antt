@@ -22,8 +22,7 @@ use Rattle.lz_machine.proofs.Steps.Point as at_point
 use Rattle.lz_machine.proofs.Steps.Answer.{answer_up}
 use Rattle.lz_machine.proofs.Crash.Down.{rest_image}
 use Rattle.lz_machine.proofs.Open.FirstPoint.{down_seen}
-use Rattle.lz_machine.proofs.Theorem.Reached.{reached_sound}
-use Rattle.lz_machine.proofs.Theorem.WornPass.{up_at}
+use Rattle.lz_machine.proofs.Theorem.Reached.{reached_sound, up_at}
 use Rattle.lz_machine.proofs.Theorem.Timeliness.{in_time_reached}
 
 -- no event changes the format

@@ -26,7 +26,7 @@ use Rattle.lz_machine.specs.declared.event.Event.TheVariants.{Pin, Reserve, Link
 use Rattle.lz_machine.specs.Yards.{Shape, Yard, actor_at, cell_at, slots_read, pin_in}
 use Rattle.lz_machine.specs.Table.{course, line, line_on, line_publishes, published_on, publishes, settling, words_after, uses_after, node_of, has_marked, is_unused, given_back, reserved, needs, stays_out, pin_answered}
 use Rattle.lz_machine.specs.Calls.{event_at, loaded}
-use Rattle.lz_machine.specs.Runs.{Start, IsStart, Caller, Service, State, Up, Down, Transition, Calls, Turn, Fails, Looks, Trips, Stops, Crashes, CrashesIn, Opens, OpenFails, MayStep, IsRun, run, first_point, caller_at, next_event, start_keys, state_after, after_turn, after_fault, looked, pins_of, unlinkings, moments_of_step, moments, turn_publishes, opened_service}
+use Rattle.lz_machine.specs.Runs.{Start, IsStart, Caller, Service, State, Up, Down, Transition, Turn, Fails, Looks, Stops, Crashes, CrashesIn, Opens, OpenFails, MayStep, IsRun, run, first_point, caller_at, next_event, start_keys, state_after, after_turn, after_fault, looked, pins_of, unlinkings, moments_of_step, moments, turn_publishes, opened_service}
 use Rattle.lz_machine.specs.FreedSlots.{FreedIsAllFree}
 use Rattle.lz_machine.specs.Notes.{Notes}
 use Rattle.lz_machine.specs.LocksSound.{HasClosed, RestsOn}
@@ -45,7 +45,7 @@ use Rattle.lz_machine.proofs.Alone.Room.{no_limbo_read}
 use Rattle.lz_machine.proofs.Crash.ImageSlots.{node_stands}
 use Rattle.lz_machine.proofs.Runs.Shape.{line_keeps_shape}
 use Rattle.lz_machine.proofs.Theorem.Needs.{is_marking}
-use Rattle.lz_machine.proofs.Theorem.Readiness.{plays_needs}
+use Rattle.lz_machine.proofs.Runs.Course.{plays_needs}
 use Rattle.lz_machine.proofs.Theorem.Reached.{reached_sound}
 
 -- What a sight of pass q says of slot s, where the pass's pin word is v.
@@ -302,27 +302,16 @@ opened_seen shape t disk ms s q seen low high is = absurd (no_limbo_read (slots_
 step_seen : (start : Start) (w : State) (M : History) (P : Trace) (calls : ℕ) (step : Transition) (ms : List Moment) → MayStep w step → (L : List Life) → PointSound start (point w M P calls) L → SeenAt w ms
     → SeenAt (state_after (suc calls) w step) (pins_of (state_after (suc calls) w step) ++ moments_of_step w step ++ ms)
 step_seen start w M P calls step ms may [] sound h = absurd sound
-step_seen start (Up service disk) M P calls (Calls a c) ms may (life ∷ earlier) sound h = same_seen service.yard.shape.passes service.yard.words.pins service.yard.uses ms h
 step_seen start (Up service disk) M P calls (Turn a) ms may (life ∷ earlier) sound h = turn_seen sound.2.0 calls service disk life.history P sound.2.1 sound.2.2.sound a ms h (caller_at service.callers a) refl
 step_seen start (Up service disk) M P calls (Fails a new) ms may (life ∷ earlier) sound h = fault_seen sound.2.0 calls service disk life.history P sound.2.1 sound.2.2.sound a ms h new (caller_at service.callers a)
 step_seen start (Up service disk) M P calls (Looks a) ms may (life ∷ earlier) sound h = look_seen sound.2.0 calls service disk life.history P sound.2.1 sound.2.2.sound a ms h may.0.0 may.0.1
-step_seen start (Up service disk) M P calls Trips ms may (life ∷ earlier) sound h = same_seen service.yard.shape.passes service.yard.words.pins service.yard.uses ms h
 step_seen start (Up service disk) M P calls Stops ms may (life ∷ earlier) sound h = tt
 step_seen start (Up service disk) M P calls (Crashes t) ms may (life ∷ earlier) sound h = tt
 step_seen start (Up service disk) M P calls (CrashesIn a t) ms may (life ∷ earlier) sound h = tt
-step_seen start (Up service disk) M P calls Opens ms may (life ∷ earlier) sound h = absurd may
-step_seen start (Up service disk) M P calls (OpenFails why done) ms may (life ∷ earlier) sound h = absurd may
-step_seen start (Down shape disk) M P calls (Calls a c) ms may (life ∷ earlier) sound h = absurd may
-step_seen start (Down shape disk) M P calls (Turn a) ms may (life ∷ earlier) sound h = absurd may
-step_seen start (Down shape disk) M P calls (Fails a new) ms may (life ∷ earlier) sound h = absurd may
-step_seen start (Down shape disk) M P calls (Looks a) ms may (life ∷ earlier) sound h = absurd may
-step_seen start (Down shape disk) M P calls Trips ms may (life ∷ earlier) sound h = tt
-step_seen start (Down shape disk) M P calls Stops ms may (life ∷ earlier) sound h = tt
-step_seen start (Down shape disk) M P calls (Crashes t) ms may (life ∷ earlier) sound h = tt
-step_seen start (Down shape disk) M P calls (CrashesIn a t) ms may (life ∷ earlier) sound h = absurd may
+step_seen start (Up service disk) M P calls _ ms may (life ∷ earlier) sound h = same_seen service.yard.shape.passes service.yard.words.pins service.yard.uses ms h
 step_seen start (Down shape disk) M P calls Opens ms may (life ∷ earlier) sound h = opened_seen shape disk.seen disk (pins_of (Up (opened_service shape disk.seen) disk) ++ ms)
 step_seen start (Down shape disk) M P calls (OpenFails why true) ms may (life ∷ earlier) sound h = tt
-step_seen start (Down shape disk) M P calls (OpenFails why false) ms may (life ∷ earlier) sound h = tt
+step_seen start (Down shape disk) M P calls _ ms may (life ∷ earlier) sound h = tt
 
 reached_seen : (start : Start) (steps : List Transition) → IsStart start → IsRun (first_point start) steps → SeenAt (run (first_point start) steps).state (moments (first_point start) steps)
 reached_seen start [] is runs = opened_seen start.shape start.text (at_rest start.bytewise start.text) (moments (first_point start) [])

@@ -20,8 +20,7 @@ use Rattle.lz_machine.specs.Sound.{TraceSound}
 use Rattle.lz_machine.specs.WalkEnds.{MetTells, HopTells, WalkEnds}
 use Rattle.lz_machine.proofs.Frames.OneLoad.{there_since, loaded, wanted}
 use Rattle.lz_machine.proofs.Frames.Ranges.{few_slots}
-use Rattle.lz_machine.proofs.Theorem.Reached.{reached_sound}
-use Rattle.lz_machine.proofs.Theorem.WornPass.{up_at}
+use Rattle.lz_machine.proofs.Theorem.Reached.{reached_sound, up_at}
 use Rattle.lz_machine.proofs.Theorem.TraceOutside.{calls_stand}
 
 module _ (shape : Shape) (words : Words) (P : Trace) (trace : TraceSound shape words P) (few : shape.slots ≤ most_slots) (P0 : Trace) (quiet : IsQuiet shape.buckets P0 P) (begins : Begins P0 P) (k : ℕ) where

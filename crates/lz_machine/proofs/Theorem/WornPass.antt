@@ -1,22 +1,21 @@
 -- A pass that is worn: its pin word is the last one, and its call answers worn.
-use Rattle.std.proofs.Common.{◌≡◌, ◌≢◌, ⊎_elim, inl, inr, ℕ, zero, suc, ◌≤◌, ◌+◌, ◌%◌, ◌==◌, if◌then◌else◌, not, ◌&&◌, ◌||◌, Bool, true, false, List, [], ◌∷◌, length, Option, Some, None, refl, sym, ap, ◌∙◌, subst, arith}
+use Rattle.std.proofs.Common.{◌≡◌, ◌≢◌, ◌⊎◌, ⊎_elim, inl, inr, ℕ, zero, suc, ◌≤◌, ◌+◌, ◌%◌, if◌then◌else◌, ◌||◌, Bool, true, false, List, [], ◌∷◌, length, Option, Some, None, refl, sym, ap, ◌∙◌, subst, arith}
 use mathlib.Core.Bool.{false≢true}
 use Rattle.std.specs.List.{list_any}
-use Rattle.std.proofs.lemmas.Bool.{cases_Bool}
 use Rattle.std.proofs.lemmas.Option.{none-some}
 use Rattle.lz_slot.specs.declared.command.Command.{Command}
 use Rattle.lz_slot.specs.declared.command.Command.TheVariants.{Add, Remove, Has}
 use Rattle.lz_slot.specs.Counted.{set_of_pass}
-use Rattle.lz_slot.specs.Histories.{History, Life, lives}
+use Rattle.lz_slot.specs.Histories.{History}
 use Rattle.lz_slot.proofs.Counted.{of_pass_same, of_pass_other}
 use Rattle.lz_disk.specs.Images.{Medium, at_rest, synced}
 use Rattle.lz_list.specs.Traces.{Trace}
 use Rattle.lz_machine.specs.declared.course.Course.{Course}
 use Rattle.lz_machine.specs.declared.course.Course.TheVariants.{Refused, Dies, Plays}
 use Rattle.lz_machine.specs.declared.event.Event.{Event}
-use Rattle.lz_machine.specs.declared.event.Event.TheVariants.{Pin, Sync, Answer}
+use Rattle.lz_machine.specs.declared.event.Event.TheVariants.{Answer}
 use Rattle.lz_machine.specs.declared.event.Outcome.{Outcome}
-use Rattle.lz_machine.specs.declared.event.Outcome.TheVariants.{Worn, NotNow, Fault, Dead}
+use Rattle.lz_machine.specs.declared.event.Outcome.TheVariants.{Worn, NotNow, Fault}
 use Rattle.lz_machine.specs.declared.event.Reply.{Reply}
 use Rattle.lz_machine.specs.declared.event.Reply.TheVariants.{Worn as SaysWorn, OldFile as SaysOldFile}
 use Rattle.lz_machine.specs.declared.caller.Sequence.{Sequence}
@@ -24,24 +23,25 @@ use Rattle.lz_machine.specs.declared.caller.Sequence.TheVariants.{Resting, Halti
 use Rattle.lz_machine.specs.declared.caller.Progress.{Progress}
 use Rattle.lz_machine.specs.declared.caller.Progress.TheVariants.{Playing, Answering}
 use Rattle.lz_machine.specs.Yards.{Shape, Yard, actor_at, opened_yard}
-use Rattle.lz_machine.specs.Table.{last_pin, pin_of, needs, is_played_dead, is_sure, is_spent, course_alive, course, line_on, line, line_failed, is_old}
+use Rattle.lz_machine.specs.Table.{last_pin, pin_of, course, line_on, line, line_failed, is_old}
 use Rattle.lz_machine.specs.Calls.{goes_on, first_progress, progress_after, changes, begun}
-use Rattle.lz_machine.specs.Runs.{Start, State, Up, Down, Transition, Calls, Turn, Fails, Looks, Trips, Stops, Crashes, CrashesIn, Opens, OpenFails, Point, Service, Caller, caller_at, next_event, reply_at, moved_on, looked, state_after, after_turn, after_fault, HasTurn, HasFault, MayStep, first_point, run, IsRun, IsStart, opened_service, start_keys, invoked}
+use Rattle.lz_machine.specs.Runs.{Start, State, Up, Down, Transition, Calls, Turn, Fails, Looks, Trips, Stops, Crashes, CrashesIn, Opens, OpenFails, Service, Caller, caller_at, next_event, reply_at, moved_on, looked, state_after, after_turn, after_fault, HasTurn, HasFault, MayStep, first_point, run, IsRun, IsStart, opened_service, invoked}
 use Rattle.lz_machine.specs.Notes.{Notes}
 use Rattle.lz_machine.specs.CallersSound.{View, view_of, MayRest, IsCut, Relies, CallerSound}
-use Rattle.lz_machine.specs.Sound.{Sound, UpSound, StateSound, PointSound, IsSound}
+use Rattle.lz_machine.specs.Sound.{Sound, IsSound}
 use Rattle.lz_machine.proofs.Steps.Trip.{point}
 use Rattle.lz_machine.proofs.Frames.ActorTable.{by_actor}
 use Rattle.lz_machine.proofs.Frames.OneActor.{caller_range, mine}
 use Rattle.lz_machine.proofs.Steps.Hop.{call_at}
 use Rattle.lz_machine.proofs.Open.FoundSlots.{pass_of}
-use Rattle.lz_machine.proofs.Theorem.Reached.{reached_sound}
+use Rattle.lz_machine.proofs.Theorem.Reached.{reached_sound, up_at}
 use Rattle.lz_machine.proofs.Runs.CallerTable.{none_of, fault_no_reply}
 use Rattle.lz_machine.proofs.Frames.Outside.{answered_pin, answered_even}
-use Rattle.lz_machine.proofs.Runs.Course.{answer_plays}
+use Rattle.lz_machine.proofs.Runs.Course.{answer_plays, each_course}
 use Rattle.lz_machine.proofs.Runs.FlowChart.{Edge, wears, again, past, next_edge}
 use Rattle.lz_machine.proofs.Alone.Frame.{pins_other}
-use Rattle.lz_machine.proofs.Theorem.EventNeeds.{IsWornAt, is_worn, last_of, plain}
+use Rattle.lz_machine.proofs.Runs.Outcomes.{not_done}
+use Rattle.lz_machine.proofs.Theorem.EventNeeds.{IsWornAt}
 
 -- After its Answer an actor's pin word is even.
 module _ (y : Yard) (a : ℕ) (low : 1 ≤ a) (high : a ≤ length y.words.pins) where
@@ -65,30 +65,10 @@ module _ (y : Yard) (a b : ℕ) (other : b ≢ a) where
   pin_other e = on_other e (course y a e)
 
 -- an event that is refused as worn leaves the last pin
-alive_worn : (y : Yard) (a : ℕ) (e : Event) → is_worn (line_on (course_alive y a (pin_of y a) e) y (actor_at y a) a e).1 ≡ true → pin_of (line_on (course_alive y a (pin_of y a) e) y (actor_at y a) a e).0 a ≡ last_pin
-alive_worn y a Pin = go (pin_of y a == last_pin) refl
-  where
-    go : (last : Bool) → (pin_of y a == last_pin) ≡ last → is_worn (line_on (if last then Refused Worn else Plays) y (actor_at y a) a Pin).1 ≡ true → pin_of (line_on (if last then Refused Worn else Plays) y (actor_at y a) a Pin).0 a ≡ last_pin
-    go true same is = last_of (pin_of y a) same
-    go false same is = absurd (false≢true is)
-alive_worn y a (Sync s) = go (not (is_sure y s) && is_spent y)
-  where
-    go : (spent : Bool) → is_worn (line_on (if spent then Dies else Plays) y (actor_at y a) a (Sync s)).1 ≡ true → pin_of (line_on (if spent then Dies else Plays) y (actor_at y a) a (Sync s)).0 a ≡ last_pin
-    go true is = absurd (false≢true is)
-    go false is = absurd (false≢true is)
-alive_worn y a e = λ is. absurd (false≢true (sym (plain y (actor_at y a) e).1 ∙ is))
-
--- so does each event
-worn_last : (y : Yard) (a : ℕ) (e : Event) → is_worn (line y a e).1 ≡ true → pin_of (line y a e).0 a ≡ last_pin
-worn_last y a e = go (y.vault.dead && not (is_played_dead e)) (needs y a e)
-  where
-    taken : Bool → Bool → Course
-    taken dies may = if dies then Refused Dead else if may then course_alive y a (pin_of y a) e else Refused NotNow
-
-    go : (dies may : Bool) → is_worn (line_on (taken dies may) y (actor_at y a) a e).1 ≡ true → pin_of (line_on (taken dies may) y (actor_at y a) a e).0 a ≡ last_pin
-    go true may is = absurd (false≢true is)
-    go false true is = alive_worn y a e is
-    go false false is = absurd (false≢true is)
+worn_or_not : (y : Yard) (a : ℕ) (e : Event) → ((line y a e).1 ≢ Worn) ⊎ (pin_of (line y a e).0 a ≡ last_pin)
+worn_or_not y a e =
+    each_course (λ k. ((line_on k y (actor_at y a) a e).1 ≢ Worn) ⊎ (pin_of (line_on k y (actor_at y a) a e).0 a ≡ last_pin)) y a e (λ dead stops. inl (λ is. cc)) (λ lacks. inl (λ is. cc)) (λ pin last. inr last)
+    (λ s sync. inl (λ is. cc)) (λ has fresh. inl (not_done y (actor_at y a) e Worn refl))
 
 -- A call comes to the answer that its pass is worn only by such an outcome.
 abbrev ends_worn : Progress → Bool
@@ -125,11 +105,11 @@ going_not (Answering reply) on_its_way = absurd (none-some _ (sym on_its_way))
 going_not _ on_its_way = refl
 
 next_not : {shape : Shape} {c : Command} {at : Progress} {outcome : Outcome} {next : Progress} → Edge shape c at outcome next
-    → (v : View) (P0 P : Trace) (changed : Option ℕ) → Relies v c at P0 P changed → reply_at at ≡ None → is_worn outcome ≡ false → ends_worn next ≡ false
-next_not (wears c at) v P0 P changed h on_its_way is = absurd (false≢true (sym is))
-next_not (again c at outcome) v P0 P changed h on_its_way is = going_not at on_its_way
-next_not (past c sequence i outcome) v P0 P changed h on_its_way is = past_not v c P0 P changed sequence i h
-next_not _ v P0 P changed h on_its_way is = refl
+    → (v : View) (P0 P : Trace) (changed : Option ℕ) → Relies v c at P0 P changed → reply_at at ≡ None → outcome ≢ Worn → ends_worn next ≡ false
+next_not (wears c at) v P0 P changed h on_its_way other = absurd (other refl)
+next_not (again c at outcome) v P0 P changed h on_its_way other = going_not at on_its_way
+next_not (past c sequence i outcome) v P0 P changed h on_its_way other = past_not v c P0 P changed sequence i h
+next_not _ v P0 P changed h on_its_way other = refl
 
 -- Between its calls an actor's pin word is even, in a run without looks; and a call that is refused as worn has the last pin.
 abbrev pub Fits : Bool → Option Caller → ℕ → Type 0
@@ -157,9 +137,9 @@ module _ (looks : Bool) (n calls : ℕ) (y : Yard) (callers : List (Option Calle
     GoesTo at after = Fits looks (moved_on (reply_at at) (call_at i c at) (progress_after after.0.shape c at after.1)) (pin_of after.0 a)
 
     goes_to : (at : Progress) → caller_at callers a ≡ Some (call_at i c at) → reply_at at ≡ None → GoesTo at (line y a (next_event y (call_at i c at)))
-    goes_to at is on_its_way = subst (λ (q : Option Reply). Fits looks (moved_on q (call_at i c at) (progress_after after.0.shape c at after.1)) (pin_of after.0 a)) (sym on_its_way) (elim (cases_Bool (is_worn after.1)) [
-      | inl worn ↦ λ same. worn_last y a (next_event y (call_at i c at)) worn
-      | inr other ↦ not_worn (pin_of after.0 a) (progress_after after.0.shape c at after.1) (next_not (next_edge after.0.shape c at after.1) (view_of y.shape y.vault y.actors a) (notes.begun a) P (notes.changed a) own.stands.2 on_its_way other)
+    goes_to at is on_its_way = subst (λ (q : Option Reply). Fits looks (moved_on q (call_at i c at) (progress_after after.0.shape c at after.1)) (pin_of after.0 a)) (sym on_its_way) (elim (worn_or_not y a (next_event y (call_at i c at))) [
+      | inr last ↦ λ same. last
+      | inl other ↦ not_worn (pin_of after.0 a) (progress_after after.0.shape c at after.1) (next_not (next_edge after.0.shape c at after.1) (view_of y.shape y.vault y.actors a) (notes.begun a) P (notes.changed a) own.stands.2 on_its_way other)
     ])
       where
         after : Yard × Outcome
@@ -230,22 +210,6 @@ down_fits looks i shape disk (Crashes t) may = tt
 down_fits looks i shape disk (OpenFails why true) may = tt
 down_fits looks i shape disk (OpenFails why false) may = tt
 down_fits looks i shape disk _ may = absurd may
-
--- what the invariant says of an open service at a point
-pub record IsUpAt (calls : ℕ) (service : Service) (disk : Medium) (P : Trace) : Type 0 where
-  pub n : ℕ
-  pub life : Life
-  pub notes : Notes
-  pub up : UpSound n calls service disk life P notes
-
-pub up_at : (start : Start) (p : Point) (service : Service) (disk : Medium) → IsSound start p → p.state ≡ Up service disk → IsUpAt p.calls service disk p.trace
-up_at start p service disk sound is = go (lives (start_keys start) p.marks) sound
-  where
-    go : (L : List Life) → PointSound start p L → IsUpAt p.calls service disk p.trace
-    go [] h = absurd h
-    go (life ∷ earlier) h =
-        let there : StateSound p (Up service disk) life = subst (λ (q : State). StateSound p q life) is h.2 in
-        record { n = there.0; life = life; notes = there.1; up = there.2 }
 
 pub step_fits : (looks : Bool) (start : Start) (w : State) (M : History) (P : Trace) (calls i : ℕ) (step : Transition) → IsSound start (point w M P calls) → MayStep w step → AllFit looks w → AllFit (is_look step || looks) (state_after i w step)
 step_fits looks start (Up service disk) M P calls i step sound may fits =
