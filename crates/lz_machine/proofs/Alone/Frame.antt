@@ -17,7 +17,7 @@ use Rattle.lz_machine.specs.declared.course.Course.TheVariants.{Refused, Dies, P
 use Rattle.lz_machine.specs.declared.actor.Actor.{Actor}
 use Rattle.lz_machine.specs.declared.actor.Hold.TheVariants.{Nothing, Locks}
 use Rattle.lz_machine.specs.declared.event.Event.{Event}
-use Rattle.lz_machine.specs.declared.event.Event.TheVariants.{Invoke, Pin, Hop, Reserve, WriteKey, Claim, Check, WriteOpen, Link, WriteClose, Mark, Release, Sync, Settle, Unlink, Retire, SeePin, Answer, Halt}
+use Rattle.lz_machine.specs.declared.event.Event.TheVariants.{Invoke, Pin, Reserve, WriteKey, Claim, Check, WriteOpen, Link, WriteClose, Mark, Release, Sync, Settle, Unlink, Retire, SeePin, Answer}
 use Rattle.lz_machine.specs.declared.event.Outcome.TheVariants.{NotNow, Dead}
 use Rattle.lz_vault.specs.Members.{no_cell}
 use Rattle.lz_machine.specs.Yards.{Yard, idle_actor, actor_at, cell_at, cell_in, stage_in}
@@ -113,29 +113,15 @@ set_none cells r k stage other none s is = ⊎_elim
     (cell_cases cells r s (record { stage = stage; key = k }))
 
 pub none_stays : (y : Yard) (actor : Actor) (e : Event) → is_opening_event e ≡ false → NoneOpening y.vault.cells → NoneOpening (cells_after y actor e)
-none_stays y actor (Invoke c) other none = none
-none_stays y actor Pin other none = none
-none_stays y actor (Hop word) other none = none
-none_stays y actor Reserve other none = none
 none_stays y actor (WriteKey k) other none = set_none y.vault.cells _ k KeyLoose (λ is. absurd cc) none
-none_stays y actor (Claim pred curr) other none = none
-none_stays y actor Check other none = none
 none_stays y actor WriteOpen other none = absurd (false≢true (sym other))
-none_stays y actor Link other none = none
 none_stays y actor WriteClose other none = set_none y.vault.cells _ _ Closing (λ is. absurd cc) none
-none_stays y actor Mark other none = none
-none_stays y actor Release other none = none
 none_stays y actor (Sync s) other none = go (is_sure y s)
   where
     go : (sure : Bool) → NoneOpening (if sure then y.vault.cells else map cell_synced y.vault.cells)
     go true = none
     go false = synced_none y.vault.cells
-none_stays y actor (Settle s) other none = none
-none_stays y actor Unlink other none = none
-none_stays y actor Retire other none = none
-none_stays y actor (SeePin p value) other none = none
-none_stays y actor Answer other none = none
-none_stays y actor Halt other none = none
+none_stays y actor _ other none = none
 
 -- the same by the event's course: a vault that lives after it lived before
 pub none_on : (k : Course) (y : Yard) (a : ℕ) (e : Event) → is_opening_event e ≡ false → (line_on k y (actor_at y a) a e).0.vault.dead ≡ false → (y.vault.dead ≡ false → NoneOpening y.vault.cells) → NoneOpening (line_on k y (actor_at y a) a e).0.vault.cells
@@ -161,6 +147,5 @@ left_plays y actor a b Answer calm left = absurd (false≢true (sym calm))
 left_plays y actor a b _ calm left = left
 
 pub left_on : (k : Course) (y : Yard) (a b : ℕ) (e : Event) → is_use_event e ≡ false → HasLeft y.uses b → HasLeft (line_on k y (actor_at y a) a e).0.uses b
-left_on (Refused outcome) y a b e calm left = left
-left_on Dies y a b e calm left = left
 left_on Plays y a b e calm left = left_plays y (actor_at y a) a b e calm left
+left_on _ y a b e calm left = left

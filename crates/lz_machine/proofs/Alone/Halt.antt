@@ -5,7 +5,7 @@ use mathlib.Core.Bool.{false≢true}
 use Rattle.std.proofs.lemmas.Bool.{cases_Bool}
 use Rattle.std.proofs.lemmas.Option.{none-some, same_Some}
 use Rattle.lz_slot.specs.declared.command.Command.{Command}
-use Rattle.lz_slot.specs.declared.command.Command.TheVariants.{Add, Remove, Has}
+use Rattle.lz_slot.specs.declared.command.Command.TheVariants.{Add}
 use Rattle.lz_slot.specs.Bytes.{held}
 use Rattle.lz_disk.specs.Images.{Medium}
 use Rattle.lz_list.specs.declared.place.Place.{Place}
@@ -17,7 +17,7 @@ use Rattle.lz_machine.specs.declared.course.Course.{Course}
 use Rattle.lz_machine.specs.declared.course.Course.TheVariants.{Refused, Dies, Plays}
 use Rattle.lz_machine.specs.declared.actor.Actor.{Actor}
 use Rattle.lz_machine.specs.declared.event.Event.{Event}
-use Rattle.lz_machine.specs.declared.event.Event.TheVariants.{Invoke, Pin, Hop, Reserve, WriteKey, Claim, Check, WriteOpen, Link, WriteClose, Mark, Release, Sync, Settle, Unlink, Retire, SeePin, Answer, Halt}
+use Rattle.lz_machine.specs.declared.event.Event.TheVariants.{Link, Settle, Unlink, Answer, Halt}
 use Rattle.lz_machine.specs.declared.event.Reply.{Reply}
 use Rattle.lz_machine.specs.declared.event.Reply.TheVariants.{Worn as SaysWorn, OldFile as SaysOldFile, Halted, Device}
 use Rattle.lz_machine.specs.declared.caller.Progress.{Progress}
@@ -43,29 +43,16 @@ abbrev KeepsHalt : Yard → Actor → ℕ → Event → Type 0
 KeepsHalt y actor a e = (words_after y actor a e).halt ≡ y.words.halt
 
 halt_or_not : (y : Yard) (actor : Actor) (a : ℕ) (e : Event) → (e ≡ Halt) ⊎ KeepsHalt y actor a e
-halt_or_not y actor a (Invoke c) = inr refl
-halt_or_not y actor a Pin = inr refl
-halt_or_not y actor a (Hop word) = inr refl
-halt_or_not y actor a Reserve = inr refl
-halt_or_not y actor a (WriteKey k) = inr refl
-halt_or_not y actor a (Claim pred curr) = inr refl
-halt_or_not y actor a Check = inr refl
-halt_or_not y actor a WriteOpen = inr refl
 halt_or_not y actor a Link = inr (redirect_halt y.words actor.pred _)
-halt_or_not y actor a WriteClose = inr refl
-halt_or_not y actor a Mark = inr refl
-halt_or_not y actor a Release = inr refl
-halt_or_not y actor a (Sync s) = inr refl
 halt_or_not y actor a (Settle s) = inr (go (is_sure y s))
   where
     go : (sure : Bool) → (if sure then change_flags (settle (cell_at y s).stage) y.words s else y.words).halt ≡ y.words.halt
     go true = refl
     go false = refl
 halt_or_not y actor a Unlink = inr (redirect_halt y.words actor.pred _)
-halt_or_not y actor a Retire = inr refl
-halt_or_not y actor a (SeePin p value) = inr refl
 halt_or_not y actor a Answer = inr (answered_halt y actor a)
 halt_or_not y actor a Halt = inl refl
+halt_or_not y actor a _ = inr refl
 
 abbrev IsDeadHalt : Yard → Type 0
 IsDeadHalt y = y.words.halt ≡ 1 → y.vault.dead ≡ true
@@ -126,13 +113,11 @@ replies _ reply is = absurd (none-some reply is)
 
 pub halted_word : (v : View) (c : Command) (P0 P : Trace) (changed : Option ℕ) → Relies v c (Answering Halted) P0 P changed → halt_word P ≡ 1
 halted_word v (Add k) P0 P changed h = h.0
-halted_word v (Remove k) P0 P changed h = h.0
-halted_word v (Has k) P0 P changed h = h.0
+halted_word v _ P0 P changed h = h.0
 
 pub device_word : (v : View) (c : Command) (P0 P : Trace) (changed : Option ℕ) → Relies v c (Answering Device) P0 P changed → halt_word P ≡ 1
 device_word v (Add k) P0 P changed h = h.0
-device_word v (Remove k) P0 P changed h = h.0
-device_word v (Has k) P0 P changed h = h.0
+device_word v _ P0 P changed h = h.0
 
 -- a call that is told of an old file adds a key that the file can't hold
 pub old_command : (v : View) (c : Command) (P0 P : Trace) (changed : Option ℕ) (at : Progress) → at ≡ Answering SaysOldFile → Relies v c at P0 P changed → is_old v.format c ≡ true

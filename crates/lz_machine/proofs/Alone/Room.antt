@@ -1,7 +1,7 @@
 -- Where one actor is alone, full comes exactly where there is no room.
 use Rattle.std.proofs.Common.{◌≡◌, inl, inr, ℕ, zero, suc, ◌≤◌, ◌<◌, ◌%◌, if◌then◌else◌, Bool, true, false, List, [], ◌∷◌, ◌++◌, length, map, Option, Some, None, refl, sym, ap, ◌∙◌, subst, arith}
 use Rattle.lz_slot.specs.declared.command.Command.{Command}
-use Rattle.lz_slot.specs.declared.command.Command.TheVariants.{Add, Remove, Has}
+use Rattle.lz_slot.specs.declared.command.Command.TheVariants.{Add}
 use Rattle.lz_slot.specs.declared.history.Mark.TheVariants.{Call}
 use Rattle.lz_slot.specs.declared.slot.SlotRead.{SlotRead}
 use Rattle.lz_slot.specs.declared.slot.SlotRead.TheVariants.{Closed as Shut, Member, BadKey}
@@ -22,7 +22,7 @@ use Rattle.lz_allot.specs.Uses.{Limbo, use_of}
 use Rattle.lz_list.specs.Traces.{Trace}
 use Rattle.lz_machine.specs.declared.actor.Actor.{Actor}
 use Rattle.lz_machine.specs.declared.event.Reply.{Reply}
-use Rattle.lz_machine.specs.declared.event.Reply.TheVariants.{Yes, No, Full, Worn, OldFile, Halted, Device}
+use Rattle.lz_machine.specs.declared.event.Reply.TheVariants.{Yes, No, Full, OldFile, Device}
 use Rattle.lz_machine.specs.declared.caller.Progress.{Progress}
 use Rattle.lz_machine.specs.declared.caller.Progress.TheVariants.{Answering}
 use Rattle.lz_machine.specs.Yards.{Shape, Yard, cell_read, use_read, slots_read, opened_yard, first_trace, idle_actor, cell_in, stage_in, pin_in}
@@ -164,8 +164,7 @@ reached_full start (step ∷ steps) a is runs alone =
 -- a mark that says nothing of room
 room_no : (N : ℕ) (c : Command) (T : Keys) → HasRoomFor N c false T
 room_no N (Add k) T = tt
-room_no N (Remove k) T = tt
-room_no N (Has k) T = tt
+room_no N _ T = tt
 
 sized_mark : (F : Format) (N i a : ℕ) (c : Command) (L : List Life) → AreSized F N L → AreSized F N (with_mark (Call i a c) L)
 sized_mark F N i a c [] h = h
@@ -187,10 +186,8 @@ module _ (F : Format) (N i a n : ℕ) (c : Command) (M : History) (S : Keys) (en
   sized_reply (Full counts) plain each adds tells told =
       let add = adds counts refl in
       (not_old F c (Full counts) tells (λ same. cc), (λ T was. subst (λ (d : Command). IsFull N d T) (sym add.1) (is_full N i i i a add.0 M S T t new ended holds (subst (λ (d : Command). IsPlain S (mark_of i (Full counts) ∷ Call i a d ∷ M) new) add.1 plain) (each add.0 add.1 counts refl) was)), sized)
-  sized_reply Worn plain each adds tells told = sized
   sized_reply OldFile plain each adds tells told = (told refl, sized)
-  sized_reply Halted plain each adds tells told = sized
-  sized_reply Device plain each adds tells told = sized
+  sized_reply _ plain each adds tells told = sized
 
 module _ (start : Start) (a : ℕ) (service : Service) (disk : Medium) (M : History) (P : Trace) (calls : ℕ) (named : service.yard.vault.format ≡ format_of start.text) where
   abbrev y : Yard
@@ -248,8 +245,7 @@ module _ (start : Start) (a : ℕ) (service : Service) (disk : Medium) (M : Hist
         where
           go : (d : Command) → WalkStands y P (Answering (Full counts)) d → (k : ℕ) × (d ≡ Add k)
           go (Add k) h = (k, refl)
-          go (Remove k) h = absurd h
-          go (Has k) h = absurd h
+          go _ h = absurd h
 
       each : (k : ℕ) → c ≡ Add k → (counts : Counts) → reply ≡ Full counts → (s : ℕ) → s < N → HoldsOther disk.seen k s
       each k add counts same s lt =

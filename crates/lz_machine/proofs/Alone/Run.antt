@@ -11,7 +11,7 @@ use Rattle.lz_list.specs.declared.word.Word.TheVariants.{Halt as halt_word}
 use mathlib.Core.Bool.{false≢true}
 use Rattle.lz_machine.proofs.Runs.Course.{course_by, each_course}
 use Rattle.lz_machine.specs.declared.course.Course.{Course}
-use Rattle.lz_machine.specs.declared.course.Course.TheVariants.{Refused, Dies, Plays}
+use Rattle.lz_machine.specs.declared.course.Course.TheVariants.{Plays}
 use Rattle.lz_machine.specs.declared.actor.Actor.{Actor}
 use Rattle.lz_machine.specs.declared.event.Event.{Event}
 use Rattle.lz_machine.specs.declared.event.Event.TheVariants.{Pin, Hop, Answer}
@@ -59,8 +59,7 @@ IsQuietCall service a (Some caller) = line_call service.yard a (next_event servi
 
 calls_nothing : (k : Course) (y : Yard) (actor : Actor) (e : Event) → call_of y actor e ≡ NoCall → call_on k y actor e ≡ NoCall
 calls_nothing Plays y actor e none = none
-calls_nothing Dies y actor e none = refl
-calls_nothing (Refused outcome) y actor e none = refl
+calls_nothing _ y actor e none = refl
 
 pin_is_quiet : (y : Yard) (a : ℕ) → line_call y a Pin ≡ NoCall
 pin_is_quiet y a = calls_nothing (course y a Pin) y (actor_at y a) Pin refl
@@ -130,5 +129,4 @@ answer_halt y a = go (course y a Answer)
   where
     go : (k : Course) → (line_on k y (actor_at y a) a Answer).0.words.halt ≡ y.words.halt
     go Plays = answered_halt y (actor_at y a) a
-    go Dies = refl
-    go (Refused outcome) = refl
+    go _ = refl

@@ -46,8 +46,7 @@ course_by A y a e dead not_yet alive = go y.vault.dead (is_played_dead e) (needs
     go true false may is stops has = dead is stops
     go true true true is stops has = alive has (λ other. absurd (false≢true (sym other ∙ stops)))
     go false too true is stops has = alive has (λ other. is)
-    go true true false is stops has = not_yet has
-    go false too false is stops has = not_yet has
+    go _ _ false is stops has = not_yet has
 
 pub alive_by : (A : Course → Type 0) (y : Yard) (a : ℕ) (e : Event) → (e ≡ Pin → pin_of y a ≡ last_pin → A (Refused Worn)) → ((s : ℕ) → e ≡ Sync s → A Dies) → ((e ≡ Pin → pin_of y a ≢ last_pin) → A Plays) → A (course_alive y a (pin_of y a) e)
 alive_by A y a Pin worn dies plays = elim (eqb_tells (pin_of y a) last_pin) [

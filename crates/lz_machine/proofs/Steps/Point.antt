@@ -13,7 +13,7 @@ use Rattle.lz_machine.specs.declared.event.Outcome.TheVariants.{NotNow}
 use Rattle.lz_machine.specs.declared.event.Reply.{Reply}
 use Rattle.lz_machine.specs.declared.event.Reply.TheVariants.{Yes}
 use Rattle.lz_machine.specs.declared.course.Course.{Course}
-use Rattle.lz_machine.specs.declared.course.Course.TheVariants.{Refused, Dies, Plays}
+use Rattle.lz_machine.specs.declared.course.Course.TheVariants.{Refused}
 use Rattle.lz_machine.specs.declared.caller.Progress.{Progress}
 use Rattle.lz_machine.specs.declared.caller.Progress.TheVariants.{Answering}
 use Rattle.lz_machine.specs.Yards.{Yard, actor_at, pin_in}
@@ -48,8 +48,7 @@ answer_publishes y a = go (course y a Answer)
   where
     go : (taken : Course) → published_on taken y (actor_at y a) a Answer ≡ []
     go (Refused outcome) = refl
-    go Dies = refl
-    go Plays = refl
+    go _ = refl
 
 -- from point to point the newest life goes on, by a mark or by none
 life_goes_on : (start : Start) (p q : Point) (L : List Life) → shape_of q.state ≡ shape_of p.state → ((life : Life) → StateSound p p.state life → StateSound q q.state life) → PointSound start p L → PointSound start q L

@@ -16,7 +16,7 @@ use Rattle.lz_machine.specs.declared.event.Event.TheVariants.{Invoke, Pin, Hop, 
 use Rattle.lz_machine.specs.declared.event.Outcome.{Outcome}
 use Rattle.lz_machine.specs.declared.event.Outcome.TheVariants.{Fault}
 use Rattle.lz_machine.specs.declared.event.Reply.{Reply}
-use Rattle.lz_machine.specs.declared.event.Reply.TheVariants.{Yes, No, Full, Worn as SaysWorn, OldFile as SaysOldFile, Halted, Device}
+use Rattle.lz_machine.specs.declared.event.Reply.TheVariants.{Yes, OldFile as SaysOldFile, Device}
 use Rattle.lz_machine.specs.declared.caller.Sequence.{Sequence}
 use Rattle.lz_machine.specs.declared.caller.Sequence.TheVariants.{Resting, Halting}
 use Rattle.lz_machine.specs.declared.caller.Progress.{Progress}
@@ -24,7 +24,7 @@ use Rattle.lz_machine.specs.declared.caller.Progress.TheVariants.{Playing, Answe
 use Rattle.lz_machine.specs.Yards.{Shape, Yard, actor_at}
 use Rattle.lz_machine.specs.Table.{call_on, course, is_old, is_played_dead, line, line_call, line_failed, line_on}
 use Rattle.lz_machine.specs.Calls.{goes_on, first_progress, begun, progress_after, changes}
-use Rattle.lz_machine.specs.Runs.{Caller, Service, State, Up, Down, Start, Point, Transition, Calls, Turn, Fails, Looks, Trips, Stops, Crashes, CrashesIn, Opens, OpenFails, caller_at, next_event, reply_at, moved_on, state_after, HasTurn, HasFault, MayStep, mark_of, mark_of_turn, marks_of_turn, marks_of, after_turn, after_fault, run, IsRun, first_point}
+use Rattle.lz_machine.specs.Runs.{Caller, Service, State, Up, Down, Start, Point, Transition, Calls, Turn, Fails, Looks, Trips, Stops, Crashes, Opens, OpenFails, caller_at, next_event, reply_at, moved_on, state_after, HasTurn, HasFault, MayStep, mark_of, mark_of_turn, marks_of_turn, marks_of, after_turn, after_fault, run, IsRun, first_point}
 use Rattle.lz_machine.specs.Halts.{FailsOnce, calls_due, device_due, device_reply, due_in, failed_in, reply_due, told_device}
 use Rattle.lz_machine.proofs.Alone.Halt.{replies}
 use Rattle.lz_machine.proofs.Frames.OneActor.{caller_range}
@@ -60,9 +60,8 @@ fails_alive y a e disk new may = elim (cases_Bool y.vault.dead) [
 
 -- and a vault that is alive was so before
 was_alive : (y : Yard) (a : ℕ) (e : Event) (k : Course) → (line_on k y (actor_at y a) a e).0.vault.dead ≡ false → y.vault.dead ≡ false
-was_alive y a e (Refused outcome) alive = alive
 was_alive y a e Dies alive = absurd (false≢true (sym alive))
-was_alive y a e Plays alive = alive
+was_alive y a e _ alive = alive
 
 -- a turn is no fault
 no_turn_fault : (y : Yard) (a : ℕ) (e : Event) → (line y a e).1 ≢ Fault
@@ -74,7 +73,6 @@ NotDue at = device_reply (reply_due at) ≡ 0
 
 same_due : (sequence : Sequence) (i j : ℕ) → reply_due (Playing sequence i) ≡ reply_due (Playing sequence j)
 same_due (Resting s reply) i j = refl
-same_due (Halting reply) i j = refl
 same_due _ i j = refl
 
 if_due : (b : Bool) (one other : Progress) → NotDue one → NotDue other → NotDue (if b then one else other)
@@ -120,12 +118,7 @@ due_none (suc n) = let rest = due_none n in omega (arith, rest)
 -- a reply ends its call, and shows what it told
 told_reply : (M : History) (i : ℕ) (reply : Reply) → told_device (mark_of i reply ∷ M) ≡ device_reply (Some reply) + told_device M
 told_reply M i Yes = omega arith
-told_reply M i No = omega arith
-told_reply M i (Full counts) = omega arith
-told_reply M i SaysWorn = omega arith
-told_reply M i SaysOldFile = omega arith
-told_reply M i Halted = omega arith
-told_reply M i Device = omega arith
+told_reply M i _ = omega arith
 
 -- so many device calls have failed in this life: none while the vault is alive
 abbrev IsAlive : State → Type 0
@@ -204,11 +197,9 @@ module _ (steps : List Transition) (y : Yard) (callers : List (Option Caller)) (
   up_failures i (Fails a new) may = fault_failures (failed_in steps) y callers disk M h new a (caller_at callers a) refl may
   up_failures i (Looks a) may = record { none = h.none; once = h.once; told = h.told }
   up_failures i Trips may = h
-  up_failures i Stops may = record { none = λ alive. absurd alive; once = h.once; told = nothing_told (failed_in steps) }
-  up_failures i (Crashes t) may = record { none = λ alive. absurd alive; once = h.once; told = nothing_told (failed_in steps) }
-  up_failures i (CrashesIn a t) may = record { none = λ alive. absurd alive; once = h.once; told = nothing_told (failed_in steps) }
   up_failures i Opens may = absurd may
   up_failures i (OpenFails why done) may = absurd may
+  up_failures i _ may = record { none = λ alive. absurd alive; once = h.once; told = nothing_told (failed_in steps) }
 
 down_failures : (steps : List Transition) (i : ℕ) (shape : Shape) (disk : Medium) (M : History) → Failures (failed_in steps) (Down shape disk) M → (step : Transition) → MayStep (Down shape disk) step
     → Failures (failed_in (step ∷ steps)) (state_after i (Down shape disk) step) (marks_of i (Down shape disk) step ++ M)

@@ -12,7 +12,7 @@ use Rattle.lz_vault.specs.declared.vault.Stage.TheVariants.{Closed, Keyed}
 use Rattle.lz_allot.specs.Uses.{is_outside}
 use Rattle.lz_list.specs.declared.place.Place.TheVariants.{Node}
 use Rattle.lz_list.specs.declared.walk.Look.{Look}
-use Rattle.lz_list.specs.declared.walk.Look.TheVariants.{AtHead, AtKey, AtMet, AtBelow}
+use Rattle.lz_list.specs.declared.walk.Look.TheVariants.{AtHead, AtBelow}
 use Rattle.lz_list.specs.Words.{get, is_marked_at}
 use Rattle.lz_list.specs.Walks.{wants}
 use Rattle.lz_list.specs.Hops.{LeadsOn}
@@ -28,7 +28,7 @@ use Rattle.lz_machine.specs.declared.event.Reply.TheVariants.{Worn as SaysWorn, 
 use Rattle.lz_machine.specs.declared.caller.Sequence.{Sequence}
 use Rattle.lz_machine.specs.declared.caller.Sequence.TheVariants.{Pinning, Resting, Writing, Adding, Removing, Releasing, Halting}
 use Rattle.lz_machine.specs.declared.caller.Progress.{Progress}
-use Rattle.lz_machine.specs.declared.caller.Progress.TheVariants.{Playing, LoadsHalt, Walking, Reserving, SeeingPins, Claiming, Checking, Answering}
+use Rattle.lz_machine.specs.declared.caller.Progress.TheVariants.{Playing, Walking, Reserving, SeeingPins, Claiming, Checking, Answering}
 use Rattle.lz_machine.specs.Yards.{Yard, actor_at, actor_in, stage_in}
 use Rattle.lz_machine.specs.Table.{last_pin, pin_of, needs, has_stage, may_claim, may_check, has_checked, has_opened, has_closed, has_marked, may_release, may_retire, line_on, line, stays_out}
 use Rattle.lz_machine.specs.Calls.{event_at, loaded}
@@ -112,14 +112,13 @@ module _ (n calls : ℕ) (y : Yard) (callers : List (Option Caller)) (disk : Med
   remove_has : (c : Command) (s i : ℕ) → HasIn c (Removing s) i
   remove_has (Remove k) s zero pin h = closes_now s h.2.0 h.0
   remove_has (Remove k) s (suc zero) pin h = ap has_closed h.2.0
-  remove_has (Remove k) s (suc (suc zero)) pin h = refl
-  remove_has (Remove k) s (suc (suc (suc zero))) pin h = refl
   remove_has (Remove k) s (suc (suc (suc (suc zero)))) pin h = unlinks_now k s h.2.0 h.0 h.2.1 h.2.2
   remove_has (Remove k) s (suc (suc (suc (suc (suc zero))))) pin h = ap may_release h.2.0
   remove_has (Remove k) s (suc (suc (suc (suc (suc (suc zero)))))) pin h = ap may_retire h.2.0
   remove_has (Remove k) s (suc (suc (suc (suc (suc (suc (suc i))))))) pin h = absurd h.2
   remove_has (Add k) s i pin h = absurd h
   remove_has (Has k) s i pin h = absurd h
+  remove_has (Remove k) s _ pin h = refl
 
   sequence_has : (c : Command) (sequence : Sequence) (i : ℕ) → HasIn c sequence i
   sequence_has c Pinning zero pin h = outside_even (pin_of y a) pin
@@ -148,13 +147,12 @@ module _ (n calls : ℕ) (y : Yard) (callers : List (Option Caller)) (disk : Med
   pub has_needs : (c : Command) (at : Progress) → IsWornAt (pin_of y a) at → pin_of y a % 2 ≡ side_of (is_before_pin at) → Relies v c at (notes.begun a) P (notes.changed a)
       → needs y a (loaded y.words (event_at y.shape c at)) ≡ true
   has_needs c (Playing sequence i) worn pin h = sequence_has c sequence i pin h
-  has_needs c LoadsHalt worn pin h = inside_odd (pin_of y a) pin
-  has_needs c (Walking aim look) worn pin h = inside_odd (pin_of y a) pin
   has_needs c (Reserving again) worn pin h = ap (λ (q : Option ℕ). not (is_some q)) h.1
   has_needs c (SeeingPins p) worn pin h = refl
   has_needs c (Claiming aim pred curr) worn pin h = ap may_claim h.0.hold
   has_needs c (Checking aim curr) worn pin h = ap may_check h.1
   has_needs c (Answering reply) worn pin h = answer_has c reply worn pin h
+  has_needs c _ worn pin h = inside_odd (pin_of y a) pin
 
 -- What a caller takes is in range.
 module _ (n calls : ℕ) (y : Yard) (callers : List (Option Caller)) (disk : Medium) (M : History) (P : Trace) (notes : Notes) (sound : Sound n calls y callers disk M P notes) (a : ℕ) (c : Command) where
@@ -166,8 +164,7 @@ module _ (n calls : ℕ) (y : Yard) (callers : List (Option Caller)) (disk : Med
   looks_on (AtBelow s) h =
       let lt = stood_range y.shape.buckets y.shape.slots (notes.begun a) P (bucket_of y.shape.buckets (key_of c)) s sound.trace.lawful h.stood in
       subst (λ (q : ℕ). q ≤ most_slots) (sym (link_next y.shape y.words P sound.trace (few_slots sound.images) s lt)) (omega (arith, sound.trace.small s, few_slots sound.images))
-  looks_on (AtKey pred s) h = tt
-  looks_on (AtMet pred s) h = tt
+  looks_on _ h = tt
 
   takes_hop : (aim : Option ℕ) (look : Look) → IsLooking y.shape.buckets (key_of c) (notes.begun a) P look → MayTake (Walking aim look) (line y a (Hop (wants y.shape.buckets (key_of c) look))).1
   takes_hop aim look h =

@@ -9,7 +9,7 @@ use Rattle.lz_slot.specs.Histories.{History, Life, lives}
 use Rattle.lz_slot.proofs.Counted.{of_pass_same, of_pass_other}
 use Rattle.lz_disk.specs.Images.{Medium, at_rest}
 use Rattle.lz_vault.specs.declared.vault.Stage.{Stage}
-use Rattle.lz_vault.specs.declared.vault.Stage.TheVariants.{Open, Closed}
+use Rattle.lz_vault.specs.declared.vault.Stage.TheVariants.{Open}
 use Rattle.lz_allot.specs.declared.sight.Sight.{Sight}
 use Rattle.lz_allot.specs.declared.sight.Sight.TheVariants.{Unseen, Inside, Left}
 use Rattle.lz_allot.specs.Uses.{Use, Free, Taken, Limbo, Moment, Pins, use_of, collect, collect_at, lowest_free, is_outside, sight_after, see_pin, was_outside}
@@ -20,7 +20,7 @@ use Rattle.lz_machine.specs.declared.actor.Actor.{Actor}
 use Rattle.lz_machine.specs.declared.actor.Hold.{Hold}
 use Rattle.lz_machine.specs.declared.actor.Hold.TheVariants.{Marked}
 use Rattle.lz_machine.specs.declared.course.Course.{Course}
-use Rattle.lz_machine.specs.declared.course.Course.TheVariants.{Refused, Dies, Plays}
+use Rattle.lz_machine.specs.declared.course.Course.TheVariants.{Plays}
 use Rattle.lz_machine.specs.declared.event.Event.{Event}
 use Rattle.lz_machine.specs.declared.event.Event.TheVariants.{Pin, Reserve, Link, Settle, Unlink, Retire, SeePin, Answer}
 use Rattle.lz_machine.specs.Yards.{Shape, Yard, actor_at, cell_at, slots_read, pin_in}
@@ -151,7 +151,6 @@ module _ (n calls : ℕ) (y : Yard) (callers : List (Option Caller)) (disk : Med
   -- only an unlinking is a moment
   settled_none : (stage : Stage) (s : ℕ) → unlinkings (settling stage s) ≡ []
   settled_none Open s = refl
-  settled_none Closed s = refl
   settled_none _ s = refl
 
   abbrev Shown : Event → ℕ → ℕ → List Moment → Type 0
@@ -270,9 +269,8 @@ module _ (n calls : ℕ) (y : Yard) (callers : List (Option Caller)) (disk : Med
     seen_after = go (course y a e) refl
       where
         go : (k : Course) → course y a e ≡ k → AreSeen y.shape.passes (line_on k y actor a e).0.words.pins (line_on k y actor a e).0.uses (Pins (line_on k y actor a e).0.words.pins ∷ unlinkings (published_on k y actor a e) ++ ms)
-        go (Refused outcome) is = same_seen y.shape.passes y.words.pins y.uses ms h
-        go Dies is = same_seen y.shape.passes y.words.pins y.uses ms h
         go Plays is = played (plays_needs y a e is)
+        go _ is = same_seen y.shape.passes y.words.pins y.uses ms h
 
 -- a turn, a fault
 module _ (n calls : ℕ) (service : Service) (disk : Medium) (M : History) (P : Trace) (notes : Notes) (sound : Sound n calls service.yard service.callers disk M P notes) (a : ℕ) (ms : List Moment)

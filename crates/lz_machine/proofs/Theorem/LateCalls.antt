@@ -19,14 +19,14 @@ use Rattle.lz_machine.specs.declared.event.Event.{Event}
 use Rattle.lz_machine.specs.declared.event.Event.TheVariants.{Pin, Hop}
 use Rattle.lz_machine.specs.declared.event.Outcome.TheVariants.{NotNow, Fault}
 use Rattle.lz_machine.specs.declared.event.Reply.{Reply}
-use Rattle.lz_machine.specs.declared.event.Reply.TheVariants.{Yes, No, Full, Worn as SaysWorn, OldFile as SaysOldFile, Halted, Device}
+use Rattle.lz_machine.specs.declared.event.Reply.TheVariants.{Yes, Worn as SaysWorn, OldFile as SaysOldFile, Halted, Device}
 use Rattle.lz_machine.specs.declared.caller.Progress.{Progress}
 use Rattle.lz_machine.specs.declared.caller.Progress.TheVariants.{Playing, LoadsHalt, Answering}
 use Rattle.lz_machine.specs.declared.caller.Sequence.TheVariants.{Pinning}
 use Rattle.lz_machine.specs.Yards.{Shape, Yard, actor_at, first_trace}
 use Rattle.lz_machine.specs.Table.{call_on, course, is_old, line, line_on, line_call, line_failed, pin_of}
 use Rattle.lz_machine.specs.Calls.{begun, first_progress, halt_loaded, progress_after}
-use Rattle.lz_machine.specs.Runs.{Caller, Service, State, Up, Down, Start, IsStart, Point, Transition, Calls, Turn, Fails, Looks, Trips, Stops, Crashes, CrashesIn, Opens, OpenFails, caller_at, next_event, reply_at, moved_on, opened_service, state_after, trace_after, HasTurn, HasFault, MayStep, mark_of, mark_of_turn, marks_of_turn, marks_of, after_turn, after_fault, turn_publishes, run, IsRun, first_point}
+use Rattle.lz_machine.specs.Runs.{Caller, Service, State, Up, Down, Start, IsStart, Point, Transition, Calls, Turn, Fails, Looks, Trips, Stops, Crashes, Opens, OpenFails, caller_at, next_event, reply_at, moved_on, opened_service, state_after, trace_after, HasTurn, HasFault, MayStep, mark_of, mark_of_turn, marks_of_turn, marks_of, after_turn, after_fault, turn_publishes, run, IsRun, first_point}
 use Rattle.lz_machine.specs.CallersSound.{IsCaller, Relies, View, view_of}
 use Rattle.lz_machine.specs.Halts.{HaltLasts, HaltsLast, IsLate, IsLateReply, IsMadeLate, MayTellLate, was_cut}
 use Rattle.lz_machine.proofs.Alone.Halt.{device_word, halted_word, replies}
@@ -56,24 +56,17 @@ before_reply M i j _ h = h
 
 -- and is one of the replies to late calls, where its call is late
 may_tell : (M : History) (i : ℕ) (reply : Reply) → (IsMadeLate M i → IsLateReply reply) → MayTellLate (mark_of i reply) M
-may_tell M i Yes h = h
-may_tell M i No h = h
-may_tell M i (Full counts) h = h
 may_tell M i SaysWorn h = tt
 may_tell M i SaysOldFile h = tt
 may_tell M i Halted h = tt
-may_tell M i Device h = h
+may_tell M i _ h = h
 
 -- where it cuts its call off the halt word is set
 module _ (v : View) (c : Command) (P0 P : Trace) (changed : Option ℕ) (M : History) (i : ℕ) (before : was_cut M ≡ true → halt_word P ≡ 1) where
   cut_word : (reply : Reply) → Relies v c (Answering reply) P0 P changed → was_cut (mark_of i reply ∷ M) ≡ true → halt_word P ≡ 1
   cut_word Halted relies cut = halted_word v c P0 P changed relies
   cut_word Device relies cut = device_word v c P0 P changed relies
-  cut_word Yes relies cut = before cut
-  cut_word No relies cut = before cut
-  cut_word (Full counts) relies cut = before cut
-  cut_word SaysWorn relies cut = before cut
-  cut_word SaysOldFile relies cut = before cut
+  cut_word _ relies cut = before cut
 
 late_reply : (at : Progress) (reply : Reply) → reply_at at ≡ Some reply → IsLate at → IsLateReply reply
 late_reply at reply is late = subst IsLate (replies at reply is) late
@@ -227,11 +220,9 @@ module _ (calls : ℕ) (y : Yard) (callers : List (Option Caller)) (disk : Mediu
   up_halts (Fails a new) may = fault_halts new a (caller_at callers a) refl may
   up_halts (Looks a) may = record { lasts = h.lasts; cut = h.cut; late = h.late }
   up_halts Trips may = h
-  up_halts Stops may = record { lasts = (tt, h.lasts); cut = λ cut. absurd (false≢true cut); late = tt }
-  up_halts (Crashes t) may = record { lasts = (tt, h.lasts); cut = λ cut. absurd (false≢true cut); late = tt }
-  up_halts (CrashesIn a t) may = record { lasts = (tt, h.lasts); cut = λ cut. absurd (false≢true cut); late = tt }
   up_halts Opens may = absurd may
   up_halts (OpenFails why done) may = absurd may
+  up_halts _ may = record { lasts = (tt, h.lasts); cut = λ cut. absurd (false≢true cut); late = tt }
 
 -- an open begins with no calls
 none_late : (shape : Shape) (t : List ℕ) (disk : Medium) (M : History) (P : Trace) → AllLate (Up (opened_service shape t) disk) M P

@@ -1,5 +1,5 @@
 -- What an event rests on where it is played follows from the invariant.
-use Rattle.std.proofs.Common.{◌≡◌, inl, inr, ℕ, zero, suc, ◌<◌, ◌≤◌, not, ◌&&◌, Bool, true, false, List, [], length, Option, Some, None, is_some, refl, sym, ap, ◌∙◌, subst, arith}
+use Rattle.std.proofs.Common.{◌≡◌, inl, inr, ℕ, suc, ◌<◌, ◌≤◌, not, ◌&&◌, Bool, true, false, List, [], length, Option, Some, None, is_some, refl, sym, ap, ◌∙◌, subst, arith}
 use mathlib.Core.Bool.{false≢true}
 use Rattle.std.specs.Prelude.{unwrap_or, IsSomeAnd, IfSome}
 use Rattle.std.proofs.lemmas.Bool.{cases_Bool, not-true, and_parts}
@@ -213,17 +213,10 @@ module _ (words : Words) (shape : Shape) (v : View) (c : Command) (P0 P : Trace)
   Retires at = is_retire (loaded words (event_at shape c at)) ≡ true
 
   retires_in : (sequence : Sequence) (i : ℕ) → Relies v c (Playing sequence i) P0 P changed → Retires (Playing sequence i) → (s : ℕ) × (v.actor.curr ≡ Some s)
-  retires_in Pinning zero h is = absurd (false≢true is)
   retires_in Pinning (suc i) h is = absurd h
-  retires_in (Resting s reply) zero h is = absurd (false≢true is)
-  retires_in (Resting s reply) (suc zero) h is = absurd (false≢true is)
   retires_in (Resting s reply) (suc (suc i)) h is = absurd h
-  retires_in (Writing s) zero h is = absurd (false≢true is)
-  retires_in (Writing s) (suc zero) h is = absurd (false≢true is)
   retires_in (Writing s) (suc (suc i)) h is = absurd h
-  retires_in (Releasing aim) zero h is = absurd (false≢true is)
   retires_in (Releasing aim) (suc i) h is = absurd h
-  retires_in (Halting reply) zero h is = absurd (false≢true is)
   retires_in (Halting reply) (suc i) h is = absurd h
   retires_in (Adding s) i h is = adding c i h is
     where
@@ -238,6 +231,7 @@ module _ (words : Words) (shape : Shape) (v : View) (c : Command) (P0 P : Trace)
       removing (Remove k) g = (s, g.0)
       removing (Add k) g = absurd g
       removing (Has k) g = absurd g
+  retires_in _ _ h is = absurd (false≢true is)
 
   retires_node : (at : Progress) → Relies v c at P0 P changed → Retires at → (s : ℕ) × (v.actor.curr ≡ Some s)
   retires_node (Playing sequence i) h is = retires_in sequence i h is

@@ -18,7 +18,7 @@ use Rattle.lz_machine.specs.declared.caller.Progress.{Progress}
 use Rattle.lz_machine.specs.declared.caller.Progress.TheVariants.{Answering}
 use Rattle.lz_machine.specs.Yards.{Shape, IsInside, pin_in, stage_in}
 use Rattle.lz_machine.specs.CallsStand.{is_out, trace_outside, own_change, CallsStand, MarkedIsClosed}
-use Rattle.lz_machine.specs.Runs.{Start, IsStart, Caller, Service, State, Up, Down, Transition, Calls, Turn, Fails, Looks, Trips, Stops, Crashes, CrashesIn, Opens, OpenFails, Point, MayStep, HasTurn, HasFault, IsRun, run, first_point, point_after, caller_at, state_after, trace_after, calls_made_after, after_turn, after_fault, turn_publishes, reply_at, opened_service, marks_of, mark_of}
+use Rattle.lz_machine.specs.Runs.{Start, IsStart, Caller, Service, State, Up, Down, Transition, Calls, Turn, Fails, Looks, Trips, Stops, Crashes, Opens, OpenFails, Point, MayStep, HasTurn, HasFault, IsRun, run, first_point, point_after, caller_at, state_after, trace_after, calls_made_after, after_turn, after_fault, turn_publishes, reply_at, opened_service, marks_of, mark_of}
 use Rattle.lz_machine.specs.Notes.{Notes}
 use Rattle.lz_machine.specs.CallersSound.{CallerSound, view_of}
 use Rattle.lz_machine.specs.SlotsSound.{SlotStands, is_node, is_held, is_out as is_gone, is_free, is_limbo, IsNodeStage}
@@ -125,11 +125,9 @@ up_next calls service disk P B h (Turn a) may = turn_next calls service disk P B
 up_next calls service disk P B h (Fails a new) may = fault_next calls service disk P B h a new (caller_at service.callers a) refl may
 up_next calls service disk P B h (Looks a) may = look_next calls service disk P B h a may
 up_next calls service disk P B h Trips may = record { n = h.n; life = h.life; notes = h.notes; up = h.up; noted = noted_same service.yard.words.pins service.yard.words.pins P h.notes.begun refl; told = told_same service.yard.words.pins P h.notes.changed }
-up_next calls service disk P B h Stops may = tt
-up_next calls service disk P B h (Crashes t) may = tt
-up_next calls service disk P B h (CrashesIn a t) may = tt
 up_next calls service disk P B h Opens may = absurd may
 up_next calls service disk P B h (OpenFails why done) may = absurd may
+up_next calls service disk P B h _ may = tt
 
 module _ (calls : ℕ) (service : Service) (disk : Medium) (P Q : Trace) (B : ℕ → Trace) (h : IsTied calls service disk P B) (out : (b : ℕ) → is_outside (pin_in service.yard.words.pins b) ≡ true → B b ≡ P) where
   went_in : (b : ℕ) → pin_in service.yard.words.pins b % 2 ≡ 0 → B b ≡ P

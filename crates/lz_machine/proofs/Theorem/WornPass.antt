@@ -11,7 +11,7 @@ use Rattle.lz_slot.proofs.Counted.{of_pass_same, of_pass_other}
 use Rattle.lz_disk.specs.Images.{Medium, at_rest, synced}
 use Rattle.lz_list.specs.Traces.{Trace}
 use Rattle.lz_machine.specs.declared.course.Course.{Course}
-use Rattle.lz_machine.specs.declared.course.Course.TheVariants.{Refused, Dies, Plays}
+use Rattle.lz_machine.specs.declared.course.Course.TheVariants.{Plays}
 use Rattle.lz_machine.specs.declared.event.Event.{Event}
 use Rattle.lz_machine.specs.declared.event.Event.TheVariants.{Answer}
 use Rattle.lz_machine.specs.declared.event.Outcome.{Outcome}
@@ -25,7 +25,7 @@ use Rattle.lz_machine.specs.declared.caller.Progress.TheVariants.{Playing, Answe
 use Rattle.lz_machine.specs.Yards.{Shape, Yard, actor_at, opened_yard}
 use Rattle.lz_machine.specs.Table.{last_pin, pin_of, course, line_on, line, line_failed, is_old}
 use Rattle.lz_machine.specs.Calls.{goes_on, first_progress, progress_after, changes, begun}
-use Rattle.lz_machine.specs.Runs.{Start, State, Up, Down, Transition, Calls, Turn, Fails, Looks, Trips, Stops, Crashes, CrashesIn, Opens, OpenFails, Service, Caller, caller_at, next_event, reply_at, moved_on, looked, state_after, after_turn, after_fault, HasTurn, HasFault, MayStep, first_point, run, IsRun, IsStart, opened_service, invoked}
+use Rattle.lz_machine.specs.Runs.{Start, State, Up, Down, Transition, Calls, Turn, Fails, Looks, Trips, Stops, Crashes, Opens, OpenFails, Service, Caller, caller_at, next_event, reply_at, moved_on, looked, state_after, after_turn, after_fault, HasTurn, HasFault, MayStep, first_point, run, IsRun, IsStart, opened_service, invoked}
 use Rattle.lz_machine.specs.Notes.{Notes}
 use Rattle.lz_machine.specs.CallersSound.{View, view_of, MayRest, IsCut, Relies, CallerSound}
 use Rattle.lz_machine.specs.Sound.{Sound, IsSound}
@@ -57,9 +57,8 @@ module _ (y : Yard) (a : ℕ) (low : 1 ≤ a) (high : a ≤ length y.words.pins)
 -- An event changes no other actor's pin word.
 module _ (y : Yard) (a b : ℕ) (other : b ≢ a) where
   on_other : (e : Event) (taken : Course) → pin_of (line_on taken y (actor_at y a) a e).0 b ≡ pin_of y b
-  on_other e (Refused outcome) = refl
-  on_other e Dies = refl
   on_other e Plays = pins_other y (actor_at y a) a b e other
+  on_other e _ = refl
 
   pub pin_other : (e : Event) → pin_of (line y a e).0 b ≡ pin_of y b
   pin_other e = on_other e (course y a e)
@@ -192,11 +191,9 @@ module _ (looks : Bool) (n calls : ℕ) (y : Yard) (callers : List (Option Calle
   up_fits i (Fails a new) may = fault_fits looks n calls y callers disk M P notes sound fits new a (caller_at callers a) refl may
   up_fits i (Looks a) may = look_fits looks n calls y callers disk M P notes sound fits a (none_of (caller_at callers a) may.1)
   up_fits i Trips may = fits
-  up_fits i Stops may = tt
-  up_fits i (Crashes t) may = tt
-  up_fits i (CrashesIn a t) may = tt
   up_fits i Opens may = absurd may
   up_fits i (OpenFails why done) may = absurd may
+  up_fits i _ may = tt
 
 -- an open begins with no callers, and pins that are 0
 opened_fits : (looks : Bool) (shape : Shape) (t : List ℕ) (disk : Medium) → AllFit looks (Up (opened_service shape t) disk)
