@@ -287,11 +287,7 @@ module _ (start : Start) (a : ℕ) (service : Service) (disk : Medium) (M : Hist
   AloneAfter step = MayStep (Up service disk) step → IsSound start (point_after before step) → AloneAt start a (point_after before step)
 
   callers_count : caller_at service.callers a ≡ None → IsActor service a → a ≤ length service.callers
-  callers_count none actor = go L sound
-    where
-      go : (K : List Life) → PointSound start before K → a ≤ length service.callers
-      go [] h = absurd h
-      go (life ∷ earlier) h = omega (arith, actor.1, h.2.2.sound.callers.count)
+  callers_count none actor = grind arith
 
   pub up_alone : (step : Transition) → IsOwn a step → AloneAfter step
   up_alone (Calls b d) own may sound' = subst (λ (q : ℕ). AloneAfter (Calls q d)) (sym own) (λ may sound'.

@@ -1,58 +1,36 @@
 -- The halt word is written only where the vault is dead; so halted is answered only there, and worn only at the last pin.
-use Rattle.std.proofs.Common.{◌≡◌, ◌⊎◌, ⊎_elim, inl, inr, ℕ, Bool, true, false, List, [], ◌∷◌, Option, Some, None, refl, sym, ap, ◌∙◌, subst, arith, zero, suc}
-use Rattle.std.specs.Prelude.{if◌then◌else◌}
-use mathlib.Core.Bool.{false≢true}
-use Rattle.std.proofs.lemmas.Bool.{cases_Bool}
+use Rattle.std.proofs.Common.{◌≡◌, ◌⊎◌, ⊎_elim, ℕ, true, false, List, [], ◌∷◌, Option, Some, None, refl, sym, ap, ◌∙◌, subst, arith}
 use Rattle.std.proofs.lemmas.Option.{none-some, same_Some}
 use Rattle.lz_slot.specs.declared.command.Command.{Command}
 use Rattle.lz_slot.specs.declared.command.Command.TheVariants.{Add}
 use Rattle.lz_slot.specs.Bytes.{held}
 use Rattle.lz_disk.specs.Images.{Medium}
-use Rattle.lz_list.specs.declared.place.Place.{Place}
-use Rattle.lz_list.specs.declared.place.Place.TheVariants.{Bucket, Node}
-use Rattle.lz_list.specs.Words.{Words, redirect, change_flags}
 use Rattle.lz_list.specs.Traces.{Trace, Chain, opening, halt_word}
-use Rattle.lz_flush.specs.Settling.{settle}
 use Rattle.lz_machine.specs.declared.course.Course.{Course}
 use Rattle.lz_machine.specs.declared.course.Course.TheVariants.{Refused, Dies, Plays}
 use Rattle.lz_machine.specs.declared.actor.Actor.{Actor}
 use Rattle.lz_machine.specs.declared.event.Event.{Event}
-use Rattle.lz_machine.specs.declared.event.Event.TheVariants.{Link, Settle, Unlink, Answer, Halt}
+use Rattle.lz_machine.specs.declared.event.Event.TheVariants.{Halt}
 use Rattle.lz_machine.specs.declared.event.Reply.{Reply}
 use Rattle.lz_machine.specs.declared.event.Reply.TheVariants.{Worn as SaysWorn, OldFile as SaysOldFile, Halted, Device}
 use Rattle.lz_machine.specs.declared.caller.Progress.{Progress}
-use Rattle.lz_machine.specs.declared.caller.Progress.TheVariants.{Playing, Answering}
-use Rattle.lz_machine.specs.Yards.{Shape, Yard, actor_at, cell_at, first_trace}
-use Rattle.lz_machine.specs.Table.{course, line, line_on, pin_of, words_after, is_sure, is_old}
+use Rattle.lz_machine.specs.declared.caller.Progress.TheVariants.{Answering}
+use Rattle.lz_machine.specs.Yards.{Shape, Yard, actor_at, first_trace}
+use Rattle.lz_machine.specs.Table.{course, line, line_on, pin_of, words_after, is_old}
 use Rattle.lz_machine.specs.Runs.{Start, Caller, Service, State, Up, Down, Transition, Turn, Fails, Stops, Crashes, CrashesIn, Opens, OpenFails, MayStep, IsRun, run, first_point, state_after, caller_at, next_event, reply_at, after_turn, after_fault}
-use Rattle.lz_machine.specs.CallersSound.{View, Relies, view_of, IsCaller, is_before_pin, side_of}
+use Rattle.lz_machine.specs.CallersSound.{View, Relies, view_of, IsCaller}
 use Rattle.lz_machine.specs.Alone.{RefusalsAreRight}
 use Rattle.lz_machine.proofs.Theorem.Reached.{reached_sound, up_at}
-use Rattle.lz_machine.specs.declared.caller.Sequence.TheVariants.{Pinning}
 use Rattle.lz_machine.proofs.Theorem.Timeliness.{worn_there}
 use Rattle.lz_machine.proofs.Frames.OneActor.{mine}
-use Rattle.lz_machine.proofs.Frames.Outside.{answered_halt}
 use Rattle.lz_machine.proofs.Runs.Course.{plays_needs}
 
 -- only one event writes the halt word, which needs a dead vault
-redirect_halt : (w : Words) (place : Place) (n : ℕ) → (redirect w place n).halt ≡ w.halt
-redirect_halt w (Bucket b) n = refl
-redirect_halt w (Node s) n = refl
-
 abbrev KeepsHalt : Yard → Actor → ℕ → Event → Type 0
 KeepsHalt y actor a e = (words_after y actor a e).halt ≡ y.words.halt
 
 halt_or_not : (y : Yard) (actor : Actor) (a : ℕ) (e : Event) → (e ≡ Halt) ⊎ KeepsHalt y actor a e
-halt_or_not y actor a Link = inr (redirect_halt y.words actor.pred _)
-halt_or_not y actor a (Settle s) = inr (go (is_sure y s))
-  where
-    go : (sure : Bool) → (if sure then change_flags (settle (cell_at y s).stage) y.words s else y.words).halt ≡ y.words.halt
-    go true = refl
-    go false = refl
-halt_or_not y actor a Unlink = inr (redirect_halt y.words actor.pred _)
-halt_or_not y actor a Answer = inr (answered_halt y actor a)
-halt_or_not y actor a Halt = inl refl
-halt_or_not y actor a _ = inr refl
+halt_or_not y actor a e = grind arith
 
 abbrev IsDeadHalt : Yard → Type 0
 IsDeadHalt y = y.words.halt ≡ 1 → y.vault.dead ≡ true
@@ -124,18 +102,8 @@ pub old_command : (v : View) (c : Command) (P0 P : Trace) (changed : Option ℕ)
 old_command v c P0 P changed at is h = (subst (λ (q : Progress). Relies v c q P0 P changed) is h).2
 
 -- and such a call is told so
-outside_told : (v : View) (c : Command) (P0 P : Trace) (changed : Option ℕ) (at : Progress) → is_before_pin at ≡ true → Relies v c at P0 P changed → is_old v.format c ≡ true → reply_at at ≡ Some SaysOldFile
-outside_told v c P0 P changed (Playing Pinning zero) outside h is = absurd (false≢true (sym h.2 ∙ is))
-outside_told v c P0 P changed (Playing Pinning (suc i)) outside h is = absurd h
-outside_told v c P0 P changed (Answering SaysWorn) outside h is = absurd (false≢true (sym h.2 ∙ is))
-outside_told v c P0 P changed (Answering SaysOldFile) outside h is = refl
-outside_told v c _ _ changed at outside h is = absurd (false≢true outside)
-
 pub told_old : (v : View) (pin : ℕ) (caller : Caller) (P0 P : Trace) (changed : Option ℕ) → IsCaller v pin (Some caller) P0 P changed → is_old v.format caller.command ≡ true → reply_at caller.progress ≡ Some SaysOldFile
-told_old v pin caller P0 P changed h is = elim (cases_Bool (is_before_pin caller.progress)) [
-  | inl outside ↦ outside_told v caller.command P0 P changed caller.progress outside h.2 is
-  | inr inside ↦ absurd (false≢true (sym (h.1 (h.0 ∙ ap side_of inside)) ∙ is))
-]
+told_old v pin caller P0 P changed h is = grind arith
 
 -- worn comes only at the last pin, halted and device only of a dead vault, and an old file is told of exactly where a key is
 -- added that the file can't hold

@@ -1,5 +1,5 @@
 -- Where one actor is alone, full comes exactly where there is no room.
-use Rattle.std.proofs.Common.{◌≡◌, inl, inr, ℕ, zero, suc, ◌≤◌, ◌<◌, ◌%◌, if◌then◌else◌, Bool, true, false, List, [], ◌∷◌, ◌++◌, length, map, Option, Some, None, refl, sym, ap, ◌∙◌, subst, arith}
+use Rattle.std.proofs.Common.{◌≡◌, inl, ℕ, zero, suc, ◌≤◌, ◌<◌, ◌%◌, if◌then◌else◌, Bool, true, false, List, [], ◌∷◌, ◌++◌, length, map, Option, Some, None, refl, sym, ap, ◌∙◌, subst, arith}
 use Rattle.lz_slot.specs.declared.command.Command.{Command}
 use Rattle.lz_slot.specs.declared.command.Command.TheVariants.{Add}
 use Rattle.lz_slot.specs.declared.history.Mark.TheVariants.{Call}
@@ -41,7 +41,6 @@ use Rattle.lz_machine.specs.Formats.{HasFormat}
 use Rattle.lz_machine.proofs.Theorem.Formats.{run_format}
 use Rattle.lz_machine.proofs.Alone.Halt.{old_command, told_old}
 use Rattle.std.proofs.lemmas.Option.{same_Some}
-use Rattle.std.proofs.lemmas.Bool.{cases_Bool}
 use Rattle.lz_machine.proofs.Crash.ImageSlots.{reads}
 use Rattle.lz_machine.proofs.Theorem.Reached.{reached_sound}
 use Rattle.lz_machine.proofs.Alone.Service.{Ended}
@@ -172,10 +171,7 @@ sized_mark F N i a c (life ∷ earlier) h = h
 
 -- a call that isn't told of an old file adds no key of another format
 not_old : (F : Format) (c : Command) (reply : Reply) → (is_old F c ≡ true → reply ≡ OldFile) → (reply ≡ OldFile → ⊥) → is_old F c ≡ false
-not_old F c reply tells other = elim (cases_Bool (is_old F c)) [
-  | inl old ↦ absurd (other (tells old))
-  | inr new ↦ new
-]
+not_old F c reply tells other = grind arith
 
 -- what a reply says of room
 module _ (F : Format) (N i a n : ℕ) (c : Command) (M : History) (S : Keys) (ended : Ended i M) (sized : IsSized F N S M) (t : List ℕ) (new : Keys) (holds : Holds t N new) where

@@ -1,12 +1,11 @@
 -- What runs of one actor keep: its calls end one after the other, and once a call was cut off, each later one loads the halt word.
-use Rattle.std.proofs.Common.{◌≡◌, ◌≢◌, ◌⊎◌, inl, inr, ℕ, ◌<◌, Bool, true, false, List, ◌∷◌, Option, Some, None, refl, sym, subst}
+use Rattle.std.proofs.Common.{◌≡◌, ◌≢◌, ◌⊎◌, inl, inr, ℕ, ◌<◌, Bool, true, false, List, ◌∷◌, Option, Some, None, refl, sym, subst, arith}
 use Rattle.std.specs.Prelude.{if◌then◌else◌}
-use Rattle.std.proofs.lemmas.Bool.{cases_eq}
 use Rattle.lz_slot.specs.declared.command.Command.{Command}
 use Rattle.lz_slot.specs.declared.history.Mark.TheVariants.{Call}
 use Rattle.lz_slot.specs.Histories.{History}
 use Rattle.lz_disk.specs.Images.{Medium, IsImage}
-use Rattle.lz_vault.specs.Vaults.{DeviceCall, NoCall, medium_after}
+use Rattle.lz_vault.specs.Vaults.{NoCall}
 use Rattle.lz_list.specs.declared.word.Word.TheVariants.{Halt as halt_word}
 use mathlib.Core.Bool.{false≢true}
 use Rattle.lz_machine.proofs.Runs.Course.{course_by, each_course}
@@ -24,10 +23,9 @@ use Rattle.lz_machine.specs.declared.caller.Progress.TheVariants.{Playing, Loads
 use Rattle.lz_machine.specs.Yards.{Yard, actor_at}
 use Rattle.lz_machine.specs.Table.{course, line, line_on, line_call, call_on, call_of}
 use Rattle.lz_machine.specs.Calls.{event_at, loaded, progress_after, first_progress}
-use Rattle.lz_machine.specs.Runs.{Caller, Service, Up, caller_at, next_event, MayLeave, LeftInside}
+use Rattle.lz_machine.specs.Runs.{Caller, Service, Up, caller_at, next_event, MayLeave}
 use Rattle.lz_machine.specs.Alone.{has_cut}
 use Rattle.lz_machine.proofs.Alone.Service.{Ended}
-use Rattle.lz_machine.proofs.Frames.Outside.{answered_halt}
 
 -- a call that finds the halt word
 abbrev pub IsHalting : Progress → Type 0
@@ -61,9 +59,6 @@ calls_nothing : (k : Course) (y : Yard) (actor : Actor) (e : Event) → call_of 
 calls_nothing Plays y actor e none = none
 calls_nothing _ y actor e none = refl
 
-pin_is_quiet : (y : Yard) (a : ℕ) → line_call y a Pin ≡ NoCall
-pin_is_quiet y a = calls_nothing (course y a Pin) y (actor_at y a) Pin refl
-
 pub answer_is_quiet : (y : Yard) (a : ℕ) → line_call y a Answer ≡ NoCall
 answer_is_quiet y a = calls_nothing (course y a Answer) y (actor_at y a) Answer refl
 
@@ -71,25 +66,12 @@ abbrev QuietAt : Yard → ℕ → Command → Progress → Type 0
 QuietAt y a c at = line_call y a (loaded y.words (event_at y.shape c at)) ≡ NoCall
 
 pub halting_quiet : (y : Yard) (a : ℕ) (c : Command) (at : Progress) → IsHalting at → QuietAt y a c at
-halting_quiet y a c at (inl is) = subst (QuietAt y a c) (sym is) (pin_is_quiet y a)
-halting_quiet y a c at (inr (inl is)) = subst (QuietAt y a c) (sym is) (calls_nothing (course y a (Hop halt_word)) y (actor_at y a) (Hop halt_word) refl)
-halting_quiet y a c at (inr (inr (inl is))) = subst (QuietAt y a c) (sym is) (answer_is_quiet y a)
-halting_quiet y a c at (inr (inr (inr (inl is)))) = subst (QuietAt y a c) (sym is) (answer_is_quiet y a)
-halting_quiet y a c at (inr (inr (inr (inr is)))) = subst (QuietAt y a c) (sym is) (answer_is_quiet y a)
+halting_quiet y a c at h4 = grind arith
 
 -- what a crash may leave where no device call comes next
-inside_is_image : (service : Service) (disk : Medium) (b : ℕ) (who : Option Caller) (t : List ℕ) → IsQuietCall service b who → LeftInside service disk b who t → IsImage disk t
-inside_is_image service disk b None t quiet h = absurd h
-inside_is_image service disk b (Some caller) t quiet (inl image) = image
-inside_is_image service disk b (Some caller) t quiet (inr image) = subst (λ (call : DeviceCall). IsImage (medium_after call disk) t) quiet image
-
 pub only_images : (a : ℕ) (service : Service) (disk : Medium) → ((b : ℕ) → b ≢ a → caller_at service.callers b ≡ None) → IsQuietCall service a (caller_at service.callers a)
     → (t : List ℕ) → MayLeave (Up service disk) t → IsImage disk t
-only_images a service disk others quiet t (inl image) = image
-only_images a service disk others quiet t (inr (b, left)) = elim (cases_eq b a) [
-  | inl same ↦ inside_is_image service disk a (caller_at service.callers a) t quiet (subst (λ (q : ℕ). LeftInside service disk q (caller_at service.callers q) t) same left)
-  | inr other ↦ absurd (subst (λ (who : Option Caller). LeftInside service disk b who t) (others b other) left)
-]
+only_images a service disk others quiet t h6 = grind arith
 
 -- the halt word after a turn of such a call, and how far it has come
 abbrev StaysHalted : Yard → ℕ → Command → Progress → Type 0
@@ -125,8 +107,4 @@ module _ (y : Yard) (a : ℕ) (c : Command) (halt : y.words.halt ≡ 1) where
 
 -- an answer leaves the halt word
 pub answer_halt : (y : Yard) (a : ℕ) → (line y a Answer).0.words.halt ≡ y.words.halt
-answer_halt y a = go (course y a Answer)
-  where
-    go : (k : Course) → (line_on k y (actor_at y a) a Answer).0.words.halt ≡ y.words.halt
-    go Plays = answered_halt y (actor_at y a) a
-    go _ = refl
+answer_halt y a = grind arith

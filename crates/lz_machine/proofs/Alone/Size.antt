@@ -73,11 +73,7 @@ key_members k q Shut = grind (arith, nat_tests)
 key_members k q _ = grind (arith, nat_tests)
 
 distribute : (n x y : Bool) → ((n && x) || (n && y)) ≡ (n && (y || x))
-distribute true true true = refl
-distribute true true false = refl
-distribute true false true = refl
-distribute true false false = refl
-distribute false x y = refl
+distribute n x y = grind arith
 
 keys_members : (k : ℕ) (t : List ℕ) (n q : ℕ) → members (keys_but k t n) q ≡ (not (k == q) && found t n q)
 keys_members k t zero q = grind (arith, nat_tests)

@@ -4,7 +4,6 @@ use Rattle.std.specs.Prelude.{if◌then◌else◌}
 use mathlib.Core.Bool.{false≢true}
 use Rattle.std.proofs.lemmas.Bool.{cases_eq, cases_Bool}
 use Rattle.std.proofs.lemmas.Bool.Decides.{nat_tests}
-use Rattle.std.proofs.lemmas.Option.{none-some}
 use Rattle.lz_slot.specs.declared.command.Command.{Command}
 use Rattle.lz_slot.specs.declared.command.Command.TheVariants.{Add, Remove, Has}
 use Rattle.lz_slot.specs.Sets.{key_of}
@@ -74,12 +73,7 @@ module _ (n calls : ℕ) (y : Yard) (callers : List (Option Caller)) (disk : Med
 
   -- a dead vault refuses it
   dead_after : (at : Progress) (e : Event) → AloneFull a y (Some (call_at i c at)) P → says_yes at ≡ false → y.vault.dead ≡ true → After at e (Refused Dead)
-  dead_after at e h no_yes dead = record {
-    others = h.others;
-    left = λ _. h.left no_yes;
-    opening = λ lives s opens. absurd (false≢true (sym lives ∙ dead));
-    stands = tt;
-  }
+  dead_after at e h no_yes dead = grind arith
 
   by_course : (at : Progress) (e : Event) → AloneFull a y (Some (call_at i c at)) P → says_yes at ≡ false → (line y a e).1 ≢ NotNow → After at e (course_alive y a (pin_of y a) e) → After at e (course y a e)
   by_course at e h no_yes now after = ⊎_elim
@@ -355,13 +349,4 @@ module _ (n calls : ℕ) (y : Yard) (callers : List (Option Caller)) (disk : Med
 
   -- a turn whose device call fails
   pub faulted : (at : Progress) (e : Event) → reply_at at ≡ None → AloneFull a y (Some (call_at i c at)) P → AloneFull a (line_failed y a e).0 (Some (call_at i c (halts Device))) P
-  faulted at e goes h = record {
-    others = λ b other. let was = h.others b other in record { outside = was.outside; slot = was.slot; hold = was.hold };
-    left = λ _. h.left (no_yes at goes);
-    opening = λ lives s opens. absurd (false≢true (sym lives));
-    stands = tt;
-  }
-    where
-      no_yes : (at : Progress) → reply_at at ≡ None → says_yes at ≡ false
-      no_yes (Answering reply) goes = absurd (none-some reply (sym goes))
-      no_yes _ goes = refl
+  faulted at e goes h = grind arith

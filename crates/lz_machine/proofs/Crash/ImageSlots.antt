@@ -13,7 +13,7 @@ use Rattle.lz_slot.specs.declared.slot.SlotRead.TheVariants.{Closed as Shut, Mem
 use Rattle.lz_slot.specs.Histories.{History}
 use Rattle.lz_disk.specs.Images.{Medium, IsImage}
 use Rattle.lz_vault.specs.declared.vault.Stage.{Stage}
-use Rattle.lz_vault.specs.declared.vault.Stage.TheVariants.{Closed, KeyLoose, Keyed, Opening, Open, Closing}
+use Rattle.lz_vault.specs.declared.vault.Stage.TheVariants.{Closing}
 use Rattle.lz_vault.specs.Stages.{MayRead}
 use Rattle.lz_vault.proofs.Reading.{image_reads}
 use Rattle.lz_list.specs.Words.{place_number, link_to}
@@ -74,35 +74,13 @@ not_both j r shut is = absurd cc
 
 -- a slot that is read as a key's
 pub member_read : (stage : Stage) (k j : ℕ) (r : SlotRead) → MayRead stage k r → r ≡ Member j → (k ≡ j) × (IsGateOpened stage ⊎ (stage ≡ Closing))
-member_read Closed k j r may is = absurd (not_both j r may is)
-member_read KeyLoose k j r may is = absurd (not_both j r may is)
-member_read Keyed k j r may is = absurd (not_both j r may is)
-member_read Opening k j r (inl may) is = absurd (not_both j r may is)
-member_read Opening k j r (inr may) is = (same may is, inl (inl refl))
-  where
-    same : r ≡ Member k → r ≡ Member j → k ≡ j
-    same one other = cc
-member_read Open k j r may is = (same may is, inl (inr refl))
-  where
-    same : r ≡ Member k → r ≡ Member j → k ≡ j
-    same one other = cc
-member_read Closing k j r (inl may) is = absurd (not_both j r may is)
-member_read Closing k j r (inr may) is = (same may is, inr refl)
-  where
-    same : r ≡ Member k → r ≡ Member j → k ≡ j
-    same one other = cc
+member_read stage k j r may is = grind arith
 
 pub shut_read : (stage : Stage) (k : ℕ) (r : SlotRead) → MayRead stage k r → IsGateClosed stage → r ≡ Shut
-shut_read Opening k r may is = absurd (grind (arith, is))
-shut_read Open k r may is = absurd (grind (arith, is))
-shut_read Closing k r may is = absurd (grind (arith, is))
-shut_read _ k r may is = may
+shut_read stage k r may is = grind arith
 
 pub one_or_other : (stage : Stage) (k : ℕ) (r : SlotRead) → MayRead stage k r → (r ≡ Shut) ⊎ (r ≡ Member k)
-one_or_other Opening k r may = may
-one_or_other Open k r may = inr may
-one_or_other Closing k r may = may
-one_or_other _ k r may = inl may
+one_or_other stage k r may = grind arith
 
 -- An actor has opened the gate of the slot, and rests on the place of its key.
 pub record IsOpened (y : Yard) (P : Trace) (s k : ℕ) : Type 0 where

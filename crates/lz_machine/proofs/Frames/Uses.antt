@@ -95,24 +95,10 @@ collect_keeps uses = record {
 }
 
 collected_limbo : (u : Use) (seen : List Sight) → collect_at u ≡ Limbo seen → u ≡ Limbo seen
-collected_limbo (Limbo sights) seen is = elim (cases_Bool (list_all has_left sights)) [
-  | inl all ↦ absurd (free_limbo (sym (rw all refl) ∙ is))
-  | inr some ↦ sym (rw some refl) ∙ is
-]
-collected_limbo Free seen is = absurd cc
-collected_limbo Taken seen is = absurd cc
+collected_limbo u seen is = grind arith
 
 pub collected_free : (u : Use) → collect_at u ≡ Free → (u ≡ Free) ⊎ ((sights : List Sight) × (u ≡ Limbo sights) × (list_all has_left sights ≡ true))
-collected_free Free is = inl refl
-collected_free Taken is = absurd cc
-collected_free (Limbo sights) is = inr (
-  sights,
-  refl,
-  elim (cases_Bool (list_all has_left sights)) [
-    | inl all ↦ all
-    | inr some ↦ absurd (free_limbo {x = sights} (sym (rw some at is)))
-  ],
-)
+collected_free u is = grind arith
 
 all_left : (sights : List Sight) (i : ℕ) → list_all has_left sights ≡ true → get_or sights i Left ≡ Left
 all_left (Left ∷ sights) (suc i) all = all_left sights i all

@@ -119,10 +119,7 @@ module _ (n : ℕ) (P : Trace) (drop : Keys) (may : MayDrop n P drop) where
   ]
     where
       right_from : (was : Bool) → r.answer ≡ Some (reply r.command was) → moved (key_of r.command) r.command was ≡ was → kept_keys n P drop r.position (key_of r.command) ≡ was → IsRight (kept_keys n P drop) r
-      right_from was answer leaves is = record {
-        answer = subst (λ (o : Option Bool). MatchOption o (Unit {0}) (λ a. reply r.command (kept_keys n P drop r.position (key_of r.command)) ≡ a)) (sym answer) (ap (reply r.command) is);
-        quiet = λ _. ap (moved (key_of r.command) r.command) is ∙ leaves ∙ sym is;
-      }
+      right_from was answer leaves is = grind arith
 
   last_is_change : (k j : ℕ) (Q : Trace) → last_change k Q ≡ suc j → changes_key k (publishing j Q) ≡ true
   last_is_change k j [] is = absurd (omega arith)
@@ -185,7 +182,4 @@ module _ (n : ℕ) (P : Trace) (drop : Keys) (may : MayDrop n P drop) where
 
   -- before the life began nothing moves
   pub begins_still : (j : ℕ) → j < n → (k : ℕ) → kept_keys n P drop (suc j) k ≡ kept_keys n P drop j k
-  begins_still j lt k =
-      let at : max n j ≡ n = omega arith in
-      let at_next : max n (suc j) ≡ n = omega arith in
-      rw (at, at_next)
+  begins_still j lt k = grind arith

@@ -34,16 +34,10 @@ module _ (callers : List (Option Caller)) (notes : Notes) (a : ℕ) (last : List
   later = (ends_now notes a last).changed
 
   pub none_now : later a ≡ None
-  none_now = elim (eqb_tells a a) [
-    | inl same ↦ rw same.0 refl
-    | inr other ↦ absurd (other.1 refl)
-  ]
+  none_now = grind arith
 
   pub changed_still : (b : ℕ) → b ≢ a → later b ≡ notes.changed b
-  changed_still b other = elim (eqb_tells b a) [
-    | inl same ↦ absurd (other same.1)
-    | inr away ↦ rw away.0 refl
-  ]
+  changed_still b other = grind arith
 
   pub gone : caller_at (ending callers a) a ≡ None
   gone = of_pass_same callers a None None (caller_range callers a caller at).0 (caller_range callers a caller at).1

@@ -2,7 +2,7 @@
 use Rattle.std.specs.Int.{byte_at, bytes_high_first}
 use Rattle.std.proofs.Common.{◌≡◌, ⊎_elim, ℕ, zero, suc, ◌+◌, ◌*◌, ◌-◌, ◌<◌, ◌≤◌, List, [], ◌∷◌, ◌++◌, length, take, get_or, refl, sym, ap, ◌∙◌, subst, arith, length-append}
 use Rattle.std.specs.Prelude.{Some, replicate, slice_get}
-use Rattle.std.proofs.lemmas.List.{get_or_append_left, get_or-append_right, get_or-take, length-take, get_or-replicate, get_or_past, length-replicate}
+use Rattle.std.proofs.lemmas.List.{get_or_append_left, get_or-append_right, get_or-replicate, get_or_past, length-replicate}
 use Rattle.std.proofs.lemmas.Bool.{cases_lt}
 use Rattle.lz_disk.specs.Images.{AreBytes}
 use Rattle.std.proofs.lemmas.List.Edits.{length-between, get_or-between}
@@ -46,13 +46,7 @@ pub text_size : (F : Format) (cells : List Cell) → length (text_of F cells) �
 text_size F cells = length-append (open_byte ∷ header_body F (length cells)) (body_text cells) ∙ omega (arith, head_size F (length cells), body_size cells)
 
 pub text_head : (F : Format) (cells : List Cell) → take 16 (text_of F cells) ≡ open_byte ∷ header_body F (length cells)
-text_head F cells =
-    let size = text_size F cells in
-    let long = head_size F (length cells) in
-    let taken = length-take 16 (text_of F cells) in
-    same_number_lists (take 16 (text_of F cells)) (open_byte ∷ header_body F (length cells)) (omega (arith, size, long, taken)) (λ k lt.
-    let small : k < 16 = omega (arith, lt, size, taken) in
-    get_or-take 16 (text_of F cells) k 0 small ∙ get_or_append_left (open_byte ∷ header_body F (length cells)) (body_text cells) 0 k (omega (arith, small, long)))
+text_head F cells = grind arith
 
 body_at : (cells : List Cell) (i j : ℕ) → i < length cells → j < 16 → get_or (body_text cells) (16 * i + j) 0 ≡ get_or (slot_text (get_or cells i no_cell)) j 0
 body_at [] i j low lt = absurd (omega (arith, low))

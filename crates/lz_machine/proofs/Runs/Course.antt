@@ -1,7 +1,6 @@
 -- What becomes of an event, by whether the vault is dead and what the event needs.
-use Rattle.std.proofs.Common.{◌≡◌, ◌≢◌, ◌⊎◌, inl, inr, ℕ, Bool, true, false, not, ◌&&◌, refl, sym, ap, ◌∙◌}
+use Rattle.std.proofs.Common.{◌≡◌, ◌≢◌, ◌⊎◌, inl, inr, ℕ, Bool, true, false, not, ◌&&◌, refl, sym, ap, ◌∙◌, arith}
 use mathlib.Core.Bool.{false≢true}
-use Rattle.std.proofs.lemmas.Bool.Decides.{eqb_tells}
 use Rattle.std.specs.Prelude.{if◌then◌else◌}
 use Rattle.lz_slot.specs.declared.command.Command.{Command}
 use Rattle.lz_machine.specs.declared.event.Event.{Event}
@@ -11,7 +10,7 @@ use Rattle.lz_machine.specs.declared.event.Outcome.TheVariants.{Dead, NotNow, Wo
 use Rattle.lz_machine.specs.declared.course.Course.{Course}
 use Rattle.lz_machine.specs.declared.course.Course.TheVariants.{Refused, Dies, Plays}
 use Rattle.lz_machine.specs.Yards.{Yard}
-use Rattle.lz_machine.specs.Table.{needs, pin_of, last_pin, is_played_dead, is_sure, is_spent, course, course_alive}
+use Rattle.lz_machine.specs.Table.{needs, pin_of, last_pin, is_played_dead, course, course_alive}
 
 -- the course of an event that a dead vault refuses, of one whose needs don't hold, and of any other
 pub dead_course : (y : Yard) (a : ℕ) (e : Event) → (y.vault.dead && not (is_played_dead e)) ≡ true → course y a e ≡ Refused Dead
@@ -31,11 +30,7 @@ pub ruleset course_rules = (dead_course, early_course, alive_course)
 
 -- an Invoke is always played
 pub invoke_plays : (y : Yard) (a : ℕ) (c : Command) → course y a (Invoke c) ≡ Plays
-invoke_plays y a c = go y.vault.dead
-  where
-    go : (dead : Bool) → (if dead && not true then Refused Dead else if true then Plays else Refused NotNow) ≡ Plays
-    go true = refl
-    go false = refl
+invoke_plays y a c = grind arith
 
 -- Each course of an event, with what is known where it is taken: what holds of each holds of the one that it takes.
 pub course_by : (A : Course → Type 0) (y : Yard) (a : ℕ) (e : Event) → (y.vault.dead ≡ true → is_played_dead e ≡ false → A (Refused Dead)) → (needs y a e ≡ false → A (Refused NotNow))
@@ -49,12 +44,7 @@ course_by A y a e dead not_yet alive = go y.vault.dead (is_played_dead e) (needs
     go _ _ false is stops has = not_yet has
 
 pub alive_by : (A : Course → Type 0) (y : Yard) (a : ℕ) (e : Event) → (e ≡ Pin → pin_of y a ≡ last_pin → A (Refused Worn)) → ((s : ℕ) → e ≡ Sync s → A Dies) → ((e ≡ Pin → pin_of y a ≢ last_pin) → A Plays) → A (course_alive y a (pin_of y a) e)
-alive_by A y a Pin worn dies plays = elim (eqb_tells (pin_of y a) last_pin) [
-  | inl last ↦ rw last.0 (worn refl last.1)
-  | inr fresh ↦ rw fresh.0 (plays (λ same. fresh.1))
-]
-alive_by A y a (Sync s) worn dies plays = elim (not (is_sure y s) && is_spent y) as (λ (spent : Bool). A (if spent then Dies else Plays)) [ true ↦ dies s refl | false ↦ plays (λ same. absurd cc) ]
-alive_by A y a e worn dies plays = plays (λ same. absurd cc)
+alive_by A y a e worn dies plays = grind arith
 
 pub each_course : (A : Course → Type 0) (y : Yard) (a : ℕ) (e : Event) → (y.vault.dead ≡ true → is_played_dead e ≡ false → A (Refused Dead)) → (needs y a e ≡ false → A (Refused NotNow)) → (e ≡ Pin → pin_of y a ≡ last_pin → A (Refused Worn))
     → ((s : ℕ) → e ≡ Sync s → A Dies) → (needs y a e ≡ true → (e ≡ Pin → pin_of y a ≢ last_pin) → A Plays) → A (course y a e)

@@ -12,12 +12,10 @@ use Rattle.lz_machine.specs.declared.event.Event.TheVariants.{Answer}
 use Rattle.lz_machine.specs.declared.event.Outcome.TheVariants.{NotNow}
 use Rattle.lz_machine.specs.declared.event.Reply.{Reply}
 use Rattle.lz_machine.specs.declared.event.Reply.TheVariants.{Yes}
-use Rattle.lz_machine.specs.declared.course.Course.{Course}
-use Rattle.lz_machine.specs.declared.course.Course.TheVariants.{Refused}
 use Rattle.lz_machine.specs.declared.caller.Progress.{Progress}
 use Rattle.lz_machine.specs.declared.caller.Progress.TheVariants.{Answering}
 use Rattle.lz_machine.specs.Yards.{Yard, actor_at, pin_in}
-use Rattle.lz_machine.specs.Table.{last_pin, course, published_on, line, line_call, line_publishes}
+use Rattle.lz_machine.specs.Table.{last_pin, course, line, line_call, line_publishes}
 use Rattle.lz_machine.specs.Runs.{Start, Service, Caller, Up, Turn, Fails, Looks, Point, MayStep, HasTurn, HasFault, shape_of, after_turn, after_fault, turn_publishes, marks_of_turn, mark_of_turn, mark_of, point_after, caller_at, next_event, reply_at, played, looked, start_keys}
 use Rattle.lz_machine.specs.Notes.{Notes, entries}
 use Rattle.lz_machine.specs.Sound.{UpSound, StateSound, PointSound, IsSound}
@@ -44,11 +42,7 @@ AnswerUp =
 
 -- an answer publishes nothing
 pub answer_publishes : (y : Yard) (a : ℕ) → line_publishes y a Answer ≡ []
-answer_publishes y a = go (course y a Answer)
-  where
-    go : (taken : Course) → published_on taken y (actor_at y a) a Answer ≡ []
-    go (Refused outcome) = refl
-    go _ = refl
+answer_publishes y a = grind arith
 
 -- from point to point the newest life goes on, by a mark or by none
 life_goes_on : (start : Start) (p q : Point) (L : List Life) → shape_of q.state ≡ shape_of p.state → ((life : Life) → StateSound p p.state life → StateSound q q.state life) → PointSound start p L → PointSound start q L

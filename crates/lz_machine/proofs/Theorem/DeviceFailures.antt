@@ -8,11 +8,9 @@ use Rattle.lz_slot.specs.Counted.{set_of_pass}
 use Rattle.lz_slot.specs.Histories.{History}
 use Rattle.lz_disk.specs.Images.{Medium}
 use Rattle.lz_vault.specs.Vaults.{DeviceCall, MayFail, NoCall}
-use Rattle.lz_machine.specs.declared.actor.Actor.{Actor}
 use Rattle.lz_machine.specs.declared.course.Course.{Course}
-use Rattle.lz_machine.specs.declared.course.Course.TheVariants.{Refused, Dies, Plays}
+use Rattle.lz_machine.specs.declared.course.Course.TheVariants.{Dies}
 use Rattle.lz_machine.specs.declared.event.Event.{Event}
-use Rattle.lz_machine.specs.declared.event.Event.TheVariants.{Invoke, Pin, Hop, Answer, Halt}
 use Rattle.lz_machine.specs.declared.event.Outcome.{Outcome}
 use Rattle.lz_machine.specs.declared.event.Outcome.TheVariants.{Fault}
 use Rattle.lz_machine.specs.declared.event.Reply.{Reply}
@@ -22,7 +20,7 @@ use Rattle.lz_machine.specs.declared.caller.Sequence.TheVariants.{Resting, Halti
 use Rattle.lz_machine.specs.declared.caller.Progress.{Progress}
 use Rattle.lz_machine.specs.declared.caller.Progress.TheVariants.{Playing, Answering}
 use Rattle.lz_machine.specs.Yards.{Shape, Yard, actor_at}
-use Rattle.lz_machine.specs.Table.{call_on, course, is_old, is_played_dead, line, line_call, line_failed, line_on}
+use Rattle.lz_machine.specs.Table.{course, is_old, line, line_call, line_failed, line_on}
 use Rattle.lz_machine.specs.Calls.{goes_on, first_progress, begun, progress_after, changes}
 use Rattle.lz_machine.specs.Runs.{Caller, Service, State, Up, Down, Start, Point, Transition, Calls, Turn, Fails, Looks, Trips, Stops, Crashes, Opens, OpenFails, caller_at, next_event, reply_at, moved_on, state_after, HasTurn, HasFault, MayStep, mark_of, mark_of_turn, marks_of_turn, marks_of, after_turn, after_fault, run, IsRun, first_point}
 use Rattle.lz_machine.specs.Halts.{FailsOnce, calls_due, device_due, device_reply, due_in, failed_in, reply_due, told_device}
@@ -30,26 +28,13 @@ use Rattle.lz_machine.proofs.Alone.Halt.{replies}
 use Rattle.lz_machine.proofs.Frames.OneActor.{caller_range}
 use Rattle.lz_machine.proofs.Runs.CallerTable.{fault_no_reply}
 use Rattle.lz_machine.proofs.Runs.FlowChart.{Edge, fails, again, back, on, past, next_edge}
-use Rattle.lz_machine.proofs.Runs.Course.{course_dead, each_course}
+use Rattle.lz_machine.proofs.Runs.Course.{each_course}
 use Rattle.lz_machine.proofs.Runs.Outcomes.{no_fault}
 use Rattle.lz_machine.proofs.Theorem.Marks.{Tells, run_tells}
 
 -- a dead vault makes no device call
-played_calls : (k : Course) (y : Yard) (actor : Actor) (e : Event) → is_played_dead e ≡ true → call_on k y actor e ≡ NoCall
-played_calls (Refused outcome) y actor e is = refl
-played_calls Dies y actor e is = refl
-played_calls Plays y actor (Invoke c) is = refl
-played_calls Plays y actor Pin is = refl
-played_calls Plays y actor (Hop word) is = refl
-played_calls Plays y actor Answer is = refl
-played_calls Plays y actor Halt is = refl
-played_calls Plays y actor e is = absurd (false≢true is)
-
 dead_calls : (y : Yard) (a : ℕ) (e : Event) → y.vault.dead ≡ true → line_call y a e ≡ NoCall
-dead_calls y a e dead = elim (cases_Bool (is_played_dead e)) [
-  | inl plays ↦ played_calls (course y a e) y (actor_at y a) e plays
-  | inr stops ↦ ap (λ (k : Course). call_on k y (actor_at y a) e) (course_dead y a e stops dead)
-]
+dead_calls y a e dead = grind arith
 
 -- so a device call that fails finds the vault alive
 fails_alive : (y : Yard) (a : ℕ) (e : Event) (disk new : Medium) → MayFail (line_call y a e) disk new → y.vault.dead ≡ false

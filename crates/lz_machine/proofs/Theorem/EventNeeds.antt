@@ -81,10 +81,7 @@ module _ (n calls : ℕ) (y : Yard) (callers : List (Option Caller)) (disk : Med
   marked_on hold s curr = held_node y.shape P Marked actor sound.trace.lawful (subst (λ (q : Hold). RestsOn y.shape.buckets q actor P) hold (sound.locks.rests a)) s curr refl
 
   opens_now : (s : ℕ) → actor.hold ≡ Checked → actor.slot ≡ Some s → stage_in y.vault.cells s ≡ Keyed → needs y a WriteOpen ≡ true
-  opens_now s hold slot stage =
-      ap (λ (q : Hold). has_checked q && is_some actor.slot && has_stage Keyed (stage_in y.vault.cells (unwrap_or actor.slot 0))) hold
-      ∙ ap (λ (q : Option ℕ). is_some q && has_stage Keyed (stage_in y.vault.cells (unwrap_or q 0))) slot
-      ∙ ap (has_stage Keyed) stage
+  opens_now s hold slot stage = grind arith
 
   closes_now : (s : ℕ) → actor.hold ≡ Checked → actor.curr ≡ Some s → needs y a WriteClose ≡ true
   closes_now s hold curr =

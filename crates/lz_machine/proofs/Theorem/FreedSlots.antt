@@ -1,8 +1,8 @@
 -- What was seen of passes since a slot was unlinked: one that becomes free was left by each.
 use Rattle.std.proofs.Common.{◌≡◌, ◌≢◌, ◌⊎◌, inl, inr, ⊎_elim, ℕ, zero, suc, ◌+◌, ◌<◌, ◌≤◌, ◌%◌, Bool, true, false, List, [], ◌∷◌, ◌++◌, replicate, Option, Some, None, refl, sym, ap, ◌∙◌, subst, arith}
 use Rattle.std.specs.Prelude.{◌&&◌, if◌then◌else◌, is_some, unwrap_or, slice_set}
-use Rattle.std.proofs.lemmas.Bool.{cases_eq, cases_lt, or_left, or_right, and_parts}
-use Rattle.std.proofs.lemmas.Bool.Decides.{eqb_tells, nat_tests}
+use Rattle.std.proofs.lemmas.Bool.{cases_eq, and_parts}
+use Rattle.std.proofs.lemmas.Bool.Decides.{nat_tests}
 use Rattle.std.proofs.lemmas.List.{get_or-replicate}
 use Rattle.lz_slot.specs.Counted.{of_pass, set_of_pass}
 use Rattle.lz_slot.specs.Histories.{History, Life, lives}
@@ -12,7 +12,7 @@ use Rattle.lz_vault.specs.declared.vault.Stage.{Stage}
 use Rattle.lz_vault.specs.declared.vault.Stage.TheVariants.{Open}
 use Rattle.lz_allot.specs.declared.sight.Sight.{Sight}
 use Rattle.lz_allot.specs.declared.sight.Sight.TheVariants.{Unseen, Inside, Left}
-use Rattle.lz_allot.specs.Uses.{Use, Free, Taken, Limbo, Moment, Pins, use_of, collect, collect_at, lowest_free, is_outside, sight_after, see_pin, was_outside}
+use Rattle.lz_allot.specs.Uses.{Use, Free, Taken, Limbo, Moment, Pins, use_of, collect, collect_at, lowest_free, sight_after, see_pin, was_outside}
 use Rattle.lz_list.specs.declared.word.Word.TheVariants.{Pin as pin_at}
 use Rattle.lz_list.specs.Words.{Words, get}
 use Rattle.lz_list.specs.Traces.{Trace, bucket_of, key_word}
@@ -54,35 +54,13 @@ IsPast v s q ms Unseen = Unit {0}
 IsPast v s q ms (Inside u) = (u % 2 ≡ 1) × (u ≤ v) × (u < v → was_outside s q ms ≡ true)
 IsPast v s q ms Left = was_outside s q ms ≡ true
 
--- a pass that is outside now was so
-outside_now : (s q v : ℕ) (pins : List ℕ) (ms : List Moment) → pin_in pins q ≡ v → v % 2 ≡ 0 → was_outside s q (Pins pins ∷ ms) ≡ true
-outside_now s q v pins ms at even = or_left (is_outside (pin_in pins q)) (was_outside s q ms) (ap is_outside at ∙ grind (arith, nat_tests, even))
-
 -- it stays so while the pin word goes up by one at most
 past_on : (v w s q : ℕ) (pins : List ℕ) (ms : List Moment) (x : Sight) → pin_in pins q ≡ w → (w ≡ v) ⊎ (w ≡ suc v) → IsPast v s q ms x → IsPast w s q (Pins pins ∷ ms) x
-past_on v w s q pins ms Unseen at goes h = tt
-past_on v w s q pins ms Left at goes h = or_right (is_outside (pin_in pins q)) (was_outside s q ms) h
-past_on v w s q pins ms (Inside u) at (inl same) h = (h.0, omega (arith, h.1, same), λ lt. or_right (is_outside (pin_in pins q)) (was_outside s q ms) (h.2 (omega (arith, lt, same))))
-past_on v w s q pins ms (Inside u) at (inr more) h = (
-  h.0,
-  omega (arith, h.1, more),
-  λ lt. elim (cases_lt u v) [
-    | inl less ↦ or_right (is_outside (pin_in pins q)) (was_outside s q ms) (h.2 less)
-    | inr past ↦ outside_now s q w pins ms at (omega (arith, h.0, h.1, more, past))
-  ],
-)
+past_on v w s q pins ms x at goes h = grind arith
 
 -- and after the pin word was looked at
 past_seen : (v s q : ℕ) (pins : List ℕ) (ms : List Moment) (x : Sight) → pin_in pins q ≡ v → IsPast v s q (Pins pins ∷ ms) x → IsPast v s q (Pins pins ∷ ms) (sight_after v x)
-past_seen v s q pins ms Unseen at h = elim (eqb_tells (v % 2) 0) [
-  | inl even ↦ rw even.0 (outside_now s q v pins ms at even.1)
-  | inr odd ↦ rw odd.0 (omega (arith, odd.1), omega arith, λ lt. absurd (omega (arith, lt)))
-]
-past_seen v s q pins ms (Inside u) at h = elim (eqb_tells v u) [
-  | inl same ↦ rw same.0 h
-  | inr other ↦ rw other.0 (h.2 (omega (arith, h.1, other.1)))
-]
-past_seen v s q pins ms Left at h = h
+past_seen v s q pins ms x at h = grind arith
 
 -- it is said of moments by what they show of the slot
 past_same : (v s q : ℕ) (ms new : List Moment) (x : Sight) → was_outside s q new ≡ was_outside s q ms → IsPast v s q ms x → IsPast v s q new x
@@ -103,11 +81,7 @@ same_seen passes pins uses ms h s q seen low high is = past_on (pin_in pins q) (
 
 -- the value of a pin word that is looked at
 loaded_value : (w : Words) (e : Event) (p v : ℕ) → loaded w e ≡ SeePin p v → v ≡ get w (pin_at p)
-loaded_value w (SeePin q x) p v is = go (get w (pin_at q)) refl is
-  where
-    go : (x : ℕ) → get w (pin_at q) ≡ x → SeePin q x ≡ SeePin p v → v ≡ get w (pin_at p)
-    go x at same = let passes : q ≡ p = cc in let values : x ≡ v = cc in sym values ∙ sym at ∙ ap (λ (n : ℕ). get w (pin_at n)) passes
-loaded_value w _ p v is = absurd cc
+loaded_value w e p v is = grind arith
 
 -- an event that is played
 module _ (n calls : ℕ) (y : Yard) (callers : List (Option Caller)) (disk : Medium) (M : History) (P : Trace) (notes : Notes) (sound : Sound n calls y callers disk M P notes)

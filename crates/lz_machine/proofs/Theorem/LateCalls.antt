@@ -19,7 +19,7 @@ use Rattle.lz_machine.specs.declared.event.Event.{Event}
 use Rattle.lz_machine.specs.declared.event.Event.TheVariants.{Pin, Hop}
 use Rattle.lz_machine.specs.declared.event.Outcome.TheVariants.{NotNow, Fault}
 use Rattle.lz_machine.specs.declared.event.Reply.{Reply}
-use Rattle.lz_machine.specs.declared.event.Reply.TheVariants.{Yes, Worn as SaysWorn, OldFile as SaysOldFile, Halted, Device}
+use Rattle.lz_machine.specs.declared.event.Reply.TheVariants.{Yes, OldFile as SaysOldFile, Halted, Device}
 use Rattle.lz_machine.specs.declared.caller.Progress.{Progress}
 use Rattle.lz_machine.specs.declared.caller.Progress.TheVariants.{Playing, LoadsHalt, Answering}
 use Rattle.lz_machine.specs.declared.caller.Sequence.TheVariants.{Pinning}
@@ -56,10 +56,7 @@ before_reply M i j _ h = h
 
 -- and is one of the replies to late calls, where its call is late
 may_tell : (M : History) (i : ℕ) (reply : Reply) → (IsMadeLate M i → IsLateReply reply) → MayTellLate (mark_of i reply) M
-may_tell M i SaysWorn h = tt
-may_tell M i SaysOldFile h = tt
-may_tell M i Halted h = tt
-may_tell M i _ h = h
+may_tell M i reply h = grind arith
 
 -- where it cuts its call off the halt word is set
 module _ (v : View) (c : Command) (P0 P : Trace) (changed : Option ℕ) (M : History) (i : ℕ) (before : was_cut M ≡ true → halt_word P ≡ 1) where

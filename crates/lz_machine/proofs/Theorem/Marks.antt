@@ -96,10 +96,7 @@ module _ (callers : List (Option Caller)) (M : History) (old : AreOpen callers M
   }
     where
       apart_now : (b d j : ℕ) → IsOpenCall (Call i a c ∷ M) j b → IsOpenCall (Call i a c ∷ M) j d → b ≡ d
-      apart_now b d j (inl one) (inl other) = sym one.1 ∙ other.1
-      apart_now b d j (inl one) (inr before) = absurd (fresh j d before (sym one.0))
-      apart_now b d j (inr before) (inl other) = absurd (fresh j b before (sym other.0))
-      apart_now b d j (inr one) (inr other) = old.apart b d j one other
+      apart_now b d j h3 h4 = grind arith
 
   module _ (caller : Caller) (at : caller_at callers a ≡ Some caller) where
     -- the call goes on

@@ -7,25 +7,21 @@ use Rattle.lz_slot.specs.Rooms.{largest_of}
 use Rattle.std.proofs.lemmas.Option.{slice_get-get_or}
 use Rattle.lz_slot.specs.Limits.{largest_key}
 use Rattle.lz_slot.specs.declared.command.Command.{Command}
-use Rattle.lz_slot.specs.declared.command.Command.TheVariants.{Add, Remove, Has}
 use Rattle.lz_slot.specs.Histories.{History}
 use Rattle.lz_disk.specs.Images.{Medium}
 use Rattle.lz_vault.specs.declared.vault.Stage.TheVariants.{Keyed}
-use Rattle.lz_vault.specs.Vaults.{Vaulted}
 use Rattle.lz_allot.specs.Allots.{IsTakenAt}
-use Rattle.lz_allot.specs.Uses.{Use}
 use Rattle.lz_list.specs.declared.place.Place.{Place}
 use Rattle.lz_list.specs.declared.place.Place.TheVariants.{Node}
 use Rattle.lz_list.specs.declared.word.Word.TheVariants.{Key as key_at, Pin as pin_at}
 use Rattle.lz_list.specs.Words.{Words, get}
-use Rattle.lz_list.specs.Locks.{NodeLocks, claimed_places}
+use Rattle.lz_list.specs.Locks.{claimed_places}
 use Rattle.lz_list.specs.Lists.{IsPlace, IsCurr}
 use Rattle.lz_list.specs.Traces.{Trace, on, chain_of, key_word}
 use Rattle.lz_machine.specs.declared.actor.Actor.{Actor}
 use Rattle.lz_machine.specs.declared.actor.Hold.{Hold}
 use Rattle.lz_machine.specs.declared.actor.Hold.TheVariants.{GateOpened, GateClosed, Marked}
 use Rattle.lz_machine.specs.declared.caller.Sequence.{Sequence}
-use Rattle.lz_machine.specs.declared.caller.Sequence.TheVariants.{Pinning, Resting, Writing, Adding, Removing, Releasing, Halting}
 use Rattle.lz_machine.specs.declared.caller.Progress.{Progress}
 use Rattle.lz_machine.specs.declared.caller.Progress.TheVariants.{Playing}
 use Rattle.lz_machine.specs.declared.course.Course.TheVariants.{Plays}
@@ -213,25 +209,7 @@ module _ (words : Words) (shape : Shape) (v : View) (c : Command) (P0 P : Trace)
   Retires at = is_retire (loaded words (event_at shape c at)) ≡ true
 
   retires_in : (sequence : Sequence) (i : ℕ) → Relies v c (Playing sequence i) P0 P changed → Retires (Playing sequence i) → (s : ℕ) × (v.actor.curr ≡ Some s)
-  retires_in Pinning (suc i) h is = absurd h
-  retires_in (Resting s reply) (suc (suc i)) h is = absurd h
-  retires_in (Writing s) (suc (suc i)) h is = absurd h
-  retires_in (Releasing aim) (suc i) h is = absurd h
-  retires_in (Halting reply) (suc i) h is = absurd h
-  retires_in (Adding s) i h is = adding c i h is
-    where
-      adding : (d : Command) (j : ℕ) → Relies v d (Playing (Adding s) j) P0 P changed → is_retire (loaded words (event_at shape d (Playing (Adding s) j))) ≡ true → (s : ℕ) × (v.actor.curr ≡ Some s)
-      adding (Add k) (suc (suc (suc (suc (suc j))))) g at = absurd g
-      adding (Remove k) j g at = absurd g
-      adding (Has k) j g at = absurd g
-      adding _ _ g at = absurd (false≢true at)
-  retires_in (Removing s) i h is = removing c h
-    where
-      removing : (d : Command) → Relies v d (Playing (Removing s) i) P0 P changed → (s : ℕ) × (v.actor.curr ≡ Some s)
-      removing (Remove k) g = (s, g.0)
-      removing (Add k) g = absurd g
-      removing (Has k) g = absurd g
-  retires_in _ _ h is = absurd (false≢true is)
+  retires_in sequence i h is = grind arith
 
   retires_node : (at : Progress) → Relies v c at P0 P changed → Retires at → (s : ℕ) × (v.actor.curr ≡ Some s)
   retires_node (Playing sequence i) h is = retires_in sequence i h is
@@ -261,12 +239,7 @@ next_of service a e other next = called (caller_at service.callers a) (λ x. nex
 
 -- a yard, by its parts
 by_parts : (y other : Yard) → y.shape ≡ other.shape → y.locks ≡ other.locks → y.vault ≡ other.vault → y.uses ≡ other.uses → y.actors ≡ other.actors → y ≡ with_words other y.words
-by_parts y other shape locks vault uses actors =
-    ap (λ (q : Shape). record { shape = q; words = y.words; locks = y.locks; vault = y.vault; uses = y.uses; actors = y.actors }) shape
-    ∙ ap (λ (q : NodeLocks). record { shape = other.shape; words = y.words; locks = q; vault = y.vault; uses = y.uses; actors = y.actors }) locks
-    ∙ ap (λ (q : Vaulted). record { shape = other.shape; words = y.words; locks = other.locks; vault = q; uses = y.uses; actors = y.actors }) vault
-    ∙ ap (λ (q : List Use). record { shape = other.shape; words = y.words; locks = other.locks; vault = other.vault; uses = q; actors = y.actors }) uses
-    ∙ ap (λ (q : List Actor). record { shape = other.shape; words = y.words; locks = other.locks; vault = other.vault; uses = other.uses; actors = q }) actors
+by_parts y other shape locks vault uses actors = grind arith
 
 module _ (y : Yard) (honest : Bool) (disk : Medium) (a : ℕ) (e : Event) (may : MayPlay y honest disk a e) where
   -- the point that was reached

@@ -1,10 +1,9 @@
 -- A pass that is worn: its pin word is the last one, and its call answers worn.
-use Rattle.std.proofs.Common.{◌≡◌, ◌≢◌, ◌⊎◌, ⊎_elim, inl, inr, ℕ, zero, suc, ◌≤◌, ◌+◌, ◌%◌, if◌then◌else◌, ◌||◌, Bool, true, false, List, [], ◌∷◌, length, Option, Some, None, refl, sym, ap, ◌∙◌, subst, arith}
+use Rattle.std.proofs.Common.{◌≡◌, ◌≢◌, ◌⊎◌, ⊎_elim, inl, inr, ℕ, suc, ◌≤◌, ◌+◌, ◌%◌, if◌then◌else◌, ◌||◌, Bool, true, false, List, [], ◌∷◌, length, Option, Some, None, refl, sym, ap, ◌∙◌, subst, arith}
 use mathlib.Core.Bool.{false≢true}
 use Rattle.std.specs.List.{list_any}
 use Rattle.std.proofs.lemmas.Option.{none-some}
 use Rattle.lz_slot.specs.declared.command.Command.{Command}
-use Rattle.lz_slot.specs.declared.command.Command.TheVariants.{Add, Remove, Has}
 use Rattle.lz_slot.specs.Counted.{set_of_pass}
 use Rattle.lz_slot.specs.Histories.{History}
 use Rattle.lz_slot.proofs.Counted.{of_pass_same, of_pass_other}
@@ -19,7 +18,6 @@ use Rattle.lz_machine.specs.declared.event.Outcome.TheVariants.{Worn, NotNow, Fa
 use Rattle.lz_machine.specs.declared.event.Reply.{Reply}
 use Rattle.lz_machine.specs.declared.event.Reply.TheVariants.{Worn as SaysWorn, OldFile as SaysOldFile}
 use Rattle.lz_machine.specs.declared.caller.Sequence.{Sequence}
-use Rattle.lz_machine.specs.declared.caller.Sequence.TheVariants.{Resting, Halting}
 use Rattle.lz_machine.specs.declared.caller.Progress.{Progress}
 use Rattle.lz_machine.specs.declared.caller.Progress.TheVariants.{Playing, Answering}
 use Rattle.lz_machine.specs.Yards.{Shape, Yard, actor_at, opened_yard}
@@ -27,7 +25,7 @@ use Rattle.lz_machine.specs.Table.{last_pin, pin_of, course, line_on, line, line
 use Rattle.lz_machine.specs.Calls.{goes_on, first_progress, progress_after, changes, begun}
 use Rattle.lz_machine.specs.Runs.{Start, State, Up, Down, Transition, Calls, Turn, Fails, Looks, Trips, Stops, Crashes, Opens, OpenFails, Service, Caller, caller_at, next_event, reply_at, moved_on, looked, state_after, after_turn, after_fault, HasTurn, HasFault, MayStep, first_point, run, IsRun, IsStart, opened_service, invoked}
 use Rattle.lz_machine.specs.Notes.{Notes}
-use Rattle.lz_machine.specs.CallersSound.{View, view_of, MayRest, IsCut, Relies, CallerSound}
+use Rattle.lz_machine.specs.CallersSound.{View, view_of, Relies, CallerSound}
 use Rattle.lz_machine.specs.Sound.{Sound, IsSound}
 use Rattle.lz_machine.proofs.Steps.Trip.{point}
 use Rattle.lz_machine.proofs.Frames.ActorTable.{by_actor}
@@ -81,23 +79,8 @@ begins_not : (b : Bool) → ends_worn (if b then Answering SaysOldFile else firs
 begins_not true = refl
 begins_not false = refl
 
-met_not : (buckets : ℕ) (c : Command) (reply : Reply) (s : ℕ) (P0 P : Trace) → MayRest buckets c reply s P0 P → ends_worn (Answering reply) ≡ false
-met_not buckets (Has k) SaysWorn s P0 P h = absurd h
-met_not buckets (Add k) SaysWorn s P0 P h = absurd h
-met_not buckets (Remove k) SaysWorn s P0 P h = absurd h
-met_not buckets c _ s _ _ h = refl
-
-cut_not : (reply : Reply) → IsCut reply → ends_worn (Answering reply) ≡ false
-cut_not SaysWorn h = absurd h
-cut_not _ h = refl
-
 past_not : (v : View) (c : Command) (P0 P : Trace) (changed : Option ℕ) (sequence : Sequence) (i : ℕ) → Relies v c (Playing sequence i) P0 P changed → ends_worn (goes_on sequence) ≡ false
-past_not v c P0 P changed (Resting s reply) zero h = met_not v.buckets c reply s P0 P h.1
-past_not v c P0 P changed (Resting s reply) (suc zero) h = met_not v.buckets c reply s P0 P h.1
-past_not v c P0 P changed (Resting s reply) (suc (suc i)) h = absurd h
-past_not v c P0 P changed (Halting reply) zero h = cut_not reply h.0
-past_not v c P0 P changed (Halting reply) (suc i) h = absurd h
-past_not v c P0 P changed _ i h = refl
+past_not v c P0 P changed sequence i h = grind arith
 
 going_not : (at : Progress) → reply_at at ≡ None → ends_worn at ≡ false
 going_not (Answering reply) on_its_way = absurd (none-some _ (sym on_its_way))
